@@ -1,0 +1,19 @@
+-- What a device says of its calls: how many of them failed, and which bytes it gave or took.
+use Rattle.std.specs.Prelude.{◌≡◌, ℕ, ◌+◌, ◌-◌, ◌^◌, ◌<◌, min, ◌⊎◌, Result, MatchResult}
+use Rattle.pnm_image.specs.declared.device.Device.{Device}
+
+-- the count of failures after a call: a failed call adds one, up to the greatest u64
+abbrev pub CountsFailure : {T E : Type 0} → ℕ → ℕ → Result T E → Type 0
+CountsFailure old new r = MatchResult r (λ _. new ≡ old) (λ _. new ≡ min (old + 1) (2 ^ 64 - 1))
+
+-- the device failed in what took its count from old to new
+abbrev pub Failed : ℕ → ℕ → Type 0
+Failed old new = (old < new) ⊎ (new ≡ 2 ^ 64 - 1)
+
+-- the reader or writer of a device
+abbrev pub device_inner : {D : Type 0} → Device D → D
+device_inner d = d.inner
+
+-- the failures that a device has counted
+abbrev pub device_failures : {D : Type 0} → Device D → ℕ
+device_failures d = d.failures

@@ -1,0 +1,25 @@
+-- What holds of a message's value in a program, and how a list of messages ends.
+use Rattle.std.specs.Prelude.{◌≡◌, ℕ, List, [], ◌∷◌}
+use Rattle.pnm_image.specs.declared.message.Message.{Message}
+use Rattle.pnm_image.specs.declared.message.Message.TheVariants.{Begin, Row, ImageEnd, StreamEnd, Stop}
+use Rattle.pnm_image.specs.Heads.{Header, IsHeader}
+
+-- a message of a program: the head of each image keeps the rules of heads
+abbrev pub IsMessage : Message → Type 0
+IsMessage (Begin head) = IsHeader head
+IsMessage (Row row) = Unit {0}
+IsMessage ImageEnd = Unit {0}
+IsMessage StreamEnd = Unit {0}
+IsMessage Stop = Unit {0}
+
+-- the last message is the end of the stream
+abbrev pub EndsStream : List Message → Type 0
+EndsStream [] = ⊥
+EndsStream (StreamEnd ∷ []) = Unit {0}
+EndsStream (m ∷ ms) = EndsStream ms
+
+-- the messages before a last Stop
+abbrev pub without_stop : List Message → List Message
+without_stop [] = []
+without_stop (Stop ∷ []) = []
+without_stop (m ∷ ms) = m ∷ without_stop ms

@@ -1,0 +1,185 @@
+//! Where bytes come from and go to.
+
+ghost use Rattle.std.specs.Prelude.{◌≡◌, ℕ, ◌+◌, ◌-◌, ◌^◌, ◌<◌, min, length, IfOk, List, Option, refl};
+ghost use Rattle.std.proofs.Common.{◌∙◌};
+ghost use Rattle.std.specs.Io.{ReadsAtMost, WritesAtMost};
+ghost use Rattle.std.specs.Io.KnownBytes.{ReadConsumes, WriteAppends, Keeps};
+ghost use Rattle.pnm_image.specs.Devices.{CountsFailure, device_inner, device_failures};
+
+use std::io::{Read, Write};
+use thiserror::Error;
+
+/// A call of a device failed.
+#[derive(Clone, Copy, Debug, PartialEq, Eq, Error)]
+#[error("DeviceFailed")]
+pub struct DeviceFailed;
+
+/// A device that gives bytes.
+pub trait BytesIn {
+    /// The bytes that it will still give, where it tells them.
+    ghost left: { Self → Option (List ℕ) };
+
+    /// How many calls have failed, up to `u64::MAX`.
+    ghost failures: { Self → ℕ };
+
+    /// The two are one device at two moments.
+    ghost same: { Self → Self → Type 0 };
+
+    /// Reads into the front of the room, and answers how many bytes came: 0 only at the end, or
+    /// where there is no room. A failed call takes no byte.
+    fn read(&mut self, room: &mut [u8]) -> Result<usize, DeviceFailed>
+        ensures bound { ReadsAtMost result room.new }
+        ensures bytes { ReadConsumes (left self.old) (left self.new) result room.new }
+        ensures count { CountsFailure (failures self.old) (failures self.new) result }
+        ensures same_device { same self.old self.new };
+
+    ghost same_at_once: { (a : Self) → same a a };
+
+    ghost same_later: { (a b c : Self) → same a b → same b c → same a c };
+}
+
+/// A device that takes bytes.
+pub trait BytesOut {
+    /// The bytes that it holds, where it tells them.
+    ghost held: { Self → Option (List ℕ) };
+
+    /// How many calls have failed, up to `u64::MAX`.
+    ghost failures: { Self → ℕ };
+
+    /// The two are one device at two moments.
+    ghost same: { Self → Self → Type 0 };
+
+    /// Writes from the front of the bytes, and answers how many it took: at least one, where there
+    /// is one. A failed call takes no byte.
+    fn write(&mut self, bytes: &[u8]) -> Result<usize, DeviceFailed>
+        ensures bound { WritesAtMost result bytes.now }
+        ensures some { IfOk result (λ n. 0 < length bytes.now → 0 < n) }
+        ensures bytes { WriteAppends (held self.old) (held self.new) result bytes.now }
+        ensures count { CountsFailure (failures self.old) (failures self.new) result }
+        ensures same_device { same self.old self.new };
+
+    /// Passes on what the device still keeps back.
+    fn flush(&mut self) -> Result<(), DeviceFailed>
+        ensures bytes { Keeps (held self.old) (held self.new) }
+        ensures count { CountsFailure (failures self.old) (failures self.new) result }
+        ensures same_device { same self.old self.new };
+
+    ghost same_at_once: { (a : Self) → same a a };
+
+    ghost same_later: { (a b c : Self) → same a b → same b c → same a c };
+}
+
+impl<R: BytesIn> BytesIn for &mut R {
+    ghost left = { λ r. R.left r.now };
+
+    ghost failures = { λ r. R.failures r.now };
+
+    ghost same = { λ a b. (b.ghost_name ≡ a.ghost_name) × R.same a.now b.now };
+
+    ghost same_at_once = { λ a. (refl, R.same_at_once a.now) };
+
+    ghost same_later = { λ a b c p q. (q.0 ∙ p.0, R.same_later a.now b.now c.now p.1 q.1) };
+
+    fn read(&mut self, room: &mut [u8]) -> Result<usize, DeviceFailed> {
+        (**self).read(room)
+    }
+}
+
+impl<W: BytesOut> BytesOut for &mut W {
+    ghost held = { λ w. W.held w.now };
+
+    ghost failures = { λ w. W.failures w.now };
+
+    ghost same = { λ a b. (b.ghost_name ≡ a.ghost_name) × W.same a.now b.now };
+
+    ghost same_at_once = { λ a. (refl, W.same_at_once a.now) };
+
+    ghost same_later = { λ a b c p q. (q.0 ∙ p.0, W.same_later a.now b.now c.now p.1 q.1) };
+
+    fn write(&mut self, bytes: &[u8]) -> Result<usize, DeviceFailed> {
+        (**self).write(bytes)
+    }
+
+    fn flush(&mut self) -> Result<(), DeviceFailed> {
+        (**self).flush()
+    }
+}
+
+/// A std `Read` or `Write` as a device. It tells the bytes that `D` tells. Each error of `D` is a
+/// failure, and so is a write that takes none of its bytes.
+#[derive(Debug, Drop)]
+pub struct Device<D> {
+    inner: D,
+    failures: u64,
+}
+
+impl<D> Device<D> {
+    /// The reader or writer as a device without a failed call.
+    pub fn new(inner: D) -> Device<D>
+        ensures inner { device_inner result ≡ inner }
+        ensures count { device_failures result ≡ 0 }
+    {
+        Device { inner, failures: 0 }
+    }
+
+    /// The reader or writer.
+    pub fn into_inner(self) -> D
+        ensures { result ≡ device_inner self }
+    {
+        self.inner
+    }
+
+    fn fail(&mut self) -> DeviceFailed
+        ensures inner { device_inner self.new ≡ device_inner self.old }
+        ensures count { device_failures self.new ≡ min (device_failures self.old + 1) (2 ^ 64 - 1) }
+    {
+        self.failures = self.failures.saturating_add(1);
+        DeviceFailed
+    }
+}
+
+impl<D: Read> BytesIn for Device<D> {
+    ghost left = { λ d. D.remaining (device_inner d) };
+
+    ghost failures = { device_failures };
+
+    ghost same = { λ _ _. Unit {0} };
+
+    ghost same_at_once = { λ _. tt };
+
+    ghost same_later = { λ _ _ _ _ _. tt };
+
+    fn read(&mut self, room: &mut [u8]) -> Result<usize, DeviceFailed> {
+        match self.inner.read(room) {
+            Ok(count) => Ok(count),
+            Err(_) => Err(self.fail()),
+        }
+    }
+}
+
+impl<D: Write> BytesOut for Device<D> {
+    ghost held = { λ d. D.contents (device_inner d) };
+
+    ghost failures = { device_failures };
+
+    ghost same = { λ _ _. Unit {0} };
+
+    ghost same_at_once = { λ _. tt };
+
+    ghost same_later = { λ _ _ _ _ _. tt };
+
+    fn write(&mut self, bytes: &[u8]) -> Result<usize, DeviceFailed> {
+        match self.inner.write(bytes) {
+            Ok(0) if !bytes.is_empty() => Err(self.fail()),
+            Ok(count) => Ok(count),
+            Err(_) => Err(self.fail()),
+        }
+    }
+
+    fn flush(&mut self) -> Result<(), DeviceFailed> {
+        match self.inner.flush() {
+            Ok(()) => Ok(()),
+            Err(_) => Err(self.fail()),
+        }
+    }
+}

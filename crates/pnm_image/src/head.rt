@@ -1,0 +1,136 @@
+//! Heads: what an image says of itself before its rows.
+
+ghost use Rattle.std.specs.Prelude.{◌≡◌, ◌≤◌, ◌⊎◌, ◌↔◌, IsTrue, IfOk, OnOk, IfErr};
+ghost use Rattle.pnm_image.specs.Heads.{Suits, IsTupleType, IsHeader, header_of, with_height, is_blank, shape_fault};
+
+use crate::shape::{Kind, Shape};
+use std::alloc::Global;
+use std::marker::Model;
+use thiserror::Error;
+
+/// Why there is no such head: the first of these faults, in this order.
+#[derive(Clone, Copy, Debug, PartialEq, Eq, Error)]
+pub enum HeadFault {
+    /// The width, the height or the depth is 0.
+    #[error("ZeroSize")]
+    ZeroSize,
+    /// The width or the height is above 1,000,000, the depth is above 256, or a row has more than
+    /// 16,777,216 samples.
+    #[error("TooLarge")]
+    TooLarge,
+    /// The maxval is 0 or above 65,535.
+    #[error("BadMaxval")]
+    BadMaxval,
+    /// Memory ran out.
+    #[error("Memory")]
+    Memory,
+}
+
+/// The kind, the sizes, the maxval and the tuple type of an image.
+#[derive(Debug, Drop)]
+pub struct Head {
+    shape: Shape,
+    tuple_type: Vec<u8>,
+}
+
+impl Model for Head {
+    ghost use Rattle.pnm_image.specs.Heads.{Header, header_of, IsHeader};
+
+    ghost Value = { Header };
+
+    ghost view = { λ h. header_of h.shape h.tuple_type.items };
+
+    ghost invariant = { λ h. IsHeader (header_of h.shape h.tuple_type.items) };
+}
+
+impl Head {
+    /// Whether the kind allows this depth, this maxval and this tuple type, whatever the limits on
+    /// numbers say: `Bit` has depth 1 and maxval 1, `Gray` depth 1 and `Color` depth 3; only `Pam`
+    /// has a tuple type, of at most 255 bytes, without LF and with no blank, TAB or CR at its ends.
+    pub fn suits(kind: Kind, depth: u32, maxval: u32, tuple_type: &[u8]) -> bool
+        ensures { IsTrue result ↔ Suits kind depth maxval tuple_type.now }
+    {
+        match kind {
+            Kind::Bit => depth == 1 && maxval == 1 && tuple_type.is_empty(),
+            Kind::Gray => depth == 1 && tuple_type.is_empty(),
+            Kind::Color => depth == 3 && tuple_type.is_empty(),
+            Kind::Pam => is_tuple_type(tuple_type),
+        }
+    }
+
+    /// A head with these fields, or the first fault in the order of `HeadFault`; nothing is changed
+    /// by a fault.
+    pub fn new(alloc: Global, shape: Shape, tuple_type: &[u8]) -> Result<Head, HeadFault>
+        requires { Suits shape.kind shape.depth shape.maxval tuple_type.now }
+        ensures made { IfOk result (λ head. head ≡ header_of shape tuple_type.now) }
+        ensures sound { OnOk result (shape_fault shape ≡ None) }
+        // The numbers are judged first: want of memory comes only where nothing is wrong with them.
+        ensures refused { IfErr result (λ fault. (shape_fault shape ≡ Some fault)
+            ⊎ ((fault ≡ HeadFault.Memory) × (shape_fault shape ≡ None))) }
+    {
+        if let Some(fault) = shape.fault() {
+            return Err(fault);
+        }
+        match Vec::from_slice(alloc, tuple_type) {
+            Ok(tuple_type) => Ok(Head { shape, tuple_type }),
+            Err(_) => Err(HeadFault::Memory),
+        }
+    }
+
+    /// An equal head. The only fault is `Memory`.
+    pub fn copy(&self) -> Result<Head, HeadFault>
+        ensures equal { IfOk result (λ head. head ≡ self.now) }
+        ensures refused { IfErr result (λ fault. fault ≡ HeadFault.Memory) }
+    {
+        match self.tuple_type.clone() {
+            Ok(tuple_type) => Ok(Head {
+                shape: self.shape,
+                tuple_type,
+            }),
+            Err(_) => Err(HeadFault::Memory),
+        }
+    }
+
+    /// The same head with another height, which may be 0 inside a program.
+    pub fn with_height(self, height: u32) -> Head
+        requires { height ≤ 1000000 }
+        ensures { result ≡ with_height self height }
+    {
+        let Head { shape, tuple_type } = self;
+        Head {
+            shape: Shape { height, ..shape },
+            tuple_type,
+        }
+    }
+
+    /// The kind, the sizes and the maxval.
+    pub fn shape(&self) -> Shape
+        ensures shape { result ≡ self.now.shape }
+        ensures sound { IsHeader self.now }
+    {
+        self.shape
+    }
+
+    /// The bytes of the tuple type, none where the kind isn't `Pam`.
+    pub fn tuple_type(&self) -> &[u8]
+        ensures { result.now ≡ self.now.tuple_type }
+    {
+        self.tuple_type.as_slice()
+    }
+}
+
+/// Blank, TAB or CR, which don't stand at either end of a tuple type.
+fn is_blank(byte: u8) -> bool
+    ensures { result ≡ is_blank byte }
+{
+    byte == b' ' || byte == b'\t' || byte == b'\r'
+}
+
+fn is_tuple_type(text: &[u8]) -> bool
+    ensures { IsTrue result ↔ IsTupleType text.now }
+{
+    if text.len() > 255 || text.contains(&b'\n') {
+        return false;
+    }
+    text.is_empty() || !(is_blank(text[0]) || is_blank(text[text.len() - 1]))
+}

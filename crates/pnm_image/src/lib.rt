@@ -1,0 +1,24 @@
+//! Images as streams of messages, and the devices that bytes come from and go to.
+//!
+//! A stream of Netpbm images passes through a program as messages: the head of an image, its rows
+//! top to bottom, its end, and at last the end of the stream. `Place` says which message may come
+//! next. The images are those of pbm(5), pgm(5), ppm(5) and pam(5).
+#![tactic(auto)]
+
+mod device;
+mod head;
+pub mod laws;
+mod message;
+mod place;
+mod samples;
+mod shape;
+
+pub use device::{BytesIn, BytesOut, Device, DeviceFailed};
+pub use head::{Head, HeadFault};
+pub use message::Message;
+pub use place::Place;
+pub use samples::Samples;
+pub use shape::{Kind, Shape};
+
+#[cfg(test)]
+mod tests;

@@ -1,0 +1,76 @@
+//! The place in a stream, and which message may come there.
+
+ghost use Rattle.std.specs.Prelude.{◌≡◌, ◌≤◌, ◌↔◌, IsTrue, All};
+ghost use Rattle.pnm_image.specs.Places.{Accepts, IsRowOf, place_after};
+
+use crate::message::Message;
+use crate::shape::Shape;
+
+/// Where a stream of messages stands.
+#[derive(Clone, Copy, Debug, PartialEq, Eq)]
+pub enum Place {
+    /// Before an image, or before the end of the stream.
+    Between,
+    /// In an image of this shape, of which so many rows have passed.
+    Inside(Shape, u32),
+    /// After the end of the stream, or after it was broken off.
+    After,
+}
+
+impl Place {
+    /// The place before the first message.
+    pub fn new() -> Place
+        ensures { result ≡ Place.Between }
+    {
+        Place::Between
+    }
+
+    /// Whether the message may come here. An image begins, or the stream ends, between images; an
+    /// image of height h has h rows of width times depth samples up to its maxval, and then ends;
+    /// a stream may be broken off anywhere before its end.
+    pub fn accepts(&self, message: &Message) -> bool
+        ensures { IsTrue result ↔ Accepts self.now message.now }
+    {
+        match (self, message) {
+            (Place::Between, Message::Begin(_) | Message::StreamEnd | Message::Stop) => true,
+            (Place::Inside(shape, y), Message::Row(row)) => {
+                *y < shape.height && is_row_of(shape, row.as_slice())
+            }
+            (Place::Inside(shape, y), Message::ImageEnd) => *y == shape.height,
+            (Place::Inside(_, _), Message::Stop) => true,
+            _ => false,
+        }
+    }
+
+    /// Goes on to the place after the message.
+    pub fn step(&mut self, message: &Message)
+        requires { Accepts self.old message.now }
+        ensures { self.new ≡ place_after self.old message.now }
+    {
+        *self = match (*self, message) {
+            (_, Message::Begin(head)) => Place::Inside(head.shape(), 0),
+            (Place::Inside(shape, y), Message::Row(_)) => Place::Inside(shape, y + 1),
+            (place, Message::Row(_)) => place,
+            (_, Message::ImageEnd) => Place::Between,
+            (_, Message::StreamEnd | Message::Stop) => Place::After,
+        };
+    }
+}
+
+fn is_row_of(shape: &Shape, row: &[u16]) -> bool
+    ensures { IsTrue result ↔ IsRowOf shape.now row.now }
+{
+    row.len() as u64 == shape.row_length() && u32::from(greatest(row)) <= shape.maxval
+}
+
+/// The greatest sample, or 0 where there is none. The loop goes over all samples, so that it is
+/// vector code.
+fn greatest(row: &[u16]) -> u16
+    ensures { (most : _) → (result ≤ most) ↔ All (λ sample. sample ≤ most) row.now }
+{
+    let mut greatest = 0;
+    for sample in row {
+        greatest = (*sample).max(greatest);
+    }
+    greatest
+}
