@@ -1,2 +1,3 @@
+pub mod Greatest
 pub mod Rows
 pub mod Streams
