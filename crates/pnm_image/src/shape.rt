@@ -47,7 +47,7 @@ const MOST_MAXVAL: u32 = 65_535;
 
 impl Shape {
     /// Samples in a row: the width times the depth.
-    pub(crate) fn row_length(&self) -> u64
+    pub fn row_length(&self) -> u64
         ensures { result ≡ row_length self.now }
     {
         u64::from(self.width) * u64::from(self.depth)

@@ -1,0 +1,161 @@
+//! The header of a raw PGM image without comments, from pgm(5).
+
+ghost use Rattle.std.specs.Prelude.{◌≡◌, length, drop};
+ghost use Rattle.pnmpipe.specs.Texts.{is_white, is_digit};
+ghost use Rattle.pnmpipe.specs.Reading.{gap_at, number_at, delimiter_at, numbers_at, numbers_within_limit, magic_at, head_and_raster};
+ghost use Rattle.pnmpipe.specs.Headers.{Gives, GivesInMemory, GivesNumber, GivesShape};
+
+use crate::fault::InputFault;
+use pnm_image::{Head, HeadFault, Kind, Shape};
+use std::alloc::Global;
+
+/// The bytes after the magic that a header may have.
+const HEADER_LIMIT: usize = 65_534;
+
+/// The greatest maxval of one byte.
+const MOST_BYTE: u32 = 255;
+
+/// The head of the image that the text begins with, and its raster with all that follows. The
+/// fault is the first one from the left.
+pub fn head_and_raster(alloc: Global, text: &[u8]) -> Result<(Head, &[u8]), InputFault>
+    ensures { GivesInMemory (λ found. (found.0, found.1.now)) result (head_and_raster text.now) }
+{
+    let text = after_magic(text)?;
+    let (shape, raster) = shape_within_limit(text)?;
+    let head = head_of(alloc, shape)?;
+    Ok((head, raster))
+}
+
+/// What follows the magic.
+fn after_magic(text: &[u8]) -> Result<&[u8], InputFault>
+    ensures { Gives (λ rest. rest.now) result (magic_at text.now) }
+{
+    match text {
+        [] => Err(InputFault::EmptyInput),
+        [b'P'] => Err(InputFault::HeaderCut),
+        [b'P', b'5', rest @ ..] => Ok(rest),
+        _ => Err(InputFault::BadMagic),
+    }
+}
+
+/// The head of this shape: gray, of one byte a sample.
+fn head_of(alloc: Global, shape: Shape) -> Result<Head, InputFault> {
+    let head = Head::new(alloc, shape, b"").map_err(fault_of_head)?;
+    if shape.maxval > MOST_BYTE {
+        return Err(InputFault::BadMaxval);
+    }
+    Ok(head)
+}
+
+fn fault_of_head(fault: HeadFault) -> InputFault {
+    match fault {
+        HeadFault::ZeroSize => InputFault::ZeroSize,
+        HeadFault::TooLarge => InputFault::TooLarge,
+        HeadFault::BadMaxval => InputFault::BadMaxval,
+        HeadFault::Memory => InputFault::Memory,
+    }
+}
+
+/// The shape that the header's numbers make, and what follows the header, of the text after the
+/// magic. A header longer than the limit is refused where it passes it.
+fn shape_within_limit(text: &[u8]) -> Result<(Shape, &[u8]), InputFault>
+    ensures { GivesShape (λ found. found.0) (λ found. found.1.now) result (numbers_within_limit text.now) }
+{
+    let limit = text.len().min(HEADER_LIMIT);
+    match shape_of_numbers(&text[..limit]) {
+        Ok((shape, rest)) => Ok((shape, &text[limit - rest.len()..])),
+        Err(InputFault::HeaderCut) if text.len() > HEADER_LIMIT => Err(InputFault::TooLong),
+        Err(fault) => Err(fault),
+    }
+}
+
+/// The shape that the header's numbers make, and what follows the header's last byte.
+fn shape_of_numbers(text: &[u8]) -> Result<(Shape, &[u8]), InputFault>
+    ensures { GivesShape (λ found. found.0) (λ found. found.1.now) result (numbers_at text.now) }
+{
+    let (width, text) = number(gap(text)?)?;
+    let (height, text) = number(gap(text)?)?;
+    let (maxval, text) = number(gap(text)?)?;
+    let rest = delimiter(text)?;
+    let shape = Shape {
+        kind: Kind::Gray,
+        width,
+        height,
+        depth: 1,
+        maxval,
+    };
+    Ok((shape, rest))
+}
+
+/// What follows white space, of which there has to be some.
+fn gap(text: &[u8]) -> Result<&[u8], InputFault>
+    ensures { Gives (λ rest. rest.now) result (gap_at text.now) }
+{
+    match text {
+        [] => Err(InputFault::HeaderCut),
+        [first, rest @ ..] if is_white(*first) => Ok(skip_white(rest)),
+        _ => Err(InputFault::BadNumber),
+    }
+}
+
+/// What follows one byte of white space.
+fn delimiter(text: &[u8]) -> Result<&[u8], InputFault>
+    ensures { Gives (λ rest. rest.now) result (delimiter_at text.now) }
+{
+    match text {
+        [] => Err(InputFault::HeaderCut),
+        [first, rest @ ..] if is_white(*first) => Ok(rest),
+        _ => Err(InputFault::BadNumber),
+    }
+}
+
+/// The number that the text begins with, at most `u32::MAX`, and what follows its digits, of which
+/// there have to be some.
+fn number(text: &[u8]) -> Result<(u32, &[u8]), InputFault>
+    ensures { GivesNumber (λ found. found.0) (λ found. found.1.now) result (number_at text.now) }
+{
+    match text {
+        [] => Err(InputFault::HeaderCut),
+        [first, ..] if is_digit(*first) => Ok(digits(text)),
+        _ => Err(InputFault::BadNumber),
+    }
+}
+
+/// The number that the text's first digits spell, at most `u32::MAX`, and what follows them.
+fn digits(text: &[u8]) -> (u32, &[u8]) {
+    let mut value = 0u32;
+    let mut rest = text;
+    while let [digit, after @ ..] = rest
+        && is_digit(*digit)
+    {
+        value = value
+            .saturating_mul(10)
+            .saturating_add(u32::from(*digit - b'0'));
+        rest = after;
+    }
+    (value, rest)
+}
+
+fn skip_white(text: &[u8]) -> &[u8]
+{
+    let mut rest = text;
+    while let [byte, after @ ..] = rest
+        && is_white(*byte)
+    {
+        rest = after;
+    }
+    rest
+}
+
+/// Blank, TAB, CR or LF.
+fn is_white(byte: u8) -> bool
+    ensures { result ≡ is_white byte }
+{
+    byte == b' ' || byte == b'\t' || byte == b'\r' || byte == b'\n'
+}
+
+fn is_digit(byte: u8) -> bool
+    ensures { result ≡ is_digit byte }
+{
+    byte.is_ascii_digit()
+}

@@ -1,0 +1,55 @@
+//! The tools of a chain, and the text that names them.
+
+ghost use Rattle.std.specs.Prelude.{◌≡◌, ◌≢◌, ◌⊎◌, [], ◌∷◌, IfOk, IfErr, codes};
+
+use std::alloc::Global;
+use thiserror::Error;
+
+/// A tool.
+#[derive(Clone, Copy, Debug, PartialEq, Eq)]
+pub enum Tool {
+    /// `pnminvert`.
+    Invert,
+}
+
+/// What is wrong with a chain's text. The text of each variant is its name.
+#[derive(Clone, Copy, Debug, PartialEq, Eq, Error)]
+pub enum ChainKind {
+    /// There is no tool of this name.
+    #[error("UnknownTool")]
+    UnknownTool,
+    /// Memory ran out.
+    #[error("Memory")]
+    Memory,
+}
+
+/// Why a text is no chain.
+#[derive(Clone, Copy, Debug, PartialEq, Eq)]
+pub struct ChainFault {
+    /// The number of the stage, from 1, or 0 where no stage is at fault.
+    pub stage: usize,
+    /// The fault.
+    pub kind: ChainKind,
+}
+
+/// The tools that the text names: `pnminvert` alone is a chain so far. The faults are `UnknownTool`
+/// of stage 1 for every other text, and `Memory`.
+pub fn parse_chain(alloc: Global, text: &str) -> Result<Vec<Tool>, ChainFault>
+    ensures spelled { IfOk result (λ tools. (text.now ≡ codes "pnminvert") × (tools.items ≡ Tool.Invert ∷ [])) }
+    ensures unknown { IfErr result (λ fault. (fault ≡ record { stage = 0; kind = ChainKind.Memory })
+        ⊎ ((fault ≡ record { stage = 1; kind = ChainKind.UnknownTool }) × (text.now ≢ codes "pnminvert"))) }
+{
+    if text != "pnminvert" {
+        return Err(ChainFault {
+            stage: 1,
+            kind: ChainKind::UnknownTool,
+        });
+    }
+    match Vec::from_slice(alloc, &[Tool::Invert]) {
+        Ok(tools) => Ok(tools),
+        Err(_) => Err(ChainFault {
+            stage: 0,
+            kind: ChainKind::Memory,
+        }),
+    }
+}
