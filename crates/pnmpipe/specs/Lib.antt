@@ -1,6 +1,7 @@
 pub mod Texts
 pub mod Reading
 pub mod Headers
+pub mod TextLaws
 pub mod Inversion
 pub mod Encoding
 pub mod Sources

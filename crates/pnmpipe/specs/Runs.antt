@@ -10,7 +10,7 @@ use Rattle.pnmpipe.specs.declared.fault.RunFault.{RunFault}
 use Rattle.pnmpipe.specs.declared.fault.RunFault.TheVariants.{Input, Output}
 use Rattle.pnmpipe.specs.declared.summary.Summary.{Summary}
 use Rattle.pnmpipe.specs.Texts.{Spells}
-use Rattle.pnmpipe.specs.Reading.{said_of, fault_of}
+use Rattle.pnmpipe.specs.Reading.{said_of}
 use Rattle.pnmpipe.specs.Inversion.{inverted, inverted_messages}
 use Rattle.pnmpipe.specs.Encoding.{bytes_of, encoding_of}
 use Rattle.pnmpipe.specs.Sources.{IsAccident}
@@ -34,11 +34,6 @@ pub record EndedWell (text : List ℕ) (old new : Option (List ℕ)) (summary : 
   pub spelled : Spells text images
   pub written : Appends old new (encoding_of (map inverted images))
   pub counts : summary ≡ summary_of images
-
--- the fault of a text, which spells no images
-pub record IsAtFault (text : List ℕ) (fault : InputFault) : Type 0 where
-  pub first : fault_of text ≡ Some fault
-  pub not_spelled : (images : List Image) → Spells text images → ⊥
 
 abbrev pub IfInput : {A : Type 0} → Result A RunFault → (InputFault → Type 0) → Type 0
 IfInput (Ok x) P = Unit {0}

@@ -1,9 +1,11 @@
 //! The header of a raw PGM image without comments, from pgm(5).
 
-ghost use Rattle.std.specs.Prelude.{◌≡◌, length, drop};
+ghost use Rattle.std.specs.Prelude.{◌≡◌, drop, take_while, List, ℕ};
+ghost use Rattle.std.specs.List.{prefix_len};
+ghost use Rattle.std.specs.Str.Parse.{digits_value};
 ghost use Rattle.pnmpipe.specs.Texts.{is_white, is_digit};
-ghost use Rattle.pnmpipe.specs.Reading.{gap_at, number_at, delimiter_at, numbers_at, numbers_within_limit, magic_at, head_and_raster};
-ghost use Rattle.pnmpipe.specs.Headers.{Gives, GivesInMemory, GivesNumber, GivesShape};
+ghost use Rattle.pnmpipe.specs.Reading.{gap_at, number_at, delimiter_at, Numbers, numbers_at, numbers_within_limit, magic_at, fault_of_head, head_at, head_and_raster};
+ghost use Rattle.pnmpipe.specs.Headers.{Gives, GivesInMemory, GivesNumber, GivesShape, saturated, saturated_shape};
 
 use crate::fault::InputFault;
 use pnm_image::{Head, HeadFault, Kind, Shape};
@@ -38,8 +40,12 @@ fn after_magic(text: &[u8]) -> Result<&[u8], InputFault>
     }
 }
 
-/// The head of this shape: gray, of one byte a sample.
-fn head_of(alloc: Global, shape: Shape) -> Result<Head, InputFault> {
+/// The head of this shape, which is gray, or what is wrong with its numbers.
+fn head_of(alloc: Global, shape: Shape) -> Result<Head, InputFault>
+    requires gray { shape.kind ≡ Kind.Gray }
+    requires one_plane { shape.depth ≡ 1 }
+    ensures { (numbers : Numbers) → shape ≡ saturated_shape numbers → GivesInMemory (λ head. head) result (head_at numbers) }
+{
     let head = Head::new(alloc, shape, b"").map_err(fault_of_head)?;
     if shape.maxval > MOST_BYTE {
         return Err(InputFault::BadMaxval);
@@ -47,7 +53,9 @@ fn head_of(alloc: Global, shape: Shape) -> Result<Head, InputFault> {
     Ok(head)
 }
 
-fn fault_of_head(fault: HeadFault) -> InputFault {
+fn fault_of_head(fault: HeadFault) -> InputFault
+    ensures { result ≡ fault_of_head fault }
+{
     match fault {
         HeadFault::ZeroSize => InputFault::ZeroSize,
         HeadFault::TooLarge => InputFault::TooLarge,
@@ -122,7 +130,10 @@ fn number(text: &[u8]) -> Result<(u32, &[u8]), InputFault>
 }
 
 /// The number that the text's first digits spell, at most `u32::MAX`, and what follows them.
-fn digits(text: &[u8]) -> (u32, &[u8]) {
+fn digits(text: &[u8]) -> (u32, &[u8])
+    ensures value { result.0 ≡ saturated (digits_value 10 (take_while is_digit text.now)) }
+    ensures rest { result.1.now ≡ drop (prefix_len is_digit text.now) text.now }
+{
     let mut value = 0u32;
     let mut rest = text;
     while let [digit, after @ ..] = rest
@@ -136,7 +147,9 @@ fn digits(text: &[u8]) -> (u32, &[u8]) {
     (value, rest)
 }
 
+/// What follows the white space that the text begins with, if any.
 fn skip_white(text: &[u8]) -> &[u8]
+    ensures { result.now ≡ drop (prefix_len is_white text.now) text.now }
 {
     let mut rest = text;
     while let [byte, after @ ..] = rest

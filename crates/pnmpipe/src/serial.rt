@@ -6,7 +6,8 @@ ghost use Rattle.pnmpipe.specs.declared.fault.InputFault.TheVariants.{ReadFailed
 ghost use Rattle.pnmpipe.specs.declared.fault.SinkFault.TheVariants.{WriteFailed};
 ghost use Rattle.pnmpipe.specs.Sources.{IsAccident};
 ghost use Rattle.pnmpipe.specs.Sinks.{AppendsFront};
-ghost use Rattle.pnmpipe.specs.Runs.{EndedWell, IsAtFault, IfInput, IfOutput, bytes_due};
+ghost use Rattle.pnmpipe.specs.Runs.{EndedWell, IfInput, IfOutput, bytes_due};
+ghost use Rattle.pnmpipe.specs.TextLaws.{IsAtFault};
 
 use crate::fault::{InputFault, RunFault, SinkFault};
 use crate::invert::Inverter;
