@@ -1,1 +1,3 @@
 pub mod HeaderLaws
+pub mod RasterLaws
+pub mod SpellingLaws
