@@ -1,3 +1,4 @@
 pub mod HeaderLaws
 pub mod RasterLaws
 pub mod SpellingLaws
+pub mod Written
