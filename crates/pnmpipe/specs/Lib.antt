@@ -6,7 +6,10 @@ pub mod TextLaws
 pub mod Inversion
 pub mod Encoding
 pub mod Bytes
+pub mod Counts
 pub mod Sources
 pub mod Told
 pub mod Sinks
+pub mod Downstreams
+pub mod Passing
 pub mod Runs

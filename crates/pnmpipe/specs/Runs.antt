@@ -14,11 +14,7 @@ use Rattle.pnmpipe.specs.Reading.{said_of}
 use Rattle.pnmpipe.specs.Inversion.{inverted, inverted_messages}
 use Rattle.pnmpipe.specs.Encoding.{bytes_of, encoding_of}
 use Rattle.pnmpipe.specs.Told.{IsOutsideFault}
-use Rattle.pnmpipe.specs.Sinks.{AppendsFront}
-
--- a count that stays at the greatest u64
-abbrev pub counted : ℕ → ℕ
-counted n = min n (2 ^ 64 - 1)
+use Rattle.pnmpipe.specs.Counts.{counted}
 
 -- the images and the rows of a stream
 abbrev pub summary_of : List Image → Summary

@@ -1,21 +1,24 @@
 //! A run in one thread: read, invert, write.
 
-ghost use Rattle.std.specs.Prelude.{◌≡◌, ◌⊎◌, List, ℕ, Some, IfOk, length};
+ghost use Rattle.std.specs.Prelude.{◌≡◌, ◌⊎◌, ◌++◌, List, ℕ, Some, None, Err, Ok, IfOk, OnOk, IfErr, length};
+ghost use Rattle.std.specs.Io.KnownBytes.{Appends};
 ghost use Rattle.pnm_image.specs.Devices.{Failed};
 ghost use Rattle.pnmpipe.specs.declared.fault.InputFault.TheVariants.{ReadFailed};
 ghost use Rattle.pnmpipe.specs.declared.fault.SinkFault.TheVariants.{WriteFailed};
+ghost use Rattle.pnmpipe.specs.Reading.{fault_of};
+ghost use Rattle.pnmpipe.specs.TextLaws.{IsAtFault};
 ghost use Rattle.pnmpipe.specs.Told.{IsOutsideFault};
 ghost use Rattle.pnmpipe.specs.Sinks.{AppendsFront};
+ghost use Rattle.pnmpipe.specs.Downstreams.{IsFresh};
 ghost use Rattle.pnmpipe.specs.Runs.{EndedWell, IfInput, IfOutput, bytes_due};
-ghost use Rattle.pnmpipe.specs.TextLaws.{IsAtFault};
+ghost use Rattle.pnmpipe.specs.Passing.{HasPassed};
 
-use crate::fault::{InputFault, RunFault, SinkFault};
-use crate::invert::Inverter;
+use crate::downstream::Downstream;
+use crate::fault::{InputFault, RunFault};
 use crate::reader::Source;
 use crate::summary::Summary;
 use crate::tool::Tool;
-use crate::writer::Sink;
-use pnm_image::{BytesIn, BytesOut, Message};
+use pnm_image::{BytesIn, BytesOut};
 use std::alloc::Global;
 
 /// Reads the images of the reader, passes them through the tools and writes what comes out. The
@@ -31,74 +34,58 @@ pub fn run_serial<R: BytesIn, W: BytesOut>(
     // It ends well only where the whole input is accepted and its inverted images are written.
     ensures well { (text : List ℕ) → R.left reader.old ≡ Some text
         → IfOk result (EndedWell text (W.held writer.old) (W.held writer.new)) }
+    ensures no_failure { OnOk result ((R.failures reader.new ≡ R.failures reader.old) × (W.failures writer.new ≡ W.failures writer.old)) }
+
     // An input that is accepted is refused only where the reader fails or memory runs out.
     ensures input { (text : List ℕ) → R.left reader.old ≡ Some text
         → IfInput result (λ fault. IsOutsideFault fault ⊎ IsAtFault text fault) }
     ensures read_failed { IfInput result (λ fault. fault ≡ ReadFailed
         → Failed (R.failures reader.old) (R.failures reader.new)) }
+
+    // The output's fault is answered only where the input has none.
     ensures output { IfOutput result (λ fault. (fault ≡ WriteFailed)
-        × Failed (W.failures writer.old) (W.failures writer.new)) }
-    // However it ends, what is written is a front of the bytes due.
+        × Failed (W.failures writer.old) (W.failures writer.new)
+        × (R.failures reader.new ≡ R.failures reader.old)) }
+    ensures input_first { (text : List ℕ) → R.left reader.old ≡ Some text
+        → IfOutput result (λ _. fault_of text ≡ None) }
+
+    // However it ends, what is written is a front of the bytes due; all of them at the input's fault.
     ensures front { (text : List ℕ) → R.left reader.old ≡ Some text
         → AppendsFront (W.held writer.old) (W.held writer.new) (bytes_due text) }
+    ensures all_before_fault { (text : List ℕ) → R.left reader.old ≡ Some text
+        → IfInput result (λ fault. fault_of text ≡ Some fault → W.failures writer.new ≡ W.failures writer.old
+            → Appends (W.held writer.old) (W.held writer.new) (bytes_due text)) }
+
     ensures same_reader { R.same reader.old reader.new }
     ensures same_writer { W.same writer.old writer.new }
 {
     let Tool::Invert = tools[0];
     let mut source = Source::new(alloc, &mut *reader);
-    let mut line = Line {
-        inverter: Inverter::new(),
-        sink: Sink::new(&mut *writer),
-        summary: Summary { images: 0, rows: 0 },
-        output: Ok(()),
-    };
+    let mut downstream = Downstream::new(&mut *writer);
+    let input = pass_all(&mut source, &mut downstream);
+    let (_, output) = downstream.finish();
+    match (input, output) {
+        (Err(fault), _) => Err(RunFault::Input(fault)),
+        (Ok(()), Err(fault)) => Err(RunFault::Output(fault)),
+        (Ok(()), Ok(summary)) => Ok(summary),
+    }
+}
+
+/// Passes on all messages of the source, through to its end or its fault.
+fn pass_all<R: BytesIn, W: BytesOut + Drop>(
+    source: &mut Source<R>,
+    downstream: &mut Downstream<W>,
+) -> Result<(), InputFault>
+    requires unread { source.old.reading ≡ None }
+    requires fresh { IsFresh downstream.old }
+    ensures passed { HasPassed R.left R.failures W.held W.failures source.old source.new result downstream.old downstream.new }
+    ensures same_reader { R.same source.old.reader source.new.reader }
+    ensures same_writer { W.same downstream.old.sink.writer downstream.new.sink.writer }
+{
     loop {
-        match source.next() {
-            Ok(Some(message)) => line.pass(message),
-            Ok(None) => return line.finish(),
-            Err(fault) => {
-                let _ = line.finish();
-                return Err(RunFault::Input(fault));
-            }
-        }
-    }
-}
-
-/// What stands behind the source: the tool and the sink, and what came of them so far.
-#[derive(Drop)]
-struct Line<W> {
-    inverter: Inverter,
-    sink: Sink<W>,
-    summary: Summary,
-    output: Result<(), SinkFault>,
-}
-
-impl<W: BytesOut + Drop> Line<W> {
-    /// Inverts the message and writes it, unless there was a fault of the output before.
-    fn pass(&mut self, message: Message) {
-        let message = self.inverter.inverted(message);
-        if self.output.is_ok() {
-            self.output = self.sink.put(&message);
-            if self.output.is_ok() {
-                self.count(&message);
-            }
-        }
-    }
-
-    fn count(&mut self, message: &Message) {
-        match message {
-            Message::Row(_) => self.summary.rows = self.summary.rows.saturating_add(1),
-            Message::ImageEnd => self.summary.images = self.summary.images.saturating_add(1),
-            Message::Begin(_) | Message::StreamEnd | Message::Stop => {}
-        }
-    }
-
-    /// Flushes the writer, unless there was a fault of the output before.
-    fn finish(self) -> Result<Summary, RunFault> {
-        let (_, flushed) = self.sink.finish();
-        match self.output.and(flushed) {
-            Ok(()) => Ok(self.summary),
-            Err(fault) => Err(RunFault::Output(fault)),
+        match source.next()? {
+            Some(message) => downstream.pass(message),
+            None => return Ok(()),
         }
     }
 }

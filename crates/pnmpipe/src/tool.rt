@@ -36,7 +36,7 @@ pub struct ChainFault {
 /// of stage 1 for every other text, and `Memory`.
 pub fn parse_chain(alloc: Global, text: &str) -> Result<Vec<Tool>, ChainFault>
     ensures spelled { IfOk result (λ tools. (text.now ≡ codes "pnminvert") × (tools.items ≡ Tool.Invert ∷ [])) }
-    ensures unknown { IfErr result (λ fault. (fault ≡ record { stage = 0; kind = ChainKind.Memory })
+    ensures refused { IfErr result (λ fault. ((fault ≡ record { stage = 0; kind = ChainKind.Memory }) × (text.now ≡ codes "pnminvert"))
         ⊎ ((fault ≡ record { stage = 1; kind = ChainKind.UnknownTool }) × (text.now ≢ codes "pnminvert"))) }
 {
     if text != "pnminvert" {
