@@ -1,4 +1,6 @@
+pub mod HeaderCode
 pub mod HeaderLaws
+pub mod Numbers
 pub mod RasterLaws
 pub mod SpellingLaws
 pub mod Written

@@ -1,10 +1,10 @@
 //! The header of a raw PGM image without comments, from pgm(5).
 
-ghost use Rattle.std.specs.Prelude.{◌≡◌, drop, take_while, List, ℕ};
+ghost use Rattle.std.specs.Prelude.{◌≡◌, ◌++◌, drop, take_while, List, ℕ, IfOk};
 ghost use Rattle.std.specs.List.{prefix_len};
 ghost use Rattle.std.specs.Str.Parse.{digits_value};
 ghost use Rattle.pnmpipe.specs.Texts.{is_white, is_digit};
-ghost use Rattle.pnmpipe.specs.Reading.{gap_at, number_at, delimiter_at, Numbers, numbers_at, numbers_within_limit, magic_at, fault_of_head, head_at, head_and_raster};
+ghost use Rattle.pnmpipe.specs.Reading.{gap_at, number_at, delimiter_at, Numbers, numbers_at, beyond_limit, numbers_within_limit, magic_at, fault_of_head, head_at, head_and_raster};
 ghost use Rattle.pnmpipe.specs.Headers.{Gives, GivesInMemory, GivesNumber, GivesShape, saturated, saturated_shape};
 
 use crate::fault::InputFault;
@@ -19,8 +19,10 @@ const MOST_BYTE: u32 = 255;
 
 /// The head of the image that the text begins with, and its raster with all that follows. The
 /// fault is the first one from the left.
+#[tactic(auto, unfolding(crate::specs::Reading::head_and_raster, crate::specs::Reading::header_at))]
 pub fn head_and_raster(alloc: Global, text: &[u8]) -> Result<(Head, &[u8]), InputFault>
-    ensures { GivesInMemory (λ found. (found.0, found.1.now)) result (head_and_raster text.now) }
+    ensures gives { GivesInMemory (λ found. (found.0, found.1.now)) result (head_and_raster text.now) }
+    ensures tail { IfOk result (λ found. (front : List ℕ) × (text.now ≡ front ++ found.1.now)) }
 {
     let text = after_magic(text)?;
     let (shape, raster) = shape_within_limit(text)?;
@@ -29,6 +31,7 @@ pub fn head_and_raster(alloc: Global, text: &[u8]) -> Result<(Head, &[u8]), Inpu
 }
 
 /// What follows the magic.
+#[tactic(auto, unfolding(crate::specs::Reading::magic_at))]
 fn after_magic(text: &[u8]) -> Result<&[u8], InputFault>
     ensures { Gives (λ rest. rest.now) result (magic_at text.now) }
 {
@@ -41,6 +44,7 @@ fn after_magic(text: &[u8]) -> Result<&[u8], InputFault>
 }
 
 /// The head of this shape, which is gray, or what is wrong with its numbers.
+#[tactic(auto, unfolding(crate::specs::Reading::head_at))]
 fn head_of(alloc: Global, shape: Shape) -> Result<Head, InputFault>
     requires gray { shape.kind ≡ Kind.Gray }
     requires one_plane { shape.depth ≡ 1 }
@@ -72,12 +76,23 @@ fn shape_within_limit(text: &[u8]) -> Result<(Shape, &[u8]), InputFault>
     let limit = text.len().min(HEADER_LIMIT);
     match shape_of_numbers(&text[..limit]) {
         Ok((shape, rest)) => Ok((shape, &text[limit - rest.len()..])),
-        Err(InputFault::HeaderCut) if text.len() > HEADER_LIMIT => Err(InputFault::TooLong),
-        Err(fault) => Err(fault),
+        Err(fault) => Err(beyond_limit(text.len() > HEADER_LIMIT, fault)),
+    }
+}
+
+/// The fault of a text whose part within the limit has this fault. A header that ends there is cut,
+/// or too long where the text goes on.
+fn beyond_limit(longer: bool, fault: InputFault) -> InputFault
+    ensures { result ≡ beyond_limit longer fault }
+{
+    match fault {
+        InputFault::HeaderCut if longer => InputFault::TooLong,
+        _ => fault,
     }
 }
 
 /// The shape that the header's numbers make, and what follows the header's last byte.
+#[tactic(auto, unfolding(crate::specs::Reading::numbers_at))]
 fn shape_of_numbers(text: &[u8]) -> Result<(Shape, &[u8]), InputFault>
     ensures { GivesShape (λ found. found.0) (λ found. found.1.now) result (numbers_at text.now) }
 {
@@ -96,6 +111,7 @@ fn shape_of_numbers(text: &[u8]) -> Result<(Shape, &[u8]), InputFault>
 }
 
 /// What follows white space, of which there has to be some.
+#[tactic(auto, unfolding(crate::specs::Reading::gap_at))]
 fn gap(text: &[u8]) -> Result<&[u8], InputFault>
     ensures { Gives (λ rest. rest.now) result (gap_at text.now) }
 {
@@ -107,6 +123,7 @@ fn gap(text: &[u8]) -> Result<&[u8], InputFault>
 }
 
 /// What follows one byte of white space.
+#[tactic(auto, unfolding(crate::specs::Reading::delimiter_at))]
 fn delimiter(text: &[u8]) -> Result<&[u8], InputFault>
     ensures { Gives (λ rest. rest.now) result (delimiter_at text.now) }
 {
@@ -119,6 +136,7 @@ fn delimiter(text: &[u8]) -> Result<&[u8], InputFault>
 
 /// The number that the text begins with, at most `u32::MAX`, and what follows its digits, of which
 /// there have to be some.
+#[tactic(auto, unfolding(crate::specs::Reading::number_at))]
 fn number(text: &[u8]) -> Result<(u32, &[u8]), InputFault>
     ensures { GivesNumber (λ found. found.0) (λ found. found.1.now) result (number_at text.now) }
 {
