@@ -1,3 +1,4 @@
+pub mod DownstreamSteps
 pub mod HeaderCode
 pub mod HeaderLaws
 pub mod Numbers

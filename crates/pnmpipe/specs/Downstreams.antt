@@ -2,7 +2,8 @@
 use Rattle.std.specs.Prelude.{◌≡◌, ℕ, true, false, List, Option, Result, Ok, Err}
 use Rattle.std.specs.Io.KnownBytes.{Appends}
 use Rattle.pnm_image.specs.declared.message.Message.{Message}
-use Rattle.pnm_image.specs.declared.place.Place.TheVariants.{Between}
+use Rattle.pnm_image.specs.declared.place.Place.{Place}
+use Rattle.pnm_image.specs.declared.place.Place.TheVariants.{Between, Inside, After}
 use Rattle.pnm_image.specs.Places.{place_after}
 use Rattle.pnmpipe.specs.declared.fault.SinkFault.{SinkFault}
 use Rattle.pnmpipe.specs.declared.fault.SinkFault.TheVariants.{WriteFailed}
@@ -20,6 +21,12 @@ pub record IsFresh {W : Type 0} (d : Downstream W) : Type 0 where
   pub images : d.summary.images ≡ 0
   pub rows : d.summary.rows ≡ 0
   pub output : d.output ≡ Ok tt
+
+-- the maxval of the image at a place
+abbrev pub IsMaxvalAt : Place → ℕ → Type 0
+IsMaxvalAt Between maxval = Unit {0}
+IsMaxvalAt (Inside s y) maxval = maxval ≡ s.maxval
+IsMaxvalAt After maxval = Unit {0}
 
 -- the message was written, inverted
 pub record WritesInverted {W : Type 0} (held : W → Option (List ℕ)) (failures : W → ℕ) (old new : Downstream W) (m : Message) : Type 0 where

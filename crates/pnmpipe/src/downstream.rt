@@ -1,6 +1,6 @@
 //! What stands behind the source of a run: the tool and the sink.
 
-ghost use Rattle.std.specs.Prelude.{◌≡◌, ◌≤◌, MatchResult};
+ghost use Rattle.std.specs.Prelude.{◌≡◌, ◌≤◌, MatchResult, false};
 ghost use Rattle.std.specs.Result.{is_err};
 ghost use Rattle.std.specs.Io.KnownBytes.{Keeps};
 ghost use Rattle.pnm_image.specs.Devices.{Failed};
@@ -26,7 +26,7 @@ pub struct Downstream<W> {
 }
 
 impl<W: BytesOut + Drop> Downstream<W> {
-    ghost use Rattle.pnmpipe.specs.Downstreams.{IsFresh, Passes};
+    ghost use Rattle.pnmpipe.specs.Downstreams.{IsFresh, IsMaxvalAt, Passes};
 
     /// The tool and the sink before the first message.
     pub fn new(writer: W) -> Downstream<W>
@@ -46,7 +46,8 @@ impl<W: BytesOut + Drop> Downstream<W> {
         requires bytes { IsByteMessage message }
         requires row { IsRowUpTo self.old.inverter.maxval message }
         requires maxval { self.old.inverter.maxval ≤ 255 }
-        requires in_order { self.old.output ≡ Ok tt → Writes self.old.sink.place message }
+        requires in_order { self.old.output ≡ Ok tt → Writes self.old.sink.place message × IsMaxvalAt self.old.sink.place self.old.inverter.maxval
+            × (self.old.sink.is_broken ≡ false) }
         ensures maxval { self.new.inverter.maxval ≡ maxval_after self.old.inverter.maxval message }
         ensures passes { Passes W.held W.failures self.old self.new message }
         ensures same_device { W.same self.old.sink.writer self.new.sink.writer }

@@ -1,6 +1,6 @@
 //! The writer: messages to bytes, for gray images of one byte a sample.
 
-ghost use Rattle.std.specs.Prelude.{◌≡◌, ◌<◌, ◌≤◌, ◌++◌, All, IfErr, OnOk, OnErr, Err, true, false, length, decimal};
+ghost use Rattle.std.specs.Prelude.{◌≡◌, ◌<◌, ◌≤◌, ◌++◌, All, MatchResult, IfErr, OnOk, OnErr, Err, true, false, length, decimal};
 ghost use Rattle.std.specs.Io.KnownBytes.{Appends, Keeps};
 ghost use Rattle.pnm_image.specs.Devices.{Failed};
 ghost use Rattle.pnm_image.specs.Places.{place_after};
@@ -68,7 +68,9 @@ impl<W: BytesOut> Sink<W> {
     pub fn finish(self) -> (W, Result<(), SinkFault>)
         ensures bytes { Keeps (W.held self.writer) (W.held result.0) }
         ensures broken { self.is_broken ≡ true → (result.0 ≡ self.writer) × (result.1 ≡ Err SinkFault.Broken) }
-        ensures flush { self.is_broken ≡ false → IfErr result.1 (λ fault. (fault ≡ SinkFault.WriteFailed) × Failed (W.failures self.writer) (W.failures result.0)) }
+        ensures flush { self.is_broken ≡ false → MatchResult result.1
+            (λ _. W.failures result.0 ≡ W.failures self.writer)
+            (λ fault. (fault ≡ SinkFault.WriteFailed) × Failed (W.failures self.writer) (W.failures result.0)) }
         ensures same_device { W.same self.writer result.0 }
     {
         let Sink {
