@@ -1,8 +1,10 @@
 pub mod DownstreamSteps
+pub mod EncodingLaws
 pub mod HeaderCode
 pub mod HeaderLaws
 pub mod Numbers
 pub mod PassingSteps
 pub mod RasterLaws
+pub mod RunSteps
 pub mod SpellingLaws
 pub mod Written

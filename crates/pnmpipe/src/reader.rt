@@ -58,6 +58,13 @@ impl<R: BytesIn> Source<R> {
         self.reading = Some(reading);
         answer
     }
+
+    /// The reader.
+    pub fn into_reader(self) -> R
+        ensures { result ≡ self.reader }
+    {
+        self.reader
+    }
 }
 
 /// A reading of all that the reader gives.

@@ -53,7 +53,7 @@ pub fn run_serial<R: BytesIn, W: BytesOut>(
     ensures front { (text : List ℕ) → R.left reader.old ≡ Some text
         → AppendsFront (W.held writer.old) (W.held writer.new) (bytes_due text) }
     ensures all_before_fault { (text : List ℕ) → R.left reader.old ≡ Some text
-        → IfInput result (λ fault. fault_of text ≡ Some fault → W.failures writer.new ≡ W.failures writer.old
+        → IfInput result (λ fault. fault_of text ≡ Some fault → ¬ Failed (W.failures writer.old) (W.failures writer.new)
             → Appends (W.held writer.old) (W.held writer.new) (bytes_due text)) }
 
     ensures same_reader { R.same reader.old reader.new }
@@ -63,7 +63,11 @@ pub fn run_serial<R: BytesIn, W: BytesOut>(
     let mut source = Source::new(alloc, &mut *reader);
     let mut downstream = Downstream::new(&mut *writer);
     let input = pass_all(&mut source, &mut downstream);
-    let (_, output) = downstream.finish();
+    let read = source.into_reader();
+    let (written, output) = downstream.finish();
+    // No effect at run time. The proof reads from these uses what the two devices hold.
+    let _ = &*read;
+    let _ = &*written;
     match (input, output) {
         (Err(fault), _) => Err(RunFault::Input(fault)),
         (Ok(()), Err(fault)) => Err(RunFault::Output(fault)),
