@@ -1,11 +1,11 @@
 -- The header of a text: what a header spells is read, and what is read is spelled.
-use Rattle.std.proofs.Common.{◌≡◌, ℕ, zero, suc, ◌+◌, ◌-◌, ◌*◌, ◌<◌, ◌≤◌, Bool, true, false, cond, ltb, leb, eqb, ◌&&◌, ◌||◌, List, [], ◌∷◌, ◌++◌, length, take, drop, Option, Some, None, Result, Ok, Err, refl, sym, ap, subst, ◌∙◌, append_assoc, arith}
-use Rattle.std.specs.Prelude.{◌==◌, if◌then◌else◌, nat_lt, codes}
-use Rattle.std.specs.List.{AllPass, prefix_len, take_while}
+use Rattle.std.proofs.Common.{◌≡◌, ◌⊎◌, inl, inr, ℕ, zero, suc, ◌+◌, ◌-◌, ◌*◌, ◌<◌, ◌≤◌, Bool, true, false, cond, ltb, ◌&&◌, ◌||◌, List, [], ◌∷◌, ◌++◌, length, take, drop, Option, Some, None, Result, Ok, Err, refl, sym, ap, subst, ◌∙◌, append_assoc, arith}
+use Rattle.std.specs.Prelude.{◌==◌, if◌then◌else◌, nat_lt, nat_le, codes}
+use Rattle.std.specs.List.{AllPass, prefix_len, take_while, list_all}
 use Rattle.std.specs.Str.Parse.{digits_value}
-use Rattle.std.proofs.lemmas.Bool.{ltb-false, le-ltb, eqb-true, eqb-false, ne_eqb, or_parts, and_parts}
+use Rattle.std.proofs.lemmas.Bool.{ltb-false, le-ltb, eqb-true, and_parts}
 use Rattle.std.proofs.lemmas.Bool.Decides.{nat_tests}
-use Rattle.std.proofs.lemmas.List.{append-nil, take_at, drop_at, take-append-drop, length-append, length-take}
+use Rattle.std.proofs.lemmas.List.{take_at, drop_at, take-append-drop, length-append, length-take}
 use Rattle.std.proofs.lemmas.List.Sums.{take_while-cons}
 use Rattle.std.proofs.lemmas.List.Elements.{All-nil, All-cons, All-head, All-tail}
 use Rattle.pnm_image.specs.declared.shape.Kind.{Kind}
@@ -13,11 +13,12 @@ use Rattle.pnm_image.specs.declared.shape.Kind.TheVariants.{Gray}
 use Rattle.pnm_image.specs.declared.head.HeadFault.{HeadFault}
 use Rattle.pnm_image.specs.declared.head.HeadFault.TheVariants as heads
 use Rattle.pnm_image.specs.declared.head.HeadFault.TheVariants.{ZeroSize, TooLarge}
-use Rattle.pnm_image.specs.Heads.{Header, IsHeader, IsWithinLimits, Suits, header_of, row_length, shape_fault}
+use Rattle.pnm_image.specs.declared.message.Message.TheVariants.{Row}
+use Rattle.pnm_image.specs.Heads.{Header, IsWithinLimits, Suits, header_of, row_length, shape_fault}
 use Rattle.pnmpipe.specs.declared.fault.InputFault.{InputFault}
-use Rattle.pnmpipe.specs.declared.fault.InputFault.TheVariants.{BadNumber, BadMaxval, BadMagic, HeaderCut}
+use Rattle.pnmpipe.specs.declared.fault.InputFault.TheVariants.{BadNumber, BadMaxval, BadMagic, HeaderCut, RasterCut, SampleAboveMaxval, ReadFailed, Memory}
 use Rattle.pnmpipe.specs.Texts.{is_white, is_digit, IsGap, SpellsNumber, IsByteGray, SpellsHeader}
-use Rattle.pnmpipe.specs.Reading.{◌>>=◌, gap_at, number_at, delimiter_at, Numbers, numbers_at, shape_of, fault_of_head, head_at, header_limit, or_too_long, numbers_within_limit, header_at, magic_at, head_and_raster}
+use Rattle.pnmpipe.specs.Reading.{◌>>=◌, gap_at, number_at, delimiter_at, Numbers, numbers_at, shape_of, fault_of_head, head_at, or_too_long, numbers_within_limit, header_at, magic_at, head_and_raster, beyond_limit, Said, then_said, says_fault, end_said, rows_said, image_said, said, fault_of}
 
 -- ---- steps
 
@@ -31,12 +32,8 @@ pub when_ok : {A : Type 0} (b : Bool) (d : InputFault) (x y : A) → cond b (Ok 
 when_ok true d x y e = (refl, cc)
 when_ok false d x y e = absurd cc
 
--- a test for a fault that found none
-pub unless_ok : {A : Type 0} (b : Bool) (d : InputFault) (x y : A) → cond b (Err d) (Ok x) ≡ Ok y → (b ≡ false) × (x ≡ y)
-unless_ok true d x y e = absurd cc
-unless_ok false d x y e = (refl, cc)
-
-abbrev done : {A : Type 0} → A → Result A InputFault
+-- a step that did not fail
+abbrev pub done : {A : Type 0} → A → Result A InputFault
 done x = Ok x
 
 -- a step has one value
@@ -74,7 +71,7 @@ prefix_before p (x ∷ front) b rest h e =
     let others : prefix_len p (front ++ b ∷ rest) ≡ length front = prefix_before p front b rest (All-tail (λ y. p y ≡ true) x front h) e in
     rw (first, others) (omega arith)
 
--- the same of a text that begins so
+-- where a text follows that begins so, the longest front that passes is all before it
 prefix_of : (p : ℕ → Bool) (front rest : List ℕ) → AllPass p front → BeginsOutside p rest → prefix_len p (front ++ rest) ≡ length front
 prefix_of p front rest h out = rw (out.is) (prefix_before p front out.first out.others h out.fails)
 
@@ -192,22 +189,27 @@ chained : (a b c d e f : List ℕ) (g : ℕ) (rest t t1 t2 t3 t4 t5 t6 : List �
     → t ≡ a ++ (b ++ (c ++ (d ++ (e ++ (f ++ g ∷ rest)))))
 chained a b c d e f g rest t t1 t2 t3 t4 t5 t6 p p1 p2 p3 p4 p5 p6 = rw (p, p1, p2, p3, p4, p5, p6) refl
 
--- reading from each step on, with the numbers before it
+-- reading from the delimiter on, with the numbers before it
 abbrev from_delimiter : ℕ → ℕ → ℕ → List ℕ → Result (Numbers × List ℕ) InputFault
 from_delimiter width height maxval text = delimiter_at text >>= λ rest. Ok (record { width = width; height = height; maxval = maxval }, rest)
 
+-- reading from the maxval on, with the numbers before it
 abbrev from_maxval : ℕ → ℕ → List ℕ → Result (Numbers × List ℕ) InputFault
 from_maxval width height text = number_at text >>= λ maxval. from_delimiter width height maxval.0 maxval.1
 
+-- reading from the white space before the maxval on
 abbrev from_maxval_gap : ℕ → ℕ → List ℕ → Result (Numbers × List ℕ) InputFault
 from_maxval_gap width height text = gap_at text >>= λ rest. from_maxval width height rest
 
+-- reading from the height on, with the width before it
 abbrev from_height : ℕ → List ℕ → Result (Numbers × List ℕ) InputFault
 from_height width text = number_at text >>= λ height. from_maxval_gap width height.0 height.1
 
+-- reading from the white space before the height on
 abbrev from_height_gap : ℕ → List ℕ → Result (Numbers × List ℕ) InputFault
 from_height_gap width text = gap_at text >>= λ rest. from_height width rest
 
+-- reading from the width on
 abbrev from_width : List ℕ → Result (Numbers × List ℕ) InputFault
 from_width text = number_at text >>= λ width. from_height_gap width.0 width.1
 
@@ -549,3 +551,151 @@ spelled_header_is_read front head rest s =
     let numbers = spelled_numbers_within_limit_are_read a.0 (numbers_of head) rest a.1 a.3 in
     let made = accepted_head_is_made head s.accepted in
     ap head_and_raster whole ∙ rw (magic, numbers, made) refl
+
+-- ---- a text's fault is no accident of reading it
+
+-- a fault that a text can have: neither a failed read nor memory that ran out
+abbrev IsOfText : InputFault → Type 0
+IsOfText ReadFailed = ⊥
+IsOfText Memory = ⊥
+IsOfText fault = Unit {0}
+
+-- a step whose fault, if it fails, is one of the text
+abbrev FailsByText : {A : Type 0} → Result A InputFault → Type 0
+FailsByText (Ok x) = Unit {0}
+FailsByText (Err fault) = IsOfText fault
+
+-- one step after another fails by a fault of the text, where each does
+bind_by_text : {A B : Type 0} (r : Result A InputFault) (f : A → Result B InputFault) → FailsByText r → ((x : A) → FailsByText (f x)) → FailsByText (r >>= f)
+bind_by_text (Ok x) f h next = next x
+bind_by_text (Err fault) f h next = h
+
+-- a test fails by the fault of the text that it names
+when_by_text : {A : Type 0} (t : Bool) (x : A) (fault : InputFault) → IsOfText fault → FailsByText (if t then Ok x else Err fault)
+when_by_text true x fault h = tt
+when_by_text false x fault h = h
+
+-- reading a gap fails by a fault of the text
+gap_by_text : (text : List ℕ) → FailsByText (gap_at text)
+unfolding gap_at
+gap_by_text [] = tt
+gap_by_text (b ∷ text) = when_by_text (is_white b) (drop (prefix_len is_white text) text) BadNumber tt
+
+-- reading a number fails by a fault of the text
+number_by_text : (text : List ℕ) → FailsByText (number_at text)
+unfolding number_at
+number_by_text [] = tt
+number_by_text (b ∷ text) = when_by_text (is_digit b) (digits_value 10 (b ∷ take_while is_digit text), drop (prefix_len is_digit text) text) BadNumber tt
+
+-- reading the delimiter fails by a fault of the text
+delimiter_by_text : (text : List ℕ) → FailsByText (delimiter_at text)
+unfolding delimiter_at
+delimiter_by_text [] = tt
+delimiter_by_text (b ∷ text) = when_by_text (is_white b) text BadNumber tt
+
+-- reading the numbers fails by a fault of the text
+numbers_by_text : (text : List ℕ) → FailsByText (numbers_at text)
+unfolding numbers_at
+numbers_by_text text =
+    bind_by_text (gap_at text) from_width (gap_by_text text) (λ a.
+    bind_by_text (number_at a) (λ width. from_height_gap width.0 width.1) (number_by_text a) (λ width.
+    bind_by_text (gap_at width.1) (from_height width.0) (gap_by_text width.1) (λ b.
+    bind_by_text (number_at b) (λ height. from_maxval_gap width.0 height.0 height.1) (number_by_text b) (λ height.
+    bind_by_text (gap_at height.1) (from_maxval width.0 height.0) (gap_by_text height.1) (λ c.
+    bind_by_text (number_at c) (λ maxval. from_delimiter width.0 height.0 maxval.0 maxval.1) (number_by_text c) (λ maxval.
+    bind_by_text (delimiter_at maxval.1) (λ rest. Ok (record { width = width.0; height = height.0; maxval = maxval.0 }, rest)) (delimiter_by_text maxval.1) (λ rest. tt)))))))
+
+-- a fault of the text is one also beyond the limit
+beyond_limit_of_text : (longer : Bool) (fault : InputFault) → IsOfText fault → IsOfText (beyond_limit longer fault)
+beyond_limit_of_text true HeaderCut h = tt
+beyond_limit_of_text false HeaderCut h = tt
+beyond_limit_of_text longer fault h = h
+
+-- a header that is too long keeps a fault of the text
+too_long_by_text : {A : Type 0} (longer : Bool) (r : Result A InputFault) → FailsByText r → FailsByText (or_too_long longer r)
+too_long_by_text longer (Ok x) h = tt
+too_long_by_text longer (Err fault) h = beyond_limit_of_text longer fault h
+
+-- reading the numbers within a limit fails by a fault of the text
+within_by_text : (limit : ℕ) (text : List ℕ) → FailsByText (numbers_within limit text)
+within_by_text limit text =
+    bind_by_text (or_too_long (ltb limit (length text)) (numbers_at (take limit text))) (λ numbers. Ok (numbers.0, numbers.1 ++ drop limit text))
+    (too_long_by_text (ltb limit (length text)) (numbers_at (take limit text)) (numbers_by_text (take limit text))) (λ numbers. tt)
+
+-- judging a head fails by a fault of the text
+judged_by_text : (a b c above : Bool) (head : Header) → FailsByText (judged (if a then Some ZeroSize else if b then Some TooLarge else if c then Some heads.BadMaxval else None) above head)
+judged_by_text true b c above head = tt
+judged_by_text false true c above head = tt
+judged_by_text false false true above head = tt
+judged_by_text false false false true head = tt
+judged_by_text false false false false head = tt
+
+-- making a head of numbers fails by a fault of the text
+head_by_text : (n : Numbers) → FailsByText (head_at n)
+unfolding head_at
+head_by_text n =
+    judged_by_text ((n.width == 0) || (n.height == 0) || (1 == 0)) (nat_lt 1000000 n.width || nat_lt 1000000 n.height || nat_lt 256 1 || nat_lt 16777216 (row_length (shape_of n))) ((n.maxval == 0) || nat_lt 65535 n.maxval) (nat_lt 255 n.maxval)
+    (header_of (shape_of n) [])
+
+-- reading a header after its magic fails by a fault of the text
+header_by_text : (text : List ℕ) → FailsByText (header_at text)
+unfolding header_at numbers_within_limit
+header_by_text text =
+    bind_by_text (numbers_within_limit text) (λ numbers. head_at numbers.0 >>= λ head. Ok (head, numbers.1)) (within_by_text 65534 text)
+    (λ numbers. bind_by_text (head_at numbers.0) (λ head. Ok (head, numbers.1)) (head_by_text numbers.0) (λ head. tt))
+
+-- one byte in place of the magic is a fault of the text
+one_byte_by_text : (t : Bool) → FailsByText {A = List ℕ} (if t then Err HeaderCut else Err BadMagic)
+one_byte_by_text true = tt
+one_byte_by_text false = tt
+
+-- reading the magic fails by a fault of the text
+magic_by_text : (text : List ℕ) → FailsByText (magic_at text)
+unfolding magic_at
+magic_by_text [] = tt
+magic_by_text (first ∷ []) = one_byte_by_text (first == 80)
+magic_by_text (first ∷ second ∷ text) = when_by_text ((first == 80) && (second == 53)) text BadMagic tt
+
+-- reading the magic and the header fails by a fault of the text
+head_and_raster_by_text : (text : List ℕ) → FailsByText (head_and_raster text)
+unfolding head_and_raster
+head_and_raster_by_text text = bind_by_text (magic_at text) header_at (magic_by_text text) header_by_text
+
+-- what is said ends without a fault, or with one of the text
+abbrev EndsByText : Option InputFault → Type 0
+EndsByText None = Unit {0}
+EndsByText (Some fault) = IsOfText fault
+
+-- what is said after the image ends by a fault of the text, if by one
+end_by_text : (text : List ℕ) → EndsByText (end_said text).fault
+unfolding end_said
+end_by_text [] = tt
+end_by_text (b ∷ text) = tt
+
+-- a row ends by a fault of the text, if what follows it does
+row_by_text : (passed cut : Bool) (row : List ℕ) (others : Said) → EndsByText others.fault → EndsByText (if passed then (if cut then says_fault RasterCut else then_said (Row row) others) else says_fault SampleAboveMaxval).fault
+row_by_text true true row others h = tt
+row_by_text true false row others h = h
+row_by_text false cut row others h = tt
+
+-- what is said of rows ends by a fault of the text, if by one
+rows_by_text : (rows each maxval : ℕ) (text : List ℕ) → EndsByText (rows_said rows each maxval text).fault
+unfolding rows_said
+rows_by_text zero each maxval text = end_by_text text
+rows_by_text (suc rows) each maxval text =
+    row_by_text (list_all (λ sample. nat_le sample maxval) (take each text)) (nat_lt (length text) each) (take each text) (rows_said rows each maxval (drop each text)) (rows_by_text rows each maxval (drop each text))
+
+-- what is said of an image ends by a fault of the text, if by one
+image_by_text : (found : Result (Header × List ℕ) InputFault) → FailsByText found → EndsByText (image_said found).fault
+image_by_text (Ok x) h = rows_by_text x.0.shape.height (row_length x.0.shape) x.0.shape.maxval x.1
+image_by_text (Err fault) h = h
+
+-- a failed read and memory that ran out are no faults of a text
+not_of_text : (fault : InputFault) → IsOfText fault → (fault ≡ ReadFailed) ⊎ (fault ≡ Memory) → ⊥
+not_of_text fault h (inl e) = subst IsOfText e h
+not_of_text fault h (inr e) = subst IsOfText e h
+
+-- the fault of a text is neither a failed read nor memory that ran out
+pub fault_is_no_accident : (text : List ℕ) (fault : InputFault) → fault_of text ≡ Some fault → (fault ≡ ReadFailed) ⊎ (fault ≡ Memory) → ⊥
+unfolding said
+fault_is_no_accident text fault e accident = not_of_text fault (subst EndsByText e (image_by_text (head_and_raster text) (head_and_raster_by_text text))) accident

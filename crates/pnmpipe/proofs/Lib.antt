@@ -1,3 +1,5 @@
 pub mod Numbers
 pub mod HeaderCode
 pub mod HeaderLaws
+pub mod RasterLaws
+pub mod SpellingLaws
