@@ -3,3 +3,4 @@ pub mod HeaderCode
 pub mod HeaderLaws
 pub mod RasterLaws
 pub mod SpellingLaws
+pub mod Written

@@ -3,13 +3,16 @@ use Rattle.std.specs.Prelude.{◌≡◌, ℕ, List, [], ◌∷◌, ◌++◌, cod
 use Rattle.std.specs.List.{flat_map}
 use Rattle.pnm_image.specs.declared.message.Message.{Message}
 use Rattle.pnm_image.specs.declared.message.Message.TheVariants.{Begin, Row, ImageEnd, StreamEnd, Stop}
+use Rattle.pnm_image.specs.declared.shape.Shape.{Shape}
 use Rattle.pnm_image.specs.Heads.{Header}
 use Rattle.pnm_image.specs.Images.{Image}
 
 -- the header: the magic, the width and the height, and the maxval, without leading zeros
+abbrev pub shape_text : Shape → List ℕ
+shape_text s = codes "P5\n" ++ (decimal s.width ++ codes " ") ++ (decimal s.height ++ codes "\n") ++ (decimal s.maxval ++ codes "\n")
+
 abbrev pub header_text : Header → List ℕ
-header_text head =
-    codes "P5\n" ++ decimal head.shape.width ++ codes " " ++ decimal head.shape.height ++ codes "\n" ++ decimal head.shape.maxval ++ codes "\n"
+header_text head = shape_text head.shape
 
 -- the bytes of a message: the header of an image, or a row's samples, a byte each
 abbrev pub message_bytes : Message → List ℕ
