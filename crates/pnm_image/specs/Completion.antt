@@ -11,8 +11,9 @@ abbrev pub IsFrontOf : List Message → List Message → Type 0
 IsFrontOf front whole = (rest : List Message) × (whole ≡ front ++ rest)
 
 -- the images complete the messages: without a last Stop, these are the front of the images' messages
-abbrev pub Completes : List Image → List Message → Type 0
-Completes is l = IsFrontOf (without_stop l) (messages_of_stream is)
+pub record Completes (is : List Image) (l : List Message) : Type 0 where
+  pub images : AreImages is
+  pub front : IsFrontOf (without_stop l) (messages_of_stream is)
 
 -- the messages are those of these images, and of no others
 pub record IsStreamOf (l : List Message) (is : List Image) : Type 0 where
@@ -33,4 +34,4 @@ StreamsAreLawful =
 -- every lawful list can be completed
 abbrev pub LawfulListsCanBeCompleted : Type 0
 LawfulListsCanBeCompleted =
-    (l : List Message) → AllByRecursion IsMessage l → IsLawful l → (is : List Image) × AreImages is × Completes is l
+    (l : List Message) → AllByRecursion IsMessage l → IsLawful l → (is : List Image) × Completes is l
