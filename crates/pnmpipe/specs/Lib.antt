@@ -1,9 +1,11 @@
 pub mod Texts
 pub mod Reading
 pub mod Headers
+pub mod Rows
 pub mod TextLaws
 pub mod Inversion
 pub mod Encoding
+pub mod Bytes
 pub mod Sources
 pub mod Sinks
 pub mod Runs

@@ -5,7 +5,7 @@ ghost use Rattle.std.specs.Io.KnownBytes.{Appends, Keeps};
 ghost use Rattle.pnm_image.specs.Devices.{Failed};
 ghost use Rattle.pnm_image.specs.Places.{place_after};
 ghost use Rattle.pnmpipe.specs.Encoding.{shape_text, message_bytes};
-ghost use Rattle.pnmpipe.specs.Sources.{IsByteMessage};
+ghost use Rattle.pnmpipe.specs.Bytes.{IsByteMessage};
 ghost use Rattle.pnmpipe.specs.Sinks.{Writes, FailsIn, Refuses};
 
 use crate::fault::SinkFault;

@@ -1,0 +1,13 @@
+-- Messages whose samples are bytes.
+use Rattle.std.specs.Prelude.{ℕ, ◌≤◌, All}
+use Rattle.pnm_image.specs.declared.message.Message.{Message}
+use Rattle.pnm_image.specs.declared.message.Message.TheVariants.{Begin, Row, ImageEnd, StreamEnd, Stop}
+use Rattle.pnmpipe.specs.Texts.{IsByteGray}
+
+-- a message of a gray image of one byte a sample
+abbrev pub IsByteMessage : Message → Type 0
+IsByteMessage (Begin head) = IsByteGray head
+IsByteMessage (Row row) = All (λ sample. sample ≤ 255) row
+IsByteMessage ImageEnd = Unit {0}
+IsByteMessage StreamEnd = Unit {0}
+IsByteMessage Stop = Unit {0}
