@@ -7,5 +7,6 @@ pub mod Inversion
 pub mod Encoding
 pub mod Bytes
 pub mod Sources
+pub mod Told
 pub mod Sinks
 pub mod Runs

@@ -6,9 +6,9 @@ use Rattle.pnmpipe.specs.declared.fault.InputFault.{InputFault}
 use Rattle.pnmpipe.specs.declared.fault.InputFault.TheVariants.{RasterCut, SampleAboveMaxval, Memory}
 
 -- these are the samples of a row that is whole
-pub record IsRowAt (text : List ℕ) (each maxval : ℕ) (samples : List ℕ) : Type 0 where
+pub record IsRowAt (text : List ℕ) (each maxval : ℕ) (row : List ℕ) : Type 0 where
   pub whole : each ≤ length text
-  pub samples : samples ≡ take each text
+  pub samples : row ≡ take each text
   pub sound : All (λ sample. sample ≤ maxval) (take each text)
   pub bytes : All (λ sample. sample ≤ 255) (take each text)
 

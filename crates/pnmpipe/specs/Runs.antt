@@ -13,7 +13,7 @@ use Rattle.pnmpipe.specs.Texts.{Spells}
 use Rattle.pnmpipe.specs.Reading.{said_of}
 use Rattle.pnmpipe.specs.Inversion.{inverted, inverted_messages}
 use Rattle.pnmpipe.specs.Encoding.{bytes_of, encoding_of}
-use Rattle.pnmpipe.specs.Sources.{IsAccident}
+use Rattle.pnmpipe.specs.Told.{IsOutsideFault}
 use Rattle.pnmpipe.specs.Sinks.{AppendsFront}
 
 -- a count that stays at the greatest u64

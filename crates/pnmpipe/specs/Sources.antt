@@ -1,19 +1,18 @@
 -- What a reading, and a source, has still to say.
 use Rattle.std.specs.Prelude.{◌≡◌, ℕ, ◌+◌, ◌-◌, ◌^◌, ◌≤◌, ◌⊎◌, Bool, true, false, List, [], length, drop, Option, Some, None, Result, Ok, Err, IfSome, ⊤}
 use Rattle.std.specs.List.{All}
-use Rattle.std.specs.Option.{option_map}
 use Rattle.pnm_image.specs.declared.place.Place.{Place}
 use Rattle.pnm_image.specs.declared.place.Place.TheVariants.{Between, Inside, After}
 use Rattle.pnm_image.specs.declared.message.Message.{Message}
 use Rattle.pnm_image.specs.Heads.{row_length}
 use Rattle.pnm_image.specs.Places.{Accepts, place_after}
+use Rattle.pnm_image.specs.Devices.{Failed as FailedBetween}
 use Rattle.pnmpipe.specs.declared.fault.InputFault.{InputFault}
 use Rattle.pnmpipe.specs.declared.fault.InputFault.TheVariants.{ReadFailed, Memory}
 use Rattle.pnmpipe.specs.declared.reading.Reading.{Reading}
 use Rattle.pnmpipe.specs.declared.reading.Step.{Step}
 use Rattle.pnmpipe.specs.declared.reading.Stage.{Stage}
 use Rattle.pnmpipe.specs.declared.reading.Stage.TheVariants.{Start, Rows, End, Ended, Failed}
-use Rattle.pnmpipe.specs.declared.reader.Source.{Source}
 use Rattle.pnmpipe.specs.Reading.{Said, said, says_nothing, says_fault, end_said, rows_said, then_said}
 use Rattle.pnmpipe.specs.Bytes.{IsByteMessage}
 
@@ -82,3 +81,12 @@ Answers old (Ok next) new =
     SaysNext (reading_due old) next (reading_due new) × IfSome next (IsNext old.stage new.stage) × (has_failed old.stage ≡ false) × (has_failed new.stage ≡ false)
 Answers old (Err fault) new =
     (new.stage ≡ Failed fault) × ((reading_due old ≡ says_fault fault) ⊎ ((fault ≡ Memory) × (has_failed old.stage ≡ false)))
+
+-- what a reading of all that a reader told has to say: that of the text, or a fault from outside
+abbrev pub IsOpened : List ℕ → Reading → Type 0
+IsOpened text r = (reading_due r ≡ said text) ⊎ (reading_due r ≡ says_fault ReadFailed) ⊎ (reading_due r ≡ says_fault Memory)
+
+-- the stage of a reading of all that a reader gave: the start, or a fault; it is ReadFailed only where the reader failed
+abbrev pub IsOpenedStage : Stage → ℕ → ℕ → Type 0
+IsOpenedStage stage failures_old failures_new =
+    ((stage ≡ Start) × (failures_new ≡ failures_old)) ⊎ ((stage ≡ Failed ReadFailed) × FailedBetween failures_old failures_new) ⊎ (stage ≡ Failed Memory)

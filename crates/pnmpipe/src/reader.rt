@@ -1,8 +1,9 @@
 //! The reader: bytes to messages, for one raw PGM image of one byte a sample, without comments.
 
-ghost use Rattle.std.specs.Prelude.{◌≡◌, ◌⊎◌, ◌++◌, ℕ, List, OnOk, IfErr, Some, None};
+ghost use Rattle.std.specs.Prelude.{◌≡◌, ◌⊎◌, ◌++◌, ℕ, List, OnOk, IfErr, Some, None, Err};
 ghost use Rattle.pnm_image.specs.Devices.{Failed};
 ghost use Rattle.pnmpipe.specs.declared.fault.InputFault.TheVariants.{ReadFailed, Memory};
+ghost use Rattle.pnmpipe.specs.Sources.{IsOpened, IsOpenedStage};
 
 use crate::fault::InputFault;
 use crate::reading::Reading;
@@ -21,7 +22,7 @@ pub struct Source<R> {
 }
 
 impl<R: BytesIn> Source<R> {
-    ghost use Rattle.pnmpipe.specs.Told.{due, TellsNext, IsNextOf, IsUnread, FailsAfter};
+    ghost use Rattle.pnmpipe.specs.Told.{due, stage_of, TellsAnswer, GoesOn, FailedInCall};
 
     /// A source over the reader. It reads nothing.
     pub fn new(alloc: Global, reader: R) -> Source<R>
@@ -39,14 +40,14 @@ impl<R: BytesIn> Source<R> {
     /// same fault and reads nothing.
     pub fn next(&mut self) -> Result<Option<Message>, InputFault>
         // What is said of the text comes in turn, and then its end or its fault, which stays.
-        ensures told { TellsNext (due R.left self.old) result (due R.left self.new) }
-        // Whatever the reader tells: the messages may come there.
-        ensures next { IsNextOf self.old.reading result self.new.reading }
+        ensures told { TellsAnswer (due R.left self.old) result (due R.left self.new) }
+        // Whatever the reader tells: a message may come where it comes.
+        ensures goes_on { GoesOn (stage_of self.old.reading) result (stage_of self.new.reading) }
 
         // The reader.
         ensures same_device { R.same self.old.reader self.new.reader }
         ensures count { OnOk result (R.failures self.new.reader ≡ R.failures self.old.reader) }
-        ensures read_failed { result ≡ Err ReadFailed → FailsAfter self.old.reading (R.failures self.old.reader) (R.failures self.new.reader) }
+        ensures read_failed { result ≡ Err ReadFailed → FailedInCall self.old.reading (R.failures self.old.reader) (R.failures self.new.reader) }
         ensures read_once { (self.old.reading ≡ None → ⊥) → self.new.reader ≡ self.old.reader }
     {
         let mut reading = match self.reading.take() {
@@ -61,6 +62,9 @@ impl<R: BytesIn> Source<R> {
 
 /// A reading of all that the reader gives.
 fn open<R: BytesIn>(alloc: Global, reader: &mut R) -> Reading
+    ensures told { (text : List ℕ) → R.left reader.old ≡ Some text → IsOpened text result }
+    ensures stage { IsOpenedStage result.stage (R.failures reader.old) (R.failures reader.new) }
+    ensures same_device { R.same reader.old reader.new }
 {
     let mut text = Vec::new(alloc);
     match read_to_end(reader, &mut text) {

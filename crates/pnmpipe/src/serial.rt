@@ -4,7 +4,7 @@ ghost use Rattle.std.specs.Prelude.{◌≡◌, ◌⊎◌, List, ℕ, Some, IfOk,
 ghost use Rattle.pnm_image.specs.Devices.{Failed};
 ghost use Rattle.pnmpipe.specs.declared.fault.InputFault.TheVariants.{ReadFailed};
 ghost use Rattle.pnmpipe.specs.declared.fault.SinkFault.TheVariants.{WriteFailed};
-ghost use Rattle.pnmpipe.specs.Sources.{IsAccident};
+ghost use Rattle.pnmpipe.specs.Told.{IsOutsideFault};
 ghost use Rattle.pnmpipe.specs.Sinks.{AppendsFront};
 ghost use Rattle.pnmpipe.specs.Runs.{EndedWell, IfInput, IfOutput, bytes_due};
 ghost use Rattle.pnmpipe.specs.TextLaws.{IsAtFault};
@@ -33,7 +33,7 @@ pub fn run_serial<R: BytesIn, W: BytesOut>(
         → IfOk result (EndedWell text (W.held writer.old) (W.held writer.new)) }
     // An input that is accepted is refused only where the reader fails or memory runs out.
     ensures input { (text : List ℕ) → R.left reader.old ≡ Some text
-        → IfInput result (λ fault. IsAccident fault ⊎ IsAtFault text fault) }
+        → IfInput result (λ fault. IsOutsideFault fault ⊎ IsAtFault text fault) }
     ensures read_failed { IfInput result (λ fault. fault ≡ ReadFailed
         → Failed (R.failures reader.old) (R.failures reader.new)) }
     ensures output { IfOutput result (λ fault. (fault ≡ WriteFailed)
