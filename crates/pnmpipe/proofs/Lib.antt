@@ -2,6 +2,8 @@ pub mod Numbers
 pub mod HeaderCode
 pub mod HeaderLaws
 pub mod RasterLaws
+pub mod ReadingSteps
+pub mod RowSaid
 pub mod RowSteps
 pub mod SpellingLaws
 pub mod Written
