@@ -1,4 +1,5 @@
 pub mod Numbers
+pub mod Gathered
 pub mod HeaderCode
 pub mod HeaderLaws
 pub mod RasterLaws
