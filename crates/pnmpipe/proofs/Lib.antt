@@ -3,6 +3,7 @@ pub mod Gathered
 pub mod HeaderCode
 pub mod HeaderLaws
 pub mod RasterLaws
+pub mod ReadingFaults
 pub mod ReadingSteps
 pub mod RowSaid
 pub mod RowSteps

@@ -1,18 +1,17 @@
 -- The steps of a reading, and the stages after them.
-use Rattle.std.proofs.Common.{◌≡◌, ◌⊎◌, inl, inr, ℕ, zero, ◌+◌, ◌-◌, ◌<◌, ◌≤◌, List, [], ◌∷◌, ◌++◌, length, take, drop, Some, None, Ok, Err, refl, sym, ap, subst, ◌∙◌, arith}
+use Rattle.std.proofs.Common.{◌≡◌, ◌⊎◌, inl, inr, ℕ, zero, ◌+◌, ◌-◌, ◌<◌, ◌≤◌, List, [], ◌∷◌, ◌++◌, length, take, drop, Some, Ok, Err, refl, sym, ap, subst, ◌∙◌, arith}
 use Rattle.std.proofs.lemmas.List.{length-take, length-append, drop_at, nil_from_length}
 use Rattle.pnm_image.specs.declared.message.Message.TheVariants.{Begin, Row, ImageEnd, StreamEnd}
-use Rattle.pnm_image.specs.declared.place.Place.TheVariants.{Inside}
 use Rattle.pnm_image.specs.declared.shape.Shape.{Shape}
 use Rattle.pnm_image.specs.Heads.{Header, row_length}
 use Rattle.pnm_image.specs.Places.{IsRowOf}
 use Rattle.pnmpipe.specs.declared.fault.InputFault.{InputFault}
 use Rattle.pnmpipe.specs.declared.fault.InputFault.TheVariants.{BadMagic, Memory}
 use Rattle.pnmpipe.specs.declared.reading.Raster.{Raster}
-use Rattle.pnmpipe.specs.declared.reading.Stage.TheVariants.{Start, Rows, End, Ended, Failed}
-use Rattle.pnmpipe.specs.Reading.{Said, then_said, says_nothing, says_fault, end_said, rows_said, image_said, said, head_and_raster}
+use Rattle.pnmpipe.specs.declared.reading.Stage.TheVariants.{Start, Rows, End, Ended}
+use Rattle.pnmpipe.specs.Reading.{then_said, says_nothing, end_said, rows_said, image_said, said, head_and_raster}
 use Rattle.pnmpipe.specs.Rows.{IsRowAt, IsRowFaultAt}
-use Rattle.pnmpipe.specs.Sources.{IsNext, IsStep, IsFaultAt}
+use Rattle.pnmpipe.specs.Sources.{IsStep, IsFaultAt}
 use Rattle.pnmpipe.proofs.HeaderLaws.{header_is_spelled}
 use Rattle.pnmpipe.proofs.RowSaid.{row_is_said, row_fault_is_said}
 
@@ -51,7 +50,7 @@ row_fault_step raster rest each fault e lt at =
     elim (row_fault_is_said (s.height - raster.y) (s.height - (raster.y + 1)) (row_length s) s.maxval rest fault (omega arith) known) [
       | inl said ↦ inl said
       | inr memory ↦ inr (memory, refl)
-      ]
+    ]
 
 -- of a text with a head, the head is said first
 head_is_said : (text raster : List ℕ) (head : Header) → head_and_raster text ≡ Ok (head, raster) → said text ≡ then_said (Begin head) (rows_said head.shape.height (row_length head.shape) head.shape.maxval raster)

@@ -1,11 +1,10 @@
 -- A row that a text begins with is said, or its fault is.
-use Rattle.std.proofs.Common.{◌≡◌, ◌⊎◌, inl, inr, ℕ, suc, ◌+◌, ◌-◌, ◌<◌, ◌≤◌, Bool, true, false, ltb, leb, List, length, take, drop, All, refl, sym, ap, subst, ◌∙◌, arith}
-use Rattle.std.specs.List.{list_all}
+use Rattle.std.proofs.Common.{◌≡◌, ◌⊎◌, inl, inr, ℕ, suc, ◌+◌, ◌≤◌, true, false, ltb, List, length, take, drop, refl, ap, subst, ◌∙◌, arith}
 use Rattle.std.proofs.lemmas.Bool.{lt-ltb, le-ltb}
 use Rattle.pnm_image.specs.declared.message.Message.TheVariants.{Row}
 use Rattle.pnmpipe.specs.declared.fault.InputFault.{InputFault}
-use Rattle.pnmpipe.specs.declared.fault.InputFault.TheVariants.{RasterCut, SampleAboveMaxval, Memory}
-use Rattle.pnmpipe.specs.Reading.{Said, then_said, says_fault, rows_said}
+use Rattle.pnmpipe.specs.declared.fault.InputFault.TheVariants.{Memory}
+use Rattle.pnmpipe.specs.Reading.{then_said, says_fault, rows_said}
 use Rattle.pnmpipe.specs.Rows.{IsRowAt, IsRowFaultAt}
 use Rattle.pnmpipe.proofs.RasterLaws.{range_passes}
 

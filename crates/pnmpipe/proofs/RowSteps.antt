@@ -12,7 +12,7 @@ pub row_is : (text : List ℕ) (each n : ℕ) → n ≡ min each (length text) �
 row_is text each n e = elim (cases_lt each (length text)) [
   | inl lt ↦ let same : n ≡ each = omega arith in ap (λ k. take k text) same
   | inr le ↦ take_all n text (omega arith) ∙ sym (take_all each text le)
-  ]
+]
 
 -- the most of a row: what bounds it bounds each sample
 abbrev pub IsMost : List ℕ → ℕ → Type 0

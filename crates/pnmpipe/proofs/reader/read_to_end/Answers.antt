@@ -1,4 +1,4 @@
-use Rattle.std.proofs.Common.{rules, ◌≡◌, ◌<◌, ◌≤◌, ◌++◌, List, ℕ, length, take, arith}
+use Rattle.std.proofs.Common.{rules, ◌≡◌, ◌++◌, take, arith}
 use Rattle.pnmpipe.proofs.Gathered.{gathering_more}
 use Rattle.pnmpipe.proofs.reader.read_to_end.Goals as goal
 

@@ -1,4 +1,4 @@
-use Rattle.std.proofs.Common.{rules, ◌≡◌, ◌<◌, ◌≤◌, ℕ, map, take, List, ◌∙◌, arith}
+use Rattle.std.proofs.Common.{rules, ◌≡◌, map, take, ◌∙◌, arith}
 use Rattle.std.proofs.lemmas.List.{map-id}
 use Rattle.pnmpipe.proofs.RowSteps.{row_above, row_cut, row_whole}
 use Rattle.pnmpipe.proofs.reading.row_at.Goals as goal

@@ -1,4 +1,4 @@
-use Rattle.std.proofs.Common.{rules, ◌≡◌, ◌<◌, length, arith}
+use Rattle.std.proofs.Common.{rules, ◌≡◌, ◌<◌, length}
 use Rattle.pnmpipe.proofs.ReadingSteps.{image_end_step, stream_end_step, bytes_after_fault}
 use Rattle.pnmpipe.proofs.reading.Step.at.Goals as goal
 
