@@ -555,7 +555,7 @@ spelled_header_is_read front head rest s =
 -- ---- a text's fault is no accident of reading it
 
 -- a fault that a text can have: neither a failed read nor memory that ran out
-abbrev IsOfText : InputFault → Type 0
+abbrev pub IsOfText : InputFault → Type 0
 IsOfText ReadFailed = ⊥
 IsOfText Memory = ⊥
 IsOfText fault = Unit {0}
@@ -662,12 +662,12 @@ unfolding head_and_raster
 head_and_raster_by_text text = bind_by_text (magic_at text) header_at (magic_by_text text) header_by_text
 
 -- what is said ends without a fault, or with one of the text
-abbrev EndsByText : Option InputFault → Type 0
+abbrev pub EndsByText : Option InputFault → Type 0
 EndsByText None = Unit {0}
 EndsByText (Some fault) = IsOfText fault
 
 -- what is said after the image ends by a fault of the text, if by one
-end_by_text : (text : List ℕ) → EndsByText (end_said text).fault
+pub end_by_text : (text : List ℕ) → EndsByText (end_said text).fault
 unfolding end_said
 end_by_text [] = tt
 end_by_text (b ∷ text) = tt
@@ -679,7 +679,7 @@ row_by_text true false row others h = h
 row_by_text false cut row others h = tt
 
 -- what is said of rows ends by a fault of the text, if by one
-rows_by_text : (rows each maxval : ℕ) (text : List ℕ) → EndsByText (rows_said rows each maxval text).fault
+pub rows_by_text : (rows each maxval : ℕ) (text : List ℕ) → EndsByText (rows_said rows each maxval text).fault
 unfolding rows_said
 rows_by_text zero each maxval text = end_by_text text
 rows_by_text (suc rows) each maxval text =
@@ -690,6 +690,11 @@ image_by_text : (found : Result (Header × List ℕ) InputFault) → FailsByText
 image_by_text (Ok x) h = rows_by_text x.0.shape.height (row_length x.0.shape) x.0.shape.maxval x.1
 image_by_text (Err fault) h = h
 
+-- what is said of a text ends by a fault of the text, if by one
+pub said_by_text : (text : List ℕ) → EndsByText (said text).fault
+unfolding said
+said_by_text text = image_by_text (head_and_raster text) (head_and_raster_by_text text)
+
 -- a failed read and memory that ran out are no faults of a text
 not_of_text : (fault : InputFault) → IsOfText fault → (fault ≡ ReadFailed) ⊎ (fault ≡ Memory) → ⊥
 not_of_text fault h (inl e) = subst IsOfText e h
@@ -697,5 +702,4 @@ not_of_text fault h (inr e) = subst IsOfText e h
 
 -- the fault of a text is neither a failed read nor memory that ran out
 pub fault_is_no_accident : (text : List ℕ) (fault : InputFault) → fault_of text ≡ Some fault → (fault ≡ ReadFailed) ⊎ (fault ≡ Memory) → ⊥
-unfolding said
-fault_is_no_accident text fault e accident = not_of_text fault (subst EndsByText e (image_by_text (head_and_raster text) (head_and_raster_by_text text))) accident
+fault_is_no_accident text fault e accident = not_of_text fault (subst EndsByText e (said_by_text text)) accident

@@ -1,10 +1,15 @@
 pub mod DownstreamSteps
 pub mod EncodingLaws
+pub mod Gathered
 pub mod HeaderCode
 pub mod HeaderLaws
 pub mod Numbers
 pub mod PassingSteps
 pub mod RasterLaws
+pub mod ReadingFaults
+pub mod ReadingSteps
+pub mod RowSaid
+pub mod RowSteps
 pub mod RunSteps
 pub mod SpellingLaws
 pub mod Written

@@ -11,11 +11,11 @@ use Rattle.pnmpipe.specs.declared.fault.InputFault.TheVariants.{RasterCut, Sampl
 use Rattle.pnmpipe.specs.Reading.{Said, then_said, says_fault, end_said, rows_said}
 
 -- samples that are up to the maxval pass its test
-range_passes : (maxval : ℕ) (samples : List ℕ) → All (λ sample. sample ≤ maxval) samples → list_all (λ sample. leb sample maxval) samples ≡ true
+pub range_passes : (maxval : ℕ) (samples : List ℕ) → All (λ sample. sample ≤ maxval) samples → list_all (λ sample. leb sample maxval) samples ≡ true
 range_passes maxval samples h = list_all-from_AllPass (λ sample. leb sample maxval) samples (All-weaker (λ sample. sample ≤ maxval) (λ sample. leb sample maxval ≡ true) (λ sample le. le-leb sample maxval le) samples h)
 
 -- samples that pass the test of the maxval are up to it
-passed_range : (maxval : ℕ) (samples : List ℕ) → list_all (λ sample. leb sample maxval) samples ≡ true → All (λ sample. sample ≤ maxval) samples
+pub passed_range : (maxval : ℕ) (samples : List ℕ) → list_all (λ sample. leb sample maxval) samples ≡ true → All (λ sample. sample ≤ maxval) samples
 passed_range maxval samples e = All-weaker (λ sample. leb sample maxval ≡ true) (λ sample. sample ≤ maxval) (λ sample t. leb-true sample maxval t) samples (AllPass-from_list_all (λ sample. leb sample maxval) samples e)
 
 -- the messages of rows, of the image's end and of the stream's end, without a fault

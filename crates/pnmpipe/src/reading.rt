@@ -81,14 +81,10 @@ impl Reading {
     {
         let alloc = *self.text.allocator();
         match Step::at(alloc, self.stage, &self.text[self.at..]) {
-            Ok(Step {
-                message,
-                taken,
-                stage,
-            }) => {
-                self.at += taken;
-                self.stage = stage;
-                Ok(message)
+            Ok(step) => {
+                self.at += step.taken;
+                self.stage = step.stage;
+                Ok(step.message)
             }
             Err(fault) => {
                 self.stage = Stage::Failed(fault);
@@ -108,7 +104,9 @@ impl Step {
     {
         match stage {
             Stage::Start => Step::begin(alloc, rest),
-            Stage::Rows(raster) if raster.y < raster.shape.height => Step::next_row(alloc, raster, rest),
+            Stage::Rows(raster) if raster.y < raster.shape.height => {
+                Step::next_row(alloc, raster, rest)
+            }
             Stage::Rows(_) => Ok(Step {
                 message: Some(Message::ImageEnd),
                 taken: 0,
