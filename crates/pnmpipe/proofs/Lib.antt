@@ -12,4 +12,5 @@ pub mod RowSaid
 pub mod RowSteps
 pub mod RunSteps
 pub mod SpellingLaws
+pub mod TwoWords
 pub mod Written

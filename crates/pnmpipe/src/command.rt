@@ -1,6 +1,11 @@
 //! The program.
 
-use crate::fault::{InputFault, RunFault, SinkFault};
+ghost use Rattle.std.specs.Prelude.{◌≡◌, ◌≢◌, ◌≤◌, ℕ, List, [], ◌∷◌, Some, codes, string_bytes};
+ghost use Rattle.pnmpipe.specs.declared.summary.Summary.{Summary};
+ghost use Rattle.pnmpipe.specs.Sinks.{AppendsFront};
+ghost use Rattle.pnmpipe.specs.Runs.{EndedWell, bytes_due};
+
+use crate::fault::RunFault;
 use crate::serial::run_serial;
 use crate::tool::{ChainFault, parse_chain};
 use pnm_image::{BytesIn, BytesOut};
@@ -13,7 +18,7 @@ const WELL: u8 = 0;
 const RUN_FAULT: u8 = 1;
 
 /// The status of words that name no run.
-const COMMAND_LINE_FAULT: u8 = 2;
+pub const COMMAND_LINE_FAULT: u8 = 2;
 
 /// Runs the program: `words` are its own name and the chain. It reads the images of `input` and
 /// writes those that come out to `output`. A fault prints one line to `errors`; if that can't be
@@ -25,7 +30,15 @@ pub fn command<H: AllocGlobal, R: BytesIn, W: BytesOut, E: Write>(
     input: &mut R,
     output: &mut W,
     errors: &mut E,
-) -> u8 {
+) -> u8
+    ensures status { result ≤ 2 }
+    ensures untouched { result ≡ 2 → (input.new ≡ input.old) × (output.new ≡ output.old) }
+    ensures named { result ≢ 2 → (name : _) × (chain : _) × (words.now ≡ name ∷ chain ∷ []) × (string_bytes chain ≡ codes "pnminvert") }
+    ensures well { result ≡ 0 → (text : List ℕ) → R.left input.old ≡ Some text
+        → (summary : Summary) × EndedWell text (W.held output.old) (W.held output.new) summary }
+    ensures front { (text : List ℕ) → R.left input.old ≡ Some text → result ≢ 2
+        → AppendsFront (W.held output.old) (W.held output.new) (bytes_due text) }
+{
     let [_, chain] = words else {
         let _ = writeln!(errors, "pnmpipe: usage: pnmpipe [--ring N] CHAIN");
         return COMMAND_LINE_FAULT;
