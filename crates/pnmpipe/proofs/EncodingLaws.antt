@@ -32,7 +32,7 @@ bytes_of-stream maxval (i ∷ is) are =
     let rows : concat (rows_of i) ≡ i.samples = concat-cut_rows i.head.shape.height (row_length i.head.shape) i.samples are.0.count in
     let messages : map Row (rows_of i) ++ (ImageEnd ∷ []) ++ messages_of_stream is ≡ map Row (rows_of i) ++ tail = append_assoc (map Row (rows_of i)) (ImageEnd ∷ []) (messages_of_stream is) in
     let text : bytes_of (inverted_messages m (map Row (rows_of i) ++ tail)) ≡ inverted_samples m i.samples ++ encoding_of (map inverted is) =
-        bytes_of-rows m (rows_of i) tail ∙ ap (λ (l : List ℕ). inverted_samples m l ++ bytes_of (inverted_messages m tail)) rows ∙ ap (λ (l : List ℕ). inverted_samples m i.samples ++ l) (bytes_of-stream m is are.1) in
+    bytes_of-rows m (rows_of i) tail ∙ ap (λ (l : List ℕ). inverted_samples m l ++ bytes_of (inverted_messages m tail)) rows ∙ ap (λ (l : List ℕ). inverted_samples m i.samples ++ l) (bytes_of-stream m is are.1) in
     ap (λ (l : List Message). header_text i.head ++ bytes_of (inverted_messages m l)) messages
     ∙ ap (λ (l : List ℕ). header_text i.head ++ l) text
     ∙ sym (append_assoc (header_text i.head) (inverted_samples m i.samples) (encoding_of (map inverted is)))

@@ -103,24 +103,27 @@ IsLeft-fault text given fault old new left t =
 -- ---- the output
 
 output_more : {W : Type 0} (held : W → Option (List ℕ)) (failures : W → ℕ) (given : List Message) (m : Message) (first old new : Downstream W) (o r : Result (Unit {0}) SinkFault) → old.inverter.maxval ≡ maxval_of 0 given → IsOutputOf held failures given first o old → PassesWith held failures o old r new m → IsOutputOf held failures (given ++ m ∷ []) first r new
-output_more held failures given m first old new (Ok x) (Ok y) maxval was p =
-    (subst (Appends (held first.sink.writer) (held new.sink.writer)) (ap (λ k. bytes_of (inverted_messages 0 given) ++ message_bytes (inverted_message k m)) maxval ∙ sym (bytes_of-push 0 given m)) (Appends-then (held first.sink.writer) (held old.sink.writer) (held new.sink.writer) _ _ was.0 p.written),
-    p.count ∙ was.1,
-    p.sound,
-    p.images ∙ ap (λ k. images_after k m) was.3 ∙ sym (images_in-push 0 given m),
-    p.rows ∙ ap (λ k. rows_after k m) was.4 ∙ sym (rows_in-push 0 given m))
-output_more held failures given m first old new (Ok x) (Err fault) maxval was p =
-    (p.write_failed,
-    subst (λ (l : List ℕ). FailsIn l (held first.sink.writer) (held new.sink.writer) (failures first.sink.writer) (failures new.sink.writer)) (ap (λ k. bytes_of (inverted_messages 0 given) ++ message_bytes (inverted_message k m)) maxval ∙ sym (bytes_of-push 0 given m))
-    (fails_in_rest (held first.sink.writer) (held old.sink.writer) (held new.sink.writer) (failures first.sink.writer) (failures old.sink.writer) (failures new.sink.writer) _ _ was.0 was.1 p.front),
-    p.broken)
+output_more held failures given m first old new (Ok x) (Ok y) maxval was p = (
+  subst (Appends (held first.sink.writer) (held new.sink.writer)) (ap (λ k. bytes_of (inverted_messages 0 given) ++ message_bytes (inverted_message k m)) maxval ∙ sym (bytes_of-push 0 given m)) (Appends-then (held first.sink.writer) (held old.sink.writer) (held new.sink.writer) _ _ was.0 p.written),
+  p.count ∙ was.1,
+  p.sound,
+  p.images ∙ ap (λ k. images_after k m) was.3 ∙ sym (images_in-push 0 given m),
+  p.rows ∙ ap (λ k. rows_after k m) was.4 ∙ sym (rows_in-push 0 given m),
+)
+output_more held failures given m first old new (Ok x) (Err fault) maxval was p = (
+  p.write_failed,
+  subst (λ (l : List ℕ). FailsIn l (held first.sink.writer) (held new.sink.writer) (failures first.sink.writer) (failures new.sink.writer)) (ap (λ k. bytes_of (inverted_messages 0 given) ++ message_bytes (inverted_message k m)) maxval ∙ sym (bytes_of-push 0 given m))
+      (fails_in_rest (held first.sink.writer) (held old.sink.writer) (held new.sink.writer) (failures first.sink.writer) (failures old.sink.writer) (failures new.sink.writer) _ _ was.0 was.1 p.front),
+  p.broken,
+)
 output_more held failures given m first old new (Err fault) (Ok y) maxval was p = absurd p
-output_more held failures given m first old new (Err fault) (Err same) maxval was p =
-    (p.0 ∙ was.0,
-    subst (λ (l : List ℕ). FailsIn l (held first.sink.writer) (held new.sink.writer) (failures first.sink.writer) (failures new.sink.writer)) (sym (bytes_of-push 0 given m))
-    (fails_in_more (held first.sink.writer) (held new.sink.writer) (failures first.sink.writer) (failures new.sink.writer) (bytes_of (inverted_messages 0 given)) _
-    (rw p.1 was.1)),
-    rw p.1 was.2)
+output_more held failures given m first old new (Err fault) (Err same) maxval was p = (
+  p.0 ∙ was.0,
+  subst (λ (l : List ℕ). FailsIn l (held first.sink.writer) (held new.sink.writer) (failures first.sink.writer) (failures new.sink.writer)) (sym (bytes_of-push 0 given m))
+      (fails_in_more (held first.sink.writer) (held new.sink.writer) (failures first.sink.writer) (failures new.sink.writer) (bytes_of (inverted_messages 0 given)) _
+      (rw p.1 was.1)),
+  rw p.1 was.2,
+)
 
 -- ---- the run
 

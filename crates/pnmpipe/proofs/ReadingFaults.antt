@@ -9,7 +9,7 @@ use Rattle.pnmpipe.specs.declared.reading.Reading.{Reading}
 use Rattle.pnmpipe.specs.declared.reading.Stage.{Stage}
 use Rattle.pnmpipe.specs.declared.reading.Stage.TheVariants.{Start, Rows, End, Ended, Failed}
 use Rattle.pnmpipe.specs.Reading.{Said, says_fault}
-use Rattle.pnmpipe.specs.Sources.{stage_due, has_failed, reading_due, Answers, IsOpenedStage}
+use Rattle.pnmpipe.specs.Sources.{stage_due, has_failed, reading_due, ReadingAnswers, IsOpenedStage}
 use Rattle.pnmpipe.specs.Told.{FailedInCall}
 use Rattle.pnmpipe.proofs.HeaderLaws.{EndsByText, end_by_text, rows_by_text, said_by_text}
 
@@ -26,13 +26,13 @@ read_failed_after_fault rest Ended e = absurd (not_by_text (stage_due rest Ended
 read_failed_after_fault rest (Failed fault) e = refl
 
 -- where a reading answers that the reader failed, that was to be said
-read_failed_is_due : (old new : Reading) (answer : Result (Option Message) InputFault) → Answers old answer new → answer ≡ Err ReadFailed → reading_due old ≡ says_fault ReadFailed
+read_failed_is_due : (old new : Reading) (answer : Result (Option Message) InputFault) → ReadingAnswers old answer new → answer ≡ Err ReadFailed → reading_due old ≡ says_fault ReadFailed
 read_failed_is_due old new (Ok next) a e = absurd cc
 read_failed_is_due old new (Err fault) (stays, inl said) e = let same : fault ≡ ReadFailed = cc in said ∙ ap says_fault same
 read_failed_is_due old new (Err fault) (stays, inr (memory, sound)) e = absurd cc
 
 -- a reading that is going on answers that the reader failed only after a fault
-pub read_failed_goes_on : (old new : Reading) (answer : Result (Option Message) InputFault) (failures_old failures_new : ℕ) → Answers old answer new → answer ≡ Err ReadFailed → FailedInCall (Some old) failures_old failures_new
+pub read_failed_goes_on : (old new : Reading) (answer : Result (Option Message) InputFault) (failures_old failures_new : ℕ) → ReadingAnswers old answer new → answer ≡ Err ReadFailed → FailedInCall (Some old) failures_old failures_new
 read_failed_goes_on old new answer failures_old failures_new a e = inr (read_failed_after_fault (drop old.at old.text.items) old.stage (read_failed_is_due old new answer a e))
 
 -- a reading that was opened says that the reader failed only where it did
@@ -43,5 +43,5 @@ opened_read_failed rest stage failures_old failures_new (inr (inr memory)) e =
     let other : Some Memory ≡ Some ReadFailed = ap (λ (s : Said). s.fault) (sym (ap (λ (s : Stage). stage_due rest s) memory) ∙ e) in absurd cc
 
 -- a reading that was opened answers that the reader failed only where it did in that call
-pub read_failed_at_once : (opened new : Reading) (answer : Result (Option Message) InputFault) (failures_old failures_new : ℕ) → IsOpenedStage opened.stage failures_old failures_new → Answers opened answer new → answer ≡ Err ReadFailed → FailedInCall None failures_old failures_new
+pub read_failed_at_once : (opened new : Reading) (answer : Result (Option Message) InputFault) (failures_old failures_new : ℕ) → IsOpenedStage opened.stage failures_old failures_new → ReadingAnswers opened answer new → answer ≡ Err ReadFailed → FailedInCall None failures_old failures_new
 read_failed_at_once opened new answer failures_old failures_new o a e = inl (refl, opened_read_failed (drop opened.at opened.text.items) opened.stage failures_old failures_new o (read_failed_is_due opened new answer a e))

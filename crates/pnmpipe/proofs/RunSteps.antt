@@ -81,7 +81,7 @@ pub run_front : {R W : Type 0} (left : R → Option (List ℕ)) (reader_failures
 run_front left reader_failures held writer_failures source source_new result old new done text passed is kept =
     let front = said_front text passed.given result (passed.told text is) in
     let due : bytes_due text ≡ bytes_of (inverted_messages 0 passed.given) ++ bytes_of (inverted_messages (maxval_of 0 passed.given) front.0) =
-        ap (λ (l : List Message). bytes_of (inverted_messages 0 l)) front.1 ∙ bytes_of-append 0 passed.given front.0 in
+    ap (λ (l : List Message). bytes_of (inverted_messages 0 l)) front.1 ∙ bytes_of-append 0 passed.given front.0 in
     front-kept (held old.sink.writer) (held new.sink.writer) (held done) (bytes_due text)
     (subst (AppendsFront (held old.sink.writer) (held new.sink.writer)) (sym due) (output_front held writer_failures passed.given _ old new new.output passed.output)) kept
 
@@ -99,7 +99,7 @@ pub run_all : {R W : Type 0} (left : R → Option (List ℕ)) (reader_failures :
 run_all left reader_failures held writer_failures source source_new fault old new done text passed is first broken kept sound =
     elim (passed.told text is) [
       | inl own ↦ subst (λ (l : List Message). Appends (held old.sink.writer) (held done) (bytes_of (inverted_messages 0 l))) (sym (ap (λ (s : Said). s.messages) own))
-        (output_all held writer_failures passed.given old new done new.output passed.output broken kept sound)
+          (output_all held writer_failures passed.given old new done new.output passed.output broken kept sound)
       | inr outside ↦ absurd (fault_is_no_accident text fault first outside.0)
     ]
 

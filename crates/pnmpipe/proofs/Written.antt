@@ -47,9 +47,11 @@ pub front_of_more : (a b : Option (List ℕ)) (x y : List ℕ) → Appends a b x
 front_of_more a b x y p = (length x, subst (Appends a b) (sym (take_at x y (length x) refl)) p)
 
 front_of_front : (n : ℕ) (x y : List ℕ) → (m : ℕ) × (take n x ≡ take m (x ++ y))
-front_of_front n x y = (length (take n x),
-    let parts : x ++ y ≡ take n x ++ (drop n x ++ y) = ap (λ (l : List ℕ). l ++ y) (sym (take-append-drop n x)) ∙ append_assoc (take n x) (drop n x) y in
-    sym (take_at (take n x) (drop n x ++ y) (length (take n x)) refl) ∙ ap (take (length (take n x))) (sym parts))
+front_of_front n x y = (
+  length (take n x),
+  let parts : x ++ y ≡ take n x ++ (drop n x ++ y) = ap (λ (l : List ℕ). l ++ y) (sym (take-append-drop n x)) ∙ append_assoc (take n x) (drop n x) y in
+      sym (take_at (take n x) (drop n x ++ y) (length (take n x)) refl) ∙ ap (take (length (take n x))) (sym parts),
+)
 
 -- a front of the bytes is a front of more
 pub front-more : (a b : Option (List ℕ)) (x y : List ℕ) → AppendsFront a b x → AppendsFront a b (x ++ y)
@@ -57,10 +59,11 @@ front-more a b x y p = let f = front_of_front p.0 x y in (f.0, subst (Appends a 
 
 -- bytes, and then a front of others
 pub then_front : (a b c : Option (List ℕ)) (x y : List ℕ) → Appends a b x → AppendsFront b c y → AppendsFront a c (x ++ y)
-then_front a b c x y p q =
-    (length x + q.0,
-    let e : take (length x + q.0) (x ++ y) ≡ x ++ take q.0 y = take-append-add x y q.0 in
-    subst (Appends a c) (sym e) (Appends-then a b c x (take q.0 y) p q.1))
+then_front a b c x y p q = (
+  length x + q.0,
+  let e : take (length x + q.0) (x ++ y) ≡ x ++ take q.0 y = take-append-add x y q.0 in
+      subst (Appends a c) (sym e) (Appends-then a b c x (take q.0 y) p q.1),
+)
 
 -- nothing is written yet
 pub written_none : (a : Option (List ℕ)) (bytes : List ℕ) → Written a a bytes bytes

@@ -67,7 +67,7 @@ unfoldable pub head_at : Numbers → Result Header InputFault
 head_at n = elim (shape_fault (shape_of n)) [
   | Some fault ↦ Err (fault_of_head fault)
   | None ↦ if nat_lt 255 n.maxval then Err BadMaxval else Ok (header_of (shape_of n) [])
-  ]
+]
 
 -- the bytes after the magic that a header may have
 abbrev pub header_limit : ℕ

@@ -76,10 +76,10 @@ abbrev pub reading_due : Reading → Said
 reading_due r = stage_due (drop r.at r.text.items) r.stage
 
 -- what a reading answers: the next message, the end, or a fault, which stays
-abbrev pub Answers : Reading → Result (Option Message) InputFault → Reading → Type 0
-Answers old (Ok next) new =
+abbrev pub ReadingAnswers : Reading → Result (Option Message) InputFault → Reading → Type 0
+ReadingAnswers old (Ok next) new =
     SaysNext (reading_due old) next (reading_due new) × IfSome next (IsNext old.stage new.stage) × (has_failed old.stage ≡ false) × (has_failed new.stage ≡ false)
-Answers old (Err fault) new =
+ReadingAnswers old (Err fault) new =
     (new.stage ≡ Failed fault) × ((reading_due old ≡ says_fault fault) ⊎ ((fault ≡ Memory) × (has_failed old.stage ≡ false)))
 
 -- what a reading of all that a reader told has to say: that of the text, or a fault from outside

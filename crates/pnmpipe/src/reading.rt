@@ -50,7 +50,7 @@ pub struct Reading {
 }
 
 impl Reading {
-    ghost use Rattle.pnmpipe.specs.Sources.{reading_due, Answers};
+    ghost use Rattle.pnmpipe.specs.Sources.{reading_due, ReadingAnswers};
 
     /// A reading of the whole text.
     pub fn new(text: Vec<u8>) -> Reading
@@ -77,7 +77,7 @@ impl Reading {
 
     /// The next message; `None` after the end of the stream, for good; after a fault the same fault.
     pub fn next(&mut self) -> Result<Option<Message>, InputFault>
-        ensures { Answers self.old result self.new }
+        ensures { ReadingAnswers self.old result self.new }
     {
         let alloc = *self.text.allocator();
         match Step::at(alloc, self.stage, &self.text[self.at..]) {

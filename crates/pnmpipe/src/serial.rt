@@ -54,7 +54,7 @@ pub fn run_serial<R: BytesIn, W: BytesOut>(
         → AppendsFront (W.held writer.old) (W.held writer.new) (bytes_due text) }
     ensures all_before_fault { (text : List ℕ) → R.left reader.old ≡ Some text
         → IfInput result (λ fault. fault_of text ≡ Some fault → ¬ Failed (W.failures writer.old) (W.failures writer.new)
-            → Appends (W.held writer.old) (W.held writer.new) (bytes_due text)) }
+        → Appends (W.held writer.old) (W.held writer.new) (bytes_due text)) }
 
     ensures same_reader { R.same reader.old reader.new }
     ensures same_writer { W.same writer.old writer.new }

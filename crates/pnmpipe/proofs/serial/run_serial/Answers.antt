@@ -15,24 +15,24 @@ pub returns-in-Err-default-clause-front : goal.returns-in-Err-default-clause-fro
 returns-in-Err-default-clause-front g c = λ text is.
     let told : g.R.BytesIn.left c.new-source.result.reader.now ≡ Some text = rw c.new-source.ensures.reader is in
     let front = rw c.new-downstream.ensures.writer at
-        (run_front (λ r. g.R.BytesIn.left r.now) (λ r. g.R.BytesIn.failures r.now) (λ w. g.W.BytesOut.held w.now) (λ w. g.W.BytesOut.failures w.now)
-        c.new-source.result c.pass_all-input.new.source c.pass_all-input.result c.new-downstream.result c.pass_all-input.new.downstream c.finish-written.result.0 text c.pass_all-input.ensures.passed told c.finish-written.ensures.bytes) in
+    (run_front (λ r. g.R.BytesIn.left r.now) (λ r. g.R.BytesIn.failures r.now) (λ w. g.W.BytesOut.held w.now) (λ w. g.W.BytesOut.failures w.now)
+    c.new-source.result c.pass_all-input.new.source c.pass_all-input.result c.new-downstream.result c.pass_all-input.new.downstream c.finish-written.result.0 text c.pass_all-input.ensures.passed told c.finish-written.ensures.bytes) in
     search rules
 
 pub returns-in-Ok-Err-clause-front : goal.returns-in-Ok-Err-clause-front
 returns-in-Ok-Err-clause-front g c = λ text is.
     let told : g.R.BytesIn.left c.new-source.result.reader.now ≡ Some text = rw c.new-source.ensures.reader is in
     let front = rw c.new-downstream.ensures.writer at
-        (run_front (λ r. g.R.BytesIn.left r.now) (λ r. g.R.BytesIn.failures r.now) (λ w. g.W.BytesOut.held w.now) (λ w. g.W.BytesOut.failures w.now)
-        c.new-source.result c.pass_all-input.new.source c.pass_all-input.result c.new-downstream.result c.pass_all-input.new.downstream c.finish-written.result.0 text c.pass_all-input.ensures.passed told c.finish-written.ensures.bytes) in
+    (run_front (λ r. g.R.BytesIn.left r.now) (λ r. g.R.BytesIn.failures r.now) (λ w. g.W.BytesOut.held w.now) (λ w. g.W.BytesOut.failures w.now)
+    c.new-source.result c.pass_all-input.new.source c.pass_all-input.result c.new-downstream.result c.pass_all-input.new.downstream c.finish-written.result.0 text c.pass_all-input.ensures.passed told c.finish-written.ensures.bytes) in
     search rules
 
 pub returns-in-Ok-Ok-clause-front : goal.returns-in-Ok-Ok-clause-front
 returns-in-Ok-Ok-clause-front g c = λ text is.
     let told : g.R.BytesIn.left c.new-source.result.reader.now ≡ Some text = rw c.new-source.ensures.reader is in
     let front = rw c.new-downstream.ensures.writer at
-        (run_front (λ r. g.R.BytesIn.left r.now) (λ r. g.R.BytesIn.failures r.now) (λ w. g.W.BytesOut.held w.now) (λ w. g.W.BytesOut.failures w.now)
-        c.new-source.result c.pass_all-input.new.source c.pass_all-input.result c.new-downstream.result c.pass_all-input.new.downstream c.finish-written.result.0 text c.pass_all-input.ensures.passed told c.finish-written.ensures.bytes) in
+    (run_front (λ r. g.R.BytesIn.left r.now) (λ r. g.R.BytesIn.failures r.now) (λ w. g.W.BytesOut.held w.now) (λ w. g.W.BytesOut.failures w.now)
+    c.new-source.result c.pass_all-input.new.source c.pass_all-input.result c.new-downstream.result c.pass_all-input.new.downstream c.finish-written.result.0 text c.pass_all-input.ensures.passed told c.finish-written.ensures.bytes) in
     search rules
 
 pub returns-in-Err-default-clause-all_before_fault : goal.returns-in-Err-default-clause-all_before_fault
@@ -40,9 +40,9 @@ returns-in-Err-default-clause-all_before_fault g c = λ text is first sound.
     let passed = rw c.in-Err-default.is-0 at c.pass_all-input.ensures.passed in
     let told : g.R.BytesIn.left c.new-source.result.reader.now ≡ Some text = rw c.new-source.ensures.reader is in
     let all = rw c.new-downstream.ensures.writer at
-        (run_all (λ r. g.R.BytesIn.left r.now) (λ r. g.R.BytesIn.failures r.now) (λ w. g.W.BytesOut.held w.now) (λ w. g.W.BytesOut.failures w.now)
-        c.new-source.result c.pass_all-input.new.source c.in-Err-default.fault c.new-downstream.result c.pass_all-input.new.downstream c.finish-written.result.0 text passed told first
-        (λ fault e. (c.finish-written.ensures.broken fault e).1) c.finish-written.ensures.bytes) in
+    (run_all (λ r. g.R.BytesIn.left r.now) (λ r. g.R.BytesIn.failures r.now) (λ w. g.W.BytesOut.held w.now) (λ w. g.W.BytesOut.failures w.now)
+    c.new-source.result c.pass_all-input.new.source c.in-Err-default.fault c.new-downstream.result c.pass_all-input.new.downstream c.finish-written.result.0 text passed told first
+    (λ fault e. (c.finish-written.ensures.broken fault e).1) c.finish-written.ensures.bytes) in
     search rules
 
 pub returns-in-Ok-Ok-clause-well : goal.returns-in-Ok-Ok-clause-well
@@ -50,7 +50,7 @@ returns-in-Ok-Ok-clause-well g c = λ text is.
     let passed = rw c.in-Ok-Ok.is-0 at c.pass_all-input.ensures.passed in
     let told : g.R.BytesIn.left c.new-source.result.reader.now ≡ Some text = rw c.new-source.ensures.reader is in
     let well = rw c.new-downstream.ensures.writer at
-        (run_well (λ r. g.R.BytesIn.left r.now) (λ r. g.R.BytesIn.failures r.now) (λ w. g.W.BytesOut.held w.now) (λ w. g.W.BytesOut.failures w.now)
-        c.new-source.result c.pass_all-input.new.source c.new-downstream.result c.pass_all-input.new.downstream c.finish-written.result.0 c.finish-written.result.1 c.in-Ok-Ok.summary text passed told
-        (λ fault e. (c.finish-written.ensures.broken fault e).0) (λ e. MatchResult-weaker c.finish-written.result.1 (c.finish-written.ensures.well e) (λ s p. p.0) (λ f p. tt)) c.finish-written.ensures.bytes c.in-Ok-Ok.is-1) in
+    (run_well (λ r. g.R.BytesIn.left r.now) (λ r. g.R.BytesIn.failures r.now) (λ w. g.W.BytesOut.held w.now) (λ w. g.W.BytesOut.failures w.now)
+    c.new-source.result c.pass_all-input.new.source c.new-downstream.result c.pass_all-input.new.downstream c.finish-written.result.0 c.finish-written.result.1 c.in-Ok-Ok.summary text passed told
+    (λ fault e. (c.finish-written.ensures.broken fault e).0) (λ e. MatchResult-weaker c.finish-written.result.1 (c.finish-written.ensures.well e) (λ s p. p.0) (λ f p. tt)) c.finish-written.ensures.bytes c.in-Ok-Ok.is-1) in
     search rules
