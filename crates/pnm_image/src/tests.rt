@@ -1,1 +1,5 @@
+//! What no clause says: the limits in figures, printed names, that calls can succeed, and devices
+//! that fail.
 
+mod callers;
+mod devices;
