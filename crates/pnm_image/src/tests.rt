@@ -3,3 +3,7 @@
 
 mod callers;
 mod devices;
+mod heads;
+mod places;
+mod samples;
+mod texts;
