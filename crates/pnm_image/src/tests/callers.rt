@@ -19,6 +19,7 @@ pub(super) fn read_all<R: BytesIn>(reader: &mut R, text: &mut Vec<u8>) -> Result
     ensures end { OnOk result (IsAtEnd (R.left reader.new)) }
     ensures front { result ≡ Err ReadFault.Device → (bytes : List ℕ) × Consumes (R.left reader.old) (R.left reader.new) bytes
         × (text.new.items ≡ text.old.items ++ bytes) }
+    ensures kept { OnOk result (R.failures reader.new ≡ R.failures reader.old) }
     ensures failed { result ≡ Err ReadFault.Device → Failed (R.failures reader.old) (R.failures reader.new) }
     ensures same_device { R.same reader.old reader.new }
 {
@@ -40,6 +41,7 @@ pub(super) fn read_all<R: BytesIn>(reader: &mut R, text: &mut Vec<u8>) -> Result
 pub(super) fn write_all<W: BytesOut>(writer: &mut W, bytes: &[u8]) -> Result<(), DeviceFailed>
     ensures whole { OnOk result (Appends (W.held writer.old) (W.held writer.new) bytes.now) }
     ensures front { OnErr result ((n : ℕ) × Appends (W.held writer.old) (W.held writer.new) (take n bytes.now)) }
+    ensures kept { OnOk result (W.failures writer.new ≡ W.failures writer.old) }
     ensures failed { OnErr result (Failed (W.failures writer.old) (W.failures writer.new)) }
     ensures same_device { W.same writer.old writer.new }
 {
@@ -63,6 +65,7 @@ impl<R: BytesIn> Through<R> {
         ensures end { OnOk result (IsAtEnd (R.left self.new.device)) }
         ensures front { result ≡ Err ReadFault.Device → (bytes : List ℕ) × Consumes (R.left self.old.device) (R.left self.new.device) bytes
             × (text.new.items ≡ text.old.items ++ bytes) }
+        ensures kept { OnOk result (R.failures self.new.device ≡ R.failures self.old.device) }
         ensures failed { result ≡ Err ReadFault.Device → Failed (R.failures self.old.device) (R.failures self.new.device) }
         ensures same_device { R.same self.old.device self.new.device }
     {
@@ -75,6 +78,7 @@ impl<W: BytesOut> Through<W> {
     fn write_all(&mut self, bytes: &[u8]) -> Result<(), DeviceFailed>
         ensures whole { OnOk result (Appends (W.held self.old.device) (W.held self.new.device) bytes.now) }
         ensures front { OnErr result ((n : ℕ) × Appends (W.held self.old.device) (W.held self.new.device) (take n bytes.now)) }
+        ensures kept { OnOk result (W.failures self.new.device ≡ W.failures self.old.device) }
         ensures failed { OnErr result (Failed (W.failures self.old.device) (W.failures self.new.device)) }
         ensures same_device { W.same self.old.device self.new.device }
     {
@@ -88,6 +92,7 @@ pub(super) fn read_through<R: BytesIn>(reader: &mut R, text: &mut Vec<u8>) -> Re
     ensures end { OnOk result (IsAtEnd (R.left reader.new)) }
     ensures front { result ≡ Err ReadFault.Device → (bytes : List ℕ) × Consumes (R.left reader.old) (R.left reader.new) bytes
         × (text.new.items ≡ text.old.items ++ bytes) }
+    ensures kept { OnOk result (R.failures reader.new ≡ R.failures reader.old) }
     ensures failed { result ≡ Err ReadFault.Device → Failed (R.failures reader.old) (R.failures reader.new) }
     ensures same_device { R.same reader.old reader.new }
 {
@@ -101,6 +106,7 @@ pub(super) fn read_through<R: BytesIn>(reader: &mut R, text: &mut Vec<u8>) -> Re
 pub(super) fn write_through<W: BytesOut>(writer: &mut W, bytes: &[u8]) -> Result<(), DeviceFailed>
     ensures whole { OnOk result (Appends (W.held writer.old) (W.held writer.new) bytes.now) }
     ensures front { OnErr result ((n : ℕ) × Appends (W.held writer.old) (W.held writer.new) (take n bytes.now)) }
+    ensures kept { OnOk result (W.failures writer.new ≡ W.failures writer.old) }
     ensures failed { OnErr result (Failed (W.failures writer.old) (W.failures writer.new)) }
     ensures same_device { W.same writer.old writer.new }
 {
@@ -108,6 +114,23 @@ pub(super) fn write_through<W: BytesOut>(writer: &mut W, bytes: &[u8]) -> Result
         device: &mut *writer,
     };
     part.write_all(bytes)
+}
+
+/// The same, a byte at a time: the part is used again and again.
+pub(super) fn write_bytewise<W: BytesOut>(writer: &mut W, bytes: &[u8]) -> Result<(), DeviceFailed>
+    ensures whole { OnOk result (Appends (W.held writer.old) (W.held writer.new) bytes.now) }
+    ensures front { OnErr result ((n : ℕ) × Appends (W.held writer.old) (W.held writer.new) (take n bytes.now)) }
+    ensures kept { OnOk result (W.failures writer.new ≡ W.failures writer.old) }
+    ensures failed { OnErr result (Failed (W.failures writer.old) (W.failures writer.new)) }
+    ensures same_device { W.same writer.old writer.new }
+{
+    let mut part = Through {
+        device: &mut *writer,
+    };
+    for byte in bytes {
+        part.write_all(&[*byte])?;
+    }
+    Ok(())
 }
 
 /// Flushes the writer.

@@ -1,6 +1,8 @@
 //! Devices over memory, and devices of which a call fails.
 
-use super::callers::{ReadFault, flush, read_all, read_through, write_all, write_through};
+use super::callers::{
+    ReadFault, flush, read_all, read_through, write_all, write_bytewise, write_through,
+};
 use crate::{BytesIn, BytesOut, Device, DeviceFailed};
 use std::io;
 use std::io::{ErrorKind, Read, Write};
@@ -119,8 +121,9 @@ fn lends_devices(rt: HostRuntime) -> Result<(), Fail> {
     let mut writer = Device::new(Vec::new(rt.alloc()));
     write_through(&mut writer, &[1, 2])?;
     write_all(&mut &mut writer, &[3])?;
+    write_bytewise(&mut writer, &[4, 5])?;
     flush(&mut &mut writer)?;
-    assert_eq!(rt; writer.into_inner().as_slice(), [1, 2, 3].as_slice());
+    assert_eq!(rt; writer.into_inner().as_slice(), [1, 2, 3, 4, 5].as_slice());
     Ok(())
 }
 
@@ -177,6 +180,13 @@ fn goes_on_after_a_failed_write(rt: HostRuntime) -> Result<(), Fail> {
     write_all(&mut writer, &[1, 2, 3])?;
     assert_eq!(rt; flush(&mut writer), Err(DeviceFailed));
     flush(&mut writer)?;
+    // A lent device passes a flush on.
+    let mut lent = Device::new(Sips {
+        held: Vec::new(rt.alloc()),
+        fails: FailsOnce::after(0),
+    });
+    assert_eq!(rt; flush(&mut &mut lent), Err(DeviceFailed));
+    flush(&mut &mut lent)?;
     assert_eq!(rt; writer.into_inner().held.as_slice(), [1, 2, 3].as_slice());
     Ok(())
 }
