@@ -5,19 +5,20 @@ use Rattle.std.proofs.lemmas.List.Elements.{All-more, All-get_or}
 
 -- a bound of one sample more
 pub greatest_more : (xs : List ℕ) (i g r : ℕ) → i < length xs → r ≡ max (get_or xs i 0) g → ((most : ℕ) → (g ≤ most) ↔ All (λ x. x ≤ most) (take i xs)) → (most : ℕ) → (r ≤ most) ↔ All (λ x. x ≤ most) (take (i + 1) xs)
-greatest_more xs i g r lt e known most =
-    (λ h. All-more (λ x. x ≤ most) xs i 0 lt ((known most).0 (omega arith)) (omega arith),
-    λ all.
-        let whole : length (take (i + 1) xs) ≡ i + 1 = omega (arith, length-take (i + 1) xs) in
-        let in' : i < i + 1 = omega arith in
-        let at : get_or (take (i + 1) xs) i 0 ≤ most = all i 0 (omega arith) in
-        let here : get_or xs i 0 ≤ most = rw (← get_or-take (i + 1) xs i 0 in') at in
-        let before : g ≤ most = (known most).1 (λ k d in'.
-            let below : k < i = omega (arith, length-take i xs) in
-            let later : k < i + 1 = omega arith in
-            let at : get_or (take (i + 1) xs) k d ≤ most = all k d (omega arith) in
-            rw (get_or-take i xs k d below, ← get_or-take (i + 1) xs k d later) at) in
-        omega arith)
+greatest_more xs i g r lt e known most = (
+  λ h. All-more (λ x. x ≤ most) xs i 0 lt ((known most).0 (omega arith)) (omega arith),
+  λ all.
+      let whole : length (take (i + 1) xs) ≡ i + 1 = omega (arith, length-take (i + 1) xs) in
+      let in' : i < i + 1 = omega arith in
+      let at : get_or (take (i + 1) xs) i 0 ≤ most = all i 0 (omega arith) in
+      let here : get_or xs i 0 ≤ most = rw (← get_or-take (i + 1) xs i 0 in') at in
+      let before : g ≤ most = (known most).1 (λ k d in'.
+      let below : k < i = omega (arith, length-take i xs) in
+      let later : k < i + 1 = omega arith in
+      let at : get_or (take (i + 1) xs) k d ≤ most = all k d (omega arith) in
+      rw (get_or-take i xs k d below, ← get_or-take (i + 1) xs k d later) at) in
+      omega arith,
+)
 
 -- a bound of all samples
 pub greatest_all : (xs : List ℕ) (i g : ℕ) → length xs ≤ i → ((most : ℕ) → (g ≤ most) ↔ All (λ x. x ≤ most) (take i xs)) → (most : ℕ) → (g ≤ most) ↔ All (λ x. x ≤ most) xs

@@ -3,13 +3,14 @@ use Rattle.std.proofs.lemmas.Bool.{leb-true, le-leb}
 use Rattle.pnm_image.proofs.place.is_row_of.Goals as goal
 
 pub returns-then-row-row_length : goal.returns-then-row-row_length
-returns-then-row-row_length c =
-    (λ t.
-        let le : c.from.result ≤ c.args.shape.now.maxval = leb-true _ _ t in
-        record {
-          count = c.if-row-row_length.true ∙ c.row_length.ensures;
-          range = (c.greatest.ensures c.args.shape.now.maxval).0 (omega arith);
-        },
-    λ row.
-        let le : c.greatest.result ≤ c.args.shape.now.maxval = (c.greatest.ensures c.args.shape.now.maxval).1 row.range in
-        le-leb _ _ (omega arith))
+returns-then-row-row_length c = (
+  λ t.
+      let le : c.from.result ≤ c.args.shape.now.maxval = leb-true _ _ t in
+      record {
+        count = c.if-row-row_length.true ∙ c.row_length.ensures;
+        range = (c.greatest.ensures c.args.shape.now.maxval).0 (omega arith);
+      },
+  λ row.
+      let le : c.greatest.result ≤ c.args.shape.now.maxval = (c.greatest.ensures c.args.shape.now.maxval).1 row.range in
+      le-leb _ _ (omega arith),
+)
