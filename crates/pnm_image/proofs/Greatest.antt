@@ -1,7 +1,7 @@
 -- The greatest of the samples that a loop has passed.
-use Rattle.std.proofs.Common.{◌≤◌, ◌<◌, ◌+◌, ◌≡◌, ◌↔◌, ℕ, All, List, take, length, get_or, arith, max, subst, sym}
+use Rattle.std.proofs.Common.{◌≤◌, ◌<◌, ◌+◌, ◌≡◌, ◌↔◌, ℕ, All, List, take, length, get_or, arith, max, subst}
 use Rattle.std.proofs.lemmas.List.{take_all, get_or-take, length-take}
-use Rattle.std.proofs.lemmas.List.Elements.{All-more, All-get_or}
+use Rattle.std.proofs.lemmas.List.Elements.{All-more}
 
 -- a bound of one sample more
 pub greatest_more : (xs : List ℕ) (i g r : ℕ) → i < length xs → r ≡ max (get_or xs i 0) g → ((most : ℕ) → (g ≤ most) ↔ All (λ x. x ≤ most) (take i xs)) → (most : ℕ) → (r ≤ most) ↔ All (λ x. x ≤ most) (take (i + 1) xs)

@@ -1,8 +1,8 @@
 -- What holds of a message's value in a program, and how a list of messages ends.
-use Rattle.std.specs.Prelude.{◌≡◌, ℕ, List, [], ◌∷◌}
+use Rattle.std.specs.Prelude.{List, [], ◌∷◌}
 use Rattle.pnm_image.specs.declared.message.Message.{Message}
 use Rattle.pnm_image.specs.declared.message.Message.TheVariants.{Begin, Row, ImageEnd, StreamEnd, Stop}
-use Rattle.pnm_image.specs.Heads.{Header, IsHeader}
+use Rattle.pnm_image.specs.Heads.{IsHeader}
 
 -- a message of a program: the head of each image keeps the rules of heads
 abbrev pub IsMessage : Message → Type 0

@@ -1,23 +1,21 @@
 -- A message that is inverted and put into the sink.
-use Rattle.std.proofs.Common.{◌≡◌, ℕ, ◌+◌, ◌-◌, ◌<◌, ◌≤◌, Bool, true, false, List, [], ◌∷◌, ◌++◌, length, map, Option, Result, Ok, Err, refl, sym, ap, subst, ◌∙◌, arith, All}
-use Rattle.std.specs.Result.{is_ok, is_err, result_and, MatchResult, IfErr, OnOk}
+use Rattle.std.proofs.Common.{◌≡◌, ℕ, ◌-◌, ◌≤◌, Bool, true, false, List, Option, Result, Ok, Err, refl, ◌∙◌, arith, All}
+use Rattle.std.specs.Result.{is_ok, is_err, result_and, MatchResult, IfErr}
 use Rattle.std.proofs.lemmas.List.{length-map}
 use Rattle.std.proofs.lemmas.List.Elements.{All-map}
-use Rattle.std.specs.Io.KnownBytes.{Appends}
 use Rattle.pnm_image.specs.declared.message.Message.{Message}
 use Rattle.pnm_image.specs.declared.message.Message.TheVariants.{Begin, Row, ImageEnd, StreamEnd, Stop}
 use Rattle.pnm_image.specs.declared.place.Place.{Place}
 use Rattle.pnm_image.specs.declared.place.Place.TheVariants.{Between, Inside, After}
-use Rattle.pnm_image.specs.Places.{Accepts, IsRowOf, place_after}
+use Rattle.pnm_image.specs.Places.{place_after}
 use Rattle.pnmpipe.specs.declared.fault.SinkFault.{SinkFault}
 use Rattle.pnmpipe.specs.declared.fault.SinkFault.TheVariants.{WriteFailed, OutOfOrder, Broken}
 use Rattle.pnmpipe.specs.declared.downstream.Downstream.{Downstream}
 use Rattle.pnmpipe.specs.Bytes.{IsByteMessage}
 use Rattle.pnmpipe.specs.Inversion.{inverted_samples, inverted_message}
-use Rattle.pnmpipe.specs.Encoding.{message_bytes}
-use Rattle.pnmpipe.specs.Sinks.{Writes, HasRows, Refuses}
+use Rattle.pnmpipe.specs.Sinks.{Writes, Refuses}
 use Rattle.pnmpipe.specs.Counts.{images_after, rows_after}
-use Rattle.pnmpipe.specs.Downstreams.{IsMaxvalAt, WritesInverted, FailsToWrite, PassesWith}
+use Rattle.pnmpipe.specs.Downstreams.{IsMaxvalAt, PassesWith}
 
 -- samples taken from a maxval are at most as large
 inverted_below : (maxval most : ℕ) (row : List ℕ) → maxval ≤ most → All (λ sample. sample ≤ most) (inverted_samples maxval row)

@@ -1,14 +1,14 @@
 -- The bytes of a stream's messages are its encoding, also inverted, and the messages count its images and rows.
-use Rattle.std.proofs.Common.{◌≡◌, ℕ, ◌+◌, ◌*◌, ◌-◌, ◌^◌, ◌≤◌, min, List, [], ◌∷◌, ◌++◌, length, map, sum_by, refl, sym, ap, subst, ◌∙◌, append_assoc, arith}
+use Rattle.std.proofs.Common.{◌≡◌, ℕ, ◌+◌, ◌-◌, List, [], ◌∷◌, ◌++◌, length, map, sum_by, refl, sym, ap, ◌∙◌, append_assoc, arith}
 use Rattle.std.specs.List.{concat}
 use Rattle.std.proofs.lemmas.List.Sums.{sum_by-cons}
 use Rattle.pnm_image.specs.declared.message.Message.{Message}
-use Rattle.pnm_image.specs.declared.message.Message.TheVariants.{Begin, Row, ImageEnd, StreamEnd}
+use Rattle.pnm_image.specs.declared.message.Message.TheVariants.{Row, ImageEnd}
 use Rattle.pnm_image.specs.Heads.{row_length}
-use Rattle.pnm_image.specs.Images.{Image, IsImage, AreImages, cut_rows, rows_of, messages_of_image, messages_of_stream}
+use Rattle.pnm_image.specs.Images.{Image, AreImages, rows_of, messages_of_stream}
 use Rattle.pnm_image.proofs.Rows.{concat-cut_rows, length-rows_of}
 use Rattle.pnmpipe.specs.Inversion.{inverted, inverted_samples, inverted_messages}
-use Rattle.pnmpipe.specs.Encoding.{header_text, message_bytes, bytes_of, encoding_of}
+use Rattle.pnmpipe.specs.Encoding.{header_text, bytes_of, encoding_of}
 use Rattle.pnmpipe.specs.Counts.{counted, images_in, rows_in}
 
 map-append : (f : ℕ → ℕ) (xs ys : List ℕ) → map f (xs ++ ys) ≡ map f xs ++ map f ys

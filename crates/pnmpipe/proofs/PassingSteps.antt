@@ -1,8 +1,5 @@
 -- The messages that have passed from the source to the output of a run, one after another.
-use Rattle.std.proofs.Common.{◌≡◌, ℕ, ◌+◌, ◌≤◌, Bool, true, false, List, [], ◌∷◌, ◌++◌, Option, Some, None, Result, Ok, Err, refl, sym, ap, subst, ◌∙◌, append_assoc, arith, inl, inr}
-use Rattle.std.specs.Prelude.{◌⊎◌, OnOk}
-use Rattle.std.specs.List.{flat_map}
-use Rattle.std.specs.Option.{option_map}
+use Rattle.std.proofs.Common.{◌≡◌, ℕ, ◌≤◌, false, List, [], ◌∷◌, ◌++◌, Option, Some, None, Result, Ok, Err, refl, sym, ap, subst, ◌∙◌, append_assoc, arith, inl, inr}
 use Rattle.std.specs.Io.KnownBytes.{Appends}
 use Rattle.pnm_image.specs.Devices.{Failed}
 use Rattle.pnm_image.specs.declared.message.Message.{Message}
@@ -10,7 +7,6 @@ use Rattle.pnm_image.specs.declared.message.Message.TheVariants.{Begin, Row, Ima
 use Rattle.pnm_image.specs.declared.place.Place.{Place}
 use Rattle.pnm_image.specs.declared.place.Place.TheVariants.{Between, Inside, After}
 use Rattle.pnm_image.specs.Places.{Accepts, place_after}
-use Rattle.pnm_image.specs.Completion.{IsFrontOf}
 use Rattle.pnmpipe.specs.declared.fault.InputFault.{InputFault}
 use Rattle.pnmpipe.specs.declared.fault.InputFault.TheVariants.{ReadFailed}
 use Rattle.pnmpipe.specs.declared.fault.SinkFault.{SinkFault}
@@ -18,15 +14,15 @@ use Rattle.pnmpipe.specs.declared.reading.Stage.{Stage}
 use Rattle.pnmpipe.specs.declared.reading.Reading.{Reading}
 use Rattle.pnmpipe.specs.declared.reader.Source.{Source}
 use Rattle.pnmpipe.specs.declared.downstream.Downstream.{Downstream}
-use Rattle.pnmpipe.specs.Reading.{Said, said, said_of, then_said, says_nothing, says_fault}
+use Rattle.pnmpipe.specs.Reading.{Said, said, then_said}
 use Rattle.pnmpipe.specs.Bytes.{IsByteMessage}
 use Rattle.pnmpipe.specs.Inversion.{inverted_message, inverted_messages, maxval_after, IsRowUpTo}
 use Rattle.pnmpipe.specs.Encoding.{message_bytes, bytes_of}
 use Rattle.pnmpipe.specs.Counts.{images_after, rows_after, images_in, rows_in}
-use Rattle.pnmpipe.specs.Sources.{stage_place, has_failed, SaysNext, IsNext}
-use Rattle.pnmpipe.specs.Told.{due, stage_of, SaysAnswer, TellsAnswer, GoesOn, FailedInCall, IsOutsideFault}
+use Rattle.pnmpipe.specs.Sources.{stage_place, has_failed, IsNext}
+use Rattle.pnmpipe.specs.Told.{due, stage_of, SaysAnswer, TellsAnswer, GoesOn, FailedInCall}
 use Rattle.pnmpipe.specs.Sinks.{Writes, HasRows, FailsIn}
-use Rattle.pnmpipe.specs.Downstreams.{IsFresh, IsMaxvalAt, WritesInverted, FailsToWrite, PassesWith, Passes}
+use Rattle.pnmpipe.specs.Downstreams.{IsFresh, IsMaxvalAt, PassesWith, Passes}
 use Rattle.pnmpipe.specs.Passing.{IsSaidOf, IsOutputOf, HasPassed}
 use Rattle.pnmpipe.proofs.Written.{Appends-nothing, Appends-then, Keeps-itself, fails_in_more, fails_in_rest}
 

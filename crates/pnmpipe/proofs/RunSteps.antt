@@ -1,5 +1,5 @@
 -- What a run has read and written when all messages have passed.
-use Rattle.std.proofs.Common.{◌≡◌, ℕ, ◌+◌, Bool, true, false, List, [], ◌∷◌, ◌++◌, take, map, length, sum_by, zero-add, Option, Some, None, Result, Ok, Err, refl, sym, ap, subst, ◌∙◌, append_assoc, arith, inl, inr}
+use Rattle.std.proofs.Common.{◌≡◌, ℕ, List, [], ◌∷◌, ◌++◌, take, map, length, sum_by, zero-add, Option, Some, Result, Ok, Err, refl, sym, ap, subst, ◌∙◌, append_assoc, inl, inr}
 use Rattle.std.specs.Prelude.{◌⊎◌}
 use Rattle.std.specs.Result.{MatchResult}
 use Rattle.std.specs.Io.KnownBytes.{Appends, Keeps}
@@ -9,12 +9,11 @@ use Rattle.pnm_image.specs.Images.{Image, AreImages, messages_of_stream}
 use Rattle.pnm_image.specs.Completion.{IsFrontOf}
 use Rattle.pnmpipe.specs.declared.fault.InputFault.{InputFault}
 use Rattle.pnmpipe.specs.declared.fault.SinkFault.{SinkFault}
-use Rattle.pnmpipe.specs.declared.fault.SinkFault.TheVariants.{WriteFailed}
 use Rattle.pnmpipe.specs.declared.summary.Summary.{Summary}
 use Rattle.pnmpipe.specs.declared.reader.Source.{Source}
 use Rattle.pnmpipe.specs.declared.downstream.Downstream.{Downstream}
 use Rattle.pnmpipe.specs.Texts.{Spells}
-use Rattle.pnmpipe.specs.Reading.{Said, said, said_of, fault_of}
+use Rattle.pnmpipe.specs.Reading.{Said, said_of, fault_of}
 use Rattle.pnmpipe.specs.TextLaws.{IsAtFault}
 use Rattle.pnmpipe.specs.Inversion.{inverted, inverted_message, inverted_messages}
 use Rattle.pnmpipe.specs.Encoding.{message_bytes, bytes_of, encoding_of}
@@ -22,7 +21,7 @@ use Rattle.pnmpipe.specs.Counts.{counted, images_in, rows_in}
 use Rattle.pnmpipe.specs.Told.{IsOutsideFault}
 use Rattle.pnmpipe.specs.Sinks.{AppendsFront}
 use Rattle.pnmpipe.specs.Passing.{IsSaidOf, IsOutputOf, HasPassed}
-use Rattle.pnmpipe.specs.Runs.{EndedWell, bytes_due, summary_of}
+use Rattle.pnmpipe.specs.Runs.{EndedWell, bytes_due}
 use Rattle.pnmpipe.proofs.HeaderLaws.{fault_is_no_accident}
 use Rattle.pnmpipe.proofs.SpellingLaws.{spelled_text_is_said, said_text_is_spelled}
 use Rattle.pnmpipe.proofs.EncodingLaws.{bytes_of-stream, images_in-stream, rows_in-stream}

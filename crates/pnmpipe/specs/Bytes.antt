@@ -1,5 +1,5 @@
 -- Messages whose samples are bytes.
-use Rattle.std.specs.Prelude.{ℕ, ◌≤◌, All}
+use Rattle.std.specs.Prelude.{◌≤◌, All}
 use Rattle.pnm_image.specs.declared.message.Message.{Message}
 use Rattle.pnm_image.specs.declared.message.Message.TheVariants.{Begin, Row, ImageEnd, StreamEnd, Stop}
 use Rattle.pnmpipe.specs.Texts.{IsByteGray}

@@ -2,7 +2,6 @@
 -- value; every such number is beyond the limits.
 use Rattle.std.specs.Prelude.{◌≡◌, ℕ, ◌-◌, ◌^◌, ◌⊎◌, min, List, Result, Ok, Err}
 use Rattle.pnm_image.specs.declared.shape.Shape.{Shape}
-use Rattle.pnm_image.specs.Heads.{Header}
 use Rattle.pnmpipe.specs.declared.fault.InputFault.{InputFault}
 use Rattle.pnmpipe.specs.declared.fault.InputFault.TheVariants.{Memory}
 use Rattle.pnmpipe.specs.Reading.{Numbers, shape_of}

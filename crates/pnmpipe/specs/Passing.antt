@@ -1,5 +1,5 @@
 -- What has passed from the source to the output of a run.
-use Rattle.std.specs.Prelude.{◌≡◌, ◌⊎◌, ℕ, true, false, List, [], ◌∷◌, ◌++◌, Option, Some, None, Result, Ok, Err, OnOk}
+use Rattle.std.specs.Prelude.{◌≡◌, ◌⊎◌, ℕ, true, false, List, Option, Some, None, Result, Ok, Err, OnOk}
 use Rattle.std.specs.Io.KnownBytes.{Appends}
 use Rattle.pnm_image.specs.Devices.{Failed}
 use Rattle.pnm_image.specs.declared.message.Message.{Message}
@@ -10,7 +10,7 @@ use Rattle.pnmpipe.specs.declared.fault.SinkFault.{SinkFault}
 use Rattle.pnmpipe.specs.declared.fault.SinkFault.TheVariants.{WriteFailed}
 use Rattle.pnmpipe.specs.declared.reader.Source.{Source}
 use Rattle.pnmpipe.specs.declared.downstream.Downstream.{Downstream}
-use Rattle.pnmpipe.specs.Reading.{Said, said, said_of}
+use Rattle.pnmpipe.specs.Reading.{said, said_of}
 use Rattle.pnmpipe.specs.Inversion.{inverted_messages}
 use Rattle.pnmpipe.specs.Encoding.{bytes_of}
 use Rattle.pnmpipe.specs.Told.{IsOutsideFault}

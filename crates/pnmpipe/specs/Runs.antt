@@ -1,8 +1,6 @@
 -- What a run in one thread reads, writes and answers.
-use Rattle.std.specs.Prelude.{◌≡◌, ℕ, ◌+◌, ◌-◌, ◌^◌, ◌⊎◌, min, sum_by, length, List, [], ◌∷◌, ◌++◌, map, Option, Some, None, Result, Ok, Err}
+use Rattle.std.specs.Prelude.{◌≡◌, ℕ, sum_by, length, List, map, Option, Result, Ok, Err}
 use Rattle.std.specs.Io.KnownBytes.{Appends}
-use Rattle.pnm_image.specs.declared.message.Message.{Message}
-use Rattle.pnm_image.specs.declared.message.Message.TheVariants.{Begin, Row, ImageEnd, StreamEnd, Stop}
 use Rattle.pnm_image.specs.Images.{Image}
 use Rattle.pnmpipe.specs.declared.fault.InputFault.{InputFault}
 use Rattle.pnmpipe.specs.declared.fault.SinkFault.{SinkFault}
@@ -13,7 +11,6 @@ use Rattle.pnmpipe.specs.Texts.{Spells}
 use Rattle.pnmpipe.specs.Reading.{said_of}
 use Rattle.pnmpipe.specs.Inversion.{inverted, inverted_messages}
 use Rattle.pnmpipe.specs.Encoding.{bytes_of, encoding_of}
-use Rattle.pnmpipe.specs.Told.{IsOutsideFault}
 use Rattle.pnmpipe.specs.Counts.{counted}
 
 -- the images and the rows of a stream

@@ -1,5 +1,5 @@
 -- What a sink has written, and which messages it refuses.
-use Rattle.std.specs.Prelude.{◌≡◌, ℕ, ◌<◌, List, take, Option}
+use Rattle.std.specs.Prelude.{ℕ, ◌<◌, List, take, Option}
 use Rattle.std.specs.Io.KnownBytes.{Appends, Keeps}
 use Rattle.pnm_image.specs.Devices.{Failed}
 use Rattle.pnmpipe.specs.declared.fault.SinkFault.{SinkFault}

@@ -1,5 +1,5 @@
 -- The laws that tie what a text spells to what is said of it.
-use Rattle.std.specs.Prelude.{◌≡◌, ◌⊎◌, ℕ, List, Option, Some, None}
+use Rattle.std.specs.Prelude.{◌≡◌, ◌⊎◌, ℕ, List, Some, None}
 use Rattle.pnm_image.specs.Images.{Image, messages_of_stream}
 use Rattle.pnmpipe.specs.declared.fault.InputFault.{InputFault}
 use Rattle.pnmpipe.specs.Texts.{Spells}

@@ -3,7 +3,7 @@ use Rattle.std.specs.Prelude.{◌≡◌, ℕ, ◌<◌, ◌≤◌, Bool, true, �
 use Rattle.std.specs.List.{AllPass}
 use Rattle.std.specs.Str.Parse.{digits_value}
 use Rattle.pnm_image.specs.declared.shape.Kind.TheVariants.{Gray}
-use Rattle.pnm_image.specs.Heads.{Header, IsHeader, header_of}
+use Rattle.pnm_image.specs.Heads.{Header, IsHeader}
 use Rattle.pnm_image.specs.Images.{Image, IsImage}
 
 -- blank, TAB, CR or LF

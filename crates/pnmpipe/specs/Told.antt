@@ -2,7 +2,6 @@
 use Rattle.std.specs.Prelude.{◌≡◌, ℕ, ◌⊎◌, true, false, List, Option, Some, None, Result, Ok, Err, IfSome, ⊤}
 use Rattle.std.specs.Option.{option_map}
 use Rattle.pnm_image.specs.Devices.{Failed}
-use Rattle.pnm_image.specs.declared.place.Place.{Place}
 use Rattle.pnm_image.specs.declared.message.Message.{Message}
 use Rattle.pnmpipe.specs.declared.fault.InputFault.{InputFault}
 use Rattle.pnmpipe.specs.declared.fault.InputFault.TheVariants.{ReadFailed, Memory}

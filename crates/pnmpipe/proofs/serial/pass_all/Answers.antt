@@ -1,6 +1,6 @@
 use Rattle.std.proofs.Common.{ap, arith, Err}
 use Rattle.std.proofs.lemmas.Result.{err_from_is_err_and}
-use Rattle.pnmpipe.proofs.PassingSteps.{Going, going_none, going_more, may_pass, row_up_to, passed_all, passed_until}
+use Rattle.pnmpipe.proofs.PassingSteps.{going_none, going_more, may_pass, row_up_to, passed_all, passed_until}
 use Rattle.pnmpipe.proofs.serial.pass_all.Goals as goal
 
 pub loop-message-init : goal.loop-message-init

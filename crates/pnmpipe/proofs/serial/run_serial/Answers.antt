@@ -1,7 +1,5 @@
-use Rattle.std.proofs.Common.{rules, ◌≡◌, Some, Ok, Err, ap, sym, ◌∙◌}
+use Rattle.std.proofs.Common.{rules, ◌≡◌, Some}
 use Rattle.std.proofs.lemmas.Result.{MatchResult-weaker}
-use Rattle.pnmpipe.specs.declared.summary.Summary.{Summary}
-use Rattle.pnmpipe.specs.declared.fault.SinkFault.{SinkFault}
 use Rattle.pnmpipe.proofs.RunSteps.{input_fault, run_front, run_all, run_well}
 use Rattle.pnmpipe.proofs.serial.run_serial.Goals as goal
 

@@ -1,4 +1,4 @@
-use Rattle.std.proofs.Common.{ℕ, length}
+use Rattle.std.proofs.Common.{length}
 use Rattle.pnmpipe.proofs.Written.{Sending}
 use Rattle.pnmpipe.proofs.writer.write_all.Given as goal
 

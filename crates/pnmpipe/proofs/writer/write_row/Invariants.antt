@@ -1,4 +1,4 @@
-use Rattle.std.proofs.Common.{◌≤◌, ℕ, All, length}
+use Rattle.std.proofs.Common.{◌≤◌, All, length}
 use Rattle.pnmpipe.proofs.Written.{Sending}
 use Rattle.pnmpipe.proofs.writer.write_row.Given as goal
 
