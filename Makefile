@@ -1,0 +1,28 @@
+# pnmpipe: `make` proves and builds, `make check` is the whole gate.
+
+PROGRAM := crates/pnmpipe
+
+.PHONY: all check help toolchain refused-growth
+
+all: toolchain
+	cd $(PROGRAM) && rt run -- pnminvert < stdin > out/stdout
+	cmp $(PROGRAM)/out/stdout $(PROGRAM)/stdout
+	mkdir -p bin
+	cp $(PROGRAM)/out/pnmpipe bin/pnmpipe
+
+check: toolchain
+	sh scripts/refused_growth.sh
+	rt ci
+
+# each allocation of the stored run refused in turn
+refused-growth: toolchain
+	sh scripts/refused_growth.sh
+
+toolchain:
+	@command -v rt > /dev/null || { echo "make: the Rattle toolchain's command 'rt' is not on the PATH" >&2; exit 1; }
+
+help:
+	@echo "make                 proves the crates, builds the program and leaves it as bin/pnmpipe"
+	@echo "make check           the whole gate: every proof from nothing, the edits that must fail, the tests and the stored run"
+	@echo "make refused-growth  refuses each allocation of the stored run in turn"
+	@echo "make help            this list"
