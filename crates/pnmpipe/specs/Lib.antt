@@ -13,3 +13,4 @@ pub mod Sinks
 pub mod Downstreams
 pub mod Passing
 pub mod Runs
+pub mod Examples

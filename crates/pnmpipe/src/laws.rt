@@ -1,6 +1,7 @@
 //! Laws of texts. Each stands over the definitions alone, as the contract of a function that does
 //! nothing.
 
+ghost use Rattle.pnmpipe.specs.Examples.{ExamplesHold};
 ghost use Rattle.pnmpipe.specs.TextLaws.{SpelledIsSaid, SaidIsSpelled, OneStreamOrOneFault};
 
 /// Of a text that spells images the messages of these images are said, without a fault.
@@ -17,3 +18,9 @@ pub fn said_is_spelled()
 pub fn one_stream_or_one_fault()
     ensures { OneStreamOrOneFault }
 {}
+
+/// Small texts, as the definitions compute them.
+pub fn examples_hold()
+    ensures { ExamplesHold }
+{
+}
