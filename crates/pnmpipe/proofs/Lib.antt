@@ -1,8 +1,10 @@
 pub mod DownstreamSteps
 pub mod EncodingLaws
+pub mod FaultLaws
 pub mod Gathered
 pub mod HeaderCode
 pub mod HeaderLaws
+pub mod NumberLaws
 pub mod Numbers
 pub mod PassingSteps
 pub mod RasterLaws

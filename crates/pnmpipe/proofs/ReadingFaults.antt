@@ -11,7 +11,7 @@ use Rattle.pnmpipe.specs.declared.reading.Stage.TheVariants.{Start, Rows, End, E
 use Rattle.pnmpipe.specs.Reading.{Said, says_fault}
 use Rattle.pnmpipe.specs.Sources.{stage_due, has_failed, reading_due, ReadingAnswers, IsOpenedStage}
 use Rattle.pnmpipe.specs.Told.{FailedInCall}
-use Rattle.pnmpipe.proofs.HeaderLaws.{EndsByText, end_by_text, rows_by_text, said_by_text}
+use Rattle.pnmpipe.proofs.FaultLaws.{EndsByText, end_by_text, rows_by_text, said_by_text}
 
 -- what ends by a fault of the text doesn't say that the reader failed
 not_by_text : (s : Said) → EndsByText s.fault → s ≡ says_fault ReadFailed → ⊥

@@ -22,7 +22,7 @@ use Rattle.pnmpipe.specs.Told.{IsOutsideFault}
 use Rattle.pnmpipe.specs.Sinks.{AppendsFront}
 use Rattle.pnmpipe.specs.Passing.{IsSaidOf, IsOutputOf, HasPassed}
 use Rattle.pnmpipe.specs.Runs.{EndedWell, bytes_due}
-use Rattle.pnmpipe.proofs.HeaderLaws.{fault_is_no_accident}
+use Rattle.pnmpipe.proofs.FaultLaws.{fault_is_no_accident}
 use Rattle.pnmpipe.proofs.SpellingLaws.{spelled_text_is_said, said_text_is_spelled}
 use Rattle.pnmpipe.proofs.EncodingLaws.{bytes_of-stream, images_in-stream, rows_in-stream}
 use Rattle.pnmpipe.proofs.PassingSteps.{maxval_of}

@@ -7,7 +7,8 @@ use Rattle.pnmpipe.specs.declared.fault.InputFault.{InputFault}
 use Rattle.pnmpipe.specs.Texts.{SpellsRaster, Spells}
 use Rattle.pnmpipe.specs.Reading.{Said, then_said, image_said, rows_said, head_and_raster, said, said_of, fault_of}
 use Rattle.pnmpipe.specs.TextLaws.{SpellsOnly, IsAtFault}
-use Rattle.pnmpipe.proofs.HeaderLaws.{done, ok_is, header_is_spelled, spelled_header_is_read}
+use Rattle.pnmpipe.proofs.NumberLaws.{done, ok_is}
+use Rattle.pnmpipe.proofs.HeaderLaws.{header_is_spelled, spelled_header_is_read}
 use Rattle.pnmpipe.proofs.RasterLaws.{spelled_rows_are_said, said_rows_are_spelled}
 
 -- the head and the raster of a text that spells images are read

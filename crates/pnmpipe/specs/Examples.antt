@@ -1,9 +1,9 @@
 -- Small texts, and what the definitions make of them.
-use Rattle.std.specs.Prelude.{◌≡◌, List, [], ◌∷◌, ◌++◌, Some, None, codes}
+use Rattle.std.specs.Prelude.{◌≡◌, [], ◌∷◌, ◌++◌, Some, None, codes}
 use Rattle.pnm_image.specs.declared.shape.Kind.TheVariants.{Gray}
 use Rattle.pnm_image.specs.declared.message.Message.TheVariants.{Begin, Row, ImageEnd, StreamEnd}
 use Rattle.pnmpipe.specs.declared.fault.InputFault.TheVariants.{EmptyInput, BadMagic, HeaderCut, BadNumber, ZeroSize, TooLarge, BadMaxval, RasterCut, SampleAboveMaxval}
-use Rattle.pnmpipe.specs.Reading.{said, said_of, fault_of}
+use Rattle.pnmpipe.specs.Reading.{said, fault_of}
 use Rattle.pnmpipe.specs.Runs.{bytes_due}
 
 pub record ExamplesHold : Type 0 where

@@ -22,5 +22,4 @@ pub fn one_stream_or_one_fault()
 /// Small texts, as the definitions compute them.
 pub fn examples_hold()
     ensures { ExamplesHold }
-{
-}
+{}
