@@ -1,0 +1,82 @@
+//! What no clause says: worked examples, printed text, that calls can succeed, and devices that
+//! fail.
+
+use crate::fault::InputFault;
+
+mod command;
+mod devices;
+mod run;
+mod texts;
+
+/// An image of one row, and the image inverted.
+const IMAGE: &[u8] = b"P5\n2 1\n122\nAB";
+
+const INVERTED: &[u8] = b"P5\n2 1\n122\n98";
+
+/// An input that is at fault, what is written before the fault, the fault, and its name.
+type BadInput<'a> = (&'a [u8], &'a [u8], InputFault, &'a str);
+
+const BAD_INPUTS: &[BadInput<'static>] = &[
+    (b"", b"", InputFault::EmptyInput, "EmptyInput"),
+    (b"X", b"", InputFault::BadMagic, "BadMagic"),
+    (b"P8", b"", InputFault::BadMagic, "BadMagic"),
+    (b"P", b"", InputFault::HeaderCut, "HeaderCut"),
+    (b"P5", b"", InputFault::HeaderCut, "HeaderCut"),
+    (b"P5 1 1", b"", InputFault::HeaderCut, "HeaderCut"),
+    (b"P5x", b"", InputFault::BadNumber, "BadNumber"),
+    (b"P5#c\n1 1\n9\n", b"", InputFault::BadNumber, "BadNumber"),
+    (b"P5 1 x", b"", InputFault::BadNumber, "BadNumber"),
+    (b"P5 0 1 9\n", b"", InputFault::ZeroSize, "ZeroSize"),
+    (b"P5 1 0 9\n", b"", InputFault::ZeroSize, "ZeroSize"),
+    (b"P5 0 1000001 0\n", b"", InputFault::ZeroSize, "ZeroSize"),
+    (b"P5 1000001 1 9\n", b"", InputFault::TooLarge, "TooLarge"),
+    (b"P5 1 1000001 9\n", b"", InputFault::TooLarge, "TooLarge"),
+    (b"P5 1000001 1 0\n", b"", InputFault::TooLarge, "TooLarge"),
+    (
+        b"P5 123456789012345678901234567890 1 9\n",
+        b"",
+        InputFault::TooLarge,
+        "TooLarge",
+    ),
+    (b"P5 1 1 0\n", b"", InputFault::BadMaxval, "BadMaxval"),
+    (b"P5 1 1 256\n", b"", InputFault::BadMaxval, "BadMaxval"),
+    (b"P5 1 1 65536\n", b"", InputFault::BadMaxval, "BadMaxval"),
+    (
+        b"P5 1 1 10\n\x0b",
+        b"P5\n1 1\n10\n",
+        InputFault::SampleAboveMaxval,
+        "SampleAboveMaxval",
+    ),
+    (
+        b"P5\n2 1\n122\nA",
+        b"P5\n2 1\n122\n",
+        InputFault::RasterCut,
+        "RasterCut",
+    ),
+    // The second row is bad: above the maxval, or cut.
+    (
+        b"P5\n2 2\n9\n\x01\x02\x03\x0a",
+        b"P5\n2 2\n9\n\x08\x07",
+        InputFault::SampleAboveMaxval,
+        "SampleAboveMaxval",
+    ),
+    (
+        b"P5\n2 2\n9\n\x01\x02\x03",
+        b"P5\n2 2\n9\n\x08\x07",
+        InputFault::RasterCut,
+        "RasterCut",
+    ),
+    (
+        b"P5\n2 2\n9\n\x01\x0a\x03",
+        b"P5\n2 2\n9\n",
+        InputFault::SampleAboveMaxval,
+        "SampleAboveMaxval",
+    ),
+    // A byte too many.
+    (
+        b"P5\n1 1\n9\n\x05P",
+        b"P5\n1 1\n9\n\x04",
+        InputFault::BadMagic,
+        "BadMagic",
+    ),
+];

@@ -1,0 +1,181 @@
+//! Devices of which a call fails.
+
+use super::{IMAGE, INVERTED};
+use crate::fault::{InputFault, RunFault, SinkFault};
+use crate::serial::run_serial;
+use crate::summary::Summary;
+use crate::tool::Tool;
+use pnm_image::Device;
+use std::io;
+use std::io::{ErrorKind, Read, Write};
+use std::test::Fail;
+
+/// Says that a call is to fail, once, after so many calls that succeed. The error is one that std's
+/// own loops take for a call to be made again.
+#[derive(Drop)]
+struct FailsOnce {
+    before: usize,
+    has_failed: bool,
+}
+
+impl FailsOnce {
+    fn after(before: usize) -> FailsOnce {
+        FailsOnce {
+            before,
+            has_failed: false,
+        }
+    }
+
+    fn never() -> FailsOnce {
+        FailsOnce {
+            before: 0,
+            has_failed: true,
+        }
+    }
+
+    fn call(&mut self) -> io::Result<()> {
+        if self.before > 0 {
+            self.before -= 1;
+        } else if !self.has_failed {
+            self.has_failed = true;
+            return Err(io::Error::from(ErrorKind::Interrupted));
+        }
+        Ok(())
+    }
+}
+
+/// Gives a byte a call.
+#[derive(Drop)]
+struct Drips<'a> {
+    rest: &'a [u8],
+    reads: FailsOnce,
+}
+
+impl Read for Drips<'_> {
+    fn read(&mut self, room: &mut [u8]) -> io::Result<usize> {
+        self.reads.call()?;
+        let most = room.len().min(1);
+        self.rest.read(&mut room[..most])
+    }
+}
+
+/// Takes so many bytes a call.
+#[derive(Drop)]
+struct Sips {
+    held: Vec<u8>,
+    most: usize,
+    writes: FailsOnce,
+    flushes: FailsOnce,
+}
+
+impl Write for Sips {
+    fn write(&mut self, bytes: &[u8]) -> io::Result<usize> {
+        self.writes.call()?;
+        let most = bytes.len().min(self.most);
+        self.held.write(&bytes[..most])
+    }
+
+    fn flush(&mut self) -> io::Result<()> {
+        self.flushes.call()
+    }
+}
+
+/// A read that fails is the answer, and nothing is written: the whole input is read first.
+#[test]
+fn answers_a_failed_read(rt: HostRuntime) {
+    // A read for each byte, and one that finds the end.
+    for before in 0..15 {
+        let mut reader = Device::new(Drips {
+            rest: IMAGE,
+            reads: FailsOnce::after(before),
+        });
+        let mut writer = Device::new(Vec::new(rt.alloc()));
+        let answer = run_serial(rt.alloc(), &mut reader, &mut writer, &[Tool::Invert]);
+        let (want, output) = if before < 14 {
+            (Err(RunFault::Input(InputFault::ReadFailed)), b"".as_slice())
+        } else {
+            (Ok(Summary { images: 1, rows: 1 }), INVERTED)
+        };
+        assert_eq!(rt; answer, want, "after {before} reads");
+        assert_eq!(rt;
+            writer.into_inner().as_slice(),
+            output,
+            "after {before} reads"
+        );
+    }
+}
+
+/// How a writer fails, what is answered, and how many bytes of the output are written.
+#[test]
+fn answers_a_failed_write(rt: HostRuntime) {
+    let failed = Err(RunFault::Output(SinkFault::WriteFailed));
+    let cut = Err(RunFault::Input(InputFault::RasterCut));
+    let well = Ok(Summary { images: 1, rows: 1 });
+    for before in 0..14 {
+        // A write for each byte; the write after so many fails, and later ones don't.
+        let mut sips = Sips {
+            held: Vec::new(rt.alloc()),
+            most: 1,
+            writes: FailsOnce::after(before),
+            flushes: FailsOnce::never(),
+        };
+        let answer = run_serial(
+            rt.alloc(),
+            &mut Device::new(IMAGE),
+            &mut Device::new(&mut sips),
+            &[Tool::Invert],
+        );
+        let want = if before < INVERTED.len() {
+            failed
+        } else {
+            well
+        };
+        assert_eq!(rt; answer, want, "after {before} writes");
+        assert_eq!(rt;
+            sips.held.as_slice(),
+            &INVERTED[..before.min(13)],
+            "after {before} writes"
+        );
+    }
+    for (input, most, writes, flushes, want, output) in [
+        (
+            IMAGE,
+            0,
+            FailsOnce::never(),
+            FailsOnce::never(),
+            failed,
+            b"".as_slice(),
+        ),
+        (
+            IMAGE,
+            4096,
+            FailsOnce::never(),
+            FailsOnce::after(0),
+            failed,
+            INVERTED,
+        ),
+        (
+            b"P5\n2 1\n9\n\x01".as_slice(),
+            4096,
+            FailsOnce::after(0),
+            FailsOnce::never(),
+            cut,
+            b"".as_slice(),
+        ),
+    ] {
+        let mut sips = Sips {
+            held: Vec::new(rt.alloc()),
+            most,
+            writes,
+            flushes,
+        };
+        let answer = run_serial(
+            rt.alloc(),
+            &mut Device::new(input),
+            &mut Device::new(&mut sips),
+            &[Tool::Invert],
+        );
+        assert_eq!(rt; answer, want, "{most} bytes a write");
+        assert_eq!(rt; sips.held.as_slice(), output, "{most} bytes a write");
+    }
+}

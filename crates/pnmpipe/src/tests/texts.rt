@@ -1,0 +1,70 @@
+//! The text of a chain, and the printed text of each fault, which is its name.
+
+use crate::fault::{InputFault, SinkFault};
+use crate::tool::{ChainFault, ChainKind, Tool, parse_chain};
+use std::test::Fail;
+
+#[test]
+fn parses_chains(rt: HostRuntime) {
+    let unknown = ChainFault {
+        stage: 1,
+        kind: ChainKind::UnknownTool,
+    };
+    let tools = parse_chain(rt.alloc(), "pnminvert");
+    assert_eq!(rt;
+        tools.as_ref().map(|tools| tools.as_slice()),
+        Ok([Tool::Invert].as_slice())
+    );
+    for text in [
+        "",
+        "pnmscale",
+        " pnminvert",
+        "pnminvert ",
+        "pnminvert |",
+        "PNMINVERT",
+        "pnminver",
+    ] {
+        assert_eq!(rt;
+            parse_chain(rt.alloc(), text).err(),
+            Some(unknown),
+            "at {text:?}"
+        );
+    }
+}
+
+#[test]
+fn prints_names(rt: HostRuntime) -> Result<(), Fail> {
+    for (fault, name) in [
+        (InputFault::EmptyInput, "EmptyInput"),
+        (InputFault::BadMagic, "BadMagic"),
+        (InputFault::HeaderCut, "HeaderCut"),
+        (InputFault::TooLong, "TooLong"),
+        (InputFault::BadNumber, "BadNumber"),
+        (InputFault::ZeroSize, "ZeroSize"),
+        (InputFault::TooLarge, "TooLarge"),
+        (InputFault::BadMaxval, "BadMaxval"),
+        (InputFault::RasterCut, "RasterCut"),
+        (InputFault::SampleAboveMaxval, "SampleAboveMaxval"),
+        (InputFault::ReadFailed, "ReadFailed"),
+        (InputFault::Memory, "Memory"),
+    ] {
+        let text = format!(in rt.alloc(); "{fault}")?;
+        assert_eq!(rt; text.as_str(), name);
+    }
+    for (fault, name) in [
+        (SinkFault::WriteFailed, "WriteFailed"),
+        (SinkFault::OutOfOrder, "OutOfOrder"),
+        (SinkFault::Broken, "Broken"),
+    ] {
+        let text = format!(in rt.alloc(); "{fault}")?;
+        assert_eq!(rt; text.as_str(), name);
+    }
+    for (kind, name) in [
+        (ChainKind::UnknownTool, "UnknownTool"),
+        (ChainKind::Memory, "Memory"),
+    ] {
+        let text = format!(in rt.alloc(); "{kind}")?;
+        assert_eq!(rt; text.as_str(), name);
+    }
+    Ok(())
+}
