@@ -19,7 +19,7 @@ refused-growth: toolchain
 	sh scripts/refused_growth.sh
 
 toolchain:
-	@command -v rt > /dev/null || { echo "make: the Rattle toolchain's command 'rt' is not on the PATH" >&2; exit 1; }
+	@$(if $(shell command -v rt),:,$(error the command rt of the Rattle toolchain is not on the PATH))
 
 help:
 	@echo "make                 proves the crates, builds the program and leaves it as bin/pnmpipe"
