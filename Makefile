@@ -5,9 +5,10 @@ PROGRAM := crates/pnmpipe
 .PHONY: all check help toolchain refused-growth
 
 all: toolchain
-	cd $(PROGRAM) && rt run -- pnminvert < stdin > out/stdout
-	cmp $(PROGRAM)/out/stdout $(PROGRAM)/stdout
 	mkdir -p bin
+	cd $(PROGRAM) && rt run -- pnminvert < stdin > ../../bin/stored-run
+	cmp bin/stored-run $(PROGRAM)/stdout
+	rm bin/stored-run
 	cp $(PROGRAM)/out/pnmpipe bin/pnmpipe
 
 check: toolchain
