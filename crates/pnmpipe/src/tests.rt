@@ -72,6 +72,19 @@ const BAD_INPUTS: &[BadInput<'static>] = &[
         InputFault::SampleAboveMaxval,
         "SampleAboveMaxval",
     ),
+    // A sample above the maxval stands before one that is missing, or before a byte too many.
+    (
+        b"P5\n2 1\n9\n\x0a",
+        b"P5\n2 1\n9\n",
+        InputFault::SampleAboveMaxval,
+        "SampleAboveMaxval",
+    ),
+    (
+        b"P5\n1 1\n9\n\x0aP",
+        b"P5\n1 1\n9\n",
+        InputFault::SampleAboveMaxval,
+        "SampleAboveMaxval",
+    ),
     // A byte too many.
     (
         b"P5\n1 1\n9\n\x05P",
