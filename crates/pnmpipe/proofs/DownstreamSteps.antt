@@ -11,7 +11,7 @@ use Rattle.pnm_image.specs.Places.{place_after}
 use Rattle.pnmpipe.specs.declared.fault.SinkFault.{SinkFault}
 use Rattle.pnmpipe.specs.declared.fault.SinkFault.TheVariants.{WriteFailed, OutOfOrder, Broken}
 use Rattle.pnmpipe.specs.declared.downstream.Downstream.{Downstream}
-use Rattle.pnmpipe.specs.Bytes.{IsByteMessage}
+use Rattle.pnmpipe.specs.Bytes.{IsByteMessage, IsEncodable}
 use Rattle.pnmpipe.specs.Inversion.{inverted_samples, inverted_message}
 use Rattle.pnmpipe.specs.Sinks.{Writes, Refuses}
 use Rattle.pnmpipe.specs.Counts.{images_after, rows_after}
@@ -21,13 +21,13 @@ use Rattle.pnmpipe.specs.Downstreams.{IsMaxvalAt, PassesWith}
 inverted_below : (maxval most : ℕ) (row : List ℕ) → maxval ≤ most → All (λ sample. sample ≤ most) (inverted_samples maxval row)
 inverted_below maxval most row le = All-map (λ sample. sample ≤ most) (λ sample. maxval - sample) row (λ k d in'. omega arith)
 
--- an inverted message is one of bytes
-pub inverted_is_bytes : (maxval : ℕ) (m : Message) → maxval ≤ 255 → IsByteMessage m → IsByteMessage (inverted_message maxval m)
-inverted_is_bytes maxval (Begin head) le b = b
-inverted_is_bytes maxval (Row row) le b = inverted_below maxval 255 row le
-inverted_is_bytes maxval ImageEnd le b = tt
-inverted_is_bytes maxval StreamEnd le b = tt
-inverted_is_bytes maxval Stop le b = tt
+-- an inverted message has an encoding
+pub inverted_is_encodable : (maxval : ℕ) (m : Message) → maxval ≤ 255 → IsByteMessage m → IsEncodable (inverted_message maxval m)
+inverted_is_encodable maxval (Begin head) le b = (b.kind, b.bytes)
+inverted_is_encodable maxval (Row row) le b = inverted_below maxval 255 row le
+inverted_is_encodable maxval ImageEnd le b = tt
+inverted_is_encodable maxval StreamEnd le b = tt
+inverted_is_encodable maxval Stop le b = tt
 
 -- where a message may come, it may come inverted
 pub inverted_is_written : (place : Place) (maxval : ℕ) (m : Message) → IsMaxvalAt place maxval → Writes place m → Writes place (inverted_message maxval m)

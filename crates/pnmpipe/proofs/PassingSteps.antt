@@ -1,6 +1,7 @@
 -- The messages that have passed from the source to the output of a run, one after another.
 use Rattle.std.proofs.Common.{◌≡◌, ℕ, ◌≤◌, false, List, [], ◌∷◌, ◌++◌, Option, Some, None, Result, Ok, Err, refl, sym, ap, subst, ◌∙◌, append_assoc, arith, inl, inr}
 use Rattle.std.specs.Io.KnownBytes.{Appends}
+use Rattle.std.proofs.lemmas.List.{append-nil}
 use Rattle.pnm_image.specs.Devices.{Failed}
 use Rattle.pnm_image.specs.declared.message.Message.{Message}
 use Rattle.pnm_image.specs.declared.message.Message.TheVariants.{Begin, Row, ImageEnd, StreamEnd, Stop}
@@ -38,11 +39,7 @@ maxval_of-push maxval [] m = refl
 maxval_of-push maxval (n ∷ ms) m = maxval_of-push (maxval_after maxval n) ms m
 
 bytes_of-push : (maxval : ℕ) (ms : List Message) (m : Message) → bytes_of (inverted_messages maxval (ms ++ m ∷ [])) ≡ bytes_of (inverted_messages maxval ms) ++ message_bytes (inverted_message (maxval_of maxval ms) m)
-bytes_of-push maxval [] m = append_nil (message_bytes (inverted_message maxval m))
-  where
-    append_nil : (xs : List ℕ) → xs ++ [] ≡ xs
-    append_nil [] = refl
-    append_nil (x ∷ xs) = ap (λ (l : List ℕ). x ∷ l) (append_nil xs)
+bytes_of-push maxval [] m = append-nil (message_bytes (inverted_message maxval m))
 bytes_of-push maxval (n ∷ ms) m =
     ap (λ (l : List ℕ). message_bytes (inverted_message maxval n) ++ l) (bytes_of-push (maxval_after maxval n) ms m)
     ∙ sym (append_assoc (message_bytes (inverted_message maxval n)) (bytes_of (inverted_messages (maxval_after maxval n) ms)) (message_bytes (inverted_message (maxval_of (maxval_after maxval n) ms) m)))
@@ -79,20 +76,16 @@ IsLeft-more text given m old new left t =
     let next = tells left.0 (Ok (Some m)) new (told_at old left.0 (Ok (Some m)) new left.1 t) in
     (next.0, next.1, said_more given m left.0 next.0 (said text) left.2 next.2)
 
-append_none : (ms : List Message) → ms ++ [] ≡ ms
-append_none [] = refl
-append_none (m ∷ ms) = ap (λ (l : List Message). m ∷ l) (append_none ms)
-
 IsLeft-end : (text : List ℕ) (given : List Message) (old new : Option Said) → IsLeft text given old → TellsAnswer old (Ok None) new → IsSaidOf text given (Ok tt)
 IsLeft-end text given old new left t =
     let next = tells left.0 (Ok None) new (told_at old left.0 (Ok None) new left.1 t) in
-    left.2 ∙ ap (λ (s : Said). record { messages = given ++ s.messages; fault = s.fault }) next.2.0 ∙ ap (λ (l : List Message). record { messages = l; fault = None }) (append_none given)
+    left.2 ∙ ap (λ (s : Said). record { messages = given ++ s.messages; fault = s.fault }) next.2.0 ∙ ap (λ (l : List Message). record { messages = l; fault = None }) (append-nil given)
 
 IsLeft-fault : (text : List ℕ) (given : List Message) (fault : InputFault) (old new : Option Said) → IsLeft text given old → TellsAnswer old (Err fault) new → IsSaidOf text given (Err fault)
 IsLeft-fault text given fault old new left t =
     let next = tells left.0 (Err fault) new (told_at old left.0 (Err fault) new left.1 t) in
     elim next.2.1 [
-      | inl own ↦ inl (left.2 ∙ ap (λ (s : Said). record { messages = given ++ s.messages; fault = s.fault }) own ∙ ap (λ (l : List Message). record { messages = l; fault = Some fault }) (append_none given))
+      | inl own ↦ inl (left.2 ∙ ap (λ (s : Said). record { messages = given ++ s.messages; fault = s.fault }) own ∙ ap (λ (l : List Message). record { messages = l; fault = Some fault }) (append-nil given))
       | inr outside ↦ inr (outside, (left.0.messages, ap (λ (s : Said). s.messages) left.2))
     ]
 

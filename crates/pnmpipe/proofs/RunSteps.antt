@@ -3,6 +3,7 @@ use Rattle.std.proofs.Common.{◌≡◌, ℕ, List, [], ◌∷◌, ◌++◌, tak
 use Rattle.std.specs.Prelude.{◌⊎◌}
 use Rattle.std.specs.Result.{MatchResult}
 use Rattle.std.specs.Io.KnownBytes.{Appends, Keeps}
+use Rattle.std.proofs.lemmas.List.{append-nil}
 use Rattle.pnm_image.specs.Devices.{Failed}
 use Rattle.pnm_image.specs.declared.message.Message.{Message}
 use Rattle.pnm_image.specs.Images.{Image, AreImages, messages_of_stream}
@@ -44,16 +45,12 @@ input_fault text given fault is =
       | inr outside ↦ inl outside.0
     ]
 
-append_none : (ms : List Message) → ms ≡ ms ++ []
-append_none [] = refl
-append_none (m ∷ ms) = ap (λ (l : List Message). m ∷ l) (append_none ms)
-
 -- what was given is a front of what is said
 said_front : (text : List ℕ) (given : List Message) (result : Result (Unit {0}) InputFault) → IsSaidOf text given result → IsFrontOf given (said_of text)
-said_front text given (Ok x) is = ([], ap (λ (s : Said). s.messages) is ∙ append_none given)
+said_front text given (Ok x) is = ([], ap (λ (s : Said). s.messages) is ∙ sym (append-nil given))
 said_front text given (Err fault) is =
     elim is [
-      | inl own ↦ ([], ap (λ (s : Said). s.messages) own ∙ append_none given)
+      | inl own ↦ ([], ap (λ (s : Said). s.messages) own ∙ sym (append-nil given))
       | inr outside ↦ outside.1
     ]
 

@@ -1,16 +1,12 @@
 -- What a writer holds after a part of some bytes was written.
-use Rattle.std.proofs.Common.{◌≡◌, ℕ, ◌+◌, ◌-◌, ◌^◌, min, inl, inr, List, [], ◌∷◌, ◌++◌, length, take, drop, Option, Some, None, Result, Ok, Err, refl, sym, ap, subst, ◌∙◌, append_assoc, arith}
+use Rattle.std.proofs.Common.{◌≡◌, ℕ, ◌+◌, ◌-◌, ◌^◌, min, inl, inr, List, [], ◌++◌, length, take, drop, Option, Some, None, Result, Ok, Err, refl, sym, ap, subst, ◌∙◌, append_assoc, arith}
 use Rattle.std.proofs.Math.Seq.{take-append-add}
-use Rattle.std.proofs.lemmas.List.{take_at, take-append-drop}
+use Rattle.std.proofs.lemmas.List.{append-nil, take_at, take-append-drop}
 use Rattle.std.specs.Io.KnownBytes.{Appends, Keeps}
 use Rattle.std.proofs.lemmas.Bool.{cases_lt}
 use Rattle.std.specs.Prelude.{OnErr}
 use Rattle.pnm_image.specs.Devices.{Failed}
 use Rattle.pnmpipe.specs.Sinks.{AppendsFront, FailsIn}
-
-append_nil : (xs : List ℕ) → xs ≡ xs ++ []
-append_nil [] = refl
-append_nil (x ∷ xs) = ap (λ (ys : List ℕ). x ∷ ys) (append_nil xs)
 
 -- the bytes are a front that was written, and a rest that wasn't
 pub record Written (old now : Option (List ℕ)) (bytes rest : List ℕ) : Type 0 where
@@ -22,7 +18,7 @@ pub record Written (old now : Option (List ℕ)) (bytes rest : List ℕ) : Type 
 pub Appends-nothing : (a b : Option (List ℕ)) → Keeps a b → Appends a b []
 Appends-nothing None b k = tt
 Appends-nothing (Some xs) None k = k
-Appends-nothing (Some xs) (Some ys) k = k ∙ append_nil xs
+Appends-nothing (Some xs) (Some ys) k = k ∙ sym (append-nil xs)
 
 pub Keeps-itself : (a : Option (List ℕ)) → Keeps a a
 Keeps-itself None = tt
@@ -79,7 +75,7 @@ written_more old a b bytes rest n w p = record {
 
 -- all bytes are written
 pub written_all : (old a : Option (List ℕ)) (bytes : List ℕ) → Written old a bytes [] → Appends old a bytes
-written_all old a bytes w = subst (Appends old a) (append_nil w.front ∙ sym w.parts) w.appended
+written_all old a bytes w = subst (Appends old a) (sym (append-nil w.front) ∙ sym w.parts) w.appended
 
 -- of the rest a front was written
 pub written_front : (old a b : Option (List ℕ)) (bytes rest : List ℕ) → Written old a bytes rest → AppendsFront a b rest → AppendsFront old b bytes

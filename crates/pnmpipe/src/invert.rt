@@ -1,6 +1,6 @@
 //! `pnminvert`: each sample is taken from the maxval, from pnminvert(1).
 
-ghost use Rattle.std.specs.Prelude.{◌≡◌, ◌≤◌, All, map};
+ghost use Rattle.std.specs.Prelude.{◌≡◌, ◌≤◌, All};
 ghost use Rattle.pnmpipe.specs.Inversion.{inverted_samples, inverted_message, maxval_after, IsRowUpTo};
 
 use pnm_image::{Message, Samples};

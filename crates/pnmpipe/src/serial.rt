@@ -1,6 +1,6 @@
 //! A run in one thread: read, invert, write.
 
-ghost use Rattle.std.specs.Prelude.{◌≡◌, ◌⊎◌, ◌++◌, List, ℕ, Some, None, Err, Ok, IfOk, OnOk, IfErr, length};
+ghost use Rattle.std.specs.Prelude.{◌≡◌, ◌⊎◌, List, ℕ, Some, None, Err, Ok, IfOk, OnOk, length};
 ghost use Rattle.std.specs.Io.KnownBytes.{Appends};
 ghost use Rattle.pnm_image.specs.Devices.{Failed};
 ghost use Rattle.pnmpipe.specs.declared.fault.InputFault.TheVariants.{ReadFailed};

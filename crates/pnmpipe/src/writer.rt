@@ -5,7 +5,7 @@ ghost use Rattle.std.specs.Io.KnownBytes.{Appends, Keeps};
 ghost use Rattle.pnm_image.specs.Devices.{Failed};
 ghost use Rattle.pnm_image.specs.Places.{place_after};
 ghost use Rattle.pnmpipe.specs.Encoding.{shape_text, message_bytes};
-ghost use Rattle.pnmpipe.specs.Bytes.{IsByteMessage};
+ghost use Rattle.pnmpipe.specs.Bytes.{IsEncodable};
 ghost use Rattle.pnmpipe.specs.Sinks.{Writes, FailsIn, Refuses};
 
 use crate::fault::SinkFault;
@@ -39,11 +39,11 @@ impl<W: BytesOut> Sink<W> {
         }
     }
 
-    /// Writes the bytes of the message. The faults, in order: `Broken` after an earlier fault and
-    /// `OutOfOrder` where the message can't come, with nothing written; `WriteFailed` where the
-    /// writer fails, with a front of the bytes written.
+    /// Writes the bytes of the message. The faults, in order: `Broken` after an earlier fault, and
+    /// `OutOfOrder` where the message can't come or begins an image without rows, with nothing
+    /// written; `WriteFailed` where the writer fails, with a front of the bytes written.
     pub fn put(&mut self, message: &Message) -> Result<(), SinkFault>
-        requires { IsByteMessage message.now }
+        requires { IsEncodable message.now }
         ensures written { OnOk result (Appends (W.held self.old.writer) (W.held self.new.writer) (message_bytes message.now)) }
         ensures place { OnOk result (Writes self.old.place message.now × (self.new.place ≡ place_after self.old.place message.now)) }
         ensures sound { OnOk result ((self.old.is_broken ≡ false) × (self.new.is_broken ≡ false)) }
@@ -89,7 +89,7 @@ impl<W: BytesOut> Sink<W> {
     }
 
     fn write(&mut self, message: &Message) -> Result<(), SinkFault>
-        requires { IsByteMessage message.now }
+        requires { IsEncodable message.now }
         ensures written { OnOk result (Appends (W.held self.old.writer) (W.held self.new.writer) (message_bytes message.now)) }
         ensures place { OnOk result (Writes self.old.place message.now × (self.new.place ≡ place_after self.old.place message.now)) }
         ensures refused { IfErr result (λ fault. Refuses self.old.place message.now fault (W.held self.old.writer) (W.held self.new.writer)

@@ -1,10 +1,10 @@
 use Rattle.std.proofs.Common.{◌≡◌, sym, ◌∙◌, true, false}
 use Rattle.std.specs.Result.{is_ok}
-use Rattle.pnmpipe.proofs.DownstreamSteps.{inverted_is_bytes, inverted_is_written, ok_is, passes_refused, refused_leaves}
+use Rattle.pnmpipe.proofs.DownstreamSteps.{inverted_is_encodable, inverted_is_written, ok_is, passes_refused, refused_leaves}
 use Rattle.pnmpipe.proofs.downstream.Downstream.pass.Goals as goal
 
 pub put-self-requires : goal.put-self-requires
-put-self-requires g c = rw c.inverted-message.ensures.message (inverted_is_bytes _ c.args.message c.requires.maxval c.requires.bytes)
+put-self-requires g c = rw c.inverted-message.ensures.message (inverted_is_encodable _ c.args.message c.requires.maxval c.requires.bytes)
 
 pub returns-then-is_ok-clause-passes : goal.returns-then-is_ok-clause-passes
 returns-then-is_ok-clause-passes g c =
