@@ -1,0 +1,56 @@
+-- What a call reads, and how what it answers hangs together with the text, of which only a part is held.
+use Rattle.std.specs.Prelude.{◌≡◌, ℕ, ◌≤◌, ◌⊎◌, Bool, true, List, [], ◌∷◌, ◌++◌, drop, length, Option, Some, None, Result, Ok, Err, OnOk}
+use Rattle.std.specs.Io.KnownBytes.{Consumes, IsAtEnd}
+use Rattle.pnm_image.specs.Devices.{Failed}
+use Rattle.pnm_read.specs.declared.fault.InputFault.{InputFault}
+use Rattle.pnm_read.specs.declared.fault.InputFault.TheVariants.{ReadFailed, Memory}
+use Rattle.pnm_read.specs.declared.input.Input.{Input}
+use Rattle.pnm_read.specs.Items.{after_last_item}
+
+-- a fault that no text has: the reader failed, or memory ran out
+abbrev pub IsOutsideFault : InputFault → Type 0
+IsOutsideFault fault = (fault ≡ ReadFailed) ⊎ (fault ≡ Memory)
+
+-- the bytes that are held
+abbrev pub held_of : {R : Type 0} → Input R → List ℕ
+held_of input = drop input.at input.held.items
+
+-- these bytes may still come: none after the end was seen
+abbrev pub CanCome : {R : Type 0} → Input R → List ℕ → Type 0
+CanCome input rest = input.ended ≡ true → rest ≡ []
+
+-- so many bytes are held, or the end was seen
+abbrev pub HoldsEnough : {R : Type 0} → ℕ → Input R → Type 0
+HoldsEnough wanted input = (wanted ≤ length (held_of input)) ⊎ (input.ended ≡ true)
+
+-- the end was seen only where the reader has no byte left
+abbrev pub EndsRightly : {R : Type 0} → (R → Option (List ℕ)) → Input R → Type 0
+EndsRightly left input = input.ended ≡ true → IsAtEnd (left input.reader)
+
+-- A call read these bytes; and whatever comes after them, its outcome is that of what was left of the text
+-- before the call and what is left of it after the call.
+pub record Turn {R A : Type 0} (left : R → Option (List ℕ)) (failures : R → ℕ) (same : R → R → Type 0) (old new : Input R) (result : Result A InputFault) (outcome : List ℕ → List ℕ → Type 0) : Type 0 where
+  pub read : List ℕ
+  pub consumed : Consumes (left old.reader) (left new.reader) read
+  pub comes : (rest : List ℕ) → CanCome new rest → CanCome old (read ++ rest)
+  pub told : (rest : List ℕ) → CanCome new rest → outcome (held_of old ++ (read ++ rest)) (held_of new ++ rest)
+  pub end : EndsRightly left old → EndsRightly left new
+  pub same_device : same old.reader new.reader
+  pub count : OnOk result (failures new.reader ≡ failures old.reader)
+  pub read_failed : result ≡ Err ReadFailed → Failed (failures old.reader) (failures new.reader)
+
+-- the byte that the text begins with, if it has one
+abbrev pub IsByte : Result (Option ℕ) InputFault → List ℕ → List ℕ → Type 0
+IsByte (Ok (Some byte)) before after = before ≡ byte ∷ after
+IsByte (Ok None) before after = (before ≡ []) × (after ≡ [])
+IsByte (Err fault) before after = IsOutsideFault fault
+
+-- what a call found is what a reading of the text gives; a fault is the text's, or comes from outside
+abbrev pub Finds : {X Y : Type 0} → (X → Y) → (List ℕ → Result (Y × List ℕ) InputFault) → Result X InputFault → List ℕ → List ℕ → Type 0
+Finds view reading (Ok x) before after = reading before ≡ Ok (view x, after)
+Finds view reading (Err fault) before after = (reading before ≡ Err fault) ⊎ IsOutsideFault fault
+
+-- whether the text may go on as it does after the last sample of a plain image
+abbrev pub ChecksEnd : Result (Unit {0}) InputFault → List ℕ → List ℕ → Type 0
+ChecksEnd (Ok _) before after = after_last_item before ≡ Ok after
+ChecksEnd (Err fault) before after = (after_last_item before ≡ Err fault) ⊎ IsOutsideFault fault

@@ -1,0 +1,176 @@
+-- The items that a text is cut into, and the faults of each in their order. A byte of a header, and of a
+-- plain raster, is judged by the bytes before it in the same piece: of a header those after the magic, of
+-- a plain raster those since the last digit of the sample before.
+use Rattle.std.specs.Prelude.{ℕ, Bool, true, false, not, ◌==◌, nat_le, nat_lt, ◌*◌, ◌+◌, ◌&&◌, ◌||◌, if◌then◌else◌, List, [], ◌∷◌, ◌++◌, length, Option, Some, None, Result, Ok, Err}
+use Rattle.pnm_image.specs.declared.shape.Shape.{Shape}
+use Rattle.pnm_image.specs.declared.shape.Kind.{Kind}
+use Rattle.pnm_image.specs.declared.shape.Kind.TheVariants.{Bit, Gray, Color, Pam}
+use Rattle.pnm_image.specs.declared.head.HeadFault.{HeadFault}
+use Rattle.pnm_image.specs.declared.head.HeadFault.TheVariants as heads
+use Rattle.pnm_image.specs.Heads.{Header, header_of, row_length, shape_fault}
+use Rattle.pnm_read.specs.declared.fault.InputFault.{InputFault}
+use Rattle.pnm_read.specs.declared.fault.InputFault.TheVariants.{EmptyInput, BadMagic, HeaderCut, TooLong, BadNumber, ZeroSize, TooLarge, BadMaxval, RasterCut, SampleAboveMaxval, BadSample, Memory}
+use Rattle.pnm_read.specs.declared.format.Format.{Format}
+use Rattle.pnm_read.specs.declared.packing.Packing.{Packing}
+use Rattle.pnm_read.specs.declared.packing.Packing.TheVariants.{Packed, Narrow, Wide}
+use Rattle.pnm_read.specs.declared.judgement.Judgement.{Judgement}
+use Rattle.pnm_read.specs.declared.judgement.Judgement.TheVariants.{GoesOn, EndsWith, EndsBefore, Fails}
+use Rattle.pnm_read.specs.Texts.{is_white, is_digit, is_apart, begins_apart, ends_by, ends_in_comment, number_in, numbers_in}
+use Rattle.pnm_read.specs.Formats.{format_of, number_count, shape_of}
+use Rattle.pnm_read.specs.Rasters.{packing_of, pixels}
+
+infixl 10 ◌>>=◌
+abbrev pub ◌>>=◌ : {A B : Type 0} → Result A InputFault → (A → Result B InputFault) → Result B InputFault
+(Ok x) >>= f = f x
+(Err e) >>= f = Err e
+
+-- ---- items that make up a piece
+
+-- the piece that a text begins with, and the rest: its bytes are judged in turn, each by those before it;
+-- where the text ends first, at_end tells the fault, if that is one
+unfoldable pub piece_from : (List ℕ → ℕ → Judgement) → (List ℕ → Option InputFault) → List ℕ → List ℕ → Result (List ℕ × List ℕ) InputFault
+piece_from item at_end before [] = elim (at_end before) [
+  | Some fault ↦ Err fault
+  | None ↦ Ok (before, [])
+]
+piece_from item at_end before (b ∷ text) = elim (item before b) [
+  | Fails fault ↦ Err fault
+  | EndsWith ↦ Ok (before ++ b ∷ [], text)
+  | EndsBefore ↦ Ok (before, b ∷ text)
+  | GoesOn ↦ piece_from item at_end (before ++ b ∷ []) text
+]
+
+-- ---- the magic
+
+-- the second byte of a magic
+unfoldable pub second_magic_item : List ℕ → Result (Format × List ℕ) InputFault
+second_magic_item [] = Err HeaderCut
+second_magic_item (b ∷ text) = elim (format_of b) [
+  | Some format ↦ Ok (format, text)
+  | None ↦ Err BadMagic
+]
+
+-- the start of an image, and the first byte of its magic
+unfoldable pub first_magic_item : List ℕ → Result (List ℕ) InputFault
+first_magic_item [] = Err EmptyInput
+first_magic_item (b ∷ text) = if b == 80 then Ok text else Err BadMagic
+
+-- ---- the header
+
+-- the bytes of a header after the magic, at most
+abbrev pub header_limit : ℕ
+header_limit = 65534
+
+-- a byte of a header after the magic that can't stand there
+abbrev pub is_bad_in_header : List ℕ → ℕ → Bool
+is_bad_in_header before b =
+    ((length before == 0) && not (is_apart b)) || (not (ends_in_comment before) && not (is_digit b || is_apart b))
+
+-- the header ends with the first white space outside comments after the digits of its last number
+abbrev pub is_delimiter : ℕ → List ℕ → ℕ → Bool
+is_delimiter count before b = not (ends_in_comment before) && is_white b && (length (numbers_in before) == count)
+
+-- a byte of a header of so many numbers
+unfoldable pub header_item : ℕ → List ℕ → ℕ → Judgement
+header_item count before b =
+    if nat_le header_limit (length before) then Fails TooLong
+    else if is_bad_in_header before b then Fails BadNumber
+    else if is_delimiter count before b then EndsWith
+    else GoesOn
+
+abbrev pub header_end : List ℕ → Option InputFault
+header_end before = Some HeaderCut
+
+abbrev pub fault_of_head : HeadFault → InputFault
+fault_of_head heads.ZeroSize = ZeroSize
+fault_of_head heads.TooLarge = TooLarge
+fault_of_head heads.BadMaxval = BadMaxval
+fault_of_head heads.Memory = Memory
+
+-- the end of a header: its numbers together
+unfoldable pub numbers_item : Kind → List ℕ → Result Header InputFault
+numbers_item kind numbers = elim (shape_fault (shape_of kind numbers)) [
+  | Some fault ↦ Err (fault_of_head fault)
+  | None ↦ Ok (header_of (shape_of kind numbers) [])
+]
+
+-- ---- raw rasters
+
+-- a sample after its last byte, or a byte of eight pixels
+unfoldable pub raw_item : Packing → ℕ → List ℕ → Result (List ℕ × List ℕ) InputFault
+raw_item packing maxval [] = Err RasterCut
+raw_item Packed maxval (b ∷ text) = Ok (pixels b, text)
+raw_item Narrow maxval (b ∷ text) = if nat_le b maxval then Ok (b ∷ [], text) else Err SampleAboveMaxval
+raw_item Wide maxval (b ∷ []) = Err RasterCut
+raw_item Wide maxval (b ∷ c ∷ text) = if nat_le (256 * b + c) maxval then Ok ((256 * b + c) ∷ [], text) else Err SampleAboveMaxval
+
+-- ---- plain rasters
+
+-- the bytes from after a sample's last digit through the next sample's last digit, at most
+abbrev pub gap_limit : ℕ
+gap_limit = 1048576
+
+-- the last byte is a digit outside comments
+abbrev pub ends_in_digit : List ℕ → Bool
+ends_in_digit before = not (ends_in_comment before) && ends_by is_digit before
+
+-- the awaited number's last digit is before this byte
+abbrev pub is_complete : List ℕ → ℕ → Bool
+is_complete before b = ends_in_digit before && not (is_digit b)
+
+-- a byte of a number, or of the gap before it
+unfoldable pub decimal_item : List ℕ → ℕ → Judgement
+decimal_item before b =
+    if nat_le gap_limit (length before) && not (is_complete before b) then Fails TooLong
+    else if not (ends_in_comment before) && not (is_digit b || is_apart b) then Fails BadSample
+    else if is_complete before b then EndsBefore
+    else GoesOn
+
+abbrev pub decimal_end : List ℕ → Option InputFault
+decimal_end before = if ends_in_digit before then None else Some RasterCut
+
+abbrev pub is_pixel : ℕ → Bool
+is_pixel b = (b == 48) || (b == 49)
+
+-- a pixel, or a byte of the gap before it
+unfoldable pub pixel_item : List ℕ → ℕ → Judgement
+pixel_item before b =
+    if nat_le gap_limit (length before) then Fails TooLong
+    else if not (ends_in_comment before) && not (is_pixel b || is_apart b) then Fails BadSample
+    else if not (ends_in_comment before) && is_pixel b then EndsWith
+    else GoesOn
+
+abbrev pub pixel_end : List ℕ → Option InputFault
+pixel_end before = Some RasterCut
+
+
+-- the sample that a pixel's character spells; 1 is black, which is sample 0
+abbrev pub pixel_in : List ℕ → ℕ
+pixel_in piece = if ends_by (λ b. b == 49) piece then 0 else 1
+
+-- a pixel
+unfoldable pub plain_pixel : List ℕ → Result (ℕ × List ℕ) InputFault
+plain_pixel text = do
+  piece ← piece_from pixel_item pixel_end [] text
+  Ok (pixel_in piece.0, piece.1)
+
+-- the end of a number
+abbrev pub sample_item : ℕ → ℕ → Result ℕ InputFault
+sample_item maxval sample = if nat_le sample maxval then Ok sample else Err SampleAboveMaxval
+
+-- a sample, which is a number
+unfoldable pub plain_decimal : ℕ → List ℕ → Result (ℕ × List ℕ) InputFault
+plain_decimal maxval text = do
+  piece ← piece_from decimal_item decimal_end [] text
+  sample ← sample_item maxval (number_in piece.0)
+  Ok (sample, piece.1)
+
+abbrev pub plain_sample : Kind → ℕ → List ℕ → Result (ℕ × List ℕ) InputFault
+plain_sample Bit maxval text = plain_pixel text
+plain_sample Gray maxval text = plain_decimal maxval text
+plain_sample Color maxval text = plain_decimal maxval text
+plain_sample Pam maxval text = plain_decimal maxval text
+
+-- the byte after the last sample of a plain image
+unfoldable pub after_last_item : List ℕ → Result (List ℕ) InputFault
+after_last_item text = if begins_apart text then Ok text else Err BadSample

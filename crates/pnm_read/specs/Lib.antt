@@ -1,0 +1,16 @@
+pub mod Texts
+pub mod Formats
+pub mod Headers
+pub mod Rasters
+pub mod Spelling
+pub mod Items
+pub mod Said
+pub mod TextLaws
+pub mod Inputs
+pub mod Reads
+pub mod Scans
+pub mod Saturation
+pub mod Scanners
+pub mod Packings
+pub mod Stages
+pub mod Sources

@@ -1,0 +1,108 @@
+-- How a raster is spelled. From pbm(5), pgm(5) and ppm(5), 'The layout', and of the plain formats 'Plain PBM' and so on.
+use Rattle.std.specs.Prelude.{◌≡◌, ℕ, zero, suc, ◌+◌, ◌*◌, ◌-◌, ◌^◌, ◌/◌, ◌%◌, ◌<◌, ◌≤◌, Bool, true, false, nat_lt, if◌then◌else◌, List, [], ◌∷◌, ◌++◌, length, take, map, flat_map}
+use Rattle.std.specs.List.{AllPass}
+use Rattle.pnm_image.specs.declared.shape.Shape.{Shape}
+use Rattle.pnm_image.specs.declared.shape.Kind.{Kind}
+use Rattle.pnm_image.specs.declared.shape.Kind.TheVariants.{Bit, Gray, Color, Pam}
+use Rattle.pnm_image.specs.Heads.{row_length}
+use Rattle.pnm_image.specs.Images.{Image, IsImage, cut_rows, rows_of}
+use Rattle.pnm_read.specs.declared.format.Format.{Format}
+use Rattle.pnm_read.specs.declared.packing.Packing.{Packing}
+use Rattle.pnm_read.specs.declared.packing.Packing.TheVariants.{Packed, Narrow, Wide}
+use Rattle.pnm_read.specs.Texts.{is_white, is_digit, begins_apart, ends_in_comment, uncommented, decimal_value}
+
+-- ---- raw
+
+-- how the samples of a raw row lie in its bytes: eight pixels a byte, a byte a sample, or two
+abbrev pub packing_of : Kind → ℕ → Packing
+packing_of Bit maxval = Packed
+packing_of Gray maxval = if nat_lt maxval 256 then Narrow else Wide
+packing_of Color maxval = if nat_lt maxval 256 then Narrow else Wide
+packing_of Pam maxval = if nat_lt maxval 256 then Narrow else Wide
+
+-- the bytes of a raw row
+abbrev pub row_bytes : Shape → ℕ
+row_bytes s = elim (packing_of s.kind s.maxval) [
+  | Packed ↦ (s.width + 7) / 8
+  | Narrow ↦ row_length s
+  | Wide ↦ 2 * row_length s
+]
+
+-- the pixel in a bit of a byte, the bit counted from the right; 1 is black, which is sample 0
+abbrev pub pixel_at : ℕ → ℕ → ℕ
+pixel_at bit byte = 1 - byte / 2 ^ bit % 2
+
+-- the pixels of a byte, the most significant bit leftmost
+abbrev pub pixels : ℕ → List ℕ
+pixels byte =
+    pixel_at 7 byte ∷ pixel_at 6 byte ∷ pixel_at 5 byte ∷ pixel_at 4 byte ∷ pixel_at 3 byte ∷ pixel_at 2 byte ∷ pixel_at 1 byte ∷ pixel_at 0 byte ∷ []
+
+-- samples of two bytes, the most significant first
+unfoldable pub wide_samples : List ℕ → List ℕ
+wide_samples [] = []
+wide_samples (high ∷ []) = []
+wide_samples (high ∷ low ∷ bytes) = (256 * high + low) ∷ wide_samples bytes
+
+-- the samples in the bytes of a raw row; spare bits of the last byte of PBM mean nothing
+abbrev pub raw_samples : Shape → List ℕ → List ℕ
+raw_samples s bytes = elim (packing_of s.kind s.maxval) [
+  | Packed ↦ take s.width (flat_map pixels bytes)
+  | Narrow ↦ bytes
+  | Wide ↦ wide_samples bytes
+]
+
+-- the rows of bytes, top to bottom, with nothing between or after them
+pub record SpellsRaw (text : List ℕ) (image : Image) : Type 0 where
+  pub sound : IsImage image
+  pub count : length text ≡ image.head.shape.height * row_bytes image.head.shape
+  pub rows : rows_of image ≡ map (raw_samples image.head.shape) (cut_rows image.head.shape.height (row_bytes image.head.shape) text)
+
+-- ---- plain
+
+-- white space, each comment counted as white space; it doesn't end inside a comment
+pub record IsGap (text : List ℕ) : Type 0 where
+  pub white : AllPass is_white (uncommented text)
+  pub outside : ends_in_comment text ≡ false
+
+-- the text of a pixel: the character 1 is black
+abbrev pub SpellsPixel : List ℕ → ℕ → Type 0
+SpellsPixel text sample = (sample ≤ 1) × (text ≡ (49 - sample) ∷ [])
+
+-- the text of a decimal number
+pub record SpellsDecimal (text : List ℕ) (number : ℕ) : Type 0 where
+  pub some : 0 < length text
+  pub digits : AllPass is_digit text
+  pub value : decimal_value text ≡ number
+
+-- the text of a sample
+abbrev pub SpellsSample : Kind → List ℕ → ℕ → Type 0
+SpellsSample Bit text sample = SpellsPixel text sample
+SpellsSample Gray text sample = SpellsDecimal text sample
+SpellsSample Color text sample = SpellsDecimal text sample
+SpellsSample Pam text sample = SpellsDecimal text sample
+
+-- a sample and the gap before it, together within the limit
+pub record SpellsPiece (kind : Kind) (text : List ℕ) (sample : ℕ) : Type 0 where
+  pub gap : List ℕ
+  pub digits : List ℕ
+  pub whole : text ≡ gap ++ digits
+  pub gap_is : IsGap gap
+  pub digits_are : SpellsSample kind digits sample
+  pub short : length text ≤ 1048576
+
+-- what may follow a sample: after a number its digits have ended; after a pixel anything
+abbrev pub MayFollow : Kind → List ℕ → Type 0
+MayFollow Bit rest = Unit {0}
+MayFollow Gray rest = begins_apart rest ≡ true
+MayFollow Color rest = begins_apart rest ≡ true
+MayFollow Pam rest = begins_apart rest ≡ true
+
+-- the samples in order, through the last sample's last digit
+abbrev pub SpellsPlainSamples : Kind → List ℕ → List ℕ → Type 0
+SpellsPlainSamples kind text [] = text ≡ []
+SpellsPlainSamples kind text (sample ∷ samples) =
+    (piece : List ℕ) × (rest : List ℕ) × (text ≡ piece ++ rest) × SpellsPiece kind piece sample × MayFollow kind rest × SpellsPlainSamples kind rest samples
+
+pub record SpellsPlain (text : List ℕ) (image : Image) : Type 0 where
+  pub sound : IsImage image
+  pub samples : SpellsPlainSamples image.head.shape.kind text image.samples

@@ -1,0 +1,36 @@
+-- What is still to be said at a stage, and what a step answers.
+use Rattle.std.specs.Prelude.{◌≡◌, ℕ, ◌-◌, ◌⊎◌, Bool, true, false, List, Option, Some, None, Result, Ok, Err}
+use Rattle.pnm_image.specs.declared.message.Message.{Message}
+use Rattle.pnm_read.specs.declared.fault.InputFault.{InputFault}
+use Rattle.pnm_read.specs.declared.source.Stage.{Stage}
+use Rattle.pnm_read.specs.declared.source.Stage.TheVariants.{Start, Rows, End, Ended, Failed}
+use Rattle.pnm_read.specs.declared.source.Step.{Step}
+use Rattle.pnm_read.specs.declared.raster.Raster.{Raster}
+use Rattle.pnm_read.specs.Said.{Said, said, says_nothing, says_fault, end_said, rows_said, then_said}
+use Rattle.pnm_read.specs.Inputs.{IsOutsideFault}
+
+-- what is still to be said at a stage, of the rest of the text
+abbrev pub stage_due : Stage → List ℕ → Said
+stage_due Start text = said text
+stage_due (Rows raster) text = rows_said raster.format raster.shape (raster.shape.height - raster.y) text
+stage_due (End is_plain) text = end_said is_plain text
+stage_due Ended text = says_nothing
+stage_due (Failed fault) text = says_fault fault
+
+-- there was a fault
+abbrev pub has_failed : Stage → Bool
+has_failed Start = false
+has_failed (Rows raster) = false
+has_failed (End is_plain) = false
+has_failed Ended = false
+has_failed (Failed fault) = true
+
+-- an answer is the next of what was to be said, and leaves the rest
+abbrev pub SaysNext : Said → Option Message → Said → Type 0
+SaysNext old (Some m) new = old ≡ then_said m new
+SaysNext old None new = (old ≡ says_nothing) × (new ≡ says_nothing)
+
+-- what a step at a stage answers: the next of what was to be said, or the fault
+abbrev pub Steps : Stage → Result Step InputFault → List ℕ → List ℕ → Type 0
+Steps stage (Ok step) before after = SaysNext (stage_due stage before) step.message (stage_due step.stage after) × (has_failed step.stage ≡ false)
+Steps stage (Err fault) before after = (stage_due stage before ≡ says_fault fault) ⊎ IsOutsideFault fault

@@ -1,0 +1,32 @@
+-- The laws that tie what a text spells to what is said of it.
+use Rattle.std.specs.Prelude.{◌≡◌, ◌⊎◌, ℕ, List, Some, None}
+use Rattle.pnm_image.specs.Images.{Image, messages_of_stream}
+use Rattle.pnm_read.specs.declared.fault.InputFault.{InputFault}
+use Rattle.pnm_read.specs.Spelling.{Spells}
+use Rattle.pnm_read.specs.Said.{said_of, fault_of}
+
+-- of a text that spells images their messages are said, without a fault
+abbrev pub SpelledIsSaid : Type 0
+SpelledIsSaid =
+    (text : List ℕ) (images : List Image) → Spells text images → (said_of text ≡ messages_of_stream images) × (fault_of text ≡ None)
+
+-- a text without a fault spells the images whose messages are said of it
+abbrev pub SaidIsSpelled : Type 0
+SaidIsSpelled =
+    (text : List ℕ) → fault_of text ≡ None → (images : List Image) × Spells text images × (said_of text ≡ messages_of_stream images)
+
+-- the text spells these images and no others, and has no fault
+pub record SpellsOnly (text : List ℕ) (images : List Image) : Type 0 where
+  pub spelled : Spells text images
+  pub only : (others : List Image) → Spells text others → others ≡ images
+  pub sound : fault_of text ≡ None
+
+-- the text has this fault, and spells no images
+pub record IsAtFault (text : List ℕ) (fault : InputFault) : Type 0 where
+  pub first : fault_of text ≡ Some fault
+  pub not_spelled : (images : List Image) → Spells text images → ⊥
+
+-- a text spells exactly one list of images and has no fault, or spells none and has a fault
+abbrev pub OneStreamOrOneFault : Type 0
+OneStreamOrOneFault =
+    (text : List ℕ) → ((images : List Image) × SpellsOnly text images) ⊎ ((fault : InputFault) × IsAtFault text fault)

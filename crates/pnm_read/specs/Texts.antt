@@ -1,0 +1,88 @@
+-- Bytes of a text: white space, digits, comments and words. From pbm(5), 'The layout'.
+use Rattle.std.specs.Prelude.{ℕ, Bool, true, false, not, ◌==◌, nat_le, ◌&&◌, ◌||◌, if◌then◌else◌, List, [], ◌∷◌, map, filter}
+use Rattle.std.specs.Str.Parse.{digits_value}
+
+-- blank, TAB, CR or LF
+abbrev pub is_white : ℕ → Bool
+is_white b = (b == 32) || (b == 9) || (b == 13) || (b == 10)
+
+abbrev pub is_digit : ℕ → Bool
+is_digit b = nat_le 48 b && nat_le b 57
+
+-- CR or LF
+abbrev pub is_line_end : ℕ → Bool
+is_line_end b = (b == 13) || (b == 10)
+
+-- white space, or # , which begins a comment
+abbrev pub is_apart : ℕ → Bool
+is_apart b = is_white b || (b == 35)
+
+-- the text is empty, or begins with white space or #
+abbrev pub begins_apart : List ℕ → Bool
+begins_apart [] = true
+begins_apart (b ∷ text) = is_apart b
+
+-- the text's last byte passes the test
+unfoldable pub ends_by : (ℕ → Bool) → List ℕ → Bool
+ends_by test [] = false
+ends_by test (b ∷ []) = test b
+ends_by test (b ∷ c ∷ text) = ends_by test (c ∷ text)
+
+-- ---- comments: each goes from a # through the next CR or LF
+
+-- whether what follows a byte is inside a comment; inside tells it of the byte
+abbrev pub commented : Bool → ℕ → Bool
+commented inside b = if inside then not (is_line_end b) else (b == 35)
+
+-- whether what follows a text is inside a comment
+unfoldable pub commented_after : Bool → List ℕ → Bool
+commented_after inside [] = inside
+commented_after inside (b ∷ text) = commented_after (commented inside b) text
+
+abbrev pub ends_in_comment : List ℕ → Bool
+ends_in_comment text = commented_after false text
+
+-- the text with every comment cut out
+unfoldable pub uncommented_from : Bool → List ℕ → List ℕ
+uncommented_from inside [] = []
+uncommented_from inside (b ∷ text) =
+    if inside || (b == 35) then uncommented_from (commented inside b) text else b ∷ uncommented_from false text
+
+abbrev pub uncommented : List ℕ → List ℕ
+uncommented text = uncommented_from false text
+
+-- ---- words: the longest runs of bytes that aren't white space
+
+-- the text begins with a byte of a word
+abbrev pub begins_in_word : List ℕ → Bool
+begins_in_word [] = false
+begins_in_word (b ∷ text) = not (is_white b)
+
+-- the text ends with a byte of a word
+abbrev pub ends_in_word : List ℕ → Bool
+ends_in_word text = ends_by (λ b. not (is_white b)) text
+
+-- the byte before the first of the words
+abbrev pub onto_first : ℕ → List (List ℕ) → List (List ℕ)
+onto_first b [] = (b ∷ []) ∷ []
+onto_first b (word ∷ words) = (b ∷ word) ∷ words
+
+unfoldable pub words : List ℕ → List (List ℕ)
+words [] = []
+words (b ∷ text) =
+    if is_white b then words text
+    else if begins_in_word text then onto_first b (words text)
+    else (b ∷ []) ∷ words text
+
+-- ---- numbers: decimal, with any leading zeros and any number of digits
+
+abbrev pub decimal_value : List ℕ → ℕ
+decimal_value digits = digits_value 10 digits
+
+-- the number that the digits of a text spell, comments cut out
+abbrev pub number_in : List ℕ → ℕ
+number_in text = decimal_value (filter is_digit (uncommented text))
+
+-- the numbers that the words of a text spell, comments cut out
+abbrev pub numbers_in : List ℕ → List ℕ
+numbers_in text = map decimal_value (words (uncommented text))

@@ -1,0 +1,114 @@
+//! A sample of a plain PGM or PPM raster, from pgm(5) and ppm(5), 'Plain PGM' and 'Plain PPM'.
+
+ghost use Rattle.std.specs.Prelude.{◌≡◌, ◌<◌, ◌≤◌, ◌-◌, [], not, ◌&&◌};
+ghost use Rattle.pnm_read.specs.declared.judgement.Judgement.TheVariants.{GoesOn};
+ghost use Rattle.pnm_read.specs.Texts.{is_digit};
+
+use crate::characters::{commented, is_apart, is_digit};
+use crate::fault::InputFault;
+use crate::judgement::Judgement;
+use crate::scan::Scanner;
+
+/// The bytes from after a sample's last digit, or the header, through the last digit of the next
+/// sample, at most.
+pub const GAP_LIMIT: usize = 1_048_576;
+
+/// Takes a number and the gap before it, byte by byte.
+#[derive(Debug, Drop)]
+pub struct DecimalScanner {
+    /// What the digits spell that have come; it stops at `u32::MAX`.
+    value: u32,
+    /// The last byte is a digit, outside comments.
+    in_number: bool,
+    in_comment: bool,
+    /// The bytes that have come.
+    length: usize,
+    ghost short: { length ≤ 1048576 },
+}
+
+impl DecimalScanner {
+    ghost use Rattle.pnm_read.specs.Scanners.{IsDecimalAfter, JudgesDecimal, PushesDecimal};
+
+    pub fn new() -> DecimalScanner
+        ensures { IsDecimalAfter result [] }
+    {
+        DecimalScanner {
+            value: 0,
+            in_number: false,
+            in_comment: false,
+            length: 0,
+        }
+    }
+
+    /// What the digits spell that have come, at most `u32::MAX`.
+    pub fn value(&self) -> u32
+        ensures { result ≡ self.now.value }
+    {
+        self.value
+    }
+
+    /// The judgement of the next byte.
+    #[tactic(auto, unfolding(crate::specs::Items::decimal_item))]
+    fn judge(&self, byte: u8) -> Judgement
+        ensures judged { JudgesDecimal self.now byte result }
+        ensures short { result ≡ GoesOn → self.now.length < 1048576 }
+    {
+        let is_complete = self.in_number && !is_digit(byte);
+        if self.length >= GAP_LIMIT && !is_complete {
+            Judgement::Fails(InputFault::TooLong)
+        } else if !self.in_comment && !(is_digit(byte) || is_apart(byte)) {
+            Judgement::Fails(InputFault::BadSample)
+        } else if is_complete {
+            Judgement::EndsBefore
+        } else {
+            Judgement::GoesOn
+        }
+    }
+
+    /// Takes a byte with which the number, or the gap before it, goes on.
+    fn push(&mut self, byte: u8)
+        requires { self.old.length < 1048576 }
+        ensures { PushesDecimal self.old byte self.new }
+    {
+        self.in_number = !self.in_comment && is_digit(byte);
+        if self.in_number {
+            self.value = self
+                .value
+                .saturating_mul(10)
+                .saturating_add(u32::from(byte - b'0'));
+        }
+        self.in_comment = commented(self.in_comment, byte);
+        self.length += 1;
+    }
+}
+
+impl Scanner for DecimalScanner {
+    ghost use Rattle.pnm_read.specs.Items.{decimal_item, decimal_end};
+    ghost use Rattle.pnm_read.specs.Scanners.{IsDecimalAfter, IsDecimalWhole};
+
+    ghost item = { λ s. decimal_item };
+
+    ghost at_end = { λ s. decimal_end };
+
+    ghost is_after = { IsDecimalAfter };
+
+    ghost is_whole = { IsDecimalWhole };
+
+    ghost room = { λ s. 1048576 - s.length };
+
+    fn take(&mut self, byte: u8) -> Judgement {
+        let judgement = self.judge(byte);
+        if judgement == Judgement::GoesOn {
+            self.push(byte);
+        }
+        judgement
+    }
+
+    fn end(&self) -> Option<InputFault> {
+        if self.in_number {
+            None
+        } else {
+            Some(InputFault::RasterCut)
+        }
+    }
+}

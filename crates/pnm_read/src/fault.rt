@@ -1,0 +1,62 @@
+//! What is wrong with an input.
+
+use thiserror::Error;
+
+/// What is wrong with an input. The text of each variant is its name.
+#[derive(Clone, Copy, Debug, PartialEq, Eq, Error)]
+pub enum InputFault {
+    /// There is no byte.
+    #[error("EmptyInput")]
+    EmptyInput,
+    /// An image doesn't begin with one of the magics, or a byte follows a raw image.
+    #[error("BadMagic")]
+    BadMagic,
+    /// The input ends in a header.
+    #[error("HeaderCut")]
+    HeaderCut,
+    /// A header has more than 65,536 bytes, or a plain raster goes on for more than 1,048,576
+    /// bytes without the end of a sample.
+    #[error("TooLong")]
+    TooLong,
+    /// A byte of a header outside comments is neither a digit nor white space, or the first after
+    /// the magic is neither white space nor `#`.
+    #[error("BadNumber")]
+    BadNumber,
+    /// The width or the height is 0.
+    #[error("ZeroSize")]
+    ZeroSize,
+    /// The width or the height is above 1,000,000, or a row has more than 16,777,216 samples.
+    #[error("TooLarge")]
+    TooLarge,
+    /// The maxval is 0 or above 65,535.
+    #[error("BadMaxval")]
+    BadMaxval,
+    /// A line of a PAM header says nothing that such a line can say.
+    #[error("BadPamLine")]
+    BadPamLine,
+    /// A field of a PAM header is there twice.
+    #[error("DuplicateField")]
+    DuplicateField,
+    /// A field of a PAM header is missing.
+    #[error("MissingField")]
+    MissingField,
+    /// The input ends in a raster.
+    #[error("RasterCut")]
+    RasterCut,
+    /// A sample is above the maxval.
+    #[error("SampleAboveMaxval")]
+    SampleAboveMaxval,
+    /// A byte of a plain raster outside comments is neither a digit (for PBM `0` or `1`) nor white
+    /// space, or the one after the last sample is neither white space nor `#`.
+    #[error("BadSample")]
+    BadSample,
+    /// A plain image comes after another image.
+    #[error("PlainInStream")]
+    PlainInStream,
+    /// The reader failed.
+    #[error("ReadFailed")]
+    ReadFailed,
+    /// Memory ran out.
+    #[error("Memory")]
+    Memory,
+}

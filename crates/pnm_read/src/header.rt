@@ -1,0 +1,194 @@
+//! The header of a PNM image, from pbm(5), pgm(5) and ppm(5).
+
+ghost use Rattle.std.specs.Prelude.{◌≡◌, ◌≤◌, ◌<◌, ◌==◌, ◌-◌, ◌++◌, [], ◌∷◌, List, ℕ, Some, not, ◌&&◌, ◌||◌};
+ghost use Rattle.pnm_read.specs.declared.judgement.Judgement.TheVariants.{GoesOn};
+ghost use Rattle.pnm_read.specs.Texts.{is_digit, is_apart};
+ghost use Rattle.pnm_read.specs.Formats.{shape_of, number_count};
+ghost use Rattle.pnm_read.specs.Items.{fault_of_head, numbers_item};
+ghost use Rattle.pnm_read.specs.Said.{format_at, head_at};
+ghost use Rattle.pnm_read.specs.Inputs.{Turn, Finds};
+ghost use Rattle.pnm_read.specs.Saturation.{IsNumbers, GivesInMemory};
+
+use crate::characters::{commented, is_apart, is_digit, is_white};
+use crate::fault::InputFault;
+use crate::format::{Format, number_count, planes};
+use crate::input::Input;
+use crate::judgement::Judgement;
+use crate::scan::{Scanner, scan};
+use pnm_image::{BytesIn, Head, HeadFault, Kind, Shape};
+use std::alloc::Global;
+
+/// The bytes of a header after its magic, at most: 65,536 with the magic.
+const HEADER_LIMIT: usize = 65_534;
+
+/// The format that the input's magic names.
+pub fn read_format<R: BytesIn>(input: &mut Input<R>) -> Result<Format, InputFault>
+    ensures { Turn R.left R.failures R.same input.old input.new result (Finds (λ format. format) format_at result) }
+{
+    match input.next_byte()? {
+        Some(b'P') => {}
+        Some(_) => return Err(InputFault::BadMagic),
+        None => return Err(InputFault::EmptyInput),
+    }
+    match input.next_byte()? {
+        Some(byte) => Format::of(byte).ok_or(InputFault::BadMagic),
+        None => Err(InputFault::HeaderCut),
+    }
+}
+
+/// The head that follows the magic. It takes the header through its last byte, the delimiter.
+pub fn read_head<R: BytesIn>(input: &mut Input<R>, format: Format) -> Result<Head, InputFault>
+    ensures { Turn R.left R.failures R.same input.old input.new result (Finds (λ head. head) (head_at format) result) }
+{
+    let mut header = HeaderScanner::new(number_count(format.kind));
+    scan(input, &mut header)?;
+    head_of(input.allocator(), format.kind, header.numbers)
+}
+
+/// The head of these numbers, of which PBM has the last two alone, or what is wrong with them.
+fn head_of(alloc: Global, kind: Kind, numbers: [u32; 3]) -> Result<Head, InputFault>
+    ensures { (found : List ℕ) → IsNumbers (number_count kind) found numbers → GivesInMemory result (numbers_item kind found) }
+{
+    let [first, second, third] = numbers;
+    let (width, height, maxval) = match kind {
+        Kind::Bit => (second, third, 1),
+        Kind::Gray | Kind::Color | Kind::Pam => (first, second, third),
+    };
+    let shape = Shape {
+        kind,
+        width,
+        height,
+        depth: planes(kind),
+        maxval,
+    };
+    Head::new(alloc, shape, b"").map_err(fault_of_head)
+}
+
+fn fault_of_head(fault: HeadFault) -> InputFault
+    ensures { result ≡ fault_of_head fault }
+{
+    match fault {
+        HeadFault::ZeroSize => InputFault::ZeroSize,
+        HeadFault::TooLarge => InputFault::TooLarge,
+        HeadFault::BadMaxval => InputFault::BadMaxval,
+        HeadFault::Memory => InputFault::Memory,
+    }
+}
+
+/// Takes a header after its magic, byte by byte.
+#[derive(Debug, Drop)]
+struct HeaderScanner {
+    /// The numbers that the header has.
+    wanted: usize,
+    /// The numbers that have begun.
+    found: usize,
+    /// The last three numbers, 0 for one that hasn't come; each stops at `u32::MAX`.
+    numbers: [u32; 3],
+    /// The last byte outside comments is a digit.
+    in_number: bool,
+    in_comment: bool,
+    /// The bytes that have come.
+    length: usize,
+    ghost short: { length ≤ 65534 },
+    ghost begun: { found ≤ length },
+}
+
+impl HeaderScanner {
+    ghost use Rattle.pnm_read.specs.Scanners.{IsHeaderFresh, JudgesHeader, PushesHeader, PushesDigit};
+
+    fn new(wanted: usize) -> HeaderScanner
+        ensures { IsHeaderFresh wanted result }
+    {
+        HeaderScanner {
+            wanted,
+            found: 0,
+            numbers: [0; 3],
+            in_number: false,
+            in_comment: false,
+            length: 0,
+        }
+    }
+
+    /// The judgement of the next byte.
+    #[tactic(auto, unfolding(crate::specs::Items::header_item))]
+    fn judge(&self, byte: u8) -> Judgement
+        ensures judged { JudgesHeader self.now byte result }
+        ensures short { result ≡ GoesOn → self.now.length < 65534 }
+    {
+        if self.length >= HEADER_LIMIT {
+            Judgement::Fails(InputFault::TooLong)
+        } else if self.is_bad(byte) {
+            Judgement::Fails(InputFault::BadNumber)
+        } else if !self.in_comment && is_white(byte) && self.found == self.wanted {
+            Judgement::EndsWith
+        } else {
+            Judgement::GoesOn
+        }
+    }
+
+    /// Whether the byte can't stand here.
+    fn is_bad(&self, byte: u8) -> bool
+        ensures { result ≡ (((self.now.length == 0) && not (is_apart byte)) || (not self.now.in_comment && not (is_digit byte || is_apart byte))) }
+    {
+        (self.length == 0 && !is_apart(byte))
+            || (!self.in_comment && !(is_digit(byte) || is_apart(byte)))
+    }
+
+    /// Takes a byte with which the header goes on.
+    fn push(&mut self, byte: u8)
+        requires { self.old.length < 65534 }
+        ensures { PushesHeader self.old byte self.new }
+    {
+        self.length += 1;
+        if !self.in_comment {
+            if is_digit(byte) {
+                self.push_digit(byte - b'0');
+            } else if is_white(byte) {
+                self.in_number = false;
+            }
+        }
+        self.in_comment = commented(self.in_comment, byte);
+    }
+
+    /// Takes a digit's value as the next of a number.
+    fn push_digit(&mut self, digit: u8)
+        requires { self.old.found < self.old.length }
+        ensures { PushesDigit self.old digit self.new }
+    {
+        if !self.in_number {
+            self.in_number = true;
+            self.found += 1;
+            self.numbers = [self.numbers[1], self.numbers[2], 0];
+        }
+        self.numbers[2] = self.numbers[2]
+            .saturating_mul(10)
+            .saturating_add(u32::from(digit));
+    }
+}
+
+impl Scanner for HeaderScanner {
+    ghost use Rattle.pnm_read.specs.Items.{header_item, header_end};
+    ghost use Rattle.pnm_read.specs.Scanners.{IsHeaderAfter, IsHeaderWhole};
+
+    ghost item = { λ s. header_item s.wanted };
+
+    ghost at_end = { λ s. header_end };
+
+    ghost is_after = { IsHeaderAfter };
+
+    ghost is_whole = { IsHeaderWhole };
+
+    ghost room = { λ s. 65534 - s.length };
+
+    fn take(&mut self, byte: u8) -> Judgement {
+        let judgement = self.judge(byte);
+        if judgement == Judgement::GoesOn {
+            self.push(byte);
+        }
+        judgement
+    }
+
+    fn end(&self) -> Option<InputFault> {
+        Some(InputFault::HeaderCut)
+    }
+}

@@ -1,0 +1,166 @@
+//! How the samples of a raw row lie in its bytes.
+
+ghost use Rattle.std.specs.Prelude.{◌≡◌, ◌≤◌, ◌↔◌, ◌*◌, ◌++◌, length, map, ℕ, All, OnOk, IfErr};
+ghost use Rattle.pnm_read.specs.Rasters.{packing_of, pixel_at, pixels, wide_samples};
+ghost use Rattle.pnm_read.specs.Packings.{unit_bytes, AppendsUnits, AppendsPixels, AppendsNarrow, AppendsWide};
+ghost use Rattle.pnm_read.specs.Said.{units_in_row};
+
+use crate::fault::InputFault;
+use pnm_image::{Kind, Shape};
+
+/// How the samples of a raw row lie in its bytes. A unit is a sample, or a byte of eight pixels.
+#[derive(Clone, Copy, Debug, PartialEq, Eq)]
+pub enum Packing {
+    /// Eight pixels a byte, the most significant bit leftmost; 1 is black, which is sample 0.
+    Packed,
+    /// A byte a sample.
+    Narrow,
+    /// Two bytes a sample, the most significant first.
+    Wide,
+}
+
+impl Packing {
+    /// The packing of images of this kind and maxval.
+    pub fn of(kind: Kind, maxval: u32) -> Packing
+        ensures { result ≡ packing_of kind maxval }
+    {
+        match kind {
+            Kind::Bit => Packing::Packed,
+            Kind::Gray | Kind::Color | Kind::Pam if maxval < 256 => Packing::Narrow,
+            Kind::Gray | Kind::Color | Kind::Pam => Packing::Wide,
+        }
+    }
+
+    /// The bytes of a unit.
+    pub fn unit_bytes(self) -> usize
+        ensures { result ≡ unit_bytes self }
+    {
+        match self {
+            Packing::Packed | Packing::Narrow => 1,
+            Packing::Wide => 2,
+        }
+    }
+
+    /// The units in a row of this shape.
+    pub fn units_in_row(self, shape: Shape) -> usize
+        requires { shape.width ≤ 1000000 }
+        ensures { result ≡ units_in_row self shape }
+    {
+        match self {
+            Packing::Packed => (shape.width as usize).div_ceil(8),
+            Packing::Narrow | Packing::Wide => shape.row_length() as usize,
+        }
+    }
+
+    /// The samples that the units of a row of this shape hold, with those of spare bits.
+    pub fn samples_in_row(self, shape: Shape) -> usize
+        requires { shape.width ≤ 1000000 }
+    {
+        match self {
+            Packing::Packed => (shape.width as usize).div_ceil(8) * 8,
+            Packing::Narrow | Packing::Wide => shape.row_length() as usize,
+        }
+    }
+
+    /// Appends the samples of so many units, which these bytes are, to a row. The loops over the
+    /// bytes are vector code. A row that holds samples above the maxval is never given on.
+    pub fn append(
+        self,
+        bytes: &[u8],
+        maxval: u32,
+        row: &mut Vec<u16>,
+    ) -> Result<(), InputFault>
+        ensures { (n : ℕ) → length bytes.now ≡ n * unit_bytes self → AppendsUnits self maxval n bytes.now row.old.items row.new.items result }
+    {
+        match self {
+            Packing::Packed => append_pixels(bytes, row),
+            Packing::Narrow => append_narrow(bytes, maxval, row),
+            Packing::Wide => append_wide(bytes, maxval, row),
+        }
+    }
+}
+
+fn append_pixels(bytes: &[u8], row: &mut Vec<u16>) -> Result<(), InputFault>
+    ensures { AppendsPixels bytes.now row.old.items row.new.items result }
+{
+    for byte in bytes {
+        if row.extend_from_slice(&pixels(*byte)).is_err() {
+            return Err(InputFault::Memory);
+        }
+    }
+    Ok(())
+}
+
+/// The pixels of a byte as samples.
+fn pixels(byte: u8) -> [u16; 8]
+    ensures { result ≡ pixels byte }
+{
+    [
+        pixel_at(7, byte),
+        pixel_at(6, byte),
+        pixel_at(5, byte),
+        pixel_at(4, byte),
+        pixel_at(3, byte),
+        pixel_at(2, byte),
+        pixel_at(1, byte),
+        pixel_at(0, byte),
+    ]
+}
+
+/// The pixel in a bit of a byte, the bit counted from the right.
+fn pixel_at(bit: u32, byte: u8) -> u16
+    requires { bit ≤ 7 }
+    ensures { result ≡ pixel_at bit byte }
+{
+    u16::from((byte >> bit) & 1 == 0)
+}
+
+fn append_narrow(bytes: &[u8], maxval: u32, row: &mut Vec<u16>) -> Result<(), InputFault>
+    ensures { AppendsNarrow maxval bytes.now row.old.items row.new.items result }
+{
+    if u32::from(greatest_byte(bytes)) > maxval {
+        return Err(InputFault::SampleAboveMaxval);
+    }
+    match row.extend(bytes.iter().map(|sample| u16::from(*sample))) {
+        Ok(()) => Ok(()),
+        Err(_) => Err(InputFault::Memory),
+    }
+}
+
+fn append_wide(bytes: &[u8], maxval: u32, row: &mut Vec<u16>) -> Result<(), InputFault>
+    ensures { AppendsWide maxval bytes.now row.old.items row.new.items result }
+{
+    let before = row.len();
+    let samples = bytes
+        .chunks_exact(2)
+        .map(|pair| u16::from_be_bytes([pair[0], pair[1]]));
+    if row.extend(samples).is_err() {
+        return Err(InputFault::Memory);
+    }
+    if u32::from(greatest(&row[before..])) > maxval {
+        return Err(InputFault::SampleAboveMaxval);
+    }
+    Ok(())
+}
+
+/// The greatest byte, or 0 where there is none.
+fn greatest_byte(bytes: &[u8]) -> u8
+    ensures { (most : ℕ) → (result ≤ most) ↔ All (λ sample. sample ≤ most) bytes.now }
+{
+    let mut greatest = 0;
+    for byte in bytes {
+        greatest = (*byte).max(greatest);
+    }
+    greatest
+}
+
+/// The greatest sample, or 0 where there is none.
+fn greatest(samples: &[u16]) -> u16
+    ensures { (most : ℕ) → (result ≤ most) ↔ All (λ sample. sample ≤ most) samples.now }
+{
+    let mut greatest = 0;
+    for sample in samples {
+        greatest = (*sample).max(greatest);
+    }
+    greatest
+}

@@ -1,0 +1,92 @@
+//! A pixel of a plain PBM raster, from pbm(5), 'Plain PBM'.
+
+ghost use Rattle.std.specs.Prelude.{◌≡◌, ◌<◌, ◌≤◌, ◌-◌, []};
+ghost use Rattle.pnm_read.specs.declared.judgement.Judgement.TheVariants.{GoesOn};
+
+use crate::characters::{commented, is_apart};
+use crate::decimal::GAP_LIMIT;
+use crate::fault::InputFault;
+use crate::judgement::Judgement;
+use crate::scan::Scanner;
+
+/// Takes a pixel and the gap before it, byte by byte.
+#[derive(Debug, Drop)]
+pub struct PixelScanner {
+    /// The pixel as a sample, once it has come: 0 for black, 1 for white.
+    pixel: u16,
+    in_comment: bool,
+    /// The bytes of the gap that have come.
+    length: usize,
+    ghost short: { length ≤ 1048576 },
+}
+
+impl PixelScanner {
+    ghost use Rattle.pnm_read.specs.Scanners.{IsPixelAfter, JudgesPixel};
+
+    pub fn new() -> PixelScanner
+        ensures { IsPixelAfter result [] }
+    {
+        PixelScanner {
+            pixel: 0,
+            in_comment: false,
+            length: 0,
+        }
+    }
+
+    /// The pixel as a sample, once it has come.
+    pub fn pixel(&self) -> u16
+        ensures { result ≡ self.now.pixel }
+    {
+        self.pixel
+    }
+
+    /// The judgement of the next byte.
+    #[tactic(auto, unfolding(crate::specs::Items::pixel_item))]
+    fn judge(&self, byte: u8) -> Judgement
+        ensures judged { JudgesPixel self.now byte result }
+        ensures short { result ≡ GoesOn → self.now.length < 1048576 }
+    {
+        let is_pixel = byte == b'0' || byte == b'1';
+        if self.length >= GAP_LIMIT {
+            Judgement::Fails(InputFault::TooLong)
+        } else if !self.in_comment && !(is_pixel || is_apart(byte)) {
+            Judgement::Fails(InputFault::BadSample)
+        } else if !self.in_comment && is_pixel {
+            Judgement::EndsWith
+        } else {
+            Judgement::GoesOn
+        }
+    }
+}
+
+impl Scanner for PixelScanner {
+    ghost use Rattle.pnm_read.specs.Items.{pixel_item, pixel_end};
+    ghost use Rattle.pnm_read.specs.Scanners.{IsPixelAfter, IsPixelWhole};
+
+    ghost item = { λ s. pixel_item };
+
+    ghost at_end = { λ s. pixel_end };
+
+    ghost is_after = { IsPixelAfter };
+
+    ghost is_whole = { IsPixelWhole };
+
+    ghost room = { λ s. 1048576 - s.length };
+
+    fn take(&mut self, byte: u8) -> Judgement {
+        let judgement = self.judge(byte);
+        match judgement {
+            Judgement::GoesOn => {
+                self.in_comment = commented(self.in_comment, byte);
+                self.length += 1;
+            }
+            Judgement::EndsWith => self.pixel = u16::from(byte == b'0'),
+            Judgement::EndsBefore | Judgement::Fails(_) => {}
+        }
+        judgement
+    }
+
+    fn end(&self) -> Option<InputFault> {
+        Some(InputFault::RasterCut)
+    }
+}

@@ -1,0 +1,101 @@
+//! The rows of a plain raster.
+
+ghost use Rattle.std.specs.Prelude.{◌≡◌, ◌≤◌, true};
+ghost use Rattle.pnm_image.specs.Heads.{row_length};
+ghost use Rattle.pnm_read.specs.Items.{plain_pixel, plain_decimal, plain_sample, after_last_item};
+ghost use Rattle.pnm_read.specs.Said.{plain_row, row_by};
+ghost use Rattle.pnm_read.specs.Inputs.{Turn, Finds, ChecksEnd};
+
+use crate::characters::is_apart;
+use crate::decimal::DecimalScanner;
+use crate::fault::InputFault;
+use crate::input::Input;
+use crate::pixel::PixelScanner;
+use crate::scan::scan;
+use pnm_image::{BytesIn, Kind, Samples, Shape};
+
+/// The next row, after which so many others are to come.
+pub fn read_row<R: BytesIn>(
+    input: &mut Input<R>,
+    shape: Shape,
+    more: u32,
+) -> Result<Samples, InputFault>
+    requires { shape.maxval ≤ 65535 }
+    ensures { Turn R.left R.failures R.same input.old input.new result (Finds (λ row. row) (row_by true shape more) result) }
+{
+    let row = read_samples(input, shape)?;
+    if more == 0 {
+        check_end(input)?;
+    }
+    Ok(row)
+}
+
+/// The samples of the next row.
+fn read_samples<R: BytesIn>(input: &mut Input<R>, shape: Shape) -> Result<Samples, InputFault>
+    requires { shape.maxval ≤ 65535 }
+    ensures { Turn R.left R.failures R.same input.old input.new result (Finds (λ row. row) (plain_row shape) result) }
+{
+    let length = shape.row_length() as usize;
+    let Ok(mut row) = Vec::with_capacity(input.allocator(), length) else {
+        return Err(InputFault::Memory);
+    };
+    while row.len() < length {
+        let sample = read_sample(input, shape.kind, shape.maxval)?;
+        if row.push(sample).is_err() {
+            return Err(InputFault::Memory);
+        }
+    }
+    Ok(Samples::new(row))
+}
+
+/// The next sample.
+fn read_sample<R: BytesIn>(
+    input: &mut Input<R>,
+    kind: Kind,
+    maxval: u32,
+) -> Result<u16, InputFault>
+    requires { maxval ≤ 65535 }
+    ensures { Turn R.left R.failures R.same input.old input.new result (Finds (λ sample. sample) (plain_sample kind maxval) result) }
+{
+    match kind {
+        Kind::Bit => read_pixel(input),
+        Kind::Gray | Kind::Color | Kind::Pam => read_decimal(input, maxval),
+    }
+}
+
+/// The next pixel as a sample.
+#[tactic(auto, unfolding(crate::specs::Items::plain_pixel))]
+fn read_pixel<R: BytesIn>(input: &mut Input<R>) -> Result<u16, InputFault>
+    ensures { Turn R.left R.failures R.same input.old input.new result (Finds (λ sample. sample) plain_pixel result) }
+{
+    let mut pixel = PixelScanner::new();
+    scan(input, &mut pixel)?;
+    Ok(pixel.pixel())
+}
+
+/// The next number, at most the maxval.
+#[tactic(auto, unfolding(crate::specs::Items::plain_decimal))]
+fn read_decimal<R: BytesIn>(input: &mut Input<R>, maxval: u32) -> Result<u16, InputFault>
+    requires { maxval ≤ 65535 }
+    ensures { Turn R.left R.failures R.same input.old input.new result (Finds (λ sample. sample) (plain_decimal maxval) result) }
+{
+    let mut number = DecimalScanner::new();
+    scan(input, &mut number)?;
+    let value = number.value();
+    if value > maxval {
+        return Err(InputFault::SampleAboveMaxval);
+    }
+    Ok(value as u16)
+}
+
+/// After the last sample the input ends, or goes on with white space or a comment.
+#[tactic(auto, unfolding(crate::specs::Items::after_last_item))]
+fn check_end<R: BytesIn>(input: &mut Input<R>) -> Result<(), InputFault>
+    ensures { Turn R.left R.failures R.same input.old input.new result (ChecksEnd result) }
+{
+    input.fill(1)?;
+    match input.bytes().first() {
+        Some(byte) if !is_apart(*byte) => Err(InputFault::BadSample),
+        _ => Ok(()),
+    }
+}

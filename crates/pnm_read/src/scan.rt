@@ -1,0 +1,88 @@
+//! Pieces of a text that are judged byte by byte: a header, or a sample of a plain raster.
+
+ghost use Rattle.std.specs.Prelude.{◌≡◌, ◌<◌, ◌≤◌, ◌+◌, ℕ, List, Option, IfOk, IfNone, length};
+ghost use Rattle.pnm_read.specs.declared.fault.InputFault.{InputFault as Fault};
+ghost use Rattle.pnm_read.specs.declared.judgement.Judgement.{Judgement as Judged};
+ghost use Rattle.pnm_read.specs.declared.judgement.Judgement.TheVariants.{GoesOn};
+ghost use Rattle.pnm_read.specs.Scans.{JudgesByte, JudgesEnd, Feeds, Scans};
+ghost use Rattle.pnm_read.specs.Inputs.{Turn};
+
+use crate::fault::InputFault;
+use crate::input::Input;
+use crate::judgement::Judgement;
+use pnm_image::BytesIn;
+
+/// Takes the bytes of a piece one by one.
+pub trait Scanner {
+    /// The judgement of a byte, by the bytes of the piece before it.
+    ghost item: { Self → List ℕ → ℕ → Judged };
+
+    /// The fault, if that is one, of a text that ends after these bytes of the piece.
+    ghost at_end: { Self → List ℕ → Option Fault };
+
+    /// These bytes of the piece were taken.
+    ghost is_after: { Self → List ℕ → Type 0 };
+
+    /// The piece has ended, and these are its bytes.
+    ghost is_whole: { Self → List ℕ → Type 0 };
+
+    /// The bytes that can still come, at most.
+    ghost room: { Self → ℕ };
+
+    /// Judges the next byte, and takes it where it belongs to the piece.
+    fn take(&mut self, byte: u8) -> Judgement
+        ensures judged { JudgesByte (item self.old) (is_after self.old) (is_after self.new) (is_whole self.new) byte result }
+        ensures same_items { item self.new ≡ item self.old }
+        ensures same_end { at_end self.new ≡ at_end self.old }
+        ensures room { result ≡ GoesOn → room self.new < room self.old };
+
+    /// The fault, if that is one, of a text that ends here.
+    fn end(&self) -> Option<InputFault>
+        ensures { JudgesEnd (at_end self.now) (is_after self.now) (is_whole self.now) result };
+}
+
+/// Gives the scanner bytes of the input until its piece ends; asks for more where they run out.
+pub fn scan<R: BytesIn, S: Scanner>(
+    input: &mut Input<R>,
+    scanner: &mut S,
+) -> Result<(), InputFault>
+    ensures { Turn R.left R.failures R.same input.old input.new result (Scans (S.item scanner.old) (S.at_end scanner.old) (S.is_after scanner.old) (S.is_whole scanner.new) result) }
+{
+    loop {
+        input.fill(1)?;
+        let bytes = input.bytes();
+        if bytes.is_empty() {
+            return match scanner.end() {
+                Some(fault) => Err(fault),
+                None => Ok(()),
+            };
+        }
+        let held = bytes.len();
+        match feed(scanner, bytes)? {
+            Some(taken) => {
+                input.advance(taken);
+                return Ok(());
+            }
+            None => input.advance(held),
+        }
+    }
+}
+
+/// Gives the scanner these bytes until its piece ends. Answers how many it took; none where the
+/// piece goes on after them.
+fn feed<S: Scanner>(scanner: &mut S, bytes: &[u8]) -> Result<Option<usize>, InputFault>
+    ensures fed { Feeds (S.item scanner.old) (S.at_end scanner.old) (S.is_after scanner.old) (S.is_after scanner.new) (S.is_whole scanner.new) bytes.now result }
+    ensures same_items { S.item scanner.new ≡ S.item scanner.old }
+    ensures same_end { S.at_end scanner.new ≡ S.at_end scanner.old }
+    ensures room { IfOk result (λ ended. IfNone ended (S.room scanner.new + length bytes.now ≤ S.room scanner.old)) }
+{
+    for (taken, byte) in bytes.iter().enumerate() {
+        match scanner.take(*byte) {
+            Judgement::GoesOn => {}
+            Judgement::EndsWith => return Ok(Some(taken + 1)),
+            Judgement::EndsBefore => return Ok(Some(taken)),
+            Judgement::Fails(fault) => return Err(fault),
+        }
+    }
+    Ok(None)
+}

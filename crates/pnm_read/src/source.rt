@@ -1,0 +1,167 @@
+//! The source of a stream: the bytes of a reader as messages.
+
+ghost use Rattle.std.specs.Prelude.{◌≡◌, ◌≤◌, ◌<◌, ◌⊎◌, [], true, false, OnOk, IfOk, IfErr, Err};
+ghost use Rattle.pnm_image.specs.Devices.{Failed};
+ghost use Rattle.pnm_read.specs.declared.fault.InputFault.TheVariants.{ReadFailed, Memory};
+ghost use Rattle.pnm_read.specs.Inputs.{Turn};
+ghost use Rattle.pnm_read.specs.Stages.{has_failed, Steps};
+
+use crate::fault::InputFault;
+use crate::header::{read_format, read_head};
+use crate::input::Input;
+use crate::plain;
+use crate::raster::Raster;
+use crate::raw;
+use pnm_image::{BytesIn, Message};
+use std::alloc::Global;
+
+/// How far a source has come.
+#[derive(Clone, Copy, Debug)]
+enum Stage {
+    /// Nothing is judged.
+    Start,
+    /// Rows are left, or the end of the image.
+    Rows(Raster),
+    /// The image has ended; whether it was plain.
+    End(bool),
+    /// The stream has ended.
+    Ended,
+    /// There was a fault.
+    Failed(InputFault),
+}
+
+/// An answer, and the stage after it.
+#[derive(Debug, Drop)]
+struct Step {
+    message: Option<Message>,
+    stage: Stage,
+}
+
+/// Reads an image, message by message. The first `next` reads the whole input.
+#[derive(Debug, Drop)]
+pub struct Source<R> {
+    input: Input<R>,
+    stage: Stage,
+}
+
+impl<R: BytesIn> Source<R> {
+    ghost use Rattle.pnm_read.specs.Sources.{IsFresh, Tells, SeesEnd, has_stopped, reader_of};
+
+    /// A source over the reader. It reads nothing. The only fault is `Memory`.
+    pub fn new(alloc: Global, reader: R) -> Result<Source<R>, InputFault>
+    where
+        R: Drop,
+        ensures made { IfOk result (λ source. IsFresh reader source) }
+        ensures refused { IfErr result (λ fault. fault ≡ Memory) }
+    {
+        Ok(Source {
+            input: Input::new(alloc, reader)?,
+            stage: Stage::Start,
+        })
+    }
+
+    /// The next message; `None` after the end of the stream, for good. After a fault it answers the
+    /// same fault and reads nothing.
+    pub fn next(&mut self) -> Result<Option<Message>, InputFault>
+        ensures told { Tells R.left self.old result self.new }
+        ensures end { SeesEnd R.left self.old → SeesEnd R.left self.new }
+        ensures stays { has_stopped self.old ≡ true → reader_of self.new ≡ reader_of self.old }
+        ensures same_device { R.same (reader_of self.old) (reader_of self.new) }
+        ensures count { OnOk result (R.failures (reader_of self.new) ≡ R.failures (reader_of self.old)) }
+        ensures read_failed { result ≡ Err ReadFailed → (has_stopped self.old ≡ true) ⊎ Failed (R.failures (reader_of self.old)) (R.failures (reader_of self.new)) }
+    {
+        if let Stage::Failed(fault) = self.stage {
+            return Err(fault);
+        }
+        match step_at(&mut self.input, self.stage) {
+            Ok(step) => {
+                self.stage = step.stage;
+                Ok(step.message)
+            }
+            Err(fault) => {
+                self.stage = Stage::Failed(fault);
+                Err(fault)
+            }
+        }
+    }
+
+    /// The reader.
+    pub fn into_reader(self) -> R
+        ensures { result ≡ reader_of self }
+    {
+        self.input.into_reader()
+    }
+}
+
+/// The next answer at a stage.
+fn step_at<R: BytesIn>(input: &mut Input<R>, stage: Stage) -> Result<Step, InputFault>
+    requires { has_failed stage ≡ false }
+    ensures { Turn R.left R.failures R.same input.old input.new result (Steps stage result) }
+{
+    match stage {
+        Stage::Start => begin(input),
+        Stage::Rows(raster) => next_row(input, raster),
+        Stage::End(is_plain) => end(input, is_plain),
+        Stage::Ended => Ok(Step {
+            message: None,
+            stage,
+        }),
+        Stage::Failed(fault) => Err(fault),
+    }
+}
+
+/// The head of the image.
+#[tactic(auto, unfolding(crate::specs::Said::said))]
+fn begin<R: BytesIn>(input: &mut Input<R>) -> Result<Step, InputFault>
+    ensures { Turn R.left R.failures R.same input.old input.new result (Steps Stage.Start result) }
+{
+    let format = read_format(input)?;
+    let head = read_head(input, format)?;
+    let raster = Raster {
+        format,
+        shape: head.shape(),
+        y: 0,
+    };
+    Ok(Step {
+        message: Some(Message::Begin(head)),
+        stage: Stage::Rows(raster),
+    })
+}
+
+/// The next row of a raster, or the end of the image.
+fn next_row<R: BytesIn>(input: &mut Input<R>, raster: Raster) -> Result<Step, InputFault>
+    ensures { Turn R.left R.failures R.same input.old input.new result (Steps (Stage.Rows raster) result) }
+{
+    let Raster { format, shape, y } = raster;
+    if y == shape.height {
+        return Ok(Step {
+            message: Some(Message::ImageEnd),
+            stage: Stage::End(format.is_plain),
+        });
+    }
+    let row = if format.is_plain {
+        plain::read_row(input, shape, shape.height - y - 1)?
+    } else {
+        raw::read_row(input, shape)?
+    };
+    Ok(Step {
+        message: Some(Message::Row(row)),
+        stage: Stage::Rows(Raster { format, shape, y: y + 1 }),
+    })
+}
+
+/// The end of the stream: a raw image is the last of the input; what follows a plain one is ignored.
+fn end<R: BytesIn>(input: &mut Input<R>, is_plain: bool) -> Result<Step, InputFault>
+    ensures { Turn R.left R.failures R.same input.old input.new result (Steps (Stage.End is_plain) result) }
+{
+    if !is_plain {
+        input.fill(1)?;
+        if !input.bytes().is_empty() {
+            return Err(InputFault::BadMagic);
+        }
+    }
+    Ok(Step {
+        message: Some(Message::StreamEnd),
+        stage: Stage::Ended,
+    })
+}
