@@ -1,1 +1,3 @@
 pub mod CommentLaws
+pub mod Gathered
+pub mod Turns

@@ -39,6 +39,11 @@ pub record Turn {R A : Type 0} (left : R → Option (List ℕ)) (failures : R �
   pub count : OnOk result (failures new.reader ≡ failures old.reader)
   pub read_failed : result ≡ Err ReadFailed → Failed (failures old.reader) (failures new.reader)
 
+-- nothing was taken of the text
+abbrev pub Fills : Result (Unit {0}) InputFault → List ℕ → List ℕ → Type 0
+Fills (Ok _) before after = before ≡ after
+Fills (Err fault) before after = IsOutsideFault fault
+
 -- the byte that the text begins with, if it has one
 abbrev pub IsByte : Result (Option ℕ) InputFault → List ℕ → List ℕ → Type 0
 IsByte (Ok (Some byte)) before after = before ≡ byte ∷ after

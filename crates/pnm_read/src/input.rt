@@ -3,7 +3,7 @@
 ghost use Rattle.std.specs.Prelude.{◌≡◌, ◌≤◌, ◌⊎◌, ◌++◌, [], true, false, drop, length, List, ℕ, vec_len, OnOk, IfOk, IfErr};
 ghost use Rattle.std.specs.Io.KnownBytes.{Consumes, IsAtEnd};
 ghost use Rattle.pnm_image.specs.Devices.{Failed};
-ghost use Rattle.pnm_read.specs.Reads.{GathersAll};
+ghost use Rattle.pnm_read.specs.Reads.{Gathers};
 ghost use Rattle.pnm_read.specs.declared.fault.InputFault.TheVariants.{ReadFailed, Memory};
 
 use crate::fault::InputFault;
@@ -24,7 +24,7 @@ pub struct Input<R> {
 }
 
 impl<R: BytesIn> Input<R> {
-    ghost use Rattle.pnm_read.specs.Inputs.{held_of, Turn, IsByte, HoldsEnough};
+    ghost use Rattle.pnm_read.specs.Inputs.{held_of, Turn, Fills, IsByte, HoldsEnough};
 
     /// Nothing is read. The only fault is `Memory`.
     pub fn new(alloc: Global, reader: R) -> Result<Input<R>, InputFault>
@@ -74,7 +74,7 @@ impl<R: BytesIn> Input<R> {
 
     /// Reads until so many bytes are held, or the input has ended.
     pub fn fill(&mut self, wanted: usize) -> Result<(), InputFault>
-        ensures turn { Turn R.left R.failures R.same self.old self.new result (λ before after. OnOk result (before ≡ after)) }
+        ensures turn { Turn R.left R.failures R.same self.old self.new result (Fills result) }
         ensures enough { OnOk result (HoldsEnough wanted self.new) }
     {
         if self.ended || self.held.len() - self.at >= wanted {
@@ -103,7 +103,8 @@ impl<R: BytesIn> Input<R> {
 
 /// Reads all bytes that the reader still gives, and adds them to those that are held.
 fn read_to_end<R: BytesIn>(reader: &mut R, held: &mut Vec<u8>) -> Result<(), InputFault>
-    ensures read { GathersAll R.left reader.old reader.new held.old.items held.new.items }
+    ensures read { Gathers R.left reader.old reader.new held.old.items held.new.items result }
+    ensures grows { length held.old.items ≤ length held.new.items }
     ensures end { OnOk result (IsAtEnd (R.left reader.new)) }
     ensures count { OnOk result (R.failures reader.new ≡ R.failures reader.old) }
     ensures failed { IfErr result (λ fault. ((fault ≡ ReadFailed) × Failed (R.failures reader.old) (R.failures reader.new)) ⊎ (fault ≡ Memory)) }
