@@ -1,3 +1,4 @@
 pub mod CommentLaws
 pub mod Gathered
+pub mod PixelSteps
 pub mod Turns

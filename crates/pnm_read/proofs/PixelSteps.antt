@@ -1,0 +1,72 @@
+-- The scanner of a pixel, byte by byte.
+use Rattle.std.proofs.Common.{◌≡◌, ℕ, ◌+◌, Bool, true, false, not, ◌&&◌, ◌||◌, ◌==◌, nat_le, if◌then◌else◌, List, [], ◌∷◌, ◌++◌, length, refl, sym, ap, ◌∙◌, arith}
+use Rattle.std.proofs.lemmas.Bool.{and_parts}
+use Rattle.std.proofs.lemmas.Bool.Decides.{nat_tests}
+use Rattle.std.proofs.lemmas.List.{length-append}
+use Rattle.pnm_read.specs.declared.fault.InputFault.TheVariants.{TooLong, BadSample}
+use Rattle.pnm_read.specs.declared.judgement.Judgement.{Judgement}
+use Rattle.pnm_read.specs.declared.judgement.Judgement.TheVariants.{GoesOn, EndsWith, EndsBefore, Fails}
+use Rattle.pnm_read.specs.declared.pixel.PixelScanner.{PixelScanner}
+use Rattle.pnm_read.specs.Texts.{commented, commented_after, ends_in_comment, ends_by, is_apart}
+use Rattle.pnm_read.specs.Items.{pixel_item, pixel_end, pixel_in, is_pixel, gap_limit}
+use Rattle.pnm_read.specs.Scans.{JudgesByte, JudgesEnd}
+use Rattle.pnm_read.specs.Scanners.{IsPixelAfter, IsPixelWhole, JudgesPixel}
+use Rattle.pnm_read.proofs.CommentLaws.{commented_after-push, ends_by-push}
+
+pub pixel_fresh : (s : PixelScanner) → s.length ≡ 0 → s.in_comment ≡ false → IsPixelAfter s []
+unfolding commented_after
+pixel_fresh s l c = record { length_is = l; comment = c }
+
+-- the judgements of pixel_item by its three tests
+abbrev chosen : Bool → Bool → Bool → Judgement
+chosen long bad ends = if long then Fails TooLong else if bad then Fails BadSample else if ends then EndsWith else GoesOn
+
+chosen_ends : (long bad ends : Bool) → chosen long bad ends ≡ EndsWith → ends ≡ true
+chosen_ends true bad ends e = absurd cc
+chosen_ends false true ends e = absurd cc
+chosen_ends false false true e = refl
+chosen_ends false false false e = absurd cc
+
+chosen_never : (long bad ends : Bool) → chosen long bad ends ≡ EndsBefore → ⊥
+chosen_never true bad ends e = absurd cc
+chosen_never false true ends e = absurd cc
+chosen_never false false true e = absurd cc
+chosen_never false false false e = absurd cc
+
+-- a pixel ends with its character
+pixel_ends : (before : List ℕ) (b : ℕ) → pixel_item before b ≡ EndsWith → is_pixel b ≡ true
+unfolding pixel_item
+pixel_ends before b e = (and_parts _ _ (chosen_ends _ _ _ e)).1
+
+pixel_never_before : (before : List ℕ) (b : ℕ) → pixel_item before b ≡ EndsBefore → ⊥
+unfolding pixel_item
+pixel_never_before before b e = chosen_never _ _ _ e
+
+-- the character of a white pixel is 0
+white_or_black : (zero_is one_is : Bool) → (zero_is || one_is) ≡ true → (zero_is ≡ true → one_is ≡ false) → ◌≡◌ {A = ℕ} (if zero_is then 1 else 0) (if one_is then 0 else 1)
+white_or_black true one_is e n = rw (n refl) refl
+white_or_black false true e n = refl
+white_or_black false false e n = absurd cc
+
+not_both : (b : ℕ) → (b == 48) ≡ true → (b == 49) ≡ false
+not_both b e = grind (arith, nat_tests)
+
+pub pixel_goes_on : (old new : PixelScanner) (b : ℕ) (j : Judgement) → j ≡ GoesOn → JudgesPixel old b j → new.length ≡ old.length + 1 → new.in_comment ≡ commented old.in_comment b
+    → JudgesByte pixel_item (IsPixelAfter old) (IsPixelAfter new) (IsPixelWhole new) b j
+pixel_goes_on old new b j is h l c before a =
+    let after : IsPixelAfter new (before ++ b ∷ []) = record {
+        length_is = l ∙ ap (λ n. n + 1) a.length_is ∙ sym (length-append before (b ∷ []));
+        comment = c ∙ ap (λ t. commented t b) a.comment ∙ sym (commented_after-push before b);
+      } in
+    (h before a, rw is after)
+
+pub pixel_ends_with : (old new : PixelScanner) (b : ℕ) (j : Judgement) → j ≡ EndsWith → JudgesPixel old b j → new.pixel ≡ (if b == 48 then 1 else 0)
+    → JudgesByte pixel_item (IsPixelAfter old) (IsPixelAfter new) (IsPixelWhole new) b j
+pixel_ends_with old new b j is h p before a =
+    let character = pixel_ends before b (sym (h before a) ∙ is) in
+    let whole : IsPixelWhole new (before ++ b ∷ []) = p ∙ white_or_black (b == 48) (b == 49) character (not_both b) ∙ ap (λ (t : Bool). if t then 0 else 1) (sym (ends_by-push (λ b. b == 49) before b)) in
+    (h before a, rw is whole)
+
+pub pixel_not_before : (old new : PixelScanner) (b : ℕ) (j : Judgement) → j ≡ EndsBefore → JudgesPixel old b j
+    → JudgesByte pixel_item (IsPixelAfter old) (IsPixelAfter new) (IsPixelWhole new) b j
+pixel_not_before old new b j is h before a = absurd (pixel_never_before before b (sym (h before a) ∙ is))
