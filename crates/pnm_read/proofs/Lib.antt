@@ -2,3 +2,4 @@ pub mod CommentLaws
 pub mod Gathered
 pub mod PixelSteps
 pub mod Turns
+pub mod PieceLaws

@@ -1,0 +1,342 @@
+-- One plain sample: the bytes of its piece, what they spell, and what is read of them.
+use Rattle.std.proofs.Common.{◌≡◌, ℕ, zero, suc, ◌+◌, ◌-◌, ◌*◌, ◌<◌, ◌≤◌, Bool, true, false, not, cond, ◌&&◌, ◌||◌, List, [], ◌∷◌, ◌++◌, length, Option, Some, None, Result, Ok, Err, refl, sym, ap, ap₂, subst, ◌∙◌, append_assoc, append-nil, length-append, arith}
+use Rattle.std.specs.Prelude.{◌==◌, nat_le, if◌then◌else◌, filter}
+use Rattle.std.specs.List.{AllPass}
+use Rattle.std.specs.Char.{digit_value}
+use Rattle.std.proofs.lemmas.Bool.{lt-leb, leb-false, and_parts}
+use Rattle.std.proofs.lemmas.Bool.Decides.{nat_tests}
+use Rattle.std.proofs.lemmas.Int.Digits.{digits_value_push}
+use Rattle.std.proofs.lemmas.List.Elements.{filter-append, All-nil, All-head, All-tail, All-push}
+use Rattle.pnm_read.specs.declared.fault.InputFault.{InputFault}
+use Rattle.pnm_read.specs.declared.fault.InputFault.TheVariants.{TooLong, BadSample, RasterCut, SampleAboveMaxval}
+use Rattle.pnm_read.specs.declared.judgement.Judgement.{Judgement}
+use Rattle.pnm_read.specs.declared.judgement.Judgement.TheVariants.{GoesOn, EndsWith, EndsBefore, Fails}
+use Rattle.pnm_read.specs.Texts.{is_white, is_digit, is_line_end, is_apart, begins_apart, ends_by, commented, commented_after, ends_in_comment, uncommented_from, uncommented, decimal_value, number_in}
+use Rattle.pnm_read.specs.Items.{◌>>=◌, piece_from, gap_limit, ends_in_digit, is_complete, decimal_item, decimal_end, is_pixel, pixel_item, pixel_end}
+use Rattle.pnm_read.proofs.CommentLaws.{commented_after-push, uncommented_from-append, ends_by-push}
+
+-- ---- one byte more
+
+-- a byte inside a comment is cut out
+pub uncommented-inside : (before : List ℕ) (b : ℕ) → ends_in_comment before ≡ true → uncommented (before ++ b ∷ []) ≡ uncommented before
+unfolding uncommented_from
+uncommented-inside before b e =
+    uncommented_from-append false before (b ∷ []) ∙ ap (λ (i : Bool). uncommented before ++ uncommented_from i (b ∷ [])) e ∙ append-nil (uncommented before)
+
+-- a byte that begins a comment is cut out
+pub uncommented-begins : (before : List ℕ) (b : ℕ) → ends_in_comment before ≡ false → (b == 35) ≡ true → uncommented (before ++ b ∷ []) ≡ uncommented before
+unfolding uncommented_from
+uncommented-begins before b e h =
+    uncommented_from-append false before (b ∷ []) ∙ ap (λ (i : Bool). uncommented before ++ uncommented_from i (b ∷ [])) e ∙ ap (λ (t : Bool). uncommented before ++ (if t then [] else b ∷ [])) h ∙ append-nil (uncommented before)
+
+-- another byte outside comments stays
+pub uncommented-stays : (before : List ℕ) (b : ℕ) → ends_in_comment before ≡ false → (b == 35) ≡ false → uncommented (before ++ b ∷ []) ≡ uncommented before ++ b ∷ []
+unfolding uncommented_from
+uncommented-stays before b e h =
+    uncommented_from-append false before (b ∷ []) ∙ ap (λ (i : Bool). uncommented before ++ uncommented_from i (b ∷ [])) e ∙ ap (λ (t : Bool). uncommented before ++ (if t then [] else b ∷ [])) h
+
+-- a digit begins no comment
+digit_is_no_mark : (b : ℕ) → is_digit b ≡ true → (b == 35) ≡ false
+digit_is_no_mark b h = grind (arith, nat_tests)
+
+-- the value of a decimal digit
+digit_value_is : (b : ℕ) → is_digit b ≡ true → digit_value b ≡ b - 48
+digit_value_is b h = grind (arith, nat_tests)
+
+-- a digit outside comments is one more digit of the number
+pub number_in-digit : (before : List ℕ) (b : ℕ) → ends_in_comment before ≡ false → is_digit b ≡ true → number_in (before ++ b ∷ []) ≡ number_in before * 10 + (b - 48)
+number_in-digit before b e h =
+    let digits : List ℕ = filter is_digit (uncommented before) in
+    let left : filter is_digit (uncommented (before ++ b ∷ [])) ≡ digits ++ b ∷ [] =
+        ap (λ (t : List ℕ). filter is_digit t) (uncommented-stays before b e (digit_is_no_mark b h)) ∙ filter-append is_digit (uncommented before) (b ∷ []) ∙ ap (λ (t : Bool). digits ++ cond t (b ∷ []) []) h in
+    ap decimal_value left ∙ digits_value_push 10 digits b ∙ ap (λ (n : ℕ). number_in before * 10 + n) (digit_value_is b h)
+
+-- outside comments, a byte that is no digit leaves the digits
+digits_stay : (before : List ℕ) (b : ℕ) (mark : Bool) → ends_in_comment before ≡ false → (b == 35) ≡ mark → is_digit b ≡ false → filter is_digit (uncommented (before ++ b ∷ [])) ≡ filter is_digit (uncommented before)
+digits_stay before b true e m h = ap (λ (t : List ℕ). filter is_digit t) (uncommented-begins before b e m)
+digits_stay before b false e m h =
+    let digits : List ℕ = filter is_digit (uncommented before) in
+    ap (λ (t : List ℕ). filter is_digit t) (uncommented-stays before b e m) ∙ filter-append is_digit (uncommented before) (b ∷ []) ∙ ap (λ (t : Bool). digits ++ cond t (b ∷ []) []) h ∙ append-nil digits
+
+number_by : (before : List ℕ) (b : ℕ) (inside : Bool) → ends_in_comment before ≡ inside → (not inside && is_digit b) ≡ false → number_in (before ++ b ∷ []) ≡ number_in before
+number_by before b true e h = ap (λ (t : List ℕ). decimal_value (filter is_digit t)) (uncommented-inside before b e)
+number_by before b false e h = ap decimal_value (digits_stay before b (b == 35) e refl h)
+
+-- another byte leaves the number: one in a comment, or no digit
+pub number_in-other : (before : List ℕ) (b : ℕ) → (not (ends_in_comment before) && is_digit b) ≡ false → number_in (before ++ b ∷ []) ≡ number_in before
+number_in-other before b h = number_by before b (ends_in_comment before) refl h
+
+-- ---- steps
+
+-- the value of a step that did not fail
+pub bind_ok : {A B : Type 0} (r : Result A InputFault) (f : A → Result B InputFault) (y : B) → (r >>= f) ≡ Ok y → (x : A) × (r ≡ Ok x) × (f x ≡ Ok y)
+bind_ok (Ok x) f y e = (x, refl, e)
+bind_ok (Err d) f y e = absurd cc
+
+-- a step that did not fail
+abbrev pub done : {A : Type 0} → A → Result A InputFault
+done x = Ok x
+
+-- a step has one value
+pub ok_is : {A : Type 0} (x y : A) → done x ≡ done y → x ≡ y
+ok_is x y e = cc
+
+-- the piece that goes on, or ends, as a byte is judged
+abbrev pub piece_by : (List ℕ → ℕ → Judgement) → (List ℕ → Option InputFault) → List ℕ → ℕ → List ℕ → Judgement → Result (List ℕ × List ℕ) InputFault
+piece_by item at_end before b text j = elim j [
+  | Fails fault ↦ Err fault
+  | EndsWith ↦ Ok (before ++ b ∷ [], text)
+  | EndsBefore ↦ Ok (before, b ∷ text)
+  | GoesOn ↦ piece_from item at_end (before ++ b ∷ []) text
+]
+
+-- a piece from a byte on is as the byte is judged
+pub piece_step : (item : List ℕ → ℕ → Judgement) (at_end : List ℕ → Option InputFault) (before : List ℕ) (b : ℕ) (text : List ℕ) (j : Judgement) → item before b ≡ j
+    → piece_from item at_end before (b ∷ text) ≡ piece_by item at_end before b text j
+unfolding piece_from
+piece_step item at_end before b text j e = ap (piece_by item at_end before b text) e
+
+-- what was found of a byte and what follows it: how the byte was judged, and what was found then
+abbrev pub FoundBy : (List ℕ → ℕ → Judgement) → (List ℕ → Option InputFault) → List ℕ → ℕ → List ℕ → List ℕ × List ℕ → Judgement → Type 0
+FoundBy item at_end before b text found (Fails fault) = ⊥
+FoundBy item at_end before b text found EndsWith = (before ++ b ∷ [], text) ≡ found
+FoundBy item at_end before b text found EndsBefore = (before, b ∷ text) ≡ found
+FoundBy item at_end before b text found GoesOn = piece_from item at_end (before ++ b ∷ []) text ≡ Ok found
+
+found_by : (item : List ℕ → ℕ → Judgement) (at_end : List ℕ → Option InputFault) (before : List ℕ) (b : ℕ) (text : List ℕ) (found : List ℕ × List ℕ) (j : Judgement)
+    → piece_by item at_end before b text j ≡ Ok found → FoundBy item at_end before b text found j
+found_by item at_end before b text found (Fails fault) e = cc
+found_by item at_end before b text found EndsWith e = ok_is (before ++ b ∷ [], text) found e
+found_by item at_end before b text found EndsBefore e = ok_is (before, b ∷ text) found e
+found_by item at_end before b text found GoesOn e = e
+
+-- what a step found
+pub found_from : (item : List ℕ → ℕ → Judgement) (at_end : List ℕ → Option InputFault) (before : List ℕ) (b : ℕ) (text : List ℕ) (found : List ℕ × List ℕ)
+    → piece_from item at_end before (b ∷ text) ≡ Ok found → FoundBy item at_end before b text found (item before b)
+unfolding piece_from
+found_from item at_end before b text found e = found_by item at_end before b text found (item before b) e
+
+-- the piece where the text ends, by the fault that this is
+abbrev pub piece_at_end : List ℕ → Option InputFault → Result (List ℕ × List ℕ) InputFault
+piece_at_end before at_end = elim at_end [ Some fault ↦ Err fault | None ↦ Ok (before, []) ]
+
+-- where a text has ended and a piece was found, that is what came before
+ended_with : (at_end : Option InputFault) (before : List ℕ) (found : List ℕ × List ℕ) → piece_at_end before at_end ≡ Ok found → (at_end ≡ None) × ((before, []) ≡ found)
+ended_with (Some fault) before found e = absurd cc
+ended_with None before found e = (refl, ok_is (before, []) found e)
+
+pub found_at_end : (item : List ℕ → ℕ → Judgement) (at_end : List ℕ → Option InputFault) (before : List ℕ) (found : List ℕ × List ℕ) → piece_from item at_end before [] ≡ Ok found → (at_end before ≡ None) × ((before, []) ≡ found)
+unfolding piece_from
+found_at_end item at_end before found e = ended_with (at_end before) before found e
+
+-- a piece ends where the text does, if that is no fault
+pub piece_ends : (item : List ℕ → ℕ → Judgement) (at_end : List ℕ → Option InputFault) (before : List ℕ) → at_end before ≡ None → piece_from item at_end before [] ≡ Ok (before, [])
+unfolding piece_from
+piece_ends item at_end before e = ap (piece_at_end before) e
+
+-- a piece and its rest are the whole text
+whole_by : (item : List ℕ → ℕ → Judgement) (at_end : List ℕ → Option InputFault) (before : List ℕ) (b : ℕ) (text : List ℕ) (found : List ℕ × List ℕ) (j : Judgement)
+    → (piece_from item at_end (before ++ b ∷ []) text ≡ Ok found → (before ++ b ∷ []) ++ text ≡ found.0 ++ found.1) → FoundBy item at_end before b text found j → before ++ b ∷ text ≡ found.0 ++ found.1
+whole_by item at_end before b text found (Fails fault) on h = absurd h
+whole_by item at_end before b text found EndsWith on h = sym (append_assoc before (b ∷ []) text) ∙ ap (λ (f : List ℕ × List ℕ). f.0 ++ f.1) h
+whole_by item at_end before b text found EndsBefore on h = ap (λ (f : List ℕ × List ℕ). f.0 ++ f.1) h
+whole_by item at_end before b text found GoesOn on h = sym (append_assoc before (b ∷ []) text) ∙ on h
+
+pub found_is_whole : (item : List ℕ → ℕ → Judgement) (at_end : List ℕ → Option InputFault) (text before : List ℕ) (found : List ℕ × List ℕ) → piece_from item at_end before text ≡ Ok found → before ++ text ≡ found.0 ++ found.1
+found_is_whole item at_end [] before found e = ap (λ (f : List ℕ × List ℕ). f.0 ++ f.1) (found_at_end item at_end before found e).1
+found_is_whole item at_end (b ∷ text) before found e =
+    whole_by item at_end before b text found (item before b) (found_is_whole item at_end text (before ++ b ∷ []) found) (found_from item at_end before b text found e)
+
+-- ---- bytes of a gap
+
+-- the byte is in a comment, or is white space, or begins a comment
+abbrev pub in_gap : Bool → ℕ → Bool
+in_gap inside b = inside || is_apart b
+
+-- white space and # are no digits
+apart_is_no_digit : (b : ℕ) → is_apart b ≡ true → is_digit b ≡ false
+apart_is_no_digit b h = grind (arith, nat_tests)
+
+white_is_no_digit : (b : ℕ) → is_white b ≡ true → is_digit b ≡ false
+white_is_no_digit b h = grind (arith, nat_tests)
+
+line_end_is_no_digit : (b : ℕ) → (not (not (is_line_end b)) && is_digit b) ≡ false
+line_end_is_no_digit b = grind (arith, nat_tests)
+
+no_digit_and : (t : Bool) (b : ℕ) → is_digit b ≡ false → (t && is_digit b) ≡ false
+no_digit_and true b h = h
+no_digit_and false b h = refl
+
+-- after a byte of a gap the text does not end in a digit outside comments
+after_gap_byte : (inside : Bool) (b : ℕ) → in_gap inside b ≡ true → (not (commented inside b) && is_digit b) ≡ false
+after_gap_byte true b h = line_end_is_no_digit b
+after_gap_byte false b h = no_digit_and (not (b == 35)) b (apart_is_no_digit b h)
+
+-- whether a text with one byte more ends in a digit outside comments
+pub ends_in_digit-push : (before : List ℕ) (b : ℕ) → ends_in_digit (before ++ b ∷ []) ≡ (not (commented (ends_in_comment before) b) && is_digit b)
+ends_in_digit-push before b = ap₂ (λ (i d : Bool). not i && d) (commented_after-push before b) (ends_by-push is_digit before b)
+
+-- the first byte of a gap that goes on, outside comments
+outside_head : (t : Bool) (b : ℕ) (gap : List ℕ) → (b == 35) ≡ t → AllPass is_white (if t then uncommented_from (b == 35) gap else b ∷ uncommented_from false gap)
+    → (is_apart b ≡ true) × AllPass is_white (uncommented_from (b == 35) gap)
+outside_head true b gap e h = (grind (arith, nat_tests), h)
+outside_head false b gap e h =
+    let first : is_white b ≡ true = All-head (λ x. is_white x ≡ true) b (uncommented_from false gap) h in
+    (ap (λ (t : Bool). t || (b == 35)) first, subst (λ (t : Bool). AllPass is_white (uncommented_from t gap)) (sym e) (All-tail (λ x. is_white x ≡ true) b (uncommented_from false gap) h))
+
+-- the first byte of a gap that goes on, and the gap after it
+gap_head : (inside : Bool) (b : ℕ) (gap : List ℕ) → AllPass is_white (uncommented_from inside (b ∷ gap)) → (in_gap inside b ≡ true) × AllPass is_white (uncommented_from (commented inside b) gap)
+unfolding uncommented_from
+gap_head true b gap h = (refl, h)
+gap_head false b gap h = outside_head (b == 35) b gap refl h
+
+-- such a byte leaves what is not cut out white
+white-push : (t : Bool) (before : List ℕ) (b : ℕ) → (b == 35) ≡ t → ends_in_comment before ≡ false → is_apart b ≡ true → AllPass is_white (uncommented before) → AllPass is_white (uncommented (before ++ b ∷ []))
+white-push true before b e out h all = subst (AllPass is_white) (sym (uncommented-begins before b out e)) all
+white-push false before b e out h all =
+    let white : is_white b ≡ true = grind (arith, nat_tests) in
+    subst (AllPass is_white) (sym (uncommented-stays before b out e)) (All-push (λ x. is_white x ≡ true) (uncommented before) b all white)
+
+white_by : (inside : Bool) (before : List ℕ) (b : ℕ) → ends_in_comment before ≡ inside → in_gap inside b ≡ true → AllPass is_white (uncommented before) → AllPass is_white (uncommented (before ++ b ∷ []))
+white_by true before b e h all = subst (AllPass is_white) (sym (uncommented-inside before b e)) all
+white_by false before b e h all = white-push (b == 35) before b refl e h all
+
+-- a gap with one of its bytes more is white
+pub gap-push : (before : List ℕ) (b : ℕ) → in_gap (ends_in_comment before) b ≡ true → AllPass is_white (uncommented before) → AllPass is_white (uncommented (before ++ b ∷ []))
+gap-push before b h all = white_by (ends_in_comment before) before b refl h all
+
+-- ---- over a gap
+
+-- a byte of a gap lets the piece go on
+abbrev pub GoesOverGaps : (List ℕ → ℕ → Judgement) → Type 0
+GoesOverGaps item = (before : List ℕ) (b : ℕ) → length before < gap_limit → ends_in_digit before ≡ false → in_gap (ends_in_comment before) b ≡ true → item before b ≡ GoesOn
+
+-- what holds after a gap: the piece goes on, and doesn't end in a digit
+abbrev pub AfterGap : (List ℕ → ℕ → Judgement) → (List ℕ → Option InputFault) → List ℕ → List ℕ → List ℕ → Type 0
+AfterGap item at_end before gap rest = (piece_from item at_end before (gap ++ rest) ≡ piece_from item at_end (before ++ gap) rest) × (ends_in_digit (before ++ gap) ≡ false)
+
+pub over_gap : (item : List ℕ → ℕ → Judgement) (at_end : List ℕ → Option InputFault) → GoesOverGaps item → (gap before rest : List ℕ) → ends_in_digit before ≡ false
+    → AllPass is_white (uncommented_from (ends_in_comment before) gap) → length before + length gap ≤ gap_limit → AfterGap item at_end before gap rest
+over_gap item at_end on [] before rest out white short =
+    let whole : before ++ [] ≡ before = append-nil before in
+    (ap (λ (t : List ℕ). piece_from item at_end t rest) (sym whole), ap ends_in_digit whole ∙ out)
+over_gap item at_end on (b ∷ gap) before rest out white short =
+    let head = gap_head (ends_in_comment before) b gap white in
+    let here : item before b ≡ GoesOn = on before b (omega arith) out head.0 in
+    let no_digit : ends_in_digit (before ++ b ∷ []) ≡ false = ends_in_digit-push before b ∙ after_gap_byte (ends_in_comment before) b head.0 in
+    let left : AllPass is_white (uncommented_from (ends_in_comment (before ++ b ∷ [])) gap) = subst (λ (i : Bool). AllPass is_white (uncommented_from i gap)) (sym (commented_after-push before b)) head.1 in
+    let long : length (before ++ b ∷ []) ≡ length before + 1 = length-append before (b ∷ []) in
+    let more = over_gap item at_end on gap (before ++ b ∷ []) rest no_digit left (omega arith) in
+    let whole : (before ++ b ∷ []) ++ gap ≡ before ++ b ∷ gap = append_assoc before (b ∷ []) gap in
+    (
+      piece_step item at_end before b (gap ++ rest) GoesOn here ∙ more.0 ∙ ap (λ (t : List ℕ). piece_from item at_end t rest) whole,
+      ap ends_in_digit (sym whole) ∙ more.1,
+    )
+
+-- ---- bytes of a number
+
+-- how a byte of a number, or of the gap before it, is judged by three tests
+abbrev pub decimal_by : Bool → Bool → Bool → Judgement
+decimal_by long bad complete = if long && not complete then Fails TooLong else if bad then Fails BadSample else if complete then EndsBefore else GoesOn
+
+-- a byte that cannot stand in a plain raster of numbers
+abbrev pub is_bad_in_decimal : Bool → ℕ → Bool
+is_bad_in_decimal inside b = not inside && not (is_digit b || is_apart b)
+
+pub decimal_item_is : (before : List ℕ) (b : ℕ) → decimal_item before b ≡ decimal_by (nat_le gap_limit (length before)) (is_bad_in_decimal (ends_in_comment before) b) (is_complete before b)
+unfolding decimal_item
+decimal_item_is before b = refl
+
+-- each judgement, from the tests
+decimal_goes_on : (before : List ℕ) (b : ℕ) → length before < gap_limit → is_bad_in_decimal (ends_in_comment before) b ≡ false → is_complete before b ≡ false → decimal_item before b ≡ GoesOn
+decimal_goes_on before b short good more = decimal_item_is before b ∙ rw (lt-leb gap_limit (length before) short, good, more) refl
+
+ends_before_by : (long bad complete : Bool) → bad ≡ false → complete ≡ true → decimal_by long bad complete ≡ EndsBefore
+ends_before_by true bad complete b c = rw (b, c) refl
+ends_before_by false bad complete b c = rw (b, c) refl
+
+decimal_ends_before : (before : List ℕ) (b : ℕ) → is_bad_in_decimal (ends_in_comment before) b ≡ false → is_complete before b ≡ true → decimal_item before b ≡ EndsBefore
+decimal_ends_before before b good end =
+    decimal_item_is before b ∙ ends_before_by (nat_le gap_limit (length before)) (is_bad_in_decimal (ends_in_comment before) b) (is_complete before b) good end
+
+-- the tests, from each judgement
+abbrev DecimalTests : Bool → Bool → Bool → Judgement → Type 0
+DecimalTests long bad complete (Fails fault) = Unit {0}
+DecimalTests long bad complete EndsWith = ⊥
+DecimalTests long bad complete EndsBefore = (bad ≡ false) × (complete ≡ true)
+DecimalTests long bad complete GoesOn = (long ≡ false) × (bad ≡ false) × (complete ≡ false)
+
+decimal_tests : (long bad complete : Bool) → DecimalTests long bad complete (decimal_by long bad complete)
+decimal_tests true true true = tt
+decimal_tests true true false = tt
+decimal_tests true false true = (refl, refl)
+decimal_tests true false false = tt
+decimal_tests false true complete = tt
+decimal_tests false false true = (refl, refl)
+decimal_tests false false false = (refl, refl, refl)
+
+-- what a judgement of a byte of a number tells
+abbrev pub DecimalTold : List ℕ → ℕ → Judgement → Type 0
+DecimalTold before b j = DecimalTests (nat_le gap_limit (length before)) (is_bad_in_decimal (ends_in_comment before) b) (is_complete before b) j
+
+decimal_told : (before : List ℕ) (b : ℕ) → DecimalTold before b (decimal_item before b)
+decimal_told before b = subst (DecimalTold before b) (sym (decimal_item_is before b)) (decimal_tests (nat_le gap_limit (length before)) (is_bad_in_decimal (ends_in_comment before) b) (is_complete before b))
+
+-- ---- bytes of a pixel
+
+abbrev pub pixel_by : Bool → Bool → Bool → Judgement
+pixel_by long bad pixel = if long then Fails TooLong else if bad then Fails BadSample else if pixel then EndsWith else GoesOn
+
+-- a byte that cannot stand in a plain raster of pixels
+abbrev pub is_bad_in_pixels : Bool → ℕ → Bool
+is_bad_in_pixels inside b = not inside && not (is_pixel b || is_apart b)
+
+pub pixel_item_is : (before : List ℕ) (b : ℕ) → pixel_item before b ≡ pixel_by (nat_le gap_limit (length before)) (is_bad_in_pixels (ends_in_comment before) b) (not (ends_in_comment before) && is_pixel b)
+unfolding pixel_item
+pixel_item_is before b = refl
+
+pixel_goes_on : (before : List ℕ) (b : ℕ) → length before < gap_limit → is_bad_in_pixels (ends_in_comment before) b ≡ false → (not (ends_in_comment before) && is_pixel b) ≡ false → pixel_item before b ≡ GoesOn
+pixel_goes_on before b short good more = pixel_item_is before b ∙ rw (lt-leb gap_limit (length before) short, good, more) refl
+
+pixel_ends_with : (before : List ℕ) (b : ℕ) → length before < gap_limit → is_bad_in_pixels (ends_in_comment before) b ≡ false → (not (ends_in_comment before) && is_pixel b) ≡ true → pixel_item before b ≡ EndsWith
+pixel_ends_with before b short good end = pixel_item_is before b ∙ rw (lt-leb gap_limit (length before) short, good, end) refl
+
+abbrev PixelTests : Bool → Bool → Bool → Judgement → Type 0
+PixelTests long bad pixel (Fails fault) = Unit {0}
+PixelTests long bad pixel EndsWith = (long ≡ false) × (bad ≡ false) × (pixel ≡ true)
+PixelTests long bad pixel EndsBefore = ⊥
+PixelTests long bad pixel GoesOn = (long ≡ false) × (bad ≡ false) × (pixel ≡ false)
+
+pixel_tests : (long bad pixel : Bool) → PixelTests long bad pixel (pixel_by long bad pixel)
+pixel_tests true bad pixel = tt
+pixel_tests false true pixel = tt
+pixel_tests false false true = (refl, refl, refl)
+pixel_tests false false false = (refl, refl, refl)
+
+-- what a judgement of a byte of a pixel's piece tells
+abbrev pub PixelTold : List ℕ → ℕ → Judgement → Type 0
+PixelTold before b j = PixelTests (nat_le gap_limit (length before)) (is_bad_in_pixels (ends_in_comment before) b) (not (ends_in_comment before) && is_pixel b) j
+
+pixel_told : (before : List ℕ) (b : ℕ) → PixelTold before b (pixel_item before b)
+pixel_told before b = subst (PixelTold before b) (sym (pixel_item_is before b)) (pixel_tests (nat_le gap_limit (length before)) (is_bad_in_pixels (ends_in_comment before) b) (not (ends_in_comment before) && is_pixel b))
+
+-- ---- gaps are gone over
+
+good_in_gap : (inside : Bool) (b : ℕ) → in_gap inside b ≡ true → is_bad_in_decimal inside b ≡ false
+good_in_gap true b h = refl
+good_in_gap false b h = grind (arith, nat_tests)
+
+good_among_pixels : (inside : Bool) (b : ℕ) → in_gap inside b ≡ true → is_bad_in_pixels inside b ≡ false
+good_among_pixels true b h = refl
+good_among_pixels false b h = grind (arith, nat_tests)
+
+no_pixel_in_gap : (inside : Bool) (b : ℕ) → in_gap inside b ≡ true → (not inside && is_pixel b) ≡ false
+no_pixel_in_gap true b h = refl
+no_pixel_in_gap false b h = grind (arith, nat_tests)
+
+decimals_go_over_gaps : GoesOverGaps decimal_item
+decimals_go_over_gaps before b short out h =
+    decimal_goes_on before b short (good_in_gap (ends_in_comment before) b h) (ap (λ (t : Bool). t && not (is_digit b)) out)
+
+pixels_go_over_gaps : GoesOverGaps pixel_item
+pixels_go_over_gaps before b short out h = pixel_goes_on before b short (good_among_pixels (ends_in_comment before) b h) (no_pixel_in_gap (ends_in_comment before) b h)
