@@ -1,2 +1,3 @@
 pub mod CommentLaws
 pub mod WordLaws
+pub mod HeaderLaws

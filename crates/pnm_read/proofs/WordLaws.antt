@@ -1,8 +1,8 @@
 -- Words and numbers of a text that is read on by one byte, or split at white space.
-use Rattle.std.proofs.Common.{◌≡◌, ◌⊎◌, inl, inr, ℕ, ◌+◌, ◌-◌, ◌*◌, Bool, true, false, not, ◌||◌, ◌==◌, if◌then◌else◌, List, [], ◌∷◌, ◌++◌, map, refl, sym, ap, subst, ◌∙◌, append_assoc, arith}
+use Rattle.std.proofs.Common.{◌≡◌, ◌⊎◌, inl, inr, ℕ, ◌+◌, ◌-◌, ◌*◌, ◌<◌, Bool, true, false, not, ◌||◌, ◌==◌, if◌then◌else◌, List, [], ◌∷◌, ◌++◌, map, length, refl, sym, ap, subst, ◌∙◌, append_assoc, arith}
 use Rattle.std.specs.Char.{digit_value}
 use Rattle.std.proofs.lemmas.Bool.Decides.{nat_tests}
-use Rattle.std.proofs.lemmas.List.{append-nil, map-append}
+use Rattle.std.proofs.lemmas.List.{append-nil, map-append, length-append, length-map}
 use Rattle.std.proofs.lemmas.Int.Digits.{digits_value_push}
 use Rattle.pnm_read.specs.Texts.{is_white, is_digit, ends_by, ends_in_comment, uncommented_from, uncommented, begins_in_word, ends_in_word, onto_first, words, decimal_value, numbers_in}
 use Rattle.pnm_read.proofs.CommentLaws.{uncommented_from-append, ends_by-push}
@@ -139,10 +139,15 @@ words-next (x ∷ y ∷ text) b h e = grows_last (is_white x) (begins_in_word (y
 
 -- ---- a byte more, outside comments and inside
 
+-- a text that goes on with a byte outside comments that begins none
+pub uncommented-split : (a : List ℕ) (b : ℕ) (c : List ℕ) → ends_in_comment a ≡ false → (b == 35) ≡ false → uncommented (a ++ b ∷ c) ≡ uncommented a ++ b ∷ uncommented c
+unfolding uncommented_from
+uncommented-split a b c outside plain = uncommented_from-append false a (b ∷ c) ∙ ap (λ (i : Bool). uncommented a ++ uncommented_from i (b ∷ c)) outside ∙ rw plain refl
+
 -- a byte outside comments that begins none
 pub uncommented-plain : (before : List ℕ) (b : ℕ) → ends_in_comment before ≡ false → (b == 35) ≡ false → uncommented (before ++ b ∷ []) ≡ uncommented before ++ b ∷ []
 unfolding uncommented_from
-uncommented-plain before b outside plain = uncommented_from-append false before (b ∷ []) ∙ ap (λ (i : Bool). uncommented before ++ uncommented_from i (b ∷ [])) outside ∙ rw plain refl
+uncommented-plain before b outside plain = uncommented-split before b [] outside plain
 
 comment_is_cut_by : (inside : Bool) (b : ℕ) → (inside || (b == 35)) ≡ true → uncommented_from inside (b ∷ []) ≡ []
 unfolding uncommented_from
@@ -201,3 +206,45 @@ ends_in_word-comment before b h = ap ends_in_word (uncommented-comment before b 
 
 pub ends_in_word-digit : (before : List ℕ) (b : ℕ) → ends_in_comment before ≡ false → is_digit b ≡ true → ends_in_word (uncommented (before ++ b ∷ [])) ≡ true
 ends_in_word-digit before b outside digit = ends_in_word-push before b outside (digit_is_not_sharp b digit) ∙ ap not (digit_is_not_white b digit)
+
+-- ---- texts that end in a word
+
+-- what the test of the last byte says of a text that goes on after a byte that fails it
+pub ends_by-split : (test : ℕ → Bool) (a : List ℕ) (b : ℕ) (c : List ℕ) → test b ≡ false → ends_by test (a ++ b ∷ c) ≡ ends_by test c
+unfolding ends_by
+ends_by-split test [] b [] e = e
+ends_by-split test [] b (y ∷ c) e = refl
+ends_by-split test (x ∷ []) b c e = ends_by-split test [] b c e
+ends_by-split test (x ∷ y ∷ a) b c e = ends_by-split test (y ∷ a) b c e
+
+words_by_some : (white begins : Bool) (b : ℕ) (found : List (List ℕ)) → HasFirst found → HasFirst (words_by white begins b found)
+words_by_some true begins b found h = h
+words_by_some false begins b found h = word_has_first begins b found
+
+-- a text that ends in a word has words
+pub some_word : (text : List ℕ) → ends_in_word text ≡ true → HasFirst (words text)
+unfolding ends_by
+some_word [] e = absurd cc
+some_word (x ∷ []) e = words_by_first (is_white x) x [] refl e
+some_word (x ∷ y ∷ text) e = subst HasFirst (sym (words-cons x (y ∷ text))) (words_by_some (is_white x) (begins_in_word (y ∷ text)) x (words (y ∷ text)) (some_word (y ∷ text) e))
+
+-- a front of a text that ends in a word, before white space, has fewer words
+pub fewer_words : (a : List ℕ) (b : ℕ) (c : List ℕ) → is_white b ≡ true → ends_in_word (a ++ b ∷ c) ≡ true → length (words a) < length (words (a ++ b ∷ c))
+fewer_words a b c white ends =
+    let last : ends_in_word c ≡ true = sym (ends_by-split (λ x. not (is_white x)) a b c (ap not white)) ∙ ends in
+    let some = some_word c last in
+    let split : length (words (a ++ b ∷ c)) ≡ length (words a) + length (words c) = ap (λ (w : List (List ℕ)). length w) (words-split a b c white) ∙ length-append (words a) (words c) in
+    let more : length (words c) ≡ length (some.0 ∷ some.1) = ap (λ (w : List (List ℕ)). length w) some.2 in
+    omega arith
+
+-- the numbers of a text are as many as its words
+pub length-numbers : (text : List ℕ) → length (numbers_in text) ≡ length (words (uncommented text))
+length-numbers text = length-map (words (uncommented text)) decimal_value
+
+-- a front of a text that ends in a word, before white space outside comments, has fewer numbers
+pub fewer_numbers : (a : List ℕ) (b : ℕ) (c : List ℕ) → ends_in_comment a ≡ false → is_white b ≡ true → ends_in_word (uncommented (a ++ b ∷ c)) ≡ true → length (numbers_in a) < length (numbers_in (a ++ b ∷ c))
+fewer_numbers a b c outside white ends =
+    let parts : uncommented (a ++ b ∷ c) ≡ uncommented a ++ b ∷ uncommented c = uncommented-split a b c outside (white_is_not_sharp b white) in
+    let fewer : length (words (uncommented a)) < length (words (uncommented a ++ b ∷ uncommented c)) = fewer_words (uncommented a) b (uncommented c) white (sym (ap ends_in_word parts) ∙ ends) in
+    let same : length (words (uncommented (a ++ b ∷ c))) ≡ length (words (uncommented a ++ b ∷ uncommented c)) = ap (λ (t : List ℕ). length (words t)) parts in
+    omega (arith, length-numbers a, length-numbers (a ++ b ∷ c))
