@@ -3,3 +3,5 @@ pub mod Gathered
 pub mod PixelSteps
 pub mod Turns
 pub mod PieceLaws
+pub mod WordLaws
+pub mod HeaderLaws
