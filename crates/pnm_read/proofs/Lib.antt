@@ -1,1 +1,2 @@
 pub mod CommentLaws
+pub mod PackingLaws
