@@ -1,10 +1,30 @@
 -- The samples of a raw row, and the bytes that they lie in.
-use Rattle.std.proofs.Common.{◌≡◌, ℕ, zero, suc, ◌+◌, ◌*◌, ◌≤◌, ◌<◌, List, [], ◌∷◌, ◌++◌, length, get_or, Bor, refl, sym, ap, ◌∙◌, subst, arith}
+use Rattle.std.proofs.Common.{◌≡◌, ℕ, ◌+◌, ◌-◌, ◌*◌, ◌≤◌, ◌<◌, ◌↔◌, All, false, List, [], ◌∷◌, ◌++◌, length, get_or, take, drop, Result, Ok, Err, OnOk, is_err, refl, sym, ap, ◌∙◌, subst, arith}
 use Rattle.std.specs.declared.slice.ChunksExact.{ChunksExact}
 use Rattle.std.specs.Slice.Iter.{chunks_exact_steps, chunks_exact_rest, chunks_exact_size}
+use Rattle.std.proofs.lemmas.List.{take_all, drop_at, length-append}
 use Rattle.std.proofs.lemmas.Iterator.{YieldsList}
 use Rattle.std.proofs.lemmas.Iterator.Splits.{YieldsList-from_shown_while}
 use Rattle.pnm_read.specs.Rasters.{wide_samples}
+
+-- ---- appended samples
+
+-- what holds of each value holds where there is no error
+pub at_no_error : {T E : Type 0} (P : Type 0) (r : Result T E) → is_err r ≡ false → OnOk r P → P
+at_no_error P (Ok x) e h = h
+at_no_error P (Err y) e h = absurd cc
+
+-- what comes after the old list is what was appended
+appended_end : (old samples new : List ℕ) (n : ℕ) → new ≡ old ++ samples → n ≡ length old → take (length new - n) (drop n new) ≡ samples
+appended_end old samples new n e count =
+    let left : drop n new ≡ samples = ap (drop n) e ∙ drop_at old samples n (sym count) in
+    ap (take (length new - n)) left ∙ take_all (length new - n) samples (omega (arith, ap length e, length-append old samples))
+
+-- a bound of the end of a list is a bound of what was appended
+pub bound_of_appended : (old samples new : List ℕ) (n greatest : ℕ) → new ≡ old ++ samples → n ≡ length old
+    → ((most : ℕ) → (greatest ≤ most) ↔ All (λ sample. sample ≤ most) (take (length new - n) (drop n new))) → (most : ℕ) → (greatest ≤ most) ↔ All (λ sample. sample ≤ most) samples
+bound_of_appended old samples new n greatest e count known most =
+    subst (λ (l : List ℕ). (greatest ≤ most) ↔ All (λ sample. sample ≤ most) l) (appended_end old samples new n e count) (known most)
 
 -- ---- pairs of bytes
 
