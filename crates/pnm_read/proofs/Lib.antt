@@ -5,3 +5,4 @@ pub mod Turns
 pub mod PieceLaws
 pub mod WordLaws
 pub mod HeaderLaws
+pub mod PackingLaws
