@@ -6,3 +6,4 @@ pub mod PieceLaws
 pub mod WordLaws
 pub mod HeaderLaws
 pub mod PackingLaws
+pub mod DecimalSteps
