@@ -7,3 +7,5 @@ pub mod WordLaws
 pub mod HeaderLaws
 pub mod PackingLaws
 pub mod DecimalSteps
+pub mod FeedSteps
+pub mod ScanSteps
