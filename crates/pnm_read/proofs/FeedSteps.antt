@@ -65,9 +65,9 @@ pub feeding_ends_with : {S : Type 0} (item : S → List ℕ → ℕ → Judgemen
     → is_after old before → FeedsAfter (item old) (at_end old) (is_after new) (is_whole new) bytes (Ok (Some (n + 1))) before
 feeding_ends_with item at_end is_after is_whole room old now new bytes n j before f lt is judged a =
     let at_place = judged_at item at_end is_after is_whole room old now new bytes n j EndsWith before f judged is a in
-    (omega arith, ((before ++ take n bytes) ++ get_or bytes n 0 ∷ [], at_place.1, λ rest.
+    ((before ++ take n bytes) ++ get_or bytes n 0 ∷ [], at_place.1, λ rest.
       step_at item at_end is_after room old now bytes n before rest f lt a
-      ∙ piece_step (item old) (at_end old) (before ++ take n bytes) (get_or bytes n 0) (drop (n + 1) bytes ++ rest) EndsWith at_place.0))
+      ∙ piece_step (item old) (at_end old) (before ++ take n bytes) (get_or bytes n 0) (drop (n + 1) bytes ++ rest) EndsWith at_place.0)
 
 -- the piece ended before the byte
 pub feeding_ends_before : {S : Type 0} (item : S → List ℕ → ℕ → Judgement) (at_end : S → List ℕ → Option InputFault) (is_after is_whole : S → List ℕ → Type 0) (room : S → ℕ) (old now new : S) (bytes : List ℕ) (n : ℕ) (j : Judgement) (before : List ℕ)
@@ -75,10 +75,10 @@ pub feeding_ends_before : {S : Type 0} (item : S → List ℕ → ℕ → Judgem
     → is_after old before → FeedsAfter (item old) (at_end old) (is_after new) (is_whole new) bytes (Ok (Some n)) before
 feeding_ends_before item at_end is_after is_whole room old now new bytes n j before f lt is judged a =
     let at_place = judged_at item at_end is_after is_whole room old now new bytes n j EndsBefore before f judged is a in
-    (omega arith, (before ++ take n bytes, at_place.1, λ rest.
+    (before ++ take n bytes, at_place.1, λ rest.
       step_at item at_end is_after room old now bytes n before rest f lt a
       ∙ piece_step (item old) (at_end old) (before ++ take n bytes) (get_or bytes n 0) (drop (n + 1) bytes ++ rest) EndsBefore at_place.0
-      ∙ ap (λ (l : List ℕ). Ok (before ++ take n bytes, l ++ rest)) (sym (drop_more bytes n 0 lt))))
+      ∙ ap (λ (l : List ℕ). Ok (before ++ take n bytes, l ++ rest)) (sym (drop_more bytes n 0 lt)))
 
 -- the byte is at fault
 pub feeding_fails : {S : Type 0} (item : S → List ℕ → ℕ → Judgement) (at_end : S → List ℕ → Option InputFault) (is_after is_whole : S → List ℕ → Type 0) (room : S → ℕ) (old now new : S) (bytes : List ℕ) (n : ℕ) (j : Judgement) (k : InputFault) (before : List ℕ)

@@ -1,5 +1,5 @@
 -- How turns follow one another.
-use Rattle.std.proofs.Common.{◌≡◌, ℕ, ◌≤◌, List, [], ◌++◌, length, drop, Option, Some, None, Result, Ok, Err, refl, sym, ap, subst, ◌∙◌, append_assoc}
+use Rattle.std.proofs.Common.{◌≡◌, ℕ, ◌≤◌, true, List, [], ◌++◌, length, drop, Option, Some, None, Result, Ok, Err, refl, sym, ap, subst, ◌∙◌, append_assoc}
 use Rattle.std.specs.Prelude.{OnOk}
 use Rattle.std.specs.Io.KnownBytes.{Consumes, IsAtEnd}
 use Rattle.pnm_image.specs.Devices.{Failed}
@@ -57,4 +57,32 @@ turn_taken {left = left} {failures = failures} {same = same} {old = old} {new = 
     same_device = subst (λ r. same old.reader r) (sym reader) (at_once old.reader);
     count = same_count result (ap failures reader);
     read_failed = λ e. absurd (n e);
+  }
+
+-- what is left is what is held and what may still come
+abbrev pub IsLeft : {R : Type 0} → Input R → List ℕ → Type 0
+IsLeft input left = (rest : List ℕ) × CanCome input rest × (left ≡ held_of input ++ rest)
+
+pub turn_seen : {R A : Type 0} {left : R → Option (List ℕ)} {failures : R → ℕ} {same : R → R → Type 0} {old new : Input R} {o : List ℕ → List ℕ → Type 0} {result : Result A InputFault}
+    → Turn left failures same old new result o → Turn left failures same old new result (λ b a. o b a × IsLeft new a)
+turn_seen t = record { read = t.read; consumed = t.consumed; comes = t.comes; told = λ rest c. (t.told rest c, (rest, c, refl)); end = t.end; same_device = t.same_device; count = t.count; read_failed = t.read_failed }
+
+-- nothing is left after the end
+pub nothing_left : {R : Type 0} (input : Input R) (left : List ℕ) → held_of input ≡ [] → input.ended ≡ true → IsLeft input left → left ≡ []
+nothing_left input left held ended s = s.2.1 ∙ ap (λ (l : List ℕ). l ++ s.0) held ∙ s.1 ended
+
+-- so many bytes of what is held were taken after a turn
+pub turn_advance : {R A B : Type 0} {left : R → Option (List ℕ)} {failures : R → ℕ} {same : R → R → Type 0} {old mid new : Input R} {o q : List ℕ → List ℕ → Type 0}
+    (x : A) (result : Result B InputFault) (n : ℕ) → (result ≡ Err ReadFailed → ⊥) → new.reader ≡ mid.reader → new.ended ≡ mid.ended → held_of new ≡ drop n (held_of mid)
+    → ((b rest : List ℕ) → CanCome mid rest → o b (held_of mid ++ rest) → q b (drop n (held_of mid) ++ rest))
+    → Turn left failures same old mid (Ok x) o → Turn left failures same old new result q
+turn_advance {left = left} {failures = failures} {same = same} {old = old} {mid = mid} {new = new} {q = q} x result n f reader ended held g t = record {
+    read = t.read;
+    consumed = subst (λ r. Consumes (left old.reader) (left r) t.read) (sym reader) t.consumed;
+    comes = λ rest c. t.comes rest (λ e. c (ended ∙ e));
+    told = λ rest c. subst (λ (l : List ℕ). q (held_of old ++ (t.read ++ rest)) (l ++ rest)) (sym held) (g _ rest (λ e. c (ended ∙ e)) (t.told rest (λ e. c (ended ∙ e))));
+    end = λ h e. subst (λ r. IsAtEnd (left r)) (sym reader) (t.end h (sym ended ∙ e));
+    same_device = subst (λ r. same old.reader r) (sym reader) t.same_device;
+    count = same_count result (ap failures reader ∙ t.count);
+    read_failed = λ e. absurd (f e);
   }

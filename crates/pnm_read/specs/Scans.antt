@@ -1,5 +1,5 @@
 -- How a piece is taken byte by byte.
-use Rattle.std.specs.Prelude.{◌≡◌, ℕ, ◌≤◌, ◌⊎◌, List, [], ◌∷◌, ◌++◌, drop, length, Option, Some, None, Result, Ok, Err}
+use Rattle.std.specs.Prelude.{◌≡◌, ℕ, ◌⊎◌, List, [], ◌∷◌, ◌++◌, drop, Option, Some, None, Result, Ok, Err}
 use Rattle.pnm_read.specs.declared.fault.InputFault.{InputFault}
 use Rattle.pnm_read.specs.declared.judgement.Judgement.{Judgement}
 use Rattle.pnm_read.specs.declared.judgement.Judgement.TheVariants.{GoesOn, EndsWith, EndsBefore, Fails}
@@ -31,7 +31,7 @@ abbrev pub FeedsAfter : (List ℕ → ℕ → Judgement) → (List ℕ → Optio
 FeedsAfter item at_end is_after is_whole bytes (Ok None) before =
     is_after (before ++ bytes) × ((rest : List ℕ) → piece_from item at_end before (bytes ++ rest) ≡ piece_from item at_end (before ++ bytes) rest)
 FeedsAfter item at_end is_after is_whole bytes (Ok (Some taken)) before =
-    (taken ≤ length bytes) × ((piece : List ℕ) × is_whole piece × ((rest : List ℕ) → piece_from item at_end before (bytes ++ rest) ≡ Ok (piece, drop taken bytes ++ rest)))
+    (piece : List ℕ) × is_whole piece × ((rest : List ℕ) → piece_from item at_end before (bytes ++ rest) ≡ Ok (piece, drop taken bytes ++ rest))
 FeedsAfter item at_end is_after is_whole bytes (Err fault) before =
     (rest : List ℕ) → piece_from item at_end before (bytes ++ rest) ≡ Err fault
 

@@ -1,9 +1,10 @@
 //! Pieces of a text that are judged byte by byte: a header, or a sample of a plain raster.
 
-ghost use Rattle.std.specs.Prelude.{◌≡◌, ◌<◌, ◌≤◌, ◌+◌, ℕ, List, Option, IfOk, IfNone, length};
+ghost use Rattle.std.specs.Prelude.{◌≡◌, ◌<◌, ◌≤◌, ◌+◌, ℕ, List, Option, IfOk, IfSome, IfNone, Some, Err, length};
 ghost use Rattle.pnm_read.specs.declared.fault.InputFault.{InputFault as Fault};
 ghost use Rattle.pnm_read.specs.declared.judgement.Judgement.{Judgement as Judged};
-ghost use Rattle.pnm_read.specs.declared.judgement.Judgement.TheVariants.{GoesOn};
+ghost use Rattle.pnm_read.specs.declared.judgement.Judgement.TheVariants.{GoesOn, Fails};
+ghost use Rattle.pnm_read.specs.declared.fault.InputFault.TheVariants.{ReadFailed};
 ghost use Rattle.pnm_read.specs.Scans.{JudgesByte, JudgesEnd, Feeds, Scans};
 ghost use Rattle.pnm_read.specs.Inputs.{Turn};
 
@@ -34,11 +35,13 @@ pub trait Scanner {
         ensures judged { JudgesByte (item self.old) (is_after self.old) (is_after self.new) (is_whole self.new) byte result }
         ensures same_items { item self.new ≡ item self.old }
         ensures same_end { at_end self.new ≡ at_end self.old }
-        ensures room { result ≡ GoesOn → room self.new < room self.old };
+        ensures room { result ≡ GoesOn → room self.new < room self.old }
+        ensures of_text { result ≡ Fails ReadFailed → ⊥ };
 
     /// The fault, if that is one, of a text that ends here.
     fn end(&self) -> Option<InputFault>
-        ensures { JudgesEnd (at_end self.now) (is_after self.now) (is_whole self.now) result };
+        ensures judged { JudgesEnd (at_end self.now) (is_after self.now) (is_whole self.now) result }
+        ensures of_text { result ≡ Some ReadFailed → ⊥ };
 }
 
 /// Gives the scanner bytes of the input until its piece ends; asks for more where they run out.
@@ -72,6 +75,8 @@ pub fn scan<R: BytesIn, S: Scanner>(
 /// piece goes on after them.
 fn feed<S: Scanner>(scanner: &mut S, bytes: &[u8]) -> Result<Option<usize>, InputFault>
     ensures fed { Feeds (S.item scanner.old) (S.at_end scanner.old) (S.is_after scanner.old) (S.is_after scanner.new) (S.is_whole scanner.new) bytes.now result }
+    ensures taken { IfOk result (λ ended. IfSome ended (λ taken. taken ≤ length bytes.now)) }
+    ensures of_text { result ≡ Err ReadFailed → ⊥ }
     ensures same_items { S.item scanner.new ≡ S.item scanner.old }
     ensures same_end { S.at_end scanner.new ≡ S.at_end scanner.old }
     ensures room { IfOk result (λ ended. IfNone ended (S.room scanner.new + length bytes.now ≤ S.room scanner.old)) }
