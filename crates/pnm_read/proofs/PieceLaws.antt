@@ -670,3 +670,82 @@ read_decimal_is_spelled maxval text found e =
       short = d.read.short;
     } in
     subst (BeginsWithPiece Gray maxval text) (ok_is (b.0, a.0.1) found b.2) (piece, found_is_whole decimal_item decimal_end text [] a.0 a.1, spelled, d.follows, range)
+
+-- a pixel that was read: the gap before it, and its character
+record IsPixelPiece (found : List ℕ × List ℕ) : Type 0 where
+  pub gap : List ℕ
+  pub character : ℕ
+  pub whole : found.0 ≡ gap ++ character ∷ []
+  pub gap_is : IsGap gap
+  pub pixel : is_pixel character ≡ true
+  pub short : length found.0 ≤ gap_limit
+
+in_pixel_gap_by : (before : List ℕ) (b : ℕ) (text : List ℕ) (found : List ℕ × List ℕ) (j : Judgement) → AllPass is_white (uncommented before) → PixelTold before b j → FoundBy pixel_item pixel_end before b text found j
+    → (AllPass is_white (uncommented (before ++ b ∷ [])) → piece_from pixel_item pixel_end (before ++ b ∷ []) text ≡ Ok found → IsPixelPiece found) → IsPixelPiece found
+in_pixel_gap_by before b text found (Fails fault) white told f on = absurd f
+in_pixel_gap_by before b text found EndsWith white told f on =
+    let parts = outside_parts (ends_in_comment before) (is_pixel b) told.2 in
+    let here : IsPixelPiece (before ++ b ∷ [], text) = record {
+      gap = before;
+      character = b;
+      whole = refl;
+      gap_is = record { white = white; outside = parts.0 };
+      pixel = parts.1;
+      short = short-push before b told.0;
+    } in
+    subst IsPixelPiece f here
+in_pixel_gap_by before b text found EndsBefore white told f on = absurd told
+in_pixel_gap_by before b text found GoesOn white told f on = on (gap-push before b (gap_byte_by (ends_in_comment before) (is_pixel b) (is_apart b) told.1 told.2) white) f
+
+-- from a gap on, a pixel is read
+in_pixel_gap : (text before : List ℕ) (found : List ℕ × List ℕ) → AllPass is_white (uncommented before) → piece_from pixel_item pixel_end before text ≡ Ok found → IsPixelPiece found
+in_pixel_gap [] before found white e = let ended : Some RasterCut ≡ None = (found_at_end pixel_item pixel_end before found e).0 in absurd cc
+in_pixel_gap (b ∷ text) before found white e =
+    in_pixel_gap_by before b text found (pixel_item before b) white (pixel_told before b) (found_from pixel_item pixel_end before b text found e) (in_pixel_gap text (before ++ b ∷ []) found)
+
+-- the sample of a pixel's character, and the character of the sample
+sample_of_pixel : (b : ℕ) → is_pixel b ≡ true → ((if b == 49 then 0 else 1) ≤ 1) × (b ≡ 49 - (if b == 49 then 0 else 1))
+sample_of_pixel b h = (grind (arith, nat_tests), grind (arith, nat_tests))
+
+-- a pixel that is read is spelled
+read_pixel_is_spelled : (maxval : ℕ) (text : List ℕ) (found : ℕ × List ℕ) → plain_pixel text ≡ Ok found → BeginsWithPiece Bit maxval text found
+unfolding plain_pixel
+read_pixel_is_spelled maxval text found e =
+    let a = bind_ok (piece_from pixel_item pixel_end [] text) (λ piece. Ok (pixel_in piece.0, piece.1)) found e in
+    let piece : List ℕ = a.0.0 in
+    let d : IsPixelPiece a.0 = in_pixel_gap text [] a.0 no_bytes_yet.white a.1 in
+    let value : (if d.character == 49 then 0 else 1) ≡ pixel_in piece =
+        ap (λ (t : Bool). if t then 0 else 1) (sym (ap (ends_by (λ c. c == 49)) d.whole ∙ ends_by-push (λ c. c == 49) d.gap d.character)) in
+    let s = sample_of_pixel d.character d.pixel in
+    let range : pixel_in piece ≤ 1 = subst (λ (n : ℕ). n ≤ 1) value s.0 in
+    let spelled : SpellsPiece Bit piece (pixel_in piece) = record {
+      gap = d.gap;
+      digits = d.character ∷ [];
+      whole = d.whole;
+      gap_is = d.gap_is;
+      digits_are = (range, ap (λ (c : ℕ). c ∷ []) (s.1 ∙ ap (λ (n : ℕ). 49 - n) value));
+      short = d.short;
+    } in
+    subst (BeginsWithPiece Bit maxval text) (ok_is (pixel_in piece, a.0.1) found a.2) (piece, found_is_whole pixel_item pixel_end text [] a.0 a.1, spelled, tt, range)
+
+-- a number is spelled alike in each kind that has numbers
+as_color : (maxval : ℕ) (text : List ℕ) (found : ℕ × List ℕ) → BeginsWithPiece Gray maxval text found → BeginsWithPiece Color maxval text found
+as_color maxval text found r =
+    let s = r.2 in
+    (r.0, r.1, record { gap = s.gap; digits = s.digits; whole = s.whole; gap_is = s.gap_is; digits_are = s.digits_are; short = s.short }, r.3, r.4)
+
+as_pam : (maxval : ℕ) (text : List ℕ) (found : ℕ × List ℕ) → BeginsWithPiece Gray maxval text found → BeginsWithPiece Pam maxval text found
+as_pam maxval text found r =
+    let s = r.2 in
+    (r.0, r.1, record { gap = s.gap; digits = s.digits; whole = s.whole; gap_is = s.gap_is; digits_are = s.digits_are; short = s.short }, r.3, r.4)
+
+read_by_kind : (kind : Kind) (maxval : ℕ) (text : List ℕ) (found : ℕ × List ℕ) → plain_sample kind maxval text ≡ Ok found → BeginsWithPiece kind maxval text found
+read_by_kind Bit maxval text found e = read_pixel_is_spelled maxval text found e
+read_by_kind Gray maxval text found e = read_decimal_is_spelled maxval text found e
+read_by_kind Color maxval text found e = as_color maxval text found (read_decimal_is_spelled maxval text found e)
+read_by_kind Pam maxval text found e = as_pam maxval text found (read_decimal_is_spelled maxval text found e)
+
+-- a sample that is read is spelled
+pub read_piece_is_spelled : (kind : Kind) (maxval : ℕ) (text rest : List ℕ) (sample : ℕ) → plain_sample kind maxval text ≡ Ok (sample, rest)
+    → (piece : List ℕ) × (text ≡ piece ++ rest) × SpellsPiece kind piece sample × MayFollow kind rest × IsInRange kind maxval sample
+read_piece_is_spelled kind maxval text rest sample e = read_by_kind kind maxval text (sample, rest) e
