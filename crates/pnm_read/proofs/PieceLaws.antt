@@ -1,9 +1,9 @@
 -- One plain sample: the bytes of its piece, what they spell, and what is read of them.
-use Rattle.std.proofs.Common.{◌≡◌, ◌⊎◌, inl, inr, ℕ, zero, suc, ◌+◌, ◌-◌, ◌*◌, ◌<◌, ◌≤◌, Bool, true, false, not, cond, ◌&&◌, ◌||◌, List, [], ◌∷◌, ◌++◌, length, Option, Some, None, Result, Ok, Err, refl, sym, ap, ap₂, subst, ◌∙◌, append_assoc, append-nil, length-append, arith}
+use Rattle.std.proofs.Common.{◌≡◌, ℕ, zero, suc, ◌+◌, ◌-◌, ◌*◌, ◌<◌, ◌≤◌, Bool, true, false, not, cond, ◌&&◌, ◌||◌, List, [], ◌∷◌, ◌++◌, length, Option, Some, None, Result, Ok, Err, refl, sym, ap, ap₂, subst, ◌∙◌, append_assoc, append-nil, length-append, arith}
 use Rattle.std.specs.Prelude.{◌==◌, nat_le, if◌then◌else◌, filter}
 use Rattle.std.specs.List.{AllPass}
 use Rattle.std.specs.Char.{digit_value}
-use Rattle.std.proofs.lemmas.Bool.{lt-leb, le-leb, leb-true, leb-false, and_parts}
+use Rattle.std.proofs.lemmas.Bool.{lt-leb, le-leb, leb-true, leb-false}
 use Rattle.std.proofs.lemmas.Bool.Decides.{nat_tests}
 use Rattle.std.proofs.lemmas.Int.Digits.{digits_value_push}
 use Rattle.std.proofs.lemmas.List.Elements.{filter-append, All-nil, All-cons, All-head, All-tail, All-push}
@@ -14,7 +14,7 @@ use Rattle.pnm_read.specs.declared.judgement.Judgement.TheVariants.{GoesOn, Ends
 use Rattle.pnm_image.specs.declared.shape.Kind.{Kind}
 use Rattle.pnm_image.specs.declared.shape.Kind.TheVariants.{Bit, Gray, Color, Pam}
 use Rattle.pnm_read.specs.Texts.{is_white, is_digit, is_line_end, is_apart, begins_apart, ends_by, commented, commented_after, ends_in_comment, uncommented_from, uncommented, decimal_value, number_in}
-use Rattle.pnm_read.specs.Rasters.{IsGap, SpellsPixel, SpellsDecimal, SpellsSample, SpellsPiece, MayFollow}
+use Rattle.pnm_read.specs.Rasters.{IsGap, SpellsDecimal, SpellsSample, SpellsPiece, MayFollow}
 use Rattle.pnm_read.specs.Items.{◌>>=◌, piece_from, gap_limit, ends_in_digit, is_complete, decimal_item, decimal_end, is_pixel, pixel_item, pixel_end, pixel_in, plain_pixel, sample_item, plain_decimal, plain_sample}
 use Rattle.pnm_read.proofs.CommentLaws.{commented_after-push, uncommented_from-append, ends_by-push}
 
@@ -51,7 +51,7 @@ pub number_in-digit : (before : List ℕ) (b : ℕ) → ends_in_comment before �
 number_in-digit before b e h =
     let digits : List ℕ = filter is_digit (uncommented before) in
     let left : filter is_digit (uncommented (before ++ b ∷ [])) ≡ digits ++ b ∷ [] =
-        ap (λ (t : List ℕ). filter is_digit t) (uncommented-stays before b e (digit_is_no_mark b h)) ∙ filter-append is_digit (uncommented before) (b ∷ []) ∙ ap (λ (t : Bool). digits ++ cond t (b ∷ []) []) h in
+    ap (λ (t : List ℕ). filter is_digit t) (uncommented-stays before b e (digit_is_no_mark b h)) ∙ filter-append is_digit (uncommented before) (b ∷ []) ∙ ap (λ (t : Bool). digits ++ cond t (b ∷ []) []) h in
     ap decimal_value left ∙ digits_value_push 10 digits b ∙ ap (λ (n : ℕ). number_in before * 10 + n) (digit_value_is b h)
 
 -- outside comments, a byte that is no digit leaves the digits
@@ -230,8 +230,7 @@ over_gap item at_end on (b ∷ gap) before rest out white short =
     let left : AllPass is_white (uncommented_from (ends_in_comment (before ++ b ∷ [])) gap) = subst (λ (i : Bool). AllPass is_white (uncommented_from i gap)) (sym (commented_after-push before b)) head.1 in
     let long : length (before ++ b ∷ []) ≡ length before + 1 = length-append before (b ∷ []) in
     let more = over_gap item at_end on gap (before ++ b ∷ []) rest no_digit left (omega arith) in
-    let whole : (before ++ b ∷ []) ++ gap ≡ before ++ b ∷ gap = append_assoc before (b ∷ []) gap in
-    (
+    let whole : (before ++ b ∷ []) ++ gap ≡ before ++ b ∷ gap = append_assoc before (b ∷ []) gap in (
       piece_step item at_end before b (gap ++ rest) GoesOn here ∙ more.0 ∙ ap (λ (t : List ℕ). piece_from item at_end t rest) whole,
       ap ends_in_digit (sym whole) ∙ more.1,
     )
@@ -390,11 +389,14 @@ over_digits (b ∷ digits) before rest out all short =
     let long : length (before ++ b ∷ []) ≡ length before + 1 = length-append before (b ∷ []) in
     let more = over_digits digits (before ++ b ∷ []) rest (ends_in_digit-digit before b outside first) (All-tail (λ x. is_digit x ≡ true) b digits all) (omega arith) in
     let whole : (before ++ b ∷ []) ++ digits ≡ before ++ b ∷ digits = append_assoc before (b ∷ []) digits in
-    let short_here : length before < gap_limit = omega arith in
-    (
+    let short_here : length before < gap_limit = omega arith in (
       piece_step decimal_item decimal_end before b (digits ++ rest) GoesOn (digit_goes_on before b short_here first) ∙ more.0 ∙ ap (λ (t : List ℕ). piece_from decimal_item decimal_end t rest) whole,
       ap ends_in_digit (sym whole) ∙ more.1,
     )
+
+apart_is_good : (inside : Bool) (b : ℕ) → is_apart b ≡ true → is_bad_in_decimal inside b ≡ false
+apart_is_good true b h = refl
+apart_is_good false b h = good_in_gap false b h
 
 -- digits end before white space, before a comment, and where the text ends
 digits_end : (before rest : List ℕ) → ends_in_digit before ≡ true → begins_apart rest ≡ true → piece_from decimal_item decimal_end before rest ≡ Ok (before, rest)
@@ -402,11 +404,7 @@ digits_end before [] out apart = piece_ends decimal_item decimal_end before (ap 
 digits_end before (b ∷ rest) out apart =
     let no_digit = apart_is_no_digit b apart in
     let complete : is_complete before b ≡ true = ap₂ (λ (t d : Bool). t && not d) out no_digit in
-    piece_step decimal_item decimal_end before b rest EndsBefore (decimal_ends_before before b (good_in_gap_or (ends_in_comment before) b apart) complete)
-  where
-    good_in_gap_or : (inside : Bool) (c : ℕ) → is_apart c ≡ true → is_bad_in_decimal inside c ≡ false
-    good_in_gap_or true c h = refl
-    good_in_gap_or false c h = good_in_gap false c h
+    piece_step decimal_item decimal_end before b rest EndsBefore (decimal_ends_before before b (apart_is_good (ends_in_comment before) b apart) complete)
 
 -- a gap and digits are read as one piece
 decimal_piece_is_read : (gap digits rest : List ℕ) → IsGap gap → 0 < length digits → AllPass is_digit digits → length (gap ++ digits) ≤ gap_limit → begins_apart rest ≡ true
@@ -451,9 +449,9 @@ uncommented_digits (b ∷ digits) all =
 number_of_piece : (gap digits : List ℕ) → IsGap gap → AllPass is_digit digits → number_in (gap ++ digits) ≡ decimal_value digits
 number_of_piece gap digits g all =
     let cut : uncommented (gap ++ digits) ≡ uncommented gap ++ digits =
-        uncommented_from-append false gap digits ∙ ap (λ (i : Bool). uncommented gap ++ uncommented_from i digits) g.outside ∙ ap (λ (t : List ℕ). uncommented gap ++ t) (uncommented_digits digits all) in
+    uncommented_from-append false gap digits ∙ ap (λ (i : Bool). uncommented gap ++ uncommented_from i digits) g.outside ∙ ap (λ (t : List ℕ). uncommented gap ++ t) (uncommented_digits digits all) in
     let left : filter is_digit (uncommented (gap ++ digits)) ≡ digits =
-        ap (λ (t : List ℕ). filter is_digit t) cut ∙ filter-append is_digit (uncommented gap) digits ∙ ap₂ (λ (a c : List ℕ). a ++ c) (no_digits_in_white (uncommented gap) g.white) (all_digits digits all) in
+    ap (λ (t : List ℕ). filter is_digit t) cut ∙ filter-append is_digit (uncommented gap) digits ∙ ap₂ (λ (a c : List ℕ). a ++ c) (no_digits_in_white (uncommented gap) g.white) (all_digits digits all) in
     ap decimal_value left
 
 -- ---- what is spelled is read
@@ -488,7 +486,7 @@ spelled_pixel_is_read gap rest b g h short =
     let over = over_whole_gap pixel_item pixel_end pixels_go_over_gaps gap (b ∷ rest) g (omega arith) in
     let good = pixel_is_good (ends_in_comment gap) b g.outside h in
     let found : piece_from pixel_item pixel_end [] ((gap ++ b ∷ []) ++ rest) ≡ Ok (gap ++ b ∷ [], rest) =
-        ap (piece_from pixel_item pixel_end []) (append_assoc gap (b ∷ []) rest) ∙ over.0 ∙ piece_step pixel_item pixel_end gap b rest EndsWith (pixel_ends_with gap b within good.0 good.1) in
+    ap (piece_from pixel_item pixel_end []) (append_assoc gap (b ∷ []) rest) ∙ over.0 ∙ piece_step pixel_item pixel_end gap b rest EndsWith (pixel_ends_with gap b within good.0 good.1) in
     ap (λ (r : Result (List ℕ × List ℕ) InputFault). r >>= λ piece. Ok (pixel_in piece.0, piece.1)) found ∙ ap (λ (t : Bool). done (if t then 0 else 1, rest)) (ends_by-push (λ c. c == 49) gap b)
 
 spelled_by_kind : (kind : Kind) (maxval : ℕ) (gap digits rest : List ℕ) (sample : ℕ) → IsGap gap → SpellsSample kind digits sample → length (gap ++ digits) ≤ gap_limit → MayFollow kind rest → sample ≤ maxval
@@ -715,7 +713,7 @@ read_pixel_is_spelled maxval text found e =
     let piece : List ℕ = a.0.0 in
     let d : IsPixelPiece a.0 = in_pixel_gap text [] a.0 no_bytes_yet.white a.1 in
     let value : (if d.character == 49 then 0 else 1) ≡ pixel_in piece =
-        ap (λ (t : Bool). if t then 0 else 1) (sym (ap (ends_by (λ c. c == 49)) d.whole ∙ ends_by-push (λ c. c == 49) d.gap d.character)) in
+    ap (λ (t : Bool). if t then 0 else 1) (sym (ap (ends_by (λ c. c == 49)) d.whole ∙ ends_by-push (λ c. c == 49) d.gap d.character)) in
     let s = sample_of_pixel d.character d.pixel in
     let range : pixel_in piece ≤ 1 = subst (λ (n : ℕ). n ≤ 1) value s.0 in
     let spelled : SpellsPiece Bit piece (pixel_in piece) = record {

@@ -1,22 +1,21 @@
 -- Plain rasters: of what spells an image its rows are said, and what is said without a fault spells an image.
-use Rattle.std.proofs.Common.{◌≡◌, ℕ, zero, suc, ◌+◌, ◌*◌, ◌<◌, ◌≤◌, Bool, true, false, List, [], ◌∷◌, ◌++◌, length, take, drop, map, All, Option, Some, None, Result, Ok, Err, refl, sym, ap, subst, ◌∙◌, append_assoc, append-nil, length-append, length-drop, arith, zero-mul, suc-mul}
+use Rattle.std.proofs.Common.{◌≡◌, ℕ, zero, suc, ◌+◌, ◌*◌, ◌<◌, ◌≤◌, Bool, true, false, List, [], ◌∷◌, ◌++◌, length, take, drop, map, All, None, Result, Ok, Err, refl, sym, ap, subst, ◌∙◌, append_assoc, length-append, length-drop, arith, zero-mul, suc-mul}
 use Rattle.std.specs.Prelude.{if◌then◌else◌}
 use Rattle.std.proofs.lemmas.List.{nil_from_length}
 use Rattle.std.proofs.lemmas.List.Elements.{All-nil, All-cons, All-head, All-tail, All-append, All-drop, All-weaker}
-use Rattle.pnm_image.specs.declared.message.Message.{Message}
 use Rattle.pnm_image.specs.declared.message.Message.TheVariants.{Row, ImageEnd, StreamEnd}
 use Rattle.pnm_image.specs.declared.shape.Shape.{Shape}
 use Rattle.pnm_image.specs.declared.shape.Kind.{Kind}
 use Rattle.pnm_image.specs.declared.shape.Kind.TheVariants.{Bit, Gray, Color, Pam}
 use Rattle.pnm_image.specs.Heads.{Header, IsHeader, Suits, row_length}
-use Rattle.pnm_image.specs.Images.{Image, IsImage, cut_rows, rows_of}
+use Rattle.pnm_image.specs.Images.{Image, cut_rows, rows_of}
 use Rattle.pnm_read.specs.declared.fault.InputFault.{InputFault}
 use Rattle.pnm_read.specs.declared.fault.InputFault.TheVariants.{BadSample}
 use Rattle.pnm_read.specs.declared.format.Format.{Format}
 use Rattle.pnm_read.specs.Texts.{begins_apart}
 use Rattle.pnm_read.specs.Rasters.{SpellsPiece, MayFollow, SpellsPlainSamples, SpellsPlain}
 use Rattle.pnm_read.specs.Items.{◌>>=◌, plain_sample, after_last_item}
-use Rattle.pnm_read.specs.Said.{Said, then_said, says_fault, ends_stream, end_said, in_turn, plain_row, last_plain_row, row_by, row_at, rows_said}
+use Rattle.pnm_read.specs.Said.{Said, then_said, says_fault, end_said, in_turn, plain_row, last_plain_row, row_by, rows_said}
 use Rattle.pnm_read.proofs.PieceLaws.{bind_ok, done, ok_is, IsInRange, spelled_piece_is_read, read_piece_is_spelled}
 
 -- ---- what may follow
@@ -66,7 +65,7 @@ spelled_samples_are_read kind maxval (suc n) text (sample ∷ samples) rest le s
     let within : n ≤ length samples = omega arith in
     let more = spelled_samples_are_read kind maxval n s.1 samples rest within s.5 (All-tail (λ x. x ≤ maxval) sample samples range) apart in
     let first : plain_sample kind maxval (s.0 ++ (s.1 ++ rest)) ≡ Ok (sample, s.1 ++ rest) =
-        spelled_piece_is_read kind maxval s.0 (s.1 ++ rest) sample s.3 (follows_more kind s.1 rest s.4 apart) (All-head (λ x. x ≤ maxval) sample samples range) in
+    spelled_piece_is_read kind maxval s.0 (s.1 ++ rest) sample s.3 (follows_more kind s.1 rest s.4 apart) (All-head (λ x. x ≤ maxval) sample samples range) in
     let whole : text ++ rest ≡ s.0 ++ (s.1 ++ rest) = ap (λ (t : List ℕ). t ++ rest) s.2 ∙ append_assoc s.0 s.1 rest in
     let here : plain_sample kind maxval (text ++ rest) ≡ Ok (sample, s.1 ++ rest) = ap (plain_sample kind maxval) whole ∙ first in
     (more.0, first_read kind maxval n (text ++ rest) (sample, s.1 ++ rest) (take n samples, more.0 ++ rest) here more.1, more.2)
@@ -224,12 +223,17 @@ said_rows_are_read format s (suc rows) text plain e =
     let row = row_without_fault format s (suc rows) (row_by true s (suc rows) text) (sym (ap (λ (x : Said). x.fault) (rows_said-suc format s (suc rows) text plain)) ∙ e) in
     let first = read_row s text row.0 row.1 in
     let others = said_rows_are_read format s rows row.0.1 plain row.2 in
-    let count : length (row.0.0 ++ others.0.0) ≡ suc (suc rows) * each = omega (arith, length-append row.0.0 others.0.0, first.count, others.1.0.count, suc-mul (suc rows) each) in
-    ((row.0.0 ++ others.0.0, others.0.1), (record {
-      count = count;
-      range = All-append (IsInRange s.kind s.maxval) row.0.0 others.0.0 first.range others.1.0.range;
-      spelled = spells_on_append s.kind text row.0.0 row.0.1 others.0.0 others.0.1 first.spelled others.1.0.spelled;
-    }, others.1.1))
+    let count : length (row.0.0 ++ others.0.0) ≡ suc (suc rows) * each = omega (arith, length-append row.0.0 others.0.0, first.count, others.1.0.count, suc-mul (suc rows) each) in (
+      (row.0.0 ++ others.0.0, others.0.1),
+      (
+        record {
+          count = count;
+          range = All-append (IsInRange s.kind s.maxval) row.0.0 others.0.0 first.range others.1.0.range;
+          spelled = spells_on_append s.kind text row.0.0 row.0.1 others.0.0 others.0.1 first.spelled others.1.0.spelled;
+        },
+        others.1.1,
+      ),
+    )
 
 read_by_count : (format : Format) (s : Shape) (rows : ℕ) (text : List ℕ) → 0 < rows → format.is_plain ≡ true → (rows_said format s rows text).fault ≡ None → (found : List ℕ × List ℕ) × AreRead s rows text found
 read_by_count format s zero text some plain e = absurd (omega arith)
@@ -242,7 +246,7 @@ range_by Gray depth maxval tuple_type sample suits h = h
 range_by Color depth maxval tuple_type sample suits h = h
 range_by Pam depth maxval tuple_type sample suits h = h
 
--- a raster of which nothing but rows and ends is said spells an image
+-- a raster whose rows are said without a fault spells the image of these rows, and what may follow it
 pub said_plain_is_spelled : (format : Format) (head : Header) (text : List ℕ) → format.is_plain ≡ true → head.shape.kind ≡ format.kind → IsHeader head → 0 < head.shape.height → (rows_said format head.shape head.shape.height text).fault ≡ None
     → (image : Image) × (raster : List ℕ) × (rest : List ℕ) × (text ≡ raster ++ rest) × (image.head ≡ head) × SpellsPlain raster image × (begins_apart rest ≡ true)
     × ((rows_said format head.shape head.shape.height text).messages ≡ map Row (rows_of image) ++ ImageEnd ∷ StreamEnd ∷ [])
@@ -253,7 +257,7 @@ said_plain_is_spelled format head text plain kind h some e =
     let rest : List ℕ = r.0.1 in
     let f = spelled_front s.kind text samples rest r.1.0.spelled in
     let range : All (λ sample. sample ≤ s.maxval) samples =
-        All-weaker (IsInRange s.kind s.maxval) (λ sample. sample ≤ s.maxval) (λ sample i. range_by s.kind s.depth s.maxval head.tuple_type sample h.suits i) samples r.1.0.range in
+    All-weaker (IsInRange s.kind s.maxval) (λ sample. sample ≤ s.maxval) (λ sample i. range_by s.kind s.depth s.maxval head.tuple_type sample h.suits i) samples r.1.0.range in
     let image : Image = record { head = head; samples = samples } in
     let spelled : SpellsPlain f.0 image = record { sound = record { head = h; count = r.1.0.count; range = range }; samples = f.2 } in
     let said = ap (rows_said format s s.height) f.1 ∙ spelled_plain_is_said format f.0 rest image plain kind some spelled r.1.1 in
