@@ -9,3 +9,4 @@ pub mod PackingLaws
 pub mod DecimalSteps
 pub mod FeedSteps
 pub mod ScanSteps
+pub mod PlainLaws

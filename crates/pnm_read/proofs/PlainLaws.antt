@@ -1,0 +1,264 @@
+-- Plain rasters: of what spells an image its rows are said, and what is said without a fault spells an image.
+use Rattle.std.proofs.Common.{◌≡◌, ℕ, zero, suc, ◌+◌, ◌*◌, ◌<◌, ◌≤◌, Bool, true, false, List, [], ◌∷◌, ◌++◌, length, take, drop, map, All, None, Result, Ok, Err, refl, sym, ap, subst, ◌∙◌, append_assoc, length-append, length-drop, arith, zero-mul, suc-mul}
+use Rattle.std.specs.Prelude.{if◌then◌else◌}
+use Rattle.std.proofs.lemmas.List.{nil_from_length}
+use Rattle.std.proofs.lemmas.List.Elements.{All-nil, All-cons, All-head, All-tail, All-append, All-drop, All-weaker}
+use Rattle.pnm_image.specs.declared.message.Message.TheVariants.{Row, ImageEnd, StreamEnd}
+use Rattle.pnm_image.specs.declared.shape.Shape.{Shape}
+use Rattle.pnm_image.specs.declared.shape.Kind.{Kind}
+use Rattle.pnm_image.specs.declared.shape.Kind.TheVariants.{Bit, Gray, Color, Pam}
+use Rattle.pnm_image.specs.Heads.{Header, IsHeader, Suits, row_length}
+use Rattle.pnm_image.specs.Images.{Image, cut_rows, rows_of}
+use Rattle.pnm_read.specs.declared.fault.InputFault.{InputFault}
+use Rattle.pnm_read.specs.declared.fault.InputFault.TheVariants.{BadSample}
+use Rattle.pnm_read.specs.declared.format.Format.{Format}
+use Rattle.pnm_read.specs.Texts.{begins_apart}
+use Rattle.pnm_read.specs.Rasters.{SpellsPiece, MayFollow, SpellsPlainSamples, SpellsPlain}
+use Rattle.pnm_read.specs.Items.{◌>>=◌, plain_sample, after_last_item}
+use Rattle.pnm_read.specs.Said.{Said, then_said, says_fault, end_said, in_turn, plain_row, last_plain_row, row_by, rows_said}
+use Rattle.pnm_read.proofs.PieceLaws.{bind_ok, done, ok_is, IsInRange, spelled_piece_is_read, read_piece_is_spelled}
+
+-- ---- what may follow
+
+apart_more : (front rest : List ℕ) → begins_apart front ≡ true → begins_apart rest ≡ true → begins_apart (front ++ rest) ≡ true
+apart_more [] rest f r = r
+apart_more (b ∷ front) rest f r = f
+
+-- where more follows a text, the same may go before both as before the text
+follows_more : (kind : Kind) (front rest : List ℕ) → MayFollow kind front → begins_apart rest ≡ true → MayFollow kind (front ++ rest)
+follows_more Bit front rest f r = tt
+follows_more Gray front rest f r = apart_more front rest f r
+follows_more Color front rest f r = apart_more front rest f r
+follows_more Pam front rest f r = apart_more front rest f r
+
+apart_less : (front rest : List ℕ) → begins_apart (front ++ rest) ≡ true → begins_apart front ≡ true
+apart_less [] rest f = refl
+apart_less (b ∷ front) rest f = f
+
+follows_less : (kind : Kind) (front rest : List ℕ) → MayFollow kind (front ++ rest) → MayFollow kind front
+follows_less Bit front rest f = tt
+follows_less Gray front rest f = apart_less front rest f
+follows_less Color front rest f = apart_less front rest f
+follows_less Pam front rest f = apart_less front rest f
+
+-- ---- samples that are spelled are read
+
+-- two items in turn, the first of which was read
+first_read : (kind : Kind) (maxval n : ℕ) (text : List ℕ) (first : ℕ × List ℕ) (more : List ℕ × List ℕ) → plain_sample kind maxval text ≡ Ok first → in_turn (plain_sample kind maxval) n first.1 ≡ Ok more
+    → in_turn (plain_sample kind maxval) (suc n) text ≡ Ok (first.0 ∷ more.0, more.1)
+unfolding in_turn
+first_read kind maxval n text first more e f =
+    ap (λ (r : Result (ℕ × List ℕ) InputFault). r >>= λ x. in_turn (plain_sample kind maxval) n x.1 >>= λ y. Ok (x.0 ∷ y.0, y.1)) e
+    ∙ ap (λ (r : Result (List ℕ × List ℕ) InputFault). r >>= λ y. Ok (first.0 ∷ y.0, y.1)) f
+
+-- so many samples are read, and a text is left that spells the others
+abbrev ReadsSamples : Kind → ℕ → ℕ → List ℕ → List ℕ → List ℕ → Type 0
+ReadsSamples kind maxval n text samples rest =
+    (left : List ℕ) × (in_turn (plain_sample kind maxval) n (text ++ rest) ≡ Ok (take n samples, left ++ rest)) × SpellsPlainSamples kind left (drop n samples)
+
+spelled_samples_are_read : (kind : Kind) (maxval n : ℕ) (text samples rest : List ℕ) → n ≤ length samples → SpellsPlainSamples kind text samples → All (λ sample. sample ≤ maxval) samples → begins_apart rest ≡ true
+    → ReadsSamples kind maxval n text samples rest
+unfolding in_turn
+spelled_samples_are_read kind maxval zero text samples rest le s range apart = (text, refl, s)
+spelled_samples_are_read kind maxval (suc n) text [] rest le s range apart = absurd (omega arith)
+spelled_samples_are_read kind maxval (suc n) text (sample ∷ samples) rest le s range apart =
+    let within : n ≤ length samples = omega arith in
+    let more = spelled_samples_are_read kind maxval n s.1 samples rest within s.5 (All-tail (λ x. x ≤ maxval) sample samples range) apart in
+    let first : plain_sample kind maxval (s.0 ++ (s.1 ++ rest)) ≡ Ok (sample, s.1 ++ rest) =
+    spelled_piece_is_read kind maxval s.0 (s.1 ++ rest) sample s.3 (follows_more kind s.1 rest s.4 apart) (All-head (λ x. x ≤ maxval) sample samples range) in
+    let whole : text ++ rest ≡ s.0 ++ (s.1 ++ rest) = ap (λ (t : List ℕ). t ++ rest) s.2 ∙ append_assoc s.0 s.1 rest in
+    let here : plain_sample kind maxval (text ++ rest) ≡ Ok (sample, s.1 ++ rest) = ap (plain_sample kind maxval) whole ∙ first in
+    (more.0, first_read kind maxval n (text ++ rest) (sample, s.1 ++ rest) (take n samples, more.0 ++ rest) here more.1, more.2)
+
+-- ---- rows that are spelled are said
+
+-- what is said from a row on
+abbrev said_from : Format → Shape → ℕ → Result (List ℕ × List ℕ) InputFault → Said
+said_from format s more r = elim r [ Err fault ↦ says_fault fault | Ok row ↦ then_said (Row row.0) (rows_said format s more row.1) ]
+
+rows_said-suc : (format : Format) (s : Shape) (more : ℕ) (text : List ℕ) → format.is_plain ≡ true → rows_said format s (suc more) text ≡ said_from format s more (row_by true s more text)
+unfolding rows_said
+rows_said-suc format s more text plain = ap (λ (p : Bool). said_from format s more (row_by p s more text)) plain
+
+-- the messages of rows, of the image's end and of the stream's end, without a fault
+abbrev pub rows_and_ends : List (List ℕ) → Said
+rows_and_ends rows = record { messages = map Row rows ++ ImageEnd ∷ StreamEnd ∷ []; fault = None }
+
+-- after the last row the ends are said
+rows_said-zero : (format : Format) (s : Shape) (text : List ℕ) → format.is_plain ≡ true → rows_said format s zero text ≡ rows_and_ends []
+unfolding rows_said end_said
+rows_said-zero format s text plain = ap (λ (p : Bool). then_said ImageEnd (end_said p text)) plain
+
+-- a last row that is read, with what may follow it
+last_row_is_read : (s : Shape) (text row rest : List ℕ) → in_turn (plain_sample s.kind s.maxval) (row_length s) text ≡ Ok (row, rest) → begins_apart rest ≡ true → last_plain_row s text ≡ Ok (row, rest)
+unfolding last_plain_row plain_row after_last_item
+last_row_is_read s text row rest e apart =
+    ap (λ (r : Result (List ℕ × List ℕ) InputFault). r >>= λ x. after_last_item x.1 >>= λ y. Ok (x.0, y)) e ∙ ap (λ (t : Bool). (if t then Ok rest else Err BadSample) >>= λ y. done (row, y)) apart
+
+-- a row that is read
+row_is_read : (s : Shape) (text : List ℕ) (found : List ℕ × List ℕ) → in_turn (plain_sample s.kind s.maxval) (row_length s) text ≡ Ok found → plain_row s text ≡ Ok found
+unfolding plain_row
+row_is_read s text found e = e
+
+-- no samples are spelled by nothing
+nothing_left : (kind : Kind) (text samples : List ℕ) → samples ≡ [] → SpellsPlainSamples kind text samples → text ≡ []
+nothing_left kind text samples e s = subst (SpellsPlainSamples kind text) e s
+
+spelled_rows_are_said : (format : Format) (s : Shape) (rows : ℕ) (text samples rest : List ℕ) → format.is_plain ≡ true → length samples ≡ suc rows * row_length s → SpellsPlainSamples s.kind text samples
+    → All (λ sample. sample ≤ s.maxval) samples → begins_apart rest ≡ true → rows_said format s (suc rows) (text ++ rest) ≡ rows_and_ends (cut_rows (suc rows) (row_length s) samples)
+spelled_rows_are_said format s zero text samples rest plain count spelled range apart =
+    let each : ℕ = row_length s in
+    let total : length samples ≡ each = omega (arith, count, suc-mul zero each, zero-mul each) in
+    let r = spelled_samples_are_read s.kind s.maxval each text samples rest (omega arith) spelled range apart in
+    let none : drop each samples ≡ [] = nil_from_length (drop each samples) (omega (arith, length-drop each samples)) in
+    let left : r.0 ++ rest ≡ rest = ap (λ (t : List ℕ). t ++ rest) (nothing_left s.kind r.0 (drop each samples) none r.2) in
+    let row : in_turn (plain_sample s.kind s.maxval) each (text ++ rest) ≡ Ok (take each samples, rest) = r.1 ∙ ap (λ (t : List ℕ). done (take each samples, t)) left in
+    rows_said-suc format s zero (text ++ rest) plain ∙ ap (said_from format s zero) (last_row_is_read s (text ++ rest) (take each samples) rest row apart)
+    ∙ ap (then_said (Row (take each samples))) (rows_said-zero format s rest plain)
+spelled_rows_are_said format s (suc rows) text samples rest plain count spelled range apart =
+    let each : ℕ = row_length s in
+    let total : length samples ≡ suc rows * each + each = count ∙ suc-mul (suc rows) each in
+    let r = spelled_samples_are_read s.kind s.maxval each text samples rest (omega arith) spelled range apart in
+    let count_left : length (drop each samples) ≡ suc rows * each = omega (arith, length-drop each samples) in
+    let others = spelled_rows_are_said format s rows r.0 (drop each samples) rest plain count_left r.2 (All-drop (λ sample. sample ≤ s.maxval) each samples range) apart in
+    rows_said-suc format s (suc rows) (text ++ rest) plain ∙ ap (said_from format s (suc rows)) (row_is_read s (text ++ rest) (take each samples, r.0 ++ rest) r.1)
+    ∙ ap (then_said (Row (take each samples))) others
+
+rows_by_count : (format : Format) (s : Shape) (rows : ℕ) (text samples rest : List ℕ) → 0 < rows → format.is_plain ≡ true → length samples ≡ rows * row_length s → SpellsPlainSamples s.kind text samples
+    → All (λ sample. sample ≤ s.maxval) samples → begins_apart rest ≡ true → rows_said format s rows (text ++ rest) ≡ rows_and_ends (cut_rows rows (row_length s) samples)
+rows_by_count format s zero text samples rest some plain count spelled range apart = absurd (omega arith)
+rows_by_count format s (suc rows) text samples rest some plain count spelled range apart = spelled_rows_are_said format s rows text samples rest plain count spelled range apart
+
+-- of a raster that spells an image the rows are said, and the ends
+pub spelled_plain_is_said : (format : Format) (raster rest : List ℕ) (image : Image) → format.is_plain ≡ true → image.head.shape.kind ≡ format.kind → 0 < image.head.shape.height → SpellsPlain raster image → begins_apart rest ≡ true
+    → rows_said format image.head.shape image.head.shape.height (raster ++ rest) ≡ record { messages = map Row (rows_of image) ++ ImageEnd ∷ StreamEnd ∷ []; fault = None }
+spelled_plain_is_said format raster rest image plain kind some s apart =
+    rows_by_count format image.head.shape image.head.shape.height raster image.samples rest some plain s.sound.count s.samples s.sound.range apart
+
+-- ---- samples that are read are spelled
+
+-- the text spells the samples, and goes on with the rest
+abbrev pub SpellsOn : Kind → List ℕ → List ℕ → List ℕ → Type 0
+SpellsOn kind text [] rest = text ≡ rest
+SpellsOn kind text (sample ∷ samples) rest = (piece : List ℕ) × (left : List ℕ) × (text ≡ piece ++ left) × SpellsPiece kind piece sample × MayFollow kind left × SpellsOn kind left samples rest
+
+-- samples, and samples in the rest
+spells_on_append : (kind : Kind) (text xs middle ys rest : List ℕ) → SpellsOn kind text xs middle → SpellsOn kind middle ys rest → SpellsOn kind text (xs ++ ys) rest
+spells_on_append kind text [] middle ys rest s t = subst (λ (u : List ℕ). SpellsOn kind u ys rest) (sym s) t
+spells_on_append kind text (x ∷ xs) middle ys rest s t = (s.0, s.1, s.2, s.3, s.4, spells_on_append kind s.1 xs middle ys rest s.5 t)
+
+-- the front of the text spells the samples alone
+spelled_front : (kind : Kind) (text samples rest : List ℕ) → SpellsOn kind text samples rest → (front : List ℕ) × (text ≡ front ++ rest) × SpellsPlainSamples kind front samples
+spelled_front kind text [] rest s = ([], s, refl)
+spelled_front kind text (sample ∷ samples) rest s =
+    let more = spelled_front kind s.1 samples rest s.5 in
+    let whole : text ≡ (s.0 ++ more.0) ++ rest = s.2 ∙ ap (λ (t : List ℕ). s.0 ++ t) more.1 ∙ sym (append_assoc s.0 more.0 rest) in
+    let follows : MayFollow kind more.0 = follows_less kind more.0 rest (subst (MayFollow kind) more.1 s.4) in
+    (s.0 ++ more.0, whole, (s.0, more.0, refl, s.3, follows, more.2))
+
+-- samples that were read, and what they were read of
+record IsRead (kind : Kind) (maxval n : ℕ) (text : List ℕ) (found : List ℕ × List ℕ) : Type 0 where
+  pub count : length found.0 ≡ n
+  pub range : All (IsInRange kind maxval) found.0
+  pub spelled : SpellsOn kind text found.0 found.1
+
+read_samples_are_spelled : (kind : Kind) (maxval n : ℕ) (text : List ℕ) (found : List ℕ × List ℕ) → in_turn (plain_sample kind maxval) n text ≡ Ok found → IsRead kind maxval n text found
+unfolding in_turn
+read_samples_are_spelled kind maxval zero text found e =
+    let none : IsRead kind maxval zero text ([], text) = record { count = refl; range = All-nil (IsInRange kind maxval); spelled = refl } in
+    subst (IsRead kind maxval zero text) (ok_is ([], text) found e) none
+read_samples_are_spelled kind maxval (suc n) text found e =
+    let a = bind_ok (plain_sample kind maxval text) (λ first. in_turn (plain_sample kind maxval) n first.1 >>= λ more. Ok (first.0 ∷ more.0, more.1)) found e in
+    let sample : ℕ = a.0.0 in
+    let left : List ℕ = a.0.1 in
+    let b = bind_ok (in_turn (plain_sample kind maxval) n left) (λ more. Ok (sample ∷ more.0, more.1)) found a.2 in
+    let s = read_piece_is_spelled kind maxval text left sample a.1 in
+    let more = read_samples_are_spelled kind maxval n left b.0 b.1 in
+    let here : IsRead kind maxval (suc n) text (sample ∷ b.0.0, b.0.1) = record {
+      count = ap suc more.count;
+      range = All-cons (IsInRange kind maxval) sample b.0.0 s.4 more.range;
+      spelled = (s.0, left, s.1, s.2, s.3, more.spelled);
+    } in
+    subst (IsRead kind maxval (suc n) text) (ok_is (sample ∷ b.0.0, b.0.1) found b.2) here
+
+-- ---- rows that are said are spelled
+
+-- where a row is said without a fault, it was read, and the rest has no fault
+row_without_fault : (format : Format) (s : Shape) (more : ℕ) (r : Result (List ℕ × List ℕ) InputFault) → (said_from format s more r).fault ≡ None
+    → (row : List ℕ × List ℕ) × (r ≡ Ok row) × ((rows_said format s more row.1).fault ≡ None)
+row_without_fault format s more (Ok row) e = (row, refl, e)
+row_without_fault format s more (Err fault) e = absurd cc
+
+-- what may follow was found
+apart_ok : (t : Bool) (text found : List ℕ) → (if t then Ok text else Err BadSample) ≡ done found → (t ≡ true) × (text ≡ found)
+apart_ok true text found e = (refl, ok_is text found e)
+apart_ok false text found e = absurd cc
+
+read_row : (s : Shape) (text : List ℕ) (row : List ℕ × List ℕ) → plain_row s text ≡ Ok row → IsRead s.kind s.maxval (row_length s) text row
+unfolding plain_row
+read_row s text row e = read_samples_are_spelled s.kind s.maxval (row_length s) text row e
+
+read_last_row : (s : Shape) (text : List ℕ) (row : List ℕ × List ℕ) → last_plain_row s text ≡ Ok row → IsRead s.kind s.maxval (row_length s) text row × (begins_apart row.1 ≡ true)
+unfolding last_plain_row after_last_item
+read_last_row s text row e =
+    let a = bind_ok (plain_row s text) (λ x. after_last_item x.1 >>= λ y. Ok (x.0, y)) row e in
+    let b = bind_ok (after_last_item a.0.1) (λ y. Ok (a.0.0, y)) row a.2 in
+    let c = apart_ok (begins_apart a.0.1) a.0.1 b.0 b.1 in
+    let same : a.0 ≡ row = ap (λ (t : List ℕ). (a.0.0, t)) c.1 ∙ ok_is (a.0.0, b.0) row b.2 in
+    (subst (IsRead s.kind s.maxval (row_length s) text) same (read_row s text a.0 a.1), subst (λ (f : List ℕ × List ℕ). begins_apart f.1 ≡ true) same c.0)
+
+-- rows that were read, and what may follow them
+abbrev AreRead : Shape → ℕ → List ℕ → List ℕ × List ℕ → Type 0
+AreRead s rows text found = IsRead s.kind s.maxval (rows * row_length s) text found × (begins_apart found.1 ≡ true)
+
+said_rows_are_read : (format : Format) (s : Shape) (rows : ℕ) (text : List ℕ) → format.is_plain ≡ true → (rows_said format s (suc rows) text).fault ≡ None → (found : List ℕ × List ℕ) × AreRead s (suc rows) text found
+said_rows_are_read format s zero text plain e =
+    let each : ℕ = row_length s in
+    let row = row_without_fault format s zero (row_by true s zero text) (sym (ap (λ (x : Said). x.fault) (rows_said-suc format s zero text plain)) ∙ e) in
+    let last = read_last_row s text row.0 row.1 in
+    let one : suc zero * each ≡ each = omega (arith, suc-mul zero each, zero-mul each) in
+    (row.0, (record { count = last.0.count ∙ sym one; range = last.0.range; spelled = last.0.spelled }, last.1))
+said_rows_are_read format s (suc rows) text plain e =
+    let each : ℕ = row_length s in
+    let row = row_without_fault format s (suc rows) (row_by true s (suc rows) text) (sym (ap (λ (x : Said). x.fault) (rows_said-suc format s (suc rows) text plain)) ∙ e) in
+    let first = read_row s text row.0 row.1 in
+    let others = said_rows_are_read format s rows row.0.1 plain row.2 in
+    let count : length (row.0.0 ++ others.0.0) ≡ suc (suc rows) * each = omega (arith, length-append row.0.0 others.0.0, first.count, others.1.0.count, suc-mul (suc rows) each) in (
+      (row.0.0 ++ others.0.0, others.0.1),
+      (
+        record {
+          count = count;
+          range = All-append (IsInRange s.kind s.maxval) row.0.0 others.0.0 first.range others.1.0.range;
+          spelled = spells_on_append s.kind text row.0.0 row.0.1 others.0.0 others.0.1 first.spelled others.1.0.spelled;
+        },
+        others.1.1,
+      ),
+    )
+
+read_by_count : (format : Format) (s : Shape) (rows : ℕ) (text : List ℕ) → 0 < rows → format.is_plain ≡ true → (rows_said format s rows text).fault ≡ None → (found : List ℕ × List ℕ) × AreRead s rows text found
+read_by_count format s zero text some plain e = absurd (omega arith)
+read_by_count format s (suc rows) text some plain e = said_rows_are_read format s rows text plain e
+
+-- a sample in its kind's range is up to the maxval
+range_by : (kind : Kind) (depth maxval : ℕ) (tuple_type : List ℕ) (sample : ℕ) → Suits kind depth maxval tuple_type → IsInRange kind maxval sample → sample ≤ maxval
+range_by Bit depth maxval tuple_type sample suits h = let one : maxval ≡ 1 = suits.1 in omega (arith, h)
+range_by Gray depth maxval tuple_type sample suits h = h
+range_by Color depth maxval tuple_type sample suits h = h
+range_by Pam depth maxval tuple_type sample suits h = h
+
+-- a raster whose rows are said without a fault spells the image of these rows, and what may follow it
+pub said_plain_is_spelled : (format : Format) (head : Header) (text : List ℕ) → format.is_plain ≡ true → head.shape.kind ≡ format.kind → IsHeader head → 0 < head.shape.height → (rows_said format head.shape head.shape.height text).fault ≡ None
+    → (image : Image) × (raster : List ℕ) × (rest : List ℕ) × (text ≡ raster ++ rest) × (image.head ≡ head) × SpellsPlain raster image × (begins_apart rest ≡ true)
+    × ((rows_said format head.shape head.shape.height text).messages ≡ map Row (rows_of image) ++ ImageEnd ∷ StreamEnd ∷ [])
+said_plain_is_spelled format head text plain kind h some e =
+    let s : Shape = head.shape in
+    let r = read_by_count format s s.height text some plain e in
+    let samples : List ℕ = r.0.0 in
+    let rest : List ℕ = r.0.1 in
+    let f = spelled_front s.kind text samples rest r.1.0.spelled in
+    let range : All (λ sample. sample ≤ s.maxval) samples =
+    All-weaker (IsInRange s.kind s.maxval) (λ sample. sample ≤ s.maxval) (λ sample i. range_by s.kind s.depth s.maxval head.tuple_type sample h.suits i) samples r.1.0.range in
+    let image : Image = record { head = head; samples = samples } in
+    let spelled : SpellsPlain f.0 image = record { sound = record { head = h; count = r.1.0.count; range = range }; samples = f.2 } in
+    let said = ap (rows_said format s s.height) f.1 ∙ spelled_plain_is_said format f.0 rest image plain kind some spelled r.1.1 in
+    (image, f.0, rest, f.1, refl, spelled, r.1.1, ap (λ (x : Said). x.messages) said)
