@@ -16,7 +16,7 @@ use Rattle.pnm_read.specs.declared.fault.InputFault.TheVariants.{BadMagic, Heade
 use Rattle.pnm_read.specs.declared.format.Format.{Format}
 use Rattle.pnm_read.specs.declared.judgement.Judgement.{Judgement}
 use Rattle.pnm_read.specs.declared.judgement.Judgement.TheVariants.{GoesOn, EndsWith, EndsBefore, Fails}
-use Rattle.pnm_read.specs.Texts.{is_white, is_digit, is_apart, begins_apart, ends_by, ends_in_comment, uncommented, ends_in_word, numbers_in}
+use Rattle.pnm_read.specs.Texts.{is_white, is_digit, is_apart, begins_apart, ends_by, ends_in_comment, uncommented, uncommented_from, ends_in_word, words, numbers_in}
 use Rattle.pnm_read.specs.Formats.{plain, raw, format_of, number_count, planes, shape_of, header_numbers}
 use Rattle.pnm_read.specs.Headers.{SpellsHeader}
 use Rattle.pnm_read.specs.Items.{◌>>=◌, piece_from, first_magic_item, second_magic_item, header_limit, is_bad_in_header, is_delimiter, header_item, header_end, fault_of_head, numbers_item}
@@ -29,6 +29,14 @@ use Rattle.pnm_read.proofs.WordLaws.{uncommented-split, uncommented-plain, uncom
 pub bind_ok : {A B : Type 0} (r : Result A InputFault) (f : A → Result B InputFault) (y : B) → (r >>= f) ≡ Ok y → (x : A) × (r ≡ Ok x) × (f x ≡ Ok y)
 bind_ok (Ok x) f y e = (x, refl, e)
 bind_ok (Err d) f y e = absurd cc
+
+-- a step that did not fail
+abbrev done : {A : Type 0} → A → Result A InputFault
+done x = Ok x
+
+-- a step has one value
+ok_is : {A : Type 0} (x y : A) → done x ≡ done y → x ≡ y
+ok_is x y e = cc
 
 -- ---- how a byte of a header is judged
 
@@ -62,7 +70,10 @@ bad_parts : (first apart comment decimal : Bool) → ((first && not apart) || (n
 bad_parts first apart comment decimal e = (λ h. grind arith, λ h. grind arith)
 
 not_bad : (first apart comment decimal : Bool) → (first ≡ true → apart ≡ true) → (comment ≡ false → decimal ≡ true) → ((first && not apart) || (not comment && not decimal)) ≡ false
-not_bad first apart comment decimal f g = ?
+not_bad true apart true decimal f g = rw (f refl) refl
+not_bad true apart false decimal f g = rw (f refl, g refl) refl
+not_bad false apart true decimal f g = refl
+not_bad false apart false decimal f g = rw (g refl) refl
 
 -- ---- the bytes of a header so far
 
@@ -125,3 +136,160 @@ so_far-digit count before b s outside digit begins = record {
   decimal = decimal_push before b outside (digit_is_not_sharp b digit) (grind (arith, digit)) s.decimal;
   counted = rw (ends_in_word-digit before b outside digit) (record { within = digit_counted count before b (ends_in_word (uncommented before)) refl s.counted outside digit; fewer = λ e. absurd cc });
 }
+
+-- white space outside comments that ends no header
+not_last : (comment white all : Bool) → (not comment && white && all) ≡ false → comment ≡ false → white ≡ true → all ≡ false
+not_last comment white all e c w = grind arith
+
+-- a byte outside comments that is neither white space nor begins a comment
+digit_left : (digit white sharp : Bool) → (digit || (white || sharp)) ≡ true → white ≡ false → sharp ≡ false → digit ≡ true
+digit_left digit white sharp e w s = grind arith
+
+so_far_by : (comment sharp white : Bool) (count : ℕ) (before : List ℕ) (b : ℕ) → ends_in_comment before ≡ comment → (b == 35) ≡ sharp → is_white b ≡ white → SoFar count before
+    → (ends_in_comment before ≡ false → (is_digit b || is_apart b) ≡ true) → is_delimiter count before b ≡ false → begins_apart (before ++ b ∷ []) ≡ true → SoFar count (before ++ b ∷ [])
+so_far_by true sharp white count before b c h w s decimal last begins = so_far-comment count before b s (inl c) begins
+so_far_by false true white count before b c h w s decimal last begins = so_far-comment count before b s (inr (eqb-true b 35 h)) begins
+so_far_by false false true count before b c h w s decimal last begins = so_far-white count before b s c w (not_last (ends_in_comment before) (is_white b) (length (numbers_in before) == count) last c w) begins
+so_far_by false false false count before b c h w s decimal last begins = so_far-digit count before b s c (digit_left (is_digit b) (is_white b) (b == 35) (decimal c) w h) begins
+
+-- a byte more that went on
+so_far-push : (count : ℕ) (before : List ℕ) (b : ℕ) → SoFar count before → header_item count before b ≡ GoesOn → SoFar count (before ++ b ∷ [])
+so_far-push count before b s e =
+    let parts = goes_on_by (nat_le header_limit (length before)) (is_bad_in_header before b) (is_delimiter count before b) (sym (header_item_is count before b) ∙ e) in
+    let byte = bad_parts (length before == 0) (is_apart b) (ends_in_comment before) (is_digit b || is_apart b) parts.1 in
+    so_far_by (ends_in_comment before) (b == 35) (is_white b) count before b refl refl refl s byte.1 parts.2 (begins_push before b s.begins byte.0)
+
+-- no byte so far
+so_far_none : (count : ℕ) → 0 < count → SoFar count []
+unfolding words uncommented_from
+so_far_none count some = record { begins = refl; decimal = All-nil (λ b. is_decimal b ≡ true); counted = record { within = omega arith; fewer = λ e. some } }
+
+-- ---- what is read is spelled
+
+-- the body that was read, the delimiter, and what follows
+record Body (count : ℕ) (before text piece rest : List ℕ) : Type 0 where
+  pub body : List ℕ
+  pub delimiter : ℕ
+  pub so_far : SoFar count body
+  pub ends : header_item count body delimiter ≡ EndsWith
+  pub piece_is : piece ≡ body ++ delimiter ∷ []
+  pub whole : before ++ text ≡ piece ++ rest
+
+abbrev pieced : Judgement → ℕ → List ℕ → ℕ → List ℕ → Result (List ℕ × List ℕ) InputFault
+pieced judgement count before b text = elim judgement [
+  | Fails fault ↦ Err fault
+  | EndsWith ↦ Ok (before ++ b ∷ [], text)
+  | EndsBefore ↦ Ok (before, b ∷ text)
+  | GoesOn ↦ piece_from (header_item count) header_end (before ++ b ∷ []) text
+]
+
+body_by : (judgement : Judgement) (count : ℕ) (before : List ℕ) (b : ℕ) (text piece rest : List ℕ) → header_item count before b ≡ judgement → SoFar count before → pieced judgement count before b text ≡ Ok (piece, rest)
+    → (SoFar count (before ++ b ∷ []) → piece_from (header_item count) header_end (before ++ b ∷ []) text ≡ Ok (piece, rest) → Body count (before ++ b ∷ []) text piece rest) → Body count before (b ∷ text) piece rest
+body_by (Fails fault) count before b text piece rest j s e more = absurd cc
+body_by EndsWith count before b text piece rest j s e more =
+    let parts : (before ++ b ∷ [], text) ≡ (piece, rest) = ok_is (before ++ b ∷ [], text) (piece, rest) e in
+    let front : before ++ b ∷ [] ≡ piece = ap (λ (p : List ℕ × List ℕ). p.0) parts in
+    let back : text ≡ rest = ap (λ (p : List ℕ × List ℕ). p.1) parts in
+    record { body = before; delimiter = b; so_far = s; ends = j; piece_is = sym front; whole = sym (append_assoc before (b ∷ []) text) ∙ ap (λ (t : List ℕ). t ++ text) front ∙ ap (λ (t : List ℕ). piece ++ t) back }
+body_by EndsBefore count before b text piece rest j s e more =
+    absurd (never_before_by (nat_le header_limit (length before)) (is_bad_in_header before b) (is_delimiter count before b) (sym (header_item_is count before b) ∙ j))
+body_by GoesOn count before b text piece rest j s e more =
+    let found = more (so_far-push count before b s j) e in
+    record { body = found.body; delimiter = found.delimiter; so_far = found.so_far; ends = found.ends; piece_is = found.piece_is; whole = sym (append_assoc before (b ∷ []) text) ∙ found.whole }
+
+body_is_read : (count : ℕ) (before text piece rest : List ℕ) → SoFar count before → piece_from (header_item count) header_end before text ≡ Ok (piece, rest) → Body count before text piece rest
+unfolding piece_from
+body_is_read count before [] piece rest s e = absurd cc
+body_is_read count before (b ∷ text) piece rest s e = body_by (header_item count before b) count before b text piece rest refl s e (λ t f. body_is_read count (before ++ b ∷ []) text piece rest t f)
+
+-- what is known of a body where the header ends with the byte after it
+last_parts : (comment white all : Bool) → (not comment && white && all) ≡ true → (comment ≡ false) × (white ≡ true) × (all ≡ true)
+last_parts comment white all e = (grind arith, grind arith, grind arith)
+
+record Ended (count : ℕ) (body : List ℕ) (delimiter : ℕ) : Type 0 where
+  pub short : length body < 65534
+  pub outside : ends_in_comment body ≡ false
+  pub white : is_white delimiter ≡ true
+  pub all : length (numbers_in body) ≡ count
+
+ended : (count : ℕ) (body : List ℕ) (delimiter : ℕ) → header_item count body delimiter ≡ EndsWith → Ended count body delimiter
+ended count body delimiter e =
+    let parts = ends_with_by (nat_le header_limit (length body)) (is_bad_in_header body delimiter) (is_delimiter count body delimiter) (sym (header_item_is count body delimiter) ∙ e) in
+    let last = last_parts (ends_in_comment body) (is_white delimiter) (length (numbers_in body) == count) parts.2 in
+    record { short = leb-false 65534 (length body) parts.0; outside = last.0; white = last.1; all = eqb-true (length (numbers_in body)) count last.2 }
+
+-- a body with all its numbers ends with the last
+ends_in_last : (count : ℕ) (body : List ℕ) (ends : Bool) → ends_in_word (uncommented body) ≡ ends → Counted count (length (numbers_in body)) (ends_in_word (uncommented body)) → length (numbers_in body) ≡ count → ends_in_word (uncommented body) ≡ true
+ends_in_last count body true e c all = e
+ends_in_last count body false e c all = let fewer = c.fewer e in absurd (omega arith)
+
+-- ---- the numbers of a header
+
+-- the numbers of a shape are those that make it
+two_numbers : (numbers : List ℕ) → length numbers ≡ 2 → slice_index numbers 0 ∷ slice_index numbers 1 ∷ [] ≡ numbers
+two_numbers [] e = absurd (omega arith)
+two_numbers (a ∷ []) e = absurd (omega arith)
+two_numbers (a ∷ b ∷ []) e = refl
+two_numbers (a ∷ b ∷ c ∷ numbers) e = absurd (omega arith)
+
+three_numbers : (numbers : List ℕ) → length numbers ≡ 3 → slice_index numbers 0 ∷ slice_index numbers 1 ∷ slice_index numbers 2 ∷ [] ≡ numbers
+three_numbers [] e = absurd (omega arith)
+three_numbers (a ∷ []) e = absurd (omega arith)
+three_numbers (a ∷ b ∷ []) e = absurd (omega arith)
+three_numbers (a ∷ b ∷ c ∷ []) e = refl
+three_numbers (a ∷ b ∷ c ∷ d ∷ numbers) e = absurd (omega arith)
+
+numbers_of_shape : (kind : Kind) (numbers : List ℕ) → length numbers ≡ number_count kind → header_numbers (shape_of kind numbers) ≡ numbers
+numbers_of_shape Bit numbers e = two_numbers numbers e
+numbers_of_shape Gray numbers e = three_numbers numbers e
+numbers_of_shape Color numbers e = three_numbers numbers e
+numbers_of_shape Pam numbers e = three_numbers numbers e
+
+-- a header has some numbers
+some_numbers : (kind : Kind) → 0 < number_count kind
+some_numbers Bit = omega arith
+some_numbers Gray = omega arith
+some_numbers Color = omega arith
+some_numbers Pam = omega arith
+
+-- ---- the head
+
+abbrev head_by : Option HeadFault → Header → Result Header InputFault
+head_by fault head = elim fault [ Some f ↦ Err (fault_of_head f) | None ↦ Ok head ]
+
+head_by_ok : (fault : Option HeadFault) (made head : Header) → head_by fault made ≡ Ok head → (fault ≡ None) × (made ≡ head)
+head_by_ok None made head e = (refl, cc)
+head_by_ok (Some f) made head e = absurd cc
+
+-- where three tests find no fault, each fails
+no_fault : (a b c : Bool) (x y z : HeadFault) → cond a (Some x) (cond b (Some y) (cond c (Some z) None)) ≡ None → (a ≡ false) × (b ≡ false) × (c ≡ false)
+no_fault true b c x y z e = absurd cc
+no_fault false true c x y z e = absurd cc
+no_fault false false true x y z e = absurd cc
+no_fault false false false x y z e = (refl, refl, refl)
+
+-- where the test for a zero size fails, no size is zero
+sizes_are_not_zero : (width height depth : ℕ) → ((width == 0) || (height == 0) || (depth == 0)) ≡ false → (0 < width) × (0 < height) × (0 < depth)
+sizes_are_not_zero width height depth e = (grind (arith, nat_tests), grind (arith, nat_tests), grind (arith, nat_tests))
+
+-- where the test for a large size fails, no size is large
+sizes_are_not_large : (width height depth row : ℕ) → (nat_lt 1000000 width || nat_lt 1000000 height || nat_lt 256 depth || nat_lt 16777216 row) ≡ false → (width ≤ 1000000) × (height ≤ 1000000) × (depth ≤ 256) × (row ≤ 16777216)
+sizes_are_not_large width height depth row e = (grind (arith, nat_tests), grind (arith, nat_tests), grind (arith, nat_tests), grind (arith, nat_tests))
+
+-- where the test of the maxval fails, it is in its range
+maxval_is_not_bad : (maxval : ℕ) → ((maxval == 0) || nat_lt 65535 maxval) ≡ false → (0 < maxval) × (maxval ≤ 65535)
+maxval_is_not_bad maxval e = (grind (arith, nat_tests), grind (arith, nat_tests))
+
+limits_of : (s : Shape) → shape_fault s ≡ None → IsWithinLimits s × (0 < s.height)
+limits_of s e = ?
+
+-- nothing is a tuple type
+no_tuple_type : IsTupleType []
+no_tuple_type = ?
+
+-- a shape that numbers make suits its kind
+suits_kind : (kind : Kind) (numbers : List ℕ) → Suits kind (planes kind) ((shape_of kind numbers).maxval) []
+suits_kind Bit numbers = (refl, refl, refl)
+suits_kind Gray numbers = (refl, refl)
+suits_kind Color numbers = (refl, refl)
+suits_kind Pam numbers = no_tuple_type
