@@ -1,5 +1,5 @@
 -- The header of a text: what a header spells is read, and what is read is spelled.
-use Rattle.std.proofs.Common.{◌≡◌, ◌⊎◌, inl, inr, ℕ, zero, suc, ◌+◌, ◌-◌, ◌*◌, ◌<◌, ◌≤◌, Bool, true, false, not, ◌||◌, ◌&&◌, ◌==◌, if◌then◌else◌, cond, List, [], ◌∷◌, ◌++◌, length, map, Option, Some, None, Result, Ok, Err, refl, sym, ap, subst, ◌∙◌, append_assoc, arith}
+use Rattle.std.proofs.Common.{◌≡◌, ◌≢◌, ◌⊎◌, inl, inr, ℕ, zero, suc, ◌+◌, ◌-◌, ◌*◌, ◌<◌, ◌≤◌, Bool, true, false, not, ◌||◌, ◌&&◌, ◌==◌, if◌then◌else◌, cond, List, [], ◌∷◌, ◌++◌, length, map, Option, Some, None, Result, Ok, Err, refl, sym, ap, subst, ◌∙◌, append_assoc, arith}
 use Rattle.std.specs.Prelude.{nat_le, nat_lt, slice_index}
 use Rattle.std.specs.List.{AllPass}
 use Rattle.std.proofs.lemmas.Bool.{eqb-true, leb-false, lt-leb, ne_eqb, eqb-false, and_parts}
@@ -10,6 +10,7 @@ use Rattle.pnm_image.specs.declared.shape.Shape.{Shape}
 use Rattle.pnm_image.specs.declared.shape.Kind.{Kind}
 use Rattle.pnm_image.specs.declared.shape.Kind.TheVariants.{Bit, Gray, Color, Pam}
 use Rattle.pnm_image.specs.declared.head.HeadFault.{HeadFault}
+use Rattle.pnm_image.specs.declared.head.HeadFault.TheVariants as heads
 use Rattle.pnm_image.specs.Heads.{Header, IsHeader, IsWithinLimits, IsTupleType, Suits, header_of, row_length, shape_fault}
 use Rattle.pnm_read.specs.declared.fault.InputFault.{InputFault}
 use Rattle.pnm_read.specs.declared.fault.InputFault.TheVariants.{BadMagic, HeaderCut, TooLong, BadNumber}
@@ -281,11 +282,16 @@ maxval_is_not_bad : (maxval : ℕ) → ((maxval == 0) || nat_lt 65535 maxval) �
 maxval_is_not_bad maxval e = (grind (arith, nat_tests), grind (arith, nat_tests))
 
 limits_of : (s : Shape) → shape_fault s ≡ None → IsWithinLimits s × (0 < s.height)
-limits_of s e = ?
+limits_of s e =
+    let tests = no_fault ((s.width == 0) || (s.height == 0) || (s.depth == 0)) (nat_lt 1000000 s.width || nat_lt 1000000 s.height || nat_lt 256 s.depth || nat_lt 16777216 (row_length s)) ((s.maxval == 0) || nat_lt 65535 s.maxval) heads.ZeroSize heads.TooLarge heads.BadMaxval e in
+    let low = sizes_are_not_zero s.width s.height s.depth tests.0 in
+    let high = sizes_are_not_large s.width s.height s.depth (row_length s) tests.1 in
+    let maxval = maxval_is_not_bad s.maxval tests.2 in
+    (record { width_low = low.0; width_high = high.0; height_high = high.1; depth_low = low.2; depth_high = high.2; row_high = high.3; maxval_low = maxval.0; maxval_high = maxval.1 }, low.1)
 
 -- nothing is a tuple type
 no_tuple_type : IsTupleType []
-no_tuple_type = ?
+no_tuple_type = record { bytes = All-nil (λ b. b < 256); short = omega arith; one_line = All-nil (λ b. b ≢ 10); first = λ h. absurd (omega (arith, h)); last = λ h. absurd (omega (arith, h)) }
 
 -- a shape that numbers make suits its kind
 suits_kind : (kind : Kind) (numbers : List ℕ) → Suits kind (planes kind) ((shape_of kind numbers).maxval) []
@@ -293,3 +299,172 @@ suits_kind Bit numbers = (refl, refl, refl)
 suits_kind Gray numbers = (refl, refl)
 suits_kind Color numbers = (refl, refl)
 suits_kind Pam numbers = no_tuple_type
+
+-- numbers that make a head
+record Made (kind : Kind) (numbers : List ℕ) (head : Header) : Type 0 where
+  pub head_is : header_of (shape_of kind numbers) [] ≡ head
+  pub sound : IsHeader head
+  pub rows : 0 < head.shape.height
+
+numbers_make_head : (kind : Kind) (numbers : List ℕ) (head : Header) → numbers_item kind numbers ≡ Ok head → Made kind numbers head
+unfolding numbers_item
+numbers_make_head kind numbers head e =
+    let s : Shape = shape_of kind numbers in
+    let good = head_by_ok (shape_fault s) (header_of s []) head e in
+    let limits = limits_of s good.0 in
+    let made : Made kind numbers (header_of s []) = record { head_is = refl; sound = record { limits = limits.0; suits = suits_kind kind numbers }; rows = limits.1 } in
+    subst (Made kind numbers) good.1 made
+
+-- ---- the magic
+
+first_magic_by : (p : Bool) (b : ℕ) (text rest : List ℕ) → (b == 80) ≡ p → (if p then Ok text else Err BadMagic) ≡ done rest → b ∷ text ≡ 80 ∷ rest
+first_magic_by true b text rest h e = let first = eqb-true b 80 h in cc
+first_magic_by false b text rest h e = absurd cc
+
+first_magic_is_spelled : (text rest : List ℕ) → first_magic_item text ≡ Ok rest → text ≡ 80 ∷ rest
+unfolding first_magic_item
+first_magic_is_spelled [] rest e = absurd cc
+first_magic_is_spelled (b ∷ text) rest e = first_magic_by (b == 80) b text rest refl e
+
+-- the second byte of a magic that was read
+record SecondMagic (text : List ℕ) (format : Format) (after : List ℕ) : Type 0 where
+  pub digit : ℕ
+  pub text_is : text ≡ digit ∷ after
+  pub format_is : format_of digit ≡ Some format
+
+abbrev second_magic : Option Format → List ℕ → Result (Format × List ℕ) InputFault
+second_magic found text = elim found [ Some format ↦ Ok (format, text) | None ↦ Err BadMagic ]
+
+second_magic_by : (found : Option Format) (b : ℕ) (text : List ℕ) (format : Format) (after : List ℕ) → format_of b ≡ found → second_magic found text ≡ Ok (format, after) → SecondMagic (b ∷ text) format after
+second_magic_by None b text format after h e = absurd cc
+second_magic_by (Some f) b text format after h e =
+    let parts : (f, text) ≡ (format, after) = ok_is (f, text) (format, after) e in
+    record { digit = b; text_is = ap (λ (p : Format × List ℕ). b ∷ p.1) parts; format_is = h ∙ ap (λ (p : Format × List ℕ). Some p.0) parts }
+
+second_magic_is_spelled : (text : List ℕ) (format : Format) (after : List ℕ) → second_magic_item text ≡ Ok (format, after) → SecondMagic text format after
+unfolding second_magic_item
+second_magic_is_spelled [] format after e = absurd cc
+second_magic_is_spelled (b ∷ text) format after e = second_magic_by (format_of b) b text format after refl e
+
+-- the magic that was read
+record Magic (text : List ℕ) (format : Format) (after : List ℕ) : Type 0 where
+  pub digit : ℕ
+  pub text_is : text ≡ 80 ∷ digit ∷ after
+  pub format_is : format_of digit ≡ Some format
+
+magic_is_spelled : (text : List ℕ) (format : Format) (after : List ℕ) → format_at text ≡ Ok (format, after) → Magic text format after
+unfolding format_at
+magic_is_spelled text format after e =
+    let first = bind_ok (first_magic_item text) second_magic_item (format, after) e in
+    let second = second_magic_is_spelled first.0 format after first.2 in
+    record { digit = second.digit; text_is = first_magic_is_spelled text first.0 first.1 ∙ ap (λ (t : List ℕ). 80 ∷ t) second.text_is; format_is = second.format_is }
+
+-- ---- the header that was read
+
+-- the body, the delimiter and the head of a header that was read
+record HeadRead (format : Format) (after : List ℕ) (head : Header) (rest : List ℕ) : Type 0 where
+  pub body : List ℕ
+  pub delimiter : ℕ
+  pub so_far : SoFar (number_count format.kind) body
+  pub ended : Ended (number_count format.kind) body delimiter
+  pub whole : after ≡ (body ++ delimiter ∷ []) ++ rest
+  pub made : Made format.kind (numbers_in body) head
+
+head_parts : (format : Format) (after : List ℕ) (head : Header) (rest : List ℕ) → head_at format after ≡ Ok (head, rest) → HeadRead format after head rest
+unfolding head_at
+head_parts format after head rest e =
+    let count = number_count format.kind in
+    let piece = bind_ok (piece_from (header_item count) header_end [] after) (λ found. numbers_item format.kind (numbers_in found.0) >>= λ made. Ok (made, found.1)) (head, rest) e in
+    let made = bind_ok (numbers_item format.kind (numbers_in piece.0.0)) (λ found. Ok (found, piece.0.1)) (head, rest) piece.2 in
+    let parts : (made.0, piece.0.1) ≡ (head, rest) = ok_is (made.0, piece.0.1) (head, rest) made.2 in
+    let read = body_is_read count [] after piece.0.0 piece.0.1 (so_far_none count (some_numbers format.kind)) piece.1 in
+    let end = ended count read.body read.delimiter read.ends in
+    let numbers : numbers_in piece.0.0 ≡ numbers_in read.body = ap numbers_in read.piece_is ∙ numbers-white read.body read.delimiter end.outside end.white in
+    record {
+      body = read.body;
+      delimiter = read.delimiter;
+      so_far = read.so_far;
+      ended = end;
+      whole = read.whole ∙ ap (λ (t : List ℕ). t ++ piece.0.1) read.piece_is ∙ ap (λ (p : Header × List ℕ). (read.body ++ read.delimiter ∷ []) ++ p.1) parts;
+      made = subst (λ (p : Header × List ℕ). Made format.kind (numbers_in read.body) p.0) parts (subst (λ (n : List ℕ). Made format.kind n made.0) numbers (numbers_make_head format.kind (numbers_in piece.0.0) made.0 made.1));
+    }
+
+-- a header of a short body is short
+short_header : (digit delimiter : ℕ) (body : List ℕ) → length body < 65534 → length (80 ∷ digit ∷ (body ++ delimiter ∷ [])) ≤ 65536
+short_header digit delimiter body h = omega (arith, length-append body (delimiter ∷ []))
+
+-- a header that is read is spelled
+pub read_header_is_spelled : (text after rest : List ℕ) (format : Format) (head : Header) → format_at text ≡ Ok (format, after) → head_at format after ≡ Ok (head, rest)
+    → (header : List ℕ) × (text ≡ header ++ rest) × SpellsHeader header format head
+read_header_is_spelled text after rest format head f h =
+    let magic = magic_is_spelled text format after f in
+    let read = head_parts format after head rest h in
+    let numbers : List ℕ = numbers_in read.body in
+    let shape : shape_of format.kind numbers ≡ head.shape = ap (λ (x : Header). x.shape) read.made.head_is in
+    (
+      80 ∷ magic.digit ∷ (read.body ++ read.delimiter ∷ []),
+      magic.text_is ∙ ap (λ (t : List ℕ). 80 ∷ magic.digit ∷ t) read.whole,
+      record {
+        digit = magic.digit;
+        body = read.body;
+        delimiter = read.delimiter;
+        whole = refl;
+        short = short_header magic.digit read.delimiter read.body read.ended.short;
+        format_is = magic.format_is;
+        begins = read.so_far.begins;
+        decimal = read.so_far.decimal;
+        numbers = sym (numbers_of_shape format.kind numbers read.ended.all) ∙ ap header_numbers shape;
+        ends = ends_in_last (number_count format.kind) read.body (ends_in_word (uncommented read.body)) refl read.so_far.counted read.ended.all;
+        outside = read.ended.outside;
+        delimiter_is = read.ended.white;
+        kind = sym (ap (λ (s : Shape). s.kind) shape);
+        sound = read.made.sound;
+        rows = read.made.rows;
+      },
+    )
+
+-- ---- what is spelled is read
+
+-- where each byte of a body goes on, the piece goes on after it
+goes_on_through : (item : List ℕ → ℕ → Judgement) (at_end : List ℕ → Option InputFault) (body before back text : List ℕ) → before ++ back ≡ body → ((front : List ℕ) (b : ℕ) (others : List ℕ) → front ++ b ∷ others ≡ body → item front b ≡ GoesOn)
+    → piece_from item at_end before (back ++ text) ≡ piece_from item at_end body text
+unfolding piece_from
+goes_on_through item at_end body before [] text e h = ap (λ (t : List ℕ). piece_from item at_end t text) (sym (append-nil before) ∙ e)
+goes_on_through item at_end body before (b ∷ back) text e h = rw (h before b back e) (goes_on_through item at_end body (before ++ b ∷ []) back text (append_assoc before (b ∷ []) back ∙ e) h)
+
+-- the parts of a header that tell how its bytes are judged
+record Decimal (count : ℕ) (body : List ℕ) : Type 0 where
+  pub short : length body < 65534
+  pub begins : begins_apart body ≡ true
+  pub decimal : AllPass is_decimal (uncommented body)
+  pub all : length (numbers_in body) ≡ count
+  pub ends : ends_in_word (uncommented body) ≡ true
+  pub outside : ends_in_comment body ≡ false
+
+-- a byte of the body
+begins_by : (front : List ℕ) (b : ℕ) (others : List ℕ) → begins_apart (front ++ b ∷ others) ≡ true → (length front == 0) ≡ true → is_apart b ≡ true
+begins_by [] b others e h = e
+begins_by (x ∷ front) b others e h = absurd (omega (arith, eqb-true (length (x ∷ front)) 0 h))
+
+passes_at : (p : ℕ → Bool) (a : List ℕ) (b : ℕ) (c : List ℕ) → AllPass p (a ++ b ∷ c) → p b ≡ true
+passes_at p [] b c h = All-head (λ x. p x ≡ true) b c h
+passes_at p (x ∷ a) b c h = passes_at p a b c (All-tail (λ y. p y ≡ true) x (a ++ b ∷ c) h)
+
+decimal_by : (sharp : Bool) (front : List ℕ) (b : ℕ) (others : List ℕ) → (b == 35) ≡ sharp → AllPass is_decimal (uncommented (front ++ b ∷ others)) → ends_in_comment front ≡ false → (is_digit b || is_apart b) ≡ true
+decimal_by true front b others s h outside = grind (arith, s)
+decimal_by false front b others s h outside =
+    let here : is_decimal b ≡ true = passes_at is_decimal (uncommented front) b (uncommented others) (subst (AllPass is_decimal) (uncommented-split front b others outside s) h) in
+    grind (arith, here)
+
+last_by : (comment white : Bool) (front : List ℕ) (b : ℕ) (others : List ℕ) (count : ℕ) → ends_in_comment front ≡ comment → is_white b ≡ white → Decimal count (front ++ b ∷ others) → is_delimiter count front b ≡ false
+last_by true white front b others count c w d = ?
+last_by false false front b others count c w d = ?
+last_by false true front b others count c w d =
+    let fewer = fewer_numbers front b others c w d.ends in
+    ?
+
+goes_on : (count : ℕ) (front : List ℕ) (b : ℕ) (others : List ℕ) → Decimal count (front ++ b ∷ others) → header_item count front b ≡ GoesOn
+goes_on count front b others d = ?
+
+ends_with : (count : ℕ) (body : List ℕ) (b : ℕ) → Decimal count body → is_white b ≡ true → header_item count body b ≡ EndsWith
+ends_with count body b d w = ?
