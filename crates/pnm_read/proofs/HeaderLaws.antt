@@ -1,8 +1,8 @@
 -- The header of a text: what a header spells is read, and what is read is spelled.
-use Rattle.std.proofs.Common.{◌≡◌, ◌⊎◌, inl, inr, ℕ, zero, suc, ◌+◌, ◌-◌, ◌*◌, ◌<◌, ◌≤◌, Bool, true, false, not, ◌||◌, ◌&&◌, ◌==◌, if◌then◌else◌, cond, List, [], ◌∷◌, ◌++◌, length, map, Option, Some, None, Result, Ok, Err, refl, sym, ap, subst, ◌∙◌, append_assoc, arith}
+use Rattle.std.proofs.Common.{◌≡◌, ◌≢◌, ◌⊎◌, inl, inr, ℕ, suc, ◌+◌, ◌-◌, ◌*◌, ◌<◌, ◌≤◌, Bool, true, false, not, ◌||◌, ◌&&◌, ◌==◌, if◌then◌else◌, cond, List, [], ◌∷◌, ◌++◌, length, Option, Some, None, Result, Ok, Err, refl, sym, ap, subst, ◌∙◌, append_assoc, arith}
 use Rattle.std.specs.Prelude.{nat_le, nat_lt, slice_index}
 use Rattle.std.specs.List.{AllPass}
-use Rattle.std.proofs.lemmas.Bool.{eqb-true, leb-false, lt-leb, ne_eqb, eqb-false, and_parts}
+use Rattle.std.proofs.lemmas.Bool.{eqb-true, leb-false, lt-leb, eq-eqb, ne_eqb, eqb-false}
 use Rattle.std.proofs.lemmas.Bool.Decides.{nat_tests}
 use Rattle.std.proofs.lemmas.List.{append-nil, length-append}
 use Rattle.std.proofs.lemmas.List.Elements.{All-nil, All-push, All-head, All-tail}
@@ -10,18 +10,19 @@ use Rattle.pnm_image.specs.declared.shape.Shape.{Shape}
 use Rattle.pnm_image.specs.declared.shape.Kind.{Kind}
 use Rattle.pnm_image.specs.declared.shape.Kind.TheVariants.{Bit, Gray, Color, Pam}
 use Rattle.pnm_image.specs.declared.head.HeadFault.{HeadFault}
+use Rattle.pnm_image.specs.declared.head.HeadFault.TheVariants as heads
 use Rattle.pnm_image.specs.Heads.{Header, IsHeader, IsWithinLimits, IsTupleType, Suits, header_of, row_length, shape_fault}
 use Rattle.pnm_read.specs.declared.fault.InputFault.{InputFault}
-use Rattle.pnm_read.specs.declared.fault.InputFault.TheVariants.{BadMagic, HeaderCut, TooLong, BadNumber}
+use Rattle.pnm_read.specs.declared.fault.InputFault.TheVariants.{BadMagic, TooLong, BadNumber}
 use Rattle.pnm_read.specs.declared.format.Format.{Format}
 use Rattle.pnm_read.specs.declared.judgement.Judgement.{Judgement}
 use Rattle.pnm_read.specs.declared.judgement.Judgement.TheVariants.{GoesOn, EndsWith, EndsBefore, Fails}
-use Rattle.pnm_read.specs.Texts.{is_white, is_digit, is_apart, begins_apart, ends_by, ends_in_comment, uncommented, ends_in_word, numbers_in}
+use Rattle.pnm_read.specs.Texts.{is_white, is_digit, is_apart, begins_apart, ends_in_comment, uncommented, uncommented_from, ends_in_word, words, numbers_in}
 use Rattle.pnm_read.specs.Formats.{plain, raw, format_of, number_count, planes, shape_of, header_numbers}
 use Rattle.pnm_read.specs.Headers.{SpellsHeader}
 use Rattle.pnm_read.specs.Items.{◌>>=◌, piece_from, first_magic_item, second_magic_item, header_limit, is_bad_in_header, is_delimiter, header_item, header_end, fault_of_head, numbers_item}
 use Rattle.pnm_read.specs.Said.{format_at, head_at}
-use Rattle.pnm_read.proofs.WordLaws.{uncommented-split, uncommented-plain, uncommented-comment, numbers-white, numbers-comment, numbers-first, numbers-next, ends_in_word-white, ends_in_word-comment, ends_in_word-digit, white_is_not_sharp, digit_is_not_sharp, fewer_numbers}
+use Rattle.pnm_read.proofs.WordLaws.{uncommented-split, uncommented-plain, uncommented-comment, numbers-white, numbers-comment, numbers-first, numbers-next, ends_in_word-comment, ends_in_word-digit, white_is_not_sharp, digit_is_not_sharp, fewer_numbers}
 
 -- ---- steps
 
@@ -29,6 +30,14 @@ use Rattle.pnm_read.proofs.WordLaws.{uncommented-split, uncommented-plain, uncom
 pub bind_ok : {A B : Type 0} (r : Result A InputFault) (f : A → Result B InputFault) (y : B) → (r >>= f) ≡ Ok y → (x : A) × (r ≡ Ok x) × (f x ≡ Ok y)
 bind_ok (Ok x) f y e = (x, refl, e)
 bind_ok (Err d) f y e = absurd cc
+
+-- a step that did not fail
+abbrev done : {A : Type 0} → A → Result A InputFault
+done x = Ok x
+
+-- a step has one value
+ok_is : {A : Type 0} (x y : A) → done x ≡ done y → x ≡ y
+ok_is x y e = cc
 
 -- ---- how a byte of a header is judged
 
@@ -62,7 +71,10 @@ bad_parts : (first apart comment decimal : Bool) → ((first && not apart) || (n
 bad_parts first apart comment decimal e = (λ h. grind arith, λ h. grind arith)
 
 not_bad : (first apart comment decimal : Bool) → (first ≡ true → apart ≡ true) → (comment ≡ false → decimal ≡ true) → ((first && not apart) || (not comment && not decimal)) ≡ false
-not_bad first apart comment decimal f g = ?
+not_bad true apart true decimal f g = rw (f refl) refl
+not_bad true apart false decimal f g = rw (f refl, g refl) refl
+not_bad false apart true decimal f g = refl
+not_bad false apart false decimal f g = rw (g refl) refl
 
 -- ---- the bytes of a header so far
 
@@ -125,3 +137,474 @@ so_far-digit count before b s outside digit begins = record {
   decimal = decimal_push before b outside (digit_is_not_sharp b digit) (grind (arith, digit)) s.decimal;
   counted = rw (ends_in_word-digit before b outside digit) (record { within = digit_counted count before b (ends_in_word (uncommented before)) refl s.counted outside digit; fewer = λ e. absurd cc });
 }
+
+-- white space outside comments that ends no header
+not_last : (comment white all : Bool) → (not comment && white && all) ≡ false → comment ≡ false → white ≡ true → all ≡ false
+not_last comment white all e c w = grind arith
+
+-- a byte outside comments that is neither white space nor begins a comment
+digit_left : (digit white sharp : Bool) → (digit || (white || sharp)) ≡ true → white ≡ false → sharp ≡ false → digit ≡ true
+digit_left digit white sharp e w s = grind arith
+
+so_far_by : (comment sharp white : Bool) (count : ℕ) (before : List ℕ) (b : ℕ) → ends_in_comment before ≡ comment → (b == 35) ≡ sharp → is_white b ≡ white → SoFar count before
+    → (ends_in_comment before ≡ false → (is_digit b || is_apart b) ≡ true) → is_delimiter count before b ≡ false → begins_apart (before ++ b ∷ []) ≡ true → SoFar count (before ++ b ∷ [])
+so_far_by true sharp white count before b c h w s decimal last begins = so_far-comment count before b s (inl c) begins
+so_far_by false true white count before b c h w s decimal last begins = so_far-comment count before b s (inr (eqb-true b 35 h)) begins
+so_far_by false false true count before b c h w s decimal last begins = so_far-white count before b s c w (not_last (ends_in_comment before) (is_white b) (length (numbers_in before) == count) last c w) begins
+so_far_by false false false count before b c h w s decimal last begins = so_far-digit count before b s c (digit_left (is_digit b) (is_white b) (b == 35) (decimal c) w h) begins
+
+-- a byte more that went on
+so_far-push : (count : ℕ) (before : List ℕ) (b : ℕ) → SoFar count before → header_item count before b ≡ GoesOn → SoFar count (before ++ b ∷ [])
+so_far-push count before b s e =
+    let parts = goes_on_by (nat_le header_limit (length before)) (is_bad_in_header before b) (is_delimiter count before b) (sym (header_item_is count before b) ∙ e) in
+    let byte = bad_parts (length before == 0) (is_apart b) (ends_in_comment before) (is_digit b || is_apart b) parts.1 in
+    so_far_by (ends_in_comment before) (b == 35) (is_white b) count before b refl refl refl s byte.1 parts.2 (begins_push before b s.begins byte.0)
+
+-- no byte so far
+so_far_none : (count : ℕ) → 0 < count → SoFar count []
+unfolding words uncommented_from
+so_far_none count some = record { begins = refl; decimal = All-nil (λ b. is_decimal b ≡ true); counted = record { within = omega arith; fewer = λ e. some } }
+
+-- ---- what is read is spelled
+
+-- the body that was read, the delimiter, and what follows
+record Body (count : ℕ) (before text piece rest : List ℕ) : Type 0 where
+  pub body : List ℕ
+  pub delimiter : ℕ
+  pub so_far : SoFar count body
+  pub ends : header_item count body delimiter ≡ EndsWith
+  pub piece_is : piece ≡ body ++ delimiter ∷ []
+  pub whole : before ++ text ≡ piece ++ rest
+
+abbrev pieced : Judgement → ℕ → List ℕ → ℕ → List ℕ → Result (List ℕ × List ℕ) InputFault
+pieced judgement count before b text = elim judgement [
+  | Fails fault ↦ Err fault
+  | EndsWith ↦ Ok (before ++ b ∷ [], text)
+  | EndsBefore ↦ Ok (before, b ∷ text)
+  | GoesOn ↦ piece_from (header_item count) header_end (before ++ b ∷ []) text
+]
+
+body_by : (judgement : Judgement) (count : ℕ) (before : List ℕ) (b : ℕ) (text piece rest : List ℕ) → header_item count before b ≡ judgement → SoFar count before → pieced judgement count before b text ≡ Ok (piece, rest)
+    → (SoFar count (before ++ b ∷ []) → piece_from (header_item count) header_end (before ++ b ∷ []) text ≡ Ok (piece, rest) → Body count (before ++ b ∷ []) text piece rest) → Body count before (b ∷ text) piece rest
+body_by (Fails fault) count before b text piece rest j s e more = absurd cc
+body_by EndsWith count before b text piece rest j s e more =
+    let parts : (before ++ b ∷ [], text) ≡ (piece, rest) = ok_is (before ++ b ∷ [], text) (piece, rest) e in
+    let front : before ++ b ∷ [] ≡ piece = ap (λ (p : List ℕ × List ℕ). p.0) parts in
+    let back : text ≡ rest = ap (λ (p : List ℕ × List ℕ). p.1) parts in
+    record { body = before; delimiter = b; so_far = s; ends = j; piece_is = sym front; whole = sym (append_assoc before (b ∷ []) text) ∙ ap (λ (t : List ℕ). t ++ text) front ∙ ap (λ (t : List ℕ). piece ++ t) back }
+body_by EndsBefore count before b text piece rest j s e more =
+    absurd (never_before_by (nat_le header_limit (length before)) (is_bad_in_header before b) (is_delimiter count before b) (sym (header_item_is count before b) ∙ j))
+body_by GoesOn count before b text piece rest j s e more =
+    let found = more (so_far-push count before b s j) e in
+    record { body = found.body; delimiter = found.delimiter; so_far = found.so_far; ends = found.ends; piece_is = found.piece_is; whole = sym (append_assoc before (b ∷ []) text) ∙ found.whole }
+
+body_is_read : (count : ℕ) (before text piece rest : List ℕ) → SoFar count before → piece_from (header_item count) header_end before text ≡ Ok (piece, rest) → Body count before text piece rest
+unfolding piece_from
+body_is_read count before [] piece rest s e = absurd cc
+body_is_read count before (b ∷ text) piece rest s e = body_by (header_item count before b) count before b text piece rest refl s e (λ t f. body_is_read count (before ++ b ∷ []) text piece rest t f)
+
+-- what is known of a body where the header ends with the byte after it
+last_parts : (comment white all : Bool) → (not comment && white && all) ≡ true → (comment ≡ false) × (white ≡ true) × (all ≡ true)
+last_parts comment white all e = (grind arith, grind arith, grind arith)
+
+record Ended (count : ℕ) (body : List ℕ) (delimiter : ℕ) : Type 0 where
+  pub short : length body < 65534
+  pub outside : ends_in_comment body ≡ false
+  pub white : is_white delimiter ≡ true
+  pub all : length (numbers_in body) ≡ count
+
+ended : (count : ℕ) (body : List ℕ) (delimiter : ℕ) → header_item count body delimiter ≡ EndsWith → Ended count body delimiter
+ended count body delimiter e =
+    let parts = ends_with_by (nat_le header_limit (length body)) (is_bad_in_header body delimiter) (is_delimiter count body delimiter) (sym (header_item_is count body delimiter) ∙ e) in
+    let last = last_parts (ends_in_comment body) (is_white delimiter) (length (numbers_in body) == count) parts.2 in
+    record { short = leb-false 65534 (length body) parts.0; outside = last.0; white = last.1; all = eqb-true (length (numbers_in body)) count last.2 }
+
+-- a body with all its numbers ends with the last
+ends_in_last : (count : ℕ) (body : List ℕ) (ends : Bool) → ends_in_word (uncommented body) ≡ ends → Counted count (length (numbers_in body)) (ends_in_word (uncommented body)) → length (numbers_in body) ≡ count → ends_in_word (uncommented body) ≡ true
+ends_in_last count body true e c all = e
+ends_in_last count body false e c all = let fewer = c.fewer e in absurd (omega arith)
+
+-- ---- the numbers of a header
+
+-- the numbers of a shape are those that make it
+two_numbers : (numbers : List ℕ) → length numbers ≡ 2 → slice_index numbers 0 ∷ slice_index numbers 1 ∷ [] ≡ numbers
+two_numbers [] e = absurd (omega arith)
+two_numbers (a ∷ []) e = absurd (omega arith)
+two_numbers (a ∷ b ∷ []) e = refl
+two_numbers (a ∷ b ∷ c ∷ numbers) e = absurd (omega arith)
+
+three_numbers : (numbers : List ℕ) → length numbers ≡ 3 → slice_index numbers 0 ∷ slice_index numbers 1 ∷ slice_index numbers 2 ∷ [] ≡ numbers
+three_numbers [] e = absurd (omega arith)
+three_numbers (a ∷ []) e = absurd (omega arith)
+three_numbers (a ∷ b ∷ []) e = absurd (omega arith)
+three_numbers (a ∷ b ∷ c ∷ []) e = refl
+three_numbers (a ∷ b ∷ c ∷ d ∷ numbers) e = absurd (omega arith)
+
+numbers_of_shape : (kind : Kind) (numbers : List ℕ) → length numbers ≡ number_count kind → header_numbers (shape_of kind numbers) ≡ numbers
+numbers_of_shape Bit numbers e = two_numbers numbers e
+numbers_of_shape Gray numbers e = three_numbers numbers e
+numbers_of_shape Color numbers e = three_numbers numbers e
+numbers_of_shape Pam numbers e = three_numbers numbers e
+
+-- a header has some numbers
+some_numbers : (kind : Kind) → 0 < number_count kind
+some_numbers Bit = omega arith
+some_numbers Gray = omega arith
+some_numbers Color = omega arith
+some_numbers Pam = omega arith
+
+-- ---- the head
+
+abbrev head_by : Option HeadFault → Header → Result Header InputFault
+head_by fault head = elim fault [ Some f ↦ Err (fault_of_head f) | None ↦ Ok head ]
+
+head_by_ok : (fault : Option HeadFault) (made head : Header) → head_by fault made ≡ Ok head → (fault ≡ None) × (made ≡ head)
+head_by_ok None made head e = (refl, cc)
+head_by_ok (Some f) made head e = absurd cc
+
+-- where three tests find no fault, each fails
+no_fault : (a b c : Bool) (x y z : HeadFault) → cond a (Some x) (cond b (Some y) (cond c (Some z) None)) ≡ None → (a ≡ false) × (b ≡ false) × (c ≡ false)
+no_fault true b c x y z e = absurd cc
+no_fault false true c x y z e = absurd cc
+no_fault false false true x y z e = absurd cc
+no_fault false false false x y z e = (refl, refl, refl)
+
+-- where the test for a zero size fails, no size is zero
+sizes_are_not_zero : (width height depth : ℕ) → ((width == 0) || (height == 0) || (depth == 0)) ≡ false → (0 < width) × (0 < height) × (0 < depth)
+sizes_are_not_zero width height depth e = (grind (arith, nat_tests), grind (arith, nat_tests), grind (arith, nat_tests))
+
+-- where the test for a large size fails, no size is large
+sizes_are_not_large : (width height depth row : ℕ) → (nat_lt 1000000 width || nat_lt 1000000 height || nat_lt 256 depth || nat_lt 16777216 row) ≡ false → (width ≤ 1000000) × (height ≤ 1000000) × (depth ≤ 256) × (row ≤ 16777216)
+sizes_are_not_large width height depth row e = (grind (arith, nat_tests), grind (arith, nat_tests), grind (arith, nat_tests), grind (arith, nat_tests))
+
+-- where the test of the maxval fails, it is in its range
+maxval_is_not_bad : (maxval : ℕ) → ((maxval == 0) || nat_lt 65535 maxval) ≡ false → (0 < maxval) × (maxval ≤ 65535)
+maxval_is_not_bad maxval e = (grind (arith, nat_tests), grind (arith, nat_tests))
+
+limits_of : (s : Shape) → shape_fault s ≡ None → IsWithinLimits s × (0 < s.height)
+limits_of s e =
+    let tests = no_fault ((s.width == 0) || (s.height == 0) || (s.depth == 0)) (nat_lt 1000000 s.width || nat_lt 1000000 s.height || nat_lt 256 s.depth || nat_lt 16777216 (row_length s)) ((s.maxval == 0) || nat_lt 65535 s.maxval) heads.ZeroSize heads.TooLarge heads.BadMaxval e in
+    let low = sizes_are_not_zero s.width s.height s.depth tests.0 in
+    let high = sizes_are_not_large s.width s.height s.depth (row_length s) tests.1 in
+    let maxval = maxval_is_not_bad s.maxval tests.2 in
+    (record { width_low = low.0; width_high = high.0; height_high = high.1; depth_low = low.2; depth_high = high.2; row_high = high.3; maxval_low = maxval.0; maxval_high = maxval.1 }, low.1)
+
+-- nothing is a tuple type
+no_tuple_type : IsTupleType []
+no_tuple_type = record { bytes = All-nil (λ b. b < 256); short = omega arith; one_line = All-nil (λ b. b ≢ 10); first = λ h. absurd (omega (arith, h)); last = λ h. absurd (omega (arith, h)) }
+
+-- a shape that numbers make suits its kind
+suits_kind : (kind : Kind) (numbers : List ℕ) → Suits kind (planes kind) ((shape_of kind numbers).maxval) []
+suits_kind Bit numbers = (refl, refl, refl)
+suits_kind Gray numbers = (refl, refl)
+suits_kind Color numbers = (refl, refl)
+suits_kind Pam numbers = no_tuple_type
+
+-- numbers that make a head
+record Made (kind : Kind) (numbers : List ℕ) (head : Header) : Type 0 where
+  pub head_is : header_of (shape_of kind numbers) [] ≡ head
+  pub sound : IsHeader head
+  pub rows : 0 < head.shape.height
+
+numbers_make_head : (kind : Kind) (numbers : List ℕ) (head : Header) → numbers_item kind numbers ≡ Ok head → Made kind numbers head
+unfolding numbers_item
+numbers_make_head kind numbers head e =
+    let s : Shape = shape_of kind numbers in
+    let good = head_by_ok (shape_fault s) (header_of s []) head e in
+    let limits = limits_of s good.0 in
+    let made : Made kind numbers (header_of s []) = record { head_is = refl; sound = record { limits = limits.0; suits = suits_kind kind numbers }; rows = limits.1 } in
+    subst (Made kind numbers) good.1 made
+
+-- ---- the magic
+
+first_magic_by : (p : Bool) (b : ℕ) (text rest : List ℕ) → (b == 80) ≡ p → (if p then Ok text else Err BadMagic) ≡ done rest → b ∷ text ≡ 80 ∷ rest
+first_magic_by true b text rest h e = let first = eqb-true b 80 h in cc
+first_magic_by false b text rest h e = absurd cc
+
+first_magic_is_spelled : (text rest : List ℕ) → first_magic_item text ≡ Ok rest → text ≡ 80 ∷ rest
+unfolding first_magic_item
+first_magic_is_spelled [] rest e = absurd cc
+first_magic_is_spelled (b ∷ text) rest e = first_magic_by (b == 80) b text rest refl e
+
+-- the second byte of a magic that was read
+record SecondMagic (text : List ℕ) (format : Format) (after : List ℕ) : Type 0 where
+  pub digit : ℕ
+  pub text_is : text ≡ digit ∷ after
+  pub format_is : format_of digit ≡ Some format
+
+abbrev second_magic : Option Format → List ℕ → Result (Format × List ℕ) InputFault
+second_magic found text = elim found [ Some format ↦ Ok (format, text) | None ↦ Err BadMagic ]
+
+second_magic_by : (found : Option Format) (b : ℕ) (text : List ℕ) (format : Format) (after : List ℕ) → format_of b ≡ found → second_magic found text ≡ Ok (format, after) → SecondMagic (b ∷ text) format after
+second_magic_by None b text format after h e = absurd cc
+second_magic_by (Some f) b text format after h e =
+    let parts : (f, text) ≡ (format, after) = ok_is (f, text) (format, after) e in
+    record { digit = b; text_is = ap (λ (p : Format × List ℕ). b ∷ p.1) parts; format_is = h ∙ ap (λ (p : Format × List ℕ). Some p.0) parts }
+
+second_magic_is_spelled : (text : List ℕ) (format : Format) (after : List ℕ) → second_magic_item text ≡ Ok (format, after) → SecondMagic text format after
+unfolding second_magic_item
+second_magic_is_spelled [] format after e = absurd cc
+second_magic_is_spelled (b ∷ text) format after e = second_magic_by (format_of b) b text format after refl e
+
+-- the magic that was read
+record Magic (text : List ℕ) (format : Format) (after : List ℕ) : Type 0 where
+  pub digit : ℕ
+  pub text_is : text ≡ 80 ∷ digit ∷ after
+  pub format_is : format_of digit ≡ Some format
+
+magic_is_spelled : (text : List ℕ) (format : Format) (after : List ℕ) → format_at text ≡ Ok (format, after) → Magic text format after
+unfolding format_at
+magic_is_spelled text format after e =
+    let first = bind_ok (first_magic_item text) second_magic_item (format, after) e in
+    let second = second_magic_is_spelled first.0 format after first.2 in
+    record { digit = second.digit; text_is = first_magic_is_spelled text first.0 first.1 ∙ ap (λ (t : List ℕ). 80 ∷ t) second.text_is; format_is = second.format_is }
+
+-- ---- the header that was read
+
+-- the body, the delimiter and the head of a header that was read
+record HeadRead (format : Format) (after : List ℕ) (head : Header) (rest : List ℕ) : Type 0 where
+  pub body : List ℕ
+  pub delimiter : ℕ
+  pub so_far : SoFar (number_count format.kind) body
+  pub ended : Ended (number_count format.kind) body delimiter
+  pub whole : after ≡ (body ++ delimiter ∷ []) ++ rest
+  pub made : Made format.kind (numbers_in body) head
+
+head_parts : (format : Format) (after : List ℕ) (head : Header) (rest : List ℕ) → head_at format after ≡ Ok (head, rest) → HeadRead format after head rest
+unfolding head_at
+head_parts format after head rest e =
+    let count = number_count format.kind in
+    let piece = bind_ok (piece_from (header_item count) header_end [] after) (λ found. numbers_item format.kind (numbers_in found.0) >>= λ made. Ok (made, found.1)) (head, rest) e in
+    let made = bind_ok (numbers_item format.kind (numbers_in piece.0.0)) (λ found. Ok (found, piece.0.1)) (head, rest) piece.2 in
+    let parts : (made.0, piece.0.1) ≡ (head, rest) = ok_is (made.0, piece.0.1) (head, rest) made.2 in
+    let read = body_is_read count [] after piece.0.0 piece.0.1 (so_far_none count (some_numbers format.kind)) piece.1 in
+    let end = ended count read.body read.delimiter read.ends in
+    let numbers : numbers_in piece.0.0 ≡ numbers_in read.body = ap numbers_in read.piece_is ∙ numbers-white read.body read.delimiter end.outside end.white in
+    record {
+      body = read.body;
+      delimiter = read.delimiter;
+      so_far = read.so_far;
+      ended = end;
+      whole = read.whole ∙ ap (λ (t : List ℕ). t ++ piece.0.1) read.piece_is ∙ ap (λ (p : Header × List ℕ). (read.body ++ read.delimiter ∷ []) ++ p.1) parts;
+      made = subst (λ (p : Header × List ℕ). Made format.kind (numbers_in read.body) p.0) parts (subst (λ (n : List ℕ). Made format.kind n made.0) numbers (numbers_make_head format.kind (numbers_in piece.0.0) made.0 made.1));
+    }
+
+-- a header of a short body is short
+short_header : (digit delimiter : ℕ) (body : List ℕ) → length body < 65534 → length (80 ∷ digit ∷ (body ++ delimiter ∷ [])) ≤ 65536
+short_header digit delimiter body h = omega (arith, length-append body (delimiter ∷ []))
+
+-- a header that is read is spelled
+pub read_header_is_spelled : (text after rest : List ℕ) (format : Format) (head : Header) → format_at text ≡ Ok (format, after) → head_at format after ≡ Ok (head, rest)
+    → (header : List ℕ) × (text ≡ header ++ rest) × SpellsHeader header format head
+read_header_is_spelled text after rest format head f h =
+    let magic = magic_is_spelled text format after f in
+    let read = head_parts format after head rest h in
+    let numbers : List ℕ = numbers_in read.body in
+    let shape : shape_of format.kind numbers ≡ head.shape = ap (λ (x : Header). x.shape) read.made.head_is in (
+      80 ∷ magic.digit ∷ (read.body ++ read.delimiter ∷ []),
+      magic.text_is ∙ ap (λ (t : List ℕ). 80 ∷ magic.digit ∷ t) read.whole,
+      record {
+        digit = magic.digit;
+        body = read.body;
+        delimiter = read.delimiter;
+        whole = refl;
+        short = short_header magic.digit read.delimiter read.body read.ended.short;
+        format_is = magic.format_is;
+        begins = read.so_far.begins;
+        decimal = read.so_far.decimal;
+        numbers = sym (numbers_of_shape format.kind numbers read.ended.all) ∙ ap header_numbers shape;
+        ends = ends_in_last (number_count format.kind) read.body (ends_in_word (uncommented read.body)) refl read.so_far.counted read.ended.all;
+        outside = read.ended.outside;
+        delimiter_is = read.ended.white;
+        kind = sym (ap (λ (s : Shape). s.kind) shape);
+        sound = read.made.sound;
+        rows = read.made.rows;
+      },
+    )
+
+-- ---- what is spelled is read
+
+-- where each byte of a body goes on, the piece goes on after it
+goes_on_through : (item : List ℕ → ℕ → Judgement) (at_end : List ℕ → Option InputFault) (body before back text : List ℕ) → before ++ back ≡ body → ((front : List ℕ) (b : ℕ) (others : List ℕ) → front ++ b ∷ others ≡ body → item front b ≡ GoesOn)
+    → piece_from item at_end before (back ++ text) ≡ piece_from item at_end body text
+unfolding piece_from
+goes_on_through item at_end body before [] text e h = ap (λ (t : List ℕ). piece_from item at_end t text) (sym (append-nil before) ∙ e)
+goes_on_through item at_end body before (b ∷ back) text e h = rw (h before b back e) (goes_on_through item at_end body (before ++ b ∷ []) back text (append_assoc before (b ∷ []) back ∙ e) h)
+
+-- the parts of a header that tell how its bytes are judged
+record Decimal (count : ℕ) (body : List ℕ) : Type 0 where
+  pub short : length body < 65534
+  pub begins : begins_apart body ≡ true
+  pub decimal : AllPass is_decimal (uncommented body)
+  pub all : length (numbers_in body) ≡ count
+  pub ends : ends_in_word (uncommented body) ≡ true
+  pub outside : ends_in_comment body ≡ false
+
+-- a byte of the body
+begins_by : (front : List ℕ) (b : ℕ) (others : List ℕ) → begins_apart (front ++ b ∷ others) ≡ true → (length front == 0) ≡ true → is_apart b ≡ true
+begins_by [] b others e h = e
+begins_by (x ∷ front) b others e h = absurd (omega (arith, eqb-true (length (x ∷ front)) 0 h))
+
+passes_at : (p : ℕ → Bool) (a : List ℕ) (b : ℕ) (c : List ℕ) → AllPass p (a ++ b ∷ c) → p b ≡ true
+passes_at p [] b c h = All-head (λ x. p x ≡ true) b c h
+passes_at p (x ∷ a) b c h = passes_at p a b c (All-tail (λ y. p y ≡ true) x (a ++ b ∷ c) h)
+
+decimal_by : (sharp : Bool) (front : List ℕ) (b : ℕ) (others : List ℕ) → (b == 35) ≡ sharp → AllPass is_decimal (uncommented (front ++ b ∷ others)) → ends_in_comment front ≡ false → (is_digit b || is_apart b) ≡ true
+decimal_by true front b others s h outside = grind (arith, s)
+decimal_by false front b others s h outside =
+    let here : is_decimal b ≡ true = passes_at is_decimal (uncommented front) b (uncommented others) (subst (AllPass is_decimal) (uncommented-split front b others outside s) h) in
+    grind (arith, here)
+
+-- what ends no header
+no_delimiter : (comment white all : Bool) → (comment ≡ false → white ≡ true → all ≡ false) → (not comment && white && all) ≡ false
+no_delimiter true white all h = refl
+no_delimiter false true all h = h refl refl
+no_delimiter false false all h = refl
+
+-- no byte of the body ends the header
+no_last : (count : ℕ) (front : List ℕ) (b : ℕ) (others : List ℕ) → Decimal count (front ++ b ∷ others) → is_delimiter count front b ≡ false
+no_last count front b others d = no_delimiter (ends_in_comment front) (is_white b) (length (numbers_in front) == count) λ outside white.
+    ne_eqb (length (numbers_in front)) count λ e. let fewer = fewer_numbers front b others outside white d.ends in let all = d.all in omega arith
+
+-- each byte of the body goes on
+goes_on : (count : ℕ) (front : List ℕ) (b : ℕ) (others : List ℕ) → Decimal count (front ++ b ∷ others) → header_item count front b ≡ GoesOn
+goes_on count front b others d =
+    let short = d.short in
+    let long : nat_le header_limit (length front) ≡ false = lt-leb 65534 (length front) (omega (arith, length-append front (b ∷ others))) in
+    let bad : is_bad_in_header front b ≡ false = not_bad (length front == 0) (is_apart b) (ends_in_comment front) (is_digit b || is_apart b) (begins_by front b others d.begins) (decimal_by (b == 35) front b others refl d.decimal) in
+    header_item_is count front b ∙ rw (long, bad, no_last count front b others d) refl
+
+-- the byte after the body ends the header
+ends_with : (count : ℕ) (body : List ℕ) (b : ℕ) → Decimal count body → is_white b ≡ true → header_item count body b ≡ EndsWith
+ends_with count body b d w =
+    let long : nat_le header_limit (length body) ≡ false = lt-leb 65534 (length body) d.short in
+    let apart : is_apart b ≡ true = grind (arith, w) in
+    let bad : is_bad_in_header body b ≡ false = not_bad (length body == 0) (is_apart b) (ends_in_comment body) (is_digit b || is_apart b) (λ e. apart) (λ e. grind (arith, apart)) in
+    let last : is_delimiter count body b ≡ true = rw (d.outside, w, eq-eqb (length (numbers_in body)) count d.all) refl in
+    header_item_is count body b ∙ rw (long, bad, last) refl
+
+piece_ends : (judgement : Judgement) (count : ℕ) (body : List ℕ) (b : ℕ) (text : List ℕ) → judgement ≡ EndsWith → pieced judgement count body b text ≡ Ok (body ++ b ∷ [], text)
+piece_ends judgement count body b text e = rw e refl
+
+-- the body and the delimiter are read as the header's piece
+body_is_piece : (count : ℕ) (body : List ℕ) (delimiter : ℕ) (rest : List ℕ) → Decimal count body → is_white delimiter ≡ true → piece_from (header_item count) header_end [] (body ++ delimiter ∷ rest) ≡ Ok (body ++ delimiter ∷ [], rest)
+unfolding piece_from
+body_is_piece count body delimiter rest d w =
+    goes_on_through (header_item count) header_end body [] body (delimiter ∷ rest) refl (λ front b others e. goes_on count front b others (subst (Decimal count) (sym e) d))
+    ∙ piece_ends (header_item count body delimiter) count body delimiter rest (ends_with count body delimiter d w)
+
+-- ---- the head that is spelled
+
+-- a kind that a magic names
+abbrev is_named : Kind → Bool
+is_named Bit = true
+is_named Gray = true
+is_named Color = true
+is_named Pam = false
+
+abbrev is_some_named : Option Format → Bool
+is_some_named None = false
+is_some_named (Some format) = is_named format.kind
+
+named : (made format : Format) → Some made ≡ Some format → is_named made.kind ≡ true → is_named format.kind ≡ true
+named made format e h = sym (ap is_some_named e) ∙ h
+
+named_by : (a b c d e f : Bool) (format : Format) → (if a then plain Bit else if b then plain Gray else if c then plain Color else if d then raw Bit else if e then raw Gray else if f then raw Color else None) ≡ Some format → is_named format.kind ≡ true
+named_by true b c d e f format h = named (record { kind = Bit; is_plain = true }) format h refl
+named_by false true c d e f format h = named (record { kind = Gray; is_plain = true }) format h refl
+named_by false false true d e f format h = named (record { kind = Color; is_plain = true }) format h refl
+named_by false false false true e f format h = named (record { kind = Bit; is_plain = false }) format h refl
+named_by false false false false true f format h = named (record { kind = Gray; is_plain = false }) format h refl
+named_by false false false false false true format h = named (record { kind = Color; is_plain = false }) format h refl
+named_by false false false false false false format h = absurd cc
+
+-- the numbers of a shape, and no tuple type, make the head
+head_is_made : (kind : Kind) (width height depth maxval : ℕ) (tuple_type : List ℕ) → is_named kind ≡ true → Suits kind depth maxval tuple_type
+    → header_of (shape_of kind (header_numbers (record { kind = kind; width = width; height = height; depth = depth; maxval = maxval }))) [] ≡ header_of (record { kind = kind; width = width; height = height; depth = depth; maxval = maxval }) tuple_type
+head_is_made Bit width height depth maxval tuple_type n s = rw (s.0, s.1, s.2) refl
+head_is_made Gray width height depth maxval tuple_type n s = rw (s.0, s.1) refl
+head_is_made Color width height depth maxval tuple_type n s = rw (s.0, s.1) refl
+head_is_made Pam width height depth maxval tuple_type n s = absurd cc
+
+-- where no size is zero, the test for one fails
+not_zero_size : (width height depth : ℕ) → 0 < width → 0 < height → 0 < depth → ((width == 0) || (height == 0) || (depth == 0)) ≡ false
+not_zero_size width height depth w h d = grind (arith, nat_tests)
+
+-- where no size is large, the test for one fails
+not_large_size : (width height depth row : ℕ) → width ≤ 1000000 → height ≤ 1000000 → depth ≤ 256 → row ≤ 16777216 → (nat_lt 1000000 width || nat_lt 1000000 height || nat_lt 256 depth || nat_lt 16777216 row) ≡ false
+not_large_size width height depth row w h d r = grind (arith, nat_tests)
+
+-- where the maxval is in its range, its test fails
+not_bad_maxval : (maxval : ℕ) → 0 < maxval → maxval ≤ 65535 → ((maxval == 0) || nat_lt 65535 maxval) ≡ false
+not_bad_maxval maxval low high = grind (arith, nat_tests)
+
+-- a shape within the limits has no fault
+no_shape_fault : (s : Shape) → IsWithinLimits s → 0 < s.height → shape_fault s ≡ None
+no_shape_fault s h rows =
+    rw (not_zero_size s.width s.height s.depth h.width_low rows h.depth_low, not_large_size s.width s.height s.depth (row_length s) h.width_high h.height_high h.depth_high h.row_high, not_bad_maxval s.maxval h.maxval_low h.maxval_high) refl
+
+-- numbers that make a head without a fault are read as the head
+head_is_found : (kind : Kind) (numbers : List ℕ) (head : Header) → header_of (shape_of kind numbers) [] ≡ head → shape_fault head.shape ≡ None → numbers_item kind numbers ≡ Ok head
+unfolding numbers_item
+head_is_found kind numbers head made sound =
+    let shape : shape_of kind numbers ≡ head.shape = ap (λ (x : Header). x.shape) made in
+    let none : shape_fault (shape_of kind numbers) ≡ None = ap shape_fault shape ∙ sound in
+    ap (λ (f : Option HeadFault). head_by f (header_of (shape_of kind numbers) [])) none ∙ ap done made
+
+-- the head that its numbers make
+spelled_head_is_found : (kind : Kind) (head : Header) → is_named kind ≡ true → head.shape.kind ≡ kind → IsHeader head → 0 < head.shape.height → numbers_item kind (header_numbers head.shape) ≡ Ok head
+spelled_head_is_found kind head n k sound rows =
+    let named_kind : is_named head.shape.kind ≡ true = ap is_named k ∙ n in
+    let made : header_of (shape_of head.shape.kind (header_numbers head.shape)) [] ≡ head = head_is_made head.shape.kind head.shape.width head.shape.height head.shape.depth head.shape.maxval head.tuple_type named_kind sound.suits in
+    ap (λ (x : Kind). numbers_item x (header_numbers head.shape)) (sym k) ∙ head_is_found head.shape.kind (header_numbers head.shape) head made (no_shape_fault head.shape sound.limits rows)
+
+-- ---- the header that is spelled
+
+-- the numbers of a shape are as many as its kind has
+count_of_numbers : (kind : Kind) (width height depth maxval : ℕ) → length (header_numbers (record { kind = kind; width = width; height = height; depth = depth; maxval = maxval })) ≡ number_count kind
+count_of_numbers Bit width height depth maxval = refl
+count_of_numbers Gray width height depth maxval = refl
+count_of_numbers Color width height depth maxval = refl
+count_of_numbers Pam width height depth maxval = refl
+
+-- a header within the limit has a body within it
+short_body : (text : List ℕ) (digit delimiter : ℕ) (body : List ℕ) → text ≡ 80 ∷ digit ∷ (body ++ delimiter ∷ []) → length text ≤ 65536 → length body < 65534
+short_body text digit delimiter body whole short =
+    let lengths : length text ≡ suc (suc (length (body ++ delimiter ∷ []))) = ap (λ (t : List ℕ). length t) whole in
+    omega (arith, length-append body (delimiter ∷ []))
+
+-- the body of a header
+decimal_body : (text : List ℕ) (format : Format) (head : Header) (s : SpellsHeader text format head) → Decimal (number_count format.kind) s.body
+decimal_body text format head s = record {
+  short = short_body text s.digit s.delimiter s.body s.whole s.short;
+  begins = s.begins;
+  decimal = s.decimal;
+  all = ap (λ (t : List ℕ). length t) s.numbers ∙ count_of_numbers head.shape.kind head.shape.width head.shape.height head.shape.depth head.shape.maxval ∙ ap number_count s.kind;
+  ends = s.ends;
+  outside = s.outside;
+}
+
+-- the magic is read
+spelled_magic_is_read : (digit : ℕ) (after : List ℕ) (format : Format) → format_of digit ≡ Some format → format_at (80 ∷ digit ∷ after) ≡ Ok (format, after)
+unfolding format_at first_magic_item second_magic_item
+spelled_magic_is_read digit after format e = ap (λ (f : Option Format). second_magic f after) e
+
+-- the head is read
+spelled_head_is_read : (text : List ℕ) (format : Format) (head : Header) (s : SpellsHeader text format head) (rest : List ℕ) → head_at format (s.body ++ s.delimiter ∷ rest) ≡ Ok (head, rest)
+unfolding head_at
+spelled_head_is_read text format head s rest =
+    let body = decimal_body text format head s in
+    let piece = body_is_piece (number_count format.kind) s.body s.delimiter rest body s.delimiter_is in
+    let numbers : numbers_in (s.body ++ s.delimiter ∷ []) ≡ header_numbers head.shape = numbers-white s.body s.delimiter s.outside s.delimiter_is ∙ s.numbers in
+    let named_kind : is_named format.kind ≡ true = named_by (s.digit == 49) (s.digit == 50) (s.digit == 51) (s.digit == 52) (s.digit == 53) (s.digit == 54) format s.format_is in
+    let found = spelled_head_is_found format.kind head named_kind s.kind s.sound s.rows in
+    rw (piece, numbers, found) refl
+
+-- a header that is spelled is read
+pub spelled_header_is_read : (text rest : List ℕ) (format : Format) (head : Header) → SpellsHeader text format head → (after : List ℕ) × (format_at (text ++ rest) ≡ Ok (format, after)) × (head_at format after ≡ Ok (head, rest))
+spelled_header_is_read text rest format head s =
+    let whole : text ++ rest ≡ 80 ∷ s.digit ∷ (s.body ++ s.delimiter ∷ rest) = ap (λ (t : List ℕ). t ++ rest) s.whole ∙ ap (λ (t : List ℕ). 80 ∷ s.digit ∷ t) (append_assoc s.body (s.delimiter ∷ []) rest) in (
+      s.body ++ s.delimiter ∷ rest,
+      ap format_at whole ∙ spelled_magic_is_read s.digit (s.body ++ s.delimiter ∷ rest) format s.format_is,
+      spelled_head_is_read text format head s rest,
+    )

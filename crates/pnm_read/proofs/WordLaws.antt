@@ -40,7 +40,7 @@ unfolding words
 words-cons b text = refl
 
 -- there is a first of the words
-abbrev HasFirst : List (List ℕ) → Type 0
+abbrev pub HasFirst : List (List ℕ) → Type 0
 HasFirst found = (first : List ℕ) × (others : List (List ℕ)) × (found ≡ first ∷ others)
 
 word_has_first : (begins : Bool) (b : ℕ) (others : List (List ℕ)) → HasFirst (words_by false begins b others)
@@ -117,7 +117,7 @@ pub words-first : (text : List ℕ) (b : ℕ) → is_white b ≡ false → ends_
 words-first text b h e = words-first_by text b h (ends_outside text e)
 
 -- the last word, and those before it, of a text that ends in a word; a byte more of a word goes onto the last
-abbrev GrowsLast : List (List ℕ) → List (List ℕ) → ℕ → Type 0
+abbrev pub GrowsLast : List (List ℕ) → List (List ℕ) → ℕ → Type 0
 GrowsLast found more b = (front : List (List ℕ)) × (last : List ℕ) × (found ≡ front ++ last ∷ []) × (more ≡ front ++ (last ++ b ∷ []) ∷ [])
 
 -- a byte before the first of the words
