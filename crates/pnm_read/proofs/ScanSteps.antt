@@ -8,7 +8,7 @@ use Rattle.pnm_read.specs.declared.input.Input.{Input}
 use Rattle.pnm_read.specs.Items.{piece_from}
 use Rattle.pnm_read.specs.Scans.{FeedsAfter, Feeds, ScansAfter, Scans, JudgesEnd, IfEnds}
 use Rattle.pnm_read.specs.Inputs.{Turn, Fills, held_of, HoldsEnough}
-use Rattle.pnm_read.proofs.Turns.{IsLeft, turn_then, turn_ok_so, turn_err_so, turn_seen, turn_advance, nothing_left}
+use Rattle.pnm_read.proofs.Turns.{IsLeft, no_fault, turn_then, turn_ok_so, turn_err_so, turn_seen, turn_advance, nothing_left}
 
 -- the piece of a text goes on as that of what is left of it
 abbrev pub GoesOnAs : {S : Type 0} → (S → List ℕ → ℕ → Judgement) → (S → List ℕ → Option InputFault) → (S → List ℕ → Type 0) → S → S → List ℕ → List ℕ → Type 0
@@ -21,10 +21,10 @@ pub record Scanning {R S : Type 0} (left : R → Option (List ℕ)) (failures : 
   pub turn : Turn {A = Unit {0}} left failures same input_old input (Ok tt) (GoesOnAs item at_end is_after old now)
 
 -- reading on failed
-pub scan_unread : {R S : Type 0} {left : R → Option (List ℕ)} {failures : R → ℕ} {same : R → R → Type 0} {item : S → List ℕ → ℕ → Judgement} {at_end : S → List ℕ → Option InputFault} {is_after : S → List ℕ → Type 0} {is_whole : List ℕ → Type 0} {input_old input mid : Input R} {old now : S}
-    (k : InputFault) → ((a b c : R) → same a b → same b c → same a c) → Scanning left failures same item at_end is_after input_old input old now → Turn {A = Unit {0}} left failures same input mid (Err k) (Fills (Err k))
-    → Turn left failures same input_old mid (Err k) (Scans (item old) (at_end old) (is_after old) is_whole (Err k))
-scan_unread k later s t = turn_err_so k (λ b a o before f. inr o.2) (turn_then tt later s.turn t)
+pub scan_unread : {R S : Type 0} {left : R → Option (List ℕ)} {failures : R → ℕ} {same : R → R → Type 0} {item : S → List ℕ → ℕ → Judgement} {at_end : S → List ℕ → Option InputFault} {is_after : S → List ℕ → Type 0} {input_old input mid : Input R} {old now : S}
+    (is_whole : List ℕ → Type 0) (k : InputFault) → ((a b c : R) → same a b → same b c → same a c) → Scanning left failures same item at_end is_after input_old input old now → Turn {A = Unit {0}} left failures same input mid (Err k) (Fills (Err k))
+    → Turn {A = Unit {0}} left failures same input_old mid (Err k) (Scans (item old) (at_end old) (is_after old) is_whole (Err k))
+scan_unread is_whole k later s t = turn_err_so {A = Unit {0}} {B = Unit {0}} k (λ b a o before f. inr o.2) (turn_then {A = Unit {0}} {B = Unit {0}} tt later s.turn t)
 
 -- what is left after reading on, and what came before it
 abbrev pub ReadOn : {R S : Type 0} → (S → List ℕ → ℕ → Judgement) → (S → List ℕ → Option InputFault) → (S → List ℕ → Type 0) → Input R → S → S → List ℕ → List ℕ → Type 0
@@ -57,11 +57,11 @@ end_found item at_end is_whole more text before (Some k) e w p = inl (p ∙ ap (
 end_found item at_end is_whole more text before None e w p = (more, w, p ∙ ap (end_as more) (sym e))
 
 -- the text has ended
-pub scan_ends : {R S : Type 0} {left : R → Option (List ℕ)} {failures : R → ℕ} {same : R → R → Type 0} {item : S → List ℕ → ℕ → Judgement} {at_end : S → List ℕ → Option InputFault} {is_after is_whole : S → List ℕ → Type 0} {input_old input mid : Input R} {old now : S}
-    (fault : Option InputFault) → ((a b c : R) → same a b → same b c → same a c) → Scanning left failures same item at_end is_after input_old input old now → Turn {A = Unit {0}} left failures same input mid (Ok tt) (Fills (Ok tt))
+pub scan_ends : {R S : Type 0} {left : R → Option (List ℕ)} {failures : R → ℕ} {same : R → R → Type 0} {item : S → List ℕ → ℕ → Judgement} {at_end : S → List ℕ → Option InputFault} {is_after : S → List ℕ → Type 0} {input_old input mid : Input R} {old now : S}
+    (is_whole : S → List ℕ → Type 0) (fault : Option InputFault) → ((a b c : R) → same a b → same b c → same a c) → Scanning left failures same item at_end is_after input_old input old now → Turn {A = Unit {0}} left failures same input mid (Ok tt) (Fills (Ok tt))
     → held_of mid ≡ [] → mid.ended ≡ true → (fault ≡ Some ReadFailed → ⊥) → JudgesEnd (at_end now) (is_after now) (is_whole now) fault
     → Turn left failures same input_old mid (ended_as fault) (Scans (item old) (at_end old) (is_after old) (is_whole now) (ended_as fault))
-scan_ends {item = item} {at_end = at_end} {is_after = is_after} {is_whole = is_whole} {mid = mid} {old = old} {now = now} fault later s t held ended of_text judged =
+scan_ends {item = item} {at_end = at_end} {is_after = is_after} {mid = mid} {old = old} {now = now} is_whole fault later s t held ended of_text judged =
     turn_ok_so tt (ended_as fault) (ended_of_text fault of_text) (λ b a o before f.
       let on = o.0.1 before f in
       let none = nothing_left mid a held ended o.1 in
@@ -77,38 +77,38 @@ fed_as item at_end is_after is_after_new is_whole old now bytes result more item
     subst (λ (i : List ℕ → ℕ → Judgement). FeedsAfter i (at_end old) is_after_new is_whole bytes result more) items (subst (λ (e : List ℕ → Option InputFault). FeedsAfter (item now) e is_after_new is_whole bytes result more) ends (f more a))
 
 -- a byte is at fault
-pub scan_fails : {R S : Type 0} {left : R → Option (List ℕ)} {failures : R → ℕ} {same : R → R → Type 0} {item : S → List ℕ → ℕ → Judgement} {at_end : S → List ℕ → Option InputFault} {is_after : S → List ℕ → Type 0} {is_after_new is_whole : List ℕ → Type 0} {input_old input mid : Input R} {old now : S}
-    (k : InputFault) → ((a b c : R) → same a b → same b c → same a c) → Scanning left failures same item at_end is_after input_old input old now → Turn {A = Unit {0}} left failures same input mid (Ok tt) (Fills (Ok tt))
+pub scan_fails : {R S : Type 0} {left : R → Option (List ℕ)} {failures : R → ℕ} {same : R → R → Type 0} {item : S → List ℕ → ℕ → Judgement} {at_end : S → List ℕ → Option InputFault} {is_after : S → List ℕ → Type 0} {input_old input mid : Input R} {old now : S}
+    (is_after_new is_whole : List ℕ → Type 0) (k : InputFault) → ((a b c : R) → same a b → same b c → same a c) → Scanning left failures same item at_end is_after input_old input old now → Turn {A = Unit {0}} left failures same input mid (Ok tt) (Fills (Ok tt))
     → (k ≡ ReadFailed → ⊥) → Feeds (item now) (at_end now) (is_after now) is_after_new is_whole (held_of mid) (Err k)
     → Turn {A = Unit {0}} left failures same input_old mid (Err k) (Scans (item old) (at_end old) (is_after old) is_whole (Err k))
-scan_fails {item = item} {at_end = at_end} {is_after = is_after} {is_after_new = is_after_new} {is_whole = is_whole} {mid = mid} {old = old} {now = now} k later s t of_text f =
+scan_fails {item = item} {at_end = at_end} {is_after = is_after} {mid = mid} {old = old} {now = now} is_after_new is_whole k later s t of_text f =
     turn_ok_so tt (Err k) (λ e. of_text cc) (λ b a o before g.
       let on = o.0.1 before g in
-      inl (on.2 ∙ ap (piece_from (item old) (at_end old) on.0) (o.0.2 ∙ o.1.2.1) ∙ fed_as item at_end is_after is_after_new is_whole old now (held_of mid) (Err k) on.0 s.same_items s.same_end f on.1 o.1.0))
+      inl (on.2 ∙ ap (piece_from (item old) (at_end old) on.0) (o.0.2 ∙ o.1.2) ∙ fed_as item at_end is_after is_after_new is_whole old now (held_of mid) (Err k) on.0 s.same_items s.same_end f on.1 o.1.0))
     (read_on later s t)
 
 -- the piece has ended
-pub scan_found : {R S : Type 0} {left : R → Option (List ℕ)} {failures : R → ℕ} {same : R → R → Type 0} {item : S → List ℕ → ℕ → Judgement} {at_end : S → List ℕ → Option InputFault} {is_after : S → List ℕ → Type 0} {is_after_new is_whole : List ℕ → Type 0} {input_old input mid new : Input R} {old now : S}
-    (n : ℕ) → ((a b c : R) → same a b → same b c → same a c) → Scanning left failures same item at_end is_after input_old input old now → Turn {A = Unit {0}} left failures same input mid (Ok tt) (Fills (Ok tt))
+pub scan_found : {R S : Type 0} {left : R → Option (List ℕ)} {failures : R → ℕ} {same : R → R → Type 0} {item : S → List ℕ → ℕ → Judgement} {at_end : S → List ℕ → Option InputFault} {is_after : S → List ℕ → Type 0} {input_old input mid new : Input R} {old now : S}
+    (is_after_new is_whole : List ℕ → Type 0) (n : ℕ) → ((a b c : R) → same a b → same b c → same a c) → Scanning left failures same item at_end is_after input_old input old now → Turn {A = Unit {0}} left failures same input mid (Ok tt) (Fills (Ok tt))
     → Feeds (item now) (at_end now) (is_after now) is_after_new is_whole (held_of mid) (Ok (Some n)) → new.reader ≡ mid.reader → new.ended ≡ mid.ended → held_of new ≡ drop n (held_of mid)
     → Turn {A = Unit {0}} left failures same input_old new (Ok tt) (Scans (item old) (at_end old) (is_after old) is_whole (Ok tt))
-scan_found {item = item} {at_end = at_end} {is_after = is_after} {is_after_new = is_after_new} {is_whole = is_whole} {mid = mid} {old = old} {now = now} n later s t f reader ended held =
-    turn_advance tt (Ok tt) n (λ e. absurd cc) reader ended held (λ b rest c o before g.
+scan_found {item = item} {at_end = at_end} {is_after = is_after} {mid = mid} {old = old} {now = now} is_after_new is_whole n later s t f reader ended held =
+    turn_advance tt (Ok tt) n (no_fault tt ReadFailed) reader ended held (λ b rest c o before g.
       let on = o.0.1 before g in
       let fed = fed_as item at_end is_after is_after_new is_whole old now (held_of mid) (Ok (Some n)) on.0 s.same_items s.same_end f on.1 in
       (fed.0, fed.1, on.2 ∙ ap (piece_from (item old) (at_end old) on.0) o.0.2 ∙ fed.2 rest))
     (read_on later s t)
 
 -- the piece goes on after all bytes that are held
-pub scan_goes_on : {R S : Type 0} {left : R → Option (List ℕ)} {failures : R → ℕ} {same : R → R → Type 0} {item : S → List ℕ → ℕ → Judgement} {at_end : S → List ℕ → Option InputFault} {is_after : S → List ℕ → Type 0} {is_whole : List ℕ → Type 0} {input_old input mid new : Input R} {old now later_on : S}
-    (n : ℕ) → ((a b c : R) → same a b → same b c → same a c) → Scanning left failures same item at_end is_after input_old input old now → Turn {A = Unit {0}} left failures same input mid (Ok tt) (Fills (Ok tt))
+pub scan_goes_on : {R S : Type 0} {left : R → Option (List ℕ)} {failures : R → ℕ} {same : R → R → Type 0} {item : S → List ℕ → ℕ → Judgement} {at_end : S → List ℕ → Option InputFault} {is_after : S → List ℕ → Type 0} {input_old input mid new : Input R} {old now later_on : S}
+    (is_whole : List ℕ → Type 0) (n : ℕ) → ((a b c : R) → same a b → same b c → same a c) → Scanning left failures same item at_end is_after input_old input old now → Turn {A = Unit {0}} left failures same input mid (Ok tt) (Fills (Ok tt))
     → Feeds (item now) (at_end now) (is_after now) (is_after later_on) is_whole (held_of mid) (Ok None) → item later_on ≡ item now → at_end later_on ≡ at_end now → n ≡ length (held_of mid)
     → new.reader ≡ mid.reader → new.ended ≡ mid.ended → held_of new ≡ drop n (held_of mid)
     → Scanning left failures same item at_end is_after input_old new old later_on
-scan_goes_on {item = item} {at_end = at_end} {is_after = is_after} {is_whole = is_whole} {mid = mid} {old = old} {now = now} {later_on = later_on} n later s t f items ends all reader ended held = record {
+scan_goes_on {item = item} {at_end = at_end} {is_after = is_after} {mid = mid} {old = old} {now = now} {later_on = later_on} is_whole n later s t f items ends all reader ended held = record {
     same_items = items ∙ s.same_items;
     same_end = ends ∙ s.same_end;
-    turn = turn_advance tt (Ok tt) n (λ e. absurd cc) reader ended held (λ b rest c o before g.
+    turn = turn_advance tt (Ok tt) n (no_fault tt ReadFailed) reader ended held (λ b rest c o before g.
       let on = o.0.1 before g in
       let fed = fed_as item at_end is_after (is_after later_on) is_whole old now (held_of mid) (Ok None) on.0 s.same_items s.same_end f on.1 in
       let none : drop n (held_of mid) ≡ [] = drop_all n (held_of mid) (omega arith) in

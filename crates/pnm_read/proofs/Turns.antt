@@ -69,7 +69,7 @@ turn_seen t = record { read = t.read; consumed = t.consumed; comes = t.comes; to
 
 -- nothing is left after the end
 pub nothing_left : {R : Type 0} (input : Input R) (left : List ℕ) → held_of input ≡ [] → input.ended ≡ true → IsLeft input left → left ≡ []
-nothing_left input left held ended s = s.2.1 ∙ ap (λ (l : List ℕ). l ++ s.0) held ∙ s.1 ended
+nothing_left input left held ended s = s.2 ∙ ap (λ (l : List ℕ). l ++ s.0) held ∙ s.1 ended
 
 -- so many bytes of what is held were taken after a turn
 pub turn_advance : {R A B : Type 0} {left : R → Option (List ℕ)} {failures : R → ℕ} {same : R → R → Type 0} {old mid new : Input R} {o q : List ℕ → List ℕ → Type 0}
@@ -86,3 +86,7 @@ turn_advance {left = left} {failures = failures} {same = same} {old = old} {mid 
     count = same_count result (ap failures reader ∙ t.count);
     read_failed = λ e. absurd (f e);
   }
+
+-- an answer is no fault
+pub no_fault : {A : Type 0} (x : A) (k : InputFault) → Ok x ≡ Err k → ⊥
+no_fault x k e = absurd cc
