@@ -1,2 +1,3 @@
 pub mod CommentLaws
 pub mod PackingLaws
+pub mod UnitLaws
