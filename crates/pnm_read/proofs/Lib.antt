@@ -1,3 +1,4 @@
 pub mod CommentLaws
 pub mod PackingLaws
 pub mod UnitLaws
+pub mod RawLaws
