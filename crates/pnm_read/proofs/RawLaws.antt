@@ -1,16 +1,14 @@
 -- Raw rasters: the rows that one spells are said, and what is said without a fault is spelled.
-use Rattle.std.proofs.Common.{◌≡◌, ℕ, zero, suc, ◌+◌, ◌*◌, ◌/◌, ◌^◌, ◌%◌, ◌-◌, ◌<◌, ◌≤◌, Bool, true, false, leb, nat_lt, if◌then◌else◌, List, [], ◌∷◌, ◌++◌, length, get_or, take, drop, map, flat_map, All, None, Result, Ok, Err, refl, sym, ap, ◌∙◌, ap₂, subst, arith, zero-mul, suc-mul}
-use Rattle.std.specs.List.{AllByRecursion, concat}
+use Rattle.std.proofs.Common.{◌≡◌, ℕ, zero, suc, ◌+◌, ◌*◌, ◌/◌, ◌<◌, ◌≤◌, Bool, true, false, leb, nat_lt, if◌then◌else◌, List, [], ◌∷◌, ◌++◌, length, get_or, take, drop, map, flat_map, All, None, Result, Ok, Err, refl, sym, ap, ◌∙◌, ap₂, subst, arith, zero-mul, suc-mul}
+use Rattle.std.specs.List.{concat}
 use Rattle.std.proofs.lemmas.List.{take_all, take-append-drop, length-take, length-take-le, length-drop, length-append, length-map, nil_from_length}
 use Rattle.std.proofs.lemmas.List.Elements.{All-nil, All-append, All-take, All-map}
 use Rattle.pnm_image.specs.declared.shape.Shape.{Shape}
 use Rattle.pnm_image.specs.declared.shape.Kind.{Kind}
 use Rattle.pnm_image.specs.declared.shape.Kind.TheVariants.{Bit, Gray, Color, Pam}
-use Rattle.pnm_image.specs.declared.message.Message.{Message}
 use Rattle.pnm_image.specs.declared.message.Message.TheVariants.{Row, ImageEnd, StreamEnd}
 use Rattle.pnm_image.specs.Heads.{Header, IsHeader, Suits, row_length}
-use Rattle.pnm_image.specs.Places.{IsRowOf}
-use Rattle.pnm_image.specs.Images.{Image, IsImage, cut_rows, rows_of}
+use Rattle.pnm_image.specs.Images.{Image, cut_rows, rows_of}
 use Rattle.pnm_image.proofs.Rows.{AreRowsOf, image_of, IsImage-image_of, rows_of-image_of, AreRowsOf-rows_of, length-cut_rows}
 use Rattle.pnm_read.specs.declared.fault.InputFault.{InputFault}
 use Rattle.pnm_read.specs.declared.fault.InputFault.TheVariants.{SampleAboveMaxval}
@@ -273,11 +271,16 @@ rows_are_spelled format s (suc n) text plain h e =
     let found : raw_row s text ≡ Ok first.0 = sym (row_at_raw format s n text plain) ∙ first.1 in
     let long : each ≤ length text = row_long s text first.0 found in
     let parts = row_if_ok (are_within s.maxval row) row (drop each text) first.0 (sym (row_read s text h long) ∙ found) in
-    let others = rows_are_spelled format s n (drop each text) plain h (ap (λ (t : List ℕ). (rows_said format s n t).fault) (sym parts.1) ∙ first.2) in
-    (omega (arith, others.0, length-drop each text, suc-mul n each), (record {
-      count = length-samples_by (packing_in s) s (take each text) h (length-take-le each text long);
-      range = all_are_within s.maxval row parts.0;
-    }, others.1))
+    let others = rows_are_spelled format s n (drop each text) plain h (ap (λ (t : List ℕ). (rows_said format s n t).fault) (sym parts.1) ∙ first.2) in (
+      omega (arith, others.0, length-drop each text, suc-mul n each),
+      (
+        record {
+          count = length-samples_by (packing_in s) s (take each text) h (length-take-le each text long);
+          range = all_are_within s.maxval row parts.0;
+        },
+        others.1,
+      ),
+    )
 
 -- ---- images
 
@@ -294,8 +297,7 @@ said_raw_is_spelled format head text plain kind h e =
     let found = rows_are_spelled format s s.height text plain (packable head h) e in
     let rows : List (List ℕ) = raw_rows s s.height text in
     let count : length rows ≡ s.height = length-map (cut_rows s.height (row_bytes s) text) (raw_samples s) ∙ length-cut_rows s.height (row_bytes s) text in
-    let same : rows_of (image_of head rows) ≡ rows = rows_of-image_of head rows count found.1 in
-    (
+    let same : rows_of (image_of head rows) ≡ rows = rows_of-image_of head rows count found.1 in (
       image_of head rows,
       refl,
       record { sound = IsImage-image_of head rows h count found.1; count = found.0; rows = same },
