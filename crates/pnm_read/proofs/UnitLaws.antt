@@ -1,5 +1,5 @@
 -- The units of a raw row in turn: what so many bytes give.
-use Rattle.std.proofs.Common.{◌≡◌, ℕ, zero, suc, ◌+◌, ◌*◌, ◌≤◌, Bool, true, false, leb, ◌&&◌, if◌then◌else◌, List, [], ◌∷◌, ◌++◌, length, map, flat_map, All, Result, Ok, Err, inl, inr, refl, sym, ap, ◌∙◌, arith, suc-mul}
+use Rattle.std.proofs.Common.{◌≡◌, ℕ, zero, suc, ◌+◌, ◌*◌, ◌≤◌, Bool, true, false, leb, ◌&&◌, if◌then◌else◌, List, [], ◌∷◌, ◌++◌, length, map, flat_map, All, Result, Ok, Err, inl, inr, refl, sym, ap, ◌∙◌, arith, zero-add, suc-add, suc-mul}
 use Rattle.std.specs.List.{concat, list_all}
 use Rattle.std.proofs.lemmas.Bool.{leb-true, le-leb}
 use Rattle.std.proofs.lemmas.List.Elements.{All-weaker}
@@ -33,6 +33,47 @@ concat_singles (x ∷ samples) = ap (λ (l : List ℕ). x ∷ l) (concat_singles
 pub concat_pixels : (bytes : List ℕ) → concat (map pixels bytes) ≡ flat_map pixels bytes
 concat_pixels [] = refl
 concat_pixels (b ∷ bytes) = ap (λ (l : List ℕ). pixels b ++ l) (concat_pixels bytes)
+
+-- ---- items in two parts
+
+-- items that were read, and what is left
+abbrev pub turned : {A : Type 0} → List A → List ℕ → Result (List A × List ℕ) InputFault
+turned items rest = Ok (items, rest)
+
+-- more items after these
+abbrev pub and_turns : {A : Type 0} → (List ℕ → Result (A × List ℕ) InputFault) → ℕ → List A → List ℕ → Result (List A × List ℕ) InputFault
+and_turns item n items text = in_turn item n text >>= λ more. turned (items ++ more.0) more.1
+
+-- no items before others
+none_before : {A : Type 0} (r : Result (List A × List ℕ) InputFault) → r ≡ (r >>= λ more. turned more.0 more.1)
+none_before (Ok x) = refl
+none_before (Err fault) = refl
+
+-- an item before items that others follow
+two_before : {A : Type 0} (first : A) (items : List A) (r : Result (List A × List ℕ) InputFault)
+    → ((r >>= λ more. turned (items ++ more.0) more.1) >>= λ all. turned (first ∷ all.0) all.1) ≡ (r >>= λ more. turned (first ∷ (items ++ more.0)) more.1)
+two_before first items (Ok x) = refl
+two_before first items (Err fault) = refl
+
+-- an item before items in two parts
+one_before : {A : Type 0} (item : List ℕ → Result (A × List ℕ) InputFault) (b : ℕ) (first : A) (r : Result (List A × List ℕ) InputFault)
+    → ((r >>= λ items. and_turns item b items.0 items.1) >>= λ all. turned (first ∷ all.0) all.1) ≡ ((r >>= λ items. turned (first ∷ items.0) items.1) >>= λ items. and_turns item b items.0 items.1)
+one_before item b first (Ok x) = two_before first x.0 (in_turn item b x.1)
+one_before item b first (Err fault) = refl
+
+-- items in turn are so many, and then the others
+first_before : {A : Type 0} (item : List ℕ → Result (A × List ℕ) InputFault) (a b : ℕ) (r : Result (A × List ℕ) InputFault)
+    → ((text : List ℕ) → in_turn item (a + b) text ≡ (in_turn item a text >>= λ items. and_turns item b items.0 items.1))
+    → (r >>= λ first. in_turn item (a + b) first.1 >>= λ more. turned (first.0 ∷ more.0) more.1) ≡ ((r >>= λ first. in_turn item a first.1 >>= λ more. turned (first.0 ∷ more.0) more.1) >>= λ items. and_turns item b items.0 items.1)
+first_before item a b (Ok x) known = rw (known x.1) (one_before item b x.0 (in_turn item a x.1))
+first_before item a b (Err fault) known = refl
+
+pub in_turn-add : {A : Type 0} (item : List ℕ → Result (A × List ℕ) InputFault) (a b : ℕ) (text : List ℕ) → in_turn item (a + b) text ≡ (in_turn item a text >>= λ items. and_turns item b items.0 items.1)
+unfolding in_turn
+in_turn-add item zero b text = ap (λ (n : ℕ). in_turn item n text) (zero-add b) ∙ none_before (in_turn item b text)
+in_turn-add item (suc a) b text = ap (λ (n : ℕ). in_turn item n text) (suc-add a b) ∙ first_before item a b (item text) (in_turn-add item a b)
+
+-- ---- samples and the maxval
 
 -- no sample is above the maxval
 abbrev pub are_within : ℕ → List ℕ → Bool
@@ -79,11 +120,11 @@ pub wide_units : (maxval n : ℕ) (bytes rest : List ℕ) → length bytes ≡ n
 unfolding in_turn raw_item wide_samples
 wide_units maxval zero [] rest count = refl
 wide_units maxval zero (b ∷ bytes) rest count = absurd (omega arith)
-wide_units maxval (suc n) [] rest count = absurd (omega (arith, suc-mul n 2))
-wide_units maxval (suc n) (b ∷ []) rest count = absurd (omega (arith, suc-mul n 2))
+wide_units maxval (suc n) [] rest count = absurd (omega (arith, zero-add, suc-add, suc-mul n 2))
+wide_units maxval (suc n) (b ∷ []) rest count = absurd (omega (arith, zero-add, suc-add, suc-mul n 2))
 wide_units maxval (suc n) (b ∷ c ∷ bytes) rest count =
     first_by (raw_item Wide maxval) n (leb (256 * b + c) maxval) (are_within maxval (wide_samples bytes)) (single (256 * b + c)) (map single (wide_samples bytes)) (bytes ++ rest) rest
-    (wide_units maxval n bytes rest (omega (arith, suc-mul n 2)))
+    (wide_units maxval n bytes rest (omega (arith, zero-add, suc-add, suc-mul n 2)))
 
 -- ---- appending of units
 
