@@ -1,5 +1,5 @@
 -- A scanner that is given the bytes of an input, part by part.
-use Rattle.std.proofs.Common.{◌≡◌, ℕ, ◌≤◌, true, List, [], ◌++◌, length, drop, Option, Some, None, Result, Ok, Err, inl, inr, refl, sym, ap, subst, ◌∙◌, arith}
+use Rattle.std.proofs.Common.{◌≡◌, ℕ, ◌≤◌, true, List, [], ◌∷◌, ◌++◌, length, drop, Option, Some, None, Result, Ok, Err, inl, inr, refl, sym, ap, subst, ◌∙◌, arith}
 use Rattle.std.proofs.lemmas.List.{drop_all}
 use Rattle.pnm_read.specs.declared.fault.InputFault.{InputFault}
 use Rattle.pnm_read.specs.declared.fault.InputFault.TheVariants.{ReadFailed}
@@ -115,3 +115,12 @@ scan_goes_on {item = item} {at_end = at_end} {is_after = is_after} {mid = mid} {
       (on.0 ++ held_of mid, fed.0, on.2 ∙ ap (piece_from (item old) (at_end old) on.0) o.0.2 ∙ fed.1 rest ∙ ap (λ (l : List ℕ). piece_from (item old) (at_end old) (on.0 ++ held_of mid) (l ++ rest)) (sym none)))
     (read_on later s t);
   }
+
+-- where nothing is held after reading on, the end was seen
+pub end_seen : {R : Type 0} (input : Input R) → HoldsEnough 1 input → held_of input ≡ [] → input.ended ≡ true
+end_seen input (inl some) none = let long = ap (λ (l : List ℕ). length l) none in absurd (omega arith)
+end_seen input (inr ended) none = ended
+
+pub none_of_length : (bytes held : List ℕ) → bytes ≡ held → length bytes ≡ 0 → held ≡ []
+none_of_length bytes [] e l = refl
+none_of_length bytes (b ∷ held) e l = let long = ap (λ (l : List ℕ). length l) e in absurd (omega arith)
