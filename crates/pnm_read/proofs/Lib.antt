@@ -10,3 +10,5 @@ pub mod DecimalSteps
 pub mod FeedSteps
 pub mod ScanSteps
 pub mod PlainLaws
+pub mod UnitLaws
+pub mod RawLaws

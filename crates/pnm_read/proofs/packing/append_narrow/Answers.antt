@@ -4,9 +4,12 @@ use Rattle.std.proofs.lemmas.Iterator.Adapters.{items_from_extend}
 use Rattle.pnm_read.proofs.packing.append_narrow.Goals as goal
 
 pub returns-then-from-maxval : goal.returns-then-from-maxval
-returns-then-from-maxval c = inr (refl, λ all.
-    let le : c.greatest_byte.result ≤ c.args.maxval = (c.greatest_byte.ensures c.args.maxval).1 all in
-    omega arith)
+returns-then-from-maxval c = inr (
+  refl,
+  λ all.
+      let le : c.greatest_byte.result ≤ c.args.maxval = (c.greatest_byte.ensures c.args.maxval).1 all in
+      omega arith,
+)
 
 pub returns-in-Ok : goal.returns-in-Ok
 returns-in-Ok c =

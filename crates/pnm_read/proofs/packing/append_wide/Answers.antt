@@ -11,9 +11,12 @@ returns-then-from-maxval c =
     let ran = items_from_extend c.extend.result c.extend.ensures.ran (YieldsList-from_map _ (λ n. n) (wide_samples_of_pairs c.args.bytes.now _ (cc) (cc)) c.map-samples.ensures.closure (λ x r q k. search rules)) in
     let items : c.extend.new.self.items ≡ c.args.row.now.items ++ wide_samples c.args.bytes.now = at_no_error _ c.extend.result (cc) (on_ok_weaker c.extend.result (λ h. h.0 ∙ ap (λ (l : List ℕ). c.args.row.now.items ++ l) (map-id (wide_samples c.args.bytes.now))) ran) in
     let bound = bound_of_appended c.args.row.now.items (wide_samples c.args.bytes.now) c.deref.result.now c.len-before.result c.greatest.result (c.deref.ensures.value ∙ items) (omega arith) c.greatest.ensures c.args.maxval in
-    inr (refl, λ all.
-    let le : c.greatest.result ≤ c.args.maxval = bound.1 all in
-    omega arith)
+    inr (
+      refl,
+      λ all.
+          let le : c.greatest.result ≤ c.args.maxval = bound.1 all in
+          omega arith,
+    )
 
 pub returns : goal.returns
 returns c =

@@ -1,0 +1,305 @@
+-- Raw rasters: the rows that one spells are said, and what is said without a fault is spelled.
+use Rattle.std.proofs.Common.{◌≡◌, ℕ, zero, suc, ◌+◌, ◌*◌, ◌/◌, ◌<◌, ◌≤◌, Bool, true, false, leb, nat_lt, if◌then◌else◌, List, [], ◌∷◌, ◌++◌, length, get_or, take, drop, map, flat_map, All, None, Result, Ok, Err, refl, sym, ap, ◌∙◌, ap₂, subst, arith, zero-mul, suc-mul}
+use Rattle.std.specs.List.{concat}
+use Rattle.std.proofs.lemmas.List.{take_all, take-append-drop, length-take, length-take-le, length-drop, length-append, length-map, nil_from_length}
+use Rattle.std.proofs.lemmas.List.Elements.{All-nil, All-append, All-take, All-map}
+use Rattle.pnm_image.specs.declared.shape.Shape.{Shape}
+use Rattle.pnm_image.specs.declared.shape.Kind.{Kind}
+use Rattle.pnm_image.specs.declared.shape.Kind.TheVariants.{Bit, Gray, Color, Pam}
+use Rattle.pnm_image.specs.declared.message.Message.TheVariants.{Row, ImageEnd, StreamEnd}
+use Rattle.pnm_image.specs.Heads.{Header, IsHeader, Suits, row_length}
+use Rattle.pnm_image.specs.Images.{Image, cut_rows, rows_of}
+use Rattle.pnm_image.proofs.Rows.{AreRowsOf, image_of, IsImage-image_of, rows_of-image_of, AreRowsOf-rows_of, length-cut_rows}
+use Rattle.pnm_read.specs.declared.fault.InputFault.{InputFault}
+use Rattle.pnm_read.specs.declared.fault.InputFault.TheVariants.{SampleAboveMaxval}
+use Rattle.pnm_read.specs.declared.format.Format.{Format}
+use Rattle.pnm_read.specs.declared.packing.Packing.{Packing}
+use Rattle.pnm_read.specs.declared.packing.Packing.TheVariants.{Packed, Narrow, Wide}
+use Rattle.pnm_read.specs.Rasters.{packing_of, row_bytes, pixel_at, pixels, wide_samples, raw_samples, SpellsRaw}
+use Rattle.pnm_read.specs.Items.{◌>>=◌, raw_item}
+use Rattle.pnm_read.specs.Packings.{unit_bytes}
+use Rattle.pnm_read.specs.Said.{in_turn, units_in_row, raw_row, row_by, row_at, Said, then_said, says_fault, end_said, rows_said}
+use Rattle.pnm_read.proofs.UnitLaws.{Turns, single, concat_singles, concat_pixels, are_within, are_within_all, all_are_within, unit_if, units_if, packed_units, narrow_units, wide_units}
+
+-- ---- steps
+
+-- the value of a step that did not fail
+pub bind_ok : {A B : Type 0} (r : Result A InputFault) (f : A → Result B InputFault) (y : B) → (r >>= f) ≡ Ok y → (x : A) × (r ≡ Ok x) × (f x ≡ Ok y)
+bind_ok (Ok x) f y e = (x, refl, e)
+bind_ok (Err d) f y e = absurd cc
+
+-- ---- the bytes of a row
+
+-- a row, and what is left of the text
+abbrev pub Read : Type 0
+Read = Result (List ℕ × List ℕ) InputFault
+
+-- the bytes of a row, by the packing
+abbrev bytes_by : Packing → Shape → ℕ
+bytes_by p s = elim p [
+  | Packed ↦ (s.width + 7) / 8
+  | Narrow ↦ row_length s
+  | Wide ↦ 2 * row_length s
+]
+
+-- the samples in the bytes of a row, by the packing
+abbrev samples_by : Packing → Shape → List ℕ → List ℕ
+samples_by p s bytes = elim p [
+  | Packed ↦ take s.width (flat_map pixels bytes)
+  | Narrow ↦ bytes
+  | Wide ↦ wide_samples bytes
+]
+
+-- a raw row, by the packing
+abbrev row_in : Packing → Shape → List ℕ → Read
+row_in p s text = in_turn (raw_item p s.maxval) (units_in_row p s) text >>= λ units. Ok (take (row_length s) (concat units.0), units.1)
+
+abbrev row_done : List ℕ → List ℕ → Read
+row_done row rest = Ok (row, rest)
+
+abbrev turns_done : List (List ℕ) → List ℕ → Turns
+turns_done units rest = Ok (units, rest)
+
+-- this row, or the fault of a sample above the maxval
+abbrev row_if : Bool → List ℕ → List ℕ → Read
+row_if within row rest = if within then Ok (row, rest) else Err SampleAboveMaxval
+
+-- a row has one sample a pixel where eight pixels are packed in a byte, and its maxval isn't 0
+record IsPackable (p : Packing) (s : Shape) : Type 0 where
+  pub one : p ≡ Packed → s.depth ≡ 1
+  pub maxval_low : 0 < s.maxval
+
+length-pixels : (bytes : List ℕ) → length (flat_map pixels bytes) ≡ length bytes * 8
+length-pixels [] = refl
+length-pixels (b ∷ bytes) = omega (arith, length-pixels bytes, length-append (pixels b) (flat_map pixels bytes), suc-mul (length bytes) 8)
+
+-- a pixel is at most 1
+pixel_le : (maxval bit byte : ℕ) → 0 < maxval → pixel_at bit byte ≤ maxval
+pixel_le maxval bit byte low = omega arith
+
+-- the bits of a byte, the most significant first
+abbrev bits : List ℕ
+bits = 7 ∷ 6 ∷ 5 ∷ 4 ∷ 3 ∷ 2 ∷ 1 ∷ 0 ∷ []
+
+pixels_within : (maxval byte : ℕ) → 0 < maxval → All (λ sample. sample ≤ maxval) (pixels byte)
+pixels_within maxval b low = All-map (λ sample. sample ≤ maxval) (λ bit. pixel_at bit b) bits (λ k d lt. pixel_le maxval (get_or bits k d) b low)
+
+all_pixels_within : (maxval : ℕ) (bytes : List ℕ) → 0 < maxval → All (λ sample. sample ≤ maxval) (flat_map pixels bytes)
+all_pixels_within maxval [] low = All-nil (λ sample. sample ≤ maxval)
+all_pixels_within maxval (b ∷ bytes) low = All-append (λ sample. sample ≤ maxval) (pixels b) (flat_map pixels bytes) (pixels_within maxval b low) (all_pixels_within maxval bytes low)
+
+length-wide_samples : (n : ℕ) (bytes : List ℕ) → length bytes ≡ 2 * n → length (wide_samples bytes) ≡ n
+unfolding wide_samples
+length-wide_samples zero [] e = refl
+length-wide_samples zero (b ∷ bytes) e = absurd (omega arith)
+length-wide_samples (suc n) [] e = absurd (omega arith)
+length-wide_samples (suc n) (b ∷ []) e = absurd (omega arith)
+length-wide_samples (suc n) (b ∷ c ∷ bytes) e = ap suc (length-wide_samples n bytes (omega arith))
+
+-- so many bytes hold a whole row of samples
+length-samples_by : (p : Packing) (s : Shape) (bytes : List ℕ) → IsPackable p s → length bytes ≡ bytes_by p s → length (samples_by p s bytes) ≡ row_length s
+length-samples_by Packed s bytes h e =
+    let one : s.depth ≡ 1 = h.one refl in
+    omega (arith, length-take s.width (flat_map pixels bytes), length-pixels bytes, ap (λ (d : ℕ). s.width * d) one)
+length-samples_by Narrow s bytes h e = e
+length-samples_by Wide s bytes h e = length-wide_samples (row_length s) bytes e
+
+-- what units in turn give as a row
+after_units : (n : ℕ) (within : Bool) (units : List (List ℕ)) (rest : List ℕ) (r : Turns) → r ≡ units_if within units rest → (r >>= λ found. row_done (take n (concat found.0)) found.1) ≡ row_if within (take n (concat units)) rest
+after_units n true units rest r e = rw e refl
+after_units n false units rest r e = rw e refl
+
+-- what the first so many bytes of a text give, by the packing
+row_read_by : (p : Packing) (s : Shape) (bytes rest : List ℕ) → IsPackable p s → length bytes ≡ bytes_by p s → row_in p s (bytes ++ rest) ≡ row_if (are_within s.maxval (samples_by p s bytes)) (samples_by p s bytes) rest
+row_read_by Packed s bytes rest h e =
+    let units : in_turn (raw_item Packed s.maxval) ((s.width + 7) / 8) (bytes ++ rest) ≡ units_if true (map pixels bytes) rest =
+    ap (λ (n : ℕ). in_turn (raw_item Packed s.maxval) n (bytes ++ rest)) (sym e) ∙ packed_units s.maxval bytes rest in
+    let within : are_within s.maxval (take s.width (flat_map pixels bytes)) ≡ true =
+    are_within_all s.maxval (take s.width (flat_map pixels bytes)) (All-take (λ sample. sample ≤ s.maxval) s.width (flat_map pixels bytes) (all_pixels_within s.maxval bytes h.maxval_low)) in
+    let long : row_length s ≡ s.width = omega (arith, ap (λ (d : ℕ). s.width * d) (h.one refl)) in
+    after_units (row_length s) true (map pixels bytes) rest _ units
+    ∙ ap₂ (λ (n : ℕ) (l : List ℕ). row_done (take n l) rest) long (concat_pixels bytes)
+    ∙ ap (λ (t : Bool). row_if t (take s.width (flat_map pixels bytes)) rest) (sym within)
+row_read_by Narrow s bytes rest h e =
+    let units = ap (λ (n : ℕ). in_turn (raw_item Narrow s.maxval) n (bytes ++ rest)) (sym e) ∙ narrow_units s.maxval bytes rest in
+    after_units (row_length s) (are_within s.maxval bytes) (map single bytes) rest _ units
+    ∙ ap (λ (l : List ℕ). row_if (are_within s.maxval bytes) l rest) (ap (take (row_length s)) (concat_singles bytes) ∙ take_all (row_length s) bytes (omega arith))
+row_read_by Wide s bytes rest h e =
+    let units = wide_units s.maxval (row_length s) bytes rest (omega arith) in
+    let samples : List ℕ = wide_samples bytes in
+    let count : length samples ≡ row_length s = length-wide_samples (row_length s) bytes e in
+    after_units (row_length s) (are_within s.maxval samples) (map single samples) rest _ units
+    ∙ ap (λ (l : List ℕ). row_if (are_within s.maxval samples) l rest) (ap (take (row_length s)) (concat_singles samples) ∙ take_all (row_length s) samples (omega arith))
+
+-- what passed a test is left as it is
+unit_if_ok : (t : Bool) (unit rest : List ℕ) (found : List ℕ × List ℕ) → unit_if t unit rest ≡ Ok found → rest ≡ found.1
+unit_if_ok true unit rest found e = cc
+unit_if_ok false unit rest found e = absurd cc
+
+-- a unit that was read has its bytes
+unit_length : (p : Packing) (maxval : ℕ) (text : List ℕ) (found : List ℕ × List ℕ) → raw_item p maxval text ≡ Ok found → length text ≡ unit_bytes p + length found.1
+unfolding raw_item
+unit_length Packed maxval [] found e = absurd cc
+unit_length Packed maxval (b ∷ text) found e = let left : text ≡ found.1 = cc in omega (arith, ap length left)
+unit_length Narrow maxval [] found e = absurd cc
+unit_length Narrow maxval (b ∷ text) found e = let left = unit_if_ok (leb b maxval) (single b) text found e in omega (arith, ap length left)
+unit_length Wide maxval [] found e = absurd cc
+unit_length Wide maxval (b ∷ []) found e = absurd cc
+unit_length Wide maxval (b ∷ c ∷ text) found e = let left = unit_if_ok (leb (256 * b + c) maxval) (single (256 * b + c)) text found e in omega (arith, ap length left)
+
+-- units that were read in turn have their bytes
+units_length : (p : Packing) (maxval n : ℕ) (text : List ℕ) (found : List (List ℕ) × List ℕ) → in_turn (raw_item p maxval) n text ≡ Ok found → length text ≡ n * unit_bytes p + length found.1
+unfolding in_turn
+units_length p maxval zero text found e = let left : text ≡ found.1 = cc in omega (arith, ap length left, zero-mul (unit_bytes p))
+units_length p maxval (suc n) text found e =
+    let first = bind_ok (raw_item p maxval text) (λ one. in_turn (raw_item p maxval) n one.1 >>= λ more. turns_done (one.0 ∷ more.0) more.1) found e in
+    let others = bind_ok (in_turn (raw_item p maxval) n first.0.1) (λ more. turns_done (first.0.0 ∷ more.0) more.1) found first.2 in
+    let left : others.0.1 ≡ found.1 = cc in
+    omega (arith, unit_length p maxval text first.0 first.1, units_length p maxval n first.0.1 others.0 others.1, ap length left, suc-mul n (unit_bytes p))
+
+-- the bytes of the units of a row are the row's
+bytes_of_units : (p : Packing) (s : Shape) → units_in_row p s * unit_bytes p ≡ bytes_by p s
+bytes_of_units Packed s = omega arith
+bytes_of_units Narrow s = omega arith
+bytes_of_units Wide s = omega arith
+
+-- a row that was read has its bytes
+row_length_by : (p : Packing) (s : Shape) (text : List ℕ) (found : List ℕ × List ℕ) → row_in p s text ≡ Ok found → bytes_by p s ≤ length text
+row_length_by p s text found e =
+    let units = bind_ok (in_turn (raw_item p s.maxval) (units_in_row p s) text) (λ units. row_done (take (row_length s) (concat units.0)) units.1) found e in
+    let count = units_length p s.maxval (units_in_row p s) text units.0 units.1 in
+    omega (arith, count, bytes_of_units p s)
+
+-- ---- rows
+
+-- a number of bytes a sample is no packing of pixels
+not_packed : (t : Bool) → (if t then Narrow else Wide) ≡ Packed → ⊥
+not_packed true e = cc
+not_packed false e = cc
+
+-- what a header says of its shape's rows
+packable_by : (kind : Kind) (depth maxval m : ℕ) (tuple_type : List ℕ) → Suits kind depth maxval tuple_type → packing_of kind m ≡ Packed → depth ≡ 1
+packable_by Bit depth maxval m tuple_type h e = h.0
+packable_by Gray depth maxval m tuple_type h e = absurd (not_packed (nat_lt m 256) e)
+packable_by Color depth maxval m tuple_type h e = absurd (not_packed (nat_lt m 256) e)
+packable_by Pam depth maxval m tuple_type h e = absurd (not_packed (nat_lt m 256) e)
+
+abbrev packing_in : Shape → Packing
+packing_in s = packing_of s.kind s.maxval
+
+packable : (head : Header) → IsHeader head → IsPackable (packing_in head.shape) head.shape
+packable head h = record {
+  one = packable_by head.shape.kind head.shape.depth head.shape.maxval head.shape.maxval head.tuple_type h.suits;
+  maxval_low = h.limits.maxval_low;
+}
+
+-- the first row of a text that is long enough
+row_read : (s : Shape) (text : List ℕ) → IsPackable (packing_in s) s → row_bytes s ≤ length text
+    → raw_row s text ≡ row_if (are_within s.maxval (raw_samples s (take (row_bytes s) text))) (raw_samples s (take (row_bytes s) text)) (drop (row_bytes s) text)
+unfolding raw_row
+row_read s text h long =
+    ap (row_in (packing_in s) s) (sym (take-append-drop (row_bytes s) text))
+    ∙ row_read_by (packing_in s) s (take (row_bytes s) text) (drop (row_bytes s) text) h (length-take-le (row_bytes s) text long)
+
+-- a row that was read is long enough
+row_long : (s : Shape) (text : List ℕ) (found : List ℕ × List ℕ) → raw_row s text ≡ Ok found → row_bytes s ≤ length text
+unfolding raw_row
+row_long s text found e = row_length_by (packing_in s) s text found e
+
+-- the rows of samples in the rows of bytes
+abbrev raw_rows : Shape → ℕ → List ℕ → List (List ℕ)
+raw_rows s count text = map (raw_samples s) (cut_rows count (row_bytes s) text)
+
+-- the messages of rows and of the ends, without a fault
+abbrev rows_and_ends : List (List ℕ) → Said
+rows_and_ends rows = record { messages = map Row rows ++ ImageEnd ∷ StreamEnd ∷ []; fault = None }
+
+-- what is said of a row that was read, and of the others
+abbrev from_row : Format → Shape → ℕ → Read → Said
+from_row format s more found = elim found [
+  | Err fault ↦ says_fault fault
+  | Ok row ↦ then_said (Row row.0) (rows_said format s more row.1)
+]
+
+-- a row of a raw format is a raw row
+row_at_raw : (format : Format) (s : Shape) (more : ℕ) (text : List ℕ) → format.is_plain ≡ false → row_at format s more text ≡ raw_row s text
+row_at_raw format s more text plain = ap (λ (b : Bool). row_by b s more text) plain
+
+-- of whole rows the rows are said, and the ends
+rows_are_said : (format : Format) (s : Shape) (n : ℕ) (text : List ℕ) → format.is_plain ≡ false → IsPackable (packing_in s) s → length text ≡ n * row_bytes s → AreRowsOf s (raw_rows s n text)
+    → rows_said format s n text ≡ rows_and_ends (raw_rows s n text)
+unfolding rows_said end_said
+rows_are_said format s zero text plain h count are = let nothing : text ≡ [] = nil_from_length text (count ∙ zero-mul (row_bytes s)) in rw (nothing, plain) refl
+rows_are_said format s (suc n) text plain h count are =
+    let each : ℕ = row_bytes s in
+    let total : length text ≡ n * each + each = count ∙ suc-mul n each in
+    let row : List ℕ = raw_samples s (take each text) in
+    let within : are_within s.maxval row ≡ true = are_within_all s.maxval row are.0.range in
+    let found : row_at format s n text ≡ row_if true row (drop each text) =
+    row_at_raw format s n text plain ∙ row_read s text h (omega arith) ∙ ap (λ (t : Bool). row_if t row (drop each text)) within in
+    let left : length (drop each text) ≡ n * each = omega (arith, length-drop each text) in
+    ap (from_row format s n) found ∙ ap (λ (others : Said). then_said (Row row) others) (rows_are_said format s n (drop each text) plain h left are.1)
+
+-- where the end is said without a fault, nothing is left
+end_without_fault : (plain : Bool) (text : List ℕ) → plain ≡ false → (end_said plain text).fault ≡ None → text ≡ []
+unfolding end_said
+end_without_fault true text p e = absurd cc
+end_without_fault false [] p e = refl
+end_without_fault false (b ∷ text) p e = absurd cc
+
+-- where a row is said without a fault it was read, and the others have no fault
+row_without_fault : (format : Format) (s : Shape) (n : ℕ) (r : Read) → (from_row format s n r).fault ≡ None → (found : List ℕ × List ℕ) × (r ≡ Ok found) × ((rows_said format s n found.1).fault ≡ None)
+row_without_fault format s n (Err fault) e = absurd cc
+row_without_fault format s n (Ok found) e = (found, refl, e)
+
+-- a row that was read has no sample above the maxval
+row_if_ok : (t : Bool) (row rest : List ℕ) (found : List ℕ × List ℕ) → row_if t row rest ≡ Ok found → (t ≡ true) × (found.1 ≡ rest)
+row_if_ok true row rest found e = (refl, cc)
+row_if_ok false row rest found e = absurd cc
+
+-- what is said without a fault is of whole rows
+rows_are_spelled : (format : Format) (s : Shape) (n : ℕ) (text : List ℕ) → format.is_plain ≡ false → IsPackable (packing_in s) s → (rows_said format s n text).fault ≡ None
+    → (length text ≡ n * row_bytes s) × AreRowsOf s (raw_rows s n text)
+unfolding rows_said
+rows_are_spelled format s zero text plain h e =
+    let nothing : text ≡ [] = end_without_fault format.is_plain text plain e in
+    (ap (λ (t : List ℕ). length t) nothing ∙ sym (zero-mul (row_bytes s)), tt)
+rows_are_spelled format s (suc n) text plain h e =
+    let each : ℕ = row_bytes s in
+    let row : List ℕ = raw_samples s (take each text) in
+    let first = row_without_fault format s n (row_at format s n text) e in
+    let found : raw_row s text ≡ Ok first.0 = sym (row_at_raw format s n text plain) ∙ first.1 in
+    let long : each ≤ length text = row_long s text first.0 found in
+    let parts = row_if_ok (are_within s.maxval row) row (drop each text) first.0 (sym (row_read s text h long) ∙ found) in
+    let others = rows_are_spelled format s n (drop each text) plain h (ap (λ (t : List ℕ). (rows_said format s n t).fault) (sym parts.1) ∙ first.2) in (
+      omega (arith, others.0, length-drop each text, suc-mul n each),
+      (
+        record {
+          count = length-samples_by (packing_in s) s (take each text) h (length-take-le each text long);
+          range = all_are_within s.maxval row parts.0;
+        },
+        others.1,
+      ),
+    )
+
+-- ---- images
+
+pub spelled_raw_is_said : (format : Format) (raster : List ℕ) (image : Image) → format.is_plain ≡ false → image.head.shape.kind ≡ format.kind → SpellsRaw raster image
+    → rows_said format image.head.shape image.head.shape.height raster ≡ record { messages = map Row (rows_of image) ++ ImageEnd ∷ StreamEnd ∷ []; fault = None }
+spelled_raw_is_said format raster image plain kind h =
+    let s : Shape = image.head.shape in
+    rows_are_said format s s.height raster plain (packable image.head h.sound.head) h.count (subst (AreRowsOf s) h.rows (AreRowsOf-rows_of image h.sound)) ∙ ap rows_and_ends (sym h.rows)
+
+pub said_raw_is_spelled : (format : Format) (head : Header) (text : List ℕ) → format.is_plain ≡ false → head.shape.kind ≡ format.kind → IsHeader head → (rows_said format head.shape head.shape.height text).fault ≡ None
+    → (image : Image) × (image.head ≡ head) × SpellsRaw text image × ((rows_said format head.shape head.shape.height text).messages ≡ map Row (rows_of image) ++ ImageEnd ∷ StreamEnd ∷ [])
+said_raw_is_spelled format head text plain kind h e =
+    let s : Shape = head.shape in
+    let found = rows_are_spelled format s s.height text plain (packable head h) e in
+    let rows : List (List ℕ) = raw_rows s s.height text in
+    let count : length rows ≡ s.height = length-map (cut_rows s.height (row_bytes s) text) (raw_samples s) ∙ length-cut_rows s.height (row_bytes s) text in
+    let same : rows_of (image_of head rows) ≡ rows = rows_of-image_of head rows count found.1 in (
+      image_of head rows,
+      refl,
+      record { sound = IsImage-image_of head rows h count found.1; count = found.0; rows = same },
+      ap (λ (said : Said). said.messages) (rows_are_said format s s.height text plain (packable head h) found.0 found.1 ∙ ap rows_and_ends (sym same)),
+    )
