@@ -12,3 +12,4 @@ pub mod ScanSteps
 pub mod PlainLaws
 pub mod UnitLaws
 pub mod RawLaws
+pub mod TextLaws
