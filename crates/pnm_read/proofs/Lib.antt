@@ -13,3 +13,5 @@ pub mod PlainLaws
 pub mod UnitLaws
 pub mod RawLaws
 pub mod TextLaws
+pub mod SaidLaws
+pub mod FaultLaws

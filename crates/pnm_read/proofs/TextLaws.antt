@@ -13,14 +13,10 @@ use Rattle.pnm_read.specs.Spelling.{SpellsRasterBy, SpellsRaster, IsRestBy, IsRe
 use Rattle.pnm_read.specs.Said.{Said, then_said, format_at, head_at, rows_said, image_said, format_said, said, said_of, fault_of}
 use Rattle.pnm_read.specs.TextLaws.{SpellsOnly, IsAtFault}
 use Rattle.pnm_read.proofs.HeaderLaws.{read_header_is_spelled, spelled_header_is_read}
-use Rattle.pnm_read.proofs.PlainLaws.{spelled_plain_is_said, said_plain_is_spelled}
+use Rattle.pnm_read.proofs.PlainLaws.{rows_and_ends, spelled_plain_is_said, said_plain_is_spelled}
 use Rattle.pnm_read.proofs.RawLaws.{spelled_raw_is_said, said_raw_is_spelled}
 
 -- ---- what is spelled is said
-
--- the messages of rows and of the ends, without a fault
-abbrev rows_and_ends : List (List ℕ) → Said
-rows_and_ends rows = record { messages = map Row rows ++ ImageEnd ∷ StreamEnd ∷ []; fault = None }
 
 -- the messages of images, without a fault
 abbrev says_images : List Image → Said
