@@ -1,6 +1,7 @@
 //! Laws of texts. Each stands over the definitions alone, as the contract of a function that does
 //! nothing.
 
+ghost use Rattle.pnm_read.specs.Examples.{ExamplesHold};
 ghost use Rattle.pnm_read.specs.TextLaws.{SpelledIsSaid, SaidIsSpelled, OneStreamOrOneFault, SaidIsLawful, EndIsSaidWithoutFault, FaultsAreOfTexts};
 
 /// Of a text that spells images the messages of these images are said, without a fault.
@@ -31,4 +32,9 @@ pub fn end_is_said_without_fault()
 /// The fault of a text is never one from outside: neither a failed read nor memory that ran out.
 pub fn faults_are_of_texts()
     ensures { FaultsAreOfTexts }
+{}
+
+/// Small texts, as the definitions compute them.
+pub fn examples_hold()
+    ensures { ExamplesHold }
 {}
