@@ -13,3 +13,6 @@ pub mod PlainLaws
 pub mod UnitLaws
 pub mod RawLaws
 pub mod StageSteps
+pub mod TextLaws
+pub mod SaidLaws
+pub mod FaultLaws
