@@ -281,7 +281,7 @@ sizes_are_not_large width height depth row e = (grind (arith, nat_tests), grind 
 maxval_is_not_bad : (maxval : ℕ) → ((maxval == 0) || nat_lt 65535 maxval) ≡ false → (0 < maxval) × (maxval ≤ 65535)
 maxval_is_not_bad maxval e = (grind (arith, nat_tests), grind (arith, nat_tests))
 
-limits_of : (s : Shape) → shape_fault s ≡ None → IsWithinLimits s × (0 < s.height)
+pub limits_of : (s : Shape) → shape_fault s ≡ None → IsWithinLimits s × (0 < s.height)
 limits_of s e =
     let tests = no_fault ((s.width == 0) || (s.height == 0) || (s.depth == 0)) (nat_lt 1000000 s.width || nat_lt 1000000 s.height || nat_lt 256 s.depth || nat_lt 16777216 (row_length s)) ((s.maxval == 0) || nat_lt 65535 s.maxval) heads.ZeroSize heads.TooLarge heads.BadMaxval e in
     let low = sizes_are_not_zero s.width s.height s.depth tests.0 in
