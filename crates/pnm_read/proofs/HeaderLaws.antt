@@ -41,14 +41,14 @@ ok_is x y e = cc
 
 -- ---- how a byte of a header is judged
 
-abbrev judged_by : Bool → Bool → Bool → Judgement
+abbrev pub judged_by : Bool → Bool → Bool → Judgement
 judged_by long bad last = if long then Fails TooLong else if bad then Fails BadNumber else if last then EndsWith else GoesOn
 
-header_item_is : (count : ℕ) (before : List ℕ) (b : ℕ) → header_item count before b ≡ judged_by (nat_le header_limit (length before)) (is_bad_in_header before b) (is_delimiter count before b)
+pub header_item_is : (count : ℕ) (before : List ℕ) (b : ℕ) → header_item count before b ≡ judged_by (nat_le header_limit (length before)) (is_bad_in_header before b) (is_delimiter count before b)
 unfolding header_item
 header_item_is count before b = refl
 
-goes_on_by : (long bad last : Bool) → judged_by long bad last ≡ GoesOn → (long ≡ false) × (bad ≡ false) × (last ≡ false)
+pub goes_on_by : (long bad last : Bool) → judged_by long bad last ≡ GoesOn → (long ≡ false) × (bad ≡ false) × (last ≡ false)
 goes_on_by true bad last e = absurd cc
 goes_on_by false true last e = absurd cc
 goes_on_by false false true e = absurd cc
@@ -60,14 +60,14 @@ ends_with_by false true last e = absurd cc
 ends_with_by false false true e = (refl, refl, refl)
 ends_with_by false false false e = absurd cc
 
-never_before_by : (long bad last : Bool) → judged_by long bad last ≡ EndsBefore → ⊥
+pub never_before_by : (long bad last : Bool) → judged_by long bad last ≡ EndsBefore → ⊥
 never_before_by true bad last e = cc
 never_before_by false true last e = cc
 never_before_by false false true e = cc
 never_before_by false false false e = cc
 
 -- what a byte is that can stand in a header
-bad_parts : (first apart comment decimal : Bool) → ((first && not apart) || (not comment && not decimal)) ≡ false → (first ≡ true → apart ≡ true) × (comment ≡ false → decimal ≡ true)
+pub bad_parts : (first apart comment decimal : Bool) → ((first && not apart) || (not comment && not decimal)) ≡ false → (first ≡ true → apart ≡ true) × (comment ≡ false → decimal ≡ true)
 bad_parts first apart comment decimal e = (λ h. grind arith, λ h. grind arith)
 
 not_bad : (first apart comment decimal : Bool) → (first ≡ true → apart ≡ true) → (comment ≡ false → decimal ≡ true) → ((first && not apart) || (not comment && not decimal)) ≡ false
@@ -79,16 +79,16 @@ not_bad false apart false decimal f g = rw (g refl) refl
 -- ---- the bytes of a header so far
 
 -- a byte of a body, comments cut out
-abbrev is_decimal : ℕ → Bool
+abbrev pub is_decimal : ℕ → Bool
 is_decimal b = is_digit b || is_white b
 
 -- there are at most so many numbers, and fewer where the last isn't going on
-record Counted (count found : ℕ) (goes_on : Bool) : Type 0 where
+pub record Counted (count found : ℕ) (goes_on : Bool) : Type 0 where
   pub within : found ≤ count
   pub fewer : goes_on ≡ false → found < count
 
 -- what is known of the bytes after the magic where each of them went on
-record SoFar (count : ℕ) (before : List ℕ) : Type 0 where
+pub record SoFar (count : ℕ) (before : List ℕ) : Type 0 where
   pub begins : begins_apart before ≡ true
   pub decimal : AllPass is_decimal (uncommented before)
   pub counted : Counted count (length (numbers_in before)) (ends_in_word (uncommented before))
@@ -98,7 +98,7 @@ begins_push : (before : List ℕ) (b : ℕ) → begins_apart before ≡ true →
 begins_push [] b e h = h refl
 begins_push (x ∷ before) b e h = e
 
-decimal_push : (before : List ℕ) (b : ℕ) → ends_in_comment before ≡ false → (b == 35) ≡ false → is_decimal b ≡ true → AllPass is_decimal (uncommented before) → AllPass is_decimal (uncommented (before ++ b ∷ []))
+pub decimal_push : (before : List ℕ) (b : ℕ) → ends_in_comment before ≡ false → (b == 35) ≡ false → is_decimal b ≡ true → AllPass is_decimal (uncommented before) → AllPass is_decimal (uncommented (before ++ b ∷ []))
 decimal_push before b outside plain e h = subst (AllPass is_decimal) (sym (uncommented-plain before b outside plain)) (All-push (λ x. is_decimal x ≡ true) (uncommented before) b h e)
 
 so_far-comment : (count : ℕ) (before : List ℕ) (b : ℕ) → SoFar count before → (ends_in_comment before ≡ true) ⊎ (b ≡ 35) → begins_apart (before ++ b ∷ []) ≡ true → SoFar count (before ++ b ∷ [])
@@ -119,7 +119,7 @@ so_far-white count before b s outside white others begins =
       counted = rw (numbers-white before b outside white) (record { within = s.counted.within; fewer = λ e. less });
     }
 
-digit_counted : (count : ℕ) (before : List ℕ) (b : ℕ) (goes_on : Bool) → ends_in_word (uncommented before) ≡ goes_on → Counted count (length (numbers_in before)) goes_on → ends_in_comment before ≡ false → is_digit b ≡ true → length (numbers_in (before ++ b ∷ [])) ≤ count
+pub digit_counted : (count : ℕ) (before : List ℕ) (b : ℕ) (goes_on : Bool) → ends_in_word (uncommented before) ≡ goes_on → Counted count (length (numbers_in before)) goes_on → ends_in_comment before ≡ false → is_digit b ≡ true → length (numbers_in (before ++ b ∷ [])) ≤ count
 digit_counted count before b true e c outside digit =
     let n = numbers-next before b outside digit e in
     let old : length (numbers_in before) ≡ length n.0 + 1 = ap (λ (t : List ℕ). length t) n.2 ∙ length-append n.0 (n.1 ∷ []) in
@@ -139,11 +139,11 @@ so_far-digit count before b s outside digit begins = record {
 }
 
 -- white space outside comments that ends no header
-not_last : (comment white all : Bool) → (not comment && white && all) ≡ false → comment ≡ false → white ≡ true → all ≡ false
+pub not_last : (comment white all : Bool) → (not comment && white && all) ≡ false → comment ≡ false → white ≡ true → all ≡ false
 not_last comment white all e c w = grind arith
 
 -- a byte outside comments that is neither white space nor begins a comment
-digit_left : (digit white sharp : Bool) → (digit || (white || sharp)) ≡ true → white ≡ false → sharp ≡ false → digit ≡ true
+pub digit_left : (digit white sharp : Bool) → (digit || (white || sharp)) ≡ true → white ≡ false → sharp ≡ false → digit ≡ true
 digit_left digit white sharp e w s = grind arith
 
 so_far_by : (comment sharp white : Bool) (count : ℕ) (before : List ℕ) (b : ℕ) → ends_in_comment before ≡ comment → (b == 35) ≡ sharp → is_white b ≡ white → SoFar count before
@@ -161,14 +161,14 @@ so_far-push count before b s e =
     so_far_by (ends_in_comment before) (b == 35) (is_white b) count before b refl refl refl s byte.1 parts.2 (begins_push before b s.begins byte.0)
 
 -- no byte so far
-so_far_none : (count : ℕ) → 0 < count → SoFar count []
+pub so_far_none : (count : ℕ) → 0 < count → SoFar count []
 unfolding words uncommented_from
 so_far_none count some = record { begins = refl; decimal = All-nil (λ b. is_decimal b ≡ true); counted = record { within = omega arith; fewer = λ e. some } }
 
 -- ---- what is read is spelled
 
 -- the body that was read, the delimiter, and what follows
-record Body (count : ℕ) (before text piece rest : List ℕ) : Type 0 where
+pub record Body (count : ℕ) (before text piece rest : List ℕ) : Type 0 where
   pub body : List ℕ
   pub delimiter : ℕ
   pub so_far : SoFar count body
@@ -198,7 +198,7 @@ body_by GoesOn count before b text piece rest j s e more =
     let found = more (so_far-push count before b s j) e in
     record { body = found.body; delimiter = found.delimiter; so_far = found.so_far; ends = found.ends; piece_is = found.piece_is; whole = sym (append_assoc before (b ∷ []) text) ∙ found.whole }
 
-body_is_read : (count : ℕ) (before text piece rest : List ℕ) → SoFar count before → piece_from (header_item count) header_end before text ≡ Ok (piece, rest) → Body count before text piece rest
+pub body_is_read : (count : ℕ) (before text piece rest : List ℕ) → SoFar count before → piece_from (header_item count) header_end before text ≡ Ok (piece, rest) → Body count before text piece rest
 unfolding piece_from
 body_is_read count before [] piece rest s e = absurd cc
 body_is_read count before (b ∷ text) piece rest s e = body_by (header_item count before b) count before b text piece rest refl s e (λ t f. body_is_read count (before ++ b ∷ []) text piece rest t f)
@@ -207,13 +207,13 @@ body_is_read count before (b ∷ text) piece rest s e = body_by (header_item cou
 last_parts : (comment white all : Bool) → (not comment && white && all) ≡ true → (comment ≡ false) × (white ≡ true) × (all ≡ true)
 last_parts comment white all e = (grind arith, grind arith, grind arith)
 
-record Ended (count : ℕ) (body : List ℕ) (delimiter : ℕ) : Type 0 where
+pub record Ended (count : ℕ) (body : List ℕ) (delimiter : ℕ) : Type 0 where
   pub short : length body < 65534
   pub outside : ends_in_comment body ≡ false
   pub white : is_white delimiter ≡ true
   pub all : length (numbers_in body) ≡ count
 
-ended : (count : ℕ) (body : List ℕ) (delimiter : ℕ) → header_item count body delimiter ≡ EndsWith → Ended count body delimiter
+pub ended : (count : ℕ) (body : List ℕ) (delimiter : ℕ) → header_item count body delimiter ≡ EndsWith → Ended count body delimiter
 ended count body delimiter e =
     let parts = ends_with_by (nat_le header_limit (length body)) (is_bad_in_header body delimiter) (is_delimiter count body delimiter) (sym (header_item_is count body delimiter) ∙ e) in
     let last = last_parts (ends_in_comment body) (is_white delimiter) (length (numbers_in body) == count) parts.2 in
@@ -247,7 +247,7 @@ numbers_of_shape Color numbers e = three_numbers numbers e
 numbers_of_shape Pam numbers e = three_numbers numbers e
 
 -- a header has some numbers
-some_numbers : (kind : Kind) → 0 < number_count kind
+pub some_numbers : (kind : Kind) → 0 < number_count kind
 some_numbers Bit = omega arith
 some_numbers Gray = omega arith
 some_numbers Color = omega arith
@@ -281,7 +281,7 @@ sizes_are_not_large width height depth row e = (grind (arith, nat_tests), grind 
 maxval_is_not_bad : (maxval : ℕ) → ((maxval == 0) || nat_lt 65535 maxval) ≡ false → (0 < maxval) × (maxval ≤ 65535)
 maxval_is_not_bad maxval e = (grind (arith, nat_tests), grind (arith, nat_tests))
 
-limits_of : (s : Shape) → shape_fault s ≡ None → IsWithinLimits s × (0 < s.height)
+pub limits_of : (s : Shape) → shape_fault s ≡ None → IsWithinLimits s × (0 < s.height)
 limits_of s e =
     let tests = no_fault ((s.width == 0) || (s.height == 0) || (s.depth == 0)) (nat_lt 1000000 s.width || nat_lt 1000000 s.height || nat_lt 256 s.depth || nat_lt 16777216 (row_length s)) ((s.maxval == 0) || nat_lt 65535 s.maxval) heads.ZeroSize heads.TooLarge heads.BadMaxval e in
     let low = sizes_are_not_zero s.width s.height s.depth tests.0 in

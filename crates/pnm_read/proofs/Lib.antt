@@ -7,6 +7,8 @@ pub mod WordLaws
 pub mod HeaderLaws
 pub mod PackingLaws
 pub mod DecimalSteps
+pub mod HeaderSteps
+pub mod HeadSteps
 pub mod FeedSteps
 pub mod ScanSteps
 pub mod PlainLaws
