@@ -12,3 +12,5 @@ pub mod ScanSteps
 pub mod PlainLaws
 pub mod UnitLaws
 pub mod RawLaws
+pub mod PartLaws
+pub mod RawSteps
