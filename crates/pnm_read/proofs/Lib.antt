@@ -18,3 +18,5 @@ pub mod StageSteps
 pub mod TextLaws
 pub mod SaidLaws
 pub mod FaultLaws
+pub mod PartLaws
+pub mod RawSteps
