@@ -20,3 +20,4 @@ pub mod SaidLaws
 pub mod FaultLaws
 pub mod PartLaws
 pub mod RawSteps
+pub mod SourceSteps
