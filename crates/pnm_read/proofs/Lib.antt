@@ -14,3 +14,9 @@ pub mod ScanSteps
 pub mod PlainLaws
 pub mod UnitLaws
 pub mod RawLaws
+pub mod StageSteps
+pub mod TextLaws
+pub mod SaidLaws
+pub mod FaultLaws
+pub mod PartLaws
+pub mod RawSteps

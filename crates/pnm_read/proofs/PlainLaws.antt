@@ -9,6 +9,7 @@ use Rattle.pnm_image.specs.declared.shape.Kind.{Kind}
 use Rattle.pnm_image.specs.declared.shape.Kind.TheVariants.{Bit, Gray, Color, Pam}
 use Rattle.pnm_image.specs.Heads.{Header, IsHeader, Suits, row_length}
 use Rattle.pnm_image.specs.Images.{Image, cut_rows, rows_of}
+use Rattle.pnm_image.specs.Places.{IsRowOf}
 use Rattle.pnm_read.specs.declared.fault.InputFault.{InputFault}
 use Rattle.pnm_read.specs.declared.fault.InputFault.TheVariants.{BadSample}
 use Rattle.pnm_read.specs.declared.format.Format.{Format}
@@ -73,7 +74,7 @@ spelled_samples_are_read kind maxval (suc n) text (sample ∷ samples) rest le s
 -- ---- rows that are spelled are said
 
 -- what is said from a row on
-abbrev said_from : Format → Shape → ℕ → Result (List ℕ × List ℕ) InputFault → Said
+abbrev pub said_from : Format → Shape → ℕ → Result (List ℕ × List ℕ) InputFault → Said
 said_from format s more r = elim r [ Err fault ↦ says_fault fault | Ok row ↦ then_said (Row row.0) (rows_said format s more row.1) ]
 
 rows_said-suc : (format : Format) (s : Shape) (more : ℕ) (text : List ℕ) → format.is_plain ≡ true → rows_said format s (suc more) text ≡ said_from format s more (row_by true s more text)
@@ -245,6 +246,22 @@ range_by Bit depth maxval tuple_type sample suits h = let one : maxval ≡ 1 = s
 range_by Gray depth maxval tuple_type sample suits h = h
 range_by Color depth maxval tuple_type sample suits h = h
 range_by Pam depth maxval tuple_type sample suits h = h
+
+-- samples that were read as a row are a row of a head's shape
+samples_are_row : (head : Header) (text : List ℕ) (row : List ℕ × List ℕ) → IsHeader head → IsRead head.shape.kind head.shape.maxval (row_length head.shape) text row → IsRowOf head.shape row.0
+samples_are_row head text row h r =
+    let s : Shape = head.shape in
+    record {
+      count = r.count;
+      range = All-weaker (IsInRange s.kind s.maxval) (λ sample. sample ≤ s.maxval) (λ sample i. range_by s.kind s.depth s.maxval head.tuple_type sample h.suits i) row.0 r.range;
+    }
+
+-- a plain row that was read is a row of the head's shape
+pub plain_row_is_row : (head : Header) (text : List ℕ) (row : List ℕ × List ℕ) → IsHeader head → plain_row head.shape text ≡ Ok row → IsRowOf head.shape row.0
+plain_row_is_row head text row h e = samples_are_row head text row h (read_row head.shape text row e)
+
+pub last_plain_row_is_row : (head : Header) (text : List ℕ) (row : List ℕ × List ℕ) → IsHeader head → last_plain_row head.shape text ≡ Ok row → IsRowOf head.shape row.0
+last_plain_row_is_row head text row h e = samples_are_row head text row h (read_last_row head.shape text row e).0
 
 -- a raster whose rows are said without a fault spells the image of these rows, and what may follow it
 pub said_plain_is_spelled : (format : Format) (head : Header) (text : List ℕ) → format.is_plain ≡ true → head.shape.kind ≡ format.kind → IsHeader head → 0 < head.shape.height → (rows_said format head.shape head.shape.height text).fault ≡ None

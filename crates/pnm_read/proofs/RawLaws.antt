@@ -9,6 +9,7 @@ use Rattle.pnm_image.specs.declared.shape.Kind.TheVariants.{Bit, Gray, Color, Pa
 use Rattle.pnm_image.specs.declared.message.Message.TheVariants.{Row, ImageEnd, StreamEnd}
 use Rattle.pnm_image.specs.Heads.{Header, IsHeader, Suits, row_length}
 use Rattle.pnm_image.specs.Images.{Image, cut_rows, rows_of}
+use Rattle.pnm_image.specs.Places.{IsRowOf}
 use Rattle.pnm_image.proofs.Rows.{AreRowsOf, image_of, IsImage-image_of, rows_of-image_of, AreRowsOf-rows_of, length-cut_rows}
 use Rattle.pnm_read.specs.declared.fault.InputFault.{InputFault}
 use Rattle.pnm_read.specs.declared.fault.InputFault.TheVariants.{SampleAboveMaxval}
@@ -256,6 +257,25 @@ row_without_fault format s n (Ok found) e = (found, refl, e)
 row_if_ok : (t : Bool) (row rest : List ℕ) (found : List ℕ × List ℕ) → row_if t row rest ≡ Ok found → (t ≡ true) × (found.1 ≡ rest)
 row_if_ok true row rest found e = (refl, cc)
 row_if_ok false row rest found e = absurd cc
+
+-- a row that was read is the row that its test passed
+row_if_row : (t : Bool) (row rest : List ℕ) (found : List ℕ × List ℕ) → row_if t row rest ≡ Ok found → row ≡ found.0
+row_if_row true row rest found e = cc
+row_if_row false row rest found e = absurd cc
+
+-- a raw row that was read is a row of the head's shape
+pub raw_row_is_row : (head : Header) (text : List ℕ) (found : List ℕ × List ℕ) → IsHeader head → raw_row head.shape text ≡ Ok found → IsRowOf head.shape found.0
+raw_row_is_row head text found h e =
+    let s : Shape = head.shape in
+    let each : ℕ = row_bytes s in
+    let row : List ℕ = raw_samples s (take each text) in
+    let long : each ≤ length text = row_long s text found e in
+    let test : row_if (are_within s.maxval row) row (drop each text) ≡ Ok found = sym (row_read s text (packable head h) long) ∙ e in
+    let is : IsRowOf s row = record {
+      count = length-samples_by (packing_in s) s (take each text) (packable head h) (length-take-le each text long);
+      range = all_are_within s.maxval row (row_if_ok (are_within s.maxval row) row (drop each text) found test).0;
+    } in
+    subst (IsRowOf s) (row_if_row (are_within s.maxval row) row (drop each text) found test) is
 
 -- what is said without a fault is of whole rows
 rows_are_spelled : (format : Format) (s : Shape) (n : ℕ) (text : List ℕ) → format.is_plain ≡ false → IsPackable (packing_in s) s → (rows_said format s n text).fault ≡ None

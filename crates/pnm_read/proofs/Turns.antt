@@ -1,5 +1,5 @@
 -- How turns follow one another.
-use Rattle.std.proofs.Common.{◌≡◌, ℕ, ◌≤◌, true, List, [], ◌++◌, length, drop, Option, Some, None, Result, Ok, Err, refl, sym, ap, subst, ◌∙◌, append_assoc}
+use Rattle.std.proofs.Common.{◌≡◌, ◌==◌, ℕ, ◌≤◌, true, false, List, [], ◌∷◌, ◌++◌, length, drop, Option, Some, None, Result, Ok, Err, refl, sym, ap, subst, ◌∙◌, append_assoc}
 use Rattle.std.specs.Prelude.{OnOk}
 use Rattle.std.specs.Io.KnownBytes.{Consumes, IsAtEnd}
 use Rattle.pnm_image.specs.Devices.{Failed}
@@ -90,3 +90,11 @@ turn_advance {left = left} {failures = failures} {same = same} {old = old} {mid 
 -- an answer is no fault
 pub no_fault : {A : Type 0} (x : A) (k : InputFault) → Ok x ≡ Err k → ⊥
 no_fault x k e = absurd cc
+
+not_none : (b : ℕ) (text : List ℕ) → b ∷ text ≡ [] → ⊥
+not_none b text e = absurd cc
+
+-- the text goes on where a byte is held
+pub some_left : {R : Type 0} (input : Input R) (bytes left : List ℕ) → bytes ≡ held_of input → (length bytes == 0) ≡ false → IsLeft input left → left ≡ [] → ⊥
+some_left input [] left e n s none = absurd cc
+some_left input (b ∷ bytes) left e n s none = not_none b (bytes ++ s.0) (ap (λ (l : List ℕ). l ++ s.0) e ∙ sym s.2 ∙ none)

@@ -14,3 +14,4 @@ pub mod Scanners
 pub mod Packings
 pub mod Stages
 pub mod Sources
+pub mod Examples

@@ -1,7 +1,8 @@
 -- What is still to be said at a stage, and what a step answers.
-use Rattle.std.specs.Prelude.{◌≡◌, ℕ, ◌-◌, ◌⊎◌, Bool, true, false, List, Option, Some, None, Result, Ok, Err}
+use Rattle.std.specs.Prelude.{◌≡◌, ℕ, ◌-◌, ◌⊎◌, Bool, true, false, List, [], Option, Some, None, Result, Ok, Err}
 use Rattle.pnm_image.specs.declared.message.Message.{Message}
 use Rattle.pnm_read.specs.declared.fault.InputFault.{InputFault}
+use Rattle.pnm_read.specs.declared.fault.InputFault.TheVariants.{BadMagic}
 use Rattle.pnm_read.specs.declared.source.Stage.{Stage}
 use Rattle.pnm_read.specs.declared.source.Stage.TheVariants.{Start, Rows, End, Ended, Failed}
 use Rattle.pnm_read.specs.declared.source.Step.{Step}
@@ -34,3 +35,8 @@ SaysNext old None new = (old ≡ says_nothing) × (new ≡ says_nothing)
 abbrev pub Steps : Stage → Result Step InputFault → List ℕ → List ℕ → Type 0
 Steps stage (Ok step) before after = SaysNext (stage_due stage before) step.message (stage_due step.stage after) × (has_failed step.stage ≡ false)
 Steps stage (Err fault) before after = (stage_due stage before ≡ says_fault fault) ⊎ IsOutsideFault fault
+
+-- the text has ended; or it goes on after a raw image
+abbrev pub EndsText : Result (Unit {0}) InputFault → List ℕ → List ℕ → Type 0
+EndsText (Ok _) before after = before ≡ []
+EndsText (Err fault) before after = ((fault ≡ BadMagic) × (before ≡ [] → ⊥)) ⊎ IsOutsideFault fault

@@ -1,7 +1,10 @@
--- The laws that tie what a text spells to what is said of it.
-use Rattle.std.specs.Prelude.{◌≡◌, ◌⊎◌, ℕ, List, Some, None}
+-- The laws that tie what a text spells to what is said of it, and the laws of what is said.
+use Rattle.std.specs.Prelude.{◌≡◌, ◌↔◌, ◌⊎◌, ℕ, List, Some, None}
 use Rattle.pnm_image.specs.Images.{Image, messages_of_stream}
+use Rattle.pnm_image.specs.Messages.{EndsStream}
+use Rattle.pnm_image.specs.Places.{IsLawful}
 use Rattle.pnm_read.specs.declared.fault.InputFault.{InputFault}
+use Rattle.pnm_read.specs.declared.fault.InputFault.TheVariants.{ReadFailed, Memory}
 use Rattle.pnm_read.specs.Spelling.{Spells}
 use Rattle.pnm_read.specs.Said.{said_of, fault_of}
 
@@ -30,3 +33,18 @@ pub record IsAtFault (text : List ℕ) (fault : InputFault) : Type 0 where
 abbrev pub OneStreamOrOneFault : Type 0
 OneStreamOrOneFault =
     (text : List ℕ) → ((images : List Image) × SpellsOnly text images) ⊎ ((fault : InputFault) × IsAtFault text fault)
+
+-- what is said of any text may come in turn, also before a fault
+abbrev pub SaidIsLawful : Type 0
+SaidIsLawful =
+    (text : List ℕ) → IsLawful (said_of text)
+
+-- the end of the stream is said of a text exactly if the text has no fault
+abbrev pub EndIsSaidWithoutFault : Type 0
+EndIsSaidWithoutFault =
+    (text : List ℕ) → EndsStream (said_of text) ↔ (fault_of text ≡ None)
+
+-- the fault of a text is never one from outside: neither a failed read nor memory that ran out
+abbrev pub FaultsAreOfTexts : Type 0
+FaultsAreOfTexts =
+    (text : List ℕ) → (fault_of text ≡ Some ReadFailed → ⊥) × (fault_of text ≡ Some Memory → ⊥)

@@ -1,7 +1,8 @@
 //! A sample of a plain PGM or PPM raster, from pgm(5) and ppm(5), 'Plain PGM' and 'Plain PPM'.
 
 ghost use Rattle.std.specs.Prelude.{◌≡◌, ◌<◌, ◌≤◌, ◌-◌, [], not, ◌&&◌};
-ghost use Rattle.pnm_read.specs.declared.judgement.Judgement.TheVariants.{GoesOn};
+ghost use Rattle.pnm_read.specs.declared.judgement.Judgement.TheVariants.{GoesOn, Fails};
+ghost use Rattle.pnm_read.specs.declared.fault.InputFault.TheVariants.{ReadFailed};
 ghost use Rattle.pnm_read.specs.Texts.{is_digit};
 
 use crate::characters::{commented, is_apart, is_digit};
@@ -52,6 +53,7 @@ impl DecimalScanner {
     fn judge(&self, byte: u8) -> Judgement
         ensures judged { JudgesDecimal self.now byte result }
         ensures short { result ≡ GoesOn → self.now.length < 1048576 }
+        ensures of_text { result ≡ Fails ReadFailed → ⊥ }
     {
         let is_complete = self.in_number && !is_digit(byte);
         if self.length >= GAP_LIMIT && !is_complete {

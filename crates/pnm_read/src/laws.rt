@@ -1,7 +1,8 @@
 //! Laws of texts. Each stands over the definitions alone, as the contract of a function that does
 //! nothing.
 
-ghost use Rattle.pnm_read.specs.TextLaws.{SpelledIsSaid, SaidIsSpelled, OneStreamOrOneFault};
+ghost use Rattle.pnm_read.specs.Examples.{ExamplesHold};
+ghost use Rattle.pnm_read.specs.TextLaws.{SpelledIsSaid, SaidIsSpelled, OneStreamOrOneFault, SaidIsLawful, EndIsSaidWithoutFault, FaultsAreOfTexts};
 
 /// Of a text that spells images the messages of these images are said, without a fault.
 pub fn spelled_is_said()
@@ -16,4 +17,24 @@ pub fn said_is_spelled()
 /// A text spells exactly one list of images and has no fault, or spells none and has a fault.
 pub fn one_stream_or_one_fault()
     ensures { OneStreamOrOneFault }
+{}
+
+/// What is said of any text, also before a fault, may come in turn.
+pub fn said_is_lawful()
+    ensures { SaidIsLawful }
+{}
+
+/// The end of the stream is said of a text exactly if the text has no fault.
+pub fn end_is_said_without_fault()
+    ensures { EndIsSaidWithoutFault }
+{}
+
+/// The fault of a text is never one from outside: neither a failed read nor memory that ran out.
+pub fn faults_are_of_texts()
+    ensures { FaultsAreOfTexts }
+{}
+
+/// Small texts, as the definitions compute them.
+pub fn examples_hold()
+    ensures { ExamplesHold }
 {}

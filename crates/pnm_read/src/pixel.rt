@@ -1,7 +1,8 @@
 //! A pixel of a plain PBM raster, from pbm(5), 'Plain PBM'.
 
 ghost use Rattle.std.specs.Prelude.{◌≡◌, ◌<◌, ◌≤◌, ◌-◌, []};
-ghost use Rattle.pnm_read.specs.declared.judgement.Judgement.TheVariants.{GoesOn};
+ghost use Rattle.pnm_read.specs.declared.judgement.Judgement.TheVariants.{GoesOn, Fails};
+ghost use Rattle.pnm_read.specs.declared.fault.InputFault.TheVariants.{ReadFailed};
 
 use crate::characters::{commented, is_apart};
 use crate::decimal::GAP_LIMIT;
@@ -45,6 +46,7 @@ impl PixelScanner {
     fn judge(&self, byte: u8) -> Judgement
         ensures judged { JudgesPixel self.now byte result }
         ensures short { result ≡ GoesOn → self.now.length < 1048576 }
+        ensures of_text { result ≡ Fails ReadFailed → ⊥ }
     {
         let is_pixel = byte == b'0' || byte == b'1';
         if self.length >= GAP_LIMIT {

@@ -1,6 +1,6 @@
 //! How far a raster was read.
 
-ghost use Rattle.std.specs.Prelude.{◌≤◌};
+ghost use Rattle.std.specs.Prelude.{◌≡◌, ◌≤◌, ◌<◌, ◌+◌};
 
 use crate::format::Format;
 use pnm_image::Shape;
@@ -14,4 +14,35 @@ pub struct Raster {
     ghost within: { y ≤ shape.height },
     ghost width: { shape.width ≤ 1000000 },
     ghost maxval: { shape.maxval ≤ 65535 },
+}
+
+impl Raster {
+    /// A raster of which no row has passed.
+    pub fn new(format: Format, shape: Shape) -> Raster
+        requires width { shape.width ≤ 1000000 }
+        requires maxval { shape.maxval ≤ 65535 }
+        ensures format { result.format ≡ format }
+        ensures shape { result.shape ≡ shape }
+        ensures y { result.y ≡ 0 }
+    {
+        Raster {
+            format,
+            shape,
+            y: 0,
+        }
+    }
+
+    /// The raster after one row more.
+    pub fn after_row(self) -> Raster
+        requires { self.y < self.shape.height }
+        ensures format { result.format ≡ self.format }
+        ensures shape { result.shape ≡ self.shape }
+        ensures y { result.y ≡ self.y + 1 }
+    {
+        Raster {
+            format: self.format,
+            shape: self.shape,
+            y: self.y + 1,
+        }
+    }
 }

@@ -1,10 +1,11 @@
 //! The source of a stream: the bytes of a reader as messages.
 
-ghost use Rattle.std.specs.Prelude.{◌≡◌, ◌≤◌, ◌<◌, ◌⊎◌, [], true, false, OnOk, IfOk, IfErr, Err};
+ghost use Rattle.std.specs.Prelude.{◌≡◌, ◌≤◌, ◌<◌, ◌-◌, ◌⊎◌, [], true, false, OnOk, IfOk, IfErr, Err};
 ghost use Rattle.pnm_image.specs.Devices.{Failed};
 ghost use Rattle.pnm_read.specs.declared.fault.InputFault.TheVariants.{ReadFailed, Memory};
-ghost use Rattle.pnm_read.specs.Inputs.{Turn};
-ghost use Rattle.pnm_read.specs.Stages.{has_failed, Steps};
+ghost use Rattle.pnm_read.specs.Inputs.{Turn, Finds};
+ghost use Rattle.pnm_read.specs.Said.{row_at};
+ghost use Rattle.pnm_read.specs.Stages.{has_failed, Steps, EndsText};
 
 use crate::fault::InputFault;
 use crate::header::{read_format, read_head};
@@ -12,7 +13,7 @@ use crate::input::Input;
 use crate::plain;
 use crate::raster::Raster;
 use crate::raw;
-use pnm_image::{BytesIn, Message};
+use pnm_image::{BytesIn, Message, Samples};
 use std::alloc::Global;
 
 /// How far a source has come.
@@ -117,11 +118,7 @@ fn begin<R: BytesIn>(input: &mut Input<R>) -> Result<Step, InputFault>
 {
     let format = read_format(input)?;
     let head = read_head(input, format)?;
-    let raster = Raster {
-        format,
-        shape: head.shape(),
-        y: 0,
-    };
+    let raster = Raster::new(format, head.shape());
     Ok(Step {
         message: Some(Message::Begin(head)),
         stage: Stage::Rows(raster),
@@ -132,22 +129,29 @@ fn begin<R: BytesIn>(input: &mut Input<R>) -> Result<Step, InputFault>
 fn next_row<R: BytesIn>(input: &mut Input<R>, raster: Raster) -> Result<Step, InputFault>
     ensures { Turn R.left R.failures R.same input.old input.new result (Steps (Stage.Rows raster) result) }
 {
-    let Raster { format, shape, y } = raster;
-    if y == shape.height {
+    if raster.y == raster.shape.height {
         return Ok(Step {
             message: Some(Message::ImageEnd),
-            stage: Stage::End(format.is_plain),
+            stage: Stage::End(raster.format.is_plain),
         });
     }
-    let row = if format.is_plain {
-        plain::read_row(input, shape, shape.height - y - 1)?
-    } else {
-        raw::read_row(input, shape)?
-    };
+    let row = read_row(input, raster)?;
     Ok(Step {
         message: Some(Message::Row(row)),
-        stage: Stage::Rows(Raster { format, shape, y: y + 1 }),
+        stage: Stage::Rows(raster.after_row()),
     })
+}
+
+/// The samples of the next row.
+fn read_row<R: BytesIn>(input: &mut Input<R>, raster: Raster) -> Result<Samples, InputFault>
+    requires { raster.y < raster.shape.height }
+    ensures { Turn R.left R.failures R.same input.old input.new result (Finds (λ row. row) (row_at raster.format raster.shape (raster.shape.height - raster.y - 1)) result) }
+{
+    if raster.format.is_plain {
+        plain::read_row(input, raster.shape, raster.shape.height - raster.y - 1)
+    } else {
+        raw::read_row(input, raster.shape)
+    }
 }
 
 /// The end of the stream: a raw image is the last of the input; what follows a plain one is ignored.
@@ -155,13 +159,22 @@ fn end<R: BytesIn>(input: &mut Input<R>, is_plain: bool) -> Result<Step, InputFa
     ensures { Turn R.left R.failures R.same input.old input.new result (Steps (Stage.End is_plain) result) }
 {
     if !is_plain {
-        input.fill(1)?;
-        if !input.bytes().is_empty() {
-            return Err(InputFault::BadMagic);
-        }
+        check_nothing_left(input)?;
     }
     Ok(Step {
         message: Some(Message::StreamEnd),
         stage: Stage::Ended,
     })
+}
+
+/// Nothing may follow a raw image.
+fn check_nothing_left<R: BytesIn>(input: &mut Input<R>) -> Result<(), InputFault>
+    ensures { Turn R.left R.failures R.same input.old input.new result (EndsText result) }
+{
+    input.fill(1)?;
+    if input.bytes().is_empty() {
+        Ok(())
+    } else {
+        Err(InputFault::BadMagic)
+    }
 }

@@ -1,0 +1,9 @@
+use Rattle.pnm_read.proofs.RawSteps.{ReadingUnits}
+use Rattle.pnm_read.proofs.raw.read_units.Given as goal
+
+abbrev pub invariant-loop-left : goal.invariant-loop-left
+invariant-loop-left g l =
+    ReadingUnits g.R.BytesIn.left g.R.BytesIn.failures g.R.BytesIn.same l.packing l.shape.maxval l.initial.left l.left l.row.items l.initial.input l.input
+
+abbrev pub decreases-loop-left : goal.decreases-loop-left
+decreases-loop-left g l = l.left

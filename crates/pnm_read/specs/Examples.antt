@@ -1,0 +1,39 @@
+-- Small texts, and what is said of them.
+use Rattle.std.specs.Prelude.{◌≡◌, ℕ, List, [], ◌∷◌, ◌++◌, map, Some, None, codes}
+use Rattle.pnm_image.specs.declared.shape.Kind.{Kind}
+use Rattle.pnm_image.specs.declared.shape.Kind.TheVariants.{Bit, Gray, Color}
+use Rattle.pnm_image.specs.declared.message.Message.{Message}
+use Rattle.pnm_image.specs.declared.message.Message.TheVariants.{Begin, Row, ImageEnd, StreamEnd}
+use Rattle.pnm_read.specs.declared.fault.InputFault.TheVariants.{EmptyInput, BadMagic, HeaderCut, BadNumber, ZeroSize, RasterCut, SampleAboveMaxval, BadSample}
+use Rattle.pnm_read.specs.Said.{Said, said, fault_of}
+
+-- the head of a kind, a width, a height, a depth and a maxval
+abbrev pub head : Kind → ℕ → ℕ → ℕ → ℕ → Message
+head kind width height depth maxval =
+    Begin (record { shape = record { kind = kind; width = width; height = height; depth = depth; maxval = maxval }; tuple_type = [] })
+
+-- the messages of an image, without a fault
+abbrev pub image : Message → List (List ℕ) → Said
+image begin rows = record { messages = begin ∷ (map Row rows ++ ImageEnd ∷ StreamEnd ∷ []); fault = None }
+
+pub record ExamplesHold : Type 0 where
+  pub plain_bits : said (codes "P1\n# j\n3 2\n101\n010\n") ≡ image (head Bit 3 2 1 1) ((0 ∷ 1 ∷ 0 ∷ []) ∷ (1 ∷ 0 ∷ 1 ∷ []) ∷ [])
+  pub spare_bits : said (codes "P4\n9 1\n" ++ 255 ∷ 255 ∷ []) ≡ image (head Bit 9 1 1 1) ((0 ∷ 0 ∷ 0 ∷ 0 ∷ 0 ∷ 0 ∷ 0 ∷ 0 ∷ 0 ∷ []) ∷ [])
+  pub plain_color : said (codes "P3 1 1 255 10 20 30") ≡ image (head Color 1 1 3 255) ((10 ∷ 20 ∷ 30 ∷ []) ∷ [])
+  pub comment_after_sample : said (codes "P3 1 1 9 1#c\n2 3") ≡ image (head Color 1 1 3 9) ((1 ∷ 2 ∷ 3 ∷ []) ∷ [])
+  pub pixel_after_last : said (codes "P1 2 2\n10011") ≡ record { messages = head Bit 2 2 1 1 ∷ Row (0 ∷ 1 ∷ []) ∷ []; fault = Some BadSample }
+  pub wide_above : said (codes "P5\n1 1\n300\n" ++ 1 ∷ 45 ∷ []) ≡ record { messages = head Gray 1 1 1 300 ∷ []; fault = Some SampleAboveMaxval }
+  pub comment_in_number : said (codes "P5\n1#x\n0 1\n255\nABCDEFGHIJ") ≡ image (head Gray 10 1 1 255) (codes "ABCDEFGHIJ" ∷ [])
+  pub comment_after_maxval : said (codes "P5\n1 1\n255#c\n\nA") ≡ image (head Gray 1 1 1 255) ((65 ∷ []) ∷ [])
+  pub after_plain : said (codes "P2 1 1 9 5 junk") ≡ image (head Gray 1 1 1 9) ((5 ∷ []) ∷ [])
+  pub letter_after_last : fault_of (codes "P2 1 1 9 5x") ≡ Some BadSample
+  pub letter_after_above : fault_of (codes "P2 1 1 9 10x") ≡ Some BadSample
+  pub comment_after_above : fault_of (codes "P2 1 1 9 10#") ≡ Some SampleAboveMaxval
+  pub no_width : fault_of (codes "P5 0 1 9\n") ≡ Some ZeroSize
+  pub letter : fault_of (codes "P5 1 x") ≡ Some BadNumber
+  pub half_magic : fault_of (codes "P") ≡ Some HeaderCut
+  pub other_magic : fault_of (codes "P8") ≡ Some BadMagic
+  pub other_digit : fault_of (codes "P1 1 1 2") ≡ Some BadSample
+  pub empty : fault_of [] ≡ Some EmptyInput
+  pub cut_raster : said (codes "P5 1 2 9\n" ++ 5 ∷ []) ≡ record { messages = head Gray 1 2 1 9 ∷ Row (5 ∷ []) ∷ []; fault = Some RasterCut }
+  pub byte_after_raw : said (codes "P5 1 1 9\n" ++ 5 ∷ 80 ∷ []) ≡ record { messages = head Gray 1 1 1 9 ∷ Row (5 ∷ []) ∷ ImageEnd ∷ []; fault = Some BadMagic }
