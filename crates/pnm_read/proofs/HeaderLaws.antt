@@ -119,7 +119,7 @@ so_far-white count before b s outside white others begins =
       counted = rw (numbers-white before b outside white) (record { within = s.counted.within; fewer = λ e. less });
     }
 
-pub digit_counted : (count : ℕ) (before : List ℕ) (b : ℕ) (goes_on : Bool) → ends_in_word (uncommented before) ≡ goes_on → Counted count (length (numbers_in before)) goes_on → ends_in_comment before ≡ false → is_digit b ≡ true → length (numbers_in (before ++ b ∷ [])) ≤ count
+digit_counted : (count : ℕ) (before : List ℕ) (b : ℕ) (goes_on : Bool) → ends_in_word (uncommented before) ≡ goes_on → Counted count (length (numbers_in before)) goes_on → ends_in_comment before ≡ false → is_digit b ≡ true → length (numbers_in (before ++ b ∷ [])) ≤ count
 digit_counted count before b true e c outside digit =
     let n = numbers-next before b outside digit e in
     let old : length (numbers_in before) ≡ length n.0 + 1 = ap (λ (t : List ℕ). length t) n.2 ∙ length-append n.0 (n.1 ∷ []) in

@@ -1,5 +1,5 @@
 -- The scanner of a header, byte by byte.
-use Rattle.std.proofs.Common.{◌≡◌, ◌⊎◌, inl, inr, ℕ, ◌+◌, ◌-◌, ◌*◌, ◌<◌, ◌≤◌, Bool, true, false, not, ◌&&◌, ◌||◌, ◌==◌, if◌then◌else◌, List, [], ◌∷◌, ◌++◌, length, map, drop, refl, sym, ap, subst, ◌∙◌, arith}
+use Rattle.std.proofs.Common.{◌≡◌, ◌⊎◌, inl, inr, ℕ, ◌+◌, ◌-◌, ◌*◌, ◌<◌, ◌≤◌, Bool, true, false, not, ◌&&◌, ◌||◌, ◌==◌, List, [], ◌∷◌, ◌++◌, length, map, drop, refl, sym, ap, subst, ◌∙◌, arith}
 use Rattle.std.specs.Prelude.{nat_le, slice_index}
 use Rattle.std.specs.List.{AllPass}
 use Rattle.std.proofs.lemmas.Bool.{eqb-true, eqb-false}
@@ -9,10 +9,10 @@ use Rattle.std.proofs.lemmas.List.Elements.{All-nil}
 use Rattle.pnm_read.specs.declared.judgement.Judgement.{Judgement}
 use Rattle.pnm_read.specs.declared.judgement.Judgement.TheVariants.{GoesOn, EndsWith, EndsBefore, Fails}
 use Rattle.pnm_read.specs.declared.header.HeaderScanner.{HeaderScanner}
-use Rattle.pnm_read.specs.Texts.{is_white, is_digit, is_apart, commented, commented_after, ends_in_comment, ends_by, ends_in_word, uncommented, uncommented_from, words, numbers_in}
+use Rattle.pnm_read.specs.Texts.{is_white, is_digit, is_apart, commented, commented_after, ends_in_comment, ends_by, uncommented_from, words, numbers_in}
 use Rattle.pnm_read.specs.Items.{header_limit, is_bad_in_header, is_delimiter, header_item}
 use Rattle.pnm_read.specs.Scans.{JudgesByte}
-use Rattle.pnm_read.specs.Saturation.{saturated, with_digit, IsNumbers}
+use Rattle.pnm_read.specs.Saturation.{saturated, with_digit}
 use Rattle.pnm_read.specs.Scanners.{IsHeaderFresh, IsHeaderAfter, IsHeaderWhole, JudgesHeader, PushesHeader, is_numeral, pushed}
 use Rattle.pnm_read.proofs.CommentLaws.{commented_after-push}
 use Rattle.pnm_read.proofs.WordLaws.{uncommented-comment, numbers-white, numbers-comment, numbers-first, numbers-next, ends_in_word-white, ends_in_word-comment, ends_in_word-digit, white_is_not_digit, white_is_not_sharp, digit_is_not_sharp}

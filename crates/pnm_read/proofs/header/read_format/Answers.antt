@@ -1,4 +1,4 @@
-use Rattle.std.proofs.Common.{List, ℕ, inl, inr, sym, ◌∙◌, ap, Some, Err}
+use Rattle.std.proofs.Common.{ℕ, inl, inr, ◌∙◌, ap, Some, Err}
 use Rattle.std.proofs.lemmas.Result.{err_from_is_err_and}
 use Rattle.pnm_read.specs.declared.fault.InputFault.TheVariants.{EmptyInput, BadMagic, HeaderCut}
 use Rattle.pnm_read.proofs.Turns.{turn_then, turn_ok_so, turn_err_so}

@@ -1,4 +1,4 @@
-use Rattle.std.proofs.Common.{rules, arith, ◌≤◌, [], length, refl}
+use Rattle.std.proofs.Common.{rules, ◌≤◌, [], length, refl}
 use Rattle.std.proofs.lemmas.Result.{err_from_is_err_and}
 use Rattle.pnm_read.proofs.Turns.{turn_ok_so, turn_err_so}
 use Rattle.pnm_read.proofs.HeadSteps.{head_found, head_of_text, head_missed}
