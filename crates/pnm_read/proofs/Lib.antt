@@ -20,4 +20,5 @@ pub mod SaidLaws
 pub mod FaultLaws
 pub mod PartLaws
 pub mod RawSteps
+pub mod PlainSteps
 pub mod SourceSteps
