@@ -10,7 +10,7 @@ use Rattle.pnm_read.specs.declared.source.Step.{Step}
 use Rattle.pnm_read.specs.declared.source.Source.{Source}
 use Rattle.pnm_read.specs.Said.{Said, said, says_fault}
 use Rattle.pnm_read.specs.Inputs.{Turn, held_of, CanCome, EndsRightly}
-use Rattle.pnm_read.specs.Stages.{Steps, stage_due, has_failed}
+use Rattle.pnm_read.specs.Stages.{Steps, stage_due, stage_fault}
 use Rattle.pnm_read.specs.Sources.{IsFresh, Tells, SaysAnswer, due, MayGive, SeesEnd}
 use Rattle.pnm_read.proofs.Gathered.{consumes_nothing}
 
@@ -24,7 +24,7 @@ fresh_source reader s r held ended stage = record {
     due_is = λ text. rw (stage, held) refl;
     gives = λ text e. ended_not s.input.ended ended e;
     end = λ left e. ended_not s.input.ended ended e;
-    going = ap has_failed stage;
+    going = ap stage_fault stage;
   }
 
 -- a step gave the next of what was to be said
@@ -34,7 +34,7 @@ tells_step old new step stage t = record {
     read = t.read;
     consumed = t.consumed;
     comes = t.comes;
-    says = λ rest c. subst (λ (s : Stage). SaysAnswer (stage_due old.stage (held_of old.input ++ (t.read ++ rest))) (Ok step.message) (stage_due s (held_of new.input ++ rest))) (sym stage) (t.told rest c).0;
+    says = λ rest c. subst (λ (s : Stage). SaysAnswer (stage_due old.stage (held_of old.input ++ (t.read ++ rest))) (Ok step.message) (stage_due s (held_of new.input ++ rest))) (sym stage) (t.told rest c);
   }
 
 -- a step answered a fault

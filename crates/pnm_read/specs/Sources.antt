@@ -6,14 +6,18 @@ use Rattle.pnm_read.specs.declared.fault.InputFault.{InputFault}
 use Rattle.pnm_read.specs.declared.source.Source.{Source}
 use Rattle.pnm_read.specs.Said.{Said, said, says_fault}
 use Rattle.pnm_read.specs.Inputs.{IsOutsideFault, held_of, CanCome, EndsRightly}
-use Rattle.pnm_read.specs.Stages.{stage_due, has_failed, SaysNext}
+use Rattle.pnm_read.specs.Stages.{stage_due, stage_fault, is_ended, SaysNext}
 
 abbrev pub reader_of : {R : Type 0} → Source R → R
 reader_of s = s.input.reader
 
--- there was a fault
-abbrev pub has_stopped : {R : Type 0} → Source R → Bool
-has_stopped s = has_failed s.stage
+-- the fault that a source has stopped with, if any
+abbrev pub stopped_by : {R : Type 0} → Source R → Option InputFault
+stopped_by s = stage_fault s.stage
+
+-- the end of the stream was given
+abbrev pub has_ended : {R : Type 0} → Source R → Bool
+has_ended s = is_ended s.stage
 
 -- what a source has still to say, where its reader still gives these bytes
 unfoldable pub due : {R : Type 0} → Source R → List ℕ → Said
@@ -33,7 +37,7 @@ pub record IsFresh {R : Type 0} (reader : R) (s : Source R) : Type 0 where
   pub due_is : (text : List ℕ) → due s text ≡ said text
   pub gives : (text : List ℕ) → MayGive s text
   pub end : (left : R → Option (List ℕ)) → SeesEnd left s
-  pub going : has_stopped s ≡ false
+  pub going : stopped_by s ≡ None
 
 -- an answer is the next of what was to be said, and leaves the rest; a fault is what was to be said, or comes
 -- from outside, and stays

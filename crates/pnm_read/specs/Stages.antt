@@ -18,13 +18,21 @@ stage_due (End is_plain) text = end_said is_plain text
 stage_due Ended text = says_nothing
 stage_due (Failed fault) text = says_fault fault
 
--- there was a fault
-abbrev pub has_failed : Stage → Bool
-has_failed Start = false
-has_failed (Rows raster) = false
-has_failed (End is_plain) = false
-has_failed Ended = false
-has_failed (Failed fault) = true
+-- the fault that there was, if any
+abbrev pub stage_fault : Stage → Option InputFault
+stage_fault Start = None
+stage_fault (Rows raster) = None
+stage_fault (End is_plain) = None
+stage_fault Ended = None
+stage_fault (Failed fault) = Some fault
+
+-- the stream has ended
+abbrev pub is_ended : Stage → Bool
+is_ended Start = false
+is_ended (Rows raster) = false
+is_ended (End is_plain) = false
+is_ended Ended = true
+is_ended (Failed fault) = false
 
 -- an answer is the next of what was to be said, and leaves the rest
 abbrev pub SaysNext : Said → Option Message → Said → Type 0
@@ -33,7 +41,7 @@ SaysNext old None new = (old ≡ says_nothing) × (new ≡ says_nothing)
 
 -- what a step at a stage answers: the next of what was to be said, or the fault
 abbrev pub Steps : Stage → Result Step InputFault → List ℕ → List ℕ → Type 0
-Steps stage (Ok step) before after = SaysNext (stage_due stage before) step.message (stage_due step.stage after) × (has_failed step.stage ≡ false)
+Steps stage (Ok step) before after = SaysNext (stage_due stage before) step.message (stage_due step.stage after)
 Steps stage (Err fault) before after = (stage_due stage before ≡ says_fault fault) ⊎ IsOutsideFault fault
 
 -- the text has ended; or it goes on after a raw image

@@ -1,11 +1,13 @@
 //! The source of a stream: the bytes of a reader as messages.
 
-ghost use Rattle.std.specs.Prelude.{◌≡◌, ◌≤◌, ◌<◌, ◌-◌, ◌⊎◌, [], true, false, OnOk, IfOk, IfErr, Err};
+ghost use Rattle.std.specs.Prelude.{◌≡◌, ◌≤◌, ◌<◌, ◌-◌, ◌⊎◌, true, Some, None, Ok, Err, OnOk, IfOk, IfErr};
 ghost use Rattle.pnm_image.specs.Devices.{Failed};
+ghost use Rattle.pnm_image.specs.declared.message.Message.TheVariants.{StreamEnd};
+ghost use Rattle.pnm_read.specs.declared.fault.InputFault.{InputFault as Fault};
 ghost use Rattle.pnm_read.specs.declared.fault.InputFault.TheVariants.{ReadFailed, Memory};
 ghost use Rattle.pnm_read.specs.Inputs.{Turn, Finds};
 ghost use Rattle.pnm_read.specs.Said.{row_at};
-ghost use Rattle.pnm_read.specs.Stages.{has_failed, Steps, EndsText};
+ghost use Rattle.pnm_read.specs.Stages.{stage_fault, Steps, EndsText};
 
 use crate::fault::InputFault;
 use crate::header::{read_format, read_head};
@@ -46,7 +48,7 @@ pub struct Source<R> {
 }
 
 impl<R: BytesIn> Source<R> {
-    ghost use Rattle.pnm_read.specs.Sources.{IsFresh, Tells, SeesEnd, has_stopped, reader_of};
+    ghost use Rattle.pnm_read.specs.Sources.{IsFresh, Tells, SeesEnd, stopped_by, has_ended, reader_of};
 
     /// A source over the reader. It reads nothing. The only fault is `Memory`.
     pub fn new(alloc: Global, reader: R) -> Result<Source<R>, InputFault>
@@ -64,12 +66,20 @@ impl<R: BytesIn> Source<R> {
     /// The next message; `None` after the end of the stream, for good. After a fault it answers the
     /// same fault and reads nothing.
     pub fn next(&mut self) -> Result<Option<Message>, InputFault>
+        // What is said of the text comes in turn, and then its end or its fault.
         ensures told { Tells R.left self.old result self.new }
         ensures end { SeesEnd R.left self.old → SeesEnd R.left self.new }
-        ensures stays { has_stopped self.old ≡ true → reader_of self.new ≡ reader_of self.old }
+
+        // The end and a fault stay.
+        ensures ended { result ≡ Ok (Some StreamEnd) → has_ended self.new ≡ true }
+        ensures for_good { has_ended self.old ≡ true → (result ≡ Ok None) × (self.new ≡ self.old) }
+        ensures stopped { IfErr result (λ fault. stopped_by self.new ≡ Some fault) }
+        ensures stays { (fault : Fault) → stopped_by self.old ≡ Some fault → (result ≡ Err fault) × (self.new ≡ self.old) }
+
+        // The reader.
         ensures same_device { R.same (reader_of self.old) (reader_of self.new) }
         ensures count { OnOk result (R.failures (reader_of self.new) ≡ R.failures (reader_of self.old)) }
-        ensures read_failed { result ≡ Err ReadFailed → (has_stopped self.old ≡ true) ⊎ Failed (R.failures (reader_of self.old)) (R.failures (reader_of self.new)) }
+        ensures read_failed { result ≡ Err ReadFailed → (stopped_by self.old ≡ Some ReadFailed) ⊎ Failed (R.failures (reader_of self.old)) (R.failures (reader_of self.new)) }
     {
         if let Stage::Failed(fault) = self.stage {
             return Err(fault);
@@ -96,7 +106,7 @@ impl<R: BytesIn> Source<R> {
 
 /// The next answer at a stage.
 fn step_at<R: BytesIn>(input: &mut Input<R>, stage: Stage) -> Result<Step, InputFault>
-    requires { has_failed stage ≡ false }
+    requires { stage_fault stage ≡ None }
     ensures { Turn R.left R.failures R.same input.old input.new result (Steps stage result) }
 {
     match stage {
