@@ -1,7 +1,8 @@
 //! The header of a PNM image, from pbm(5), pgm(5) and ppm(5).
 
 ghost use Rattle.std.specs.Prelude.{◌≡◌, ◌≤◌, ◌<◌, ◌==◌, ◌-◌, ◌++◌, [], ◌∷◌, List, ℕ, Some, not, ◌&&◌, ◌||◌};
-ghost use Rattle.pnm_read.specs.declared.judgement.Judgement.TheVariants.{GoesOn};
+ghost use Rattle.pnm_read.specs.declared.judgement.Judgement.TheVariants.{GoesOn, Fails};
+ghost use Rattle.pnm_read.specs.declared.fault.InputFault.TheVariants.{ReadFailed};
 ghost use Rattle.pnm_read.specs.Texts.{is_digit, is_apart};
 ghost use Rattle.pnm_read.specs.Formats.{shape_of, number_count};
 ghost use Rattle.pnm_read.specs.Items.{fault_of_head, numbers_item};
@@ -114,6 +115,7 @@ impl HeaderScanner {
     fn judge(&self, byte: u8) -> Judgement
         ensures judged { JudgesHeader self.now byte result }
         ensures short { result ≡ GoesOn → self.now.length < 65534 }
+        ensures of_text { result ≡ Fails ReadFailed → ⊥ }
     {
         if self.length >= HEADER_LIMIT {
             Judgement::Fails(InputFault::TooLong)
