@@ -1,5 +1,5 @@
 -- Items of a text in turn, of which some were read already.
-use Rattle.std.proofs.Common.{◌≡◌, ℕ, zero, ◌+◌, ◌-◌, ◌≤◌, List, [], ◌++◌, Result, Ok, Err, refl, sym, ap, ◌∙◌, append_assoc, arith}
+use Rattle.std.proofs.Common.{◌≡◌, ℕ, zero, ◌+◌, ◌-◌, ◌≤◌, List, [], ◌∷◌, ◌++◌, Result, Ok, Err, refl, sym, ap, ◌∙◌, append_assoc, arith}
 use Rattle.std.proofs.lemmas.List.{append-nil}
 use Rattle.pnm_read.specs.declared.fault.InputFault.{InputFault}
 use Rattle.pnm_read.specs.Items.{◌>>=◌}
@@ -49,3 +49,13 @@ pub part_is_read : {A : Type 0} (item : List ℕ → Result (A × List ℕ) Inpu
 part_is_read item all more n items found text now rest most e known =
     let split : more ≡ n + (more - n) = omega arith in
     known ∙ ap (λ (m : ℕ). and_turns item m items now) split ∙ some_are_read item n (more - n) items found now rest e
+
+-- ---- one item
+
+pub one_is_read : {A : Type 0} (item : List ℕ → Result (A × List ℕ) InputFault) (found : A) (text rest : List ℕ) → item text ≡ Ok (found, rest) → in_turn item 1 text ≡ Ok (found ∷ [], rest)
+unfolding in_turn
+one_is_read item found text rest e = rw e refl
+
+pub one_fails : {A : Type 0} (item : List ℕ → Result (A × List ℕ) InputFault) (text : List ℕ) (k : InputFault) → item text ≡ Err k → in_turn item 1 text ≡ Err k
+unfolding in_turn
+one_fails item text k e = rw e refl

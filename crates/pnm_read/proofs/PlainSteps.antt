@@ -1,19 +1,24 @@
 -- How the samples of a plain raster are read from an input.
-use Rattle.std.proofs.Common.{◌≡◌, ℕ, ◌<◌, ◌≤◌, Bool, true, if◌then◌else◌, List, [], ◌∷◌, ◌++◌, Option, Some, Result, Ok, Err, inl, inr, sym, ap, ◌∙◌, arith}
+use Rattle.std.proofs.Common.{◌≡◌, ℕ, zero, suc, ◌-◌, ◌<◌, ◌≤◌, Bool, true, if◌then◌else◌, List, [], ◌∷◌, ◌++◌, Option, Some, Result, Ok, Err, inl, inr, refl, sym, ap, ap₂, subst, ◌∙◌, arith}
 use Rattle.std.specs.Prelude.{slice_get}
 use Rattle.std.proofs.lemmas.Bool.{le-leb, lt-leb}
+use Rattle.pnm_image.specs.declared.shape.Shape.{Shape}
+use Rattle.pnm_image.specs.Heads.{row_length}
 use Rattle.pnm_read.specs.declared.fault.InputFault.{InputFault}
-use Rattle.pnm_read.specs.declared.fault.InputFault.TheVariants.{ReadFailed, SampleAboveMaxval, BadSample}
+use Rattle.pnm_read.specs.declared.fault.InputFault.TheVariants.{ReadFailed, Memory, SampleAboveMaxval, BadSample}
 use Rattle.pnm_read.specs.declared.input.Input.{Input}
 use Rattle.pnm_read.specs.declared.decimal.DecimalScanner.{DecimalScanner}
 use Rattle.pnm_read.specs.declared.pixel.PixelScanner.{PixelScanner}
 use Rattle.pnm_read.specs.Texts.{is_apart, begins_apart, number_in}
 use Rattle.pnm_read.specs.Saturation.{saturated}
-use Rattle.pnm_read.specs.Items.{◌>>=◌, pixel_item, pixel_end, pixel_in, plain_pixel, decimal_item, decimal_end, sample_item, plain_decimal, after_last_item}
+use Rattle.pnm_read.specs.Items.{◌>>=◌, pixel_item, pixel_end, pixel_in, plain_pixel, decimal_item, decimal_end, sample_item, plain_decimal, plain_sample, after_last_item}
+use Rattle.pnm_read.specs.Said.{in_turn, plain_row, last_plain_row, row_by}
 use Rattle.pnm_read.specs.Scans.{Scans, ScansAfter}
 use Rattle.pnm_read.specs.Scanners.{IsPixelAfter, IsPixelWhole, IsDecimalAfter, IsDecimalWhole}
 use Rattle.pnm_read.specs.Inputs.{Turn, Finds, Fills, ChecksEnd, held_of}
-use Rattle.pnm_read.proofs.Turns.{no_fault, turn_ok_so, turn_err_so, turn_seen}
+use Rattle.pnm_read.proofs.UnitLaws.{and_turns}
+use Rattle.pnm_read.proofs.PartLaws.{all_are_left, part_is_read, part_fails, none_are_left, one_is_read, one_fails}
+use Rattle.pnm_read.proofs.Turns.{no_fault, turn_then, turn_ok_so, turn_err_so, turn_taken, turn_seen}
 
 -- a sample, and what is left of the text
 abbrev sample_done : ℕ → List ℕ → Result (ℕ × List ℕ) InputFault
@@ -112,3 +117,128 @@ end_goes_on {mid = mid} byte bytes held first apart t =
       let whole : b ≡ bytes ++ o.1.0 = o.0 ∙ o.1.2 ∙ ap (λ (l : List ℕ). l ++ o.1.0) (sym held) in
       ap (λ (t : Bool). end_if t b) (ap begins_apart whole ∙ begins_by byte bytes o.1.0 first ∙ apart) ∙ ap (λ (l : List ℕ). Ok l) o.0)
     (turn_seen t)
+
+-- ---- the samples of a row
+
+-- a sample of the shape's kind
+abbrev pub sample_of : Shape → List ℕ → Result (ℕ × List ℕ) InputFault
+sample_of s = plain_sample s.kind s.maxval
+
+-- These samples were read, and so many are left.
+abbrev SamplesFrom : Shape → ℕ → ℕ → List ℕ → List ℕ → List ℕ → Type 0
+SamplesFrom s all more samples text left = in_turn (sample_of s) all text ≡ and_turns (sample_of s) more samples left
+
+pub record ReadingSamples {R : Type 0} (left : R → Option (List ℕ)) (failures : R → ℕ) (same : R → R → Type 0) (s : Shape) (all more : ℕ) (samples : List ℕ) (old now : Input R) : Type 0 where
+  pub turn : Turn {A = Unit {0}} left failures same old now (Ok tt) (SamplesFrom s all more samples)
+
+pub samples_begin : {R : Type 0} {left : R → Option (List ℕ)} {failures : R → ℕ} {same : R → R → Type 0} (s : Shape) (all more : ℕ) (samples : List ℕ) (input : Input R) → ((a : R) → same a a) → more ≡ all → samples ≡ []
+    → ReadingSamples left failures same s all more samples input input
+samples_begin s all more samples input at_once is_all none = record {
+    turn = turn_ok_so {A = Unit {0}} {B = Unit {0}} tt (Ok tt) (no_fault tt ReadFailed)
+    (λ b a e. ap (in_turn (sample_of s) all) e ∙ all_are_left (sample_of s) all a ∙ ap₂ (λ (n : ℕ) (l : List ℕ). and_turns (sample_of s) n l a) (sym is_all) (sym none))
+    (turn_taken {A = Unit {0}} {result = Ok tt} [] at_once (no_fault tt ReadFailed) refl refl refl);
+  }
+
+no_sample : (s : Shape) (more : ℕ) (samples : List ℕ) (k : InputFault) (b m a : List ℕ) → 0 < more → SamplesFrom s (row_length s) more samples b m → Finds (λ (sample : ℕ). sample) (sample_of s) (Err k) m a
+    → Finds (λ (row : List ℕ). row) (plain_row s) (Err k) b a
+unfolding plain_row
+no_sample s more samples k b m a some known (inl e) = inl (part_fails (sample_of s) (row_length s) more 1 samples b m k some (one_fails (sample_of s) m k e) known)
+no_sample s more samples k b m a some known (inr outside) = inr outside
+
+-- a sample is at fault, or can't be read
+pub samples_fault : {R : Type 0} {left : R → Option (List ℕ)} {failures : R → ℕ} {same : R → R → Type 0} {s : Shape} {all more : ℕ} {samples : List ℕ} {old now new : Input R}
+    (k : InputFault) → ((a b c : R) → same a b → same b c → same a c) → ReadingSamples left failures same s all more samples old now → all ≡ row_length s → 0 < more
+    → Turn {A = ℕ} left failures same now new (Err k) (Finds (λ (sample : ℕ). sample) (sample_of s) (Err k))
+    → Turn {A = List ℕ} left failures same old new (Err k) (Finds (λ (row : List ℕ). row) (plain_row s) (Err k))
+samples_fault {s = s} {more = more} {samples = samples} k later r is_all some t =
+    turn_err_so {A = ℕ} {B = List ℕ} k
+    (λ b a o. no_sample s more samples k b o.0 a some (subst (λ (n : ℕ). SamplesFrom s n more samples b o.0) is_all o.1) o.2)
+    (turn_then {A = Unit {0}} {B = ℕ} tt later r.turn t)
+
+-- memory ran out
+pub samples_no_memory : {R : Type 0} {left : R → Option (List ℕ)} {failures : R → ℕ} {same : R → R → Type 0} {s : Shape} {all more : ℕ} {samples : List ℕ} {old now new : Input R}
+    (sample : ℕ) → ((a b c : R) → same a b → same b c → same a c) → ReadingSamples left failures same s all more samples old now
+    → Turn {A = ℕ} left failures same now new (Ok sample) (Finds (λ (sample : ℕ). sample) (sample_of s) (Ok sample))
+    → Turn {A = List ℕ} left failures same old new (Err Memory) (Finds (λ (row : List ℕ). row) (plain_row s) (Err Memory))
+samples_no_memory sample later r t = turn_ok_so {A = ℕ} {B = List ℕ} sample (Err Memory) (λ e. absurd cc) (λ b a o. inr (inr refl)) (turn_then {A = Unit {0}} {B = ℕ} tt later r.turn t)
+
+-- a sample more was read
+pub samples_more : {R : Type 0} {left : R → Option (List ℕ)} {failures : R → ℕ} {same : R → R → Type 0} {s : Shape} {all more : ℕ} {samples : List ℕ} {old now new : Input R}
+    (sample fewer : ℕ) (others : List ℕ) → ((a b c : R) → same a b → same b c → same a c) → ReadingSamples left failures same s all more samples old now → 0 < more → fewer ≡ more - 1 → others ≡ samples ++ sample ∷ []
+    → Turn {A = ℕ} left failures same now new (Ok sample) (Finds (λ (sample : ℕ). sample) (sample_of s) (Ok sample))
+    → ReadingSamples left failures same s all fewer others old new
+samples_more {s = s} {all = all} {more = more} {samples = samples} sample fewer others later r some is_fewer are_others t = record {
+    turn = turn_ok_so {A = ℕ} {B = Unit {0}} sample (Ok tt) (no_fault tt ReadFailed) (λ b a o.
+      part_is_read (sample_of s) all more 1 samples (sample ∷ []) b o.0 a some (one_is_read (sample_of s) sample o.0 a o.2) o.1
+      ∙ ap₂ (λ (n : ℕ) (l : List ℕ). and_turns (sample_of s) n l a) (sym is_fewer) (sym are_others))
+    (turn_then {A = Unit {0}} {B = ℕ} tt later r.turn t);
+  }
+
+-- all samples were read
+pub samples_read : {R : Type 0} {left : R → Option (List ℕ)} {failures : R → ℕ} {same : R → R → Type 0} {s : Shape} {all more : ℕ} {samples : List ℕ} {old now : Input R}
+    (row : List ℕ) → ReadingSamples left failures same s all more samples old now → all ≡ row_length s → more ≡ 0 → row ≡ samples
+    → Turn {A = List ℕ} left failures same old now (Ok row) (Finds (λ (row : List ℕ). row) (plain_row s) (Ok row))
+unfolding plain_row
+samples_read {s = s} row r is_all none is_row =
+    turn_ok_so {A = Unit {0}} {B = List ℕ} tt (Ok row) (no_fault row ReadFailed)
+    (λ b a o.
+      ap (λ (n : ℕ). in_turn (sample_of s) n b) (sym is_all) ∙ o ∙ ap₂ (λ (n : ℕ) (l : List ℕ). and_turns (sample_of s) n l a) none (sym is_row)
+      ∙ none_are_left (sample_of s) row a)
+    r.turn
+
+-- ---- a row, and the end after the last one
+
+-- a row, and what is left of the text
+abbrev Row : Type 0
+Row = Result (List ℕ × List ℕ) InputFault
+
+abbrev row_done : List ℕ → List ℕ → Row
+row_done row rest = Ok (row, rest)
+
+-- the row with the end after it
+abbrev row_then : List ℕ → Result (List ℕ) InputFault → Row
+row_then row end = end >>= λ rest. row_done row rest
+
+abbrev last_of : Row → Row
+last_of found = found >>= λ row. row_then row.0 (after_last_item row.1)
+
+-- the last row is followed by the end
+last_row : (s : Shape) (more : ℕ) (text : List ℕ) → more ≡ 0 → row_by true s more text ≡ last_of (plain_row s text)
+unfolding last_plain_row
+last_row s zero text none = refl
+last_row s (suc more) text none = absurd (omega arith)
+
+earlier_row : (s : Shape) (more : ℕ) (text : List ℕ) → 0 < more → row_by true s more text ≡ plain_row s text
+earlier_row s zero text some = absurd (omega arith)
+earlier_row s (suc more) text some = refl
+
+-- a row at fault is so wherever it stands
+no_row : (s : Shape) (more : ℕ) (k : InputFault) (b a : List ℕ) → Finds (λ (row : List ℕ). row) (plain_row s) (Err k) b a → Finds (λ (row : List ℕ). row) (row_by true s more) (Err k) b a
+no_row s zero k b a (inl e) = inl (last_row s zero b refl ∙ ap last_of e)
+no_row s (suc more) k b a (inl e) = inl e
+no_row s more k b a (inr outside) = inr outside
+
+pub row_fault : {R : Type 0} {left : R → Option (List ℕ)} {failures : R → ℕ} {same : R → R → Type 0} {old new : Input R} (s : Shape) (more : ℕ) (k : InputFault)
+    → Turn {A = List ℕ} left failures same old new (Err k) (Finds (λ (row : List ℕ). row) (plain_row s) (Err k)) → Turn {A = List ℕ} left failures same old new (Err k) (Finds (λ (row : List ℕ). row) (row_by true s more) (Err k))
+row_fault s more k t = turn_err_so {A = List ℕ} {B = List ℕ} k (no_row s more k) t
+
+no_end : (s : Shape) (more : ℕ) (row : List ℕ) (k : InputFault) (b m a : List ℕ) → more ≡ 0 → plain_row s b ≡ row_done row m → ChecksEnd (Err k) m a → Finds (λ (row : List ℕ). row) (row_by true s more) (Err k) b a
+no_end s more row k b m a none found (inl e) = inl (last_row s more b none ∙ ap last_of found ∙ ap (row_then row) e)
+no_end s more row k b m a none found (inr outside) = inr outside
+
+-- what comes after the last row is at fault, or can't be read
+pub end_fault : {R : Type 0} {left : R → Option (List ℕ)} {failures : R → ℕ} {same : R → R → Type 0} {old mid new : Input R} (s : Shape) (more : ℕ) (row : List ℕ) (k : InputFault) → ((a b c : R) → same a b → same b c → same a c) → more ≡ 0
+    → Turn {A = List ℕ} left failures same old mid (Ok row) (Finds (λ (row : List ℕ). row) (plain_row s) (Ok row)) → Turn {A = Unit {0}} left failures same mid new (Err k) (ChecksEnd (Err k))
+    → Turn {A = List ℕ} left failures same old new (Err k) (Finds (λ (row : List ℕ). row) (row_by true s more) (Err k))
+end_fault s more row k later none r t =
+    turn_err_so {A = Unit {0}} {B = List ℕ} k (λ b a o. no_end s more row k b o.0 a none o.1 o.2) (turn_then {A = List ℕ} {B = Unit {0}} row later r t)
+
+pub last_row_found : {R : Type 0} {left : R → Option (List ℕ)} {failures : R → ℕ} {same : R → R → Type 0} {old mid new : Input R} (s : Shape) (more : ℕ) (row : List ℕ) → ((a b c : R) → same a b → same b c → same a c) → more ≡ 0
+    → Turn {A = List ℕ} left failures same old mid (Ok row) (Finds (λ (row : List ℕ). row) (plain_row s) (Ok row)) → Turn {A = Unit {0}} left failures same mid new (Ok tt) (ChecksEnd (Ok tt))
+    → Turn {A = List ℕ} left failures same old new (Ok row) (Finds (λ (row : List ℕ). row) (row_by true s more) (Ok row))
+last_row_found s more row later none r t =
+    turn_ok_so {A = Unit {0}} {B = List ℕ} tt (Ok row) (no_fault row ReadFailed) (λ b a o. last_row s more b none ∙ ap last_of o.1 ∙ ap (row_then row) o.2) (turn_then {A = List ℕ} {B = Unit {0}} row later r t)
+
+pub earlier_row_found : {R : Type 0} {left : R → Option (List ℕ)} {failures : R → ℕ} {same : R → R → Type 0} {old new : Input R} (s : Shape) (more : ℕ) (row : List ℕ) → 0 < more
+    → Turn {A = List ℕ} left failures same old new (Ok row) (Finds (λ (row : List ℕ). row) (plain_row s) (Ok row)) → Turn {A = List ℕ} left failures same old new (Ok row) (Finds (λ (row : List ℕ). row) (row_by true s more) (Ok row))
+earlier_row_found s more row some t = turn_ok_so {A = List ℕ} {B = List ℕ} row (Ok row) (no_fault row ReadFailed) (λ b a o. earlier_row s more b some ∙ o) t
