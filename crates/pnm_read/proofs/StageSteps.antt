@@ -14,7 +14,7 @@ use Rattle.pnm_read.specs.declared.source.Stage.TheVariants.{Start, Rows, End, E
 use Rattle.pnm_read.specs.declared.source.Step.{Step}
 use Rattle.pnm_read.specs.Said.{Said, said, format_at, head_at, format_said, image_said, rows_said, row_at, row_by, raw_row, end_said, then_said, says_fault}
 use Rattle.pnm_read.specs.Inputs.{Finds, IsOutsideFault}
-use Rattle.pnm_read.specs.Stages.{Steps, EndsText, stage_due, SaysNext}
+use Rattle.pnm_read.specs.Stages.{Steps, EndsText, stage_due}
 
 -- ---- the beginning
 
@@ -37,22 +37,22 @@ due_at format head raster a rf rs ry =
 
 -- a header, and its raster
 pub begins : (format : Format) (head : Header) (raster : Raster) (step : Step) (b m a : List ℕ) → Finds {X = Format} (λ format. format) format_at (Ok format) b m → Finds {X = Header} (λ head. head) (head_at format) (Ok head) m a
-    → raster.format ≡ format → raster.shape ≡ head.shape → raster.y ≡ 0 → step.message ≡ Some (Begin head) → step.stage ≡ Rows raster → Steps Start (Ok step) b a
+    → raster.format ≡ format → raster.shape ≡ head.shape → raster.y ≡ 0 → step.message ≡ Begin head → step.stage ≡ Rows raster → Steps Start (Ok step) b a
 unfolding said
 begins format head raster step b m a f h rf rs ry sm ss =
     let due : rows_said format head.shape head.shape.height a ≡ stage_due (Rows raster) a = due_at format head raster a rf rs ry in
     let all : said b ≡ then_said (Begin head) (stage_due (Rows raster) a) = ap format_said f ∙ ap (image_said format) h ∙ ap (then_said (Begin head)) due in
-    rw (sm, ss) all
+    rw (sm, ss) (all, tt)
 
 -- ---- the raster
 
 -- the image has ended
-pub image_ends : (raster : Raster) (step : Step) (b a : List ℕ) → raster.y ≡ raster.shape.height → step.message ≡ Some ImageEnd → step.stage ≡ End raster.format.is_plain → b ≡ a → Steps (Rows raster) (Ok step) b a
+pub image_ends : (raster : Raster) (step : Step) (b a : List ℕ) → raster.y ≡ raster.shape.height → step.message ≡ ImageEnd → step.stage ≡ End raster.format.is_plain → b ≡ a → Steps (Rows raster) (Ok step) b a
 unfolding rows_said
 image_ends raster step b a e sm ss same =
     let none : raster.shape.height - raster.y ≡ 0 = omega arith in
     let said : stage_due (Rows raster) b ≡ then_said ImageEnd (end_said raster.format.is_plain a) = rw (none, same) refl in
-    rw (sm, ss) said
+    rw (sm, ss) (said, tt)
 
 -- what is said from a row on
 abbrev row_said : Format → Shape → ℕ → Result (List ℕ × List ℕ) InputFault → Said
@@ -80,14 +80,14 @@ rows_left raster n = let within = raster.within in rows_after raster.shape.heigh
 
 -- a row
 pub row_step : (raster next : Raster) (row : List ℕ) (step : Step) (b a : List ℕ) → (raster.y ≡ raster.shape.height → ⊥) → row_at raster.format raster.shape (raster.shape.height - raster.y - 1) b ≡ Ok (row, a)
-    → next.format ≡ raster.format → next.shape ≡ raster.shape → next.y ≡ raster.y + 1 → step.message ≡ Some (Row row) → step.stage ≡ Rows next → Steps (Rows raster) (Ok step) b a
+    → next.format ≡ raster.format → next.shape ≡ raster.shape → next.y ≡ raster.y + 1 → step.message ≡ Row row → step.stage ≡ Rows next → Steps (Rows raster) (Ok step) b a
 row_step raster next row step b a n e nf ns ny sm ss =
     let left = rows_left raster n in
     let rows : next.shape.height - next.y ≡ raster.shape.height - raster.y - 1 = let same = ap (λ (s : Shape). s.height) ns in omega arith in
     let due : rows_said raster.format raster.shape (raster.shape.height - raster.y - 1) a ≡ stage_due (Rows next) a = rw (nf, rows, ns) refl in
     let said : stage_due (Rows raster) b ≡ then_said (Row row) (stage_due (Rows next) a) =
       ap (λ (k : ℕ). rows_said raster.format raster.shape k b) left ∙ row_is_said raster.format raster.shape (raster.shape.height - raster.y - 1) b a row e ∙ ap (then_said (Row row)) due in
-    rw (sm, ss) said
+    rw (sm, ss) (said, tt)
 
 -- a row at fault
 pub row_fault : (raster : Raster) (k : InputFault) (b a : List ℕ) → (raster.y ≡ raster.shape.height → ⊥) → (row_at raster.format raster.shape (raster.shape.height - raster.y - 1) b ≡ Err k) ⊎ IsOutsideFault k → Steps (Rows raster) (Err k) b a
@@ -96,13 +96,13 @@ row_fault raster k b a n (inr o) = inr o
 
 -- ---- the end
 
-pub plain_ends : (is_plain : Bool) (step : Step) (b a : List ℕ) → is_plain ≡ true → step.message ≡ Some StreamEnd → step.stage ≡ Ended → Steps (End is_plain) (Ok step) b a
+pub plain_ends : (is_plain : Bool) (step : Step) (b a : List ℕ) → is_plain ≡ true → step.message ≡ StreamEnd → step.stage ≡ Ended → Steps (End is_plain) (Ok step) b a
 unfolding end_said
-plain_ends is_plain step b a p sm ss = rw (p, sm, ss) refl
+plain_ends is_plain step b a p sm ss = rw (p, sm, ss) (refl, refl)
 
-pub raw_ends : (is_plain : Bool) (step : Step) (b a : List ℕ) → is_plain ≡ false → b ≡ [] → step.message ≡ Some StreamEnd → step.stage ≡ Ended → Steps (End is_plain) (Ok step) b a
+pub raw_ends : (is_plain : Bool) (step : Step) (b a : List ℕ) → is_plain ≡ false → b ≡ [] → step.message ≡ StreamEnd → step.stage ≡ Ended → Steps (End is_plain) (Ok step) b a
 unfolding end_said
-raw_ends is_plain step b a p e sm ss = rw (p, e, sm, ss) refl
+raw_ends is_plain step b a p e sm ss = rw (p, e, sm, ss) (refl, refl)
 
 raw_goes_on : (text : List ℕ) → (text ≡ [] → ⊥) → end_said false text ≡ says_fault BadMagic
 unfolding end_said

@@ -1,6 +1,7 @@
 -- What is still to be said at a stage, and what a step answers.
 use Rattle.std.specs.Prelude.{◌≡◌, ℕ, ◌-◌, ◌⊎◌, Bool, true, false, List, [], Option, Some, None, Result, Ok, Err}
 use Rattle.pnm_image.specs.declared.message.Message.{Message}
+use Rattle.pnm_image.specs.declared.message.Message.TheVariants.{Begin, Row, ImageEnd, StreamEnd, Stop}
 use Rattle.pnm_read.specs.declared.fault.InputFault.{InputFault}
 use Rattle.pnm_read.specs.declared.fault.InputFault.TheVariants.{BadMagic}
 use Rattle.pnm_read.specs.declared.source.Stage.{Stage}
@@ -34,15 +35,37 @@ is_ended (End is_plain) = false
 is_ended Ended = true
 is_ended (Failed fault) = false
 
+-- neither the end nor a fault was answered
+abbrev pub is_going : Stage → Bool
+is_going Start = true
+is_going (Rows raster) = true
+is_going (End is_plain) = true
+is_going Ended = false
+is_going (Failed fault) = false
+
 -- an answer is the next of what was to be said, and leaves the rest
 abbrev pub SaysNext : Said → Option Message → Said → Type 0
 SaysNext old (Some m) new = old ≡ then_said m new
 SaysNext old None new = (old ≡ says_nothing) × (new ≡ says_nothing)
 
+-- the stage after the end of the stream
+abbrev pub IfStreamEnd : Message → Stage → Type 0
+IfStreamEnd (Begin head) stage = Unit {0}
+IfStreamEnd (Row row) stage = Unit {0}
+IfStreamEnd ImageEnd stage = Unit {0}
+IfStreamEnd StreamEnd stage = is_ended stage ≡ true
+IfStreamEnd Stop stage = Unit {0}
+
 -- what a step at a stage answers: the next of what was to be said, or the fault
 abbrev pub Steps : Stage → Result Step InputFault → List ℕ → List ℕ → Type 0
-Steps stage (Ok step) before after = SaysNext (stage_due stage before) step.message (stage_due step.stage after)
+Steps stage (Ok step) before after = (stage_due stage before ≡ then_said step.message (stage_due step.stage after)) × IfStreamEnd step.message step.stage
 Steps stage (Err fault) before after = (stage_due stage before ≡ says_fault fault) ⊎ IsOutsideFault fault
+
+-- the same of an answer, and the stage after it
+abbrev pub GoesOn : Stage → Result (Option Message) InputFault → Stage → List ℕ → List ℕ → Type 0
+GoesOn old (Ok (Some m)) new before after = (stage_due old before ≡ then_said m (stage_due new after)) × IfStreamEnd m new
+GoesOn old (Ok None) new before after = ⊥
+GoesOn old (Err fault) new before after = (stage_due old before ≡ says_fault fault) ⊎ IsOutsideFault fault
 
 -- the text has ended; or it goes on after a raw image
 abbrev pub EndsText : Result (Unit {0}) InputFault → List ℕ → List ℕ → Type 0

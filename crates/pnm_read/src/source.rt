@@ -7,7 +7,7 @@ ghost use Rattle.pnm_read.specs.declared.fault.InputFault.{InputFault as Fault};
 ghost use Rattle.pnm_read.specs.declared.fault.InputFault.TheVariants.{ReadFailed, Memory};
 ghost use Rattle.pnm_read.specs.Inputs.{Turn, Finds};
 ghost use Rattle.pnm_read.specs.Said.{row_at};
-ghost use Rattle.pnm_read.specs.Stages.{stage_fault, Steps, EndsText};
+ghost use Rattle.pnm_read.specs.Stages.{is_going, GoesOn, Steps, EndsText};
 
 use crate::fault::InputFault;
 use crate::header::{read_format, read_head};
@@ -33,10 +33,10 @@ enum Stage {
     Failed(InputFault),
 }
 
-/// An answer, and the stage after it.
+/// A message, and the stage after it.
 #[derive(Debug, Drop)]
 struct Step {
-    message: Option<Message>,
+    message: Message,
     stage: Stage,
 }
 
@@ -81,13 +81,23 @@ impl<R: BytesIn> Source<R> {
         ensures count { OnOk result (R.failures (reader_of self.new) ≡ R.failures (reader_of self.old)) }
         ensures read_failed { result ≡ Err ReadFailed → (stopped_by self.old ≡ Some ReadFailed) ⊎ Failed (R.failures (reader_of self.old)) (R.failures (reader_of self.new)) }
     {
-        if let Stage::Failed(fault) = self.stage {
-            return Err(fault);
+        match self.stage {
+            Stage::Failed(fault) => Err(fault),
+            Stage::Ended => Ok(None),
+            Stage::Start | Stage::Rows(_) | Stage::End(_) => self.go_on(),
         }
+    }
+
+    /// The next message, before the end of the stream and any fault.
+    fn go_on(&mut self) -> Result<Option<Message>, InputFault>
+        requires { is_going self.old.stage ≡ true }
+        ensures turn { Turn R.left R.failures R.same self.old.input self.new.input result (GoesOn self.old.stage result self.new.stage) }
+        ensures stopped { IfErr result (λ fault. stopped_by self.new ≡ Some fault) }
+    {
         match step_at(&mut self.input, self.stage) {
             Ok(step) => {
                 self.stage = step.stage;
-                Ok(step.message)
+                Ok(Some(step.message))
             }
             Err(fault) => {
                 self.stage = Stage::Failed(fault);
@@ -104,20 +114,16 @@ impl<R: BytesIn> Source<R> {
     }
 }
 
-/// The next answer at a stage.
+/// The next message at a stage, and the stage after it.
 fn step_at<R: BytesIn>(input: &mut Input<R>, stage: Stage) -> Result<Step, InputFault>
-    requires { stage_fault stage ≡ None }
+    requires { is_going stage ≡ true }
     ensures { Turn R.left R.failures R.same input.old input.new result (Steps stage result) }
 {
     match stage {
         Stage::Start => begin(input),
         Stage::Rows(raster) => next_row(input, raster),
         Stage::End(is_plain) => end(input, is_plain),
-        Stage::Ended => Ok(Step {
-            message: None,
-            stage,
-        }),
-        Stage::Failed(fault) => Err(fault),
+        Stage::Ended | Stage::Failed(_) => unreachable!(),
     }
 }
 
@@ -130,7 +136,7 @@ fn begin<R: BytesIn>(input: &mut Input<R>) -> Result<Step, InputFault>
     let head = read_head(input, format)?;
     let raster = Raster::new(format, head.shape());
     Ok(Step {
-        message: Some(Message::Begin(head)),
+        message: Message::Begin(head),
         stage: Stage::Rows(raster),
     })
 }
@@ -141,13 +147,13 @@ fn next_row<R: BytesIn>(input: &mut Input<R>, raster: Raster) -> Result<Step, In
 {
     if raster.y == raster.shape.height {
         return Ok(Step {
-            message: Some(Message::ImageEnd),
+            message: Message::ImageEnd,
             stage: Stage::End(raster.format.is_plain),
         });
     }
     let row = read_row(input, raster)?;
     Ok(Step {
-        message: Some(Message::Row(row)),
+        message: Message::Row(row),
         stage: Stage::Rows(raster.after_row()),
     })
 }
@@ -172,7 +178,7 @@ fn end<R: BytesIn>(input: &mut Input<R>, is_plain: bool) -> Result<Step, InputFa
         check_nothing_left(input)?;
     }
     Ok(Step {
-        message: Some(Message::StreamEnd),
+        message: Message::StreamEnd,
         stage: Stage::Ended,
     })
 }
