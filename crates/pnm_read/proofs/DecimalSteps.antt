@@ -1,14 +1,14 @@
 -- The scanner of a number of a plain raster, byte by byte.
-use Rattle.std.proofs.Common.{◌≡◌, ℕ, ◌+◌, ◌-◌, ◌*◌, Bool, true, false, not, ◌&&◌, ◌||◌, ◌==◌, nat_le, if◌then◌else◌, List, [], ◌∷◌, ◌++◌, length, Option, Some, None, refl, sym, ap, ◌∙◌, arith}
+use Rattle.std.proofs.Common.{◌≡◌, ℕ, ◌+◌, ◌-◌, ◌*◌, Bool, true, false, not, ◌&&◌, ◌==◌, if◌then◌else◌, List, [], ◌∷◌, ◌++◌, refl, sym, ap, ◌∙◌, arith}
 use Rattle.std.proofs.lemmas.Bool.{and_parts}
 use Rattle.std.proofs.lemmas.Bool.Decides.{nat_tests}
 use Rattle.std.proofs.lemmas.List.{length-append}
-use Rattle.pnm_read.specs.declared.fault.InputFault.TheVariants.{TooLong, BadSample, RasterCut}
+use Rattle.pnm_read.specs.declared.fault.InputFault.TheVariants.{TooLong, BadSample}
 use Rattle.pnm_read.specs.declared.judgement.Judgement.{Judgement}
 use Rattle.pnm_read.specs.declared.judgement.Judgement.TheVariants.{GoesOn, EndsWith, EndsBefore, Fails}
 use Rattle.pnm_read.specs.declared.decimal.DecimalScanner.{DecimalScanner}
 use Rattle.pnm_read.specs.Texts.{is_digit, is_line_end, commented, commented_after, ends_in_comment, ends_by, uncommented_from, number_in}
-use Rattle.pnm_read.specs.Items.{decimal_item, ends_in_digit}
+use Rattle.pnm_read.specs.Items.{decimal_item}
 use Rattle.pnm_read.specs.Scans.{JudgesByte}
 use Rattle.pnm_read.specs.Saturation.{saturated, with_digit}
 use Rattle.pnm_read.specs.Scanners.{IsDecimalAfter, IsDecimalWhole, JudgesDecimal, PushesDecimal, is_numeral}
@@ -51,11 +51,11 @@ value_after false before b e = ap saturated (sym (number_in-other before b e))
 
 decimal_after : (old new : DecimalScanner) (b : ℕ) (before : List ℕ) → IsDecimalAfter old before → PushesDecimal old b new → IsDecimalAfter new (before ++ b ∷ [])
 decimal_after old new b before a p = record {
-    length_is = p.length_is ∙ ap (λ n. n + 1) a.length_is ∙ sym (length-append before (b ∷ []));
-    comment = p.comment ∙ ap (λ t. commented t b) a.comment ∙ sym (commented_after-push before b);
-    digit = p.digit ∙ ap (λ t. is_numeral t b) a.comment ∙ sym (numeral_is (ends_in_comment before) b (is_digit b) refl) ∙ sym (ends_in_digit-push before b);
-    value = p.value ∙ rw (a.comment, a.value) (value_after (is_numeral (ends_in_comment before) b) before b refl);
-  }
+  length_is = p.length_is ∙ ap (λ n. n + 1) a.length_is ∙ sym (length-append before (b ∷ []));
+  comment = p.comment ∙ ap (λ t. commented t b) a.comment ∙ sym (commented_after-push before b);
+  digit = p.digit ∙ ap (λ t. is_numeral t b) a.comment ∙ sym (numeral_is (ends_in_comment before) b (is_digit b) refl) ∙ sym (ends_in_digit-push before b);
+  value = p.value ∙ rw (a.comment, a.value) (value_after (is_numeral (ends_in_comment before) b) before b refl);
+}
 
 -- the judgements of decimal_item by its three tests
 abbrev chosen : Bool → Bool → Bool → Judgement

@@ -1,5 +1,5 @@
 -- A scanner that is given bytes one by one.
-use Rattle.std.proofs.Common.{◌≡◌, ℕ, ◌+◌, ◌<◌, ◌≤◌, List, [], ◌∷◌, ◌++◌, length, get_or, take, drop, Option, Some, None, Result, Ok, Err, refl, sym, ap, subst, ◌∙◌, append_assoc, append-nil, take-append-drop, arith}
+use Rattle.std.proofs.Common.{◌≡◌, ℕ, ◌+◌, ◌<◌, ◌≤◌, List, [], ◌∷◌, ◌++◌, length, get_or, take, drop, Option, Some, None, Ok, Err, refl, sym, ap, subst, ◌∙◌, append_assoc, append-nil, arith}
 use Rattle.std.proofs.lemmas.List.{take_more, drop_more, take_all, drop_all}
 use Rattle.pnm_read.specs.declared.fault.InputFault.{InputFault}
 use Rattle.pnm_read.specs.declared.judgement.Judgement.{Judgement}
@@ -18,12 +18,12 @@ pub record Feeding {S : Type 0} (item : S → List ℕ → ℕ → Judgement) (a
 
 pub feeding_first : {S : Type 0} (item : S → List ℕ → ℕ → Judgement) (at_end : S → List ℕ → Option InputFault) (is_after : S → List ℕ → Type 0) (room : S → ℕ) (s : S) (bytes : List ℕ) → Feeding item at_end is_after room s s bytes 0
 feeding_first item at_end is_after room s bytes = record {
-    same_items = refl;
-    same_end = refl;
-    less_room = omega arith;
-    fed = λ before a. subst (is_after s) (sym (append-nil before)) a;
-    piece = λ before rest a. ap (λ (l : List ℕ). piece_from (item s) (at_end s) l (bytes ++ rest)) (sym (append-nil before));
-  }
+  same_items = refl;
+  same_end = refl;
+  less_room = omega arith;
+  fed = λ before a. subst (is_after s) (sym (append-nil before)) a;
+  piece = λ before rest a. ap (λ (l : List ℕ). piece_from (item s) (at_end s) l (bytes ++ rest)) (sym (append-nil before));
+}
 
 -- the piece from a place on, where its byte was judged
 step_at : {S : Type 0} (item : S → List ℕ → ℕ → Judgement) (at_end : S → List ℕ → Option InputFault) (is_after : S → List ℕ → Type 0) (room : S → ℕ) (old now : S) (bytes : List ℕ) (n : ℕ) (before rest : List ℕ)
@@ -41,44 +41,51 @@ judged_at : {S : Type 0} (item : S → List ℕ → ℕ → Judgement) (at_end :
     → Feeding item at_end is_after room old now bytes n → JudgesByte (item now) (is_after now) (is_after new) (is_whole new) (get_or bytes n 0) j → j ≡ k → is_after old before
     → (item old (before ++ take n bytes) (get_or bytes n 0) ≡ k) × Takes (is_after new) (is_whole new) k (before ++ take n bytes) (get_or bytes n 0)
 judged_at item at_end is_after is_whole room old now new bytes n j k before f judged is a =
-    let at_place = judged (before ++ take n bytes) (f.fed before a) in
-    (ap (λ (i : List ℕ → ℕ → Judgement). i (before ++ take n bytes) (get_or bytes n 0)) (sym f.same_items) ∙ sym at_place.0 ∙ is,
-     subst (λ (j : Judgement). Takes (is_after new) (is_whole new) j (before ++ take n bytes) (get_or bytes n 0)) is at_place.1)
+    let at_place = judged (before ++ take n bytes) (f.fed before a) in (
+      ap (λ (i : List ℕ → ℕ → Judgement). i (before ++ take n bytes) (get_or bytes n 0)) (sym f.same_items) ∙ sym at_place.0 ∙ is,
+      subst (λ (j : Judgement). Takes (is_after new) (is_whole new) j (before ++ take n bytes) (get_or bytes n 0)) is at_place.1,
+    )
 
 pub feeding_more : {S : Type 0} (item : S → List ℕ → ℕ → Judgement) (at_end : S → List ℕ → Option InputFault) (is_after is_whole : S → List ℕ → Type 0) (room : S → ℕ) (old now new : S) (bytes : List ℕ) (n : ℕ) (j : Judgement)
     → Feeding item at_end is_after room old now bytes n → n < length bytes → j ≡ GoesOn → JudgesByte (item now) (is_after now) (is_after new) (is_whole new) (get_or bytes n 0) j
     → item new ≡ item now → at_end new ≡ at_end now → room new < room now → Feeding item at_end is_after room old new bytes (n + 1)
 feeding_more item at_end is_after is_whole room old now new bytes n j f lt is judged items ends less = record {
-    same_items = items ∙ f.same_items;
-    same_end = ends ∙ f.same_end;
-    less_room = let before = f.less_room in omega arith;
-    fed = λ before a. subst (is_after new) (before_more before bytes n lt) (judged_at item at_end is_after is_whole room old now new bytes n j GoesOn before f judged is a).1;
-    piece = λ before rest a.
-        step_at item at_end is_after room old now bytes n before rest f lt a
-        ∙ piece_step (item old) (at_end old) (before ++ take n bytes) (get_or bytes n 0) (drop (n + 1) bytes ++ rest) GoesOn (judged_at item at_end is_after is_whole room old now new bytes n j GoesOn before f judged is a).0
-        ∙ ap (λ (l : List ℕ). piece_from (item old) (at_end old) l (drop (n + 1) bytes ++ rest)) (before_more before bytes n lt);
-  }
+  same_items = items ∙ f.same_items;
+  same_end = ends ∙ f.same_end;
+  less_room = let before = f.less_room in omega arith;
+  fed = λ before a. subst (is_after new) (before_more before bytes n lt) (judged_at item at_end is_after is_whole room old now new bytes n j GoesOn before f judged is a).1;
+  piece = λ before rest a.
+      step_at item at_end is_after room old now bytes n before rest f lt a
+      ∙ piece_step (item old) (at_end old) (before ++ take n bytes) (get_or bytes n 0) (drop (n + 1) bytes ++ rest) GoesOn (judged_at item at_end is_after is_whole room old now new bytes n j GoesOn before f judged is a).0
+      ∙ ap (λ (l : List ℕ). piece_from (item old) (at_end old) l (drop (n + 1) bytes ++ rest)) (before_more before bytes n lt);
+}
 
 -- the piece ends with the byte
 pub feeding_ends_with : {S : Type 0} (item : S → List ℕ → ℕ → Judgement) (at_end : S → List ℕ → Option InputFault) (is_after is_whole : S → List ℕ → Type 0) (room : S → ℕ) (old now new : S) (bytes : List ℕ) (n : ℕ) (j : Judgement) (before : List ℕ)
     → Feeding item at_end is_after room old now bytes n → n < length bytes → j ≡ EndsWith → JudgesByte (item now) (is_after now) (is_after new) (is_whole new) (get_or bytes n 0) j
     → is_after old before → FeedsAfter (item old) (at_end old) (is_after new) (is_whole new) bytes (Ok (Some (n + 1))) before
 feeding_ends_with item at_end is_after is_whole room old now new bytes n j before f lt is judged a =
-    let at_place = judged_at item at_end is_after is_whole room old now new bytes n j EndsWith before f judged is a in
-    ((before ++ take n bytes) ++ get_or bytes n 0 ∷ [], at_place.1, λ rest.
-      step_at item at_end is_after room old now bytes n before rest f lt a
-      ∙ piece_step (item old) (at_end old) (before ++ take n bytes) (get_or bytes n 0) (drop (n + 1) bytes ++ rest) EndsWith at_place.0)
+    let at_place = judged_at item at_end is_after is_whole room old now new bytes n j EndsWith before f judged is a in (
+      (before ++ take n bytes) ++ get_or bytes n 0 ∷ [],
+      at_place.1,
+      λ rest.
+          step_at item at_end is_after room old now bytes n before rest f lt a
+          ∙ piece_step (item old) (at_end old) (before ++ take n bytes) (get_or bytes n 0) (drop (n + 1) bytes ++ rest) EndsWith at_place.0,
+    )
 
 -- the piece ended before the byte
 pub feeding_ends_before : {S : Type 0} (item : S → List ℕ → ℕ → Judgement) (at_end : S → List ℕ → Option InputFault) (is_after is_whole : S → List ℕ → Type 0) (room : S → ℕ) (old now new : S) (bytes : List ℕ) (n : ℕ) (j : Judgement) (before : List ℕ)
     → Feeding item at_end is_after room old now bytes n → n < length bytes → j ≡ EndsBefore → JudgesByte (item now) (is_after now) (is_after new) (is_whole new) (get_or bytes n 0) j
     → is_after old before → FeedsAfter (item old) (at_end old) (is_after new) (is_whole new) bytes (Ok (Some n)) before
 feeding_ends_before item at_end is_after is_whole room old now new bytes n j before f lt is judged a =
-    let at_place = judged_at item at_end is_after is_whole room old now new bytes n j EndsBefore before f judged is a in
-    (before ++ take n bytes, at_place.1, λ rest.
-      step_at item at_end is_after room old now bytes n before rest f lt a
-      ∙ piece_step (item old) (at_end old) (before ++ take n bytes) (get_or bytes n 0) (drop (n + 1) bytes ++ rest) EndsBefore at_place.0
-      ∙ ap (λ (l : List ℕ). Ok (before ++ take n bytes, l ++ rest)) (sym (drop_more bytes n 0 lt)))
+    let at_place = judged_at item at_end is_after is_whole room old now new bytes n j EndsBefore before f judged is a in (
+      before ++ take n bytes,
+      at_place.1,
+      λ rest.
+          step_at item at_end is_after room old now bytes n before rest f lt a
+          ∙ piece_step (item old) (at_end old) (before ++ take n bytes) (get_or bytes n 0) (drop (n + 1) bytes ++ rest) EndsBefore at_place.0
+          ∙ ap (λ (l : List ℕ). Ok (before ++ take n bytes, l ++ rest)) (sym (drop_more bytes n 0 lt)),
+    )
 
 -- the byte is at fault
 pub feeding_fails : {S : Type 0} (item : S → List ℕ → ℕ → Judgement) (at_end : S → List ℕ → Option InputFault) (is_after is_whole : S → List ℕ → Type 0) (room : S → ℕ) (old now new : S) (bytes : List ℕ) (n : ℕ) (j : Judgement) (k : InputFault) (before : List ℕ)
@@ -94,6 +101,8 @@ pub feeding_all : {S : Type 0} (item : S → List ℕ → ℕ → Judgement) (at
     → Feeding item at_end is_after room old now bytes n → length bytes ≤ n → is_after old before → FeedsAfter (item old) (at_end old) (is_after now) (is_whole now) bytes (Ok None) before
 feeding_all item at_end is_after is_whole room old now bytes n before f le a =
     let all : take n bytes ≡ bytes = take_all n bytes le in
-    let none : drop n bytes ≡ [] = drop_all n bytes le in
-    (subst (λ (l : List ℕ). is_after now (before ++ l)) all (f.fed before a), λ rest.
-      f.piece before rest a ∙ ap (λ (l : List ℕ). piece_from (item old) (at_end old) (before ++ l) (drop n bytes ++ rest)) all ∙ ap (λ (l : List ℕ). piece_from (item old) (at_end old) (before ++ bytes) (l ++ rest)) none)
+    let none : drop n bytes ≡ [] = drop_all n bytes le in (
+      subst (λ (l : List ℕ). is_after now (before ++ l)) all (f.fed before a),
+      λ rest.
+          f.piece before rest a ∙ ap (λ (l : List ℕ). piece_from (item old) (at_end old) (before ++ l) (drop n bytes ++ rest)) all ∙ ap (λ (l : List ℕ). piece_from (item old) (at_end old) (before ++ bytes) (l ++ rest)) none,
+    )

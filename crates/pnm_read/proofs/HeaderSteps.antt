@@ -69,16 +69,16 @@ next_digit held (a ∷ b ∷ c ∷ front) last d lt e = absurd (omega arith)
 pub header_fresh : (wanted : ℕ) (s : HeaderScanner) → IsHeaderFresh wanted s → 0 < wanted → wanted ≤ 3 → length s.numbers ≤ 3 → IsHeaderAfter s []
 unfolding commented_after ends_by uncommented_from words
 header_fresh wanted s f some most three = record {
-    length_is = f.length_is;
-    comment = f.comment;
-    word = f.word;
-    decimal = All-nil (λ b. is_decimal b ≡ true);
-    found = f.found;
-    most = omega arith;
-    more = λ e. omega arith;
-    three = omega arith;
-    last = rw f.found (drop_all 3 s.numbers three);
-  }
+  length_is = f.length_is;
+  comment = f.comment;
+  word = f.word;
+  decimal = All-nil (λ b. is_decimal b ≡ true);
+  found = f.found;
+  most = omega arith;
+  more = λ e. omega arith;
+  three = omega arith;
+  last = rw f.found (drop_all 3 s.numbers three);
+}
 
 -- ---- one byte more
 

@@ -1,5 +1,5 @@
 -- The scanner of a pixel, byte by byte.
-use Rattle.std.proofs.Common.{◌≡◌, ℕ, ◌+◌, Bool, true, false, not, ◌&&◌, ◌||◌, ◌==◌, nat_le, if◌then◌else◌, List, [], ◌∷◌, ◌++◌, length, refl, sym, ap, ◌∙◌, arith}
+use Rattle.std.proofs.Common.{◌≡◌, ℕ, ◌+◌, Bool, true, false, ◌||◌, ◌==◌, if◌then◌else◌, List, [], ◌∷◌, ◌++◌, refl, sym, ap, ◌∙◌, arith}
 use Rattle.std.proofs.lemmas.Bool.{and_parts}
 use Rattle.std.proofs.lemmas.Bool.Decides.{nat_tests}
 use Rattle.std.proofs.lemmas.List.{length-append}
@@ -7,9 +7,9 @@ use Rattle.pnm_read.specs.declared.fault.InputFault.TheVariants.{TooLong, BadSam
 use Rattle.pnm_read.specs.declared.judgement.Judgement.{Judgement}
 use Rattle.pnm_read.specs.declared.judgement.Judgement.TheVariants.{GoesOn, EndsWith, EndsBefore, Fails}
 use Rattle.pnm_read.specs.declared.pixel.PixelScanner.{PixelScanner}
-use Rattle.pnm_read.specs.Texts.{commented, commented_after, ends_in_comment, ends_by, is_apart}
-use Rattle.pnm_read.specs.Items.{pixel_item, pixel_end, pixel_in, is_pixel, gap_limit}
-use Rattle.pnm_read.specs.Scans.{JudgesByte, JudgesEnd}
+use Rattle.pnm_read.specs.Texts.{commented, commented_after}
+use Rattle.pnm_read.specs.Items.{pixel_item, is_pixel}
+use Rattle.pnm_read.specs.Scans.{JudgesByte}
 use Rattle.pnm_read.specs.Scanners.{IsPixelAfter, IsPixelWhole, JudgesPixel}
 use Rattle.pnm_read.proofs.CommentLaws.{commented_after-push, ends_by-push}
 
@@ -55,9 +55,9 @@ pub pixel_goes_on : (old new : PixelScanner) (b : ℕ) (j : Judgement) → j ≡
     → JudgesByte pixel_item (IsPixelAfter old) (IsPixelAfter new) (IsPixelWhole new) b j
 pixel_goes_on old new b j is h l c before a =
     let after : IsPixelAfter new (before ++ b ∷ []) = record {
-        length_is = l ∙ ap (λ n. n + 1) a.length_is ∙ sym (length-append before (b ∷ []));
-        comment = c ∙ ap (λ t. commented t b) a.comment ∙ sym (commented_after-push before b);
-      } in
+      length_is = l ∙ ap (λ n. n + 1) a.length_is ∙ sym (length-append before (b ∷ []));
+      comment = c ∙ ap (λ t. commented t b) a.comment ∙ sym (commented_after-push before b);
+    } in
     (h before a, rw is after)
 
 pub pixel_ends_with : (old new : PixelScanner) (b : ℕ) (j : Judgement) → j ≡ EndsWith → JudgesPixel old b j → new.pixel ≡ (if b == 48 then 1 else 0)

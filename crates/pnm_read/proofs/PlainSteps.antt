@@ -75,8 +75,8 @@ unfolding plain_decimal
 number_found fresh now maxval sample is_fresh is_value most le t =
     turn_ok_so {A = Unit {0}} {B = ℕ} tt (Ok sample) (no_fault sample ReadFailed)
     (λ b a o.
-      let piece = o [] is_fresh in
-      ap (number_of maxval) piece.2 ∙ ap (λ (r : Result ℕ InputFault). r >>= λ n. sample_done n a) (number_within maxval (number_in piece.0) sample most (is_value ∙ piece.1) le)) t
+    let piece = o [] is_fresh in
+    ap (number_of maxval) piece.2 ∙ ap (λ (r : Result ℕ InputFault). r >>= λ n. sample_done n a) (number_within maxval (number_in piece.0) sample most (is_value ∙ piece.1) le)) t
 
 pub number_too_great : {R : Type 0} {left : R → Option (List ℕ)} {failures : R → ℕ} {same : R → R → Type 0} {old new : Input R} (fresh now : DecimalScanner) (maxval value : ℕ) → IsDecimalAfter fresh [] → value ≡ now.value → maxval < value
     → Turn {A = Unit {0}} left failures same old new (Ok tt) (Scans decimal_item decimal_end (IsDecimalAfter fresh) (IsDecimalWhole now) (Ok tt))
@@ -85,8 +85,8 @@ unfolding plain_decimal
 number_too_great fresh now maxval value is_fresh is_value above t =
     turn_ok_so {A = Unit {0}} {B = ℕ} tt (Err SampleAboveMaxval) (λ e. absurd cc)
     (λ b a o.
-      let piece = o [] is_fresh in
-      inl (ap (number_of maxval) piece.2 ∙ ap (λ (r : Result ℕ InputFault). r >>= λ n. sample_done n a) (number_above maxval (number_in piece.0) value (is_value ∙ piece.1) above))) t
+    let piece = o [] is_fresh in
+    inl (ap (number_of maxval) piece.2 ∙ ap (λ (r : Result ℕ InputFault). r >>= λ n. sample_done n a) (number_above maxval (number_in piece.0) value (is_value ∙ piece.1) above))) t
 
 no_number : (maxval : ℕ) (k : InputFault) (is_whole : List ℕ → Type 0) (b a : List ℕ) → ScansAfter decimal_item decimal_end is_whole (Err k) [] b a → Finds (λ (sample : ℕ). sample) (plain_decimal maxval) (Err k) b a
 unfolding plain_decimal
@@ -114,8 +114,8 @@ pub end_goes_on : {R : Type 0} {left : R → Option (List ℕ)} {failures : R �
 unfolding after_last_item
 end_goes_on {mid = mid} byte bytes held first apart t =
     turn_ok_so {A = Unit {0}} {B = Unit {0}} tt (Ok tt) (no_fault tt ReadFailed) (λ b a o.
-      let whole : b ≡ bytes ++ o.1.0 = o.0 ∙ o.1.2 ∙ ap (λ (l : List ℕ). l ++ o.1.0) (sym held) in
-      ap (λ (t : Bool). end_if t b) (ap begins_apart whole ∙ begins_by byte bytes o.1.0 first ∙ apart) ∙ ap (λ (l : List ℕ). Ok l) o.0)
+    let whole : b ≡ bytes ++ o.1.0 = o.0 ∙ o.1.2 ∙ ap (λ (l : List ℕ). l ++ o.1.0) (sym held) in
+    ap (λ (t : Bool). end_if t b) (ap begins_apart whole ∙ begins_by byte bytes o.1.0 first ∙ apart) ∙ ap (λ (l : List ℕ). Ok l) o.0)
     (turn_seen t)
 
 -- ---- the samples of a row
@@ -134,10 +134,10 @@ pub record ReadingSamples {R : Type 0} (left : R → Option (List ℕ)) (failure
 pub samples_begin : {R : Type 0} {left : R → Option (List ℕ)} {failures : R → ℕ} {same : R → R → Type 0} (s : Shape) (all more : ℕ) (samples : List ℕ) (input : Input R) → ((a : R) → same a a) → more ≡ all → samples ≡ []
     → ReadingSamples left failures same s all more samples input input
 samples_begin s all more samples input at_once is_all none = record {
-    turn = turn_ok_so {A = Unit {0}} {B = Unit {0}} tt (Ok tt) (no_fault tt ReadFailed)
-    (λ b a e. ap (in_turn (sample_of s) all) e ∙ all_are_left (sample_of s) all a ∙ ap₂ (λ (n : ℕ) (l : List ℕ). and_turns (sample_of s) n l a) (sym is_all) (sym none))
-    (turn_taken {A = Unit {0}} {result = Ok tt} [] at_once (no_fault tt ReadFailed) refl refl refl);
-  }
+  turn = turn_ok_so {A = Unit {0}} {B = Unit {0}} tt (Ok tt) (no_fault tt ReadFailed)
+      (λ b a e. ap (in_turn (sample_of s) all) e ∙ all_are_left (sample_of s) all a ∙ ap₂ (λ (n : ℕ) (l : List ℕ). and_turns (sample_of s) n l a) (sym is_all) (sym none))
+      (turn_taken {A = Unit {0}} {result = Ok tt} [] at_once (no_fault tt ReadFailed) refl refl refl);
+}
 
 no_sample : (s : Shape) (more : ℕ) (samples : List ℕ) (k : InputFault) (b m a : List ℕ) → 0 < more → SamplesFrom s (row_length s) more samples b m → Finds (λ (sample : ℕ). sample) (sample_of s) (Err k) m a
     → Finds (λ (row : List ℕ). row) (plain_row s) (Err k) b a
@@ -168,11 +168,11 @@ pub samples_more : {R : Type 0} {left : R → Option (List ℕ)} {failures : R �
     → Turn {A = ℕ} left failures same now new (Ok sample) (Finds (λ (sample : ℕ). sample) (sample_of s) (Ok sample))
     → ReadingSamples left failures same s all fewer others old new
 samples_more {s = s} {all = all} {more = more} {samples = samples} sample fewer others later r some is_fewer are_others t = record {
-    turn = turn_ok_so {A = ℕ} {B = Unit {0}} sample (Ok tt) (no_fault tt ReadFailed) (λ b a o.
+  turn = turn_ok_so {A = ℕ} {B = Unit {0}} sample (Ok tt) (no_fault tt ReadFailed) (λ b a o.
       part_is_read (sample_of s) all more 1 samples (sample ∷ []) b o.0 a some (one_is_read (sample_of s) sample o.0 a o.2) o.1
       ∙ ap₂ (λ (n : ℕ) (l : List ℕ). and_turns (sample_of s) n l a) (sym is_fewer) (sym are_others))
-    (turn_then {A = Unit {0}} {B = ℕ} tt later r.turn t);
-  }
+      (turn_then {A = Unit {0}} {B = ℕ} tt later r.turn t);
+}
 
 -- all samples were read
 pub samples_read : {R : Type 0} {left : R → Option (List ℕ)} {failures : R → ℕ} {same : R → R → Type 0} {s : Shape} {all more : ℕ} {samples : List ℕ} {old now : Input R}
@@ -182,8 +182,8 @@ unfolding plain_row
 samples_read {s = s} row r is_all none is_row =
     turn_ok_so {A = Unit {0}} {B = List ℕ} tt (Ok row) (no_fault row ReadFailed)
     (λ b a o.
-      ap (λ (n : ℕ). in_turn (sample_of s) n b) (sym is_all) ∙ o ∙ ap₂ (λ (n : ℕ) (l : List ℕ). and_turns (sample_of s) n l a) none (sym is_row)
-      ∙ none_are_left (sample_of s) row a)
+    ap (λ (n : ℕ). in_turn (sample_of s) n b) (sym is_all) ∙ o ∙ ap₂ (λ (n : ℕ) (l : List ℕ). and_turns (sample_of s) n l a) none (sym is_row)
+    ∙ none_are_left (sample_of s) row a)
     r.turn
 
 -- ---- a row, and the end after the last one

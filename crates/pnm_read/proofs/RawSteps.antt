@@ -104,10 +104,10 @@ pub record ReadingUnits {R : Type 0} (left : R → Option (List ℕ)) (failures 
 pub units_begin : {R : Type 0} {left : R → Option (List ℕ)} {failures : R → ℕ} {same : R → R → Type 0} (p : Packing) (maxval all : ℕ) (samples : List ℕ) (input : Input R) → ((a : R) → same a a) → samples ≡ []
     → ReadingUnits left failures same p maxval all all samples input input
 units_begin {left = left} {failures = failures} {same = same} p maxval all samples input at_once none = record {
-    turn = turn_ok_so {A = Unit {0}} {B = Unit {0}} tt (Ok tt) (no_fault tt ReadFailed)
-    (λ b a e. ([], none, ap (in_turn (raw_item p maxval) all) e ∙ all_are_left (raw_item p maxval) all a))
-    (turn_taken {A = Unit {0}} {result = Ok tt} [] at_once (no_fault tt ReadFailed) refl refl refl);
-  }
+  turn = turn_ok_so {A = Unit {0}} {B = Unit {0}} tt (Ok tt) (no_fault tt ReadFailed)
+      (λ b a e. ([], none, ap (in_turn (raw_item p maxval) all) e ∙ all_are_left (raw_item p maxval) all a))
+      (turn_taken {A = Unit {0}} {result = Ok tt} [] at_once (no_fault tt ReadFailed) refl refl refl);
+}
 
 -- reading on failed
 pub units_unread : {R B : Type 0} {left : R → Option (List ℕ)} {failures : R → ℕ} {same : R → R → Type 0} {p : Packing} {maxval all more : ℕ} {samples : List ℕ} {old now mid : Input R}
@@ -135,8 +135,8 @@ pub units_cut : {R B : Type 0} {left : R → Option (List ℕ)} {failures : R �
     → Turn {A = B} left failures same old mid (Err RasterCut) (FindsUnits view s (Err RasterCut))
 units_cut {B = B} {p = p} {all = all} {more = more} {mid = mid} view s unit later r t is_packing is_all is_unit some enough lt =
     turn_ok_so {A = Unit {0}} {B = B} tt (Err RasterCut) (λ e. absurd cc) (λ b a o.
-      let short : length o.0.0 < unit = subst (λ (l : List ℕ). length l < unit) (sym o.0.2) (short_left unit mid a enough lt o.1) in
-      inl (units_as s p all b is_packing is_all ∙ o.0.1.2 ∙ cut_units p s.maxval more o.0.1.0 o.0.0 some (subst (λ (u : ℕ). length o.0.0 < u) is_unit short)))
+    let short : length o.0.0 < unit = subst (λ (l : List ℕ). length l < unit) (sym o.0.2) (short_left unit mid a enough lt o.1) in
+    inl (units_as s p all b is_packing is_all ∙ o.0.1.2 ∙ cut_units p s.maxval more o.0.1.0 o.0.0 some (subst (λ (u : ℕ). length o.0.0 < u) is_unit short)))
     (units_on later r t)
 
 -- the first bytes of what is left
@@ -153,8 +153,8 @@ units_fault {B = B} view s k n count later r t is_packing is_all most (inl memor
     turn_ok_so {A = Unit {0}} {B = B} tt (Err k) (λ e. absurd cc) (λ b a o. inr (inr memory)) (units_on later r t)
 units_fault {B = B} {p = p} {all = all} {more = more} {mid = mid} view s k n count later r t is_packing is_all most (inr fails) =
     turn_ok_so {A = Unit {0}} {B = B} tt (Err k) (λ e. let same_fault : k ≡ ReadFailed = cc in units_found p s.maxval n (take count (held_of mid) ++ []) (fails [] ∙ ap (λ (f : InputFault). Err f) same_fault)) (λ b a o.
-      let fault = ap (in_turn (raw_item p s.maxval) n) (parts_left count mid o.0.0 o.1.0 (o.0.2 ∙ o.1.2)) ∙ fails (drop count (held_of mid) ++ o.1.0) in
-      inl (units_as s p all b is_packing is_all ∙ part_fails (raw_item p s.maxval) all more n o.0.1.0 b o.0.0 k most fault o.0.1.2))
+    let fault = ap (in_turn (raw_item p s.maxval) n) (parts_left count mid o.0.0 o.1.0 (o.0.2 ∙ o.1.2)) ∙ fails (drop count (held_of mid) ++ o.1.0) in
+    inl (units_as s p all b is_packing is_all ∙ part_fails (raw_item p s.maxval) all more n o.0.1.0 b o.0.0 k most fault o.0.1.2))
     (units_on later r t)
 
 -- so many units more were read
@@ -164,13 +164,14 @@ pub units_more : {R : Type 0} {left : R → Option (List ℕ)} {failures : R →
     → new.reader ≡ mid.reader → new.ended ≡ mid.ended → held_of new ≡ drop count (held_of mid)
     → ReadingUnits left failures same p maxval all (more - n) others old new
 units_more {p = p} {maxval = maxval} {all = all} {more = more} {mid = mid} n count others later r t most found reader ended held = record {
-    turn = turn_advance {A = Unit {0}} {B = Unit {0}} tt (Ok tt) count (no_fault tt ReadFailed) reader ended held (λ b rest c o.
-      let read = ap (in_turn (raw_item p maxval) n) (parts_left count mid o.0 rest o.2) ∙ found.2 (drop count (held_of mid) ++ rest) in
-      (o.1.0 ++ found.0,
+  turn = turn_advance {A = Unit {0}} {B = Unit {0}} tt (Ok tt) count (no_fault tt ReadFailed) reader ended held (λ b rest c o.
+      let read = ap (in_turn (raw_item p maxval) n) (parts_left count mid o.0 rest o.2) ∙ found.2 (drop count (held_of mid) ++ rest) in (
+        o.1.0 ++ found.0,
         found.1 ∙ ap (λ (l : List ℕ). l ++ concat found.0) o.1.1 ∙ sym (concat-append o.1.0 found.0),
-        part_is_read (raw_item p maxval) all more n o.1.0 found.0 b o.0 (drop count (held_of mid) ++ rest) most read o.1.2))
-    (turn_then {A = Unit {0}} {B = Unit {0}} tt later r.turn t);
-  }
+        part_is_read (raw_item p maxval) all more n o.1.0 found.0 b o.0 (drop count (held_of mid) ++ rest) most read o.1.2,
+      ))
+      (turn_then {A = Unit {0}} {B = Unit {0}} tt later r.turn t);
+}
 
 -- all units were read
 pub units_read : {R B : Type 0} {left : R → Option (List ℕ)} {failures : R → ℕ} {same : R → R → Type 0} {p : Packing} {all more : ℕ} {samples : List ℕ} {old now : Input R}
@@ -178,8 +179,8 @@ pub units_read : {R B : Type 0} {left : R → Option (List ℕ)} {failures : R �
     → Turn {A = B} left failures same old now (Ok row) (FindsUnits view s (Ok row))
 units_read {B = B} {p = p} {all = all} {more = more} view s row r is_packing is_all done is_row =
     turn_ok_so {A = Unit {0}} {B = B} tt (Ok row) (no_fault row ReadFailed) (λ b a o.
-      let none : more ≡ 0 = omega arith in
-      (o.0, units_as s p all b is_packing is_all ∙ o.2 ∙ ap (λ (m : ℕ). and_turns (raw_item p s.maxval) m o.0 a) none ∙ none_are_left (raw_item p s.maxval) o.0 a, is_row ∙ o.1))
+    let none : more ≡ 0 = omega arith in
+    (o.0, units_as s p all b is_packing is_all ∙ o.2 ∙ ap (λ (m : ℕ). and_turns (raw_item p s.maxval) m o.0 a) none ∙ none_are_left (raw_item p s.maxval) o.0 a, is_row ∙ o.1))
     r.turn
 
 -- ---- a row of units

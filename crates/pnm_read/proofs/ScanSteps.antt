@@ -1,5 +1,5 @@
 -- A scanner that is given the bytes of an input, part by part.
-use Rattle.std.proofs.Common.{◌≡◌, ℕ, ◌≤◌, true, List, [], ◌∷◌, ◌++◌, length, drop, Option, Some, None, Result, Ok, Err, inl, inr, refl, sym, ap, subst, ◌∙◌, arith}
+use Rattle.std.proofs.Common.{◌≡◌, ℕ, true, List, [], ◌∷◌, ◌++◌, length, drop, Option, Some, None, Result, Ok, Err, inl, inr, refl, sym, ap, subst, ◌∙◌, arith}
 use Rattle.std.proofs.lemmas.List.{drop_all}
 use Rattle.pnm_read.specs.declared.fault.InputFault.{InputFault}
 use Rattle.pnm_read.specs.declared.fault.InputFault.TheVariants.{ReadFailed}
@@ -63,11 +63,11 @@ pub scan_ends : {R S : Type 0} {left : R → Option (List ℕ)} {failures : R �
     → Turn left failures same input_old mid (ended_as fault) (Scans (item old) (at_end old) (is_after old) (is_whole now) (ended_as fault))
 scan_ends {item = item} {at_end = at_end} {is_after = is_after} {mid = mid} {old = old} {now = now} is_whole fault later s t held ended of_text judged =
     turn_ok_so tt (ended_as fault) (ended_of_text fault of_text) (λ b a o before f.
-      let on = o.0.1 before f in
-      let none = nothing_left mid a held ended o.1 in
-      let end = judged on.0 on.1 in
-      subst (ScansAfter (item old) (at_end old) (is_whole now) (ended_as fault) before b) (sym none)
-      (end_found (item old) (at_end old) (is_whole now) on.0 b before fault (end.0 ∙ ap (λ (e : List ℕ → Option InputFault). e on.0) s.same_end) end.1 (on.2 ∙ ap (piece_from (item old) (at_end old) on.0) (o.0.2 ∙ none))))
+    let on = o.0.1 before f in
+    let none = nothing_left mid a held ended o.1 in
+    let end = judged on.0 on.1 in
+    subst (ScansAfter (item old) (at_end old) (is_whole now) (ended_as fault) before b) (sym none)
+    (end_found (item old) (at_end old) (is_whole now) on.0 b before fault (end.0 ∙ ap (λ (e : List ℕ → Option InputFault). e on.0) s.same_end) end.1 (on.2 ∙ ap (piece_from (item old) (at_end old) on.0) (o.0.2 ∙ none))))
     (read_on later s t)
 
 -- what is left after some bytes were taken
@@ -83,8 +83,8 @@ pub scan_fails : {R S : Type 0} {left : R → Option (List ℕ)} {failures : R �
     → Turn {A = Unit {0}} left failures same input_old mid (Err k) (Scans (item old) (at_end old) (is_after old) is_whole (Err k))
 scan_fails {item = item} {at_end = at_end} {is_after = is_after} {mid = mid} {old = old} {now = now} is_after_new is_whole k later s t of_text f =
     turn_ok_so tt (Err k) (λ e. of_text cc) (λ b a o before g.
-      let on = o.0.1 before g in
-      inl (on.2 ∙ ap (piece_from (item old) (at_end old) on.0) (o.0.2 ∙ o.1.2) ∙ fed_as item at_end is_after is_after_new is_whole old now (held_of mid) (Err k) on.0 s.same_items s.same_end f on.1 o.1.0))
+    let on = o.0.1 before g in
+    inl (on.2 ∙ ap (piece_from (item old) (at_end old) on.0) (o.0.2 ∙ o.1.2) ∙ fed_as item at_end is_after is_after_new is_whole old now (held_of mid) (Err k) on.0 s.same_items s.same_end f on.1 o.1.0))
     (read_on later s t)
 
 -- the piece has ended
@@ -94,9 +94,9 @@ pub scan_found : {R S : Type 0} {left : R → Option (List ℕ)} {failures : R �
     → Turn {A = Unit {0}} left failures same input_old new (Ok tt) (Scans (item old) (at_end old) (is_after old) is_whole (Ok tt))
 scan_found {item = item} {at_end = at_end} {is_after = is_after} {mid = mid} {old = old} {now = now} is_after_new is_whole n later s t f reader ended held =
     turn_advance tt (Ok tt) n (no_fault tt ReadFailed) reader ended held (λ b rest c o before g.
-      let on = o.0.1 before g in
-      let fed = fed_as item at_end is_after is_after_new is_whole old now (held_of mid) (Ok (Some n)) on.0 s.same_items s.same_end f on.1 in
-      (fed.0, fed.1, on.2 ∙ ap (piece_from (item old) (at_end old) on.0) o.0.2 ∙ fed.2 rest))
+    let on = o.0.1 before g in
+    let fed = fed_as item at_end is_after is_after_new is_whole old now (held_of mid) (Ok (Some n)) on.0 s.same_items s.same_end f on.1 in
+    (fed.0, fed.1, on.2 ∙ ap (piece_from (item old) (at_end old) on.0) o.0.2 ∙ fed.2 rest))
     (read_on later s t)
 
 -- the piece goes on after all bytes that are held
@@ -106,15 +106,15 @@ pub scan_goes_on : {R S : Type 0} {left : R → Option (List ℕ)} {failures : R
     → new.reader ≡ mid.reader → new.ended ≡ mid.ended → held_of new ≡ drop n (held_of mid)
     → Scanning left failures same item at_end is_after input_old new old later_on
 scan_goes_on {item = item} {at_end = at_end} {is_after = is_after} {mid = mid} {old = old} {now = now} {later_on = later_on} is_whole n later s t f items ends all reader ended held = record {
-    same_items = items ∙ s.same_items;
-    same_end = ends ∙ s.same_end;
-    turn = turn_advance tt (Ok tt) n (no_fault tt ReadFailed) reader ended held (λ b rest c o before g.
+  same_items = items ∙ s.same_items;
+  same_end = ends ∙ s.same_end;
+  turn = turn_advance tt (Ok tt) n (no_fault tt ReadFailed) reader ended held (λ b rest c o before g.
       let on = o.0.1 before g in
       let fed = fed_as item at_end is_after (is_after later_on) is_whole old now (held_of mid) (Ok None) on.0 s.same_items s.same_end f on.1 in
       let none : drop n (held_of mid) ≡ [] = drop_all n (held_of mid) (omega arith) in
       (on.0 ++ held_of mid, fed.0, on.2 ∙ ap (piece_from (item old) (at_end old) on.0) o.0.2 ∙ fed.1 rest ∙ ap (λ (l : List ℕ). piece_from (item old) (at_end old) (on.0 ++ held_of mid) (l ++ rest)) (sym none)))
-    (read_on later s t);
-  }
+      (read_on later s t);
+}
 
 -- where nothing is held after reading on, the end was seen
 pub end_seen : {R : Type 0} (input : Input R) → HoldsEnough 1 input → held_of input ≡ [] → input.ended ≡ true

@@ -1,18 +1,16 @@
 -- The answers of a source.
-use Rattle.std.proofs.Common.{◌≡◌, ℕ, Bool, false, true, List, [], ◌++◌, Option, Some, None, Result, Ok, Err, inl, inr, refl, sym, ap, subst, ◌∙◌}
+use Rattle.std.proofs.Common.{◌≡◌, ℕ, Bool, false, true, List, [], ◌++◌, Option, Some, None, Result, Ok, Err, inl, refl, ap}
 use Rattle.std.specs.Prelude.{IfErr}
-use Rattle.std.specs.Io.KnownBytes.{Consumes}
 use Rattle.pnm_image.specs.declared.message.Message.{Message}
 use Rattle.pnm_image.specs.declared.message.Message.TheVariants.{Begin, Row, ImageEnd, StreamEnd, Stop}
 use Rattle.pnm_read.specs.declared.fault.InputFault.{InputFault}
-use Rattle.pnm_read.specs.declared.input.Input.{Input}
 use Rattle.pnm_read.specs.declared.source.Stage.{Stage}
 use Rattle.pnm_read.specs.declared.source.Stage.TheVariants.{Start, Rows, End, Ended, Failed}
 use Rattle.pnm_read.specs.declared.source.Source.{Source}
-use Rattle.pnm_read.specs.Said.{Said, said, says_fault}
-use Rattle.pnm_read.specs.Inputs.{Turn, held_of, CanCome, EndsRightly}
+use Rattle.pnm_read.specs.Said.{says_fault}
+use Rattle.pnm_read.specs.Inputs.{Turn, held_of}
 use Rattle.pnm_read.specs.Stages.{GoesOn, stage_due, stage_fault, is_ended, is_going}
-use Rattle.pnm_read.specs.Sources.{IsFresh, Tells, SaysAnswer, due, MayGive, SeesEnd}
+use Rattle.pnm_read.specs.Sources.{IsFresh, Tells, due, MayGive, SeesEnd}
 use Rattle.pnm_read.proofs.Gathered.{consumes_nothing}
 
 due_stopped : (stage : Stage) (k : InputFault) (text : List ℕ) → stage_fault stage ≡ Some k → stage_due stage text ≡ says_fault k
@@ -28,38 +26,38 @@ ended_not ended f t = absurd cc
 pub fresh_source : {R : Type 0} (reader : R) (s : Source R) → s.input.reader ≡ reader → held_of s.input ≡ [] → s.input.ended ≡ false → s.stage ≡ Start → IsFresh reader s
 unfolding due MayGive SeesEnd
 fresh_source reader s r held ended stage = record {
-    reader_is = r;
-    due_is = λ text. rw (stage, held) refl;
-    gives = λ text e. ended_not s.input.ended ended e;
-    end = λ left e. ended_not s.input.ended ended e;
-    going = ap stage_fault stage;
-  }
+  reader_is = r;
+  due_is = λ text. rw (stage, held) refl;
+  gives = λ text e. ended_not s.input.ended ended e;
+  end = λ left e. ended_not s.input.ended ended e;
+  going = ap stage_fault stage;
+}
 
 -- an answer gave the next of what was to be said
 pub tells_on : {R : Type 0} {left : R → Option (List ℕ)} {failures : R → ℕ} {same : R → R → Type 0} (old new : Source R) (m : Option Message) → Turn left failures same old.input new.input (Ok m) (GoesOn old.stage (Ok m) new.stage) → Tells left old (Ok m) new
 unfolding due MayGive
 tells_on old new (Some m) t = record {
-    read = t.read;
-    consumed = t.consumed;
-    comes = t.comes;
-    says = λ rest c. (t.told rest c).0;
-  }
+  read = t.read;
+  consumed = t.consumed;
+  comes = t.comes;
+  says = λ rest c. (t.told rest c).0;
+}
 tells_on old new None t = record {
-    read = t.read;
-    consumed = t.consumed;
-    comes = t.comes;
-    says = λ rest c. absurd (t.told rest c);
-  }
+  read = t.read;
+  consumed = t.consumed;
+  comes = t.comes;
+  says = λ rest c. absurd (t.told rest c);
+}
 
 -- an answer was a fault
 pub tells_fault : {R : Type 0} {left : R → Option (List ℕ)} {failures : R → ℕ} {same : R → R → Type 0} (old new : Source R) (k : InputFault) → stage_fault new.stage ≡ Some k → Turn {A = Option Message} left failures same old.input new.input (Err k) (GoesOn old.stage (Err k) new.stage) → Tells left old (Err k) new
 unfolding due MayGive
 tells_fault old new k stopped t = record {
-    read = t.read;
-    consumed = t.consumed;
-    comes = t.comes;
-    says = λ rest c. (due_stopped new.stage k (held_of new.input ++ rest) stopped, t.told rest c);
-  }
+  read = t.read;
+  consumed = t.consumed;
+  comes = t.comes;
+  says = λ rest c. (due_stopped new.stage k (held_of new.input ++ rest) stopped, t.told rest c);
+}
 
 pub tells : {R : Type 0} {left : R → Option (List ℕ)} {failures : R → ℕ} {same : R → R → Type 0} (old new : Source R) (result : Result (Option Message) InputFault) → IfErr result (λ k. stage_fault new.stage ≡ Some k) → Turn left failures same old.input new.input result (GoesOn old.stage result new.stage) → Tells left old result new
 tells old new (Ok m) stopped t = tells_on old new m t
@@ -69,21 +67,21 @@ tells old new (Err k) stopped t = tells_fault old new k stopped t
 pub tells_no_more : {R : Type 0} (left : R → Option (List ℕ)) (s : Source R) → s.stage ≡ Ended → Tells left s (Ok None) s
 unfolding due MayGive
 tells_no_more left s stage = record {
-    read = [];
-    consumed = consumes_nothing (left s.input.reader);
-    comes = λ rest c. c;
-    says = λ rest c. (ap (λ (g : Stage). stage_due g (held_of s.input ++ rest)) stage, ap (λ (g : Stage). stage_due g (held_of s.input ++ rest)) stage);
-  }
+  read = [];
+  consumed = consumes_nothing (left s.input.reader);
+  comes = λ rest c. c;
+  says = λ rest c. (ap (λ (g : Stage). stage_due g (held_of s.input ++ rest)) stage, ap (λ (g : Stage). stage_due g (held_of s.input ++ rest)) stage);
+}
 
 -- after a fault it stays, and nothing is read
 pub tells_again : {R : Type 0} (left : R → Option (List ℕ)) (s : Source R) (k : InputFault) → s.stage ≡ Failed k → Tells left s (Err k) s
 unfolding due MayGive
 tells_again left s k stage = record {
-    read = [];
-    consumed = consumes_nothing (left s.input.reader);
-    comes = λ rest c. c;
-    says = λ rest c. (ap (λ (g : Stage). stage_due g (held_of s.input ++ rest)) stage, inl (ap (λ (g : Stage). stage_due g (held_of s.input ++ rest)) stage));
-  }
+  read = [];
+  consumed = consumes_nothing (left s.input.reader);
+  comes = λ rest c. c;
+  says = λ rest c. (ap (λ (g : Stage). stage_due g (held_of s.input ++ rest)) stage, inl (ap (λ (g : Stage). stage_due g (held_of s.input ++ rest)) stage));
+}
 
 -- the stage after the end of the stream
 pub ended_after : {R : Type 0} {left : R → Option (List ℕ)} {failures : R → ℕ} {same : R → R → Type 0} (old new : Source R) (result : Result (Option Message) InputFault) → Turn left failures same old.input new.input result (GoesOn old.stage result new.stage) → result ≡ Ok (Some StreamEnd) → is_ended new.stage ≡ true

@@ -1,18 +1,16 @@
 -- The steps of a source from stage to stage.
-use Rattle.std.proofs.Common.{◌≡◌, ◌⊎◌, ℕ, suc, ◌+◌, ◌-◌, ◌<◌, ◌≤◌, Bool, true, false, List, [], ◌∷◌, ◌++◌, Option, Some, None, Result, Ok, Err, inl, inr, refl, sym, ap, subst, ◌∙◌, arith}
+use Rattle.std.proofs.Common.{◌≡◌, ◌⊎◌, ℕ, suc, ◌+◌, ◌-◌, ◌≤◌, Bool, true, false, List, [], ◌∷◌, Result, Ok, Err, inl, inr, refl, ap, ◌∙◌, arith}
 use Rattle.std.proofs.lemmas.Bool.{cases_lt}
 use Rattle.pnm_image.specs.declared.shape.Shape.{Shape}
-use Rattle.pnm_image.specs.declared.message.Message.{Message}
 use Rattle.pnm_image.specs.declared.message.Message.TheVariants.{Begin, Row, ImageEnd, StreamEnd}
 use Rattle.pnm_image.specs.Heads.{Header}
 use Rattle.pnm_read.specs.declared.fault.InputFault.{InputFault}
 use Rattle.pnm_read.specs.declared.fault.InputFault.TheVariants.{BadMagic}
 use Rattle.pnm_read.specs.declared.format.Format.{Format}
 use Rattle.pnm_read.specs.declared.raster.Raster.{Raster}
-use Rattle.pnm_read.specs.declared.source.Stage.{Stage}
-use Rattle.pnm_read.specs.declared.source.Stage.TheVariants.{Start, Rows, End, Ended, Failed}
+use Rattle.pnm_read.specs.declared.source.Stage.TheVariants.{Start, Rows, End, Ended}
 use Rattle.pnm_read.specs.declared.source.Step.{Step}
-use Rattle.pnm_read.specs.Said.{Said, said, format_at, head_at, format_said, image_said, rows_said, row_at, row_by, raw_row, end_said, then_said, says_fault}
+use Rattle.pnm_read.specs.Said.{Said, said, format_at, head_at, format_said, image_said, rows_said, row_at, end_said, then_said, says_fault}
 use Rattle.pnm_read.specs.Inputs.{Finds, IsOutsideFault}
 use Rattle.pnm_read.specs.Stages.{Steps, EndsText, stage_due}
 
@@ -86,7 +84,7 @@ row_step raster next row step b a n e nf ns ny sm ss =
     let rows : next.shape.height - next.y ≡ raster.shape.height - raster.y - 1 = let same = ap (λ (s : Shape). s.height) ns in omega arith in
     let due : rows_said raster.format raster.shape (raster.shape.height - raster.y - 1) a ≡ stage_due (Rows next) a = rw (nf, rows, ns) refl in
     let said : stage_due (Rows raster) b ≡ then_said (Row row) (stage_due (Rows next) a) =
-      ap (λ (k : ℕ). rows_said raster.format raster.shape k b) left ∙ row_is_said raster.format raster.shape (raster.shape.height - raster.y - 1) b a row e ∙ ap (then_said (Row row)) due in
+    ap (λ (k : ℕ). rows_said raster.format raster.shape k b) left ∙ row_is_said raster.format raster.shape (raster.shape.height - raster.y - 1) b a row e ∙ ap (then_said (Row row)) due in
     rw (sm, ss) (said, tt)
 
 -- a row at fault

@@ -1,12 +1,12 @@
 -- How turns follow one another.
-use Rattle.std.proofs.Common.{◌≡◌, ◌==◌, ℕ, ◌≤◌, true, false, List, [], ◌∷◌, ◌++◌, length, drop, Option, Some, None, Result, Ok, Err, refl, sym, ap, subst, ◌∙◌, append_assoc}
+use Rattle.std.proofs.Common.{◌≡◌, ◌==◌, ℕ, true, false, List, [], ◌∷◌, ◌++◌, length, drop, Option, Result, Ok, Err, refl, sym, ap, subst, ◌∙◌, append_assoc}
 use Rattle.std.specs.Prelude.{OnOk}
 use Rattle.std.specs.Io.KnownBytes.{Consumes, IsAtEnd}
 use Rattle.pnm_image.specs.Devices.{Failed}
 use Rattle.pnm_read.specs.declared.fault.InputFault.{InputFault}
 use Rattle.pnm_read.specs.declared.fault.InputFault.TheVariants.{ReadFailed}
 use Rattle.pnm_read.specs.declared.input.Input.{Input}
-use Rattle.pnm_read.specs.Inputs.{Turn, held_of, CanCome, EndsRightly}
+use Rattle.pnm_read.specs.Inputs.{Turn, held_of, CanCome}
 use Rattle.pnm_read.proofs.Gathered.{consumes_nothing, consumes_then}
 
 -- what a call found follows from what another found in the same turn
@@ -30,15 +30,15 @@ pub turn_then : {R A B : Type 0} {left : R → Option (List ℕ)} {failures : R 
     (x : A) → ((a b c : R) → same a b → same b c → same a c) → Turn left failures same old mid (Ok x) o → Turn left failures same mid new result q
     → Turn left failures same old new result (λ b a. (m : List ℕ) × o b m × q m a)
 turn_then {left = left} {failures = failures} {old = old} {mid = mid} {new = new} {o = o} {result = result} x later s t = record {
-    read = s.read ++ t.read;
-    consumed = consumes_then (left old.reader) (left mid.reader) (left new.reader) s.read t.read s.consumed t.consumed;
-    comes = λ rest c. subst (CanCome old) (sym (append_assoc s.read t.read rest)) (s.comes (t.read ++ rest) (t.comes rest c));
-    told = λ rest c. (held_of mid ++ (t.read ++ rest), subst (λ (l : List ℕ). o (held_of old ++ l) (held_of mid ++ (t.read ++ rest))) (sym (append_assoc s.read t.read rest)) (s.told (t.read ++ rest) (t.comes rest c)), t.told rest c);
-    end = λ e. t.end (s.end e);
-    same_device = later old.reader mid.reader new.reader s.same_device t.same_device;
-    count = counted result (failures old.reader) (failures mid.reader) (failures new.reader) t.count s.count;
-    read_failed = λ e. subst (λ (n : ℕ). Failed n (failures new.reader)) s.count (t.read_failed e);
-  }
+  read = s.read ++ t.read;
+  consumed = consumes_then (left old.reader) (left mid.reader) (left new.reader) s.read t.read s.consumed t.consumed;
+  comes = λ rest c. subst (CanCome old) (sym (append_assoc s.read t.read rest)) (s.comes (t.read ++ rest) (t.comes rest c));
+  told = λ rest c. (held_of mid ++ (t.read ++ rest), subst (λ (l : List ℕ). o (held_of old ++ l) (held_of mid ++ (t.read ++ rest))) (sym (append_assoc s.read t.read rest)) (s.told (t.read ++ rest) (t.comes rest c)), t.told rest c);
+  end = λ e. t.end (s.end e);
+  same_device = later old.reader mid.reader new.reader s.same_device t.same_device;
+  count = counted result (failures old.reader) (failures mid.reader) (failures new.reader) t.count s.count;
+  read_failed = λ e. subst (λ (n : ℕ). Failed n (failures new.reader)) s.count (t.read_failed e);
+}
 
 same_count : {A B : Type 0} (result : Result A InputFault) → B → OnOk result B
 same_count (Ok x) b = b
@@ -49,15 +49,15 @@ pub turn_taken : {R A : Type 0} {left : R → Option (List ℕ)} {failures : R �
     (taken : List ℕ) → ((a : R) → same a a) → (result ≡ Err ReadFailed → ⊥) → new.reader ≡ old.reader → new.ended ≡ old.ended → held_of old ≡ taken ++ held_of new
     → Turn left failures same old new result (λ b a. b ≡ taken ++ a)
 turn_taken {left = left} {failures = failures} {same = same} {old = old} {new = new} {result = result} taken at_once n reader ended held = record {
-    read = [];
-    consumed = subst (λ r. Consumes (left old.reader) (left r) []) (sym reader) (consumes_nothing (left old.reader));
-    comes = λ rest c e. c (ended ∙ e);
-    told = λ rest c. ap (λ (l : List ℕ). l ++ rest) held ∙ append_assoc taken (held_of new) rest;
-    end = λ h e. subst (λ r. IsAtEnd (left r)) (sym reader) (h (sym ended ∙ e));
-    same_device = subst (λ r. same old.reader r) (sym reader) (at_once old.reader);
-    count = same_count result (ap failures reader);
-    read_failed = λ e. absurd (n e);
-  }
+  read = [];
+  consumed = subst (λ r. Consumes (left old.reader) (left r) []) (sym reader) (consumes_nothing (left old.reader));
+  comes = λ rest c e. c (ended ∙ e);
+  told = λ rest c. ap (λ (l : List ℕ). l ++ rest) held ∙ append_assoc taken (held_of new) rest;
+  end = λ h e. subst (λ r. IsAtEnd (left r)) (sym reader) (h (sym ended ∙ e));
+  same_device = subst (λ r. same old.reader r) (sym reader) (at_once old.reader);
+  count = same_count result (ap failures reader);
+  read_failed = λ e. absurd (n e);
+}
 
 -- what is left is what is held and what may still come
 abbrev pub IsLeft : {R : Type 0} → Input R → List ℕ → Type 0
@@ -77,15 +77,15 @@ pub turn_advance : {R A B : Type 0} {left : R → Option (List ℕ)} {failures :
     → ((b rest : List ℕ) → CanCome mid rest → o b (held_of mid ++ rest) → q b (drop n (held_of mid) ++ rest))
     → Turn left failures same old mid (Ok x) o → Turn left failures same old new result q
 turn_advance {left = left} {failures = failures} {same = same} {old = old} {mid = mid} {new = new} {q = q} x result n f reader ended held g t = record {
-    read = t.read;
-    consumed = subst (λ r. Consumes (left old.reader) (left r) t.read) (sym reader) t.consumed;
-    comes = λ rest c. t.comes rest (λ e. c (ended ∙ e));
-    told = λ rest c. subst (λ (l : List ℕ). q (held_of old ++ (t.read ++ rest)) (l ++ rest)) (sym held) (g _ rest (λ e. c (ended ∙ e)) (t.told rest (λ e. c (ended ∙ e))));
-    end = λ h e. subst (λ r. IsAtEnd (left r)) (sym reader) (t.end h (sym ended ∙ e));
-    same_device = subst (λ r. same old.reader r) (sym reader) t.same_device;
-    count = same_count result (ap failures reader ∙ t.count);
-    read_failed = λ e. absurd (f e);
-  }
+  read = t.read;
+  consumed = subst (λ r. Consumes (left old.reader) (left r) t.read) (sym reader) t.consumed;
+  comes = λ rest c. t.comes rest (λ e. c (ended ∙ e));
+  told = λ rest c. subst (λ (l : List ℕ). q (held_of old ++ (t.read ++ rest)) (l ++ rest)) (sym held) (g _ rest (λ e. c (ended ∙ e)) (t.told rest (λ e. c (ended ∙ e))));
+  end = λ h e. subst (λ r. IsAtEnd (left r)) (sym reader) (t.end h (sym ended ∙ e));
+  same_device = subst (λ r. same old.reader r) (sym reader) t.same_device;
+  count = same_count result (ap failures reader ∙ t.count);
+  read_failed = λ e. absurd (f e);
+}
 
 -- an answer is no fault
 pub no_fault : {A : Type 0} (x : A) (k : InputFault) → Ok x ≡ Err k → ⊥

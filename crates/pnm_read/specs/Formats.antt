@@ -1,5 +1,5 @@
 -- The six formats of PNM, from pbm(5), pgm(5) and ppm(5), and what a header's numbers make.
-use Rattle.std.specs.Prelude.{ℕ, Bool, true, false, ◌==◌, if◌then◌else◌, List, [], ◌∷◌, Option, Some, None, slice_index}
+use Rattle.std.specs.Prelude.{ℕ, true, false, ◌==◌, if◌then◌else◌, List, [], ◌∷◌, Option, Some, None, slice_index}
 use Rattle.pnm_image.specs.declared.shape.Shape.{Shape}
 use Rattle.pnm_image.specs.declared.shape.Kind.{Kind}
 use Rattle.pnm_image.specs.declared.shape.Kind.TheVariants.{Bit, Gray, Color, Pam}

@@ -1,5 +1,5 @@
 -- How a PNM header is spelled. From pbm(5), pgm(5) and ppm(5), 'The layout'.
-use Rattle.std.specs.Prelude.{◌≡◌, ℕ, ◌<◌, ◌≤◌, Bool, true, false, ◌||◌, List, [], ◌∷◌, ◌++◌, length, Some}
+use Rattle.std.specs.Prelude.{◌≡◌, ℕ, ◌<◌, ◌≤◌, true, false, ◌||◌, List, [], ◌∷◌, ◌++◌, length, Some}
 use Rattle.std.specs.List.{AllPass}
 use Rattle.pnm_image.specs.Heads.{Header, IsHeader}
 use Rattle.pnm_read.specs.declared.format.Format.{Format}

@@ -1,13 +1,12 @@
 -- The items that a text is cut into, and the faults of each in their order. A byte of a header, and of a
 -- plain raster, is judged by the bytes before it in the same piece: of a header those after the magic, of
 -- a plain raster those since the last digit of the sample before.
-use Rattle.std.specs.Prelude.{ℕ, Bool, true, false, not, ◌==◌, nat_le, nat_lt, ◌*◌, ◌+◌, ◌&&◌, ◌||◌, if◌then◌else◌, List, [], ◌∷◌, ◌++◌, length, Option, Some, None, Result, Ok, Err}
-use Rattle.pnm_image.specs.declared.shape.Shape.{Shape}
+use Rattle.std.specs.Prelude.{ℕ, Bool, not, ◌==◌, nat_le, ◌*◌, ◌+◌, ◌&&◌, ◌||◌, if◌then◌else◌, List, [], ◌∷◌, ◌++◌, length, Option, Some, None, Result, Ok, Err}
 use Rattle.pnm_image.specs.declared.shape.Kind.{Kind}
 use Rattle.pnm_image.specs.declared.shape.Kind.TheVariants.{Bit, Gray, Color, Pam}
 use Rattle.pnm_image.specs.declared.head.HeadFault.{HeadFault}
 use Rattle.pnm_image.specs.declared.head.HeadFault.TheVariants as heads
-use Rattle.pnm_image.specs.Heads.{Header, header_of, row_length, shape_fault}
+use Rattle.pnm_image.specs.Heads.{Header, header_of, shape_fault}
 use Rattle.pnm_read.specs.declared.fault.InputFault.{InputFault}
 use Rattle.pnm_read.specs.declared.fault.InputFault.TheVariants.{EmptyInput, BadMagic, HeaderCut, TooLong, BadNumber, ZeroSize, TooLarge, BadMaxval, RasterCut, SampleAboveMaxval, BadSample, Memory}
 use Rattle.pnm_read.specs.declared.format.Format.{Format}
@@ -16,8 +15,8 @@ use Rattle.pnm_read.specs.declared.packing.Packing.TheVariants.{Packed, Narrow, 
 use Rattle.pnm_read.specs.declared.judgement.Judgement.{Judgement}
 use Rattle.pnm_read.specs.declared.judgement.Judgement.TheVariants.{GoesOn, EndsWith, EndsBefore, Fails}
 use Rattle.pnm_read.specs.Texts.{is_white, is_digit, is_apart, begins_apart, ends_by, ends_in_comment, number_in, numbers_in}
-use Rattle.pnm_read.specs.Formats.{format_of, number_count, shape_of}
-use Rattle.pnm_read.specs.Rasters.{packing_of, pixels}
+use Rattle.pnm_read.specs.Formats.{format_of, shape_of}
+use Rattle.pnm_read.specs.Rasters.{pixels}
 
 infixl 10 ◌>>=◌
 abbrev pub ◌>>=◌ : {A B : Type 0} → Result A InputFault → (A → Result B InputFault) → Result B InputFault
@@ -142,7 +141,6 @@ pixel_item before b =
 
 abbrev pub pixel_end : List ℕ → Option InputFault
 pixel_end before = Some RasterCut
-
 
 -- the sample that a pixel's character spells; 1 is black, which is sample 0
 abbrev pub pixel_in : List ℕ → ℕ

@@ -1,12 +1,11 @@
 -- How a raster is spelled. From pbm(5), pgm(5) and ppm(5), 'The layout', and of the plain formats 'Plain PBM' and so on.
-use Rattle.std.specs.Prelude.{◌≡◌, ℕ, zero, suc, ◌+◌, ◌*◌, ◌-◌, ◌^◌, ◌/◌, ◌%◌, ◌<◌, ◌≤◌, Bool, true, false, nat_lt, if◌then◌else◌, List, [], ◌∷◌, ◌++◌, length, take, map, flat_map}
+use Rattle.std.specs.Prelude.{◌≡◌, ℕ, ◌+◌, ◌*◌, ◌-◌, ◌^◌, ◌/◌, ◌%◌, ◌<◌, ◌≤◌, true, false, nat_lt, if◌then◌else◌, List, [], ◌∷◌, ◌++◌, length, take, map, flat_map}
 use Rattle.std.specs.List.{AllPass}
 use Rattle.pnm_image.specs.declared.shape.Shape.{Shape}
 use Rattle.pnm_image.specs.declared.shape.Kind.{Kind}
 use Rattle.pnm_image.specs.declared.shape.Kind.TheVariants.{Bit, Gray, Color, Pam}
 use Rattle.pnm_image.specs.Heads.{row_length}
 use Rattle.pnm_image.specs.Images.{Image, IsImage, cut_rows, rows_of}
-use Rattle.pnm_read.specs.declared.format.Format.{Format}
 use Rattle.pnm_read.specs.declared.packing.Packing.{Packing}
 use Rattle.pnm_read.specs.declared.packing.Packing.TheVariants.{Packed, Narrow, Wide}
 use Rattle.pnm_read.specs.Texts.{is_white, is_digit, begins_apart, ends_in_comment, uncommented, decimal_value}

@@ -22,4 +22,3 @@ pub record IsNumbers (wanted : ℕ) (found : List ℕ) (held : List ℕ) : Type 
 abbrev pub GivesInMemory : {A : Type 0} → Result A InputFault → Result A InputFault → Type 0
 GivesInMemory (Ok x) read = read ≡ Ok x
 GivesInMemory (Err fault) read = (fault ≡ Memory) ⊎ (read ≡ Err fault)
-

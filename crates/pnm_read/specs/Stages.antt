@@ -7,7 +7,6 @@ use Rattle.pnm_read.specs.declared.fault.InputFault.TheVariants.{BadMagic}
 use Rattle.pnm_read.specs.declared.source.Stage.{Stage}
 use Rattle.pnm_read.specs.declared.source.Stage.TheVariants.{Start, Rows, End, Ended, Failed}
 use Rattle.pnm_read.specs.declared.source.Step.{Step}
-use Rattle.pnm_read.specs.declared.raster.Raster.{Raster}
 use Rattle.pnm_read.specs.Said.{Said, said, says_nothing, says_fault, end_said, rows_said, then_said}
 use Rattle.pnm_read.specs.Inputs.{IsOutsideFault}
 

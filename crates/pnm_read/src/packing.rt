@@ -64,12 +64,7 @@ impl Packing {
 
     /// Appends the samples of so many units, which these bytes are, to a row. The loops over the
     /// bytes are vector code. A row that holds samples above the maxval is never given on.
-    pub fn append(
-        self,
-        bytes: &[u8],
-        maxval: u32,
-        row: &mut Vec<u16>,
-    ) -> Result<(), InputFault>
+    pub fn append(self, bytes: &[u8], maxval: u32, row: &mut Vec<u16>) -> Result<(), InputFault>
         ensures { (n : ℕ) → length bytes.now ≡ n * unit_bytes self → AppendsUnits self maxval n bytes.now row.old.items row.new.items result }
     {
         match self {

@@ -49,11 +49,7 @@ fn read_samples<R: BytesIn>(input: &mut Input<R>, shape: Shape) -> Result<Sample
 }
 
 /// The next sample.
-fn read_sample<R: BytesIn>(
-    input: &mut Input<R>,
-    kind: Kind,
-    maxval: u32,
-) -> Result<u16, InputFault>
+fn read_sample<R: BytesIn>(input: &mut Input<R>, kind: Kind, maxval: u32) -> Result<u16, InputFault>
     requires { maxval ≤ 65535 }
     ensures { Turn R.left R.failures R.same input.old input.new result (Finds (λ sample. sample) (plain_sample kind maxval) result) }
 {

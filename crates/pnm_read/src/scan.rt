@@ -45,10 +45,7 @@ pub trait Scanner {
 }
 
 /// Gives the scanner bytes of the input until its piece ends; asks for more where they run out.
-pub fn scan<R: BytesIn, S: Scanner>(
-    input: &mut Input<R>,
-    scanner: &mut S,
-) -> Result<(), InputFault>
+pub fn scan<R: BytesIn, S: Scanner>(input: &mut Input<R>, scanner: &mut S) -> Result<(), InputFault>
     ensures { Turn R.left R.failures R.same input.old input.new result (Scans (S.item scanner.old) (S.at_end scanner.old) (S.is_after scanner.old) (S.is_whole scanner.new) result) }
 {
     loop {

@@ -12,9 +12,8 @@ ghost use Rattle.pnm_read.specs.Stages.{is_going, GoesOn, Steps, EndsText};
 use crate::fault::InputFault;
 use crate::header::{read_format, read_head};
 use crate::input::Input;
-use crate::plain;
 use crate::raster::Raster;
-use crate::raw;
+use crate::{plain, raw};
 use pnm_image::{BytesIn, Message, Samples};
 use std::alloc::Global;
 

@@ -23,7 +23,7 @@ pub returns-in-Some-2 : goal.returns-in-Some-2
 returns-in-Some-2 g c =
     turn_ok_so c.in_ok-byte.field-0 c.ok_or.result (magic_of_text c.ok_or.result c.of.result c.ok_or.ensures.value)
     (λ b a o. magic_found c.ok_or.result c.of.result b o.0 a c.in-Some-2.byte c.ok_or.ensures.value c.of.ensures
-      (byte_is c.in_ok-next_byte.field-0 80 b o.0 (c.in-Some-eq80.is ∙ ap (λ (byte : ℕ). Some byte) c.in-Some-eq80.field-0-test) o.1) (byte_is c.in_ok-byte.field-0 c.in-Some-2.byte o.0 a c.in-Some-2.is o.2))
+    (byte_is c.in_ok-next_byte.field-0 80 b o.0 (c.in-Some-eq80.is ∙ ap (λ (byte : ℕ). Some byte) c.in-Some-eq80.field-0-test) o.1) (byte_is c.in_ok-byte.field-0 c.in-Some-2.byte o.0 a c.in-Some-2.is o.2))
     (turn_then c.in_ok-next_byte.field-0 g.met.R.BytesIn.same_later c.in_ok-next_byte.ensures c.in_ok-byte.ensures)
 
 pub returns-in-None-2 : goal.returns-in-None-2

@@ -16,7 +16,7 @@ pub returns-then-units-eq0 : goal.returns-then-units-eq0
 returns-then-units-eq0 g c =
     units_cut (λ row. row.items) c.args.shape c.unit_bytes-unit.result g.met.R.BytesIn.same_later c.loop-left.invariant c.in_ok-fill.ensures.turn c.of-packing.ensures c.units_in_row-left.ensures c.unit_bytes-unit.ensures c.loop-left-test.true c.in_ok-fill.ensures.enough
     (too_few_bytes c.of-packing.result c.unit_bytes-unit.result (length (held_of c.fill.new.self)) c.loop-left.left c.unit_bytes-unit.ensures
-      (rw (sym c.bytes-bytes.ensures) (sym c.min-units.ensures ∙ c.if-units-eq0.true)) c.loop-left-test.true)
+    (rw (sym c.bytes-bytes.ensures) (sym c.min-units.ensures ∙ c.if-units-eq0.true)) c.loop-left-test.true)
 
 pub returns-in_err-append : goal.returns-in_err-append
 returns-in_err-append g c =

@@ -1,7 +1,6 @@
-use Rattle.std.proofs.Common.{rules, arith, ◌≡◌, List, [], ℕ, length, Some, None, Ok, Err, refl, sym, ap, subst, inl, inr, ◌∙◌}
+use Rattle.std.proofs.Common.{rules, ◌≡◌, List, [], ℕ, length, Some, None, Err, sym, ap}
 use Rattle.std.proofs.lemmas.Result.{err_from_is_err_and}
 use Rattle.pnm_read.specs.Inputs.{held_of}
-use Rattle.pnm_read.specs.Scans.{Feeds}
 use Rattle.pnm_read.proofs.ScanSteps.{scan_unread, scan_ends, scan_fails, scan_found, scan_goes_on, none_of_length, end_seen}
 use Rattle.pnm_read.proofs.scan.scan.Goals as goal
 

@@ -1,6 +1,4 @@
-use Rattle.std.proofs.Common.{Ok}
-use Rattle.pnm_read.specs.Inputs.{Turn}
-use Rattle.pnm_read.proofs.ScanSteps.{Scanning, GoesOnAs}
+use Rattle.pnm_read.proofs.ScanSteps.{Scanning}
 use Rattle.pnm_read.proofs.scan.scan.Given as goal
 
 abbrev pub invariant-loop-input : goal.invariant-loop-input

@@ -1,4 +1,4 @@
-use Rattle.std.proofs.Common.{rules, refl, Ok, Err, ◌∙◌}
+use Rattle.std.proofs.Common.{refl, Ok, ◌∙◌}
 use Rattle.std.proofs.lemmas.Result.{err_from_is_err_and}
 use Rattle.pnm_read.specs.declared.fault.InputFault.TheVariants.{ReadFailed}
 use Rattle.pnm_read.proofs.Turns.{turn_then, turn_ok_so, turn_err_so, no_fault}

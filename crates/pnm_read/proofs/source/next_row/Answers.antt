@@ -1,4 +1,4 @@
-use Rattle.std.proofs.Common.{◌≡◌, List, ℕ, Ok, Result, [], refl}
+use Rattle.std.proofs.Common.{Ok, [], refl}
 use Rattle.std.proofs.lemmas.Result.{err_from_is_err_and}
 use Rattle.pnm_read.specs.declared.fault.InputFault.TheVariants.{ReadFailed}
 use Rattle.pnm_read.proofs.Turns.{turn_ok_so, turn_err_so, turn_taken, no_fault}
