@@ -244,6 +244,24 @@ fn limits_each_gap(rt: HostRuntime) -> Result<(), Fail> {
     Ok(())
 }
 
+/// The input is an image of this row alone.
+fn answers_row(
+    rt: &impl Abort,
+    alloc: Global,
+    input: &[u8],
+    begin: Answer<'_>,
+    row: &[u16],
+) -> Result<(), Fail> {
+    let mut source = Source::new(alloc, Device::new(input))?;
+    answers(
+        rt,
+        &mut source,
+        &[begin, Row(row), ImageEnd, StreamEnd],
+        input,
+    );
+    Ok(())
+}
+
 /// Rows that are longer than what is read at a time.
 #[test]
 fn reads_wide_rows(rt: HostRuntime) -> Result<(), Fail> {
@@ -268,31 +286,13 @@ fn reads_wide_rows(rt: HostRuntime) -> Result<(), Fail> {
         pixels.extend_from_slice(&[0, 1, 1, 0, 1, 0, 0, 1])?;
     }
     pixels.truncate(100_001);
-    for (input, begin, row) in [
-        (
-            bits.as_slice(),
-            Begin(Bit, 100_001, 1, 1),
-            pixels.as_slice(),
-        ),
-        (
-            bytes.as_slice(),
-            Begin(Gray, 30_000, 1, 250),
-            narrow.as_slice(),
-        ),
-        (
-            pairs.as_slice(),
-            Begin(Color, 5_000, 1, 60_000),
-            wide.as_slice(),
-        ),
-        (
-            numbers.as_bytes(),
-            Begin(Gray, 15_000, 1, 60_000),
-            wide.as_slice(),
-        ),
-    ] {
-        let mut source = Source::new(rt.alloc(), Device::new(input))?;
-        let wants = [begin, Row(row), ImageEnd, StreamEnd];
-        answers(&rt, &mut source, &wants, input);
-    }
-    Ok(())
+    let alloc = rt.alloc();
+    let begin = Begin(Bit, 100_001, 1, 1);
+    answers_row(&rt, alloc, bits.as_slice(), begin, pixels.as_slice())?;
+    let begin = Begin(Gray, 30_000, 1, 250);
+    answers_row(&rt, alloc, bytes.as_slice(), begin, narrow.as_slice())?;
+    let begin = Begin(Color, 5_000, 1, 60_000);
+    answers_row(&rt, alloc, pairs.as_slice(), begin, wide.as_slice())?;
+    let begin = Begin(Gray, 15_000, 1, 60_000);
+    answers_row(&rt, alloc, numbers.as_bytes(), begin, wide.as_slice())
 }

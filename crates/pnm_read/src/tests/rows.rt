@@ -12,6 +12,13 @@ use std::test::Fail;
 /// An image of one row of grays.
 pub const TWO_GRAYS: &[u8] = b"P5\n2 1\n122\nAB";
 
+pub const TWO_GRAYS_ANSWERS: &[Answer<'static>] = &[
+    Begin(Gray, 2, 1, 122),
+    Row(&[65, 66]),
+    ImageEnd,
+    StreamEnd,
+];
+
 /// A plain image of black and white, with a comment.
 const PLAIN_BITS: &[u8] = b"P1\n# j\n3 2\n101\n010\n";
 
@@ -20,10 +27,7 @@ const PLAIN_COLOR: &[u8] = b"P3 1 1 255 10 20 30";
 
 /// Images that are whole.
 pub const WHOLE: &[Case<'static>] = &[
-    (
-        TWO_GRAYS,
-        &[Begin(Gray, 2, 1, 122), Row(&[65, 66]), ImageEnd, StreamEnd],
-    ),
+    (TWO_GRAYS, TWO_GRAYS_ANSWERS),
     (
         PLAIN_BITS,
         &[
@@ -156,8 +160,8 @@ pub const FAULTY: &[Case<'static>] = &[
     ),
 ];
 
-/// An image, and what a source answers to its cuts: a list goes for all lengths from its own through
-/// the one before the next list's.
+/// An image, and what a source answers to its cuts: a list goes for all lengths from its own
+/// through the one before the next list's.
 type Cuts<'a> = (&'a [u8], &'a [(usize, &'a [Answer<'a>])]);
 
 const CUTS: &[Cuts<'static>] = &[
@@ -167,10 +171,7 @@ const CUTS: &[Cuts<'static>] = &[
             (0, &[Fault(EmptyInput)]),
             (1, &[Fault(HeaderCut)]),
             (11, &[Begin(Gray, 2, 1, 122), Fault(RasterCut)]),
-            (
-                13,
-                &[Begin(Gray, 2, 1, 122), Row(&[65, 66]), ImageEnd, StreamEnd],
-            ),
+            (13, TWO_GRAYS_ANSWERS),
         ],
     ),
     (
