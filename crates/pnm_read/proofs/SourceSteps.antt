@@ -1,40 +1,103 @@
 -- The answers of a source.
-use Rattle.std.proofs.Common.{◌≡◌, ℕ, Bool, false, true, List, [], ◌++◌, Option, Some, None, Result, Ok, Err, inl, refl, ap}
-use Rattle.std.specs.Prelude.{IfErr}
+use Rattle.std.proofs.Common.{◌≡◌, ℕ, ◌⊎◌, Bool, false, true, List, [], ◌∷◌, ◌++◌, Option, Some, None, Result, Ok, Err, inl, inr, append-nil, append_assoc, refl, sym, ap, ◌∙◌}
+use Rattle.std.specs.Io.KnownBytes.{Consumes}
 use Rattle.pnm_image.specs.declared.message.Message.{Message}
 use Rattle.pnm_image.specs.declared.message.Message.TheVariants.{Begin, Row, ImageEnd, StreamEnd, Stop}
+use Rattle.pnm_image.specs.Completion.{IsFrontOf}
 use Rattle.pnm_read.specs.declared.fault.InputFault.{InputFault}
+use Rattle.pnm_read.specs.declared.fault.InputFault.TheVariants.{ReadFailed}
 use Rattle.pnm_read.specs.declared.source.Stage.{Stage}
 use Rattle.pnm_read.specs.declared.source.Stage.TheVariants.{Start, Rows, End, Ended, Failed}
 use Rattle.pnm_read.specs.declared.source.Source.{Source}
-use Rattle.pnm_read.specs.Said.{says_fault}
-use Rattle.pnm_read.specs.Inputs.{Turn, held_of}
+use Rattle.pnm_read.specs.Said.{Said, said, said_of, fault_of, then_said, says_nothing, says_fault}
+use Rattle.pnm_read.specs.Inputs.{Turn, IsOutsideFault, held_of}
 use Rattle.pnm_read.specs.Stages.{GoesOn, stage_due, stage_fault, is_ended, is_going}
-use Rattle.pnm_read.specs.Sources.{IsFresh, Tells, due, MayGive, SeesEnd}
+use Rattle.pnm_read.specs.Sources.{IsFresh, Tells, AnswerTells, HasGiven, after_messages, due, MayGive, SeesEnd}
 use Rattle.pnm_read.proofs.Gathered.{consumes_nothing}
-
-due_stopped : (stage : Stage) (k : InputFault) (text : List ℕ) → stage_fault stage ≡ Some k → stage_due stage text ≡ says_fault k
-due_stopped Start k text e = absurd cc
-due_stopped (Rows raster) k text e = absurd cc
-due_stopped (End is_plain) k text e = absurd cc
-due_stopped Ended k text e = absurd cc
-due_stopped (Failed fault) k text e = let same : fault ≡ k = cc in ap says_fault same
 
 ended_not : {A : Type 0} (ended : Bool) → ended ≡ false → ended ≡ true → A
 ended_not ended f t = absurd cc
 
 pub fresh_source : {R : Type 0} (reader : R) (s : Source R) → s.input.reader ≡ reader → held_of s.input ≡ [] → s.input.ended ≡ false → s.stage ≡ Start → IsFresh reader s
-unfolding due MayGive SeesEnd
+unfolding due MayGive SeesEnd HasGiven
 fresh_source reader s r held ended stage = record {
   reader_is = r;
-  due_is = λ text. rw (stage, held) refl;
-  gives = λ text e. ended_not s.input.ended ended e;
+  nothing_given = λ rest c. sym (rw (stage, held) refl);
+  unread = λ text e. ended_not s.input.ended ended e;
   end = λ left e. ended_not s.input.ended ended e;
   going = ap stage_fault stage;
 }
 
+-- an answer is the next of what was to be said, and leaves the rest; a fault is what was to be said, or comes
+-- from outside
+abbrev SaysAnswer : Said → Result (Option Message) InputFault → Said → Type 0
+SaysAnswer old (Ok (Some m)) new = old ≡ then_said m new
+SaysAnswer old (Ok None) new = (old ≡ says_nothing) × (new ≡ says_nothing)
+SaysAnswer old (Err fault) new = (old ≡ says_fault fault) ⊎ IsOutsideFault fault
+
+-- a call read some bytes; whatever the reader gives after them, the answer is the next of what was to be said
+record TellsNext {R : Type 0} (left : R → Option (List ℕ)) (old : Source R) (result : Result (Option Message) InputFault) (new : Source R) : Type 0 where
+  pub read : List ℕ
+  pub consumed : Consumes (left old.input.reader) (left new.input.reader) read
+  pub comes : (rest : List ℕ) → MayGive new rest → MayGive old (read ++ rest)
+  pub says : (rest : List ℕ) → MayGive new rest → SaysAnswer (due old (read ++ rest)) result (due new rest)
+
+after_more : (given : List Message) (m : Message) (s : Said) → after_messages (given ++ m ∷ []) s ≡ after_messages given (then_said m s)
+after_more [] m s = refl
+after_more (x ∷ given) m s = ap (then_said x) (after_more given m s)
+
+messages_after : (given : List Message) (s : Said) → (after_messages given s).messages ≡ given ++ s.messages
+messages_after [] s = refl
+messages_after (x ∷ given) s = ap (λ (l : List Message). x ∷ l) (messages_after given s)
+
+fault_after : (given : List Message) (s : Said) → (after_messages given s).fault ≡ s.fault
+fault_after [] s = refl
+fault_after (x ∷ given) s = fault_after given s
+
+-- all that is said, where this ends it
+all_said : (given : List Message) (text : List ℕ) (s end : Said) → said text ≡ after_messages given s → s ≡ end → end.messages ≡ [] → (said_of text ≡ given) × (fault_of text ≡ end.fault)
+all_said given text s end e f none = (
+  ap (λ (s : Said). s.messages) e ∙ messages_after given s ∙ ap (λ (s : Said). given ++ s.messages) f ∙ ap (λ (l : List Message). given ++ l) none ∙ append-nil given,
+  ap (λ (s : Said). s.fault) e ∙ fault_after given s ∙ ap (λ (s : Said). s.fault) f,
+)
+
+-- what was given is a front of what is said
+front_said : (given : List Message) (text : List ℕ) (s : Said) → said text ≡ after_messages given s → IsFrontOf given (said_of text)
+front_said given text s e = (s.messages, ap (λ (s : Said). s.messages) e ∙ messages_after given s)
+
+-- the text, its first part read before a call, and the next in it
+said_on : {R : Type 0} (old : Source R) (read more rest : List ℕ) (given : List Message) → HasGiven old read given → MayGive old (more ++ rest) → said ((read ++ more) ++ rest) ≡ after_messages given (due old (more ++ rest))
+unfolding HasGiven
+said_on old read more rest given h m = ap said (append_assoc read more rest) ∙ h (more ++ rest) m
+
+tells_message : {R : Type 0} {left : R → Option (List ℕ)} (old new : Source R) (m : Message) (t : TellsNext left old (Ok (Some m)) new) (read : List ℕ) (given : List Message) → HasGiven old read given → HasGiven new (read ++ t.read) (given ++ m ∷ [])
+unfolding HasGiven
+tells_message old new m t read given h rest c =
+    said_on old read t.read rest given h (t.comes rest c) ∙ ap (after_messages given) (t.says rest c) ∙ sym (after_more given m (due new rest))
+
+tells_end : {R : Type 0} {left : R → Option (List ℕ)} (old new : Source R) (t : TellsNext left old (Ok None) new) (read : List ℕ) (given : List Message) → HasGiven old read given → AnswerTells new (read ++ t.read) given (Ok None)
+unfolding HasGiven
+tells_end old new t read given h = (
+  λ rest c. said_on old read t.read rest given h (t.comes rest c) ∙ ap (after_messages given) ((t.says rest c).0 ∙ sym (t.says rest c).1),
+  λ rest c. all_said given ((read ++ t.read) ++ rest) (due old (t.read ++ rest)) says_nothing (said_on old read t.read rest given h (t.comes rest c)) (t.says rest c).0 refl,
+)
+
+-- a fault after what was given
+by_fault : (fault : InputFault) (given : List Message) (text : List ℕ) (s : Said) → said text ≡ after_messages given s → (s ≡ says_fault fault) ⊎ IsOutsideFault fault
+    → ((said_of text ≡ given) × (fault_of text ≡ Some fault)) ⊎ (IsOutsideFault fault × IsFrontOf given (said_of text))
+by_fault fault given text s e (inl f) = inl (all_said given text s (says_fault fault) e f refl)
+by_fault fault given text s e (inr o) = inr (o, front_said given text s e)
+
+answer_tells : {R : Type 0} {left : R → Option (List ℕ)} (old new : Source R) (result : Result (Option Message) InputFault) (t : TellsNext left old result new) (read : List ℕ) (given : List Message) → HasGiven old read given → AnswerTells new (read ++ t.read) given result
+answer_tells old new (Ok (Some m)) t read given h = tells_message old new m t read given h
+answer_tells old new (Ok None) t read given h = tells_end old new t read given h
+answer_tells old new (Err fault) t read given h = λ rest c. by_fault fault given ((read ++ t.read) ++ rest) (due old (t.read ++ rest)) (said_on old read t.read rest given h (t.comes rest c)) (t.says rest c)
+
+told_so : {R : Type 0} {left : R → Option (List ℕ)} (old new : Source R) (result : Result (Option Message) InputFault) → TellsNext left old result new → Tells left old result new
+told_so old new result t = record { more = t.read; consumed = t.consumed; told = λ read given h. answer_tells old new result t read given h }
+
 -- an answer gave the next of what was to be said
-pub tells_on : {R : Type 0} {left : R → Option (List ℕ)} {failures : R → ℕ} {same : R → R → Type 0} (old new : Source R) (m : Option Message) → Turn left failures same old.input new.input (Ok m) (GoesOn old.stage (Ok m) new.stage) → Tells left old (Ok m) new
+tells_on : {R : Type 0} {left : R → Option (List ℕ)} {failures : R → ℕ} {same : R → R → Type 0} (old new : Source R) (m : Option Message) → Turn left failures same old.input new.input (Ok m) (GoesOn old.stage (Ok m) new.stage) → TellsNext left old (Ok m) new
 unfolding due MayGive
 tells_on old new (Some m) t = record {
   read = t.read;
@@ -50,38 +113,44 @@ tells_on old new None t = record {
 }
 
 -- an answer was a fault
-pub tells_fault : {R : Type 0} {left : R → Option (List ℕ)} {failures : R → ℕ} {same : R → R → Type 0} (old new : Source R) (k : InputFault) → stage_fault new.stage ≡ Some k → Turn {A = Option Message} left failures same old.input new.input (Err k) (GoesOn old.stage (Err k) new.stage) → Tells left old (Err k) new
+tells_fault : {R : Type 0} {left : R → Option (List ℕ)} {failures : R → ℕ} {same : R → R → Type 0} (old new : Source R) (k : InputFault) → Turn {A = Option Message} left failures same old.input new.input (Err k) (GoesOn old.stage (Err k) new.stage) → TellsNext left old (Err k) new
 unfolding due MayGive
-tells_fault old new k stopped t = record {
+tells_fault old new k t = record {
   read = t.read;
   consumed = t.consumed;
   comes = t.comes;
-  says = λ rest c. (due_stopped new.stage k (held_of new.input ++ rest) stopped, t.told rest c);
+  says = λ rest c. t.told rest c;
 }
 
-pub tells : {R : Type 0} {left : R → Option (List ℕ)} {failures : R → ℕ} {same : R → R → Type 0} (old new : Source R) (result : Result (Option Message) InputFault) → IfErr result (λ k. stage_fault new.stage ≡ Some k) → Turn left failures same old.input new.input result (GoesOn old.stage result new.stage) → Tells left old result new
-tells old new (Ok m) stopped t = tells_on old new m t
-tells old new (Err k) stopped t = tells_fault old new k stopped t
+pub tells : {R : Type 0} {left : R → Option (List ℕ)} {failures : R → ℕ} {same : R → R → Type 0} (old new : Source R) (result : Result (Option Message) InputFault) → Turn left failures same old.input new.input result (GoesOn old.stage result new.stage) → Tells left old result new
+tells old new (Ok m) t = told_so old new (Ok m) (tells_on old new m t)
+tells old new (Err k) t = told_so old new (Err k) (tells_fault old new k t)
 
 -- after the end of the stream it stays, and nothing is read
-pub tells_no_more : {R : Type 0} (left : R → Option (List ℕ)) (s : Source R) → s.stage ≡ Ended → Tells left s (Ok None) s
+no_more : {R : Type 0} (left : R → Option (List ℕ)) (s : Source R) → s.stage ≡ Ended → TellsNext left s (Ok None) s
 unfolding due MayGive
-tells_no_more left s stage = record {
+no_more left s stage = record {
   read = [];
   consumed = consumes_nothing (left s.input.reader);
   comes = λ rest c. c;
   says = λ rest c. (ap (λ (g : Stage). stage_due g (held_of s.input ++ rest)) stage, ap (λ (g : Stage). stage_due g (held_of s.input ++ rest)) stage);
 }
 
+pub tells_no_more : {R : Type 0} (left : R → Option (List ℕ)) (s : Source R) → s.stage ≡ Ended → Tells left s (Ok None) s
+tells_no_more left s stage = told_so s s (Ok None) (no_more left s stage)
+
 -- after a fault it stays, and nothing is read
-pub tells_again : {R : Type 0} (left : R → Option (List ℕ)) (s : Source R) (k : InputFault) → s.stage ≡ Failed k → Tells left s (Err k) s
+again : {R : Type 0} (left : R → Option (List ℕ)) (s : Source R) (k : InputFault) → s.stage ≡ Failed k → TellsNext left s (Err k) s
 unfolding due MayGive
-tells_again left s k stage = record {
+again left s k stage = record {
   read = [];
   consumed = consumes_nothing (left s.input.reader);
   comes = λ rest c. c;
-  says = λ rest c. (ap (λ (g : Stage). stage_due g (held_of s.input ++ rest)) stage, inl (ap (λ (g : Stage). stage_due g (held_of s.input ++ rest)) stage));
+  says = λ rest c. inl (ap (λ (g : Stage). stage_due g (held_of s.input ++ rest)) stage);
 }
+
+pub tells_again : {R : Type 0} (left : R → Option (List ℕ)) (s : Source R) (k : InputFault) → s.stage ≡ Failed k → Tells left s (Err k) s
+tells_again left s k stage = told_so s s (Err k) (again left s k stage)
 
 -- the stage after the end of the stream
 pub ended_after : {R : Type 0} {left : R → Option (List ℕ)} {failures : R → ℕ} {same : R → R → Type 0} (old new : Source R) (result : Result (Option Message) InputFault) → Turn left failures same old.input new.input result (GoesOn old.stage result new.stage) → result ≡ Ok (Some StreamEnd) → is_ended new.stage ≡ true
@@ -89,7 +158,7 @@ ended_after old new (Ok (Some (Begin head))) t e = absurd cc
 ended_after old new (Ok (Some (Row row))) t e = absurd cc
 ended_after old new (Ok (Some ImageEnd)) t e = absurd cc
 ended_after old new (Ok (Some StreamEnd)) t e = (t.told [] (λ _. refl)).1
-ended_after old new (Ok (Some Stop)) t e = absurd cc
+ended_after old new (Ok (Some Stop)) t e = absurd (t.told [] (λ _. refl)).1
 ended_after old new (Ok None) t e = absurd cc
 ended_after old new (Err k) t e = absurd cc
 
@@ -111,3 +180,18 @@ going_not_stopped (Rows raster) k g e = absurd cc
 going_not_stopped (End is_plain) k g e = absurd cc
 going_not_stopped Ended k g e = absurd cc
 going_not_stopped (Failed fault) k g e = absurd cc
+
+-- Stop isn't given
+pub never_stop : {R : Type 0} {left : R → Option (List ℕ)} {failures : R → ℕ} {same : R → R → Type 0} (old new : Source R) (result : Result (Option Message) InputFault) → Turn left failures same old.input new.input result (GoesOn old.stage result new.stage) → result ≡ Ok (Some Stop) → ⊥
+never_stop old new (Ok (Some (Begin head))) t e = absurd cc
+never_stop old new (Ok (Some (Row row))) t e = absurd cc
+never_stop old new (Ok (Some ImageEnd)) t e = absurd cc
+never_stop old new (Ok (Some StreamEnd)) t e = absurd cc
+never_stop old new (Ok (Some Stop)) t e = (t.told [] (λ _. refl)).1
+never_stop old new (Ok None) t e = absurd cc
+never_stop old new (Err k) t e = absurd cc
+
+-- at a failed read the end wasn't seen
+pub not_at_end : {R A : Type 0} {left : R → Option (List ℕ)} {failures : R → ℕ} {same : R → R → Type 0} {o : List ℕ → List ℕ → Type 0} {result : Result A InputFault} (old new : Source R) → Turn left failures same old.input new.input result o → result ≡ Err ReadFailed → (rest : List ℕ) → MayGive new rest
+unfolding MayGive
+not_at_end old new t e rest ended = ended_not new.input.ended (t.read_failed e).1 ended

@@ -37,7 +37,7 @@ turn_then {left = left} {failures = failures} {old = old} {mid = mid} {new = new
   end = λ e. t.end (s.end e);
   same_device = later old.reader mid.reader new.reader s.same_device t.same_device;
   count = counted result (failures old.reader) (failures mid.reader) (failures new.reader) t.count s.count;
-  read_failed = λ e. subst (λ (n : ℕ). Failed n (failures new.reader)) s.count (t.read_failed e);
+  read_failed = λ e. (subst (λ (n : ℕ). Failed n (failures new.reader)) s.count (t.read_failed e).0, (t.read_failed e).1);
 }
 
 same_count : {A B : Type 0} (result : Result A InputFault) → B → OnOk result B

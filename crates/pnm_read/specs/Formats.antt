@@ -22,7 +22,8 @@ format_of b =
     else if b == 54 then raw Color
     else None
 
--- how many numbers a header has: the width, the height and, except for PBM, the maxval
+-- how many numbers a header has: the width, the height and, except for PBM, the maxval. No format here is PAM:
+-- what these definitions say of it means nothing.
 abbrev pub number_count : Kind → ℕ
 number_count Bit = 2
 number_count Gray = 3

@@ -60,7 +60,8 @@ first_magic_item (b ∷ text) = if b == 80 then Ok text else Err BadMagic
 abbrev pub header_limit : ℕ
 header_limit = 65534
 
--- a byte of a header after the magic that can't stand there
+-- a byte of a header that can't stand there: right after the magic what is neither white space nor #, and later,
+-- outside comments, what is neither that nor a digit
 abbrev pub is_bad_in_header : List ℕ → ℕ → Bool
 is_bad_in_header before b =
     ((length before == 0) && not (is_apart b)) || (not (ends_in_comment before) && not (is_digit b || is_apart b))

@@ -1,12 +1,13 @@
 -- What a source has still to say, and what its answers tell.
-use Rattle.std.specs.Prelude.{◌≡◌, ℕ, ◌⊎◌, Bool, List, ◌++◌, Option, None, Result, Ok, Err}
+use Rattle.std.specs.Prelude.{◌≡◌, ℕ, ◌⊎◌, Bool, List, [], ◌∷◌, ◌++◌, Option, Some, None, Result, Ok, Err}
 use Rattle.std.specs.Io.KnownBytes.{Consumes}
 use Rattle.pnm_image.specs.declared.message.Message.{Message}
+use Rattle.pnm_image.specs.Completion.{IsFrontOf}
 use Rattle.pnm_read.specs.declared.fault.InputFault.{InputFault}
 use Rattle.pnm_read.specs.declared.source.Source.{Source}
-use Rattle.pnm_read.specs.Said.{Said, said, says_fault}
+use Rattle.pnm_read.specs.Said.{Said, said, said_of, fault_of, then_said}
 use Rattle.pnm_read.specs.Inputs.{IsOutsideFault, held_of, CanCome, EndsRightly}
-use Rattle.pnm_read.specs.Stages.{stage_due, stage_fault, is_ended, SaysNext}
+use Rattle.pnm_read.specs.Stages.{stage_due, stage_fault, is_ended}
 
 abbrev pub reader_of : {R : Type 0} → Source R → R
 reader_of s = s.input.reader
@@ -31,23 +32,36 @@ MayGive s rest = CanCome s.input rest
 unfoldable pub SeesEnd : {R : Type 0} → (R → Option (List ℕ)) → Source R → Type 0
 SeesEnd left s = EndsRightly left s.input
 
--- a new source over a reader: all that is said of what the reader gives is still to be said
+-- messages, and then what is said
+abbrev pub after_messages : List Message → Said → Said
+after_messages [] s = s
+after_messages (m ∷ ms) s = then_said m (after_messages ms s)
+
+-- A source has read these bytes and given these messages: whatever the reader gives after them, these are said
+-- of the text first, and then what the source has still to say.
+unfoldable pub HasGiven : {R : Type 0} → Source R → List ℕ → List Message → Type 0
+HasGiven s read given = (rest : List ℕ) → MayGive s rest → said (read ++ rest) ≡ after_messages given (due s rest)
+
+-- a new source over a reader has read nothing and given nothing
 pub record IsFresh {R : Type 0} (reader : R) (s : Source R) : Type 0 where
   pub reader_is : reader_of s ≡ reader
-  pub due_is : (text : List ℕ) → due s text ≡ said text
-  pub gives : (text : List ℕ) → MayGive s text
+  pub nothing_given : HasGiven s [] []
+  pub unread : (rest : List ℕ) → MayGive s rest
   pub end : (left : R → Option (List ℕ)) → SeesEnd left s
   pub going : stopped_by s ≡ None
 
--- an answer is the next of what was to be said, and leaves the rest; a fault is what was to be said, or comes
--- from outside, and stays
-abbrev pub SaysAnswer : Said → Result (Option Message) InputFault → Said → Type 0
-SaysAnswer old (Ok next) new = SaysNext old next new
-SaysAnswer old (Err fault) new = (new ≡ says_fault fault) × ((old ≡ says_fault fault) ⊎ IsOutsideFault fault)
+-- what an answer tells of a text, of which this is read, after the messages that were given: the next message;
+-- that they are all, and there is no fault; or that they are all before this fault. Before a fault from outside
+-- they are a front of what is said.
+abbrev pub AnswerTells : {R : Type 0} → Source R → List ℕ → List Message → Result (Option Message) InputFault → Type 0
+AnswerTells new read given (Ok (Some m)) = HasGiven new read (given ++ m ∷ [])
+AnswerTells new read given (Ok None) =
+    HasGiven new read given × ((rest : List ℕ) → MayGive new rest → (said_of (read ++ rest) ≡ given) × (fault_of (read ++ rest) ≡ None))
+AnswerTells new read given (Err fault) =
+    (rest : List ℕ) → MayGive new rest → ((said_of (read ++ rest) ≡ given) × (fault_of (read ++ rest) ≡ Some fault)) ⊎ (IsOutsideFault fault × IsFrontOf given (said_of (read ++ rest)))
 
--- A call read these bytes; and whatever the reader gives after them, the answer is the next of what was to be said.
+-- A call read some bytes; and whatever was read and given before it, its answer tells what is said of the text.
 pub record Tells {R : Type 0} (left : R → Option (List ℕ)) (old : Source R) (result : Result (Option Message) InputFault) (new : Source R) : Type 0 where
-  pub read : List ℕ
-  pub consumed : Consumes (left (reader_of old)) (left (reader_of new)) read
-  pub comes : (rest : List ℕ) → MayGive new rest → MayGive old (read ++ rest)
-  pub says : (rest : List ℕ) → MayGive new rest → SaysAnswer (due old (read ++ rest)) result (due new rest)
+  pub more : List ℕ
+  pub consumed : Consumes (left (reader_of old)) (left (reader_of new)) more
+  pub told : (read : List ℕ) (given : List Message) → HasGiven old read given → AnswerTells new (read ++ more) given result

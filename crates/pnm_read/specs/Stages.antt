@@ -42,18 +42,13 @@ is_going (End is_plain) = true
 is_going Ended = false
 is_going (Failed fault) = false
 
--- an answer is the next of what was to be said, and leaves the rest
-abbrev pub SaysNext : Said → Option Message → Said → Type 0
-SaysNext old (Some m) new = old ≡ then_said m new
-SaysNext old None new = (old ≡ says_nothing) × (new ≡ says_nothing)
-
--- the stage after the end of the stream
+-- the end of the stream leads to its stage; Stop isn't given
 abbrev pub IfStreamEnd : Message → Stage → Type 0
 IfStreamEnd (Begin head) stage = Unit {0}
 IfStreamEnd (Row row) stage = Unit {0}
 IfStreamEnd ImageEnd stage = Unit {0}
 IfStreamEnd StreamEnd stage = is_ended stage ≡ true
-IfStreamEnd Stop stage = Unit {0}
+IfStreamEnd Stop stage = ⊥
 
 -- what a step at a stage answers: the next of what was to be said, or the fault
 abbrev pub Steps : Stage → Result Step InputFault → List ℕ → List ℕ → Type 0

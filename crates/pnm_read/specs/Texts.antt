@@ -79,7 +79,7 @@ words (b ∷ text) =
 abbrev pub decimal_value : List ℕ → ℕ
 decimal_value digits = digits_value 10 digits
 
--- the number that the digits of a text spell, comments cut out
+-- the number that the digits of a plain sample's piece spell; they stand together, outside comments, at its end
 abbrev pub number_in : List ℕ → ℕ
 number_in text = decimal_value (filter is_digit (uncommented text))
 

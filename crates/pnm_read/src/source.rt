@@ -1,8 +1,8 @@
 //! The source of a stream: the bytes of a reader as messages.
 
-ghost use Rattle.std.specs.Prelude.{◌≡◌, ◌≤◌, ◌<◌, ◌-◌, ◌⊎◌, true, Some, None, Ok, Err, OnOk, IfOk, IfErr};
+ghost use Rattle.std.specs.Prelude.{◌≡◌, List, ℕ, ◌≤◌, ◌<◌, ◌-◌, ◌⊎◌, true, Some, None, Ok, Err, OnOk, IfOk, IfErr};
 ghost use Rattle.pnm_image.specs.Devices.{Failed};
-ghost use Rattle.pnm_image.specs.declared.message.Message.TheVariants.{StreamEnd};
+ghost use Rattle.pnm_image.specs.declared.message.Message.TheVariants.{StreamEnd, Stop};
 ghost use Rattle.pnm_read.specs.declared.fault.InputFault.{InputFault as Fault};
 ghost use Rattle.pnm_read.specs.declared.fault.InputFault.TheVariants.{ReadFailed, Memory};
 ghost use Rattle.pnm_read.specs.Inputs.{Turn, Finds};
@@ -47,7 +47,7 @@ pub struct Source<R> {
 }
 
 impl<R: BytesIn> Source<R> {
-    ghost use Rattle.pnm_read.specs.Sources.{IsFresh, Tells, SeesEnd, stopped_by, has_ended, reader_of};
+    ghost use Rattle.pnm_read.specs.Sources.{IsFresh, Tells, MayGive, SeesEnd, stopped_by, has_ended, reader_of};
 
     /// A source over the reader. It reads nothing. The only fault is `Memory`.
     pub fn new(alloc: Global, reader: R) -> Result<Source<R>, InputFault>
@@ -65,8 +65,9 @@ impl<R: BytesIn> Source<R> {
     /// The next message; `None` after the end of the stream, for good. After a fault it answers the
     /// same fault and reads nothing.
     pub fn next(&mut self) -> Result<Option<Message>, InputFault>
-        // What is said of the text comes in turn, and then its end or its fault.
+        // What is said of the text comes in turn, and then its end or its fault. Stop doesn't come.
         ensures told { Tells R.left self.old result self.new }
+        ensures no_stop { result ≡ Ok (Some Stop) → ⊥ }
         ensures end { SeesEnd R.left self.old → SeesEnd R.left self.new }
 
         // The end and a fault stay.
@@ -79,6 +80,7 @@ impl<R: BytesIn> Source<R> {
         ensures same_device { R.same (reader_of self.old) (reader_of self.new) }
         ensures count { OnOk result (R.failures (reader_of self.new) ≡ R.failures (reader_of self.old)) }
         ensures read_failed { result ≡ Err ReadFailed → (stopped_by self.old ≡ Some ReadFailed) ⊎ Failed (R.failures (reader_of self.old)) (R.failures (reader_of self.new)) }
+        ensures not_at_end { result ≡ Err ReadFailed → (stopped_by self.old ≡ Some ReadFailed) ⊎ ((rest : List ℕ) → MayGive self.new rest) }
     {
         match self.stage {
             Stage::Failed(fault) => Err(fault),

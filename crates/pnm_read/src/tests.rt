@@ -1,1 +1,13 @@
-//! Tests.
+//! What no clause says: worked examples, the limits in figures, that calls can succeed, printed
+//! names, and readers that fail or give a few bytes at a time. Many small texts are compared with
+//! what a slow computation says of them.
+
+mod answers;
+mod headers;
+mod limits;
+mod rasters;
+mod readers;
+mod rows;
+mod slow;
+mod sweeps;
+mod texts;

@@ -1,0 +1,87 @@
+//! What a source answers in turn.
+
+use crate::{InputFault, Source};
+use pnm_image::{BytesIn, Device, Kind, Message, Shape};
+use std::alloc::Global;
+use std::process::Abort;
+use std::test::Fail;
+
+/// An answer of a source.
+#[derive(Clone, Copy, Debug)]
+pub enum Answer<'a> {
+    /// The head of an image: its kind, its width, its height and its maxval.
+    Begin(Kind, u32, u32, u32),
+    Row(&'a [u16]),
+    ImageEnd,
+    StreamEnd,
+    Fault(InputFault),
+}
+
+/// An input, and all that a source answers to it.
+pub type Case<'a> = (&'a [u8], &'a [Answer<'a>]);
+
+impl Answer<'_> {
+    /// Whether a source that answered so gave this answer.
+    fn is(&self, answer: &Result<Option<Message>, InputFault>) -> bool {
+        match (self, answer) {
+            (Answer::Begin(kind, width, height, maxval), Ok(Some(Message::Begin(head)))) => {
+                let shape = Shape {
+                    kind: *kind,
+                    width: *width,
+                    height: *height,
+                    depth: if *kind == Kind::Color { 3 } else { 1 },
+                    maxval: *maxval,
+                };
+                head.shape() == shape && head.tuple_type().is_empty()
+            }
+            (Answer::Row(samples), Ok(Some(Message::Row(row)))) => row.as_slice() == *samples,
+            (Answer::ImageEnd, Ok(Some(Message::ImageEnd))) => true,
+            (Answer::StreamEnd, Ok(Some(Message::StreamEnd))) => true,
+            (Answer::Fault(want), Err(fault)) => fault == want,
+            _ => false,
+        }
+    }
+
+    /// Whether a source that stopped with this answer stays so: none comes after the end of the
+    /// stream, and after a fault the same fault.
+    fn stays(&self, answer: &Result<Option<Message>, InputFault>) -> bool {
+        match (self, answer) {
+            (Answer::StreamEnd, Ok(None)) => true,
+            (Answer::Fault(_), Err(_)) => self.is(answer),
+            _ => false,
+        }
+    }
+}
+
+/// The source gives these answers and stops with the last. The input's front is for the message.
+pub fn answers<R: BytesIn>(
+    rt: &impl Abort,
+    source: &mut Source<R>,
+    wants: &[Answer<'_>],
+    input: &[u8],
+) {
+    let front = &input[..input.len().min(64)];
+    for want in wants {
+        let answer = source.next();
+        assert!(rt;
+            want.is(&answer),
+            "{answer:?} in place of {want:?} at {front:?}"
+        );
+    }
+    for _ in 0..3 {
+        let answer = source.next();
+        assert!(rt;
+            wants.last().is_some_and(|last| last.stays(&answer)),
+            "{answer:?} at the end at {front:?}"
+        );
+    }
+}
+
+/// Each input gets its answers.
+pub fn answers_all(rt: &impl Abort, alloc: Global, cases: &[Case<'_>]) -> Result<(), Fail> {
+    for (input, wants) in cases {
+        let mut source = Source::new(alloc, Device::new(*input))?;
+        answers(rt, &mut source, wants, input);
+    }
+    Ok(())
+}

@@ -1,0 +1,153 @@
+//! Readers that give a few bytes at a time, and readers of which a read fails.
+
+use super::answers::Answer::{Begin, Fault, ImageEnd, Row, StreamEnd};
+use super::answers::{Case, answers};
+use super::{headers, rasters, rows};
+use crate::{InputFault, Source};
+use pnm_image::Device;
+use pnm_image::Kind::Gray;
+use std::alloc::Global;
+use std::io;
+use std::io::{ErrorKind, Read};
+use std::process::Abort;
+use std::test::Fail;
+
+/// Gives up to so many bytes a read, and counts the reads.
+#[derive(Drop)]
+struct Drips<'a> {
+    rest: &'a [u8],
+    most: usize,
+    reads: usize,
+    /// The read that fails, counted from 1, or 0 for none; those after it don't. The error is one
+    /// that std's own loops take for a call to be made again.
+    failing: usize,
+}
+
+impl Read for Drips<'_> {
+    fn read(&mut self, room: &mut [u8]) -> io::Result<usize> {
+        self.reads = self.reads.saturating_add(1);
+        if self.reads == self.failing {
+            return Err(io::Error::from(ErrorKind::Interrupted));
+        }
+        let most = room.len().min(self.most);
+        self.rest.read(&mut room[..most])
+    }
+}
+
+/// The answers stay the same however few bytes a read gives. The first `next` reads all of them
+/// and sees the end, and no read follows.
+fn answers_in_pieces(rt: &impl Abort, alloc: Global, cases: &[Case<'_>]) -> Result<(), Fail> {
+    for (input, wants) in cases {
+        for most in [1, 2, 3, 4097] {
+            let mut drips = Drips {
+                rest: *input,
+                most,
+                reads: 0,
+                failing: 0,
+            };
+            let mut source = Source::new(alloc, Device::new(&mut drips))?;
+            answers(rt, &mut source, wants, input);
+            let _ = source.into_reader();
+            let reads = input.len().div_ceil(most).saturating_add(1);
+            assert_eq!(rt; drips.reads, reads, "{most} bytes a read at {:?}", input);
+        }
+    }
+    Ok(())
+}
+
+#[test]
+fn reads_in_pieces(rt: HostRuntime) -> Result<(), Fail> {
+    for table in [
+        rows::WHOLE,
+        rows::FAULTY,
+        headers::SPELLINGS,
+        headers::WRONG_NUMBERS,
+        rasters::BYTES,
+        rasters::PIXELS,
+        rasters::NUMBERS,
+    ] {
+        answers_in_pieces(&rt, rt.alloc(), table)?;
+    }
+    Ok(())
+}
+
+/// A raster that is longer than what is read at a time.
+#[test]
+fn reads_long_rasters_in_pieces(rt: HostRuntime) -> Result<(), Fail> {
+    let mut input = Vec::from_slice(rt.alloc(), b"P5 10000 1 250\n")?;
+    let mut row = Vec::new(rt.alloc());
+    for k in 0..10_000u32 {
+        let sample = (k % 251) as u8;
+        input.push(sample)?;
+        row.push(u16::from(sample))?;
+    }
+    let wants = [
+        Begin(Gray, 10_000, 1, 250),
+        Row(row.as_slice()),
+        ImageEnd,
+        StreamEnd,
+    ];
+    for most in [1, 2, 3, 4097] {
+        let drips = Drips {
+            rest: input.as_slice(),
+            most,
+            reads: 0,
+            failing: 0,
+        };
+        let mut source = Source::new(rt.alloc(), Device::new(drips))?;
+        answers(&rt, &mut source, &wants, input.as_slice());
+    }
+    Ok(())
+}
+
+/// The first `next` answers a read that fails, whichever it is and whatever came before it: it
+/// reads the whole input. That stays the answer, and the reader isn't called again.
+#[test]
+fn answers_a_failed_read(rt: HostRuntime) -> Result<(), Fail> {
+    for (most, all) in [(1, 14), (5, 4), (4097, 2)] {
+        for failing in 0..=all {
+            let mut drips = Drips {
+                rest: rows::TWO_GRAYS,
+                most,
+                reads: 0,
+                failing,
+            };
+            let mut source = Source::new(rt.alloc(), Device::new(&mut drips))?;
+            let (wants, reads) = if failing == 0 {
+                (rows::TWO_GRAYS_ANSWERS, all)
+            } else {
+                ([Fault(InputFault::ReadFailed)].as_slice(), failing)
+            };
+            answers(&rt, &mut source, wants, rows::TWO_GRAYS);
+            let _ = source.into_reader();
+            assert_eq!(rt; drips.reads, reads, "{most} bytes a read");
+        }
+    }
+    for input in [b"X".as_slice(), b"P5 0 1 9\n", b"P2 1 1 9 10 "] {
+        let drips = Drips {
+            rest: input,
+            most: 4097,
+            reads: 0,
+            failing: 2,
+        };
+        let mut source = Source::new(rt.alloc(), Device::new(drips))?;
+        answers(&rt, &mut source, &[Fault(InputFault::ReadFailed)], input);
+    }
+    Ok(())
+}
+
+/// A new source has read nothing.
+#[test]
+fn reads_nothing_at_first(rt: HostRuntime) -> Result<(), Fail> {
+    let drips = Drips {
+        rest: rows::TWO_GRAYS,
+        most: 1,
+        reads: 0,
+        failing: 1,
+    };
+    let source = Source::new(rt.alloc(), Device::new(drips))?;
+    let drips = source.into_reader().into_inner();
+    assert_eq!(rt; drips.reads, 0);
+    assert_eq!(rt; drips.rest, rows::TWO_GRAYS);
+    Ok(())
+}

@@ -1,0 +1,31 @@
+//! The printed text of each fault is its name.
+
+use crate::InputFault;
+use std::test::Fail;
+
+#[test]
+fn prints_names(rt: HostRuntime) -> Result<(), Fail> {
+    for (fault, name) in [
+        (InputFault::EmptyInput, "EmptyInput"),
+        (InputFault::BadMagic, "BadMagic"),
+        (InputFault::HeaderCut, "HeaderCut"),
+        (InputFault::TooLong, "TooLong"),
+        (InputFault::BadNumber, "BadNumber"),
+        (InputFault::ZeroSize, "ZeroSize"),
+        (InputFault::TooLarge, "TooLarge"),
+        (InputFault::BadMaxval, "BadMaxval"),
+        (InputFault::BadPamLine, "BadPamLine"),
+        (InputFault::DuplicateField, "DuplicateField"),
+        (InputFault::MissingField, "MissingField"),
+        (InputFault::RasterCut, "RasterCut"),
+        (InputFault::SampleAboveMaxval, "SampleAboveMaxval"),
+        (InputFault::BadSample, "BadSample"),
+        (InputFault::PlainInStream, "PlainInStream"),
+        (InputFault::ReadFailed, "ReadFailed"),
+        (InputFault::Memory, "Memory"),
+    ] {
+        let text = format!(in rt.alloc(); "{fault}")?;
+        assert_eq!(rt; text.as_str(), name);
+    }
+    Ok(())
+}
