@@ -88,18 +88,23 @@ fn agrees_on_cuts(rt: HostRuntime) -> Result<(), Fail> {
     Ok(())
 }
 
-/// A byte is put in the place of another.
+/// Each byte is put in the place of another.
 #[test]
 fn agrees_on_changes(rt: HostRuntime) -> Result<(), Fail> {
+    let mut every = Vec::new(rt.alloc());
+    for byte in 0..=u8::MAX {
+        every.push(byte)?;
+    }
     for image in IMAGES {
         for at in 0..image.len() {
-            agrees_with_each(&rt, rt.alloc(), TELLING, &image[..at], &image[at + 1..])?;
+            let (front, back) = (&image[..at], &image[at + 1..]);
+            agrees_with_each(&rt, rt.alloc(), every.as_slice(), front, back)?;
         }
     }
     Ok(())
 }
 
-/// A byte is put between two others.
+/// A telling byte is put between two others.
 #[test]
 fn agrees_on_insertions(rt: HostRuntime) -> Result<(), Fail> {
     for image in IMAGES {
