@@ -7,8 +7,8 @@ use crate::InputFault::{
     ZeroSize,
 };
 use crate::Source;
-use pnm_image::Device;
 use pnm_image::Kind::{Bit, Color, Gray};
+use pnm_image::{Device, Kind};
 use std::alloc::{AllocError, Global};
 use std::process::Abort;
 use std::test::Fail;
@@ -188,11 +188,9 @@ fn padded(
     back: &[u8],
 ) -> Result<Vec<u8>, AllocError> {
     let mut text = Vec::from_slice(alloc, front)?;
-    let many = [byte; 4096];
-    for _ in 0..count / 4096 {
-        text.extend_from_slice(&many)?;
+    for _ in 0..count {
+        text.push(byte)?;
     }
-    text.extend_from_slice(&many[..count % 4096])?;
     text.extend_from_slice(back)?;
     Ok(text)
 }
@@ -244,14 +242,15 @@ fn limits_each_gap(rt: HostRuntime) -> Result<(), Fail> {
     Ok(())
 }
 
-/// The input is an image of this row alone.
+/// The input is an image of this kind, width and maxval, and of this row alone.
 fn answers_row(
     rt: &impl Abort,
     alloc: Global,
     input: &[u8],
-    begin: Answer<'_>,
+    (kind, width, maxval): (Kind, u32, u32),
     row: &[u16],
 ) -> Result<(), Fail> {
+    let begin = Begin(kind, width, 1, maxval);
     let mut source = Source::new(alloc, Device::new(input))?;
     answers(
         rt,
@@ -287,12 +286,32 @@ fn reads_wide_rows(rt: HostRuntime) -> Result<(), Fail> {
     }
     pixels.truncate(100_001);
     let alloc = rt.alloc();
-    let begin = Begin(Bit, 100_001, 1, 1);
-    answers_row(&rt, alloc, bits.as_slice(), begin, pixels.as_slice())?;
-    let begin = Begin(Gray, 30_000, 1, 250);
-    answers_row(&rt, alloc, bytes.as_slice(), begin, narrow.as_slice())?;
-    let begin = Begin(Color, 5_000, 1, 60_000);
-    answers_row(&rt, alloc, pairs.as_slice(), begin, wide.as_slice())?;
-    let begin = Begin(Gray, 15_000, 1, 60_000);
-    answers_row(&rt, alloc, numbers.as_bytes(), begin, wide.as_slice())
+    answers_row(
+        &rt,
+        alloc,
+        bits.as_slice(),
+        (Bit, 100_001, 1),
+        pixels.as_slice(),
+    )?;
+    answers_row(
+        &rt,
+        alloc,
+        bytes.as_slice(),
+        (Gray, 30_000, 250),
+        narrow.as_slice(),
+    )?;
+    answers_row(
+        &rt,
+        alloc,
+        pairs.as_slice(),
+        (Color, 5_000, 60_000),
+        wide.as_slice(),
+    )?;
+    answers_row(
+        &rt,
+        alloc,
+        numbers.as_bytes(),
+        (Gray, 15_000, 60_000),
+        wide.as_slice(),
+    )
 }

@@ -112,12 +112,21 @@ fn is_commented(front: &[u8]) -> bool {
 
 /// The shape that a text says, and the raster with all that follows.
 fn head(text: &[Mark]) -> Result<(Shape, &[Mark]), InputFault> {
-    let (kind, depth, count, header) = match text {
+    let (first, digit, header) = match text {
         [] => return Err(InputFault::EmptyInput),
-        [(b'P', _)] => return Err(InputFault::HeaderCut),
-        [(b'P', _), (b'1' | b'4', _), header @ ..] => (Kind::Bit, 1, 2, header),
-        [(b'P', _), (b'2' | b'5', _), header @ ..] => (Kind::Gray, 1, 3, header),
-        [(b'P', _), (b'3' | b'6', _), header @ ..] => (Kind::Color, 3, 3, header),
+        [(first, _)] => (*first, 0, text),
+        [(first, _), (digit, _), header @ ..] => (*first, *digit, header),
+    };
+    if first != b'P' {
+        return Err(InputFault::BadMagic);
+    }
+    if text.len() == 1 {
+        return Err(InputFault::HeaderCut);
+    }
+    let (kind, depth, count) = match digit {
+        b'1' | b'4' => (Kind::Bit, 1, 2),
+        b'2' | b'5' => (Kind::Gray, 1, 3),
+        b'3' | b'6' => (Kind::Color, 3, 3),
         _ => return Err(InputFault::BadMagic),
     };
     let ([width, height, third], raster) = header_numbers(header, count)?;
