@@ -1,0 +1,139 @@
+-- What a writer holds after a part of some bytes was written.
+use Rattle.std.proofs.Common.{◌≡◌, ℕ, ◌+◌, ◌-◌, ◌^◌, min, inl, inr, List, [], ◌++◌, length, take, drop, Option, Some, None, Result, Ok, Err, refl, sym, ap, subst, ◌∙◌, append_assoc, arith}
+use Rattle.std.proofs.Math.Seq.{take-append-add}
+use Rattle.std.proofs.lemmas.List.{append-nil, take_at, take-append-drop}
+use Rattle.std.specs.Io.KnownBytes.{Appends, Keeps}
+use Rattle.std.proofs.lemmas.Bool.{cases_lt}
+use Rattle.std.specs.Prelude.{OnErr}
+use Rattle.pnm_image.specs.Devices.{Failed}
+use Rattle.pnm_write.specs.Writes.{AppendsFront, FailsIn}
+
+-- the bytes are a front that was written, and a rest that wasn't
+pub record Written (old now : Option (List ℕ)) (bytes rest : List ℕ) : Type 0 where
+  pub front : List ℕ
+  pub parts : bytes ≡ front ++ rest
+  pub appended : Appends old now front
+
+-- what stays as it is, grows by nothing
+pub Appends-nothing : (a b : Option (List ℕ)) → Keeps a b → Appends a b []
+Appends-nothing None b k = tt
+Appends-nothing (Some xs) None k = k
+Appends-nothing (Some xs) (Some ys) k = k ∙ sym (append-nil xs)
+
+pub Keeps-itself : (a : Option (List ℕ)) → Keeps a a
+Keeps-itself None = tt
+Keeps-itself (Some xs) = refl
+
+-- one growth after another
+pub Appends-then : (a b c : Option (List ℕ)) (x y : List ℕ) → Appends a b x → Appends b c y → Appends a c (x ++ y)
+Appends-then None b c x y p q = tt
+Appends-then (Some xs) None c x y p q = absurd p
+Appends-then (Some xs) (Some ys) None x y p q = q
+Appends-then (Some xs) (Some ys) (Some zs) x y p q = q ∙ ap (λ (l : List ℕ). l ++ y) p ∙ append_assoc xs x y
+
+-- a growth, and nothing after it
+pub Appends-kept : (a b c : Option (List ℕ)) (x : List ℕ) → Appends a b x → Keeps b c → Appends a c x
+Appends-kept None b c x p k = tt
+Appends-kept (Some xs) None c x p k = absurd p
+Appends-kept (Some xs) (Some ys) None x p k = k
+Appends-kept (Some xs) (Some ys) (Some zs) x p k = k ∙ p
+
+-- a growth is a front of more
+pub front_of_more : (a b : Option (List ℕ)) (x y : List ℕ) → Appends a b x → AppendsFront a b (x ++ y)
+front_of_more a b x y p = (length x, subst (Appends a b) (sym (take_at x y (length x) refl)) p)
+
+front_of_front : (n : ℕ) (x y : List ℕ) → (m : ℕ) × (take n x ≡ take m (x ++ y))
+front_of_front n x y = (
+  length (take n x),
+  let parts : x ++ y ≡ take n x ++ (drop n x ++ y) = ap (λ (l : List ℕ). l ++ y) (sym (take-append-drop n x)) ∙ append_assoc (take n x) (drop n x) y in
+      sym (take_at (take n x) (drop n x ++ y) (length (take n x)) refl) ∙ ap (take (length (take n x))) (sym parts),
+)
+
+-- a front of the bytes is a front of more
+pub front-more : (a b : Option (List ℕ)) (x y : List ℕ) → AppendsFront a b x → AppendsFront a b (x ++ y)
+front-more a b x y p = let f = front_of_front p.0 x y in (f.0, subst (Appends a b) f.1 p.1)
+
+-- bytes, and then a front of others
+pub then_front : (a b c : Option (List ℕ)) (x y : List ℕ) → Appends a b x → AppendsFront b c y → AppendsFront a c (x ++ y)
+then_front a b c x y p q = (
+  length x + q.0,
+  let e : take (length x + q.0) (x ++ y) ≡ x ++ take q.0 y = take-append-add x y q.0 in
+      subst (Appends a c) (sym e) (Appends-then a b c x (take q.0 y) p q.1),
+)
+
+-- nothing is written yet
+pub written_none : (a : Option (List ℕ)) (bytes : List ℕ) → Written a a bytes bytes
+written_none a bytes = record { front = []; parts = refl; appended = Appends-nothing a a (Keeps-itself a) }
+
+-- so many bytes more are written
+pub written_more : (old a b : Option (List ℕ)) (bytes rest : List ℕ) (n : ℕ) → Written old a bytes rest → Appends a b (take n rest) → Written old b bytes (drop n rest)
+written_more old a b bytes rest n w p = record {
+  front = w.front ++ take n rest;
+  parts = w.parts ∙ ap (λ (l : List ℕ). w.front ++ l) (sym (take-append-drop n rest)) ∙ sym (append_assoc w.front (take n rest) (drop n rest));
+  appended = Appends-then old a b w.front (take n rest) w.appended p;
+}
+
+-- all bytes are written
+pub written_all : (old a : Option (List ℕ)) (bytes : List ℕ) → Written old a bytes [] → Appends old a bytes
+written_all old a bytes w = subst (Appends old a) (sym (append-nil w.front) ∙ sym w.parts) w.appended
+
+-- of the rest a front was written
+pub written_front : (old a b : Option (List ℕ)) (bytes rest : List ℕ) → Written old a bytes rest → AppendsFront a b rest → AppendsFront old b bytes
+written_front old a b bytes rest w p = subst (AppendsFront old b) (sym w.parts) (then_front old a b w.front rest w.appended p)
+
+-- a call that failed is a failure since any moment from which there was none
+pub fails : (old a b : ℕ) → a ≡ old → b ≡ min (a + 1) (2 ^ 64 - 1) → Failed old b
+fails old a b p e = elim (cases_lt old (2 ^ 64 - 1)) [ inl lt ↦ inl (omega arith) | inr le ↦ inr (omega arith) ]
+
+-- a writer that has written a part of some bytes, and had no failure
+pub record Sending {W : Type 0} (held : W → Option (List ℕ)) (failures : W → ℕ) (same : W → W → Type 0) (old now : W) (bytes rest : List ℕ) : Type 0 where
+  pub written : Written (held old) (held now) bytes rest
+  pub count : failures now ≡ failures old
+  pub same_device : same old now
+
+-- the writer took so many bytes more
+pub sending_more : {W : Type 0} (held : W → Option (List ℕ)) (failures : W → ℕ) (same : W → W → Type 0) (old a b : W) (bytes rest : List ℕ) (n : ℕ) → Sending held failures same old a bytes rest → Appends (held a) (held b) (take n rest) → failures b ≡ failures a → same old b → Sending held failures same old b bytes (drop n rest)
+sending_more held failures same old a b bytes rest n s p e d = record {
+  written = written_more (held old) (held a) (held b) bytes rest n s.written p;
+  count = e ∙ s.count;
+  same_device = d;
+}
+
+-- the writer failed, and took none of the rest
+pub sending_failed : {W : Type 0} (held : W → Option (List ℕ)) (failures : W → ℕ) (same : W → W → Type 0) (old a b : W) (bytes rest : List ℕ) → Sending held failures same old a bytes rest → Keeps (held a) (held b) → failures b ≡ min (failures a + 1) (2 ^ 64 - 1) → FailsIn bytes (held old) (held b) (failures old) (failures b)
+sending_failed held failures same old a b bytes rest s k e =
+    (written_front (held old) (held a) (held b) bytes rest s.written (0, Appends-nothing (held a) (held b) k), fails (failures old) (failures a) (failures b) s.count e)
+
+-- what holds anyway holds at an error
+pub at_any_error : {T E P : Type 0} (r : Result T E) → P → OnErr r P
+at_any_error (Ok x) p = tt
+at_any_error (Err e) p = p
+
+-- a failure in the first part of some bytes
+pub fails_in_more : (a b : Option (List ℕ)) (i j : ℕ) (x y : List ℕ) → FailsIn x a b i j → FailsIn (x ++ y) a b i j
+fails_in_more a b i j x y f = (front-more a b x y f.0, f.1)
+
+-- a failure in the second part of some bytes
+pub fails_in_rest : (a b c : Option (List ℕ)) (i j k : ℕ) (x y : List ℕ) → Appends a b x → j ≡ i → FailsIn y b c j k → FailsIn (x ++ y) a c i k
+fails_in_rest a b c i j k x y p e f = (then_front a b c x y p f.0, subst (λ n. Failed n k) e f.1)
+
+-- the writer failed, and took a front of a front of the rest
+pub sending_fails : {W : Type 0} (held : W → Option (List ℕ)) (failures : W → ℕ) (same : W → W → Type 0) (old a b : W) (bytes rest : List ℕ) (n : ℕ) → Sending held failures same old a bytes rest → FailsIn (take n rest) (held a) (held b) (failures a) (failures b) → FailsIn bytes (held old) (held b) (failures old) (failures b)
+sending_fails held failures same old a b bytes rest n s f =
+    let g = subst (λ (l : List ℕ). FailsIn l (held a) (held b) (failures a) (failures b)) (take-append-drop n rest) (fails_in_more (held a) (held b) (failures a) (failures b) (take n rest) (drop n rest) f) in
+    (written_front (held old) (held a) (held b) bytes rest s.written g.0, subst (λ k. Failed k (failures b)) s.count g.1)
+
+-- a failure in one of the four parts of a header
+pub fails_in_first : (a b : Option (List ℕ)) (i j : ℕ) (p q r s : List ℕ) → FailsIn p a b i j → FailsIn (p ++ q ++ r ++ s) a b i j
+fails_in_first a b i j p q r s f = fails_in_more a b i j (p ++ q ++ r) s (fails_in_more a b i j (p ++ q) r (fails_in_more a b i j p q f))
+
+pub fails_in_second : (a b c : Option (List ℕ)) (i j k : ℕ) (p q r s : List ℕ) → Appends a b p → j ≡ i → FailsIn q b c j k → FailsIn (p ++ q ++ r ++ s) a c i k
+fails_in_second a b c i j k p q r s w e f = fails_in_more a c i k (p ++ q ++ r) s (fails_in_more a c i k (p ++ q) r (fails_in_rest a b c i j k p q w e f))
+
+pub fails_in_third : (a b c d : Option (List ℕ)) (h i j k : ℕ) (p q r s : List ℕ) → Appends a b p → i ≡ h → Appends b c q → j ≡ i → FailsIn r c d j k → FailsIn (p ++ q ++ r ++ s) a d h k
+fails_in_third a b c d h i j k p q r s w e v u f =
+    fails_in_more a d h k (p ++ q ++ r) s (fails_in_rest a c d h j k (p ++ q) r (Appends-then a b c p q w v) (u ∙ e) f)
+
+pub fails_in_fourth : (a b c d e : Option (List ℕ)) (g h i j k : ℕ) (p q r s : List ℕ) → Appends a b p → h ≡ g → Appends b c q → i ≡ h → Appends c d r → j ≡ i → FailsIn s d e j k → FailsIn (p ++ q ++ r ++ s) a e g k
+fails_in_fourth a b c d e g h i j k p q r s w m v n u o f =
+    fails_in_rest a d e g j k (p ++ q ++ r) s (Appends-then a c d (p ++ q) r (Appends-then a b c p q w v) u) (o ∙ n ∙ m) f
