@@ -117,23 +117,20 @@ fails_in_more a b i j x y f = (front-more a b x y f.0, f.1)
 pub fails_in_rest : (a b c : Option (List ℕ)) (i j k : ℕ) (x y : List ℕ) → Appends a b x → j ≡ i → FailsIn y b c j k → FailsIn (x ++ y) a c i k
 fails_in_rest a b c i j k x y p e f = (then_front a b c x y p f.0, subst (λ n. Failed n k) e f.1)
 
--- the writer failed, and took a front of a front of the rest
-pub sending_fails : {W : Type 0} (held : W → Option (List ℕ)) (failures : W → ℕ) (same : W → W → Type 0) (old a b : W) (bytes rest : List ℕ) (n : ℕ) → Sending held failures same old a bytes rest → FailsIn (take n rest) (held a) (held b) (failures a) (failures b) → FailsIn bytes (held old) (held b) (failures old) (failures b)
-sending_fails held failures same old a b bytes rest n s f =
-    let g = subst (λ (l : List ℕ). FailsIn l (held a) (held b) (failures a) (failures b)) (take-append-drop n rest) (fails_in_more (held a) (held b) (failures a) (failures b) (take n rest) (drop n rest) f) in
-    (written_front (held old) (held a) (held b) bytes rest s.written g.0, subst (λ k. Failed k (failures b)) s.count g.1)
+-- the writer took a part of the rest
+pub sending_part : {W : Type 0} (held : W → Option (List ℕ)) (failures : W → ℕ) (same : W → W → Type 0) (old a b : W) (bytes rest x y : List ℕ) → rest ≡ x ++ y → Sending held failures same old a bytes rest → Appends (held a) (held b) x → failures b ≡ failures a → same old b → Sending held failures same old b bytes y
+sending_part held failures same old a b bytes rest x y parts s p e d = record {
+  written = record {
+    front = s.written.front ++ x;
+    parts = s.written.parts ∙ ap (λ (l : List ℕ). s.written.front ++ l) parts ∙ sym (append_assoc s.written.front x y);
+    appended = Appends-then (held old) (held a) (held b) s.written.front x s.written.appended p;
+  };
+  count = e ∙ s.count;
+  same_device = d;
+}
 
--- a failure in one of the four parts of a header
-pub fails_in_first : (a b : Option (List ℕ)) (i j : ℕ) (p q r s : List ℕ) → FailsIn p a b i j → FailsIn (p ++ q ++ r ++ s) a b i j
-fails_in_first a b i j p q r s f = fails_in_more a b i j (p ++ q ++ r) s (fails_in_more a b i j (p ++ q) r (fails_in_more a b i j p q f))
-
-pub fails_in_second : (a b c : Option (List ℕ)) (i j k : ℕ) (p q r s : List ℕ) → Appends a b p → j ≡ i → FailsIn q b c j k → FailsIn (p ++ q ++ r ++ s) a c i k
-fails_in_second a b c i j k p q r s w e f = fails_in_more a c i k (p ++ q ++ r) s (fails_in_more a c i k (p ++ q) r (fails_in_rest a b c i j k p q w e f))
-
-pub fails_in_third : (a b c d : Option (List ℕ)) (h i j k : ℕ) (p q r s : List ℕ) → Appends a b p → i ≡ h → Appends b c q → j ≡ i → FailsIn r c d j k → FailsIn (p ++ q ++ r ++ s) a d h k
-fails_in_third a b c d h i j k p q r s w e v u f =
-    fails_in_more a d h k (p ++ q ++ r) s (fails_in_rest a c d h j k (p ++ q) r (Appends-then a b c p q w v) (u ∙ e) f)
-
-pub fails_in_fourth : (a b c d e : Option (List ℕ)) (g h i j k : ℕ) (p q r s : List ℕ) → Appends a b p → h ≡ g → Appends b c q → i ≡ h → Appends c d r → j ≡ i → FailsIn s d e j k → FailsIn (p ++ q ++ r ++ s) a e g k
-fails_in_fourth a b c d e g h i j k p q r s w m v n u o f =
-    fails_in_rest a d e g j k (p ++ q ++ r) s (Appends-then a c d (p ++ q) r (Appends-then a b c p q w v) u) (o ∙ n ∙ m) f
+-- the writer failed in a part of the rest
+pub sending_part_failed : {W : Type 0} (held : W → Option (List ℕ)) (failures : W → ℕ) (same : W → W → Type 0) (old a b : W) (bytes rest x y : List ℕ) → rest ≡ x ++ y → Sending held failures same old a bytes rest → FailsIn x (held a) (held b) (failures a) (failures b) → FailsIn bytes (held old) (held b) (failures old) (failures b)
+sending_part_failed held failures same old a b bytes rest x y parts s f =
+    let front : AppendsFront (held a) (held b) rest = subst (AppendsFront (held a) (held b)) (sym parts) (front-more (held a) (held b) x y f.0) in
+    (written_front (held old) (held a) (held b) bytes rest s.written front, subst (λ k. Failed k (failures b)) s.count f.1)
