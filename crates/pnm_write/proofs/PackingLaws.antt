@@ -4,10 +4,11 @@ use Rattle.std.proofs.Math.ListN.{length-set}
 use Rattle.std.proofs.lemmas.Bool.{cases_lt}
 use Rattle.std.proofs.lemmas.Grind.{flat_map-append}
 use Rattle.std.proofs.lemmas.List.{append-nil, take_all, drop_all, take_more, take_more_set, take-append-drop, take-take, drop-take, drop-drop, length-take, length-drop}
+use Rattle.std.proofs.lemmas.List.Elements.{All-take, All-drop}
 use Rattle.pnm_write.specs.declared.packing.Packing.{Packing}
 use Rattle.pnm_write.specs.declared.packing.Packing.TheVariants.{Packed, Narrow, Wide}
 use Rattle.pnm_write.specs.Encoding.{pixel_bits, packed_byte, packed_groups, packed_bytes, wide_bytes, bytes_in}
-use Rattle.pnm_write.specs.Writes.{most_samples}
+use Rattle.pnm_write.specs.Writes.{most_samples, FitIn}
 
 -- ---- pixels
 
@@ -94,6 +95,19 @@ groups_and_last k n xs rest last e after some filled =
     ap (λ (l : List ℕ). packed_byte (take 8 l)) (sym after) ∙ ap packed_byte (take_all 8 rest short) ∙ sym (bits_before_white 128 n rest) ∙ ap packed_byte (sym filled) in
     ap (λ (m : ℕ). packed_groups m xs) count ∙ groups_more k xs ∙ ap (λ (b : ℕ). packed_groups k xs ++ b ∷ []) pixels
 
+-- the byte of one group more was stored
+pub groups_step : (i count byte : ℕ) (xs room : List ℕ) → take i room ≡ packed_groups i xs → i < length room → count ≡ 8 → byte ≡ packed_byte (take count (drop (8 * i) xs)) → take (i + 1) (set room i byte) ≡ packed_groups (i + 1) xs
+groups_step i count byte xs room known below eight e =
+    take_more_set room i byte below ∙ ap₂ (λ (l : List ℕ) (b : ℕ). l ++ b ∷ []) known (e ∙ ap (λ (m : ℕ). packed_byte (take m (drop (8 * i) xs))) eight) ∙ sym (groups_more i xs)
+
+-- the byte of a last group was stored after the whole groups
+pub last_step : (i k n byte : ℕ) (xs room rest last : List ℕ) → i ≡ k → take i room ≡ packed_groups i xs → k < length room → k ≡ length xs / 8 → rest ≡ drop (8 * k) xs → 0 < length rest → last ≡ rest ++ replicate n 1 → byte ≡ packed_byte last
+    → take (k + 1) (set room k byte) ≡ packed_bytes xs
+last_step i k n byte xs room rest last same known below e after some filled b =
+    take_more_set room k byte below
+    ∙ ap₂ (λ (l : List ℕ) (v : ℕ). l ++ v ∷ []) (ap (λ (m : ℕ). take m room) (sym same) ∙ known ∙ ap (λ (m : ℕ). packed_groups m xs) same) b
+    ∙ sym (groups_and_last k n xs rest last e after some filled)
+
 -- ---- samples of two bytes
 
 -- the bytes of one sample more
@@ -132,3 +146,15 @@ parts Packed n xs e = elim (cases_lt (length xs) 32768) [
 ]
 parts Narrow n xs e = sym (take-append-drop n xs)
 parts Wide n xs e = ap wide_bytes (sym (take-append-drop n xs)) ∙ flat_map-append (λ (s : ℕ). s / 256 ∷ s % 256 ∷ []) (take n xs) (drop n xs)
+
+-- the samples of a part fit their bytes
+pub fit_part : (p : Packing) (n : ℕ) (xs : List ℕ) → FitIn p xs → FitIn p (take n xs)
+fit_part Packed n xs fit = tt
+fit_part Narrow n xs fit = All-take (λ sample. sample ≤ 255) n xs fit
+fit_part Wide n xs fit = tt
+
+-- so do those of the rest
+pub fit_rest : (p : Packing) (n : ℕ) (xs : List ℕ) → FitIn p xs → FitIn p (drop n xs)
+fit_rest Packed n xs fit = tt
+fit_rest Narrow n xs fit = All-drop (λ sample. sample ≤ 255) n xs fit
+fit_rest Wide n xs fit = tt
