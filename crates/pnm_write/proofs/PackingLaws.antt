@@ -141,8 +141,8 @@ pub parts : (p : Packing) (n : ℕ) (xs : List ℕ) → n ≡ min (length xs) (m
 parts Packed n xs e = elim (cases_lt (length xs) 32768) [
   | inl few ↦ one_part Packed n xs (omega arith)
   | inr many ↦
-    let most : 8 * 4096 ≡ n = omega arith in
-    packed_parts 4096 xs (omega arith) ∙ ap (λ (m : ℕ). packed_bytes (take m xs) ++ packed_bytes (drop m xs)) most
+      let most : 8 * 4096 ≡ n = omega arith in
+      packed_parts 4096 xs (omega arith) ∙ ap (λ (m : ℕ). packed_bytes (take m xs) ++ packed_bytes (drop m xs)) most
 ]
 parts Narrow n xs e = sym (take-append-drop n xs)
 parts Wide n xs e = ap wide_bytes (sym (take-append-drop n xs)) ∙ flat_map-append (λ (s : ℕ). s / 256 ∷ s % 256 ∷ []) (take n xs) (drop n xs)

@@ -31,17 +31,6 @@ Appends-then (Some xs) None c x y p q = absurd p
 Appends-then (Some xs) (Some ys) None x y p q = q
 Appends-then (Some xs) (Some ys) (Some zs) x y p q = q ∙ ap (λ (l : List ℕ). l ++ y) p ∙ append_assoc xs x y
 
--- a growth, and nothing after it
-pub Appends-kept : (a b c : Option (List ℕ)) (x : List ℕ) → Appends a b x → Keeps b c → Appends a c x
-Appends-kept None b c x p k = tt
-Appends-kept (Some xs) None c x p k = absurd p
-Appends-kept (Some xs) (Some ys) None x p k = k
-Appends-kept (Some xs) (Some ys) (Some zs) x p k = k ∙ p
-
--- a growth is a front of more
-pub front_of_more : (a b : Option (List ℕ)) (x y : List ℕ) → Appends a b x → AppendsFront a b (x ++ y)
-front_of_more a b x y p = (length x, subst (Appends a b) (sym (take_at x y (length x) refl)) p)
-
 front_of_front : (n : ℕ) (x y : List ℕ) → (m : ℕ) × (take n x ≡ take m (x ++ y))
 front_of_front n x y = (
   length (take n x),
@@ -108,14 +97,6 @@ sending_failed held failures same old a b bytes rest s k e =
 pub at_any_error : {T E P : Type 0} (r : Result T E) → P → OnErr r P
 at_any_error (Ok x) p = tt
 at_any_error (Err e) p = p
-
--- a failure in the first part of some bytes
-pub fails_in_more : (a b : Option (List ℕ)) (i j : ℕ) (x y : List ℕ) → FailsIn x a b i j → FailsIn (x ++ y) a b i j
-fails_in_more a b i j x y f = (front-more a b x y f.0, f.1)
-
--- a failure in the second part of some bytes
-pub fails_in_rest : (a b c : Option (List ℕ)) (i j k : ℕ) (x y : List ℕ) → Appends a b x → j ≡ i → FailsIn y b c j k → FailsIn (x ++ y) a c i k
-fails_in_rest a b c i j k x y p e f = (then_front a b c x y p f.0, subst (λ n. Failed n k) e f.1)
 
 -- the writer took a part of the rest
 pub sending_part : {W : Type 0} (held : W → Option (List ℕ)) (failures : W → ℕ) (same : W → W → Type 0) (old a b : W) (bytes rest x y : List ℕ) → rest ≡ x ++ y → Sending held failures same old a bytes rest → Appends (held a) (held b) x → failures b ≡ failures a → same old b → Sending held failures same old b bytes y

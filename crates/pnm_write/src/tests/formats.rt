@@ -149,7 +149,11 @@ fn writes_each_kind(rt: HostRuntime) -> Result<(), Fail> {
         }
         parts.push(Part::ImageEnd)?;
         for part in &parts {
-            assert_eq!(rt; sink.put(&message(rt.alloc(), *part)?), Ok(()), "at {shape:?}");
+            assert_eq!(rt;
+                sink.put(&message(rt.alloc(), *part)?),
+                Ok(()),
+                "at {shape:?}"
+            );
         }
         all.extend_from_slice(*bytes)?;
         parts.push(Part::StreamEnd)?;

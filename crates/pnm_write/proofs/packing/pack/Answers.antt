@@ -1,4 +1,4 @@
-use Rattle.std.proofs.Common.{◌≡◌, ◌+◌, ◌*◌, ◌-◌, ◌/◌, ◌<◌, ◌++◌, Bool, false, List, ℕ, zero, suc, length, drop, replicate, refl, ap₂, ◌∙◌, arith}
+use Rattle.std.proofs.Common.{◌≡◌, ◌+◌, ◌*◌, ◌-◌, ◌/◌, ◌<◌, ◌++◌, Bool, false, List, ℕ, zero, suc, length, drop, replicate, refl, ap₂, arith}
 use Rattle.std.specs.Prelude.{◌==◌}
 use Rattle.std.proofs.lemmas.List.{drop-replicate}
 use Rattle.pnm_write.proofs.PackingLaws.{groups_step, last_step}

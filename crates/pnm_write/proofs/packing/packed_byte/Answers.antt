@@ -1,4 +1,4 @@
-use Rattle.std.proofs.Common.{◌≡◌, ◌-◌, ◌+◌, ◌*◌, ℕ, get_or, ap, sym, ◌∙◌, arith}
+use Rattle.std.proofs.Common.{sym}
 use Rattle.pnm_write.proofs.PackingLaws.{byte_of_eight}
 use Rattle.pnm_write.proofs.packing.packed_byte.Goals as goal
 

@@ -1,4 +1,4 @@
-use Rattle.std.proofs.Common.{◌≡◌, ◌∙◌, ◌++◌, ◌≤◌, min, List, ℕ, length, take, drop, ap, sym, subst}
+use Rattle.std.proofs.Common.{◌≡◌, ◌∙◌, ◌++◌, min, List, ℕ, length, take, drop, ap, sym, subst}
 use Rattle.pnm_write.specs.declared.packing.Packing.{Packing}
 use Rattle.pnm_write.specs.Encoding.{bytes_in}
 use Rattle.pnm_write.specs.Writes.{most_samples, FailsIn}
@@ -20,8 +20,7 @@ returns-in_err-write_all-clause-failed g c =
 
 pub loop-rest-preserved : goal.loop-rest-preserved
 loop-rest-preserved g c =
-    let split = part_and_rest c.of-packing.result c.min-count.result c.most_samples-most.result c.loop-rest.rest.now c.split_at.result.0.now c.split_at.result.1.now c.as_slice.result.now c.min-count.ensures c.most_samples-most.ensures c.split_at.ensures.front c.split_at.ensures.back (c.as_slice.ensures ∙ c.fill.ensures) in
-    (
+    let split = part_and_rest c.of-packing.result c.min-count.result c.most_samples-most.result c.loop-rest.rest.now c.split_at.result.0.now c.split_at.result.1.now c.as_slice.result.now c.min-count.ensures c.most_samples-most.ensures c.split_at.ensures.front c.split_at.ensures.back (c.as_slice.ensures ∙ c.fill.ensures) in (
       sending_part g.W.BytesOut.held g.W.BytesOut.failures g.W.BytesOut.same c.args.writer.now c.loop-rest.writer c.write_all.new.writer (bytes_in c.of-packing.result c.args.samples.now) (bytes_in c.of-packing.result c.loop-rest.rest.now) c.as_slice.result.now (bytes_in c.of-packing.result c.split_at.result.1.now) split c.loop-rest.invariant.0 c.in_ok-write_all.ensures.written c.in_ok-write_all.ensures.count
           (g.met.W.BytesOut.same_later _ _ _ c.loop-rest.invariant.0.same_device c.in_ok-write_all.ensures.same_device),
       rw c.split_at.ensures.back (fit_rest c.of-packing.result c.min-count.result c.loop-rest.rest.now c.loop-rest.invariant.1),
