@@ -1,0 +1,68 @@
+-- The bytes of lists of messages, and the messages that were put into a sink.
+use Rattle.std.proofs.Common.{◌≡◌, ℕ, ◌+◌, false, List, [], ◌∷◌, ◌++◌, map, refl, sym, ap, ◌∙◌, append_assoc, subst}
+use Rattle.std.specs.List.{AllByRecursion, flat_map}
+use Rattle.std.proofs.lemmas.List.{append-nil}
+use Rattle.pnm_image.specs.declared.shape.Shape.{Shape}
+use Rattle.pnm_image.specs.declared.message.Message.{Message}
+use Rattle.pnm_image.specs.declared.message.Message.TheVariants.{Row, ImageEnd}
+use Rattle.pnm_image.specs.declared.place.Place.{Place}
+use Rattle.pnm_image.specs.declared.place.Place.TheVariants.{Between, Inside}
+use Rattle.pnm_image.specs.Images.{Image, rows_of, messages_of_stream}
+use Rattle.pnm_image.specs.Places.{Accepts, IsLawfulFrom, place_after, place_of}
+use Rattle.pnm_write.specs.declared.sink.Sink.{Sink}
+use Rattle.pnm_write.specs.Encoding.{header_text, row_bytes, encoding_of, bytes_at, bytes_from}
+use Rattle.pnm_write.specs.Sinks.{next_place, has_failed, HasRows, HasPut}
+
+-- the bytes of rows, and of what comes after the image
+bytes_of_rows : (s : Shape) (y : ℕ) (rows : List (List ℕ)) (rest : List Message)
+    → bytes_from (Inside s y) (map Row rows ++ ImageEnd ∷ rest) ≡ flat_map (row_bytes s) rows ++ bytes_from Between rest
+bytes_of_rows s y [] rest = refl
+bytes_of_rows s y (row ∷ rows) rest =
+    ap (λ (l : List ℕ). row_bytes s row ++ l) (bytes_of_rows s (y + 1) rows rest) ∙ sym (append_assoc (row_bytes s row) (flat_map (row_bytes s) rows) (bytes_from Between rest))
+
+-- the bytes of a stream's messages are the encoding of its images
+pub bytes_of_stream : (is : List Image) → bytes_from Between (messages_of_stream is) ≡ encoding_of is
+bytes_of_stream [] = refl
+bytes_of_stream (i ∷ is) =
+    let s : Shape = i.head.shape in
+    let text : List ℕ = header_text i.head in
+    let rows : List ℕ = flat_map (row_bytes s) (rows_of i) in
+    let messages : (map Row (rows_of i) ++ ImageEnd ∷ []) ++ messages_of_stream is ≡ map Row (rows_of i) ++ ImageEnd ∷ messages_of_stream is = append_assoc (map Row (rows_of i)) (ImageEnd ∷ []) (messages_of_stream is) in
+    ap (λ (l : List Message). text ++ bytes_from (Inside s 0) l) messages
+    ∙ ap (λ (l : List ℕ). text ++ l) (bytes_of_rows s 0 (rows_of i) (messages_of_stream is) ∙ ap (λ (l : List ℕ). rows ++ l) (bytes_of_stream is))
+    ∙ sym (append_assoc text rows (encoding_of is))
+
+-- one message more adds its bytes
+pub bytes_of_more : (place : Place) (messages : List Message) (m : Message) → bytes_from place (messages ++ m ∷ []) ≡ bytes_from place messages ++ bytes_at (place_of place messages) m
+bytes_of_more place [] m = append-nil (bytes_at place m)
+bytes_of_more place (n ∷ messages) m =
+    ap (λ (l : List ℕ). bytes_at place n ++ l) (bytes_of_more (place_after place n) messages m)
+    ∙ sym (append_assoc (bytes_at place n) (bytes_from (place_after place n) messages) (bytes_at (place_of (place_after place n) messages) m))
+
+-- ---- one message more
+
+-- a lawful list goes on by a message that may come where it leads
+lawful_more : (place : Place) (messages : List Message) (m : Message) → IsLawfulFrom place messages → Accepts (place_of place messages) m → IsLawfulFrom place (messages ++ m ∷ [])
+lawful_more place [] m lawful accepts = (accepts, tt)
+lawful_more place (n ∷ messages) m lawful accepts = (lawful.0, lawful_more (place_after place n) messages m lawful.1 accepts)
+
+-- the place after one message more
+place_of_more : (place : Place) (messages : List Message) (m : Message) → place_of place (messages ++ m ∷ []) ≡ place_after (place_of place messages) m
+place_of_more place [] m = refl
+place_of_more place (n ∷ messages) m = place_of_more (place_after place n) messages m
+
+-- what holds of each message, and of one more
+rows_more : (messages : List Message) (m : Message) → AllByRecursion HasRows messages → HasRows m → AllByRecursion HasRows (messages ++ m ∷ [])
+rows_more [] m rows has = (has, tt)
+rows_more (n ∷ messages) m rows has = (rows.0, rows_more messages m rows.1 has)
+
+-- a message was put
+pub put_more : {W : Type 0} (old new : Sink W) (messages : List Message) (m : Message) → HasPut old messages → has_failed old ≡ false → Accepts (next_place old) m → HasRows m → next_place new ≡ place_after (next_place old) m
+    → HasPut new (messages ++ m ∷ [])
+put_more old new messages m put sound accepts has after =
+    let here : next_place old ≡ place_of Between messages = put.place sound in
+    record {
+      lawful = lawful_more Between messages m put.lawful (subst (λ (p : Place). Accepts p m) here accepts);
+      rows = rows_more messages m put.rows has;
+      place = λ still. after ∙ ap (λ (p : Place). place_after p m) here ∙ sym (place_of_more Between messages m);
+    }

@@ -1,0 +1,117 @@
+-- What a writer holds after a part of some bytes was written.
+use Rattle.std.proofs.Common.{◌≡◌, ℕ, ◌+◌, ◌-◌, ◌^◌, min, inl, inr, List, [], ◌++◌, length, take, drop, Option, Some, None, Result, Ok, Err, refl, sym, ap, subst, ◌∙◌, append_assoc, arith}
+use Rattle.std.proofs.Math.Seq.{take-append-add}
+use Rattle.std.proofs.lemmas.List.{append-nil, take_at, take-append-drop}
+use Rattle.std.specs.Io.KnownBytes.{Appends, Keeps}
+use Rattle.std.proofs.lemmas.Bool.{cases_lt}
+use Rattle.std.specs.Prelude.{OnErr}
+use Rattle.pnm_image.specs.Devices.{Failed}
+use Rattle.pnm_write.specs.Writes.{AppendsFront, FailsIn}
+
+-- the bytes are a front that was written, and a rest that wasn't
+pub record Written (old now : Option (List ℕ)) (bytes rest : List ℕ) : Type 0 where
+  pub front : List ℕ
+  pub parts : bytes ≡ front ++ rest
+  pub appended : Appends old now front
+
+-- what stays as it is, grows by nothing
+pub Appends-nothing : (a b : Option (List ℕ)) → Keeps a b → Appends a b []
+Appends-nothing None b k = tt
+Appends-nothing (Some xs) None k = k
+Appends-nothing (Some xs) (Some ys) k = k ∙ sym (append-nil xs)
+
+pub Keeps-itself : (a : Option (List ℕ)) → Keeps a a
+Keeps-itself None = tt
+Keeps-itself (Some xs) = refl
+
+-- one growth after another
+pub Appends-then : (a b c : Option (List ℕ)) (x y : List ℕ) → Appends a b x → Appends b c y → Appends a c (x ++ y)
+Appends-then None b c x y p q = tt
+Appends-then (Some xs) None c x y p q = absurd p
+Appends-then (Some xs) (Some ys) None x y p q = q
+Appends-then (Some xs) (Some ys) (Some zs) x y p q = q ∙ ap (λ (l : List ℕ). l ++ y) p ∙ append_assoc xs x y
+
+front_of_front : (n : ℕ) (x y : List ℕ) → (m : ℕ) × (take n x ≡ take m (x ++ y))
+front_of_front n x y = (
+  length (take n x),
+  let parts : x ++ y ≡ take n x ++ (drop n x ++ y) = ap (λ (l : List ℕ). l ++ y) (sym (take-append-drop n x)) ∙ append_assoc (take n x) (drop n x) y in
+      sym (take_at (take n x) (drop n x ++ y) (length (take n x)) refl) ∙ ap (take (length (take n x))) (sym parts),
+)
+
+-- a front of the bytes is a front of more
+pub front-more : (a b : Option (List ℕ)) (x y : List ℕ) → AppendsFront a b x → AppendsFront a b (x ++ y)
+front-more a b x y p = let f = front_of_front p.0 x y in (f.0, subst (Appends a b) f.1 p.1)
+
+-- bytes, and then a front of others
+pub then_front : (a b c : Option (List ℕ)) (x y : List ℕ) → Appends a b x → AppendsFront b c y → AppendsFront a c (x ++ y)
+then_front a b c x y p q = (
+  length x + q.0,
+  let e : take (length x + q.0) (x ++ y) ≡ x ++ take q.0 y = take-append-add x y q.0 in
+      subst (Appends a c) (sym e) (Appends-then a b c x (take q.0 y) p q.1),
+)
+
+-- nothing is written yet
+pub written_none : (a : Option (List ℕ)) (bytes : List ℕ) → Written a a bytes bytes
+written_none a bytes = record { front = []; parts = refl; appended = Appends-nothing a a (Keeps-itself a) }
+
+-- so many bytes more are written
+pub written_more : (old a b : Option (List ℕ)) (bytes rest : List ℕ) (n : ℕ) → Written old a bytes rest → Appends a b (take n rest) → Written old b bytes (drop n rest)
+written_more old a b bytes rest n w p = record {
+  front = w.front ++ take n rest;
+  parts = w.parts ∙ ap (λ (l : List ℕ). w.front ++ l) (sym (take-append-drop n rest)) ∙ sym (append_assoc w.front (take n rest) (drop n rest));
+  appended = Appends-then old a b w.front (take n rest) w.appended p;
+}
+
+-- all bytes are written
+pub written_all : (old a : Option (List ℕ)) (bytes : List ℕ) → Written old a bytes [] → Appends old a bytes
+written_all old a bytes w = subst (Appends old a) (sym (append-nil w.front) ∙ sym w.parts) w.appended
+
+-- of the rest a front was written
+pub written_front : (old a b : Option (List ℕ)) (bytes rest : List ℕ) → Written old a bytes rest → AppendsFront a b rest → AppendsFront old b bytes
+written_front old a b bytes rest w p = subst (AppendsFront old b) (sym w.parts) (then_front old a b w.front rest w.appended p)
+
+-- a call that failed is a failure since any moment from which there was none
+pub fails : (old a b : ℕ) → a ≡ old → b ≡ min (a + 1) (2 ^ 64 - 1) → Failed old b
+fails old a b p e = elim (cases_lt old (2 ^ 64 - 1)) [ inl lt ↦ inl (omega arith) | inr le ↦ inr (omega arith) ]
+
+-- a writer that has written a part of some bytes, and had no failure
+pub record Sending {W : Type 0} (held : W → Option (List ℕ)) (failures : W → ℕ) (same : W → W → Type 0) (old now : W) (bytes rest : List ℕ) : Type 0 where
+  pub written : Written (held old) (held now) bytes rest
+  pub count : failures now ≡ failures old
+  pub same_device : same old now
+
+-- the writer took so many bytes more
+pub sending_more : {W : Type 0} (held : W → Option (List ℕ)) (failures : W → ℕ) (same : W → W → Type 0) (old a b : W) (bytes rest : List ℕ) (n : ℕ) → Sending held failures same old a bytes rest → Appends (held a) (held b) (take n rest) → failures b ≡ failures a → same old b → Sending held failures same old b bytes (drop n rest)
+sending_more held failures same old a b bytes rest n s p e d = record {
+  written = written_more (held old) (held a) (held b) bytes rest n s.written p;
+  count = e ∙ s.count;
+  same_device = d;
+}
+
+-- the writer failed, and took none of the rest
+pub sending_failed : {W : Type 0} (held : W → Option (List ℕ)) (failures : W → ℕ) (same : W → W → Type 0) (old a b : W) (bytes rest : List ℕ) → Sending held failures same old a bytes rest → Keeps (held a) (held b) → failures b ≡ min (failures a + 1) (2 ^ 64 - 1) → FailsIn bytes (held old) (held b) (failures old) (failures b)
+sending_failed held failures same old a b bytes rest s k e =
+    (written_front (held old) (held a) (held b) bytes rest s.written (0, Appends-nothing (held a) (held b) k), fails (failures old) (failures a) (failures b) s.count e)
+
+-- what holds anyway holds at an error
+pub at_any_error : {T E P : Type 0} (r : Result T E) → P → OnErr r P
+at_any_error (Ok x) p = tt
+at_any_error (Err e) p = p
+
+-- the writer took a part of the rest
+pub sending_part : {W : Type 0} (held : W → Option (List ℕ)) (failures : W → ℕ) (same : W → W → Type 0) (old a b : W) (bytes rest x y : List ℕ) → rest ≡ x ++ y → Sending held failures same old a bytes rest → Appends (held a) (held b) x → failures b ≡ failures a → same old b → Sending held failures same old b bytes y
+sending_part held failures same old a b bytes rest x y parts s p e d = record {
+  written = record {
+    front = s.written.front ++ x;
+    parts = s.written.parts ∙ ap (λ (l : List ℕ). s.written.front ++ l) parts ∙ sym (append_assoc s.written.front x y);
+    appended = Appends-then (held old) (held a) (held b) s.written.front x s.written.appended p;
+  };
+  count = e ∙ s.count;
+  same_device = d;
+}
+
+-- the writer failed in a part of the rest
+pub sending_part_failed : {W : Type 0} (held : W → Option (List ℕ)) (failures : W → ℕ) (same : W → W → Type 0) (old a b : W) (bytes rest x y : List ℕ) → rest ≡ x ++ y → Sending held failures same old a bytes rest → FailsIn x (held a) (held b) (failures a) (failures b) → FailsIn bytes (held old) (held b) (failures old) (failures b)
+sending_part_failed held failures same old a b bytes rest x y parts s f =
+    let front : AppendsFront (held a) (held b) rest = subst (AppendsFront (held a) (held b)) (sym parts) (front-more (held a) (held b) x y f.0) in
+    (written_front (held old) (held a) (held b) bytes rest s.written front, subst (λ k. Failed k (failures b)) s.count f.1)

@@ -1,0 +1,6 @@
+use Rattle.std.proofs.Common.{◌≡◌, take}
+use Rattle.pnm_write.proofs.packing.narrow.Given as goal
+
+-- the samples that have passed are bytes
+abbrev pub invariant-loop-i : goal.invariant-loop-i
+invariant-loop-i l = take l.i l.room ≡ take l.i l.samples

@@ -1,0 +1,7 @@
+use Rattle.std.proofs.Common.{◌≡◌, ◌*◌, take}
+use Rattle.pnm_write.specs.Encoding.{wide_bytes}
+use Rattle.pnm_write.proofs.packing.widen.Given as goal
+
+-- the bytes of the samples that have passed
+abbrev pub invariant-loop-i : goal.invariant-loop-i
+invariant-loop-i l = take (2 * l.i) l.room ≡ wide_bytes (take l.i l.samples)

@@ -1,0 +1,9 @@
+use Rattle.std.proofs.lemmas.Result.{on_ok_weaker}
+use Rattle.pnm_write.proofs.MessageLaws.{put_more}
+use Rattle.pnm_write.proofs.sink.Sink.put.Goals as goal
+
+pub returns-clause-more : goal.returns-clause-more
+returns-clause-more g c =
+    on_ok_weaker c.write-written.result
+    (λ taken messages put. put_more c.args.self.now _ messages c.args.message.now put c.if-self.false taken.0.0 taken.0.1 taken.1)
+    c.write-written.ensures.taken

@@ -1,0 +1,4 @@
+pub mod Encoding
+pub mod Writes
+pub mod Sinks
+pub mod EncodingLaws

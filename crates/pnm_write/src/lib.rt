@@ -1,0 +1,20 @@
+//! Messages as the bytes of raw Netpbm images.
+//!
+//! `Sink` takes the messages of a stream of images in turn, and writes each at once: the header of
+//! an image, and its rows. The formats are those of pbm(5), pgm(5), ppm(5) and pam(5).
+#![tactic(auto)]
+
+mod fault;
+mod header;
+pub mod laws;
+mod packing;
+mod room;
+mod row;
+mod sink;
+mod write;
+
+pub use fault::SinkFault;
+pub use sink::Sink;
+
+#[cfg(test)]
+mod tests;

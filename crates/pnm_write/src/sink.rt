@@ -1,0 +1,149 @@
+//! The sink: messages to bytes.
+
+ghost use Rattle.std.specs.Prelude.{◌≡◌, ◌↔◌, List, [], ◌∷◌, ◌++◌, IsTrue, MatchResult, IfErr, OnOk, OnErr, Err, true, false};
+ghost use Rattle.std.specs.Io.KnownBytes.{Appends, Keeps};
+ghost use Rattle.pnm_image.specs.Devices.{Failed};
+ghost use Rattle.pnm_image.specs.Places.{Accepts, place_after};
+ghost use Rattle.pnm_write.specs.Encoding.{bytes_at};
+ghost use Rattle.pnm_write.specs.Writes.{FailsIn};
+ghost use Rattle.pnm_write.specs.Sinks.{writer_of, next_place, has_failed, HasRows, Takes, HasPut, Refuses};
+
+use crate::fault::SinkFault;
+use crate::header::write_header;
+use crate::room::Room;
+use crate::row::write_row;
+use pnm_image::{BytesOut, DeviceFailed, Message, Place};
+
+/// Writes the messages of a stream of images as raw Netpbm images, one after another: PBM, PGM,
+/// PPM and PAM, by the kind of each image. It takes no memory.
+#[derive(Drop)]
+pub struct Sink<W> {
+    writer: W,
+    place: Place,
+    has_failed: bool,
+    room: Room,
+}
+
+impl<W: BytesOut> Sink<W> {
+    /// A sink over the writer, before the first message. Nothing is written.
+    pub fn new(writer: W) -> Sink<W>
+        ensures writer { writer_of result ≡ writer }
+        ensures sound { has_failed result ≡ false }
+        ensures none { HasPut result [] }
+    {
+        Sink {
+            writer,
+            place: Place::new(),
+            has_failed: false,
+            room: Room::new(),
+        }
+    }
+
+    /// Writes all bytes of the message: at the beginning of an image its header, and for a row its
+    /// samples, as pbm(5), pgm(5), ppm(5) and pam(5) lay them out. The other messages have none.
+    ///
+    /// The faults, in order: `Broken` after an earlier fault, and `OutOfOrder` where the message
+    /// can't come at this place of the stream, or begins an image of height 0, with nothing
+    /// written; `WriteFailed` where the writer fails, with a front of the bytes written.
+    pub fn put(&mut self, message: &Message) -> Result<(), SinkFault>
+        ensures written { OnOk result (Appends (W.held (writer_of self.old)) (W.held (writer_of self.new)) (bytes_at (next_place self.old) message.now)) }
+        ensures taken { OnOk result (Takes (next_place self.old) message.now × (W.failures (writer_of self.new) ≡ W.failures (writer_of self.old))) }
+        ensures sound { OnOk result ((has_failed self.old ≡ false) × (has_failed self.new ≡ false)) }
+
+        // The messages that were put are one more, or the same after a fault.
+        ensures more { OnOk result ((messages : List _) → HasPut self.old messages → HasPut self.new (messages ++ message.now ∷ [])) }
+        ensures same { OnErr result ((messages : List _) → HasPut self.old messages → HasPut self.new messages) }
+
+        // After a fault nothing more is written.
+        ensures stays { OnErr result (has_failed self.new ≡ true) }
+        ensures broken { has_failed self.old ≡ true → (result ≡ Err SinkFault.Broken) × (self.new ≡ self.old) }
+        ensures refused { has_failed self.old ≡ false → IfErr result (λ fault. Refuses (next_place self.old) message.now fault
+            (W.held (writer_of self.old)) (W.held (writer_of self.new)) (W.failures (writer_of self.old)) (W.failures (writer_of self.new))) }
+        ensures same_device { W.same (writer_of self.old) (writer_of self.new) }
+    {
+        if self.has_failed {
+            return Err(SinkFault::Broken);
+        }
+        let written = self.write(message);
+        self.has_failed = written.is_err();
+        written
+    }
+
+    /// Flushes the writer, unless there was a fault before, and gives it back. The faults are
+    /// `Broken` after an earlier fault, and `WriteFailed` where the flush fails. That there is none
+    /// doesn't say that the stream was ended.
+    pub fn finish(self) -> (W, Result<(), SinkFault>)
+        ensures bytes { Keeps (W.held (writer_of self)) (W.held result.0) }
+        ensures broken { has_failed self ≡ true → (result.0 ≡ writer_of self) × (result.1 ≡ Err SinkFault.Broken) }
+        ensures flush { has_failed self ≡ false → MatchResult result.1
+            (λ _. W.failures result.0 ≡ W.failures (writer_of self))
+            (λ fault. (fault ≡ SinkFault.WriteFailed) × Failed (W.failures (writer_of self)) (W.failures result.0)) }
+        ensures same_device { W.same (writer_of self) result.0 }
+    {
+        let Sink {
+            mut writer,
+            place: _,
+            has_failed,
+            room: _,
+        } = self;
+        if has_failed {
+            return (writer, Err(SinkFault::Broken));
+        }
+        match writer.flush() {
+            Ok(()) => (writer, Ok(())),
+            Err(_) => (writer, Err(SinkFault::WriteFailed)),
+        }
+    }
+
+    fn write(&mut self, message: &Message) -> Result<(), SinkFault>
+        ensures written { OnOk result (Appends (W.held (writer_of self.old)) (W.held (writer_of self.new)) (bytes_at (next_place self.old) message.now)) }
+        ensures taken { OnOk result (Takes (next_place self.old) message.now × (next_place self.new ≡ place_after (next_place self.old) message.now)) }
+        ensures refused { IfErr result (λ fault. Refuses (next_place self.old) message.now fault
+            (W.held (writer_of self.old)) (W.held (writer_of self.new)) (W.failures (writer_of self.old)) (W.failures (writer_of self.new))) }
+        ensures sound { has_failed self.new ≡ has_failed self.old }
+        ensures count { OnOk result (W.failures (writer_of self.new) ≡ W.failures (writer_of self.old)) }
+        ensures same_device { W.same (writer_of self.old) (writer_of self.new) }
+    {
+        if !self.place.accepts(message) || !has_rows(message) {
+            return Err(SinkFault::OutOfOrder);
+        }
+        if write_message(&mut self.writer, &mut self.room, self.place, message).is_err() {
+            return Err(SinkFault::WriteFailed);
+        }
+        self.place.step(message);
+        Ok(())
+    }
+}
+
+/// Whether the message doesn't begin an image of height 0.
+fn has_rows(message: &Message) -> bool
+    ensures { IsTrue result ↔ HasRows message.now }
+{
+    match message {
+        Message::Begin(head) => head.shape().height > 0,
+        Message::Row(_) | Message::ImageEnd | Message::StreamEnd | Message::Stop => true,
+    }
+}
+
+/// Writes the bytes of a message that comes at this place.
+fn write_message<W: BytesOut>(
+    writer: &mut W,
+    room: &mut Room,
+    place: Place,
+    message: &Message,
+) -> Result<(), DeviceFailed>
+    requires { Accepts place message.now }
+    ensures written { OnOk result (Appends (W.held writer.old) (W.held writer.new) (bytes_at place message.now)) }
+    ensures failed { OnErr result (FailsIn (bytes_at place message.now) (W.held writer.old) (W.held writer.new) (W.failures writer.old) (W.failures writer.new)) }
+    ensures count { OnOk result (W.failures writer.new ≡ W.failures writer.old) }
+    ensures same_device { W.same writer.old writer.new }
+{
+    match message {
+        Message::Begin(head) => write_header(writer, room, head),
+        Message::Row(row) => match place {
+            Place::Inside(shape, _) => write_row(writer, room, shape, row.as_slice()),
+            Place::Between | Place::After => Ok(()),
+        },
+        Message::ImageEnd | Message::StreamEnd | Message::Stop => Ok(()),
+    }
+}
