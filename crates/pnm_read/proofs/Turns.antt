@@ -1,6 +1,5 @@
 -- How turns follow one another.
 use Rattle.std.proofs.Common.{◌≡◌, ◌==◌, ℕ, true, false, List, [], ◌∷◌, ◌++◌, length, drop, Option, Result, Ok, Err, refl, sym, ap, subst, ◌∙◌, append_assoc}
-use Rattle.std.specs.Prelude.{OnOk}
 use Rattle.std.specs.Io.KnownBytes.{Consumes, IsAtEnd}
 use Rattle.pnm_image.specs.Devices.{Failed}
 use Rattle.pnm_read.specs.declared.fault.InputFault.{InputFault}
@@ -9,21 +8,21 @@ use Rattle.pnm_read.specs.declared.input.Input.{Input}
 use Rattle.pnm_read.specs.Inputs.{Turn, held_of, CanCome}
 use Rattle.pnm_read.proofs.Gathered.{consumes_nothing, consumes_then}
 
+-- an answer is no fault
+pub no_fault : {A : Type 0} (x : A) (k : InputFault) → Ok x ≡ Err k → ⊥
+no_fault x k e = absurd cc
+
 -- what a call found follows from what another found in the same turn
 pub turn_ok_so : {R A B : Type 0} {left : R → Option (List ℕ)} {failures : R → ℕ} {same : R → R → Type 0} {old new : Input R} {o q : List ℕ → List ℕ → Type 0}
     (x : A) (result : Result B InputFault) → (result ≡ Err ReadFailed → ⊥) → ((b a : List ℕ) → o b a → q b a)
     → Turn left failures same old new (Ok x) o → Turn left failures same old new result q
-turn_ok_so x (Ok y) n f t = record { read = t.read; consumed = t.consumed; comes = t.comes; told = λ rest c. f _ _ (t.told rest c); end = t.end; same_device = t.same_device; count = t.count; read_failed = λ e. absurd (n e) }
-turn_ok_so x (Err k) n f t = record { read = t.read; consumed = t.consumed; comes = t.comes; told = λ rest c. f _ _ (t.told rest c); end = t.end; same_device = t.same_device; count = tt; read_failed = λ e. absurd (n e) }
+turn_ok_so x (Ok y) n f t = record { read = t.read; consumed = t.consumed; comes = t.comes; told = λ rest c. f _ _ (t.told rest c); end = t.end; same_device = t.same_device; count = λ _. t.count (no_fault x ReadFailed); read_failed = λ e. absurd (n e) }
+turn_ok_so x (Err k) n f t = record { read = t.read; consumed = t.consumed; comes = t.comes; told = λ rest c. f _ _ (t.told rest c); end = t.end; same_device = t.same_device; count = λ _. t.count (no_fault x ReadFailed); read_failed = λ e. absurd (n e) }
 
 pub turn_err_so : {R A B : Type 0} {left : R → Option (List ℕ)} {failures : R → ℕ} {same : R → R → Type 0} {old new : Input R} {o q : List ℕ → List ℕ → Type 0}
     (k : InputFault) → ((b a : List ℕ) → o b a → q b a)
     → Turn {A = A} left failures same old new (Err k) o → Turn {A = B} left failures same old new (Err k) q
-turn_err_so k f t = record { read = t.read; consumed = t.consumed; comes = t.comes; told = λ rest c. f _ _ (t.told rest c); end = t.end; same_device = t.same_device; count = tt; read_failed = λ e. let same : k ≡ ReadFailed = cc in t.read_failed (ap (λ (k : InputFault). Err k) same) }
-
-counted : {A : Type 0} (result : Result A InputFault) (old mid new : ℕ) → OnOk result (new ≡ mid) → mid ≡ old → OnOk result (new ≡ old)
-counted (Ok x) old mid new e f = e ∙ f
-counted (Err k) old mid new e f = tt
+turn_err_so k f t = record { read = t.read; consumed = t.consumed; comes = t.comes; told = λ rest c. f _ _ (t.told rest c); end = t.end; same_device = t.same_device; count = λ n. t.count (λ e. n (let same : k ≡ ReadFailed = cc in ap (λ (k : InputFault). Err k) same)); read_failed = λ e. let same : k ≡ ReadFailed = cc in t.read_failed (ap (λ (k : InputFault). Err k) same) }
 
 -- a turn after another
 pub turn_then : {R A B : Type 0} {left : R → Option (List ℕ)} {failures : R → ℕ} {same : R → R → Type 0} {old mid new : Input R} {o q : List ℕ → List ℕ → Type 0} {result : Result B InputFault}
@@ -36,13 +35,9 @@ turn_then {left = left} {failures = failures} {old = old} {mid = mid} {new = new
   told = λ rest c. (held_of mid ++ (t.read ++ rest), subst (λ (l : List ℕ). o (held_of old ++ l) (held_of mid ++ (t.read ++ rest))) (sym (append_assoc s.read t.read rest)) (s.told (t.read ++ rest) (t.comes rest c)), t.told rest c);
   end = λ e. t.end (s.end e);
   same_device = later old.reader mid.reader new.reader s.same_device t.same_device;
-  count = counted result (failures old.reader) (failures mid.reader) (failures new.reader) t.count s.count;
-  read_failed = λ e. (subst (λ (n : ℕ). Failed n (failures new.reader)) s.count (t.read_failed e).0, (t.read_failed e).1);
+  count = λ n. t.count n ∙ s.count (no_fault x ReadFailed);
+  read_failed = λ e. (subst (λ (n : ℕ). Failed n (failures new.reader)) (s.count (no_fault x ReadFailed)) (t.read_failed e).0, (t.read_failed e).1);
 }
-
-same_count : {A B : Type 0} (result : Result A InputFault) → B → OnOk result B
-same_count (Ok x) b = b
-same_count (Err k) b = tt
 
 -- nothing was read, and these bytes of what is held were taken
 pub turn_taken : {R A : Type 0} {left : R → Option (List ℕ)} {failures : R → ℕ} {same : R → R → Type 0} {old new : Input R} {result : Result A InputFault}
@@ -55,7 +50,7 @@ turn_taken {left = left} {failures = failures} {same = same} {old = old} {new = 
   told = λ rest c. ap (λ (l : List ℕ). l ++ rest) held ∙ append_assoc taken (held_of new) rest;
   end = λ h e. subst (λ r. IsAtEnd (left r)) (sym reader) (h (sym ended ∙ e));
   same_device = subst (λ r. same old.reader r) (sym reader) (at_once old.reader);
-  count = same_count result (ap failures reader);
+  count = λ _. ap failures reader;
   read_failed = λ e. absurd (n e);
 }
 
@@ -83,13 +78,9 @@ turn_advance {left = left} {failures = failures} {same = same} {old = old} {mid 
   told = λ rest c. subst (λ (l : List ℕ). q (held_of old ++ (t.read ++ rest)) (l ++ rest)) (sym held) (g _ rest (λ e. c (ended ∙ e)) (t.told rest (λ e. c (ended ∙ e))));
   end = λ h e. subst (λ r. IsAtEnd (left r)) (sym reader) (t.end h (sym ended ∙ e));
   same_device = subst (λ r. same old.reader r) (sym reader) t.same_device;
-  count = same_count result (ap failures reader ∙ t.count);
+  count = λ _. ap failures reader ∙ t.count (no_fault x ReadFailed);
   read_failed = λ e. absurd (f e);
 }
-
--- an answer is no fault
-pub no_fault : {A : Type 0} (x : A) (k : InputFault) → Ok x ≡ Err k → ⊥
-no_fault x k e = absurd cc
 
 not_none : (b : ℕ) (text : List ℕ) → b ∷ text ≡ [] → ⊥
 not_none b text e = absurd cc

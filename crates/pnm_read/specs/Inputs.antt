@@ -1,5 +1,5 @@
 -- What a call reads, and how what it answers hangs together with the text, of which only a part is held.
-use Rattle.std.specs.Prelude.{◌≡◌, ℕ, ◌≤◌, ◌⊎◌, true, false, List, [], ◌∷◌, ◌++◌, drop, length, Option, Some, None, Result, Ok, Err, OnOk}
+use Rattle.std.specs.Prelude.{◌≡◌, ℕ, ◌≤◌, ◌⊎◌, true, false, List, [], ◌∷◌, ◌++◌, drop, length, Option, Some, None, Result, Ok, Err}
 use Rattle.std.specs.Io.KnownBytes.{Consumes, IsAtEnd}
 use Rattle.pnm_image.specs.Devices.{Failed}
 use Rattle.pnm_read.specs.declared.fault.InputFault.{InputFault}
@@ -36,7 +36,7 @@ pub record Turn {R A : Type 0} (left : R → Option (List ℕ)) (failures : R �
   pub told : (rest : List ℕ) → CanCome new rest → outcome (held_of old ++ (read ++ rest)) (held_of new ++ rest)
   pub end : EndsRightly left old → EndsRightly left new
   pub same_device : same old.reader new.reader
-  pub count : OnOk result (failures new.reader ≡ failures old.reader)
+  pub count : (result ≡ Err ReadFailed → ⊥) → failures new.reader ≡ failures old.reader
   pub read_failed : result ≡ Err ReadFailed → Failed (failures old.reader) (failures new.reader) × (new.ended ≡ false)
 
 -- nothing was taken of the text

@@ -106,7 +106,7 @@ fn read_to_end<R: BytesIn>(reader: &mut R, held: &mut Vec<u8>) -> Result<(), Inp
     ensures read { Gathers R.left reader.old reader.new held.old.items held.new.items result }
     ensures grows { length held.old.items ≤ length held.new.items }
     ensures end { OnOk result (IsAtEnd (R.left reader.new)) }
-    ensures count { OnOk result (R.failures reader.new ≡ R.failures reader.old) }
+    ensures count { (result ≡ Err ReadFailed → ⊥) → R.failures reader.new ≡ R.failures reader.old }
     ensures failed { IfErr result (λ fault. ((fault ≡ ReadFailed) × Failed (R.failures reader.old) (R.failures reader.new)) ⊎ (fault ≡ Memory)) }
     ensures same_device { R.same reader.old reader.new }
 {

@@ -78,7 +78,7 @@ impl<R: BytesIn> Source<R> {
 
         // The reader.
         ensures same_device { R.same (reader_of self.old) (reader_of self.new) }
-        ensures count { OnOk result (R.failures (reader_of self.new) ≡ R.failures (reader_of self.old)) }
+        ensures count { (result ≡ Err ReadFailed → ⊥) → R.failures (reader_of self.new) ≡ R.failures (reader_of self.old) }
         ensures read_failed { result ≡ Err ReadFailed → (stopped_by self.old ≡ Some ReadFailed) ⊎ Failed (R.failures (reader_of self.old)) (R.failures (reader_of self.new)) }
         ensures not_at_end { result ≡ Err ReadFailed → (stopped_by self.old ≡ Some ReadFailed) ⊎ ((rest : List ℕ) → MayGive self.new rest) }
     {
