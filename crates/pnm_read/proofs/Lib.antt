@@ -3,8 +3,10 @@ pub mod Gathered
 pub mod PixelSteps
 pub mod Turns
 pub mod PieceLaws
+pub mod SampleLaws
 pub mod WordLaws
 pub mod HeaderLaws
+pub mod SpelledHeaders
 pub mod PackingLaws
 pub mod DecimalSteps
 pub mod HeaderSteps

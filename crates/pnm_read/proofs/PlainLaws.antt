@@ -17,7 +17,8 @@ use Rattle.pnm_read.specs.Texts.{begins_apart}
 use Rattle.pnm_read.specs.Rasters.{SpellsPiece, MayFollow, SpellsPlainSamples, SpellsPlain}
 use Rattle.pnm_read.specs.Items.{◌>>=◌, plain_sample, after_last_item}
 use Rattle.pnm_read.specs.Said.{Said, then_said, says_fault, end_said, in_turn, plain_row, last_plain_row, row_by, rows_said}
-use Rattle.pnm_read.proofs.PieceLaws.{bind_ok, done, ok_is, IsInRange, spelled_piece_is_read, read_piece_is_spelled}
+use Rattle.pnm_read.proofs.PieceLaws.{bind_ok, done, ok_is}
+use Rattle.pnm_read.proofs.SampleLaws.{IsInRange, spelled_piece_is_read, read_piece_is_spelled}
 
 -- ---- what may follow
 

@@ -12,7 +12,8 @@ use Rattle.pnm_read.specs.Headers.{SpellsHeader}
 use Rattle.pnm_read.specs.Spelling.{SpellsRasterBy, SpellsRaster, IsRestBy, IsRest, Spells}
 use Rattle.pnm_read.specs.Said.{Said, then_said, format_at, head_at, rows_said, image_said, format_said, said, said_of, fault_of}
 use Rattle.pnm_read.specs.TextLaws.{SpellsOnly, IsAtFault}
-use Rattle.pnm_read.proofs.HeaderLaws.{read_header_is_spelled, spelled_header_is_read}
+use Rattle.pnm_read.proofs.HeaderLaws.{read_header_is_spelled}
+use Rattle.pnm_read.proofs.SpelledHeaders.{spelled_header_is_read}
 use Rattle.pnm_read.proofs.PlainLaws.{rows_and_ends, spelled_plain_is_said, said_plain_is_spelled}
 use Rattle.pnm_read.proofs.RawLaws.{spelled_raw_is_said, said_raw_is_spelled}
 

@@ -1,0 +1,211 @@
+-- A header that is spelled is read: its magic, the bytes of its body, and the head that its numbers make.
+use Rattle.std.proofs.Common.{◌≡◌, ℕ, suc, ◌<◌, ◌≤◌, Bool, true, false, not, ◌||◌, ◌&&◌, ◌==◌, if◌then◌else◌, List, [], ◌∷◌, ◌++◌, length, Option, Some, None, Ok, refl, sym, ap, subst, ◌∙◌, append_assoc, arith}
+use Rattle.std.specs.Prelude.{nat_le, nat_lt}
+use Rattle.std.specs.List.{AllPass}
+use Rattle.std.proofs.lemmas.Bool.{eqb-true, lt-leb, eq-eqb, ne_eqb}
+use Rattle.std.proofs.lemmas.Bool.Decides.{nat_tests}
+use Rattle.std.proofs.lemmas.List.{append-nil, length-append}
+use Rattle.std.proofs.lemmas.List.Elements.{All-head, All-tail}
+use Rattle.pnm_image.specs.declared.shape.Shape.{Shape}
+use Rattle.pnm_image.specs.declared.shape.Kind.{Kind}
+use Rattle.pnm_image.specs.declared.shape.Kind.TheVariants.{Bit, Gray, Color, Pam}
+use Rattle.pnm_image.specs.declared.head.HeadFault.{HeadFault}
+use Rattle.pnm_image.specs.Heads.{Header, IsHeader, IsWithinLimits, Suits, header_of, row_length, shape_fault}
+use Rattle.pnm_read.specs.declared.fault.InputFault.{InputFault}
+use Rattle.pnm_read.specs.declared.format.Format.{Format}
+use Rattle.pnm_read.specs.declared.judgement.Judgement.{Judgement}
+use Rattle.pnm_read.specs.declared.judgement.Judgement.TheVariants.{GoesOn, EndsWith}
+use Rattle.pnm_read.specs.Texts.{is_white, is_digit, is_apart, begins_apart, ends_in_comment, uncommented, ends_in_word, numbers_in}
+use Rattle.pnm_read.specs.Formats.{plain, raw, format_of, number_count, shape_of, header_numbers}
+use Rattle.pnm_read.specs.Headers.{SpellsHeader}
+use Rattle.pnm_read.specs.Items.{piece_from, first_magic_item, second_magic_item, header_limit, is_bad_in_header, is_delimiter, header_item, header_end, numbers_item}
+use Rattle.pnm_read.specs.Said.{format_at, head_at}
+use Rattle.pnm_read.proofs.WordLaws.{uncommented-split, numbers-white, fewer_numbers}
+use Rattle.pnm_read.proofs.HeaderLaws.{done, header_item_is, not_bad, is_decimal, pieced, head_by, second_magic}
+
+-- ---- what is spelled is read
+
+-- where each byte of a body goes on, the piece goes on after it
+goes_on_through : (item : List ℕ → ℕ → Judgement) (at_end : List ℕ → Option InputFault) (body before back text : List ℕ) → before ++ back ≡ body → ((front : List ℕ) (b : ℕ) (others : List ℕ) → front ++ b ∷ others ≡ body → item front b ≡ GoesOn)
+    → piece_from item at_end before (back ++ text) ≡ piece_from item at_end body text
+unfolding piece_from
+goes_on_through item at_end body before [] text e h = ap (λ (t : List ℕ). piece_from item at_end t text) (sym (append-nil before) ∙ e)
+goes_on_through item at_end body before (b ∷ back) text e h = rw (h before b back e) (goes_on_through item at_end body (before ++ b ∷ []) back text (append_assoc before (b ∷ []) back ∙ e) h)
+
+-- the parts of a header that tell how its bytes are judged
+record Decimal (count : ℕ) (body : List ℕ) : Type 0 where
+  pub short : length body < 65534
+  pub begins : begins_apart body ≡ true
+  pub decimal : AllPass is_decimal (uncommented body)
+  pub all : length (numbers_in body) ≡ count
+  pub ends : ends_in_word (uncommented body) ≡ true
+  pub outside : ends_in_comment body ≡ false
+
+-- a byte of the body
+begins_by : (front : List ℕ) (b : ℕ) (others : List ℕ) → begins_apart (front ++ b ∷ others) ≡ true → (length front == 0) ≡ true → is_apart b ≡ true
+begins_by [] b others e h = e
+begins_by (x ∷ front) b others e h = absurd (omega (arith, eqb-true (length (x ∷ front)) 0 h))
+
+passes_at : (p : ℕ → Bool) (a : List ℕ) (b : ℕ) (c : List ℕ) → AllPass p (a ++ b ∷ c) → p b ≡ true
+passes_at p [] b c h = All-head (λ x. p x ≡ true) b c h
+passes_at p (x ∷ a) b c h = passes_at p a b c (All-tail (λ y. p y ≡ true) x (a ++ b ∷ c) h)
+
+decimal_by : (sharp : Bool) (front : List ℕ) (b : ℕ) (others : List ℕ) → (b == 35) ≡ sharp → AllPass is_decimal (uncommented (front ++ b ∷ others)) → ends_in_comment front ≡ false → (is_digit b || is_apart b) ≡ true
+decimal_by true front b others s h outside = grind (arith, s)
+decimal_by false front b others s h outside =
+    let here : is_decimal b ≡ true = passes_at is_decimal (uncommented front) b (uncommented others) (subst (AllPass is_decimal) (uncommented-split front b others outside s) h) in
+    grind (arith, here)
+
+-- what ends no header
+no_delimiter : (comment white all : Bool) → (comment ≡ false → white ≡ true → all ≡ false) → (not comment && white && all) ≡ false
+no_delimiter true white all h = refl
+no_delimiter false true all h = h refl refl
+no_delimiter false false all h = refl
+
+-- no byte of the body ends the header
+no_last : (count : ℕ) (front : List ℕ) (b : ℕ) (others : List ℕ) → Decimal count (front ++ b ∷ others) → is_delimiter count front b ≡ false
+no_last count front b others d = no_delimiter (ends_in_comment front) (is_white b) (length (numbers_in front) == count) λ outside white.
+    ne_eqb (length (numbers_in front)) count λ e. let fewer = fewer_numbers front b others outside white d.ends in let all = d.all in omega arith
+
+-- each byte of the body goes on
+goes_on : (count : ℕ) (front : List ℕ) (b : ℕ) (others : List ℕ) → Decimal count (front ++ b ∷ others) → header_item count front b ≡ GoesOn
+goes_on count front b others d =
+    let short = d.short in
+    let long : nat_le header_limit (length front) ≡ false = lt-leb 65534 (length front) (omega (arith, length-append front (b ∷ others))) in
+    let bad : is_bad_in_header front b ≡ false = not_bad (length front == 0) (is_apart b) (ends_in_comment front) (is_digit b || is_apart b) (begins_by front b others d.begins) (decimal_by (b == 35) front b others refl d.decimal) in
+    header_item_is count front b ∙ rw (long, bad, no_last count front b others d) refl
+
+-- the byte after the body ends the header
+ends_with : (count : ℕ) (body : List ℕ) (b : ℕ) → Decimal count body → is_white b ≡ true → header_item count body b ≡ EndsWith
+ends_with count body b d w =
+    let long : nat_le header_limit (length body) ≡ false = lt-leb 65534 (length body) d.short in
+    let apart : is_apart b ≡ true = grind (arith, w) in
+    let bad : is_bad_in_header body b ≡ false = not_bad (length body == 0) (is_apart b) (ends_in_comment body) (is_digit b || is_apart b) (λ e. apart) (λ e. grind (arith, apart)) in
+    let last : is_delimiter count body b ≡ true = rw (d.outside, w, eq-eqb (length (numbers_in body)) count d.all) refl in
+    header_item_is count body b ∙ rw (long, bad, last) refl
+
+piece_ends : (judgement : Judgement) (count : ℕ) (body : List ℕ) (b : ℕ) (text : List ℕ) → judgement ≡ EndsWith → pieced judgement count body b text ≡ Ok (body ++ b ∷ [], text)
+piece_ends judgement count body b text e = rw e refl
+
+-- the body and the delimiter are read as the header's piece
+body_is_piece : (count : ℕ) (body : List ℕ) (delimiter : ℕ) (rest : List ℕ) → Decimal count body → is_white delimiter ≡ true → piece_from (header_item count) header_end [] (body ++ delimiter ∷ rest) ≡ Ok (body ++ delimiter ∷ [], rest)
+unfolding piece_from
+body_is_piece count body delimiter rest d w =
+    goes_on_through (header_item count) header_end body [] body (delimiter ∷ rest) refl (λ front b others e. goes_on count front b others (subst (Decimal count) (sym e) d))
+    ∙ piece_ends (header_item count body delimiter) count body delimiter rest (ends_with count body delimiter d w)
+
+-- ---- the head that is spelled
+
+-- a kind that a magic names
+abbrev is_named : Kind → Bool
+is_named Bit = true
+is_named Gray = true
+is_named Color = true
+is_named Pam = false
+
+abbrev is_some_named : Option Format → Bool
+is_some_named None = false
+is_some_named (Some format) = is_named format.kind
+
+named : (made format : Format) → Some made ≡ Some format → is_named made.kind ≡ true → is_named format.kind ≡ true
+named made format e h = sym (ap is_some_named e) ∙ h
+
+named_by : (a b c d e f : Bool) (format : Format) → (if a then plain Bit else if b then plain Gray else if c then plain Color else if d then raw Bit else if e then raw Gray else if f then raw Color else None) ≡ Some format → is_named format.kind ≡ true
+named_by true b c d e f format h = named (record { kind = Bit; is_plain = true }) format h refl
+named_by false true c d e f format h = named (record { kind = Gray; is_plain = true }) format h refl
+named_by false false true d e f format h = named (record { kind = Color; is_plain = true }) format h refl
+named_by false false false true e f format h = named (record { kind = Bit; is_plain = false }) format h refl
+named_by false false false false true f format h = named (record { kind = Gray; is_plain = false }) format h refl
+named_by false false false false false true format h = named (record { kind = Color; is_plain = false }) format h refl
+named_by false false false false false false format h = absurd cc
+
+-- the numbers of a shape, and no tuple type, make the head
+head_is_made : (kind : Kind) (width height depth maxval : ℕ) (tuple_type : List ℕ) → is_named kind ≡ true → Suits kind depth maxval tuple_type
+    → header_of (shape_of kind (header_numbers (record { kind = kind; width = width; height = height; depth = depth; maxval = maxval }))) [] ≡ header_of (record { kind = kind; width = width; height = height; depth = depth; maxval = maxval }) tuple_type
+head_is_made Bit width height depth maxval tuple_type n s = rw (s.0, s.1, s.2) refl
+head_is_made Gray width height depth maxval tuple_type n s = rw (s.0, s.1) refl
+head_is_made Color width height depth maxval tuple_type n s = rw (s.0, s.1) refl
+head_is_made Pam width height depth maxval tuple_type n s = absurd cc
+
+-- where no size is zero, the test for one fails
+not_zero_size : (width height depth : ℕ) → 0 < width → 0 < height → 0 < depth → ((width == 0) || (height == 0) || (depth == 0)) ≡ false
+not_zero_size width height depth w h d = grind (arith, nat_tests)
+
+-- where no size is large, the test for one fails
+not_large_size : (width height depth row : ℕ) → width ≤ 1000000 → height ≤ 1000000 → depth ≤ 256 → row ≤ 16777216 → (nat_lt 1000000 width || nat_lt 1000000 height || nat_lt 256 depth || nat_lt 16777216 row) ≡ false
+not_large_size width height depth row w h d r = grind (arith, nat_tests)
+
+-- where the maxval is in its range, its test fails
+not_bad_maxval : (maxval : ℕ) → 0 < maxval → maxval ≤ 65535 → ((maxval == 0) || nat_lt 65535 maxval) ≡ false
+not_bad_maxval maxval low high = grind (arith, nat_tests)
+
+-- a shape within the limits has no fault
+no_shape_fault : (s : Shape) → IsWithinLimits s → 0 < s.height → shape_fault s ≡ None
+no_shape_fault s h rows =
+    rw (not_zero_size s.width s.height s.depth h.width_low rows h.depth_low, not_large_size s.width s.height s.depth (row_length s) h.width_high h.height_high h.depth_high h.row_high, not_bad_maxval s.maxval h.maxval_low h.maxval_high) refl
+
+-- numbers that make a head without a fault are read as the head
+head_is_found : (kind : Kind) (numbers : List ℕ) (head : Header) → header_of (shape_of kind numbers) [] ≡ head → shape_fault head.shape ≡ None → numbers_item kind numbers ≡ Ok head
+unfolding numbers_item
+head_is_found kind numbers head made sound =
+    let shape : shape_of kind numbers ≡ head.shape = ap (λ (x : Header). x.shape) made in
+    let none : shape_fault (shape_of kind numbers) ≡ None = ap shape_fault shape ∙ sound in
+    ap (λ (f : Option HeadFault). head_by f (header_of (shape_of kind numbers) [])) none ∙ ap done made
+
+-- the head that its numbers make
+spelled_head_is_found : (kind : Kind) (head : Header) → is_named kind ≡ true → head.shape.kind ≡ kind → IsHeader head → 0 < head.shape.height → numbers_item kind (header_numbers head.shape) ≡ Ok head
+spelled_head_is_found kind head n k sound rows =
+    let named_kind : is_named head.shape.kind ≡ true = ap is_named k ∙ n in
+    let made : header_of (shape_of head.shape.kind (header_numbers head.shape)) [] ≡ head = head_is_made head.shape.kind head.shape.width head.shape.height head.shape.depth head.shape.maxval head.tuple_type named_kind sound.suits in
+    ap (λ (x : Kind). numbers_item x (header_numbers head.shape)) (sym k) ∙ head_is_found head.shape.kind (header_numbers head.shape) head made (no_shape_fault head.shape sound.limits rows)
+
+-- ---- the header that is spelled
+
+-- the numbers of a shape are as many as its kind has
+count_of_numbers : (kind : Kind) (width height depth maxval : ℕ) → length (header_numbers (record { kind = kind; width = width; height = height; depth = depth; maxval = maxval })) ≡ number_count kind
+count_of_numbers Bit width height depth maxval = refl
+count_of_numbers Gray width height depth maxval = refl
+count_of_numbers Color width height depth maxval = refl
+count_of_numbers Pam width height depth maxval = refl
+
+-- a header within the limit has a body within it
+short_body : (text : List ℕ) (digit delimiter : ℕ) (body : List ℕ) → text ≡ 80 ∷ digit ∷ (body ++ delimiter ∷ []) → length text ≤ 65536 → length body < 65534
+short_body text digit delimiter body whole short =
+    let lengths : length text ≡ suc (suc (length (body ++ delimiter ∷ []))) = ap (λ (t : List ℕ). length t) whole in
+    omega (arith, length-append body (delimiter ∷ []))
+
+-- the body of a header
+decimal_body : (text : List ℕ) (format : Format) (head : Header) (s : SpellsHeader text format head) → Decimal (number_count format.kind) s.body
+decimal_body text format head s = record {
+  short = short_body text s.digit s.delimiter s.body s.whole s.short;
+  begins = s.begins;
+  decimal = s.decimal;
+  all = ap (λ (t : List ℕ). length t) s.numbers ∙ count_of_numbers head.shape.kind head.shape.width head.shape.height head.shape.depth head.shape.maxval ∙ ap number_count s.kind;
+  ends = s.ends;
+  outside = s.outside;
+}
+
+-- the magic is read
+spelled_magic_is_read : (digit : ℕ) (after : List ℕ) (format : Format) → format_of digit ≡ Some format → format_at (80 ∷ digit ∷ after) ≡ Ok (format, after)
+unfolding format_at first_magic_item second_magic_item
+spelled_magic_is_read digit after format e = ap (λ (f : Option Format). second_magic f after) e
+
+-- the head is read
+spelled_head_is_read : (text : List ℕ) (format : Format) (head : Header) (s : SpellsHeader text format head) (rest : List ℕ) → head_at format (s.body ++ s.delimiter ∷ rest) ≡ Ok (head, rest)
+unfolding head_at
+spelled_head_is_read text format head s rest =
+    let body = decimal_body text format head s in
+    let piece = body_is_piece (number_count format.kind) s.body s.delimiter rest body s.delimiter_is in
+    let numbers : numbers_in (s.body ++ s.delimiter ∷ []) ≡ header_numbers head.shape = numbers-white s.body s.delimiter s.outside s.delimiter_is ∙ s.numbers in
+    let named_kind : is_named format.kind ≡ true = named_by (s.digit == 49) (s.digit == 50) (s.digit == 51) (s.digit == 52) (s.digit == 53) (s.digit == 54) format s.format_is in
+    let found = spelled_head_is_found format.kind head named_kind s.kind s.sound s.rows in
+    rw (piece, numbers, found) refl
+
+-- a header that is spelled is read
+pub spelled_header_is_read : (text rest : List ℕ) (format : Format) (head : Header) → SpellsHeader text format head → (after : List ℕ) × (format_at (text ++ rest) ≡ Ok (format, after)) × (head_at format after ≡ Ok (head, rest))
+spelled_header_is_read text rest format head s =
+    let whole : text ++ rest ≡ 80 ∷ s.digit ∷ (s.body ++ s.delimiter ∷ rest) = ap (λ (t : List ℕ). t ++ rest) s.whole ∙ ap (λ (t : List ℕ). 80 ∷ s.digit ∷ t) (append_assoc s.body (s.delimiter ∷ []) rest) in (
+      s.body ++ s.delimiter ∷ rest,
+      ap format_at whole ∙ spelled_magic_is_read s.digit (s.body ++ s.delimiter ∷ rest) format s.format_is,
+      spelled_head_is_read text format head s rest,
+    )
