@@ -15,13 +15,13 @@ pub record Written (old now : Option (List ℕ)) (bytes rest : List ℕ) : Type 
   pub appended : Appends old now front
 
 -- what stays as it is, grows by nothing
-Appends-nothing : (a b : Option (List ℕ)) → Keeps a b → Appends a b []
+pub Appends-nothing : (a b : Option (List ℕ)) → Keeps a b → Appends a b []
 Appends-nothing None b k = tt
 Appends-nothing (Some xs) None k = k
 Appends-nothing (Some xs) (Some ys) k = k ∙ sym (append-nil xs)
 
 -- one growth after another
-Appends-then : (a b c : Option (List ℕ)) (x y : List ℕ) → Appends a b x → Appends b c y → Appends a c (x ++ y)
+pub Appends-then : (a b c : Option (List ℕ)) (x y : List ℕ) → Appends a b x → Appends b c y → Appends a c (x ++ y)
 Appends-then None b c x y p q = tt
 Appends-then (Some xs) None c x y p q = absurd p
 Appends-then (Some xs) (Some ys) None x y p q = q
