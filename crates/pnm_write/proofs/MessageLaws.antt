@@ -1,7 +1,8 @@
 -- The bytes of lists of messages, and the messages that were put into a sink.
-use Rattle.std.proofs.Common.{◌≡◌, ℕ, ◌+◌, false, List, [], ◌∷◌, ◌++◌, map, refl, sym, ap, ◌∙◌, append_assoc, subst}
+use Rattle.std.proofs.Common.{◌≡◌, ℕ, ◌+◌, false, List, [], ◌∷◌, ◌++◌, map, Option, Result, Ok, Err, OnOk, refl, sym, ap, ◌∙◌, append_assoc, subst}
 use Rattle.std.specs.List.{AllByRecursion, flat_map}
 use Rattle.std.proofs.lemmas.List.{append-nil}
+use Rattle.std.specs.Io.KnownBytes.{Appends}
 use Rattle.pnm_image.specs.declared.shape.Shape.{Shape}
 use Rattle.pnm_image.specs.declared.message.Message.{Message}
 use Rattle.pnm_image.specs.declared.message.Message.TheVariants.{Row, ImageEnd}
@@ -11,7 +12,8 @@ use Rattle.pnm_image.specs.Images.{Image, rows_of, messages_of_stream}
 use Rattle.pnm_image.specs.Places.{Accepts, IsLawfulFrom, place_after, place_of}
 use Rattle.pnm_write.specs.declared.sink.Sink.{Sink}
 use Rattle.pnm_write.specs.Encoding.{header_text, row_bytes, encoding_of, bytes_at, bytes_from}
-use Rattle.pnm_write.specs.Sinks.{next_place, has_failed, HasRows, HasPut}
+use Rattle.pnm_write.specs.Sinks.{writer_of, next_place, has_failed, HasRows, HasPut, HasWritten}
+use Rattle.pnm_write.proofs.Written.{Appends-then}
 
 -- the bytes of rows, and of what comes after the image
 bytes_of_rows : (s : Shape) (y : ℕ) (rows : List (List ℕ)) (rest : List Message)
@@ -66,3 +68,21 @@ put_more old new messages m put sound accepts has after =
       rows = rows_more messages m put.rows has;
       place = λ still. after ∙ ap (λ (p : Place). place_after p m) here ∙ sym (place_of_more Between messages m);
     }
+
+-- a message was put, and its bytes were written
+pub written_more : {W : Type 0} (held : W → Option (List ℕ)) (start : Option (List ℕ)) (old new : Sink W) (messages : List Message) (m : Message) → HasWritten held start old messages → has_failed old ≡ false
+    → HasPut new (messages ++ m ∷ []) → Appends (held (writer_of old)) (held (writer_of new)) (bytes_at (next_place old) m) → HasWritten held start new (messages ++ m ∷ [])
+written_more held start old new messages m written sound put added =
+    let here : next_place old ≡ place_of Between messages = written.put.place sound in
+    let bytes : Appends (held (writer_of old)) (held (writer_of new)) (bytes_at (place_of Between messages) m) =
+    subst (λ (p : Place). Appends (held (writer_of old)) (held (writer_of new)) (bytes_at p m)) here added in
+    record {
+      put = put;
+      bytes = subst (Appends start (held (writer_of new))) (sym (bytes_of_more Between messages m))
+          (Appends-then start (held (writer_of old)) (held (writer_of new)) (bytes_from Between messages) (bytes_at (place_of Between messages) m) written.bytes bytes);
+    }
+
+-- what follows from two facts where there is no error
+pub on_ok_both : {T E P Q R : Type 0} (r : Result T E) → (P → Q → R) → OnOk r P → OnOk r Q → OnOk r R
+on_ok_both (Ok x) f p q = f p q
+on_ok_both (Err e) f p q = tt

@@ -4,7 +4,7 @@ use Rattle.std.proofs.Math.ListN.{length-set}
 use Rattle.std.proofs.lemmas.Bool.{cases_lt}
 use Rattle.std.proofs.lemmas.Grind.{flat_map-append}
 use Rattle.std.proofs.lemmas.List.{append-nil, take_all, drop_all, take_more, take_more_set, take-append-drop, take-take, drop-take, drop-drop, length-take, length-drop}
-use Rattle.std.proofs.lemmas.List.Elements.{All-take, All-drop}
+use Rattle.std.proofs.lemmas.List.Elements.{All-drop}
 use Rattle.pnm_write.specs.declared.packing.Packing.{Packing}
 use Rattle.pnm_write.specs.declared.packing.Packing.TheVariants.{Packed, Narrow, Wide}
 use Rattle.pnm_write.specs.Encoding.{pixel_bits, packed_byte, packed_groups, packed_bytes, wide_bytes, bytes_in}
@@ -35,7 +35,7 @@ white_bits weight zero = refl
 white_bits weight (suc n) = omega (arith, white_bits (weight / 2) n)
 
 -- white pixels at the end change nothing
-pub bits_before_white : (weight n : ℕ) (p : List ℕ) → pixel_bits weight (p ++ replicate n 1) ≡ pixel_bits weight p
+bits_before_white : (weight n : ℕ) (p : List ℕ) → pixel_bits weight (p ++ replicate n 1) ≡ pixel_bits weight p
 bits_before_white weight n [] = white_bits weight n
 bits_before_white weight n (sample ∷ p) = ap (λ (k : ℕ). weight * (1 - sample) + k) (bits_before_white (weight / 2) n p)
 
@@ -54,7 +54,7 @@ groups_split (suc k) c (suc n) xs e =
     ap (λ (l : List ℕ). packed_byte (take 8 xs) ∷ l) (groups_split k c n (drop 8 xs) less ∙ ap (λ (l : List ℕ). packed_groups k (drop 8 xs) ++ packed_groups c l) rest)
 
 -- one group more
-pub groups_more : (i : ℕ) (xs : List ℕ) → packed_groups (i + 1) xs ≡ packed_groups i xs ++ packed_byte (take 8 (drop (8 * i) xs)) ∷ []
+groups_more : (i : ℕ) (xs : List ℕ) → packed_groups (i + 1) xs ≡ packed_groups i xs ++ packed_byte (take 8 (drop (8 * i) xs)) ∷ []
 groups_more i xs = groups_split i 1 (i + 1) xs refl
 
 -- a front of whole groups
@@ -78,14 +78,8 @@ packed_parts k xs enough =
     groups_split k ((length (drop (8 * k) xs) + 7) / 8) ((length xs + 7) / 8) xs counts
     ∙ ap (λ (l : List ℕ). l ++ packed_bytes (drop (8 * k) xs)) (sym (groups_of_front k xs) ∙ ap (λ (m : ℕ). packed_groups m (take (8 * k) xs)) (sym count))
 
--- whole groups, and no pixel after them
-pub groups_all : (k : ℕ) (xs : List ℕ) → k ≡ length xs / 8 → length xs ≤ 8 * k → packed_bytes xs ≡ packed_groups k xs
-groups_all k xs e none =
-    let count : (length xs + 7) / 8 ≡ k = omega arith in
-    ap (λ (m : ℕ). packed_groups m xs) count
-
 -- whole groups, and a last group with white pixels in place of those that are missing
-pub groups_and_last : (k n : ℕ) (xs rest last : List ℕ) → k ≡ length xs / 8 → rest ≡ drop (8 * k) xs → 0 < length rest → last ≡ rest ++ replicate n 1
+groups_and_last : (k n : ℕ) (xs rest last : List ℕ) → k ≡ length xs / 8 → rest ≡ drop (8 * k) xs → 0 < length rest → last ≡ rest ++ replicate n 1
     → packed_bytes xs ≡ packed_groups k xs ++ packed_byte last ∷ []
 groups_and_last k n xs rest last e after some filled =
     let left : length rest + 8 * k ≡ length xs = omega (arith, ap length after, length-drop (8 * k) xs) in
@@ -147,13 +141,7 @@ parts Packed n xs e = elim (cases_lt (length xs) 32768) [
 parts Narrow n xs e = sym (take-append-drop n xs)
 parts Wide n xs e = ap wide_bytes (sym (take-append-drop n xs)) ∙ flat_map-append (λ (s : ℕ). s / 256 ∷ s % 256 ∷ []) (take n xs) (drop n xs)
 
--- the samples of a part fit their bytes
-pub fit_part : (p : Packing) (n : ℕ) (xs : List ℕ) → FitIn p xs → FitIn p (take n xs)
-fit_part Packed n xs fit = tt
-fit_part Narrow n xs fit = All-take (λ sample. sample ≤ 255) n xs fit
-fit_part Wide n xs fit = tt
-
--- so do those of the rest
+-- the samples of the rest fit their bytes too
 pub fit_rest : (p : Packing) (n : ℕ) (xs : List ℕ) → FitIn p xs → FitIn p (drop n xs)
 fit_rest Packed n xs fit = tt
 fit_rest Narrow n xs fit = All-drop (λ sample. sample ≤ 255) n xs fit

@@ -20,10 +20,6 @@ Appends-nothing None b k = tt
 Appends-nothing (Some xs) None k = k
 Appends-nothing (Some xs) (Some ys) k = k ∙ sym (append-nil xs)
 
-pub Keeps-itself : (a : Option (List ℕ)) → Keeps a a
-Keeps-itself None = tt
-Keeps-itself (Some xs) = refl
-
 -- one growth after another
 pub Appends-then : (a b c : Option (List ℕ)) (x y : List ℕ) → Appends a b x → Appends b c y → Appends a c (x ++ y)
 Appends-then None b c x y p q = tt
@@ -31,6 +27,7 @@ Appends-then (Some xs) None c x y p q = absurd p
 Appends-then (Some xs) (Some ys) None x y p q = q
 Appends-then (Some xs) (Some ys) (Some zs) x y p q = q ∙ ap (λ (l : List ℕ). l ++ y) p ∙ append_assoc xs x y
 
+-- a front of a front of bytes is a front of more
 front_of_front : (n : ℕ) (x y : List ℕ) → (m : ℕ) × (take n x ≡ take m (x ++ y))
 front_of_front n x y = (
   length (take n x),
@@ -39,39 +36,31 @@ front_of_front n x y = (
 )
 
 -- a front of the bytes is a front of more
-pub front-more : (a b : Option (List ℕ)) (x y : List ℕ) → AppendsFront a b x → AppendsFront a b (x ++ y)
+front-more : (a b : Option (List ℕ)) (x y : List ℕ) → AppendsFront a b x → AppendsFront a b (x ++ y)
 front-more a b x y p = let f = front_of_front p.0 x y in (f.0, subst (Appends a b) f.1 p.1)
 
 -- bytes, and then a front of others
-pub then_front : (a b c : Option (List ℕ)) (x y : List ℕ) → Appends a b x → AppendsFront b c y → AppendsFront a c (x ++ y)
+then_front : (a b c : Option (List ℕ)) (x y : List ℕ) → Appends a b x → AppendsFront b c y → AppendsFront a c (x ++ y)
 then_front a b c x y p q = (
   length x + q.0,
   let e : take (length x + q.0) (x ++ y) ≡ x ++ take q.0 y = take-append-add x y q.0 in
       subst (Appends a c) (sym e) (Appends-then a b c x (take q.0 y) p q.1),
 )
 
--- nothing is written yet
-pub written_none : (a : Option (List ℕ)) (bytes : List ℕ) → Written a a bytes bytes
-written_none a bytes = record { front = []; parts = refl; appended = Appends-nothing a a (Keeps-itself a) }
-
 -- so many bytes more are written
-pub written_more : (old a b : Option (List ℕ)) (bytes rest : List ℕ) (n : ℕ) → Written old a bytes rest → Appends a b (take n rest) → Written old b bytes (drop n rest)
+written_more : (old a b : Option (List ℕ)) (bytes rest : List ℕ) (n : ℕ) → Written old a bytes rest → Appends a b (take n rest) → Written old b bytes (drop n rest)
 written_more old a b bytes rest n w p = record {
   front = w.front ++ take n rest;
   parts = w.parts ∙ ap (λ (l : List ℕ). w.front ++ l) (sym (take-append-drop n rest)) ∙ sym (append_assoc w.front (take n rest) (drop n rest));
   appended = Appends-then old a b w.front (take n rest) w.appended p;
 }
 
--- all bytes are written
-pub written_all : (old a : Option (List ℕ)) (bytes : List ℕ) → Written old a bytes [] → Appends old a bytes
-written_all old a bytes w = subst (Appends old a) (sym (append-nil w.front) ∙ sym w.parts) w.appended
-
 -- of the rest a front was written
-pub written_front : (old a b : Option (List ℕ)) (bytes rest : List ℕ) → Written old a bytes rest → AppendsFront a b rest → AppendsFront old b bytes
+written_front : (old a b : Option (List ℕ)) (bytes rest : List ℕ) → Written old a bytes rest → AppendsFront a b rest → AppendsFront old b bytes
 written_front old a b bytes rest w p = subst (AppendsFront old b) (sym w.parts) (then_front old a b w.front rest w.appended p)
 
 -- a call that failed is a failure since any moment from which there was none
-pub fails : (old a b : ℕ) → a ≡ old → b ≡ min (a + 1) (2 ^ 64 - 1) → Failed old b
+fails : (old a b : ℕ) → a ≡ old → b ≡ min (a + 1) (2 ^ 64 - 1) → Failed old b
 fails old a b p e = elim (cases_lt old (2 ^ 64 - 1)) [ inl lt ↦ inl (omega arith) | inr le ↦ inr (omega arith) ]
 
 -- a writer that has written a part of some bytes, and had no failure

@@ -1,7 +1,7 @@
 -- Which messages were put into a sink, and which messages it refuses.
 use Rattle.std.specs.Prelude.{◌≡◌, ℕ, ◌<◌, Bool, false, List, Option}
 use Rattle.std.specs.List.{AllByRecursion}
-use Rattle.std.specs.Io.KnownBytes.{Keeps}
+use Rattle.std.specs.Io.KnownBytes.{Appends, Keeps}
 use Rattle.pnm_image.specs.declared.message.Message.{Message}
 use Rattle.pnm_image.specs.declared.message.Message.TheVariants.{Begin, Row, ImageEnd, StreamEnd, Stop}
 use Rattle.pnm_image.specs.declared.place.Place.{Place}
@@ -10,7 +10,7 @@ use Rattle.pnm_image.specs.Places.{Accepts, IsLawful, place_of}
 use Rattle.pnm_write.specs.declared.fault.SinkFault.{SinkFault}
 use Rattle.pnm_write.specs.declared.fault.SinkFault.TheVariants.{WriteFailed, OutOfOrder, Broken}
 use Rattle.pnm_write.specs.declared.sink.Sink.{Sink}
-use Rattle.pnm_write.specs.Encoding.{bytes_at}
+use Rattle.pnm_write.specs.Encoding.{bytes_at, bytes_of}
 use Rattle.pnm_write.specs.Writes.{FailsIn}
 
 abbrev pub writer_of : {W : Type 0} → Sink W → W
@@ -41,6 +41,11 @@ pub record HasPut {W : Type 0} (sink : Sink W) (messages : List Message) : Type 
   pub lawful : IsLawful messages
   pub rows : AllByRecursion HasRows messages
   pub place : has_failed sink ≡ false → next_place sink ≡ place_of Between messages
+
+-- and what the writer held before them has grown by their bytes
+pub record HasWritten {W : Type 0} (held : W → Option (List ℕ)) (start : Option (List ℕ)) (sink : Sink W) (messages : List Message) : Type 0 where
+  pub put : HasPut sink messages
+  pub bytes : Appends start (held (writer_of sink)) (bytes_of messages)
 
 -- Why a message isn't written, where there was no fault before: it isn't taken at this place, and nothing is
 -- written; or the writer failed.

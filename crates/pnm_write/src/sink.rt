@@ -6,7 +6,7 @@ ghost use Rattle.pnm_image.specs.Devices.{Failed};
 ghost use Rattle.pnm_image.specs.Places.{Accepts, place_after};
 ghost use Rattle.pnm_write.specs.Encoding.{bytes_at};
 ghost use Rattle.pnm_write.specs.Writes.{FailsIn};
-ghost use Rattle.pnm_write.specs.Sinks.{writer_of, next_place, has_failed, HasRows, Takes, HasPut, Refuses};
+ghost use Rattle.pnm_write.specs.Sinks.{writer_of, next_place, has_failed, HasRows, Takes, HasPut, HasWritten, Refuses};
 
 use crate::fault::SinkFault;
 use crate::header::write_header;
@@ -30,6 +30,7 @@ impl<W: BytesOut> Sink<W> {
         ensures writer { writer_of result ≡ writer }
         ensures sound { has_failed result ≡ false }
         ensures none { HasPut result [] }
+        ensures unwritten { HasWritten W.held (W.held writer) result [] }
     {
         Sink {
             writer,
@@ -53,6 +54,9 @@ impl<W: BytesOut> Sink<W> {
         // The messages that were put are one more, or the same after a fault.
         ensures more { OnOk result ((messages : List _) → HasPut self.old messages → HasPut self.new (messages ++ message.now ∷ [])) }
         ensures same { OnErr result ((messages : List _) → HasPut self.old messages → HasPut self.new messages) }
+
+        // All that was written is the bytes of the messages that were put.
+        ensures bytes { OnOk result ((start : _) (messages : List _) → HasWritten W.held start self.old messages → HasWritten W.held start self.new (messages ++ message.now ∷ [])) }
 
         // After a fault nothing more is written.
         ensures stays { OnErr result (has_failed self.new ≡ true) }
