@@ -42,7 +42,7 @@ pub record HasPut {W : Type 0} (sink : Sink W) (messages : List Message) : Type 
   pub rows : AllByRecursion HasRows messages
   pub place : has_failed sink ≡ false → next_place sink ≡ place_of Between messages
 
--- and what the writer held before them has grown by their bytes
+-- these are the messages that were put, and what the writer held before them has grown by their bytes
 pub record HasWritten {W : Type 0} (held : W → Option (List ℕ)) (start : Option (List ℕ)) (sink : Sink W) (messages : List Message) : Type 0 where
   pub put : HasPut sink messages
   pub bytes : Appends start (held (writer_of sink)) (bytes_of messages)
