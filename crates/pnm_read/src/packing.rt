@@ -75,31 +75,40 @@ impl Packing {
     }
 }
 
+/// The row gets its length first, and the stores of each byte's pixels then grow nothing.
 fn append_pixels(bytes: &[u8], row: &mut Vec<u16>) -> Result<(), InputFault>
     ensures { AppendsPixels bytes.now row.old.items row.new.items result }
 {
+    let mut at = row.len();
+    let Some(added) = bytes.len().checked_mul(8) else {
+        return Err(InputFault::Memory);
+    };
+    let Some(end) = at.checked_add(added) else {
+        return Err(InputFault::Memory);
+    };
+    if row.resize(end, 0).is_err() {
+        return Err(InputFault::Memory);
+    }
     for byte in bytes {
-        if row.extend_from_slice(&pixels(*byte)).is_err() {
-            return Err(InputFault::Memory);
-        }
+        store_pixels(&mut row[at..at + 8], *byte);
+        at += 8;
     }
     Ok(())
 }
 
-/// The pixels of a byte as samples.
-fn pixels(byte: u8) -> [u16; 8]
-    ensures { result ≡ pixels byte }
+/// Stores the pixels of a byte as samples.
+fn store_pixels(samples: &mut [u16], byte: u8)
+    requires { length samples.old ≡ 8 }
+    ensures { samples.new ≡ pixels byte }
 {
-    [
-        pixel_at(7, byte),
-        pixel_at(6, byte),
-        pixel_at(5, byte),
-        pixel_at(4, byte),
-        pixel_at(3, byte),
-        pixel_at(2, byte),
-        pixel_at(1, byte),
-        pixel_at(0, byte),
-    ]
+    samples[0] = pixel_at(7, byte);
+    samples[1] = pixel_at(6, byte);
+    samples[2] = pixel_at(5, byte);
+    samples[3] = pixel_at(4, byte);
+    samples[4] = pixel_at(3, byte);
+    samples[5] = pixel_at(2, byte);
+    samples[6] = pixel_at(1, byte);
+    samples[7] = pixel_at(0, byte);
 }
 
 /// The pixel in a bit of a byte, the bit counted from the right.
