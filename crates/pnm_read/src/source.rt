@@ -39,7 +39,9 @@ struct Step {
     stage: Stage,
 }
 
-/// Reads an image, message by message. The first `next` reads the whole input.
+/// Reads an image of `P1` to `P6`, raw or plain, message by message, as pbm(5), pgm(5) and ppm(5)
+/// lay it out. A row is a message of width times depth samples; a black pixel of PBM is sample 0.
+/// The first `next` reads the whole input.
 #[derive(Debug, Drop)]
 pub struct Source<R> {
     input: Input<R>,
@@ -62,8 +64,11 @@ impl<R: BytesIn> Source<R> {
         })
     }
 
-    /// The next message; `None` after the end of the stream, for good. After a fault it answers the
-    /// same fault and reads nothing.
+    /// The next message; `None` after the end of the stream, for good.
+    ///
+    /// The fault is the first that the text has (see `InputFault`), after all messages that come
+    /// before it; or `ReadFailed` where the reader failed, or `Memory` where memory ran out, in
+    /// place of all later faults. After a fault it answers the same fault and reads nothing.
     pub fn next(&mut self) -> Result<Option<Message>, InputFault>
         // What is said of the text comes in turn, and then its end or its fault. Stop doesn't come.
         ensures told { Tells R.left self.old result self.new }
