@@ -27,9 +27,8 @@ with_height h height = record h { shape = record h.shape { height = height } }
 abbrev pub is_blank : ℕ → Bool
 is_blank b = (b == 32) || (b == 9) || (b == 13)
 
--- the text of TUPLTYPE lines, from pam(5): bytes of one line, without white space at its ends
+-- the text of TUPLTYPE lines, from pam(5): one line, without white space at its ends
 pub record IsTupleType (text : List ℕ) : Type 0 where
-  pub bytes : All (λ b. b < 256) text
   pub short : length text ≤ 255
   pub one_line : All (λ b. b ≢ 10) text
   pub first : 0 < length text → is_blank (slice_index text 0) ≡ false

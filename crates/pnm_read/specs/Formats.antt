@@ -1,4 +1,4 @@
--- The six formats of PNM, from pbm(5), pgm(5) and ppm(5), and what a header's numbers make.
+-- The seven formats, from pbm(5), pgm(5), ppm(5) and pam(5), and what the numbers of a PNM header make.
 use Rattle.std.specs.Prelude.{ℕ, true, false, ◌==◌, if◌then◌else◌, List, [], ◌∷◌, Option, Some, None, slice_index}
 use Rattle.pnm_image.specs.declared.shape.Shape.{Shape}
 use Rattle.pnm_image.specs.declared.shape.Kind.{Kind}
@@ -11,7 +11,7 @@ plain kind = Some (record { kind = kind; is_plain = true })
 abbrev pub raw : Kind → Option Format
 raw kind = Some (record { kind = kind; is_plain = false })
 
--- the format that the second byte of a magic names: 1 to 6
+-- the format that the second byte of a magic names: 1 to 7
 abbrev pub format_of : ℕ → Option Format
 format_of b =
     if b == 49 then plain Bit
@@ -20,10 +20,11 @@ format_of b =
     else if b == 52 then raw Bit
     else if b == 53 then raw Gray
     else if b == 54 then raw Color
+    else if b == 55 then raw Pam
     else None
 
--- how many numbers a header has: the width, the height and, except for PBM, the maxval. No format here is PAM:
--- what these definitions say of it means nothing.
+-- how many numbers a PNM header has: the width, the height and, except for PBM, the maxval. PAM has another
+-- header: what this and the following definitions say of it means nothing.
 abbrev pub number_count : Kind → ℕ
 number_count Bit = 2
 number_count Gray = 3

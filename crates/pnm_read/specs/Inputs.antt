@@ -5,7 +5,6 @@ use Rattle.pnm_image.specs.Devices.{Failed}
 use Rattle.pnm_read.specs.declared.fault.InputFault.{InputFault}
 use Rattle.pnm_read.specs.declared.fault.InputFault.TheVariants.{ReadFailed, Memory}
 use Rattle.pnm_read.specs.declared.input.Input.{Input}
-use Rattle.pnm_read.specs.Items.{after_last_item}
 
 -- a fault that no text has: the reader failed, or memory ran out
 abbrev pub IsOutsideFault : InputFault → Type 0
@@ -55,7 +54,7 @@ abbrev pub Finds : {X Y : Type 0} → (X → Y) → (List ℕ → Result (Y × L
 Finds view reading (Ok x) before after = reading before ≡ Ok (view x, after)
 Finds view reading (Err fault) before after = (reading before ≡ Err fault) ⊎ IsOutsideFault fault
 
--- whether the text may go on as it does after the last sample of a plain image
-abbrev pub ChecksEnd : Result (Unit {0}) InputFault → List ℕ → List ℕ → Type 0
-ChecksEnd (Ok _) before after = after_last_item before ≡ Ok after
-ChecksEnd (Err fault) before after = (after_last_item before ≡ Err fault) ⊎ IsOutsideFault fault
+-- the text goes on as it may, and so much of it was taken; or it is at fault
+abbrev pub Passes : (List ℕ → Result (List ℕ) InputFault) → Result (Unit {0}) InputFault → List ℕ → List ℕ → Type 0
+Passes reading (Ok _) before after = reading before ≡ Ok after
+Passes reading (Err fault) before after = (reading before ≡ Err fault) ⊎ IsOutsideFault fault

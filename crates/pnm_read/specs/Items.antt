@@ -1,21 +1,27 @@
 -- The items that a text is cut into, and the faults of each in their order. A byte of a header, and of a
 -- plain raster, is judged by the bytes before it in the same piece: of a header those after the magic, of
 -- a plain raster those since the last digit of the sample before.
-use Rattle.std.specs.Prelude.{ℕ, Bool, not, ◌==◌, nat_le, ◌*◌, ◌+◌, ◌&&◌, ◌||◌, if◌then◌else◌, List, [], ◌∷◌, ◌++◌, length, Option, Some, None, Result, Ok, Err}
+use Rattle.std.specs.Prelude.{ℕ, Bool, not, ◌==◌, nat_le, nat_lt, ◌*◌, ◌+◌, ◌&&◌, ◌||◌, if◌then◌else◌, List, [], ◌∷◌, ◌++◌, length, slice_index, Option, Some, None, Result, Ok, Err}
+use Rattle.std.specs.List.{list_all}
+use Rattle.pnm_image.specs.declared.shape.Shape.{Shape}
 use Rattle.pnm_image.specs.declared.shape.Kind.{Kind}
 use Rattle.pnm_image.specs.declared.shape.Kind.TheVariants.{Bit, Gray, Color, Pam}
 use Rattle.pnm_image.specs.declared.head.HeadFault.{HeadFault}
 use Rattle.pnm_image.specs.declared.head.HeadFault.TheVariants as heads
 use Rattle.pnm_image.specs.Heads.{Header, header_of, shape_fault}
 use Rattle.pnm_read.specs.declared.fault.InputFault.{InputFault}
-use Rattle.pnm_read.specs.declared.fault.InputFault.TheVariants.{EmptyInput, BadMagic, HeaderCut, TooLong, BadNumber, ZeroSize, TooLarge, BadMaxval, RasterCut, SampleAboveMaxval, BadSample, Memory}
+use Rattle.pnm_read.specs.declared.fault.InputFault.TheVariants.{EmptyInput, BadMagic, HeaderCut, TooLong, BadNumber, ZeroSize, TooLarge, BadMaxval, BadPamLine, DuplicateField, MissingField, RasterCut, SampleAboveMaxval, BadSample, PlainInStream, Memory}
 use Rattle.pnm_read.specs.declared.format.Format.{Format}
+use Rattle.pnm_read.specs.declared.line.Field.{Field}
+use Rattle.pnm_read.specs.declared.line.Field.TheVariants.{Width, Height, Depth, Maxval}
+use Rattle.pnm_read.specs.declared.line.LineKind.TheVariants.{Nothing, Number, TupleType, End, Unknown}
 use Rattle.pnm_read.specs.declared.packing.Packing.{Packing}
 use Rattle.pnm_read.specs.declared.packing.Packing.TheVariants.{Packed, Narrow, Wide}
 use Rattle.pnm_read.specs.declared.judgement.Judgement.{Judgement}
 use Rattle.pnm_read.specs.declared.judgement.Judgement.TheVariants.{GoesOn, EndsWith, EndsBefore, Fails}
 use Rattle.pnm_read.specs.Texts.{is_white, is_digit, is_apart, begins_apart, ends_by, ends_in_comment, number_in, numbers_in}
 use Rattle.pnm_read.specs.Formats.{format_of, shape_of}
+use Rattle.pnm_read.specs.PamLines.{ended_lines, last_line, second_token, line_kind, field_values, tuple_type_in}
 use Rattle.pnm_read.specs.Rasters.{pixels}
 
 infixl 10 ◌>>=◌
@@ -41,20 +47,20 @@ piece_from item at_end before (b ∷ text) = elim (item before b) [
 
 -- ---- the magic
 
--- the second byte of a magic
-unfoldable pub second_magic_item : List ℕ → Result (Format × List ℕ) InputFault
-second_magic_item [] = Err HeaderCut
-second_magic_item (b ∷ text) = elim (format_of b) [
-  | Some format ↦ Ok (format, text)
+-- the second byte of a magic; a plain image can't come after another image
+unfoldable pub second_magic_item : Bool → List ℕ → Result (Format × List ℕ) InputFault
+second_magic_item is_first [] = Err HeaderCut
+second_magic_item is_first (b ∷ text) = elim (format_of b) [
+  | Some format ↦ if format.is_plain && not is_first then Err PlainInStream else Ok (format, text)
   | None ↦ Err BadMagic
 ]
 
--- the start of an image, and the first byte of its magic
+-- the start of the first image, and the first byte of a magic
 unfoldable pub first_magic_item : List ℕ → Result (List ℕ) InputFault
 first_magic_item [] = Err EmptyInput
 first_magic_item (b ∷ text) = if b == 80 then Ok text else Err BadMagic
 
--- ---- the header
+-- ---- the header of PBM, PGM and PPM
 
 -- the bytes of a header after the magic, at most
 abbrev pub header_limit : ℕ
@@ -93,6 +99,72 @@ numbers_item kind numbers = elim (shape_fault (shape_of kind numbers)) [
   | Some fault ↦ Err (fault_of_head fault)
   | None ↦ Ok (header_of (shape_of kind numbers) [])
 ]
+
+-- ---- the header of PAM
+
+-- the byte after the magic
+unfoldable pub line_feed_item : List ℕ → Result (List ℕ) InputFault
+line_feed_item [] = Err HeaderCut
+line_feed_item (b ∷ text) = if b == 10 then Ok text else Err BadPamLine
+
+-- the bytes of a header after the magic and its LF, at most
+abbrev pub pam_limit : ℕ
+pam_limit = 65533
+
+-- the line of a number, after these lines
+abbrev pub number_item : List (List ℕ) → Field → List ℕ → Judgement
+number_item lines field line =
+    if length (second_token line) == 0 then Fails BadPamLine
+    else if not (list_all is_digit (second_token line)) then Fails BadNumber
+    else if not (length (field_values field lines) == 0) then Fails DuplicateField
+    else GoesOn
+
+-- a line of the tuple type
+abbrev pub tuple_type_item : List (List ℕ) → List ℕ → Judgement
+tuple_type_item lines line = if nat_lt 255 (length (tuple_type_in (lines ++ line ∷ []))) then Fails TooLong else GoesOn
+
+-- a line, after its LF; ENDHDR is the last
+abbrev pub line_item : List (List ℕ) → List ℕ → Judgement
+line_item lines line = elim (line_kind line) [
+  | Nothing ↦ GoesOn
+  | Number field ↦ number_item lines field line
+  | TupleType ↦ tuple_type_item lines line
+  | End ↦ EndsWith
+  | Unknown ↦ Fails BadPamLine
+]
+
+-- a byte of a header of PAM
+unfoldable pub pam_item : List ℕ → ℕ → Judgement
+pam_item before b =
+    if nat_le pam_limit (length before) then Fails TooLong
+    else if b == 10 then line_item (ended_lines before) (last_line before)
+    else GoesOn
+
+-- none of the lines has the number
+abbrev pub is_missing : Field → List (List ℕ) → Bool
+is_missing field lines = length (field_values field lines) == 0
+
+-- one of the four numbers is missing
+abbrev pub is_incomplete : List (List ℕ) → Bool
+is_incomplete lines = is_missing Width lines || is_missing Height lines || is_missing Depth lines || is_missing Maxval lines
+
+-- the number of a field
+abbrev pub field_in : Field → List (List ℕ) → ℕ
+field_in field lines = slice_index (field_values field lines) 0
+
+-- the shape that the lines make
+abbrev pub shape_in : List (List ℕ) → Shape
+shape_in lines =
+    record { kind = Pam; width = field_in Width lines; height = field_in Height lines; depth = field_in Depth lines; maxval = field_in Maxval lines }
+
+-- the end of a header: the lines together
+unfoldable pub lines_item : List (List ℕ) → Result Header InputFault
+lines_item lines =
+    if is_incomplete lines then Err MissingField
+    else elim (shape_fault (shape_in lines)) [
+      | Some fault ↦ Err (fault_of_head fault)
+      | None ↦ Ok (header_of (shape_in lines) (tuple_type_in lines))
+    ]
 
 -- ---- raw rasters
 

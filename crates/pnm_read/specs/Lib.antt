@@ -1,5 +1,6 @@
 pub mod Texts
 pub mod Formats
+pub mod PamLines
 pub mod Headers
 pub mod Rasters
 pub mod Spelling
@@ -11,6 +12,7 @@ pub mod Reads
 pub mod Scans
 pub mod Saturation
 pub mod Scanners
+pub mod PamScanners
 pub mod Packings
 pub mod Stages
 pub mod Sources

@@ -1,20 +1,22 @@
--- What is said of a text: the messages of its image, and then the end or the first fault. The fault is that
+-- What is said of a text: the messages of its images, and then the end or the first fault. The fault is that
 -- of the first item that has one.
-use Rattle.std.specs.Prelude.{ℕ, zero, suc, ◌+◌, ◌/◌, Bool, true, false, List, [], ◌∷◌, take, Option, Some, None, Result, Ok, Err}
+use Rattle.std.specs.Prelude.{ℕ, zero, suc, ◌+◌, ◌/◌, Bool, true, false, List, [], ◌∷◌, length, take, Option, Some, None, Result, Ok, Err}
 use Rattle.std.specs.List.{concat}
+use Rattle.pnm_image.specs.declared.shape.Kind.{Kind}
+use Rattle.pnm_image.specs.declared.shape.Kind.TheVariants.{Bit, Gray, Color, Pam}
 use Rattle.pnm_image.specs.declared.shape.Shape.{Shape}
 use Rattle.pnm_image.specs.declared.message.Message.{Message}
 use Rattle.pnm_image.specs.declared.message.Message.TheVariants.{Begin, Row, ImageEnd, StreamEnd}
 use Rattle.pnm_image.specs.Heads.{Header, row_length}
 use Rattle.pnm_read.specs.declared.fault.InputFault.{InputFault}
-use Rattle.pnm_read.specs.declared.fault.InputFault.TheVariants.{BadMagic}
 use Rattle.pnm_read.specs.declared.format.Format.{Format}
 use Rattle.pnm_read.specs.declared.packing.Packing.{Packing}
 use Rattle.pnm_read.specs.declared.packing.Packing.TheVariants.{Packed, Narrow, Wide}
 use Rattle.pnm_read.specs.Texts.{numbers_in}
 use Rattle.pnm_read.specs.Formats.{number_count}
 use Rattle.pnm_read.specs.Rasters.{packing_of}
-use Rattle.pnm_read.specs.Items.{◌>>=◌, piece_from, first_magic_item, second_magic_item, header_item, header_end, numbers_item, raw_item, plain_sample, after_last_item}
+use Rattle.pnm_read.specs.PamLines.{ended_lines}
+use Rattle.pnm_read.specs.Items.{◌>>=◌, piece_from, first_magic_item, second_magic_item, header_item, header_end, numbers_item, line_feed_item, pam_item, lines_item, raw_item, plain_sample, after_last_item}
 
 -- so many items in turn
 unfoldable pub in_turn : {A : Type 0} → (List ℕ → Result (A × List ℕ) InputFault) → ℕ → List ℕ → Result (List A × List ℕ) InputFault
@@ -24,17 +26,33 @@ in_turn item (suc n) text = do
   more ← in_turn item n first.1
   Ok (first.0 ∷ more.0, more.1)
 
--- the format, the head and the raster of a text
-unfoldable pub format_at : List ℕ → Result (Format × List ℕ) InputFault
-format_at text = do
+-- the format, the head and the raster of an image
+unfoldable pub format_at : Bool → List ℕ → Result (Format × List ℕ) InputFault
+format_at is_first text = do
   rest ← first_magic_item text
-  second_magic_item rest
+  second_magic_item is_first rest
 
-unfoldable pub head_at : Format → List ℕ → Result (Header × List ℕ) InputFault
-head_at format text = do
-  piece ← piece_from (header_item (number_count format.kind)) header_end [] text
-  head ← numbers_item format.kind (numbers_in piece.0)
+unfoldable pub pnm_head_at : Kind → List ℕ → Result (Header × List ℕ) InputFault
+pnm_head_at kind text = do
+  piece ← piece_from (header_item (number_count kind)) header_end [] text
+  head ← numbers_item kind (numbers_in piece.0)
   Ok (head, piece.1)
+
+unfoldable pub pam_head_at : List ℕ → Result (Header × List ℕ) InputFault
+pam_head_at text = do
+  rest ← line_feed_item text
+  piece ← piece_from pam_item header_end [] rest
+  head ← lines_item (ended_lines piece.0)
+  Ok (head, piece.1)
+
+abbrev pub head_by : Kind → List ℕ → Result (Header × List ℕ) InputFault
+head_by Bit text = pnm_head_at Bit text
+head_by Gray text = pnm_head_at Gray text
+head_by Color text = pnm_head_at Color text
+head_by Pam text = pam_head_at text
+
+abbrev pub head_at : Format → List ℕ → Result (Header × List ℕ) InputFault
+head_at format text = head_by format.kind text
 
 -- ---- rows
 
@@ -92,31 +110,44 @@ says_nothing = record { messages = []; fault = None }
 abbrev pub ends_stream : Said
 ends_stream = then_said StreamEnd says_nothing
 
--- after a raw image nothing follows; what follows a plain image is ignored
-unfoldable pub end_said : Bool → List ℕ → Said
-end_said true text = ends_stream
-end_said false [] = ends_stream
-end_said false (b ∷ text) = says_fault BadMagic
+-- after a raw image comes what is told of the text by this; what follows a plain image is ignored
+unfoldable pub end_said : (List ℕ → Said) → Bool → List ℕ → Said
+end_said later true text = ends_stream
+end_said later false text = later text
 
--- so many rows, and the end of the image
-unfoldable pub rows_said : Format → Shape → ℕ → List ℕ → Said
-rows_said format s zero text = then_said ImageEnd (end_said format.is_plain text)
-rows_said format s (suc more) text = elim (row_at format s more text) [
+-- so many rows, the end of the image, and what comes after a raw image
+unfoldable pub rows_said : (List ℕ → Said) → Format → Shape → ℕ → List ℕ → Said
+rows_said later format s zero text = then_said ImageEnd (end_said later format.is_plain text)
+rows_said later format s (suc more) text = elim (row_at format s more text) [
   | Err fault ↦ says_fault fault
-  | Ok row ↦ then_said (Row row.0) (rows_said format s more row.1)
+  | Ok row ↦ then_said (Row row.0) (rows_said later format s more row.1)
 ]
 
-abbrev pub image_said : Format → Result (Header × List ℕ) InputFault → Said
-image_said format (Err fault) = says_fault fault
-image_said format (Ok found) = then_said (Begin found.0) (rows_said format found.0.shape found.0.shape.height found.1)
+abbrev pub head_said : (List ℕ → Said) → Format → Result (Header × List ℕ) InputFault → Said
+head_said later format (Err fault) = says_fault fault
+head_said later format (Ok found) = then_said (Begin found.0) (rows_said later format found.0.shape found.0.shape.height found.1)
 
-abbrev pub format_said : Result (Format × List ℕ) InputFault → Said
-format_said (Err fault) = says_fault fault
-format_said (Ok found) = image_said found.0 (head_at found.0 found.1)
+abbrev pub format_said : (List ℕ → Said) → Result (Format × List ℕ) InputFault → Said
+format_said later (Err fault) = says_fault fault
+format_said later (Ok found) = head_said later found.0 (head_at found.0 found.1)
+
+-- an image, and what comes after a raw one
+unfoldable pub image_said : (List ℕ → Said) → Bool → List ℕ → Said
+image_said later is_first text = format_said later (format_at is_first text)
+
+-- after a raw image: the end of the stream where no byte is left, else the next image; so many images at most
+unfoldable pub later_said_in : ℕ → List ℕ → Said
+later_said_in most [] = ends_stream
+later_said_in zero (b ∷ text) = ends_stream
+later_said_in (suc most) (b ∷ text) = image_said (later_said_in most) false (b ∷ text)
+
+-- what is said after a raw image; no text has more images than bytes
+unfoldable pub later_said : List ℕ → Said
+later_said text = later_said_in (length text) text
 
 -- what is said of a whole text
 unfoldable pub said : List ℕ → Said
-said text = format_said (format_at text)
+said text = image_said later_said true text
 
 -- what is said before the fault, or before the end
 abbrev pub said_of : List ℕ → List Message

@@ -1,6 +1,7 @@
 -- How a piece is taken byte by byte.
 use Rattle.std.specs.Prelude.{◌≡◌, ℕ, ◌⊎◌, List, [], ◌∷◌, ◌++◌, drop, Option, Some, None, Result, Ok, Err}
 use Rattle.pnm_read.specs.declared.fault.InputFault.{InputFault}
+use Rattle.pnm_read.specs.declared.fault.InputFault.TheVariants.{Memory}
 use Rattle.pnm_read.specs.declared.judgement.Judgement.{Judgement}
 use Rattle.pnm_read.specs.declared.judgement.Judgement.TheVariants.{GoesOn, EndsWith, EndsBefore, Fails}
 use Rattle.pnm_read.specs.Items.{piece_from}
@@ -13,10 +14,10 @@ Takes is_after is_whole EndsWith before byte = is_whole (before ++ byte ∷ [])
 Takes is_after is_whole EndsBefore before byte = is_whole before
 Takes is_after is_whole (Fails fault) before byte = Unit {0}
 
--- a byte was judged by those before it, and taken
+-- a byte was judged by those before it, and taken, unless memory ran out
 abbrev pub JudgesByte : (List ℕ → ℕ → Judgement) → (List ℕ → Type 0) → (List ℕ → Type 0) → (List ℕ → Type 0) → ℕ → Judgement → Type 0
 JudgesByte item was_after is_after is_whole byte judgement =
-    (before : List ℕ) → was_after before → (judgement ≡ item before byte) × Takes is_after is_whole judgement before byte
+    (before : List ℕ) → was_after before → ((judgement ≡ item before byte) × Takes is_after is_whole judgement before byte) ⊎ (judgement ≡ Fails Memory)
 
 -- the end of the text was judged by the bytes before it
 abbrev pub IfEnds : (List ℕ → Type 0) → List ℕ → Option InputFault → Type 0
@@ -26,14 +27,15 @@ IfEnds is_whole before None = is_whole before
 abbrev pub JudgesEnd : (List ℕ → Option InputFault) → (List ℕ → Type 0) → (List ℕ → Type 0) → Option InputFault → Type 0
 JudgesEnd at_end is_after is_whole fault = (before : List ℕ) → is_after before → (fault ≡ at_end before) × IfEnds is_whole before fault
 
--- bytes were taken after those before them; whatever follows them, the piece goes on, has ended or is at fault
+-- bytes were taken after those before them; whatever follows them, the piece goes on, has ended or is at fault,
+-- unless memory ran out
 abbrev pub FeedsAfter : (List ℕ → ℕ → Judgement) → (List ℕ → Option InputFault) → (List ℕ → Type 0) → (List ℕ → Type 0) → List ℕ → Result (Option ℕ) InputFault → List ℕ → Type 0
 FeedsAfter item at_end is_after is_whole bytes (Ok None) before =
     is_after (before ++ bytes) × ((rest : List ℕ) → piece_from item at_end before (bytes ++ rest) ≡ piece_from item at_end (before ++ bytes) rest)
 FeedsAfter item at_end is_after is_whole bytes (Ok (Some taken)) before =
     (piece : List ℕ) × is_whole piece × ((rest : List ℕ) → piece_from item at_end before (bytes ++ rest) ≡ Ok (piece, drop taken bytes ++ rest))
 FeedsAfter item at_end is_after is_whole bytes (Err fault) before =
-    (rest : List ℕ) → piece_from item at_end before (bytes ++ rest) ≡ Err fault
+    ((rest : List ℕ) → piece_from item at_end before (bytes ++ rest) ≡ Err fault) ⊎ (fault ≡ Memory)
 
 abbrev pub Feeds : (List ℕ → ℕ → Judgement) → (List ℕ → Option InputFault) → (List ℕ → Type 0) → (List ℕ → Type 0) → (List ℕ → Type 0) → List ℕ → Result (Option ℕ) InputFault → Type 0
 Feeds item at_end was_after is_after is_whole bytes result = (before : List ℕ) → was_after before → FeedsAfter item at_end is_after is_whole bytes result before

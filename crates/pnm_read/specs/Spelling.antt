@@ -1,5 +1,5 @@
--- What a text spells: one image, raw or plain.
-use Rattle.std.specs.Prelude.{◌≡◌, ℕ, Bool, true, false, List, [], ◌∷◌, ◌++◌}
+-- What a text spells: raw images, or one plain image.
+use Rattle.std.specs.Prelude.{◌≡◌, ◌⊎◌, ℕ, ◌<◌, Bool, true, false, List, [], ◌∷◌, ◌++◌, length}
 use Rattle.pnm_image.specs.Images.{Image}
 use Rattle.pnm_read.specs.declared.format.Format.{Format}
 use Rattle.pnm_read.specs.Texts.{begins_apart}
@@ -13,23 +13,37 @@ SpellsRasterBy false text image = SpellsRaw text image
 abbrev pub SpellsRaster : Format → List ℕ → Image → Type 0
 SpellsRaster format text image = SpellsRasterBy format.is_plain text image
 
--- what may follow an image: nothing after a raw one; after a plain one nothing, or white space or # and then anything
-abbrev pub IsRestBy : Bool → List ℕ → Type 0
-IsRestBy true rest = begins_apart rest ≡ true
-IsRestBy false rest = rest ≡ []
-
-abbrev pub IsRest : Format → List ℕ → Type 0
-IsRest format rest = IsRestBy format.is_plain rest
-
--- the text is the header and the raster of one image, and what may follow it
-pub record Spells (text : List ℕ) (images : List Image) : Type 0 where
-  pub image : Image
-  pub format : Format
+-- the text is the header and the raster of one image
+pub record SpellsImage (text : List ℕ) (format : Format) (image : Image) : Type 0 where
   pub header : List ℕ
   pub raster : List ℕ
-  pub rest : List ℕ
-  pub one : images ≡ image ∷ []
-  pub whole : text ≡ header ++ (raster ++ rest)
+  pub whole : text ≡ header ++ raster
   pub header_is : SpellsHeader header format image.head
   pub raster_is : SpellsRaster format raster image
-  pub rest_is : IsRest format rest
+
+-- an image whose samples are written as bytes, or as text
+abbrev pub SpellsRawImage : List ℕ → Image → Type 0
+SpellsRawImage text image = (format : Format) × (format.is_plain ≡ false) × SpellsImage text format image
+
+abbrev pub SpellsPlainImage : List ℕ → Image → Type 0
+SpellsPlainImage text image = (format : Format) × (format.is_plain ≡ true) × SpellsImage text format image
+
+-- raw images in turn, of any kinds, with nothing before, between or after them
+abbrev pub SpellsRawImages : List ℕ → List Image → Type 0
+SpellsRawImages text [] = text ≡ []
+SpellsRawImages text (image ∷ images) =
+    (first : List ℕ) × (rest : List ℕ) × (text ≡ first ++ rest) × SpellsRawImage first image × SpellsRawImages rest images
+
+-- one plain image, and after it nothing, or white space or # and then anything
+pub record SpellsPlainAlone (text : List ℕ) (images : List Image) : Type 0 where
+  pub image : Image
+  pub first : List ℕ
+  pub rest : List ℕ
+  pub one : images ≡ image ∷ []
+  pub whole : text ≡ first ++ rest
+  pub image_is : SpellsPlainImage first image
+  pub rest_is : begins_apart rest ≡ true
+
+-- one or more raw images, or one plain image
+abbrev pub Spells : List ℕ → List Image → Type 0
+Spells text images = ((0 < length images) × SpellsRawImages text images) ⊎ SpellsPlainAlone text images

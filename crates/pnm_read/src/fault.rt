@@ -8,36 +8,39 @@ pub enum InputFault {
     /// There is no byte.
     #[error("EmptyInput")]
     EmptyInput,
-    /// An image doesn't begin with one of the magics, or a byte follows a raw image.
+    /// An image doesn't begin with one of the magics `P1` to `P7`, or a byte that isn't `P` follows a
+    /// raw image.
     #[error("BadMagic")]
     BadMagic,
     /// The input ends in a header.
     #[error("HeaderCut")]
     HeaderCut,
-    /// A header has more than 65,536 bytes, or a plain raster goes on for more than 1,048,576
-    /// bytes without the end of a sample.
+    /// A header has more than 65,536 bytes, or a tuple type more than 255, or a plain raster goes on
+    /// for more than 1,048,576 bytes without the end of a sample.
     #[error("TooLong")]
     TooLong,
-    /// A byte of a header outside comments is neither a digit nor white space, or the first after
-    /// the magic is neither white space nor `#`.
+    /// A byte of a PBM, PGM or PPM header outside comments is neither a digit nor white space, or the
+    /// first after the magic is neither white space nor `#`; or a number of a PAM header isn't decimal.
     #[error("BadNumber")]
     BadNumber,
-    /// The width or the height is 0.
+    /// The width, the height or the depth is 0.
     #[error("ZeroSize")]
     ZeroSize,
-    /// The width or the height is above 1,000,000, or a row has more than 16,777,216 samples.
+    /// The width or the height is above 1,000,000, the depth above 256, or a row has more than
+    /// 16,777,216 samples.
     #[error("TooLarge")]
     TooLarge,
     /// The maxval is 0 or above 65,535.
     #[error("BadMaxval")]
     BadMaxval,
-    /// A line of a PAM header says nothing that such a line can say.
+    /// A line of a PAM header begins with no name that such a line can have, or lacks its number; or no
+    /// LF follows `P7`.
     #[error("BadPamLine")]
     BadPamLine,
-    /// A field of a PAM header is there twice.
+    /// A number of a PAM header is there twice.
     #[error("DuplicateField")]
     DuplicateField,
-    /// A field of a PAM header is missing.
+    /// A number of a PAM header is missing.
     #[error("MissingField")]
     MissingField,
     /// The input ends in a raster.

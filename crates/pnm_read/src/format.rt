@@ -5,7 +5,7 @@ ghost use Rattle.pnm_read.specs.Formats.{format_of, number_count, planes};
 
 use pnm_image::Kind;
 
-/// One of `P1` to `P6`.
+/// One of `P1` to `P7`.
 #[derive(Clone, Copy, Debug, PartialEq, Eq)]
 pub struct Format {
     pub kind: Kind,
@@ -25,6 +25,7 @@ impl Format {
             b'4' => (Kind::Bit, false),
             b'5' => (Kind::Gray, false),
             b'6' => (Kind::Color, false),
+            b'7' => (Kind::Pam, false),
             _ => return None,
         };
         Some(Format { kind, is_plain })
@@ -41,7 +42,7 @@ pub fn number_count(kind: Kind) -> usize
     }
 }
 
-/// The planes of an image that isn't PAM.
+/// The planes of an image of PBM, PGM or PPM.
 pub fn planes(kind: Kind) -> u32
     ensures { result ≡ planes kind }
 {

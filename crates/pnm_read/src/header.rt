@@ -1,4 +1,4 @@
-//! The header of a PNM image, from pbm(5), pgm(5) and ppm(5).
+//! The magic and the header of an image, from pbm(5), pgm(5) and ppm(5); PAM's is in a file of its own.
 
 ghost use Rattle.std.specs.Prelude.{◌≡◌, ◌≤◌, ◌<◌, ◌==◌, ◌-◌, ◌++◌, [], ◌∷◌, List, ℕ, Some, not, ◌&&◌, ◌||◌};
 ghost use Rattle.pnm_read.specs.declared.judgement.Judgement.TheVariants.{GoesOn, Fails};
@@ -6,7 +6,7 @@ ghost use Rattle.pnm_read.specs.declared.fault.InputFault.TheVariants.{ReadFaile
 ghost use Rattle.pnm_read.specs.Texts.{is_digit, is_apart};
 ghost use Rattle.pnm_read.specs.Formats.{shape_of, number_count};
 ghost use Rattle.pnm_read.specs.Items.{fault_of_head, numbers_item};
-ghost use Rattle.pnm_read.specs.Said.{format_at, head_at};
+ghost use Rattle.pnm_read.specs.Said.{format_at, pnm_head_at, head_at};
 ghost use Rattle.pnm_read.specs.Inputs.{Turn, Finds};
 ghost use Rattle.pnm_read.specs.Saturation.{IsNumbers, GivesInMemory};
 
@@ -15,6 +15,7 @@ use crate::fault::InputFault;
 use crate::format::{Format, number_count, planes};
 use crate::input::Input;
 use crate::judgement::Judgement;
+use crate::pam;
 use crate::scan::{Scanner, scan};
 use pnm_image::{BytesIn, Head, HeadFault, Kind, Shape};
 use std::alloc::Global;
@@ -22,9 +23,9 @@ use std::alloc::Global;
 /// The bytes of a header after its magic, at most: 65,536 with the magic.
 const HEADER_LIMIT: usize = 65_534;
 
-/// The format that the input's magic names.
-pub fn read_format<R: BytesIn>(input: &mut Input<R>) -> Result<Format, InputFault>
-    ensures { Turn R.left R.failures R.same input.old input.new result (Finds (λ format. format) format_at result) }
+/// The format that the input's magic names. A plain one may come first alone.
+pub fn read_format<R: BytesIn>(input: &mut Input<R>, is_first: bool) -> Result<Format, InputFault>
+    ensures { Turn R.left R.failures R.same input.old input.new result (Finds (λ format. format) (format_at is_first) result) }
 {
     match input.next_byte()? {
         Some(b'P') => {}
@@ -32,18 +33,32 @@ pub fn read_format<R: BytesIn>(input: &mut Input<R>) -> Result<Format, InputFaul
         None => return Err(InputFault::EmptyInput),
     }
     match input.next_byte()? {
-        Some(byte) => Format::of(byte).ok_or(InputFault::BadMagic),
+        Some(byte) => match Format::of(byte) {
+            Some(format) if format.is_plain && !is_first => Err(InputFault::PlainInStream),
+            Some(format) => Ok(format),
+            None => Err(InputFault::BadMagic),
+        },
         None => Err(InputFault::HeaderCut),
     }
 }
 
-/// The head that follows the magic. It takes the header through its last byte, the delimiter.
+/// The head that follows the magic. It takes the header through its last byte.
 pub fn read_head<R: BytesIn>(input: &mut Input<R>, format: Format) -> Result<Head, InputFault>
     ensures { Turn R.left R.failures R.same input.old input.new result (Finds (λ head. head) (head_at format) result) }
 {
-    let mut header = HeaderScanner::new(number_count(format.kind));
+    match format.kind {
+        Kind::Bit | Kind::Gray | Kind::Color => read_pnm_head(input, format.kind),
+        Kind::Pam => pam::read_head(input),
+    }
+}
+
+/// The head of PBM, PGM or PPM. It takes the header through its last byte, the delimiter.
+fn read_pnm_head<R: BytesIn>(input: &mut Input<R>, kind: Kind) -> Result<Head, InputFault>
+    ensures { Turn R.left R.failures R.same input.old input.new result (Finds (λ head. head) (pnm_head_at kind) result) }
+{
+    let mut header = HeaderScanner::new(number_count(kind));
     scan(input, &mut header)?;
-    head_of(input.allocator(), format.kind, header.numbers)
+    head_of(input.allocator(), kind, header.numbers)
 }
 
 /// The head of these numbers, of which PBM has the last two alone, or what is wrong with them.
@@ -65,7 +80,8 @@ fn head_of(alloc: Global, kind: Kind, numbers: [u32; 3]) -> Result<Head, InputFa
     Head::new(alloc, shape, b"").map_err(fault_of_head)
 }
 
-fn fault_of_head(fault: HeadFault) -> InputFault
+/// What is wrong with a head.
+pub fn fault_of_head(fault: HeadFault) -> InputFault
     ensures { result ≡ fault_of_head fault }
 {
     match fault {
@@ -76,7 +92,7 @@ fn fault_of_head(fault: HeadFault) -> InputFault
     }
 }
 
-/// Takes a header after its magic, byte by byte.
+/// Takes a header of PBM, PGM or PPM after its magic, byte by byte.
 #[derive(Debug, Drop)]
 struct HeaderScanner {
     /// The numbers that the header has.

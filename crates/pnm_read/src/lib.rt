@@ -1,18 +1,21 @@
 //! The bytes of Netpbm images as messages.
 //!
-//! `Source` reads one image of `P1` to `P6`, raw or plain, with comments, and gives its messages in
-//! turn, or the one fault of the text. The formats are those of pbm(5), pgm(5) and ppm(5).
+//! `Source` reads a stream of images of `P1` to `P7`, raw or plain, and gives its messages in turn, or
+//! the one fault of the text. The formats are those of pbm(5), pgm(5), ppm(5) and pam(5).
 #![tactic(auto)]
 
 mod characters;
 mod decimal;
 mod fault;
+mod fields;
 mod format;
 mod header;
 mod input;
 mod judgement;
 pub mod laws;
+mod line;
 mod packing;
+mod pam;
 mod pixel;
 mod plain;
 mod raster;

@@ -4,7 +4,7 @@ ghost use Rattle.std.specs.Prelude.{◌≡◌, ◌≤◌, true};
 ghost use Rattle.pnm_image.specs.Heads.{row_length};
 ghost use Rattle.pnm_read.specs.Items.{plain_pixel, plain_decimal, plain_sample, after_last_item};
 ghost use Rattle.pnm_read.specs.Said.{plain_row, row_by};
-ghost use Rattle.pnm_read.specs.Inputs.{Turn, Finds, ChecksEnd};
+ghost use Rattle.pnm_read.specs.Inputs.{Turn, Finds, Passes};
 
 use crate::characters::is_apart;
 use crate::decimal::DecimalScanner;
@@ -87,7 +87,7 @@ fn read_decimal<R: BytesIn>(input: &mut Input<R>, maxval: u32) -> Result<u16, In
 /// After the last sample the input ends, or goes on with white space or a comment.
 #[tactic(auto, unfolding(crate::specs::Items::after_last_item))]
 fn check_end<R: BytesIn>(input: &mut Input<R>) -> Result<(), InputFault>
-    ensures { Turn R.left R.failures R.same input.old input.new result (ChecksEnd result) }
+    ensures { Turn R.left R.failures R.same input.old input.new result (Passes after_last_item result) }
 {
     input.fill(1)?;
     match input.bytes().first() {

@@ -7,7 +7,7 @@ ghost use Rattle.pnm_read.specs.declared.fault.InputFault.{InputFault as Fault};
 ghost use Rattle.pnm_read.specs.declared.fault.InputFault.TheVariants.{ReadFailed, Memory};
 ghost use Rattle.pnm_read.specs.Inputs.{Turn, Finds};
 ghost use Rattle.pnm_read.specs.Said.{row_at};
-ghost use Rattle.pnm_read.specs.Stages.{is_going, GoesOn, Steps, EndsText};
+ghost use Rattle.pnm_read.specs.Stages.{is_going, GoesOn, Steps, Begins, SeesText};
 
 use crate::fault::InputFault;
 use crate::header::{read_format, read_head};
@@ -24,7 +24,7 @@ enum Stage {
     Start,
     /// Rows are left, or the end of the image.
     Rows(Raster),
-    /// The image has ended; whether it was plain.
+    /// An image has ended; whether it was plain.
     End(bool),
     /// The stream has ended.
     Ended,
@@ -39,8 +39,10 @@ struct Step {
     stage: Stage,
 }
 
-/// Reads an image of `P1` to `P6`, raw or plain, message by message, as pbm(5), pgm(5) and ppm(5)
-/// lay it out. A row is a message of width times depth samples; a black pixel of PBM is sample 0.
+/// Reads a stream of images, message by message: raw ones of `P4` to `P7` one after another, or one
+/// plain image of `P1` to `P3`, as pbm(5), pgm(5), ppm(5) and pam(5) lay them out. A row is a message
+/// of width times depth samples; a black pixel of PBM is sample 0. What follows a plain image is
+/// ignored where it begins with white space or `#`.
 /// The first `next` reads the whole input.
 #[derive(Debug, Drop)]
 pub struct Source<R> {
@@ -126,19 +128,18 @@ fn step_at<R: BytesIn>(input: &mut Input<R>, stage: Stage) -> Result<Step, Input
     ensures { Turn R.left R.failures R.same input.old input.new result (Steps stage result) }
 {
     match stage {
-        Stage::Start => begin(input),
+        Stage::Start => begin(input, true),
         Stage::Rows(raster) => next_row(input, raster),
-        Stage::End(is_plain) => end(input, is_plain),
+        Stage::End(is_plain) => follow(input, is_plain),
         Stage::Ended | Stage::Failed(_) => unreachable!(),
     }
 }
 
-/// The head of the image.
-#[tactic(auto, unfolding(crate::specs::Said::said))]
-fn begin<R: BytesIn>(input: &mut Input<R>) -> Result<Step, InputFault>
-    ensures { Turn R.left R.failures R.same input.old input.new result (Steps Stage.Start result) }
+/// The head of an image, which is the first of the stream or comes after a raw one.
+fn begin<R: BytesIn>(input: &mut Input<R>, is_first: bool) -> Result<Step, InputFault>
+    ensures { Turn R.left R.failures R.same input.old input.new result (Begins is_first result) }
 {
-    let format = read_format(input)?;
+    let format = read_format(input, is_first)?;
     let head = read_head(input, format)?;
     let raster = Raster::new(format, head.shape());
     Ok(Step {
@@ -176,27 +177,24 @@ fn read_row<R: BytesIn>(input: &mut Input<R>, raster: Raster) -> Result<Samples,
     }
 }
 
-/// The end of the stream: a raw image is the last of the input; what follows a plain one is ignored.
-fn end<R: BytesIn>(input: &mut Input<R>, is_plain: bool) -> Result<Step, InputFault>
+/// What follows an image: after a raw one the next image, or the end of the stream where no byte is
+/// left; what follows a plain one is ignored.
+fn follow<R: BytesIn>(input: &mut Input<R>, is_plain: bool) -> Result<Step, InputFault>
     ensures { Turn R.left R.failures R.same input.old input.new result (Steps (Stage.End is_plain) result) }
 {
-    if !is_plain {
-        check_nothing_left(input)?;
+    if is_plain || is_at_end(input)? {
+        return Ok(Step {
+            message: Message::StreamEnd,
+            stage: Stage::Ended,
+        });
     }
-    Ok(Step {
-        message: Message::StreamEnd,
-        stage: Stage::Ended,
-    })
+    begin(input, false)
 }
 
-/// Nothing may follow a raw image.
-fn check_nothing_left<R: BytesIn>(input: &mut Input<R>) -> Result<(), InputFault>
-    ensures { Turn R.left R.failures R.same input.old input.new result (EndsText result) }
+/// Whether no byte is left.
+fn is_at_end<R: BytesIn>(input: &mut Input<R>) -> Result<bool, InputFault>
+    ensures { Turn R.left R.failures R.same input.old input.new result (SeesText result) }
 {
     input.fill(1)?;
-    if input.bytes().is_empty() {
-        Ok(())
-    } else {
-        Err(InputFault::BadMagic)
-    }
+    Ok(input.bytes().is_empty())
 }

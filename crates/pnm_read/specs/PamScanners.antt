@@ -1,0 +1,112 @@
+-- What the scanner of a PAM header holds after the bytes of a piece.
+use Rattle.std.specs.Prelude.{◌≡◌, ◌⊎◌, ℕ, ◌≤◌, ◌==◌, nat_lt, List, [], ◌∷◌, ◌++◌, length, if◌then◌else◌, Option, Some, None}
+use Rattle.std.specs.List.{list_all}
+use Rattle.pnm_read.specs.declared.fault.InputFault.TheVariants.{BadPamLine, BadNumber, DuplicateField, TooLong, Memory}
+use Rattle.pnm_read.specs.declared.judgement.Judgement.{Judgement}
+use Rattle.pnm_read.specs.declared.judgement.Judgement.TheVariants.{GoesOn, EndsWith, EndsBefore, Fails}
+use Rattle.pnm_image.specs.declared.shape.Shape.{Shape}
+use Rattle.pnm_image.specs.declared.shape.Kind.TheVariants.{Pam}
+use Rattle.pnm_read.specs.declared.line.Field.{Field}
+use Rattle.pnm_read.specs.declared.line.Field.TheVariants.{Width, Height, Depth, Maxval}
+use Rattle.pnm_read.specs.declared.fields.Fields.{Fields}
+use Rattle.pnm_read.specs.declared.pam.PamScanner.{PamScanner}
+use Rattle.pnm_read.specs.Texts.{is_digit, decimal_value}
+use Rattle.pnm_read.specs.PamLines.{ended_lines, last_line, first_token, field_values, joined_with, tuple_type_in}
+use Rattle.pnm_read.specs.Saturation.{saturated}
+use Rattle.pnm_read.specs.Items.{line_item}
+
+-- the number that a token spells, as a u32; none where it isn't decimal
+abbrev pub number_of : List ℕ → Option ℕ
+number_of token = if list_all is_digit token then Some (saturated (decimal_value token)) else None
+
+-- the number of a field as it is held: the first, as a u32
+abbrev pub held_number : List ℕ → Option ℕ
+held_number [] = None
+held_number (number ∷ numbers) = Some (saturated number)
+
+-- the fields of these lines
+pub record IsFields (fields : Fields) (lines : List (List ℕ)) : Type 0 where
+  pub width : fields.width ≡ held_number (field_values Width lines)
+  pub height : fields.height ≡ held_number (field_values Height lines)
+  pub depth : fields.depth ≡ held_number (field_values Depth lines)
+  pub maxval : fields.maxval ≡ held_number (field_values Maxval lines)
+  pub tuple_type : fields.tuple_type.items ≡ tuple_type_in lines
+  pub short : length (tuple_type_in lines) ≤ 255
+
+-- the fields after a line that was judged so
+abbrev pub TakesLine : Fields → Judgement → List (List ℕ) → Type 0
+TakesLine new GoesOn lines = IsFields new lines
+TakesLine new EndsWith lines = IsFields new lines
+TakesLine new EndsBefore lines = ⊥
+TakesLine new (Fails fault) lines = Unit {0}
+
+-- a line was judged by those before it, and taken, unless memory ran out
+abbrev pub JudgesLine : Fields → List ℕ → Fields → Judgement → Type 0
+JudgesLine old line new judgement =
+    (lines : List (List ℕ)) → IsFields old lines → ((judgement ≡ line_item lines line) × TakesLine new judgement (lines ++ line ∷ [])) ⊎ (judgement ≡ Fails Memory)
+
+-- the shape of the fields; none where a number is missing
+abbrev pub shape_held : Fields → Option Shape
+shape_held fields = elim fields.width [
+  | None ↦ None
+  | Some width ↦ elim fields.height [
+    | None ↦ None
+    | Some height ↦ elim fields.depth [
+      | None ↦ None
+      | Some depth ↦ elim fields.maxval [
+        | None ↦ None
+        | Some maxval ↦ Some (record { kind = Pam; width = width; height = height; depth = depth; maxval = maxval })
+      ]
+    ]
+  ]
+]
+
+-- the number of a field, as it is held
+abbrev pub number_held : Field → Fields → Option ℕ
+number_held Width fields = fields.width
+number_held Height fields = fields.height
+number_held Depth fields = fields.depth
+number_held Maxval fields = fields.maxval
+
+-- the fields with this number
+abbrev pub with_number : Field → ℕ → Fields → Fields
+with_number Width number fields = record fields { width = Some number }
+with_number Height number fields = record fields { height = Some number }
+with_number Depth number fields = record fields { depth = Some number }
+with_number Maxval number fields = record fields { maxval = Some number }
+
+-- how a number in the rest of a line is judged, and the fields after it
+abbrev pub SetsNumber : Fields → Field → List ℕ → Fields → Judgement → Type 0
+SetsNumber old field text new judgement =
+    if length (first_token text) == 0 then judgement ≡ Fails BadPamLine
+    else elim (number_of (first_token text)) [
+      | None ↦ judgement ≡ Fails BadNumber
+      | Some number ↦ elim (number_held field old) [
+        | Some other ↦ judgement ≡ Fails DuplicateField
+        | None ↦ (judgement ≡ GoesOn) × (new ≡ with_number field number old)
+      ]
+    ]
+
+-- the fields with another tuple type
+pub record IsWithTupleType (old new : Fields) (tuple_type : List ℕ) : Type 0 where
+  pub width : new.width ≡ old.width
+  pub height : new.height ≡ old.height
+  pub depth : new.depth ≡ old.depth
+  pub maxval : new.maxval ≡ old.maxval
+  pub tuple_type_is : new.tuple_type.items ≡ tuple_type
+
+-- a text was joined to the tuple type, unless it is too long or memory ran out
+abbrev pub AddsTupleType : Fields → List ℕ → Fields → Judgement → Type 0
+AddsTupleType old text new judgement =
+    (if nat_lt 255 (length (joined_with old.tuple_type.items text)) then judgement ≡ Fails TooLong
+    else (judgement ≡ GoesOn) × IsWithTupleType old new (joined_with old.tuple_type.items text)) ⊎ (judgement ≡ Fails Memory)
+
+-- these bytes have come after the magic and its LF, and the header goes on
+pub record IsPamAfter (s : PamScanner) (before : List ℕ) : Type 0 where
+  pub length_is : s.length ≡ length before
+  pub line : s.line.items ≡ last_line before
+  pub fields : IsFields s.fields (ended_lines before)
+
+-- the header has ended
+abbrev pub IsPamWhole : PamScanner → List ℕ → Type 0
+IsPamWhole s piece = IsFields s.fields (ended_lines piece)

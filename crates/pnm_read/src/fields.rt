@@ -1,0 +1,124 @@
+//! The fields of a PAM header, from pam(5), 'The Header'.
+
+ghost use Rattle.std.specs.Prelude.{◌≡◌, [], List, ℕ};
+ghost use Rattle.pnm_image.specs.Heads.{IsTupleType};
+ghost use Rattle.pnm_read.specs.Items.{lines_item};
+ghost use Rattle.pnm_read.specs.Saturation.{GivesInMemory};
+ghost use Rattle.pnm_read.specs.PamScanners.{IsFields, JudgesLine, SetsNumber, AddsTupleType, shape_held};
+
+use crate::fault::InputFault;
+use crate::header::fault_of_head;
+use crate::judgement::Judgement;
+use crate::line::{Field, LineKind, number_of, split_token, trimmed};
+use pnm_image::{Head, Kind, Shape};
+use std::alloc::Global;
+
+/// The bytes of a tuple type, at most.
+const TUPLE_TYPE_LIMIT: usize = 255;
+
+/// The fields of a header that have come.
+#[derive(Debug, Drop)]
+pub struct Fields {
+    width: Option<u32>,
+    height: Option<u32>,
+    depth: Option<u32>,
+    maxval: Option<u32>,
+    tuple_type: Vec<u8>,
+}
+
+impl Fields {
+    pub fn new(alloc: Global) -> Fields
+        ensures { IsFields result [] }
+    {
+        Fields {
+            width: None,
+            height: None,
+            depth: None,
+            maxval: None,
+            tuple_type: Vec::new(alloc),
+        }
+    }
+
+    /// The shape; none where a number is missing.
+    fn shape(&self) -> Option<Shape>
+        ensures { result ≡ shape_held self.now }
+    {
+        Some(Shape {
+            kind: Kind::Pam,
+            width: self.width?,
+            height: self.height?,
+            depth: self.depth?,
+            maxval: self.maxval?,
+        })
+    }
+
+    /// Judges a line, without its LF, and takes what it says.
+    pub fn take(&mut self, line: &[u8]) -> Judgement
+        ensures { JudgesLine self.old line.now self.new result }
+    {
+        let (token, rest) = split_token(line);
+        match LineKind::of(token) {
+            LineKind::Nothing => Judgement::GoesOn,
+            LineKind::Number(field) => self.set_number(field, rest),
+            LineKind::TupleType => self.add_tuple_type(trimmed(rest)),
+            LineKind::End => Judgement::EndsWith,
+            LineKind::Unknown => Judgement::Fails(InputFault::BadPamLine),
+        }
+    }
+
+    /// Takes the number of a field, which is the first token of this text.
+    fn set_number(&mut self, field: Field, text: &[u8]) -> Judgement
+        ensures { SetsNumber self.old field text.now self.new result }
+    {
+        let (token, _) = split_token(text);
+        if token.is_empty() {
+            return Judgement::Fails(InputFault::BadPamLine);
+        }
+        let Some(number) = number_of(token) else {
+            return Judgement::Fails(InputFault::BadNumber);
+        };
+        let place = match field {
+            Field::Width => &mut self.width,
+            Field::Height => &mut self.height,
+            Field::Depth => &mut self.depth,
+            Field::Maxval => &mut self.maxval,
+        };
+        if place.is_some() {
+            return Judgement::Fails(InputFault::DuplicateField);
+        }
+        *place = Some(number);
+        Judgement::GoesOn
+    }
+
+    /// Joins this text to the tuple type by a blank; an empty one is left out.
+    fn add_tuple_type(&mut self, text: &[u8]) -> Judgement
+        ensures { AddsTupleType self.old text.now self.new result }
+    {
+        if text.is_empty() {
+            return Judgement::GoesOn;
+        }
+        let blank: &[u8] = if self.tuple_type.is_empty() { b"" } else { b" " };
+        if text.len() > TUPLE_TYPE_LIMIT
+            || self.tuple_type.len() + blank.len() + text.len() > TUPLE_TYPE_LIMIT
+        {
+            return Judgement::Fails(InputFault::TooLong);
+        }
+        if self.tuple_type.extend_from_slice(blank).is_err()
+            || self.tuple_type.extend_from_slice(text).is_err()
+        {
+            return Judgement::Fails(InputFault::Memory);
+        }
+        Judgement::GoesOn
+    }
+}
+
+/// The head of these fields, or what is wrong with them.
+pub fn head_of(alloc: Global, fields: Fields) -> Result<Head, InputFault>
+    requires { IsTupleType fields.tuple_type.items }
+    ensures { (lines : List (List ℕ)) → IsFields fields lines → GivesInMemory result (lines_item lines) }
+{
+    let Some(shape) = fields.shape() else {
+        return Err(InputFault::MissingField);
+    };
+    Head::new(alloc, shape, &fields.tuple_type).map_err(fault_of_head)
+}

@@ -1,0 +1,118 @@
+//! Lines of a PAM header, from pam(5), 'The Header'.
+
+ghost use Rattle.std.specs.Prelude.{◌≡◌, length};
+ghost use Rattle.pnm_image.specs.Heads.{is_blank};
+ghost use Rattle.pnm_read.specs.PamLines.{trimmed_start, trimmed_end, first_token, after_first, kind_of_token};
+ghost use Rattle.pnm_read.specs.PamScanners.{number_of};
+
+use crate::characters::is_digit;
+
+/// A number of a PAM header.
+#[derive(Clone, Copy, Debug, PartialEq, Eq)]
+pub enum Field {
+    Width,
+    Height,
+    Depth,
+    Maxval,
+}
+
+/// What a line of a PAM header says.
+#[derive(Clone, Copy, Debug, PartialEq, Eq)]
+pub enum LineKind {
+    /// Nothing: it has no token, or is a comment.
+    Nothing,
+    /// A number.
+    Number(Field),
+    /// A part of the tuple type.
+    TupleType,
+    /// It is the last line.
+    End,
+    /// Nothing that such a line can say.
+    Unknown,
+}
+
+impl LineKind {
+    /// What a line says whose first token is this one, which is empty where it has none.
+    #[tactic(auto, unfolding(crate::specs::PamLines::kind_of_token))]
+    pub fn of(token: &[u8]) -> LineKind
+        ensures { result ≡ kind_of_token token.now }
+    {
+        match token {
+            [] | [b'#', ..] => LineKind::Nothing,
+            b"WIDTH" => LineKind::Number(Field::Width),
+            b"HEIGHT" => LineKind::Number(Field::Height),
+            b"DEPTH" => LineKind::Number(Field::Depth),
+            b"MAXVAL" => LineKind::Number(Field::Maxval),
+            b"TUPLTYPE" => LineKind::TupleType,
+            b"ENDHDR" => LineKind::End,
+            _ => LineKind::Unknown,
+        }
+    }
+}
+
+/// Blank, TAB or CR: white space that a line can hold.
+fn is_blank(byte: u8) -> bool
+    ensures { result ≡ is_blank byte }
+{
+    byte == b' ' || byte == b'\t' || byte == b'\r'
+}
+
+/// The first token of a line, which is empty where there is none, and what follows it.
+pub fn split_token(line: &[u8]) -> (&[u8], &[u8])
+    ensures token { result.0.now ≡ first_token line.now }
+    ensures rest { result.1.now ≡ after_first line.now }
+{
+    let text = trimmed_start(line);
+    let mut length = 0;
+    while length < text.len() && !is_blank(text[length]) {
+        length += 1;
+    }
+    text.split_at(length)
+}
+
+/// The text without white space at its ends.
+pub fn trimmed(text: &[u8]) -> &[u8]
+    ensures { result.now ≡ trimmed_end (trimmed_start text.now) }
+{
+    trimmed_end(trimmed_start(text))
+}
+
+fn trimmed_start(text: &[u8]) -> &[u8]
+    ensures { result.now ≡ trimmed_start text.now }
+{
+    let mut rest = text;
+    while let [first, after @ ..] = rest
+        && is_blank(*first)
+    {
+        rest = after;
+    }
+    rest
+}
+
+fn trimmed_end(text: &[u8]) -> &[u8]
+    ensures { result.now ≡ trimmed_end text.now }
+{
+    let mut rest = text;
+    while let [before @ .., last] = rest
+        && is_blank(*last)
+    {
+        rest = before;
+    }
+    rest
+}
+
+/// The number that a token spells, at most `u32::MAX`; none where it isn't decimal.
+pub fn number_of(token: &[u8]) -> Option<u32>
+    ensures { result ≡ number_of token.now }
+{
+    let mut number = 0u32;
+    for byte in token {
+        if !is_digit(*byte) {
+            return None;
+        }
+        number = number
+            .saturating_mul(10)
+            .saturating_add(u32::from(*byte - b'0'));
+    }
+    Some(number)
+}

@@ -1,0 +1,102 @@
+//! The header of a PAM image, from pam(5), 'The Header'.
+
+ghost use Rattle.std.specs.Prelude.{◌≡◌, ◌≤◌, ◌-◌, []};
+ghost use Rattle.pnm_read.specs.Items.{line_feed_item};
+ghost use Rattle.pnm_read.specs.Said.{pam_head_at};
+ghost use Rattle.pnm_read.specs.Inputs.{Turn, Finds, Passes};
+
+use crate::fault::InputFault;
+use crate::fields::{Fields, head_of};
+use crate::input::Input;
+use crate::judgement::Judgement;
+use crate::scan::{Scanner, scan};
+use pnm_image::{BytesIn, Head};
+use std::alloc::Global;
+
+/// The bytes of a header after its magic and the LF, at most: 65,536 with them.
+const PAM_LIMIT: usize = 65_533;
+
+/// The head that follows the magic. It takes the header through the LF of its line ENDHDR.
+#[tactic(auto, unfolding(crate::specs::Said::pam_head_at))]
+pub fn read_head<R: BytesIn>(input: &mut Input<R>) -> Result<Head, InputFault>
+    ensures { Turn R.left R.failures R.same input.old input.new result (Finds (λ head. head) pam_head_at result) }
+{
+    read_line_feed(input)?;
+    let mut header = PamScanner::new(input.allocator());
+    scan(input, &mut header)?;
+    head_of(input.allocator(), header.fields)
+}
+
+/// The LF after the magic.
+#[tactic(auto, unfolding(crate::specs::Items::line_feed_item))]
+fn read_line_feed<R: BytesIn>(input: &mut Input<R>) -> Result<(), InputFault>
+    ensures { Turn R.left R.failures R.same input.old input.new result (Passes line_feed_item result) }
+{
+    match input.next_byte()? {
+        Some(b'\n') => Ok(()),
+        Some(_) => Err(InputFault::BadPamLine),
+        None => Err(InputFault::HeaderCut),
+    }
+}
+
+/// Takes a header after its magic and the LF, byte by byte. A line is judged once it has ended.
+#[derive(Debug, Drop)]
+struct PamScanner {
+    /// The line that hasn't ended.
+    line: Vec<u8>,
+    /// What the lines before it say.
+    fields: Fields,
+    /// The bytes that have come.
+    length: usize,
+    ghost short: { length ≤ 65533 },
+}
+
+impl PamScanner {
+    ghost use Rattle.pnm_read.specs.PamScanners.{IsPamAfter};
+
+    fn new(alloc: Global) -> PamScanner
+        ensures { IsPamAfter result [] }
+    {
+        PamScanner {
+            line: Vec::new(alloc),
+            fields: Fields::new(alloc),
+            length: 0,
+        }
+    }
+}
+
+impl Scanner for PamScanner {
+    ghost use Rattle.pnm_read.specs.Items.{pam_item, header_end};
+    ghost use Rattle.pnm_read.specs.PamScanners.{IsPamAfter, IsPamWhole};
+
+    ghost item = { λ s. pam_item };
+
+    ghost at_end = { λ s. header_end };
+
+    ghost is_after = { IsPamAfter };
+
+    ghost is_whole = { IsPamWhole };
+
+    ghost room = { λ s. 65533 - s.length };
+
+    #[tactic(auto, unfolding(crate::specs::Items::pam_item))]
+    fn take(&mut self, byte: u8) -> Judgement {
+        if self.length >= PAM_LIMIT {
+            return Judgement::Fails(InputFault::TooLong);
+        }
+        self.length += 1;
+        if byte == b'\n' {
+            let judgement = self.fields.take(&self.line);
+            self.line.clear();
+            judgement
+        } else if self.line.push(byte).is_err() {
+            Judgement::Fails(InputFault::Memory)
+        } else {
+            Judgement::GoesOn
+        }
+    }
+
+    fn end(&self) -> Option<InputFault> {
+        Some(InputFault::HeaderCut)
+    }
+}
