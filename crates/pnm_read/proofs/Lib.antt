@@ -5,6 +5,7 @@ pub mod Turns
 pub mod PieceLaws
 pub mod SampleLaws
 pub mod WordLaws
+pub mod LineLaws
 pub mod HeaderLaws
 pub mod SpelledHeaders
 pub mod PackingLaws
