@@ -6,6 +6,7 @@ pub mod PieceLaws
 pub mod SampleLaws
 pub mod WordLaws
 pub mod LineLaws
+pub mod TupleTypeLaws
 pub mod HeaderLaws
 pub mod SpelledHeaders
 pub mod PackingLaws
