@@ -18,6 +18,7 @@ pub mod ScanSteps
 pub mod PlainLaws
 pub mod UnitLaws
 pub mod RawLaws
+pub mod LaterLaws
 pub mod StageSteps
 pub mod TextLaws
 pub mod SaidLaws
