@@ -393,31 +393,20 @@ head_parts format after head rest e =
 short_header : (digit delimiter : ℕ) (body : List ℕ) → length body < 65534 → length (80 ∷ digit ∷ (body ++ delimiter ∷ [])) ≤ 65536
 short_header digit delimiter body h = omega (arith, length-append body (delimiter ∷ []))
 
+-- what is known of the head of any header that is spelled
+pub record IsSpelledHead (format : Format) (head : Header) : Type 0 where
+  pub kind : head.shape.kind ≡ format.kind
+  pub sound : IsHeader head
+  pub rows : 0 < head.shape.height
+
+pub spelled_head : (text : List ℕ) (format : Format) (head : Header) → SpellsHeader text format head → IsSpelledHead format head
+spelled_head text format head s = ?
+
 -- a header that is read is spelled
-pub read_header_is_spelled : (text after rest : List ℕ) (format : Format) (head : Header) → format_at text ≡ Ok (format, after) → head_at format after ≡ Ok (head, rest)
+pub read_header_is_spelled : (is_first : Bool) (text after rest : List ℕ) (format : Format) (head : Header) → format_at is_first text ≡ Ok (format, after) → head_at format after ≡ Ok (head, rest)
     → (header : List ℕ) × (text ≡ header ++ rest) × SpellsHeader header format head
-read_header_is_spelled text after rest format head f h =
-    let magic = magic_is_spelled text format after f in
-    let read = head_parts format after head rest h in
-    let numbers : List ℕ = numbers_in read.body in
-    let shape : shape_of format.kind numbers ≡ head.shape = ap (λ (x : Header). x.shape) read.made.head_is in (
-      80 ∷ magic.digit ∷ (read.body ++ read.delimiter ∷ []),
-      magic.text_is ∙ ap (λ (t : List ℕ). 80 ∷ magic.digit ∷ t) read.whole,
-      record {
-        digit = magic.digit;
-        body = read.body;
-        delimiter = read.delimiter;
-        whole = refl;
-        short = short_header magic.digit read.delimiter read.body read.ended.short;
-        format_is = magic.format_is;
-        begins = read.so_far.begins;
-        decimal = read.so_far.decimal;
-        numbers = sym (numbers_of_shape format.kind numbers read.ended.all) ∙ ap header_numbers shape;
-        ends = ends_in_last (number_count format.kind) read.body (ends_in_word (uncommented read.body)) refl read.so_far.counted read.ended.all;
-        outside = read.ended.outside;
-        delimiter_is = read.ended.white;
-        kind = sym (ap (λ (s : Shape). s.kind) shape);
-        sound = read.made.sound;
-        rows = read.made.rows;
-      },
-    )
+read_header_is_spelled is_first text after rest format head f h = ?
+
+-- a header that is read has some bytes
+pub header_shorter : (is_first : Bool) (text after : List ℕ) (format : Format) (found : Header × List ℕ) → format_at is_first text ≡ Ok (format, after) → head_at format after ≡ Ok found → length found.1 < length text
+header_shorter is_first text after format found f h = ?

@@ -201,11 +201,7 @@ spelled_head_is_read text format head s rest =
     let found = spelled_head_is_found format.kind head named_kind s.kind s.sound s.rows in
     rw (piece, numbers, found) refl
 
--- a header that is spelled is read
-pub spelled_header_is_read : (text rest : List ℕ) (format : Format) (head : Header) → SpellsHeader text format head → (after : List ℕ) × (format_at (text ++ rest) ≡ Ok (format, after)) × (head_at format after ≡ Ok (head, rest))
-spelled_header_is_read text rest format head s =
-    let whole : text ++ rest ≡ 80 ∷ s.digit ∷ (s.body ++ s.delimiter ∷ rest) = ap (λ (t : List ℕ). t ++ rest) s.whole ∙ ap (λ (t : List ℕ). 80 ∷ s.digit ∷ t) (append_assoc s.body (s.delimiter ∷ []) rest) in (
-      s.body ++ s.delimiter ∷ rest,
-      ap format_at whole ∙ spelled_magic_is_read s.digit (s.body ++ s.delimiter ∷ rest) format s.format_is,
-      spelled_head_is_read text format head s rest,
-    )
+-- a header that is spelled is read; a plain one as the first of a text, and one of PAM as raw
+pub spelled_header_is_read : (text rest : List ℕ) (format : Format) (head : Header) (is_first : Bool) → (format.is_plain ≡ true → is_first ≡ true) → (format.kind ≡ Pam → format.is_plain ≡ false) → SpellsHeader text format head
+    → (after : List ℕ) × (format_at is_first (text ++ rest) ≡ Ok (format, after)) × (head_at format after ≡ Ok (head, rest))
+spelled_header_is_read text rest format head is_first first pam s = ?
