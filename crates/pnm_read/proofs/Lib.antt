@@ -5,6 +5,8 @@ pub mod Turns
 pub mod PieceLaws
 pub mod SampleLaws
 pub mod WordLaws
+pub mod HeaderFaults
+pub mod PamLaws
 pub mod HeaderLaws
 pub mod SpelledHeaders
 pub mod PackingLaws
