@@ -7,6 +7,7 @@ pub mod SampleLaws
 pub mod WordLaws
 pub mod HeaderFaults
 pub mod PamLaws
+pub mod LineLaws
 pub mod HeaderLaws
 pub mod SpelledHeaders
 pub mod PackingLaws
