@@ -6,8 +6,9 @@ pub mod PieceLaws
 pub mod SampleLaws
 pub mod WordLaws
 pub mod HeaderFaults
-pub mod PamLaws
+pub mod ShapeLaws
 pub mod LineLaws
+pub mod PamLaws
 pub mod HeaderLaws
 pub mod SpelledHeaders
 pub mod PackingLaws

@@ -127,23 +127,6 @@ head_is_made Gray width height depth maxval tuple_type n s = rw (s.0, s.1) refl
 head_is_made Color width height depth maxval tuple_type n s = rw (s.0, s.1) refl
 head_is_made Pam width height depth maxval tuple_type n s = absurd cc
 
--- where no size is zero, the test for one fails
-not_zero_size : (width height depth : ℕ) → 0 < width → 0 < height → 0 < depth → ((width == 0) || (height == 0) || (depth == 0)) ≡ false
-not_zero_size width height depth w h d = grind (arith, nat_tests)
-
--- where no size is large, the test for one fails
-not_large_size : (width height depth row : ℕ) → width ≤ 1000000 → height ≤ 1000000 → depth ≤ 256 → row ≤ 16777216 → (nat_lt 1000000 width || nat_lt 1000000 height || nat_lt 256 depth || nat_lt 16777216 row) ≡ false
-not_large_size width height depth row w h d r = grind (arith, nat_tests)
-
--- where the maxval is in its range, its test fails
-not_bad_maxval : (maxval : ℕ) → 0 < maxval → maxval ≤ 65535 → ((maxval == 0) || nat_lt 65535 maxval) ≡ false
-not_bad_maxval maxval low high = grind (arith, nat_tests)
-
--- a shape within the limits has no fault
-no_shape_fault : (s : Shape) → IsWithinLimits s → 0 < s.height → shape_fault s ≡ None
-no_shape_fault s h rows =
-    rw (not_zero_size s.width s.height s.depth h.width_low rows h.depth_low, not_large_size s.width s.height s.depth (row_length s) h.width_high h.height_high h.depth_high h.row_high, not_bad_maxval s.maxval h.maxval_low h.maxval_high) refl
-
 -- numbers that make a head without a fault are read as the head
 head_is_found : (kind : Kind) (numbers : List ℕ) (head : Header) → header_of (shape_of kind numbers) [] ≡ head → shape_fault head.shape ≡ None → numbers_item kind numbers ≡ Ok head
 unfolding numbers_item
