@@ -5,8 +5,11 @@ pub mod Turns
 pub mod PieceLaws
 pub mod SampleLaws
 pub mod WordLaws
+pub mod HeaderFaults
+pub mod ShapeLaws
 pub mod LineLaws
 pub mod TupleTypeLaws
+pub mod PamLaws
 pub mod HeaderLaws
 pub mod SpelledHeaders
 pub mod PackingLaws
