@@ -8,6 +8,7 @@ pub mod WordLaws
 pub mod HeaderFaults
 pub mod ShapeLaws
 pub mod LineLaws
+pub mod TupleTypeLaws
 pub mod PamLaws
 pub mod HeaderLaws
 pub mod SpelledHeaders
@@ -20,6 +21,7 @@ pub mod ScanSteps
 pub mod PlainLaws
 pub mod UnitLaws
 pub mod RawLaws
+pub mod LaterLaws
 pub mod StageSteps
 pub mod TextLaws
 pub mod SaidLaws

@@ -1,4 +1,3 @@
-use Rattle.pnm_read.proofs.LineLaws.{text_of_lines}
 use Rattle.pnm_read.proofs.FaultLaws.{fault_is_of_text}
 use Rattle.pnm_read.proofs.laws.faults_are_of_texts.Goals as goal
 
