@@ -1,5 +1,5 @@
 -- A header that is spelled is read: its magic, the bytes of its body, and the head that its numbers make.
-use Rattle.std.proofs.Common.{◌≡◌, ℕ, suc, ◌<◌, ◌≤◌, Bool, true, false, not, ◌||◌, ◌&&◌, ◌==◌, if◌then◌else◌, List, [], ◌∷◌, ◌++◌, length, Option, Some, None, Ok, Err, refl, sym, ap, ap₂, subst, ◌∙◌, append_assoc, arith}
+use Rattle.std.proofs.Common.{◌≡◌, ℕ, suc, ◌<◌, ◌≤◌, Bool, true, false, not, ◌||◌, ◌&&◌, ◌==◌, if◌then◌else◌, List, [], ◌∷◌, ◌++◌, length, Option, Some, None, Ok, Err, refl, sym, ap, subst, ◌∙◌, append_assoc, arith}
 use Rattle.std.specs.Prelude.{nat_le}
 use Rattle.std.specs.List.{AllPass}
 use Rattle.std.proofs.lemmas.Bool.{eqb-true, lt-leb, eq-eqb, ne_eqb}
@@ -190,32 +190,28 @@ spelled_pnm_is_read text rest format head is_first first named s =
       spelled_pnm_head_is_read text format head s rest named,
     )
 
--- the digit 7 names the raw format of PAM
-seven_names_pam : (format : Format) → format.kind ≡ Pam → format.is_plain ≡ false → format_of 55 ≡ Some format
-seven_names_pam format kind is_raw = ap₂ (λ (k : Kind) (p : Bool). Some (record { kind = k; is_plain = p })) (sym kind) (sym is_raw)
-
 -- a header of PAM that is spelled is read
-spelled_pam_is_read : (text rest : List ℕ) (format : Format) (head : Header) (is_first : Bool) → (format.is_plain ≡ true → is_first ≡ true) → format.kind ≡ Pam → format.is_plain ≡ false → SpellsPamHeader text head
+spelled_pam_is_read : (text rest : List ℕ) (format : Format) (head : Header) (is_first : Bool) → (format.is_plain ≡ true → is_first ≡ true) → SpellsPamHeader text format head
     → HeaderIsRead Pam is_first (text ++ rest) format head rest
-spelled_pam_is_read text rest format head is_first first kind is_raw s =
-    let found = spelled_pam_is_head text rest head s in
-    (found.0, ap (format_at is_first) found.1 ∙ spelled_magic_is_read 55 found.0 format is_first first (seven_names_pam format kind is_raw), found.2)
+spelled_pam_is_read text rest format head is_first first s =
+    let found = spelled_pam_is_head text rest format head s in
+    (found.0, ap (format_at is_first) found.1 ∙ spelled_magic_is_read 55 found.0 format is_first first s.format_is, found.2)
 
 -- a header of a kind that is spelled is read
-spelled_by : (kind : Kind) (text rest : List ℕ) (format : Format) (head : Header) (is_first : Bool) → format.kind ≡ kind → (format.is_plain ≡ true → is_first ≡ true) → (kind ≡ Pam → format.is_plain ≡ false) → SpellsHeaderBy kind text format head
+spelled_by : (kind : Kind) (text rest : List ℕ) (format : Format) (head : Header) (is_first : Bool) → format.kind ≡ kind → (format.is_plain ≡ true → is_first ≡ true) → SpellsHeaderBy kind text format head
     → HeaderIsRead kind is_first (text ++ rest) format head rest
-spelled_by Bit text rest format head is_first k first pam s =
+spelled_by Bit text rest format head is_first k first s =
     let found = spelled_pnm_is_read text rest format head is_first first (ap is_named k) s in
     (found.0, found.1, ap (λ (x : Kind). pnm_head_at x found.0) (sym k) ∙ found.2)
-spelled_by Gray text rest format head is_first k first pam s =
+spelled_by Gray text rest format head is_first k first s =
     let found = spelled_pnm_is_read text rest format head is_first first (ap is_named k) s in
     (found.0, found.1, ap (λ (x : Kind). pnm_head_at x found.0) (sym k) ∙ found.2)
-spelled_by Color text rest format head is_first k first pam s =
+spelled_by Color text rest format head is_first k first s =
     let found = spelled_pnm_is_read text rest format head is_first first (ap is_named k) s in
     (found.0, found.1, ap (λ (x : Kind). pnm_head_at x found.0) (sym k) ∙ found.2)
-spelled_by Pam text rest format head is_first k first pam s = spelled_pam_is_read text rest format head is_first first k (pam refl) s
+spelled_by Pam text rest format head is_first k first s = spelled_pam_is_read text rest format head is_first first s
 
--- a header that is spelled is read; a plain one as the first of a text, and one of PAM as raw
-pub spelled_header_is_read : (text rest : List ℕ) (format : Format) (head : Header) (is_first : Bool) → (format.is_plain ≡ true → is_first ≡ true) → (format.kind ≡ Pam → format.is_plain ≡ false) → SpellsHeader text format head
+-- a header that is spelled is read; a plain one as the first of a text
+pub spelled_header_is_read : (text rest : List ℕ) (format : Format) (head : Header) (is_first : Bool) → (format.is_plain ≡ true → is_first ≡ true) → SpellsHeader text format head
     → (after : List ℕ) × (format_at is_first (text ++ rest) ≡ Ok (format, after)) × (head_at format after ≡ Ok (head, rest))
-spelled_header_is_read text rest format head is_first first pam s = spelled_by format.kind text rest format head is_first refl first pam s
+spelled_header_is_read text rest format head is_first first s = spelled_by format.kind text rest format head is_first refl first s
