@@ -9,6 +9,8 @@ pub mod HeaderFaults
 pub mod ShapeLaws
 pub mod LineLaws
 pub mod TupleTypeLaws
+pub mod HeaderPieces
+pub mod PamLineLaws
 pub mod PamLaws
 pub mod HeaderLaws
 pub mod SpelledHeaders

@@ -23,17 +23,11 @@ use Rattle.pnm_read.specs.Items.{piece_from, first_magic_item, second_magic_item
 use Rattle.pnm_read.specs.Said.{format_at, pnm_head_at, head_by, head_at}
 use Rattle.pnm_read.proofs.WordLaws.{uncommented-split, numbers-white, fewer_numbers}
 use Rattle.pnm_read.proofs.ShapeLaws.{head_or_fault, no_shape_fault}
+use Rattle.pnm_read.proofs.HeaderPieces.{goes_on_through}
 use Rattle.pnm_read.proofs.PamLaws.{spelled_pam_is_head}
 use Rattle.pnm_read.proofs.HeaderLaws.{done, header_item_is, not_bad, is_decimal, pieced, second_magic}
 
 -- ---- what is spelled is read
-
--- where each byte of a body goes on, the piece goes on after it
-goes_on_through : (item : List ℕ → ℕ → Judgement) (at_end : List ℕ → Option InputFault) (body before back text : List ℕ) → before ++ back ≡ body → ((front : List ℕ) (b : ℕ) (others : List ℕ) → front ++ b ∷ others ≡ body → item front b ≡ GoesOn)
-    → piece_from item at_end before (back ++ text) ≡ piece_from item at_end body text
-unfolding piece_from
-goes_on_through item at_end body before [] text e h = ap (λ (t : List ℕ). piece_from item at_end t text) (sym (append-nil before) ∙ e)
-goes_on_through item at_end body before (b ∷ back) text e h = rw (h before b back e) (goes_on_through item at_end body (before ++ b ∷ []) back text (append_assoc before (b ∷ []) back ∙ e) h)
 
 -- the parts of a header that tell how its bytes are judged
 record Decimal (count : ℕ) (body : List ℕ) : Type 0 where
