@@ -1,5 +1,5 @@
 -- The messages that have passed from the source to the output of a run, one after another.
-use Rattle.std.proofs.Common.{◌≡◌, ◌⊎◌, ℕ, ◌+◌, ◌-◌, ◌^◌, ◌≤◌, false, List, [], ◌∷◌, ◌++◌, length, Option, Some, None, Result, Ok, Err, OnOk, refl, sym, ap, subst, ◌∙◌, append_assoc, arith, inl, inr}
+use Rattle.std.proofs.Common.{◌≡◌, ◌⊎◌, ℕ, ◌+◌, ◌-◌, ◌^◌, ◌≤◌, false, List, [], ◌∷◌, ◌++◌, length, Option, Some, None, Result, Ok, Err, refl, sym, ap, subst, ◌∙◌, arith, inl, inr}
 use Rattle.std.specs.Io.KnownBytes.{Appends, Consumes}
 use Rattle.std.specs.List.{AllByRecursion}
 use Rattle.std.proofs.lemmas.List.{append-nil, length-append}
@@ -12,23 +12,21 @@ use Rattle.pnm_image.specs.Completion.{IsFrontOf}
 use Rattle.pnm_read.specs.declared.fault.InputFault.{InputFault}
 use Rattle.pnm_read.specs.declared.fault.InputFault.TheVariants.{ReadFailed}
 use Rattle.pnm_read.specs.declared.source.Source.{Source}
-use Rattle.pnm_read.specs.Said.{said_of, fault_of}
-use Rattle.pnm_read.specs.Inputs.{IsOutsideFault}
-use Rattle.pnm_read.specs.Sources.{reader_of, stopped_by, MayGive, SeesEnd, HasGiven, AnswerTells, Tells, IsFresh as IsUnread}
+use Rattle.pnm_read.specs.Said.{said_of}
+use Rattle.pnm_read.specs.Sources.{reader_of, stopped_by, MayGive, SeesEnd, HasGiven, Tells, IsFresh as IsUnread}
 use Rattle.pnm_read.proofs.Gathered.{consumes_nothing, consumes_then}
 use Rattle.pnm_read.proofs.SaidLaws.{said_is_lawful}
 use Rattle.pnm_read.proofs.StreamLaws.{BeginsRows, rest_may_come, nothing_may_come, given_is_front, not_stopped, said_heads_have_rows}
 use Rattle.pnm_write.specs.declared.fault.SinkFault.{SinkFault}
 use Rattle.pnm_write.specs.Encoding.{bytes_at, bytes_of}
-use Rattle.pnm_write.specs.Writes.{AppendsFront, FailsIn}
-use Rattle.pnm_write.specs.Sinks.{next_place, has_failed, Takes, HasPut, HasWritten}
+use Rattle.pnm_write.specs.Writes.{AppendsFront}
+use Rattle.pnm_write.specs.Sinks.{next_place, has_failed, Takes, HasWritten}
 use Rattle.pnm_write.proofs.MessageLaws.{bytes_of_more}
 use Rattle.pnm_write.proofs.Written.{front-more, then_front}
 use Rattle.pnmpipe.specs.declared.downstream.Downstream.{Downstream}
 use Rattle.pnmpipe.specs.Inversion.{inverted_message, inverted_messages, maxval_after, IsRowUpTo}
-use Rattle.pnmpipe.specs.Counts.{images_after, rows_after, images_in, rows_in}
+use Rattle.pnmpipe.specs.Counts.{images_after, rows_after}
 use Rattle.pnmpipe.specs.Downstreams.{output_of, IsFresh, PassesWith, Passes}
-use Rattle.pnmpipe.specs.Runs.{OutlastsRun}
 use Rattle.pnmpipe.specs.Passing.{IsSaidOf, IsOutputOf, HasPassed}
 use Rattle.pnmpipe.proofs.MessageSteps.{maxval_of, maxval_of-push, images_in-push, rows_in-push, inverted-append, front_is_lawful, front_begins_rows, place_of-inverted, MayPass, may_pass}
 

@@ -58,7 +58,8 @@ pub fn run_serial<R: BytesIn, W: BytesOut>(
         → IfInput result (λ fault. fault_of text ≡ Some fault → ¬ Failed (W.failures writer.old) (W.failures writer.new)
         → Appends (W.held writer.old) (W.held writer.new) (bytes_due text)) }
 
-    ensures same_reader { R.same reader.old reader.new }
+    // Where memory runs out before the first message, the reader is gone with the source.
+    ensures same_reader { ¬ (result ≡ Err (RunFault.Input Memory)) → R.same reader.old reader.new }
     ensures same_writer { W.same writer.old writer.new }
 {
     let Tool::Invert = tools[0];
