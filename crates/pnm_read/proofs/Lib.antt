@@ -28,6 +28,7 @@ pub mod StageSteps
 pub mod TextLaws
 pub mod SaidLaws
 pub mod FaultLaws
+pub mod StreamLaws
 pub mod PartLaws
 pub mod RawSteps
 pub mod PlainSteps
