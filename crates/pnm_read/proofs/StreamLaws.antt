@@ -1,12 +1,11 @@
--- What a run over a source rests on: what a text spells are images, what a reader still has may come, and the messages
--- that a source gave are a front of what is said.
-use Rattle.std.proofs.Common.{◌≡◌, ℕ, zero, suc, ◌<◌, Bool, true, false, List, [], ◌∷◌, ◌++◌, Option, Some, None, Result, Ok, Err, inl, inr, refl, sym, ap, subst, ◌∙◌}
+-- What a run over a source rests on: what a reader still has may come, the messages that a source gave are a front of
+-- what is said, and each image that begins in it has rows.
+use Rattle.std.proofs.Common.{◌≡◌, ℕ, zero, suc, ◌<◌, Bool, true, false, List, [], ◌∷◌, ◌++◌, length, Option, Some, None, Result, Ok, Err, inl, inr, refl, ap, ◌∙◌}
 use Rattle.std.specs.List.{AllByRecursion}
 use Rattle.std.specs.Io.KnownBytes.{IsAtEnd}
 use Rattle.pnm_image.specs.declared.message.Message.{Message}
 use Rattle.pnm_image.specs.declared.message.Message.TheVariants.{Begin, Row, ImageEnd, StreamEnd, Stop}
 use Rattle.pnm_image.specs.Heads.{Header}
-use Rattle.pnm_image.specs.Images.{Image, IsImage, AreImages}
 use Rattle.pnm_image.specs.Completion.{IsFrontOf}
 use Rattle.pnm_image.specs.declared.shape.Shape.{Shape}
 use Rattle.pnm_read.specs.declared.fault.InputFault.{InputFault}
@@ -15,24 +14,13 @@ use Rattle.pnm_read.specs.declared.format.Format.{Format}
 use Rattle.pnm_read.specs.declared.source.Source.{Source}
 use Rattle.pnm_read.specs.declared.source.Stage.{Stage}
 use Rattle.pnm_read.specs.declared.source.Stage.TheVariants.{Start, Rows, End, Ended, Failed}
-use Rattle.pnm_read.specs.Spelling.{Spells, SpellsRasterBy}
 use Rattle.pnm_read.specs.Inputs.{IsOutsideFault}
 use Rattle.pnm_read.specs.Stages.{stage_due, stage_fault}
-use Rattle.pnm_read.specs.Said.{Said, row_at, end_said, format_at, head_at, rows_said, image_said, format_said, said, said_of, fault_of, says_fault}
+use Rattle.pnm_read.specs.Said.{Said, row_at, end_said, format_at, head_at, rows_said, head_said, format_said, image_said, later_said_in, later_said, said, said_of, fault_of}
 use Rattle.pnm_read.specs.Sources.{reader_of, stopped_by, due, MayGive, SeesEnd, HasGiven, after_messages}
 use Rattle.pnm_read.proofs.FaultLaws.{fault_is_of_text}
-use Rattle.pnm_read.proofs.HeaderLaws.{read_header_is_spelled}
+use Rattle.pnm_read.proofs.HeaderLaws.{read_header_is_spelled, spelled_head}
 use Rattle.pnm_read.proofs.PlainLaws.{said_from}
-
--- ---- what is spelled
-
-raster_is_of_image : (is_plain : Bool) (raster : List ℕ) (image : Image) → SpellsRasterBy is_plain raster image → IsImage image
-raster_is_of_image true raster image s = s.sound
-raster_is_of_image false raster image s = s.sound
-
--- the images that a text spells are images
-pub spelled_are_images : (text : List ℕ) (images : List Image) → Spells text images → AreImages images
-spelled_are_images text images s = subst AreImages (sym s.one) (raster_is_of_image s.format.is_plain s.raster s.image s.raster_is, tt)
 
 -- ---- what may come
 
@@ -93,31 +81,54 @@ BeginsRows ImageEnd = Unit {0}
 BeginsRows StreamEnd = Unit {0}
 BeginsRows Stop = Unit {0}
 
-end_begins_rows : (is_plain : Bool) (text : List ℕ) → AllByRecursion BeginsRows (end_said is_plain text).messages
+-- what is said after a raw image
+abbrev BeginRows : (List ℕ → Said) → Type 0
+BeginRows later = (text : List ℕ) → AllByRecursion BeginsRows (later text).messages
+
+end_begins_rows : (later : List ℕ → Said) (is_plain : Bool) (text : List ℕ) → BeginRows later → AllByRecursion BeginsRows (end_said later is_plain text).messages
 unfolding end_said
-end_begins_rows true text = (tt, tt)
-end_begins_rows false [] = (tt, tt)
-end_begins_rows false (b ∷ text) = tt
+end_begins_rows later true text begin = (tt, tt)
+end_begins_rows later false text begin = begin text
 
-row_begins_rows : (format : Format) (s : Shape) (more : ℕ) (r : Result (List ℕ × List ℕ) InputFault) → ((text : List ℕ) → AllByRecursion BeginsRows (rows_said format s more text).messages)
-    → AllByRecursion BeginsRows (said_from format s more r).messages
-row_begins_rows format s more (Err fault) others = tt
-row_begins_rows format s more (Ok found) others = (tt, others found.1)
+row_begins_rows : (later : List ℕ → Said) (format : Format) (s : Shape) (more : ℕ) (r : Result (List ℕ × List ℕ) InputFault) → ((text : List ℕ) → AllByRecursion BeginsRows (rows_said later format s more text).messages)
+    → AllByRecursion BeginsRows (said_from later format s more r).messages
+row_begins_rows later format s more (Err fault) others = tt
+row_begins_rows later format s more (Ok found) others = (tt, others found.1)
 
-rows_begin_rows : (format : Format) (s : Shape) (more : ℕ) (text : List ℕ) → AllByRecursion BeginsRows (rows_said format s more text).messages
+rows_begin_rows : (later : List ℕ → Said) (format : Format) (s : Shape) (more : ℕ) (text : List ℕ) → BeginRows later → AllByRecursion BeginsRows (rows_said later format s more text).messages
 unfolding rows_said
-rows_begin_rows format s zero text = (tt, end_begins_rows format.is_plain text)
-rows_begin_rows format s (suc more) text = row_begins_rows format s more (row_at format s more text) (λ rest. rows_begin_rows format s more rest)
+rows_begin_rows later format s zero text begin = (tt, end_begins_rows later format.is_plain text begin)
+rows_begin_rows later format s (suc more) text begin = row_begins_rows later format s more (row_at format s more text) (λ rest. rows_begin_rows later format s more rest begin)
 
-image_begins_rows : (format : Format) (r : Result (Header × List ℕ) InputFault) → ((found : Header × List ℕ) → r ≡ Ok found → 0 < found.0.shape.height) → AllByRecursion BeginsRows (image_said format r).messages
-image_begins_rows format (Err fault) rows = tt
-image_begins_rows format (Ok found) rows = (rows found refl, rows_begin_rows format found.0.shape found.0.shape.height found.1)
+head_begins_rows : (later : List ℕ → Said) (format : Format) (r : Result (Header × List ℕ) InputFault) → BeginRows later → ((found : Header × List ℕ) → r ≡ Ok found → 0 < found.0.shape.height) → AllByRecursion BeginsRows (head_said later format r).messages
+head_begins_rows later format (Err fault) begin rows = tt
+head_begins_rows later format (Ok found) begin rows = (rows found refl, rows_begin_rows later format found.0.shape found.0.shape.height found.1 begin)
 
-format_begins_rows : (text : List ℕ) (r : Result (Format × List ℕ) InputFault) → format_at text ≡ r → AllByRecursion BeginsRows (format_said r).messages
-format_begins_rows text (Err fault) e = tt
-format_begins_rows text (Ok found) e = image_begins_rows found.0 (head_at found.0 found.1) (λ head h. (read_header_is_spelled text found.1 head.1 found.0 head.0 e h).2.rows)
+read_head_has_rows : (is_first : Bool) (text : List ℕ) (found : Format × List ℕ) (head : Header × List ℕ) → format_at is_first text ≡ Ok found → head_at found.0 found.1 ≡ Ok head → 0 < head.0.shape.height
+read_head_has_rows is_first text found head e h =
+    let s = read_header_is_spelled is_first text found.1 head.1 found.0 head.0 e h in
+    (spelled_head s.0 found.0 head.0 s.2).rows
+
+format_begins_rows : (later : List ℕ → Said) (is_first : Bool) (text : List ℕ) (r : Result (Format × List ℕ) InputFault) → BeginRows later → format_at is_first text ≡ r → AllByRecursion BeginsRows (format_said later r).messages
+format_begins_rows later is_first text (Err fault) begin e = tt
+format_begins_rows later is_first text (Ok found) begin e = head_begins_rows later found.0 (head_at found.0 found.1) begin (λ head h. read_head_has_rows is_first text found head e h)
+
+image_begins_rows : (later : List ℕ → Said) (is_first : Bool) (text : List ℕ) → BeginRows later → AllByRecursion BeginsRows (image_said later is_first text).messages
+unfolding image_said
+image_begins_rows later is_first text begin = format_begins_rows later is_first text (format_at is_first text) begin refl
+
+later_in_begins_rows : (most : ℕ) → BeginRows (later_said_in most)
+unfolding later_said_in
+later_in_begins_rows zero [] = (tt, tt)
+later_in_begins_rows zero (b ∷ text) = (tt, tt)
+later_in_begins_rows (suc most) [] = (tt, tt)
+later_in_begins_rows (suc most) (b ∷ text) = image_begins_rows (later_said_in most) false (b ∷ text) (later_in_begins_rows most)
+
+later_begins_rows : BeginRows later_said
+unfolding later_said
+later_begins_rows text = later_in_begins_rows (length text) text
 
 -- each image that begins in what is said has rows
 pub said_heads_have_rows : (text : List ℕ) → AllByRecursion BeginsRows (said_of text)
 unfolding said
-said_heads_have_rows text = format_begins_rows text (format_at text) refl
+said_heads_have_rows text = image_begins_rows later_said true text later_begins_rows
