@@ -235,8 +235,8 @@ unfolding pam_head_at
 pam_head_by_text text =
     bind_by_text (line_feed_item text) (λ rest. piece_from pam_item header_end [] rest >>= λ piece. lines_item (ended_lines piece.0) >>= λ head. Ok (head, piece.1)) (line_feed_by_text text)
     (λ rest. bind_by_text (piece_from pam_item header_end [] rest) (λ piece. lines_item (ended_lines piece.0) >>= λ head. Ok (head, piece.1))
-        (piece_by_text pam_item header_end [] rest pam_item_by_text (λ front. tt))
-        (λ piece. bind_by_text (lines_item (ended_lines piece.0)) (λ head. Ok (head, piece.1)) (lines_item_by_text (ended_lines piece.0)) (λ head. tt)))
+    (piece_by_text pam_item header_end [] rest pam_item_by_text (λ front. tt))
+    (λ piece. bind_by_text (lines_item (ended_lines piece.0)) (λ head. Ok (head, piece.1)) (lines_item_by_text (ended_lines piece.0)) (λ head. tt)))
 
 -- ---- the header of any format
 

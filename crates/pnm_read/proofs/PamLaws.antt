@@ -226,7 +226,7 @@ last_feed_ends body short ends =
 body_is_piece : (body rest : List ℕ) → Judged (ended_lines body) → length body < 65533 → line_kind (last_line body) ≡ End → piece_from pam_item header_end [] (body ++ 10 ∷ rest) ≡ Ok (body ++ 10 ∷ [], rest)
 body_is_piece body rest j short ends =
     goes_on_through pam_item header_end body [] body (10 ∷ rest) refl
-        (λ front b others e. byte_goes_on (b == 10) front b others refl (subst (λ (t : List ℕ). Judged (ended_lines t)) (sym e) j) (subst (λ (t : List ℕ). length t < 65533) (sym e) short))
+    (λ front b others e. byte_goes_on (b == 10) front b others refl (subst (λ (t : List ℕ). Judged (ended_lines t)) (sym e) j) (subst (λ (t : List ℕ). length t < 65533) (sym e) short))
     ∙ piece_step pam_item header_end body 10 rest EndsWith (last_feed_ends body short ends)
 
 -- ---- the lines of a header
