@@ -1,4 +1,3 @@
-use Rattle.pnm_read.proofs.LaterLaws.{later_said-next}
 use Rattle.pnm_read.proofs.SaidLaws.{said_is_lawful}
 use Rattle.pnm_read.proofs.laws.said_is_lawful.Goals as goal
 
