@@ -11,6 +11,7 @@ pub mod LineLaws
 pub mod TupleTypeLaws
 pub mod HeaderPieces
 pub mod PamLineLaws
+pub mod PamHeads
 pub mod PamLaws
 pub mod HeaderLaws
 pub mod SpelledHeaders
