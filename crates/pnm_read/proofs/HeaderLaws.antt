@@ -1,6 +1,6 @@
 -- The header of a text: how its bytes are judged, what is read of them, and that a header that is read is spelled.
 use Rattle.std.proofs.Common.{◌≡◌, ◌≢◌, ◌⊎◌, inl, inr, ℕ, ◌+◌, ◌-◌, ◌*◌, ◌<◌, ◌≤◌, Bool, true, false, not, ◌||◌, ◌&&◌, ◌==◌, if◌then◌else◌, cond, List, [], ◌∷◌, ◌++◌, length, Option, Some, None, Result, Ok, Err, refl, sym, ap, subst, ◌∙◌, append_assoc, arith}
-use Rattle.std.specs.Prelude.{nat_le, nat_lt, slice_index}
+use Rattle.std.specs.Prelude.{nat_le, slice_index}
 use Rattle.std.specs.List.{AllPass}
 use Rattle.std.proofs.lemmas.Bool.{eqb-true, leb-false, eqb-false}
 use Rattle.std.proofs.lemmas.Bool.Decides.{nat_tests}
@@ -9,19 +9,20 @@ use Rattle.std.proofs.lemmas.List.Elements.{All-nil, All-push}
 use Rattle.pnm_image.specs.declared.shape.Shape.{Shape}
 use Rattle.pnm_image.specs.declared.shape.Kind.{Kind}
 use Rattle.pnm_image.specs.declared.shape.Kind.TheVariants.{Bit, Gray, Color, Pam}
-use Rattle.pnm_image.specs.declared.head.HeadFault.{HeadFault}
-use Rattle.pnm_image.specs.declared.head.HeadFault.TheVariants as heads
-use Rattle.pnm_image.specs.Heads.{Header, IsHeader, IsWithinLimits, IsTupleType, Suits, header_of, row_length, shape_fault}
+use Rattle.pnm_image.specs.Heads.{Header, IsHeader, IsTupleType, Suits, header_of, shape_fault}
 use Rattle.pnm_read.specs.declared.fault.InputFault.{InputFault}
-use Rattle.pnm_read.specs.declared.fault.InputFault.TheVariants.{BadMagic, TooLong, BadNumber}
+use Rattle.pnm_read.specs.declared.fault.InputFault.TheVariants.{BadMagic, TooLong, BadNumber, PlainInStream}
 use Rattle.pnm_read.specs.declared.format.Format.{Format}
 use Rattle.pnm_read.specs.declared.judgement.Judgement.{Judgement}
 use Rattle.pnm_read.specs.declared.judgement.Judgement.TheVariants.{GoesOn, EndsWith, EndsBefore, Fails}
 use Rattle.pnm_read.specs.Texts.{is_white, is_digit, is_apart, begins_apart, ends_in_comment, uncommented, uncommented_from, ends_in_word, words, numbers_in}
-use Rattle.pnm_read.specs.Formats.{format_of, number_count, planes, shape_of, header_numbers}
-use Rattle.pnm_read.specs.Headers.{SpellsHeader}
-use Rattle.pnm_read.specs.Items.{◌>>=◌, piece_from, first_magic_item, second_magic_item, header_limit, is_bad_in_header, is_delimiter, header_item, header_end, fault_of_head, numbers_item}
-use Rattle.pnm_read.specs.Said.{format_at, head_at}
+use Rattle.pnm_read.specs.Formats.{plain, raw, format_of, number_count, planes, shape_of, header_numbers}
+use Rattle.pnm_read.specs.Headers.{SpellsPnmHeader, SpellsHeaderBy, SpellsHeader}
+use Rattle.pnm_read.specs.Items.{◌>>=◌, piece_from, first_magic_item, second_magic_item, header_limit, is_bad_in_header, is_delimiter, header_item, header_end, numbers_item}
+use Rattle.pnm_read.specs.Said.{format_at, pnm_head_at, head_by, head_at}
+pub use Rattle.pnm_read.proofs.ShapeLaws.{limits_of}
+use Rattle.pnm_read.proofs.ShapeLaws.{head_or_fault_ok}
+use Rattle.pnm_read.proofs.PamLaws.{pam_head_is_spelled}
 use Rattle.pnm_read.proofs.WordLaws.{uncommented-plain, uncommented-comment, numbers-white, numbers-comment, numbers-first, numbers-next, ends_in_word-comment, ends_in_word-digit, white_is_not_sharp, digit_is_not_sharp}
 
 -- ---- steps
@@ -255,43 +256,9 @@ some_numbers Pam = omega arith
 
 -- ---- the head
 
-abbrev pub head_by : Option HeadFault → Header → Result Header InputFault
-head_by fault head = elim fault [ Some f ↦ Err (fault_of_head f) | None ↦ Ok head ]
-
-head_by_ok : (fault : Option HeadFault) (made head : Header) → head_by fault made ≡ Ok head → (fault ≡ None) × (made ≡ head)
-head_by_ok None made head e = (refl, cc)
-head_by_ok (Some f) made head e = absurd cc
-
--- where three tests find no fault, each fails
-no_fault : (a b c : Bool) (x y z : HeadFault) → cond a (Some x) (cond b (Some y) (cond c (Some z) None)) ≡ None → (a ≡ false) × (b ≡ false) × (c ≡ false)
-no_fault true b c x y z e = absurd cc
-no_fault false true c x y z e = absurd cc
-no_fault false false true x y z e = absurd cc
-no_fault false false false x y z e = (refl, refl, refl)
-
--- where the test for a zero size fails, no size is zero
-sizes_are_not_zero : (width height depth : ℕ) → ((width == 0) || (height == 0) || (depth == 0)) ≡ false → (0 < width) × (0 < height) × (0 < depth)
-sizes_are_not_zero width height depth e = (grind (arith, nat_tests), grind (arith, nat_tests), grind (arith, nat_tests))
-
--- where the test for a large size fails, no size is large
-sizes_are_not_large : (width height depth row : ℕ) → (nat_lt 1000000 width || nat_lt 1000000 height || nat_lt 256 depth || nat_lt 16777216 row) ≡ false → (width ≤ 1000000) × (height ≤ 1000000) × (depth ≤ 256) × (row ≤ 16777216)
-sizes_are_not_large width height depth row e = (grind (arith, nat_tests), grind (arith, nat_tests), grind (arith, nat_tests), grind (arith, nat_tests))
-
--- where the test of the maxval fails, it is in its range
-maxval_is_not_bad : (maxval : ℕ) → ((maxval == 0) || nat_lt 65535 maxval) ≡ false → (0 < maxval) × (maxval ≤ 65535)
-maxval_is_not_bad maxval e = (grind (arith, nat_tests), grind (arith, nat_tests))
-
-pub limits_of : (s : Shape) → shape_fault s ≡ None → IsWithinLimits s × (0 < s.height)
-limits_of s e =
-    let tests = no_fault ((s.width == 0) || (s.height == 0) || (s.depth == 0)) (nat_lt 1000000 s.width || nat_lt 1000000 s.height || nat_lt 256 s.depth || nat_lt 16777216 (row_length s)) ((s.maxval == 0) || nat_lt 65535 s.maxval) heads.ZeroSize heads.TooLarge heads.BadMaxval e in
-    let low = sizes_are_not_zero s.width s.height s.depth tests.0 in
-    let high = sizes_are_not_large s.width s.height s.depth (row_length s) tests.1 in
-    let maxval = maxval_is_not_bad s.maxval tests.2 in
-    (record { width_low = low.0; width_high = high.0; height_high = high.1; depth_low = low.2; depth_high = high.2; row_high = high.3; maxval_low = maxval.0; maxval_high = maxval.1 }, low.1)
-
 -- nothing is a tuple type
 no_tuple_type : IsTupleType []
-no_tuple_type = record { bytes = All-nil (λ b. b < 256); short = omega arith; one_line = All-nil (λ b. b ≢ 10); first = λ h. absurd (omega (arith, h)); last = λ h. absurd (omega (arith, h)) }
+no_tuple_type = record { short = omega arith; one_line = All-nil (λ b. b ≢ 10); first = λ h. absurd (omega (arith, h)); last = λ h. absurd (omega (arith, h)) }
 
 -- a shape that numbers make suits its kind
 suits_kind : (kind : Kind) (numbers : List ℕ) → Suits kind (planes kind) ((shape_of kind numbers).maxval) []
@@ -310,7 +277,7 @@ numbers_make_head : (kind : Kind) (numbers : List ℕ) (head : Header) → numbe
 unfolding numbers_item
 numbers_make_head kind numbers head e =
     let s : Shape = shape_of kind numbers in
-    let good = head_by_ok (shape_fault s) (header_of s []) head e in
+    let good = head_or_fault_ok (shape_fault s) (header_of s []) head e in
     let limits = limits_of s good.0 in
     let made : Made kind numbers (header_of s []) = record { head_is = refl; sound = record { limits = limits.0; suits = suits_kind kind numbers }; rows = limits.1 } in
     subst (Made kind numbers) good.1 made
@@ -332,19 +299,27 @@ record SecondMagic (text : List ℕ) (format : Format) (after : List ℕ) : Type
   pub text_is : text ≡ digit ∷ after
   pub format_is : format_of digit ≡ Some format
 
-abbrev pub second_magic : Option Format → List ℕ → Result (Format × List ℕ) InputFault
-second_magic found text = elim found [ Some format ↦ Ok (format, text) | None ↦ Err BadMagic ]
+-- the format that a magic names; a plain one names none after another image
+abbrev pub second_magic : Bool → Option Format → List ℕ → Result (Format × List ℕ) InputFault
+second_magic is_first found text = elim found [
+  | Some format ↦ if format.is_plain && not is_first then Err PlainInStream else Ok (format, text)
+  | None ↦ Err BadMagic
+]
 
-second_magic_by : (found : Option Format) (b : ℕ) (text : List ℕ) (format : Format) (after : List ℕ) → format_of b ≡ found → second_magic found text ≡ Ok (format, after) → SecondMagic (b ∷ text) format after
-second_magic_by None b text format after h e = absurd cc
-second_magic_by (Some f) b text format after h e =
-    let parts : (f, text) ≡ (format, after) = ok_is (f, text) (format, after) e in
+not_refused_by : (refused : Bool) (found expected : Format × List ℕ) → (if refused then Err PlainInStream else Ok found) ≡ done expected → found ≡ expected
+not_refused_by true found expected e = absurd cc
+not_refused_by false found expected e = ok_is found expected e
+
+second_magic_by : (is_first : Bool) (found : Option Format) (b : ℕ) (text : List ℕ) (format : Format) (after : List ℕ) → format_of b ≡ found → second_magic is_first found text ≡ Ok (format, after) → SecondMagic (b ∷ text) format after
+second_magic_by is_first None b text format after h e = absurd cc
+second_magic_by is_first (Some f) b text format after h e =
+    let parts : (f, text) ≡ (format, after) = not_refused_by (f.is_plain && not is_first) (f, text) (format, after) e in
     record { digit = b; text_is = ap (λ (p : Format × List ℕ). b ∷ p.1) parts; format_is = h ∙ ap (λ (p : Format × List ℕ). Some p.0) parts }
 
-second_magic_is_spelled : (text : List ℕ) (format : Format) (after : List ℕ) → second_magic_item text ≡ Ok (format, after) → SecondMagic text format after
+second_magic_is_spelled : (is_first : Bool) (text : List ℕ) (format : Format) (after : List ℕ) → second_magic_item is_first text ≡ Ok (format, after) → SecondMagic text format after
 unfolding second_magic_item
-second_magic_is_spelled [] format after e = absurd cc
-second_magic_is_spelled (b ∷ text) format after e = second_magic_by (format_of b) b text format after refl e
+second_magic_is_spelled is_first [] format after e = absurd cc
+second_magic_is_spelled is_first (b ∷ text) format after e = second_magic_by is_first (format_of b) b text format after refl e
 
 -- the magic that was read
 record Magic (text : List ℕ) (format : Format) (after : List ℕ) : Type 0 where
@@ -352,32 +327,64 @@ record Magic (text : List ℕ) (format : Format) (after : List ℕ) : Type 0 whe
   pub text_is : text ≡ 80 ∷ digit ∷ after
   pub format_is : format_of digit ≡ Some format
 
-magic_is_spelled : (text : List ℕ) (format : Format) (after : List ℕ) → format_at text ≡ Ok (format, after) → Magic text format after
+magic_is_spelled : (is_first : Bool) (text : List ℕ) (format : Format) (after : List ℕ) → format_at is_first text ≡ Ok (format, after) → Magic text format after
 unfolding format_at
-magic_is_spelled text format after e =
-    let first = bind_ok (first_magic_item text) second_magic_item (format, after) e in
-    let second = second_magic_is_spelled first.0 format after first.2 in
+magic_is_spelled is_first text format after e =
+    let first = bind_ok (first_magic_item text) (second_magic_item is_first) (format, after) e in
+    let second = second_magic_is_spelled is_first first.0 format after first.2 in
     record { digit = second.digit; text_is = first_magic_is_spelled text first.0 first.1 ∙ ap (λ (t : List ℕ). 80 ∷ t) second.text_is; format_is = second.format_is }
+
+-- the kind of a format that is named
+abbrev kind_named : Option Format → Kind
+kind_named None = Bit
+kind_named (Some format) = format.kind
+
+-- whether it is plain
+abbrev plain_named : Option Format → Bool
+plain_named None = false
+plain_named (Some format) = format.is_plain
+
+-- a format of PAM that a magic names is raw, and its digit is 7
+pub record IsPam (digit : ℕ) (format : Format) : Type 0 where
+  pub digit_is : digit ≡ 55
+  pub is_raw : format.is_plain ≡ false
+
+named_other : (made : Kind) (format : Format) → made ≡ format.kind → (made ≡ Pam → ⊥) → format.kind ≡ Pam → ⊥
+named_other made format e other pam = other (e ∙ pam)
+
+pam_by : (a b c d e f g : Bool) (digit : ℕ) (format : Format) → (digit == 55) ≡ g
+    → (if a then plain Bit else if b then plain Gray else if c then plain Color else if d then raw Bit else if e then raw Gray else if f then raw Color else if g then raw Pam else None) ≡ Some format → format.kind ≡ Pam → IsPam digit format
+pam_by true b c d e f g digit format s h k = absurd (named_other Bit format (ap kind_named h) (λ x. cc) k)
+pam_by false true c d e f g digit format s h k = absurd (named_other Gray format (ap kind_named h) (λ x. cc) k)
+pam_by false false true d e f g digit format s h k = absurd (named_other Color format (ap kind_named h) (λ x. cc) k)
+pam_by false false false true e f g digit format s h k = absurd (named_other Bit format (ap kind_named h) (λ x. cc) k)
+pam_by false false false false true f g digit format s h k = absurd (named_other Gray format (ap kind_named h) (λ x. cc) k)
+pam_by false false false false false true g digit format s h k = absurd (named_other Color format (ap kind_named h) (λ x. cc) k)
+pam_by false false false false false false true digit format s h k = record { digit_is = eqb-true digit 55 s; is_raw = sym (ap plain_named h) }
+pam_by false false false false false false false digit format s h k = absurd cc
+
+pub pam_is : (digit : ℕ) (format : Format) → format_of digit ≡ Some format → format.kind ≡ Pam → IsPam digit format
+pam_is digit format h k = pam_by (digit == 49) (digit == 50) (digit == 51) (digit == 52) (digit == 53) (digit == 54) (digit == 55) digit format refl h k
 
 -- ---- the header that was read
 
 -- the body, the delimiter and the head of a header that was read
-record HeadRead (format : Format) (after : List ℕ) (head : Header) (rest : List ℕ) : Type 0 where
+record HeadRead (kind : Kind) (after : List ℕ) (head : Header) (rest : List ℕ) : Type 0 where
   pub body : List ℕ
   pub delimiter : ℕ
-  pub so_far : SoFar (number_count format.kind) body
-  pub ended : Ended (number_count format.kind) body delimiter
+  pub so_far : SoFar (number_count kind) body
+  pub ended : Ended (number_count kind) body delimiter
   pub whole : after ≡ (body ++ delimiter ∷ []) ++ rest
-  pub made : Made format.kind (numbers_in body) head
+  pub made : Made kind (numbers_in body) head
 
-head_parts : (format : Format) (after : List ℕ) (head : Header) (rest : List ℕ) → head_at format after ≡ Ok (head, rest) → HeadRead format after head rest
-unfolding head_at
-head_parts format after head rest e =
-    let count = number_count format.kind in
-    let piece = bind_ok (piece_from (header_item count) header_end [] after) (λ found. numbers_item format.kind (numbers_in found.0) >>= λ made. Ok (made, found.1)) (head, rest) e in
-    let made = bind_ok (numbers_item format.kind (numbers_in piece.0.0)) (λ found. Ok (found, piece.0.1)) (head, rest) piece.2 in
+head_parts : (kind : Kind) (after : List ℕ) (head : Header) (rest : List ℕ) → pnm_head_at kind after ≡ Ok (head, rest) → HeadRead kind after head rest
+unfolding pnm_head_at
+head_parts kind after head rest e =
+    let count = number_count kind in
+    let piece = bind_ok (piece_from (header_item count) header_end [] after) (λ found. numbers_item kind (numbers_in found.0) >>= λ made. Ok (made, found.1)) (head, rest) e in
+    let made = bind_ok (numbers_item kind (numbers_in piece.0.0)) (λ found. Ok (found, piece.0.1)) (head, rest) piece.2 in
     let parts : (made.0, piece.0.1) ≡ (head, rest) = ok_is (made.0, piece.0.1) (head, rest) made.2 in
-    let read = body_is_read count [] after piece.0.0 piece.0.1 (so_far_none count (some_numbers format.kind)) piece.1 in
+    let read = body_is_read count [] after piece.0.0 piece.0.1 (so_far_none count (some_numbers kind)) piece.1 in
     let end = ended count read.body read.delimiter read.ends in
     let numbers : numbers_in piece.0.0 ≡ numbers_in read.body = ap numbers_in read.piece_is ∙ numbers-white read.body read.delimiter end.outside end.white in
     record {
@@ -386,19 +393,19 @@ head_parts format after head rest e =
       so_far = read.so_far;
       ended = end;
       whole = read.whole ∙ ap (λ (t : List ℕ). t ++ piece.0.1) read.piece_is ∙ ap (λ (p : Header × List ℕ). (read.body ++ read.delimiter ∷ []) ++ p.1) parts;
-      made = subst (λ (p : Header × List ℕ). Made format.kind (numbers_in read.body) p.0) parts (subst (λ (n : List ℕ). Made format.kind n made.0) numbers (numbers_make_head format.kind (numbers_in piece.0.0) made.0 made.1));
+      made = subst (λ (p : Header × List ℕ). Made kind (numbers_in read.body) p.0) parts (subst (λ (n : List ℕ). Made kind n made.0) numbers (numbers_make_head kind (numbers_in piece.0.0) made.0 made.1));
     }
 
 -- a header of a short body is short
 short_header : (digit delimiter : ℕ) (body : List ℕ) → length body < 65534 → length (80 ∷ digit ∷ (body ++ delimiter ∷ [])) ≤ 65536
 short_header digit delimiter body h = omega (arith, length-append body (delimiter ∷ []))
 
--- a header that is read is spelled
-pub read_header_is_spelled : (text after rest : List ℕ) (format : Format) (head : Header) → format_at text ≡ Ok (format, after) → head_at format after ≡ Ok (head, rest)
-    → (header : List ℕ) × (text ≡ header ++ rest) × SpellsHeader header format head
-read_header_is_spelled text after rest format head f h =
-    let magic = magic_is_spelled text format after f in
-    let read = head_parts format after head rest h in
+-- a header of PBM, PGM or PPM that is read is spelled
+pnm_header_is_spelled : (is_first : Bool) (text after rest : List ℕ) (format : Format) (head : Header) → format_at is_first text ≡ Ok (format, after) → pnm_head_at format.kind after ≡ Ok (head, rest)
+    → (header : List ℕ) × (text ≡ header ++ rest) × SpellsPnmHeader header format head
+pnm_header_is_spelled is_first text after rest format head f h =
+    let magic = magic_is_spelled is_first text format after f in
+    let read = head_parts format.kind after head rest h in
     let numbers : List ℕ = numbers_in read.body in
     let shape : shape_of format.kind numbers ≡ head.shape = ap (λ (x : Header). x.shape) read.made.head_is in (
       80 ∷ magic.digit ∷ (read.body ++ read.delimiter ∷ []),
@@ -421,3 +428,55 @@ read_header_is_spelled text after rest format head f h =
         rows = read.made.rows;
       },
     )
+
+-- a header of a kind that is read is spelled
+header_by : (kind : Kind) (is_first : Bool) (text after rest : List ℕ) (format : Format) (head : Header) → format.kind ≡ kind → format_at is_first text ≡ Ok (format, after) → head_by kind after ≡ Ok (head, rest)
+    → (header : List ℕ) × (text ≡ header ++ rest) × SpellsHeaderBy kind header format head
+header_by Bit is_first text after rest format head k f h = pnm_header_is_spelled is_first text after rest format head f (ap (λ (x : Kind). pnm_head_at x after) k ∙ h)
+header_by Gray is_first text after rest format head k f h = pnm_header_is_spelled is_first text after rest format head f (ap (λ (x : Kind). pnm_head_at x after) k ∙ h)
+header_by Color is_first text after rest format head k f h = pnm_header_is_spelled is_first text after rest format head f (ap (λ (x : Kind). pnm_head_at x after) k ∙ h)
+header_by Pam is_first text after rest format head k f h =
+    let magic = magic_is_spelled is_first text format after f in
+    let pam = pam_is magic.digit format magic.format_is k in
+    let found = pam_head_is_spelled after rest head h in
+    (found.0, magic.text_is ∙ ap (λ (d : ℕ). 80 ∷ d ∷ after) pam.digit_is ∙ found.1, found.2)
+
+-- a header that is read is spelled
+pub read_header_is_spelled : (is_first : Bool) (text after rest : List ℕ) (format : Format) (head : Header) → format_at is_first text ≡ Ok (format, after) → head_at format after ≡ Ok (head, rest)
+    → (header : List ℕ) × (text ≡ header ++ rest) × SpellsHeader header format head
+read_header_is_spelled is_first text after rest format head f h = header_by format.kind is_first text after rest format head refl f h
+
+-- ---- what holds of any header that is spelled
+
+-- what is known of its head
+pub record IsSpelledHead (format : Format) (head : Header) : Type 0 where
+  pub kind : head.shape.kind ≡ format.kind
+  pub sound : IsHeader head
+  pub rows : 0 < head.shape.height
+
+spelled_head_by : (kind : Kind) (text : List ℕ) (format : Format) (head : Header) → format.kind ≡ kind → SpellsHeaderBy kind text format head → IsSpelledHead format head
+spelled_head_by Bit text format head k s = record { kind = s.kind; sound = s.sound; rows = s.rows }
+spelled_head_by Gray text format head k s = record { kind = s.kind; sound = s.sound; rows = s.rows }
+spelled_head_by Color text format head k s = record { kind = s.kind; sound = s.sound; rows = s.rows }
+spelled_head_by Pam text format head k s = record { kind = s.kind ∙ sym k; sound = s.sound; rows = s.rows }
+
+pub spelled_head : (text : List ℕ) (format : Format) (head : Header) → SpellsHeader text format head → IsSpelledHead format head
+spelled_head text format head s = spelled_head_by format.kind text format head refl s
+
+-- it has some bytes
+longer_than : (text : List ℕ) (b : ℕ) (others : List ℕ) → text ≡ b ∷ others → 0 < length text
+longer_than text b others e = let lengths : length text ≡ length others + 1 = ap (λ (t : List ℕ). length t) e ∙ omega arith in omega arith
+
+some_bytes : (kind : Kind) (text : List ℕ) (format : Format) (head : Header) → SpellsHeaderBy kind text format head → 0 < length text
+some_bytes Bit text format head s = longer_than text 80 (s.digit ∷ (s.body ++ s.delimiter ∷ [])) s.whole
+some_bytes Gray text format head s = longer_than text 80 (s.digit ∷ (s.body ++ s.delimiter ∷ [])) s.whole
+some_bytes Color text format head s = longer_than text 80 (s.digit ∷ (s.body ++ s.delimiter ∷ [])) s.whole
+some_bytes Pam text format head s = longer_than text 80 _ s.whole
+
+-- what follows a header that is read is shorter than the text
+pub header_shorter : (is_first : Bool) (text after : List ℕ) (format : Format) (found : Header × List ℕ) → format_at is_first text ≡ Ok (format, after) → head_at format after ≡ Ok found → length found.1 < length text
+header_shorter is_first text after format found f h =
+    let header = read_header_is_spelled is_first text after found.1 format found.0 f h in
+    let some = some_bytes format.kind header.0 format found.0 header.2 in
+    let lengths : length text ≡ length header.0 + length found.1 = ap (λ (t : List ℕ). length t) header.1 ∙ length-append header.0 found.1 in
+    omega arith

@@ -5,6 +5,11 @@ pub mod Turns
 pub mod PieceLaws
 pub mod SampleLaws
 pub mod WordLaws
+pub mod HeaderFaults
+pub mod ShapeLaws
+pub mod LineLaws
+pub mod TupleTypeLaws
+pub mod PamLaws
 pub mod HeaderLaws
 pub mod SpelledHeaders
 pub mod PackingLaws
@@ -17,6 +22,7 @@ pub mod ScanSteps
 pub mod PlainLaws
 pub mod UnitLaws
 pub mod RawLaws
+pub mod LaterLaws
 pub mod StageSteps
 pub mod TextLaws
 pub mod SaidLaws

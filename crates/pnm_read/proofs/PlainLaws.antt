@@ -75,21 +75,21 @@ spelled_samples_are_read kind maxval (suc n) text (sample ∷ samples) rest le s
 -- ---- rows that are spelled are said
 
 -- what is said from a row on
-abbrev pub said_from : Format → Shape → ℕ → Result (List ℕ × List ℕ) InputFault → Said
-said_from format s more r = elim r [ Err fault ↦ says_fault fault | Ok row ↦ then_said (Row row.0) (rows_said format s more row.1) ]
+abbrev pub said_from : (List ℕ → Said) → Format → Shape → ℕ → Result (List ℕ × List ℕ) InputFault → Said
+said_from later format s more r = elim r [ Err fault ↦ says_fault fault | Ok row ↦ then_said (Row row.0) (rows_said later format s more row.1) ]
 
-rows_said-suc : (format : Format) (s : Shape) (more : ℕ) (text : List ℕ) → format.is_plain ≡ true → rows_said format s (suc more) text ≡ said_from format s more (row_by true s more text)
+rows_said-suc : (later : List ℕ → Said) (format : Format) (s : Shape) (more : ℕ) (text : List ℕ) → format.is_plain ≡ true → rows_said later format s (suc more) text ≡ said_from later format s more (row_by true s more text)
 unfolding rows_said
-rows_said-suc format s more text plain = ap (λ (p : Bool). said_from format s more (row_by p s more text)) plain
+rows_said-suc later format s more text plain = ap (λ (p : Bool). said_from later format s more (row_by p s more text)) plain
 
 -- the messages of rows, of the image's end and of the stream's end, without a fault
 abbrev pub rows_and_ends : List (List ℕ) → Said
 rows_and_ends rows = record { messages = map Row rows ++ ImageEnd ∷ StreamEnd ∷ []; fault = None }
 
 -- after the last row the ends are said
-rows_said-zero : (format : Format) (s : Shape) (text : List ℕ) → format.is_plain ≡ true → rows_said format s zero text ≡ rows_and_ends []
+rows_said-zero : (later : List ℕ → Said) (format : Format) (s : Shape) (text : List ℕ) → format.is_plain ≡ true → rows_said later format s zero text ≡ rows_and_ends []
 unfolding rows_said end_said
-rows_said-zero format s text plain = ap (λ (p : Bool). then_said ImageEnd (end_said p text)) plain
+rows_said-zero later format s text plain = ap (λ (p : Bool). then_said ImageEnd (end_said later p text)) plain
 
 -- a last row that is read, with what may follow it
 last_row_is_read : (s : Shape) (text row rest : List ℕ) → in_turn (plain_sample s.kind s.maxval) (row_length s) text ≡ Ok (row, rest) → begins_apart rest ≡ true → last_plain_row s text ≡ Ok (row, rest)
@@ -106,36 +106,36 @@ row_is_read s text found e = e
 nothing_left : (kind : Kind) (text samples : List ℕ) → samples ≡ [] → SpellsPlainSamples kind text samples → text ≡ []
 nothing_left kind text samples e s = subst (SpellsPlainSamples kind text) e s
 
-spelled_rows_are_said : (format : Format) (s : Shape) (rows : ℕ) (text samples rest : List ℕ) → format.is_plain ≡ true → length samples ≡ suc rows * row_length s → SpellsPlainSamples s.kind text samples
-    → All (λ sample. sample ≤ s.maxval) samples → begins_apart rest ≡ true → rows_said format s (suc rows) (text ++ rest) ≡ rows_and_ends (cut_rows (suc rows) (row_length s) samples)
-spelled_rows_are_said format s zero text samples rest plain count spelled range apart =
+spelled_rows_are_said : (later : List ℕ → Said) (format : Format) (s : Shape) (rows : ℕ) (text samples rest : List ℕ) → format.is_plain ≡ true → length samples ≡ suc rows * row_length s → SpellsPlainSamples s.kind text samples
+    → All (λ sample. sample ≤ s.maxval) samples → begins_apart rest ≡ true → rows_said later format s (suc rows) (text ++ rest) ≡ rows_and_ends (cut_rows (suc rows) (row_length s) samples)
+spelled_rows_are_said later format s zero text samples rest plain count spelled range apart =
     let each : ℕ = row_length s in
     let total : length samples ≡ each = omega (arith, count, suc-mul zero each, zero-mul each) in
     let r = spelled_samples_are_read s.kind s.maxval each text samples rest (omega arith) spelled range apart in
     let none : drop each samples ≡ [] = nil_from_length (drop each samples) (omega (arith, length-drop each samples)) in
     let left : r.0 ++ rest ≡ rest = ap (λ (t : List ℕ). t ++ rest) (nothing_left s.kind r.0 (drop each samples) none r.2) in
     let row : in_turn (plain_sample s.kind s.maxval) each (text ++ rest) ≡ Ok (take each samples, rest) = r.1 ∙ ap (λ (t : List ℕ). done (take each samples, t)) left in
-    rows_said-suc format s zero (text ++ rest) plain ∙ ap (said_from format s zero) (last_row_is_read s (text ++ rest) (take each samples) rest row apart)
-    ∙ ap (then_said (Row (take each samples))) (rows_said-zero format s rest plain)
-spelled_rows_are_said format s (suc rows) text samples rest plain count spelled range apart =
+    rows_said-suc later format s zero (text ++ rest) plain ∙ ap (said_from later format s zero) (last_row_is_read s (text ++ rest) (take each samples) rest row apart)
+    ∙ ap (then_said (Row (take each samples))) (rows_said-zero later format s rest plain)
+spelled_rows_are_said later format s (suc rows) text samples rest plain count spelled range apart =
     let each : ℕ = row_length s in
     let total : length samples ≡ suc rows * each + each = count ∙ suc-mul (suc rows) each in
     let r = spelled_samples_are_read s.kind s.maxval each text samples rest (omega arith) spelled range apart in
     let count_left : length (drop each samples) ≡ suc rows * each = omega (arith, length-drop each samples) in
-    let others = spelled_rows_are_said format s rows r.0 (drop each samples) rest plain count_left r.2 (All-drop (λ sample. sample ≤ s.maxval) each samples range) apart in
-    rows_said-suc format s (suc rows) (text ++ rest) plain ∙ ap (said_from format s (suc rows)) (row_is_read s (text ++ rest) (take each samples, r.0 ++ rest) r.1)
+    let others = spelled_rows_are_said later format s rows r.0 (drop each samples) rest plain count_left r.2 (All-drop (λ sample. sample ≤ s.maxval) each samples range) apart in
+    rows_said-suc later format s (suc rows) (text ++ rest) plain ∙ ap (said_from later format s (suc rows)) (row_is_read s (text ++ rest) (take each samples, r.0 ++ rest) r.1)
     ∙ ap (then_said (Row (take each samples))) others
 
-rows_by_count : (format : Format) (s : Shape) (rows : ℕ) (text samples rest : List ℕ) → 0 < rows → format.is_plain ≡ true → length samples ≡ rows * row_length s → SpellsPlainSamples s.kind text samples
-    → All (λ sample. sample ≤ s.maxval) samples → begins_apart rest ≡ true → rows_said format s rows (text ++ rest) ≡ rows_and_ends (cut_rows rows (row_length s) samples)
-rows_by_count format s zero text samples rest some plain count spelled range apart = absurd (omega arith)
-rows_by_count format s (suc rows) text samples rest some plain count spelled range apart = spelled_rows_are_said format s rows text samples rest plain count spelled range apart
+rows_by_count : (later : List ℕ → Said) (format : Format) (s : Shape) (rows : ℕ) (text samples rest : List ℕ) → 0 < rows → format.is_plain ≡ true → length samples ≡ rows * row_length s → SpellsPlainSamples s.kind text samples
+    → All (λ sample. sample ≤ s.maxval) samples → begins_apart rest ≡ true → rows_said later format s rows (text ++ rest) ≡ rows_and_ends (cut_rows rows (row_length s) samples)
+rows_by_count later format s zero text samples rest some plain count spelled range apart = absurd (omega arith)
+rows_by_count later format s (suc rows) text samples rest some plain count spelled range apart = spelled_rows_are_said later format s rows text samples rest plain count spelled range apart
 
 -- of a raster that spells an image the rows are said, and the ends
-pub spelled_plain_is_said : (format : Format) (raster rest : List ℕ) (image : Image) → format.is_plain ≡ true → image.head.shape.kind ≡ format.kind → 0 < image.head.shape.height → SpellsPlain raster image → begins_apart rest ≡ true
-    → rows_said format image.head.shape image.head.shape.height (raster ++ rest) ≡ record { messages = map Row (rows_of image) ++ ImageEnd ∷ StreamEnd ∷ []; fault = None }
-spelled_plain_is_said format raster rest image plain kind some s apart =
-    rows_by_count format image.head.shape image.head.shape.height raster image.samples rest some plain s.sound.count s.samples s.sound.range apart
+pub spelled_plain_is_said : (later : List ℕ → Said) (format : Format) (raster rest : List ℕ) (image : Image) → format.is_plain ≡ true → image.head.shape.kind ≡ format.kind → 0 < image.head.shape.height → SpellsPlain raster image → begins_apart rest ≡ true
+    → rows_said later format image.head.shape image.head.shape.height (raster ++ rest) ≡ record { messages = map Row (rows_of image) ++ ImageEnd ∷ StreamEnd ∷ []; fault = None }
+spelled_plain_is_said later format raster rest image plain kind some s apart =
+    rows_by_count later format image.head.shape image.head.shape.height raster image.samples rest some plain s.sound.count s.samples s.sound.range apart
 
 -- ---- samples that are read are spelled
 
@@ -186,10 +186,10 @@ read_samples_are_spelled kind maxval (suc n) text found e =
 -- ---- rows that are said are spelled
 
 -- where a row is said without a fault, it was read, and the rest has no fault
-row_without_fault : (format : Format) (s : Shape) (more : ℕ) (r : Result (List ℕ × List ℕ) InputFault) → (said_from format s more r).fault ≡ None
-    → (row : List ℕ × List ℕ) × (r ≡ Ok row) × ((rows_said format s more row.1).fault ≡ None)
-row_without_fault format s more (Ok row) e = (row, refl, e)
-row_without_fault format s more (Err fault) e = absurd cc
+row_without_fault : (later : List ℕ → Said) (format : Format) (s : Shape) (more : ℕ) (r : Result (List ℕ × List ℕ) InputFault) → (said_from later format s more r).fault ≡ None
+    → (row : List ℕ × List ℕ) × (r ≡ Ok row) × ((rows_said later format s more row.1).fault ≡ None)
+row_without_fault later format s more (Ok row) e = (row, refl, e)
+row_without_fault later format s more (Err fault) e = absurd cc
 
 -- what may follow was found
 apart_ok : (t : Bool) (text found : List ℕ) → (if t then Ok text else Err BadSample) ≡ done found → (t ≡ true) × (text ≡ found)
@@ -213,18 +213,18 @@ read_last_row s text row e =
 abbrev AreRead : Shape → ℕ → List ℕ → List ℕ × List ℕ → Type 0
 AreRead s rows text found = IsRead s.kind s.maxval (rows * row_length s) text found × (begins_apart found.1 ≡ true)
 
-said_rows_are_read : (format : Format) (s : Shape) (rows : ℕ) (text : List ℕ) → format.is_plain ≡ true → (rows_said format s (suc rows) text).fault ≡ None → (found : List ℕ × List ℕ) × AreRead s (suc rows) text found
-said_rows_are_read format s zero text plain e =
+said_rows_are_read : (later : List ℕ → Said) (format : Format) (s : Shape) (rows : ℕ) (text : List ℕ) → format.is_plain ≡ true → (rows_said later format s (suc rows) text).fault ≡ None → (found : List ℕ × List ℕ) × AreRead s (suc rows) text found
+said_rows_are_read later format s zero text plain e =
     let each : ℕ = row_length s in
-    let row = row_without_fault format s zero (row_by true s zero text) (sym (ap (λ (x : Said). x.fault) (rows_said-suc format s zero text plain)) ∙ e) in
+    let row = row_without_fault later format s zero (row_by true s zero text) (sym (ap (λ (x : Said). x.fault) (rows_said-suc later format s zero text plain)) ∙ e) in
     let last = read_last_row s text row.0 row.1 in
     let one : suc zero * each ≡ each = omega (arith, suc-mul zero each, zero-mul each) in
     (row.0, (record { count = last.0.count ∙ sym one; range = last.0.range; spelled = last.0.spelled }, last.1))
-said_rows_are_read format s (suc rows) text plain e =
+said_rows_are_read later format s (suc rows) text plain e =
     let each : ℕ = row_length s in
-    let row = row_without_fault format s (suc rows) (row_by true s (suc rows) text) (sym (ap (λ (x : Said). x.fault) (rows_said-suc format s (suc rows) text plain)) ∙ e) in
+    let row = row_without_fault later format s (suc rows) (row_by true s (suc rows) text) (sym (ap (λ (x : Said). x.fault) (rows_said-suc later format s (suc rows) text plain)) ∙ e) in
     let first = read_row s text row.0 row.1 in
-    let others = said_rows_are_read format s rows row.0.1 plain row.2 in
+    let others = said_rows_are_read later format s rows row.0.1 plain row.2 in
     let count : length (row.0.0 ++ others.0.0) ≡ suc (suc rows) * each = omega (arith, length-append row.0.0 others.0.0, first.count, others.1.0.count, suc-mul (suc rows) each) in (
       (row.0.0 ++ others.0.0, others.0.1),
       (
@@ -237,9 +237,9 @@ said_rows_are_read format s (suc rows) text plain e =
       ),
     )
 
-read_by_count : (format : Format) (s : Shape) (rows : ℕ) (text : List ℕ) → 0 < rows → format.is_plain ≡ true → (rows_said format s rows text).fault ≡ None → (found : List ℕ × List ℕ) × AreRead s rows text found
-read_by_count format s zero text some plain e = absurd (omega arith)
-read_by_count format s (suc rows) text some plain e = said_rows_are_read format s rows text plain e
+read_by_count : (later : List ℕ → Said) (format : Format) (s : Shape) (rows : ℕ) (text : List ℕ) → 0 < rows → format.is_plain ≡ true → (rows_said later format s rows text).fault ≡ None → (found : List ℕ × List ℕ) × AreRead s rows text found
+read_by_count later format s zero text some plain e = absurd (omega arith)
+read_by_count later format s (suc rows) text some plain e = said_rows_are_read later format s rows text plain e
 
 -- a sample in its kind's range is up to the maxval
 range_by : (kind : Kind) (depth maxval : ℕ) (tuple_type : List ℕ) (sample : ℕ) → Suits kind depth maxval tuple_type → IsInRange kind maxval sample → sample ≤ maxval
@@ -265,12 +265,12 @@ pub last_plain_row_is_row : (head : Header) (text : List ℕ) (row : List ℕ ×
 last_plain_row_is_row head text row h e = samples_are_row head text row h (read_last_row head.shape text row e).0
 
 -- a raster whose rows are said without a fault spells the image of these rows, and what may follow it
-pub said_plain_is_spelled : (format : Format) (head : Header) (text : List ℕ) → format.is_plain ≡ true → head.shape.kind ≡ format.kind → IsHeader head → 0 < head.shape.height → (rows_said format head.shape head.shape.height text).fault ≡ None
+pub said_plain_is_spelled : (later : List ℕ → Said) (format : Format) (head : Header) (text : List ℕ) → format.is_plain ≡ true → head.shape.kind ≡ format.kind → IsHeader head → 0 < head.shape.height → (rows_said later format head.shape head.shape.height text).fault ≡ None
     → (image : Image) × (raster : List ℕ) × (rest : List ℕ) × (text ≡ raster ++ rest) × (image.head ≡ head) × SpellsPlain raster image × (begins_apart rest ≡ true)
-    × ((rows_said format head.shape head.shape.height text).messages ≡ map Row (rows_of image) ++ ImageEnd ∷ StreamEnd ∷ [])
-said_plain_is_spelled format head text plain kind h some e =
+    × ((rows_said later format head.shape head.shape.height text).messages ≡ map Row (rows_of image) ++ ImageEnd ∷ StreamEnd ∷ [])
+said_plain_is_spelled later format head text plain kind h some e =
     let s : Shape = head.shape in
-    let r = read_by_count format s s.height text some plain e in
+    let r = read_by_count later format s s.height text some plain e in
     let samples : List ℕ = r.0.0 in
     let rest : List ℕ = r.0.1 in
     let f = spelled_front s.kind text samples rest r.1.0.spelled in
@@ -278,5 +278,5 @@ said_plain_is_spelled format head text plain kind h some e =
     All-weaker (IsInRange s.kind s.maxval) (λ sample. sample ≤ s.maxval) (λ sample i. range_by s.kind s.depth s.maxval head.tuple_type sample h.suits i) samples r.1.0.range in
     let image : Image = record { head = head; samples = samples } in
     let spelled : SpellsPlain f.0 image = record { sound = record { head = h; count = r.1.0.count; range = range }; samples = f.2 } in
-    let said = ap (rows_said format s s.height) f.1 ∙ spelled_plain_is_said format f.0 rest image plain kind some spelled r.1.1 in
+    let said = ap (rows_said later format s s.height) f.1 ∙ spelled_plain_is_said later format f.0 rest image plain kind some spelled r.1.1 in
     (image, f.0, rest, f.1, refl, spelled, r.1.1, ap (λ (x : Said). x.messages) said)

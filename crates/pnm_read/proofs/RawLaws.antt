@@ -1,12 +1,12 @@
 -- Raw rasters: the rows that one spells are said, and what is said without a fault is spelled.
-use Rattle.std.proofs.Common.{◌≡◌, ℕ, zero, suc, ◌+◌, ◌*◌, ◌/◌, ◌<◌, ◌≤◌, Bool, true, false, leb, nat_lt, if◌then◌else◌, List, [], ◌∷◌, ◌++◌, length, get_or, take, drop, map, flat_map, All, None, Result, Ok, Err, refl, sym, ap, ◌∙◌, ap₂, subst, arith, zero-mul, suc-mul}
+use Rattle.std.proofs.Common.{◌≡◌, ℕ, zero, suc, ◌+◌, ◌*◌, ◌/◌, ◌<◌, ◌≤◌, Bool, true, false, leb, nat_lt, if◌then◌else◌, List, [], ◌∷◌, ◌++◌, length, get_or, take, drop, map, flat_map, All, None, Result, Ok, Err, refl, sym, ap, append_assoc, ◌∙◌, ap₂, subst, arith, zero-mul, suc-mul}
 use Rattle.std.specs.List.{concat}
-use Rattle.std.proofs.lemmas.List.{take_all, take-append-drop, length-take, length-take-le, length-drop, length-append, length-map, nil_from_length}
+use Rattle.std.proofs.lemmas.List.{take_all, take_at, drop_at, take-append-le, drop-append-le, take-append-drop, length-take, length-take-le, length-drop, length-append, length-map, nil_from_length}
 use Rattle.std.proofs.lemmas.List.Elements.{All-nil, All-append, All-take, All-map}
 use Rattle.pnm_image.specs.declared.shape.Shape.{Shape}
 use Rattle.pnm_image.specs.declared.shape.Kind.{Kind}
 use Rattle.pnm_image.specs.declared.shape.Kind.TheVariants.{Bit, Gray, Color, Pam}
-use Rattle.pnm_image.specs.declared.message.Message.TheVariants.{Row, ImageEnd, StreamEnd}
+use Rattle.pnm_image.specs.declared.message.Message.TheVariants.{Row, ImageEnd}
 use Rattle.pnm_image.specs.Heads.{Header, IsHeader, Suits, row_length}
 use Rattle.pnm_image.specs.Images.{Image, cut_rows, rows_of}
 use Rattle.pnm_image.specs.Places.{IsRowOf}
@@ -19,7 +19,7 @@ use Rattle.pnm_read.specs.declared.packing.Packing.TheVariants.{Packed, Narrow, 
 use Rattle.pnm_read.specs.Rasters.{packing_of, row_bytes, pixel_at, pixels, wide_samples, raw_samples, SpellsRaw}
 use Rattle.pnm_read.specs.Items.{◌>>=◌, raw_item}
 use Rattle.pnm_read.specs.Packings.{unit_bytes}
-use Rattle.pnm_read.specs.Said.{in_turn, units_in_row, raw_row, row_by, row_at, Said, then_said, says_fault, end_said, rows_said}
+use Rattle.pnm_read.specs.Said.{in_turn, units_in_row, units_at, raw_row, row_by, row_at, Said, then_said, says_fault, end_said, rows_said}
 use Rattle.pnm_read.proofs.UnitLaws.{Turns, single, concat_singles, concat_pixels, are_within, are_within_all, all_are_within, unit_if, units_if, packed_units, narrow_units, wide_units}
 
 -- ---- steps
@@ -211,47 +211,51 @@ row_long s text found e = row_length_by (packing_in s) s text found e
 abbrev raw_rows : Shape → ℕ → List ℕ → List (List ℕ)
 raw_rows s count text = map (raw_samples s) (cut_rows count (row_bytes s) text)
 
--- the messages of rows and of the ends, without a fault
-abbrev rows_and_ends : List (List ℕ) → Said
-rows_and_ends rows = record { messages = map Row rows ++ ImageEnd ∷ StreamEnd ∷ []; fault = None }
+-- the messages of rows and of the image's end, and then what is said
+abbrev pub rows_then : List (List ℕ) → Said → Said
+rows_then rows s = record { messages = map Row rows ++ ImageEnd ∷ s.messages; fault = s.fault }
 
 -- what is said of a row that was read, and of the others
-abbrev from_row : Format → Shape → ℕ → Read → Said
-from_row format s more found = elim found [
+abbrev from_row : (List ℕ → Said) → Format → Shape → ℕ → Read → Said
+from_row later format s more found = elim found [
   | Err fault ↦ says_fault fault
-  | Ok row ↦ then_said (Row row.0) (rows_said format s more row.1)
+  | Ok row ↦ then_said (Row row.0) (rows_said later format s more row.1)
 ]
 
 -- a row of a raw format is a raw row
 row_at_raw : (format : Format) (s : Shape) (more : ℕ) (text : List ℕ) → format.is_plain ≡ false → row_at format s more text ≡ raw_row s text
 row_at_raw format s more text plain = ap (λ (b : Bool). row_by b s more text) plain
 
--- of whole rows the rows are said, and the ends
-rows_are_said : (format : Format) (s : Shape) (n : ℕ) (text : List ℕ) → format.is_plain ≡ false → IsPackable (packing_in s) s → length text ≡ n * row_bytes s → AreRowsOf s (raw_rows s n text)
-    → rows_said format s n text ≡ rows_and_ends (raw_rows s n text)
+-- a row that a longer text begins with
+row_in_front : (s : Shape) (text rest : List ℕ) → IsPackable (packing_in s) s → row_bytes s ≤ length text → are_within s.maxval (raw_samples s (take (row_bytes s) text)) ≡ true
+    → raw_row s (text ++ rest) ≡ row_if true (raw_samples s (take (row_bytes s) text)) (drop (row_bytes s) text ++ rest)
+row_in_front s text rest h long within =
+    let each : ℕ = row_bytes s in
+    let front : take each (text ++ rest) ≡ take each text = take-append-le each text rest long in
+    let back : drop each (text ++ rest) ≡ drop each text ++ rest = drop-append-le each text rest long in
+    row_read s (text ++ rest) h (omega (arith, length-append text rest))
+    ∙ ap (λ (l : List ℕ). row_if (are_within s.maxval (raw_samples s l)) (raw_samples s l) (drop each (text ++ rest))) front
+    ∙ ap (λ (l : List ℕ). row_if (are_within s.maxval (raw_samples s (take each text))) (raw_samples s (take each text)) l) back
+    ∙ ap (λ (t : Bool). row_if t (raw_samples s (take each text)) (drop each text ++ rest)) within
+
+-- of whole rows the rows are said, the image's end, and what follows
+rows_are_said : (later : List ℕ → Said) (format : Format) (s : Shape) (n : ℕ) (text rest : List ℕ) → format.is_plain ≡ false → IsPackable (packing_in s) s → length text ≡ n * row_bytes s → AreRowsOf s (raw_rows s n text)
+    → rows_said later format s n (text ++ rest) ≡ rows_then (raw_rows s n text) (later rest)
 unfolding rows_said end_said
-rows_are_said format s zero text plain h count are = let nothing : text ≡ [] = nil_from_length text (count ∙ zero-mul (row_bytes s)) in rw (nothing, plain) refl
-rows_are_said format s (suc n) text plain h count are =
+rows_are_said later format s zero text rest plain h count are = let nothing : text ≡ [] = nil_from_length text (count ∙ zero-mul (row_bytes s)) in rw (nothing, plain) refl
+rows_are_said later format s (suc n) text rest plain h count are =
     let each : ℕ = row_bytes s in
     let total : length text ≡ n * each + each = count ∙ suc-mul n each in
     let row : List ℕ = raw_samples s (take each text) in
     let within : are_within s.maxval row ≡ true = are_within_all s.maxval row are.0.range in
-    let found : row_at format s n text ≡ row_if true row (drop each text) =
-    row_at_raw format s n text plain ∙ row_read s text h (omega arith) ∙ ap (λ (t : Bool). row_if t row (drop each text)) within in
+    let found : row_at format s n (text ++ rest) ≡ row_if true row (drop each text ++ rest) = row_at_raw format s n (text ++ rest) plain ∙ row_in_front s text rest h (omega arith) within in
     let left : length (drop each text) ≡ n * each = omega (arith, length-drop each text) in
-    ap (from_row format s n) found ∙ ap (λ (others : Said). then_said (Row row) others) (rows_are_said format s n (drop each text) plain h left are.1)
-
--- where the end is said without a fault, nothing is left
-end_without_fault : (plain : Bool) (text : List ℕ) → plain ≡ false → (end_said plain text).fault ≡ None → text ≡ []
-unfolding end_said
-end_without_fault true text p e = absurd cc
-end_without_fault false [] p e = refl
-end_without_fault false (b ∷ text) p e = absurd cc
+    ap (from_row later format s n) found ∙ ap (λ (others : Said). then_said (Row row) others) (rows_are_said later format s n (drop each text) rest plain h left are.1)
 
 -- where a row is said without a fault it was read, and the others have no fault
-row_without_fault : (format : Format) (s : Shape) (n : ℕ) (r : Read) → (from_row format s n r).fault ≡ None → (found : List ℕ × List ℕ) × (r ≡ Ok found) × ((rows_said format s n found.1).fault ≡ None)
-row_without_fault format s n (Err fault) e = absurd cc
-row_without_fault format s n (Ok found) e = (found, refl, e)
+row_without_fault : (later : List ℕ → Said) (format : Format) (s : Shape) (n : ℕ) (r : Read) → (from_row later format s n r).fault ≡ None → (found : List ℕ × List ℕ) × (r ≡ Ok found) × ((rows_said later format s n found.1).fault ≡ None)
+row_without_fault later format s n (Err fault) e = absurd cc
+row_without_fault later format s n (Ok found) e = (found, refl, e)
 
 -- a row that was read has no sample above the maxval
 row_if_ok : (t : Bool) (row rest : List ℕ) (found : List ℕ × List ℕ) → row_if t row rest ≡ Ok found → (t ≡ true) × (found.1 ≡ rest)
@@ -277,49 +281,89 @@ raw_row_is_row head text found h e =
     } in
     subst (IsRowOf s) (row_if_row (are_within s.maxval row) row (drop each text) found test) is
 
+-- whole rows that a text begins with, and what follows them, which has no fault
+record RowsAndRest (later : List ℕ → Said) (s : Shape) (n : ℕ) (text : List ℕ) : Type 0 where
+  pub bytes : List ℕ
+  pub rest : List ℕ
+  pub whole : text ≡ bytes ++ rest
+  pub count : length bytes ≡ n * row_bytes s
+  pub are : AreRowsOf s (raw_rows s n bytes)
+  pub sound : (later rest).fault ≡ None
+
+-- a row before whole rows
+row_before : (later : List ℕ → Said) (s : Shape) (n : ℕ) (text : List ℕ) → IsPackable (packing_in s) s → row_bytes s ≤ length text → are_within s.maxval (raw_samples s (take (row_bytes s) text)) ≡ true
+    → RowsAndRest later s n (drop (row_bytes s) text) → RowsAndRest later s (suc n) text
+row_before later s n text h long within r =
+    let each : ℕ = row_bytes s in
+    let first : List ℕ = take each text in
+    let size : length first ≡ each = length-take-le each text long in
+    let front : take each (first ++ r.bytes) ≡ first = take_at first r.bytes each size in
+    let back : drop each (first ++ r.bytes) ≡ r.bytes = drop_at first r.bytes each size in
+    let row : IsRowOf s (raw_samples s first) = record {
+      count = length-samples_by (packing_in s) s first h size;
+      range = all_are_within s.maxval (raw_samples s first) within;
+    } in
+    record {
+      bytes = first ++ r.bytes;
+      rest = r.rest;
+      whole = sym (take-append-drop each text) ∙ ap (λ (l : List ℕ). first ++ l) r.whole ∙ sym (append_assoc first r.bytes r.rest);
+      count = omega (arith, length-append first r.bytes, size, r.count, suc-mul n each);
+      are = (subst (λ (l : List ℕ). IsRowOf s (raw_samples s l)) (sym front) row, subst (λ (l : List ℕ). AreRowsOf s (raw_rows s n l)) (sym back) r.are);
+      sound = r.sound;
+    }
+
 -- what is said without a fault is of whole rows
-rows_are_spelled : (format : Format) (s : Shape) (n : ℕ) (text : List ℕ) → format.is_plain ≡ false → IsPackable (packing_in s) s → (rows_said format s n text).fault ≡ None
-    → (length text ≡ n * row_bytes s) × AreRowsOf s (raw_rows s n text)
-unfolding rows_said
-rows_are_spelled format s zero text plain h e =
-    let nothing : text ≡ [] = end_without_fault format.is_plain text plain e in
-    (ap (λ (t : List ℕ). length t) nothing ∙ sym (zero-mul (row_bytes s)), tt)
-rows_are_spelled format s (suc n) text plain h e =
+rows_are_spelled : (later : List ℕ → Said) (format : Format) (s : Shape) (n : ℕ) (text : List ℕ) → format.is_plain ≡ false → IsPackable (packing_in s) s → (rows_said later format s n text).fault ≡ None → RowsAndRest later s n text
+unfolding rows_said end_said
+rows_are_spelled later format s zero text plain h e = record {
+  bytes = [];
+  rest = text;
+  whole = refl;
+  count = sym (zero-mul (row_bytes s));
+  are = tt;
+  sound = sym (ap (λ (p : Bool). (end_said later p text).fault) plain) ∙ e;
+}
+rows_are_spelled later format s (suc n) text plain h e =
     let each : ℕ = row_bytes s in
     let row : List ℕ = raw_samples s (take each text) in
-    let first = row_without_fault format s n (row_at format s n text) e in
+    let first = row_without_fault later format s n (row_at format s n text) e in
     let found : raw_row s text ≡ Ok first.0 = sym (row_at_raw format s n text plain) ∙ first.1 in
     let long : each ≤ length text = row_long s text first.0 found in
     let parts = row_if_ok (are_within s.maxval row) row (drop each text) first.0 (sym (row_read s text h long) ∙ found) in
-    let others = rows_are_spelled format s n (drop each text) plain h (ap (λ (t : List ℕ). (rows_said format s n t).fault) (sym parts.1) ∙ first.2) in (
-      omega (arith, others.0, length-drop each text, suc-mul n each),
-      (
-        record {
-          count = length-samples_by (packing_in s) s (take each text) h (length-take-le each text long);
-          range = all_are_within s.maxval row parts.0;
-        },
-        others.1,
-      ),
-    )
+    row_before later s n text h long parts.0 (rows_are_spelled later format s n (drop each text) plain h (ap (λ (t : List ℕ). (rows_said later format s n t).fault) (sym parts.1) ∙ first.2))
+
+-- a row that was read leaves no more than there was
+pub raw_row_shorter : (s : Shape) (text : List ℕ) (found : List ℕ × List ℕ) → raw_row s text ≡ Ok found → length found.1 ≤ length text
+unfolding raw_row
+raw_row_shorter s text found e =
+    let units = bind_ok (units_at s text) (λ units. row_done (take (row_length s) (concat units.0)) units.1) found e in
+    let count = units_length (packing_in s) s.maxval (units_in_row (packing_in s) s) text units.0 units.1 in
+    let left : units.0.1 ≡ found.1 = cc in
+    omega (arith, count, ap length left)
 
 -- ---- images
 
-pub spelled_raw_is_said : (format : Format) (raster : List ℕ) (image : Image) → format.is_plain ≡ false → image.head.shape.kind ≡ format.kind → SpellsRaw raster image
-    → rows_said format image.head.shape image.head.shape.height raster ≡ record { messages = map Row (rows_of image) ++ ImageEnd ∷ StreamEnd ∷ []; fault = None }
-spelled_raw_is_said format raster image plain kind h =
+-- of a raster that spells an image the rows are said, the image's end, and what follows
+pub spelled_raw_is_said : (later : List ℕ → Said) (format : Format) (raster rest : List ℕ) (image : Image) → format.is_plain ≡ false → SpellsRaw raster image
+    → rows_said later format image.head.shape image.head.shape.height (raster ++ rest) ≡ rows_then (rows_of image) (later rest)
+spelled_raw_is_said later format raster rest image plain h =
     let s : Shape = image.head.shape in
-    rows_are_said format s s.height raster plain (packable image.head h.sound.head) h.count (subst (AreRowsOf s) h.rows (AreRowsOf-rows_of image h.sound)) ∙ ap rows_and_ends (sym h.rows)
+    rows_are_said later format s s.height raster rest plain (packable image.head h.sound.head) h.count (subst (AreRowsOf s) h.rows (AreRowsOf-rows_of image h.sound)) ∙ ap (λ (rows : List (List ℕ)). rows_then rows (later rest)) (sym h.rows)
 
-pub said_raw_is_spelled : (format : Format) (head : Header) (text : List ℕ) → format.is_plain ≡ false → head.shape.kind ≡ format.kind → IsHeader head → (rows_said format head.shape head.shape.height text).fault ≡ None
-    → (image : Image) × (image.head ≡ head) × SpellsRaw text image × ((rows_said format head.shape head.shape.height text).messages ≡ map Row (rows_of image) ++ ImageEnd ∷ StreamEnd ∷ [])
-said_raw_is_spelled format head text plain kind h e =
+-- a raster whose rows are said without a fault spells an image, and what follows has no fault
+pub said_raw_is_spelled : (later : List ℕ → Said) (format : Format) (head : Header) (text : List ℕ) → format.is_plain ≡ false → IsHeader head → (rows_said later format head.shape head.shape.height text).fault ≡ None
+    → (image : Image) × (raster : List ℕ) × (rest : List ℕ) × (text ≡ raster ++ rest) × (image.head ≡ head) × SpellsRaw raster image × ((later rest).fault ≡ None)
+said_raw_is_spelled later format head text plain h e =
     let s : Shape = head.shape in
-    let found = rows_are_spelled format s s.height text plain (packable head h) e in
-    let rows : List (List ℕ) = raw_rows s s.height text in
-    let count : length rows ≡ s.height = length-map (cut_rows s.height (row_bytes s) text) (raw_samples s) ∙ length-cut_rows s.height (row_bytes s) text in
-    let same : rows_of (image_of head rows) ≡ rows = rows_of-image_of head rows count found.1 in (
+    let found = rows_are_spelled later format s s.height text plain (packable head h) e in
+    let rows : List (List ℕ) = raw_rows s s.height found.bytes in
+    let count : length rows ≡ s.height = length-map (cut_rows s.height (row_bytes s) found.bytes) (raw_samples s) ∙ length-cut_rows s.height (row_bytes s) found.bytes in
+    let same : rows_of (image_of head rows) ≡ rows = rows_of-image_of head rows count found.are in (
       image_of head rows,
+      found.bytes,
+      found.rest,
+      found.whole,
       refl,
-      record { sound = IsImage-image_of head rows h count found.1; count = found.0; rows = same },
-      ap (λ (said : Said). said.messages) (rows_are_said format s s.height text plain (packable head h) found.0 found.1 ∙ ap rows_and_ends (sym same)),
+      record { sound = IsImage-image_of head rows h count found.are; count = found.count; rows = same },
+      found.sound,
     )

@@ -127,23 +127,6 @@ head_is_made Gray width height depth maxval tuple_type n s = rw (s.0, s.1) refl
 head_is_made Color width height depth maxval tuple_type n s = rw (s.0, s.1) refl
 head_is_made Pam width height depth maxval tuple_type n s = absurd cc
 
--- where no size is zero, the test for one fails
-not_zero_size : (width height depth : ℕ) → 0 < width → 0 < height → 0 < depth → ((width == 0) || (height == 0) || (depth == 0)) ≡ false
-not_zero_size width height depth w h d = grind (arith, nat_tests)
-
--- where no size is large, the test for one fails
-not_large_size : (width height depth row : ℕ) → width ≤ 1000000 → height ≤ 1000000 → depth ≤ 256 → row ≤ 16777216 → (nat_lt 1000000 width || nat_lt 1000000 height || nat_lt 256 depth || nat_lt 16777216 row) ≡ false
-not_large_size width height depth row w h d r = grind (arith, nat_tests)
-
--- where the maxval is in its range, its test fails
-not_bad_maxval : (maxval : ℕ) → 0 < maxval → maxval ≤ 65535 → ((maxval == 0) || nat_lt 65535 maxval) ≡ false
-not_bad_maxval maxval low high = grind (arith, nat_tests)
-
--- a shape within the limits has no fault
-no_shape_fault : (s : Shape) → IsWithinLimits s → 0 < s.height → shape_fault s ≡ None
-no_shape_fault s h rows =
-    rw (not_zero_size s.width s.height s.depth h.width_low rows h.depth_low, not_large_size s.width s.height s.depth (row_length s) h.width_high h.height_high h.depth_high h.row_high, not_bad_maxval s.maxval h.maxval_low h.maxval_high) refl
-
 -- numbers that make a head without a fault are read as the head
 head_is_found : (kind : Kind) (numbers : List ℕ) (head : Header) → header_of (shape_of kind numbers) [] ≡ head → shape_fault head.shape ≡ None → numbers_item kind numbers ≡ Ok head
 unfolding numbers_item
@@ -201,11 +184,7 @@ spelled_head_is_read text format head s rest =
     let found = spelled_head_is_found format.kind head named_kind s.kind s.sound s.rows in
     rw (piece, numbers, found) refl
 
--- a header that is spelled is read
-pub spelled_header_is_read : (text rest : List ℕ) (format : Format) (head : Header) → SpellsHeader text format head → (after : List ℕ) × (format_at (text ++ rest) ≡ Ok (format, after)) × (head_at format after ≡ Ok (head, rest))
-spelled_header_is_read text rest format head s =
-    let whole : text ++ rest ≡ 80 ∷ s.digit ∷ (s.body ++ s.delimiter ∷ rest) = ap (λ (t : List ℕ). t ++ rest) s.whole ∙ ap (λ (t : List ℕ). 80 ∷ s.digit ∷ t) (append_assoc s.body (s.delimiter ∷ []) rest) in (
-      s.body ++ s.delimiter ∷ rest,
-      ap format_at whole ∙ spelled_magic_is_read s.digit (s.body ++ s.delimiter ∷ rest) format s.format_is,
-      spelled_head_is_read text format head s rest,
-    )
+-- a header that is spelled is read; a plain one as the first of a text, and one of PAM as raw
+pub spelled_header_is_read : (text rest : List ℕ) (format : Format) (head : Header) (is_first : Bool) → (format.is_plain ≡ true → is_first ≡ true) → (format.kind ≡ Pam → format.is_plain ≡ false) → SpellsHeader text format head
+    → (after : List ℕ) × (format_at is_first (text ++ rest) ≡ Ok (format, after)) × (head_at format after ≡ Ok (head, rest))
+spelled_header_is_read text rest format head is_first first pam s = ?

@@ -49,13 +49,14 @@ pub record IsPamLine (line : List ℕ) : Type 0 where
   pub one_line : IsOneLine line
   pub says : MaySay (line_kind line) line
 
--- The magic and a LF, lines and their LFs, and the line ENDHDR and its LF. Among the lines is exactly one of each
+-- The magic (55 is its 7) and a LF, lines and their LFs, and the line ENDHDR and its LF. Among the lines is exactly one of each
 -- number; the tuple type is what the TUPLTYPE lines have, in order.
-pub record SpellsPamHeader (text : List ℕ) (head : Header) : Type 0 where
+pub record SpellsPamHeader (text : List ℕ) (format : Format) (head : Header) : Type 0 where
   pub lines : List (List ℕ)
   pub last : List ℕ
   pub whole : text ≡ codes "P7\n" ++ (flat_map (λ line. line ++ 10 ∷ []) lines ++ (last ++ 10 ∷ []))
   pub short : length text ≤ 65536
+  pub format_is : format_of 55 ≡ Some format
   pub lines_are : AllByRecursion IsPamLine lines
   pub last_one_line : IsOneLine last
   pub last_ends : line_kind last ≡ End
@@ -74,7 +75,7 @@ abbrev pub SpellsHeaderBy : Kind → List ℕ → Format → Header → Type 0
 SpellsHeaderBy Bit text format head = SpellsPnmHeader text format head
 SpellsHeaderBy Gray text format head = SpellsPnmHeader text format head
 SpellsHeaderBy Color text format head = SpellsPnmHeader text format head
-SpellsHeaderBy Pam text format head = SpellsPamHeader text head
+SpellsHeaderBy Pam text format head = SpellsPamHeader text format head
 
 abbrev pub SpellsHeader : List ℕ → Format → Header → Type 0
 SpellsHeader text format head = SpellsHeaderBy format.kind text format head

@@ -1,0 +1,136 @@
+-- What is said after a raw image: the end of the stream, or what is said of the next image.
+use Rattle.std.proofs.Common.{◌≡◌, ◌⊎◌, ℕ, zero, suc, ◌+◌, ◌<◌, ◌≤◌, Bool, true, false, not, ◌&&◌, List, [], ◌∷◌, ◌++◌, length, Option, Some, None, Result, Ok, Err, refl, sym, ap, subst, ◌∙◌, arith}
+use Rattle.std.proofs.lemmas.List.{length-append}
+use Rattle.pnm_image.specs.declared.shape.Shape.{Shape}
+use Rattle.pnm_image.specs.declared.shape.Kind.{Kind}
+use Rattle.pnm_image.specs.declared.shape.Kind.TheVariants.{Bit, Gray, Color, Pam}
+use Rattle.pnm_image.specs.declared.message.Message.TheVariants.{Begin, Row, ImageEnd}
+use Rattle.pnm_image.specs.Heads.{Header, IsHeader}
+use Rattle.pnm_read.specs.declared.fault.InputFault.{InputFault}
+use Rattle.pnm_read.specs.declared.fault.InputFault.TheVariants.{BadMagic, PlainInStream}
+use Rattle.pnm_read.specs.declared.format.Format.{Format}
+use Rattle.pnm_read.specs.Formats.{format_of}
+use Rattle.pnm_read.specs.Headers.{SpellsHeaderBy, SpellsHeader}
+use Rattle.pnm_read.specs.Items.{◌>>=◌, first_magic_item, second_magic_item}
+use Rattle.pnm_read.specs.Said.{Said, then_said, says_fault, format_at, head_at, row_by, row_at, end_said, rows_said, head_said, format_said, image_said, later_said_in, later_said}
+use Rattle.pnm_read.proofs.HeaderLaws.{read_header_is_spelled}
+use Rattle.pnm_read.proofs.PlainLaws.{said_from}
+use Rattle.pnm_read.proofs.RawLaws.{bind_ok, raw_row_shorter}
+
+-- ---- what a header of any kind has
+
+pub record Facts (header : List ℕ) (format : Format) (head : Header) : Type 0 where
+  pub kind : head.shape.kind ≡ format.kind
+  pub sound : IsHeader head
+  pub rows : 0 < head.shape.height
+  pub some : 0 < length header
+
+some_first : (first : ℕ) (text whole : List ℕ) → whole ≡ first ∷ text → 0 < length whole
+some_first first text whole e = let long = ap length e in omega arith
+
+facts_by : (k : Kind) (header : List ℕ) (format : Format) (head : Header) → format.kind ≡ k → SpellsHeaderBy k header format head → Facts header format head
+facts_by Bit header format head e s = record { kind = s.kind; sound = s.sound; rows = s.rows; some = some_first 80 _ header s.whole }
+facts_by Gray header format head e s = record { kind = s.kind; sound = s.sound; rows = s.rows; some = some_first 80 _ header s.whole }
+facts_by Color header format head e s = record { kind = s.kind; sound = s.sound; rows = s.rows; some = some_first 80 _ header s.whole }
+facts_by Pam header format head e s = record { kind = s.kind ∙ sym e; sound = s.sound; rows = s.rows; some = some_first 80 _ header s.whole }
+
+pub header_facts : (header : List ℕ) (format : Format) (head : Header) → SpellsHeader header format head → Facts header format head
+header_facts header format head s = facts_by format.kind header format head refl s
+
+-- a header that was read leaves less than there was
+pub header_leaves_less : (is_first : Bool) (text rest : List ℕ) (format : Format) (found : Header × List ℕ) → format_at is_first text ≡ Ok (format, rest) → head_at format rest ≡ Ok found → length found.1 < length text
+header_leaves_less is_first text rest format found e h =
+    let s = read_header_is_spelled is_first text rest found.1 format found.0 e h in
+    let facts = header_facts s.0 format found.0 s.2 in
+    let long = ap length s.1 in
+    omega (arith, length-append s.0 found.1, facts.some, long)
+
+-- ---- a later image is raw
+
+raw_if : (plain : Bool) (format : Format) (text : List ℕ) (found : Format × List ℕ) → format.is_plain ≡ plain → (if plain && not false then Err PlainInStream else Ok (format, text)) ≡ Ok found → found.0.is_plain ≡ false
+raw_if true format text found e h = absurd cc
+raw_if false format text found e h = let same : (format, text) ≡ found = cc in sym (ap (λ (f : Format × List ℕ). f.0.is_plain) same) ∙ e
+
+raw_named : (named : Option Format) (text : List ℕ) (found : Format × List ℕ) → (elim named [ Some format ↦ if format.is_plain && not false then Err PlainInStream else Ok (format, text) | None ↦ Err BadMagic ]) ≡ Ok found → found.0.is_plain ≡ false
+raw_named (Some format) text found e = raw_if format.is_plain format text found refl e
+raw_named None text found e = absurd cc
+
+second_is_raw : (text : List ℕ) (found : Format × List ℕ) → second_magic_item false text ≡ Ok found → found.0.is_plain ≡ false
+unfolding second_magic_item
+second_is_raw [] found e = absurd cc
+second_is_raw (b ∷ text) found e = raw_named (format_of b) text found e
+
+pub later_is_raw : (text : List ℕ) (found : Format × List ℕ) → format_at false text ≡ Ok found → found.0.is_plain ≡ false
+unfolding format_at
+later_is_raw text found e = let first = bind_ok (first_magic_item text) (second_magic_item false) found e in second_is_raw first.0 found first.2
+
+-- ---- what is said of an image needs to know of shorter texts alone
+
+abbrev SameUpTo : ℕ → (List ℕ → Said) → (List ℕ → Said) → Type 0
+SameUpTo most f g = (text : List ℕ) → length text ≤ most → f text ≡ g text
+
+end_same : (f g : List ℕ → Said) (is_plain : Bool) (text : List ℕ) → SameUpTo (length text) f g → end_said f is_plain text ≡ end_said g is_plain text
+unfolding end_said
+end_same f g true text same = refl
+end_same f g false text same = same text (omega arith)
+
+-- rows that were read, and what follows
+from_same : (f g : List ℕ → Said) (format : Format) (s : Shape) (more : ℕ) (r : Result (List ℕ × List ℕ) InputFault) → ((found : List ℕ × List ℕ) → r ≡ Ok found → rows_said f format s more found.1 ≡ rows_said g format s more found.1)
+    → said_from f format s more r ≡ said_from g format s more r
+from_same f g format s more (Err fault) same = refl
+from_same f g format s more (Ok found) same = ap (then_said (Row found.0)) (same found refl)
+
+-- of a plain raster it is the same anyway
+plain_same : (f g : List ℕ → Said) (format : Format) (s : Shape) (n : ℕ) (text : List ℕ) → format.is_plain ≡ true → rows_said f format s n text ≡ rows_said g format s n text
+unfolding rows_said end_said
+plain_same f g format s zero text plain = rw plain refl
+plain_same f g format s (suc n) text plain = from_same f g format s n (row_at format s n text) (λ found e. plain_same f g format s n found.1 plain)
+
+raw_at : (format : Format) (s : Shape) (more : ℕ) (text : List ℕ) (found : List ℕ × List ℕ) → format.is_plain ≡ false → row_at format s more text ≡ Ok found → length found.1 ≤ length text
+raw_at format s more text found raw e = raw_row_shorter s text found (sym (ap (λ (b : Bool). row_by b s more text) raw) ∙ e)
+
+raw_same : (f g : List ℕ → Said) (format : Format) (s : Shape) (n : ℕ) (text : List ℕ) → format.is_plain ≡ false → SameUpTo (length text) f g → rows_said f format s n text ≡ rows_said g format s n text
+unfolding rows_said
+raw_same f g format s zero text raw same = ap (then_said ImageEnd) (end_same f g format.is_plain text same)
+raw_same f g format s (suc n) text raw same =
+    from_same f g format s n (row_at format s n text) (λ found e. let shorter = raw_at format s n text found raw e in raw_same f g format s n found.1 raw (λ t le. same t (omega arith)))
+
+rows_same : (plain : Bool) (f g : List ℕ → Said) (format : Format) (s : Shape) (n : ℕ) (text : List ℕ) → format.is_plain ≡ plain → SameUpTo (length text) f g → rows_said f format s n text ≡ rows_said g format s n text
+rows_same true f g format s n text e same = plain_same f g format s n text e
+rows_same false f g format s n text e same = raw_same f g format s n text e same
+
+head_same : (f g : List ℕ → Said) (format : Format) (r : Result (Header × List ℕ) InputFault) → ((found : Header × List ℕ) → r ≡ Ok found → SameUpTo (length found.1) f g) → head_said f format r ≡ head_said g format r
+head_same f g format (Err fault) same = refl
+head_same f g format (Ok found) same = ap (then_said (Begin found.0)) (rows_same format.is_plain f g format found.0.shape found.0.shape.height found.1 refl (same found refl))
+
+format_same : (f g : List ℕ → Said) (is_first : Bool) (text : List ℕ) (most : ℕ) (r : Result (Format × List ℕ) InputFault) → format_at is_first text ≡ r → length text ≤ suc most → SameUpTo most f g → format_said f r ≡ format_said g r
+format_same f g is_first text most (Err fault) e long same = refl
+format_same f g is_first text most (Ok found) e long same =
+    head_same f g found.0 (head_at found.0 found.1) (λ head h t le. let less = header_leaves_less is_first text found.1 found.0 head e h in same t (omega arith))
+
+image_same : (f g : List ℕ → Said) (is_first : Bool) (text : List ℕ) (most : ℕ) → length text ≤ suc most → SameUpTo most f g → image_said f is_first text ≡ image_said g is_first text
+unfolding image_said
+image_same f g is_first text most long same = format_same f g is_first text most (format_at is_first text) refl long same
+
+-- ---- the next image
+
+-- as many images as there are bytes are enough
+enough : (n m : ℕ) (text : List ℕ) → length text ≤ n → length text ≤ m → later_said_in n text ≡ later_said_in m text
+unfolding later_said_in
+enough zero zero [] le lf = refl
+enough zero (suc m) [] le lf = refl
+enough (suc n) zero [] le lf = refl
+enough (suc n) (suc m) [] le lf = refl
+enough zero m (b ∷ text) le lf = absurd (omega arith)
+enough (suc n) zero (b ∷ text) le lf = absurd (omega arith)
+enough (suc n) (suc m) (b ∷ text) le lf = image_same (later_said_in n) (later_said_in m) false (b ∷ text) (length text) (omega arith) (λ t shorter. enough n m t (omega arith) (omega arith))
+
+pub later_said-nothing : later_said [] ≡ later_said_in zero []
+unfolding later_said later_said_in
+later_said-nothing = refl
+
+-- where a byte is left, the next image is said
+pub later_said-next : (text : List ℕ) → 0 < length text → later_said text ≡ image_said later_said false text
+unfolding later_said later_said_in
+later_said-next [] some = absurd (omega arith)
+later_said-next (b ∷ text) some = image_same (later_said_in (length text)) later_said false (b ∷ text) (length text) (omega arith) (λ t shorter. enough (length text) (length t) t shorter (omega arith))
