@@ -19,6 +19,7 @@ pub mod PackingLaws
 pub mod DecimalSteps
 pub mod HeaderSteps
 pub mod HeadSteps
+pub mod LineSteps
 pub mod FeedSteps
 pub mod ScanSteps
 pub mod PlainLaws

@@ -94,10 +94,11 @@ impl Fields {
     fn add_tuple_type(&mut self, text: &[u8]) -> Judgement
         ensures { AddsTupleType self.old text.now self.new result }
     {
-        if text.is_empty() {
-            return Judgement::GoesOn;
-        }
-        let blank: &[u8] = if self.tuple_type.is_empty() { b"" } else { b" " };
+        let blank: &[u8] = if self.tuple_type.is_empty() || text.is_empty() {
+            b""
+        } else {
+            b" "
+        };
         if text.len() > TUPLE_TYPE_LIMIT
             || self.tuple_type.len() + blank.len() + text.len() > TUPLE_TYPE_LIMIT
         {
