@@ -1,7 +1,6 @@
 -- What is read of an input before the raster: the magic, and the head that a header's numbers make.
-use Rattle.std.proofs.Common.{◌≡◌, ◌⊎◌, inl, inr, ℕ, ◌+◌, ◌-◌, ◌*◌, ◌<◌, ◌≤◌, false, ◌==◌, List, [], ◌∷◌, length, map, drop, Option, Some, None, Result, Ok, Err, refl, sym, ap, subst, ◌∙◌, arith}
+use Rattle.std.proofs.Common.{◌≡◌, ◌⊎◌, inl, inr, ℕ, ◌+◌, ◌-◌, ◌*◌, ◌<◌, ◌≤◌, Bool, true, false, not, ◌&&◌, ◌==◌, if◌then◌else◌, List, [], ◌∷◌, length, map, drop, Option, Some, None, Result, Ok, Err, refl, sym, ap, subst, ◌∙◌, arith}
 use Rattle.std.specs.Prelude.{slice_index, nat_lt, MatchResult, IfOk, OnOk, IfErr, IsErrAnd}
-use Rattle.std.specs.Option.{ok_or}
 use Rattle.std.proofs.lemmas.Bool.{cases_lt, cases_eq, lt-ltb, le-ltb, eq-eqb, ne_eqb}
 use Rattle.std.proofs.lemmas.List.{get_or-drop, get_or-map}
 use Rattle.pnm_image.specs.declared.shape.Shape.{Shape}
@@ -11,13 +10,14 @@ use Rattle.pnm_image.specs.declared.head.HeadFault.{HeadFault}
 use Rattle.pnm_image.specs.declared.head.HeadFault.TheVariants as heads
 use Rattle.pnm_image.specs.Heads.{Header, header_of, shape_fault}
 use Rattle.pnm_read.specs.declared.fault.InputFault.{InputFault}
-use Rattle.pnm_read.specs.declared.fault.InputFault.TheVariants.{EmptyInput, BadMagic, HeaderCut, ReadFailed, Memory}
+use Rattle.pnm_read.specs.declared.fault.InputFault.TheVariants.{EmptyInput, BadMagic, HeaderCut, PlainInStream, ReadFailed, Memory}
 use Rattle.pnm_read.specs.declared.format.Format.{Format}
 use Rattle.pnm_read.specs.declared.header.HeaderScanner.{HeaderScanner}
 use Rattle.pnm_read.specs.Texts.{numbers_in}
 use Rattle.pnm_read.specs.Formats.{format_of, number_count, planes, maxval_of, shape_of}
+use Rattle.pnm_read.specs.Magics.{format_allowed, format_named}
 use Rattle.pnm_read.specs.Items.{◌>>=◌, piece_from, first_magic_item, second_magic_item, header_item, header_end, fault_of_head, numbers_item}
-use Rattle.pnm_read.specs.Said.{format_at, head_at}
+use Rattle.pnm_read.specs.Said.{format_at, pnm_head_at}
 use Rattle.pnm_read.specs.Inputs.{IsOutsideFault, IsByte, Finds}
 use Rattle.pnm_read.specs.Scans.{ScansAfter, Scans}
 use Rattle.pnm_read.specs.Saturation.{saturated, IsNumbers, GivesInMemory}
@@ -37,41 +37,64 @@ pub no_byte : (found : Option ℕ) (before after : List ℕ) → found ≡ None 
 no_byte (Some b) before after e o = absurd cc
 no_byte None before after e o = o.0
 
-pub magic_none : (text : List ℕ) → text ≡ [] → format_at text ≡ Err EmptyInput
+pub magic_none : (is_first : Bool) (text : List ℕ) → text ≡ [] → format_at is_first text ≡ Err EmptyInput
 unfolding format_at first_magic_item
-magic_none text e = ap format_at e
+magic_none is_first text e = ap (format_at is_first) e
 
 -- another first byte
-wrong_first : (b : ℕ) (rest : List ℕ) → (b == 80) ≡ false → format_at (b ∷ rest) ≡ Err BadMagic
+wrong_first : (is_first : Bool) (b : ℕ) (rest : List ℕ) → (b == 80) ≡ false → format_at is_first (b ∷ rest) ≡ Err BadMagic
 unfolding format_at first_magic_item
-wrong_first b rest e = rw e refl
+wrong_first is_first b rest e = rw e refl
 
-pub magic_wrong : (text rest : List ℕ) (b : ℕ) → text ≡ b ∷ rest → (b ≡ 80 → ⊥) → format_at text ≡ Err BadMagic
-magic_wrong text rest b e n = ap format_at e ∙ wrong_first b rest (ne_eqb b 80 n)
+pub magic_wrong : (is_first : Bool) (text rest : List ℕ) (b : ℕ) → text ≡ b ∷ rest → (b ≡ 80 → ⊥) → format_at is_first text ≡ Err BadMagic
+magic_wrong is_first text rest b e n = ap (format_at is_first) e ∙ wrong_first is_first b rest (ne_eqb b 80 n)
 
-pub magic_cut : (text rest : List ℕ) → text ≡ 80 ∷ rest → rest ≡ [] → format_at text ≡ Err HeaderCut
+pub magic_cut : (is_first : Bool) (text rest : List ℕ) → text ≡ 80 ∷ rest → rest ≡ [] → format_at is_first text ≡ Err HeaderCut
 unfolding format_at first_magic_item second_magic_item
-magic_cut text rest e f = ap format_at (e ∙ ap (λ (l : List ℕ). 80 ∷ l) f)
+magic_cut is_first text rest e f = ap (format_at is_first) (e ∙ ap (λ (l : List ℕ). 80 ∷ l) f)
 
 -- the second byte
-abbrev second_as : List ℕ → Option Format → Result (Format × List ℕ) InputFault
-second_as after found = elim found [ Some format ↦ Ok (format, after) | None ↦ Err BadMagic ]
+abbrev second_as : Bool → List ℕ → Option Format → Result (Format × List ℕ) InputFault
+second_as is_first after found = elim found [
+  | Some format ↦ if format.is_plain && not is_first then Err PlainInStream else Ok (format, after)
+  | None ↦ Err BadMagic
+]
 
-second_is : (b : ℕ) (after : List ℕ) → format_at (80 ∷ b ∷ after) ≡ second_as after (format_of b)
+second_is : (is_first : Bool) (b : ℕ) (after : List ℕ) → format_at is_first (80 ∷ b ∷ after) ≡ second_as is_first after (format_of b)
 unfolding format_at first_magic_item second_magic_item
-second_is b after = refl
+second_is is_first b after = refl
 
-magic_is : (text rest after : List ℕ) (b : ℕ) (found : Option Format) → text ≡ 80 ∷ rest → rest ≡ b ∷ after → found ≡ format_of b → format_at text ≡ second_as after found
-magic_is text rest after b found e f g = ap format_at (e ∙ ap (λ (l : List ℕ). 80 ∷ l) f) ∙ second_is b after ∙ ap (second_as after) (sym g)
+magic_is : (is_first : Bool) (text rest after : List ℕ) (b : ℕ) → text ≡ 80 ∷ rest → rest ≡ b ∷ after → format_at is_first text ≡ second_as is_first after (format_of b)
+magic_is is_first text rest after b e f = ap (format_at is_first) (e ∙ ap (λ (l : List ℕ). 80 ∷ l) f) ∙ second_is is_first b after
 
-pub magic_found : (result : Result Format InputFault) (found : Option Format) (text rest after : List ℕ) (b : ℕ) → result ≡ ok_or found BadMagic → found ≡ format_of b → text ≡ 80 ∷ rest → rest ≡ b ∷ after
-    → Finds (λ (format : Format). format) format_at result text after
-magic_found result (Some format) text rest after b is g e f = subst (λ (r : Result Format InputFault). Finds (λ (format : Format). format) format_at r text after) (sym is) (magic_is text rest after b (Some format) e f g)
-magic_found result None text rest after b is g e f = subst (λ (r : Result Format InputFault). Finds (λ (format : Format). format) format_at r text after) (sym is) (inl (magic_is text rest after b None e f g))
+-- a format that may come here or not
+abbrev allowed_if : Bool → Format → Result Format InputFault
+allowed_if refused format = if refused then Err PlainInStream else Ok format
 
-pub magic_of_text : (result : Result Format InputFault) (found : Option Format) → result ≡ ok_or found BadMagic → result ≡ Err ReadFailed → ⊥
-magic_of_text result (Some format) is e = absurd cc
-magic_of_text result None is e = absurd cc
+allowed_found : (refused : Bool) (is_first : Bool) (format : Format) (text after : List ℕ) → format_at is_first text ≡ (if refused then Err PlainInStream else Ok (format, after))
+    → Finds (λ (format : Format). format) (format_at is_first) (allowed_if refused format) text after
+allowed_found true is_first format text after e = inl e
+allowed_found false is_first format text after e = e
+
+format_found : (is_first : Bool) (found : Option Format) (text after : List ℕ) → format_at is_first text ≡ second_as is_first after found → Finds (λ (format : Format). format) (format_at is_first) (format_allowed is_first found) text after
+format_found is_first (Some format) text after e = allowed_found (format.is_plain && not is_first) is_first format text after e
+format_found is_first None text after e = inl e
+
+pub magic_found : (is_first : Bool) (result : Result Format InputFault) (text rest after : List ℕ) (b : ℕ) → result ≡ format_named is_first b → text ≡ 80 ∷ rest → rest ≡ b ∷ after
+    → Finds (λ (format : Format). format) (format_at is_first) result text after
+magic_found is_first result text rest after b is e f =
+    subst (λ (r : Result Format InputFault). Finds (λ (format : Format). format) (format_at is_first) r text after) (sym is) (format_found is_first (format_of b) text after (magic_is is_first text rest after b e f))
+
+allowed_of_text : (refused : Bool) (format : Format) → allowed_if refused format ≡ Err ReadFailed → ⊥
+allowed_of_text true format e = cc
+allowed_of_text false format e = cc
+
+named_of_text : (is_first : Bool) (found : Option Format) → format_allowed is_first found ≡ Err ReadFailed → ⊥
+named_of_text is_first (Some format) e = allowed_of_text (format.is_plain && not is_first) format e
+named_of_text is_first None e = cc
+
+pub magic_of_text : (is_first : Bool) (result : Result Format InputFault) (b : ℕ) → result ≡ format_named is_first b → result ≡ Err ReadFailed → ⊥
+magic_of_text is_first result b is e = named_of_text is_first (format_of b) (sym is ∙ e)
 
 -- ---- the shape of the numbers
 
@@ -208,24 +231,24 @@ shape_of_three Pam sizes depth held found e s d n = rw s (shape_of_all Pam depth
 -- ---- the head of a text
 
 -- what the head of a text is after its piece
-abbrev head_after : Format → Result (List ℕ × List ℕ) InputFault → Result (Header × List ℕ) InputFault
-head_after format piece = piece >>= λ p. numbers_item format.kind (numbers_in p.0) >>= λ head. Ok (head, p.1)
+abbrev head_after : Kind → Result (List ℕ × List ℕ) InputFault → Result (Header × List ℕ) InputFault
+head_after kind piece = piece >>= λ p. numbers_item kind (numbers_in p.0) >>= λ head. Ok (head, p.1)
 
-head_at_is : (format : Format) (text : List ℕ) → head_at format text ≡ head_after format (piece_from (header_item (number_count format.kind)) header_end [] text)
-unfolding head_at
-head_at_is format text = refl
+head_at_is : (kind : Kind) (text : List ℕ) → pnm_head_at kind text ≡ head_after kind (piece_from (header_item (number_count kind)) header_end [] text)
+unfolding pnm_head_at
+head_at_is kind text = refl
 
 abbrev head_with : List ℕ → Result Header InputFault → Result (Header × List ℕ) InputFault
 head_with after read = read >>= λ head. Ok (head, after)
 
 -- the head of the numbers of a piece
-found_after : (format : Format) (result : Result Header InputFault) (piece text after : List ℕ) → piece_from (header_item (number_count format.kind)) header_end [] text ≡ Ok (piece, after)
-    → GivesInMemory result (numbers_item format.kind (numbers_in piece)) → Finds (λ (head : Header). head) (head_at format) result text after
-found_after format (Ok head) piece text after p gives = head_at_is format text ∙ ap (head_after format) p ∙ ap (head_with after) gives
-found_after format (Err fault) piece text after p gives =
+found_after : (kind : Kind) (result : Result Header InputFault) (piece text after : List ℕ) → piece_from (header_item (number_count kind)) header_end [] text ≡ Ok (piece, after)
+    → GivesInMemory result (numbers_item kind (numbers_in piece)) → Finds (λ (head : Header). head) (pnm_head_at kind) result text after
+found_after kind (Ok head) piece text after p gives = head_at_is kind text ∙ ap (head_after kind) p ∙ ap (head_with after) gives
+found_after kind (Err fault) piece text after p gives =
     elim gives [
       | inl memory ↦ inr (inr memory)
-      | inr numbers ↦ inl (head_at_is format text ∙ ap (head_after format) p ∙ ap (head_with after) numbers)
+      | inr numbers ↦ inl (head_at_is kind text ∙ ap (head_after kind) p ∙ ap (head_with after) numbers)
     ]
 
 -- the numbers of a header are all there
@@ -257,11 +280,11 @@ numbers_found kind now text piece after whole p = record { count = count_is kind
 abbrev pub HeadOf : Kind → List ℕ → Result Header InputFault → Type 0
 HeadOf kind held result = (found : List ℕ) → IsNumbers (number_count kind) found held → GivesInMemory result (numbers_item kind found)
 
-pub head_found : (format : Format) (wanted : ℕ) (old now : HeaderScanner) (result : Result Header InputFault) (text after : List ℕ) → IsHeaderFresh wanted old → wanted ≡ number_count format.kind → length old.numbers ≤ 3 → HeadOf format.kind now.numbers result
-    → Scans (header_item old.wanted) header_end (IsHeaderAfter old) (IsHeaderWhole now) (Ok tt) text after → Finds (λ (head : Header). head) (head_at format) result text after
-head_found format wanted old now result text after fresh count three gives scans =
-    let s = fresh_scans format.kind wanted old now (Ok tt) text after fresh count three scans in
-    found_after format result s.0 text after s.2 (gives (numbers_in s.0) (numbers_found format.kind now text s.0 after s.1 s.2))
+pub head_found : (kind : Kind) (wanted : ℕ) (old now : HeaderScanner) (result : Result Header InputFault) (text after : List ℕ) → IsHeaderFresh wanted old → wanted ≡ number_count kind → length old.numbers ≤ 3 → HeadOf kind now.numbers result
+    → Scans (header_item old.wanted) header_end (IsHeaderAfter old) (IsHeaderWhole now) (Ok tt) text after → Finds (λ (head : Header). head) (pnm_head_at kind) result text after
+head_found kind wanted old now result text after fresh count three gives scans =
+    let s = fresh_scans kind wanted old now (Ok tt) text after fresh count three scans in
+    found_after kind result s.0 text after s.2 (gives (numbers_in s.0) (numbers_found kind now text s.0 after s.1 s.2))
 
 -- the numbers' fault is none of the reader's
 head_as_of_text : (fault : Option HeadFault) (head : Header) → head_as fault head ≡ Err ReadFailed → ⊥
@@ -276,17 +299,17 @@ given_of_text kind numbers (Ok head) gives e = absurd cc
 given_of_text kind numbers (Err fault) (inl memory) e = absurd cc
 given_of_text kind numbers (Err fault) (inr read) e = head_as_of_text (shape_fault (shape_of kind numbers)) (header_of (shape_of kind numbers) []) (sym (numbers_item_is kind numbers) ∙ read ∙ e)
 
-pub head_of_text : (format : Format) (wanted : ℕ) (old now : HeaderScanner) (result : Result Header InputFault) (text after : List ℕ) → IsHeaderFresh wanted old → wanted ≡ number_count format.kind → length old.numbers ≤ 3 → HeadOf format.kind now.numbers result
+pub head_of_text : (kind : Kind) (wanted : ℕ) (old now : HeaderScanner) (result : Result Header InputFault) (text after : List ℕ) → IsHeaderFresh wanted old → wanted ≡ number_count kind → length old.numbers ≤ 3 → HeadOf kind now.numbers result
     → Scans (header_item old.wanted) header_end (IsHeaderAfter old) (IsHeaderWhole now) (Ok tt) text after → result ≡ Err ReadFailed → ⊥
-head_of_text format wanted old now result text after fresh count three gives scans =
-    let s = fresh_scans format.kind wanted old now (Ok tt) text after fresh count three scans in
-    given_of_text format.kind (numbers_in s.0) result (gives (numbers_in s.0) (numbers_found format.kind now text s.0 after s.1 s.2))
+head_of_text kind wanted old now result text after fresh count three gives scans =
+    let s = fresh_scans kind wanted old now (Ok tt) text after fresh count three scans in
+    given_of_text kind (numbers_in s.0) result (gives (numbers_in s.0) (numbers_found kind now text s.0 after s.1 s.2))
 
 -- the header is at fault
-pub head_missed : (format : Format) (wanted : ℕ) (old now : HeaderScanner) (fault : InputFault) (text after : List ℕ) → IsHeaderFresh wanted old → wanted ≡ number_count format.kind → length old.numbers ≤ 3
-    → Scans (header_item old.wanted) header_end (IsHeaderAfter old) (IsHeaderWhole now) (Err fault) text after → (head_at format text ≡ Err fault) ⊎ IsOutsideFault fault
-head_missed format wanted old now fault text after fresh count three scans =
-    elim (fresh_scans format.kind wanted old now (Err fault) text after fresh count three scans) [
-      | inl text_fault ↦ inl (head_at_is format text ∙ ap (head_after format) text_fault)
+pub head_missed : (kind : Kind) (wanted : ℕ) (old now : HeaderScanner) (fault : InputFault) (text after : List ℕ) → IsHeaderFresh wanted old → wanted ≡ number_count kind → length old.numbers ≤ 3
+    → Scans (header_item old.wanted) header_end (IsHeaderAfter old) (IsHeaderWhole now) (Err fault) text after → (pnm_head_at kind text ≡ Err fault) ⊎ IsOutsideFault fault
+head_missed kind wanted old now fault text after fresh count three scans =
+    elim (fresh_scans kind wanted old now (Err fault) text after fresh count three scans) [
+      | inl text_fault ↦ inl (head_at_is kind text ∙ ap (head_after kind) text_fault)
       | inr outside ↦ inr outside
     ]
