@@ -1,9 +1,8 @@
 -- The header of a text: how its bytes are judged, what is read of them, and that a header that is read is spelled.
-use Rattle.std.proofs.Common.{◌≡◌, ◌≢◌, ◌⊎◌, inl, inr, ℕ, ◌+◌, ◌-◌, ◌*◌, ◌<◌, ◌≤◌, Bool, true, false, not, ◌||◌, ◌&&◌, ◌==◌, if◌then◌else◌, cond, List, [], ◌∷◌, ◌++◌, length, Option, Some, None, Result, Ok, Err, refl, sym, ap, subst, ◌∙◌, append_assoc, arith}
+use Rattle.std.proofs.Common.{◌≡◌, ◌≢◌, ◌⊎◌, inl, inr, ℕ, ◌+◌, ◌-◌, ◌*◌, ◌<◌, ◌≤◌, Bool, true, false, not, ◌||◌, ◌&&◌, ◌==◌, if◌then◌else◌, List, [], ◌∷◌, ◌++◌, length, Option, Some, None, Result, Ok, Err, refl, sym, ap, subst, ◌∙◌, append_assoc, arith}
 use Rattle.std.specs.Prelude.{nat_le, slice_index}
 use Rattle.std.specs.List.{AllPass}
 use Rattle.std.proofs.lemmas.Bool.{eqb-true, leb-false, eqb-false}
-use Rattle.std.proofs.lemmas.Bool.Decides.{nat_tests}
 use Rattle.std.proofs.lemmas.List.{length-append}
 use Rattle.std.proofs.lemmas.List.Elements.{All-nil, All-push}
 use Rattle.pnm_image.specs.declared.shape.Shape.{Shape}
@@ -339,31 +338,22 @@ abbrev kind_named : Option Format → Kind
 kind_named None = Bit
 kind_named (Some format) = format.kind
 
--- whether it is plain
-abbrev plain_named : Option Format → Bool
-plain_named None = false
-plain_named (Some format) = format.is_plain
-
--- a format of PAM that a magic names is raw, and its digit is 7
-pub record IsPam (digit : ℕ) (format : Format) : Type 0 where
-  pub digit_is : digit ≡ 55
-  pub is_raw : format.is_plain ≡ false
-
+-- a digit that names PAM is 7
 named_other : (made : Kind) (format : Format) → made ≡ format.kind → (made ≡ Pam → ⊥) → format.kind ≡ Pam → ⊥
 named_other made format e other pam = other (e ∙ pam)
 
 pam_by : (a b c d e f g : Bool) (digit : ℕ) (format : Format) → (digit == 55) ≡ g
-    → (if a then plain Bit else if b then plain Gray else if c then plain Color else if d then raw Bit else if e then raw Gray else if f then raw Color else if g then raw Pam else None) ≡ Some format → format.kind ≡ Pam → IsPam digit format
+    → (if a then plain Bit else if b then plain Gray else if c then plain Color else if d then raw Bit else if e then raw Gray else if f then raw Color else if g then raw Pam else None) ≡ Some format → format.kind ≡ Pam → digit ≡ 55
 pam_by true b c d e f g digit format s h k = absurd (named_other Bit format (ap kind_named h) (λ x. cc) k)
 pam_by false true c d e f g digit format s h k = absurd (named_other Gray format (ap kind_named h) (λ x. cc) k)
 pam_by false false true d e f g digit format s h k = absurd (named_other Color format (ap kind_named h) (λ x. cc) k)
 pam_by false false false true e f g digit format s h k = absurd (named_other Bit format (ap kind_named h) (λ x. cc) k)
 pam_by false false false false true f g digit format s h k = absurd (named_other Gray format (ap kind_named h) (λ x. cc) k)
 pam_by false false false false false true g digit format s h k = absurd (named_other Color format (ap kind_named h) (λ x. cc) k)
-pam_by false false false false false false true digit format s h k = record { digit_is = eqb-true digit 55 s; is_raw = sym (ap plain_named h) }
+pam_by false false false false false false true digit format s h k = eqb-true digit 55 s
 pam_by false false false false false false false digit format s h k = absurd cc
 
-pub pam_is : (digit : ℕ) (format : Format) → format_of digit ≡ Some format → format.kind ≡ Pam → IsPam digit format
+pam_is : (digit : ℕ) (format : Format) → format_of digit ≡ Some format → format.kind ≡ Pam → digit ≡ 55
 pam_is digit format h k = pam_by (digit == 49) (digit == 50) (digit == 51) (digit == 52) (digit == 53) (digit == 54) (digit == 55) digit format refl h k
 
 -- ---- the header that was read
@@ -437,9 +427,9 @@ header_by Gray is_first text after rest format head k f h = pnm_header_is_spelle
 header_by Color is_first text after rest format head k f h = pnm_header_is_spelled is_first text after rest format head f (ap (λ (x : Kind). pnm_head_at x after) k ∙ h)
 header_by Pam is_first text after rest format head k f h =
     let magic = magic_is_spelled is_first text format after f in
-    let pam = pam_is magic.digit format magic.format_is k in
-    let found = pam_head_is_spelled after rest head h in
-    (found.0, magic.text_is ∙ ap (λ (d : ℕ). 80 ∷ d ∷ after) pam.digit_is ∙ found.1, found.2)
+    let seven : magic.digit ≡ 55 = pam_is magic.digit format magic.format_is k in
+    let found = pam_head_is_spelled after rest format head (ap format_of (sym seven) ∙ magic.format_is) h in
+    (found.0, magic.text_is ∙ ap (λ (d : ℕ). 80 ∷ d ∷ after) seven ∙ found.1, found.2)
 
 -- a header that is read is spelled
 pub read_header_is_spelled : (is_first : Bool) (text after rest : List ℕ) (format : Format) (head : Header) → format_at is_first text ≡ Ok (format, after) → head_at format after ≡ Ok (head, rest)

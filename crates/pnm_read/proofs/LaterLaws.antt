@@ -1,49 +1,34 @@
 -- What is said after a raw image: the end of the stream, or what is said of the next image.
-use Rattle.std.proofs.Common.{◌≡◌, ◌⊎◌, ℕ, zero, suc, ◌+◌, ◌<◌, ◌≤◌, Bool, true, false, not, ◌&&◌, List, [], ◌∷◌, ◌++◌, length, Option, Some, None, Result, Ok, Err, refl, sym, ap, subst, ◌∙◌, arith}
-use Rattle.std.proofs.lemmas.List.{length-append}
+use Rattle.std.proofs.Common.{◌≡◌, ◌⊎◌, ℕ, zero, suc, ◌+◌, ◌<◌, ◌≤◌, Bool, true, false, not, ◌&&◌, if◌then◌else◌, List, [], ◌∷◌, ◌++◌, length, Option, Some, None, Result, Ok, Err, refl, sym, ap, subst, ◌∙◌, arith}
 use Rattle.pnm_image.specs.declared.shape.Shape.{Shape}
 use Rattle.pnm_image.specs.declared.shape.Kind.{Kind}
 use Rattle.pnm_image.specs.declared.shape.Kind.TheVariants.{Bit, Gray, Color, Pam}
 use Rattle.pnm_image.specs.declared.message.Message.TheVariants.{Begin, Row, ImageEnd}
-use Rattle.pnm_image.specs.Heads.{Header, IsHeader}
+use Rattle.pnm_image.specs.Heads.{Header}
 use Rattle.pnm_read.specs.declared.fault.InputFault.{InputFault}
 use Rattle.pnm_read.specs.declared.fault.InputFault.TheVariants.{BadMagic, PlainInStream}
 use Rattle.pnm_read.specs.declared.format.Format.{Format}
 use Rattle.pnm_read.specs.Formats.{format_of}
 use Rattle.pnm_read.specs.Headers.{SpellsHeaderBy, SpellsHeader}
 use Rattle.pnm_read.specs.Items.{◌>>=◌, first_magic_item, second_magic_item}
-use Rattle.pnm_read.specs.Said.{Said, then_said, says_fault, format_at, head_at, row_by, row_at, end_said, rows_said, head_said, format_said, image_said, later_said_in, later_said}
-use Rattle.pnm_read.proofs.HeaderLaws.{read_header_is_spelled}
+use Rattle.pnm_read.specs.Said.{Said, then_said, says_fault, ends_stream, format_at, head_at, row_by, row_at, end_said, rows_said, head_said, format_said, image_said, later_said_in, later_said}
+use Rattle.pnm_read.proofs.HeaderLaws.{header_shorter}
 use Rattle.pnm_read.proofs.PlainLaws.{said_from}
 use Rattle.pnm_read.proofs.RawLaws.{bind_ok, raw_row_shorter}
 
--- ---- what a header of any kind has
-
-pub record Facts (header : List ℕ) (format : Format) (head : Header) : Type 0 where
-  pub kind : head.shape.kind ≡ format.kind
-  pub sound : IsHeader head
-  pub rows : 0 < head.shape.height
-  pub some : 0 < length header
+-- ---- a header has some bytes
 
 some_first : (first : ℕ) (text whole : List ℕ) → whole ≡ first ∷ text → 0 < length whole
-some_first first text whole e = let long = ap length e in omega arith
+some_first first text whole e = let long = ap (λ (t : List ℕ). length t) e in omega arith
 
-facts_by : (k : Kind) (header : List ℕ) (format : Format) (head : Header) → format.kind ≡ k → SpellsHeaderBy k header format head → Facts header format head
-facts_by Bit header format head e s = record { kind = s.kind; sound = s.sound; rows = s.rows; some = some_first 80 _ header s.whole }
-facts_by Gray header format head e s = record { kind = s.kind; sound = s.sound; rows = s.rows; some = some_first 80 _ header s.whole }
-facts_by Color header format head e s = record { kind = s.kind; sound = s.sound; rows = s.rows; some = some_first 80 _ header s.whole }
-facts_by Pam header format head e s = record { kind = s.kind ∙ sym e; sound = s.sound; rows = s.rows; some = some_first 80 _ header s.whole }
+bytes_by : (k : Kind) (header : List ℕ) (format : Format) (head : Header) → SpellsHeaderBy k header format head → 0 < length header
+bytes_by Bit header format head s = some_first 80 _ header s.whole
+bytes_by Gray header format head s = some_first 80 _ header s.whole
+bytes_by Color header format head s = some_first 80 _ header s.whole
+bytes_by Pam header format head s = some_first 80 _ header s.whole
 
-pub header_facts : (header : List ℕ) (format : Format) (head : Header) → SpellsHeader header format head → Facts header format head
-header_facts header format head s = facts_by format.kind header format head refl s
-
--- a header that was read leaves less than there was
-pub header_leaves_less : (is_first : Bool) (text rest : List ℕ) (format : Format) (found : Header × List ℕ) → format_at is_first text ≡ Ok (format, rest) → head_at format rest ≡ Ok found → length found.1 < length text
-header_leaves_less is_first text rest format found e h =
-    let s = read_header_is_spelled is_first text rest found.1 format found.0 e h in
-    let facts = header_facts s.0 format found.0 s.2 in
-    let long = ap length s.1 in
-    omega (arith, length-append s.0 found.1, facts.some, long)
+pub header_has_bytes : (header : List ℕ) (format : Format) (head : Header) → SpellsHeader header format head → 0 < length header
+header_has_bytes header format head s = bytes_by format.kind header format head s
 
 -- ---- a later image is raw
 
@@ -51,7 +36,14 @@ raw_if : (plain : Bool) (format : Format) (text : List ℕ) (found : Format × L
 raw_if true format text found e h = absurd cc
 raw_if false format text found e h = let same : (format, text) ≡ found = cc in sym (ap (λ (f : Format × List ℕ). f.0.is_plain) same) ∙ e
 
-raw_named : (named : Option Format) (text : List ℕ) (found : Format × List ℕ) → (elim named [ Some format ↦ if format.is_plain && not false then Err PlainInStream else Ok (format, text) | None ↦ Err BadMagic ]) ≡ Ok found → found.0.is_plain ≡ false
+-- the format of a later image
+abbrev later_named : Option Format → List ℕ → Result (Format × List ℕ) InputFault
+later_named named text = elim named [
+  | Some format ↦ if format.is_plain && not false then Err PlainInStream else Ok (format, text)
+  | None ↦ Err BadMagic
+]
+
+raw_named : (named : Option Format) (text : List ℕ) (found : Format × List ℕ) → later_named named text ≡ Ok found → found.0.is_plain ≡ false
 raw_named (Some format) text found e = raw_if format.is_plain format text found refl e
 raw_named None text found e = absurd cc
 
@@ -106,7 +98,7 @@ head_same f g format (Ok found) same = ap (then_said (Begin found.0)) (rows_same
 format_same : (f g : List ℕ → Said) (is_first : Bool) (text : List ℕ) (most : ℕ) (r : Result (Format × List ℕ) InputFault) → format_at is_first text ≡ r → length text ≤ suc most → SameUpTo most f g → format_said f r ≡ format_said g r
 format_same f g is_first text most (Err fault) e long same = refl
 format_same f g is_first text most (Ok found) e long same =
-    head_same f g found.0 (head_at found.0 found.1) (λ head h t le. let less = header_leaves_less is_first text found.1 found.0 head e h in same t (omega arith))
+    head_same f g found.0 (head_at found.0 found.1) (λ head h t le. let less = header_shorter is_first text found.1 found.0 head e h in same t (omega arith))
 
 image_same : (f g : List ℕ → Said) (is_first : Bool) (text : List ℕ) (most : ℕ) → length text ≤ suc most → SameUpTo most f g → image_said f is_first text ≡ image_said g is_first text
 unfolding image_said
@@ -125,7 +117,7 @@ enough zero m (b ∷ text) le lf = absurd (omega arith)
 enough (suc n) zero (b ∷ text) le lf = absurd (omega arith)
 enough (suc n) (suc m) (b ∷ text) le lf = image_same (later_said_in n) (later_said_in m) false (b ∷ text) (length text) (omega arith) (λ t shorter. enough n m t (omega arith) (omega arith))
 
-pub later_said-nothing : later_said [] ≡ later_said_in zero []
+pub later_said-nothing : later_said [] ≡ ends_stream
 unfolding later_said later_said_in
 later_said-nothing = refl
 

@@ -9,6 +9,9 @@ pub mod HeaderFaults
 pub mod ShapeLaws
 pub mod LineLaws
 pub mod TupleTypeLaws
+pub mod HeaderPieces
+pub mod PamLineLaws
+pub mod PamHeads
 pub mod PamLaws
 pub mod HeaderLaws
 pub mod SpelledHeaders
@@ -29,6 +32,7 @@ pub mod StageSteps
 pub mod TextLaws
 pub mod SaidLaws
 pub mod FaultLaws
+pub mod StreamLaws
 pub mod PartLaws
 pub mod RawSteps
 pub mod PlainSteps

@@ -1,5 +1,5 @@
 -- What is said of a text may come in turn, and its end is said exactly where no fault is.
-use Rattle.std.proofs.Common.{◌≡◌, ◌↔◌, ℕ, zero, suc, ◌+◌, Bool, true, false, List, [], ◌∷◌, None, Result, Ok, Err, refl, sym, subst, arith}
+use Rattle.std.proofs.Common.{◌≡◌, ◌↔◌, ℕ, zero, suc, ◌+◌, Bool, true, false, List, [], ◌∷◌, length, None, Result, Ok, Err, refl, sym, subst, arith}
 use Rattle.pnm_image.specs.declared.shape.Shape.{Shape}
 use Rattle.pnm_image.specs.declared.place.Place.TheVariants.{Inside}
 use Rattle.pnm_image.specs.Heads.{Header, IsHeader}
@@ -8,8 +8,8 @@ use Rattle.pnm_image.specs.Places.{IsRowOf, IsLawfulFrom, IsLawful}
 use Rattle.pnm_image.proofs.Streams.{stream_ends}
 use Rattle.pnm_read.specs.declared.fault.InputFault.{InputFault}
 use Rattle.pnm_read.specs.declared.format.Format.{Format}
-use Rattle.pnm_read.specs.Said.{row_by, row_at, end_said, format_at, head_at, rows_said, image_said, format_said, said, said_of, fault_of}
-use Rattle.pnm_read.proofs.HeaderLaws.{read_header_is_spelled}
+use Rattle.pnm_read.specs.Said.{Said, row_by, row_at, end_said, format_at, head_at, rows_said, head_said, format_said, image_said, later_said_in, later_said, said, said_of, fault_of}
+use Rattle.pnm_read.proofs.HeaderLaws.{read_header_is_spelled, spelled_head}
 use Rattle.pnm_read.proofs.PlainLaws.{said_from, plain_row_is_row, last_plain_row_is_row}
 use Rattle.pnm_read.proofs.RawLaws.{raw_row_is_row}
 use Rattle.pnm_read.proofs.TextLaws.{said_text_is_spelled}
@@ -22,70 +22,111 @@ row_is_row false head more text found h e = raw_row_is_row head text found h e
 row_is_row true head zero text found h e = last_plain_row_is_row head text found h e
 row_is_row true head (suc more) text found h e = plain_row_is_row head text found h e
 
--- the end of the stream may come between images, and so may nothing
-end_is_lawful : (is_plain : Bool) (text : List ℕ) → IsLawful (end_said is_plain text).messages
+-- what is said after a raw image may come in turn
+abbrev AreLawful : (List ℕ → Said) → Type 0
+AreLawful later = (text : List ℕ) → IsLawful (later text).messages
+
+-- the end of the stream may come between images, and so may the next image
+end_is_lawful : (later : List ℕ → Said) (is_plain : Bool) (text : List ℕ) → AreLawful later → IsLawful (end_said later is_plain text).messages
 unfolding end_said
-end_is_lawful true text = (tt, tt)
-end_is_lawful false [] = (tt, tt)
-end_is_lawful false (b ∷ text) = tt
+end_is_lawful later true text are = (tt, tt)
+end_is_lawful later false text are = are text
 
 -- where a row was read, and what is said after it may come, the row may come
-row_is_lawful : (format : Format) (s : Shape) (more y : ℕ) (r : Result (List ℕ × List ℕ) InputFault) → suc more + y ≡ s.height → ((found : List ℕ × List ℕ) → r ≡ Ok found → IsRowOf s found.0)
-    → ((text : List ℕ) → IsLawfulFrom (Inside s (y + 1)) (rows_said format s more text).messages) → IsLawfulFrom (Inside s y) (said_from format s more r).messages
-row_is_lawful format s more y (Err fault) count row others = tt
-row_is_lawful format s more y (Ok found) count row others = ((omega arith, row found refl), others found.1)
+row_is_lawful : (later : List ℕ → Said) (format : Format) (s : Shape) (more y : ℕ) (r : Result (List ℕ × List ℕ) InputFault) → suc more + y ≡ s.height → ((found : List ℕ × List ℕ) → r ≡ Ok found → IsRowOf s found.0)
+    → ((text : List ℕ) → IsLawfulFrom (Inside s (y + 1)) (rows_said later format s more text).messages) → IsLawfulFrom (Inside s y) (said_from later format s more r).messages
+row_is_lawful later format s more y (Err fault) count row others = tt
+row_is_lawful later format s more y (Ok found) count row others = ((omega arith, row found refl), others found.1)
 
-rows_are_lawful : (format : Format) (head : Header) (more y : ℕ) (text : List ℕ) → IsHeader head → more + y ≡ head.shape.height → IsLawfulFrom (Inside head.shape y) (rows_said format head.shape more text).messages
+rows_are_lawful : (later : List ℕ → Said) (format : Format) (head : Header) (more y : ℕ) (text : List ℕ) → AreLawful later → IsHeader head → more + y ≡ head.shape.height → IsLawfulFrom (Inside head.shape y) (rows_said later format head.shape more text).messages
 unfolding rows_said
-rows_are_lawful format head zero y text h count = (omega arith, end_is_lawful format.is_plain text)
-rows_are_lawful format head (suc more) y text h count =
-    row_is_lawful format head.shape more y (row_at format head.shape more text) count (λ found e. row_is_row format.is_plain head more text found h e)
-    (λ rest. rows_are_lawful format head more (y + 1) rest h (omega arith))
+rows_are_lawful later format head zero y text are h count = (omega arith, end_is_lawful later format.is_plain text are)
+rows_are_lawful later format head (suc more) y text are h count =
+    row_is_lawful later format head.shape more y (row_at format head.shape more text) count (λ found e. row_is_row format.is_plain head more text found h e)
+    (λ rest. rows_are_lawful later format head more (y + 1) rest are h (omega arith))
 
 -- an image's messages may come where its head keeps the rules of heads
-image_is_lawful : (format : Format) (r : Result (Header × List ℕ) InputFault) → ((found : Header × List ℕ) → r ≡ Ok found → IsHeader found.0) → IsLawful (image_said format r).messages
-image_is_lawful format (Err fault) sound = tt
-image_is_lawful format (Ok found) sound = (tt, rows_are_lawful format found.0 found.0.shape.height 0 found.1 (sound found refl) (omega arith))
+head_is_lawful : (later : List ℕ → Said) (format : Format) (r : Result (Header × List ℕ) InputFault) → AreLawful later → ((found : Header × List ℕ) → r ≡ Ok found → IsHeader found.0) → IsLawful (head_said later format r).messages
+head_is_lawful later format (Err fault) are sound = tt
+head_is_lawful later format (Ok found) are sound = (tt, rows_are_lawful later format found.0 found.0.shape.height 0 found.1 are (sound found refl) (omega arith))
 
-format_is_lawful : (text : List ℕ) (r : Result (Format × List ℕ) InputFault) → format_at text ≡ r → IsLawful (format_said r).messages
-format_is_lawful text (Err fault) e = tt
-format_is_lawful text (Ok found) e = image_is_lawful found.0 (head_at found.0 found.1) (λ head h. (read_header_is_spelled text found.1 head.1 found.0 head.0 e h).2.sound)
+-- the head of a header that was read
+read_head_is_header : (is_first : Bool) (text : List ℕ) (found : Format × List ℕ) (head : Header × List ℕ) → format_at is_first text ≡ Ok found → head_at found.0 found.1 ≡ Ok head → IsHeader head.0
+read_head_is_header is_first text found head e h =
+    let s = read_header_is_spelled is_first text found.1 head.1 found.0 head.0 e h in
+    (spelled_head s.0 found.0 head.0 s.2).sound
+
+format_is_lawful : (later : List ℕ → Said) (is_first : Bool) (text : List ℕ) (r : Result (Format × List ℕ) InputFault) → AreLawful later → format_at is_first text ≡ r → IsLawful (format_said later r).messages
+format_is_lawful later is_first text (Err fault) are e = tt
+format_is_lawful later is_first text (Ok found) are e = head_is_lawful later found.0 (head_at found.0 found.1) are (λ head h. read_head_is_header is_first text found head e h)
+
+image_is_lawful : (later : List ℕ → Said) (is_first : Bool) (text : List ℕ) → AreLawful later → IsLawful (image_said later is_first text).messages
+unfolding image_said
+image_is_lawful later is_first text are = format_is_lawful later is_first text (format_at is_first text) are refl
+
+later_in_is_lawful : (most : ℕ) → AreLawful (later_said_in most)
+unfolding later_said_in
+later_in_is_lawful zero [] = (tt, tt)
+later_in_is_lawful zero (b ∷ text) = (tt, tt)
+later_in_is_lawful (suc most) [] = (tt, tt)
+later_in_is_lawful (suc most) (b ∷ text) = image_is_lawful (later_said_in most) false (b ∷ text) (later_in_is_lawful most)
+
+later_is_lawful : AreLawful later_said
+unfolding later_said
+later_is_lawful text = later_in_is_lawful (length text) text
 
 -- what is said of any text may come in turn
 pub said_is_lawful : (text : List ℕ) → IsLawful (said_of text)
 unfolding said
-said_is_lawful text = format_is_lawful text (format_at text) refl
+said_is_lawful text = image_is_lawful later_said true text later_is_lawful
 
 -- ---- the end is said exactly where no fault is
 
--- where the end of the stream is said, no fault is
-sound_end : (is_plain : Bool) (text : List ℕ) → EndsStream (end_said is_plain text).messages → (end_said is_plain text).fault ≡ None
+-- where what is said ends the stream, it has no fault
+abbrev EndIsSound : (List ℕ → Said) → Type 0
+EndIsSound later = (text : List ℕ) → EndsStream (later text).messages → (later text).fault ≡ None
+
+sound_end : (later : List ℕ → Said) (is_plain : Bool) (text : List ℕ) → EndIsSound later → EndsStream (end_said later is_plain text).messages → (end_said later is_plain text).fault ≡ None
 unfolding end_said
-sound_end true text ends = refl
-sound_end false [] ends = refl
-sound_end false (b ∷ text) ends = absurd ends
+sound_end later true text sound ends = refl
+sound_end later false text sound ends = sound text ends
 
-sound_row : (format : Format) (s : Shape) (more : ℕ) (r : Result (List ℕ × List ℕ) InputFault) → ((text : List ℕ) → EndsStream (rows_said format s more text).messages → (rows_said format s more text).fault ≡ None)
-    → EndsStream (said_from format s more r).messages → (said_from format s more r).fault ≡ None
-sound_row format s more (Err fault) others ends = absurd ends
-sound_row format s more (Ok found) others ends = others found.1 ends
+sound_row : (later : List ℕ → Said) (format : Format) (s : Shape) (more : ℕ) (r : Result (List ℕ × List ℕ) InputFault) → ((text : List ℕ) → EndsStream (rows_said later format s more text).messages → (rows_said later format s more text).fault ≡ None)
+    → EndsStream (said_from later format s more r).messages → (said_from later format s more r).fault ≡ None
+sound_row later format s more (Err fault) others ends = absurd ends
+sound_row later format s more (Ok found) others ends = others found.1 ends
 
-sound_rows : (format : Format) (s : Shape) (more : ℕ) (text : List ℕ) → EndsStream (rows_said format s more text).messages → (rows_said format s more text).fault ≡ None
+sound_rows : (later : List ℕ → Said) (format : Format) (s : Shape) (more : ℕ) (text : List ℕ) → EndIsSound later → EndsStream (rows_said later format s more text).messages → (rows_said later format s more text).fault ≡ None
 unfolding rows_said
-sound_rows format s zero text ends = sound_end format.is_plain text ends
-sound_rows format s (suc more) text ends = sound_row format s more (row_at format s more text) (λ rest. sound_rows format s more rest) ends
+sound_rows later format s zero text sound ends = sound_end later format.is_plain text sound ends
+sound_rows later format s (suc more) text sound ends = sound_row later format s more (row_at format s more text) (λ rest e. sound_rows later format s more rest sound e) ends
 
-sound_image : (format : Format) (r : Result (Header × List ℕ) InputFault) → EndsStream (image_said format r).messages → (image_said format r).fault ≡ None
-sound_image format (Err fault) ends = absurd ends
-sound_image format (Ok found) ends = sound_rows format found.0.shape found.0.shape.height found.1 ends
+sound_head : (later : List ℕ → Said) (format : Format) (r : Result (Header × List ℕ) InputFault) → EndIsSound later → EndsStream (head_said later format r).messages → (head_said later format r).fault ≡ None
+sound_head later format (Err fault) sound ends = absurd ends
+sound_head later format (Ok found) sound ends = sound_rows later format found.0.shape found.0.shape.height found.1 sound ends
 
-sound_format : (r : Result (Format × List ℕ) InputFault) → EndsStream (format_said r).messages → (format_said r).fault ≡ None
-sound_format (Err fault) ends = absurd ends
-sound_format (Ok found) ends = sound_image found.0 (head_at found.0 found.1) ends
+sound_format : (later : List ℕ → Said) (r : Result (Format × List ℕ) InputFault) → EndIsSound later → EndsStream (format_said later r).messages → (format_said later r).fault ≡ None
+sound_format later (Err fault) sound ends = absurd ends
+sound_format later (Ok found) sound ends = sound_head later found.0 (head_at found.0 found.1) sound ends
+
+sound_image : (later : List ℕ → Said) (is_first : Bool) (text : List ℕ) → EndIsSound later → EndsStream (image_said later is_first text).messages → (image_said later is_first text).fault ≡ None
+unfolding image_said
+sound_image later is_first text sound ends = sound_format later (format_at is_first text) sound ends
+
+sound_later_in : (most : ℕ) → EndIsSound (later_said_in most)
+unfolding later_said_in
+sound_later_in zero [] ends = refl
+sound_later_in zero (b ∷ text) ends = refl
+sound_later_in (suc most) [] ends = refl
+sound_later_in (suc most) (b ∷ text) ends = sound_image (later_said_in most) false (b ∷ text) (sound_later_in most) ends
+
+sound_later : EndIsSound later_said
+unfolding later_said
+sound_later text ends = sound_later_in (length text) text ends
 
 sound_text : (text : List ℕ) → EndsStream (said_of text) → fault_of text ≡ None
 unfolding said
-sound_text text ends = sound_format (format_at text) ends
+sound_text text ends = sound_image later_said true text sound_later ends
 
 -- of a text without a fault the end of the stream is said
 text_ends : (text : List ℕ) → fault_of text ≡ None → EndsStream (said_of text)

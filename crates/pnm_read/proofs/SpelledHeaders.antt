@@ -1,36 +1,30 @@
 -- A header that is spelled is read: its magic, the bytes of its body, and the head that its numbers make.
-use Rattle.std.proofs.Common.{◌≡◌, ℕ, suc, ◌<◌, ◌≤◌, Bool, true, false, not, ◌||◌, ◌&&◌, ◌==◌, if◌then◌else◌, List, [], ◌∷◌, ◌++◌, length, Option, Some, None, Ok, refl, sym, ap, subst, ◌∙◌, append_assoc, arith}
-use Rattle.std.specs.Prelude.{nat_le, nat_lt}
+use Rattle.std.proofs.Common.{◌≡◌, ℕ, suc, ◌<◌, ◌≤◌, Bool, true, false, not, ◌||◌, ◌&&◌, ◌==◌, if◌then◌else◌, List, [], ◌∷◌, ◌++◌, length, Option, Some, None, Ok, Err, refl, sym, ap, subst, ◌∙◌, append_assoc, arith}
+use Rattle.std.specs.Prelude.{nat_le}
 use Rattle.std.specs.List.{AllPass}
 use Rattle.std.proofs.lemmas.Bool.{eqb-true, lt-leb, eq-eqb, ne_eqb}
-use Rattle.std.proofs.lemmas.Bool.Decides.{nat_tests}
-use Rattle.std.proofs.lemmas.List.{append-nil, length-append}
+use Rattle.std.proofs.lemmas.List.{length-append}
 use Rattle.std.proofs.lemmas.List.Elements.{All-head, All-tail}
-use Rattle.pnm_image.specs.declared.shape.Shape.{Shape}
 use Rattle.pnm_image.specs.declared.shape.Kind.{Kind}
 use Rattle.pnm_image.specs.declared.shape.Kind.TheVariants.{Bit, Gray, Color, Pam}
 use Rattle.pnm_image.specs.declared.head.HeadFault.{HeadFault}
-use Rattle.pnm_image.specs.Heads.{Header, IsHeader, IsWithinLimits, Suits, header_of, row_length, shape_fault}
-use Rattle.pnm_read.specs.declared.fault.InputFault.{InputFault}
+use Rattle.pnm_image.specs.Heads.{Header, IsHeader, Suits, header_of, shape_fault}
+use Rattle.pnm_read.specs.declared.fault.InputFault.TheVariants.{PlainInStream}
 use Rattle.pnm_read.specs.declared.format.Format.{Format}
 use Rattle.pnm_read.specs.declared.judgement.Judgement.{Judgement}
 use Rattle.pnm_read.specs.declared.judgement.Judgement.TheVariants.{GoesOn, EndsWith}
 use Rattle.pnm_read.specs.Texts.{is_white, is_digit, is_apart, begins_apart, ends_in_comment, uncommented, ends_in_word, numbers_in}
-use Rattle.pnm_read.specs.Formats.{plain, raw, format_of, number_count, shape_of, header_numbers}
-use Rattle.pnm_read.specs.Headers.{SpellsHeader}
+use Rattle.pnm_read.specs.Formats.{format_of, number_count, shape_of, header_numbers}
+use Rattle.pnm_read.specs.Headers.{SpellsPnmHeader, SpellsPamHeader, SpellsHeaderBy, SpellsHeader}
 use Rattle.pnm_read.specs.Items.{piece_from, first_magic_item, second_magic_item, header_limit, is_bad_in_header, is_delimiter, header_item, header_end, numbers_item}
-use Rattle.pnm_read.specs.Said.{format_at, head_at}
+use Rattle.pnm_read.specs.Said.{format_at, pnm_head_at, head_by, head_at}
 use Rattle.pnm_read.proofs.WordLaws.{uncommented-split, numbers-white, fewer_numbers}
-use Rattle.pnm_read.proofs.HeaderLaws.{done, header_item_is, not_bad, is_decimal, pieced, head_by, second_magic}
+use Rattle.pnm_read.proofs.ShapeLaws.{head_or_fault, no_shape_fault}
+use Rattle.pnm_read.proofs.HeaderPieces.{goes_on_through}
+use Rattle.pnm_read.proofs.PamLaws.{spelled_pam_is_head}
+use Rattle.pnm_read.proofs.HeaderLaws.{done, header_item_is, not_bad, is_decimal, pieced, second_magic}
 
 -- ---- what is spelled is read
-
--- where each byte of a body goes on, the piece goes on after it
-goes_on_through : (item : List ℕ → ℕ → Judgement) (at_end : List ℕ → Option InputFault) (body before back text : List ℕ) → before ++ back ≡ body → ((front : List ℕ) (b : ℕ) (others : List ℕ) → front ++ b ∷ others ≡ body → item front b ≡ GoesOn)
-    → piece_from item at_end before (back ++ text) ≡ piece_from item at_end body text
-unfolding piece_from
-goes_on_through item at_end body before [] text e h = ap (λ (t : List ℕ). piece_from item at_end t text) (sym (append-nil before) ∙ e)
-goes_on_through item at_end body before (b ∷ back) text e h = rw (h before b back e) (goes_on_through item at_end body (before ++ b ∷ []) back text (append_assoc before (b ∷ []) back ∙ e) h)
 
 -- the parts of a header that tell how its bytes are judged
 record Decimal (count : ℕ) (body : List ℕ) : Type 0 where
@@ -96,28 +90,12 @@ body_is_piece count body delimiter rest d w =
 
 -- ---- the head that is spelled
 
--- a kind that a magic names
+-- a kind whose header is its numbers
 abbrev is_named : Kind → Bool
 is_named Bit = true
 is_named Gray = true
 is_named Color = true
 is_named Pam = false
-
-abbrev is_some_named : Option Format → Bool
-is_some_named None = false
-is_some_named (Some format) = is_named format.kind
-
-named : (made format : Format) → Some made ≡ Some format → is_named made.kind ≡ true → is_named format.kind ≡ true
-named made format e h = sym (ap is_some_named e) ∙ h
-
-named_by : (a b c d e f : Bool) (format : Format) → (if a then plain Bit else if b then plain Gray else if c then plain Color else if d then raw Bit else if e then raw Gray else if f then raw Color else None) ≡ Some format → is_named format.kind ≡ true
-named_by true b c d e f format h = named (record { kind = Bit; is_plain = true }) format h refl
-named_by false true c d e f format h = named (record { kind = Gray; is_plain = true }) format h refl
-named_by false false true d e f format h = named (record { kind = Color; is_plain = true }) format h refl
-named_by false false false true e f format h = named (record { kind = Bit; is_plain = false }) format h refl
-named_by false false false false true f format h = named (record { kind = Gray; is_plain = false }) format h refl
-named_by false false false false false true format h = named (record { kind = Color; is_plain = false }) format h refl
-named_by false false false false false false format h = absurd cc
 
 -- the numbers of a shape, and no tuple type, make the head
 head_is_made : (kind : Kind) (width height depth maxval : ℕ) (tuple_type : List ℕ) → is_named kind ≡ true → Suits kind depth maxval tuple_type
@@ -133,7 +111,7 @@ unfolding numbers_item
 head_is_found kind numbers head made sound =
     let shape : shape_of kind numbers ≡ head.shape = ap (λ (x : Header). x.shape) made in
     let none : shape_fault (shape_of kind numbers) ≡ None = ap shape_fault shape ∙ sound in
-    ap (λ (f : Option HeadFault). head_by f (header_of (shape_of kind numbers) [])) none ∙ ap done made
+    ap (λ (f : Option HeadFault). head_or_fault f (header_of (shape_of kind numbers) [])) none ∙ ap done made
 
 -- the head that its numbers make
 spelled_head_is_found : (kind : Kind) (head : Header) → is_named kind ≡ true → head.shape.kind ≡ kind → IsHeader head → 0 < head.shape.height → numbers_item kind (header_numbers head.shape) ≡ Ok head
@@ -158,7 +136,7 @@ short_body text digit delimiter body whole short =
     omega (arith, length-append body (delimiter ∷ []))
 
 -- the body of a header
-decimal_body : (text : List ℕ) (format : Format) (head : Header) (s : SpellsHeader text format head) → Decimal (number_count format.kind) s.body
+decimal_body : (text : List ℕ) (format : Format) (head : Header) (s : SpellsPnmHeader text format head) → Decimal (number_count format.kind) s.body
 decimal_body text format head s = record {
   short = short_body text s.digit s.delimiter s.body s.whole s.short;
   begins = s.begins;
@@ -168,23 +146,63 @@ decimal_body text format head s = record {
   outside = s.outside;
 }
 
+-- a plain format is refused after another image alone
+not_refused : (plain first : Bool) → (plain ≡ true → first ≡ true) → (plain && not first) ≡ false
+not_refused true first h = rw (h refl) refl
+not_refused false first h = refl
+
 -- the magic is read
-spelled_magic_is_read : (digit : ℕ) (after : List ℕ) (format : Format) → format_of digit ≡ Some format → format_at (80 ∷ digit ∷ after) ≡ Ok (format, after)
+spelled_magic_is_read : (digit : ℕ) (after : List ℕ) (format : Format) (is_first : Bool) → (format.is_plain ≡ true → is_first ≡ true) → format_of digit ≡ Some format → format_at is_first (80 ∷ digit ∷ after) ≡ Ok (format, after)
 unfolding format_at first_magic_item second_magic_item
-spelled_magic_is_read digit after format e = ap (λ (f : Option Format). second_magic f after) e
+spelled_magic_is_read digit after format is_first first e =
+    ap (λ (f : Option Format). second_magic is_first f after) e ∙ ap (λ (refused : Bool). if refused then Err PlainInStream else Ok (format, after)) (not_refused format.is_plain is_first first)
 
 -- the head is read
-spelled_head_is_read : (text : List ℕ) (format : Format) (head : Header) (s : SpellsHeader text format head) (rest : List ℕ) → head_at format (s.body ++ s.delimiter ∷ rest) ≡ Ok (head, rest)
-unfolding head_at
-spelled_head_is_read text format head s rest =
+spelled_pnm_head_is_read : (text : List ℕ) (format : Format) (head : Header) (s : SpellsPnmHeader text format head) (rest : List ℕ) → is_named format.kind ≡ true → pnm_head_at format.kind (s.body ++ s.delimiter ∷ rest) ≡ Ok (head, rest)
+unfolding pnm_head_at
+spelled_pnm_head_is_read text format head s rest named =
     let body = decimal_body text format head s in
     let piece = body_is_piece (number_count format.kind) s.body s.delimiter rest body s.delimiter_is in
     let numbers : numbers_in (s.body ++ s.delimiter ∷ []) ≡ header_numbers head.shape = numbers-white s.body s.delimiter s.outside s.delimiter_is ∙ s.numbers in
-    let named_kind : is_named format.kind ≡ true = named_by (s.digit == 49) (s.digit == 50) (s.digit == 51) (s.digit == 52) (s.digit == 53) (s.digit == 54) format s.format_is in
-    let found = spelled_head_is_found format.kind head named_kind s.kind s.sound s.rows in
+    let found = spelled_head_is_found format.kind head named s.kind s.sound s.rows in
     rw (piece, numbers, found) refl
 
--- a header that is spelled is read; a plain one as the first of a text, and one of PAM as raw
-pub spelled_header_is_read : (text rest : List ℕ) (format : Format) (head : Header) (is_first : Bool) → (format.is_plain ≡ true → is_first ≡ true) → (format.kind ≡ Pam → format.is_plain ≡ false) → SpellsHeader text format head
+-- where the magic and the head of a text of this kind are read
+abbrev HeaderIsRead : Kind → Bool → List ℕ → Format → Header → List ℕ → Type 0
+HeaderIsRead kind is_first text format head rest = (after : List ℕ) × (format_at is_first text ≡ Ok (format, after)) × (head_by kind after ≡ Ok (head, rest))
+
+-- a header of PBM, PGM or PPM that is spelled is read
+spelled_pnm_is_read : (text rest : List ℕ) (format : Format) (head : Header) (is_first : Bool) → (format.is_plain ≡ true → is_first ≡ true) → is_named format.kind ≡ true → SpellsPnmHeader text format head
+    → (after : List ℕ) × (format_at is_first (text ++ rest) ≡ Ok (format, after)) × (pnm_head_at format.kind after ≡ Ok (head, rest))
+spelled_pnm_is_read text rest format head is_first first named s =
+    let whole : text ++ rest ≡ 80 ∷ s.digit ∷ (s.body ++ s.delimiter ∷ rest) = ap (λ (t : List ℕ). t ++ rest) s.whole ∙ ap (λ (t : List ℕ). 80 ∷ s.digit ∷ t) (append_assoc s.body (s.delimiter ∷ []) rest) in (
+      s.body ++ s.delimiter ∷ rest,
+      ap (format_at is_first) whole ∙ spelled_magic_is_read s.digit (s.body ++ s.delimiter ∷ rest) format is_first first s.format_is,
+      spelled_pnm_head_is_read text format head s rest named,
+    )
+
+-- a header of PAM that is spelled is read
+spelled_pam_is_read : (text rest : List ℕ) (format : Format) (head : Header) (is_first : Bool) → (format.is_plain ≡ true → is_first ≡ true) → SpellsPamHeader text format head
+    → HeaderIsRead Pam is_first (text ++ rest) format head rest
+spelled_pam_is_read text rest format head is_first first s =
+    let found = spelled_pam_is_head text rest format head s in
+    (found.0, ap (format_at is_first) found.1 ∙ spelled_magic_is_read 55 found.0 format is_first first s.format_is, found.2)
+
+-- a header of a kind that is spelled is read
+spelled_by : (kind : Kind) (text rest : List ℕ) (format : Format) (head : Header) (is_first : Bool) → format.kind ≡ kind → (format.is_plain ≡ true → is_first ≡ true) → SpellsHeaderBy kind text format head
+    → HeaderIsRead kind is_first (text ++ rest) format head rest
+spelled_by Bit text rest format head is_first k first s =
+    let found = spelled_pnm_is_read text rest format head is_first first (ap is_named k) s in
+    (found.0, found.1, ap (λ (x : Kind). pnm_head_at x found.0) (sym k) ∙ found.2)
+spelled_by Gray text rest format head is_first k first s =
+    let found = spelled_pnm_is_read text rest format head is_first first (ap is_named k) s in
+    (found.0, found.1, ap (λ (x : Kind). pnm_head_at x found.0) (sym k) ∙ found.2)
+spelled_by Color text rest format head is_first k first s =
+    let found = spelled_pnm_is_read text rest format head is_first first (ap is_named k) s in
+    (found.0, found.1, ap (λ (x : Kind). pnm_head_at x found.0) (sym k) ∙ found.2)
+spelled_by Pam text rest format head is_first k first s = spelled_pam_is_read text rest format head is_first first s
+
+-- a header that is spelled is read; a plain one as the first of a text
+pub spelled_header_is_read : (text rest : List ℕ) (format : Format) (head : Header) (is_first : Bool) → (format.is_plain ≡ true → is_first ≡ true) → SpellsHeader text format head
     → (after : List ℕ) × (format_at is_first (text ++ rest) ≡ Ok (format, after)) × (head_at format after ≡ Ok (head, rest))
-spelled_header_is_read text rest format head is_first first pam s = ?
+spelled_header_is_read text rest format head is_first first s = spelled_by format.kind text rest format head is_first refl first s

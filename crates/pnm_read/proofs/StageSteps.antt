@@ -1,45 +1,50 @@
 -- The steps of a source from stage to stage.
-use Rattle.std.proofs.Common.{◌≡◌, ◌⊎◌, ℕ, suc, ◌+◌, ◌-◌, ◌≤◌, Bool, true, false, List, [], ◌∷◌, Result, Ok, Err, inl, inr, refl, ap, ◌∙◌, arith}
+use Rattle.std.proofs.Common.{◌≡◌, ◌⊎◌, ℕ, suc, ◌+◌, ◌-◌, ◌<◌, ◌≤◌, Bool, true, false, List, [], ◌∷◌, length, Option, ◌==◌, sym, Result, Ok, Err, inl, inr, refl, ap, ◌∙◌, arith}
 use Rattle.std.proofs.lemmas.Bool.{cases_lt}
+use Rattle.std.proofs.lemmas.Bool.Decides.{nat_tests}
 use Rattle.pnm_image.specs.declared.shape.Shape.{Shape}
 use Rattle.pnm_image.specs.declared.message.Message.TheVariants.{Begin, Row, ImageEnd, StreamEnd}
 use Rattle.pnm_image.specs.Heads.{Header}
 use Rattle.pnm_read.specs.declared.fault.InputFault.{InputFault}
-use Rattle.pnm_read.specs.declared.fault.InputFault.TheVariants.{BadMagic}
+use Rattle.pnm_read.specs.declared.fault.InputFault.TheVariants.{ReadFailed}
 use Rattle.pnm_read.specs.declared.format.Format.{Format}
+use Rattle.pnm_read.specs.declared.input.Input.{Input}
 use Rattle.pnm_read.specs.declared.raster.Raster.{Raster}
 use Rattle.pnm_read.specs.declared.source.Stage.TheVariants.{Start, Rows, End, Ended}
 use Rattle.pnm_read.specs.declared.source.Step.{Step}
-use Rattle.pnm_read.specs.Said.{Said, said, format_at, head_at, format_said, image_said, rows_said, row_at, end_said, then_said, says_fault}
-use Rattle.pnm_read.specs.Inputs.{Finds, IsOutsideFault}
-use Rattle.pnm_read.specs.Stages.{Steps, EndsText, stage_due}
+use Rattle.pnm_read.specs.Said.{Said, said, later_said, format_at, head_at, format_said, head_said, image_said, rows_said, row_at, end_said, then_said, says_fault}
+use Rattle.pnm_read.specs.Inputs.{Turn, Fills, Finds, IsOutsideFault, HoldsEnough, held_of}
+use Rattle.pnm_read.specs.Stages.{Steps, Begins, SeesText, stage_due}
+use Rattle.pnm_read.proofs.Turns.{no_fault, turn_ok_so, turn_seen, nothing_left, some_left}
+use Rattle.pnm_read.proofs.ScanSteps.{end_seen, none_of_length}
+use Rattle.pnm_read.proofs.LaterLaws.{later_said-nothing, later_said-next}
 
--- ---- the beginning
+-- ---- the beginning of an image
 
 -- a text whose magic is at fault
-pub no_format : (k : InputFault) (b a : List ℕ) → Finds {X = Format} (λ format. format) format_at (Err k) b a → Steps Start (Err k) b a
-unfolding said
-no_format k b a (inl e) = inl (ap format_said e)
-no_format k b a (inr o) = inr o
+pub no_format : (is_first : Bool) (k : InputFault) (b a : List ℕ) → Finds {X = Format} (λ format. format) (format_at is_first) (Err k) b a → Begins is_first (Err k) b a
+unfolding image_said
+no_format is_first k b a (inl e) = inl (ap (format_said later_said) e)
+no_format is_first k b a (inr o) = inr o
 
 -- a text whose header is at fault
-pub no_head : (format : Format) (k : InputFault) (b m a : List ℕ) → Finds {X = Format} (λ format. format) format_at (Ok format) b m → Finds {X = Header} (λ head. head) (head_at format) (Err k) m a → Steps Start (Err k) b a
-unfolding said
-no_head format k b m a f (inl e) = inl (ap format_said f ∙ ap (image_said format) e)
-no_head format k b m a f (inr o) = inr o
+pub no_head : (is_first : Bool) (format : Format) (k : InputFault) (b m a : List ℕ) → Finds {X = Format} (λ format. format) (format_at is_first) (Ok format) b m → Finds {X = Header} (λ head. head) (head_at format) (Err k) m a → Begins is_first (Err k) b a
+unfolding image_said
+no_head is_first format k b m a f (inl e) = inl (ap (format_said later_said) f ∙ ap (head_said later_said format) e)
+no_head is_first format k b m a f (inr o) = inr o
 
-due_at : (format : Format) (head : Header) (raster : Raster) (a : List ℕ) → raster.format ≡ format → raster.shape ≡ head.shape → raster.y ≡ 0 → rows_said format head.shape head.shape.height a ≡ stage_due (Rows raster) a
+due_at : (format : Format) (head : Header) (raster : Raster) (a : List ℕ) → raster.format ≡ format → raster.shape ≡ head.shape → raster.y ≡ 0 → rows_said later_said format head.shape head.shape.height a ≡ stage_due (Rows raster) a
 due_at format head raster a rf rs ry =
     let rows : raster.shape.height - raster.y ≡ head.shape.height = let same = ap (λ (s : Shape). s.height) rs in omega arith in
     rw (rf, rows, rs) refl
 
 -- a header, and its raster
-pub begins : (format : Format) (head : Header) (raster : Raster) (step : Step) (b m a : List ℕ) → Finds {X = Format} (λ format. format) format_at (Ok format) b m → Finds {X = Header} (λ head. head) (head_at format) (Ok head) m a
-    → raster.format ≡ format → raster.shape ≡ head.shape → raster.y ≡ 0 → step.message ≡ Begin head → step.stage ≡ Rows raster → Steps Start (Ok step) b a
-unfolding said
-begins format head raster step b m a f h rf rs ry sm ss =
-    let due : rows_said format head.shape head.shape.height a ≡ stage_due (Rows raster) a = due_at format head raster a rf rs ry in
-    let all : said b ≡ then_said (Begin head) (stage_due (Rows raster) a) = ap format_said f ∙ ap (image_said format) h ∙ ap (then_said (Begin head)) due in
+pub begins : (is_first : Bool) (format : Format) (head : Header) (raster : Raster) (step : Step) (b m a : List ℕ) → Finds {X = Format} (λ format. format) (format_at is_first) (Ok format) b m → Finds {X = Header} (λ head. head) (head_at format) (Ok head) m a
+    → raster.format ≡ format → raster.shape ≡ head.shape → raster.y ≡ 0 → step.message ≡ Begin head → step.stage ≡ Rows raster → Begins is_first (Ok step) b a
+unfolding image_said
+begins is_first format head raster step b m a f h rf rs ry sm ss =
+    let due : rows_said later_said format head.shape head.shape.height a ≡ stage_due (Rows raster) a = due_at format head raster a rf rs ry in
+    let all : image_said later_said is_first b ≡ then_said (Begin head) (stage_due (Rows raster) a) = ap (format_said later_said) f ∙ ap (head_said later_said format) h ∙ ap (then_said (Begin head)) due in
     rw (sm, ss) (all, tt)
 
 -- ---- the raster
@@ -49,20 +54,20 @@ pub image_ends : (raster : Raster) (step : Step) (b a : List ℕ) → raster.y �
 unfolding rows_said
 image_ends raster step b a e sm ss same =
     let none : raster.shape.height - raster.y ≡ 0 = omega arith in
-    let said : stage_due (Rows raster) b ≡ then_said ImageEnd (end_said raster.format.is_plain a) = rw (none, same) refl in
+    let said : stage_due (Rows raster) b ≡ then_said ImageEnd (end_said later_said raster.format.is_plain a) = rw (none, same) refl in
     rw (sm, ss) (said, tt)
 
 -- what is said from a row on
 abbrev row_said : Format → Shape → ℕ → Result (List ℕ × List ℕ) InputFault → Said
 row_said format s more (Err fault) = says_fault fault
-row_said format s more (Ok row) = then_said (Row row.0) (rows_said format s more row.1)
+row_said format s more (Ok row) = then_said (Row row.0) (rows_said later_said format s more row.1)
 
 -- what is said of a row that was read, and of what follows it
-row_is_said : (format : Format) (s : Shape) (more : ℕ) (text rest row : List ℕ) → row_at format s more text ≡ Ok (row, rest) → rows_said format s (suc more) text ≡ then_said (Row row) (rows_said format s more rest)
+row_is_said : (format : Format) (s : Shape) (more : ℕ) (text rest row : List ℕ) → row_at format s more text ≡ Ok (row, rest) → rows_said later_said format s (suc more) text ≡ then_said (Row row) (rows_said later_said format s more rest)
 unfolding rows_said
 row_is_said format s more text rest row e = ap (row_said format s more) e
 
-row_is_at_fault : (format : Format) (s : Shape) (more : ℕ) (text : List ℕ) (k : InputFault) → row_at format s more text ≡ Err k → rows_said format s (suc more) text ≡ says_fault k
+row_is_at_fault : (format : Format) (s : Shape) (more : ℕ) (text : List ℕ) (k : InputFault) → row_at format s more text ≡ Err k → rows_said later_said format s (suc more) text ≡ says_fault k
 unfolding rows_said
 row_is_at_fault format s more text k e = ap (row_said format s more) e
 
@@ -82,35 +87,64 @@ pub row_step : (raster next : Raster) (row : List ℕ) (step : Step) (b a : List
 row_step raster next row step b a n e nf ns ny sm ss =
     let left = rows_left raster n in
     let rows : next.shape.height - next.y ≡ raster.shape.height - raster.y - 1 = let same = ap (λ (s : Shape). s.height) ns in omega arith in
-    let due : rows_said raster.format raster.shape (raster.shape.height - raster.y - 1) a ≡ stage_due (Rows next) a = rw (nf, rows, ns) refl in
+    let due : rows_said later_said raster.format raster.shape (raster.shape.height - raster.y - 1) a ≡ stage_due (Rows next) a = rw (nf, rows, ns) refl in
     let said : stage_due (Rows raster) b ≡ then_said (Row row) (stage_due (Rows next) a) =
-    ap (λ (k : ℕ). rows_said raster.format raster.shape k b) left ∙ row_is_said raster.format raster.shape (raster.shape.height - raster.y - 1) b a row e ∙ ap (then_said (Row row)) due in
+    ap (λ (k : ℕ). rows_said later_said raster.format raster.shape k b) left ∙ row_is_said raster.format raster.shape (raster.shape.height - raster.y - 1) b a row e ∙ ap (then_said (Row row)) due in
     rw (sm, ss) (said, tt)
 
 -- a row at fault
 pub row_fault : (raster : Raster) (k : InputFault) (b a : List ℕ) → (raster.y ≡ raster.shape.height → ⊥) → (row_at raster.format raster.shape (raster.shape.height - raster.y - 1) b ≡ Err k) ⊎ IsOutsideFault k → Steps (Rows raster) (Err k) b a
-row_fault raster k b a n (inl e) = inl (ap (λ (k : ℕ). rows_said raster.format raster.shape k b) (rows_left raster n) ∙ row_is_at_fault raster.format raster.shape (raster.shape.height - raster.y - 1) b k e)
+row_fault raster k b a n (inl e) = inl (ap (λ (k : ℕ). rows_said later_said raster.format raster.shape k b) (rows_left raster n) ∙ row_is_at_fault raster.format raster.shape (raster.shape.height - raster.y - 1) b k e)
 row_fault raster k b a n (inr o) = inr o
 
--- ---- the end
+-- ---- what follows an image
 
+-- the first image
+pub first_begins : (result : Result Step InputFault) (b a : List ℕ) → Begins true result b a → Steps Start result b a
+unfolding said
+first_begins (Ok step) b a s = s
+first_begins (Err k) b a s = s
+
+-- after a plain image the stream ends
 pub plain_ends : (is_plain : Bool) (step : Step) (b a : List ℕ) → is_plain ≡ true → step.message ≡ StreamEnd → step.stage ≡ Ended → Steps (End is_plain) (Ok step) b a
 unfolding end_said
 plain_ends is_plain step b a p sm ss = rw (p, sm, ss) (refl, refl)
 
+-- after a raw image without a byte more it ends
 pub raw_ends : (is_plain : Bool) (step : Step) (b a : List ℕ) → is_plain ≡ false → b ≡ [] → step.message ≡ StreamEnd → step.stage ≡ Ended → Steps (End is_plain) (Ok step) b a
 unfolding end_said
-raw_ends is_plain step b a p e sm ss = rw (p, e, sm, ss) (refl, refl)
+raw_ends is_plain step b a p e sm ss = rw (p, e, sm, ss) (later_said-nothing, refl)
 
-raw_goes_on : (text : List ℕ) → (text ≡ [] → ⊥) → end_said false text ≡ says_fault BadMagic
+some_bytes : (text : List ℕ) → (text ≡ [] → ⊥) → 0 < length text
+some_bytes [] n = absurd (n refl)
+some_bytes (x ∷ text) n = omega arith
+
+-- with one more, the next image begins
+raw_due : (is_plain : Bool) (text : List ℕ) → is_plain ≡ false → (text ≡ [] → ⊥) → stage_due (End is_plain) text ≡ image_said later_said false text
 unfolding end_said
-raw_goes_on [] n = absurd (n refl)
-raw_goes_on (x ∷ text) n = refl
+raw_due is_plain text p n = rw p (later_said-next text (some_bytes text n))
 
-pub raw_is_followed : (is_plain : Bool) (b a : List ℕ) → is_plain ≡ false → (b ≡ [] → ⊥) → Steps (End is_plain) (Err BadMagic) b a
-raw_is_followed is_plain b a p n = inl (rw p (raw_goes_on b n))
+pub next_begins : (is_plain : Bool) (result : Result Step InputFault) (b a : List ℕ) → is_plain ≡ false → (b ≡ [] → ⊥) → Begins false result b a → Steps (End is_plain) result b a
+next_begins is_plain (Ok step) b a p n s = (raw_due is_plain b p n ∙ s.0, s.1)
+next_begins is_plain (Err k) b a p n (inl e) = inl (raw_due is_plain b p n ∙ e)
+next_begins is_plain (Err k) b a p n (inr o) = inr o
 
--- something follows a raw image, or reading on failed
-pub raw_end_fault : (is_plain : Bool) (k : InputFault) (b a : List ℕ) → is_plain ≡ false → EndsText (Err k) b a → Steps (End is_plain) (Err k) b a
-raw_end_fault is_plain k b a p (inl e) = rw e.0 (raw_is_followed is_plain b a p e.1)
-raw_end_fault is_plain k b a p (inr o) = inr o
+-- reading on failed
+pub raw_unread : (is_plain : Bool) (k : InputFault) (b a : List ℕ) → IsOutsideFault k → Steps (End is_plain) (Err k) b a
+raw_unread is_plain k b a o = inr o
+
+-- ---- whether a byte is left
+
+no_bytes : (bytes held : List ℕ) → bytes ≡ held → true ≡ (length bytes == 0) → held ≡ []
+no_bytes bytes held e n = none_of_length bytes held e (grind (arith, nat_tests, n))
+
+-- after asking for a byte, the text has ended where none is held
+pub text_seen : {R : Type 0} {left : R → Option (List ℕ)} {failures : R → ℕ} {same : R → R → Type 0} {old input : Input R} (ended : Bool) (bytes : List ℕ) → ended ≡ (length bytes == 0) → bytes ≡ held_of input → HoldsEnough 1 input
+    → Turn {A = Unit {0}} left failures same old input (Ok tt) (Fills (Ok tt)) → Turn {A = Bool} left failures same old input (Ok ended) (SeesText (Ok ended))
+text_seen {input = input} true bytes is held enough t =
+    let none = no_bytes bytes (held_of input) held is in
+    turn_ok_so tt (Ok true) (no_fault true ReadFailed)
+    (λ b a o. let nothing = nothing_left input a none (end_seen input enough none) o.1 in (o.0 ∙ nothing, nothing)) (turn_seen t)
+text_seen {input = input} false bytes is held enough t =
+    turn_ok_so tt (Ok false) (no_fault false ReadFailed)
+    (λ b a o. (λ none. some_left input bytes a held (sym is) o.1 (sym o.0 ∙ none), sym o.0)) (turn_seen t)

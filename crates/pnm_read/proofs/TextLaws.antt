@@ -1,21 +1,26 @@
 -- What a text spells is what is said of it, and it spells one list of images or has a fault.
-use Rattle.std.proofs.Common.{◌≡◌, ◌⊎◌, ℕ, ◌<◌, Bool, true, false, List, [], ◌∷◌, ◌++◌, map, Option, Some, None, Result, Ok, Err, inl, inr, refl, sym, ap, subst, ◌∙◌, append_assoc}
-use Rattle.std.proofs.lemmas.List.{append-nil}
+use Rattle.std.proofs.Common.{◌≡◌, ◌⊎◌, ℕ, zero, suc, ◌+◌, ◌<◌, ◌≤◌, Bool, true, false, List, [], ◌∷◌, ◌++◌, length, map, Option, Some, None, Result, Ok, Err, inl, inr, refl, sym, ap, subst, ◌∙◌, append_assoc, arith}
+use Rattle.std.proofs.lemmas.List.{length-append}
 use Rattle.pnm_image.specs.declared.message.Message.{Message}
-use Rattle.pnm_image.specs.declared.message.Message.TheVariants.{Begin, Row, ImageEnd, StreamEnd}
-use Rattle.pnm_image.specs.Heads.{Header, IsHeader}
-use Rattle.pnm_image.specs.Images.{Image, IsImage, AreImages, rows_of, messages_of_stream}
+use Rattle.pnm_image.specs.declared.message.Message.TheVariants.{Begin, Row, ImageEnd}
+use Rattle.pnm_image.specs.Heads.{Header}
+use Rattle.pnm_image.specs.Images.{Image, IsImage, AreImages, rows_of, messages_of_image, messages_of_stream}
 use Rattle.pnm_image.proofs.Streams.{is_stream_of, stream_is_messages, stream_is_lawful, stream_ends}
 use Rattle.pnm_read.specs.declared.fault.InputFault.{InputFault}
 use Rattle.pnm_read.specs.declared.format.Format.{Format}
 use Rattle.pnm_read.specs.Headers.{SpellsHeader}
-use Rattle.pnm_read.specs.Spelling.{SpellsRasterBy, SpellsRaster, IsRestBy, IsRest, Spells}
-use Rattle.pnm_read.specs.Said.{Said, then_said, format_at, head_at, rows_said, image_said, format_said, said, said_of, fault_of}
+use Rattle.pnm_read.specs.Rasters.{SpellsRaw, SpellsPlain}
+use Rattle.pnm_read.specs.Spelling.{SpellsRasterBy, SpellsImage, SpellsRawImage, SpellsRawImages, SpellsPlainAlone, Spells}
+use Rattle.pnm_read.specs.Said.{Said, then_said, ends_stream, format_at, head_at, rows_said, head_said, format_said, image_said, later_said, said, said_of, fault_of}
 use Rattle.pnm_read.specs.TextLaws.{SpellsOnly, IsAtFault}
-use Rattle.pnm_read.proofs.HeaderLaws.{read_header_is_spelled}
+use Rattle.pnm_read.proofs.HeaderLaws.{spelled_head, read_header_is_spelled}
 use Rattle.pnm_read.proofs.SpelledHeaders.{spelled_header_is_read}
 use Rattle.pnm_read.proofs.PlainLaws.{rows_and_ends, spelled_plain_is_said, said_plain_is_spelled}
-use Rattle.pnm_read.proofs.RawLaws.{spelled_raw_is_said, said_raw_is_spelled}
+use Rattle.pnm_read.proofs.RawLaws.{rows_then, spelled_raw_is_said, said_raw_is_spelled}
+use Rattle.pnm_read.proofs.LaterLaws.{header_has_bytes, later_is_raw, later_said-nothing, later_said-next}
+
+not_plain : (plain : Bool) → plain ≡ false → plain ≡ true → ⊥
+not_plain plain f t = cc
 
 -- ---- what is spelled is said
 
@@ -23,25 +28,77 @@ use Rattle.pnm_read.proofs.RawLaws.{spelled_raw_is_said, said_raw_is_spelled}
 abbrev says_images : List Image → Said
 says_images images = record { messages = messages_of_stream images; fault = None }
 
--- of a raster that spells an image the rows are said, and the ends
-spelled_raster_is_said : (is_plain : Bool) (format : Format) (raster rest : List ℕ) (image : Image) → format.is_plain ≡ is_plain → image.head.shape.kind ≡ format.kind → 0 < image.head.shape.height → SpellsRasterBy is_plain raster image → IsRestBy is_plain rest
-    → rows_said format image.head.shape image.head.shape.height (raster ++ rest) ≡ rows_and_ends (rows_of image)
-spelled_raster_is_said true format raster rest image plain kind some spelled apart = spelled_plain_is_said format raster rest image plain kind some spelled apart
-spelled_raster_is_said false format raster rest image plain kind some spelled none =
-    ap (λ (t : List ℕ). rows_said format image.head.shape image.head.shape.height (raster ++ t)) none ∙ ap (rows_said format image.head.shape image.head.shape.height) (append-nil raster)
-    ∙ spelled_raw_is_said format raster image plain kind spelled
+-- the messages of an image, and then what is said
+abbrev image_then : Image → Said → Said
+image_then image s = record { messages = messages_of_image image ++ s.messages; fault = s.fault }
+
+-- after its head come an image's rows and its end
+after_head : (image : Image) (s : Said) → then_said (Begin image.head) (rows_then (rows_of image) s) ≡ image_then image s
+after_head image s = ap (λ (l : List Message). record { messages = Begin image.head ∷ l; fault = s.fault }) (sym (append_assoc (map Row (rows_of image)) (ImageEnd ∷ []) s.messages))
+
+-- of a text that begins with the header of an image, its head is said, and then the rows
+head_is_said : (later : List ℕ → Said) (is_first : Bool) (format : Format) (image : Image) (header rest : List ℕ) → (format.is_plain ≡ true → is_first ≡ true) → SpellsHeader header format image.head
+    → image_said later is_first (header ++ rest) ≡ then_said (Begin image.head) (rows_said later format image.head.shape image.head.shape.height rest)
+unfolding image_said
+head_is_said later is_first format image header rest first h =
+    let read = spelled_header_is_read header rest format image.head is_first first h in
+    ap (format_said later) read.1 ∙ ap (head_said later format) read.2
+
+-- of a text that begins with a raw image its messages are said, and then what follows
+raw_image_is_said : (later : List ℕ → Said) (is_first : Bool) (text rest : List ℕ) (image : Image) → SpellsRawImage text image → image_said later is_first (text ++ rest) ≡ image_then image (later rest)
+raw_image_is_said later is_first text rest image s =
+    let format : Format = s.0 in
+    let spelled = s.2 in
+    let raster : SpellsRaw spelled.raster image = subst (λ (p : Bool). SpellsRasterBy p spelled.raster image) s.1 spelled.raster_is in
+    ap (image_said later is_first) (ap (λ (t : List ℕ). t ++ rest) spelled.whole ∙ append_assoc spelled.header spelled.raster rest)
+    ∙ head_is_said later is_first format image spelled.header (spelled.raster ++ rest) (λ plain. absurd (not_plain format.is_plain s.1 plain)) spelled.header_is
+    ∙ ap (then_said (Begin image.head)) (spelled_raw_is_said later format spelled.raster rest image s.1 raster)
+    ∙ after_head image (later rest)
+
+-- a raw image has some bytes
+raw_image_has_bytes : (text : List ℕ) (image : Image) → SpellsRawImage text image → 0 < length text
+raw_image_has_bytes text image s =
+    let spelled = s.2 in
+    let some = header_has_bytes spelled.header s.0 image.head spelled.header_is in
+    let count : length text ≡ length spelled.header + length spelled.raster = ap (λ (t : List ℕ). length t) spelled.whole ∙ length-append spelled.header spelled.raster in
+    omega arith
+
+-- of raw images in turn the messages are said
+raw_images_are_said : (text : List ℕ) (images : List Image) → SpellsRawImages text images → later_said text ≡ says_images images
+raw_images_are_said text [] s = ap later_said s ∙ later_said-nothing
+raw_images_are_said text (image ∷ images) s =
+    let some = raw_image_has_bytes s.0 image s.3 in
+    let count : length text ≡ length s.0 + length s.1 = ap (λ (t : List ℕ). length t) s.2 ∙ length-append s.0 s.1 in
+    later_said-next text (omega arith) ∙ ap (image_said later_said false) s.2 ∙ raw_image_is_said later_said false s.0 s.1 image s.3
+    ∙ ap (image_then image) (raw_images_are_said s.1 images s.4)
+
+raw_text_is : (text : List ℕ) (images : List Image) → 0 < length images → SpellsRawImages text images → said text ≡ says_images images
+unfolding said
+raw_text_is text [] some s = absurd (omega arith)
+raw_text_is text (image ∷ images) some s =
+    ap (image_said later_said true) s.2 ∙ raw_image_is_said later_said true s.0 s.1 image s.3 ∙ ap (image_then image) (raw_images_are_said s.1 images s.4)
 
 -- the messages of one image are its rows and the ends, after its head
 one_image : (image : Image) → then_said (Begin image.head) (rows_and_ends (rows_of image)) ≡ says_images (image ∷ [])
-one_image image = ap (λ (l : List Message). record { messages = Begin image.head ∷ l; fault = None }) (sym (append_assoc (map Row (rows_of image)) (ImageEnd ∷ []) (StreamEnd ∷ [])))
+one_image image = after_head image ends_stream
+
+plain_text_is : (text : List ℕ) (images : List Image) → SpellsPlainAlone text images → said text ≡ says_images images
+unfolding said
+plain_text_is text images s =
+    let image : Image = s.image in
+    let format : Format = s.image_is.0 in
+    let spelled = s.image_is.2 in
+    let facts = spelled_head spelled.header format image.head spelled.header_is in
+    let raster : SpellsPlain spelled.raster image = subst (λ (p : Bool). SpellsRasterBy p spelled.raster image) s.image_is.1 spelled.raster_is in
+    ap (image_said later_said true) (s.whole ∙ ap (λ (t : List ℕ). t ++ s.rest) spelled.whole ∙ append_assoc spelled.header spelled.raster s.rest)
+    ∙ head_is_said later_said true format image spelled.header (spelled.raster ++ s.rest) (λ plain. refl) spelled.header_is
+    ∙ ap (then_said (Begin image.head)) (spelled_plain_is_said later_said format spelled.raster s.rest image s.image_is.1 facts.kind facts.rows raster s.rest_is)
+    ∙ one_image image ∙ ap says_images (sym s.one)
 
 -- all that is said of a text that spells images
 spelled_text_is : (text : List ℕ) (images : List Image) → Spells text images → said text ≡ says_images images
-unfolding said
-spelled_text_is text images s =
-    let read = spelled_header_is_read s.header (s.raster ++ s.rest) s.format s.image.head s.header_is in
-    let rows = spelled_raster_is_said s.format.is_plain s.format s.raster s.rest s.image refl s.header_is.kind s.header_is.rows s.raster_is s.rest_is in
-    ap (λ (t : List ℕ). format_said (format_at t)) s.whole ∙ ap format_said read.1 ∙ ap (image_said s.format) read.2 ∙ ap (then_said (Begin s.image.head)) rows ∙ one_image s.image ∙ ap says_images (sym s.one)
+spelled_text_is text images (inl s) = raw_text_is text images s.0 s.1
+spelled_text_is text images (inr s) = plain_text_is text images s
 
 -- of a text that spells images their messages are said, without a fault
 pub spelled_text_is_said : (text : List ℕ) (images : List Image) → Spells text images → (said_of text ≡ messages_of_stream images) × (fault_of text ≡ None)
@@ -51,75 +108,122 @@ spelled_text_is_said text images s =
 
 -- ---- what is said is spelled
 
--- a raster that was read, and what may follow it
-record Raster (format : Format) (head : Header) (text : List ℕ) : Type 0 where
+-- a raw image that a text begins with, and what follows, which has no fault
+record RawAndRest (later : List ℕ → Said) (text : List ℕ) : Type 0 where
   pub image : Image
-  pub raster : List ℕ
+  pub first : List ℕ
   pub rest : List ℕ
-  pub whole : text ≡ raster ++ rest
-  pub head_is : image.head ≡ head
-  pub raster_is : SpellsRaster format raster image
-  pub rest_is : IsRest format rest
+  pub whole : text ≡ first ++ rest
+  pub image_is : SpellsRawImage first image
+  pub sound : (later rest).fault ≡ None
 
--- of rows that are said without a fault, the raster spells an image
-said_raster_is_spelled : (is_plain : Bool) (format : Format) (head : Header) (text : List ℕ) → format.is_plain ≡ is_plain → head.shape.kind ≡ format.kind → IsHeader head → 0 < head.shape.height
-    → (rows_said format head.shape head.shape.height text).fault ≡ None → Raster format head text
-said_raster_is_spelled true format head text plain kind sound some e =
-    let r = said_plain_is_spelled format head text plain kind sound some e in
+-- a plain image, and what may follow it
+abbrev IsPlainAlone : List ℕ → Type 0
+IsPlainAlone text = (images : List Image) × SpellsPlainAlone text images
+
+-- a header, and the raster that was read after it
+image_of_parts : (text rest header raster : List ℕ) (format : Format) (head : Header) (image : Image) → text ≡ header ++ raster → SpellsHeader header format head → image.head ≡ head → SpellsRasterBy format.is_plain raster image → SpellsImage text format image
+image_of_parts text rest header raster format head image whole h same r = record {
+  header = header;
+  raster = raster;
+  whole = whole;
+  header_is = subst (SpellsHeader header format) (sym same) h;
+  raster_is = r;
+}
+
+raw_raster_is_spelled : (later : List ℕ → Said) (text header after : List ℕ) (format : Format) (head : Header) → format.is_plain ≡ false → text ≡ header ++ after → SpellsHeader header format head
+    → (rows_said later format head.shape head.shape.height after).fault ≡ None → RawAndRest later text
+raw_raster_is_spelled later text header after format head raw whole h e =
+    let facts = spelled_head header format head h in
+    let r = said_raw_is_spelled later format head after raw facts.sound e in
+    let image : Image = r.0 in
+    let raster : List ℕ = r.1 in
+    let is = image_of_parts (header ++ raster) r.2 header raster format head image refl h r.4 (subst (λ (p : Bool). SpellsRasterBy p raster image) (sym raw) r.5) in
     record {
-      image = r.0;
-      raster = r.1;
+      image = image;
+      first = header ++ raster;
       rest = r.2;
-      whole = r.3;
-      head_is = r.4;
-      raster_is = subst (λ (p : Bool). SpellsRasterBy p r.1 r.0) (sym plain) r.5;
-      rest_is = subst (λ (p : Bool). IsRestBy p r.2) (sym plain) r.6;
+      whole = whole ∙ ap (λ (t : List ℕ). header ++ t) r.3 ∙ sym (append_assoc header raster r.2);
+      image_is = (format, raw, is);
+      sound = r.6;
     }
-said_raster_is_spelled false format head text plain kind sound some e =
-    let r = said_raw_is_spelled format head text plain kind sound e in
-    record {
-      image = r.0;
-      raster = text;
-      rest = [];
-      whole = sym (append-nil text);
-      head_is = r.1;
-      raster_is = subst (λ (p : Bool). SpellsRasterBy p text r.0) (sym plain) r.2;
-      rest_is = subst (λ (p : Bool). IsRestBy p []) (sym plain) refl;
-    }
+
+plain_raster_is_spelled : (later : List ℕ → Said) (text header after : List ℕ) (format : Format) (head : Header) → format.is_plain ≡ true → text ≡ header ++ after → SpellsHeader header format head
+    → (rows_said later format head.shape head.shape.height after).fault ≡ None → IsPlainAlone text
+plain_raster_is_spelled later text header after format head plain whole h e =
+    let facts = spelled_head header format head h in
+    let r = said_plain_is_spelled later format head after plain facts.kind facts.sound facts.rows e in
+    let image : Image = r.0 in
+    let raster : List ℕ = r.1 in
+    let is = image_of_parts (header ++ raster) r.2 header raster format head image refl h r.4 (subst (λ (p : Bool). SpellsRasterBy p raster image) (sym plain) r.5) in (
+      image ∷ [],
+      record {
+        image = image;
+        first = header ++ raster;
+        rest = r.2;
+        one = refl;
+        whole = whole ∙ ap (λ (t : List ℕ). header ++ t) r.3 ∙ sym (append_assoc header raster r.2);
+        image_is = (format, plain, is);
+        rest_is = r.6;
+      },
+    )
+
+raster_is_spelled : (is_plain : Bool) (later : List ℕ → Said) (text header after : List ℕ) (format : Format) (head : Header) → format.is_plain ≡ is_plain → text ≡ header ++ after → SpellsHeader header format head
+    → (rows_said later format head.shape head.shape.height after).fault ≡ None → ((format.is_plain ≡ false) × RawAndRest later text) ⊎ ((format.is_plain ≡ true) × IsPlainAlone text)
+raster_is_spelled false later text header after format head plain whole h e = inl (plain, raw_raster_is_spelled later text header after format head plain whole h e)
+raster_is_spelled true later text header after format head plain whole h e = inr (plain, plain_raster_is_spelled later text header after format head plain whole h e)
 
 -- where an image is said without a fault, a format was read
-sound_format : (found : Result (Format × List ℕ) InputFault) → (format_said found).fault ≡ None → (x : Format × List ℕ) × (found ≡ Ok x) × ((image_said x.0 (head_at x.0 x.1)).fault ≡ None)
-sound_format (Ok x) e = (x, refl, e)
-sound_format (Err fault) e = absurd cc
+sound_format : (later : List ℕ → Said) (found : Result (Format × List ℕ) InputFault) → (format_said later found).fault ≡ None → (x : Format × List ℕ) × (found ≡ Ok x) × ((head_said later x.0 (head_at x.0 x.1)).fault ≡ None)
+sound_format later (Ok x) e = (x, refl, e)
+sound_format later (Err fault) e = absurd cc
 
 -- where an image of a format is said without a fault, a head was read
-sound_image : (format : Format) (found : Result (Header × List ℕ) InputFault) → (image_said format found).fault ≡ None → (x : Header × List ℕ) × (found ≡ Ok x) × ((rows_said format x.0.shape x.0.shape.height x.1).fault ≡ None)
-sound_image format (Ok x) e = (x, refl, e)
-sound_image format (Err fault) e = absurd cc
+sound_head : (later : List ℕ → Said) (format : Format) (found : Result (Header × List ℕ) InputFault) → (head_said later format found).fault ≡ None → (x : Header × List ℕ) × (found ≡ Ok x) × ((rows_said later format x.0.shape x.0.shape.height x.1).fault ≡ None)
+sound_head later format (Ok x) e = (x, refl, e)
+sound_head later format (Err fault) e = absurd cc
+
+-- an image that is said without a fault is spelled: a raw one and a rest, or a plain one
+image_is_spelled : (later : List ℕ → Said) (is_first : Bool) (text : List ℕ) → (image_said later is_first text).fault ≡ None
+    → (x : Format × List ℕ) × (format_at is_first text ≡ Ok x) × (((x.0.is_plain ≡ false) × RawAndRest later text) ⊎ ((x.0.is_plain ≡ true) × IsPlainAlone text))
+unfolding image_said
+image_is_spelled later is_first text e =
+    let found = sound_format later (format_at is_first text) e in
+    let format : Format = found.0.0 in
+    let after : List ℕ = found.0.1 in
+    let read = sound_head later format (head_at format after) found.2 in
+    let header = read_header_is_spelled is_first text after read.0.1 format read.0.0 found.1 read.1 in
+    (found.0, found.1, raster_is_spelled format.is_plain later text header.0 read.0.1 format read.0.0 refl header.1 header.2 read.2)
+
+-- what is said after a raw image without a fault are raw images
+later_is_spelled : (most : ℕ) (text : List ℕ) → length text ≤ most → (later_said text).fault ≡ None → (images : List Image) × SpellsRawImages text images
+later_is_spelled most [] le e = ([], refl)
+later_is_spelled zero (b ∷ text) le e = absurd (omega arith)
+later_is_spelled (suc most) (b ∷ text) le e =
+    let whole : List ℕ = b ∷ text in
+    let found = image_is_spelled later_said false whole (sym (ap (λ (s : Said). s.fault) (later_said-next whole (omega arith))) ∙ e) in
+    elim found.2 [
+      | inl r ↦
+          let raw : RawAndRest later_said whole = r.1 in
+          let some = raw_image_has_bytes raw.first raw.image raw.image_is in
+          let count : length whole ≡ length raw.first + length raw.rest = ap (λ (t : List ℕ). length t) raw.whole ∙ length-append raw.first raw.rest in
+          let more = later_is_spelled most raw.rest (omega arith) raw.sound in
+          (raw.image ∷ more.0, (raw.first, raw.rest, raw.whole, raw.image_is, more.1))
+      | inr p ↦ absurd (not_plain found.0.0.is_plain (later_is_raw whole found.0 found.1) p.0)
+    ]
 
 -- a text without a fault spells images
 sound_text_is_spelled : (text : List ℕ) → fault_of text ≡ None → (images : List Image) × Spells text images
 unfolding said
 sound_text_is_spelled text e =
-    let found = sound_format (format_at text) e in
-    let format : Format = found.0.0 in
-    let read = sound_image format (head_at format found.0.1) found.2 in
-    let header = read_header_is_spelled text found.0.1 read.0.1 format read.0.0 found.1 read.1 in
-    let r = said_raster_is_spelled format.is_plain format read.0.0 read.0.1 refl header.2.kind header.2.sound header.2.rows read.2 in (
-      r.image ∷ [],
-      record {
-        image = r.image;
-        format = format;
-        header = header.0;
-        raster = r.raster;
-        rest = r.rest;
-        one = refl;
-        whole = header.1 ∙ ap (λ (t : List ℕ). header.0 ++ t) r.whole;
-        header_is = subst (SpellsHeader header.0 format) (sym r.head_is) header.2;
-        raster_is = r.raster_is;
-        rest_is = r.rest_is;
-      },
-    )
+    let found = image_is_spelled later_said true text e in
+    elim found.2 [
+      | inl r ↦
+          let raw : RawAndRest later_said text = r.1 in
+          let more = later_is_spelled (length raw.rest) raw.rest (omega arith) raw.sound in
+          (raw.image ∷ more.0, inl (omega arith, (raw.first, raw.rest, raw.whole, raw.image_is, more.1)))
+      | inr p ↦ (p.1.0, inr p.1.1)
+    ]
 
 -- a text without a fault spells the images whose messages are said of it
 pub said_text_is_spelled : (text : List ℕ) → fault_of text ≡ None → (images : List Image) × Spells text images × (said_of text ≡ messages_of_stream images)
@@ -134,9 +238,17 @@ raster_is_of_image : (is_plain : Bool) (raster : List ℕ) (image : Image) → S
 raster_is_of_image true raster image s = s.sound
 raster_is_of_image false raster image s = s.sound
 
+spelled_is_image : (text : List ℕ) (format : Format) (image : Image) → SpellsImage text format image → IsImage image
+spelled_is_image text format image s = raster_is_of_image format.is_plain s.raster image s.raster_is
+
+raw_are_images : (text : List ℕ) (images : List Image) → SpellsRawImages text images → AreImages images
+raw_are_images text [] s = tt
+raw_are_images text (image ∷ images) s = (spelled_is_image s.0 s.3.0 image s.3.2, raw_are_images s.1 images s.4)
+
 -- what a text spells are images
-spelled_are_images : (text : List ℕ) (images : List Image) → Spells text images → AreImages images
-spelled_are_images text images s = subst AreImages (sym s.one) (raster_is_of_image s.format.is_plain s.raster s.image s.raster_is, tt)
+pub spelled_are_images : (text : List ℕ) (images : List Image) → Spells text images → AreImages images
+spelled_are_images text images (inl s) = raw_are_images text images s.1
+spelled_are_images text images (inr s) = subst AreImages (sym s.one) (spelled_is_image s.first s.image_is.0 s.image s.image_is.2, tt)
 
 -- a text spells no two lists of images
 spelled_images_are_one : (text : List ℕ) (images others : List Image) → Spells text images → Spells text others → others ≡ images

@@ -1,10 +1,10 @@
 -- Small texts, and what is said of them.
 use Rattle.std.specs.Prelude.{◌≡◌, ℕ, List, [], ◌∷◌, ◌++◌, map, Some, None, codes}
 use Rattle.pnm_image.specs.declared.shape.Kind.{Kind}
-use Rattle.pnm_image.specs.declared.shape.Kind.TheVariants.{Bit, Gray, Color}
+use Rattle.pnm_image.specs.declared.shape.Kind.TheVariants.{Bit, Gray, Color, Pam}
 use Rattle.pnm_image.specs.declared.message.Message.{Message}
 use Rattle.pnm_image.specs.declared.message.Message.TheVariants.{Begin, Row, ImageEnd, StreamEnd}
-use Rattle.pnm_read.specs.declared.fault.InputFault.TheVariants.{EmptyInput, BadMagic, HeaderCut, BadNumber, ZeroSize, RasterCut, SampleAboveMaxval, BadSample}
+use Rattle.pnm_read.specs.declared.fault.InputFault.TheVariants.{EmptyInput, BadMagic, HeaderCut, BadNumber, ZeroSize, BadPamLine, DuplicateField, MissingField, RasterCut, SampleAboveMaxval, BadSample, PlainInStream}
 use Rattle.pnm_read.specs.Said.{Said, said, fault_of}
 
 -- the head of a kind, a width, a height, a depth and a maxval
@@ -36,4 +36,15 @@ pub record ExamplesHold : Type 0 where
   pub other_digit : fault_of (codes "P1 1 1 2") ≡ Some BadSample
   pub empty : fault_of [] ≡ Some EmptyInput
   pub cut_raster : said (codes "P5 1 2 9\n" ++ 5 ∷ []) ≡ record { messages = head Gray 1 2 1 9 ∷ Row (5 ∷ []) ∷ []; fault = Some RasterCut }
-  pub byte_after_raw : said (codes "P5 1 1 9\n" ++ 5 ∷ 80 ∷ []) ≡ record { messages = head Gray 1 1 1 9 ∷ Row (5 ∷ []) ∷ ImageEnd ∷ []; fault = Some BadMagic }
+  pub byte_after_raw : said (codes "P5 1 1 9\n" ++ 5 ∷ 81 ∷ []) ≡ record { messages = head Gray 1 1 1 9 ∷ Row (5 ∷ []) ∷ ImageEnd ∷ []; fault = Some BadMagic }
+  pub two_images : said (codes "P5\n2 1\n9\n" ++ (1 ∷ 2 ∷ (codes "P6\n1 1\n9\n" ++ 3 ∷ 4 ∷ 5 ∷ []))) ≡ record { messages = head Gray 2 1 1 9 ∷ Row (1 ∷ 2 ∷ []) ∷ ImageEnd ∷ head Color 1 1 3 9 ∷ Row (3 ∷ 4 ∷ 5 ∷ []) ∷ ImageEnd ∷ StreamEnd ∷ []; fault = None }
+  pub cut_second : said (codes "P5\n2 1\n9\n" ++ (1 ∷ 2 ∷ (codes "P6\n1 1\n9\n" ++ 3 ∷ 4 ∷ []))) ≡ record { messages = head Gray 2 1 1 9 ∷ Row (1 ∷ 2 ∷ []) ∷ ImageEnd ∷ head Color 1 1 3 9 ∷ []; fault = Some RasterCut }
+  pub plain_after_raw : fault_of (codes "P4 1 1\n" ++ 0 ∷ codes "P1 1 1 0") ≡ Some PlainInStream
+  pub raw_after_plain : said (codes "P2 1 1 9 5 P5 1 1 9 5") ≡ image (head Gray 1 1 1 9) ((5 ∷ []) ∷ [])
+  pub pam : said (codes "P7\n# c\nTUPLTYPE A\nDEPTH 1\n\nMAXVAL 1\nTUPLTYPE  B \nWIDTH 1\nHEIGHT 1\nENDHDR\n" ++ 1 ∷ []) ≡ image (Begin (record { shape = record { kind = Pam; width = 1; height = 1; depth = 1; maxval = 1 }; tuple_type = codes "A B" })) ((1 ∷ []) ∷ [])
+  pub pam_without_depth : fault_of (codes "P7\nMAXVAL 1\nWIDTH 1\nHEIGHT 1\nENDHDR\n") ≡ Some MissingField
+  pub pam_field_twice : fault_of (codes "P7\nWIDTH 1\nWIDTH 1\n") ≡ Some DuplicateField
+  pub pam_no_number : fault_of (codes "P7\nWIDTH\n") ≡ Some BadPamLine
+  pub pam_bad_number : fault_of (codes "P7\nWIDTH x\n") ≡ Some BadNumber
+  pub pam_blank_after_magic : fault_of (codes "P7 \n") ≡ Some BadPamLine
+  pub pam_cut : fault_of (codes "P7\nWIDTH 1") ≡ Some HeaderCut

@@ -1,12 +1,13 @@
 use Rattle.std.proofs.Common.{refl}
 use Rattle.pnm_read.specs.Texts.{ends_by, commented_after, uncommented_from, words}
-use Rattle.pnm_read.specs.Items.{piece_from, second_magic_item, first_magic_item, header_item, numbers_item, raw_item, decimal_item, pixel_item, plain_pixel, plain_decimal, after_last_item}
-use Rattle.pnm_read.specs.Said.{in_turn, format_at, head_at, raw_row, plain_row, last_plain_row, end_said, rows_said, said}
+use Rattle.pnm_read.specs.PamLines.{ended_after, last_after, trimmed_start, trimmed_end, token_of, after_token, kind_of_token, field_values, tuple_type_in}
+use Rattle.pnm_read.specs.Items.{piece_from, second_magic_item, first_magic_item, header_item, numbers_item, line_feed_item, pam_item, lines_item, raw_item, decimal_item, pixel_item, plain_pixel, plain_decimal, after_last_item}
+use Rattle.pnm_read.specs.Said.{in_turn, format_at, pnm_head_at, pam_head_at, raw_row, plain_row, last_plain_row, end_said, rows_said, image_said, later_said_in, later_said, said}
 use Rattle.pnm_read.specs.Examples.{ExamplesHold}
 use Rattle.pnm_read.proofs.laws.examples_hold.Goals as goal
 
 computed : ExamplesHold
-unfolding ends_by commented_after uncommented_from words piece_from second_magic_item first_magic_item header_item numbers_item raw_item decimal_item pixel_item plain_pixel plain_decimal after_last_item in_turn format_at head_at raw_row plain_row last_plain_row end_said rows_said said
+unfolding ends_by commented_after uncommented_from words ended_after last_after trimmed_start trimmed_end token_of after_token kind_of_token field_values tuple_type_in piece_from second_magic_item first_magic_item header_item numbers_item line_feed_item pam_item lines_item raw_item decimal_item pixel_item plain_pixel plain_decimal after_last_item in_turn format_at pnm_head_at pam_head_at raw_row plain_row last_plain_row end_said rows_said image_said later_said_in later_said said
 computed = record {
   plain_bits = refl;
   spare_bits = refl;
@@ -28,6 +29,17 @@ computed = record {
   empty = refl;
   cut_raster = refl;
   byte_after_raw = refl;
+  two_images = refl;
+  cut_second = refl;
+  plain_after_raw = refl;
+  raw_after_plain = refl;
+  pam = refl;
+  pam_without_depth = refl;
+  pam_field_twice = refl;
+  pam_no_number = refl;
+  pam_bad_number = refl;
+  pam_blank_after_magic = refl;
+  pam_cut = refl;
 }
 
 pub returns : goal.returns

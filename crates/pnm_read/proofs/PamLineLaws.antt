@@ -1,0 +1,321 @@
+-- The lines of a PAM header: what a line says, which lines are judged to go on, and the head that they make.
+use Rattle.std.proofs.Common.{◌≡◌, ℕ, ◌+◌, ◌<◌, ◌≤◌, Bool, true, false, not, ◌==◌, if◌then◌else◌, List, [], ◌∷◌, ◌++◌, length, refl, sym, ap, subst, ◌∙◌, append_assoc, append-nil, length-append, arith, codes}
+use Rattle.std.specs.Prelude.{nat_lt}
+use Rattle.std.specs.Str.{bytes_eq}
+use Rattle.std.specs.List.{AllPass, AllByRecursion, list_all}
+use Rattle.std.proofs.lemmas.Bool.Decides.{nat_tests}
+use Rattle.std.proofs.lemmas.List.Sums.{AllPass-from_list_all, list_all-from_AllPass}
+use Rattle.std.proofs.lemmas.Slice.Eq.{bytes_eq-Decides}
+use Rattle.pnm_read.specs.declared.fault.InputFault.TheVariants.{TooLong, BadNumber, BadPamLine, DuplicateField}
+use Rattle.pnm_read.specs.declared.judgement.Judgement.{Judgement}
+use Rattle.pnm_read.specs.declared.judgement.Judgement.TheVariants.{GoesOn, EndsWith, EndsBefore, Fails}
+use Rattle.pnm_read.specs.declared.line.Field.{Field}
+use Rattle.pnm_read.specs.declared.line.Field.TheVariants.{Width, Height, Depth, Maxval}
+use Rattle.pnm_read.specs.declared.line.LineKind.{LineKind}
+use Rattle.pnm_read.specs.declared.line.LineKind.TheVariants.{Nothing, Number, TupleType, End, Unknown}
+use Rattle.pnm_read.specs.Texts.{is_digit, decimal_value}
+use Rattle.pnm_read.specs.PamLines.{first_token, second_token, value_of, name_of, begins_with, kind_of_token, line_kind, field_values, joined_with, tuple_type_in}
+use Rattle.pnm_read.specs.Headers.{MaySay}
+use Rattle.pnm_read.specs.Items.{number_item, tuple_type_item, line_item}
+use Rattle.pnm_read.proofs.LineLaws.{field_values-append, tuple_type_in-append}
+
+-- ---- what a line says, by its first token
+
+name_is_number : (field : Field) → kind_of_token (name_of field) ≡ Number field
+unfolding kind_of_token
+name_is_number Width = refl
+name_is_number Height = refl
+name_is_number Depth = refl
+name_is_number Maxval = refl
+
+tuple_type_is_kind : kind_of_token (codes "TUPLTYPE") ≡ TupleType
+unfolding kind_of_token
+tuple_type_is_kind = refl
+
+-- a line that begins with the name of a field is one of a number
+pub number_line : (field : Field) (line : List ℕ) → begins_with (name_of field) line ≡ true → line_kind line ≡ Number field
+number_line field line e = ap kind_of_token (sym ((bytes_eq-Decides (name_of field) (first_token line)).0 e)) ∙ name_is_number field
+
+-- a line that begins with TUPLTYPE is one of the tuple type
+pub tuple_type_line : (line : List ℕ) → begins_with (codes "TUPLTYPE") line ≡ true → line_kind line ≡ TupleType
+tuple_type_line line e = ap kind_of_token (sym ((bytes_eq-Decides (codes "TUPLTYPE") (first_token line)).0 e)) ∙ tuple_type_is_kind
+
+-- a test that is the one of a field
+abbrev test_of : Field → Bool → Bool → Bool → Bool → Bool
+test_of Width w h d m = w
+test_of Height w h d m = h
+test_of Depth w h d m = d
+test_of Maxval w h d m = m
+
+number_is_tested : (made field : Field) (w h d m : Bool) → Number made ≡ Number field → test_of made w h d m ≡ true → test_of field w h d m ≡ true
+number_is_tested made field w h d m e t = let same : made ≡ field = cc in subst (λ (f : Field). test_of f w h d m ≡ true) same t
+
+number_chosen : (sharp w h d m t e : Bool) (field : Field)
+    → (if sharp then Nothing else if w then Number Width else if h then Number Height else if d then Number Depth else if m then Number Maxval else if t then TupleType else if e then End else Unknown) ≡ Number field → test_of field w h d m ≡ true
+number_chosen true w h d m t e field k = absurd cc
+number_chosen false true h d m t e field k = number_is_tested Width field true h d m k refl
+number_chosen false false true d m t e field k = number_is_tested Height field false true d m k refl
+number_chosen false false false true m t e field k = number_is_tested Depth field false false true m k refl
+number_chosen false false false false true t e field k = number_is_tested Maxval field false false false true k refl
+number_chosen false false false false false true e field k = absurd cc
+number_chosen false false false false false false true field k = absurd cc
+number_chosen false false false false false false false field k = absurd cc
+
+test_is : (field : Field) (token : List ℕ) → test_of field (bytes_eq (name_of Width) token) (bytes_eq (name_of Height) token) (bytes_eq (name_of Depth) token) (bytes_eq (name_of Maxval) token) ≡ bytes_eq (name_of field) token
+test_is Width token = refl
+test_is Height token = refl
+test_is Depth token = refl
+test_is Maxval token = refl
+
+number_token : (token : List ℕ) (field : Field) → kind_of_token token ≡ Number field → bytes_eq (name_of field) token ≡ true
+unfolding kind_of_token
+number_token [] field e = absurd cc
+number_token (b ∷ text) field e =
+    sym (test_is field (b ∷ text))
+    ∙ number_chosen (b == 35) (bytes_eq (name_of Width) (b ∷ text)) (bytes_eq (name_of Height) (b ∷ text)) (bytes_eq (name_of Depth) (b ∷ text)) (bytes_eq (name_of Maxval) (b ∷ text)) (bytes_eq (codes "TUPLTYPE") (b ∷ text)) (bytes_eq (codes "ENDHDR") (b ∷ text)) field e
+
+-- a line of a number begins with the name of its field
+pub begins_with_name : (field : Field) (line : List ℕ) → line_kind line ≡ Number field → begins_with (name_of field) line ≡ true
+begins_with_name field line e = number_token (first_token line) field e
+
+-- ---- what one line more adds
+
+pub values-here : (field : Field) (line : List ℕ) (lines : List (List ℕ)) → begins_with (name_of field) line ≡ true → field_values field (line ∷ lines) ≡ decimal_value (second_token line) ∷ field_values field lines
+unfolding field_values
+values-here field line lines e = ap (λ (t : Bool). if t then decimal_value (second_token line) ∷ field_values field lines else field_values field lines) e
+
+values-not_here : (field : Field) (line : List ℕ) (lines : List (List ℕ)) → begins_with (name_of field) line ≡ false → field_values field (line ∷ lines) ≡ field_values field lines
+unfolding field_values
+values-not_here field line lines e = ap (λ (t : Bool). if t then decimal_value (second_token line) ∷ field_values field lines else field_values field lines) e
+
+no_values : (field : Field) → field_values field [] ≡ []
+unfolding field_values
+no_values field = refl
+
+no_tuple_types : tuple_type_in [] ≡ []
+unfolding tuple_type_in
+no_tuple_types = refl
+
+tuple_type-not_here : (line : List ℕ) (lines : List (List ℕ)) → begins_with (codes "TUPLTYPE") line ≡ false → tuple_type_in (line ∷ lines) ≡ tuple_type_in lines
+unfolding tuple_type_in
+tuple_type-not_here line lines e = ap (λ (t : Bool). if t then joined_with (value_of line) (tuple_type_in lines) else tuple_type_in lines) e
+
+joined_with-nothing : (text : List ℕ) → joined_with text [] ≡ text
+joined_with-nothing [] = refl
+joined_with-nothing (b ∷ text) = refl
+
+-- a line of another kind leaves the numbers of a field
+values-other : (field : Field) (lines : List (List ℕ)) (line : List ℕ) → begins_with (name_of field) line ≡ false → field_values field (lines ++ line ∷ []) ≡ field_values field lines
+values-other field lines line e =
+    field_values-append field lines (line ∷ []) ∙ ap (λ (l : List ℕ). field_values field lines ++ l) (values-not_here field line [] e ∙ no_values field) ∙ append-nil (field_values field lines)
+
+-- and the tuple type
+tuple_type-other : (lines : List (List ℕ)) (line : List ℕ) → begins_with (codes "TUPLTYPE") line ≡ false → tuple_type_in (lines ++ line ∷ []) ≡ tuple_type_in lines
+tuple_type-other lines line e =
+    tuple_type_in-append lines (line ∷ []) ∙ ap (joined_with (tuple_type_in lines)) (tuple_type-not_here line [] e ∙ no_tuple_types) ∙ joined_with-nothing (tuple_type_in lines)
+
+-- a test that is not true is false
+by_test : (t : Bool) → (t ≡ true → ⊥) → t ≡ false
+by_test true h = absurd (h refl)
+by_test false h = refl
+
+-- ENDHDR adds nothing
+pub values-end : (field : Field) (lines : List (List ℕ)) (line : List ℕ) → line_kind line ≡ End → field_values field (lines ++ line ∷ []) ≡ field_values field lines
+values-end field lines line k = values-other field lines line (by_test (begins_with (name_of field) line) (λ e. let number = number_line field line e in cc))
+
+pub tuple_type-end : (lines : List (List ℕ)) (line : List ℕ) → line_kind line ≡ End → tuple_type_in (lines ++ line ∷ []) ≡ tuple_type_in lines
+tuple_type-end lines line k = tuple_type-other lines line (by_test (begins_with (codes "TUPLTYPE") line) (λ e. let tuple = tuple_type_line line e in cc))
+
+-- ---- how a line is judged
+
+abbrev line_by : LineKind → List (List ℕ) → List ℕ → Judgement
+line_by kind lines line = elim kind [
+  | Nothing ↦ GoesOn
+  | Number field ↦ number_item lines field line
+  | TupleType ↦ tuple_type_item lines line
+  | End ↦ EndsWith
+  | Unknown ↦ Fails BadPamLine
+]
+
+-- a line of this kind is judged so
+pub line_is_judged : (kind : LineKind) (lines : List (List ℕ)) (line : List ℕ) → line_kind line ≡ kind → line_item lines line ≡ line_by kind lines line
+line_is_judged kind lines line k = ap (λ (x : LineKind). line_by x lines line) k
+
+abbrev number_by : Bool → Bool → Bool → Judgement
+number_by none bad twice = if none then Fails BadPamLine else if bad then Fails BadNumber else if twice then Fails DuplicateField else GoesOn
+
+number_goes_on : (none bad twice : Bool) → number_by none bad twice ≡ GoesOn → (none ≡ false) × (bad ≡ false) × (twice ≡ false)
+number_goes_on true bad twice e = absurd cc
+number_goes_on false true twice e = absurd cc
+number_goes_on false false true e = absurd cc
+number_goes_on false false false e = (refl, refl, refl)
+
+number_never_ends : (none bad twice : Bool) (j : Judgement) → number_by none bad twice ≡ j → (j ≡ EndsWith → ⊥) × (j ≡ EndsBefore → ⊥)
+number_never_ends true bad twice j e = (λ h. cc, λ h. cc)
+number_never_ends false true twice j e = (λ h. cc, λ h. cc)
+number_never_ends false false true j e = (λ h. cc, λ h. cc)
+number_never_ends false false false j e = (λ h. cc, λ h. cc)
+
+type_goes_on : (long : Bool) → (if long then Fails TooLong else GoesOn) ≡ GoesOn → long ≡ false
+type_goes_on true e = absurd cc
+type_goes_on false e = refl
+
+type_never_ends : (long : Bool) (j : Judgement) → (if long then Fails TooLong else GoesOn) ≡ j → (j ≡ EndsWith → ⊥) × (j ≡ EndsBefore → ⊥)
+type_never_ends true j e = (λ h. cc, λ h. cc)
+type_never_ends false j e = (λ h. cc, λ h. cc)
+
+-- where a line of a number goes on, it has a number, the first of its field
+record FirstNumber (lines : List (List ℕ)) (field : Field) (line : List ℕ) : Type 0 where
+  pub some : 0 < length (second_token line)
+  pub digits : AllPass is_digit (second_token line)
+  pub first : length (field_values field lines) ≡ 0
+
+zero_is : (n : ℕ) → not (n == 0) ≡ false → n ≡ 0
+zero_is n e = grind (arith, nat_tests)
+
+some_is : (n : ℕ) → (n == 0) ≡ false → 0 < n
+some_is n e = grind (arith, nat_tests)
+
+not_false : (t : Bool) → not t ≡ false → t ≡ true
+not_false true e = refl
+not_false false e = absurd cc
+
+first_number : (lines : List (List ℕ)) (field : Field) (line : List ℕ) → number_item lines field line ≡ GoesOn → FirstNumber lines field line
+first_number lines field line e =
+    let tests = number_goes_on (length (second_token line) == 0) (not (list_all is_digit (second_token line))) (not (length (field_values field lines) == 0)) e in
+    record {
+      some = some_is (length (second_token line)) tests.0;
+      digits = AllPass-from_list_all is_digit (second_token line) (not_false (list_all is_digit (second_token line)) tests.1);
+      first = zero_is (length (field_values field lines)) tests.2;
+    }
+
+-- a line that goes on may stand in a header
+says_by : (kind : LineKind) (lines : List (List ℕ)) (line : List ℕ) → line_by kind lines line ≡ GoesOn → MaySay kind line
+says_by Nothing lines line e = tt
+says_by (Number field) lines line e = let n = first_number lines field line e in (n.some, n.digits)
+says_by TupleType lines line e = tt
+says_by End lines line e = cc
+says_by Unknown lines line e = cc
+
+-- a line that ends a header is ENDHDR
+ends_by : (kind : LineKind) (lines : List (List ℕ)) (line : List ℕ) → line_by kind lines line ≡ EndsWith → kind ≡ End
+ends_by Nothing lines line e = absurd cc
+ends_by (Number field) lines line e =
+    absurd ((number_never_ends (length (second_token line) == 0) (not (list_all is_digit (second_token line))) (not (length (field_values field lines) == 0)) (line_by (Number field) lines line) refl).0 e)
+ends_by TupleType lines line e = absurd ((type_never_ends (nat_lt 255 (length (tuple_type_in (lines ++ line ∷ [])))) (line_by TupleType lines line) refl).0 e)
+ends_by End lines line e = refl
+ends_by Unknown lines line e = absurd cc
+
+pub line_ends : (lines : List (List ℕ)) (line : List ℕ) → line_item lines line ≡ EndsWith → line_kind line ≡ End
+line_ends lines line e = ends_by (line_kind line) lines line e
+
+-- no line ends a header before its LF
+never_before : (kind : LineKind) (lines : List (List ℕ)) (line : List ℕ) → line_by kind lines line ≡ EndsBefore → ⊥
+never_before Nothing lines line e = cc
+never_before (Number field) lines line e =
+    (number_never_ends (length (second_token line) == 0) (not (list_all is_digit (second_token line))) (not (length (field_values field lines) == 0)) (line_by (Number field) lines line) refl).1 e
+never_before TupleType lines line e = (type_never_ends (nat_lt 255 (length (tuple_type_in (lines ++ line ∷ [])))) (line_by TupleType lines line) refl).1 e
+never_before End lines line e = cc
+never_before Unknown lines line e = cc
+
+pub line_ends_with : (lines : List (List ℕ)) (line : List ℕ) → line_item lines line ≡ EndsBefore → ⊥
+line_ends_with lines line e = never_before (line_kind line) lines line e
+
+-- ---- lines of which each goes on
+
+abbrev pub MayStand : List ℕ → Type 0
+MayStand line = MaySay (line_kind line) line
+
+pub record Judged (lines : List (List ℕ)) : Type 0 where
+  pub say : AllByRecursion MayStand lines
+  pub single : (field : Field) → length (field_values field lines) ≤ 1
+  pub short : length (tuple_type_in lines) ≤ 255
+
+pub each-push : (P : List ℕ → Type 0) (lines : List (List ℕ)) (line : List ℕ) → AllByRecursion P lines → P line → AllByRecursion P (lines ++ line ∷ [])
+each-push P [] line all one = (one, tt)
+each-push P (x ∷ lines) line all one = (all.0, each-push P lines line all.1 one)
+
+pub each-middle : (P : List ℕ → Type 0) (earlier : List (List ℕ)) (line : List ℕ) (later : List (List ℕ)) → AllByRecursion P (earlier ++ line ∷ later) → P line
+each-middle P [] line later all = all.0
+each-middle P (x ∷ earlier) line later all = each-middle P earlier line later all.1
+
+one_value : (field : Field) (line : List ℕ) → begins_with (name_of field) line ≡ true → length (field_values field (line ∷ [])) ≡ 1
+one_value field line e = ap (λ (l : List ℕ). length l) (values-here field line [] e ∙ ap (λ (l : List ℕ). decimal_value (second_token line) ∷ l) (no_values field))
+
+single_by : (begins : Bool) (field : Field) (lines : List (List ℕ)) (line : List ℕ) → begins_with (name_of field) line ≡ begins → line_item lines line ≡ GoesOn → length (field_values field lines) ≤ 1 → length (field_values field (lines ++ line ∷ [])) ≤ 1
+single_by true field lines line b e single =
+    let first = (first_number lines field line (sym (line_is_judged (Number field) lines line (number_line field line b)) ∙ e)).first in
+    let one = one_value field line b in
+    let lengths : length (field_values field (lines ++ line ∷ [])) ≡ length (field_values field lines) + length (field_values field (line ∷ [])) =
+    ap (λ (l : List ℕ). length l) (field_values-append field lines (line ∷ [])) ∙ length-append (field_values field lines) (field_values field (line ∷ [])) in
+    omega arith
+single_by false field lines line b e single = let lengths = ap (λ (l : List ℕ). length l) (values-other field lines line b) in omega arith
+
+short_test : (n : ℕ) → nat_lt 255 n ≡ false → n ≤ 255
+short_test n e = grind (arith, nat_tests)
+
+short_by : (begins : Bool) (lines : List (List ℕ)) (line : List ℕ) → begins_with (codes "TUPLTYPE") line ≡ begins → line_item lines line ≡ GoesOn → length (tuple_type_in lines) ≤ 255 → length (tuple_type_in (lines ++ line ∷ [])) ≤ 255
+short_by true lines line b e short =
+    let test = type_goes_on (nat_lt 255 (length (tuple_type_in (lines ++ line ∷ [])))) (sym (line_is_judged TupleType lines line (tuple_type_line line b)) ∙ e) in
+    short_test (length (tuple_type_in (lines ++ line ∷ []))) test
+short_by false lines line b e short = let lengths = ap (λ (l : List ℕ). length l) (tuple_type-other lines line b) in omega arith
+
+-- with one line more that goes on
+pub judged-push : (lines : List (List ℕ)) (line : List ℕ) → Judged lines → line_item lines line ≡ GoesOn → Judged (lines ++ line ∷ [])
+judged-push lines line j e = record {
+  say = each-push MayStand lines line j.say (says_by (line_kind line) lines line e);
+  single = λ field. single_by (begins_with (name_of field) line) field lines line refl e (j.single field);
+  short = short_by (begins_with (codes "TUPLTYPE") line) lines line refl e j.short;
+}
+
+pub judged_none : Judged []
+judged_none = record {
+  say = tt;
+  single = λ field. let lengths = ap (λ (l : List ℕ). length l) (no_values field) in omega arith;
+  short = let lengths = ap (λ (l : List ℕ). length l) no_tuple_types in omega arith;
+}
+
+-- ---- each of such lines goes on
+
+joined_with-longer : (first text : List ℕ) → length first ≤ length (joined_with first text)
+joined_with-longer [] text = omega arith
+joined_with-longer (b ∷ first) [] = omega arith
+joined_with-longer (b ∷ first) (c ∷ text) = omega (arith, length-append (b ∷ first) (32 ∷ c ∷ text))
+
+long_test : (n : ℕ) → n ≤ 255 → nat_lt 255 n ≡ false
+long_test n e = grind (arith, nat_tests)
+
+zero_test : (n : ℕ) → n ≡ 0 → not (n == 0) ≡ false
+zero_test n e = rw e refl
+
+some_test : (n : ℕ) → 0 < n → (n == 0) ≡ false
+some_test n e = grind (arith, nat_tests)
+
+-- no line before has its number
+first_of_field : (field : Field) (earlier : List (List ℕ)) (line : List ℕ) (later : List (List ℕ)) → begins_with (name_of field) line ≡ true → length (field_values field (earlier ++ line ∷ later)) ≤ 1 → length (field_values field earlier) ≡ 0
+first_of_field field earlier line later b single =
+    let here : length (field_values field (line ∷ later)) ≡ length (field_values field later) + 1 = ap (λ (l : List ℕ). length l) (values-here field line later b) ∙ omega arith in
+    let lengths : length (field_values field (earlier ++ line ∷ later)) ≡ length (field_values field earlier) + length (field_values field (line ∷ later)) =
+    ap (λ (l : List ℕ). length l) (field_values-append field earlier (line ∷ later)) ∙ length-append (field_values field earlier) (field_values field (line ∷ later)) in
+    omega arith
+
+-- the tuple type so far is no longer than that of all lines
+tuple_type_so_far : (earlier : List (List ℕ)) (line : List ℕ) (later : List (List ℕ)) → length (tuple_type_in (earlier ++ line ∷ later)) ≤ 255 → length (tuple_type_in (earlier ++ line ∷ [])) ≤ 255
+tuple_type_so_far earlier line later short =
+    let whole : tuple_type_in (earlier ++ line ∷ later) ≡ joined_with (tuple_type_in (earlier ++ line ∷ [])) (tuple_type_in later) =
+    ap tuple_type_in (sym (append_assoc earlier (line ∷ []) later)) ∙ tuple_type_in-append (earlier ++ line ∷ []) later in
+    let lengths = ap (λ (l : List ℕ). length l) whole in
+    let longer = joined_with-longer (tuple_type_in (earlier ++ line ∷ [])) (tuple_type_in later) in
+    omega arith
+
+goes_on_by : (kind : LineKind) (earlier : List (List ℕ)) (line : List ℕ) (later : List (List ℕ)) → line_kind line ≡ kind → MaySay kind line → Judged (earlier ++ line ∷ later) → line_by kind earlier line ≡ GoesOn
+goes_on_by Nothing earlier line later k says j = refl
+goes_on_by (Number field) earlier line later k says j =
+    let first = first_of_field field earlier line later (begins_with_name field line k) (j.single field) in
+    rw (some_test (length (second_token line)) says.0, list_all-from_AllPass is_digit (second_token line) says.1, first) refl
+goes_on_by TupleType earlier line later k says j = rw (long_test (length (tuple_type_in (earlier ++ line ∷ []))) (tuple_type_so_far earlier line later j.short)) refl
+goes_on_by End earlier line later k says j = absurd says
+goes_on_by Unknown earlier line later k says j = absurd says
+
+pub line_goes_on : (earlier : List (List ℕ)) (line : List ℕ) (later : List (List ℕ)) → Judged (earlier ++ line ∷ later) → line_item earlier line ≡ GoesOn
+line_goes_on earlier line later j = goes_on_by (line_kind line) earlier line later refl (each-middle MayStand earlier line later j.say) j
