@@ -20,6 +20,8 @@ pub mod DecimalSteps
 pub mod HeaderSteps
 pub mod HeadSteps
 pub mod LineSteps
+pub mod LineKinds
+pub mod FieldSteps
 pub mod FeedSteps
 pub mod ScanSteps
 pub mod PlainLaws

@@ -75,6 +75,11 @@ with_number Height number fields = record fields { height = Some number }
 with_number Depth number fields = record fields { depth = Some number }
 with_number Maxval number fields = record fields { maxval = Some number }
 
+-- a number was put where none was yet
+abbrev pub SetsOnce : Option ℕ → ℕ → Option ℕ → Judgement → Type 0
+SetsOnce (Some other) number new judgement = judgement ≡ Fails DuplicateField
+SetsOnce None number new judgement = (judgement ≡ GoesOn) × (new ≡ Some number)
+
 -- how a number in the rest of a line is judged, and the fields after it
 abbrev pub SetsNumber : Fields → Field → List ℕ → Fields → Judgement → Type 0
 SetsNumber old field text new judgement =
