@@ -18,6 +18,8 @@ pub mod SpelledHeaders
 pub mod PackingLaws
 pub mod DecimalSteps
 pub mod HeaderSteps
+pub mod MagicSteps
+pub mod HeldShapes
 pub mod HeadSteps
 pub mod LineSteps
 pub mod LineKinds

@@ -2,7 +2,7 @@ use Rattle.std.proofs.Common.{ℕ, inl, inr, ◌∙◌, ap, Some, Err}
 use Rattle.std.proofs.lemmas.Result.{err_from_is_err_and}
 use Rattle.pnm_read.specs.declared.fault.InputFault.TheVariants.{EmptyInput, BadMagic, HeaderCut}
 use Rattle.pnm_read.proofs.Turns.{turn_then, turn_ok_so, turn_err_so}
-use Rattle.pnm_read.proofs.HeadSteps.{byte_is, no_byte, magic_none, magic_wrong, magic_cut, magic_found, magic_of_text}
+use Rattle.pnm_read.proofs.MagicSteps.{byte_is, no_byte, magic_none, magic_wrong, magic_cut, magic_found, magic_of_text}
 use Rattle.pnm_read.proofs.header.read_format.Goals as goal
 
 pub returns-in-Some : goal.returns-in-Some
