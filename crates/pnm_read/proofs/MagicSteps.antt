@@ -1,5 +1,5 @@
 -- The magic of an image.
-use Rattle.std.proofs.Common.{◌≡◌, inl, ℕ, Bool, true, false, not, ◌&&◌, ◌==◌, if◌then◌else◌, List, [], ◌∷◌, Option, Some, None, Result, Ok, Err, sym, ap, subst, ◌∙◌, refl}
+use Rattle.std.proofs.Common.{◌≡◌, ◌⊎◌, inl, inr, ℕ, Bool, true, false, not, ◌&&◌, ◌==◌, if◌then◌else◌, List, [], ◌∷◌, Option, Some, None, Result, Ok, Err, sym, ap, subst, ◌∙◌, refl}
 use Rattle.std.proofs.lemmas.Bool.{ne_eqb}
 use Rattle.pnm_read.specs.declared.fault.InputFault.{InputFault}
 use Rattle.pnm_read.specs.declared.fault.InputFault.TheVariants.{EmptyInput, BadMagic, HeaderCut, PlainInStream}
@@ -47,6 +47,14 @@ magic_is is_first text rest after b found e f g = ap (format_at is_first) (e ∙
 
 abbrev plain_or : Bool → List ℕ → Format → Result (Format × List ℕ) InputFault
 plain_or late after format = if late then Err PlainInStream else Ok (format, after)
+
+pub is_early : (is_plain is_first : Bool) → (is_plain ≡ false) ⊎ (is_first ≡ true) → (is_plain && not is_first) ≡ false
+is_early is_plain is_first (inl e) = rw e refl
+is_early true is_first (inr e) = rw e refl
+is_early false is_first (inr e) = refl
+
+pub is_late : (is_plain is_first : Bool) → is_plain ≡ true → is_first ≡ false → (is_plain && not is_first) ≡ true
+is_late is_plain is_first p f = rw (p, f) refl
 
 -- a format that the second byte names
 pub magic_format : (is_first : Bool) (text rest after : List ℕ) (b : ℕ) (found : Option Format) (format : Format) → found ≡ Some format → found ≡ format_of b → text ≡ 80 ∷ rest → rest ≡ b ∷ after → (format.is_plain && not is_first) ≡ false
