@@ -64,10 +64,15 @@ feed_taken new EndsWith before l line t = subst (IsFields new.fields) (sym (ende
 feed_taken new EndsBefore before l line t = absurd t
 feed_taken new (Fails k) before l line t = tt
 
--- a LF, after which the line is judged
-pub pam_feed : (old new : PamScanner) (line : List ℕ) (j : Judgement) → old.length < 65533 → new.length ≡ old.length + 1 → line ≡ old.line.items → new.line.items ≡ [] → JudgesLine old.fields line new.fields j
+-- the judgement of a LF is that of its line
+feed_judged : (old : PamScanner) (line : List ℕ) (j : Judgement) (before : List ℕ) → old.length < 65533 → line ≡ old.line.items → IsPamAfter old before → j ≡ line_item (ended_lines before) line → j ≡ pam_item before 10
+feed_judged old line j before lt is a judged =
+    judged ∙ ap (line_item (ended_lines before)) (is ∙ a.line)
+    ∙ sym (pam_item_is before 10 ∙ ap (λ (long : Bool). judged_by long (10 == 10) (line_item (ended_lines before) (last_line before))) (is_short old before a lt))
+
+feed : (old new : PamScanner) (line : List ℕ) (j : Judgement) → old.length < 65533 → new.length ≡ old.length + 1 → line ≡ old.line.items → new.line.items ≡ [] → JudgesLine old.fields line new.fields j
     → JudgesByte pam_item (IsPamAfter old) (IsPamAfter new) (IsPamWhole new) 10 j
-pam_feed old new line j lt l is none judges before a =
+feed old new line j lt l is none judges before a =
     elim (judges (ended_lines before) a.fields) [
       | inl taken ↦ inl (
           feed_judged old line j before lt is a taken.0,
@@ -75,10 +80,11 @@ pam_feed old new line j lt l is none judges before a =
         )
       | inr memory ↦ inr memory
     ]
-  where
-    feed_judged : (old : PamScanner) (line : List ℕ) (j : Judgement) (before : List ℕ) → old.length < 65533 → line ≡ old.line.items → IsPamAfter old before → j ≡ line_item (ended_lines before) line → j ≡ pam_item before 10
-    feed_judged old line j before lt is a judged =
-        judged ∙ ap (line_item (ended_lines before)) (is ∙ a.line) ∙ sym (pam_item_is before 10 ∙ ap (λ (long : Bool). judged_by long (10 == 10) (line_item (ended_lines before) (last_line before))) (is_short old before a lt))
+
+-- a LF, after which the line is judged
+pub pam_feed : (old new : PamScanner) (b : ℕ) (line : List ℕ) (j : Judgement) → old.length < 65533 → b ≡ 10 → new.length ≡ old.length + 1 → line ≡ old.line.items → new.line.items ≡ [] → JudgesLine old.fields line new.fields j
+    → JudgesByte pam_item (IsPamAfter old) (IsPamAfter new) (IsPamWhole new) b j
+pam_feed old new b line j lt e l is none judges = subst (λ (b : ℕ). JudgesByte pam_item (IsPamAfter old) (IsPamAfter new) (IsPamWhole new) b j) (sym e) (feed old new line j lt l is none judges)
 
 -- ---- the head
 
