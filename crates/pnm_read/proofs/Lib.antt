@@ -24,6 +24,8 @@ pub mod HeadSteps
 pub mod LineSteps
 pub mod LineKinds
 pub mod FieldSteps
+pub mod PamShapes
+pub mod PamSteps
 pub mod FeedSteps
 pub mod ScanSteps
 pub mod PlainLaws
