@@ -105,6 +105,10 @@ unfolding said
 first_begins (Ok step) b a s = s
 first_begins (Err k) b a s = s
 
+pub first_turn : {R : Type 0} {left : R → Option (List ℕ)} {failures : R → ℕ} {same : R → R → Type 0} {old new : Input R} (result : Result Step InputFault) → Turn left failures same old new result (Begins true result) → Turn left failures same old new result (Steps Start result)
+first_turn (Ok step) t = turn_ok_so step (Ok step) (no_fault step ReadFailed) (λ b a o. first_begins (Ok step) b a o) t
+first_turn (Err k) t = turn_err_so k (λ b a o. first_begins (Err k) b a o) t
+
 -- after a plain image the stream ends
 pub plain_ends : (is_plain : Bool) (step : Step) (b a : List ℕ) → is_plain ≡ true → step.message ≡ StreamEnd → step.stage ≡ Ended → Steps (End is_plain) (Ok step) b a
 unfolding end_said
@@ -134,6 +138,21 @@ pub next_so : {R : Type 0} {left : R → Option (List ℕ)} {failures : R → �
     → Turn left failures same old new result (λ b a. (m : List ℕ) × SeesText (Ok false) b m × Begins false result m a) → Turn left failures same old new result (Steps (End false) result)
 next_so (Ok step) t = turn_ok_so step (Ok step) (no_fault step ReadFailed) (λ b a o. next_begins (Ok step) b a o.1.0 (subst (λ (m : List ℕ). Begins false (Ok step) m a) o.1.1 o.2)) t
 next_so (Err k) t = turn_err_so k (λ b a o. next_begins (Err k) b a o.1.0 (subst (λ (m : List ℕ). Begins false (Err k) m a) o.1.1 o.2)) t
+
+-- the text was seen to end
+pub at_end_so : (ended : Bool) (step : Step) (b a : List ℕ) → ended ≡ true → SeesText (Ok ended) b a → step.message ≡ StreamEnd → step.stage ≡ Ended → Steps (End false) (Ok step) b a
+at_end_so true step b a e seen sm ss = raw_ends false step b a refl seen.0 sm ss
+at_end_so false step b a e seen sm ss = absurd cc
+
+seen_on : (ended : Bool) (b m : List ℕ) → ended ≡ false → SeesText (Ok ended) b m → SeesText (Ok false) b m
+seen_on true b m e seen = absurd cc
+seen_on false b m e seen = seen
+
+-- the text was seen to go on, and then an image begins
+pub turn_on : {R : Type 0} {left : R → Option (List ℕ)} {failures : R → ℕ} {same : R → R → Type 0} {old new : Input R} (ended : Bool) (result : Result Step InputFault) → ended ≡ false
+    → Turn left failures same old new result (λ b a. (m : List ℕ) × SeesText (Ok ended) b m × Begins false result m a) → Turn left failures same old new result (λ b a. (m : List ℕ) × SeesText (Ok false) b m × Begins false result m a)
+turn_on ended (Ok step) e t = turn_ok_so step (Ok step) (no_fault step ReadFailed) (λ b a o. (o.0, seen_on ended b o.0 e o.1, o.2)) t
+turn_on ended (Err k) e t = turn_err_so k (λ b a o. (o.0, seen_on ended b o.0 e o.1, o.2)) t
 
 -- reading on failed
 pub raw_unread : (is_plain : Bool) (k : InputFault) (b a : List ℕ) → IsOutsideFault k → Steps (End is_plain) (Err k) b a
