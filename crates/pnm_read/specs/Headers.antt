@@ -1,4 +1,4 @@
--- How a header is spelled. From pbm(5), pgm(5) and ppm(5), 'The layout', and pam(5), 'The Header'.
+-- How a header is spelled. From pbm(5), pgm(5), ppm(5) and pam(5), 'The layout'.
 use Rattle.std.specs.Prelude.{◌≡◌, ℕ, ◌<◌, ◌≤◌, true, false, not, ◌==◌, ◌||◌, List, [], ◌∷◌, ◌++◌, length, flat_map, Some, codes}
 use Rattle.std.specs.List.{AllPass, AllByRecursion}
 use Rattle.pnm_image.specs.declared.shape.Kind.{Kind}

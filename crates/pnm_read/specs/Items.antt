@@ -1,6 +1,6 @@
 -- The items that a text is cut into, and the faults of each in their order. A byte of a header, and of a
--- plain raster, is judged by the bytes before it in the same piece: of a header those after the magic, of
--- a plain raster those since the last digit of the sample before.
+-- plain raster, is judged by the bytes before it in the same piece: of a header those after the magic (of
+-- PAM after its LF), of a plain raster those since the last digit of the sample before.
 use Rattle.std.specs.Prelude.{ℕ, Bool, not, ◌==◌, nat_le, nat_lt, ◌*◌, ◌+◌, ◌&&◌, ◌||◌, if◌then◌else◌, List, [], ◌∷◌, ◌++◌, length, slice_index, Option, Some, None, Result, Ok, Err}
 use Rattle.std.specs.List.{list_all}
 use Rattle.pnm_image.specs.declared.shape.Shape.{Shape}
@@ -55,7 +55,7 @@ second_magic_item is_first (b ∷ text) = elim (format_of b) [
   | None ↦ Err BadMagic
 ]
 
--- the start of the first image, and the first byte of a magic
+-- the start of an image, and the first byte of its magic; after a raw image it isn't asked for where no byte is left
 unfoldable pub first_magic_item : List ℕ → Result (List ℕ) InputFault
 first_magic_item [] = Err EmptyInput
 first_magic_item (b ∷ text) = if b == 80 then Ok text else Err BadMagic
@@ -236,6 +236,7 @@ plain_decimal maxval text = do
   sample ← sample_item maxval (number_in piece.0)
   Ok (sample, piece.1)
 
+-- a sample of this kind; there is no plain PAM, so what this says of it means nothing
 abbrev pub plain_sample : Kind → ℕ → List ℕ → Result (ℕ × List ℕ) InputFault
 plain_sample Bit maxval text = plain_pixel text
 plain_sample Gray maxval text = plain_decimal maxval text

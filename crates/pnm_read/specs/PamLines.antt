@@ -1,4 +1,4 @@
--- Lines of a PAM header: their tokens, and what a line says. From pam(5), 'The Header'.
+-- Lines of a PAM header: their tokens, and what a line says. From pam(5), 'The layout'.
 use Rattle.std.specs.Prelude.{ℕ, ◌==◌, if◌then◌else◌, Bool, List, [], ◌∷◌, ◌++◌, codes}
 use Rattle.std.specs.Str.{bytes_eq}
 use Rattle.pnm_image.specs.Heads.{is_blank}

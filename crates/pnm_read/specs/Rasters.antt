@@ -1,4 +1,5 @@
--- How a raster is spelled. From pbm(5), pgm(5) and ppm(5), 'The layout', and of the plain formats 'Plain PBM' and so on.
+-- How a raster is spelled. From pbm(5), pgm(5), ppm(5) and pam(5), 'The layout', and of the plain formats 'Plain PBM' and
+-- so on. There is no plain PAM: what is said of it under 'plain' means nothing.
 use Rattle.std.specs.Prelude.{◌≡◌, ℕ, ◌+◌, ◌*◌, ◌-◌, ◌^◌, ◌/◌, ◌%◌, ◌<◌, ◌≤◌, true, false, nat_lt, if◌then◌else◌, List, [], ◌∷◌, ◌++◌, length, take, map, flat_map}
 use Rattle.std.specs.List.{AllPass}
 use Rattle.pnm_image.specs.declared.shape.Shape.{Shape}

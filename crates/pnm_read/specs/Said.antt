@@ -135,7 +135,8 @@ format_said later (Ok found) = head_said later found.0 (head_at found.0 found.1)
 unfoldable pub image_said : (List ℕ → Said) → Bool → List ℕ → Said
 image_said later is_first text = format_said later (format_at is_first text)
 
--- after a raw image: the end of the stream where no byte is left, else the next image; so many images at most
+-- after a raw image: the end of the stream where no byte is left, else the next image; so many images at most, and
+-- what it says of more means nothing
 unfoldable pub later_said_in : ℕ → List ℕ → Said
 later_said_in most [] = ends_stream
 later_said_in zero (b ∷ text) = ends_stream

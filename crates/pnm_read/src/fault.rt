@@ -33,8 +33,8 @@ pub enum InputFault {
     /// The maxval is 0 or above 65,535.
     #[error("BadMaxval")]
     BadMaxval,
-    /// A line of a PAM header begins with no name that such a line can have, or lacks its number; or no
-    /// LF follows `P7`.
+    /// A line of a PAM header begins with no name that such a line can have, or lacks its number; or the
+    /// byte after `P7` isn't LF.
     #[error("BadPamLine")]
     BadPamLine,
     /// A number of a PAM header is there twice.

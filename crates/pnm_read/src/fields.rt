@@ -1,4 +1,4 @@
-//! The fields of a PAM header, from pam(5), 'The Header'.
+//! The fields of a PAM header, from pam(5), 'The layout'.
 
 ghost use Rattle.std.specs.Prelude.{◌≡◌, [], List, ℕ};
 ghost use Rattle.pnm_image.specs.Heads.{IsTupleType};

@@ -5,7 +5,7 @@ ghost use Rattle.pnm_read.specs.Formats.{format_of, number_count, planes};
 
 use pnm_image::Kind;
 
-/// One of `P1` to `P7`.
+/// One of `P1` to `P7`, as `Format::of` gives them: PAM is never plain.
 #[derive(Clone, Copy, Debug, PartialEq, Eq)]
 pub struct Format {
     pub kind: Kind,

@@ -1,4 +1,4 @@
-//! Lines of a PAM header, from pam(5), 'The Header'.
+//! Lines of a PAM header, from pam(5), 'The layout'.
 
 ghost use Rattle.std.specs.Prelude.{◌≡◌, length};
 ghost use Rattle.pnm_image.specs.Heads.{is_blank};

@@ -1,4 +1,4 @@
-//! The header of a PAM image, from pam(5), 'The Header'.
+//! The header of a PAM image, from pam(5), 'The layout'.
 
 ghost use Rattle.std.specs.Prelude.{◌≡◌, ◌≤◌, ◌-◌, []};
 ghost use Rattle.pnm_read.specs.Items.{line_feed_item};
