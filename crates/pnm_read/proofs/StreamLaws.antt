@@ -10,7 +10,6 @@ use Rattle.pnm_image.specs.Images.{Image, IsImage, AreImages}
 use Rattle.pnm_image.specs.Completion.{IsFrontOf}
 use Rattle.pnm_image.specs.declared.shape.Shape.{Shape}
 use Rattle.pnm_read.specs.declared.fault.InputFault.{InputFault}
-use Rattle.pnm_read.specs.declared.fault.InputFault.TheVariants.{ReadFailed, Memory}
 use Rattle.pnm_read.specs.declared.format.Format.{Format}
 use Rattle.pnm_read.specs.declared.source.Source.{Source}
 use Rattle.pnm_read.specs.declared.source.Stage.{Stage}
@@ -18,7 +17,7 @@ use Rattle.pnm_read.specs.declared.source.Stage.TheVariants.{Start, Rows, End, E
 use Rattle.pnm_read.specs.Spelling.{Spells, SpellsRasterBy}
 use Rattle.pnm_read.specs.Inputs.{IsOutsideFault}
 use Rattle.pnm_read.specs.Stages.{stage_due, stage_fault}
-use Rattle.pnm_read.specs.Said.{Said, row_at, end_said, format_at, head_at, rows_said, image_said, format_said, said, said_of, fault_of, says_fault}
+use Rattle.pnm_read.specs.Said.{Said, row_at, end_said, format_at, head_at, rows_said, image_said, format_said, said, said_of, fault_of}
 use Rattle.pnm_read.specs.Sources.{reader_of, stopped_by, due, MayGive, SeesEnd, HasGiven, after_messages}
 use Rattle.pnm_read.proofs.FaultLaws.{fault_is_of_text}
 use Rattle.pnm_read.proofs.HeaderLaws.{read_header_is_spelled}
