@@ -1,12 +1,12 @@
 -- The header that is written of an image spells its head.
-use Rattle.std.proofs.Common.{◌≡◌, ℕ, ◌+◌, ◌<◌, ◌≤◌, Bool, true, false, ◌||◌, List, [], ◌∷◌, ◌++◌, length, codes, decimal, Some, refl, sym, ap, ◌∙◌, subst, append_assoc, length-append, arith}
+use Rattle.std.proofs.Common.{◌≡◌, ℕ, ◌<◌, ◌≤◌, true, false, ◌||◌, List, [], ◌∷◌, ◌++◌, length, codes, decimal, Some, refl, sym, ap, ◌∙◌, subst, append_assoc, length-append, arith}
 use Rattle.std.specs.List.{AllPass}
 use Rattle.pnm_image.specs.declared.shape.Shape.{Shape}
 use Rattle.pnm_image.specs.declared.shape.Kind.{Kind}
 use Rattle.pnm_image.specs.declared.shape.Kind.TheVariants.{Bit, Gray, Color, Pam}
 use Rattle.pnm_image.specs.Heads.{Header, IsHeader, IsWithinLimits}
 use Rattle.pnm_read.specs.declared.format.Format.{Format}
-use Rattle.pnm_read.specs.Texts.{is_white, is_digit, begins_apart, uncommented, ends_in_word}
+use Rattle.pnm_read.specs.Texts.{is_white, is_digit, begins_apart, ends_in_word}
 use Rattle.pnm_read.specs.Formats.{format_of, header_numbers}
 use Rattle.pnm_read.specs.Headers.{SpellsPnmHeader, SpellsHeaderBy, SpellsHeader}
 use Rattle.pnm_read.specs.Rasters.{SpellsDecimal}

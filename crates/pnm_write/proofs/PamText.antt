@@ -1,6 +1,6 @@
 -- The header that is written of a PAM image, as a reader takes it: its lines, and what they say.
-use Rattle.std.proofs.Common.{◌≡◌, ◌≢◌, ℕ, suc, ◌+◌, ◌-◌, ◌<◌, ◌≤◌, Bool, true, false, not, ◌==◌, List, [], ◌∷◌, ◌++◌, length, slice_index, All, codes, decimal, Some, refl, sym, ap, ap₂, subst, ◌∙◌, append_assoc, append-nil, length-append, arith}
-use Rattle.std.specs.List.{AllPass, AllByRecursion, list_all, flat_map}
+use Rattle.std.proofs.Common.{◌≡◌, ◌≢◌, ℕ, suc, ◌+◌, ◌-◌, ◌<◌, ◌≤◌, Bool, true, false, not, ◌==◌, List, [], ◌∷◌, ◌++◌, length, slice_index, All, codes, decimal, refl, sym, ap, subst, ◌∙◌, append_assoc, append-nil, length-append, arith}
+use Rattle.std.specs.List.{AllPass, AllByRecursion, list_all}
 use Rattle.std.proofs.lemmas.Bool.Decides.{nat_tests}
 use Rattle.std.proofs.lemmas.List.Elements.{All-head, All-tail}
 use Rattle.std.proofs.lemmas.List.Sums.{AllPass-from_list_all}
@@ -11,10 +11,10 @@ use Rattle.pnm_read.specs.declared.format.Format.{Format}
 use Rattle.pnm_read.specs.declared.line.Field.{Field}
 use Rattle.pnm_read.specs.declared.line.Field.TheVariants.{Width, Height, Depth, Maxval}
 use Rattle.pnm_read.specs.declared.line.LineKind.{LineKind}
-use Rattle.pnm_read.specs.declared.line.LineKind.TheVariants.{Number, TupleType, End}
+use Rattle.pnm_read.specs.declared.line.LineKind.TheVariants.{Number, End}
 use Rattle.pnm_read.specs.Texts.{is_digit, decimal_value}
 use Rattle.pnm_read.specs.PamLines.{trimmed_start, onto_trimmed, trimmed_end, token_of, after_token, second_token, value_of, name_of, kind_of_token, line_kind, field_values, tuple_type_in}
-use Rattle.pnm_read.specs.Headers.{MaySay, IsOneLine, IsPamLine, SpellsPamHeader}
+use Rattle.pnm_read.specs.Headers.{MaySay, IsPamLine, SpellsPamHeader}
 use Rattle.pnm_read.specs.Rasters.{SpellsDecimal}
 use Rattle.pnm_read.proofs.LineLaws.{with_feeds}
 use Rattle.pnm_write.specs.Encoding.{tuple_type_line, pam_text}

@@ -1,10 +1,10 @@
 -- Pixels that are packed into bytes are read again: eight a byte, the last byte with spare bits.
-use Rattle.std.proofs.Common.{◌≡◌, ℕ, zero, suc, ◌+◌, ◌-◌, ◌*◌, ◌/◌, ◌%◌, ◌<◌, ◌≤◌, inl, inr, List, [], ◌∷◌, ◌++◌, length, map, take, drop, replicate, flat_map, All, refl, sym, ap, ap₂, ◌∙◌, arith}
+use Rattle.std.proofs.Common.{◌≡◌, ℕ, zero, suc, ◌+◌, ◌-◌, ◌*◌, ◌/◌, ◌%◌, ◌<◌, ◌≤◌, inl, inr, List, [], ◌∷◌, ◌++◌, length, take, drop, replicate, flat_map, All, refl, sym, ap, ap₂, ◌∙◌, arith}
 use Rattle.std.proofs.Math.Seq.{take-append-add}
 use Rattle.std.proofs.lemmas.Bool.{cases_lt}
 use Rattle.std.proofs.lemmas.List.{take_at, take-append-le, take-append-drop, take_all, length-append, length-replicate, length-drop, length-take, nil_from_length}
-use Rattle.std.proofs.lemmas.List.Elements.{All-head, All-tail, All-take, All-drop, All-append, All-replicate}
-use Rattle.pnm_read.specs.Rasters.{pixel_at, pixels}
+use Rattle.std.proofs.lemmas.List.Elements.{All-take, All-drop, All-append, All-replicate}
+use Rattle.pnm_read.specs.Rasters.{pixels}
 use Rattle.pnm_write.specs.Encoding.{packed_byte, packed_groups}
 use Rattle.pnm_write.proofs.PackingLaws.{bits_before_white}
 

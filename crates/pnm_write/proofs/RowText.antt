@@ -1,5 +1,5 @@
 -- The bytes that are written of a row are those that a reader takes for one, and give the row again.
-use Rattle.std.proofs.Common.{◌≡◌, ℕ, zero, suc, ◌+◌, ◌*◌, ◌/◌, ◌%◌, ◌<◌, ◌≤◌, Bool, true, false, nat_lt, if◌then◌else◌, List, [], ◌∷◌, ◌++◌, length, map, take, flat_map, All, refl, sym, ap, ap₂, subst, ◌∙◌, arith}
+use Rattle.std.proofs.Common.{◌≡◌, ℕ, ◌+◌, ◌*◌, ◌/◌, ◌%◌, ◌≤◌, Bool, true, false, nat_lt, if◌then◌else◌, List, [], ◌∷◌, length, take, flat_map, All, refl, sym, ap, ap₂, subst, ◌∙◌, arith}
 use Rattle.std.proofs.lemmas.List.{length-map}
 use Rattle.pnm_image.specs.declared.shape.Shape.{Shape}
 use Rattle.pnm_image.specs.declared.shape.Kind.{Kind}
@@ -8,12 +8,10 @@ use Rattle.pnm_image.specs.Heads.{Header, IsHeader, Suits, row_length}
 use Rattle.pnm_image.specs.Images.{cut_rows}
 use Rattle.pnm_image.specs.Places.{IsRowOf}
 use Rattle.pnm_image.proofs.Rows.{length-cut_rows}
-use Rattle.pnm_read.specs.declared.packing.Packing.{Packing}
 use Rattle.pnm_read.specs.declared.packing.Packing.TheVariants.{Packed, Narrow, Wide}
 use Rattle.pnm_read.specs.Rasters.{pixels, wide_samples, raw_samples, row_bytes as bytes_in_row}
-use Rattle.pnm_write.specs.declared.packing.Packing.{Packing as Written}
 use Rattle.pnm_write.specs.declared.packing.Packing.TheVariants as written
-use Rattle.pnm_write.specs.Encoding.{packed_byte, packed_groups, packed_bytes, wide_bytes, bytes_in, row_bytes}
+use Rattle.pnm_write.specs.Encoding.{packed_byte, packed_bytes, wide_bytes, bytes_in, row_bytes}
 use Rattle.pnm_write.proofs.PixelText.{ArePixels, pixels_of_groups}
 
 -- so many bytes, of which a reader makes these samples
