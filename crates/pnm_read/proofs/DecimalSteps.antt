@@ -1,5 +1,5 @@
 -- The scanner of a number of a plain raster, byte by byte.
-use Rattle.std.proofs.Common.{◌≡◌, ℕ, ◌+◌, ◌-◌, ◌*◌, Bool, true, false, not, ◌&&◌, ◌==◌, if◌then◌else◌, List, [], ◌∷◌, ◌++◌, refl, sym, ap, ◌∙◌, arith}
+use Rattle.std.proofs.Common.{◌≡◌, inl, ℕ, ◌+◌, ◌-◌, ◌*◌, Bool, true, false, not, ◌&&◌, ◌==◌, if◌then◌else◌, List, [], ◌∷◌, ◌++◌, refl, sym, ap, ◌∙◌, arith}
 use Rattle.std.proofs.lemmas.Bool.{and_parts}
 use Rattle.std.proofs.lemmas.Bool.Decides.{nat_tests}
 use Rattle.std.proofs.lemmas.List.{length-append}
@@ -73,11 +73,11 @@ decimal_never_with before b e = chosen_never _ _ _ e
 
 pub decimal_goes_on : (old new : DecimalScanner) (b : ℕ) (j : Judgement) → j ≡ GoesOn → JudgesDecimal old b j → PushesDecimal old b new
     → JudgesByte decimal_item (IsDecimalAfter old) (IsDecimalAfter new) (IsDecimalWhole new) b j
-decimal_goes_on old new b j is h p before a = (h before a, rw is (decimal_after old new b before a p))
+decimal_goes_on old new b j is h p before a = inl (h before a, rw is (decimal_after old new b before a p))
 
 pub decimal_stops : (s : DecimalScanner) (b : ℕ) (j : Judgement) → (j ≡ GoesOn → ⊥) → JudgesDecimal s b j
     → JudgesByte decimal_item (IsDecimalAfter s) (IsDecimalAfter s) (IsDecimalWhole s) b j
 decimal_stops s b GoesOn n h before a = absurd (n refl)
 decimal_stops s b EndsWith n h before a = absurd (decimal_never_with before b (sym (h before a)))
-decimal_stops s b EndsBefore n h before a = (h before a, a.value)
-decimal_stops s b (Fails k) n h before a = (h before a, tt)
+decimal_stops s b EndsBefore n h before a = inl (h before a, a.value)
+decimal_stops s b (Fails k) n h before a = inl (h before a, tt)

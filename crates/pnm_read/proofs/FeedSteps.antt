@@ -1,7 +1,8 @@
 -- A scanner that is given bytes one by one.
-use Rattle.std.proofs.Common.{◌≡◌, ℕ, ◌+◌, ◌<◌, ◌≤◌, List, [], ◌∷◌, ◌++◌, length, get_or, take, drop, Option, Some, None, Ok, Err, refl, sym, ap, subst, ◌∙◌, append_assoc, append-nil, arith}
+use Rattle.std.proofs.Common.{◌≡◌, ◌⊎◌, inl, inr, ℕ, ◌+◌, ◌<◌, ◌≤◌, List, [], ◌∷◌, ◌++◌, length, get_or, take, drop, Option, Some, None, Ok, Err, refl, sym, ap, subst, ◌∙◌, append_assoc, append-nil, arith}
 use Rattle.std.proofs.lemmas.List.{take_more, drop_more, take_all, drop_all}
 use Rattle.pnm_read.specs.declared.fault.InputFault.{InputFault}
+use Rattle.pnm_read.specs.declared.fault.InputFault.TheVariants.{Memory}
 use Rattle.pnm_read.specs.declared.judgement.Judgement.{Judgement}
 use Rattle.pnm_read.specs.declared.judgement.Judgement.TheVariants.{GoesOn, EndsWith, EndsBefore, Fails}
 use Rattle.pnm_read.specs.Items.{piece_from}
@@ -36,15 +37,41 @@ step_at item at_end is_after room old now bytes n before rest f lt a =
 before_more : (before bytes : List ℕ) (n : ℕ) → n < length bytes → (before ++ take n bytes) ++ get_or bytes n 0 ∷ [] ≡ before ++ take (n + 1) bytes
 before_more before bytes n lt = append_assoc before (take n bytes) (get_or bytes n 0 ∷ []) ∙ ap (λ (l : List ℕ). before ++ l) (sym (take_more bytes n 0 lt))
 
+-- how the byte at a place was judged, unless memory ran out
+judged_place : {S : Type 0} (item : S → List ℕ → ℕ → Judgement) (at_end : S → List ℕ → Option InputFault) (is_after is_whole : S → List ℕ → Type 0) (room : S → ℕ) (old now new : S) (bytes : List ℕ) (n : ℕ) (j k : Judgement) (before : List ℕ)
+    → Feeding item at_end is_after room old now bytes n → JudgesByte (item now) (is_after now) (is_after new) (is_whole new) (get_or bytes n 0) j → j ≡ k → is_after old before
+    → ((item old (before ++ take n bytes) (get_or bytes n 0) ≡ k) × Takes (is_after new) (is_whole new) k (before ++ take n bytes) (get_or bytes n 0)) ⊎ (k ≡ Fails Memory)
+judged_place item at_end is_after is_whole room old now new bytes n j k before f judged is a =
+    elim (judged (before ++ take n bytes) (f.fed before a)) [
+      | inl at_place ↦ inl (
+          ap (λ (i : List ℕ → ℕ → Judgement). i (before ++ take n bytes) (get_or bytes n 0)) (sym f.same_items) ∙ sym at_place.0 ∙ is,
+          subst (λ (j : Judgement). Takes (is_after new) (is_whole new) j (before ++ take n bytes) (get_or bytes n 0)) is at_place.1,
+        )
+      | inr memory ↦ inr (sym is ∙ memory)
+    ]
+
+-- memory ran out in no other judgement
+abbrev IsSound : Judgement → Type 0
+IsSound k = k ≡ Fails Memory → ⊥
+
+goes_on_sound : IsSound GoesOn
+goes_on_sound e = absurd cc
+
+ends_with_sound : IsSound EndsWith
+ends_with_sound e = absurd cc
+
+ends_before_sound : IsSound EndsBefore
+ends_before_sound e = absurd cc
+
 -- how the byte at a place was judged
 judged_at : {S : Type 0} (item : S → List ℕ → ℕ → Judgement) (at_end : S → List ℕ → Option InputFault) (is_after is_whole : S → List ℕ → Type 0) (room : S → ℕ) (old now new : S) (bytes : List ℕ) (n : ℕ) (j k : Judgement) (before : List ℕ)
-    → Feeding item at_end is_after room old now bytes n → JudgesByte (item now) (is_after now) (is_after new) (is_whole new) (get_or bytes n 0) j → j ≡ k → is_after old before
+    → IsSound k → Feeding item at_end is_after room old now bytes n → JudgesByte (item now) (is_after now) (is_after new) (is_whole new) (get_or bytes n 0) j → j ≡ k → is_after old before
     → (item old (before ++ take n bytes) (get_or bytes n 0) ≡ k) × Takes (is_after new) (is_whole new) k (before ++ take n bytes) (get_or bytes n 0)
-judged_at item at_end is_after is_whole room old now new bytes n j k before f judged is a =
-    let at_place = judged (before ++ take n bytes) (f.fed before a) in (
-      ap (λ (i : List ℕ → ℕ → Judgement). i (before ++ take n bytes) (get_or bytes n 0)) (sym f.same_items) ∙ sym at_place.0 ∙ is,
-      subst (λ (j : Judgement). Takes (is_after new) (is_whole new) j (before ++ take n bytes) (get_or bytes n 0)) is at_place.1,
-    )
+judged_at item at_end is_after is_whole room old now new bytes n j k before sound f judged is a =
+    elim (judged_place item at_end is_after is_whole room old now new bytes n j k before f judged is a) [
+      | inl at_place ↦ at_place
+      | inr memory ↦ absurd (sound memory)
+    ]
 
 pub feeding_more : {S : Type 0} (item : S → List ℕ → ℕ → Judgement) (at_end : S → List ℕ → Option InputFault) (is_after is_whole : S → List ℕ → Type 0) (room : S → ℕ) (old now new : S) (bytes : List ℕ) (n : ℕ) (j : Judgement)
     → Feeding item at_end is_after room old now bytes n → n < length bytes → j ≡ GoesOn → JudgesByte (item now) (is_after now) (is_after new) (is_whole new) (get_or bytes n 0) j
@@ -53,10 +80,10 @@ feeding_more item at_end is_after is_whole room old now new bytes n j f lt is ju
   same_items = items ∙ f.same_items;
   same_end = ends ∙ f.same_end;
   less_room = let before = f.less_room in omega arith;
-  fed = λ before a. subst (is_after new) (before_more before bytes n lt) (judged_at item at_end is_after is_whole room old now new bytes n j GoesOn before f judged is a).1;
+  fed = λ before a. subst (is_after new) (before_more before bytes n lt) (judged_at item at_end is_after is_whole room old now new bytes n j GoesOn before goes_on_sound f judged is a).1;
   piece = λ before rest a.
       step_at item at_end is_after room old now bytes n before rest f lt a
-      ∙ piece_step (item old) (at_end old) (before ++ take n bytes) (get_or bytes n 0) (drop (n + 1) bytes ++ rest) GoesOn (judged_at item at_end is_after is_whole room old now new bytes n j GoesOn before f judged is a).0
+      ∙ piece_step (item old) (at_end old) (before ++ take n bytes) (get_or bytes n 0) (drop (n + 1) bytes ++ rest) GoesOn (judged_at item at_end is_after is_whole room old now new bytes n j GoesOn before goes_on_sound f judged is a).0
       ∙ ap (λ (l : List ℕ). piece_from (item old) (at_end old) l (drop (n + 1) bytes ++ rest)) (before_more before bytes n lt);
 }
 
@@ -65,7 +92,7 @@ pub feeding_ends_with : {S : Type 0} (item : S → List ℕ → ℕ → Judgemen
     → Feeding item at_end is_after room old now bytes n → n < length bytes → j ≡ EndsWith → JudgesByte (item now) (is_after now) (is_after new) (is_whole new) (get_or bytes n 0) j
     → is_after old before → FeedsAfter (item old) (at_end old) (is_after new) (is_whole new) bytes (Ok (Some (n + 1))) before
 feeding_ends_with item at_end is_after is_whole room old now new bytes n j before f lt is judged a =
-    let at_place = judged_at item at_end is_after is_whole room old now new bytes n j EndsWith before f judged is a in (
+    let at_place = judged_at item at_end is_after is_whole room old now new bytes n j EndsWith before ends_with_sound f judged is a in (
       (before ++ take n bytes) ++ get_or bytes n 0 ∷ [],
       at_place.1,
       λ rest.
@@ -78,7 +105,7 @@ pub feeding_ends_before : {S : Type 0} (item : S → List ℕ → ℕ → Judgem
     → Feeding item at_end is_after room old now bytes n → n < length bytes → j ≡ EndsBefore → JudgesByte (item now) (is_after now) (is_after new) (is_whole new) (get_or bytes n 0) j
     → is_after old before → FeedsAfter (item old) (at_end old) (is_after new) (is_whole new) bytes (Ok (Some n)) before
 feeding_ends_before item at_end is_after is_whole room old now new bytes n j before f lt is judged a =
-    let at_place = judged_at item at_end is_after is_whole room old now new bytes n j EndsBefore before f judged is a in (
+    let at_place = judged_at item at_end is_after is_whole room old now new bytes n j EndsBefore before ends_before_sound f judged is a in (
       before ++ take n bytes,
       at_place.1,
       λ rest.
@@ -87,14 +114,17 @@ feeding_ends_before item at_end is_after is_whole room old now new bytes n j bef
           ∙ ap (λ (l : List ℕ). Ok (before ++ take n bytes, l ++ rest)) (sym (drop_more bytes n 0 lt)),
     )
 
--- the byte is at fault
+-- the byte is at fault, or memory ran out
 pub feeding_fails : {S : Type 0} (item : S → List ℕ → ℕ → Judgement) (at_end : S → List ℕ → Option InputFault) (is_after is_whole : S → List ℕ → Type 0) (room : S → ℕ) (old now new : S) (bytes : List ℕ) (n : ℕ) (j : Judgement) (k : InputFault) (before : List ℕ)
     → Feeding item at_end is_after room old now bytes n → n < length bytes → j ≡ Fails k → JudgesByte (item now) (is_after now) (is_after new) (is_whole new) (get_or bytes n 0) j
     → is_after old before → FeedsAfter (item old) (at_end old) (is_after new) (is_whole new) bytes (Err k) before
-feeding_fails item at_end is_after is_whole room old now new bytes n j k before f lt is judged a rest =
-    let at_place = judged_at item at_end is_after is_whole room old now new bytes n j (Fails k) before f judged is a in
-    step_at item at_end is_after room old now bytes n before rest f lt a
-    ∙ piece_step (item old) (at_end old) (before ++ take n bytes) (get_or bytes n 0) (drop (n + 1) bytes ++ rest) (Fails k) at_place.0
+feeding_fails item at_end is_after is_whole room old now new bytes n j k before f lt is judged a =
+    elim (judged_place item at_end is_after is_whole room old now new bytes n j (Fails k) before f judged is a) [
+      | inl at_place ↦ inl (λ rest.
+          step_at item at_end is_after room old now bytes n before rest f lt a
+          ∙ piece_step (item old) (at_end old) (before ++ take n bytes) (get_or bytes n 0) (drop (n + 1) bytes ++ rest) (Fails k) at_place.0)
+      | inr memory ↦ inr (let same : k ≡ Memory = cc in same)
+    ]
 
 -- all bytes were taken
 pub feeding_all : {S : Type 0} (item : S → List ℕ → ℕ → Judgement) (at_end : S → List ℕ → Option InputFault) (is_after is_whole : S → List ℕ → Type 0) (room : S → ℕ) (old now : S) (bytes : List ℕ) (n : ℕ) (before : List ℕ)

@@ -1,5 +1,5 @@
 -- Steps that fail by a fault of the text, and that the magic and the header do: neither by a failed read nor for want of memory.
-use Rattle.std.proofs.Common.{◌≡◌, ℕ, Bool, true, false, not, ◌==◌, ◌||◌, ◌&&◌, if◌then◌else◌, List, [], ◌∷◌, ◌++◌, length, Option, Some, None, Result, Ok, Err}
+use Rattle.std.proofs.Common.{ℕ, Bool, true, false, not, ◌==◌, ◌||◌, ◌&&◌, if◌then◌else◌, List, [], ◌∷◌, ◌++◌, length, Option, Some, None, Result, Ok, Err}
 use Rattle.std.specs.Prelude.{nat_le, nat_lt}
 use Rattle.std.specs.List.{list_all}
 use Rattle.pnm_image.specs.declared.head.HeadFault.{HeadFault}
@@ -16,7 +16,7 @@ use Rattle.pnm_read.specs.declared.judgement.Judgement.TheVariants.{GoesOn, Ends
 use Rattle.pnm_read.specs.declared.line.Field.{Field}
 use Rattle.pnm_read.specs.declared.line.LineKind.{LineKind}
 use Rattle.pnm_read.specs.declared.line.LineKind.TheVariants.{Nothing, Number, TupleType, End, Unknown}
-use Rattle.pnm_read.specs.Texts.{is_digit, ends_in_comment, numbers_in}
+use Rattle.pnm_read.specs.Texts.{is_digit, numbers_in}
 use Rattle.pnm_read.specs.Formats.{format_of, number_count, shape_of}
 use Rattle.pnm_read.specs.PamLines.{ended_lines, last_line, second_token, line_kind, field_values, tuple_type_in}
 use Rattle.pnm_read.specs.Items.{◌>>=◌, piece_from, first_magic_item, second_magic_item, header_limit, is_bad_in_header, is_delimiter, header_item, header_end, fault_of_head, numbers_item, line_feed_item, pam_limit, number_item, tuple_type_item, line_item, pam_item, is_incomplete, shape_in, lines_item}
@@ -235,8 +235,8 @@ unfolding pam_head_at
 pam_head_by_text text =
     bind_by_text (line_feed_item text) (λ rest. piece_from pam_item header_end [] rest >>= λ piece. lines_item (ended_lines piece.0) >>= λ head. Ok (head, piece.1)) (line_feed_by_text text)
     (λ rest. bind_by_text (piece_from pam_item header_end [] rest) (λ piece. lines_item (ended_lines piece.0) >>= λ head. Ok (head, piece.1))
-        (piece_by_text pam_item header_end [] rest pam_item_by_text (λ front. tt))
-        (λ piece. bind_by_text (lines_item (ended_lines piece.0)) (λ head. Ok (head, piece.1)) (lines_item_by_text (ended_lines piece.0)) (λ head. tt)))
+    (piece_by_text pam_item header_end [] rest pam_item_by_text (λ front. tt))
+    (λ piece. bind_by_text (lines_item (ended_lines piece.0)) (λ head. Ok (head, piece.1)) (lines_item_by_text (ended_lines piece.0)) (λ head. tt)))
 
 -- ---- the header of any format
 

@@ -219,7 +219,7 @@ header_after old new b before a p e =
 -- the header goes on with the byte
 pub header_goes_on : (old new : HeaderScanner) (b : ℕ) (j : Judgement) → j ≡ GoesOn → JudgesHeader old b j → PushesHeader old b new
     → JudgesByte (header_item old.wanted) (IsHeaderAfter old) (IsHeaderAfter new) (IsHeaderWhole new) b j
-header_goes_on old new b j is h p before a = (h before a, rw is (header_after old new b before a p (sym (h before a) ∙ is)))
+header_goes_on old new b j is h p before a = inl (h before a, rw is (header_after old new b before a p (sym (h before a) ∙ is)))
 
 -- ---- the last byte
 
@@ -237,6 +237,6 @@ header_never_before count before b e = never_before_by (nat_le header_limit (len
 pub header_stops : (s : HeaderScanner) (b : ℕ) (j : Judgement) → (j ≡ GoesOn → ⊥) → JudgesHeader s b j
     → JudgesByte (header_item s.wanted) (IsHeaderAfter s) (IsHeaderAfter s) (IsHeaderWhole s) b j
 header_stops s b GoesOn n h before a = absurd (n refl)
-header_stops s b EndsWith n h before a = (h before a, header_whole s b before a (sym (h before a)))
+header_stops s b EndsWith n h before a = inl (h before a, header_whole s b before a (sym (h before a)))
 header_stops s b EndsBefore n h before a = absurd (header_never_before s.wanted before b (sym (h before a)))
-header_stops s b (Fails k) n h before a = (h before a, tt)
+header_stops s b (Fails k) n h before a = inl (h before a, tt)

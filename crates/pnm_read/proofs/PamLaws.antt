@@ -1,16 +1,12 @@
 -- The header of PAM: what is read is spelled, and what is spelled is read.
-use Rattle.std.proofs.Common.{◌≡◌, ℕ, ◌+◌, ◌<◌, ◌≤◌, Bool, true, false, not, ◌==◌, ◌||◌, if◌then◌else◌, List, [], ◌∷◌, ◌++◌, length, Option, Some, None, Result, Ok, Err, refl, sym, ap, subst, ◌∙◌, append_assoc, append-nil, length-append, arith, codes}
-use Rattle.std.specs.Prelude.{nat_le, slice_index}
+use Rattle.std.proofs.Common.{◌≡◌, ℕ, ◌+◌, ◌<◌, ◌≤◌, Bool, true, false, not, ◌==◌, if◌then◌else◌, List, [], ◌∷◌, ◌++◌, length, Some, Ok, Err, refl, sym, ap, subst, ◌∙◌, append_assoc, append-nil, length-append, arith}
+use Rattle.std.specs.Prelude.{nat_le}
 use Rattle.std.specs.List.{AllByRecursion}
 use Rattle.std.proofs.lemmas.Bool.{eqb-true, leb-false, lt-leb}
 use Rattle.std.proofs.lemmas.List.Elements.{All-head, All-tail}
-use Rattle.pnm_image.specs.declared.shape.Shape.{Shape}
 use Rattle.pnm_image.specs.declared.shape.Kind.{Kind}
-use Rattle.pnm_image.specs.declared.shape.Kind.TheVariants.{Pam}
-use Rattle.pnm_image.specs.declared.head.HeadFault.{HeadFault}
-use Rattle.pnm_image.specs.Heads.{Header, IsHeader, IsTupleType, Suits, header_of, shape_fault}
-use Rattle.pnm_read.specs.declared.fault.InputFault.{InputFault}
-use Rattle.pnm_read.specs.declared.fault.InputFault.TheVariants.{TooLong, BadPamLine, MissingField}
+use Rattle.pnm_image.specs.Heads.{Header, IsTupleType, Suits}
+use Rattle.pnm_read.specs.declared.fault.InputFault.TheVariants.{TooLong, BadPamLine}
 use Rattle.pnm_read.specs.declared.format.Format.{Format}
 use Rattle.pnm_read.specs.declared.judgement.Judgement.{Judgement}
 use Rattle.pnm_read.specs.declared.judgement.Judgement.TheVariants.{GoesOn, EndsWith, EndsBefore, Fails}
@@ -20,98 +16,13 @@ use Rattle.pnm_read.specs.declared.line.LineKind.TheVariants.{End}
 use Rattle.pnm_read.specs.Formats.{format_of}
 use Rattle.pnm_read.specs.PamLines.{ended_after, ended_lines, last_after, last_line, line_kind, field_values, tuple_type_in}
 use Rattle.pnm_read.specs.Headers.{IsOneLine, IsPamLine, SpellsPamHeader}
-use Rattle.pnm_read.specs.Items.{◌>>=◌, piece_from, header_end, line_feed_item, pam_limit, line_item, pam_item, is_missing, shape_in, lines_item}
+use Rattle.pnm_read.specs.Items.{◌>>=◌, piece_from, header_end, line_feed_item, pam_limit, line_item, pam_item, lines_item}
 use Rattle.pnm_read.specs.Said.{pam_head_at}
 use Rattle.pnm_read.proofs.PieceLaws.{bind_ok, done, ok_is, piece_step, FoundBy, found_from, found_at_end, found_is_whole}
-use Rattle.pnm_read.proofs.ShapeLaws.{head_or_fault, head_or_fault_ok, limits_of, no_shape_fault}
 use Rattle.pnm_read.proofs.HeaderPieces.{goes_on_through}
 use Rattle.pnm_read.proofs.LineLaws.{with_feeds, ended_lines-lf, ended_lines-other, ended_lines-are, last_line-is, text_of_lines}
-use Rattle.pnm_read.proofs.TupleTypeLaws.{tuple_type_in-is}
-use Rattle.pnm_read.proofs.PamLineLaws.{values-end, tuple_type-end, line_is_judged, line_ends, line_ends_with, MayStand, Judged, judged-push, judged_none, line_goes_on}
-
--- ---- the lines together
-
-missing_by : (w h d m : Bool) (made : Result Header InputFault) (head : Header) → (if w || h || d || m then Err MissingField else made) ≡ Ok head → (w ≡ false) × (h ≡ false) × (d ≡ false) × (m ≡ false) × (made ≡ Ok head)
-missing_by true h d m made head e = absurd cc
-missing_by false true d m made head e = absurd cc
-missing_by false false true m made head e = absurd cc
-missing_by false false false true made head e = absurd cc
-missing_by false false false false made head e = (refl, refl, refl, refl, e)
-
--- a field with some number, and no two
-one_value : (values : List ℕ) → (length values == 0) ≡ false → length values ≤ 1 → values ≡ slice_index values 0 ∷ []
-one_value [] some single = absurd cc
-one_value (a ∷ []) some single = refl
-one_value (a ∷ b ∷ values) some single = absurd (omega arith)
-
--- lines that make a head
-record MadeOf (lines : List (List ℕ)) (head : Header) : Type 0 where
-  pub width : field_values Width lines ≡ head.shape.width ∷ []
-  pub height : field_values Height lines ≡ head.shape.height ∷ []
-  pub depth : field_values Depth lines ≡ head.shape.depth ∷ []
-  pub maxval : field_values Maxval lines ≡ head.shape.maxval ∷ []
-  pub tuple_type : tuple_type_in lines ≡ head.tuple_type
-  pub kind : head.shape.kind ≡ Pam
-  pub sound : IsHeader head
-  pub rows : 0 < head.shape.height
-
-lines_make_head : (lines : List (List ℕ)) (head : Header) → Judged lines → AllByRecursion IsOneLine lines → lines_item lines ≡ Ok head → MadeOf lines head
-unfolding lines_item
-lines_make_head lines head j one e =
-    let parts = missing_by (is_missing Width lines) (is_missing Height lines) (is_missing Depth lines) (is_missing Maxval lines) (head_or_fault (shape_fault (shape_in lines)) (header_of (shape_in lines) (tuple_type_in lines))) head e in
-    let good = head_or_fault_ok (shape_fault (shape_in lines)) (header_of (shape_in lines) (tuple_type_in lines)) head parts.4 in
-    let limits = limits_of (shape_in lines) good.0 in
-    let made : MadeOf lines (header_of (shape_in lines) (tuple_type_in lines)) = record {
-      width = one_value (field_values Width lines) parts.0 (j.single Width);
-      height = one_value (field_values Height lines) parts.1 (j.single Height);
-      depth = one_value (field_values Depth lines) parts.2 (j.single Depth);
-      maxval = one_value (field_values Maxval lines) parts.3 (j.single Maxval);
-      tuple_type = refl;
-      kind = refl;
-      sound = record { limits = limits.0; suits = tuple_type_in-is lines one j.short };
-      rows = limits.1;
-    } in
-    subst (MadeOf lines) good.1 made
-
--- what the numbers of the four fields and a tuple type make
-abbrev made_by : List ℕ → List ℕ → List ℕ → List ℕ → List ℕ → Result Header InputFault
-made_by w h d m tuple_type =
-    let s : Shape = record { kind = Pam; width = slice_index w 0; height = slice_index h 0; depth = slice_index d 0; maxval = slice_index m 0 } in
-    if (length w == 0) || (length h == 0) || (length d == 0) || (length m == 0) then Err MissingField else head_or_fault (shape_fault s) (header_of s tuple_type)
-
-lines_item_is : (lines : List (List ℕ)) → lines_item lines ≡ made_by (field_values Width lines) (field_values Height lines) (field_values Depth lines) (field_values Maxval lines) (tuple_type_in lines)
-unfolding lines_item
-lines_item_is lines = refl
-
--- lines that have the same make the same
-same_made : (lines : List (List ℕ)) (w h d m tuple_type : List ℕ) → field_values Width lines ≡ w → field_values Height lines ≡ h → field_values Depth lines ≡ d → field_values Maxval lines ≡ m → tuple_type_in lines ≡ tuple_type
-    → lines_item lines ≡ made_by w h d m tuple_type
-same_made lines w h d m tuple_type width height depth maxval text =
-    lines_item_is lines
-    ∙ ap (λ (x : List ℕ). made_by x (field_values Height lines) (field_values Depth lines) (field_values Maxval lines) (tuple_type_in lines)) width
-    ∙ ap (λ (x : List ℕ). made_by w x (field_values Depth lines) (field_values Maxval lines) (tuple_type_in lines)) height
-    ∙ ap (λ (x : List ℕ). made_by w h x (field_values Maxval lines) (tuple_type_in lines)) depth
-    ∙ ap (λ (x : List ℕ). made_by w h d x (tuple_type_in lines)) maxval
-    ∙ ap (λ (x : List ℕ). made_by w h d m x) text
-
--- the head of PAM that a shape and a tuple type make
-pam_head_of : (head : Header) (kind : Kind) → head.shape.kind ≡ kind → IsHeader head → 0 < head.shape.height
-    → (let s : Shape = record { kind = kind; width = head.shape.width; height = head.shape.height; depth = head.shape.depth; maxval = head.shape.maxval } in head_or_fault (shape_fault s) (header_of s head.tuple_type)) ≡ Ok head
-pam_head_of head kind k sound rows =
-    ap (λ (x : Kind). let s : Shape = record { kind = x; width = head.shape.width; height = head.shape.height; depth = head.shape.depth; maxval = head.shape.maxval } in head_or_fault (shape_fault s) (header_of s head.tuple_type)) (sym k)
-    ∙ ap (λ (f : Option HeadFault). head_or_fault f head) (no_shape_fault head.shape sound.limits rows)
-
--- such lines are read as the head
-made_is_found : (lines : List (List ℕ)) (head : Header) → MadeOf lines head → lines_item lines ≡ Ok head
-made_is_found lines head m =
-    same_made lines (head.shape.width ∷ []) (head.shape.height ∷ []) (head.shape.depth ∷ []) (head.shape.maxval ∷ []) head.tuple_type m.width m.height m.depth m.maxval m.tuple_type ∙ pam_head_of head Pam m.kind m.sound m.rows
-
--- ENDHDR makes no difference
-lines_item-end : (lines : List (List ℕ)) (last : List ℕ) → line_kind last ≡ End → lines_item (lines ++ last ∷ []) ≡ lines_item lines
-lines_item-end lines last k =
-    same_made (lines ++ last ∷ []) (field_values Width lines) (field_values Height lines) (field_values Depth lines) (field_values Maxval lines) (tuple_type_in lines)
-    (values-end Width lines last k) (values-end Height lines last k) (values-end Depth lines last k) (values-end Maxval lines last k) (tuple_type-end lines last k)
-    ∙ sym (lines_item_is lines)
+use Rattle.pnm_read.proofs.PamHeads.{MadeOf, lines_make_head, made_is_found, lines_item-end}
+use Rattle.pnm_read.proofs.PamLineLaws.{line_is_judged, line_ends, line_ends_with, MayStand, Judged, judged-push, judged_none, line_goes_on}
 
 -- ---- how a byte is judged
 
@@ -208,17 +119,22 @@ lines_of_piece piece body e ends = ap (λ (t : List ℕ). lines_item (ended_line
 whole_after : (text : List ℕ) (found : List ℕ × List ℕ) (body rest : List ℕ) → text ≡ found.0 ++ found.1 → found.0 ≡ body ++ 10 ∷ [] → found.1 ≡ rest → text ≡ (body ++ 10 ∷ []) ++ rest
 whole_after text found body rest whole piece back = whole ∙ ap (λ (t : List ℕ). t ++ found.1) piece ∙ ap (λ (t : List ℕ). (body ++ 10 ∷ []) ++ t) back
 
+-- a step has one head, and one rest
+both_are : (made head : Header) (after rest : List ℕ) → done {A = Header × List ℕ} (made, after) ≡ Ok (head, rest) → (made ≡ head) × (after ≡ rest)
+both_are made head after rest e =
+    let parts : (made, after) ≡ (head, rest) = ok_is (made, after) (head, rest) e in
+    (ap (λ (p : Header × List ℕ). p.0) parts, ap (λ (p : Header × List ℕ). p.1) parts)
+
 pam_parts : (text : List ℕ) (head : Header) (rest : List ℕ) → pam_head_at text ≡ Ok (head, rest) → PamRead text head rest
 unfolding pam_head_at
 pam_parts text head rest e =
     let feed = bind_ok (line_feed_item text) (λ after. piece_from pam_item header_end [] after >>= λ piece. lines_item (ended_lines piece.0) >>= λ made. Ok (made, piece.1)) (head, rest) e in
     let piece = bind_ok (piece_from pam_item header_end [] feed.0) (λ found. lines_item (ended_lines found.0) >>= λ made. Ok (made, found.1)) (head, rest) feed.2 in
     let made = bind_ok (lines_item (ended_lines piece.0.0)) (λ found. Ok (found, piece.0.1)) (head, rest) piece.2 in
-    let parts : (made.0, piece.0.1) ≡ (head, rest) = ok_is (made.0, piece.0.1) (head, rest) made.2 in
+    let parts = both_are made.0 head piece.0.1 rest made.2 in
     let read = body_is_read feed.0 [] piece.0 (subst Judged (sym no_lines) judged_none) piece.1 in
     let lines : lines_item (ended_lines piece.0.0) ≡ lines_item (ended_lines read.body) = lines_of_piece piece.0.0 read.body read.piece_is read.ends in
-    let back : piece.0.1 ≡ rest = ap (λ (p : Header × List ℕ). p.1) parts in
-    let whole : feed.0 ≡ (read.body ++ 10 ∷ []) ++ rest = whole_after feed.0 piece.0 read.body rest (found_is_whole pam_item header_end feed.0 [] piece.0 piece.1) read.piece_is back in
+    let whole : feed.0 ≡ (read.body ++ 10 ∷ []) ++ rest = whole_after feed.0 piece.0 read.body rest (found_is_whole pam_item header_end feed.0 [] piece.0 piece.1) read.piece_is parts.1 in
     let found : MadeOf (ended_lines read.body) made.0 = lines_make_head (ended_lines read.body) made.0 read.judged (ended_lines-are read.body) (sym lines ∙ made.1) in
     record {
       body = read.body;
@@ -226,7 +142,7 @@ pam_parts text head rest e =
       short = read.short;
       judged = read.judged;
       whole = line_feed_is text feed.0 feed.1 ∙ ap (λ (t : List ℕ). 10 ∷ t) whole;
-      made = subst (λ (p : Header × List ℕ). MadeOf (ended_lines read.body) p.0) parts found;
+      made = subst (MadeOf (ended_lines read.body)) parts.0 found;
     }
 
 pam_lines : (lines : List (List ℕ)) → AllByRecursion IsOneLine lines → AllByRecursion MayStand lines → AllByRecursion IsPamLine lines
@@ -310,7 +226,7 @@ last_feed_ends body short ends =
 body_is_piece : (body rest : List ℕ) → Judged (ended_lines body) → length body < 65533 → line_kind (last_line body) ≡ End → piece_from pam_item header_end [] (body ++ 10 ∷ rest) ≡ Ok (body ++ 10 ∷ [], rest)
 body_is_piece body rest j short ends =
     goes_on_through pam_item header_end body [] body (10 ∷ rest) refl
-        (λ front b others e. byte_goes_on (b == 10) front b others refl (subst (λ (t : List ℕ). Judged (ended_lines t)) (sym e) j) (subst (λ (t : List ℕ). length t < 65533) (sym e) short))
+    (λ front b others e. byte_goes_on (b == 10) front b others refl (subst (λ (t : List ℕ). Judged (ended_lines t)) (sym e) j) (subst (λ (t : List ℕ). length t < 65533) (sym e) short))
     ∙ piece_step pam_item header_end body 10 rest EndsWith (last_feed_ends body short ends)
 
 -- ---- the lines of a header

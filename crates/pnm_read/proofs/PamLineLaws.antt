@@ -1,17 +1,12 @@
 -- The lines of a PAM header: what a line says, which lines are judged to go on, and the head that they make.
-use Rattle.std.proofs.Common.{◌≡◌, ℕ, ◌+◌, ◌<◌, ◌≤◌, Bool, true, false, not, ◌==◌, ◌||◌, if◌then◌else◌, List, [], ◌∷◌, ◌++◌, length, Option, Some, None, Result, Ok, Err, refl, sym, ap, subst, ◌∙◌, append_assoc, append-nil, length-append, arith, codes}
-use Rattle.std.specs.Prelude.{nat_lt, slice_index}
+use Rattle.std.proofs.Common.{◌≡◌, ℕ, ◌+◌, ◌<◌, ◌≤◌, Bool, true, false, not, ◌==◌, if◌then◌else◌, List, [], ◌∷◌, ◌++◌, length, refl, sym, ap, subst, ◌∙◌, append_assoc, append-nil, length-append, arith, codes}
+use Rattle.std.specs.Prelude.{nat_lt}
 use Rattle.std.specs.Str.{bytes_eq}
 use Rattle.std.specs.List.{AllPass, AllByRecursion, list_all}
-use Rattle.std.proofs.lemmas.Bool.{eqb-true, eqb-false}
 use Rattle.std.proofs.lemmas.Bool.Decides.{nat_tests}
 use Rattle.std.proofs.lemmas.List.Sums.{AllPass-from_list_all, list_all-from_AllPass}
 use Rattle.std.proofs.lemmas.Slice.Eq.{bytes_eq-Decides}
-use Rattle.pnm_image.specs.declared.shape.Shape.{Shape}
-use Rattle.pnm_image.specs.declared.shape.Kind.TheVariants.{Pam}
-use Rattle.pnm_image.specs.Heads.{Header, IsHeader, IsTupleType, header_of, shape_fault}
-use Rattle.pnm_read.specs.declared.fault.InputFault.{InputFault}
-use Rattle.pnm_read.specs.declared.fault.InputFault.TheVariants.{TooLong, BadNumber, BadPamLine, DuplicateField, MissingField}
+use Rattle.pnm_read.specs.declared.fault.InputFault.TheVariants.{TooLong, BadNumber, BadPamLine, DuplicateField}
 use Rattle.pnm_read.specs.declared.judgement.Judgement.{Judgement}
 use Rattle.pnm_read.specs.declared.judgement.Judgement.TheVariants.{GoesOn, EndsWith, EndsBefore, Fails}
 use Rattle.pnm_read.specs.declared.line.Field.{Field}
@@ -21,8 +16,7 @@ use Rattle.pnm_read.specs.declared.line.LineKind.TheVariants.{Nothing, Number, T
 use Rattle.pnm_read.specs.Texts.{is_digit, decimal_value}
 use Rattle.pnm_read.specs.PamLines.{first_token, second_token, value_of, name_of, begins_with, kind_of_token, line_kind, field_values, joined_with, tuple_type_in}
 use Rattle.pnm_read.specs.Headers.{MaySay}
-use Rattle.pnm_read.specs.Items.{number_item, tuple_type_item, line_item, is_missing, is_incomplete, field_in, shape_in, lines_item}
-use Rattle.pnm_read.proofs.ShapeLaws.{head_or_fault, head_or_fault_ok, limits_of, no_shape_fault}
+use Rattle.pnm_read.specs.Items.{number_item, tuple_type_item, line_item}
 use Rattle.pnm_read.proofs.LineLaws.{field_values-append, tuple_type_in-append}
 
 -- ---- what a line says, by its first token

@@ -1,5 +1,5 @@
 -- The scanner of a pixel, byte by byte.
-use Rattle.std.proofs.Common.{◌≡◌, ℕ, ◌+◌, Bool, true, false, ◌||◌, ◌==◌, if◌then◌else◌, List, [], ◌∷◌, ◌++◌, refl, sym, ap, ◌∙◌, arith}
+use Rattle.std.proofs.Common.{◌≡◌, inl, ℕ, ◌+◌, Bool, true, false, ◌||◌, ◌==◌, if◌then◌else◌, List, [], ◌∷◌, ◌++◌, refl, sym, ap, ◌∙◌, arith}
 use Rattle.std.proofs.lemmas.Bool.{and_parts}
 use Rattle.std.proofs.lemmas.Bool.Decides.{nat_tests}
 use Rattle.std.proofs.lemmas.List.{length-append}
@@ -58,14 +58,14 @@ pixel_goes_on old new b j is h l c before a =
       length_is = l ∙ ap (λ n. n + 1) a.length_is ∙ sym (length-append before (b ∷ []));
       comment = c ∙ ap (λ t. commented t b) a.comment ∙ sym (commented_after-push before b);
     } in
-    (h before a, rw is after)
+    inl (h before a, rw is after)
 
 pub pixel_ends_with : (old new : PixelScanner) (b : ℕ) (j : Judgement) → j ≡ EndsWith → JudgesPixel old b j → new.pixel ≡ (if b == 48 then 1 else 0)
     → JudgesByte pixel_item (IsPixelAfter old) (IsPixelAfter new) (IsPixelWhole new) b j
 pixel_ends_with old new b j is h p before a =
     let character = pixel_ends before b (sym (h before a) ∙ is) in
     let whole : IsPixelWhole new (before ++ b ∷ []) = p ∙ white_or_black (b == 48) (b == 49) character (not_both b) ∙ ap (λ (t : Bool). if t then 0 else 1) (sym (ends_by-push (λ b. b == 49) before b)) in
-    (h before a, rw is whole)
+    inl (h before a, rw is whole)
 
 pub pixel_not_before : (old new : PixelScanner) (b : ℕ) (j : Judgement) → j ≡ EndsBefore → JudgesPixel old b j
     → JudgesByte pixel_item (IsPixelAfter old) (IsPixelAfter new) (IsPixelWhole new) b j

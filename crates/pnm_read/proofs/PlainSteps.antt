@@ -15,7 +15,7 @@ use Rattle.pnm_read.specs.Items.{◌>>=◌, pixel_item, pixel_end, pixel_in, pla
 use Rattle.pnm_read.specs.Said.{in_turn, plain_row, last_plain_row, row_by}
 use Rattle.pnm_read.specs.Scans.{Scans, ScansAfter}
 use Rattle.pnm_read.specs.Scanners.{IsPixelAfter, IsPixelWhole, IsDecimalAfter, IsDecimalWhole}
-use Rattle.pnm_read.specs.Inputs.{Turn, Finds, Fills, ChecksEnd, held_of}
+use Rattle.pnm_read.specs.Inputs.{Turn, Finds, Fills, Passes, held_of}
 use Rattle.pnm_read.proofs.UnitLaws.{and_turns}
 use Rattle.pnm_read.proofs.PartLaws.{all_are_left, part_is_read, part_fails, none_are_left, one_is_read, one_fails}
 use Rattle.pnm_read.proofs.Turns.{no_fault, turn_then, turn_ok_so, turn_err_so, turn_taken, turn_seen}
@@ -110,7 +110,7 @@ begins_by byte [] rest e = absurd cc
 begins_by byte (b ∷ bytes) rest e = let first : b ≡ byte = cc in ap is_apart first
 
 pub end_goes_on : {R : Type 0} {left : R → Option (List ℕ)} {failures : R → ℕ} {same : R → R → Type 0} {old mid : Input R} (byte : ℕ) (bytes : List ℕ) → bytes ≡ held_of mid → Some byte ≡ slice_get bytes 0 → is_apart byte ≡ true
-    → Turn {A = Unit {0}} left failures same old mid (Ok tt) (Fills (Ok tt)) → Turn {A = Unit {0}} left failures same old mid (Ok tt) (ChecksEnd (Ok tt))
+    → Turn {A = Unit {0}} left failures same old mid (Ok tt) (Fills (Ok tt)) → Turn {A = Unit {0}} left failures same old mid (Ok tt) (Passes after_last_item (Ok tt))
 unfolding after_last_item
 end_goes_on {mid = mid} byte bytes held first apart t =
     turn_ok_so {A = Unit {0}} {B = Unit {0}} tt (Ok tt) (no_fault tt ReadFailed) (λ b a o.
@@ -222,19 +222,19 @@ pub row_fault : {R : Type 0} {left : R → Option (List ℕ)} {failures : R → 
     → Turn {A = List ℕ} left failures same old new (Err k) (Finds (λ (row : List ℕ). row) (plain_row s) (Err k)) → Turn {A = List ℕ} left failures same old new (Err k) (Finds (λ (row : List ℕ). row) (row_by true s more) (Err k))
 row_fault s more k t = turn_err_so {A = List ℕ} {B = List ℕ} k (no_row s more k) t
 
-no_end : (s : Shape) (more : ℕ) (row : List ℕ) (k : InputFault) (b m a : List ℕ) → more ≡ 0 → plain_row s b ≡ row_done row m → ChecksEnd (Err k) m a → Finds (λ (row : List ℕ). row) (row_by true s more) (Err k) b a
+no_end : (s : Shape) (more : ℕ) (row : List ℕ) (k : InputFault) (b m a : List ℕ) → more ≡ 0 → plain_row s b ≡ row_done row m → Passes after_last_item (Err k) m a → Finds (λ (row : List ℕ). row) (row_by true s more) (Err k) b a
 no_end s more row k b m a none found (inl e) = inl (last_row s more b none ∙ ap last_of found ∙ ap (row_then row) e)
 no_end s more row k b m a none found (inr outside) = inr outside
 
 -- what comes after the last row is at fault, or can't be read
 pub end_fault : {R : Type 0} {left : R → Option (List ℕ)} {failures : R → ℕ} {same : R → R → Type 0} {old mid new : Input R} (s : Shape) (more : ℕ) (row : List ℕ) (k : InputFault) → ((a b c : R) → same a b → same b c → same a c) → more ≡ 0
-    → Turn {A = List ℕ} left failures same old mid (Ok row) (Finds (λ (row : List ℕ). row) (plain_row s) (Ok row)) → Turn {A = Unit {0}} left failures same mid new (Err k) (ChecksEnd (Err k))
+    → Turn {A = List ℕ} left failures same old mid (Ok row) (Finds (λ (row : List ℕ). row) (plain_row s) (Ok row)) → Turn {A = Unit {0}} left failures same mid new (Err k) (Passes after_last_item (Err k))
     → Turn {A = List ℕ} left failures same old new (Err k) (Finds (λ (row : List ℕ). row) (row_by true s more) (Err k))
 end_fault s more row k later none r t =
     turn_err_so {A = Unit {0}} {B = List ℕ} k (λ b a o. no_end s more row k b o.0 a none o.1 o.2) (turn_then {A = List ℕ} {B = Unit {0}} row later r t)
 
 pub last_row_found : {R : Type 0} {left : R → Option (List ℕ)} {failures : R → ℕ} {same : R → R → Type 0} {old mid new : Input R} (s : Shape) (more : ℕ) (row : List ℕ) → ((a b c : R) → same a b → same b c → same a c) → more ≡ 0
-    → Turn {A = List ℕ} left failures same old mid (Ok row) (Finds (λ (row : List ℕ). row) (plain_row s) (Ok row)) → Turn {A = Unit {0}} left failures same mid new (Ok tt) (ChecksEnd (Ok tt))
+    → Turn {A = List ℕ} left failures same old mid (Ok row) (Finds (λ (row : List ℕ). row) (plain_row s) (Ok row)) → Turn {A = Unit {0}} left failures same mid new (Ok tt) (Passes after_last_item (Ok tt))
     → Turn {A = List ℕ} left failures same old new (Ok row) (Finds (λ (row : List ℕ). row) (row_by true s more) (Ok row))
 last_row_found s more row later none r t =
     turn_ok_so {A = Unit {0}} {B = List ℕ} tt (Ok row) (no_fault row ReadFailed) (λ b a o. last_row s more b none ∙ ap last_of o.1 ∙ ap (row_then row) o.2) (turn_then {A = List ℕ} {B = Unit {0}} row later r t)

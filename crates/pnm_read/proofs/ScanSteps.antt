@@ -76,7 +76,7 @@ fed_as : {S : Type 0} (item : S → List ℕ → ℕ → Judgement) (at_end : S 
 fed_as item at_end is_after is_after_new is_whole old now bytes result more items ends f a =
     subst (λ (i : List ℕ → ℕ → Judgement). FeedsAfter i (at_end old) is_after_new is_whole bytes result more) items (subst (λ (e : List ℕ → Option InputFault). FeedsAfter (item now) e is_after_new is_whole bytes result more) ends (f more a))
 
--- a byte is at fault
+-- a byte is at fault, or memory ran out
 pub scan_fails : {R S : Type 0} {left : R → Option (List ℕ)} {failures : R → ℕ} {same : R → R → Type 0} {item : S → List ℕ → ℕ → Judgement} {at_end : S → List ℕ → Option InputFault} {is_after : S → List ℕ → Type 0} {input_old input mid : Input R} {old now : S}
     (is_after_new is_whole : List ℕ → Type 0) (k : InputFault) → ((a b c : R) → same a b → same b c → same a c) → Scanning left failures same item at_end is_after input_old input old now → Turn {A = Unit {0}} left failures same input mid (Ok tt) (Fills (Ok tt))
     → (k ≡ ReadFailed → ⊥) → Feeds (item now) (at_end now) (is_after now) is_after_new is_whole (held_of mid) (Err k)
@@ -84,7 +84,10 @@ pub scan_fails : {R S : Type 0} {left : R → Option (List ℕ)} {failures : R �
 scan_fails {item = item} {at_end = at_end} {is_after = is_after} {mid = mid} {old = old} {now = now} is_after_new is_whole k later s t of_text f =
     turn_ok_so tt (Err k) (λ e. of_text cc) (λ b a o before g.
     let on = o.0.1 before g in
-    inl (on.2 ∙ ap (piece_from (item old) (at_end old) on.0) (o.0.2 ∙ o.1.2) ∙ fed_as item at_end is_after is_after_new is_whole old now (held_of mid) (Err k) on.0 s.same_items s.same_end f on.1 o.1.0))
+    elim (fed_as item at_end is_after is_after_new is_whole old now (held_of mid) (Err k) on.0 s.same_items s.same_end f on.1) [
+      | inl at_fault ↦ inl (on.2 ∙ ap (piece_from (item old) (at_end old) on.0) (o.0.2 ∙ o.1.2) ∙ at_fault o.1.0)
+      | inr memory ↦ inr (inr memory)
+    ])
     (read_on later s t)
 
 -- the piece has ended

@@ -1,5 +1,5 @@
 -- The steps of a source from stage to stage.
-use Rattle.std.proofs.Common.{◌≡◌, ◌⊎◌, ℕ, suc, ◌+◌, ◌-◌, ◌<◌, ◌≤◌, Bool, true, false, List, [], ◌∷◌, length, Option, ◌==◌, sym, Result, Ok, Err, inl, inr, refl, ap, ◌∙◌, arith}
+use Rattle.std.proofs.Common.{◌≡◌, ◌⊎◌, ℕ, suc, ◌+◌, ◌-◌, ◌<◌, ◌≤◌, Bool, true, false, List, [], ◌∷◌, length, Option, ◌==◌, sym, Result, Ok, Err, inl, inr, refl, ap, subst, ◌∙◌, arith}
 use Rattle.std.proofs.lemmas.Bool.{cases_lt}
 use Rattle.std.proofs.lemmas.Bool.Decides.{nat_tests}
 use Rattle.pnm_image.specs.declared.shape.Shape.{Shape}
@@ -15,7 +15,7 @@ use Rattle.pnm_read.specs.declared.source.Step.{Step}
 use Rattle.pnm_read.specs.Said.{Said, said, later_said, format_at, head_at, format_said, head_said, image_said, rows_said, row_at, end_said, then_said, says_fault}
 use Rattle.pnm_read.specs.Inputs.{Turn, Fills, Finds, IsOutsideFault, HoldsEnough, held_of}
 use Rattle.pnm_read.specs.Stages.{Steps, Begins, SeesText, stage_due}
-use Rattle.pnm_read.proofs.Turns.{no_fault, turn_ok_so, turn_seen, nothing_left, some_left}
+use Rattle.pnm_read.proofs.Turns.{no_fault, turn_ok_so, turn_err_so, turn_seen, nothing_left, some_left}
 use Rattle.pnm_read.proofs.ScanSteps.{end_seen, none_of_length}
 use Rattle.pnm_read.proofs.LaterLaws.{later_said-nothing, later_said-next}
 
@@ -105,6 +105,10 @@ unfolding said
 first_begins (Ok step) b a s = s
 first_begins (Err k) b a s = s
 
+pub first_turn : {R : Type 0} {left : R → Option (List ℕ)} {failures : R → ℕ} {same : R → R → Type 0} {old new : Input R} (result : Result Step InputFault) → Turn left failures same old new result (Begins true result) → Turn left failures same old new result (Steps Start result)
+first_turn (Ok step) t = turn_ok_so step (Ok step) (no_fault step ReadFailed) (λ b a o. first_begins (Ok step) b a o) t
+first_turn (Err k) t = turn_err_so k (λ b a o. first_begins (Err k) b a o) t
+
 -- after a plain image the stream ends
 pub plain_ends : (is_plain : Bool) (step : Step) (b a : List ℕ) → is_plain ≡ true → step.message ≡ StreamEnd → step.stage ≡ Ended → Steps (End is_plain) (Ok step) b a
 unfolding end_said
@@ -120,14 +124,35 @@ some_bytes [] n = absurd (n refl)
 some_bytes (x ∷ text) n = omega arith
 
 -- with one more, the next image begins
-raw_due : (is_plain : Bool) (text : List ℕ) → is_plain ≡ false → (text ≡ [] → ⊥) → stage_due (End is_plain) text ≡ image_said later_said false text
+raw_due : (text : List ℕ) → (text ≡ [] → ⊥) → stage_due (End false) text ≡ image_said later_said false text
 unfolding end_said
-raw_due is_plain text p n = rw p (later_said-next text (some_bytes text n))
+raw_due text n = later_said-next text (some_bytes text n)
 
-pub next_begins : (is_plain : Bool) (result : Result Step InputFault) (b a : List ℕ) → is_plain ≡ false → (b ≡ [] → ⊥) → Begins false result b a → Steps (End is_plain) result b a
-next_begins is_plain (Ok step) b a p n s = (raw_due is_plain b p n ∙ s.0, s.1)
-next_begins is_plain (Err k) b a p n (inl e) = inl (raw_due is_plain b p n ∙ e)
-next_begins is_plain (Err k) b a p n (inr o) = inr o
+pub next_begins : (result : Result Step InputFault) (b a : List ℕ) → (b ≡ [] → ⊥) → Begins false result b a → Steps (End false) result b a
+next_begins (Ok step) b a n s = (raw_due b n ∙ s.0, s.1)
+next_begins (Err k) b a n (inl e) = inl (raw_due b n ∙ e)
+next_begins (Err k) b a n (inr o) = inr o
+
+-- the next image, where the text was seen to go on
+pub next_so : {R : Type 0} {left : R → Option (List ℕ)} {failures : R → ℕ} {same : R → R → Type 0} {old new : Input R} (result : Result Step InputFault)
+    → Turn left failures same old new result (λ b a. (m : List ℕ) × SeesText (Ok false) b m × Begins false result m a) → Turn left failures same old new result (Steps (End false) result)
+next_so (Ok step) t = turn_ok_so step (Ok step) (no_fault step ReadFailed) (λ b a o. next_begins (Ok step) b a o.1.0 (subst (λ (m : List ℕ). Begins false (Ok step) m a) o.1.1 o.2)) t
+next_so (Err k) t = turn_err_so k (λ b a o. next_begins (Err k) b a o.1.0 (subst (λ (m : List ℕ). Begins false (Err k) m a) o.1.1 o.2)) t
+
+-- the text was seen to end
+pub at_end_so : (ended : Bool) (step : Step) (b a : List ℕ) → ended ≡ true → SeesText (Ok ended) b a → step.message ≡ StreamEnd → step.stage ≡ Ended → Steps (End false) (Ok step) b a
+at_end_so true step b a e seen sm ss = raw_ends false step b a refl seen.0 sm ss
+at_end_so false step b a e seen sm ss = absurd cc
+
+seen_on : (ended : Bool) (b m : List ℕ) → ended ≡ false → SeesText (Ok ended) b m → SeesText (Ok false) b m
+seen_on true b m e seen = absurd cc
+seen_on false b m e seen = seen
+
+-- the text was seen to go on, and then an image begins
+pub turn_on : {R : Type 0} {left : R → Option (List ℕ)} {failures : R → ℕ} {same : R → R → Type 0} {old new : Input R} (ended : Bool) (result : Result Step InputFault) → ended ≡ false
+    → Turn left failures same old new result (λ b a. (m : List ℕ) × SeesText (Ok ended) b m × Begins false result m a) → Turn left failures same old new result (λ b a. (m : List ℕ) × SeesText (Ok false) b m × Begins false result m a)
+turn_on ended (Ok step) e t = turn_ok_so step (Ok step) (no_fault step ReadFailed) (λ b a o. (o.0, seen_on ended b o.0 e o.1, o.2)) t
+turn_on ended (Err k) e t = turn_err_so k (λ b a o. (o.0, seen_on ended b o.0 e o.1, o.2)) t
 
 -- reading on failed
 pub raw_unread : (is_plain : Bool) (k : InputFault) (b a : List ℕ) → IsOutsideFault k → Steps (End is_plain) (Err k) b a

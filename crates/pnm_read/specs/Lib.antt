@@ -1,5 +1,6 @@
 pub mod Texts
 pub mod Formats
+pub mod Magics
 pub mod PamLines
 pub mod Headers
 pub mod Rasters

@@ -1,5 +1,5 @@
 -- What the scanner of a PAM header holds after the bytes of a piece.
-use Rattle.std.specs.Prelude.{◌≡◌, ◌⊎◌, ℕ, ◌≤◌, ◌==◌, nat_lt, List, [], ◌∷◌, ◌++◌, length, if◌then◌else◌, Option, Some, None}
+use Rattle.std.specs.Prelude.{◌≡◌, ◌⊎◌, ℕ, ◌≤◌, ◌==◌, nat_lt, Bool, true, false, List, [], ◌∷◌, ◌++◌, length, if◌then◌else◌, Option, Some, None}
 use Rattle.std.specs.List.{list_all}
 use Rattle.pnm_read.specs.declared.fault.InputFault.TheVariants.{BadPamLine, BadNumber, DuplicateField, TooLong, Memory}
 use Rattle.pnm_read.specs.declared.judgement.Judgement.{Judgement}
@@ -75,15 +75,22 @@ with_number Height number fields = record fields { height = Some number }
 with_number Depth number fields = record fields { depth = Some number }
 with_number Maxval number fields = record fields { maxval = Some number }
 
+-- a number was put where none was yet
+abbrev pub SetsOnce : Option ℕ → ℕ → Option ℕ → Judgement → Type 0
+SetsOnce (Some other) number new judgement = judgement ≡ Fails DuplicateField
+SetsOnce None number new judgement = (judgement ≡ GoesOn) × (new ≡ Some number)
+
 -- how a number in the rest of a line is judged, and the fields after it
 abbrev pub SetsNumber : Fields → Field → List ℕ → Fields → Judgement → Type 0
 SetsNumber old field text new judgement =
-    if length (first_token text) == 0 then judgement ≡ Fails BadPamLine
-    else elim (number_of (first_token text)) [
-      | None ↦ judgement ≡ Fails BadNumber
-      | Some number ↦ elim (number_held field old) [
-        | Some other ↦ judgement ≡ Fails DuplicateField
-        | None ↦ (judgement ≡ GoesOn) × (new ≡ with_number field number old)
+    elim (length (first_token text) == 0) [
+      | true ↦ judgement ≡ Fails BadPamLine
+      | false ↦ elim (number_of (first_token text)) [
+        | None ↦ judgement ≡ Fails BadNumber
+        | Some number ↦ elim (number_held field old) [
+          | Some other ↦ judgement ≡ Fails DuplicateField
+          | None ↦ (judgement ≡ GoesOn) × (new ≡ with_number field number old)
+        ]
       ]
     ]
 
@@ -95,11 +102,15 @@ pub record IsWithTupleType (old new : Fields) (tuple_type : List ℕ) : Type 0 w
   pub maxval : new.maxval ≡ old.maxval
   pub tuple_type_is : new.tuple_type.items ≡ tuple_type
 
+-- the tuple type was replaced, or is too long, as the test tells
+abbrev pub SetsTupleType : Bool → Fields → List ℕ → Fields → Judgement → Type 0
+SetsTupleType true old tuple_type new judgement = judgement ≡ Fails TooLong
+SetsTupleType false old tuple_type new judgement = (judgement ≡ GoesOn) × IsWithTupleType old new tuple_type
+
 -- a text was joined to the tuple type, unless it is too long or memory ran out
 abbrev pub AddsTupleType : Fields → List ℕ → Fields → Judgement → Type 0
 AddsTupleType old text new judgement =
-    (if nat_lt 255 (length (joined_with old.tuple_type.items text)) then judgement ≡ Fails TooLong
-    else (judgement ≡ GoesOn) × IsWithTupleType old new (joined_with old.tuple_type.items text)) ⊎ (judgement ≡ Fails Memory)
+    SetsTupleType (nat_lt 255 (length (joined_with old.tuple_type.items text))) old (joined_with old.tuple_type.items text) new judgement ⊎ (judgement ≡ Fails Memory)
 
 -- these bytes have come after the magic and its LF, and the header goes on
 pub record IsPamAfter (s : PamScanner) (before : List ℕ) : Type 0 where

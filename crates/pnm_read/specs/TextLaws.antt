@@ -1,6 +1,6 @@
 -- The laws that tie what a text spells to what is said of it, and the laws of what is said.
 use Rattle.std.specs.Prelude.{◌≡◌, ◌↔◌, ◌⊎◌, ℕ, List, Some, None}
-use Rattle.pnm_image.specs.Images.{Image, messages_of_stream}
+use Rattle.pnm_image.specs.Images.{Image, AreImages, messages_of_stream}
 use Rattle.pnm_image.specs.Messages.{EndsStream}
 use Rattle.pnm_image.specs.Places.{IsLawful}
 use Rattle.pnm_read.specs.declared.fault.InputFault.{InputFault}
@@ -17,6 +17,11 @@ SpelledIsSaid =
 abbrev pub SaidIsSpelled : Type 0
 SaidIsSpelled =
     (text : List ℕ) → fault_of text ≡ None → (images : List Image) × Spells text images × (said_of text ≡ messages_of_stream images)
+
+-- the images that a text spells are images
+abbrev pub SpelledAreImages : Type 0
+SpelledAreImages =
+    (text : List ℕ) (images : List Image) → Spells text images → AreImages images
 
 -- the text spells these images and no others, and has no fault
 pub record SpellsOnly (text : List ℕ) (images : List Image) : Type 0 where

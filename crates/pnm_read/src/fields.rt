@@ -2,9 +2,11 @@
 
 ghost use Rattle.std.specs.Prelude.{◌≡◌, [], List, ℕ};
 ghost use Rattle.pnm_image.specs.Heads.{IsTupleType};
+ghost use Rattle.pnm_read.specs.declared.judgement.Judgement.TheVariants.{Fails};
+ghost use Rattle.pnm_read.specs.declared.fault.InputFault.TheVariants.{ReadFailed};
 ghost use Rattle.pnm_read.specs.Items.{lines_item};
 ghost use Rattle.pnm_read.specs.Saturation.{GivesInMemory};
-ghost use Rattle.pnm_read.specs.PamScanners.{IsFields, JudgesLine, SetsNumber, AddsTupleType, shape_held};
+ghost use Rattle.pnm_read.specs.PamScanners.{IsFields, JudgesLine, SetsOnce, SetsNumber, AddsTupleType, shape_held};
 
 use crate::fault::InputFault;
 use crate::header::fault_of_head;
@@ -54,7 +56,8 @@ impl Fields {
 
     /// Judges a line, without its LF, and takes what it says.
     pub fn take(&mut self, line: &[u8]) -> Judgement
-        ensures { JudgesLine self.old line.now self.new result }
+        ensures judged { JudgesLine self.old line.now self.new result }
+        ensures of_text { result ≡ Fails ReadFailed → ⊥ }
     {
         let (token, rest) = split_token(line);
         match LineKind::of(token) {
@@ -77,27 +80,23 @@ impl Fields {
         let Some(number) = number_of(token) else {
             return Judgement::Fails(InputFault::BadNumber);
         };
-        let place = match field {
-            Field::Width => &mut self.width,
-            Field::Height => &mut self.height,
-            Field::Depth => &mut self.depth,
-            Field::Maxval => &mut self.maxval,
-        };
-        if place.is_some() {
-            return Judgement::Fails(InputFault::DuplicateField);
+        match field {
+            Field::Width => set_once(&mut self.width, number),
+            Field::Height => set_once(&mut self.height, number),
+            Field::Depth => set_once(&mut self.depth, number),
+            Field::Maxval => set_once(&mut self.maxval, number),
         }
-        *place = Some(number);
-        Judgement::GoesOn
     }
 
     /// Joins this text to the tuple type by a blank; an empty one is left out.
     fn add_tuple_type(&mut self, text: &[u8]) -> Judgement
         ensures { AddsTupleType self.old text.now self.new result }
     {
-        if text.is_empty() {
-            return Judgement::GoesOn;
-        }
-        let blank: &[u8] = if self.tuple_type.is_empty() { b"" } else { b" " };
+        let blank: &[u8] = if self.tuple_type.is_empty() || text.is_empty() {
+            b""
+        } else {
+            b" "
+        };
         if text.len() > TUPLE_TYPE_LIMIT
             || self.tuple_type.len() + blank.len() + text.len() > TUPLE_TYPE_LIMIT
         {
@@ -110,6 +109,17 @@ impl Fields {
         }
         Judgement::GoesOn
     }
+}
+
+/// Puts a number where none is yet.
+fn set_once(place: &mut Option<u32>, number: u32) -> Judgement
+    ensures { SetsOnce place.old number place.new result }
+{
+    if place.is_some() {
+        return Judgement::Fails(InputFault::DuplicateField);
+    }
+    *place = Some(number);
+    Judgement::GoesOn
 }
 
 /// The head of these fields, or what is wrong with them.

@@ -8,6 +8,7 @@ ghost use Rattle.pnm_read.specs.Formats.{shape_of, number_count};
 ghost use Rattle.pnm_read.specs.Items.{fault_of_head, numbers_item};
 ghost use Rattle.pnm_read.specs.Said.{format_at, pnm_head_at, head_at};
 ghost use Rattle.pnm_read.specs.Inputs.{Turn, Finds};
+ghost use Rattle.pnm_read.specs.Magics.{format_named};
 ghost use Rattle.pnm_read.specs.Saturation.{IsNumbers, GivesInMemory};
 
 use crate::characters::{commented, is_apart, is_digit, is_white};
@@ -33,13 +34,22 @@ pub fn read_format<R: BytesIn>(input: &mut Input<R>, is_first: bool) -> Result<F
         None => return Err(InputFault::EmptyInput),
     }
     match input.next_byte()? {
-        Some(byte) => match Format::of(byte) {
-            Some(format) if format.is_plain && !is_first => Err(InputFault::PlainInStream),
-            Some(format) => Ok(format),
-            None => Err(InputFault::BadMagic),
-        },
+        Some(byte) => format_named(byte, is_first),
         None => Err(InputFault::HeaderCut),
     }
+}
+
+/// The format that the second byte of a magic names. A plain one may come first alone.
+fn format_named(byte: u8, is_first: bool) -> Result<Format, InputFault>
+    ensures { result ≡ format_named is_first byte }
+{
+    let Some(format) = Format::of(byte) else {
+        return Err(InputFault::BadMagic);
+    };
+    if format.is_plain && !is_first {
+        return Err(InputFault::PlainInStream);
+    }
+    Ok(format)
 }
 
 /// The head that follows the magic. It takes the header through its last byte.

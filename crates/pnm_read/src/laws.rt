@@ -2,7 +2,7 @@
 //! nothing.
 
 ghost use Rattle.pnm_read.specs.Examples.{ExamplesHold};
-ghost use Rattle.pnm_read.specs.TextLaws.{SpelledIsSaid, SaidIsSpelled, OneStreamOrOneFault, SaidIsLawful, EndIsSaidWithoutFault, FaultsAreOfTexts};
+ghost use Rattle.pnm_read.specs.TextLaws.{SpelledIsSaid, SaidIsSpelled, SpelledAreImages, OneStreamOrOneFault, SaidIsLawful, EndIsSaidWithoutFault, FaultsAreOfTexts};
 
 /// Of a text that spells images the messages of these images are said, without a fault.
 pub fn spelled_is_said()
@@ -12,6 +12,11 @@ pub fn spelled_is_said()
 /// A text without a fault spells the images whose messages are said of it.
 pub fn said_is_spelled()
     ensures { SaidIsSpelled }
+{}
+
+/// The images that a text spells are images.
+pub fn spelled_are_images()
+    ensures { SpelledAreImages }
 {}
 
 /// A text spells exactly one list of images and has no fault, or spells none and has a fault.

@@ -1,6 +1,6 @@
 //! The source of a stream: the bytes of a reader as messages.
 
-ghost use Rattle.std.specs.Prelude.{◌≡◌, List, ℕ, ◌≤◌, ◌<◌, ◌-◌, ◌⊎◌, true, Some, None, Ok, Err, OnOk, IfOk, IfErr};
+ghost use Rattle.std.specs.Prelude.{◌≡◌, List, ℕ, ◌≤◌, ◌<◌, ◌-◌, ◌⊎◌, true, false, Some, None, Ok, Err, OnOk, IfOk, IfErr};
 ghost use Rattle.pnm_image.specs.Devices.{Failed};
 ghost use Rattle.pnm_image.specs.declared.message.Message.TheVariants.{StreamEnd, Stop};
 ghost use Rattle.pnm_read.specs.declared.fault.InputFault.{InputFault as Fault};
@@ -130,7 +130,9 @@ fn step_at<R: BytesIn>(input: &mut Input<R>, stage: Stage) -> Result<Step, Input
     match stage {
         Stage::Start => begin(input, true),
         Stage::Rows(raster) => next_row(input, raster),
-        Stage::End(is_plain) => follow(input, is_plain),
+        // What follows a plain image is ignored.
+        Stage::End(true) => Ok(stream_end()),
+        Stage::End(false) => follow(input),
         Stage::Ended | Stage::Failed(_) => unreachable!(),
     }
 }
@@ -177,18 +179,25 @@ fn read_row<R: BytesIn>(input: &mut Input<R>, raster: Raster) -> Result<Samples,
     }
 }
 
-/// What follows an image: after a raw one the next image, or the end of the stream where no byte is
-/// left; what follows a plain one is ignored.
-fn follow<R: BytesIn>(input: &mut Input<R>, is_plain: bool) -> Result<Step, InputFault>
-    ensures { Turn R.left R.failures R.same input.old input.new result (Steps (Stage.End is_plain) result) }
+/// What follows a raw image: the next one, or the end of the stream where no byte is left.
+fn follow<R: BytesIn>(input: &mut Input<R>) -> Result<Step, InputFault>
+    ensures { Turn R.left R.failures R.same input.old input.new result (Steps (Stage.End false) result) }
 {
-    if is_plain || is_at_end(input)? {
-        return Ok(Step {
-            message: Message::StreamEnd,
-            stage: Stage::Ended,
-        });
+    if is_at_end(input)? {
+        return Ok(stream_end());
     }
     begin(input, false)
+}
+
+/// The end of the stream.
+fn stream_end() -> Step
+    ensures message { result.message ≡ StreamEnd }
+    ensures stage { result.stage ≡ Stage.Ended }
+{
+    Step {
+        message: Message::StreamEnd,
+        stage: Stage::Ended,
+    }
 }
 
 /// Whether no byte is left.

@@ -36,11 +36,11 @@ front_of_front n x y = (
 )
 
 -- a front of the bytes is a front of more
-front-more : (a b : Option (List ℕ)) (x y : List ℕ) → AppendsFront a b x → AppendsFront a b (x ++ y)
+pub front-more : (a b : Option (List ℕ)) (x y : List ℕ) → AppendsFront a b x → AppendsFront a b (x ++ y)
 front-more a b x y p = let f = front_of_front p.0 x y in (f.0, subst (Appends a b) f.1 p.1)
 
 -- bytes, and then a front of others
-then_front : (a b c : Option (List ℕ)) (x y : List ℕ) → Appends a b x → AppendsFront b c y → AppendsFront a c (x ++ y)
+pub then_front : (a b c : Option (List ℕ)) (x y : List ℕ) → Appends a b x → AppendsFront b c y → AppendsFront a c (x ++ y)
 then_front a b c x y p q = (
   length x + q.0,
   let e : take (length x + q.0) (x ++ y) ≡ x ++ take q.0 y = take-append-add x y q.0 in

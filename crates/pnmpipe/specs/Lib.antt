@@ -1,16 +1,6 @@
-pub mod Texts
-pub mod Reading
-pub mod Headers
-pub mod Rows
-pub mod TextLaws
 pub mod Inversion
-pub mod Encoding
-pub mod Bytes
 pub mod Counts
-pub mod Sources
-pub mod Told
-pub mod Sinks
 pub mod Downstreams
-pub mod Passing
 pub mod Runs
+pub mod Passing
 pub mod Examples

@@ -1,16 +1,16 @@
 -- What a run in one thread reads, writes and answers.
-use Rattle.std.specs.Prelude.{◌≡◌, ℕ, sum_by, length, List, map, Option, Result, Ok, Err}
-use Rattle.std.specs.Io.KnownBytes.{Appends}
+use Rattle.std.specs.Prelude.{◌≡◌, ℕ, ◌-◌, ◌^◌, ◌≤◌, sum_by, length, List, map, Option, Some, Result, Ok, Err}
+use Rattle.std.specs.Io.KnownBytes.{Appends, Consumes}
 use Rattle.pnm_image.specs.Images.{Image}
-use Rattle.pnmpipe.specs.declared.fault.InputFault.{InputFault}
-use Rattle.pnmpipe.specs.declared.fault.SinkFault.{SinkFault}
+use Rattle.pnm_read.specs.declared.fault.InputFault.{InputFault}
+use Rattle.pnm_read.specs.Spelling.{Spells}
+use Rattle.pnm_read.specs.Said.{said_of}
+use Rattle.pnm_write.specs.declared.fault.SinkFault.{SinkFault}
+use Rattle.pnm_write.specs.Encoding.{bytes_of, encoding_of}
 use Rattle.pnmpipe.specs.declared.fault.RunFault.{RunFault}
 use Rattle.pnmpipe.specs.declared.fault.RunFault.TheVariants.{Input, Output}
 use Rattle.pnmpipe.specs.declared.summary.Summary.{Summary}
-use Rattle.pnmpipe.specs.Texts.{Spells}
-use Rattle.pnmpipe.specs.Reading.{said_of}
 use Rattle.pnmpipe.specs.Inversion.{inverted, inverted_messages}
-use Rattle.pnmpipe.specs.Encoding.{bytes_of, encoding_of}
 use Rattle.pnmpipe.specs.Counts.{counted}
 
 -- the images and the rows of a stream
@@ -27,6 +27,13 @@ pub record EndedWell (text : List ℕ) (old new : Option (List ℕ)) (summary : 
   pub spelled : Spells text images
   pub written : Appends old new (encoding_of (map inverted images))
   pub counts : summary ≡ summary_of images
+
+-- the reader gave bytes of which at least as many messages are said as a run takes; and so of its whole text
+pub record OutlastsRun (old new : Option (List ℕ)) : Type 0 where
+  pub read : List ℕ
+  pub consumed : Consumes old new read
+  pub many : 2 ^ 64 - 1 ≤ length (said_of read)
+  pub of_text : (text : List ℕ) → old ≡ Some text → 2 ^ 64 - 1 ≤ length (said_of text)
 
 abbrev pub IfInput : {A : Type 0} → Result A RunFault → (InputFault → Type 0) → Type 0
 IfInput (Ok x) P = Unit {0}

@@ -1,8 +1,8 @@
 //! The program.
 
 ghost use Rattle.std.specs.Prelude.{◌≡◌, ◌≢◌, ◌≤◌, ℕ, List, [], ◌∷◌, Some, codes, string_bytes};
+ghost use Rattle.pnm_write.specs.Writes.{AppendsFront};
 ghost use Rattle.pnmpipe.specs.declared.summary.Summary.{Summary};
-ghost use Rattle.pnmpipe.specs.Sinks.{AppendsFront};
 ghost use Rattle.pnmpipe.specs.Runs.{EndedWell, bytes_due};
 
 use crate::fault::RunFault;

@@ -1,20 +1,18 @@
 //! What stands behind the source of a run: the tool and the sink.
 
-ghost use Rattle.std.specs.Prelude.{◌≡◌, ◌≤◌, MatchResult, false};
+ghost use Rattle.std.specs.Prelude.{◌≡◌, MatchResult, false};
 ghost use Rattle.std.specs.Result.{is_err};
 ghost use Rattle.std.specs.Io.KnownBytes.{Keeps};
 ghost use Rattle.pnm_image.specs.Devices.{Failed};
-ghost use Rattle.pnmpipe.specs.declared.fault.SinkFault.TheVariants.{WriteFailed};
-ghost use Rattle.pnmpipe.specs.Bytes.{IsByteMessage};
-ghost use Rattle.pnmpipe.specs.Inversion.{IsRowUpTo, maxval_after};
-ghost use Rattle.pnmpipe.specs.Sinks.{Writes};
-ghost use Rattle.pnmpipe.specs.declared.fault.SinkFault.{SinkFault as Fault};
+ghost use Rattle.pnm_write.specs.declared.fault.SinkFault.{SinkFault as Fault};
+ghost use Rattle.pnm_write.specs.declared.fault.SinkFault.TheVariants.{WriteFailed};
+ghost use Rattle.pnm_write.specs.Sinks.{next_place, has_failed, Takes};
+ghost use Rattle.pnmpipe.specs.Inversion.{inverted_message, maxval_after, IsRowUpTo};
 
-use crate::fault::SinkFault;
 use crate::invert::Inverter;
 use crate::summary::Summary;
-use crate::writer::Sink;
 use pnm_image::{BytesOut, Message};
+use pnm_write::{Sink, SinkFault};
 
 /// The tool and the sink, and what came of them so far.
 #[derive(Drop)]
@@ -26,12 +24,12 @@ pub struct Downstream<W> {
 }
 
 impl<W: BytesOut + Drop> Downstream<W> {
-    ghost use Rattle.pnmpipe.specs.Downstreams.{IsFresh, IsMaxvalAt, Passes};
+    ghost use Rattle.pnmpipe.specs.Downstreams.{output_of, IsFresh, Passes};
 
     /// The tool and the sink before the first message.
     pub fn new(writer: W) -> Downstream<W>
-        ensures fresh { IsFresh result }
-        ensures writer { result.sink.writer ≡ writer }
+        ensures fresh { IsFresh W.held result }
+        ensures writer { output_of result ≡ writer }
     {
         Downstream {
             inverter: Inverter::new(),
@@ -43,14 +41,12 @@ impl<W: BytesOut + Drop> Downstream<W> {
 
     /// Inverts the message and writes it, unless there was a fault of the output before.
     pub fn pass(&mut self, message: Message)
-        requires bytes { IsByteMessage message }
         requires row { IsRowUpTo self.old.inverter.maxval message }
-        requires maxval { self.old.inverter.maxval ≤ 255 }
-        requires in_order { self.old.output ≡ Ok tt → Writes self.old.sink.place message × IsMaxvalAt self.old.sink.place self.old.inverter.maxval
-            × (self.old.sink.is_broken ≡ false) }
+        requires in_order { self.old.output ≡ Ok tt → Takes (next_place self.old.sink) (inverted_message self.old.inverter.maxval message)
+            × (has_failed self.old.sink ≡ false) }
         ensures maxval { self.new.inverter.maxval ≡ maxval_after self.old.inverter.maxval message }
         ensures passes { Passes W.held W.failures self.old self.new message }
-        ensures same_device { W.same self.old.sink.writer self.new.sink.writer }
+        ensures same_device { W.same (output_of self.old) (output_of self.new) }
     {
         let message = self.inverter.inverted(message);
         if self.output.is_ok() {
@@ -63,13 +59,13 @@ impl<W: BytesOut + Drop> Downstream<W> {
 
     /// Flushes the writer, unless there was a fault of the output before.
     pub fn finish(self) -> (W, Result<Summary, SinkFault>)
-        requires { self.sink.is_broken ≡ is_err self.output }
-        ensures bytes { Keeps (W.held self.sink.writer) (W.held result.0) }
-        ensures broken { (fault : Fault) → self.output ≡ Err fault → (result.1 ≡ Err fault) × (result.0 ≡ self.sink.writer) }
+        requires { has_failed self.sink ≡ is_err self.output }
+        ensures bytes { Keeps (W.held (output_of self)) (W.held result.0) }
+        ensures broken { (fault : Fault) → self.output ≡ Err fault → (result.1 ≡ Err fault) × (result.0 ≡ output_of self) }
         ensures well { self.output ≡ Ok tt → MatchResult result.1
-            (λ summary. (summary ≡ self.summary) × (W.failures result.0 ≡ W.failures self.sink.writer))
-            (λ fault. (fault ≡ WriteFailed) × Failed (W.failures self.sink.writer) (W.failures result.0)) }
-        ensures same_device { W.same self.sink.writer result.0 }
+            (λ summary. (summary ≡ self.summary) × (W.failures result.0 ≡ W.failures (output_of self)))
+            (λ fault. (fault ≡ WriteFailed) × Failed (W.failures (output_of self)) (W.failures result.0)) }
+        ensures same_device { W.same (output_of self) result.0 }
     {
         let Downstream {
             inverter: _,

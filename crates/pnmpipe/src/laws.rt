@@ -1,25 +1,9 @@
-//! Laws of texts. Each stands over the definitions alone, as the contract of a function that does
-//! nothing.
+//! Laws of what is due for a text. Each stands over the definitions alone, as the contract of a
+//! function that does nothing.
 
 ghost use Rattle.pnmpipe.specs.Examples.{ExamplesHold};
-ghost use Rattle.pnmpipe.specs.TextLaws.{SpelledIsSaid, SaidIsSpelled, OneStreamOrOneFault};
 
-/// Of a text that spells images the messages of these images are said, without a fault.
-pub fn spelled_is_said()
-    ensures { SpelledIsSaid }
-{}
-
-/// A text without a fault spells the images whose messages are said of it.
-pub fn said_is_spelled()
-    ensures { SaidIsSpelled }
-{}
-
-/// A text spells exactly one list of images and has no fault, or spells none and has a fault.
-pub fn one_stream_or_one_fault()
-    ensures { OneStreamOrOneFault }
-{}
-
-/// Small texts, as the definitions compute them.
+/// Small texts, and the bytes due for them, as the definitions compute them.
 pub fn examples_hold()
     ensures { ExamplesHold }
 {}

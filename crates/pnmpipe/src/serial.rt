@@ -3,27 +3,29 @@
 ghost use Rattle.std.specs.Prelude.{◌≡◌, ◌⊎◌, List, ℕ, Some, None, Err, Ok, IfOk, OnOk, length};
 ghost use Rattle.std.specs.Io.KnownBytes.{Appends};
 ghost use Rattle.pnm_image.specs.Devices.{Failed};
-ghost use Rattle.pnmpipe.specs.declared.fault.InputFault.TheVariants.{ReadFailed};
-ghost use Rattle.pnmpipe.specs.declared.fault.SinkFault.TheVariants.{WriteFailed};
-ghost use Rattle.pnmpipe.specs.Reading.{fault_of};
-ghost use Rattle.pnmpipe.specs.TextLaws.{IsAtFault};
-ghost use Rattle.pnmpipe.specs.Told.{IsOutsideFault};
-ghost use Rattle.pnmpipe.specs.Sinks.{AppendsFront};
-ghost use Rattle.pnmpipe.specs.Downstreams.{IsFresh};
-ghost use Rattle.pnmpipe.specs.Runs.{EndedWell, IfInput, IfOutput, bytes_due};
+ghost use Rattle.pnm_read.specs.declared.fault.InputFault.TheVariants.{ReadFailed, Memory};
+ghost use Rattle.pnm_read.specs.Said.{fault_of};
+ghost use Rattle.pnm_read.specs.Inputs.{IsOutsideFault};
+ghost use Rattle.pnm_read.specs.Sources.{reader_of, IsFresh as IsUnread};
+ghost use Rattle.pnm_read.specs.TextLaws.{IsAtFault};
+ghost use Rattle.pnm_write.specs.declared.fault.SinkFault.TheVariants.{WriteFailed};
+ghost use Rattle.pnm_write.specs.Writes.{AppendsFront};
+ghost use Rattle.pnmpipe.specs.Downstreams.{output_of, IsFresh};
+ghost use Rattle.pnmpipe.specs.Runs.{EndedWell, OutlastsRun, IfInput, IfOutput, bytes_due};
 ghost use Rattle.pnmpipe.specs.Passing.{HasPassed};
 
 use crate::downstream::Downstream;
-use crate::fault::{InputFault, RunFault};
-use crate::reader::Source;
+use crate::fault::RunFault;
 use crate::summary::Summary;
 use crate::tool::Tool;
 use pnm_image::{BytesIn, BytesOut};
+use pnm_read::{InputFault, Source};
 use std::alloc::Global;
 
 /// Reads the images of the reader, passes them through the tools and writes what comes out. The
 /// input's fault is answered before the output's. After a fault of the output it goes on reading
-/// and writes nothing more.
+/// and writes nothing more. An input of which `u64::MAX` messages are said is answered by
+/// `ReadFailed` after them.
 pub fn run_serial<R: BytesIn, W: BytesOut>(
     alloc: Global,
     reader: &mut R,
@@ -40,7 +42,7 @@ pub fn run_serial<R: BytesIn, W: BytesOut>(
     ensures input { (text : List ℕ) → R.left reader.old ≡ Some text
         → IfInput result (λ fault. IsOutsideFault fault ⊎ IsAtFault text fault) }
     ensures read_failed { IfInput result (λ fault. fault ≡ ReadFailed
-        → Failed (R.failures reader.old) (R.failures reader.new)) }
+        → Failed (R.failures reader.old) (R.failures reader.new) ⊎ OutlastsRun (R.left reader.old) (R.left reader.new)) }
 
     // The output's fault is answered only where the input has none.
     ensures output { IfOutput result (λ fault. (fault ≡ WriteFailed)
@@ -56,11 +58,15 @@ pub fn run_serial<R: BytesIn, W: BytesOut>(
         → IfInput result (λ fault. fault_of text ≡ Some fault → ¬ Failed (W.failures writer.old) (W.failures writer.new)
         → Appends (W.held writer.old) (W.held writer.new) (bytes_due text)) }
 
-    ensures same_reader { R.same reader.old reader.new }
+    // Where memory runs out before the first message, the reader is gone with the source.
+    ensures same_reader { ¬ (result ≡ Err (RunFault.Input Memory)) → R.same reader.old reader.new }
     ensures same_writer { W.same writer.old writer.new }
 {
     let Tool::Invert = tools[0];
-    let mut source = Source::new(alloc, &mut *reader);
+    let mut source = match Source::new(alloc, &mut *reader) {
+        Ok(source) => source,
+        Err(fault) => return Err(RunFault::Input(fault)),
+    };
     let mut downstream = Downstream::new(&mut *writer);
     let input = pass_all(&mut source, &mut downstream);
     let read = source.into_reader();
@@ -75,21 +81,23 @@ pub fn run_serial<R: BytesIn, W: BytesOut>(
     }
 }
 
-/// Passes on all messages of the source, through to its end or its fault.
+/// Passes on all messages of the source, through to its end or its fault. After `u64::MAX` of them
+/// it answers `ReadFailed`.
 fn pass_all<R: BytesIn, W: BytesOut + Drop>(
     source: &mut Source<R>,
     downstream: &mut Downstream<W>,
 ) -> Result<(), InputFault>
-    requires unread { source.old.reading ≡ None }
-    requires fresh { IsFresh downstream.old }
+    requires unread { IsUnread (reader_of source.old) source.old }
+    requires fresh { IsFresh W.held downstream.old }
     ensures passed { HasPassed R.left R.failures W.held W.failures source.old source.new result downstream.old downstream.new }
-    ensures same_reader { R.same source.old.reader source.new.reader }
-    ensures same_writer { W.same downstream.old.sink.writer downstream.new.sink.writer }
+    ensures same_reader { R.same (reader_of source.old) (reader_of source.new) }
+    ensures same_writer { W.same (output_of downstream.old) (output_of downstream.new) }
 {
-    loop {
+    for _ in 0..u64::MAX {
         match source.next()? {
             Some(message) => downstream.pass(message),
             None => return Ok(()),
         }
     }
+    Err(InputFault::ReadFailed)
 }

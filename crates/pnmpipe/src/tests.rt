@@ -1,7 +1,7 @@
 //! What no clause says: worked examples, printed text, that calls can succeed, and devices that
 //! fail.
 
-use crate::fault::InputFault;
+use pnm_read::InputFault;
 
 mod command;
 mod devices;
@@ -24,7 +24,6 @@ const BAD_INPUTS: &[BadInput<'static>] = &[
     (b"P5", b"", InputFault::HeaderCut, "HeaderCut"),
     (b"P5 1 1", b"", InputFault::HeaderCut, "HeaderCut"),
     (b"P5x", b"", InputFault::BadNumber, "BadNumber"),
-    (b"P5#c\n1 1\n9\n", b"", InputFault::BadNumber, "BadNumber"),
     (b"P5 1 x", b"", InputFault::BadNumber, "BadNumber"),
     (b"P5 0 1 9\n", b"", InputFault::ZeroSize, "ZeroSize"),
     (b"P5 1 0 9\n", b"", InputFault::ZeroSize, "ZeroSize"),
@@ -39,7 +38,6 @@ const BAD_INPUTS: &[BadInput<'static>] = &[
         "TooLarge",
     ),
     (b"P5 1 1 0\n", b"", InputFault::BadMaxval, "BadMaxval"),
-    (b"P5 1 1 256\n", b"", InputFault::BadMaxval, "BadMaxval"),
     (b"P5 1 1 65536\n", b"", InputFault::BadMaxval, "BadMaxval"),
     (
         b"P5 1 1 10\n\x0b",
@@ -87,9 +85,35 @@ const BAD_INPUTS: &[BadInput<'static>] = &[
     ),
     // A byte too many.
     (
-        b"P5\n1 1\n9\n\x05P",
+        b"P5\n1 1\n9\n\x05X",
         b"P5\n1 1\n9\n\x04",
         InputFault::BadMagic,
         "BadMagic",
+    ),
+    // Two bytes a sample, the second row above the maxval.
+    (
+        b"P5\n1 2\n300\n\x01\x2c\x01\x2d",
+        b"P5\n1 2\n300\n\x00\x00",
+        InputFault::SampleAboveMaxval,
+        "SampleAboveMaxval",
+    ),
+    // Plain samples.
+    (
+        b"P2 1 1 9 5x",
+        b"P5\n1 1\n9\n",
+        InputFault::BadSample,
+        "BadSample",
+    ),
+    (
+        b"P2 1 2 9 5 10 ",
+        b"P5\n1 2\n9\n\x04",
+        InputFault::SampleAboveMaxval,
+        "SampleAboveMaxval",
+    ),
+    (
+        b"P1 2 2 10 2",
+        b"P4\n2 2\n\x40",
+        InputFault::BadSample,
+        "BadSample",
     ),
 ];

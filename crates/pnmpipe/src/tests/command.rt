@@ -99,7 +99,7 @@ fn goes_on_without_a_line(rt: HostRuntime) -> Result<(), Fail> {
         ("pnmscale", IMAGE, 2, b"".as_slice()),
         (
             "pnminvert",
-            b"P5\n1 1\n9\n\x05P".as_slice(),
+            b"P5\n1 1\n9\n\x05X".as_slice(),
             1,
             b"P5\n1 1\n9\n\x04".as_slice(),
         ),

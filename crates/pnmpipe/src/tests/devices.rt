@@ -1,11 +1,13 @@
 //! Devices of which a call fails.
 
 use super::{IMAGE, INVERTED};
-use crate::fault::{InputFault, RunFault, SinkFault};
+use crate::fault::RunFault;
 use crate::serial::run_serial;
 use crate::summary::Summary;
 use crate::tool::Tool;
 use pnm_image::Device;
+use pnm_read::InputFault;
+use pnm_write::SinkFault;
 use std::io;
 use std::io::{ErrorKind, Read, Write};
 use std::test::Fail;
@@ -161,6 +163,14 @@ fn answers_a_failed_write(rt: HostRuntime) {
             FailsOnce::never(),
             cut,
             b"".as_slice(),
+        ),
+        (
+            b"P5\n2 1\n9\n\x01".as_slice(),
+            4096,
+            FailsOnce::never(),
+            FailsOnce::after(0),
+            cut,
+            b"P5\n2 1\n9\n".as_slice(),
         ),
     ] {
         let mut sips = Sips {

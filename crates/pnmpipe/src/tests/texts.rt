@@ -1,6 +1,5 @@
-//! The text of a chain, and the printed text of each fault, which is its name.
+//! The text of a chain, and the printed text of each of its faults, which is its name.
 
-use crate::fault::{InputFault, SinkFault};
 use crate::tool::{ChainFault, ChainKind, Tool, parse_chain};
 use std::test::Fail;
 
@@ -34,31 +33,6 @@ fn parses_chains(rt: HostRuntime) {
 
 #[test]
 fn prints_names(rt: HostRuntime) -> Result<(), Fail> {
-    for (fault, name) in [
-        (InputFault::EmptyInput, "EmptyInput"),
-        (InputFault::BadMagic, "BadMagic"),
-        (InputFault::HeaderCut, "HeaderCut"),
-        (InputFault::TooLong, "TooLong"),
-        (InputFault::BadNumber, "BadNumber"),
-        (InputFault::ZeroSize, "ZeroSize"),
-        (InputFault::TooLarge, "TooLarge"),
-        (InputFault::BadMaxval, "BadMaxval"),
-        (InputFault::RasterCut, "RasterCut"),
-        (InputFault::SampleAboveMaxval, "SampleAboveMaxval"),
-        (InputFault::ReadFailed, "ReadFailed"),
-        (InputFault::Memory, "Memory"),
-    ] {
-        let text = format!(in rt.alloc(); "{fault}")?;
-        assert_eq!(rt; text.as_str(), name);
-    }
-    for (fault, name) in [
-        (SinkFault::WriteFailed, "WriteFailed"),
-        (SinkFault::OutOfOrder, "OutOfOrder"),
-        (SinkFault::Broken, "Broken"),
-    ] {
-        let text = format!(in rt.alloc(); "{fault}")?;
-        assert_eq!(rt; text.as_str(), name);
-    }
     for (kind, name) in [
         (ChainKind::UnknownTool, "UnknownTool"),
         (ChainKind::Memory, "Memory"),

@@ -2,8 +2,13 @@ use Rattle.std.proofs.Common.{refl, Ok, ◌∙◌}
 use Rattle.std.proofs.lemmas.Result.{err_from_is_err_and}
 use Rattle.pnm_read.specs.declared.fault.InputFault.TheVariants.{ReadFailed}
 use Rattle.pnm_read.proofs.Turns.{turn_then, turn_ok_so, turn_err_so, no_fault}
-use Rattle.pnm_read.proofs.StageSteps.{no_head, begins}
+use Rattle.pnm_read.proofs.StageSteps.{no_format, no_head, begins}
 use Rattle.pnm_read.proofs.source.begin.Goals as goal
+
+pub returns-in_err-format : goal.returns-in_err-format
+returns-in_err-format g c =
+    let p = err_from_is_err_and c.from_residual.result c.from_residual.ensures.1 in
+    rw (p.1, p.2) (turn_err_so c.in_err-format.field-0.0 (λ b a o. no_format c.args.is_first c.in_err-format.field-0.0 b a o) c.in_err-format.ensures)
 
 pub returns-in_err-head : goal.returns-in_err-head
 returns-in_err-head g c =

@@ -1,29 +1,23 @@
 use Rattle.std.proofs.Common.{refl}
 use Rattle.std.specs.Fmt.{digits}
+use Rattle.pnm_read.specs.Texts.{ends_by, commented_after, uncommented_from, words}
+use Rattle.pnm_read.specs.Items.{piece_from, second_magic_item, first_magic_item, header_item, numbers_item, raw_item, decimal_item, pixel_item, plain_pixel, plain_decimal, after_last_item}
+use Rattle.pnm_read.specs.Said.{in_turn, format_at, head_at, raw_row, plain_row, last_plain_row, end_said, rows_said, said}
 use Rattle.pnmpipe.specs.Examples.{ExamplesHold}
-use Rattle.pnmpipe.specs.Reading.{gap_at, number_at, delimiter_at, numbers_at, head_at, numbers_within_limit, header_at, magic_at, head_and_raster, end_said, rows_said, said}
 use Rattle.pnmpipe.proofs.laws.examples_hold.Goals as goal
 
 computed : ExamplesHold
-unfolding digits gap_at number_at delimiter_at numbers_at head_at numbers_within_limit header_at magic_at head_and_raster end_said rows_said said
+unfolding digits ends_by commented_after uncommented_from words piece_from second_magic_item first_magic_item header_item numbers_item raw_item decimal_item pixel_item plain_pixel plain_decimal after_last_item in_turn format_at head_at raw_row plain_row last_plain_row end_said rows_said said
 computed = record {
-  whole = refl;
-  due = refl;
+  gray = refl;
   padded = refl;
   rows = refl;
-  empty = refl;
-  half_magic = refl;
-  other_magic = refl;
-  letter = refl;
-  comment = refl;
-  cut_header = refl;
-  no_width = refl;
-  too_wide = refl;
+  spare_bits = refl;
+  plain_bits = refl;
   two_bytes = refl;
-  above = refl;
+  color = refl;
   cut_raster = refl;
-  cut_raster_fault = refl;
-  byte_after = refl;
+  cut_header = refl;
 }
 
 pub returns : goal.returns

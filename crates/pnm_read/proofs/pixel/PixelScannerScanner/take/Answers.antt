@@ -12,5 +12,5 @@ pub returns-in-EndsBefore-clause-judged : goal.returns-in-EndsBefore-clause-judg
 returns-in-EndsBefore-clause-judged c =
     elim c.in-EndsBefore.is [
       | inl before ↦ pixel_not_before c.args.self.now c.args.self.now c.args.byte c.judge-judgement.result before c.judge-judgement.ensures.judged
-      | inr fails ↦ λ before after. (c.judge-judgement.ensures.judged before after, rw fails.1 tt)
+      | inr fails ↦ λ before after. inl (c.judge-judgement.ensures.judged before after, rw fails.1 tt)
     ]

@@ -1,0 +1,103 @@
+-- The head that the lines of a PAM header make.
+use Rattle.std.proofs.Common.{◌≡◌, ◌⊎◌, inl, inr, ℕ, ◌≤◌, Bool, true, false, ◌||◌, ◌==◌, if◌then◌else◌, List, [], ◌∷◌, length, Option, Some, None, Result, Ok, Err, refl, sym, ap, subst, ◌∙◌, arith}
+use Rattle.std.specs.Prelude.{slice_index, MatchResult, IfOk, OnOk, IfErr, IsErrAnd}
+use Rattle.std.proofs.lemmas.Bool.{ne_eqb}
+use Rattle.pnm_image.specs.declared.shape.Shape.{Shape}
+use Rattle.pnm_image.specs.declared.shape.Kind.TheVariants.{Pam}
+use Rattle.pnm_image.specs.declared.head.HeadFault.{HeadFault}
+use Rattle.pnm_image.specs.declared.head.HeadFault.TheVariants as heads
+use Rattle.pnm_image.specs.Heads.{Header, header_of, shape_fault}
+use Rattle.pnm_read.specs.declared.fault.InputFault.{InputFault}
+use Rattle.pnm_read.specs.declared.fault.InputFault.TheVariants.{MissingField, Memory, ReadFailed}
+use Rattle.pnm_read.specs.declared.fields.Fields.{Fields}
+use Rattle.pnm_read.specs.declared.line.Field.TheVariants.{Width, Height, Depth, Maxval}
+use Rattle.pnm_read.specs.PamLines.{field_values, tuple_type_in}
+use Rattle.pnm_read.specs.Items.{fault_of_head, is_incomplete, shape_in, lines_item}
+use Rattle.pnm_read.specs.Saturation.{saturated, GivesInMemory}
+use Rattle.pnm_read.specs.PamScanners.{held_number, IsFields, shape_held}
+use Rattle.pnm_read.proofs.HeldShapes.{saturated_shape, head_item, head_given, head_item_of_text}
+
+-- the shape of four numbers that may be missing
+abbrev shape_by : Option ℕ → Option ℕ → Option ℕ → Option ℕ → Option Shape
+shape_by w h d m = elim w [
+  | None ↦ None
+  | Some width ↦ elim h [
+    | None ↦ None
+    | Some height ↦ elim d [
+      | None ↦ None
+      | Some depth ↦ elim m [
+        | None ↦ None
+        | Some maxval ↦ Some (record { kind = Pam; width = width; height = height; depth = depth; maxval = maxval })
+      ]
+    ]
+  ]
+]
+
+-- the shape of the first of these numbers
+abbrev shape_of_first : List ℕ → List ℕ → List ℕ → List ℕ → Shape
+shape_of_first w h d m = record { kind = Pam; width = slice_index w 0; height = slice_index h 0; depth = slice_index d 0; maxval = slice_index m 0 }
+
+-- one of these numbers is missing
+abbrev lacks : List ℕ → List ℕ → List ℕ → List ℕ → Bool
+lacks w h d m = (length w == 0) || (length h == 0) || (length d == 0) || (length m == 0)
+
+some_is_not_none : (v : ℕ) (values : List ℕ) → (length (v ∷ values) == 0) ≡ false
+some_is_not_none v values = ne_eqb (length (v ∷ values)) 0 (λ e. omega arith)
+
+-- where no shape is held, a number is missing
+lacks_one : (w h d m : List ℕ) → shape_by (held_number w) (held_number h) (held_number d) (held_number m) ≡ None → lacks w h d m ≡ true
+lacks_one [] h d m e = refl
+lacks_one (v ∷ w) [] d m e = rw (some_is_not_none v w) refl
+lacks_one (v ∷ w) (x ∷ h) [] m e = rw (some_is_not_none v w, some_is_not_none x h) refl
+lacks_one (v ∷ w) (x ∷ h) (y ∷ d) [] e = rw (some_is_not_none v w, some_is_not_none x h, some_is_not_none y d) refl
+lacks_one (v ∷ w) (x ∷ h) (y ∷ d) (z ∷ m) e = absurd cc
+
+-- where a shape is held, no number is missing, and the shape is that of the numbers
+has_all : (w h d m : List ℕ) (s : Shape) → shape_by (held_number w) (held_number h) (held_number d) (held_number m) ≡ Some s → (lacks w h d m ≡ false) × (s ≡ saturated_shape (shape_of_first w h d m))
+has_all [] h d m s e = absurd cc
+has_all (v ∷ w) [] d m s e = absurd cc
+has_all (v ∷ w) (x ∷ h) [] m s e = absurd cc
+has_all (v ∷ w) (x ∷ h) (y ∷ d) [] s e = absurd cc
+has_all (v ∷ w) (x ∷ h) (y ∷ d) (z ∷ m) s e = (rw (some_is_not_none v w, some_is_not_none x h, some_is_not_none y d, some_is_not_none z m) refl, cc)
+
+held_is : (fields : Fields) (lines : List (List ℕ)) → IsFields fields lines
+    → shape_held fields ≡ shape_by (held_number (field_values Width lines)) (held_number (field_values Height lines)) (held_number (field_values Depth lines)) (held_number (field_values Maxval lines))
+held_is fields lines f =
+    ap (λ (o : Option ℕ). shape_by o fields.height fields.depth fields.maxval) f.width
+    ∙ ap (λ (o : Option ℕ). shape_by (held_number (field_values Width lines)) o fields.depth fields.maxval) f.height
+    ∙ ap (λ (o : Option ℕ). shape_by (held_number (field_values Width lines)) (held_number (field_values Height lines)) o fields.maxval) f.depth
+    ∙ ap (λ (o : Option ℕ). shape_by (held_number (field_values Width lines)) (held_number (field_values Height lines)) (held_number (field_values Depth lines)) o) f.maxval
+
+-- the head of lines, where a number may be missing
+abbrev lines_as : Bool → List (List ℕ) → Result Header InputFault
+lines_as incomplete lines = if incomplete then Err MissingField else head_item (shape_in lines) (tuple_type_in lines)
+
+lines_item_is : (lines : List (List ℕ)) → lines_item lines ≡ lines_as (is_incomplete lines) lines
+unfolding lines_item
+lines_item_is lines = refl
+
+-- a number is missing
+pub lines_missing : (fields : Fields) (lines : List (List ℕ)) (found : Option Shape) → found ≡ shape_held fields → found ≡ None → IsFields fields lines → lines_item lines ≡ Err MissingField
+lines_missing fields lines found is none f =
+    let lacks = lacks_one (field_values Width lines) (field_values Height lines) (field_values Depth lines) (field_values Maxval lines) (sym (held_is fields lines f) ∙ sym is ∙ none) in
+    lines_item_is lines ∙ ap (λ (t : Bool). lines_as t lines) lacks
+
+-- the head that was made of the shape and the tuple type, or what was wrong with it
+pub lines_given : (fields : Fields) (lines : List (List ℕ)) (found : Option Shape) (shape : Shape) (tuple_type : List ℕ) (made : Result Header HeadFault) (result : Result Header InputFault) → found ≡ shape_held fields → found ≡ Some shape → tuple_type ≡ fields.tuple_type.items → IsFields fields lines
+    → IfOk made (λ head. head ≡ header_of shape tuple_type) → OnOk made (shape_fault shape ≡ None) → IfErr made (λ e. (shape_fault shape ≡ Some e) ⊎ ((e ≡ heads.Memory) × (shape_fault shape ≡ None)))
+    → MatchResult made (λ head. result ≡ Ok head) (λ e. IsErrAnd result (λ fault. fault ≡ fault_of_head e)) → GivesInMemory result (lines_item lines)
+lines_given fields lines found shape tuple_type made result is some type f head sound refused cases =
+    let all = has_all (field_values Width lines) (field_values Height lines) (field_values Depth lines) (field_values Maxval lines) shape (sym (held_is fields lines f) ∙ sym is ∙ some) in
+    let item : lines_item lines ≡ head_item (shape_in lines) tuple_type =
+    lines_item_is lines ∙ ap (λ (t : Bool). lines_as t lines) all.0 ∙ ap (head_item (shape_in lines)) (sym (type ∙ f.tuple_type)) in
+    subst (GivesInMemory result) (sym item) (head_given shape (shape_in lines) tuple_type made result all.1 head sound refused cases)
+
+lines_as_of_text : (incomplete : Bool) (lines : List (List ℕ)) → lines_as incomplete lines ≡ Err ReadFailed → ⊥
+lines_as_of_text true lines e = absurd cc
+lines_as_of_text false lines e = head_item_of_text (shape_fault (shape_in lines)) (header_of (shape_in lines) (tuple_type_in lines)) e
+
+-- what is wrong with lines isn't that the reader failed
+pub lines_of_text : (lines : List (List ℕ)) (result : Result Header InputFault) → GivesInMemory result (lines_item lines) → result ≡ Err ReadFailed → ⊥
+lines_of_text lines (Ok head) gives e = absurd cc
+lines_of_text lines (Err fault) (inl memory) e = absurd cc
+lines_of_text lines (Err fault) (inr read) e = lines_as_of_text (is_incomplete lines) lines (sym (lines_item_is lines) ∙ read ∙ e)
