@@ -46,6 +46,7 @@ record BitsOf (byte a b c d e f g h : ℕ) : Type 0 where
   bit_g : byte / 2 % 2 ≡ g
   bit_h : byte / 1 % 2 ≡ h
 
+-- those of a sum of bits by their weights
 bits_of : (byte a b c d e f g h : ℕ) → a ≤ 1 → b ≤ 1 → c ≤ 1 → d ≤ 1 → e ≤ 1 → f ≤ 1 → g ≤ 1 → h ≤ 1
     → byte ≡ 128 * a + (64 * b + (32 * c + (16 * d + (8 * e + (4 * f + (2 * g + (1 * h + 0))))))) → BitsOf byte a b c d e f g h
 bits_of byte a b c d e f g h ha hb hc hd he hf hg hh is = record {
@@ -63,9 +64,11 @@ bits_of byte a b c d e f g h ha hb hc hd he hf hg hh is = record {
 pixel_is : (bit sample : ℕ) → sample ≤ 1 → bit ≡ 1 - sample → 1 - bit ≡ sample
 pixel_is bit sample h e = omega arith
 
+-- the bit of a sample is a bit
 small_bit : (sample : ℕ) → 1 - sample ≤ 1
 small_bit sample = omega arith
 
+-- the pixels of eight samples
 eight_pixels : (a b c d e f g h : ℕ) → a ≤ 1 → b ≤ 1 → c ≤ 1 → d ≤ 1 → e ≤ 1 → f ≤ 1 → g ≤ 1 → h ≤ 1
     → pixels (packed_byte (a ∷ b ∷ c ∷ d ∷ e ∷ f ∷ g ∷ h ∷ [])) ≡ a ∷ b ∷ c ∷ d ∷ e ∷ f ∷ g ∷ h ∷ []
 eight_pixels a b c d e f g h ha hb hc hd he hf hg hh =
@@ -80,9 +83,9 @@ eight_pixels a b c d e f g h ha hb hc hd he hf hg hh =
     let pf = pixel_is (byte / 4 % 2) f hf bits.bit_f in
     let pg = pixel_is (byte / 2 % 2) g hg bits.bit_g in
     let ph = pixel_is (byte / 1 % 2) h hh bits.bit_h in
-    ap₂ (λ (x : ℕ) (l : List ℕ). x ∷ l) pa (ap₂ (λ (x : ℕ) (l : List ℕ). x ∷ l) pb (ap₂ (λ (x : ℕ) (l : List ℕ). x ∷ l) pc (ap₂ (λ (x : ℕ) (l : List ℕ). x ∷ l) pd
-    (ap₂ (λ (x : ℕ) (l : List ℕ). x ∷ l) pe (ap₂ (λ (x : ℕ) (l : List ℕ). x ∷ l) pf (ap₂ (λ (x : ℕ) (l : List ℕ). x ∷ l) pg (ap (λ (x : ℕ). x ∷ []) ph)))))))
+    cc
 
+-- samples that are pixels
 abbrev pub ArePixels : List ℕ → Type 0
 ArePixels xs = All (λ sample. sample ≤ 1) xs
 
