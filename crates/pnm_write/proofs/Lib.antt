@@ -1,3 +1,10 @@
 pub mod MessageLaws
 pub mod PackingLaws
 pub mod Written
+pub mod DecimalText
+pub mod NumberText
+pub mod PamText
+pub mod HeaderText
+pub mod PixelText
+pub mod RowText
+pub mod ReadAgain

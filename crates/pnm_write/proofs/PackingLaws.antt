@@ -35,7 +35,7 @@ white_bits weight zero = refl
 white_bits weight (suc n) = omega (arith, white_bits (weight / 2) n)
 
 -- white pixels at the end change nothing
-bits_before_white : (weight n : ℕ) (p : List ℕ) → pixel_bits weight (p ++ replicate n 1) ≡ pixel_bits weight p
+pub bits_before_white : (weight n : ℕ) (p : List ℕ) → pixel_bits weight (p ++ replicate n 1) ≡ pixel_bits weight p
 bits_before_white weight n [] = white_bits weight n
 bits_before_white weight n (sample ∷ p) = ap (λ (k : ℕ). weight * (1 - sample) + k) (bits_before_white (weight / 2) n p)
 
