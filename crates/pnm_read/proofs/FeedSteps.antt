@@ -44,9 +44,9 @@ judged_place : {S : Type 0} (item : S → List ℕ → ℕ → Judgement) (at_en
 judged_place item at_end is_after is_whole room old now new bytes n j k before f judged is a =
     elim (judged (before ++ take n bytes) (f.fed before a)) [
       | inl at_place ↦ inl (
-          ap (λ (i : List ℕ → ℕ → Judgement). i (before ++ take n bytes) (get_or bytes n 0)) (sym f.same_items) ∙ sym at_place.0 ∙ is,
-          subst (λ (j : Judgement). Takes (is_after new) (is_whole new) j (before ++ take n bytes) (get_or bytes n 0)) is at_place.1,
-        )
+        ap (λ (i : List ℕ → ℕ → Judgement). i (before ++ take n bytes) (get_or bytes n 0)) (sym f.same_items) ∙ sym at_place.0 ∙ is,
+        subst (λ (j : Judgement). Takes (is_after new) (is_whole new) j (before ++ take n bytes) (get_or bytes n 0)) is at_place.1,
+      )
       | inr memory ↦ inr (sym is ∙ memory)
     ]
 

@@ -25,6 +25,7 @@ no_fields s w h d m t = record { width = w; height = h; depth = d; maxval = m; t
 
 -- ---- a line that says nothing, and the last
 
+-- a line that has neither a number nor a part of the tuple type leaves the fields
 fields_same : (s : Fields) (lines : List (List ℕ)) (line : List ℕ) → ((field : Field) → is_number field (line_kind line) ≡ false) → is_type (line_kind line) ≡ false → IsFields s lines → IsFields s (lines ++ line ∷ [])
 fields_same s lines line number type f = record {
   width = f.width ∙ ap held_number (sym (values_same Width lines line (number Width)));
@@ -35,6 +36,7 @@ fields_same s lines line number type f = record {
   short = subst (λ (l : List ℕ). length l ≤ 255) (sym (type_same lines line type)) f.short;
 }
 
+-- a line that says nothing, or is the last, has no number
 nothing_number : (field : Field) → is_number field Nothing ≡ false
 nothing_number Width = refl
 nothing_number Height = refl
@@ -57,6 +59,7 @@ item_of kind lines line = elim kind [
   | Unknown ↦ Fails BadPamLine
 ]
 
+-- a line is judged by its kind
 item_is : (kind : LineKind) (lines : List (List ℕ)) (line : List ℕ) → line_kind line ≡ kind → line_item lines line ≡ item_of kind lines line
 item_is kind lines line e = ap (λ (k : LineKind). item_of k lines line) e
 
@@ -64,23 +67,26 @@ item_is kind lines line e = ap (λ (k : LineKind). item_of k lines line) e
 judges_so : (s : Fields) (lines : List (List ℕ)) (line : List ℕ) (j k : Judgement) → line_item lines line ≡ k → j ≡ k → TakesLine s k (lines ++ line ∷ []) → ((j ≡ line_item lines line) × TakesLine s j (lines ++ line ∷ [])) ⊎ (j ≡ Fails Memory)
 judges_so s lines line j k item is t = inl (is ∙ sym item, subst (λ (k : Judgement). TakesLine s k (lines ++ line ∷ [])) (sym is) t)
 
+-- a line that says nothing
 pub line_of_nothing : (s : Fields) (line : List ℕ) → line_kind line ≡ Nothing → JudgesLine s line s GoesOn
 line_of_nothing s line e lines f =
     judges_so s lines line GoesOn GoesOn (item_is Nothing lines line e) refl (fields_same s lines line (λ field. ap (is_number field) e ∙ nothing_number field) (ap is_type e) f)
 
+-- the last line
 pub line_of_end : (s : Fields) (line : List ℕ) → line_kind line ≡ End → JudgesLine s line s EndsWith
 line_of_end s line e lines f =
     judges_so s lines line EndsWith EndsWith (item_is End lines line e) refl (fields_same s lines line (λ field. ap (is_number field) e ∙ end_number field) (ap is_type e) f)
 
 -- ---- a number
 
+-- the number of a field that is held
 held_is : (field : Field) (s : Fields) (lines : List (List ℕ)) → IsFields s lines → number_held field s ≡ held_number (field_values field lines)
 held_is Width s lines f = f.width
 held_is Height s lines f = f.height
 held_is Depth s lines f = f.depth
 held_is Maxval s lines f = f.maxval
 
--- the fields with a new number
+-- the fields of the lines with one more, which has the first number of a field
 with_width : (old : Fields) (lines : List (List ℕ)) (line : List ℕ) → line_kind line ≡ Number Width → field_values Width lines ≡ [] → IsFields old lines → IsFields (with_number Width (saturated (decimal_value (second_token line))) old) (lines ++ line ∷ [])
 with_width old lines line e none f = record {
   width = ap held_number (sym (values_first Width lines line (ap (is_number Width) e) none));
@@ -121,6 +127,7 @@ with_maxval old lines line e none f = record {
   short = subst (λ (l : List ℕ). length l ≤ 255) (sym (type_same lines line (ap is_type e))) f.short;
 }
 
+-- the same of each field
 with_field : (field : Field) (old : Fields) (lines : List (List ℕ)) (line : List ℕ) → line_kind line ≡ Number field → field_values field lines ≡ [] → IsFields old lines → IsFields (with_number field (saturated (decimal_value (second_token line))) old) (lines ++ line ∷ [])
 with_field Width = with_width
 with_field Height = with_height
@@ -141,12 +148,15 @@ Sets empty found held field old new j =
       ]
     ]
 
+-- the judgement of a number's line, by whether the token is empty, the token is decimal and the number is new
 abbrev number_as : Bool → Bool → Bool → Judgement
 number_as empty digits none = if empty then Fails BadPamLine else if not digits then Fails BadNumber else if not none then Fails DuplicateField else GoesOn
 
-some_values : (v : ℕ) (values : List ℕ) → (length (v ∷ values) == 0) ≡ false
+-- a list that begins with a number isn't empty
+pub some_values : (v : ℕ) (values : List ℕ) → (length (v ∷ values) == 0) ≡ false
 some_values v values = ne_eqb (length (v ∷ values)) 0 (λ e. omega arith)
 
+-- a number's line was judged so, and taken
 number_by : (empty digits : Bool) (values : List ℕ) (number : ℕ) (field : Field) (old new : Fields) (j : Judgement) (lines : List (List ℕ)) → Sets empty (if digits then Some number else None) (held_number values) field old new j
     → (new ≡ with_number field number old → values ≡ [] → IsFields new lines) → (j ≡ number_as empty digits (length values == 0)) × TakesLine new (number_as empty digits (length values == 0)) lines
 number_by true digits values number field old new j lines s f = (s, tt)
@@ -156,17 +166,19 @@ number_by false true (v ∷ values) number field old new j lines s f =
     let twice : number_as false true (length (v ∷ values) == 0) ≡ Fails DuplicateField = ap (number_as false true) (some_values v values) in
     (s ∙ sym twice, subst (λ (k : Judgement). TakesLine new k lines) (sym twice) tt)
 
+-- the line of a number
 pub line_of_number : (field : Field) (old new : Fields) (line rest : List ℕ) (j : Judgement) → line_kind line ≡ Number field → rest ≡ after_first line → SetsNumber old field rest new j → JudgesLine old line new j
 line_of_number field old new line rest j e is s lines f =
     let sets : SetsNumber old field (after_first line) new j = subst (λ (l : List ℕ). SetsNumber old field l new j) is s in
     let held : Sets (length (second_token line) == 0) (number_of (second_token line)) (held_number (field_values field lines)) field old new j =
     subst (λ (h : Option ℕ). Sets (length (second_token line) == 0) (number_of (second_token line)) h field old new j) (held_is field old lines f) sets in
     let p = number_by (length (second_token line) == 0) (list_all is_digit (second_token line)) (field_values field lines) (saturated (decimal_value (second_token line))) field old new j (lines ++ line ∷ []) held
-        (λ same none. subst (λ (s : Fields). IsFields s (lines ++ line ∷ [])) (sym same) (with_field field old lines line e none f)) in
+    (λ same none. subst (λ (s : Fields). IsFields s (lines ++ line ∷ [])) (sym same) (with_field field old lines line e none f)) in
     judges_so new lines line j (number_item lines field line) (item_is (Number field) lines line e) p.0 p.1
 
 -- ---- a part of the tuple type
 
+-- the fields of the lines with one more, which has a part of the tuple type
 with_type : (old new : Fields) (lines : List (List ℕ)) (line : List ℕ) → line_kind line ≡ TupleType → IsFields old lines → IsWithTupleType old new (tuple_type_in (lines ++ line ∷ [])) → length (tuple_type_in (lines ++ line ∷ [])) ≤ 255 → IsFields new (lines ++ line ∷ [])
 with_type old new lines line e f w short = record {
   width = w.width ∙ f.width ∙ ap held_number (sym (values_same Width lines line (ap (is_number Width) e)));
@@ -177,11 +189,13 @@ with_type old new lines line e f w short = record {
   short = short;
 }
 
+-- a line of the tuple type was judged so, and taken
 type_by : (long : Bool) (old new : Fields) (tuple_type : List ℕ) (j : Judgement) (lines : List (List ℕ)) → SetsTupleType long old tuple_type new j → (long ≡ false → IsWithTupleType old new tuple_type → IsFields new lines)
     → (j ≡ (if long then Fails TooLong else GoesOn)) × TakesLine new (if long then Fails TooLong else GoesOn) lines
 type_by true old new tuple_type j lines s f = (s, tt)
 type_by false old new tuple_type j lines s f = (s.0, f refl s.1)
 
+-- the line of a part of the tuple type
 pub line_of_type : (old new : Fields) (line text : List ℕ) (j : Judgement) → line_kind line ≡ TupleType → text ≡ value_of line → AddsTupleType old text new j → JudgesLine old line new j
 line_of_type old new line text j e is (inr memory) lines f = inr memory
 line_of_type old new line text j e is (inl s) lines f =
@@ -190,5 +204,5 @@ line_of_type old new line text j e is (inl s) lines f =
     let sets : SetsTupleType (nat_lt 255 (length (tuple_type_in (lines ++ line ∷ [])))) old (tuple_type_in (lines ++ line ∷ [])) new j =
     subst (λ (l : List ℕ). SetsTupleType (nat_lt 255 (length l)) old l new j) all s in
     let p = type_by (nat_lt 255 (length (tuple_type_in (lines ++ line ∷ [])))) old new (tuple_type_in (lines ++ line ∷ [])) j (lines ++ line ∷ []) sets
-        (λ short w. with_type old new lines line e f w (ltb-false 255 (length (tuple_type_in (lines ++ line ∷ []))) short)) in
+    (λ short w. with_type old new lines line e f w (ltb-false 255 (length (tuple_type_in (lines ++ line ∷ []))) short)) in
     judges_so new lines line j (tuple_type_item lines line) (item_is TupleType lines line e) p.0 p.1

@@ -34,6 +34,7 @@ saturated-zero n =
 great_product : (a b : ℕ) → 4294967295 ≤ a → 0 < b → 4294967295 ≤ a * b
 great_product a b great some = let more = mul-le-mul_left a some in omega arith
 
+-- a row of such numbers is too long
 great_row : (a b : ℕ) → 4294967295 ≤ a → 0 < b → nat_lt 16777216 (a * b) ≡ true
 great_row a b great some = let high = great_product a b great some in lt-ltb 16777216 (a * b) (omega arith)
 
@@ -63,14 +64,26 @@ saturated-row a b =
 abbrev pub saturated_shape : Shape → Shape
 saturated_shape s = record { kind = s.kind; width = saturated s.width; height = saturated s.height; depth = saturated s.depth; maxval = saturated s.maxval }
 
+-- the same is wrong with a shape as with it as it is held
 same_fault : (s : Shape) → shape_fault (saturated_shape s) ≡ shape_fault s
 same_fault s =
-    rw (saturated-zero s.width, saturated-zero s.height, saturated-zero s.depth, saturated-limit 1000000 s.width (omega arith), saturated-limit 1000000 s.height (omega arith), saturated-limit 256 s.depth (omega arith),
-    saturated-row s.width s.depth, saturated-zero s.maxval, saturated-limit 65535 s.maxval (omega arith)) refl
+    rw (
+      saturated-zero s.width,
+      saturated-zero s.height,
+      saturated-zero s.depth,
+      saturated-limit 1000000 s.width (omega arith),
+      saturated-limit 1000000 s.height (omega arith),
+      saturated-limit 256 s.depth (omega arith),
+      saturated-row s.width s.depth,
+      saturated-zero s.maxval,
+      saturated-limit 65535 s.maxval (omega arith),
+    ) refl
 
+-- a small u32 is the number itself
 small_is : (n limit : ℕ) → saturated n ≤ limit → limit < 4294967295 → saturated n ≡ n
 small_is n limit le lt = omega arith
 
+-- the shape of these numbers
 abbrev shape_from : Kind → ℕ → ℕ → ℕ → ℕ → Shape
 shape_from kind width height depth maxval = record { kind = kind; width = width; height = height; depth = depth; maxval = maxval }
 
@@ -93,13 +106,16 @@ same_shape s e =
 abbrev pub head_item : Shape → List ℕ → Result Header InputFault
 head_item s tuple_type = head_or_fault (shape_fault s) (header_of s tuple_type)
 
+-- what a shape makes, by what is wrong with it as it is held
 head_as : (held s : Shape) (tuple_type : List ℕ) (fault : Option HeadFault) → held ≡ saturated_shape s → shape_fault held ≡ fault → head_item s tuple_type ≡ head_or_fault fault (header_of s tuple_type)
 head_as held s tuple_type fault same is = ap (λ (f : Option HeadFault). head_or_fault f (header_of s tuple_type)) (sym (same_fault s) ∙ ap shape_fault (sym same) ∙ is)
 
+-- the head was made
 head_made : (held s : Shape) (tuple_type : List ℕ) (head : Header) → held ≡ saturated_shape s → head ≡ header_of held tuple_type → shape_fault held ≡ None → head_item s tuple_type ≡ Ok head
 head_made held s tuple_type head same made sound =
     head_as held s tuple_type None same sound ∙ ap (λ (h : Header). Ok h) (ap (λ (s : Shape). header_of s tuple_type) (sym (same ∙ same_shape s (ap shape_fault (sym same) ∙ sound))) ∙ sym made)
 
+-- the head was refused, or memory ran out
 head_refused : (held s : Shape) (tuple_type : List ℕ) (e : HeadFault) (fault : InputFault) → held ≡ saturated_shape s → fault ≡ fault_of_head e → (shape_fault held ≡ Some e) ⊎ ((e ≡ heads.Memory) × (shape_fault held ≡ None))
     → (fault ≡ Memory) ⊎ (head_item s tuple_type ≡ Err fault)
 head_refused held s tuple_type e fault same is why =

@@ -30,6 +30,7 @@ abbrev kind_by : Bool → Bool → Bool → Bool → Bool → Bool → Bool → 
 kind_by sharp width height depth maxval type end =
     if sharp then Nothing else if width then Number Width else if height then Number Height else if depth then Number Depth else if maxval then Number Maxval else if type then TupleType else if end then End else Unknown
 
+-- the kind of a token, by its tests
 kind_is : (b : ℕ) (text : List ℕ) → kind_of_token (b ∷ text)
     ≡ kind_by (b == 35) (bytes_eq (name_of Width) (b ∷ text)) (bytes_eq (name_of Height) (b ∷ text)) (bytes_eq (name_of Depth) (b ∷ text)) (bytes_eq (name_of Maxval) (b ∷ text)) (bytes_eq (codes "TUPLTYPE") (b ∷ text)) (bytes_eq (codes "ENDHDR") (b ∷ text))
 unfolding kind_of_token
@@ -81,13 +82,15 @@ no_type false false false false true e = refl
 no_type false false false false false true = refl
 no_type false false false false false false = refl
 
+-- a token that equals a name is the name
 same_name : (name token : List ℕ) → bytes_eq name token ≡ true → name ≡ token
 same_name name token e = (bytes_eq-Decides name token).0 e
 
--- a token that is this name is of its kind
+-- a token is this name where it is of its kind
 abbrev Names : Field → List ℕ → Type 0
 Names field token = bytes_eq (name_of field) token ≡ is_number field (kind_of_token token)
 
+-- the names themselves
 named : (field : Field) → Names field (name_of field)
 unfolding kind_of_token
 named Width = refl
@@ -95,6 +98,7 @@ named Height = refl
 named Depth = refl
 named Maxval = refl
 
+-- an empty token has no name
 no_name : (field : Field) → Names field []
 unfolding kind_of_token
 no_name Width = refl
@@ -102,12 +106,14 @@ no_name Height = refl
 no_name Depth = refl
 no_name Maxval = refl
 
+-- a token that isn't the name is of another kind
 other_name : (field : Field) (b : ℕ) (text : List ℕ) → bytes_eq (name_of field) (b ∷ text) ≡ false → is_number field (kind_of_token (b ∷ text)) ≡ false
 other_name Width b text e = rw (kind_is b text, e) (no_width _ _ _ _ _ _)
 other_name Height b text e = rw (kind_is b text, e) (no_height _ _ _ _ _ _)
 other_name Depth b text e = rw (kind_is b text, e) (no_depth _ _ _ _ _ _)
 other_name Maxval b text e = rw (kind_is b text, e) (no_maxval _ _ _ _ _ _)
 
+-- any token
 names_by : (test : Bool) (field : Field) (token : List ℕ) → bytes_eq (name_of field) token ≡ test → Names field token
 names_by true field token e = subst (Names field) (same_name (name_of field) token e) (named field)
 names_by false field [] e = no_name field
@@ -117,6 +123,7 @@ names_by false field (b ∷ text) e = e ∙ sym (other_name field b text e)
 begins_is : (field : Field) (line : List ℕ) → begins_with (name_of field) line ≡ is_number field (line_kind line)
 begins_is field line = names_by (bytes_eq (name_of field) (first_token line)) field (first_token line) refl
 
+-- the same of the tuple type
 type_named : bytes_eq (codes "TUPLTYPE") (codes "TUPLTYPE") ≡ is_type (kind_of_token (codes "TUPLTYPE"))
 unfolding kind_of_token
 type_named = refl
@@ -127,11 +134,13 @@ type_by true token e = subst (λ (token : List ℕ). bytes_eq (codes "TUPLTYPE")
 type_by false [] e = e
 type_by false (b ∷ text) e = e ∙ sym (rw (kind_is b text, e) (no_type _ _ _ _ _ _))
 
+-- a line begins with TUPLTYPE where it is of that kind
 begins_type_is : (line : List ℕ) → begins_with (codes "TUPLTYPE") line ≡ is_type (line_kind line)
 begins_type_is line = type_by (bytes_eq (codes "TUPLTYPE") (first_token line)) (first_token line) refl
 
 -- ---- one line more
 
+-- the numbers of one line
 one_value : (field : Field) (line : List ℕ) (test : Bool) → begins_with (name_of field) line ≡ test → field_values field (line ∷ []) ≡ (if test then decimal_value (second_token line) ∷ [] else [])
 unfolding field_values
 one_value field line test e = ap (λ (t : Bool). if t then decimal_value (second_token line) ∷ [] else []) e
@@ -146,10 +155,12 @@ pub values_first : (field : Field) (lines : List (List ℕ)) (line : List ℕ) �
 values_first field lines line e none =
     field_values-append field lines (line ∷ []) ∙ ap (λ (l : List ℕ). l ++ field_values field (line ∷ [])) none ∙ one_value field line true (begins_is field line ∙ e)
 
+-- the tuple type of one line
 one_type : (line : List ℕ) (test : Bool) → begins_with (codes "TUPLTYPE") line ≡ test → tuple_type_in (line ∷ []) ≡ (if test then joined_with (value_of line) [] else [])
 unfolding tuple_type_in
 one_type line test e = ap (λ (t : Bool). if t then joined_with (value_of line) [] else []) e
 
+-- nothing is joined
 joined_nothing : (text : List ℕ) → joined_with text [] ≡ text
 joined_nothing [] = refl
 joined_nothing (b ∷ text) = refl

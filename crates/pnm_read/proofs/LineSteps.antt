@@ -20,10 +20,12 @@ first_and_rest : (text : List ℕ) → 1 ≤ length text → text ≡ get_or tex
 first_and_rest [] le = absurd (omega arith)
 first_and_rest (b ∷ text) le = ap (λ (l : List ℕ). b ∷ l) (sym (take_all (length (b ∷ text) - 1) text (omega arith)))
 
+-- white space at the start is left out
 start_blank : (b : ℕ) (text : List ℕ) → is_blank b ≡ true → trimmed_start (b ∷ text) ≡ trimmed_start text
 unfolding trimmed_start
 start_blank b text e = rw e refl
 
+-- another first byte stays
 start_other : (b : ℕ) (text : List ℕ) → is_blank b ≡ false → trimmed_start (b ∷ text) ≡ b ∷ text
 unfolding trimmed_start
 start_other b text e = rw e refl
@@ -48,15 +50,18 @@ front_and_last text le =
     let one : length text - 1 + 1 ≡ length text = omega arith in
     sym (take_all (length text) text (omega arith)) ∙ ap (λ (n : ℕ). take n text) (sym one) ∙ take_more text (length text - 1) 0 (omega arith)
 
+-- white space at the end is left out
 end_blank : (text : List ℕ) (b : ℕ) → is_blank b ≡ true → trimmed_end (text ++ b ∷ []) ≡ trimmed_end text
 unfolding trimmed_end
 end_blank [] b e = rw e refl
 end_blank (c ∷ text) b e = ap (onto_trimmed c) (end_blank text b e)
 
+-- a byte before a text that isn't empty
 onto_some : (c : ℕ) (text : List ℕ) (b : ℕ) → onto_trimmed c (text ++ b ∷ []) ≡ c ∷ (text ++ b ∷ [])
 onto_some c [] b = refl
 onto_some c (d ∷ text) b = refl
 
+-- another last byte stays
 end_other : (text : List ℕ) (b : ℕ) → is_blank b ≡ false → trimmed_end (text ++ b ∷ []) ≡ text ++ b ∷ []
 unfolding trimmed_end
 end_other [] b e = rw e refl
@@ -84,9 +89,11 @@ pub record SplitAt (text : List ℕ) (n : ℕ) : Type 0 where
   pub token : token_of text ≡ take n text ++ token_of (drop n text)
   pub rest : after_token text ≡ after_token (drop n text)
 
+-- no byte so far
 pub split_first : (text : List ℕ) → SplitAt text 0
 split_first text = record { within = omega arith; token = refl; rest = refl }
 
+-- a byte of the token
 token_other : (b : ℕ) (text : List ℕ) → is_blank b ≡ false → token_of (b ∷ text) ≡ b ∷ token_of text
 unfolding token_of
 token_other b text e = rw e refl
@@ -110,6 +117,7 @@ split_more text n s lt e =
 abbrev pub IsTokenEnd : List ℕ → ℕ → Type 0
 IsTokenEnd text n = (length text ≤ n) ⊎ ((n < length text) × (is_blank (get_or text n 0) ≡ true))
 
+-- white space ends the token
 token_blank : (b : ℕ) (text : List ℕ) → is_blank b ≡ true → token_of (b ∷ text) ≡ []
 unfolding token_of
 token_blank b text e = rw e refl
@@ -118,6 +126,7 @@ after_blank : (b : ℕ) (text : List ℕ) → is_blank b ≡ true → after_toke
 unfolding after_token
 after_blank b text e = rw e refl
 
+-- an empty text has no token
 token_none : token_of [] ≡ []
 unfolding token_of
 token_none = refl
@@ -126,14 +135,17 @@ after_none : after_token [] ≡ []
 unfolding after_token
 after_none = refl
 
+-- no byte of the token is left
 no_token : (text : List ℕ) (n : ℕ) → IsTokenEnd text n → token_of (drop n text) ≡ []
 no_token text n (inl le) = ap token_of (drop_all n text le) ∙ token_none
 no_token text n (inr h) = ap token_of (drop_more text n 0 h.0) ∙ token_blank (get_or text n 0) (drop (n + 1) text) h.1
 
+-- what is left comes after the token
 all_after : (text : List ℕ) (n : ℕ) → IsTokenEnd text n → after_token (drop n text) ≡ drop n text
 all_after text n (inl le) = ap after_token (drop_all n text le) ∙ after_none ∙ sym (drop_all n text le)
 all_after text n (inr h) = ap after_token (drop_more text n 0 h.0) ∙ after_blank (get_or text n 0) (drop (n + 1) text) h.1 ∙ sym (drop_more text n 0 h.0)
 
+-- the token was found, and what follows it
 pub split_token_is : (text line : List ℕ) (n : ℕ) → text ≡ trimmed_start line → SplitAt text n → IsTokenEnd text n → take n text ≡ token_of (trimmed_start line)
 split_token_is text line n e s end = sym (append-nil (take n text)) ∙ ap (λ (l : List ℕ). take n text ++ l) (sym (no_token text n end)) ∙ sym s.token ∙ ap token_of e
 
@@ -147,9 +159,11 @@ pub record DigitsSo (token : List ℕ) (n number : ℕ) : Type 0 where
   pub digits : list_all is_digit (take n token) ≡ true
   pub value : number ≡ saturated (decimal_value (take n token))
 
+-- no byte so far
 pub no_digits : (token : List ℕ) → DigitsSo token 0 0
 no_digits token = record { digits = refl; value = refl }
 
+-- the value of a digit
 digit_value_is : (b : ℕ) → is_digit b ≡ true → digit_value b ≡ b - 48
 digit_value_is b h = grind (arith, nat_tests)
 

@@ -1,7 +1,6 @@
 -- The head that the lines of a PAM header make.
 use Rattle.std.proofs.Common.{◌≡◌, ◌⊎◌, inl, inr, ℕ, ◌≤◌, Bool, true, false, ◌||◌, ◌==◌, if◌then◌else◌, List, [], ◌∷◌, length, Option, Some, None, Result, Ok, Err, refl, sym, ap, subst, ◌∙◌, arith}
 use Rattle.std.specs.Prelude.{slice_index, MatchResult, IfOk, OnOk, IfErr, IsErrAnd}
-use Rattle.std.proofs.lemmas.Bool.{ne_eqb}
 use Rattle.pnm_image.specs.declared.shape.Shape.{Shape}
 use Rattle.pnm_image.specs.declared.shape.Kind.TheVariants.{Pam}
 use Rattle.pnm_image.specs.declared.head.HeadFault.{HeadFault}
@@ -15,6 +14,7 @@ use Rattle.pnm_read.specs.PamLines.{field_values, tuple_type_in}
 use Rattle.pnm_read.specs.Items.{fault_of_head, is_incomplete, shape_in, lines_item}
 use Rattle.pnm_read.specs.Saturation.{saturated, GivesInMemory}
 use Rattle.pnm_read.specs.PamScanners.{held_number, IsFields, shape_held}
+use Rattle.pnm_read.proofs.FieldSteps.{some_values}
 use Rattle.pnm_read.proofs.HeldShapes.{saturated_shape, head_item, head_given, head_item_of_text}
 
 -- the shape of four numbers that may be missing
@@ -41,15 +41,12 @@ shape_of_first w h d m = record { kind = Pam; width = slice_index w 0; height = 
 abbrev lacks : List ℕ → List ℕ → List ℕ → List ℕ → Bool
 lacks w h d m = (length w == 0) || (length h == 0) || (length d == 0) || (length m == 0)
 
-some_is_not_none : (v : ℕ) (values : List ℕ) → (length (v ∷ values) == 0) ≡ false
-some_is_not_none v values = ne_eqb (length (v ∷ values)) 0 (λ e. omega arith)
-
 -- where no shape is held, a number is missing
 lacks_one : (w h d m : List ℕ) → shape_by (held_number w) (held_number h) (held_number d) (held_number m) ≡ None → lacks w h d m ≡ true
 lacks_one [] h d m e = refl
-lacks_one (v ∷ w) [] d m e = rw (some_is_not_none v w) refl
-lacks_one (v ∷ w) (x ∷ h) [] m e = rw (some_is_not_none v w, some_is_not_none x h) refl
-lacks_one (v ∷ w) (x ∷ h) (y ∷ d) [] e = rw (some_is_not_none v w, some_is_not_none x h, some_is_not_none y d) refl
+lacks_one (v ∷ w) [] d m e = rw (some_values v w) refl
+lacks_one (v ∷ w) (x ∷ h) [] m e = rw (some_values v w, some_values x h) refl
+lacks_one (v ∷ w) (x ∷ h) (y ∷ d) [] e = rw (some_values v w, some_values x h, some_values y d) refl
 lacks_one (v ∷ w) (x ∷ h) (y ∷ d) (z ∷ m) e = absurd cc
 
 -- where a shape is held, no number is missing, and the shape is that of the numbers
@@ -58,8 +55,9 @@ has_all [] h d m s e = absurd cc
 has_all (v ∷ w) [] d m s e = absurd cc
 has_all (v ∷ w) (x ∷ h) [] m s e = absurd cc
 has_all (v ∷ w) (x ∷ h) (y ∷ d) [] s e = absurd cc
-has_all (v ∷ w) (x ∷ h) (y ∷ d) (z ∷ m) s e = (rw (some_is_not_none v w, some_is_not_none x h, some_is_not_none y d, some_is_not_none z m) refl, cc)
+has_all (v ∷ w) (x ∷ h) (y ∷ d) (z ∷ m) s e = (rw (some_values v w, some_values x h, some_values y d, some_values z m) refl, cc)
 
+-- the shape that is held, by the numbers of the lines
 held_is : (fields : Fields) (lines : List (List ℕ)) → IsFields fields lines
     → shape_held fields ≡ shape_by (held_number (field_values Width lines)) (held_number (field_values Height lines)) (held_number (field_values Depth lines)) (held_number (field_values Maxval lines))
 held_is fields lines f =
@@ -72,6 +70,7 @@ held_is fields lines f =
 abbrev lines_as : Bool → List (List ℕ) → Result Header InputFault
 lines_as incomplete lines = if incomplete then Err MissingField else head_item (shape_in lines) (tuple_type_in lines)
 
+-- what lines are, by whether a number is missing
 lines_item_is : (lines : List (List ℕ)) → lines_item lines ≡ lines_as (is_incomplete lines) lines
 unfolding lines_item
 lines_item_is lines = refl
@@ -92,6 +91,7 @@ lines_given fields lines found shape tuple_type made result is some type f head 
     lines_item_is lines ∙ ap (λ (t : Bool). lines_as t lines) all.0 ∙ ap (head_item (shape_in lines)) (sym (type ∙ f.tuple_type)) in
     subst (GivesInMemory result) (sym item) (head_given shape (shape_in lines) tuple_type made result all.1 head sound refused cases)
 
+-- their fault is none of the reader's
 lines_as_of_text : (incomplete : Bool) (lines : List (List ℕ)) → lines_as incomplete lines ≡ Err ReadFailed → ⊥
 lines_as_of_text true lines e = absurd cc
 lines_as_of_text false lines e = head_item_of_text (shape_fault (shape_in lines)) (header_of (shape_in lines) (tuple_type_in lines)) e

@@ -29,6 +29,7 @@ pam_fresh s l line fields = record { length_is = l; line = line; fields = fields
 
 -- ---- one byte more
 
+-- the judgement of a byte by whether too many came before, whether it is a LF, and the judgement of its line
 abbrev judged_by : Bool → Bool → Judgement → Judgement
 judged_by long feed line = if long then Fails TooLong else if feed then line else GoesOn
 
@@ -50,8 +51,11 @@ pam_goes_on old new b lt other l line fields before a =
       line = line ∙ ap (λ (l : List ℕ). l ++ b ∷ []) a.line ∙ sym (last_line-other before b no_feed);
       fields = subst (λ (f : Fields). IsFields f (ended_lines (before ++ b ∷ []))) (sym fields) (subst (IsFields old.fields) (sym (ended_lines-other before b no_feed)) a.fields);
     } in
-    inl (sym (pam_item_is before b ∙ ap (λ (long : Bool). judged_by long (b == 10) (line_item (ended_lines before) (last_line before))) (is_short old before a lt)
-    ∙ ap (λ (feed : Bool). judged_by false feed (line_item (ended_lines before) (last_line before))) no_feed), after)
+    inl (
+      sym (pam_item_is before b ∙ ap (λ (long : Bool). judged_by long (b == 10) (line_item (ended_lines before) (last_line before))) (is_short old before a lt)
+          ∙ ap (λ (feed : Bool). judged_by false feed (line_item (ended_lines before) (last_line before))) no_feed),
+      after,
+    )
 
 -- what is taken with a LF
 feed_taken : (new : PamScanner) (j : Judgement) (before : List ℕ) → new.length ≡ length before + 1 → new.line.items ≡ [] → TakesLine new.fields j (ended_lines before ++ last_line before ∷ []) → Takes (IsPamAfter new) (IsPamWhole new) j before 10
@@ -70,14 +74,15 @@ feed_judged old line j before lt is a judged =
     judged ∙ ap (line_item (ended_lines before)) (is ∙ a.line)
     ∙ sym (pam_item_is before 10 ∙ ap (λ (long : Bool). judged_by long (10 == 10) (line_item (ended_lines before) (last_line before))) (is_short old before a lt))
 
+-- a LF was judged and taken
 feed : (old new : PamScanner) (line : List ℕ) (j : Judgement) → old.length < 65533 → new.length ≡ old.length + 1 → line ≡ old.line.items → new.line.items ≡ [] → JudgesLine old.fields line new.fields j
     → JudgesByte pam_item (IsPamAfter old) (IsPamAfter new) (IsPamWhole new) 10 j
 feed old new line j lt l is none judges before a =
     elim (judges (ended_lines before) a.fields) [
       | inl taken ↦ inl (
-          feed_judged old line j before lt is a taken.0,
-          feed_taken new j before (l ∙ ap (λ (n : ℕ). n + 1) a.length_is) none (subst (λ (line : List ℕ). TakesLine new.fields j (ended_lines before ++ line ∷ [])) (is ∙ a.line) taken.1),
-        )
+        feed_judged old line j before lt is a taken.0,
+        feed_taken new j before (l ∙ ap (λ (n : ℕ). n + 1) a.length_is) none (subst (λ (line : List ℕ). TakesLine new.fields j (ended_lines before ++ line ∷ [])) (is ∙ a.line) taken.1),
+      )
       | inr memory ↦ inr memory
     ]
 
@@ -92,13 +97,16 @@ pam_feed old new b line j lt e l is none judges = subst (λ (b : ℕ). JudgesByt
 abbrev head_after : Result (List ℕ × List ℕ) InputFault → Result (Header × List ℕ) InputFault
 head_after piece = piece >>= λ p. lines_item (ended_lines p.0) >>= λ head. Ok (head, p.1)
 
+-- the head of a text from its LF on
 abbrev head_from : Result (List ℕ) InputFault → Result (Header × List ℕ) InputFault
 head_from rest = rest >>= λ text. head_after (piece_from pam_item header_end [] text)
 
+-- the head of a text, step by step
 head_at_is : (text : List ℕ) → pam_head_at text ≡ head_from (line_feed_item text)
 unfolding pam_head_at
 head_at_is text = refl
 
+-- a head, and what is left after it
 abbrev head_with : List ℕ → Result Header InputFault → Result (Header × List ℕ) InputFault
 head_with after read = read >>= λ head. Ok (head, after)
 
@@ -126,18 +134,21 @@ pam_type old now rest after fresh scans =
 abbrev pub HeadOfFields : Fields → Result Header InputFault → Type 0
 HeadOfFields fields result = (lines : List (List ℕ)) → IsFields fields lines → GivesInMemory result (lines_item lines)
 
+-- the head of the lines of a piece
 given_after : (result : Result Header InputFault) (text rest piece after : List ℕ) → line_feed_item text ≡ Ok rest → piece_from pam_item header_end [] rest ≡ Ok (piece, after) → GivesInMemory result (lines_item (ended_lines piece))
     → Finds (λ (head : Header). head) pam_head_at result text after
 given_after (Ok head) text rest piece after feed p gives = head_at_is text ∙ ap head_from feed ∙ ap head_after p ∙ ap (head_with after) gives
 given_after (Err fault) text rest piece after feed p (inl memory) = inr (inr memory)
 given_after (Err fault) text rest piece after feed p (inr lines) = inl (head_at_is text ∙ ap head_from feed ∙ ap head_after p ∙ ap (head_with after) lines)
 
+-- the header was taken, and its head given
 pub pam_found : (old now : PamScanner) (result : Result Header InputFault) (text rest after : List ℕ) → IsPamAfter old [] → HeadOfFields now.fields result → line_feed_item text ≡ Ok rest
     → Scans pam_item header_end (IsPamAfter old) (IsPamWhole now) (Ok tt) rest after → Finds (λ (head : Header). head) pam_head_at result text after
 pam_found old now result text rest after fresh gives feed scans =
     let s = scans [] fresh in
     given_after result text rest s.0 after feed s.2 (gives (ended_lines s.0) s.1)
 
+-- its fault is none of the reader's
 pub pam_of_text : (old now : PamScanner) (result : Result Header InputFault) (rest after : List ℕ) → IsPamAfter old [] → HeadOfFields now.fields result → Scans pam_item header_end (IsPamAfter old) (IsPamWhole now) (Ok tt) rest after
     → result ≡ Err ReadFailed → ⊥
 pam_of_text old now result rest after fresh gives scans = let s = scans [] fresh in lines_of_text (ended_lines s.0) result (gives (ended_lines s.0) s.1)

@@ -5,9 +5,13 @@
 mod answers;
 mod headers;
 mod limits;
+mod pam;
+mod pam_faults;
+mod pam_limits;
 mod rasters;
 mod readers;
 mod rows;
 mod slow;
+mod streams;
 mod sweeps;
 mod texts;

@@ -9,8 +9,10 @@ use std::test::Fail;
 /// An answer of a source.
 #[derive(Clone, Copy, Debug)]
 pub enum Answer<'a> {
-    /// The head of an image: its kind, its width, its height and its maxval.
+    /// The head of an image that isn't PAM: its kind, its width, its height and its maxval.
     Begin(Kind, u32, u32, u32),
+    /// The head of a PAM image: its width, its height, its depth, its maxval and its tuple type.
+    Pam(u32, u32, u32, u32, &'a [u8]),
     Row(&'a [u16]),
     ImageEnd,
     StreamEnd,
@@ -19,6 +21,10 @@ pub enum Answer<'a> {
 
 /// An input, and all that a source answers to it.
 pub type Case<'a> = (&'a [u8], &'a [Answer<'a>]);
+
+/// An input, and what a source answers to its cuts: a list goes for all lengths from its own
+/// through the one before the next list's.
+pub type Cuts<'a> = (&'a [u8], &'a [(usize, &'a [Answer<'a>])]);
 
 impl Answer<'_> {
     /// Whether a source that answered so gave this answer.
@@ -33,6 +39,19 @@ impl Answer<'_> {
                     maxval: *maxval,
                 };
                 head.shape() == shape && head.tuple_type().is_empty()
+            }
+            (
+                Answer::Pam(width, height, depth, maxval, tuple_type),
+                Ok(Some(Message::Begin(head))),
+            ) => {
+                let shape = Shape {
+                    kind: Kind::Pam,
+                    width: *width,
+                    height: *height,
+                    depth: *depth,
+                    maxval: *maxval,
+                };
+                head.shape() == shape && head.tuple_type() == *tuple_type
             }
             (Answer::Row(samples), Ok(Some(Message::Row(row)))) => row.as_slice() == *samples,
             (Answer::ImageEnd, Ok(Some(Message::ImageEnd))) => true,
@@ -82,6 +101,18 @@ pub fn answers_all(rt: &impl Abort, alloc: Global, cases: &[Case<'_>]) -> Result
     for (input, wants) in cases {
         let mut source = Source::new(alloc, Device::new(*input))?;
         answers(rt, &mut source, wants, input);
+    }
+    Ok(())
+}
+
+/// Each cut of each input gets its answers.
+pub fn answers_each_cut(rt: &impl Abort, alloc: Global, inputs: &[Cuts<'_>]) -> Result<(), Fail> {
+    for (input, cuts) in inputs {
+        for length in 0..=input.len() {
+            let wants = cuts.iter().rev().find(|(from, _)| *from <= length);
+            let (_, wants) = wants.ok_or("no answers")?;
+            answers_all(rt, alloc, &[(&input[..length], *wants)])?;
+        }
     }
     Ok(())
 }

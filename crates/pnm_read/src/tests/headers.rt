@@ -168,22 +168,3 @@ fn reads_headers(rt: HostRuntime) -> Result<(), Fail> {
     answers_all(&rt, rt.alloc(), WRONG_BYTES)?;
     answers_all(&rt, rt.alloc(), WRONG_NUMBERS)
 }
-
-/// While one image alone is read, `P7` is no magic, and no byte comes after a raw raster.
-#[test]
-fn reads_one_image(rt: HostRuntime) -> Result<(), Fail> {
-    let after = &[Begin(Gray, 1, 1, 9), Row(&[5]), ImageEnd, Fault(BadMagic)];
-    answers_all(
-        &rt,
-        rt.alloc(),
-        &[
-            (b"P7\nENDHDR\n", &[Fault(BadMagic)]),
-            (b"P5 1 1 9\n\x05P", after),
-            (b"P5 1 1 9\n\x05P5 1 1 9\n\x05", after),
-            (b"P5 1 1 9\n\x05\n", after),
-            (b"P5 1 1 9\n\x05 ", after),
-            (b"P5 1 1 9\n\x05#", after),
-            (b"P5 1 1 9\r\x05\x05", after),
-        ],
-    )
-}

@@ -14,7 +14,7 @@ use std::process::Abort;
 use std::test::Fail;
 
 /// A front, a byte so many times over, a back, and what a source answers to the whole.
-type LongCase<'a> = (&'a [u8], u8, usize, &'a [u8], &'a [Answer<'a>]);
+pub type LongCase<'a> = (&'a [u8], u8, usize, &'a [u8], &'a [Answer<'a>]);
 
 const BLACK: &[Answer<'static>] = &[Begin(Bit, 1, 1, 1), Row(&[0]), ImageEnd, StreamEnd];
 
@@ -70,6 +70,46 @@ const HEADERS: &[LongCase<'static>] = &[
     (b"P5 1 1 ", b'9', 60_000, b"\n\x05", &[Fault(BadMaxval)]),
     (b"P5 ", b'9', 70_000, b" 1 9\n\x05", &[Fault(TooLong)]),
     (b"P5 ", b'0', 70_000, b"1 1 9\n\x05", &[Fault(TooLong)]),
+];
+
+/// The header of a later image is counted from its own magic.
+const LATER_HEADERS: &[LongCase<'static>] = &[
+    (
+        b"P5 1 1 9\n\x05P5",
+        b' ',
+        65_528,
+        b"1 1 9\n\x05",
+        &[
+            Begin(Gray, 1, 1, 9),
+            Row(&[5]),
+            ImageEnd,
+            Begin(Gray, 1, 1, 9),
+            Row(&[5]),
+            ImageEnd,
+            StreamEnd,
+        ],
+    ),
+    (
+        b"P5 1 1 9\n\x05P5",
+        b' ',
+        65_529,
+        b"1 1 9\n\x05",
+        &[Begin(Gray, 1, 1, 9), Row(&[5]), ImageEnd, Fault(TooLong)],
+    ),
+    (
+        b"P5 1 1 9\n\x05P7\n",
+        b'\n',
+        65_533,
+        b"",
+        &[Begin(Gray, 1, 1, 9), Row(&[5]), ImageEnd, Fault(HeaderCut)],
+    ),
+    (
+        b"P5 1 1 9\n\x05P7\n",
+        b'\n',
+        65_534,
+        b"",
+        &[Begin(Gray, 1, 1, 9), Row(&[5]), ImageEnd, Fault(TooLong)],
+    ),
 ];
 
 /// A pixel of a plain bitmap comes within 1,048,576 bytes after the one before it or the header.
@@ -195,7 +235,7 @@ fn padded(
     Ok(text)
 }
 
-fn answers_long(rt: &impl Abort, alloc: Global, cases: &[LongCase<'_>]) -> Result<(), Fail> {
+pub fn answers_long(rt: &impl Abort, alloc: Global, cases: &[LongCase<'_>]) -> Result<(), Fail> {
     for (front, byte, count, back, wants) in cases {
         let input = padded(alloc, front, *byte, *count, back)?;
         let mut source = Source::new(alloc, Device::new(input.as_slice()))?;
@@ -206,7 +246,8 @@ fn answers_long(rt: &impl Abort, alloc: Global, cases: &[LongCase<'_>]) -> Resul
 
 #[test]
 fn limits_headers(rt: HostRuntime) -> Result<(), Fail> {
-    answers_long(&rt, rt.alloc(), HEADERS)
+    answers_long(&rt, rt.alloc(), HEADERS)?;
+    answers_long(&rt, rt.alloc(), LATER_HEADERS)
 }
 
 #[test]

@@ -2,7 +2,7 @@
 
 use super::answers::Answer::{Begin, Fault, ImageEnd, Row, StreamEnd};
 use super::answers::{Case, answers};
-use super::{headers, rasters, rows};
+use super::{headers, pam, pam_faults, rasters, rows, streams};
 use crate::{InputFault, Source};
 use pnm_image::Device;
 use pnm_image::Kind::Gray;
@@ -65,6 +65,12 @@ fn reads_in_pieces(rt: HostRuntime) -> Result<(), Fail> {
         rasters::BYTES,
         rasters::PIXELS,
         rasters::NUMBERS,
+        pam::SPELLINGS,
+        pam::TYPES,
+        pam::RASTERS,
+        pam_faults::WRONG_FIELDS,
+        streams::AFTER_RAW,
+        streams::AFTER_PLAIN,
     ] {
         answers_in_pieces(&rt, rt.alloc(), table)?;
     }
@@ -100,27 +106,48 @@ fn reads_long_rasters_in_pieces(rt: HostRuntime) -> Result<(), Fail> {
     Ok(())
 }
 
+/// The answers where this read fails, or none where it is 0, and how many reads are made then.
+fn answers_where_failing(
+    rt: &impl Abort,
+    alloc: Global,
+    (input, wants): Case<'_>,
+    most: usize,
+    failing: usize,
+) -> Result<(), Fail> {
+    let mut drips = Drips {
+        rest: input,
+        most,
+        reads: 0,
+        failing,
+    };
+    let mut source = Source::new(alloc, Device::new(&mut drips))?;
+    if failing == 0 {
+        answers(rt, &mut source, wants, input);
+    } else {
+        answers(rt, &mut source, &[Fault(InputFault::ReadFailed)], input);
+    }
+    let _ = source.into_reader();
+    let all = input.len().div_ceil(most).saturating_add(1);
+    let reads = if failing == 0 { all } else { failing };
+    assert_eq!(rt; drips.reads, reads, "{most} bytes a read");
+    Ok(())
+}
+
 /// The first `next` answers a read that fails, whichever it is and whatever came before it: it
 /// reads the whole input. That stays the answer, and the reader isn't called again.
 #[test]
 fn answers_a_failed_read(rt: HostRuntime) -> Result<(), Fail> {
-    for (most, all) in [(1, 14), (5, 4), (4097, 2)] {
-        for failing in 0..=all {
-            let mut drips = Drips {
-                rest: rows::TWO_GRAYS,
-                most,
-                reads: 0,
-                failing,
-            };
-            let mut source = Source::new(rt.alloc(), Device::new(&mut drips))?;
-            let (wants, reads) = if failing == 0 {
-                (rows::TWO_GRAYS_ANSWERS, all)
-            } else {
-                ([Fault(InputFault::ReadFailed)].as_slice(), failing)
-            };
-            answers(&rt, &mut source, wants, rows::TWO_GRAYS);
-            let _ = source.into_reader();
-            assert_eq!(rt; drips.reads, reads, "{most} bytes a read");
+    for (input, wants) in [
+        (rows::TWO_GRAYS, rows::TWO_GRAYS_ANSWERS),
+        (rows::TWO_IMAGES, rows::TWO_IMAGES_ANSWERS),
+        (rows::TWO_TYPES, rows::TWO_TYPES_ANSWERS),
+    ] {
+        for most in [1, 5, 4097] {
+            // The last read sees the end.
+            let all = input.len().div_ceil(most).saturating_add(1);
+            for failing in 0..=all {
+                answers_where_failing(&rt, rt.alloc(), (input, wants), most, failing)?;
+            }
         }
     }
     for input in [b"X".as_slice(), b"P5 0 1 9\n", b"P2 1 1 9 10 "] {

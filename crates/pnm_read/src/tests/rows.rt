@@ -1,10 +1,10 @@
 //! Worked examples, whole and cut.
 
-use super::answers::Answer::{Begin, Fault, ImageEnd, Row, StreamEnd};
-use super::answers::{Answer, Case, answers_all};
+use super::answers::Answer::{Begin, Fault, ImageEnd, Pam, Row, StreamEnd};
+use super::answers::{Answer, Case, Cuts, answers_all, answers_each_cut};
 use crate::InputFault::{
-    BadMagic, BadMaxval, BadNumber, BadSample, EmptyInput, HeaderCut, RasterCut, SampleAboveMaxval,
-    TooLarge, ZeroSize,
+    BadMagic, BadMaxval, BadNumber, BadPamLine, BadSample, DuplicateField, EmptyInput, HeaderCut,
+    MissingField, PlainInStream, RasterCut, SampleAboveMaxval, TooLarge, ZeroSize,
 };
 use pnm_image::Kind::{Bit, Color, Gray};
 use std::test::Fail;
@@ -25,7 +25,31 @@ const PLAIN_BITS: &[u8] = b"P1\n# j\n3 2\n101\n010\n";
 /// A plain image of one pixel, without a line's end after it.
 const PLAIN_COLOR: &[u8] = b"P3 1 1 255 10 20 30";
 
-/// Images that are whole.
+/// A map of grays and then one of colors.
+pub const TWO_IMAGES: &[u8] = b"P5\n2 1\n9\n\x01\x02P6\n1 1\n9\n\x03\x04\x05";
+
+pub const TWO_IMAGES_ANSWERS: &[Answer<'static>] = &[
+    Begin(Gray, 2, 1, 9),
+    Row(&[1, 2]),
+    ImageEnd,
+    Begin(Color, 1, 1, 9),
+    Row(&[3, 4, 5]),
+    ImageEnd,
+    StreamEnd,
+];
+
+/// A PAM image whose tuple type is spelled by two lines.
+pub const TWO_TYPES: &[u8] =
+    b"P7\n# c\nTUPLTYPE A\nDEPTH 1\n\nMAXVAL 1\nTUPLTYPE  B \nWIDTH 1\nHEIGHT 1\nENDHDR\n\x01";
+
+pub const TWO_TYPES_ANSWERS: &[Answer<'static>] = &[
+    Pam(1, 1, 1, 1, b"A B"),
+    Row(&[1]),
+    ImageEnd,
+    StreamEnd,
+];
+
+/// Streams of images that are whole.
 pub const WHOLE: &[Case<'static>] = &[
     (TWO_GRAYS, TWO_GRAYS_ANSWERS),
     (
@@ -115,6 +139,20 @@ pub const WHOLE: &[Case<'static>] = &[
         b"P4\n2 1\n\x40",
         &[Begin(Bit, 2, 1, 1), Row(&[1, 0]), ImageEnd, StreamEnd],
     ),
+    (TWO_IMAGES, TWO_IMAGES_ANSWERS),
+    (
+        b"P5\n2 1\n9\n\x01\x02P5\n1 1\n9\n\x03",
+        &[
+            Begin(Gray, 2, 1, 9),
+            Row(&[1, 2]),
+            ImageEnd,
+            Begin(Gray, 1, 1, 9),
+            Row(&[3]),
+            ImageEnd,
+            StreamEnd,
+        ],
+    ),
+    (TWO_TYPES, TWO_TYPES_ANSWERS),
 ];
 
 /// Inputs that are at fault.
@@ -158,11 +196,46 @@ pub const FAULTY: &[Case<'static>] = &[
         b"P4 1 1\n\x00\x00",
         &[Begin(Bit, 1, 1, 1), Row(&[1]), ImageEnd, Fault(BadMagic)],
     ),
+    (
+        b"P5\n1 1\n9\n\x03XX",
+        &[Begin(Gray, 1, 1, 9), Row(&[3]), ImageEnd, Fault(BadMagic)],
+    ),
+    (
+        b"P4 1 1\n\x00P1 1 1 0",
+        &[
+            Begin(Bit, 1, 1, 1),
+            Row(&[1]),
+            ImageEnd,
+            Fault(PlainInStream),
+        ],
+    ),
+    (b"P7 \n", &[Fault(BadPamLine)]),
+    (b"P7\nFOO 1\n", &[Fault(BadPamLine)]),
+    (b"P7\nWIDTH\n", &[Fault(BadPamLine)]),
+    (b"P7\nWIDTH x\n", &[Fault(BadNumber)]),
+    (b"P7\nWIDTH 1", &[Fault(HeaderCut)]),
+    (b"P7\nENDHDR\n", &[Fault(MissingField)]),
+    (
+        b"P7\nWIDTH 1\nHEIGHT 1\nDEPTH 0\nMAXVAL 0\nENDHDR\n",
+        &[Fault(ZeroSize)],
+    ),
+    (
+        b"P7\nWIDTH 1\nHEIGHT 1\nDEPTH 257\nMAXVAL 0\nENDHDR\n",
+        &[Fault(TooLarge)],
+    ),
+    (
+        b"P7\nWIDTH 1\nHEIGHT 1\nDEPTH 1\nMAXVAL 0\nENDHDR\n",
+        &[Fault(BadMaxval)],
+    ),
+    (
+        b"P7\n# c\nTUPLTYPE A\n\nMAXVAL 1\nTUPLTYPE  B \nWIDTH 1\nHEIGHT 1\nENDHDR\n\x01",
+        &[Fault(MissingField)],
+    ),
+    (
+        b"P7\n# c\nTUPLTYPE A\nDEPTH 1\n\nMAXVAL 1\nTUPLTYPE  B \nWIDTH 1\nHEIGHT 1\nWIDTH 1\nENDHDR\n\x01",
+        &[Fault(DuplicateField)],
+    ),
 ];
-
-/// An image, and what a source answers to its cuts: a list goes for all lengths from its own
-/// through the one before the next list's.
-type Cuts<'a> = (&'a [u8], &'a [(usize, &'a [Answer<'a>])]);
 
 const CUTS: &[Cuts<'static>] = &[
     (
@@ -222,6 +295,47 @@ const CUTS: &[Cuts<'static>] = &[
             ),
         ],
     ),
+    (
+        TWO_IMAGES,
+        &[
+            (0, &[Fault(EmptyInput)]),
+            (1, &[Fault(HeaderCut)]),
+            (9, &[Begin(Gray, 2, 1, 9), Fault(RasterCut)]),
+            (
+                11,
+                &[Begin(Gray, 2, 1, 9), Row(&[1, 2]), ImageEnd, StreamEnd],
+            ),
+            (
+                12,
+                &[
+                    Begin(Gray, 2, 1, 9),
+                    Row(&[1, 2]),
+                    ImageEnd,
+                    Fault(HeaderCut),
+                ],
+            ),
+            (
+                20,
+                &[
+                    Begin(Gray, 2, 1, 9),
+                    Row(&[1, 2]),
+                    ImageEnd,
+                    Begin(Color, 1, 1, 9),
+                    Fault(RasterCut),
+                ],
+            ),
+            (23, TWO_IMAGES_ANSWERS),
+        ],
+    ),
+    (
+        TWO_TYPES,
+        &[
+            (0, &[Fault(EmptyInput)]),
+            (1, &[Fault(HeaderCut)]),
+            (73, &[Pam(1, 1, 1, 1, b"A B"), Fault(RasterCut)]),
+            (74, TWO_TYPES_ANSWERS),
+        ],
+    ),
 ];
 
 #[test]
@@ -232,12 +346,5 @@ fn answers_examples(rt: HostRuntime) -> Result<(), Fail> {
 
 #[test]
 fn answers_cuts(rt: HostRuntime) -> Result<(), Fail> {
-    for (image, cuts) in CUTS {
-        for length in 0..=image.len() {
-            let wants = cuts.iter().rev().find(|(from, _)| *from <= length);
-            let (_, wants) = wants.ok_or("no answers")?;
-            answers_all(&rt, rt.alloc(), &[(&image[..length], *wants)])?;
-        }
-    }
-    Ok(())
+    answers_each_cut(&rt, rt.alloc(), CUTS)
 }

@@ -1,12 +1,15 @@
-//! What a short text says as an image, worked out byte by byte from the formats' description. The
-//! limits on lengths are left out.
+//! What a short text says as a stream of images, worked out byte by byte from the formats'
+//! description. The limits on the lengths of headers and gaps are left out.
+
+mod pam;
 
 use super::answers::Answer;
 use crate::InputFault;
 use pnm_image::{Kind, Shape};
 use std::alloc::{AllocError, Global};
 
-/// What a byte is, where it stands after the magic and isn't a raw raster's.
+/// What a byte is, where it stands in a header of PBM, PGM or PPM after the magic, or in a plain
+/// raster.
 #[derive(Clone, Copy, Debug, PartialEq, Eq)]
 enum Letter {
     /// A part of a comment, which goes from a `#` through the next CR or LF.
@@ -20,65 +23,149 @@ enum Letter {
 /// A byte of a text.
 type Mark = (u8, Letter);
 
+/// What a header says.
+#[derive(Debug, Drop)]
+struct SaidHead {
+    shape: Shape,
+    /// It is empty where the image isn't PAM.
+    tuple_type: Vec<u8>,
+    /// The bytes of the header, from the magic on.
+    length: usize,
+}
+
+/// What an image says, of which the last rows may be missing.
+#[derive(Debug, Drop)]
+struct SaidImage {
+    shape: Shape,
+    tuple_type: Vec<u8>,
+    /// The samples of the rows that are given, row after row.
+    samples: Vec<u16>,
+}
+
 /// What a text says.
 #[derive(Debug, Drop)]
 pub struct Said {
-    /// The image's shape, where the header is good.
-    shape: Option<Shape>,
-    /// The samples of the rows that are given, row after row.
-    samples: Vec<u16>,
+    images: Vec<SaidImage>,
     fault: Option<InputFault>,
 }
 
 impl Said {
     pub fn of(alloc: Global, text: &[u8]) -> Result<Said, AllocError> {
-        let marks = marks(alloc, text)?;
         let mut said = Said {
-            shape: None,
-            samples: Vec::new(alloc),
+            images: Vec::new(alloc),
             fault: None,
         };
-        match head(marks.as_slice()) {
-            Ok((shape, raster)) => {
-                said.shape = Some(shape);
-                said.fault = if matches!(text.get(1), Some(b'1'..=b'3')) {
-                    plain_raster(raster, shape, &mut said.samples)?
-                } else {
-                    raw_raster(raster, shape, &mut said.samples)?
-                };
+        let mut rest = text;
+        // No text has more images than bytes.
+        for _ in 0..=text.len() {
+            if rest.is_empty() && !said.images.is_empty() {
+                break;
             }
-            Err(fault) => said.fault = Some(fault),
+            match said.add_image(alloc, rest)? {
+                Some(after) => rest = after,
+                None => break,
+            }
         }
         Ok(said)
+    }
+
+    /// Adds the image that a text begins with. Answers what follows it; none where that is ignored,
+    /// or after a fault.
+    fn add_image<'a>(
+        &mut self,
+        alloc: Global,
+        text: &'a [u8],
+    ) -> Result<Option<&'a [u8]>, AllocError> {
+        let (kind, is_plain) = match magic(text, self.images.is_empty()) {
+            Ok(format) => format,
+            Err(fault) => return Ok(self.stop(fault)),
+        };
+        let found = if kind == Kind::Pam {
+            pam::head(alloc, text)?
+        } else {
+            pnm_head(alloc, kind, text)?
+        };
+        let SaidHead {
+            shape,
+            tuple_type,
+            length,
+        } = match found {
+            Ok(head) => head,
+            Err(fault) => return Ok(self.stop(fault)),
+        };
+        let raster = back(text, length);
+        let mut samples = Vec::new(alloc);
+        let end = if is_plain {
+            let marks = marks(alloc, raster)?;
+            plain_raster(marks.as_slice(), shape, &mut samples)?
+        } else {
+            raw_raster(raster, shape, &mut samples)?
+        };
+        self.images.push(SaidImage {
+            shape,
+            tuple_type,
+            samples,
+        })?;
+        Ok(match end {
+            Ok(_) if is_plain => None,
+            Ok(used) => Some(back(raster, used)),
+            Err(fault) => self.stop(fault),
+        })
+    }
+
+    /// Takes a fault. Nothing that follows is said.
+    fn stop<'a>(&mut self, fault: InputFault) -> Option<&'a [u8]> {
+        self.fault = Some(fault);
+        None
     }
 
     /// What a source answers to the text.
     pub fn answers(&self, alloc: Global) -> Result<Vec<Answer<'_>>, AllocError> {
         let mut answers = Vec::new(alloc);
-        if let Some(shape) = self.shape {
-            let Shape {
-                kind,
-                width,
-                height,
-                depth: _,
-                maxval,
-            } = shape;
-            answers.push(Answer::Begin(kind, width, height, maxval))?;
-            let length = (shape.row_length() as usize).max(1);
-            let mut rows = 0u32;
-            for row in self.samples.as_slice().chunks(length) {
-                answers.push(Answer::Row(row))?;
-                rows = rows.saturating_add(1);
-            }
-            if rows == height {
-                answers.push(Answer::ImageEnd)?;
-            }
+        for image in self.images.as_slice() {
+            image.add_answers(&mut answers)?;
         }
         answers.push(match self.fault {
             Some(fault) => Answer::Fault(fault),
             None => Answer::StreamEnd,
         })?;
         Ok(answers)
+    }
+}
+
+impl SaidImage {
+    fn add_answers<'a>(&'a self, answers: &mut Vec<Answer<'a>>) -> Result<(), AllocError> {
+        let Shape {
+            kind,
+            width,
+            height,
+            depth,
+            maxval,
+        } = self.shape;
+        answers.push(if kind == Kind::Pam {
+            Answer::Pam(width, height, depth, maxval, self.tuple_type.as_slice())
+        } else {
+            Answer::Begin(kind, width, height, maxval)
+        })?;
+        let length = (self.shape.row_length() as usize).max(1);
+        let mut rows = 0u32;
+        for row in self.samples.as_slice().chunks(length) {
+            answers.push(Answer::Row(row))?;
+            rows = rows.saturating_add(1);
+        }
+        if rows == height {
+            answers.push(Answer::ImageEnd)?;
+        }
+        Ok(())
+    }
+}
+
+/// The text after so many bytes.
+fn back(text: &[u8], count: usize) -> &[u8] {
+    if count <= text.len() {
+        &text[count..]
+    } else {
+        &[]
     }
 }
 
@@ -110,56 +197,94 @@ fn is_commented(front: &[u8]) -> bool {
     }
 }
 
-/// The shape that a text says, and the raster with all that follows.
-fn head(text: &[Mark]) -> Result<(Shape, &[Mark]), InputFault> {
-    let (first, digit, header) = match text {
-        [] => return Err(InputFault::EmptyInput),
-        [(first, _)] => (*first, 0, text),
-        [(first, _), (digit, _), header @ ..] => (*first, *digit, header),
+/// The kind that the magic names, and whether the image is plain.
+fn magic(text: &[u8], is_first: bool) -> Result<(Kind, bool), InputFault> {
+    let Some(first) = text.first() else {
+        return Err(InputFault::EmptyInput);
     };
-    if first != b'P' {
+    if *first != b'P' {
         return Err(InputFault::BadMagic);
     }
-    if text.len() == 1 {
+    let Some(second) = text.get(1) else {
         return Err(InputFault::HeaderCut);
-    }
-    let (kind, depth, count) = match digit {
-        b'1' | b'4' => (Kind::Bit, 1, 2),
-        b'2' | b'5' => (Kind::Gray, 1, 3),
-        b'3' | b'6' => (Kind::Color, 3, 3),
+    };
+    let (kind, is_plain) = match *second {
+        b'1' => (Kind::Bit, true),
+        b'2' => (Kind::Gray, true),
+        b'3' => (Kind::Color, true),
+        b'4' => (Kind::Bit, false),
+        b'5' => (Kind::Gray, false),
+        b'6' => (Kind::Color, false),
+        b'7' => (Kind::Pam, false),
         _ => return Err(InputFault::BadMagic),
     };
-    let ([width, height, third], raster) = header_numbers(header, count)?;
-    let maxval = if kind == Kind::Bit { 1 } else { third };
-    if width == 0 || height == 0 {
-        return Err(InputFault::ZeroSize);
+    if is_plain && !is_first {
+        return Err(InputFault::PlainInStream);
     }
-    if width > 1_000_000 || height > 1_000_000 {
-        return Err(InputFault::TooLarge);
-    }
-    if maxval == 0 || maxval > 65_535 {
-        return Err(InputFault::BadMaxval);
-    }
+    Ok((kind, is_plain))
+}
+
+/// The head of PBM, PGM or PPM that a text says.
+fn pnm_head(
+    alloc: Global,
+    kind: Kind,
+    text: &[u8],
+) -> Result<Result<SaidHead, InputFault>, AllocError> {
+    let marks = marks(alloc, back(text, 2))?;
+    let count = if kind == Kind::Bit { 2 } else { 3 };
+    let ([width, height, third], used) = match header_numbers(marks.as_slice(), count) {
+        Ok(found) => found,
+        Err(fault) => return Ok(Err(fault)),
+    };
     let shape = Shape {
         kind,
         width,
         height,
-        depth,
-        maxval,
+        depth: if kind == Kind::Color { 3 } else { 1 },
+        maxval: if kind == Kind::Bit { 1 } else { third },
     };
-    Ok((shape, raster))
+    Ok(match shape_fault(shape) {
+        Some(fault) => Err(fault),
+        None => Ok(SaidHead {
+            shape,
+            tuple_type: Vec::new(alloc),
+            length: used.saturating_add(2),
+        }),
+    })
 }
 
-/// The numbers of a header that has so many, and what stands after the white space that follows
-/// the last.
-fn header_numbers(text: &[Mark], count: usize) -> Result<([u32; 3], &[Mark]), InputFault> {
+/// What is wrong with the numbers of a header.
+fn shape_fault(shape: Shape) -> Option<InputFault> {
+    let Shape {
+        kind: _,
+        width,
+        height,
+        depth,
+        maxval,
+    } = shape;
+    if width == 0 || height == 0 || depth == 0 {
+        return Some(InputFault::ZeroSize);
+    }
+    let most = 1_000_000;
+    if width > most || height > most || depth > 256 || width.saturating_mul(depth) > 16_777_216 {
+        return Some(InputFault::TooLarge);
+    }
+    if maxval == 0 || maxval > 65_535 {
+        return Some(InputFault::BadMaxval);
+    }
+    None
+}
+
+/// The numbers of a header that has so many, and its bytes after the magic, through the white space
+/// that follows the last.
+fn header_numbers(text: &[Mark], count: usize) -> Result<([u32; 3], usize), InputFault> {
     for at in 0..text.len() {
         let (_, letter) = text[at];
         let (found, values) = numbers(&text[..at]);
         match letter {
             Letter::Digit(_) if at == 0 => return Err(InputFault::BadNumber),
             Letter::Other => return Err(InputFault::BadNumber),
-            Letter::White if found == count => return Ok((values, &text[at + 1..])),
+            Letter::White if found == count => return Ok((values, at + 1)),
             Letter::Comment | Letter::Digit(_) | Letter::White => {}
         }
     }
@@ -193,13 +318,12 @@ fn spelled(value: u32, digit: u8) -> u32 {
     value.saturating_mul(10).saturating_add(u32::from(digit))
 }
 
-/// Adds the samples of the rows that are given. Answers the fault of the raster, or of the byte
-/// after it.
+/// Adds the samples of the rows that are given. Answers the bytes of the raster, or its fault.
 fn raw_raster(
-    raster: &[Mark],
+    raster: &[u8],
     shape: Shape,
     samples: &mut Vec<u16>,
-) -> Result<Option<InputFault>, AllocError> {
+) -> Result<Result<usize, InputFault>, AllocError> {
     let mut rest = raster;
     for _ in 0..shape.height {
         let given = samples.len();
@@ -211,28 +335,25 @@ fn raw_raster(
                 }
                 Err(fault) => {
                     samples.truncate(given);
-                    return Ok(Some(fault));
+                    return Ok(Err(fault));
                 }
             }
         }
     }
-    Ok(match rest {
-        [] => None,
-        _ => Some(InputFault::BadMagic),
-    })
+    Ok(Ok(raster.len().saturating_sub(rest.len())))
 }
 
 /// A row's sample at a place, and what stands after it. A byte of eight pixels is left with the
 /// last of them, or with the row's last.
-fn raw_sample(raster: &[Mark], shape: Shape, x: u64) -> Result<(u16, &[Mark]), InputFault> {
+fn raw_sample(raster: &[u8], shape: Shape, x: u64) -> Result<(u16, &[u8]), InputFault> {
     let (sample, rest) = match raster {
-        [(byte, _), others @ ..] if shape.kind == Kind::Bit => {
+        [byte, others @ ..] if shape.kind == Kind::Bit => {
             let is_black = (byte >> (7 - x % 8)) & 1 == 1;
             let is_left = x % 8 == 7 || x.saturating_add(1) == shape.row_length();
             (u16::from(!is_black), if is_left { others } else { raster })
         }
-        [(byte, _), others @ ..] if shape.maxval < 256 => (u16::from(*byte), others),
-        [(high, _), (low, _), others @ ..] => { (u16::from(*high) * 256 + u16::from(*low), others) }
+        [byte, others @ ..] if shape.maxval < 256 => (u16::from(*byte), others),
+        [high, low, others @ ..] => (u16::from(*high) * 256 + u16::from(*low), others),
         _ => return Err(InputFault::RasterCut),
     };
     if u32::from(sample) > shape.maxval {
@@ -241,13 +362,13 @@ fn raw_sample(raster: &[Mark], shape: Shape, x: u64) -> Result<(u16, &[Mark]), I
     Ok((sample, rest))
 }
 
-/// Adds the samples of the rows that are given. Answers the fault of the raster, or of the byte
-/// after it.
+/// Adds the samples of the rows that are given. Answers the bytes of the raster, or the fault of it
+/// or of the byte after it.
 fn plain_raster(
     raster: &[Mark],
     shape: Shape,
     samples: &mut Vec<u16>,
-) -> Result<Option<InputFault>, AllocError> {
+) -> Result<Result<usize, InputFault>, AllocError> {
     let mut rest = raster;
     let mut given = 0;
     for _ in 0..shape.height {
@@ -260,17 +381,19 @@ fn plain_raster(
                 }
                 Err(fault) => {
                     samples.truncate(given);
-                    return Ok(Some(fault));
+                    return Ok(Err(fault));
                 }
             }
         }
     }
     Ok(match rest {
-        [] | [(_, Letter::White | Letter::Comment), ..] => None,
+        [] | [(_, Letter::White | Letter::Comment), ..] => {
+            Ok(raster.len().saturating_sub(rest.len()))
+        }
         [(_, Letter::Digit(_) | Letter::Other), ..] => {
             // The last row is given after the byte that follows it.
             samples.truncate(given);
-            Some(InputFault::BadSample)
+            Err(InputFault::BadSample)
         }
     })
 }

@@ -3,14 +3,14 @@
 
 use super::answers::answers;
 use super::slow::Said;
-use super::{headers, rasters, rows};
+use super::{headers, pam, pam_faults, rasters, rows, streams};
 use crate::Source;
 use pnm_image::Device;
-use std::alloc::Global;
+use std::alloc::{AllocError, Global};
 use std::process::Abort;
 use std::test::Fail;
 
-/// Small images of all formats.
+/// Small images of all formats but PAM.
 const IMAGES: &[&[u8]] = &[
     b"P1\n# j\n3 2\n101\n010\n",
     b"P1#a\r2 #b\n#c\n1#\n 1#0\n0#1",
@@ -25,6 +25,21 @@ const IMAGES: &[&[u8]] = &[
     b"P5 1#x\n0 1 255\nABCDEFGHIJ",
     b"P6\n1 2\n99\n!#c\n A",
     b"P6 1 1 65535\n\xff\xff\x00\x00\x12\x34",
+];
+
+/// A small PAM image, and streams of several images.
+const STREAMS: &[&[u8]] = &[
+    b"P7\nWIDTH 2\nHEIGHT 1\nDEPTH 1\nMAXVAL 9\nTUPLTYPE A\nENDHDR\n\x05\x06",
+    b"P5\n2 1\n9\n\x01\x02P6\n1 1\n9\n\x03\x04\x05",
+    b"P4 9 1\n\x00\x80P5#\n1 1 300\n\x01\x00P4 1 1\n\x80",
+    b"P7\nWIDTH 1\nMAXVAL 1\nHEIGHT 1\nDEPTH 1\nENDHDR\n\x01P4 1 1\n\x80P5 1 1 9\n\x05",
+    b"P2 1 1 9 5\nP5 1 1 9\n\x05",
+];
+
+/// PAM images whose headers have lines of all kinds.
+const LINES: &[&[u8]] = &[
+    b"P7\n#\n\rDEPTH 2 x\nTUPLTYPE\nWIDTH\t1\nTUPLTYPE B\tC\r\nMAXVAL 256\nHEIGHT 01\n\nTUPLTYPE #\nENDHDR\r\n\x01\x00\x00\x07",
+    b"P7\nWIDTH 1\nHEIGHT 1\nDEPTH 1\nMAXVAL 9\nWIDTH 1\nENDHDR\n\x05",
 ];
 
 /// Bytes that mean something, and bytes beside them.
@@ -70,6 +85,14 @@ fn agrees_on_examples(rt: HostRuntime) -> Result<(), Fail> {
         rasters::BYTES,
         rasters::PIXELS,
         rasters::NUMBERS,
+        pam::SPELLINGS,
+        pam::TYPES,
+        pam::RASTERS,
+        pam_faults::WRONG_LINES,
+        pam_faults::WRONG_FIELDS,
+        pam_faults::WRONG_NUMBERS,
+        streams::AFTER_RAW,
+        streams::AFTER_PLAIN,
     ] {
         for (input, _) in table {
             agrees(&rt, rt.alloc(), input)?;
@@ -78,38 +101,63 @@ fn agrees_on_examples(rt: HostRuntime) -> Result<(), Fail> {
     Ok(())
 }
 
-#[test]
-fn agrees_on_cuts(rt: HostRuntime) -> Result<(), Fail> {
-    for image in IMAGES {
-        for length in 0..=image.len() {
-            agrees(&rt, rt.alloc(), &image[..length])?;
+/// The two say the same of each text with each of these bytes in the place of another.
+fn agrees_with_changes(
+    rt: &impl Abort,
+    alloc: Global,
+    bytes: &[u8],
+    texts: &[&[u8]],
+) -> Result<(), Fail> {
+    for text in texts {
+        for at in 0..text.len() {
+            agrees_with_each(rt, alloc, bytes, &text[..at], &text[at + 1..])?;
         }
     }
     Ok(())
 }
 
-/// Each byte is put in the place of another.
-#[test]
-fn agrees_on_changes(rt: HostRuntime) -> Result<(), Fail> {
-    let mut every = Vec::new(rt.alloc());
+/// All bytes.
+fn every_byte(alloc: Global) -> Result<Vec<u8>, AllocError> {
+    let mut every = Vec::new(alloc);
     for byte in 0..=u8::MAX {
         every.push(byte)?;
     }
-    for image in IMAGES {
-        for at in 0..image.len() {
-            let (front, back) = (&image[..at], &image[at + 1..]);
-            agrees_with_each(&rt, rt.alloc(), every.as_slice(), front, back)?;
+    Ok(every)
+}
+
+#[test]
+fn agrees_on_cuts(rt: HostRuntime) -> Result<(), Fail> {
+    for texts in [IMAGES, STREAMS, LINES] {
+        for text in texts {
+            for length in 0..=text.len() {
+                agrees(&rt, rt.alloc(), &text[..length])?;
+            }
         }
     }
     Ok(())
+}
+
+#[test]
+fn agrees_on_changed_images(rt: HostRuntime) -> Result<(), Fail> {
+    let every = every_byte(rt.alloc())?;
+    agrees_with_changes(&rt, rt.alloc(), every.as_slice(), IMAGES)
+}
+
+#[test]
+fn agrees_on_changed_streams(rt: HostRuntime) -> Result<(), Fail> {
+    let every = every_byte(rt.alloc())?;
+    agrees_with_changes(&rt, rt.alloc(), every.as_slice(), STREAMS)?;
+    agrees_with_changes(&rt, rt.alloc(), TELLING, LINES)
 }
 
 /// A telling byte is put between two others.
 #[test]
 fn agrees_on_insertions(rt: HostRuntime) -> Result<(), Fail> {
-    for image in IMAGES {
-        for at in 0..=image.len() {
-            agrees_with_each(&rt, rt.alloc(), TELLING, &image[..at], &image[at..])?;
+    for texts in [IMAGES, STREAMS, LINES] {
+        for text in texts {
+            for at in 0..=text.len() {
+                agrees_with_each(&rt, rt.alloc(), TELLING, &text[..at], &text[at..])?;
+            }
         }
     }
     Ok(())

@@ -1,5 +1,5 @@
-use Rattle.std.proofs.Common.{rules, arith, inl, inr, sym, ◌∙◌}
-use Rattle.pnm_read.proofs.LineSteps.{split_first, split_more, split_token_is, split_rest_is, IsTokenEnd}
+use Rattle.std.proofs.Common.{inl, inr, sym, ◌∙◌}
+use Rattle.pnm_read.proofs.LineSteps.{split_more, split_token_is, split_rest_is, IsTokenEnd}
 use Rattle.pnm_read.proofs.line.split_token.Goals as goal
 use Rattle.pnm_read.proofs.line.split_token.Goals.{then-loop-length-test+else-not-is_blank, else-loop-length-test}
 
