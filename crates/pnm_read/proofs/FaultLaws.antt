@@ -1,5 +1,5 @@
 -- What a text's fault can be: neither a failed read nor want of memory.
-use Rattle.std.proofs.Common.{◌≡◌, ℕ, zero, suc, ◌*◌, ◌+◌, Bool, true, false, not, ◌&&◌, ◌||◌, if◌then◌else◌, List, [], ◌∷◌, length, take, Option, Some, None, Result, Ok, Err, subst}
+use Rattle.std.proofs.Common.{◌≡◌, ℕ, zero, suc, ◌*◌, ◌+◌, Bool, true, false, not, ◌&&◌, ◌||◌, if◌then◌else◌, List, [], ◌∷◌, length, take, Some, None, Result, Ok, Err, subst}
 use Rattle.std.specs.Prelude.{nat_le}
 use Rattle.std.specs.List.{concat}
 use Rattle.pnm_image.specs.declared.shape.Shape.{Shape}

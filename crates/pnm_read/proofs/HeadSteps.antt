@@ -1,5 +1,5 @@
 -- The head that the numbers of a header of PBM, PGM or PPM make.
-use Rattle.std.proofs.Common.{◌≡◌, ◌⊎◌, inl, inr, ℕ, ◌+◌, ◌-◌, ◌<◌, ◌≤◌, List, [], ◌∷◌, length, map, drop, Some, None, Result, Ok, Err, refl, sym, ap, subst, ◌∙◌, arith}
+use Rattle.std.proofs.Common.{◌≡◌, ◌⊎◌, inl, inr, ℕ, ◌+◌, ◌-◌, ◌<◌, ◌≤◌, List, [], length, map, drop, Some, None, Result, Ok, Err, refl, sym, ap, subst, ◌∙◌, arith}
 use Rattle.std.specs.Prelude.{slice_index, MatchResult, IfOk, OnOk, IfErr, IsErrAnd}
 use Rattle.std.proofs.lemmas.List.{get_or-drop, get_or-map}
 use Rattle.pnm_image.specs.declared.shape.Shape.{Shape}
@@ -9,7 +9,7 @@ use Rattle.pnm_image.specs.declared.head.HeadFault.{HeadFault}
 use Rattle.pnm_image.specs.declared.head.HeadFault.TheVariants as heads
 use Rattle.pnm_image.specs.Heads.{Header, header_of, shape_fault}
 use Rattle.pnm_read.specs.declared.fault.InputFault.{InputFault}
-use Rattle.pnm_read.specs.declared.fault.InputFault.TheVariants.{ReadFailed, Memory}
+use Rattle.pnm_read.specs.declared.fault.InputFault.TheVariants.{ReadFailed}
 use Rattle.pnm_read.specs.declared.header.HeaderScanner.{HeaderScanner}
 use Rattle.pnm_read.specs.Texts.{numbers_in}
 use Rattle.pnm_read.specs.Formats.{number_count, planes, maxval_of, shape_of}

@@ -1,5 +1,5 @@
 -- What is said after a raw image: the end of the stream, or what is said of the next image.
-use Rattle.std.proofs.Common.{◌≡◌, ◌⊎◌, ℕ, zero, suc, ◌+◌, ◌<◌, ◌≤◌, Bool, true, false, not, ◌&&◌, if◌then◌else◌, List, [], ◌∷◌, ◌++◌, length, Option, Some, None, Result, Ok, Err, refl, sym, ap, subst, ◌∙◌, arith}
+use Rattle.std.proofs.Common.{◌≡◌, ℕ, zero, suc, ◌<◌, ◌≤◌, Bool, true, false, not, ◌&&◌, if◌then◌else◌, List, [], ◌∷◌, length, Option, Some, None, Result, Ok, Err, refl, sym, ap, ◌∙◌, arith}
 use Rattle.pnm_image.specs.declared.shape.Shape.{Shape}
 use Rattle.pnm_image.specs.declared.shape.Kind.{Kind}
 use Rattle.pnm_image.specs.declared.shape.Kind.TheVariants.{Bit, Gray, Color, Pam}
@@ -10,8 +10,8 @@ use Rattle.pnm_read.specs.declared.fault.InputFault.TheVariants.{BadMagic, Plain
 use Rattle.pnm_read.specs.declared.format.Format.{Format}
 use Rattle.pnm_read.specs.Formats.{format_of}
 use Rattle.pnm_read.specs.Headers.{SpellsHeaderBy, SpellsHeader}
-use Rattle.pnm_read.specs.Items.{◌>>=◌, first_magic_item, second_magic_item}
-use Rattle.pnm_read.specs.Said.{Said, then_said, says_fault, ends_stream, format_at, head_at, row_by, row_at, end_said, rows_said, head_said, format_said, image_said, later_said_in, later_said}
+use Rattle.pnm_read.specs.Items.{first_magic_item, second_magic_item}
+use Rattle.pnm_read.specs.Said.{Said, then_said, ends_stream, format_at, head_at, row_by, row_at, end_said, rows_said, head_said, format_said, image_said, later_said_in, later_said}
 use Rattle.pnm_read.proofs.HeaderLaws.{header_shorter}
 use Rattle.pnm_read.proofs.PlainLaws.{said_from}
 use Rattle.pnm_read.proofs.RawLaws.{bind_ok, raw_row_shorter}

@@ -1,12 +1,11 @@
 -- Lines of a PAM header that is read on by one byte, and what lines together have.
-use Rattle.std.proofs.Common.{◌≡◌, ◌≢◌, ℕ, ◌+◌, ◌-◌, ◌<◌, ◌≤◌, Bool, true, false, not, ◌==◌, if◌then◌else◌, List, [], ◌∷◌, ◌++◌, length, slice_index, All, refl, sym, ap, subst, ◌∙◌, append_assoc, append-nil, arith, codes}
-use Rattle.std.specs.List.{AllPass, AllByRecursion, flat_map}
+use Rattle.std.proofs.Common.{◌≡◌, ℕ, Bool, true, false, not, ◌==◌, if◌then◌else◌, List, [], ◌∷◌, ◌++◌, refl, sym, ap, ◌∙◌, append_assoc, append-nil, arith, codes}
+use Rattle.std.specs.List.{AllByRecursion, flat_map}
 use Rattle.std.proofs.lemmas.Bool.Decides.{nat_tests}
 use Rattle.std.proofs.lemmas.List.Elements.{All-push}
-use Rattle.pnm_image.specs.Heads.{is_blank, IsTupleType}
 use Rattle.pnm_read.specs.declared.line.Field.{Field}
 use Rattle.pnm_read.specs.Texts.{decimal_value}
-use Rattle.pnm_read.specs.PamLines.{ended_after, ended_lines, last_after, last_line, trimmed_start, onto_trimmed, trimmed_end, token_of, after_token, first_token, after_first, second_token, value_of, name_of, begins_with, field_values, joined_with, tuple_type_in}
+use Rattle.pnm_read.specs.PamLines.{ended_after, ended_lines, last_after, last_line, second_token, value_of, name_of, begins_with, field_values, joined_with, tuple_type_in}
 use Rattle.pnm_read.specs.Headers.{IsOneLine}
 
 -- the same choice between equal values
@@ -86,8 +85,8 @@ unfolding ended_after last_after
 text_after line [] = append-nil line
 text_after line (c ∷ text) =
     if_known (λ (lines : List (List ℕ)) (last : List ℕ). line ++ c ∷ text ≡ with_feeds lines ++ last) (c == 10)
-        (λ e. feed_after line c text (text_after [] text) e)
-        (λ e. sym (append_assoc line (c ∷ []) text) ∙ text_after (line ++ c ∷ []) text)
+    (λ e. feed_after line c text (text_after [] text) e)
+    (λ e. sym (append_assoc line (c ∷ []) text) ∙ text_after (line ++ c ∷ []) text)
 
 -- a text is its ended lines, and then its last one
 pub text_of_lines : (text : List ℕ) → text ≡ with_feeds (ended_lines text) ++ last_line text
@@ -104,7 +103,7 @@ unfolding ended_after
 ended_after-are line [] one = tt
 ended_after-are line (c ∷ text) one =
     if_known (λ (lines last : List (List ℕ)). AllByRecursion IsOneLine lines) {c = []} {d = []} (c == 10)
-        (λ e. (one, ended_after-are [] text no_byte)) (λ e. ended_after-are (line ++ c ∷ []) text (one_line-push line c one e))
+    (λ e. (one, ended_after-are [] text no_byte)) (λ e. ended_after-are (line ++ c ∷ []) text (one_line-push line c one e))
 
 last_after-is : (line text : List ℕ) → IsOneLine line → IsOneLine (last_after line text)
 unfolding last_after
@@ -126,7 +125,7 @@ unfolding field_values
 field_values-append field [] ys = refl
 field_values-append field (line ∷ xs) ys =
     if_known (λ (l m : List ℕ). l ≡ m ++ field_values field ys) (begins_with (name_of field) line)
-        (λ e. ap (λ (l : List ℕ). decimal_value (second_token line) ∷ l) (field_values-append field xs ys)) (λ e. field_values-append field xs ys)
+    (λ e. ap (λ (l : List ℕ). decimal_value (second_token line) ∷ l) (field_values-append field xs ys)) (λ e. field_values-append field xs ys)
 
 joined_with-nothing : (text : List ℕ) → joined_with text [] ≡ text
 joined_with-nothing [] = refl
@@ -144,4 +143,4 @@ unfolding tuple_type_in
 tuple_type_in-append [] ys = refl
 tuple_type_in-append (line ∷ xs) ys =
     if_known (λ (l m : List ℕ). l ≡ joined_with m (tuple_type_in ys)) (begins_with (codes "TUPLTYPE") line)
-        (λ e. ap (joined_with (value_of line)) (tuple_type_in-append xs ys) ∙ sym (joined_with-assoc (value_of line) (tuple_type_in xs) (tuple_type_in ys))) (λ e. tuple_type_in-append xs ys)
+    (λ e. ap (joined_with (value_of line)) (tuple_type_in-append xs ys) ∙ sym (joined_with-assoc (value_of line) (tuple_type_in xs) (tuple_type_in ys))) (λ e. tuple_type_in-append xs ys)

@@ -6,7 +6,7 @@ use Rattle.pnm_read.specs.declared.fault.InputFault.TheVariants.{EmptyInput, Bad
 use Rattle.pnm_read.specs.declared.format.Format.{Format}
 use Rattle.pnm_read.specs.Formats.{format_of}
 use Rattle.pnm_read.specs.Magics.{format_allowed, format_named}
-use Rattle.pnm_read.specs.Items.{◌>>=◌, first_magic_item, second_magic_item}
+use Rattle.pnm_read.specs.Items.{first_magic_item, second_magic_item}
 use Rattle.pnm_read.specs.Said.{format_at}
 use Rattle.pnm_read.specs.Inputs.{IsByte, Finds}
 

@@ -1,5 +1,5 @@
 -- The head that the lines of a PAM header make.
-use Rattle.std.proofs.Common.{◌≡◌, ◌⊎◌, inl, inr, ℕ, ◌≤◌, Bool, true, false, ◌||◌, ◌==◌, if◌then◌else◌, List, [], ◌∷◌, length, Option, Some, None, Result, Ok, Err, refl, sym, ap, subst, ◌∙◌, arith}
+use Rattle.std.proofs.Common.{◌≡◌, ◌⊎◌, inl, inr, ℕ, Bool, true, false, ◌||◌, ◌==◌, if◌then◌else◌, List, [], ◌∷◌, length, Option, Some, None, Result, Ok, Err, refl, sym, ap, subst, ◌∙◌}
 use Rattle.std.specs.Prelude.{slice_index, MatchResult, IfOk, OnOk, IfErr, IsErrAnd}
 use Rattle.pnm_image.specs.declared.shape.Shape.{Shape}
 use Rattle.pnm_image.specs.declared.shape.Kind.TheVariants.{Pam}
@@ -7,12 +7,12 @@ use Rattle.pnm_image.specs.declared.head.HeadFault.{HeadFault}
 use Rattle.pnm_image.specs.declared.head.HeadFault.TheVariants as heads
 use Rattle.pnm_image.specs.Heads.{Header, header_of, shape_fault}
 use Rattle.pnm_read.specs.declared.fault.InputFault.{InputFault}
-use Rattle.pnm_read.specs.declared.fault.InputFault.TheVariants.{MissingField, Memory, ReadFailed}
+use Rattle.pnm_read.specs.declared.fault.InputFault.TheVariants.{MissingField, ReadFailed}
 use Rattle.pnm_read.specs.declared.fields.Fields.{Fields}
 use Rattle.pnm_read.specs.declared.line.Field.TheVariants.{Width, Height, Depth, Maxval}
 use Rattle.pnm_read.specs.PamLines.{field_values, tuple_type_in}
 use Rattle.pnm_read.specs.Items.{fault_of_head, is_incomplete, shape_in, lines_item}
-use Rattle.pnm_read.specs.Saturation.{saturated, GivesInMemory}
+use Rattle.pnm_read.specs.Saturation.{GivesInMemory}
 use Rattle.pnm_read.specs.PamScanners.{held_number, IsFields, shape_held}
 use Rattle.pnm_read.proofs.FieldSteps.{some_values}
 use Rattle.pnm_read.proofs.HeldShapes.{saturated_shape, head_item, head_given, head_item_of_text}

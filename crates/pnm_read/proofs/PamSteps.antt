@@ -1,21 +1,21 @@
 -- The scanner of a PAM header, byte by byte, and the head of the header that it has taken.
-use Rattle.std.proofs.Common.{◌≡◌, ◌⊎◌, inl, inr, ℕ, ◌+◌, ◌<◌, ◌≤◌, Bool, true, false, ◌==◌, if◌then◌else◌, List, [], ◌∷◌, ◌++◌, length, Result, Ok, Err, refl, sym, ap, subst, ◌∙◌, arith}
+use Rattle.std.proofs.Common.{◌≡◌, inl, inr, ℕ, ◌+◌, ◌<◌, Bool, false, ◌==◌, if◌then◌else◌, List, [], ◌∷◌, ◌++◌, length, Result, Ok, Err, refl, sym, ap, subst, ◌∙◌, arith}
 use Rattle.std.specs.Prelude.{nat_le}
-use Rattle.std.proofs.lemmas.Bool.{lt-ltb, le-ltb, eqb-true, ne_eqb}
+use Rattle.std.proofs.lemmas.Bool.{ne_eqb}
 use Rattle.std.proofs.lemmas.Bool.Decides.{nat_tests}
 use Rattle.std.proofs.lemmas.List.{length-append}
 use Rattle.pnm_image.specs.Heads.{Header, IsTupleType}
 use Rattle.pnm_read.specs.declared.fault.InputFault.{InputFault}
-use Rattle.pnm_read.specs.declared.fault.InputFault.TheVariants.{TooLong, Memory, ReadFailed}
+use Rattle.pnm_read.specs.declared.fault.InputFault.TheVariants.{TooLong, ReadFailed}
 use Rattle.pnm_read.specs.declared.judgement.Judgement.{Judgement}
 use Rattle.pnm_read.specs.declared.judgement.Judgement.TheVariants.{GoesOn, EndsWith, EndsBefore, Fails}
 use Rattle.pnm_read.specs.declared.fields.Fields.{Fields}
 use Rattle.pnm_read.specs.declared.pam.PamScanner.{PamScanner}
-use Rattle.pnm_read.specs.PamLines.{ended_after, ended_lines, last_after, last_line, tuple_type_in}
+use Rattle.pnm_read.specs.PamLines.{ended_after, ended_lines, last_after, last_line}
 use Rattle.pnm_read.specs.Items.{◌>>=◌, piece_from, pam_limit, line_item, pam_item, header_end, line_feed_item, lines_item}
 use Rattle.pnm_read.specs.Said.{pam_head_at}
-use Rattle.pnm_read.specs.Inputs.{IsOutsideFault, Finds, Passes}
-use Rattle.pnm_read.specs.Scans.{Takes, JudgesByte, ScansAfter, Scans}
+use Rattle.pnm_read.specs.Inputs.{Finds, Passes}
+use Rattle.pnm_read.specs.Scans.{Takes, JudgesByte, Scans}
 use Rattle.pnm_read.specs.Saturation.{GivesInMemory}
 use Rattle.pnm_read.specs.PamScanners.{IsFields, TakesLine, JudgesLine, IsPamAfter, IsPamWhole}
 use Rattle.pnm_read.proofs.LineLaws.{ended_lines-lf, last_line-lf, ended_lines-other, last_line-other, ended_lines-are}

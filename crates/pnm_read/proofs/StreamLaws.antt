@@ -9,7 +9,6 @@ use Rattle.pnm_image.specs.Heads.{Header}
 use Rattle.pnm_image.specs.Completion.{IsFrontOf}
 use Rattle.pnm_image.specs.declared.shape.Shape.{Shape}
 use Rattle.pnm_read.specs.declared.fault.InputFault.{InputFault}
-use Rattle.pnm_read.specs.declared.fault.InputFault.TheVariants.{ReadFailed, Memory}
 use Rattle.pnm_read.specs.declared.format.Format.{Format}
 use Rattle.pnm_read.specs.declared.source.Source.{Source}
 use Rattle.pnm_read.specs.declared.source.Stage.{Stage}
