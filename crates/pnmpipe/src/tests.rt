@@ -6,6 +6,7 @@ use pnm_read::InputFault;
 mod command;
 mod devices;
 mod run;
+mod streams;
 mod texts;
 
 /// An image of one row, and the image inverted.

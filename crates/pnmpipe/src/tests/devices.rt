@@ -15,20 +15,20 @@ use std::test::Fail;
 /// Says that a call is to fail, once, after so many calls that succeed. The error is one that std's
 /// own loops take for a call to be made again.
 #[derive(Drop)]
-struct FailsOnce {
+pub struct FailsOnce {
     before: usize,
     has_failed: bool,
 }
 
 impl FailsOnce {
-    fn after(before: usize) -> FailsOnce {
+    pub fn after(before: usize) -> FailsOnce {
         FailsOnce {
             before,
             has_failed: false,
         }
     }
 
-    fn never() -> FailsOnce {
+    pub fn never() -> FailsOnce {
         FailsOnce {
             before: 0,
             has_failed: true,
@@ -48,9 +48,9 @@ impl FailsOnce {
 
 /// Gives a byte a call.
 #[derive(Drop)]
-struct Drips<'a> {
-    rest: &'a [u8],
-    reads: FailsOnce,
+pub struct Drips<'a> {
+    pub rest: &'a [u8],
+    pub reads: FailsOnce,
 }
 
 impl Read for Drips<'_> {
@@ -63,11 +63,11 @@ impl Read for Drips<'_> {
 
 /// Takes so many bytes a call.
 #[derive(Drop)]
-struct Sips {
-    held: Vec<u8>,
-    most: usize,
-    writes: FailsOnce,
-    flushes: FailsOnce,
+pub struct Sips {
+    pub held: Vec<u8>,
+    pub most: usize,
+    pub writes: FailsOnce,
+    pub flushes: FailsOnce,
 }
 
 impl Write for Sips {

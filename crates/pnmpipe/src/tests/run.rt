@@ -12,7 +12,7 @@ use std::alloc::Global;
 use std::test::Fail;
 
 /// What a run over this input answers, and what it writes.
-fn run(alloc: Global, input: &[u8]) -> (Result<Summary, RunFault>, Vec<u8>) {
+pub fn run(alloc: Global, input: &[u8]) -> (Result<Summary, RunFault>, Vec<u8>) {
     let mut reader = Device::new(input);
     let mut writer = Device::new(Vec::new(alloc));
     let answer = run_serial(alloc, &mut reader, &mut writer, &[Tool::Invert]);
