@@ -21,23 +21,9 @@ use Rattle.pnm_read.specs.Items.{◌>>=◌, piece_from, first_magic_item, second
 use Rattle.pnm_read.specs.Said.{format_at, pnm_head_at, head_by, head_at}
 pub use Rattle.pnm_read.proofs.ShapeLaws.{limits_of}
 use Rattle.pnm_read.proofs.ShapeLaws.{head_or_fault_ok}
+use Rattle.pnm_read.proofs.PieceLaws.{bind_ok, done, ok_is}
 use Rattle.pnm_read.proofs.PamLaws.{pam_head_is_spelled}
 use Rattle.pnm_read.proofs.WordLaws.{uncommented-plain, uncommented-comment, numbers-white, numbers-comment, numbers-first, numbers-next, ends_in_word-comment, ends_in_word-digit, white_is_not_sharp, digit_is_not_sharp}
-
--- ---- steps
-
--- the value of a step that did not fail
-pub bind_ok : {A B : Type 0} (r : Result A InputFault) (f : A → Result B InputFault) (y : B) → (r >>= f) ≡ Ok y → (x : A) × (r ≡ Ok x) × (f x ≡ Ok y)
-bind_ok (Ok x) f y e = (x, refl, e)
-bind_ok (Err d) f y e = absurd cc
-
--- a step that did not fail
-abbrev pub done : {A : Type 0} → A → Result A InputFault
-done x = Ok x
-
--- a step has one value
-ok_is : {A : Type 0} (x y : A) → done x ≡ done y → x ≡ y
-ok_is x y e = cc
 
 -- ---- how a byte of a header is judged
 
@@ -457,16 +443,19 @@ spelled_head text format head s = spelled_head_by format.kind text format head r
 longer_than : (text : List ℕ) (b : ℕ) (others : List ℕ) → text ≡ b ∷ others → 0 < length text
 longer_than text b others e = let lengths : length text ≡ length others + 1 = ap (λ (t : List ℕ). length t) e ∙ omega arith in omega arith
 
-some_bytes : (kind : Kind) (text : List ℕ) (format : Format) (head : Header) → SpellsHeaderBy kind text format head → 0 < length text
-some_bytes Bit text format head s = longer_than text 80 (s.digit ∷ (s.body ++ s.delimiter ∷ [])) s.whole
-some_bytes Gray text format head s = longer_than text 80 (s.digit ∷ (s.body ++ s.delimiter ∷ [])) s.whole
-some_bytes Color text format head s = longer_than text 80 (s.digit ∷ (s.body ++ s.delimiter ∷ [])) s.whole
-some_bytes Pam text format head s = longer_than text 80 _ s.whole
+bytes_by : (kind : Kind) (text : List ℕ) (format : Format) (head : Header) → SpellsHeaderBy kind text format head → 0 < length text
+bytes_by Bit text format head s = longer_than text 80 (s.digit ∷ (s.body ++ s.delimiter ∷ [])) s.whole
+bytes_by Gray text format head s = longer_than text 80 (s.digit ∷ (s.body ++ s.delimiter ∷ [])) s.whole
+bytes_by Color text format head s = longer_than text 80 (s.digit ∷ (s.body ++ s.delimiter ∷ [])) s.whole
+bytes_by Pam text format head s = longer_than text 80 _ s.whole
+
+pub header_has_bytes : (header : List ℕ) (format : Format) (head : Header) → SpellsHeader header format head → 0 < length header
+header_has_bytes header format head s = bytes_by format.kind header format head s
 
 -- what follows a header that is read is shorter than the text
 pub header_shorter : (is_first : Bool) (text after : List ℕ) (format : Format) (found : Header × List ℕ) → format_at is_first text ≡ Ok (format, after) → head_at format after ≡ Ok found → length found.1 < length text
 header_shorter is_first text after format found f h =
     let header = read_header_is_spelled is_first text after found.1 format found.0 f h in
-    let some = some_bytes format.kind header.0 format found.0 header.2 in
+    let some = header_has_bytes header.0 format found.0 header.2 in
     let lengths : length text ≡ length header.0 + length found.1 = ap (λ (t : List ℕ). length t) header.1 ∙ length-append header.0 found.1 in
     omega arith

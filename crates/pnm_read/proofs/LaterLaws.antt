@@ -14,21 +14,8 @@ use Rattle.pnm_read.specs.Items.{first_magic_item, second_magic_item}
 use Rattle.pnm_read.specs.Said.{Said, then_said, ends_stream, format_at, head_at, row_by, row_at, end_said, rows_said, head_said, format_said, image_said, later_said_in, later_said}
 use Rattle.pnm_read.proofs.HeaderLaws.{header_shorter}
 use Rattle.pnm_read.proofs.PlainLaws.{said_from}
-use Rattle.pnm_read.proofs.RawLaws.{bind_ok, raw_row_shorter}
-
--- ---- a header has some bytes
-
-some_first : (first : ℕ) (text whole : List ℕ) → whole ≡ first ∷ text → 0 < length whole
-some_first first text whole e = let long = ap (λ (t : List ℕ). length t) e in omega arith
-
-bytes_by : (k : Kind) (header : List ℕ) (format : Format) (head : Header) → SpellsHeaderBy k header format head → 0 < length header
-bytes_by Bit header format head s = some_first 80 _ header s.whole
-bytes_by Gray header format head s = some_first 80 _ header s.whole
-bytes_by Color header format head s = some_first 80 _ header s.whole
-bytes_by Pam header format head s = some_first 80 _ header s.whole
-
-pub header_has_bytes : (header : List ℕ) (format : Format) (head : Header) → SpellsHeader header format head → 0 < length header
-header_has_bytes header format head s = bytes_by format.kind header format head s
+use Rattle.pnm_read.proofs.RawLaws.{raw_row_shorter}
+use Rattle.pnm_read.proofs.PieceLaws.{bind_ok}
 
 -- ---- a later image is raw
 

@@ -127,7 +127,7 @@ field_values-append field (line ∷ xs) ys =
     if_known (λ (l m : List ℕ). l ≡ m ++ field_values field ys) (begins_with (name_of field) line)
     (λ e. ap (λ (l : List ℕ). decimal_value (second_token line) ∷ l) (field_values-append field xs ys)) (λ e. field_values-append field xs ys)
 
-joined_with-nothing : (text : List ℕ) → joined_with text [] ≡ text
+pub joined_with-nothing : (text : List ℕ) → joined_with text [] ≡ text
 joined_with-nothing [] = refl
 joined_with-nothing (b ∷ text) = refl
 

@@ -17,7 +17,7 @@ use Rattle.pnm_read.specs.Texts.{is_digit, decimal_value}
 use Rattle.pnm_read.specs.PamLines.{first_token, second_token, value_of, name_of, begins_with, kind_of_token, line_kind, field_values, joined_with, tuple_type_in}
 use Rattle.pnm_read.specs.Headers.{MaySay}
 use Rattle.pnm_read.specs.Items.{number_item, tuple_type_item, line_item}
-use Rattle.pnm_read.proofs.LineLaws.{field_values-append, tuple_type_in-append}
+use Rattle.pnm_read.proofs.LineLaws.{joined_with-nothing, field_values-append, tuple_type_in-append}
 
 -- ---- what a line says, by its first token
 
@@ -99,10 +99,6 @@ no_tuple_types = refl
 tuple_type-not_here : (line : List ℕ) (lines : List (List ℕ)) → begins_with (codes "TUPLTYPE") line ≡ false → tuple_type_in (line ∷ lines) ≡ tuple_type_in lines
 unfolding tuple_type_in
 tuple_type-not_here line lines e = ap (λ (t : Bool). if t then joined_with (value_of line) (tuple_type_in lines) else tuple_type_in lines) e
-
-joined_with-nothing : (text : List ℕ) → joined_with text [] ≡ text
-joined_with-nothing [] = refl
-joined_with-nothing (b ∷ text) = refl
 
 -- a line of another kind leaves the numbers of a field
 values-other : (field : Field) (lines : List (List ℕ)) (line : List ℕ) → begins_with (name_of field) line ≡ false → field_values field (lines ++ line ∷ []) ≡ field_values field lines

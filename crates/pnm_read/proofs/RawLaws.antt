@@ -20,14 +20,8 @@ use Rattle.pnm_read.specs.Rasters.{packing_of, row_bytes, pixel_at, pixels, wide
 use Rattle.pnm_read.specs.Items.{◌>>=◌, raw_item}
 use Rattle.pnm_read.specs.Packings.{unit_bytes}
 use Rattle.pnm_read.specs.Said.{in_turn, units_in_row, units_at, raw_row, row_by, row_at, Said, then_said, says_fault, end_said, rows_said}
+use Rattle.pnm_read.proofs.PieceLaws.{bind_ok}
 use Rattle.pnm_read.proofs.UnitLaws.{Turns, single, concat_singles, concat_pixels, are_within, are_within_all, all_are_within, unit_if, units_if, packed_units, narrow_units, wide_units}
-
--- ---- steps
-
--- the value of a step that did not fail
-pub bind_ok : {A B : Type 0} (r : Result A InputFault) (f : A → Result B InputFault) (y : B) → (r >>= f) ≡ Ok y → (x : A) × (r ≡ Ok x) × (f x ≡ Ok y)
-bind_ok (Ok x) f y e = (x, refl, e)
-bind_ok (Err d) f y e = absurd cc
 
 -- ---- the bytes of a row
 

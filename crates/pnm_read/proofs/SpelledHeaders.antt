@@ -22,7 +22,8 @@ use Rattle.pnm_read.proofs.WordLaws.{uncommented-split, numbers-white, fewer_num
 use Rattle.pnm_read.proofs.ShapeLaws.{head_or_fault, no_shape_fault}
 use Rattle.pnm_read.proofs.HeaderPieces.{goes_on_through}
 use Rattle.pnm_read.proofs.PamLaws.{spelled_pam_is_head}
-use Rattle.pnm_read.proofs.HeaderLaws.{done, header_item_is, not_bad, is_decimal, pieced, second_magic}
+use Rattle.pnm_read.proofs.PieceLaws.{done}
+use Rattle.pnm_read.proofs.HeaderLaws.{header_item_is, not_bad, is_decimal, pieced, second_magic}
 
 -- ---- what is spelled is read
 

@@ -13,11 +13,11 @@ use Rattle.pnm_read.specs.Rasters.{SpellsRaw, SpellsPlain}
 use Rattle.pnm_read.specs.Spelling.{SpellsRasterBy, SpellsImage, SpellsRawImage, SpellsRawImages, SpellsPlainAlone, Spells}
 use Rattle.pnm_read.specs.Said.{Said, then_said, ends_stream, format_at, head_at, rows_said, head_said, format_said, image_said, later_said, said, said_of, fault_of}
 use Rattle.pnm_read.specs.TextLaws.{SpellsOnly, IsAtFault}
-use Rattle.pnm_read.proofs.HeaderLaws.{spelled_head, read_header_is_spelled}
+use Rattle.pnm_read.proofs.HeaderLaws.{spelled_head, read_header_is_spelled, header_has_bytes}
 use Rattle.pnm_read.proofs.SpelledHeaders.{spelled_header_is_read}
 use Rattle.pnm_read.proofs.PlainLaws.{rows_and_ends, spelled_plain_is_said, said_plain_is_spelled}
 use Rattle.pnm_read.proofs.RawLaws.{rows_then, spelled_raw_is_said, said_raw_is_spelled}
-use Rattle.pnm_read.proofs.LaterLaws.{header_has_bytes, later_is_raw, later_said-nothing, later_said-next}
+use Rattle.pnm_read.proofs.LaterLaws.{later_is_raw, later_said-nothing, later_said-next}
 
 not_plain : (plain : Bool) → plain ≡ false → plain ≡ true → ⊥
 not_plain plain f t = cc
