@@ -8,7 +8,7 @@ use Rattle.pnm_read.specs.declared.line.LineKind.{LineKind}
 use Rattle.pnm_read.specs.declared.line.LineKind.TheVariants.{Nothing, Number, TupleType, End, Unknown}
 use Rattle.pnm_read.specs.Texts.{decimal_value}
 use Rattle.pnm_read.specs.PamLines.{first_token, second_token, value_of, name_of, begins_with, kind_of_token, line_kind, field_values, joined_with, tuple_type_in}
-use Rattle.pnm_read.proofs.LineLaws.{field_values-append, tuple_type_in-append}
+use Rattle.pnm_read.proofs.LineLaws.{joined_with-nothing, field_values-append, tuple_type_in-append}
 
 -- ---- kinds
 
@@ -160,17 +160,12 @@ one_type : (line : List ℕ) (test : Bool) → begins_with (codes "TUPLTYPE") li
 unfolding tuple_type_in
 one_type line test e = ap (λ (t : Bool). if t then joined_with (value_of line) [] else []) e
 
--- nothing is joined
-joined_nothing : (text : List ℕ) → joined_with text [] ≡ text
-joined_nothing [] = refl
-joined_nothing (b ∷ text) = refl
-
 -- a line of another kind leaves the tuple type
 pub type_same : (lines : List (List ℕ)) (line : List ℕ) → is_type (line_kind line) ≡ false → tuple_type_in (lines ++ line ∷ []) ≡ tuple_type_in lines
 type_same lines line e =
-    tuple_type_in-append lines (line ∷ []) ∙ ap (joined_with (tuple_type_in lines)) (one_type line false (begins_type_is line ∙ e)) ∙ joined_nothing (tuple_type_in lines)
+    tuple_type_in-append lines (line ∷ []) ∙ ap (joined_with (tuple_type_in lines)) (one_type line false (begins_type_is line ∙ e)) ∙ joined_with-nothing (tuple_type_in lines)
 
 -- a line of the tuple type joins its value to it
 pub type_joined : (lines : List (List ℕ)) (line : List ℕ) → is_type (line_kind line) ≡ true → tuple_type_in (lines ++ line ∷ []) ≡ joined_with (tuple_type_in lines) (value_of line)
 type_joined lines line e =
-    tuple_type_in-append lines (line ∷ []) ∙ ap (joined_with (tuple_type_in lines)) (one_type line true (begins_type_is line ∙ e) ∙ joined_nothing (value_of line))
+    tuple_type_in-append lines (line ∷ []) ∙ ap (joined_with (tuple_type_in lines)) (one_type line true (begins_type_is line ∙ e) ∙ joined_with-nothing (value_of line))
