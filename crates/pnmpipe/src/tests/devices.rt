@@ -9,7 +9,7 @@ use pnm_image::Device;
 use pnm_read::InputFault;
 use pnm_write::SinkFault;
 use std::io;
-use std::io::{ErrorKind, Read, Write};
+use std::io::{BufWriter, ErrorKind, Read, Write};
 use std::test::Fail;
 
 /// Says that a call is to fail, once, after so many calls that succeed. The error is one that std's
@@ -188,4 +188,28 @@ fn answers_a_failed_write(rt: HostRuntime) {
         assert_eq!(rt; answer, want, "{most} bytes a write");
         assert_eq!(rt; sips.held.as_slice(), output, "{most} bytes a write");
     }
+}
+
+/// A buffer keeps all bytes back until the run's flush, as before the program's standard output. A
+/// writer that takes fewer fails there.
+#[test]
+fn answers_a_failed_write_behind_a_buffer(rt: HostRuntime) -> Result<(), Fail> {
+    for size in 0..14 {
+        let mut room = [0; 13];
+        let size = INVERTED.len().min(size);
+        let buffer = BufWriter::with_capacity(rt.alloc(), 64, &mut room[..size])?;
+        let mut writer = Device::new(buffer);
+        let mut reader = Device::new(IMAGE);
+        let answer = run_serial(rt.alloc(), &mut reader, &mut writer, &[Tool::Invert]);
+        let want = if size < INVERTED.len() {
+            Err(RunFault::Output(SinkFault::WriteFailed))
+        } else {
+            Ok(Summary { images: 1, rows: 1 })
+        };
+        assert_eq!(rt; answer, want, "at {size} bytes");
+        // What is left in the buffer isn't written.
+        let _ = writer.into_inner().into_parts();
+        assert_eq!(rt; &room[..size], &INVERTED[..size], "at {size} bytes");
+    }
+    Ok(())
 }
