@@ -15,7 +15,7 @@ use Rattle.pnm_read.specs.Texts.{is_digit, decimal_value}
 use Rattle.pnm_read.specs.Saturation.{saturated}
 use Rattle.pnm_read.specs.PamLines.{after_first, second_token, value_of, line_kind, field_values, joined_with, tuple_type_in}
 use Rattle.pnm_read.specs.Items.{line_item, number_item, tuple_type_item}
-use Rattle.pnm_read.specs.PamScanners.{number_of, held_number, IsFields, TakesLine, JudgesLine, number_held, with_number, SetsNumber, IsWithTupleType, SetsTupleType, AddsTupleType}
+use Rattle.pnm_read.specs.PamScanners.{number_of, held_number, IsFields, TakesLine, JudgesLine, field_number, with_number, SetsNumber, IsWithTupleType, SetsTupleType, AddsTupleType}
 use Rattle.pnm_read.proofs.LineKinds.{is_number, is_type, values_same, values_first, type_same, type_joined}
 
 -- no line so far
@@ -80,7 +80,7 @@ line_of_end s line e lines f =
 -- ---- a number
 
 -- the number of a field that is held
-held_is : (field : Field) (s : Fields) (lines : List (List ℕ)) → IsFields s lines → number_held field s ≡ held_number (field_values field lines)
+held_is : (field : Field) (s : Fields) (lines : List (List ℕ)) → IsFields s lines → field_number field s ≡ held_number (field_values field lines)
 held_is Width s lines f = f.width
 held_is Height s lines f = f.height
 held_is Depth s lines f = f.depth

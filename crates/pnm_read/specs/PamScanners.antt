@@ -62,11 +62,11 @@ shape_held fields = elim fields.width [
 ]
 
 -- the number of a field, as it is held
-abbrev pub number_held : Field → Fields → Option ℕ
-number_held Width fields = fields.width
-number_held Height fields = fields.height
-number_held Depth fields = fields.depth
-number_held Maxval fields = fields.maxval
+abbrev pub field_number : Field → Fields → Option ℕ
+field_number Width fields = fields.width
+field_number Height fields = fields.height
+field_number Depth fields = fields.depth
+field_number Maxval fields = fields.maxval
 
 -- the fields with this number
 abbrev pub with_number : Field → ℕ → Fields → Fields
@@ -87,7 +87,7 @@ SetsNumber old field text new judgement =
       | true ↦ judgement ≡ Fails BadPamLine
       | false ↦ elim (number_of (first_token text)) [
         | None ↦ judgement ≡ Fails BadNumber
-        | Some number ↦ elim (number_held field old) [
+        | Some number ↦ elim (field_number field old) [
           | Some other ↦ judgement ≡ Fails DuplicateField
           | None ↦ (judgement ≡ GoesOn) × (new ≡ with_number field number old)
         ]
