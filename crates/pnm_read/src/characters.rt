@@ -1,6 +1,7 @@
 //! Bytes of a header or a plain raster: white space, digits and comments.
 
 ghost use Rattle.std.specs.Prelude.{◌≡◌};
+ghost use Rattle.pnm_image.specs.Heads.{is_blank};
 ghost use Rattle.pnm_read.specs.Texts.{is_white, is_digit, is_apart, commented};
 
 /// Blank, TAB, CR or LF.
@@ -8,6 +9,13 @@ pub fn is_white(byte: u8) -> bool
     ensures { result ≡ is_white byte }
 {
     byte == b' ' || byte == b'\t' || byte == b'\r' || byte == b'\n'
+}
+
+/// Blank, TAB or CR: white space that a line can hold.
+pub fn is_blank(byte: u8) -> bool
+    ensures { result ≡ is_blank byte }
+{
+    byte == b' ' || byte == b'\t' || byte == b'\r'
 }
 
 pub fn is_digit(byte: u8) -> bool

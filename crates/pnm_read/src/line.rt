@@ -1,11 +1,10 @@
 //! Lines of a PAM header, from pam(5), 'The layout'.
 
 ghost use Rattle.std.specs.Prelude.{◌≡◌, length};
-ghost use Rattle.pnm_image.specs.Heads.{is_blank};
 ghost use Rattle.pnm_read.specs.PamLines.{trimmed_start, trimmed_end, first_token, after_first, kind_of_token};
 ghost use Rattle.pnm_read.specs.PamScanners.{number_of};
 
-use crate::characters::is_digit;
+use crate::characters::{is_blank, is_digit};
 
 /// A number of a PAM header.
 #[derive(Clone, Copy, Debug, PartialEq, Eq)]
@@ -48,13 +47,6 @@ impl LineKind {
             _ => LineKind::Unknown,
         }
     }
-}
-
-/// Blank, TAB or CR: white space that a line can hold.
-fn is_blank(byte: u8) -> bool
-    ensures { result ≡ is_blank byte }
-{
-    byte == b' ' || byte == b'\t' || byte == b'\r'
 }
 
 /// The first token of a line, which is empty where there is none, and what follows it.
