@@ -1,0 +1,185 @@
+-- What a tool that answers each message at once has given, where some of it still waits.
+use Rattle.std.proofs.Common.{◌≡◌, ◌⊎◌, inl, inr, ℕ, List, [], ◌∷◌, ◌++◌, map, Result, Ok, Err, refl, sym, ap, subst, ◌∙◌, append_assoc}
+use Rattle.pnm_image.specs.declared.message.Message.{Message}
+use Rattle.pnm_image.specs.declared.message.Message.TheVariants.{Begin, Row, ImageEnd, StreamEnd, Stop}
+use Rattle.pnm_image.specs.declared.place.Place.{Place}
+use Rattle.pnm_image.specs.declared.place.Place.TheVariants.{Between, Inside, After}
+use Rattle.pnm_image.specs.Heads.{Header}
+use Rattle.pnm_image.specs.Messages.{without_stop}
+use Rattle.pnm_image.specs.Places.{IsLawfulFrom, IsLawful, place_after}
+use Rattle.pnm_image.specs.Images.{Image}
+use Rattle.pnm_image.specs.Completion.{IsFrontOf, Completes}
+use Rattle.pnm_tools.specs.declared.fault.ToolFault.{ToolFault}
+use Rattle.pnm_tools.specs.declared.tool.Tool.{Tool}
+use Rattle.pnm_tools.specs.Tools.{result_head, row_answer, output_due}
+use Rattle.pnm_tools.specs.Answers.{More, BrokenOff, ending_of, EndsBy, Answers}
+use Rattle.pnm_tools.specs.RowWise.{answered, answered_from}
+use Rattle.pnm_tools.specs.States.{AreTaken, IsAnswering}
+use Rattle.pnm_tools.proofs.RowWiseLaws.{AnswersImages, answered_from-append, answers_are_due}
+
+-- no message is Stop
+abbrev pub GoOn : List Message → Type 0
+GoOn [] = Unit {0}
+GoOn (Begin head ∷ ms) = GoOn ms
+GoOn (Row row ∷ ms) = GoOn ms
+GoOn (ImageEnd ∷ ms) = GoOn ms
+GoOn (StreamEnd ∷ ms) = GoOn ms
+GoOn (Stop ∷ ms) = ⊥
+
+both_go_on : (a b : List Message) → GoOn a → GoOn b → GoOn (a ++ b)
+both_go_on [] b p q = q
+both_go_on (Begin head ∷ a) b p q = both_go_on a b p q
+both_go_on (Row row ∷ a) b p q = both_go_on a b p q
+both_go_on (ImageEnd ∷ a) b p q = both_go_on a b p q
+both_go_on (StreamEnd ∷ a) b p q = both_go_on a b p q
+both_go_on (Stop ∷ a) b p q = p
+
+first_goes_on : (a b : List Message) → GoOn (a ++ b) → GoOn a
+first_goes_on [] b p = tt
+first_goes_on (Begin head ∷ a) b p = first_goes_on a b p
+first_goes_on (Row row ∷ a) b p = first_goes_on a b p
+first_goes_on (ImageEnd ∷ a) b p = first_goes_on a b p
+first_goes_on (StreamEnd ∷ a) b p = first_goes_on a b p
+first_goes_on (Stop ∷ a) b p = p
+
+rows_go_on : (rows : List (List ℕ)) → GoOn (map Row rows)
+rows_go_on [] = tt
+rows_go_on (row ∷ rows) = rows_go_on rows
+
+-- without Stop nothing is cut off
+pub keeps_all : (a : List Message) → GoOn a → without_stop a ≡ a
+keeps_all [] p = refl
+keeps_all (Begin head ∷ a) p = ap (λ (l : List Message). Begin head ∷ l) (keeps_all a p)
+keeps_all (Row row ∷ a) p = ap (λ (l : List Message). Row row ∷ l) (keeps_all a p)
+keeps_all (ImageEnd ∷ a) p = ap (λ (l : List Message). ImageEnd ∷ l) (keeps_all a p)
+keeps_all (StreamEnd ∷ a) p = ap (λ (l : List Message). StreamEnd ∷ l) (keeps_all a p)
+keeps_all (Stop ∷ a) p = absurd p
+
+-- a last Stop is cut off
+pub cuts_stop : (a : List Message) → GoOn a → without_stop (a ++ Stop ∷ []) ≡ a
+cuts_stop [] p = refl
+cuts_stop (Begin head ∷ a) p = ap (λ (l : List Message). Begin head ∷ l) (cuts_stop a p)
+cuts_stop (Row row ∷ a) p = ap (λ (l : List Message). Row row ∷ l) (cuts_stop a p)
+cuts_stop (ImageEnd ∷ a) p = ap (λ (l : List Message). ImageEnd ∷ l) (cuts_stop a p)
+cuts_stop (StreamEnd ∷ a) p = ap (λ (l : List Message). StreamEnd ∷ l) (cuts_stop a p)
+cuts_stop (Stop ∷ a) p = absurd p
+
+-- a lawful list goes on, or does but for a last Stop
+abbrev pub StopsLast : List Message → Type 0
+StopsLast l = GoOn l ⊎ ((front : List Message) × (l ≡ front ++ Stop ∷ []) × GoOn front)
+
+more_stops : (m : Message) (l : List Message) → ((a : List Message) → GoOn a → GoOn (m ∷ a)) → StopsLast l → StopsLast (m ∷ l)
+more_stops m l on (inl p) = inl (on l p)
+more_stops m l on (inr h) = inr (m ∷ h.0, ap (λ (x : List Message). m ∷ x) h.1, on h.0 h.2)
+
+pub lawful_stops : (place : Place) (l : List Message) → IsLawfulFrom place l → StopsLast l
+lawful_stops place [] h = inl tt
+lawful_stops place (Begin head ∷ l) h = more_stops (Begin head) l (λ a p. p) (lawful_stops (place_after place (Begin head)) l h.1)
+lawful_stops place (Row row ∷ l) h = more_stops (Row row) l (λ a p. p) (lawful_stops (place_after place (Row row)) l h.1)
+lawful_stops place (ImageEnd ∷ l) h = more_stops ImageEnd l (λ a p. p) (lawful_stops (place_after place ImageEnd) l h.1)
+lawful_stops place (StreamEnd ∷ l) h = more_stops StreamEnd l (λ a p. p) (lawful_stops (place_after place StreamEnd) l h.1)
+lawful_stops place (Stop ∷ []) h = inr ([], refl, tt)
+lawful_stops place (Stop ∷ m ∷ l) h = absurd h.1.0
+
+-- answers to messages that go on do so
+head_goes_on : (r : Result Header ToolFault) → GoOn (elim r [ Ok result ↦ Begin result ∷ [] | Err fault ↦ [] ])
+head_goes_on (Ok result) = tt
+head_goes_on (Err fault) = tt
+
+pub answers_go_on : (tool : Tool) (place : Place) (l : List Message) → GoOn l → GoOn (answered_from tool place l)
+answers_go_on tool place [] p = tt
+answers_go_on tool place (Begin head ∷ l) p = both_go_on (answered tool place (Begin head)) (answered_from tool (place_after place (Begin head)) l) (head_goes_on (result_head tool head)) (answers_go_on tool (place_after place (Begin head)) l p)
+answers_go_on tool Between (Row row ∷ l) p = answers_go_on tool Between l p
+answers_go_on tool (Inside s y) (Row row ∷ l) p = both_go_on (map Row (row_answer tool s y row)) (answered_from tool (place_after (Inside s y) (Row row)) l) (rows_go_on (row_answer tool s y row)) (answers_go_on tool (place_after (Inside s y) (Row row)) l p)
+answers_go_on tool After (Row row ∷ l) p = answers_go_on tool After l p
+answers_go_on tool place (ImageEnd ∷ l) p = answers_go_on tool Between l p
+answers_go_on tool place (StreamEnd ∷ l) p = answers_go_on tool After l p
+answers_go_on tool place (Stop ∷ l) p = absurd p
+
+-- ---- the relation of a state with what it accepted and gave
+
+taken_front : (tool : Tool) (a b : List Message) → AreTaken tool (a ++ b) → AreTaken tool a
+taken_front tool [] b t = tt
+taken_front tool (Begin head ∷ a) b t = (t.0, taken_front tool a b t.1)
+taken_front tool (Row row ∷ a) b t = taken_front tool a b t
+taken_front tool (ImageEnd ∷ a) b t = taken_front tool a b t
+taken_front tool (StreamEnd ∷ a) b t = taken_front tool a b t
+taken_front tool (Stop ∷ a) b t = taken_front tool a b t
+
+-- a front of a list with one message more is all of it, or a front of the list
+abbrev IsWithin : List Message → Message → List Message → Type 0
+IsWithin a x g = (g ≡ a ++ x ∷ []) ⊎ ((more : List Message) × (a ≡ g ++ more))
+
+within : (a : List Message) (x : Message) (g waiting : List Message) → a ++ x ∷ [] ≡ g ++ waiting → IsWithin a x g
+within a x [] waiting e = inr (a, refl)
+within [] x (m ∷ []) waiting e = inl (sym (let same : x ≡ m = cc in ap (λ (k : Message). k ∷ []) same))
+within [] x (m ∷ n ∷ g) waiting e = absurd cc
+within (k ∷ a) x (m ∷ g) waiting e =
+    let first : k ≡ m = cc in
+    let others : a ++ x ∷ [] ≡ g ++ waiting = cc in
+    elim (within a x g waiting others) [
+      | inl h ↦ inl (ap (λ (l : List Message). m ∷ l) h ∙ ap (λ (j : Message). j ∷ (a ++ x ∷ [])) (sym first))
+      | inr h ↦ inr (h.0, ap (λ (l : List Message). k ∷ l) h.1 ∙ ap (λ (j : Message). j ∷ (g ++ h.0)) first)
+    ]
+
+-- what was given goes on, and is a front of what is due
+front_on : (due a g waiting r : List Message) → GoOn a → a ≡ g ++ waiting → due ≡ a ++ r → IsFrontOf (without_stop g) due
+front_on due a g waiting r on e d =
+    let goes : GoOn g = first_goes_on g waiting (subst GoOn e on) in
+    (waiting ++ r, d ∙ ap (λ (l : List Message). l ++ r) e ∙ append_assoc g waiting r ∙ ap (λ (l : List Message). l ++ (waiting ++ r)) (sym (keeps_all g goes)))
+
+front_stop : (due a g r : List Message) → GoOn a → due ≡ a ++ r → IsWithin a Stop g → IsFrontOf (without_stop g) due
+front_stop due a g r on d (inl all) = (r, d ∙ ap (λ (l : List Message). l ++ r) (sym (cuts_stop a on) ∙ ap without_stop (sym all)))
+front_stop due a g r on d (inr h) = front_on due a g h.0 r on h.1 d
+
+front_of_due : (tool : Tool) (l g waiting : List Message) (is : List Image) → AnswersImages tool → IsAnswering tool l g waiting → StopsLast l → Completes is l → IsFrontOf (without_stop g) (output_due tool is)
+front_of_due tool l g waiting is answers at (inl on) c =
+    let due = answers_are_due tool is l c.front.0 answers c.images (c.front.1 ∙ ap (λ (x : List Message). x ++ c.front.0) (keeps_all l on)) at.taken in
+    front_on (output_due tool is) (answered_from tool Between l) g waiting due.0 (answers_go_on tool Between l on) at.given due.1
+front_of_due tool l g waiting is answers at (inr h) c =
+    let front : List Message = h.0 in
+    let taken : AreTaken tool front = taken_front tool front (Stop ∷ []) (subst (AreTaken tool) h.1 at.taken) in
+    let cut : without_stop l ≡ front = ap without_stop h.1 ∙ cuts_stop front h.2 in
+    let due = answers_are_due tool is front c.front.0 answers c.images (c.front.1 ∙ ap (λ (x : List Message). x ++ c.front.0) cut) taken in
+    let parts : answered_from tool Between front ++ Stop ∷ [] ≡ g ++ waiting = sym (ap (answered_from tool Between) h.1 ∙ answered_from-append tool Between front (Stop ∷ [])) ∙ at.given in
+    front_stop (output_due tool is) (answered_from tool Between front) g due.0 (answers_go_on tool Between front h.2) due.1 (within (answered_from tool Between front) Stop g waiting parts)
+
+-- what goes on isn't broken off
+not_broken : (g : List Message) → GoOn g → EndsBy BrokenOff g → ⊥
+not_broken [] on e = cc
+not_broken (Begin head ∷ []) on e = cc
+not_broken (Row row ∷ []) on e = cc
+not_broken (ImageEnd ∷ []) on e = cc
+not_broken (StreamEnd ∷ []) on e = cc
+not_broken (Stop ∷ g) on e = on
+not_broken (Begin head ∷ n ∷ g) on e = not_broken (n ∷ g) on e.1
+not_broken (Row row ∷ n ∷ g) on e = not_broken (n ∷ g) on e.1
+not_broken (ImageEnd ∷ n ∷ g) on e = not_broken (n ∷ g) on e.1
+not_broken (StreamEnd ∷ n ∷ g) on e = not_broken (n ∷ g) on e.1
+
+-- a lawful list with a last Stop is broken off
+more_broken : (m : Message) (front : List Message) → ending_of m ≡ More → EndsBy BrokenOff (front ++ Stop ∷ []) → EndsBy BrokenOff (m ∷ (front ++ Stop ∷ []))
+more_broken m [] e b = (e, b)
+more_broken m (n ∷ front) e b = (e, b)
+
+after_nothing : (front : List Message) → IsLawfulFrom After (front ++ Stop ∷ []) → ⊥
+after_nothing [] h = h.0
+after_nothing (m ∷ front) h = h.0
+
+is_broken : (place : Place) (front : List Message) → IsLawfulFrom place (front ++ Stop ∷ []) → EndsBy BrokenOff (front ++ Stop ∷ [])
+is_broken place [] h = refl
+is_broken place (Begin head ∷ front) h = more_broken (Begin head) front refl (is_broken (place_after place (Begin head)) front h.1)
+is_broken place (Row row ∷ front) h = more_broken (Row row) front refl (is_broken (place_after place (Row row)) front h.1)
+is_broken place (ImageEnd ∷ front) h = more_broken ImageEnd front refl (is_broken (place_after place ImageEnd) front h.1)
+is_broken place (StreamEnd ∷ front) h = absurd (after_nothing front h.1)
+is_broken place (Stop ∷ front) h = absurd (after_nothing front h.1)
+
+stops_so : (tool : Tool) (l g waiting : List Message) → IsAnswering tool l g waiting → StopsLast l → EndsBy BrokenOff g → EndsBy BrokenOff l
+stops_so tool l g waiting at (inl on) e = absurd (not_broken g (first_goes_on g waiting (subst GoOn at.given (answers_go_on tool Between l on))) e)
+stops_so tool l g waiting at (inr h) e = subst (EndsBy BrokenOff) (sym h.1) (is_broken Between h.0 (subst IsLawful h.1 at.lawful))
+
+-- the relation implies that what was given are answers
+pub answering_answers : (tool : Tool) (l g waiting : List Message) → AnswersImages tool → IsAnswering tool l g waiting → Answers tool l g
+answering_answers tool l g waiting answers at =
+    let last = lawful_stops Between l at.lawful in
+    record { lawful = at.lawful; front = λ is c. front_of_due tool l g waiting is answers at last c; stop = λ e. stops_so tool l g waiting at last e }

@@ -1,0 +1,64 @@
+-- Where nothing waits, the answers are full.
+use Rattle.std.proofs.Common.{◌≡◌, ℕ, List, [], ◌∷◌, ◌++◌, map, Result, Ok, Err, refl, sym, ◌∙◌}
+use Rattle.pnm_image.specs.declared.message.Message.{Message}
+use Rattle.pnm_image.specs.declared.message.Message.TheVariants.{Begin, Row, ImageEnd, StreamEnd, Stop}
+use Rattle.pnm_image.specs.declared.place.Place.{Place}
+use Rattle.pnm_image.specs.declared.place.Place.TheVariants.{Between, Inside, After}
+use Rattle.pnm_image.specs.Heads.{Header}
+use Rattle.pnm_image.specs.Places.{place_after}
+use Rattle.pnm_tools.specs.declared.fault.ToolFault.{ToolFault}
+use Rattle.pnm_tools.specs.declared.tool.Tool.{Tool}
+use Rattle.pnm_tools.specs.Tools.{result_head, row_answer}
+use Rattle.pnm_tools.specs.Answers.{Ending, More, ending_of, EndsBy}
+use Rattle.pnm_tools.specs.RowWise.{answered, answered_from}
+
+-- ---- the answers end as the messages do
+
+-- messages that end nothing
+abbrev EndNothing : List Message → Type 0
+EndNothing [] = Unit {0}
+EndNothing (m ∷ ms) = (ending_of m ≡ More) × EndNothing ms
+
+rows_end_nothing : (rows : List (List ℕ)) → EndNothing (map Row rows)
+rows_end_nothing [] = tt
+rows_end_nothing (row ∷ rows) = (refl, rows_end_nothing rows)
+
+nothing_is_more : (a : List Message) → EndNothing a → EndsBy More a
+nothing_is_more [] h = refl
+nothing_is_more (m ∷ []) h = h.0
+nothing_is_more (m ∷ n ∷ a) h = (h.0, nothing_is_more (n ∷ a) h.1)
+
+ends_after : (e : Ending) (a b : List Message) → EndNothing a → EndsBy e b → EndsBy e (a ++ b)
+ends_after e [] b h ends = ends
+ends_after e (m ∷ []) [] h ends = h.0 ∙ sym ends
+ends_after e (m ∷ []) (n ∷ b) h ends = (h.0, ends)
+ends_after e (m ∷ n ∷ a) b h ends = (h.0, ends_after e (n ∷ a) b h.1 ends)
+
+head_ends_nothing : (r : Result Header ToolFault) → EndNothing (elim r [ Ok result ↦ Begin result ∷ [] | Err fault ↦ [] ])
+head_ends_nothing (Ok result) = (refl, tt)
+head_ends_nothing (Err fault) = tt
+
+-- the answer to a message that ends nothing ends nothing
+answer_ends_nothing : (tool : Tool) (place : Place) (m : Message) → ending_of m ≡ More → EndNothing (answered tool place m)
+answer_ends_nothing tool place (Begin head) e = head_ends_nothing (result_head tool head)
+answer_ends_nothing tool Between (Row row) e = tt
+answer_ends_nothing tool (Inside s y) (Row row) e = rows_end_nothing (row_answer tool s y row)
+answer_ends_nothing tool After (Row row) e = tt
+answer_ends_nothing tool place ImageEnd e = (refl, tt)
+answer_ends_nothing tool place StreamEnd e = absurd cc
+answer_ends_nothing tool place Stop e = absurd cc
+
+-- the answer to the last message
+last_ends : (tool : Tool) (place : Place) (m : Message) (e : Ending) → ending_of m ≡ e → EndsBy e (answered tool place m ++ [])
+last_ends tool place (Begin head) e is = ends_after e (answered tool place (Begin head)) [] (head_ends_nothing (result_head tool head)) (sym is)
+last_ends tool Between (Row row) e is = sym is
+last_ends tool (Inside s y) (Row row) e is = ends_after e (map Row (row_answer tool s y row)) [] (rows_end_nothing (row_answer tool s y row)) (sym is)
+last_ends tool After (Row row) e is = sym is
+last_ends tool place ImageEnd e is = is
+last_ends tool place StreamEnd e is = is
+last_ends tool place Stop e is = is
+
+pub answers_end_so : (tool : Tool) (place : Place) (l : List Message) (e : Ending) → EndsBy e l → EndsBy e (answered_from tool place l)
+answers_end_so tool place [] e ends = ends
+answers_end_so tool place (m ∷ []) e ends = last_ends tool place m e ends
+answers_end_so tool place (m ∷ n ∷ l) e ends = ends_after e (answered tool place m) (answered_from tool (place_after place m) (n ∷ l)) (answer_ends_nothing tool place m ends.0) (answers_end_so tool (place_after place m) (n ∷ l) e ends.1)

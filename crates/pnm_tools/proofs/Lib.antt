@@ -1,0 +1,13 @@
+pub mod PassingSteps
+pub mod FullAnswers
+pub mod FormulaLaws
+pub mod RowWiseLaws
+pub mod InvertLaws
+pub mod AtLaws
+pub mod InFullLaws
+pub mod OwedLaws
+pub mod FullLaws
+pub mod CutLaws
+pub mod DepthLaws
+pub mod ChannelLaws
+pub mod ToolLaws

@@ -1,0 +1,16 @@
+-- Each tool answers a whole image by its result.
+use Rattle.pnm_tools.specs.declared.tool.Tool.{Tool}
+use Rattle.pnm_tools.specs.declared.tool.Tool.TheVariants.{Invert, Cut, Depth, Channel}
+use Rattle.pnm_tools.specs.Tools.{IsLawfulTool}
+use Rattle.pnm_tools.proofs.RowWiseLaws.{AnswersImages}
+use Rattle.pnm_tools.proofs.InvertLaws.{invert_answers_images}
+use Rattle.pnm_tools.proofs.CutLaws.{cut_answers_images}
+use Rattle.pnm_tools.proofs.DepthLaws.{depth_answers_images}
+use Rattle.pnm_tools.proofs.ChannelLaws.{channel_answers_images}
+
+-- a whole image is answered by its result
+pub tool_answers_images : (tool : Tool) → IsLawfulTool tool → AnswersImages tool
+tool_answers_images Invert lawful = invert_answers_images
+tool_answers_images (Cut box) lawful = cut_answers_images box
+tool_answers_images (Depth maxval) lawful = depth_answers_images maxval
+tool_answers_images (Channel planes) lawful = channel_answers_images planes lawful

@@ -1,0 +1,127 @@
+-- What a filter may have given for the messages that it accepted, and what it owes.
+use Rattle.std.specs.Prelude.{◌≡◌, ◌⊎◌, ℕ, zero, suc, Bool, true, false, List, [], ◌∷◌, ◌++◌, Result, Ok, Err}
+use Rattle.pnm_image.specs.declared.message.Message.{Message}
+use Rattle.pnm_image.specs.declared.message.Message.TheVariants.{Begin, Row, ImageEnd, StreamEnd, Stop}
+use Rattle.pnm_image.specs.declared.place.Place.{Place}
+use Rattle.pnm_image.specs.declared.place.Place.TheVariants.{Between, Inside, After}
+use Rattle.pnm_image.specs.Heads.{Header}
+use Rattle.pnm_image.specs.Images.{Image, AreImages, messages_of_image, messages_of_stream}
+use Rattle.pnm_image.specs.Messages.{without_stop}
+use Rattle.pnm_image.specs.Places.{Accepts, IsLawful, place_of}
+use Rattle.pnm_image.specs.Completion.{IsFrontOf, Completes}
+use Rattle.pnm_tools.specs.declared.fault.ToolFault.{ToolFault}
+use Rattle.pnm_tools.specs.declared.fault.ToolFault.TheVariants.{CutOutside, ChannelOutside, TooLarge, OutOfOrder, Memory}
+use Rattle.pnm_tools.specs.declared.tool.Tool.{Tool}
+use Rattle.pnm_tools.specs.Tools.{result_head, Takes, applied, output_due}
+
+-- how a list of messages ends: it doesn't, whole, or broken off
+pub data Ending : Type 0 where
+  More : Ending
+  Whole : Ending
+  BrokenOff : Ending
+
+abbrev pub ending_of : Message → Ending
+ending_of (Begin head) = More
+ending_of (Row row) = More
+ending_of ImageEnd = More
+ending_of StreamEnd = Whole
+ending_of Stop = BrokenOff
+
+-- only the last message ends the stream, and so
+abbrev pub EndsBy : Ending → List Message → Type 0
+EndsBy e [] = e ≡ More
+EndsBy e (m ∷ []) = ending_of m ≡ e
+EndsBy e (m ∷ n ∷ ms) = (ending_of m ≡ More) × EndsBy e (n ∷ ms)
+
+-- the images that have ended in messages
+abbrev pub images_ended : List Message → ℕ
+images_ended [] = 0
+images_ended (Begin head ∷ ms) = images_ended ms
+images_ended (Row row ∷ ms) = images_ended ms
+images_ended (ImageEnd ∷ ms) = suc (images_ended ms)
+images_ended (StreamEnd ∷ ms) = images_ended ms
+images_ended (Stop ∷ ms) = images_ended ms
+
+-- an image that has begun
+abbrev pub begun_of : Place → Bool
+begun_of Between = false
+begun_of (Inside s y) = true
+begun_of After = false
+
+abbrev pub begun_in : List Message → Bool
+begun_in l = begun_of (place_of Between (without_stop l))
+
+-- what is owed once so many images have ended: all of their results, and the head of the next one's where it has begun
+unfoldable pub owed : Tool → ℕ → Bool → List Image → List Message
+owed tool ended begun [] = []
+owed tool zero false (i ∷ is) = []
+owed tool zero true (i ∷ is) = elim (result_head tool i.head) [
+  | Ok head ↦ Begin head ∷ []
+  | Err fault ↦ []
+]
+owed tool (suc ended) begun (i ∷ is) = elim (applied tool i) [
+  | Ok j ↦ messages_of_image j ++ owed tool ended begun is
+  | Err fault ↦ []
+]
+
+-- what was given for the messages that were accepted: a front of the output due, whatever images complete them; it is
+-- broken off only where they are
+pub record Answers (tool : Tool) (accepted given : List Message) : Type 0 where
+  pub lawful : IsLawful accepted
+  pub front : (is : List Image) → Completes is accepted → IsFrontOf (without_stop given) (output_due tool is)
+  pub stop : EndsBy BrokenOff given → EndsBy BrokenOff accepted
+
+-- and all that is owed was given, with the same end
+pub record AnswersInFull (tool : Tool) (accepted given : List Message) : Type 0 where
+  pub answers : Answers tool accepted given
+  pub all : (is : List Image) → Completes is accepted → IsFrontOf (owed tool (images_ended accepted) (begun_in accepted) is) given
+  pub ends : (e : Ending) → EndsBy e accepted → EndsBy e given
+
+-- ---- what a message that is fed meets
+
+abbrev pub IfBegin : Message → (Header → Type 0) → Type 0
+IfBegin (Begin head) P = P head
+IfBegin (Row row) P = Unit {0}
+IfBegin ImageEnd P = Unit {0}
+IfBegin StreamEnd P = Unit {0}
+IfBegin Stop P = Unit {0}
+
+-- the message may come: all was given for the one before, and it is in order
+abbrev pub MayCome : Bool → List Message → Message → Type 0
+MayCome all_given accepted m = (all_given ≡ true) × Accepts (place_of Between accepted) m
+
+-- the tool takes the image that begins
+abbrev pub Begins : Tool → Message → Type 0
+Begins tool m = IfBegin m (Takes tool)
+
+-- the tool refuses it so
+abbrev pub RefusesHead : Tool → Message → ToolFault → Type 0
+RefusesHead tool (Begin head) fault = result_head tool head ≡ Err fault
+RefusesHead tool (Row row) fault = ⊥
+RefusesHead tool ImageEnd fault = ⊥
+RefusesHead tool StreamEnd fault = ⊥
+RefusesHead tool Stop fault = ⊥
+
+-- how a message is judged after those that were accepted: each refusal comes exactly where it should, but for memory
+abbrev pub Judges : Bool → Tool → List Message → Message → Result (Unit {0}) ToolFault → Type 0
+Judges all_given tool accepted m (Ok _) = MayCome all_given accepted m × Begins tool m
+Judges all_given tool accepted m (Err OutOfOrder) = (MayCome all_given accepted m → ⊥) ⊎ RefusesHead tool m OutOfOrder
+Judges all_given tool accepted m (Err Memory) = MayCome all_given accepted m × Begins tool m
+Judges all_given tool accepted m (Err CutOutside) = MayCome all_given accepted m × RefusesHead tool m CutOutside
+Judges all_given tool accepted m (Err ChannelOutside) = MayCome all_given accepted m × RefusesHead tool m ChannelOutside
+Judges all_given tool accepted m (Err TooLarge) = MayCome all_given accepted m × RefusesHead tool m TooLarge
+
+-- ---- laws
+
+-- the results of images, none of which is refused
+abbrev pub AreResults : Tool → List Image → List Image → Type 0
+AreResults tool [] [] = Unit {0}
+AreResults tool [] (j ∷ js) = ⊥
+AreResults tool (i ∷ is) [] = ⊥
+AreResults tool (i ∷ is) (j ∷ js) = (applied tool i ≡ Ok j) × AreResults tool is js
+
+-- a full answer to a stream is the tool's stream
+abbrev pub FullAnswerIsTheStream : Type 0
+FullAnswerIsTheStream =
+    (tool : Tool) (is : List Image) (given : List Message) → AreImages is → AnswersInFull tool (messages_of_stream is) given
+    → (js : List Image) × AreResults tool is js × (given ≡ messages_of_stream js)

@@ -1,0 +1,50 @@
+-- The picked image, from pamchannel(1): a PAM image of planes of the image, in the order in which they are named. Its
+-- tuple type is the one that is named.
+use Rattle.std.specs.Prelude.{◌≤◌, ◌<◌, ℕ, ◌+◌, ◌*◌, List, length, map, slice_index, All, Result, Ok, Err, if◌then◌else◌, nat_lt}
+use Rattle.std.specs.List.{flat_map, range_with_len, list_all}
+use Rattle.pnm_image.specs.declared.shape.Kind.TheVariants.{Pam}
+use Rattle.pnm_image.specs.declared.shape.Shape.{Shape}
+use Rattle.pnm_image.specs.Heads.{Header, IsTupleType}
+use Rattle.pnm_image.specs.Images.{Image, sample_at}
+use Rattle.pnm_tools.specs.declared.fault.ToolFault.{ToolFault}
+use Rattle.pnm_tools.specs.declared.fault.ToolFault.TheVariants.{ChannelOutside}
+use Rattle.pnm_tools.specs.Limits.{within_limits}
+
+-- the numbers of the planes, from 0, and the tuple type of what is picked
+pub record Picks : Type 0 where
+  pub numbers : List ℕ
+  pub tuple_type : List ℕ
+
+abbrev pub picks : List ℕ → List ℕ → Picks
+picks numbers tuple_type = record { numbers = numbers; tuple_type = tuple_type }
+
+-- 1 to 256 planes, each numbered 0 to 255
+pub record IsLawfulPick (picks : Picks) : Type 0 where
+  pub some : 1 ≤ length picks.numbers
+  pub not_many : length picks.numbers ≤ 256
+  pub in_range : All (λ number. number ≤ 255) picks.numbers
+  pub tuple_type : IsTupleType picks.tuple_type
+
+abbrev pub picked_header : Picks → Header → Header
+picked_header picks head = record { shape = record head.shape { kind = Pam; depth = length picks.numbers }; tuple_type = picks.tuple_type }
+
+-- refused where the image has no plane of one of the numbers
+abbrev pub picked_head : Picks → Header → Result Header ToolFault
+picked_head picks head =
+    if list_all (λ number. nat_lt number head.shape.depth) picks.numbers then within_limits (picked_header picks head)
+    else Err ChannelOutside
+
+abbrev pub picked_sample : Picks → Image → ℕ → ℕ → ℕ → ℕ
+picked_sample picks i x y p = sample_at i x y (slice_index picks.numbers p)
+
+-- of each column of a row of this shape the planes that are picked
+abbrev pub picked_samples : List ℕ → Shape → List ℕ → List ℕ
+picked_samples numbers s row = flat_map (λ x. map (λ number. slice_index row (x * s.depth + number)) numbers) (range_with_len 0 s.width)
+
+-- a row of an image of this shape
+abbrev pub picked_row : Picks → Shape → List ℕ → List ℕ
+picked_row picks s row = picked_samples picks.numbers s row
+
+-- an image of this shape has the planes
+abbrev pub HasPlanes : Picks → Shape → Type 0
+HasPlanes picks s = All (λ number. number < s.depth) picks.numbers

@@ -1,0 +1,12 @@
+pub mod Formulas
+pub mod Limits
+pub mod Invert
+pub mod Cut
+pub mod Depth
+pub mod Channel
+pub mod Tools
+pub mod Answers
+pub mod Passing
+pub mod RowWise
+pub mod States
+pub mod Steps

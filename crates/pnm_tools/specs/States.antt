@@ -1,0 +1,80 @@
+-- The state of a tool at work: what it has accepted and given.
+use Rattle.std.specs.Prelude.{◌≡◌, ◌⊎◌, ℕ, ◌+◌, Bool, true, false, List, [], ◌∷◌, ◌++◌, map, length, Option, Some, None}
+use Rattle.std.specs.List.{range_with_len}
+use Rattle.pnm_image.specs.declared.shape.Shape.{Shape}
+use Rattle.pnm_image.specs.declared.message.Message.{Message}
+use Rattle.pnm_image.specs.declared.message.Message.TheVariants.{Begin, Row, ImageEnd, StreamEnd, Stop}
+use Rattle.pnm_image.specs.declared.place.Place.{Place}
+use Rattle.pnm_image.specs.declared.place.Place.TheVariants.{Between, Inside, After}
+use Rattle.pnm_image.specs.Places.{IsLawful, place_of}
+use Rattle.pnm_tools.specs.declared.depth.Rescaler.{Rescaler}
+use Rattle.pnm_tools.specs.declared.state.Pending.{Pending}
+use Rattle.pnm_tools.specs.declared.state.Pending.TheVariants.{AllGiven, Waiting, Nothing}
+use Rattle.pnm_tools.specs.declared.state.ToolState.{ToolState}
+use Rattle.pnm_tools.specs.declared.tool.Tool.{Tool}
+use Rattle.pnm_tools.specs.declared.tool.Tool.TheVariants.{Invert, Cut, Depth, Channel}
+use Rattle.pnm_tools.specs.declared.work.Work.{Work}
+use Rattle.pnm_tools.specs.declared.work.Work.TheVariants.{Inverting, Cutting, Rescaling, Picking}
+use Rattle.pnm_tools.specs.Depth.{nearest_sample}
+use Rattle.pnm_tools.specs.Answers.{Answers}
+use Rattle.pnm_tools.specs.Channel.{HasPlanes}
+use Rattle.pnm_tools.specs.Tools.{IsLawfulTool, Takes}
+use Rattle.pnm_tools.specs.RowWise.{answered_from}
+
+-- a table of the rescaled samples, or none, where each is computed
+abbrev pub HasTable : Rescaler → Shape → Type 0
+HasTable r s = (r.table.items ≡ []) ⊎ (r.table.items ≡ map (nearest_sample r.maxval s.maxval) (range_with_len 0 (s.maxval + 1)))
+
+-- which tool is at work
+abbrev pub tool_of : Work → Tool
+tool_of (Inverting inverter) = Invert
+tool_of (Cutting box) = Cut box
+tool_of (Rescaling rescaler) = Depth rescaler.maxval
+tool_of (Picking planes) = Channel planes
+
+-- it is ready for the rows of an image of this shape
+abbrev pub IsReady : Work → Shape → Type 0
+IsReady (Inverting inverter) s = Unit {0}
+IsReady (Cutting box) s = Unit {0}
+IsReady (Rescaling rescaler) s = HasTable rescaler s
+IsReady (Picking planes) s = HasPlanes planes s
+
+abbrev pub IsReadyAt : Work → Place → Type 0
+IsReadyAt work Between = Unit {0}
+IsReadyAt work (Inside s y) = IsReady work s
+IsReadyAt work After = Unit {0}
+
+-- the message that waits to be given
+abbrev pub waiting_in : Pending → List Message
+waiting_in AllGiven = []
+waiting_in (Waiting message) = message ∷ []
+waiting_in Nothing = []
+
+abbrev pub is_all_given : Pending → Bool
+is_all_given AllGiven = true
+is_all_given (Waiting message) = false
+is_all_given Nothing = false
+
+-- no image that begins is refused
+abbrev pub AreTaken : Tool → List Message → Type 0
+AreTaken tool [] = Unit {0}
+AreTaken tool (Begin head ∷ ms) = Takes tool head × AreTaken tool ms
+AreTaken tool (Row row ∷ ms) = AreTaken tool ms
+AreTaken tool (ImageEnd ∷ ms) = AreTaken tool ms
+AreTaken tool (StreamEnd ∷ ms) = AreTaken tool ms
+AreTaken tool (Stop ∷ ms) = AreTaken tool ms
+
+-- these were accepted, none of them refused, and the answers to them are those that were given and those that wait
+pub record IsAnswering (tool : Tool) (l g waiting : List Message) : Type 0 where
+  pub lawful : IsLawful l
+  pub taken : AreTaken tool l
+  pub given : answered_from tool Between l ≡ g ++ waiting
+
+-- the state of this tool, which has accepted these messages and given those
+pub record IsAt (s : ToolState) (t : Tool) (l g : List Message) : Type 0 where
+  pub tool : tool_of s.work ≡ t
+  pub options : IsLawfulTool t
+  pub answering : IsAnswering t l g (waiting_in s.pending)
+  pub place : s.place ≡ place_of Between l
+  pub ready : IsReadyAt s.work s.place
+  pub answers : Answers t l g

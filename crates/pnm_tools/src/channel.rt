@@ -1,0 +1,137 @@
+//! `pamchannel`: planes of the image, in the order in which they are named, from pamchannel(1).
+
+ghost use Rattle.std.specs.Prelude.{◌≡◌, ◌≤◌, ◌<◌, ◌↔◌, All, IsTrue, IfOk, IfErr, length};
+ghost use Rattle.pnm_image.specs.Heads.{row_length};
+ghost use Rattle.pnm_tools.specs.declared.fault.ToolFault.TheVariants.{Memory};
+ghost use Rattle.pnm_tools.specs.declared.tool.Tool.TheVariants.{Channel};
+ghost use Rattle.pnm_tools.specs.Channel.{picked_samples};
+
+use crate::fault::ToolFault;
+use crate::rows::{Rows, result_head};
+use pnm_image::{Head, Kind, Samples, Shape};
+use std::alloc::Global;
+use std::marker::Model;
+
+/// The most planes that are picked.
+const MOST_PLANES: usize = 256;
+
+/// The greatest number of a plane.
+const LAST_PLANE: u16 = 255;
+
+/// The numbers of the planes that are picked, from 0, and the tuple type of what is picked.
+#[derive(Debug, Drop)]
+pub struct Planes {
+    numbers: Vec<u16>,
+    tuple_type: Vec<u8>,
+}
+
+impl Model for Planes {
+    ghost use Rattle.pnm_tools.specs.Channel.{Picks, picks};
+
+    ghost Value = { Picks };
+
+    ghost view = { λ p. picks p.numbers.items p.tuple_type.items };
+}
+
+impl Rows for Planes {
+    ghost use Rattle.pnm_tools.specs.Channel.{HasPlanes};
+
+    ghost tool = { λ planes. Channel planes };
+
+    ghost ready = { HasPlanes };
+
+    fn begin(&mut self, alloc: Global, head: &Head) -> Result<Head, ToolFault> {
+        let shape = head.shape();
+        if !self.numbers.iter().all(|number| u32::from(*number) < shape.depth) {
+            return Err(ToolFault::ChannelOutside);
+        }
+        let picked = Shape {
+            kind: Kind::Pam,
+            depth: self.numbers.len() as u32,
+            ..shape
+        };
+        result_head(alloc, picked, self.tuple_type.as_slice())
+    }
+
+    /// Makes a new row.
+    fn row(
+        &self,
+        alloc: Global,
+        shape: Shape,
+        _y: u32,
+        row: Samples,
+    ) -> Result<Option<Samples>, ToolFault> {
+        match pick(alloc, self.numbers.as_slice(), shape, row.as_slice()) {
+            Ok(picked) => Ok(Some(Samples::new(picked))),
+            Err(fault) => Err(fault),
+        }
+    }
+}
+
+impl Planes {
+    ghost use Rattle.pnm_tools.specs.Channel.{IsLawfulPick};
+
+    /// These planes, in this order, and this tuple type.
+    pub fn new(numbers: Vec<u16>, tuple_type: Vec<u8>) -> Planes
+        ensures numbers { result.numbers ≡ numbers.items }
+        ensures tuple_type { result.tuple_type ≡ tuple_type.items }
+    {
+        Planes {
+            numbers,
+            tuple_type,
+        }
+    }
+
+    /// The numbers of the planes.
+    pub fn numbers(&self) -> &[u16]
+        ensures { result.now ≡ self.now.numbers }
+    {
+        self.numbers.as_slice()
+    }
+
+    /// The bytes of the tuple type.
+    pub fn tuple_type(&self) -> &[u8]
+        ensures { result.now ≡ self.now.tuple_type }
+    {
+        self.tuple_type.as_slice()
+    }
+
+    /// Equal planes. The only fault is `Memory`.
+    pub(crate) fn copy(&self) -> Result<Planes, ToolFault>
+        ensures equal { IfOk result (λ planes. planes ≡ self.now) }
+        ensures refused { IfErr result (λ fault. fault ≡ Memory) }
+    {
+        Ok(Planes {
+            numbers: self.numbers.clone()?,
+            tuple_type: self.tuple_type.clone()?,
+        })
+    }
+
+    /// Whether there are 1 to 256 numbers, each 0 to 255, and the tuple type is one of PAM.
+    pub(crate) fn is_lawful(&self) -> bool
+        ensures { IsTrue result ↔ IsLawfulPick self.now }
+    {
+        1 <= self.numbers.len()
+            && self.numbers.len() <= MOST_PLANES
+            && self.numbers.iter().all(|number| *number <= LAST_PLANE)
+            && Head::suits(Kind::Pam, 1, 1, self.tuple_type.as_slice())
+    }
+}
+
+/// The samples of these planes of a row.
+fn pick(alloc: Global, numbers: &[u16], shape: Shape, row: &[u16]) -> Result<Vec<u16>, ToolFault>
+    requires numbers { All (λ number. number < shape.depth) numbers.now }
+    requires row { length row.now ≡ row_length shape }
+    requires limits { (shape.width ≤ 1000000) × (length numbers.now ≤ 256) }
+    ensures picked { IfOk result (λ picked. picked.items ≡ picked_samples numbers.now shape row.now) }
+    ensures refused { IfErr result (λ fault. fault ≡ Memory) }
+{
+    let depth = shape.depth as usize;
+    let mut picked = Vec::with_capacity(alloc, shape.width as usize * numbers.len())?;
+    for pixel in row.chunks_exact(depth) {
+        for number in numbers {
+            picked.push(pixel[*number as usize])?;
+        }
+    }
+    Ok(picked)
+}

@@ -1,0 +1,211 @@
+//! `pamcut`: a rectangle of the image, from pamcut(1).
+
+ghost use Rattle.std.specs.Prelude.{◌≡◌, ◌↔◌, IsTrue, IfSome};
+ghost use Rattle.pnm_tools.specs.Cut.{IsEdge, IsSize, IsLawfulAxis, KeepsWithin, columns_of_row, span_of, first_kept, last_kept, edge_of};
+ghost use Rattle.pnm_tools.specs.declared.tool.Tool.TheVariants.{Cut};
+
+use crate::fault::ToolFault;
+use crate::rows::{Rows, result_head};
+use pnm_image::{Head, Samples, Shape};
+use std::alloc::Global;
+
+/// The greatest distance of an edge, and the greatest size.
+const FARTHEST: u32 = 16_777_216;
+
+/// Which part of an image is kept: the first and the last column and row, of which negative numbers
+/// count from the end (-1 is the last), or its width and height in place of one of two edges.
+#[derive(Clone, Copy, Debug, PartialEq, Eq)]
+pub struct CutBox {
+    /// The first column.
+    pub left: Option<i32>,
+    /// The last column.
+    pub right: Option<i32>,
+    /// The first row.
+    pub top: Option<i32>,
+    /// The last row.
+    pub bottom: Option<i32>,
+    /// Columns.
+    pub width: Option<u32>,
+    /// Rows.
+    pub height: Option<u32>,
+}
+
+/// Columns or rows that are kept, from the first to the last.
+#[derive(Clone, Copy, Debug)]
+pub(crate) struct Span {
+    first: u32,
+    last: u32,
+}
+
+impl Rows for CutBox {
+    ghost tool = { λ box. Cut box };
+
+    ghost ready = { λ _ _. Unit {0} };
+
+    fn begin(&mut self, alloc: Global, head: &Head) -> Result<Head, ToolFault> {
+        let shape = head.shape();
+        if shape.height == 0 {
+            return Err(ToolFault::OutOfOrder);
+        }
+        let (Some(columns), Some(rows)) = (self.columns(shape), self.rows(shape)) else {
+            return Err(ToolFault::CutOutside);
+        };
+        let kept = Shape {
+            width: columns.count(),
+            height: rows.count(),
+            ..shape
+        };
+        result_head(alloc, kept, head.tuple_type())
+    }
+
+    /// Moves the columns that are kept to the row's front.
+    fn row(
+        &self,
+        _alloc: Global,
+        shape: Shape,
+        y: u32,
+        row: Samples,
+    ) -> Result<Option<Samples>, ToolFault> {
+        let (Some(columns), Some(rows)) = (self.columns(shape), self.rows(shape)) else {
+            return Ok(None);
+        };
+        if y < rows.first || rows.last < y {
+            return Ok(None);
+        }
+        let mut samples = row.into_vec();
+        keep(&mut samples, columns, shape.depth as usize);
+        Ok(Some(Samples::new(samples)))
+    }
+}
+
+impl CutBox {
+    ghost use Rattle.pnm_tools.specs.Cut.{IsLawfulBox, columns_kept, rows_kept};
+
+    /// Whether each edge is from -16,777,216 to 16,777,216, each size from 1 to 16,777,216, and no
+    /// axis has two edges and a size.
+    pub(crate) fn is_lawful(&self) -> bool
+        ensures { IsTrue result ↔ IsLawfulBox self.now }
+    {
+        is_lawful_axis(self.left, self.right, self.width)
+            && is_lawful_axis(self.top, self.bottom, self.height)
+    }
+
+    /// The columns that are kept of an image of this shape.
+    fn columns(&self, shape: Shape) -> Option<Span>
+        requires { IsLawfulBox self.now }
+        ensures { result ≡ columns_kept self.now shape }
+    {
+        span_of(shape.width, self.left, self.right, self.width)
+    }
+
+    /// The rows that are kept of an image of this shape.
+    fn rows(&self, shape: Shape) -> Option<Span>
+        requires { IsLawfulBox self.now }
+        ensures { result ≡ rows_kept self.now shape }
+    {
+        span_of(shape.height, self.top, self.bottom, self.height)
+    }
+}
+
+impl Span {
+    ghost use Rattle.pnm_tools.specs.Cut.{span_count};
+    ghost use Rattle.std.specs.Prelude.{◌≤◌, ◌<◌};
+
+    /// How many columns or rows these are.
+    fn count(self) -> u32
+        requires { (self.first ≤ self.last) × (self.last < 1000000) }
+        ensures { result ≡ span_count self }
+    {
+        self.last - self.first + 1
+    }
+}
+
+/// Keeps these columns of a row of so many samples a pixel.
+fn keep(row: &mut Vec<u16>, columns: Span, depth: usize)
+    requires { KeepsWithin columns depth row.old.items }
+    ensures { row.new.items ≡ columns_of_row columns depth row.old.items }
+{
+    let first = columns.first as usize * depth;
+    row.truncate((columns.last as usize + 1) * depth);
+    if first > 0 {
+        let kept = row.len() - first;
+        row.copy_within(first.., 0);
+        row.truncate(kept);
+    }
+}
+
+fn is_lawful_axis(start: Option<i32>, end: Option<i32>, size: Option<u32>) -> bool
+    ensures { IsTrue result ↔ IsLawfulAxis start end size }
+{
+    let all = start.is_some() && end.is_some() && size.is_some();
+    !all && is_edge(start) && is_edge(end) && is_size(size)
+}
+
+fn is_edge(edge: Option<i32>) -> bool
+    ensures { IsTrue result ↔ IfSome edge IsEdge }
+{
+    match edge {
+        Some(edge) => edge.unsigned_abs() <= FARTHEST,
+        None => true,
+    }
+}
+
+fn is_size(size: Option<u32>) -> bool
+    ensures { IsTrue result ↔ IfSome size IsSize }
+{
+    match size {
+        Some(size) => 1 <= size && size <= FARTHEST,
+        None => true,
+    }
+}
+
+/// What is kept of so many columns or rows, where it lies among them.
+fn span_of(count: u32, start: Option<i32>, end: Option<i32>, size: Option<u32>) -> Option<Span>
+    requires { IsLawfulAxis start end size }
+    ensures { result ≡ span_of count start end size }
+{
+    let first = first_kept(count, start, end, size);
+    let last = last_kept(count, start, end, size);
+    if 0 <= first && first <= last && last < i64::from(count) {
+        Some(Span {
+            first: first as u32,
+            last: last as u32,
+        })
+    } else {
+        None
+    }
+}
+
+fn first_kept(count: u32, start: Option<i32>, end: Option<i32>, size: Option<u32>) -> i64
+    requires { IsLawfulAxis start end size }
+    ensures { result ≡ first_kept count start end size }
+{
+    match (start, end, size) {
+        (Some(start), _, _) => edge_of(count, start),
+        (None, Some(end), Some(size)) => edge_of(count, end) - i64::from(size) + 1,
+        (None, _, _) => 0,
+    }
+}
+
+fn last_kept(count: u32, start: Option<i32>, end: Option<i32>, size: Option<u32>) -> i64
+    requires { IsLawfulAxis start end size }
+    ensures { result ≡ last_kept count start end size }
+{
+    match (start, end, size) {
+        (_, Some(end), _) => edge_of(count, end),
+        (Some(start), None, Some(size)) => edge_of(count, start) + i64::from(size) - 1,
+        (None, None, Some(size)) => i64::from(size) - 1,
+        (_, None, None) => i64::from(count) - 1,
+    }
+}
+
+/// A column or a row by its number.
+fn edge_of(count: u32, edge: i32) -> i64
+    ensures { result ≡ edge_of count edge }
+{
+    if edge < 0 {
+        i64::from(count) + i64::from(edge)
+    } else {
+        i64::from(edge)
+    }
+}

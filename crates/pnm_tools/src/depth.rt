@@ -1,0 +1,140 @@
+//! `pamdepth`: the image with another maxval, from pamdepth(1).
+
+ghost use Rattle.std.specs.Prelude.{◌≡◌, ◌≤◌, ◌+◌, All, map, ℕ, length, OnOk, IfOk, IfErr};
+ghost use Rattle.std.specs.List.{range_with_len};
+ghost use Rattle.pnm_tools.specs.declared.fault.ToolFault.TheVariants.{Memory};
+ghost use Rattle.pnm_tools.specs.declared.tool.Tool.TheVariants.{Depth};
+ghost use Rattle.pnm_tools.specs.Depth.{nearest_sample, kind_at, type_at};
+
+use crate::fault::ToolFault;
+use crate::rows::{Rows, result_head};
+use pnm_image::{Head, Kind, Samples, Shape};
+use std::alloc::Global;
+
+/// Gives the rows of images another maxval.
+#[derive(Debug, Drop)]
+pub(crate) struct Rescaler {
+    /// The new maxval.
+    pub(crate) maxval: u32,
+    /// What becomes of each sample from 0 to the image's maxval; empty where the image has too few
+    /// samples to make it worth while.
+    pub(crate) table: Vec<u16>,
+}
+
+impl Rows for Rescaler {
+    ghost use Rattle.pnm_tools.specs.States.{HasTable};
+
+    ghost tool = { λ r. Depth r.maxval };
+
+    ghost ready = { HasTable };
+
+    fn begin(&mut self, alloc: Global, head: &Head) -> Result<Head, ToolFault> {
+        let shape = head.shape();
+        let rescaled = Shape {
+            kind: kind_at(self.maxval, shape.kind),
+            maxval: self.maxval,
+            ..shape
+        };
+        let head = result_head(alloc, rescaled, type_at(self.maxval, head.tuple_type()))?;
+        self.table = if is_worth_a_table(shape) {
+            table_of(alloc, self.maxval, shape.maxval)?
+        } else {
+            Vec::new(alloc)
+        };
+        Ok(head)
+    }
+
+    /// Changes the row in place.
+    fn row(
+        &self,
+        _alloc: Global,
+        shape: Shape,
+        _y: u32,
+        row: Samples,
+    ) -> Result<Option<Samples>, ToolFault> {
+        let mut samples = row.into_vec();
+        let (new, old) = (self.maxval, shape.maxval);
+        if self.table.is_empty() {
+            rescale(samples.as_mut_slice(), new, old);
+        } else {
+            rescale_by_table(samples.as_mut_slice(), self.table.as_slice(), new, old);
+        }
+        Ok(Some(Samples::new(samples)))
+    }
+}
+
+/// Takes each sample from the table.
+fn rescale_by_table(samples: &mut [u16], table: &[u16], new: u32, old: u32)
+    requires table { table.now ≡ map (nearest_sample new old) (range_with_len 0 (old + 1)) }
+    requires samples { All (λ sample. sample ≤ old) samples.old }
+    ensures { samples.new ≡ map (nearest_sample new old) samples.old }
+{
+    for sample in samples.iter_mut() {
+        *sample = table[*sample as usize];
+    }
+}
+
+/// Computes each sample.
+fn rescale(samples: &mut [u16], new: u32, old: u32)
+    requires limits { (1 ≤ new) × (new ≤ 65535) × (1 ≤ old) × (old ≤ 65535) }
+    requires samples { All (λ sample. sample ≤ old) samples.old }
+    ensures { samples.new ≡ map (nearest_sample new old) samples.old }
+{
+    for sample in samples.iter_mut() {
+        *sample = nearest_sample(new, old, u32::from(*sample));
+    }
+}
+
+/// The sample nearest to the same share of the new maxval, halves up.
+fn nearest_sample(new: u32, old: u32, sample: u32) -> u16
+    requires limits { (1 ≤ new) × (new ≤ 65535) × (1 ≤ old) × (old ≤ 65535) }
+    requires sample { sample ≤ old }
+    ensures { result ≡ nearest_sample new old sample }
+{
+    let (new, old, sample) = (u64::from(new), u64::from(old), u64::from(sample));
+    ((2 * sample * new + old) / (2 * old)) as u16
+}
+
+/// What becomes of each sample from 0 to the old maxval.
+fn table_of(alloc: Global, new: u32, old: u32) -> Result<Vec<u16>, ToolFault>
+    requires limits { (1 ≤ new) × (new ≤ 65535) × (1 ≤ old) × (old ≤ 65535) }
+    ensures made { IfOk result (λ table. table.items ≡ map (nearest_sample new old) (range_with_len 0 (old + 1))) }
+    ensures refused { IfErr result (λ fault. fault ≡ Memory) }
+{
+    let mut table = Vec::with_capacity(alloc, old as usize + 1)?;
+    for sample in 0..old + 1 {
+        table.push(nearest_sample(new, old, sample))?;
+    }
+    Ok(table)
+}
+
+/// A table costs a division for each sample up to the maxval; without it each sample of the image
+/// costs one.
+fn is_worth_a_table(shape: Shape) -> bool {
+    shape.row_length() * u64::from(shape.height) > u64::from(shape.maxval)
+}
+
+/// Bits are gray samples at any maxval but 1.
+fn kind_at(maxval: u32, kind: Kind) -> Kind
+    ensures { result ≡ kind_at maxval kind }
+{
+    match kind {
+        Kind::Bit if maxval != 1 => Kind::Gray,
+        kind => kind,
+    }
+}
+
+/// Black and white is grayscale at any maxval but 1.
+fn type_at(maxval: u32, tuple_type: &[u8]) -> &[u8]
+    ensures { result.now ≡ type_at maxval tuple_type.now }
+{
+    if maxval == 1 {
+        tuple_type
+    } else if tuple_type == b"BLACKANDWHITE".as_slice() {
+        b"GRAYSCALE"
+    } else if tuple_type == b"BLACKANDWHITE_ALPHA".as_slice() {
+        b"GRAYSCALE_ALPHA"
+    } else {
+        tuple_type
+    }
+}

@@ -1,0 +1,43 @@
+//! Why a tool refused.
+
+ghost use Rattle.std.specs.Prelude.{◌≡◌};
+ghost use Rattle.pnm_tools.specs.declared.fault.ToolFault.TheVariants.{Memory};
+
+use std::alloc::{AllocError, AllocFailed};
+use thiserror::Error;
+
+/// Why a tool refused a message or an image. The text of each variant is its name.
+#[derive(Clone, Copy, Debug, PartialEq, Eq, Error)]
+pub enum ToolFault {
+    /// The part that is to be kept lies outside the image.
+    #[error("CutOutside")]
+    CutOutside,
+    /// The image has no plane of a number that was asked for.
+    #[error("ChannelOutside")]
+    ChannelOutside,
+    /// The result is beyond the limits.
+    #[error("TooLarge")]
+    TooLarge,
+    /// The message can't come here.
+    #[error("OutOfOrder")]
+    OutOfOrder,
+    /// Memory ran out.
+    #[error("Memory")]
+    Memory,
+}
+
+impl From<AllocError> for ToolFault {
+    ghost from_gives = { λ _ fault. fault ≡ Memory };
+
+    fn from(_error: AllocError) -> ToolFault {
+        ToolFault::Memory
+    }
+}
+
+impl<T: Drop> From<AllocFailed<T>> for ToolFault {
+    ghost from_gives = { λ _ fault. fault ≡ Memory };
+
+    fn from(_error: AllocFailed<T>) -> ToolFault {
+        ToolFault::Memory
+    }
+}

@@ -1,0 +1,48 @@
+//! What a tool is to those who run it: a filter of messages.
+
+ghost use Rattle.std.specs.Prelude.{◌≡◌, ℕ, ◌<◌, List, [], ◌∷◌, ◌++◌, Bool, true, false, Option, Some, None, OnOk, IfOk, IfErr, IfSome, IfNone, Err};
+ghost use Rattle.pnm_image.specs.declared.message.Message.{Message as Said};
+ghost use Rattle.pnm_tools.specs.declared.fault.ToolFault.{ToolFault as Fault};
+ghost use Rattle.pnm_tools.specs.declared.fault.ToolFault.TheVariants.{Memory};
+ghost use Rattle.pnm_tools.specs.declared.tool.Tool.{Tool as Value};
+ghost use Rattle.pnm_tools.specs.Answers.{Ending, EndsBy, Answers, AnswersInFull, Judges};
+
+use crate::fault::ToolFault;
+use pnm_image::Message;
+
+/// Takes the messages of images one by one, and gives those of their results. After each `feed` the
+/// caller asks by `next` until it answers `None`.
+pub trait Filter {
+    /// The state of this tool, which has accepted these messages and given those.
+    ghost at: { Self → Value → List Said → List Said → Type 0 };
+
+    /// Nothing is owed for the last message that was accepted.
+    ghost all_given: { Self → Bool };
+
+    /// The fault that there was, if any.
+    ghost stopped: { Self → Option Fault };
+
+    /// The messages that are still to be given, at most.
+    ghost waiting: { Self → ℕ };
+
+    /// Takes the next message. After a fault it answers it for good, and the message is dropped.
+    fn feed(&mut self, message: Message) -> Result<(), ToolFault>
+        ensures accepted { OnOk result ((t : Value) (l g : List Said) → at self.old t l g → at self.new t (l ++ message ∷ []) g) }
+        ensures owes { OnOk result (all_given self.new ≡ false) }
+        ensures judged { stopped self.old ≡ None → (t : Value) (l g : List Said) → at self.old t l g → Judges (all_given self.old) t l message result }
+        ensures stops { IfErr result (λ k. stopped self.new ≡ Some k) }
+        ensures goes_on { OnOk result ((stopped self.old ≡ None) × (stopped self.new ≡ None)) }
+        ensures stays { (k : Fault) → stopped self.old ≡ Some k → result ≡ Err k };
+
+    /// The next message of the results, or `None` where all that is owed was given.
+    fn next(&mut self) -> Result<Option<Message>, ToolFault>
+        ensures given { IfOk result (λ r. IfSome r (λ m. (t : Value) (l g : List Said) → at self.old t l g → at self.new t l (g ++ m ∷ []))) }
+        ensures fewer { IfOk result (λ r. IfSome r (λ m. (waiting self.new < waiting self.old) × (all_given self.old ≡ false) × (all_given self.new ≡ false))) }
+        ensures full { IfOk result (λ r. IfNone r ((all_given self.new ≡ true) × ((t : Value) (l g : List Said) → at self.old t l g → at self.new t l g × AnswersInFull t l g))) }
+        ensures failed { stopped self.old ≡ None → IfErr result (λ k. (k ≡ Memory) × ((t : Value) (l g : List Said) → at self.old t l g → EndsBy Ending.More g)) }
+        ensures stops { IfErr result (λ k. stopped self.new ≡ Some k) }
+        ensures goes_on { OnOk result ((stopped self.old ≡ None) × (stopped self.new ≡ None)) }
+        ensures stays { (k : Fault) → stopped self.old ≡ Some k → result ≡ Err k };
+
+    ghost at_answers: { (s : Self) (t : Value) (l g : List Said) → at s t l g → Answers t l g };
+}

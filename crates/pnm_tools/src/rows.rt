@@ -1,0 +1,66 @@
+//! What a tool is that makes of each row at most one row of the result, and keeps none: its head rule
+//! and its row rule.
+
+ghost use Rattle.std.specs.Prelude.{◌≡◌, ◌<◌, ◌≤◌, ◌⊎◌, true, false, OnOk, IfOk, IfErr, Ok, Err};
+ghost use Rattle.pnm_image.specs.Heads.{Suits, header_of};
+ghost use Rattle.pnm_image.specs.Places.{IsRowOf};
+ghost use Rattle.pnm_image.specs.declared.shape.Shape.{Shape as ShapeValue};
+ghost use Rattle.pnm_tools.specs.declared.fault.ToolFault.TheVariants.{Memory, TooLarge};
+ghost use Rattle.pnm_tools.specs.declared.tool.Tool.{Tool as Value};
+ghost use Rattle.pnm_tools.specs.Limits.{is_too_large};
+ghost use Rattle.pnm_tools.specs.RowWise.{row_list};
+ghost use Rattle.pnm_tools.specs.Tools.{IsLawfulTool, Takes, result_head, row_answer};
+
+use crate::fault::ToolFault;
+use pnm_image::{Head, HeadFault, Samples, Shape};
+use std::alloc::Global;
+
+/// The head rule and the row rule of a tool.
+pub(crate) trait Rows {
+    /// Which tool it is.
+    ghost tool: { Self → Value };
+
+    /// It is ready for the rows of an image of this shape.
+    ghost ready: { Self → ShapeValue → Type 0 };
+
+    /// The head of the result of an image with this head, or the refusal. Then it is ready for the
+    /// image's rows.
+    fn begin(&mut self, alloc: Global, head: &Head) -> Result<Head, ToolFault>
+        requires { IsLawfulTool (tool self.old) }
+        ensures same { tool self.new ≡ tool self.old }
+        ensures head { IfOk result (λ made. result_head (tool self.old) head.now ≡ Ok made) }
+        ensures ready { OnOk result (ready self.new head.now.shape) }
+        ensures refused { IfErr result (λ fault. (result_head (tool self.old) head.now ≡ Err fault)
+            ⊎ ((fault ≡ Memory) × Takes (tool self.old) head.now)) };
+
+    /// The row of the result that row `y` of an image of this shape makes, if it makes one. The only
+    /// fault is `Memory`.
+    fn row(&self, alloc: Global, shape: Shape, y: u32, row: Samples) -> Result<Option<Samples>, ToolFault>
+        requires lawful { IsLawfulTool (tool self.now) }
+        requires ready { ready self.now shape }
+        requires row { (y < shape.height) × IsRowOf shape row }
+        ensures row { IfOk result (λ made. row_answer (tool self.now) shape y row ≡ row_list made) }
+        ensures refused { IfErr result (λ fault. fault ≡ Memory) };
+}
+
+/// The head of a result with these fields, which may have height 0 as the image's has.
+pub(crate) fn result_head(alloc: Global, shape: Shape, tuple_type: &[u8]) -> Result<Head, ToolFault>
+    requires some { (1 ≤ shape.width) × (1 ≤ shape.depth) }
+    requires maxval { (1 ≤ shape.maxval) × (shape.maxval ≤ 65535) }
+    requires suits { Suits shape.kind shape.depth shape.maxval tuple_type.now }
+    ensures made { IfOk result (λ head. (head ≡ header_of shape tuple_type.now) × (is_too_large shape ≡ false)) }
+    ensures refused { IfErr result (λ fault. ((fault ≡ TooLarge) × (is_too_large shape ≡ true))
+        ⊎ ((fault ≡ Memory) × (is_too_large shape ≡ false))) }
+{
+    // No new head has height 0, but one is changed to it.
+    let height = shape.height;
+    let shape = Shape {
+        height: height.max(1),
+        ..shape
+    };
+    match Head::new(alloc, shape, tuple_type) {
+        Ok(head) => Ok(head.with_height(height)),
+        Err(HeadFault::Memory) => Err(ToolFault::Memory),
+        Err(_) => Err(ToolFault::TooLarge),
+    }
+}
