@@ -11,3 +11,5 @@ pub mod CutLaws
 pub mod DepthLaws
 pub mod ChannelLaws
 pub mod ToolLaws
+pub mod ResultLaws
+pub mod ChainLaws

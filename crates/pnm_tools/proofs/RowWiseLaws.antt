@@ -10,10 +10,9 @@ use Rattle.pnm_image.specs.Places.{place_after, place_of}
 use Rattle.pnm_image.specs.Completion.{IsFrontOf}
 use Rattle.pnm_tools.specs.declared.fault.ToolFault.{ToolFault}
 use Rattle.pnm_tools.specs.declared.tool.Tool.{Tool}
-use Rattle.pnm_tools.specs.Tools.{result_head, result_sample, applied, output_due}
+use Rattle.pnm_tools.specs.Tools.{AreTaken, result_head, result_sample, applied, output_due}
 use Rattle.pnm_tools.specs.Formulas.{image_by}
 use Rattle.pnm_tools.specs.RowWise.{answered, answered_from}
-use Rattle.pnm_tools.specs.States.{AreTaken}
 
 -- the answer to a front, and then to the rest
 pub answered_from-append : (tool : Tool) (place : Place) (a b : List Message) → answered_from tool place (a ++ b) ≡ answered_from tool place a ++ answered_from tool (place_of place a) b

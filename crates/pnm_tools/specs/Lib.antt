@@ -10,3 +10,5 @@ pub mod Passing
 pub mod RowWise
 pub mod States
 pub mod Steps
+pub mod Chains
+pub mod Stages

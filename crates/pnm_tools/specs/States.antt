@@ -3,7 +3,6 @@ use Rattle.std.specs.Prelude.{◌≡◌, ◌⊎◌, ℕ, ◌+◌, Bool, true, fa
 use Rattle.std.specs.List.{range_with_len}
 use Rattle.pnm_image.specs.declared.shape.Shape.{Shape}
 use Rattle.pnm_image.specs.declared.message.Message.{Message}
-use Rattle.pnm_image.specs.declared.message.Message.TheVariants.{Begin, Row, ImageEnd, StreamEnd, Stop}
 use Rattle.pnm_image.specs.declared.place.Place.{Place}
 use Rattle.pnm_image.specs.declared.place.Place.TheVariants.{Between, Inside, After}
 use Rattle.pnm_image.specs.Places.{IsLawful, place_of}
@@ -18,7 +17,7 @@ use Rattle.pnm_tools.specs.declared.work.Work.TheVariants.{Inverting, Cutting, R
 use Rattle.pnm_tools.specs.Depth.{nearest_sample}
 use Rattle.pnm_tools.specs.Answers.{Answers}
 use Rattle.pnm_tools.specs.Channel.{HasPlanes}
-use Rattle.pnm_tools.specs.Tools.{IsLawfulTool, Takes}
+use Rattle.pnm_tools.specs.Tools.{IsLawfulTool, AreTaken}
 use Rattle.pnm_tools.specs.RowWise.{answered_from}
 
 -- a table of the rescaled samples, or none, where each is computed
@@ -54,15 +53,6 @@ abbrev pub is_all_given : Pending → Bool
 is_all_given AllGiven = true
 is_all_given (Waiting message) = false
 is_all_given Nothing = false
-
--- no image that begins is refused
-abbrev pub AreTaken : Tool → List Message → Type 0
-AreTaken tool [] = Unit {0}
-AreTaken tool (Begin head ∷ ms) = Takes tool head × AreTaken tool ms
-AreTaken tool (Row row ∷ ms) = AreTaken tool ms
-AreTaken tool (ImageEnd ∷ ms) = AreTaken tool ms
-AreTaken tool (StreamEnd ∷ ms) = AreTaken tool ms
-AreTaken tool (Stop ∷ ms) = AreTaken tool ms
 
 -- these were accepted, none of them refused, and the answers to them are those that were given and those that wait
 pub record IsAnswering (tool : Tool) (l g waiting : List Message) : Type 0 where

@@ -2,7 +2,7 @@
 use Rattle.std.specs.Prelude.{◌≡◌, ◌≤◌, ℕ, Bool, true, false, ◌++◌, List, [], ◌∷◌, Result, Ok, Err}
 use Rattle.pnm_image.specs.declared.shape.Shape.{Shape}
 use Rattle.pnm_image.specs.declared.message.Message.{Message}
-use Rattle.pnm_image.specs.declared.message.Message.TheVariants.{StreamEnd}
+use Rattle.pnm_image.specs.declared.message.Message.TheVariants.{Begin, Row, ImageEnd, StreamEnd, Stop}
 use Rattle.pnm_image.specs.Heads.{Header}
 use Rattle.pnm_image.specs.Images.{Image, messages_of_image}
 use Rattle.pnm_tools.specs.declared.fault.ToolFault.{ToolFault}
@@ -38,6 +38,15 @@ result_head (Channel planes) head = picked_head planes head
 -- the tool takes an image with this head
 abbrev pub Takes : Tool → Header → Type 0
 Takes tool head = (result : Header) × (result_head tool head ≡ Ok result)
+
+-- no image that begins is refused
+abbrev pub AreTaken : Tool → List Message → Type 0
+AreTaken tool [] = Unit {0}
+AreTaken tool (Begin head ∷ ms) = Takes tool head × AreTaken tool ms
+AreTaken tool (Row row ∷ ms) = AreTaken tool ms
+AreTaken tool (ImageEnd ∷ ms) = AreTaken tool ms
+AreTaken tool (StreamEnd ∷ ms) = AreTaken tool ms
+AreTaken tool (Stop ∷ ms) = AreTaken tool ms
 
 -- the sample of the result in a column, a row and a plane
 unfoldable pub result_sample : Tool → Image → ℕ → ℕ → ℕ → ℕ

@@ -1,0 +1,44 @@
+-- What the stages of a chain have received and given, each a tool at work on what the one before it gave.
+use Rattle.std.specs.Prelude.{◌≡◌, ◌⊎◌, ◌<◌, ℕ, true, List, [], ◌∷◌, ◌++◌, Option, Some, None, Err}
+use Rattle.pnm_image.specs.declared.message.Message.{Message}
+use Rattle.pnm_image.specs.declared.message.Message.TheVariants.{Begin, Row, ImageEnd, StreamEnd, Stop}
+use Rattle.pnm_tools.specs.declared.fault.ToolFault.{ToolFault}
+use Rattle.pnm_tools.specs.declared.fault.ToolFault.TheVariants.{Memory}
+use Rattle.pnm_tools.specs.declared.tool.Tool.{Tool}
+use Rattle.pnm_tools.specs.Answers.{More, EndsBy, Answers, AnswersInFull, Judges}
+use Rattle.pnm_tools.specs.Tools.{AreTaken}
+
+-- messages of images that have rows, without Stop
+abbrev pub IsSound : Message → Type 0
+IsSound (Begin head) = 0 < head.shape.height
+IsSound (Row row) = Unit {0}
+IsSound ImageEnd = Unit {0}
+IsSound StreamEnd = Unit {0}
+IsSound Stop = ⊥
+
+-- the next message is refused so
+abbrev pub IsRefusedNext : Tool → ToolFault → List Message → List Message → Type 0
+IsRefusedNext tool fault accepted [] = ⊥
+IsRefusedNext tool fault accepted (m ∷ rest) = Judges true tool accepted m (Err fault)
+
+-- a tool that refused: it answered what it accepted, in full unless memory ran out, and took no more
+pub record HasRefused (tool : Tool) (fault : ToolFault) (received given : List Message) : Type 0 where
+  pub accepted : List Message
+  pub rest : List Message
+  pub parts : received ≡ accepted ++ rest
+  pub taken : AreTaken tool accepted
+  pub answers : Answers tool accepted given
+  pub unended : EndsBy More given
+  pub refused : (fault ≡ Memory) ⊎ (AnswersInFull tool accepted given × IsRefusedNext tool fault accepted rest)
+
+-- what a stage has given for what it received, by its fault
+abbrev pub HasAnswered : Tool → Option ToolFault → List Message → List Message → Type 0
+HasAnswered tool None received given = AreTaken tool received × AnswersInFull tool received given
+HasAnswered tool (Some fault) received given = HasRefused tool fault received given
+
+-- what a chain of stages has given for what the first of them received
+abbrev pub HaveAnswered : List Tool → List (Option ToolFault) → List Message → List Message → Type 0
+HaveAnswered [] [] received given = given ≡ received
+HaveAnswered [] (fault ∷ faults) received given = ⊥
+HaveAnswered (tool ∷ tools) [] received given = ⊥
+HaveAnswered (tool ∷ tools) (fault ∷ faults) received given = (middle : List Message) × HasAnswered tool fault received middle × HaveAnswered tools faults middle given
