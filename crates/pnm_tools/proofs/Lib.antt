@@ -13,3 +13,4 @@ pub mod ChannelLaws
 pub mod ToolLaws
 pub mod ResultLaws
 pub mod ChainLaws
+pub mod StateSteps

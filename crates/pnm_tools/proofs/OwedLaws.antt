@@ -16,7 +16,7 @@ use Rattle.pnm_tools.specs.Answers.{images_ended, begun_of, owed}
 use Rattle.pnm_tools.specs.RowWise.{answered_from}
 use Rattle.pnm_tools.proofs.RowWiseLaws.{AnswersImages, Fronts, fronts, ends_between, answered_from-append}
 
-place_of-append : (place : Place) (a b : List Message) → place_of place (a ++ b) ≡ place_of (place_of place a) b
+pub place_of-append : (place : Place) (a b : List Message) → place_of place (a ++ b) ≡ place_of (place_of place a) b
 place_of-append place [] b = refl
 place_of-append place (m ∷ a) b = place_of-append (place_after place m) a b
 

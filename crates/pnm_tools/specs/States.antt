@@ -7,9 +7,9 @@ use Rattle.pnm_image.specs.declared.place.Place.{Place}
 use Rattle.pnm_image.specs.declared.place.Place.TheVariants.{Between, Inside, After}
 use Rattle.pnm_image.specs.Places.{IsLawful, place_of}
 use Rattle.pnm_tools.specs.declared.depth.Rescaler.{Rescaler}
+use Rattle.pnm_tools.specs.declared.fault.ToolFault.{ToolFault}
 use Rattle.pnm_tools.specs.declared.state.Pending.{Pending}
 use Rattle.pnm_tools.specs.declared.state.Pending.TheVariants.{AllGiven, Waiting, Nothing}
-use Rattle.pnm_tools.specs.declared.state.ToolState.{ToolState}
 use Rattle.pnm_tools.specs.declared.tool.Tool.{Tool}
 use Rattle.pnm_tools.specs.declared.tool.Tool.TheVariants.{Invert, Cut, Depth, Channel}
 use Rattle.pnm_tools.specs.declared.work.Work.{Work}
@@ -38,10 +38,21 @@ IsReady (Cutting box) s = Unit {0}
 IsReady (Rescaling rescaler) s = HasTable rescaler s
 IsReady (Picking planes) s = HasPlanes planes s
 
-abbrev pub IsReadyAt : Work → Place → Type 0
-IsReadyAt work Between = Unit {0}
-IsReadyAt work (Inside s y) = IsReady work s
-IsReadyAt work After = Unit {0}
+abbrev pub IsReadyAt : {W : Type 0} → (W → Shape → Type 0) → W → Place → Type 0
+IsReadyAt ready work Between = Unit {0}
+IsReadyAt ready work (Inside s y) = ready work s
+IsReadyAt ready work After = Unit {0}
+
+-- the value of a state: the tool with what it keeps for the rows, the place in what it accepts, what is still to be given,
+-- and the fault that there was
+pub record Standing (W : Type 0) : Type 0 where
+  pub work : W
+  pub place : Place
+  pub pending : Pending
+  pub fault : Option ToolFault
+
+abbrev pub standing : {W : Type 0} → W → Place → Pending → Option ToolFault → Standing W
+standing work place pending fault = record { work = work; place = place; pending = pending; fault = fault }
 
 -- the message that waits to be given
 abbrev pub waiting_in : Pending → List Message
@@ -61,10 +72,10 @@ pub record IsAnswering (tool : Tool) (l g waiting : List Message) : Type 0 where
   pub given : answered_from tool Between l ≡ g ++ waiting
 
 -- the state of this tool, which has accepted these messages and given those
-pub record IsAt (s : ToolState) (t : Tool) (l g : List Message) : Type 0 where
-  pub tool : tool_of s.work ≡ t
+pub record IsAt {W : Type 0} (tool_at : W → Tool) (ready_for : W → Shape → Type 0) (s : Standing W) (t : Tool) (l g : List Message) : Type 0 where
+  pub tool : tool_at s.work ≡ t
   pub options : IsLawfulTool t
   pub answering : IsAnswering t l g (waiting_in s.pending)
   pub place : s.place ≡ place_of Between l
-  pub ready : IsReadyAt s.work s.place
+  pub ready : IsReadyAt ready_for s.work s.place
   pub answers : Answers t l g

@@ -13,7 +13,7 @@ use std::alloc::Global;
 
 /// Gives the rows of images another maxval.
 #[derive(Debug, Drop)]
-pub(crate) struct Rescaler {
+pub struct Rescaler {
     /// The new maxval.
     pub(crate) maxval: u32,
     /// What becomes of each sample from 0 to the image's maxval; empty where the image has too few

@@ -10,7 +10,7 @@ use std::alloc::Global;
 
 /// Inverts the rows of images.
 #[derive(Clone, Copy, Debug)]
-pub(crate) struct Inverter;
+pub struct Inverter;
 
 impl Rows for Inverter {
     ghost tool = { λ _. Invert };

@@ -20,5 +20,4 @@ pub use cut::CutBox;
 pub use fault::ToolFault;
 pub use filter::Filter;
 pub use pass::pass_message;
-pub use state::ToolState;
-pub use tool::Tool;
+pub use tool::{Tool, ToolState};

@@ -16,7 +16,7 @@ use pnm_image::{Head, HeadFault, Samples, Shape};
 use std::alloc::Global;
 
 /// The head rule and the row rule of a tool.
-pub(crate) trait Rows {
+pub trait Rows {
     /// Which tool it is.
     ghost tool: { Self → Value };
 

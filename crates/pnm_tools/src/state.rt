@@ -1,21 +1,21 @@
 //! A tool at work on a stream: the place, the message that waits, and the fault that stays.
 
 ghost use Rattle.std.specs.Prelude.{◌≡◌, true, false, Some, None, length};
-ghost use Rattle.pnm_tools.specs.States.{waiting_in, is_all_given, tool_of, IsReadyAt};
+ghost use Rattle.pnm_tools.specs.States.{waiting_in, is_all_given};
 ghost use Rattle.pnm_tools.specs.Tools.{IsLawfulTool};
 ghost use Rattle.pnm_tools.specs.Steps.{Answered};
 
 use crate::fault::ToolFault;
 use crate::filter::Filter;
 use crate::rows::Rows;
-use crate::work::Work;
 use pnm_image::{Message, Place};
 use std::alloc::Global;
+use std::marker::Model;
 use std::mem;
 
 /// What is still to be given for the message that was accepted last.
 #[derive(Debug, Drop)]
-pub(crate) enum Pending {
+pub enum Pending {
     /// Nothing, and that was told.
     AllGiven,
     /// One message.
@@ -24,20 +24,31 @@ pub(crate) enum Pending {
     Nothing,
 }
 
-/// A tool at work. It answers each message at once, and keeps no rows.
+/// A tool at work on a stream. It answers each message at once, and keeps no rows.
 #[derive(Debug, Drop)]
-pub struct ToolState {
+pub struct State<T: Rows> {
     alloc: Global,
-    work: Work,
+    work: T,
     place: Place,
     pending: Pending,
     fault: Option<ToolFault>,
 }
 
-impl Filter for ToolState {
+impl<T: Rows> Model for State<T> {
+    ghost use Rattle.pnm_tools.specs.States.{Standing, standing, IsReadyAt};
+    ghost use Rattle.pnm_tools.specs.Tools.{IsLawfulTool};
+
+    ghost Value = { Standing T };
+
+    ghost view = { λ s. standing s.work s.place s.pending s.fault };
+
+    ghost invariant = { λ s. IsLawfulTool (T.tool s.work) × IsReadyAt T.ready s.work s.place };
+}
+
+impl<T: Rows> Filter for State<T> {
     ghost use Rattle.pnm_tools.specs.States.{IsAt};
 
-    ghost at = { IsAt };
+    ghost at = { IsAt T.tool T.ready };
 
     ghost all_given = { λ s. is_all_given s.pending };
 
@@ -77,15 +88,16 @@ impl Filter for ToolState {
     }
 }
 
-impl ToolState {
+impl<T: Rows> State<T> {
     /// The tool before the first message.
-    pub(crate) fn new(alloc: Global, work: Work) -> ToolState
+    pub fn new(alloc: Global, work: T) -> State<T>
+        requires { IsLawfulTool (T.tool work) }
         ensures work { result.work ≡ work }
         ensures place { result.place ≡ Place.Between }
         ensures pending { result.pending ≡ Pending.AllGiven }
         ensures fault { result.fault ≡ None }
     {
-        ToolState {
+        State {
             alloc,
             work,
             place: Place::new(),
@@ -96,28 +108,28 @@ impl ToolState {
 
     /// The answer to the next message, if it may come.
     fn answer(&mut self, message: Message) -> Result<Pending, ToolFault>
-        requires lawful { IsLawfulTool (tool_of self.old.work) }
-        requires ready { IsReadyAt self.old.work self.old.place }
-        ensures { Answered self.old message self.new result }
+        ensures { Answered T.tool T.ready self.old message self.new result }
     {
         if !self.is_all_given() || !self.place.accepts(&message) {
             return Err(ToolFault::OutOfOrder);
         }
-        let place = self.place;
-        self.place.step(&message);
-        match (place, message) {
+        let mut place = self.place;
+        place.step(&message);
+        let pending = match (self.place, message) {
             (_, Message::Begin(head)) => {
                 let result = self.work.begin(self.alloc, &head)?;
-                Ok(Pending::Waiting(Message::Begin(result)))
+                Pending::Waiting(Message::Begin(result))
             }
             (Place::Inside(shape, y), Message::Row(row)) => {
                 match self.work.row(self.alloc, shape, y, row)? {
-                    Some(row) => Ok(Pending::Waiting(Message::Row(row))),
-                    None => Ok(Pending::Nothing),
+                    Some(row) => Pending::Waiting(Message::Row(row)),
+                    None => Pending::Nothing,
                 }
             }
-            (_, message) => Ok(Pending::Waiting(message)),
-        }
+            (_, message) => Pending::Waiting(message),
+        };
+        self.place = place;
+        Ok(pending)
     }
 
     fn is_all_given(&self) -> bool

@@ -2,8 +2,7 @@
 
 ghost use Rattle.std.specs.Prelude.{◌≡◌, ◌↔◌, ◌⊎◌, IsTrue, true, None, [], IfOk, IfErr, Ok, Err};
 ghost use Rattle.pnm_tools.specs.declared.fault.ToolFault.TheVariants.{Memory};
-ghost use Rattle.pnm_tools.specs.declared.state.ToolState.{ToolState as State};
-ghost use Rattle.pnm_tools.specs.States.{IsAt, is_all_given, tool_of};
+ghost use Rattle.pnm_tools.specs.States.{IsAt, IsReady, is_all_given, tool_of};
 ghost use Rattle.pnm_tools.specs.Tools.{IsLawfulTool, Takes, is_row_wise, result_head};
 
 use crate::channel::Planes;
@@ -12,10 +11,13 @@ use crate::depth::Rescaler;
 use crate::fault::ToolFault;
 use crate::invert::Inverter;
 use crate::rows::Rows;
-use crate::state::ToolState;
+use crate::state::State;
 use crate::work::Work;
 use pnm_image::Head;
 use std::alloc::Global;
+
+/// A tool of a chain at work on a stream.
+pub type ToolState = State<Work>;
 
 /// A tool and its options.
 #[derive(Debug, Drop)]
@@ -87,10 +89,10 @@ impl Tool {
     /// The tool at work, before the first message. The only fault is `Memory`.
     pub fn start(&self, alloc: Global) -> Result<ToolState, ToolFault>
         requires { IsLawfulTool self.now }
-        ensures started { IfOk result (λ state. IsAt state self.now [] [] × (is_all_given state.pending ≡ true) × (state.fault ≡ None)) }
+        ensures started { IfOk result (λ state. IsAt tool_of IsReady state self.now [] [] × (is_all_given state.pending ≡ true) × (state.fault ≡ None)) }
         ensures refused { IfErr result (λ fault. fault ≡ Memory) }
     {
-        Ok(ToolState::new(alloc, self.work(alloc)?))
+        Ok(State::new(alloc, self.work(alloc)?))
     }
 
     fn work(&self, alloc: Global) -> Result<Work, ToolFault>

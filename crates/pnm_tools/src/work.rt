@@ -11,7 +11,7 @@ use std::alloc::Global;
 
 /// A tool, and what it keeps for the rows of an image.
 #[derive(Debug, Drop)]
-pub(crate) enum Work {
+pub enum Work {
     /// `pnminvert`.
     Inverting(Inverter),
     /// `pamcut`.
