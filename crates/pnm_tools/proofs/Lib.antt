@@ -12,4 +12,5 @@ pub mod DepthLaws
 pub mod ChannelLaws
 pub mod ToolLaws
 pub mod ResultLaws
+pub mod SoundLaws
 pub mod ChainLaws
