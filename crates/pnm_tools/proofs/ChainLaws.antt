@@ -1,16 +1,22 @@
 -- What the stages of a chain have given: the results of all images, or those before the first refusal.
-use Rattle.std.proofs.Common.{◌≡◌, ◌⊎◌, ℕ, ◌+◌, List, [], ◌∷◌, Option, Some, None}
+use Rattle.std.proofs.Common.{◌≡◌, ◌⊎◌, ℕ, ◌+◌, List, [], ◌∷◌, ◌++◌, Option, Some, None, sym, ap, subst, ◌∙◌, append-nil}
 use Rattle.std.specs.List.{AllByRecursion}
 use Rattle.pnm_image.specs.declared.message.Message.{Message}
 use Rattle.pnm_image.specs.Images.{Image, AreImages, messages_of_stream}
-use Rattle.pnm_image.specs.Messages.{IsMessage}
+use Rattle.pnm_image.specs.declared.place.Place.TheVariants.{Between}
+use Rattle.pnm_image.specs.Messages.{IsMessage, without_stop}
 use Rattle.pnm_image.specs.Places.{IsLawful}
 use Rattle.pnm_image.specs.Completion.{IsFrontOf, Completes}
+use Rattle.pnm_image.proofs.Streams.{completion, stream_is_messages, stream_is_lawful}
 use Rattle.pnm_tools.specs.declared.fault.ToolFault.{ToolFault}
 use Rattle.pnm_tools.specs.declared.fault.ToolFault.TheVariants.{Memory}
 use Rattle.pnm_tools.specs.declared.tool.Tool.{Tool}
+use Rattle.pnm_tools.specs.Tools.{IsLawfulTool, output_due}
+use Rattle.pnm_tools.specs.Answers.{More, Answers}
 use Rattle.pnm_tools.specs.Chains.{AreLawfulTools, AreResultsInTurn, due_in_turn, refusal_of}
-use Rattle.pnm_tools.specs.Stages.{IsSound, HaveAnswered}
+use Rattle.pnm_tools.specs.Stages.{IsSound, HasAnswered, HaveAnswered}
+use Rattle.pnm_tools.proofs.FullLaws.{front_of_front}
+use Rattle.pnm_tools.proofs.SoundLaws.{HasRows, EndsUnbroken, sound_ends, unbroken_keeps_all, sound_keeps_all, lawful_front, all_of_front, stream_is_sound, HasSoundImages, sound_images, due_is_sound}
 
 -- messages as a source says them: in order, of images that have rows, without Stop
 pub record AreSound (l : List Message) : Type 0 where
@@ -18,9 +24,52 @@ pub record AreSound (l : List Message) : Type 0 where
   pub messages : AllByRecursion IsMessage l
   pub sound : AllByRecursion IsSound l
 
+-- a front of sound messages, and the messages of images that have rows, are sound
+sound_front : (a b : List Message) → AreSound (a ++ b) → AreSound a
+sound_front a b h = record { lawful = lawful_front Between a b h.lawful; messages = all_of_front IsMessage a b h.messages; sound = all_of_front IsSound a b h.sound }
+
+stream_sound : (is : List Image) → AreImages is → AllByRecursion HasRows is → AreSound (messages_of_stream is)
+stream_sound is are have = record { lawful = stream_is_lawful is are; messages = stream_is_messages is are; sound = stream_is_sound is have }
+
+front_sound : (l : List Message) → HasSoundImages l → AreSound l
+front_sound l h = sound_front l h.3.0 (subst AreSound h.3.1 (stream_sound h.0 h.1 h.2))
+
+-- what a stage accepted of what it received, and answered
+record Stage (tool : Tool) (received given : List Message) : Type 0 where
+  accepted : List Message
+  rest : List Message
+  parts : received ≡ accepted ++ rest
+  sound : AreSound accepted
+  answers : Answers tool accepted given
+  ends : EndsUnbroken given
+
+stage : (tool : Tool) (fault : Option ToolFault) (received given : List Message) → AreSound received → HasAnswered tool fault received given → Stage tool received given
+stage tool None received given sound has =
+    let ends = sound_ends Between received sound.lawful sound.sound in
+    record { accepted = received; rest = []; parts = sym (append-nil received); sound = sound; answers = has.1.answers; ends = (ends.0, ends.1, has.1.ends ends.0 ends.2) }
+stage tool (Some fault) received given sound has =
+    record { accepted = has.accepted; rest = has.rest; parts = has.parts; sound = sound_front has.accepted has.rest (subst AreSound has.parts sound); answers = has.answers; ends = (More, tt, has.unended) }
+
+-- what it gave is a front of the output due
+stage_due : (tool : Tool) (received given : List Message) (is : List Image) (s : Stage tool received given) → AreImages is → IsFrontOf s.accepted (messages_of_stream is) → IsFrontOf given (output_due tool is)
+stage_due tool received given is s are front =
+    let completes : Completes is s.accepted = record { images = are; front = subst (λ (x : List Message). IsFrontOf x (messages_of_stream is)) (sym (sound_keeps_all s.accepted s.sound.sound)) front } in
+    subst (λ (x : List Message). IsFrontOf x (output_due tool is)) (unbroken_keeps_all s.ends.0 given s.ends.1 s.ends.2) (s.answers.front is completes)
+
+stage_sound : (tool : Tool) (received given : List Message) → IsLawfulTool tool → Stage tool received given → AreSound given
+stage_sound tool received given lawful s =
+    let found = completion s.accepted s.sound.messages s.sound.lawful in
+    let images = sound_images found.0 s.accepted found.2.0 found.1 (found.2.1 ∙ ap (λ (x : List Message). x ++ found.2.0) (sound_keeps_all s.accepted s.sound.sound)) s.sound.sound in
+    let due = due_is_sound tool images.0 lawful images.1 images.2 in
+    front_sound given (due.0, due.1, due.2, front_of_front given (output_due tool images.0) (messages_of_stream due.0) (stage_due tool received given images.0 s images.1 images.3) due.3)
+
 -- what the last stage gave is sound as well
 pub given_are_sound : (tools : List Tool) (faults : List (Option ToolFault)) (received given : List Message) → AreLawfulTools tools → AreSound received → HaveAnswered tools faults received given → AreSound given
-given_are_sound tools faults received given lawful sound have = ?
+given_are_sound [] [] received given lawful sound have = subst AreSound (sym have) sound
+given_are_sound [] (fault ∷ faults) received given lawful sound have = absurd have
+given_are_sound (tool ∷ tools) [] received given lawful sound have = absurd have
+given_are_sound (tool ∷ tools) (fault ∷ faults) received given lawful sound have =
+    given_are_sound tools faults have.0 given lawful.1 (stage_sound tool received have.0 lawful.0 (stage tool fault received have.0 sound have.1)) have.2
 
 -- no stage has refused
 abbrev pub AreWell : List (Option ToolFault) → Type 0
