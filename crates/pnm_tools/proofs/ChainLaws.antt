@@ -16,6 +16,7 @@ use Rattle.pnm_tools.specs.Answers.{More, Answers}
 use Rattle.pnm_tools.specs.Chains.{AreLawfulTools, AreResultsInTurn, due_in_turn, refusal_of}
 use Rattle.pnm_tools.specs.Stages.{IsSound, HasAnswered, HaveAnswered}
 use Rattle.pnm_tools.proofs.FullLaws.{front_of_front}
+use Rattle.pnm_tools.proofs.FrontLaws.{nothing_changes, front_by_results}
 use Rattle.pnm_tools.proofs.SoundLaws.{HasRows, EndsUnbroken, sound_ends, unbroken_keeps_all, sound_keeps_all, lawful_front, all_of_front, stream_is_sound, HasSoundImages, sound_images, due_is_sound}
 
 -- messages as a source says them: in order, of images that have rows, without Stop
@@ -94,6 +95,22 @@ pub refusal_is_first : (tools : List Tool) (faults : List (Option ToolFault)) (i
     → (fault ≡ Memory) ⊎ (refusal_of tools is ≡ Some (record { number = number; fault = fault }))
 refusal_is_first tools faults is given number fault lawful images sound have first = ?
 
+-- images complete sound messages where these are a front of theirs
+received_front : (l : List Message) (is : List Image) → AreSound l → Completes is l → IsFrontOf l (messages_of_stream is)
+received_front l is sound completes = subst (λ (x : List Message). IsFrontOf x (messages_of_stream is)) (sound_keeps_all l sound.sound) completes.front
+
+completed : (l : List Message) (is : List Image) → AreSound l → AreImages is → IsFrontOf l (messages_of_stream is) → Completes is l
+completed l is sound are front = record { images = are; front = subst (λ (x : List Message). IsFrontOf x (messages_of_stream is)) (sym (sound_keeps_all l sound.sound)) front }
+
 -- whatever images complete what was received, what was given is a front of the output due for them
 pub given_is_front : (tools : List Tool) (faults : List (Option ToolFault)) (received given : List Message) (is : List Image) → AreLawfulTools tools → AreSound received → HaveAnswered tools faults received given → Completes is received → IsFrontOf given (due_in_turn tools is)
-given_is_front tools faults received given is lawful sound have completes = ?
+given_is_front [] [] received given is lawful sound have completes = subst (λ (l : List Message). IsFrontOf l (due_in_turn [] is)) (sym have) (subst (IsFrontOf received) (sym (nothing_changes is)) (received_front received is sound completes))
+given_is_front [] (fault ∷ faults) received given is lawful sound have completes = absurd have
+given_is_front (tool ∷ tools) [] received given is lawful sound have completes = absurd have
+given_is_front (tool ∷ tools) (fault ∷ faults) received given is lawful sound have completes =
+    let middle : List Message = have.0 in
+    let s = stage tool fault received middle sound have.1 in
+    let next : AreSound middle = stage_sound tool received middle lawful.0 s in
+    let accepted = front_of_front s.accepted received (messages_of_stream is) (s.rest, s.parts) (received_front received is sound completes) in
+    front_by_results tool tools is middle given lawful.0 completes.images (stage_due tool received middle is s completes.images accepted)
+    (λ js are front. given_is_front tools faults middle given js lawful.1 next have.2 (completed middle js next are front))

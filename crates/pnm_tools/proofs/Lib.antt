@@ -13,4 +13,5 @@ pub mod ChannelLaws
 pub mod ToolLaws
 pub mod ResultLaws
 pub mod SoundLaws
+pub mod FrontLaws
 pub mod ChainLaws

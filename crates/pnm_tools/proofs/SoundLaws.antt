@@ -78,7 +78,7 @@ all_of_rest : (P : Message → Type 0) (a b : List Message) → AllByRecursion P
 all_of_rest P [] b all = all
 all_of_rest P (m ∷ a) b all = all_of_rest P a b all.1
 
-both_all : (P : Message → Type 0) (a b : List Message) → AllByRecursion P a → AllByRecursion P b → AllByRecursion P (a ++ b)
+pub both_all : {A : Type 0} (P : A → Type 0) (a b : List A) → AllByRecursion P a → AllByRecursion P b → AllByRecursion P (a ++ b)
 both_all P [] b first second = second
 both_all P (m ∷ a) b first second = (first.0, both_all P a b first.1 second)
 
