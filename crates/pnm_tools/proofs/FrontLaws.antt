@@ -33,7 +33,7 @@ nothing_changes [] = refl
 nothing_changes (i ∷ is) = ap (λ (l : List Message). messages_of_image i ++ l) (nothing_changes is)
 
 -- what becomes of an image in the other tools
-abbrev rest_in_turn : List Tool → Result Image ToolFault → Result Image ToolFault
+abbrev pub rest_in_turn : List Tool → Result Image ToolFault → Result Image ToolFault
 rest_in_turn tools r = elim r [ Ok j ↦ applied_in_turn tools j | Err fault ↦ Err fault ]
 
 -- The output due from the first tool is a front of the stream of its results, and the same is due from the others for these

@@ -14,4 +14,5 @@ pub mod ToolLaws
 pub mod ResultLaws
 pub mod SoundLaws
 pub mod FrontLaws
+pub mod RefusalLaws
 pub mod ChainLaws

@@ -68,7 +68,7 @@ abbrev IsDueFront : Tool → List Message → List Message → Type 0
 IsDueFront tool l due = IsFrontOf (answered_from tool Between l) due
 
 -- an image that is refused hasn't begun
-abbrev applied_by : (Header → Image) → Result Header ToolFault → Result Image ToolFault
+abbrev pub applied_by : (Header → Image) → Result Header ToolFault → Result Image ToolFault
 applied_by make r = elim r [ Ok head ↦ Ok (make head) | Err fault ↦ Err fault ]
 
 head_refused : (make : Header → Image) (r : Result Header ToolFault) (fault : ToolFault) (result : Header) → applied_by make r ≡ Err fault → r ≡ Ok result → ⊥
