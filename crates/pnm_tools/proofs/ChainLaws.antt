@@ -2,9 +2,9 @@
 use Rattle.std.proofs.Common.{◌≡◌, ◌⊎◌, inl, inr, ℕ, ◌+◌, List, [], ◌∷◌, ◌++◌, Option, Some, None, Ok, Err, refl, sym, ap, ap₂, subst, ◌∙◌, append-nil}
 use Rattle.std.specs.List.{AllByRecursion}
 use Rattle.pnm_image.specs.declared.message.Message.{Message}
-use Rattle.pnm_image.specs.Images.{Image, AreImages, messages_of_stream}
 use Rattle.pnm_image.specs.declared.place.Place.TheVariants.{Between}
-use Rattle.pnm_image.specs.Messages.{IsMessage, without_stop}
+use Rattle.pnm_image.specs.Images.{Image, AreImages, messages_of_stream}
+use Rattle.pnm_image.specs.Messages.{IsMessage}
 use Rattle.pnm_image.specs.Places.{IsLawful}
 use Rattle.pnm_image.specs.Completion.{IsFrontOf, Completes}
 use Rattle.pnm_image.proofs.Streams.{completion, stream_is_messages, stream_is_lawful}
@@ -16,10 +16,10 @@ use Rattle.pnm_tools.specs.Answers.{More, Answers, AnswersInFull, AreResults}
 use Rattle.pnm_tools.specs.Chains.{AreLawfulTools, AreResultsInTurn, due_in_turn, results_of, refusal_from, refusal_of}
 use Rattle.pnm_tools.specs.Stages.{IsSound, IsRefusedNext, HasRefused, HasAnswered, HaveAnswered}
 use Rattle.pnm_tools.proofs.FullAnswers.{full_answer_is_the_stream}
-use Rattle.pnm_tools.proofs.RefusalLaws.{results_are_images, results_are, same_in_turn, results_in_turn, refusal_by, refused_next}
 use Rattle.pnm_tools.proofs.FullLaws.{front_of_front}
-use Rattle.pnm_tools.proofs.FrontLaws.{nothing_changes, front_by_results}
 use Rattle.pnm_tools.proofs.SoundLaws.{HasRows, EndsUnbroken, sound_ends, unbroken_keeps_all, sound_keeps_all, lawful_front, all_of_front, stream_is_sound, HasSoundImages, sound_images, due_is_sound}
+use Rattle.pnm_tools.proofs.FrontLaws.{nothing_changes, front_by_results}
+use Rattle.pnm_tools.proofs.RefusalLaws.{results_are_images, results_are, same_in_turn, results_in_turn, refusal_by, refused_next}
 
 -- messages as a source says them: in order, of images that have rows, without Stop
 pub record AreSound (l : List Message) : Type 0 where
@@ -96,7 +96,7 @@ stage_answered tool is given lawful images has =
     let r = full_answer_is_the_stream tool is given images has.1 in
     (r.0, r.1, results_are_images tool is r.0 lawful images r.1, r.2)
 
--- tools that are numbered from here
+-- so did a chain, whose tools are numbered from here
 answered_by_stream : (number : ℕ) (tools : List Tool) (faults : List (Option ToolFault)) (is : List Image) (given : List Message) → AreLawfulTools tools → AreImages is → AreWell faults → HaveAnswered tools faults (messages_of_stream is) given
     → (js : List Image) × AreResultsInTurn tools is js × AreImages js × (given ≡ messages_of_stream js) × (refusal_from number tools is ≡ None)
 answered_by_stream number [] [] is given lawful images well have = (is, same_in_turn is, images, have, refl)
@@ -119,6 +119,7 @@ IsFirstFault from [] number fault = ⊥
 IsFirstFault from (None ∷ faults) number fault = IsFirstFault (from + 1) faults number fault
 IsFirstFault from (Some other ∷ faults) number fault = (number ≡ from) × (fault ≡ other)
 
+-- memory ran out, or this is the refusal of the chain
 abbrev IsRefusal : ℕ → List Tool → List Image → ℕ → ToolFault → Type 0
 IsRefusal from tools is number fault = (fault ≡ Memory) ⊎ (refusal_from from tools is ≡ Some (record { number = number; fault = fault }))
 

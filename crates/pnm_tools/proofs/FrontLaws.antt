@@ -36,12 +36,12 @@ nothing_changes (i ∷ is) = ap (λ (l : List Message). messages_of_image i ++ l
 abbrev pub rest_in_turn : List Tool → Result Image ToolFault → Result Image ToolFault
 rest_in_turn tools r = elim r [ Ok j ↦ applied_in_turn tools j | Err fault ↦ Err fault ]
 
--- The output due from the first tool is a front of the stream of its results, and the same is due from the others for these
--- as from all for the images.
+-- what is due from the first tool is a front of the stream of its results, for which as much is due from the other tools as
+-- from all tools
 abbrev AreWhole : List Tool → List Message → List Message → List Image → Type 0
 AreWhole tools out due js = IsFrontOf out (messages_of_stream js) × (due ≡ due_in_turn tools js)
 
--- Or a refusal has cut the results off: whatever images come after them.
+-- a refusal has cut the results off: other images may come after them
 abbrev AreCutOff : List Tool → List Message → List Message → List Image → Type 0
 AreCutOff tools out due js = ((more : List Image) → IsFrontOf out (messages_of_stream (js ++ more))) × ((more : List Image) → due_in_turn tools (js ++ more) ≡ due ++ due_in_turn tools more)
 

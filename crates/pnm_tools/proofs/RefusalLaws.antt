@@ -13,7 +13,7 @@ use Rattle.pnm_tools.specs.declared.fault.ToolFault.TheVariants.{CutOutside, Cha
 use Rattle.pnm_tools.specs.declared.tool.Tool.{Tool}
 use Rattle.pnm_tools.specs.Formulas.{image_by}
 use Rattle.pnm_tools.specs.Tools.{IsLawfulTool, AreTaken, result_head, result_sample, applied}
-use Rattle.pnm_tools.specs.Answers.{MayCome, Begins, RefusesHead, Judges, AreResults}
+use Rattle.pnm_tools.specs.Answers.{MayCome, RefusesHead, Judges, AreResults}
 use Rattle.pnm_tools.specs.Chains.{AreResultsInTurn, results_of, Refusal, refusal_from}
 use Rattle.pnm_tools.specs.Stages.{IsRefusedNext}
 use Rattle.pnm_tools.proofs.RowWiseLaws.{taken_rest, applied_by}

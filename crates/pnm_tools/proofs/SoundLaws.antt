@@ -1,5 +1,5 @@
 -- Lists of messages without Stop, of images that have rows: how they end, their fronts, and what completes them.
-use Rattle.std.proofs.Common.{◌≡◌, ◌⊎◌, inl, inr, ℕ, ◌<◌, List, [], ◌∷◌, ◌++◌, map, Result, Ok, Err, refl, sym, ap, subst, ◌∙◌, append_assoc}
+use Rattle.std.proofs.Common.{◌≡◌, inl, inr, ℕ, ◌<◌, List, [], ◌∷◌, ◌++◌, map, Result, Ok, Err, refl, sym, ap, subst, ◌∙◌, append_assoc}
 use Rattle.std.specs.List.{AllByRecursion}
 use Rattle.pnm_image.specs.declared.message.Message.{Message}
 use Rattle.pnm_image.specs.declared.message.Message.TheVariants.{Begin, Row, ImageEnd, StreamEnd, Stop}
@@ -19,7 +19,7 @@ use Rattle.pnm_tools.proofs.ResultLaws.{result_is_image, result_has_rows}
 
 -- ---- ends
 
--- a list that isn't broken off
+-- an ending that isn't broken off
 abbrev pub IsUnbroken : Ending → Type 0
 IsUnbroken More = Unit {0}
 IsUnbroken Whole = Unit {0}
@@ -42,7 +42,7 @@ sound_ends place (StreamEnd ∷ []) lawful sound = (Whole, tt, refl)
 sound_ends place (StreamEnd ∷ n ∷ l) lawful sound = absurd lawful.1.0
 sound_ends place (Stop ∷ l) lawful sound = absurd sound.0
 
--- and keep all of their messages where a last Stop is left out
+-- no last Stop is cut off from these
 pub unbroken_keeps_all : (e : Ending) (g : List Message) → IsUnbroken e → EndsBy e g → without_stop g ≡ g
 unbroken_keeps_all e [] unbroken ends = refl
 unbroken_keeps_all e (Begin head ∷ []) unbroken ends = refl
