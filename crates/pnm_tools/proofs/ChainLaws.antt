@@ -1,16 +1,25 @@
 -- What the stages of a chain have given: the results of all images, or those before the first refusal.
-use Rattle.std.proofs.Common.{◌≡◌, ◌⊎◌, ℕ, ◌+◌, List, [], ◌∷◌, Option, Some, None}
+use Rattle.std.proofs.Common.{◌≡◌, ◌⊎◌, inl, inr, ℕ, ◌+◌, List, [], ◌∷◌, ◌++◌, Option, Some, None, Ok, Err, refl, sym, ap, ap₂, subst, ◌∙◌, append-nil}
 use Rattle.std.specs.List.{AllByRecursion}
 use Rattle.pnm_image.specs.declared.message.Message.{Message}
+use Rattle.pnm_image.specs.declared.place.Place.TheVariants.{Between}
 use Rattle.pnm_image.specs.Images.{Image, AreImages, messages_of_stream}
 use Rattle.pnm_image.specs.Messages.{IsMessage}
 use Rattle.pnm_image.specs.Places.{IsLawful}
 use Rattle.pnm_image.specs.Completion.{IsFrontOf, Completes}
+use Rattle.pnm_image.proofs.Streams.{completion, stream_is_messages, stream_is_lawful}
 use Rattle.pnm_tools.specs.declared.fault.ToolFault.{ToolFault}
 use Rattle.pnm_tools.specs.declared.fault.ToolFault.TheVariants.{Memory}
 use Rattle.pnm_tools.specs.declared.tool.Tool.{Tool}
-use Rattle.pnm_tools.specs.Chains.{AreLawfulTools, AreResultsInTurn, due_in_turn, refusal_of}
-use Rattle.pnm_tools.specs.Stages.{IsSound, HaveAnswered}
+use Rattle.pnm_tools.specs.Tools.{IsLawfulTool, output_due}
+use Rattle.pnm_tools.specs.Answers.{More, Answers, AnswersInFull, AreResults}
+use Rattle.pnm_tools.specs.Chains.{AreLawfulTools, AreResultsInTurn, due_in_turn, results_of, refusal_from, refusal_of}
+use Rattle.pnm_tools.specs.Stages.{IsSound, IsRefusedNext, HasRefused, HasAnswered, HaveAnswered}
+use Rattle.pnm_tools.proofs.FullAnswers.{full_answer_is_the_stream}
+use Rattle.pnm_tools.proofs.FullLaws.{front_of_front}
+use Rattle.pnm_tools.proofs.SoundLaws.{HasRows, EndsUnbroken, sound_ends, unbroken_keeps_all, sound_keeps_all, lawful_front, all_of_front, stream_is_sound, HasSoundImages, sound_images, due_is_sound}
+use Rattle.pnm_tools.proofs.FrontLaws.{nothing_changes, front_by_results}
+use Rattle.pnm_tools.proofs.RefusalLaws.{results_are_images, results_are, same_in_turn, results_in_turn, refusal_by, refused_next}
 
 -- messages as a source says them: in order, of images that have rows, without Stop
 pub record AreSound (l : List Message) : Type 0 where
@@ -18,9 +27,59 @@ pub record AreSound (l : List Message) : Type 0 where
   pub messages : AllByRecursion IsMessage l
   pub sound : AllByRecursion IsSound l
 
+-- a front of sound messages, and the messages of images that have rows, are sound
+sound_front : (a b : List Message) → AreSound (a ++ b) → AreSound a
+sound_front a b h = record { lawful = lawful_front Between a b h.lawful; messages = all_of_front IsMessage a b h.messages; sound = all_of_front IsSound a b h.sound }
+
+stream_sound : (is : List Image) → AreImages is → AllByRecursion HasRows is → AreSound (messages_of_stream is)
+stream_sound is are have = record { lawful = stream_is_lawful is are; messages = stream_is_messages is are; sound = stream_is_sound is have }
+
+front_sound : (l : List Message) → HasSoundImages l → AreSound l
+front_sound l h = sound_front l h.3.0 (subst AreSound h.3.1 (stream_sound h.0 h.1 h.2))
+
+-- images complete sound messages where these are a front of theirs
+received_front : (l : List Message) (is : List Image) → AreSound l → Completes is l → IsFrontOf l (messages_of_stream is)
+received_front l is sound completes = subst (λ (x : List Message). IsFrontOf x (messages_of_stream is)) (sound_keeps_all l sound.sound) completes.front
+
+completed : (l : List Message) (is : List Image) → AreSound l → AreImages is → IsFrontOf l (messages_of_stream is) → Completes is l
+completed l is sound are front = record { images = are; front = subst (λ (x : List Message). IsFrontOf x (messages_of_stream is)) (sym (sound_keeps_all l sound.sound)) front }
+
+-- what a stage accepted of what it received, and answered
+record Stage (tool : Tool) (received given : List Message) : Type 0 where
+  accepted : List Message
+  rest : List Message
+  parts : received ≡ accepted ++ rest
+  sound : AreSound accepted
+  answers : Answers tool accepted given
+  ends : EndsUnbroken given
+
+stage : (tool : Tool) (fault : Option ToolFault) (received given : List Message) → AreSound received → HasAnswered tool fault received given → Stage tool received given
+stage tool None received given sound has =
+    let ends = sound_ends Between received sound.lawful sound.sound in
+    record { accepted = received; rest = []; parts = sym (append-nil received); sound = sound; answers = has.1.answers; ends = (ends.0, ends.1, has.1.ends ends.0 ends.2) }
+stage tool (Some fault) received given sound has =
+    record { accepted = has.accepted; rest = has.rest; parts = has.parts; sound = sound_front has.accepted has.rest (subst AreSound has.parts sound); answers = has.answers; ends = (More, tt, has.unended) }
+
+-- what it gave is a front of the output due
+stage_due : (tool : Tool) (received given : List Message) (is : List Image) (s : Stage tool received given) → AreImages is → IsFrontOf s.accepted (messages_of_stream is) → IsFrontOf given (output_due tool is)
+stage_due tool received given is s are front =
+    subst (λ (x : List Message). IsFrontOf x (output_due tool is)) (unbroken_keeps_all s.ends.0 given s.ends.1 s.ends.2) (s.answers.front is (completed s.accepted is s.sound are front))
+
+stage_sound : (tool : Tool) (received given : List Message) → IsLawfulTool tool → Stage tool received given → AreSound given
+stage_sound tool received given lawful s =
+    let found = completion s.accepted s.sound.messages s.sound.lawful in
+    let front = received_front s.accepted found.0 s.sound (record { images = found.1; front = found.2 }) in
+    let images = sound_images found.0 s.accepted front.0 found.1 front.1 s.sound.sound in
+    let due = due_is_sound tool images.0 lawful images.1 images.2 in
+    front_sound given (due.0, due.1, due.2, front_of_front given (output_due tool images.0) (messages_of_stream due.0) (stage_due tool received given images.0 s images.1 images.3) due.3)
+
 -- what the last stage gave is sound as well
 pub given_are_sound : (tools : List Tool) (faults : List (Option ToolFault)) (received given : List Message) → AreLawfulTools tools → AreSound received → HaveAnswered tools faults received given → AreSound given
-given_are_sound tools faults received given lawful sound have = ?
+given_are_sound [] [] received given lawful sound have = subst AreSound (sym have) sound
+given_are_sound [] (fault ∷ faults) received given lawful sound have = absurd have
+given_are_sound (tool ∷ tools) [] received given lawful sound have = absurd have
+given_are_sound (tool ∷ tools) (fault ∷ faults) received given lawful sound have =
+    given_are_sound tools faults have.0 given lawful.1 (stage_sound tool received have.0 lawful.0 (stage tool fault received have.0 sound have.1)) have.2
 
 -- no stage has refused
 abbrev pub AreWell : List (Option ToolFault) → Type 0
@@ -28,10 +87,31 @@ AreWell [] = Unit {0}
 AreWell (None ∷ faults) = AreWell faults
 AreWell (Some fault ∷ faults) = ⊥
 
+-- a stage that didn't refuse answered a stream by the stream of its results
+abbrev Answered : Tool → List Image → List Message → Type 0
+Answered tool is given = (js : List Image) × AreResults tool is js × AreImages js × (given ≡ messages_of_stream js)
+
+stage_answered : (tool : Tool) (is : List Image) (given : List Message) → IsLawfulTool tool → AreImages is → HasAnswered tool None (messages_of_stream is) given → Answered tool is given
+stage_answered tool is given lawful images has =
+    let r = full_answer_is_the_stream tool is given images has.1 in
+    (r.0, r.1, results_are_images tool is r.0 lawful images r.1, r.2)
+
+-- so did a chain, whose tools are numbered from here
+answered_by_stream : (number : ℕ) (tools : List Tool) (faults : List (Option ToolFault)) (is : List Image) (given : List Message) → AreLawfulTools tools → AreImages is → AreWell faults → HaveAnswered tools faults (messages_of_stream is) given
+    → (js : List Image) × AreResultsInTurn tools is js × AreImages js × (given ≡ messages_of_stream js) × (refusal_from number tools is ≡ None)
+answered_by_stream number [] [] is given lawful images well have = (is, same_in_turn is, images, have, refl)
+answered_by_stream number [] (fault ∷ faults) is given lawful images well have = absurd have
+answered_by_stream number (tool ∷ tools) [] is given lawful images well have = absurd have
+answered_by_stream number (tool ∷ tools) (None ∷ faults) is given lawful images well have =
+    let r = stage_answered tool is have.0 lawful.0 images have.1 in
+    let next = answered_by_stream (number + 1) tools faults r.0 given lawful.1 r.2 well (subst (λ (l : List Message). HaveAnswered tools faults l given) r.3 have.2) in
+    (next.0, results_in_turn tool tools is r.0 next.0 r.1 next.1, next.2, next.3, ap (refusal_by number tools) (results_are tool is r.0 r.1) ∙ next.4)
+answered_by_stream number (tool ∷ tools) (Some fault ∷ faults) is given lawful images well have = absurd well
+
 -- where no stage refused, a stream was answered by the stream of its results
 pub stream_is_answered : (tools : List Tool) (faults : List (Option ToolFault)) (is : List Image) (given : List Message) → AreLawfulTools tools → AreImages is → AreWell faults → HaveAnswered tools faults (messages_of_stream is) given
     → (js : List Image) × AreResultsInTurn tools is js × AreImages js × (given ≡ messages_of_stream js) × (refusal_of tools is ≡ None)
-stream_is_answered tools faults is given lawful images well have = ?
+stream_is_answered tools faults is given lawful images well have = answered_by_stream 1 tools faults is given lawful images well have
 
 -- the first fault of stages, whose numbers begin here
 abbrev pub IsFirstFault : ℕ → List (Option ToolFault) → ℕ → ToolFault → Type 0
@@ -39,12 +119,51 @@ IsFirstFault from [] number fault = ⊥
 IsFirstFault from (None ∷ faults) number fault = IsFirstFault (from + 1) faults number fault
 IsFirstFault from (Some other ∷ faults) number fault = (number ≡ from) × (fault ≡ other)
 
+-- memory ran out, or this is the refusal of the chain
+abbrev IsRefusal : ℕ → List Tool → List Image → ℕ → ToolFault → Type 0
+IsRefusal from tools is number fault = (fault ≡ Memory) ⊎ (refusal_from from tools is ≡ Some (record { number = number; fault = fault }))
+
+-- the refusal of the first tool
+refused_here : (from : ℕ) (tool : Tool) (tools : List Tool) (is : List Image) (number : ℕ) (fault other : ToolFault) → number ≡ from → fault ≡ other → (other ≡ Memory) ⊎ (results_of tool is ≡ Err other) → IsRefusal from (tool ∷ tools) is number fault
+refused_here from tool tools is number fault other at same (inl memory) = inl (same ∙ memory)
+refused_here from tool tools is number fault other at same (inr refused) = inr (ap (refusal_by from tools) refused ∙ ap₂ (λ (n : ℕ) (f : ToolFault). Some (record { number = n; fault = f })) (sym at) (sym same))
+
+stage_refused : (tool : Tool) (fault : ToolFault) (is : List Image) (given : List Message) (has : HasRefused tool fault (messages_of_stream is) given) → AreImages is → (fault ≡ Memory) ⊎ (AnswersInFull tool has.accepted given × IsRefusedNext tool fault has.accepted has.rest)
+    → (fault ≡ Memory) ⊎ (results_of tool is ≡ Err fault)
+stage_refused tool fault is given has images (inl memory) = inl memory
+stage_refused tool fault is given has images (inr refused) = refused_next tool fault is has.accepted has.rest images has.parts has.taken refused.1
+
+-- the refusal of a later tool
+refused_later : (from : ℕ) (tool : Tool) (tools : List Tool) (is js : List Image) (number : ℕ) (fault : ToolFault) → results_of tool is ≡ Ok js → IsRefusal (from + 1) tools js number fault → IsRefusal from (tool ∷ tools) is number fault
+refused_later from tool tools is js number fault results (inl memory) = inl memory
+refused_later from tool tools is js number fault results (inr refused) = inr (ap (refusal_by from tools) results ∙ refused)
+
+first_refusal : (from : ℕ) (tools : List Tool) (faults : List (Option ToolFault)) (is : List Image) (given : List Message) (number : ℕ) (fault : ToolFault) → AreLawfulTools tools → AreImages is → HaveAnswered tools faults (messages_of_stream is) given
+    → IsFirstFault from faults number fault → IsRefusal from tools is number fault
+first_refusal from [] [] is given number fault lawful images have first = absurd first
+first_refusal from [] (other ∷ faults) is given number fault lawful images have first = absurd have
+first_refusal from (tool ∷ tools) [] is given number fault lawful images have first = absurd have
+first_refusal from (tool ∷ tools) (None ∷ faults) is given number fault lawful images have first =
+    let r = stage_answered tool is have.0 lawful.0 images have.1 in
+    refused_later from tool tools is r.0 number fault (results_are tool is r.0 r.1) (first_refusal (from + 1) tools faults r.0 given number fault lawful.1 r.2 (subst (λ (l : List Message). HaveAnswered tools faults l given) r.3 have.2) first)
+first_refusal from (tool ∷ tools) (Some other ∷ faults) is given number fault lawful images have first =
+    refused_here from tool tools is number fault other first.0 first.1 (stage_refused tool other is have.0 have.1 images have.1.refused)
+
 -- the first fault of the stages that a stream has passed is the refusal of the chain, unless memory ran out
 pub refusal_is_first : (tools : List Tool) (faults : List (Option ToolFault)) (is : List Image) (given : List Message) (number : ℕ) (fault : ToolFault) → AreLawfulTools tools → AreImages is → AreSound (messages_of_stream is)
     → HaveAnswered tools faults (messages_of_stream is) given → IsFirstFault 1 faults number fault
     → (fault ≡ Memory) ⊎ (refusal_of tools is ≡ Some (record { number = number; fault = fault }))
-refusal_is_first tools faults is given number fault lawful images sound have first = ?
+refusal_is_first tools faults is given number fault lawful images sound have first = first_refusal 1 tools faults is given number fault lawful images have first
 
 -- whatever images complete what was received, what was given is a front of the output due for them
 pub given_is_front : (tools : List Tool) (faults : List (Option ToolFault)) (received given : List Message) (is : List Image) → AreLawfulTools tools → AreSound received → HaveAnswered tools faults received given → Completes is received → IsFrontOf given (due_in_turn tools is)
-given_is_front tools faults received given is lawful sound have completes = ?
+given_is_front [] [] received given is lawful sound have completes = subst (λ (l : List Message). IsFrontOf l (due_in_turn [] is)) (sym have) (subst (IsFrontOf received) (sym (nothing_changes is)) (received_front received is sound completes))
+given_is_front [] (fault ∷ faults) received given is lawful sound have completes = absurd have
+given_is_front (tool ∷ tools) [] received given is lawful sound have completes = absurd have
+given_is_front (tool ∷ tools) (fault ∷ faults) received given is lawful sound have completes =
+    let middle : List Message = have.0 in
+    let s = stage tool fault received middle sound have.1 in
+    let next : AreSound middle = stage_sound tool received middle lawful.0 s in
+    let accepted = front_of_front s.accepted received (messages_of_stream is) (s.rest, s.parts) (received_front received is sound completes) in
+    front_by_results tool tools is middle given lawful.0 completes.images (stage_due tool received middle is s completes.images accepted)
+    (λ js are front. given_is_front tools faults middle given js lawful.1 next have.2 (completed middle js next are front))

@@ -36,7 +36,7 @@ before_stop tool l (inr h) =
       ap (answered_from tool Between) h.1 ∙ answered_from-append tool Between front (Stop ∷ []) ∙ ap (λ (x : List Message). answered_from tool Between x ++ answered_from tool (place_of Between front) (Stop ∷ [])) (sym cut),
     )
 
-front_of_front : (a b c : List Message) → IsFrontOf a b → IsFrontOf b c → IsFrontOf a c
+pub front_of_front : (a b c : List Message) → IsFrontOf a b → IsFrontOf b c → IsFrontOf a c
 front_of_front a b c f g = (f.0 ++ g.0, g.1 ∙ ap (λ (x : List Message). x ++ g.0) f.1 ∙ append_assoc a f.0 g.0)
 
 all_owed : (tool : Tool) (l g : List Message) (is : List Image) → AnswersImages tool → IsAnswering tool l g [] → Completes is l → IsFrontOf (owed tool (images_ended l) (begun_in l) is) g

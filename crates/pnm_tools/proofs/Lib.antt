@@ -12,5 +12,8 @@ pub mod DepthLaws
 pub mod ChannelLaws
 pub mod ToolLaws
 pub mod ResultLaws
+pub mod SoundLaws
+pub mod FrontLaws
+pub mod RefusalLaws
 pub mod ChainLaws
 pub mod StateSteps

@@ -57,10 +57,10 @@ pub ends_between : (i : Image) → place_of Between (messages_of_image i) ≡ Be
 ends_between i = ends_rows (Inside i.head.shape 0) (rows_of i)
 
 -- the output due by what becomes of the first image
-abbrev due_by : Tool → List Image → Result Image ToolFault → List Message
+abbrev pub due_by : Tool → List Image → Result Image ToolFault → List Message
 due_by tool is r = elim r [ Ok j ↦ messages_of_image j ++ output_due tool is | Err fault ↦ [] ]
 
-due_is : (tool : Tool) (i : Image) (is : List Image) → output_due tool (i ∷ is) ≡ due_by tool is (applied tool i)
+pub due_is : (tool : Tool) (i : Image) (is : List Image) → output_due tool (i ∷ is) ≡ due_by tool is (applied tool i)
 unfolding output_due
 due_is tool i is = refl
 
@@ -68,7 +68,7 @@ abbrev IsDueFront : Tool → List Message → List Message → Type 0
 IsDueFront tool l due = IsFrontOf (answered_from tool Between l) due
 
 -- an image that is refused hasn't begun
-abbrev applied_by : (Header → Image) → Result Header ToolFault → Result Image ToolFault
+abbrev pub applied_by : (Header → Image) → Result Header ToolFault → Result Image ToolFault
 applied_by make r = elim r [ Ok head ↦ Ok (make head) | Err fault ↦ Err fault ]
 
 head_refused : (make : Header → Image) (r : Result Header ToolFault) (fault : ToolFault) (result : Header) → applied_by make r ≡ Err fault → r ≡ Ok result → ⊥
