@@ -145,7 +145,7 @@ front_of_due tool l g waiting is answers at (inr h) c =
     front_stop (output_due tool is) (answered_from tool Between front) g due.0 (answers_go_on tool Between front h.2) due.1 (within (answered_from tool Between front) Stop g waiting parts)
 
 -- what goes on isn't broken off
-not_broken : (g : List Message) → GoOn g → EndsBy BrokenOff g → ⊥
+pub not_broken : (g : List Message) → GoOn g → EndsBy BrokenOff g → ⊥
 not_broken [] on e = cc
 not_broken (Begin head ∷ []) on e = cc
 not_broken (Row row ∷ []) on e = cc
@@ -174,12 +174,20 @@ is_broken place (ImageEnd ∷ front) h = more_broken ImageEnd front refl (is_bro
 is_broken place (StreamEnd ∷ front) h = absurd (after_nothing front h.1)
 is_broken place (Stop ∷ front) h = absurd (after_nothing front h.1)
 
-stops_so : (tool : Tool) (l g waiting : List Message) → IsAnswering tool l g waiting → StopsLast l → EndsBy BrokenOff g → EndsBy BrokenOff l
-stops_so tool l g waiting at (inl on) e = absurd (not_broken g (first_goes_on g waiting (subst GoOn at.given (answers_go_on tool Between l on))) e)
-stops_so tool l g waiting at (inr h) e = subst (EndsBy BrokenOff) (sym h.1) (is_broken Between h.0 (subst IsLawful h.1 at.lawful))
+no_last_stop : (front : List Message) → GoOn (front ++ Stop ∷ []) → ⊥
+no_last_stop [] on = on
+no_last_stop (Begin head ∷ front) on = no_last_stop front on
+no_last_stop (Row row ∷ front) on = no_last_stop front on
+no_last_stop (ImageEnd ∷ front) on = no_last_stop front on
+no_last_stop (StreamEnd ∷ front) on = no_last_stop front on
+no_last_stop (Stop ∷ front) on = on
+
+stops_so : (tool : Tool) (l g waiting front : List Message) → IsAnswering tool l g waiting → StopsLast l → g ≡ front ++ Stop ∷ [] → EndsBy BrokenOff l
+stops_so tool l g waiting front at (inl on) e = absurd (no_last_stop front (subst GoOn e (first_goes_on g waiting (subst GoOn at.given (answers_go_on tool Between l on)))))
+stops_so tool l g waiting front at (inr h) e = subst (EndsBy BrokenOff) (sym h.1) (is_broken Between h.0 (subst IsLawful h.1 at.lawful))
 
 -- the relation implies that what was given are answers
 pub answering_answers : (tool : Tool) (l g waiting : List Message) → AnswersImages tool → IsAnswering tool l g waiting → Answers tool l g
 answering_answers tool l g waiting answers at =
     let last = lawful_stops Between l at.lawful in
-    record { lawful = at.lawful; front = λ is c. front_of_due tool l g waiting is answers at last c; stop = λ e. stops_so tool l g waiting at last e }
+    record { lawful = at.lawful; front = λ is c. front_of_due tool l g waiting is answers at last c; stop = λ before e. stops_so tool l g waiting before at last e }

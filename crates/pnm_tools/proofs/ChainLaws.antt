@@ -12,7 +12,7 @@ use Rattle.pnm_tools.specs.declared.fault.ToolFault.{ToolFault}
 use Rattle.pnm_tools.specs.declared.fault.ToolFault.TheVariants.{Memory}
 use Rattle.pnm_tools.specs.declared.tool.Tool.{Tool}
 use Rattle.pnm_tools.specs.Tools.{IsLawfulTool, output_due}
-use Rattle.pnm_tools.specs.Answers.{More, Answers, AnswersInFull, AreResults}
+use Rattle.pnm_tools.specs.Answers.{More, EndsBy, Answers, AnswersInFull, AreResults}
 use Rattle.pnm_tools.specs.Chains.{AreLawfulTools, AreResultsInTurn, due_in_turn, results_of, refusal_from, refusal_of}
 use Rattle.pnm_tools.specs.Stages.{IsSound, IsRefusedNext, HasRefused, HasAnswered, HaveAnswered}
 use Rattle.pnm_tools.proofs.FullAnswers.{full_answer_is_the_stream}
@@ -53,12 +53,19 @@ record Stage (tool : Tool) (received given : List Message) : Type 0 where
   answers : Answers tool accepted given
   ends : EndsUnbroken given
 
+-- what a stage that refused gave isn't broken off
+refused_ends : (tool : Tool) (fault : ToolFault) (accepted rest given : List Message) → AreSound accepted → ((fault ≡ Memory) × EndsBy More given) ⊎ (AnswersInFull tool accepted given × IsRefusedNext tool fault accepted rest) → EndsUnbroken given
+refused_ends tool fault accepted rest given sound (inl memory) = (More, tt, memory.1)
+refused_ends tool fault accepted rest given sound (inr refused) =
+    let ends = sound_ends Between accepted sound.lawful sound.sound in
+    (ends.0, ends.1, refused.0.ends ends.0 ends.2)
+
 stage : (tool : Tool) (fault : Option ToolFault) (received given : List Message) → AreSound received → HasAnswered tool fault received given → Stage tool received given
 stage tool None received given sound has =
     let ends = sound_ends Between received sound.lawful sound.sound in
-    record { accepted = received; rest = []; parts = sym (append-nil received); sound = sound; answers = has.1.answers; ends = (ends.0, ends.1, has.1.ends ends.0 ends.2) }
+    record { accepted = received; rest = []; parts = sym (append-nil received); sound = sound; answers = has.answers; ends = (ends.0, ends.1, has.ends ends.0 ends.2) }
 stage tool (Some fault) received given sound has =
-    record { accepted = has.accepted; rest = has.rest; parts = has.parts; sound = sound_front has.accepted has.rest (subst AreSound has.parts sound); answers = has.answers; ends = (More, tt, has.unended) }
+    record { accepted = has.accepted; rest = has.rest; parts = has.parts; sound = sound_front has.accepted has.rest (subst AreSound has.parts sound); answers = has.answers; ends = refused_ends tool fault has.accepted has.rest given (sound_front has.accepted has.rest (subst AreSound has.parts sound)) has.refused }
 
 -- what it gave is a front of the output due
 stage_due : (tool : Tool) (received given : List Message) (is : List Image) (s : Stage tool received given) → AreImages is → IsFrontOf s.accepted (messages_of_stream is) → IsFrontOf given (output_due tool is)
@@ -93,7 +100,7 @@ Answered tool is given = (js : List Image) × AreResults tool is js × AreImages
 
 stage_answered : (tool : Tool) (is : List Image) (given : List Message) → IsLawfulTool tool → AreImages is → HasAnswered tool None (messages_of_stream is) given → Answered tool is given
 stage_answered tool is given lawful images has =
-    let r = full_answer_is_the_stream tool is given images has.1 in
+    let r = full_answer_is_the_stream tool is given images has in
     (r.0, r.1, results_are_images tool is r.0 lawful images r.1, r.2)
 
 -- so did a chain, whose tools are numbered from here
@@ -128,9 +135,9 @@ refused_here : (from : ℕ) (tool : Tool) (tools : List Tool) (is : List Image) 
 refused_here from tool tools is number fault other at same (inl memory) = inl (same ∙ memory)
 refused_here from tool tools is number fault other at same (inr refused) = inr (ap (refusal_by from tools) refused ∙ ap₂ (λ (n : ℕ) (f : ToolFault). Some (record { number = n; fault = f })) (sym at) (sym same))
 
-stage_refused : (tool : Tool) (fault : ToolFault) (is : List Image) (given : List Message) (has : HasRefused tool fault (messages_of_stream is) given) → AreImages is → (fault ≡ Memory) ⊎ (AnswersInFull tool has.accepted given × IsRefusedNext tool fault has.accepted has.rest)
+stage_refused : (tool : Tool) (fault : ToolFault) (is : List Image) (given : List Message) (has : HasRefused tool fault (messages_of_stream is) given) → AreImages is → ((fault ≡ Memory) × EndsBy More given) ⊎ (AnswersInFull tool has.accepted given × IsRefusedNext tool fault has.accepted has.rest)
     → (fault ≡ Memory) ⊎ (results_of tool is ≡ Err fault)
-stage_refused tool fault is given has images (inl memory) = inl memory
+stage_refused tool fault is given has images (inl memory) = inl memory.0
 stage_refused tool fault is given has images (inr refused) = refused_next tool fault is has.accepted has.rest images has.parts has.taken refused.1
 
 -- the refusal of a later tool

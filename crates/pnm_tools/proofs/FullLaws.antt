@@ -52,6 +52,7 @@ all_owed tool l g is answers at c =
 pub answering_in_full : (tool : Tool) (l g : List Message) → AnswersImages tool → IsAnswering tool l g [] → AnswersInFull tool l g
 answering_in_full tool l g answers at = record {
   answers = answering_answers tool l g [] answers at;
+  taken = at.taken;
   all = λ is c. all_owed tool l g is answers at c;
   ends = λ e ends. subst (EndsBy e) (at.given ∙ append-nil g) (answers_end_so tool Between l e ends);
 }

@@ -1,4 +1,3 @@
-pub mod PassingSteps
 pub mod FullAnswers
 pub mod FormulaLaws
 pub mod RowWiseLaws

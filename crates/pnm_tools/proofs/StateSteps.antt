@@ -19,12 +19,12 @@ use Rattle.pnm_tools.specs.declared.fault.ToolFault.TheVariants.{CutOutside, Cha
 use Rattle.pnm_tools.specs.declared.state.Pending.{Pending}
 use Rattle.pnm_tools.specs.declared.state.Pending.TheVariants.{AllGiven, Waiting, Nothing}
 use Rattle.pnm_tools.specs.declared.tool.Tool.{Tool}
-use Rattle.pnm_tools.specs.Answers.{AnswersInFull, Begins, RefusesHead, Judges}
+use Rattle.pnm_tools.specs.Answers.{BrokenOff, EndsBy, AnswersInFull, Begins, RefusesHead, Judges}
 use Rattle.pnm_tools.specs.RowWise.{answered, answered_from}
 use Rattle.pnm_tools.specs.States.{Standing, standing, IsAnswering, IsAt, is_all_given, waiting_in}
 use Rattle.pnm_tools.specs.Steps.{IsDue, IsTaken, IsRefused}
 use Rattle.pnm_tools.specs.Tools.{AreTaken, result_head}
-use Rattle.pnm_tools.proofs.AtLaws.{answering_answers}
+use Rattle.pnm_tools.proofs.AtLaws.{GoOn, StopsLast, lawful_stops, not_broken, answering_answers}
 use Rattle.pnm_tools.proofs.FullLaws.{answering_in_full}
 use Rattle.pnm_tools.proofs.OwedLaws.{place_of-append}
 use Rattle.pnm_tools.proofs.RowWiseLaws.{answered_from-append}
@@ -179,3 +179,22 @@ none_left pending taken same (inr nothing) = ap waiting_in (sym same ∙ nothing
 
 pub no_fault : (fault : Option ToolFault) (k : ToolFault) → fault ≡ None → fault ≡ Some k → ⊥
 no_fault fault k none some = cc
+
+-- ---- Stop alone
+
+last_same : (a b : List Message) (x y : Message) → a ++ x ∷ [] ≡ b ++ y ∷ [] → x ≡ y
+last_same [] [] x y e = cc
+last_same [] (n ∷ []) x y e = absurd cc
+last_same [] (n ∷ k ∷ b) x y e = absurd cc
+last_same (m ∷ []) [] x y e = absurd cc
+last_same (m ∷ k ∷ a) [] x y e = absurd cc
+last_same (m ∷ a) (n ∷ b) x y e = last_same a b x y cc
+
+-- what is broken off ends in Stop, and so does its answer
+stop_waits : (t : Tool) (l g : List Message) (m : Message) → IsAnswering t l g (m ∷ []) → StopsLast l → EndsBy BrokenOff l → m ≡ Stop
+stop_waits t l g m a (inl on) ends = absurd (not_broken l on ends)
+stop_waits t l g m a (inr h) ends =
+    sym (last_same (answered_from t Between h.0) g Stop m (sym (ap (answered_from t Between) h.1 ∙ answered_from-append t Between h.0 (Stop ∷ [])) ∙ a.given))
+
+pub gave_stop : {W : Type 0} (tool_at : W → Tool) (ready_for : W → Shape → Type 0) (old : Standing W) (m : Message) (t : Tool) (l g : List Message) → IsAt tool_at ready_for old t l g → old.pending ≡ Waiting m → EndsBy BrokenOff l → m ≡ Stop
+gave_stop tool_at ready_for old m t l g at waits ends = stop_waits t l g m (subst (λ (p : Pending). IsAnswering t l g (waiting_in p)) waits at.answering) (lawful_stops Between l at.answering.lawful) ends

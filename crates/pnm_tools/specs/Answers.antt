@@ -12,7 +12,7 @@ use Rattle.pnm_image.specs.Completion.{IsFrontOf, Completes}
 use Rattle.pnm_tools.specs.declared.fault.ToolFault.{ToolFault}
 use Rattle.pnm_tools.specs.declared.fault.ToolFault.TheVariants.{CutOutside, ChannelOutside, TooLarge, OutOfOrder, Memory}
 use Rattle.pnm_tools.specs.declared.tool.Tool.{Tool}
-use Rattle.pnm_tools.specs.Tools.{result_head, Takes, applied, output_due}
+use Rattle.pnm_tools.specs.Tools.{result_head, Takes, AreTaken, applied, output_due}
 
 -- how a list of messages ends: it doesn't, whole, or broken off
 pub data Ending : Type 0 where
@@ -69,11 +69,12 @@ owed tool (suc ended) begun (i ∷ is) = elim (applied tool i) [
 pub record Answers (tool : Tool) (accepted given : List Message) : Type 0 where
   pub lawful : IsLawful accepted
   pub front : (is : List Image) → Completes is accepted → IsFrontOf (without_stop given) (output_due tool is)
-  pub stop : EndsBy BrokenOff given → EndsBy BrokenOff accepted
+  pub stop : (front : List Message) → given ≡ front ++ Stop ∷ [] → EndsBy BrokenOff accepted
 
--- and all that is owed was given, with the same end
+-- and no image was refused, and all that is owed was given, with the same end
 pub record AnswersInFull (tool : Tool) (accepted given : List Message) : Type 0 where
   pub answers : Answers tool accepted given
+  pub taken : AreTaken tool accepted
   pub all : (is : List Image) → Completes is accepted → IsFrontOf (owed tool (images_ended accepted) (begun_in accepted) is) given
   pub ends : (e : Ending) → EndsBy e accepted → EndsBy e given
 

@@ -6,7 +6,6 @@ pub mod Depth
 pub mod Channel
 pub mod Tools
 pub mod Answers
-pub mod Passing
 pub mod RowWise
 pub mod States
 pub mod Steps

@@ -1,4 +1,5 @@
--- What the stages of a chain have received and given, each a tool at work on what the one before it gave.
+-- What the stages of a chain in one thread have received and given, each a tool at work on what the one before it gave.
+-- After its refusal a stage gives nothing more, not even Stop.
 use Rattle.std.specs.Prelude.{◌≡◌, ◌⊎◌, ◌<◌, ℕ, true, List, [], ◌∷◌, ◌++◌, Option, Some, None, Err}
 use Rattle.pnm_image.specs.declared.message.Message.{Message}
 use Rattle.pnm_image.specs.declared.message.Message.TheVariants.{Begin, Row, ImageEnd, StreamEnd, Stop}
@@ -28,12 +29,11 @@ pub record HasRefused (tool : Tool) (fault : ToolFault) (received given : List M
   pub parts : received ≡ accepted ++ rest
   pub taken : AreTaken tool accepted
   pub answers : Answers tool accepted given
-  pub unended : EndsBy More given
-  pub refused : (fault ≡ Memory) ⊎ (AnswersInFull tool accepted given × IsRefusedNext tool fault accepted rest)
+  pub refused : ((fault ≡ Memory) × EndsBy More given) ⊎ (AnswersInFull tool accepted given × IsRefusedNext tool fault accepted rest)
 
 -- what a stage has given for what it received, by its fault
 abbrev pub HasAnswered : Tool → Option ToolFault → List Message → List Message → Type 0
-HasAnswered tool None received given = AreTaken tool received × AnswersInFull tool received given
+HasAnswered tool None received given = AnswersInFull tool received given
 HasAnswered tool (Some fault) received given = HasRefused tool fault received given
 
 -- what a chain of stages has given for what the first of them received

@@ -2,6 +2,7 @@
 
 ghost use Rattle.std.specs.Prelude.{◌≡◌, ℕ, ◌<◌, List, [], ◌∷◌, ◌++◌, Bool, true, false, Option, Some, None, OnOk, IfOk, IfErr, IfSome, IfNone, Err};
 ghost use Rattle.pnm_image.specs.declared.message.Message.{Message as Said};
+ghost use Rattle.pnm_image.specs.declared.message.Message.TheVariants.{Stop};
 ghost use Rattle.pnm_tools.specs.declared.fault.ToolFault.{ToolFault as Fault};
 ghost use Rattle.pnm_tools.specs.declared.fault.ToolFault.TheVariants.{Memory};
 ghost use Rattle.pnm_tools.specs.declared.tool.Tool.{Tool as Value};
@@ -10,13 +11,17 @@ ghost use Rattle.pnm_tools.specs.Answers.{Ending, EndsBy, Answers, AnswersInFull
 use crate::fault::ToolFault;
 use pnm_image::Message;
 
-/// Takes the messages of images one by one, and gives those of their results. After each `feed` the
-/// caller asks by `next` until it answers `None`.
+/// A tool at work: it takes the messages of images one by one, and gives those of their results.
+///
+/// After each `feed` the caller asks by `next` until it answers `None`. The result's head is given
+/// as soon as an image begins, and all that is left of the result once the image has ended. How
+/// early a row inside the image is given is open. The end of the stream gives the end of the stream,
+/// and Stop gives Stop alone; nothing is given after either.
 pub trait Filter {
     /// The state of this tool, which has accepted these messages and given those.
     ghost at: { Self → Value → List Said → List Said → Type 0 };
 
-    /// Nothing is owed for the last message that was accepted.
+    /// `next` has answered `None` since the last message that was accepted, or none was accepted.
     ghost all_given: { Self → Bool };
 
     /// The fault that there was, if any.
@@ -25,7 +30,12 @@ pub trait Filter {
     /// The messages that are still to be given, at most.
     ghost waiting: { Self → ℕ };
 
-    /// Takes the next message. After a fault it answers it for good, and the message is dropped.
+    /// Takes the next message. The first of these faults is answered, for good, and the message is
+    /// dropped: the earlier fault, if there was one; `OutOfOrder` where `next` hasn't answered `None`
+    /// since the last message that was accepted, where the message can't come at its place in the
+    /// stream, or where an image of height 0 begins and the tool isn't row-wise; `CutOutside` or
+    /// `ChannelOutside` where the image that begins hasn't the part that is asked for; `TooLarge`
+    /// where its result is beyond the limits; `Memory`.
     fn feed(&mut self, message: Message) -> Result<(), ToolFault>
         ensures accepted { OnOk result ((t : Value) (l g : List Said) → at self.old t l g → at self.new t (l ++ message ∷ []) g) }
         ensures owes { OnOk result (all_given self.new ≡ false) }
@@ -34,9 +44,12 @@ pub trait Filter {
         ensures goes_on { OnOk result ((stopped self.old ≡ None) × (stopped self.new ≡ None)) }
         ensures stays { (k : Fault) → stopped self.old ≡ Some k → result ≡ Err k };
 
-    /// The next message of the results, or `None` where all that is owed was given.
+    /// The next message of the results, or `None` where all that is owed was given. After a fault it
+    /// is answered for good. The only fault that begins here is `Memory`, and not once the end of the
+    /// stream or Stop was given.
     fn next(&mut self) -> Result<Option<Message>, ToolFault>
         ensures given { IfOk result (λ r. IfSome r (λ m. (t : Value) (l g : List Said) → at self.old t l g → at self.new t l (g ++ m ∷ []))) }
+        ensures stop_alone { IfOk result (λ r. IfSome r (λ m. (t : Value) (l g : List Said) → at self.old t l g → EndsBy Ending.BrokenOff l → m ≡ Stop)) }
         ensures fewer { IfOk result (λ r. IfSome r (λ m. (waiting self.new < waiting self.old) × (all_given self.old ≡ false) × (all_given self.new ≡ false))) }
         ensures full { IfOk result (λ r. IfNone r ((all_given self.new ≡ true) × ((t : Value) (l g : List Said) → at self.old t l g → at self.new t l g × AnswersInFull t l g))) }
         ensures failed { stopped self.old ≡ None → IfErr result (λ k. (k ≡ Memory) × ((t : Value) (l g : List Said) → at self.old t l g → EndsBy Ending.More g)) }

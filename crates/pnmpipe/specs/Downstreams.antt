@@ -1,48 +1,41 @@
--- What passes through the tool and the sink of a run.
-use Rattle.std.specs.Prelude.{◌≡◌, ℕ, true, false, List, [], ◌∷◌, ◌++◌, Option, Result, Ok, Err}
+-- What the sink of a run has taken.
+use Rattle.std.specs.Prelude.{◌≡◌, ℕ, true, false, List, Option, Result, Ok, Err}
+use Rattle.std.specs.List.{AllByRecursion}
 use Rattle.pnm_image.specs.declared.message.Message.{Message}
+use Rattle.pnm_image.specs.Places.{IsLawful}
 use Rattle.pnm_write.specs.declared.fault.SinkFault.{SinkFault}
 use Rattle.pnm_write.specs.declared.fault.SinkFault.TheVariants.{WriteFailed}
-use Rattle.pnm_write.specs.Encoding.{bytes_at}
+use Rattle.pnm_write.specs.Encoding.{bytes_of}
 use Rattle.pnm_write.specs.Writes.{FailsIn}
-use Rattle.pnm_write.specs.Sinks.{writer_of, next_place, has_failed, HasWritten}
+use Rattle.pnm_write.specs.Sinks.{writer_of, has_failed, HasRows, HasWritten}
 use Rattle.pnmpipe.specs.declared.downstream.Downstream.{Downstream}
-use Rattle.pnmpipe.specs.Inversion.{inverted_message}
-use Rattle.pnmpipe.specs.Counts.{images_after, rows_after}
+use Rattle.pnmpipe.specs.Counts.{images_in, rows_in}
 
--- the writer behind the tool and the sink
+-- the writer behind the sink
 abbrev pub output_of : {W : Type 0} → Downstream W → W
 output_of d = writer_of d.sink
 
--- nothing has passed
-pub record IsFresh {W : Type 0} (held : W → Option (List ℕ)) (d : Downstream W) : Type 0 where
-  pub maxval : d.inverter.maxval ≡ 0
+-- a sink may be put these messages, one after another
+abbrev pub AreWritable : List Message → Type 0
+AreWritable messages = IsLawful messages × AllByRecursion HasRows messages
+
+-- the messages were written and counted
+pub record AreWritten {W : Type 0} (held : W → Option (List ℕ)) (failures : W → ℕ) (start : W) (messages : List Message) (d : Downstream W) : Type 0 where
+  pub written : HasWritten held (held start) d.sink messages
+  pub count : failures (output_of d) ≡ failures start
   pub sound : has_failed d.sink ≡ false
-  pub written : HasWritten held (held (output_of d)) d.sink []
-  pub images : d.summary.images ≡ 0
-  pub rows : d.summary.rows ≡ 0
-  pub output : d.output ≡ Ok tt
+  pub images : d.summary.images ≡ images_in 0 messages
+  pub rows : d.summary.rows ≡ rows_in 0 messages
 
--- the message was written, inverted, after all that was written before it
-pub record WritesInverted {W : Type 0} (held : W → Option (List ℕ)) (failures : W → ℕ) (old new : Downstream W) (m : Message) : Type 0 where
-  pub written : (start : Option (List ℕ)) (messages : List Message) → HasWritten held start old.sink messages → HasWritten held start new.sink (messages ++ inverted_message old.inverter.maxval m ∷ [])
-  pub count : failures (output_of new) ≡ failures (output_of old)
-  pub sound : has_failed new.sink ≡ false
-  pub images : new.summary.images ≡ images_after old.summary.images m
-  pub rows : new.summary.rows ≡ rows_after old.summary.rows m
+-- the writer failed in them, if they are ones that the sink may be put
+pub record AreCutOff {W : Type 0} (held : W → Option (List ℕ)) (failures : W → ℕ) (start : W) (messages : List Message) (d : Downstream W) (fault : SinkFault) : Type 0 where
+  pub failed : has_failed d.sink ≡ true
+  pub front : AreWritable messages → (fault ≡ WriteFailed) × FailsIn (bytes_of messages) (held start) (held (output_of d)) (failures start) (failures (output_of d))
 
--- the writer failed in the message
-pub record FailsToWrite {W : Type 0} (held : W → Option (List ℕ)) (failures : W → ℕ) (old new : Downstream W) (m : Message) (fault : SinkFault) : Type 0 where
-  pub write_failed : fault ≡ WriteFailed
-  pub front : FailsIn (bytes_at (next_place old.sink) (inverted_message old.inverter.maxval m)) (held (output_of old)) (held (output_of new)) (failures (output_of old)) (failures (output_of new))
-  pub failed : has_failed new.sink ≡ true
+abbrev pub HasTakenWith : {W : Type 0} → (W → Option (List ℕ)) → (W → ℕ) → W → List Message → Downstream W → Result (Unit {0}) SinkFault → Type 0
+HasTakenWith held failures start messages d (Ok _) = AreWritten held failures start messages d
+HasTakenWith held failures start messages d (Err fault) = AreCutOff held failures start messages d fault
 
--- how a message passes, by the output before and after it: after a fault nothing is written
-abbrev pub PassesWith : {W : Type 0} → (W → Option (List ℕ)) → (W → ℕ) → Result (Unit {0}) SinkFault → Downstream W → Result (Unit {0}) SinkFault → Downstream W → Message → Type 0
-PassesWith held failures (Ok _) old (Ok _) new m = WritesInverted held failures old new m
-PassesWith held failures (Ok _) old (Err fault) new m = FailsToWrite held failures old new m fault
-PassesWith held failures (Err fault) old (Ok _) new m = ⊥
-PassesWith held failures (Err fault) old (Err same) new m = (same ≡ fault) × (new.sink ≡ old.sink)
-
-abbrev pub Passes : {W : Type 0} → (W → Option (List ℕ)) → (W → ℕ) → Downstream W → Downstream W → Message → Type 0
-Passes held failures old new m = PassesWith held failures old.output old new.output new m
+-- since the start the sink was passed these messages
+abbrev pub HasTaken : {W : Type 0} → (W → Option (List ℕ)) → (W → ℕ) → W → List Message → Downstream W → Type 0
+HasTaken held failures start messages d = HasTakenWith held failures start messages d d.output

@@ -1,6 +1,3 @@
-pub mod Inversion
 pub mod Counts
 pub mod Downstreams
-pub mod Runs
-pub mod Passing
-pub mod Examples
+pub mod Stages

@@ -1,54 +1,47 @@
-//! What stands behind the source of a run: the tool and the sink.
+//! What stands behind the tools of a run: the sink, and the count of what it wrote.
 
-ghost use Rattle.std.specs.Prelude.{◌≡◌, MatchResult, false};
+ghost use Rattle.std.specs.Prelude.{◌≡◌, [], ◌∷◌, ◌++◌, List, Ok, Err, MatchResult};
 ghost use Rattle.std.specs.Result.{is_err};
 ghost use Rattle.std.specs.Io.KnownBytes.{Keeps};
 ghost use Rattle.pnm_image.specs.Devices.{Failed};
+ghost use Rattle.pnm_image.specs.declared.message.Message.{Message as Said};
 ghost use Rattle.pnm_write.specs.declared.fault.SinkFault.{SinkFault as Fault};
 ghost use Rattle.pnm_write.specs.declared.fault.SinkFault.TheVariants.{WriteFailed};
-ghost use Rattle.pnm_write.specs.Sinks.{next_place, has_failed, Takes};
-ghost use Rattle.pnmpipe.specs.Inversion.{inverted_message, maxval_after, IsRowUpTo};
+ghost use Rattle.pnm_write.specs.Sinks.{has_failed};
 
-use crate::invert::Inverter;
 use crate::summary::Summary;
 use pnm_image::{BytesOut, Message};
 use pnm_write::{Sink, SinkFault};
 
-/// The tool and the sink, and what came of them so far.
+/// The sink, and what came of it so far.
 #[derive(Drop)]
 pub struct Downstream<W> {
-    inverter: Inverter,
     sink: Sink<W>,
     summary: Summary,
     output: Result<(), SinkFault>,
 }
 
 impl<W: BytesOut + Drop> Downstream<W> {
-    ghost use Rattle.pnmpipe.specs.Downstreams.{output_of, IsFresh, Passes};
+    ghost use Rattle.pnmpipe.specs.Downstreams.{output_of, HasTaken};
 
-    /// The tool and the sink before the first message.
+    /// The sink before the first message.
     pub fn new(writer: W) -> Downstream<W>
-        ensures fresh { IsFresh W.held result }
+        ensures fresh { HasTaken W.held W.failures writer [] result }
         ensures writer { output_of result ≡ writer }
     {
         Downstream {
-            inverter: Inverter::new(),
             sink: Sink::new(writer),
             summary: Summary { images: 0, rows: 0 },
             output: Ok(()),
         }
     }
 
-    /// Inverts the message and writes it, unless there was a fault of the output before.
-    pub fn pass(&mut self, message: Message)
-        requires row { IsRowUpTo self.old.inverter.maxval message }
-        requires in_order { self.old.output ≡ Ok tt → Takes (next_place self.old.sink) (inverted_message self.old.inverter.maxval message)
-            × (has_failed self.old.sink ≡ false) }
-        ensures maxval { self.new.inverter.maxval ≡ maxval_after self.old.inverter.maxval message }
-        ensures passes { Passes W.held W.failures self.old self.new message }
+    /// Writes the message, unless there was a fault of the output before.
+    pub fn put(&mut self, message: Message)
+        ensures taken { (start : W) (messages : List Said) → HasTaken W.held W.failures start messages self.old
+            → HasTaken W.held W.failures start (messages ++ message ∷ []) self.new }
         ensures same_device { W.same (output_of self.old) (output_of self.new) }
     {
-        let message = self.inverter.inverted(message);
         if self.output.is_ok() {
             self.output = self.sink.put(&message);
             if self.output.is_ok() {
@@ -68,7 +61,6 @@ impl<W: BytesOut + Drop> Downstream<W> {
         ensures same_device { W.same (output_of self) result.0 }
     {
         let Downstream {
-            inverter: _,
             sink,
             summary,
             output,

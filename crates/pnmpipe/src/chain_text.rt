@@ -1,16 +1,11 @@
-//! The tools of a chain, and the text that names them.
+//! The text that names the tools of a chain.
 
 ghost use Rattle.std.specs.Prelude.{◌≡◌, ◌≢◌, ◌⊎◌, [], ◌∷◌, IfOk, IfErr, codes};
+ghost use Rattle.pnm_tools.specs.declared.tool.Tool.TheVariants.{Invert};
 
+use pnm_tools::Tool;
 use std::alloc::Global;
 use thiserror::Error;
-
-/// A tool.
-#[derive(Clone, Copy, Debug, PartialEq, Eq)]
-pub enum Tool {
-    /// `pnminvert`.
-    Invert,
-}
 
 /// What is wrong with a chain's text. The text of each variant is its name.
 #[derive(Clone, Copy, Debug, PartialEq, Eq, Error)]
@@ -35,7 +30,7 @@ pub struct ChainFault {
 /// The tools that the text names: `pnminvert` alone is a chain so far. The faults are `UnknownTool`
 /// of stage 1 for every other text, and `Memory`.
 pub fn parse_chain(alloc: Global, text: &str) -> Result<Vec<Tool>, ChainFault>
-    ensures spelled { IfOk result (λ tools. (text.now ≡ codes "pnminvert") × (tools.items ≡ Tool.Invert ∷ [])) }
+    ensures spelled { IfOk result (λ tools. (text.now ≡ codes "pnminvert") × (tools.items ≡ Invert ∷ [])) }
     ensures refused { IfErr result (λ fault. ((fault ≡ record { stage = 0; kind = ChainKind.Memory }) × (text.now ≡ codes "pnminvert"))
         ⊎ ((fault ≡ record { stage = 1; kind = ChainKind.UnknownTool }) × (text.now ≢ codes "pnminvert"))) }
 {
@@ -45,8 +40,9 @@ pub fn parse_chain(alloc: Global, text: &str) -> Result<Vec<Tool>, ChainFault>
             kind: ChainKind::UnknownTool,
         });
     }
-    match Vec::from_slice(alloc, &[Tool::Invert]) {
-        Ok(tools) => Ok(tools),
+    let mut tools = Vec::new(alloc);
+    match tools.push(Tool::Invert) {
+        Ok(()) => Ok(tools),
         Err(_) => Err(ChainFault {
             stage: 0,
             kind: ChainKind::Memory,
