@@ -1,5 +1,5 @@
 -- The rescaled image is what the rows of an image, each rescaled, are the messages of.
-use Rattle.std.proofs.Common.{◌≡◌, ℕ, ◌+◌, List, [], ◌∷◌, ◌++◌, map, Ok, refl, sym, ap, ◌∙◌}
+use Rattle.std.proofs.Common.{◌≡◌, ℕ, ◌+◌, ◌*◌, ◌/◌, ◌<◌, ◌≤◌, List, [], ◌∷◌, ◌++◌, map, Ok, refl, sym, ap, ◌∙◌, arith}
 use Rattle.pnm_image.specs.declared.shape.Shape.{Shape}
 use Rattle.pnm_image.specs.declared.message.Message.{Message}
 use Rattle.pnm_image.specs.declared.message.Message.TheVariants.{Begin, Row, ImageEnd}
@@ -40,3 +40,14 @@ rescaled_answers new i is =
 
 pub depth_answers_images : (maxval : ℕ) → AnswersImages (Depth maxval)
 depth_answers_images maxval i j is e = rescaled_answers maxval i is ∙ ap messages_of_image (result_is maxval i j e)
+
+-- the whole part of a quotient
+whole_part : (share each q : ℕ) → 0 < each → q ≡ share / each → (each * q ≤ share) × (share < each * q + each)
+whole_part share each q some e =
+    let low : each * (share / each) ≤ share = omega arith in
+    let high : share < each * (share / each) + each = omega arith in
+    (rw e low, rw e high)
+
+-- the rescaled sample is nearest to the same share of the new maxval; of two as near it is the greater
+pub nearest_sample_is_nearest : (new old sample q : ℕ) → 0 < old → q ≡ nearest_sample new old sample → (2 * old * q ≤ 2 * sample * new + old) × (2 * sample * new + old < 2 * old * q + 2 * old)
+nearest_sample_is_nearest new old sample q some e = whole_part (2 * sample * new + old) (2 * old) q (omega arith) e
