@@ -2,6 +2,7 @@ pub mod PassingSteps
 pub mod FullAnswers
 pub mod FormulaLaws
 pub mod RowWiseLaws
+pub mod HeadLaws
 pub mod InvertLaws
 pub mod AtLaws
 pub mod InFullLaws
