@@ -1,5 +1,5 @@
 -- The cut image is what the rows of an image, each cut, are the messages of.
-use Rattle.std.proofs.Common.{◌≡◌, ℕ, zero, suc, ◌+◌, ◌-◌, ◌*◌, ◌<◌, ◌≤◌, Bool, true, false, ◌&&◌, ℤ, pos, negsuc, Option, Some, None, List, [], ◌∷◌, ◌++◌, map, length, slice_index, take, drop, Result, Ok, Err, refl, sym, ap, subst, ◌∙◌, arith, append_assoc, append-nil, mul_assoc, add-mul, mul-le-mul, suc-mul, zero-mul}
+use Rattle.std.proofs.Common.{◌≡◌, ℕ, zero, suc, ◌+◌, ◌-◌, ◌*◌, ◌<◌, ◌≤◌, Bool, true, false, ◌&&◌, ℤ, pos, negsuc, Option, Some, None, List, [], ◌∷◌, ◌++◌, map, length, slice_index, take, drop, Result, Ok, Err, refl, sym, ap, subst, ◌∙◌, arith, append_assoc, append-nil, mul_assoc, add-mul, mul-le-mul, suc-mul}
 use Rattle.std.specs.Prelude.{if◌then◌else◌, nat_le, nat_lt, ◌==◌}
 use Rattle.std.specs.List.{flat_map, range_with_len}
 use Rattle.std.proofs.lemmas.Bool.{leb-true, ltb-true, le-leb, lt-leb, and_from, and_left, and_right, and_parts}
@@ -9,8 +9,8 @@ use Rattle.pnm_image.specs.declared.shape.Shape.{Shape}
 use Rattle.pnm_image.specs.declared.message.Message.{Message}
 use Rattle.pnm_image.specs.declared.message.Message.TheVariants.{Row, ImageEnd}
 use Rattle.pnm_image.specs.declared.place.Place.TheVariants.{Inside}
-use Rattle.pnm_image.specs.Heads.{Header, row_length}
-use Rattle.pnm_image.specs.Images.{Image, IsImage, sample_at, cut_rows, rows_of}
+use Rattle.pnm_image.specs.Heads.{Header}
+use Rattle.pnm_image.specs.Images.{Image, IsImage, sample_at, rows_of}
 use Rattle.pnm_tools.specs.declared.cut.CutBox.{CutBox}
 use Rattle.pnm_tools.specs.declared.cut.Span.{Span}
 use Rattle.pnm_tools.specs.declared.fault.ToolFault.TheVariants.{OutOfOrder}
@@ -19,7 +19,7 @@ use Rattle.pnm_tools.specs.Formulas.{image_by}
 use Rattle.pnm_tools.specs.Cut.{span_within, span_count, first_kept, last_kept, columns_kept, rows_kept, first_of, head_of_spans, columns_of_row, rows_of_spans, cut_rows_of}
 use Rattle.pnm_tools.specs.Tools.{result_head, result_sample, row_answer}
 use Rattle.pnm_tools.specs.RowWise.{answered_from}
-use Rattle.pnm_tools.proofs.FormulaLaws.{columns, columns_at, rows_from, rows_of-image_by, range_alike}
+use Rattle.pnm_tools.proofs.FormulaLaws.{columns, columns_at, row_at, rows_are, rows_of-image_by, range_alike}
 use Rattle.pnm_tools.proofs.HeadLaws.{result_by_head, answered_by_rows}
 use Rattle.pnm_tools.proofs.RowWiseLaws.{AnswersImages}
 
@@ -113,14 +113,6 @@ columns_cut xs w d h y first count fits lt size =
     ∙ ap (take taken) (sym (drop-take skipped rest (drop (y * each) xs)) ∙ ap (λ (n : ℕ). drop skipped (take n (drop (y * each) xs))) (sym whole))
 
 -- ---- the rows
-
-abbrev row_at : Image → ℕ → List ℕ
-row_at i y = take (row_length i.head.shape) (drop (y * row_length i.head.shape) i.samples)
-
-rows_are : (i : Image) → rows_of i ≡ map (row_at i) (range_with_len 0 i.head.shape.height)
-rows_are i =
-    let each : ℕ = row_length i.head.shape in
-    ap (λ (k : ℕ). cut_rows i.head.shape.height each (drop k i.samples)) (sym (zero-mul each)) ∙ rows_from each i.samples 0 i.head.shape.height
 
 -- the head of the columns and rows of spans
 abbrev pub cut_by : Span → Span → Header → Header

@@ -70,11 +70,21 @@ columns_at g xs base from (suc count) d within =
     ∙ ap (map g) (sym (take_parts d (count * d) (drop k xs)) ∙ ap (λ (n : ℕ). take n (drop k xs)) (sym each))
 
 -- the rows of samples from one on
-pub rows_from : (each : ℕ) (xs : List ℕ) (a n : ℕ) → cut_rows n each (drop (a * each) xs) ≡ map (λ y. take each (drop (y * each) xs)) (range_with_len a n)
+rows_from : (each : ℕ) (xs : List ℕ) (a n : ℕ) → cut_rows n each (drop (a * each) xs) ≡ map (λ y. take each (drop (y * each) xs)) (range_with_len a n)
 rows_from each xs a zero = refl
 rows_from each xs a (suc n) =
     let next : drop each (drop (a * each) xs) ≡ drop ((a + 1) * each) xs = drop-drop each (a * each) xs ∙ ap (λ (k : ℕ). drop k xs) (sym (suc-mul a each) ∙ ap (λ (k : ℕ). k * each) (omega arith)) in
     ap (λ (l : List (List ℕ)). take each (drop (a * each) xs) ∷ l) (ap (cut_rows n each) next ∙ rows_from each xs (a + 1) n)
+
+-- a row of an image
+abbrev pub row_at : Image → ℕ → List ℕ
+row_at i y = take (row_length i.head.shape) (drop (y * row_length i.head.shape) i.samples)
+
+-- the rows of an image by their numbers
+pub rows_are : (i : Image) → rows_of i ≡ map (row_at i) (range_with_len 0 i.head.shape.height)
+rows_are i =
+    let each : ℕ = row_length i.head.shape in
+    ap (λ (k : ℕ). cut_rows i.head.shape.height each (drop k i.samples)) (sym (zero-mul each)) ∙ rows_from each i.samples 0 i.head.shape.height
 
 -- values that are alike at each number of a range
 pub range_alike : {A : Type 0} (f g : ℕ → A) (a n : ℕ) → ((y : ℕ) → y < a + n → f y ≡ g y) → map f (range_with_len a n) ≡ map g (range_with_len a n)
@@ -108,4 +118,4 @@ samplewise_rows g i head is sizes =
     ∙ range_alike (λ y. row_by head.shape (λ x p. g (sample_at i x y p))) (λ y. map g (take each (drop (y * each) i.samples))) 0 s.height (λ y lt.
     ap (λ (w : ℕ). columns 0 w head.shape.depth (λ x p. g (sample_at i x y p))) sizes.width ∙ ap (λ (d : ℕ). columns 0 s.width d (λ x p. g (sample_at i x y p))) sizes.depth ∙ row_is g i y is.count (omega arith))
     ∙ sym (map-map (map g) (λ y. take each (drop (y * each) i.samples)) (range_with_len 0 s.height))
-    ∙ ap (map (map g)) (sym (rows_from each i.samples 0 s.height) ∙ ap (cut_rows s.height each) (ap (λ (k : ℕ). drop k i.samples) (zero-mul each)))
+    ∙ ap (map (map g)) (sym (rows_are i))
