@@ -21,7 +21,7 @@ rows_answered new s y [] = refl
 rows_answered new s y (row ∷ rows) = ap (λ (l : List Message). Row (map (nearest_sample new s.maxval) row) ∷ l) (rows_answered new s (y + 1) rows)
 
 -- the head of the rescaled image
-abbrev new_head : ℕ → Header → Header
+abbrev pub new_head : ℕ → Header → Header
 new_head new head = record { shape = record head.shape { kind = kind_at new head.shape.kind; maxval = new }; tuple_type = type_at new head.tuple_type }
 
 -- the rescaled image
