@@ -18,7 +18,7 @@ use Rattle.pnm_tools.specs.declared.fault.ToolFault.TheVariants.{TooLarge, Chann
 use Rattle.pnm_tools.specs.declared.tool.Tool.TheVariants.{Channel}
 use Rattle.pnm_tools.specs.Formulas.{image_by}
 use Rattle.pnm_tools.specs.Limits.{is_too_large, within_limits}
-use Rattle.pnm_tools.specs.Channel.{Picks, IsLawfulPick, HasPlanes, picked_header, picked_sample, picked_samples, picked_row}
+use Rattle.pnm_tools.specs.Channel.{Picks, IsLawfulPick, HasPlanes, picked_header, picked_sample, picked_row}
 use Rattle.pnm_tools.specs.Tools.{result_head, result_sample, row_answer}
 use Rattle.pnm_tools.specs.RowWise.{answered_from}
 use Rattle.pnm_tools.proofs.FormulaLaws.{columns, row_at, rows_are, rows_of-image_by, range_alike}
@@ -105,6 +105,6 @@ pub channel_answers_images : (planes : Picks) → IsLawfulPick planes → Answer
 channel_answers_images planes lawful i j is e =
     let picked = is_picked planes i.head j.head (result_by_head (Channel planes) i j e).head in
     answered_by_rows (Channel planes) i j e (
-      rows_answered planes i.head.shape 0 (rows_of i)
-      ∙ ap (λ (rows : List (List ℕ)). map Row rows ++ ImageEnd ∷ []) (answer_is planes i j.head picked)
+    rows_answered planes i.head.shape 0 (rows_of i)
+    ∙ ap (λ (rows : List (List ℕ)). map Row rows ++ ImageEnd ∷ []) (answer_is planes i j.head picked)
     )

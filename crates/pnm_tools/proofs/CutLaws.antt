@@ -1,5 +1,5 @@
 -- The cut image is what the rows of an image, each cut, are the messages of.
-use Rattle.std.proofs.Common.{◌≡◌, ℕ, zero, suc, ◌+◌, ◌-◌, ◌*◌, ◌<◌, ◌≤◌, Bool, true, false, ◌&&◌, ℤ, pos, negsuc, Option, Some, None, List, [], ◌∷◌, ◌++◌, map, length, slice_index, take, drop, Result, Ok, Err, refl, sym, ap, subst, ◌∙◌, arith, append_assoc, append-nil, mul_assoc, add-mul, mul-le-mul, suc-mul}
+use Rattle.std.proofs.Common.{◌≡◌, ℕ, zero, suc, ◌+◌, ◌-◌, ◌*◌, ◌<◌, ◌≤◌, Bool, true, false, ◌&&◌, ℤ, pos, negsuc, Option, Some, None, List, [], ◌∷◌, ◌++◌, map, length, slice_index, take, drop, Ok, Err, refl, sym, ap, subst, ◌∙◌, arith, append_assoc, append-nil, mul_assoc, add-mul, mul-le-mul, suc-mul}
 use Rattle.std.specs.Prelude.{if◌then◌else◌, nat_le, nat_lt, ◌==◌}
 use Rattle.std.specs.List.{flat_map, range_with_len}
 use Rattle.std.proofs.lemmas.Bool.{leb-true, ltb-true, le-leb, lt-leb, and_from, and_left, and_right, and_parts}
@@ -78,8 +78,8 @@ rows_kept_are r h f lies =
     let middle : List ℕ = range_with_len r.first (span_count r) in
     let back : List ℕ = range_with_len (r.first + span_count r) after in
     let split : range_with_len 0 h ≡ front ++ (middle ++ back) =
-        ap (range_with_len 0) parts ∙ range-append 0 r.first (span_count r + after)
-        ∙ ap (λ (l : List ℕ). front ++ l) (ap (λ (b : ℕ). range_with_len b (span_count r + after)) at ∙ range-append r.first (span_count r) after) in
+    ap (range_with_len 0) parts ∙ range-append 0 r.first (span_count r + after)
+    ∙ ap (λ (l : List ℕ). front ++ l) (ap (λ (b : ℕ). range_with_len b (span_count r + after)) at ∙ range-append r.first (span_count r) after) in
     let g : ℕ → List (List ℕ) = kept r.first r.last f in
     let before : flat_map g front ≡ [] = none_kept r.first r.last f 0 r.first (λ y low high. and_left (nat_le r.first y) (nat_le y r.last) (lt-leb r.first y (omega arith))) in
     let within : flat_map g middle ≡ map f middle = all_kept r.first r.last f r.first (span_count r) (λ y low high. and_from (nat_le r.first y) (nat_le y r.last) (le-leb r.first y (omega arith)) (le-leb y r.last (omega arith))) in
@@ -208,7 +208,7 @@ cut_answers_images box i j is e =
     let s : Shape = i.head.shape in
     let cut = is_cut box i.head j.head (result_by_head (Cut box) i j e).head in
     answered_by_rows (Cut box) i j e (
-      ap (λ (rows : List (List ℕ)). answered_from (Cut box) (Inside s 0) (map Row rows ++ ImageEnd ∷ [])) (rows_are i)
-      ∙ rows_answered box s 0 s.height (row_at i)
-      ∙ ap (λ (rows : List (List ℕ)). map Row rows ++ ImageEnd ∷ []) (answer_is box i j.head is cut)
+    ap (λ (rows : List (List ℕ)). answered_from (Cut box) (Inside s 0) (map Row rows ++ ImageEnd ∷ [])) (rows_are i)
+    ∙ rows_answered box s 0 s.height (row_at i)
+    ∙ ap (λ (rows : List (List ℕ)). map Row rows ++ ImageEnd ∷ []) (answer_is box i j.head is cut)
     )

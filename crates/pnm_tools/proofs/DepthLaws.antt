@@ -5,7 +5,7 @@ use Rattle.pnm_image.specs.declared.message.Message.{Message}
 use Rattle.pnm_image.specs.declared.message.Message.TheVariants.{Begin, Row, ImageEnd}
 use Rattle.pnm_image.specs.declared.place.Place.TheVariants.{Between, Inside}
 use Rattle.pnm_image.specs.Heads.{Header}
-use Rattle.pnm_image.specs.Images.{Image, IsImage, sample_at, rows_of, messages_of_image}
+use Rattle.pnm_image.specs.Images.{Image, IsImage, rows_of, messages_of_image}
 use Rattle.pnm_tools.specs.declared.tool.Tool.TheVariants.{Depth}
 use Rattle.pnm_tools.specs.Formulas.{image_by}
 use Rattle.pnm_tools.specs.Depth.{nearest_sample, kind_at, type_at, rescaled_sample}

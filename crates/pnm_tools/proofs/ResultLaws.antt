@@ -1,5 +1,5 @@
 -- The result of an image is an image.
-use Rattle.std.proofs.Common.{◌≡◌, ℕ, zero, suc, ◌+◌, ◌-◌, ◌*◌, ◌<◌, ◌≤◌, Bool, true, false, not, ◌||◌, inl, inr, List, [], ◌∷◌, length, map, slice_index, Ok, refl, sym, ap, subst, ◌∙◌, arith, suc-mul, zero-mul, mul-le-mul, rules}
+use Rattle.std.proofs.Common.{◌≡◌, ℕ, zero, suc, ◌+◌, ◌-◌, ◌*◌, ◌<◌, ◌≤◌, Bool, true, false, not, ◌||◌, inl, inr, List, [], length, map, slice_index, Ok, refl, sym, ap, subst, arith, suc-mul, zero-mul, mul-le-mul}
 use Rattle.std.proofs.Math.Nat.{lt_of_mul-lt-mul_left}
 use Rattle.std.specs.Prelude.{codes, All, slice_index_or, ◌≢◌, nat_lt, ◌==◌, if◌then◌else◌}
 use Rattle.std.specs.Str.{bytes_eq}
@@ -13,7 +13,7 @@ use Rattle.std.proofs.Math.ListN.{get_or-eq_default}
 use Rattle.pnm_image.specs.declared.shape.Kind.{Kind}
 use Rattle.pnm_image.specs.declared.shape.Kind.TheVariants.{Bit, Gray, Color, Pam}
 use Rattle.pnm_image.specs.declared.shape.Shape.{Shape}
-use Rattle.pnm_image.specs.Heads.{Header, IsHeader, IsTupleType, IsWithinLimits, Suits, row_length}
+use Rattle.pnm_image.specs.Heads.{Header, IsHeader, IsTupleType, Suits, row_length}
 use Rattle.pnm_image.specs.Images.{Image, IsImage, sample_at}
 use Rattle.pnm_tools.specs.declared.cut.CutBox.{CutBox}
 use Rattle.pnm_tools.specs.declared.cut.Span.{Span}
@@ -27,9 +27,9 @@ use Rattle.pnm_tools.specs.Channel.{Picks, IsLawfulPick, picked_header}
 use Rattle.pnm_tools.specs.Tools.{IsLawfulTool, applied, result_head, result_sample}
 use Rattle.pnm_tools.proofs.FormulaLaws.{length-row_by}
 use Rattle.pnm_tools.proofs.HeadLaws.{IsBy, result_by_head}
-use Rattle.pnm_tools.proofs.CutLaws.{LiesWithin, IsCut, is_cut, cut_by}
+use Rattle.pnm_tools.proofs.CutLaws.{LiesWithin, is_cut, cut_by}
 use Rattle.pnm_tools.proofs.DepthLaws.{new_head, nearest_sample_is_nearest}
-use Rattle.pnm_tools.proofs.ChannelLaws.{IsPicked, is_picked}
+use Rattle.pnm_tools.proofs.ChannelLaws.{is_picked}
 
 -- ---- an image by a formula
 
@@ -57,8 +57,8 @@ image_by_is_image head sample sound range =
       head = sound;
       count = length-rows (λ y. row_by s (λ x p. sample x y p)) (row_length s) 0 s.height (λ y. length-row_by s (λ x p. sample x y p));
       range = all_rows (λ v. v ≤ s.maxval) (λ y. row_by s (λ x p. sample x y p)) 0 s.height (λ y row.
-      all_rows (λ v. v ≤ s.maxval) (λ x. map (λ p. sample x y p) (range_with_len 0 s.depth)) 0 s.width (λ x column.
-      all_planes (λ v. v ≤ s.maxval) (λ p. sample x y p) s.depth (λ p plane. range x y p (omega arith) (omega arith) plane)));
+          all_rows (λ v. v ≤ s.maxval) (λ x. map (λ p. sample x y p) (range_with_len 0 s.depth)) 0 s.width (λ x column.
+          all_planes (λ v. v ≤ s.maxval) (λ p. sample x y p) s.depth (λ p plane. range x y p (omega arith) (omega arith) plane)));
     }
 
 -- a sample of an image is in range
@@ -120,8 +120,8 @@ cut_is_image box i j is e =
     let cut = is_cut box i.head j.head made.head in
     let same : cut_by cut.spans.columns cut.spans.rows i.head ≡ j.head = sym cut.spans.result_is in
     made_is_image (Cut box) i j made
-      (subst IsHeader same (cut_within cut.spans.columns cut.spans.rows i.head is.head cut.in_row cut.in_image))
-      (λ x y p. subst (λ (h : Header). result_sample (Cut box) i x y p ≤ h.shape.maxval) same (cut_in_range box i x y p is))
+    (subst IsHeader same (cut_within cut.spans.columns cut.spans.rows i.head is.head cut.in_row cut.in_image))
+    (λ x y p. subst (λ (h : Header). result_sample (Cut box) i x y p ≤ h.shape.maxval) same (cut_in_range box i x y p is))
 
 cut_has_rows : (box : CutBox) (i j : Image) → applied (Cut box) i ≡ Ok j → 0 < j.head.shape.height
 cut_has_rows box i j e =
@@ -209,7 +209,7 @@ rescaled_is_image new i j low high is e =
     let made = result_by_head (Depth new) i j e in
     let same = new_head_is new i.head j.head made.head in
     made_is_image (Depth new) i j made (subst IsHeader same (rescaled_head_is new i.head low high is.head))
-      (λ x y p. subst (λ (h : Header). result_sample (Depth new) i x y p ≤ h.shape.maxval) same (rescaled_in_range new i x y p is))
+    (λ x y p. subst (λ (h : Header). result_sample (Depth new) i x y p ≤ h.shape.maxval) same (rescaled_in_range new i x y p is))
 
 -- ---- picked images
 
@@ -251,7 +251,7 @@ picked_is_image planes i j lawful is e =
     let same : picked_header planes i.head ≡ j.head = sym picked.result_is in
     let fits : is_too_large (picked_header planes i.head).shape ≡ false = subst (λ (h : Header). is_too_large h.shape ≡ false) picked.result_is picked.limits in
     made_is_image (Channel planes) i j made (subst IsHeader same (picked_header_is planes i.head lawful is.head fits))
-      (λ x y p. subst (λ (h : Header). result_sample (Channel planes) i x y p ≤ h.shape.maxval) same (picked_in_range planes i x y p is))
+    (λ x y p. subst (λ (h : Header). result_sample (Channel planes) i x y p ≤ h.shape.maxval) same (picked_in_range planes i x y p is))
 
 -- ---- each tool
 
