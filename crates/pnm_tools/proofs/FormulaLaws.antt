@@ -10,7 +10,7 @@ use Rattle.pnm_image.specs.Images.{Image, IsImage, sample_at, cut_rows, rows_of}
 use Rattle.pnm_tools.specs.Formulas.{row_by, image_by}
 
 -- so many columns from one on, each of so many planes
-abbrev columns : ℕ → ℕ → ℕ → (ℕ → ℕ → ℕ) → List ℕ
+abbrev pub columns : ℕ → ℕ → ℕ → (ℕ → ℕ → ℕ) → List ℕ
 columns from count depth sample = flat_map (λ x. map (λ p. sample x p) (range_with_len 0 depth)) (range_with_len from count)
 
 length-columns : (from count depth : ℕ) (sample : ℕ → ℕ → ℕ) → length (columns from count depth sample) ≡ count * depth
@@ -54,7 +54,7 @@ take_parts : (a b : ℕ) (xs : List ℕ) → take (a + b) xs ≡ take a xs ++ ta
 take_parts a b xs = sym (take-append-drop a (take (a + b) xs)) ∙ ap (λ (l : List ℕ). l ++ drop a (take (a + b) xs)) (take-take a (a + b) xs (omega arith)) ∙ ap (λ (l : List ℕ). take a xs ++ l) (drop-take a b xs)
 
 -- columns of one row of samples, each sample changed
-columns_at : (g : ℕ → ℕ) (xs : List ℕ) (base from count d : ℕ) → (base + from) * d + count * d ≤ length xs
+pub columns_at : (g : ℕ → ℕ) (xs : List ℕ) (base from count d : ℕ) → (base + from) * d + count * d ≤ length xs
     → columns from count d (λ x p. g (slice_index xs ((base + x) * d + p))) ≡ map g (take (count * d) (drop ((base + from) * d) xs))
 columns_at g xs base from zero d within = ap (λ (n : ℕ). map g (take n (drop ((base + from) * d) xs))) (sym (zero-mul d))
 columns_at g xs base from (suc count) d within =
@@ -76,8 +76,18 @@ rows_from each xs a (suc n) =
     let next : drop each (drop (a * each) xs) ≡ drop ((a + 1) * each) xs = drop-drop each (a * each) xs ∙ ap (λ (k : ℕ). drop k xs) (sym (suc-mul a each) ∙ ap (λ (k : ℕ). k * each) (omega arith)) in
     ap (λ (l : List (List ℕ)). take each (drop (a * each) xs) ∷ l) (ap (cut_rows n each) next ∙ rows_from each xs (a + 1) n)
 
+-- a row of an image
+abbrev pub row_at : Image → ℕ → List ℕ
+row_at i y = take (row_length i.head.shape) (drop (y * row_length i.head.shape) i.samples)
+
+-- the rows of an image by their numbers
+pub rows_are : (i : Image) → rows_of i ≡ map (row_at i) (range_with_len 0 i.head.shape.height)
+rows_are i =
+    let each : ℕ = row_length i.head.shape in
+    ap (λ (k : ℕ). cut_rows i.head.shape.height each (drop k i.samples)) (sym (zero-mul each)) ∙ rows_from each i.samples 0 i.head.shape.height
+
 -- values that are alike at each number of a range
-range_alike : {A : Type 0} (f g : ℕ → A) (a n : ℕ) → ((y : ℕ) → y < a + n → f y ≡ g y) → map f (range_with_len a n) ≡ map g (range_with_len a n)
+pub range_alike : {A : Type 0} (f g : ℕ → A) (a n : ℕ) → ((y : ℕ) → y < a + n → f y ≡ g y) → map f (range_with_len a n) ≡ map g (range_with_len a n)
 range_alike f g a zero same = refl
 range_alike {A = A} f g a (suc n) same =
     ap (λ (x : A). x ∷ map f (range_with_len (a + 1) n)) (same a (omega arith)) ∙ ap (λ (l : List A). g a ∷ l) (range_alike f g (a + 1) n (λ y lt. same y (omega arith)))
@@ -108,4 +118,4 @@ samplewise_rows g i head is sizes =
     ∙ range_alike (λ y. row_by head.shape (λ x p. g (sample_at i x y p))) (λ y. map g (take each (drop (y * each) i.samples))) 0 s.height (λ y lt.
     ap (λ (w : ℕ). columns 0 w head.shape.depth (λ x p. g (sample_at i x y p))) sizes.width ∙ ap (λ (d : ℕ). columns 0 s.width d (λ x p. g (sample_at i x y p))) sizes.depth ∙ row_is g i y is.count (omega arith))
     ∙ sym (map-map (map g) (λ y. take each (drop (y * each) i.samples)) (range_with_len 0 s.height))
-    ∙ ap (map (map g)) (sym (rows_from each i.samples 0 s.height) ∙ ap (cut_rows s.height each) (ap (λ (k : ℕ). drop k i.samples) (zero-mul each)))
+    ∙ ap (map (map g)) (sym (rows_are i))

@@ -1,6 +1,7 @@
 pub mod FullAnswers
 pub mod FormulaLaws
 pub mod RowWiseLaws
+pub mod HeadLaws
 pub mod InvertLaws
 pub mod AtLaws
 pub mod InFullLaws
