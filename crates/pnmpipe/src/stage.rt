@@ -1,8 +1,10 @@
 //! The tools of a chain at work, each a stage, in one thread.
 
-ghost use Rattle.std.specs.Prelude.{◌≡◌, IfSome, Some, None};
+ghost use Rattle.std.specs.Prelude.{◌≡◌, ◌<◌, ◌∷◌, ◌++◌, [], List, IfSome, IfNone};
+ghost use Rattle.pnm_image.specs.declared.message.Message.{Message as Said};
+ghost use Rattle.pnm_tools.specs.declared.tool.Tool.{Tool as Value};
 ghost use Rattle.pnmpipe.specs.Downstreams.{output_of};
-ghost use Rattle.pnmpipe.specs.Stages.{refusal_in, Passes, Feeds};
+ghost use Rattle.pnmpipe.specs.Stages.{refusal_in, waiting_at, StageAt, StageBusy, Passes};
 
 use crate::downstream::Downstream;
 use pnm_image::{BytesOut, Message};
@@ -17,7 +19,7 @@ pub enum Stage<F> {
     Refused(ToolFault),
 }
 
-impl<F> Stage<F> {
+impl<F: Filter + Drop> Stage<F> {
     /// Why the tool refused, if it did.
     pub fn fault(&self) -> Option<ToolFault>
         ensures { result ≡ refusal_in self.now }
@@ -27,11 +29,41 @@ impl<F> Stage<F> {
             Stage::Refused(fault) => Some(*fault),
         }
     }
+
+    /// Feeds the tool a message. After its refusal the message is dropped.
+    fn feed(&mut self, message: Message)
+        ensures { (tool : Value) (l g : List Said) → StageAt F.at F.all_given F.stopped self.old tool l g
+            → StageBusy F.at F.stopped self.new tool (l ++ message ∷ []) g }
+    {
+        if let Stage::AtWork(filter) = self {
+            if let Err(fault) = filter.feed(message) {
+                *self = Stage::Refused(fault);
+            }
+        }
+    }
+
+    /// The next message that the tool gives, until it has given all, or refused.
+    fn next(&mut self) -> Option<Message>
+        ensures given { IfSome result (λ m. (tool : Value) (l g : List Said) → StageBusy F.at F.stopped self.old tool l g
+            → StageBusy F.at F.stopped self.new tool l (g ++ m ∷ [])) }
+        ensures fewer { IfSome result (λ _. waiting_at F.waiting self.new < waiting_at F.waiting self.old) }
+        ensures full { IfNone result ((tool : Value) (l g : List Said) → StageBusy F.at F.stopped self.old tool l g
+            → StageAt F.at F.all_given F.stopped self.new tool l g) }
+    {
+        let Stage::AtWork(filter) = self else {
+            return None;
+        };
+        match filter.next() {
+            Ok(answer) => answer,
+            Err(fault) => {
+                *self = Stage::Refused(fault);
+                None
+            }
+        }
+    }
 }
 
-/// Passes a message through the stages, and writes what the last of them gives. A stage that has
-/// refused drops what it is passed.
-#[cycle(stages)]
+/// Passes a message through the stages, and writes what the last of them gives.
 pub fn pass<F: Filter + Drop, W: BytesOut + Drop>(
     stages: &mut [Stage<F>],
     message: Message,
@@ -40,31 +72,12 @@ pub fn pass<F: Filter + Drop, W: BytesOut + Drop>(
     ensures passed { Passes F.at F.all_given F.stopped W.held W.failures stages.old message stages.new downstream.old downstream.new }
     ensures same_device { W.same (output_of downstream.old) (output_of downstream.new) }
 {
-    let Some((stage, rest)) = stages.split_first_mut() else {
+    if stages.is_empty() {
         downstream.put(message);
         return;
-    };
-    if let Stage::AtWork(filter) = stage {
-        if let Err(fault) = feed(filter, message, rest, downstream) {
-            *stage = Stage::Refused(fault);
-        }
     }
-}
-
-/// Feeds a message to a tool, and passes on what it gives for it, until it gives no more.
-#[cycle(stages)]
-fn feed<F: Filter + Drop, W: BytesOut + Drop>(
-    filter: &mut F,
-    message: Message,
-    rest: &mut [Stage<F>],
-    downstream: &mut Downstream<W>,
-) -> Result<(), ToolFault>
-    ensures fed { Feeds F.at F.all_given F.stopped W.held W.failures filter.old message filter.new result rest.old rest.new downstream.old downstream.new }
-    ensures same_device { W.same (output_of downstream.old) (output_of downstream.new) }
-{
-    filter.feed(message)?;
-    while let Some(answer) = filter.next()? {
-        pass(rest, answer, downstream);
+    stages[0].feed(message);
+    while let Some(answer) = stages[0].next() {
+        pass(&mut stages[1..], answer, downstream);
     }
-    Ok(())
 }
