@@ -14,18 +14,12 @@ use Rattle.pnm_tools.specs.declared.tool.Tool.{Tool}
 use Rattle.pnm_tools.specs.Tools.{IsLawfulTool, output_due}
 use Rattle.pnm_tools.specs.Answers.{More, EndsBy, Answers, AnswersInFull, AreResults}
 use Rattle.pnm_tools.specs.Chains.{AreLawfulTools, AreResultsInTurn, due_in_turn, results_of, refusal_from, refusal_of}
-use Rattle.pnm_tools.specs.Stages.{IsSound, IsRefusedNext, HasRefused, HasAnswered, HaveAnswered}
+use Rattle.pnm_tools.specs.Stages.{IsSound, AreSound, AreWell, IsFirstFault, IsRefusedNext, HasRefused, HasAnswered, HaveAnswered}
 use Rattle.pnm_tools.proofs.FullAnswers.{full_answer_is_the_stream}
 use Rattle.pnm_tools.proofs.FullLaws.{front_of_front}
 use Rattle.pnm_tools.proofs.SoundLaws.{HasRows, EndsUnbroken, sound_ends, unbroken_keeps_all, sound_keeps_all, lawful_front, all_of_front, stream_is_sound, HasSoundImages, sound_images, due_is_sound}
 use Rattle.pnm_tools.proofs.FrontLaws.{nothing_changes, front_by_results}
 use Rattle.pnm_tools.proofs.RefusalLaws.{results_are_images, results_are, same_in_turn, results_in_turn, refusal_by, refused_next}
-
--- messages as a source says them: in order, of images that have rows, without Stop
-pub record AreSound (l : List Message) : Type 0 where
-  pub lawful : IsLawful l
-  pub messages : AllByRecursion IsMessage l
-  pub sound : AllByRecursion IsSound l
 
 -- a front of sound messages, and the messages of images that have rows, are sound
 sound_front : (a b : List Message) → AreSound (a ++ b) → AreSound a
@@ -88,12 +82,6 @@ given_are_sound (tool ∷ tools) [] received given lawful sound have = absurd ha
 given_are_sound (tool ∷ tools) (fault ∷ faults) received given lawful sound have =
     given_are_sound tools faults have.0 given lawful.1 (stage_sound tool received have.0 lawful.0 (stage tool fault received have.0 sound have.1)) have.2
 
--- no stage has refused
-abbrev pub AreWell : List (Option ToolFault) → Type 0
-AreWell [] = Unit {0}
-AreWell (None ∷ faults) = AreWell faults
-AreWell (Some fault ∷ faults) = ⊥
-
 -- a stage that didn't refuse answered a stream by the stream of its results
 abbrev Answered : Tool → List Image → List Message → Type 0
 Answered tool is given = (js : List Image) × AreResults tool is js × AreImages js × (given ≡ messages_of_stream js)
@@ -119,12 +107,6 @@ answered_by_stream number (tool ∷ tools) (Some fault ∷ faults) is given lawf
 pub stream_is_answered : (tools : List Tool) (faults : List (Option ToolFault)) (is : List Image) (given : List Message) → AreLawfulTools tools → AreImages is → AreWell faults → HaveAnswered tools faults (messages_of_stream is) given
     → (js : List Image) × AreResultsInTurn tools is js × AreImages js × (given ≡ messages_of_stream js) × (refusal_of tools is ≡ None)
 stream_is_answered tools faults is given lawful images well have = answered_by_stream 1 tools faults is given lawful images well have
-
--- the first fault of stages, whose numbers begin here
-abbrev pub IsFirstFault : ℕ → List (Option ToolFault) → ℕ → ToolFault → Type 0
-IsFirstFault from [] number fault = ⊥
-IsFirstFault from (None ∷ faults) number fault = IsFirstFault (from + 1) faults number fault
-IsFirstFault from (Some other ∷ faults) number fault = (number ≡ from) × (fault ≡ other)
 
 -- memory ran out, or this is the refusal of the chain
 abbrev IsRefusal : ℕ → List Tool → List Image → ℕ → ToolFault → Type 0

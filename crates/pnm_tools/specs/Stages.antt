@@ -1,8 +1,11 @@
 -- What the stages of a chain in one thread have received and given, each a tool at work on what the one before it gave.
 -- After its refusal a stage gives nothing more, not even Stop.
-use Rattle.std.specs.Prelude.{◌≡◌, ◌⊎◌, ◌<◌, ℕ, true, List, [], ◌∷◌, ◌++◌, Option, Some, None, Err}
+use Rattle.std.specs.Prelude.{◌≡◌, ◌⊎◌, ◌<◌, ◌+◌, ℕ, true, List, [], ◌∷◌, ◌++◌, Option, Some, None, Err}
+use Rattle.std.specs.List.{AllByRecursion}
 use Rattle.pnm_image.specs.declared.message.Message.{Message}
 use Rattle.pnm_image.specs.declared.message.Message.TheVariants.{Begin, Row, ImageEnd, StreamEnd, Stop}
+use Rattle.pnm_image.specs.Messages.{IsMessage}
+use Rattle.pnm_image.specs.Places.{IsLawful}
 use Rattle.pnm_tools.specs.declared.fault.ToolFault.{ToolFault}
 use Rattle.pnm_tools.specs.declared.fault.ToolFault.TheVariants.{Memory}
 use Rattle.pnm_tools.specs.declared.tool.Tool.{Tool}
@@ -16,6 +19,12 @@ IsSound (Row row) = Unit {0}
 IsSound ImageEnd = Unit {0}
 IsSound StreamEnd = Unit {0}
 IsSound Stop = ⊥
+
+-- messages as they come from files: in order, of images that have rows, without Stop
+pub record AreSound (l : List Message) : Type 0 where
+  pub lawful : IsLawful l
+  pub messages : AllByRecursion IsMessage l
+  pub sound : AllByRecursion IsSound l
 
 -- the next message is refused so
 abbrev pub IsRefusedNext : Tool → ToolFault → List Message → List Message → Type 0
@@ -42,3 +51,15 @@ HaveAnswered [] [] received given = given ≡ received
 HaveAnswered [] (fault ∷ faults) received given = ⊥
 HaveAnswered (tool ∷ tools) [] received given = ⊥
 HaveAnswered (tool ∷ tools) (fault ∷ faults) received given = (middle : List Message) × HasAnswered tool fault received middle × HaveAnswered tools faults middle given
+
+-- no stage has refused
+abbrev pub AreWell : List (Option ToolFault) → Type 0
+AreWell [] = Unit {0}
+AreWell (None ∷ faults) = AreWell faults
+AreWell (Some fault ∷ faults) = ⊥
+
+-- the first fault of stages, whose numbers begin here
+abbrev pub IsFirstFault : ℕ → List (Option ToolFault) → ℕ → ToolFault → Type 0
+IsFirstFault from [] number fault = ⊥
+IsFirstFault from (None ∷ faults) number fault = IsFirstFault (from + 1) faults number fault
+IsFirstFault from (Some other ∷ faults) number fault = (number ≡ from) × (fault ≡ other)

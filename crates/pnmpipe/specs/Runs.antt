@@ -84,3 +84,10 @@ IfOutput (Ok x) P = Unit {0}
 IfOutput (Err (Input fault)) P = Unit {0}
 IfOutput (Err (OfTool number fault)) P = Unit {0}
 IfOutput (Err (Output fault)) P = P fault
+
+-- the run has read the whole text, through its end or its fault, with memory for each tool
+abbrev pub HasRead : {A : Type 0} → List ℕ → Result A RunFault → Type 0
+HasRead text (Ok x) = Unit {0}
+HasRead text (Err (Input fault)) = fault_of text ≡ Some fault
+HasRead text (Err (OfTool number fault)) = fault ≡ Memory → ⊥
+HasRead text (Err (Output fault)) = Unit {0}

@@ -1,5 +1,5 @@
 -- What passes through the stages of a run.
-use Rattle.std.specs.Prelude.{◌≡◌, ℕ, Bool, true, List, [], ◌∷◌, ◌++◌, Option, Some, None}
+use Rattle.std.specs.Prelude.{◌≡◌, ℕ, Bool, true, List, [], ◌∷◌, ◌++◌, map, Option, Some, None}
 use Rattle.pnm_image.specs.declared.message.Message.{Message}
 use Rattle.pnm_tools.specs.declared.fault.ToolFault.{ToolFault}
 use Rattle.pnm_tools.specs.declared.tool.Tool.{Tool}
@@ -56,3 +56,7 @@ pub record Passes {F W : Type 0} (at : F → Tool → List Message → List Mess
   pub more : List Message
   pub stages : (tools : List Tool) (l g : List Message) → StagesAt at all_given stopped old tools l g → StagesAt at all_given stopped new tools (l ++ m ∷ []) (g ++ more)
   pub taken : (start : W) (messages : List Message) → HasTaken held failures start messages before → HasTaken held failures start (messages ++ more) after
+
+-- why each stage refused, if it did
+abbrev pub refusals_in : {F : Type 0} → List (Stage F) → List (Option ToolFault)
+refusals_in stages = map refusal_in stages

@@ -1,17 +1,20 @@
 //! A run in one thread: read, pass through the tools, write.
 
-ghost use Rattle.std.specs.Prelude.{◌≡◌, ◌⊎◌, List, ℕ, Some, None, Err, Ok, IfOk, OnOk};
+ghost use Rattle.std.specs.Prelude.{◌≡◌, ◌⊎◌, List, [], ℕ, Some, None, Err, Ok, IfOk, IfErr, IfSome, IfNone, OnOk};
 ghost use Rattle.pnm_image.specs.Devices.{Failed};
 ghost use Rattle.pnm_read.specs.declared.fault.InputFault.TheVariants.{ReadFailed, Memory};
-ghost use Rattle.pnm_read.specs.Said.{fault_of};
 ghost use Rattle.pnm_read.specs.Inputs.{IsOutsideFault};
 ghost use Rattle.pnm_read.specs.Sources.{reader_of, IsFresh as IsUnread};
 ghost use Rattle.pnm_read.specs.TextLaws.{IsAtFault};
 ghost use Rattle.pnm_tools.specs.declared.fault.ToolFault.TheVariants.{Memory as NoMemory};
+ghost use Rattle.pnm_tools.specs.Chains.{AreLawfulTools};
+ghost use Rattle.pnm_tools.specs.Stages.{AreWell, IsFirstFault};
+ghost use Rattle.pnm_tools.specs.Tools.{IsLawfulTool};
 ghost use Rattle.pnm_write.specs.declared.fault.SinkFault.TheVariants.{WriteFailed};
-ghost use Rattle.pnmpipe.specs.Downstreams.{output_of, HasTaken};
-ghost use Rattle.pnmpipe.specs.Runs.{IsChain, EndedWell, IsRefusedBy, IsTaken, IsFrontOfDue, IsAllWritten, OutlastsRun, IfInput, IfTool, IfOutput};
-ghost use Rattle.pnmpipe.specs.Stages.{AreFresh, IsFirstFault, refusals_in};
+ghost use Rattle.pnmpipe.specs.Downstreams.{output_of};
+ghost use Rattle.pnmpipe.specs.Runs.{IsChain, EndedWell, IsRefusedBy, IsTaken, IsFrontOfDue, IsAllWritten, HasRead, OutlastsRun, IfInput, IfTool, IfOutput};
+ghost use Rattle.pnmpipe.specs.Stages.{refusals_in};
+ghost use Rattle.pnmpipe.specs.Tools.{ToolAt, ToolsAt};
 ghost use Rattle.pnmpipe.specs.Passing.{HasPassed};
 
 use crate::downstream::Downstream;
@@ -65,7 +68,7 @@ pub fn run_serial<R: BytesIn, W: BytesOut>(
     ensures front { (text : List ℕ) → R.left reader.old ≡ Some text
         → IsFrontOfDue text tools.now (W.held writer.old) (W.held writer.new) }
     ensures all_written { (text : List ℕ) → R.left reader.old ≡ Some text
-        → IsRead text result → ¬ Failed (W.failures writer.old) (W.failures writer.new)
+        → HasRead text result → ¬ Failed (W.failures writer.old) (W.failures writer.new)
         → IsAllWritten text tools.now (W.held writer.old) (W.held writer.new) }
 
     // Where memory runs out before the first message, the reader is gone with the source.
@@ -93,4 +96,62 @@ pub fn run_serial<R: BytesIn, W: BytesOut>(
         (Ok(()), None, Err(fault)) => Err(RunFault::Output(fault)),
         (Ok(()), None, Ok(summary)) => Ok(summary),
     }
+}
+
+/// Each tool at work, as a stage; one for which there is no memory has refused. The only fault is
+/// `Memory`, for the list.
+fn stages_of(alloc: Global, tools: &[Tool]) -> Result<Vec<Stage<ToolState>>, ToolFault>
+    requires { AreLawfulTools tools.now }
+    ensures fresh { IfOk result (λ stages. ToolsAt stages.items tools.now [] []) }
+    ensures refused { IfErr result (λ fault. fault ≡ NoMemory) }
+{
+    let mut stages = Vec::with_capacity(alloc, tools.len())?;
+    for tool in tools {
+        stages.push(stage_of(alloc, tool))?;
+    }
+    Ok(stages)
+}
+
+fn stage_of(alloc: Global, tool: &Tool) -> Stage<ToolState>
+    requires { IsLawfulTool tool.now }
+    ensures { ToolAt result tool.now [] [] }
+{
+    match tool.start(alloc) {
+        Ok(state) => Stage::AtWork(state),
+        Err(fault) => Stage::Refused(fault),
+    }
+}
+
+/// The number and the fault of the first stage that has refused.
+fn first_fault<F: Filter + Drop>(stages: &[Stage<F>]) -> Option<(usize, ToolFault)>
+    ensures first { IfSome result (λ found. IsFirstFault 1 (refusals_in stages.now) found.0 found.1) }
+    ensures none { IfNone result (AreWell (refusals_in stages.now)) }
+{
+    for (index, stage) in stages.iter().enumerate() {
+        if let Some(fault) = stage.fault() {
+            return Some((index + 1, fault));
+        }
+    }
+    None
+}
+
+/// Passes on all messages of the source, through to its end or its fault. After `u64::MAX` of them
+/// it answers `ReadFailed`.
+fn pass_all<R: BytesIn, F: Filter + Drop, W: BytesOut + Drop>(
+    source: &mut Source<R>,
+    stages: &mut [Stage<F>],
+    downstream: &mut Downstream<W>,
+) -> Result<(), InputFault>
+    requires unread { IsUnread (reader_of source.old) source.old }
+    ensures passed { HasPassed R.left R.failures F.at F.all_given F.stopped W.held W.failures source.old source.new result stages.old stages.new downstream.old downstream.new }
+    ensures same_reader { R.same (reader_of source.old) (reader_of source.new) }
+    ensures same_writer { W.same (output_of downstream.old) (output_of downstream.new) }
+{
+    for _ in 0..u64::MAX {
+        match source.next()? {
+            Some(message) => pass(stages, message, downstream),
+            None => return Ok(()),
+        }
+    }
+    Err(InputFault::ReadFailed)
 }
