@@ -51,7 +51,7 @@ head_is_lawful later format (Err fault) are sound = tt
 head_is_lawful later format (Ok found) are sound = (tt, rows_are_lawful later format found.0 found.0.shape.height 0 found.1 are (sound found refl) (omega arith))
 
 -- the head of a header that was read
-read_head_is_header : (is_first : Bool) (text : List ℕ) (found : Format × List ℕ) (head : Header × List ℕ) → format_at is_first text ≡ Ok found → head_at found.0 found.1 ≡ Ok head → IsHeader head.0
+pub read_head_is_header : (is_first : Bool) (text : List ℕ) (found : Format × List ℕ) (head : Header × List ℕ) → format_at is_first text ≡ Ok found → head_at found.0 found.1 ≡ Ok head → IsHeader head.0
 read_head_is_header is_first text found head e h =
     let s = read_header_is_spelled is_first text found.1 head.1 found.0 head.0 e h in
     (spelled_head s.0 found.0 head.0 s.2).sound

@@ -1,5 +1,5 @@
 -- What a run over a source rests on: what a reader still has may come, the messages that a source gave are a front of
--- what is said, and each image that begins in it has rows.
+-- what is said, each image that begins in it has rows, and each head in it keeps the rules of heads.
 use Rattle.std.proofs.Common.{◌≡◌, ℕ, zero, suc, ◌<◌, Bool, true, false, List, [], ◌∷◌, ◌++◌, length, Option, Some, None, Result, Ok, Err, inl, inr, refl, ap, ◌∙◌}
 use Rattle.std.specs.List.{AllByRecursion}
 use Rattle.std.specs.Io.KnownBytes.{IsAtEnd}
@@ -7,6 +7,7 @@ use Rattle.pnm_image.specs.declared.message.Message.{Message}
 use Rattle.pnm_image.specs.declared.message.Message.TheVariants.{Begin, Row, ImageEnd, StreamEnd, Stop}
 use Rattle.pnm_image.specs.Heads.{Header}
 use Rattle.pnm_image.specs.Completion.{IsFrontOf}
+use Rattle.pnm_image.specs.Messages.{IsMessage}
 use Rattle.pnm_image.specs.declared.shape.Shape.{Shape}
 use Rattle.pnm_read.specs.declared.fault.InputFault.{InputFault}
 use Rattle.pnm_read.specs.declared.format.Format.{Format}
@@ -20,6 +21,7 @@ use Rattle.pnm_read.specs.Sources.{reader_of, stopped_by, due, MayGive, SeesEnd,
 use Rattle.pnm_read.proofs.FaultLaws.{fault_is_of_text}
 use Rattle.pnm_read.proofs.HeaderLaws.{read_header_is_spelled, spelled_head}
 use Rattle.pnm_read.proofs.PlainLaws.{said_from}
+use Rattle.pnm_read.proofs.SaidLaws.{read_head_is_header}
 
 -- ---- what may come
 
@@ -70,6 +72,63 @@ unfolding HasGiven due
 not_stopped s read given fault h stopped outside =
     no_text_fault (read ++ []) fault (ap (λ (said : Said). said.fault) (h [] (nothing_may_come s)) ∙ fault_after given (due s []) ∙ stopped_due s.stage fault _ stopped) outside
 
+-- ---- what holds of each message that is said
+
+-- a claim of messages that holds of each head that is read, and of each message that isn't a head
+record HoldsOfRead (Claim : Message → Type 0) : Type 0 where
+  head : (is_first : Bool) (text : List ℕ) (found : Format × List ℕ) (head : Header × List ℕ) → format_at is_first text ≡ Ok found → head_at found.0 found.1 ≡ Ok head → Claim (Begin head.0)
+  row : (row : List ℕ) → Claim (Row row)
+  image_end : Claim ImageEnd
+  stream_end : Claim StreamEnd
+
+-- the claim holds of what is said after a raw image
+abbrev HoldsOf : (Message → Type 0) → (List ℕ → Said) → Type 0
+HoldsOf Claim later = (text : List ℕ) → AllByRecursion Claim (later text).messages
+
+holds_of_end : (Claim : Message → Type 0) (h : HoldsOfRead Claim) (later : List ℕ → Said) (is_plain : Bool) (text : List ℕ) → HoldsOf Claim later → AllByRecursion Claim (end_said later is_plain text).messages
+unfolding end_said
+holds_of_end Claim h later true text holds = (h.stream_end, tt)
+holds_of_end Claim h later false text holds = holds text
+
+holds_of_row : (Claim : Message → Type 0) (h : HoldsOfRead Claim) (later : List ℕ → Said) (format : Format) (s : Shape) (more : ℕ) (r : Result (List ℕ × List ℕ) InputFault)
+    → ((text : List ℕ) → AllByRecursion Claim (rows_said later format s more text).messages) → AllByRecursion Claim (said_from later format s more r).messages
+holds_of_row Claim h later format s more (Err fault) others = tt
+holds_of_row Claim h later format s more (Ok found) others = (h.row found.0, others found.1)
+
+holds_of_rows : (Claim : Message → Type 0) (h : HoldsOfRead Claim) (later : List ℕ → Said) (format : Format) (s : Shape) (more : ℕ) (text : List ℕ) → HoldsOf Claim later → AllByRecursion Claim (rows_said later format s more text).messages
+unfolding rows_said
+holds_of_rows Claim h later format s zero text holds = (h.image_end, holds_of_end Claim h later format.is_plain text holds)
+holds_of_rows Claim h later format s (suc more) text holds = holds_of_row Claim h later format s more (row_at format s more text) (λ rest. holds_of_rows Claim h later format s more rest holds)
+
+holds_of_head : (Claim : Message → Type 0) (h : HoldsOfRead Claim) (later : List ℕ → Said) (format : Format) (r : Result (Header × List ℕ) InputFault) → HoldsOf Claim later → ((found : Header × List ℕ) → r ≡ Ok found → Claim (Begin found.0))
+    → AllByRecursion Claim (head_said later format r).messages
+holds_of_head Claim h later format (Err fault) holds head = tt
+holds_of_head Claim h later format (Ok found) holds head = (head found refl, holds_of_rows Claim h later format found.0.shape found.0.shape.height found.1 holds)
+
+holds_of_format : (Claim : Message → Type 0) (h : HoldsOfRead Claim) (later : List ℕ → Said) (is_first : Bool) (text : List ℕ) (r : Result (Format × List ℕ) InputFault) → HoldsOf Claim later → format_at is_first text ≡ r
+    → AllByRecursion Claim (format_said later r).messages
+holds_of_format Claim h later is_first text (Err fault) holds e = tt
+holds_of_format Claim h later is_first text (Ok found) holds e = holds_of_head Claim h later found.0 (head_at found.0 found.1) holds (λ head read. h.head is_first text found head e read)
+
+holds_of_image : (Claim : Message → Type 0) (h : HoldsOfRead Claim) (later : List ℕ → Said) (is_first : Bool) (text : List ℕ) → HoldsOf Claim later → AllByRecursion Claim (image_said later is_first text).messages
+unfolding image_said
+holds_of_image Claim h later is_first text holds = holds_of_format Claim h later is_first text (format_at is_first text) holds refl
+
+holds_of_later_in : (Claim : Message → Type 0) (h : HoldsOfRead Claim) (most : ℕ) → HoldsOf Claim (later_said_in most)
+unfolding later_said_in
+holds_of_later_in Claim h zero [] = (h.stream_end, tt)
+holds_of_later_in Claim h zero (b ∷ text) = (h.stream_end, tt)
+holds_of_later_in Claim h (suc most) [] = (h.stream_end, tt)
+holds_of_later_in Claim h (suc most) (b ∷ text) = holds_of_image Claim h (later_said_in most) false (b ∷ text) (holds_of_later_in Claim h most)
+
+holds_of_later : (Claim : Message → Type 0) (h : HoldsOfRead Claim) → HoldsOf Claim later_said
+unfolding later_said
+holds_of_later Claim h text = holds_of_later_in Claim h (length text) text
+
+holds_of_said : (Claim : Message → Type 0) (h : HoldsOfRead Claim) (text : List ℕ) → AllByRecursion Claim (said_of text)
+unfolding said
+holds_of_said Claim h text = holds_of_image Claim h later_said true text (holds_of_later Claim h)
+
 -- ---- heads that are said
 
 -- an image that begins has rows
@@ -80,54 +139,15 @@ BeginsRows ImageEnd = Unit {0}
 BeginsRows StreamEnd = Unit {0}
 BeginsRows Stop = Unit {0}
 
--- what is said after a raw image
-abbrev BeginRows : (List ℕ → Said) → Type 0
-BeginRows later = (text : List ℕ) → AllByRecursion BeginsRows (later text).messages
-
-end_begins_rows : (later : List ℕ → Said) (is_plain : Bool) (text : List ℕ) → BeginRows later → AllByRecursion BeginsRows (end_said later is_plain text).messages
-unfolding end_said
-end_begins_rows later true text begin = (tt, tt)
-end_begins_rows later false text begin = begin text
-
-row_begins_rows : (later : List ℕ → Said) (format : Format) (s : Shape) (more : ℕ) (r : Result (List ℕ × List ℕ) InputFault) → ((text : List ℕ) → AllByRecursion BeginsRows (rows_said later format s more text).messages)
-    → AllByRecursion BeginsRows (said_from later format s more r).messages
-row_begins_rows later format s more (Err fault) others = tt
-row_begins_rows later format s more (Ok found) others = (tt, others found.1)
-
-rows_begin_rows : (later : List ℕ → Said) (format : Format) (s : Shape) (more : ℕ) (text : List ℕ) → BeginRows later → AllByRecursion BeginsRows (rows_said later format s more text).messages
-unfolding rows_said
-rows_begin_rows later format s zero text begin = (tt, end_begins_rows later format.is_plain text begin)
-rows_begin_rows later format s (suc more) text begin = row_begins_rows later format s more (row_at format s more text) (λ rest. rows_begin_rows later format s more rest begin)
-
-head_begins_rows : (later : List ℕ → Said) (format : Format) (r : Result (Header × List ℕ) InputFault) → BeginRows later → ((found : Header × List ℕ) → r ≡ Ok found → 0 < found.0.shape.height) → AllByRecursion BeginsRows (head_said later format r).messages
-head_begins_rows later format (Err fault) begin rows = tt
-head_begins_rows later format (Ok found) begin rows = (rows found refl, rows_begin_rows later format found.0.shape found.0.shape.height found.1 begin)
-
 read_head_has_rows : (is_first : Bool) (text : List ℕ) (found : Format × List ℕ) (head : Header × List ℕ) → format_at is_first text ≡ Ok found → head_at found.0 found.1 ≡ Ok head → 0 < head.0.shape.height
 read_head_has_rows is_first text found head e h =
     let s = read_header_is_spelled is_first text found.1 head.1 found.0 head.0 e h in
     (spelled_head s.0 found.0 head.0 s.2).rows
 
-format_begins_rows : (later : List ℕ → Said) (is_first : Bool) (text : List ℕ) (r : Result (Format × List ℕ) InputFault) → BeginRows later → format_at is_first text ≡ r → AllByRecursion BeginsRows (format_said later r).messages
-format_begins_rows later is_first text (Err fault) begin e = tt
-format_begins_rows later is_first text (Ok found) begin e = head_begins_rows later found.0 (head_at found.0 found.1) begin (λ head h. read_head_has_rows is_first text found head e h)
-
-image_begins_rows : (later : List ℕ → Said) (is_first : Bool) (text : List ℕ) → BeginRows later → AllByRecursion BeginsRows (image_said later is_first text).messages
-unfolding image_said
-image_begins_rows later is_first text begin = format_begins_rows later is_first text (format_at is_first text) begin refl
-
-later_in_begins_rows : (most : ℕ) → BeginRows (later_said_in most)
-unfolding later_said_in
-later_in_begins_rows zero [] = (tt, tt)
-later_in_begins_rows zero (b ∷ text) = (tt, tt)
-later_in_begins_rows (suc most) [] = (tt, tt)
-later_in_begins_rows (suc most) (b ∷ text) = image_begins_rows (later_said_in most) false (b ∷ text) (later_in_begins_rows most)
-
-later_begins_rows : BeginRows later_said
-unfolding later_said
-later_begins_rows text = later_in_begins_rows (length text) text
-
 -- each image that begins in what is said has rows
 pub said_heads_have_rows : (text : List ℕ) → AllByRecursion BeginsRows (said_of text)
-unfolding said
-said_heads_have_rows text = image_begins_rows later_said true text later_begins_rows
+said_heads_have_rows text = holds_of_said BeginsRows (record { head = read_head_has_rows; row = λ row. tt; image_end = tt; stream_end = tt }) text
+
+-- what is said are messages: each head keeps the rules of heads
+pub said_are_messages : (text : List ℕ) → AllByRecursion IsMessage (said_of text)
+said_are_messages text = holds_of_said IsMessage (record { head = read_head_is_header; row = λ row. tt; image_end = tt; stream_end = tt }) text

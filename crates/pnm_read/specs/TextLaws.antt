@@ -1,7 +1,8 @@
 -- The laws that tie what a text spells to what is said of it, and the laws of what is said.
 use Rattle.std.specs.Prelude.{◌≡◌, ◌↔◌, ◌⊎◌, ℕ, List, Some, None}
+use Rattle.std.specs.List.{AllByRecursion}
 use Rattle.pnm_image.specs.Images.{Image, AreImages, messages_of_stream}
-use Rattle.pnm_image.specs.Messages.{EndsStream}
+use Rattle.pnm_image.specs.Messages.{IsMessage, EndsStream}
 use Rattle.pnm_image.specs.Places.{IsLawful}
 use Rattle.pnm_read.specs.declared.fault.InputFault.{InputFault}
 use Rattle.pnm_read.specs.declared.fault.InputFault.TheVariants.{ReadFailed, Memory}
@@ -43,6 +44,11 @@ OneStreamOrOneFault =
 abbrev pub SaidIsLawful : Type 0
 SaidIsLawful =
     (text : List ℕ) → IsLawful (said_of text)
+
+-- what is said of any text are messages of a program: each head keeps the rules of heads
+abbrev pub SaidAreMessages : Type 0
+SaidAreMessages =
+    (text : List ℕ) → AllByRecursion IsMessage (said_of text)
 
 -- the end of the stream is said of a text exactly if the text has no fault
 abbrev pub EndIsSaidWithoutFault : Type 0

@@ -2,7 +2,7 @@
 //! nothing.
 
 ghost use Rattle.pnm_read.specs.Examples.{ExamplesHold};
-ghost use Rattle.pnm_read.specs.TextLaws.{SpelledIsSaid, SaidIsSpelled, SpelledAreImages, OneStreamOrOneFault, SaidIsLawful, EndIsSaidWithoutFault, FaultsAreOfTexts};
+ghost use Rattle.pnm_read.specs.TextLaws.{SpelledIsSaid, SaidIsSpelled, SpelledAreImages, OneStreamOrOneFault, SaidIsLawful, SaidAreMessages, EndIsSaidWithoutFault, FaultsAreOfTexts};
 
 /// Of a text that spells images the messages of these images are said, without a fault.
 pub fn spelled_is_said()
@@ -24,9 +24,11 @@ pub fn one_stream_or_one_fault()
     ensures { OneStreamOrOneFault }
 {}
 
-/// What is said of any text, also before a fault, may come in turn.
+/// What is said of any text, also before a fault, may come in turn, and each head in it keeps the
+/// rules of heads.
 pub fn said_is_lawful()
-    ensures { SaidIsLawful }
+    ensures lawful { SaidIsLawful }
+    ensures messages { SaidAreMessages }
 {}
 
 /// The end of the stream is said of a text exactly if the text has no fault.
