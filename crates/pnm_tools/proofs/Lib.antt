@@ -13,3 +13,5 @@ pub mod ChannelLaws
 pub mod ToolLaws
 pub mod ResultLaws
 pub mod ChainLaws
+pub mod HeadLaws
+pub mod RowLaws

@@ -22,11 +22,12 @@ pub(crate) struct Rescaler {
 }
 
 impl Rows for Rescaler {
+    ghost use Rattle.pnm_image.specs.Heads.{IsWithinLimits};
     ghost use Rattle.pnm_tools.specs.States.{HasTable};
 
     ghost tool = { λ r. Depth r.maxval };
 
-    ghost ready = { HasTable };
+    ghost ready = { λ r s. IsWithinLimits s × HasTable r s };
 
     fn begin(&mut self, alloc: Global, head: &Head) -> Result<Head, ToolFault> {
         let shape = head.shape();
