@@ -2,6 +2,7 @@
 
 ghost use Rattle.std.specs.Prelude.{◌≡◌, ◌≤◌, ◌+◌, All, map, ℕ, length, OnOk, IfOk, IfErr};
 ghost use Rattle.std.specs.List.{range_with_len};
+ghost use Rattle.pnm_image.specs.Heads.{IsWithinLimits};
 ghost use Rattle.pnm_tools.specs.declared.fault.ToolFault.TheVariants.{Memory};
 ghost use Rattle.pnm_tools.specs.declared.tool.Tool.TheVariants.{Depth};
 ghost use Rattle.pnm_tools.specs.Depth.{nearest_sample, kind_at, type_at};
@@ -22,7 +23,6 @@ pub(crate) struct Rescaler {
 }
 
 impl Rows for Rescaler {
-    ghost use Rattle.pnm_image.specs.Heads.{IsWithinLimits};
     ghost use Rattle.pnm_tools.specs.States.{HasTable};
 
     ghost tool = { λ r. Depth r.maxval };
@@ -111,7 +111,9 @@ fn table_of(alloc: Global, new: u32, old: u32) -> Result<Vec<u16>, ToolFault>
 
 /// A table costs a division for each sample up to the maxval; without it each sample of the image
 /// costs one.
-fn is_worth_a_table(shape: Shape) -> bool {
+fn is_worth_a_table(shape: Shape) -> bool
+    requires { IsWithinLimits shape }
+{
     shape.row_length() * u64::from(shape.height) > u64::from(shape.maxval)
 }
 
