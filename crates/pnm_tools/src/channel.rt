@@ -1,6 +1,6 @@
 //! `pamchannel`: planes of the image, in the order in which they are named, from pamchannel(1).
 
-ghost use Rattle.std.specs.Prelude.{◌≡◌, ◌≤◌, ◌<◌, ◌↔◌, All, IsTrue, IfOk, IfErr, length};
+ghost use Rattle.std.specs.Prelude.{◌≡◌, ◌≤◌, ◌<◌, ◌↔◌, ◌+◌, ◌++◌, All, IsTrue, OnOk, IfOk, IfErr, length, map, slice_index};
 ghost use Rattle.pnm_image.specs.Heads.{row_length};
 ghost use Rattle.pnm_tools.specs.declared.fault.ToolFault.TheVariants.{Memory};
 ghost use Rattle.pnm_tools.specs.declared.tool.Tool.TheVariants.{Channel};
@@ -42,7 +42,7 @@ impl Rows for Planes {
 
     fn begin(&mut self, alloc: Global, head: &Head) -> Result<Head, ToolFault> {
         let shape = head.shape();
-        if !self.numbers.iter().all(|number| u32::from(*number) < shape.depth) {
+        if !are_below(self.numbers.as_slice(), shape.depth) {
             return Err(ToolFault::ChannelOutside);
         }
         let picked = Shape {
@@ -118,20 +118,37 @@ impl Planes {
     }
 }
 
+/// Whether each plane lies below the depth.
+fn are_below(numbers: &[u16], depth: u32) -> bool
+    ensures { IsTrue result ↔ All (λ number. number < depth) numbers.now }
+{
+    numbers.iter().all(|number| u32::from(*number) < depth)
+}
+
 /// The samples of these planes of a row.
 fn pick(alloc: Global, numbers: &[u16], shape: Shape, row: &[u16]) -> Result<Vec<u16>, ToolFault>
     requires numbers { All (λ number. number < shape.depth) numbers.now }
     requires row { length row.now ≡ row_length shape }
-    requires limits { (shape.width ≤ 1000000) × (length numbers.now ≤ 256) }
+    requires limits { length numbers.now ≤ 256 }
     ensures picked { IfOk result (λ picked. picked.items ≡ picked_samples numbers.now shape row.now) }
     ensures refused { IfErr result (λ fault. fault ≡ Memory) }
 {
-    let depth = shape.depth as usize;
-    let mut picked = Vec::with_capacity(alloc, shape.width as usize * numbers.len())?;
-    for pixel in row.chunks_exact(depth) {
-        for number in numbers {
-            picked.push(pixel[*number as usize])?;
-        }
+    let (width, depth) = (shape.width as usize, shape.depth as usize);
+    let mut picked = Vec::with_capacity(alloc, width * numbers.len())?;
+    for x in 0..width {
+        pick_pixel(&mut picked, numbers, row, x * depth)?;
     }
     Ok(picked)
+}
+
+/// Adds the samples of these planes of the pixel whose samples begin here.
+fn pick_pixel(picked: &mut Vec<u16>, numbers: &[u16], row: &[u16], first: usize) -> Result<(), ToolFault>
+    requires { All (λ number. first + number < length row.now) numbers.now }
+    ensures picked { OnOk result (picked.new.items ≡ picked.old.items ++ map (λ number. slice_index row.now (first + number)) numbers.now) }
+    ensures refused { IfErr result (λ fault. fault ≡ Memory) }
+{
+    for number in numbers {
+        picked.push(row[first + *number as usize])?;
+    }
+    Ok(())
 }
