@@ -15,3 +15,4 @@ pub mod ResultLaws
 pub mod ChainLaws
 pub mod HeadLaws
 pub mod RowLaws
+pub mod PickLaws
