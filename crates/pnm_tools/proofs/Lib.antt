@@ -16,3 +16,4 @@ pub mod ChainLaws
 pub mod HeadLaws
 pub mod RowLaws
 pub mod PickLaws
+pub mod KeepLaws
