@@ -1,5 +1,5 @@
 -- The head of a result, tool by tool.
-use Rattle.std.proofs.Common.{◌≡◌, ◌⊎◌, inl, inr, ℕ, Bool, false, true, List, nat_lt, if◌then◌else◌, IfOk, IfErr, ◌↔◌, ◌<◌, IsTrue, All, length, Ok, Err, Result, refl, sym, ap, ◌∙◌, arith}
+use Rattle.std.proofs.Common.{◌≡◌, ◌⊎◌, inl, inr, ℕ, Bool, false, true, List, nat_lt, if◌then◌else◌, IfOk, IfErr, ◌↔◌, ◌<◌, ◌≤◌, IsTrue, All, length, Ok, Err, Result, refl, sym, ap, ◌∙◌, arith}
 use Rattle.std.specs.List.{list_all}
 use Rattle.std.proofs.lemmas.Bool.Decides.{nat_tests}
 use Rattle.pnm_image.specs.declared.shape.Shape.{Shape}
@@ -36,9 +36,12 @@ head_of_channel planes head = refl
 
 -- ---- limits
 
+pub small_sizes : (s : Shape) → s.width ≤ 1000000 → s.height ≤ 1000000 → s.depth ≤ 256 → row_length s ≤ 16777216 → is_too_large s ≡ false
+small_sizes s width height depth row = grind (arith, nat_tests)
+
 -- an image's shape is within the limits of results
 pub not_too_large : (s : Shape) → IsWithinLimits s → is_too_large s ≡ false
-not_too_large s h = grind (arith, nat_tests, h.width_high, h.height_high, h.depth_high, h.row_high)
+not_too_large s h = small_sizes s h.width_high h.height_high h.depth_high h.row_high
 
 abbrev refused_large : Result Header ToolFault
 refused_large = Err TooLarge
