@@ -1,5 +1,5 @@
 -- The columns and rows that are kept.
-use Rattle.std.proofs.Common.{◌≡◌, ◌⊎◌, inl, inr, ℕ, ◌+◌, ◌-◌, ◌*◌, ◌≤◌, ◌<◌, ℤ, pos, negsuc, Bool, true, false, nat_le, nat_lt, ◌&&◌, if◌then◌else◌, Option, Some, None, Result, Ok, Err, ◌==◌, List, [], ◌∷◌, ◌++◌, mul-le-mul, length, take, drop, refl, sym, ap, ◌∙◌, arith, length-take-le, length-drop}
+use Rattle.std.proofs.Common.{◌≡◌, ◌⊎◌, inl, inr, ℕ, ◌+◌, ◌-◌, ◌*◌, ◌≤◌, ◌<◌, ℤ, pos, negsuc, Bool, true, false, nat_le, nat_lt, ◌&&◌, if◌then◌else◌, Option, Some, None, Result, Ok, Err, ◌==◌, List, [], ◌∷◌, ◌++◌, mul-le-mul, length, take, drop, refl, sym, ap, ◌∙◌, subst, arith, length-take-le, length-drop}
 use Rattle.std.specs.List.{copy_within}
 use Rattle.std.proofs.Math.Seq.{paste}
 use Rattle.std.proofs.lemmas.Bool.{leb-true, ltb-true, le-leb, lt-leb, ne_eqb}
@@ -138,3 +138,21 @@ cut_is_small s width height h w y =
     let below : width * s.depth ≤ s.width * s.depth = mul-le-mul {n₁ = width} {m₁ = s.depth} {n₂ = s.width} {m₂ = s.depth} w (omega arith) in
     let row : width * s.depth ≤ 16777216 = omega (arith, below, h.row_high) in
     small_sizes (record s { width = width; height = height }) (omega (arith, h.width_high)) (omega (arith, h.height_high)) h.depth_high row
+
+pub cut_head_made : (box : CutBox) (head : Header) (s : Shape) (columns rows : Span) (width height : ℕ) (t : List ℕ) → s ≡ head.shape → IsWithinLimits head.shape → (s.height ≡ 0 → ⊥) → Some columns ≡ columns_kept box s → Some rows ≡ rows_kept box s
+    → width ≡ span_count columns → height ≡ span_count rows → t ≡ head.tuple_type → result_head (Cut box) head ≡ within_limits (header_of (record s { width = width; height = height }) t)
+cut_head_made box head s columns rows width height t same sound some a b wide high type =
+    let x : Header = header_of (record s { width = width; height = height }) t in
+    let whole : record head { shape = record head.shape { width = span_count columns; height = span_count rows } } ≡ x =
+        ap (λ (z : Shape). header_of (record z { width = span_count columns; height = span_count rows }) head.tuple_type) (sym same)
+        ∙ ap (λ (n : ℕ). header_of (record s { width = n; height = span_count rows }) head.tuple_type) (sym wide)
+        ∙ ap (λ (n : ℕ). header_of (record s { width = width; height = n }) head.tuple_type) (sym high)
+        ∙ ap (header_of (record s { width = width; height = height })) (sym type) in
+    let left = columns_lie box s columns a in
+    let top = rows_lie box s rows b in
+    let small = cut_is_small s width height (subst IsWithinLimits (sym same) sound) (omega (arith, wide, left.0, left.1)) (omega (arith, high, top.0, top.1)) in
+    cut_head_by box head s (Some columns) (Some rows) same some a b ∙ ap (λ (h : Header). Ok h) whole ∙ sym (small_head x small)
+
+-- an axis that is within the limits: how `Span` counts, and that something is kept
+pub counts_within : (columns : Span) (count most : ℕ) → (columns.first ≤ columns.last) × (columns.last < count) → count ≤ most → (columns.first ≤ columns.last) × (columns.last < most)
+counts_within columns count most lies le = (lies.0, omega (arith, lies.1))
