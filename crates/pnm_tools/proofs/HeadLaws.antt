@@ -1,5 +1,5 @@
 -- The head of a result, tool by tool.
-use Rattle.std.proofs.Common.{◌≡◌, ◌⊎◌, inl, inr, ℕ, Bool, false, true, List, nat_lt, if◌then◌else◌, IfOk, IfErr, ◌↔◌, ◌<◌, ◌≤◌, IsTrue, All, length, Ok, Err, Result, refl, sym, ap, ◌∙◌, arith}
+use Rattle.std.proofs.Common.{◌≡◌, ◌⊎◌, inl, inr, ℕ, Bool, false, true, List, nat_lt, if◌then◌else◌, IfOk, IfErr, ◌↔◌, ◌<◌, ◌≤◌, IsTrue, All, length, Ok, Err, Result, refl, sym, ap, subst, ◌∙◌, arith}
 use Rattle.std.specs.List.{list_all}
 use Rattle.std.proofs.lemmas.Bool.Decides.{nat_tests}
 use Rattle.pnm_image.specs.declared.shape.Shape.{Shape}
@@ -65,27 +65,18 @@ fault_so tool head x (Ok made) e h = tt
 fault_so tool head x (Err fault) e (inl h) = inl (e ∙ large_head x h.1 ∙ ap (λ (k : ToolFault). Err k) (sym h.0))
 fault_so tool head x (Err fault) e (inr h) = inr (h.0, (x, e ∙ small_head x h.1))
 
--- ---- heads that are refused
-
--- the only fault of a head whose shape is within the limits, and which the tool takes
-pub refused_for_memory : (s : Shape) (fault : ToolFault) → is_too_large s ≡ false → (fault ≡ TooLarge × (is_too_large s ≡ true)) ⊎ (fault ≡ Memory × (is_too_large s ≡ false)) → fault ≡ Memory
-refused_for_memory s fault small (inl h) = absurd cc
-refused_for_memory s fault small (inr h) = h.0
-
 -- ---- heads that are made
 
 -- the head of a rescaled image, from its parts
-pub rescaled_head_made : (maxval : ℕ) (head made : Header) (s : Shape) (kind : Kind) (t old : List ℕ) → s ≡ head.shape → kind ≡ kind_at maxval s.kind → t ≡ type_at maxval old → old ≡ head.tuple_type
-    → made ≡ header_of (record s { kind = kind; maxval = maxval }) t → result_head (Depth maxval) head ≡ Ok made
-rescaled_head_made maxval head made s kind t old shape kinds types olds is =
-    let whole : made ≡ header_of (record head.shape { kind = kind_at maxval head.shape.kind; maxval = maxval }) (type_at maxval head.tuple_type) =
-        is ∙ ap (λ (k : Kind). header_of (record s { kind = k; maxval = maxval }) t) kinds
+pub rescaled_head_made : (maxval : ℕ) (head : Header) (s : Shape) (kind : Kind) (t old : List ℕ) → s ≡ head.shape → kind ≡ kind_at maxval s.kind → t ≡ type_at maxval old → old ≡ head.tuple_type
+    → IsWithinLimits head.shape → result_head (Depth maxval) head ≡ within_limits (header_of (record s { kind = kind; maxval = maxval }) t)
+rescaled_head_made maxval head s kind t old shape kinds types olds sound =
+    let x : Header = header_of (record s { kind = kind; maxval = maxval }) t in
+    let whole : x ≡ header_of (record head.shape { kind = kind_at maxval head.shape.kind; maxval = maxval }) (type_at maxval head.tuple_type) =
+        ap (λ (k : Kind). header_of (record s { kind = k; maxval = maxval }) t) kinds
         ∙ ap (λ (z : Shape). header_of (record z { kind = kind_at maxval z.kind; maxval = maxval }) t) shape
-        ∙ ap (λ (x : List ℕ). header_of (record head.shape { kind = kind_at maxval head.shape.kind; maxval = maxval }) x) (types ∙ ap (type_at maxval) olds) in
-    head_of_depth maxval head ∙ ap (λ (h : Header). Ok h) (sym whole)
-
-pub takes_depth : (maxval : ℕ) (head : Header) → Takes (Depth maxval) head
-takes_depth maxval head = (header_of (record head.shape { kind = kind_at maxval head.shape.kind; maxval = maxval }) (type_at maxval head.tuple_type), head_of_depth maxval head)
+        ∙ ap (header_of (record head.shape { kind = kind_at maxval head.shape.kind; maxval = maxval })) (types ∙ ap (type_at maxval) olds) in
+    head_of_depth maxval head ∙ ap (λ (h : Header). Ok h) (sym whole) ∙ sym (small_head x (not_too_large s (subst IsWithinLimits (sym shape) sound)))
 
 -- the head of planes, where it was seen whether all are there
 abbrev planes_by : Picks → Header → Bool → Result Header ToolFault

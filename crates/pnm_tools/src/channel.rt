@@ -1,6 +1,6 @@
 //! `pamchannel`: planes of the image, in the order in which they are named, from pamchannel(1).
 
-ghost use Rattle.std.specs.Prelude.{◌≡◌, ◌≤◌, ◌<◌, ◌↔◌, ◌+◌, ◌++◌, All, IsTrue, OnOk, IfOk, IfErr, length, map, slice_index};
+ghost use Rattle.std.specs.Prelude.{◌≡◌, ◌≤◌, ◌<◌, ◌↔◌, ◌⊎◌, ◌+◌, ◌++◌, All, IsTrue, OnOk, IfOk, IfErr, Ok, Err, length, map, slice_index};
 ghost use Rattle.pnm_image.specs.Heads.{row_length};
 ghost use Rattle.pnm_tools.specs.declared.fault.ToolFault.TheVariants.{Memory};
 ghost use Rattle.pnm_tools.specs.declared.tool.Tool.TheVariants.{Channel};
@@ -41,16 +41,7 @@ impl Rows for Planes {
     ghost ready = { HasPlanes };
 
     fn begin(&mut self, alloc: Global, head: &Head) -> Result<Head, ToolFault> {
-        let shape = head.shape();
-        if !are_below(self.numbers.as_slice(), shape.depth) {
-            return Err(ToolFault::ChannelOutside);
-        }
-        let picked = Shape {
-            kind: Kind::Pam,
-            depth: self.numbers.len() as u32,
-            ..shape
-        };
-        result_head(alloc, picked, self.tuple_type.as_slice())
+        self.head(alloc, head)
     }
 
     /// Makes a new row.
@@ -69,7 +60,8 @@ impl Rows for Planes {
 }
 
 impl Planes {
-    ghost use Rattle.pnm_tools.specs.Channel.{IsLawfulPick};
+    ghost use Rattle.pnm_tools.specs.Channel.{IsLawfulPick, HasPlanes};
+    ghost use Rattle.pnm_tools.specs.Tools.{Takes, result_head};
 
     /// These planes, in this order, and this tuple type.
     pub fn new(numbers: Vec<u16>, tuple_type: Vec<u8>) -> Planes
@@ -105,6 +97,26 @@ impl Planes {
             numbers: self.numbers.clone()?,
             tuple_type: self.tuple_type.clone()?,
         })
+    }
+
+    /// The head of the picked image, or the refusal.
+    pub(crate) fn head(&self, alloc: Global, head: &Head) -> Result<Head, ToolFault>
+        requires { IsLawfulPick self.now }
+        ensures made { IfOk result (λ made. result_head (Channel self.now) head.now ≡ Ok made) }
+        ensures planes { OnOk result (HasPlanes self.now head.now.shape) }
+        ensures refused { IfErr result (λ fault. (result_head (Channel self.now) head.now ≡ Err fault)
+            ⊎ ((fault ≡ Memory) × Takes (Channel self.now) head.now)) }
+    {
+        let shape = head.shape();
+        if !are_below(self.numbers.as_slice(), shape.depth) {
+            return Err(ToolFault::ChannelOutside);
+        }
+        let picked = Shape {
+            kind: Kind::Pam,
+            depth: self.numbers.len() as u32,
+            ..shape
+        };
+        result_head(alloc, picked, self.tuple_type.as_slice())
     }
 
     /// Whether there are 1 to 256 numbers, each 0 to 255, and the tuple type is one of PAM.
