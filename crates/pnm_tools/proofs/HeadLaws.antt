@@ -73,9 +73,9 @@ pub rescaled_head_made : (maxval : ℕ) (head : Header) (s : Shape) (kind : Kind
 rescaled_head_made maxval head s kind t old shape kinds types olds sound =
     let x : Header = header_of (record s { kind = kind; maxval = maxval }) t in
     let whole : x ≡ header_of (record head.shape { kind = kind_at maxval head.shape.kind; maxval = maxval }) (type_at maxval head.tuple_type) =
-        ap (λ (k : Kind). header_of (record s { kind = k; maxval = maxval }) t) kinds
-        ∙ ap (λ (z : Shape). header_of (record z { kind = kind_at maxval z.kind; maxval = maxval }) t) shape
-        ∙ ap (header_of (record head.shape { kind = kind_at maxval head.shape.kind; maxval = maxval })) (types ∙ ap (type_at maxval) olds) in
+    ap (λ (k : Kind). header_of (record s { kind = k; maxval = maxval }) t) kinds
+    ∙ ap (λ (z : Shape). header_of (record z { kind = kind_at maxval z.kind; maxval = maxval }) t) shape
+    ∙ ap (header_of (record head.shape { kind = kind_at maxval head.shape.kind; maxval = maxval })) (types ∙ ap (type_at maxval) olds) in
     head_of_depth maxval head ∙ ap (λ (h : Header). Ok h) (sym whole) ∙ sym (small_head x (not_too_large s (subst IsWithinLimits (sym shape) sound)))
 
 -- the head of planes, where it was seen whether all are there
@@ -85,7 +85,7 @@ planes_by planes head b = if b then within_limits (picked_header planes head) el
 planes_head : (planes : Picks) (head : Header) (s : Shape) (seen : List ℕ) (b : Bool) → s ≡ head.shape → seen ≡ planes.numbers → (IsTrue b ↔ All (λ number. number < s.depth) seen) → result_head (Channel planes) head ≡ planes_by planes head b
 planes_head planes head s seen b shape same h =
     let there : list_all (λ number. nat_lt number head.shape.depth) planes.numbers ≡ b =
-        ap (λ (z : Shape). list_all (λ number. nat_lt number z.depth) planes.numbers) (sym shape) ∙ ap (λ (l : List ℕ). list_all (λ number. nat_lt number s.depth) l) (sym same) ∙ all_below seen s.depth b h in
+    ap (λ (z : Shape). list_all (λ number. nat_lt number z.depth) planes.numbers) (sym shape) ∙ ap (λ (l : List ℕ). list_all (λ number. nat_lt number s.depth) l) (sym same) ∙ all_below seen s.depth b h in
     head_of_channel planes head ∙ ap (planes_by planes head) there
 
 pub planes_outside : (planes : Picks) (head : Header) (s : Shape) (seen : List ℕ) (b : Bool) → s ≡ head.shape → seen ≡ planes.numbers → (IsTrue b ↔ All (λ number. number < s.depth) seen) → b ≡ false → result_head (Channel planes) head ≡ Err ChannelOutside
@@ -95,7 +95,7 @@ pub planes_inside : (planes : Picks) (head : Header) (s : Shape) (seen : List �
     → result_head (Channel planes) head ≡ within_limits (header_of (record s { kind = Pam; depth = n }) t)
 planes_inside planes head s seen b n t shape same h found count type =
     let whole : picked_header planes head ≡ header_of (record s { kind = Pam; depth = n }) t =
-        ap (λ (z : Shape). header_of (record z { kind = Pam; depth = length planes.numbers }) planes.tuple_type) (sym shape)
-        ∙ ap (λ (k : ℕ). header_of (record s { kind = Pam; depth = k }) planes.tuple_type) (sym (count ∙ ap length same))
-        ∙ ap (λ (l : List ℕ). header_of (record s { kind = Pam; depth = n }) l) (sym type) in
+    ap (λ (z : Shape). header_of (record z { kind = Pam; depth = length planes.numbers }) planes.tuple_type) (sym shape)
+    ∙ ap (λ (k : ℕ). header_of (record s { kind = Pam; depth = k }) planes.tuple_type) (sym (count ∙ ap length same))
+    ∙ ap (λ (l : List ℕ). header_of (record s { kind = Pam; depth = n }) l) (sym type) in
     planes_head planes head s seen b shape same h ∙ ap (planes_by planes head) found ∙ ap within_limits whole

@@ -144,10 +144,10 @@ pub cut_head_made : (box : CutBox) (head : Header) (s : Shape) (columns rows : S
 cut_head_made box head s columns rows width height t same sound some a b wide high type =
     let x : Header = header_of (record s { width = width; height = height }) t in
     let whole : record head { shape = record head.shape { width = span_count columns; height = span_count rows } } ≡ x =
-        ap (λ (z : Shape). header_of (record z { width = span_count columns; height = span_count rows }) head.tuple_type) (sym same)
-        ∙ ap (λ (n : ℕ). header_of (record s { width = n; height = span_count rows }) head.tuple_type) (sym wide)
-        ∙ ap (λ (n : ℕ). header_of (record s { width = width; height = n }) head.tuple_type) (sym high)
-        ∙ ap (header_of (record s { width = width; height = height })) (sym type) in
+    ap (λ (z : Shape). header_of (record z { width = span_count columns; height = span_count rows }) head.tuple_type) (sym same)
+    ∙ ap (λ (n : ℕ). header_of (record s { width = n; height = span_count rows }) head.tuple_type) (sym wide)
+    ∙ ap (λ (n : ℕ). header_of (record s { width = width; height = n }) head.tuple_type) (sym high)
+    ∙ ap (header_of (record s { width = width; height = height })) (sym type) in
     let left = columns_lie box s columns a in
     let top = rows_lie box s rows b in
     let small = cut_is_small s width height (subst IsWithinLimits (sym same) sound) (omega (arith, wide, left.0, left.1)) (omega (arith, high, top.0, top.1)) in

@@ -154,7 +154,12 @@ fn pick(alloc: Global, numbers: &[u16], shape: Shape, row: &[u16]) -> Result<Vec
 }
 
 /// Adds the samples of these planes of the pixel whose samples begin here.
-fn pick_pixel(picked: &mut Vec<u16>, numbers: &[u16], row: &[u16], first: usize) -> Result<(), ToolFault>
+fn pick_pixel(
+    picked: &mut Vec<u16>,
+    numbers: &[u16],
+    row: &[u16],
+    first: usize,
+) -> Result<(), ToolFault>
     requires { All (λ number. first + number < length row.now) numbers.now }
     ensures picked { OnOk result (picked.new.items ≡ picked.old.items ++ map (λ number. slice_index row.now (first + number)) numbers.now) }
     ensures refused { IfErr result (λ fault. fault ≡ Memory) }

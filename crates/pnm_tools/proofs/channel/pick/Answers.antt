@@ -1,5 +1,4 @@
-use Rattle.std.proofs.Common.{◌≡◌, ◌+◌, ◌*◌, ◌++◌, List, ℕ, map, slice_index, ap, sym, ◌∙◌, arith}
-use Rattle.std.specs.List.{flat_map, range_with_len}
+use Rattle.std.proofs.Common.{◌+◌, ◌*◌, ◌++◌, List, ℕ, map, slice_index, ap, sym, ◌∙◌, arith}
 use Rattle.pnm_tools.proofs.PickLaws.{flat_map_one_more}
 use Rattle.pnm_tools.proofs.channel.pick.Goals as goal
 
