@@ -20,7 +20,7 @@ use Rattle.pnm_tools.specs.Cut.{span_within, span_count, first_kept, last_kept, 
 use Rattle.pnm_tools.specs.Tools.{result_head, result_sample, row_answer}
 use Rattle.pnm_tools.specs.RowWise.{answered_from}
 use Rattle.pnm_tools.proofs.FormulaLaws.{columns, columns_at, row_at, rows_are, rows_of-image_by, range_alike}
-use Rattle.pnm_tools.proofs.HeadLaws.{result_by_head, answered_by_rows}
+use Rattle.pnm_tools.proofs.ImageLaws.{result_by_head, answered_by_rows}
 use Rattle.pnm_tools.proofs.RowWiseLaws.{AnswersImages}
 
 -- ---- ranges of numbers

@@ -1,41 +1,101 @@
--- What becomes of an image that isn't refused.
-use Rattle.std.proofs.Common.{◌≡◌, ℕ, List, [], ◌∷◌, ◌++◌, map, Result, Ok, Err, sym, ap, ◌∙◌}
-use Rattle.pnm_image.specs.declared.message.Message.{Message}
-use Rattle.pnm_image.specs.declared.message.Message.TheVariants.{Begin, Row, ImageEnd}
-use Rattle.pnm_image.specs.declared.place.Place.TheVariants.{Between, Inside}
-use Rattle.pnm_image.specs.Heads.{Header}
-use Rattle.pnm_image.specs.Images.{Image, rows_of, messages_of_image}
+-- The head of a result, tool by tool.
+use Rattle.std.proofs.Common.{◌≡◌, ◌⊎◌, inl, inr, ℕ, Bool, false, true, List, nat_lt, if◌then◌else◌, IfOk, IfErr, ◌↔◌, ◌<◌, ◌≤◌, IsTrue, All, length, Ok, Err, Result, refl, sym, ap, subst, ◌∙◌, arith}
+use Rattle.std.specs.List.{list_all}
+use Rattle.std.proofs.lemmas.Bool.Decides.{nat_tests}
+use Rattle.pnm_image.specs.declared.shape.Shape.{Shape}
+use Rattle.pnm_image.specs.declared.shape.Kind.{Kind}
+use Rattle.pnm_image.specs.declared.shape.Kind.TheVariants.{Pam}
+use Rattle.pnm_image.specs.Heads.{Header, IsWithinLimits, header_of, row_length}
 use Rattle.pnm_tools.specs.declared.fault.ToolFault.{ToolFault}
+use Rattle.pnm_tools.specs.declared.fault.ToolFault.TheVariants.{Memory, TooLarge, ChannelOutside}
+use Rattle.pnm_tools.specs.declared.cut.CutBox.{CutBox}
 use Rattle.pnm_tools.specs.declared.tool.Tool.{Tool}
-use Rattle.pnm_tools.specs.Tools.{result_head, result_sample, applied}
-use Rattle.pnm_tools.specs.Formulas.{image_by}
-use Rattle.pnm_tools.specs.RowWise.{answered_from}
+use Rattle.pnm_tools.specs.declared.tool.Tool.TheVariants.{Invert, Cut, Depth, Channel}
+use Rattle.pnm_tools.specs.Channel.{Picks, picked_head, picked_header}
+use Rattle.pnm_tools.specs.Cut.{cut_head}
+use Rattle.pnm_tools.specs.Depth.{kind_at, type_at, rescaled_head}
+use Rattle.pnm_tools.specs.Limits.{is_too_large, within_limits}
+use Rattle.pnm_tools.specs.Tools.{Takes, result_head}
+use Rattle.pnm_tools.proofs.PickLaws.{all_below}
 
-abbrev made_by : (ℕ → ℕ → ℕ → ℕ) → Result Header ToolFault → Result Image ToolFault
-made_by sample r = elim r [ Ok head ↦ Ok (image_by head sample) | Err fault ↦ Err fault ]
+pub head_of_invert : (head : Header) → result_head Invert head ≡ Ok head
+unfolding result_head
+head_of_invert head = refl
 
--- an image by its head
-pub record IsBy (r : Result Header ToolFault) (sample : ℕ → ℕ → ℕ → ℕ) (j : Image) : Type 0 where
-  pub head : r ≡ Ok j.head
-  pub whole : image_by j.head sample ≡ j
+pub head_of_cut : (box : CutBox) (head : Header) → result_head (Cut box) head ≡ cut_head box head
+unfolding result_head
+head_of_cut box head = refl
 
-by_head : (sample : ℕ → ℕ → ℕ → ℕ) (r : Result Header ToolFault) (j : Image) → made_by sample r ≡ Ok j → IsBy r sample j
-by_head sample (Ok head) j e =
-    let same : image_by head sample ≡ j = cc in
-    record { head = ap (λ (k : Image). Ok k.head) same; whole = ap (λ (k : Image). image_by k.head sample) (sym same) ∙ same }
-by_head sample (Err fault) j e = absurd cc
+pub head_of_depth : (maxval : ℕ) (head : Header) → result_head (Depth maxval) head ≡ rescaled_head maxval head
+unfolding result_head
+head_of_depth maxval head = refl
 
--- a result is of the result's head
-pub result_by_head : (tool : Tool) (i j : Image) → applied tool i ≡ Ok j → IsBy (result_head tool i.head) (result_sample tool i) j
-result_by_head tool i j e = by_head (result_sample tool i) (result_head tool i.head) j e
+pub head_of_channel : (planes : Picks) (head : Header) → result_head (Channel planes) head ≡ picked_head planes head
+unfolding result_head
+head_of_channel planes head = refl
 
--- the answer to an image by the answer to its rows
-pub answered_by_rows : (tool : Tool) (i j : Image) → applied tool i ≡ Ok j
-    → answered_from tool (Inside i.head.shape 0) (map Row (rows_of i) ++ ImageEnd ∷ []) ≡ map Row (rows_of (image_by j.head (result_sample tool i))) ++ ImageEnd ∷ []
-    → answered_from tool Between (messages_of_image i) ≡ messages_of_image j
-answered_by_rows tool i j e rows =
-    let made = result_by_head tool i j e in
-    let rest : List Message = answered_from tool (Inside i.head.shape 0) (map Row (rows_of i) ++ ImageEnd ∷ []) in
-    ap (λ (r : Result Header ToolFault). elim r [ Ok result ↦ Begin result ∷ [] | Err fault ↦ [] ] ++ rest) made.head
-    ∙ ap (λ (l : List Message). Begin j.head ∷ l) rows
-    ∙ ap messages_of_image made.whole
+-- ---- limits
+
+pub small_sizes : (s : Shape) → s.width ≤ 1000000 → s.height ≤ 1000000 → s.depth ≤ 256 → row_length s ≤ 16777216 → is_too_large s ≡ false
+small_sizes s width height depth row = grind (arith, nat_tests)
+
+-- an image's shape is within the limits of results
+pub not_too_large : (s : Shape) → IsWithinLimits s → is_too_large s ≡ false
+not_too_large s h = small_sizes s h.width_high h.height_high h.depth_high h.row_high
+
+abbrev refused_large : Result Header ToolFault
+refused_large = Err TooLarge
+
+-- a head within the limits is made
+pub small_head : (h : Header) → is_too_large h.shape ≡ false → within_limits h ≡ Ok h
+small_head h e = ap (λ (b : Bool). if b then refused_large else Ok h) e
+
+large_head : (h : Header) → is_too_large h.shape ≡ true → within_limits h ≡ Err TooLarge
+large_head h e = ap (λ (b : Bool). if b then refused_large else Ok h) e
+
+-- what making a head within the limits says of the rule of the tool
+pub head_so : (tool : Tool) (head x : Header) (r : Result Header ToolFault) → result_head tool head ≡ within_limits x → IfOk r (λ made. (made ≡ x) × (is_too_large x.shape ≡ false)) → IfOk r (λ made. result_head tool head ≡ Ok made)
+head_so tool head x (Ok made) e h = e ∙ small_head x h.1 ∙ ap (λ (y : Header). Ok y) (sym h.0)
+head_so tool head x (Err fault) e h = tt
+
+pub fault_so : (tool : Tool) (head x : Header) (r : Result Header ToolFault) → result_head tool head ≡ within_limits x
+    → IfErr r (λ fault. ((fault ≡ TooLarge) × (is_too_large x.shape ≡ true)) ⊎ ((fault ≡ Memory) × (is_too_large x.shape ≡ false)))
+    → IfErr r (λ fault. (result_head tool head ≡ Err fault) ⊎ ((fault ≡ Memory) × Takes tool head))
+fault_so tool head x (Ok made) e h = tt
+fault_so tool head x (Err fault) e (inl h) = inl (e ∙ large_head x h.1 ∙ ap (λ (k : ToolFault). Err k) (sym h.0))
+fault_so tool head x (Err fault) e (inr h) = inr (h.0, (x, e ∙ small_head x h.1))
+
+-- ---- heads that are made
+
+-- the head of a rescaled image, from its parts
+pub rescaled_head_made : (maxval : ℕ) (head : Header) (s : Shape) (kind : Kind) (t old : List ℕ) → s ≡ head.shape → kind ≡ kind_at maxval s.kind → t ≡ type_at maxval old → old ≡ head.tuple_type
+    → IsWithinLimits head.shape → result_head (Depth maxval) head ≡ within_limits (header_of (record s { kind = kind; maxval = maxval }) t)
+rescaled_head_made maxval head s kind t old shape kinds types olds sound =
+    let x : Header = header_of (record s { kind = kind; maxval = maxval }) t in
+    let whole : x ≡ header_of (record head.shape { kind = kind_at maxval head.shape.kind; maxval = maxval }) (type_at maxval head.tuple_type) =
+    ap (λ (k : Kind). header_of (record s { kind = k; maxval = maxval }) t) kinds
+    ∙ ap (λ (z : Shape). header_of (record z { kind = kind_at maxval z.kind; maxval = maxval }) t) shape
+    ∙ ap (header_of (record head.shape { kind = kind_at maxval head.shape.kind; maxval = maxval })) (types ∙ ap (type_at maxval) olds) in
+    head_of_depth maxval head ∙ ap (λ (h : Header). Ok h) (sym whole) ∙ sym (small_head x (not_too_large s (subst IsWithinLimits (sym shape) sound)))
+
+-- the head of planes, where it was seen whether all are there
+abbrev planes_by : Picks → Header → Bool → Result Header ToolFault
+planes_by planes head b = if b then within_limits (picked_header planes head) else Err ChannelOutside
+
+planes_head : (planes : Picks) (head : Header) (s : Shape) (seen : List ℕ) (b : Bool) → s ≡ head.shape → seen ≡ planes.numbers → (IsTrue b ↔ All (λ number. number < s.depth) seen) → result_head (Channel planes) head ≡ planes_by planes head b
+planes_head planes head s seen b shape same h =
+    let there : list_all (λ number. nat_lt number head.shape.depth) planes.numbers ≡ b =
+    ap (λ (z : Shape). list_all (λ number. nat_lt number z.depth) planes.numbers) (sym shape) ∙ ap (λ (l : List ℕ). list_all (λ number. nat_lt number s.depth) l) (sym same) ∙ all_below seen s.depth b h in
+    head_of_channel planes head ∙ ap (planes_by planes head) there
+
+pub planes_outside : (planes : Picks) (head : Header) (s : Shape) (seen : List ℕ) (b : Bool) → s ≡ head.shape → seen ≡ planes.numbers → (IsTrue b ↔ All (λ number. number < s.depth) seen) → b ≡ false → result_head (Channel planes) head ≡ Err ChannelOutside
+planes_outside planes head s seen b shape same h found = planes_head planes head s seen b shape same h ∙ ap (planes_by planes head) found
+
+pub planes_inside : (planes : Picks) (head : Header) (s : Shape) (seen : List ℕ) (b : Bool) (n : ℕ) (t : List ℕ) → s ≡ head.shape → seen ≡ planes.numbers → (IsTrue b ↔ All (λ number. number < s.depth) seen) → b ≡ true → n ≡ length seen → t ≡ planes.tuple_type
+    → result_head (Channel planes) head ≡ within_limits (header_of (record s { kind = Pam; depth = n }) t)
+planes_inside planes head s seen b n t shape same h found count type =
+    let whole : picked_header planes head ≡ header_of (record s { kind = Pam; depth = n }) t =
+    ap (λ (z : Shape). header_of (record z { kind = Pam; depth = length planes.numbers }) planes.tuple_type) (sym shape)
+    ∙ ap (λ (k : ℕ). header_of (record s { kind = Pam; depth = k }) planes.tuple_type) (sym (count ∙ ap length same))
+    ∙ ap (λ (l : List ℕ). header_of (record s { kind = Pam; depth = n }) l) (sym type) in
+    planes_head planes head s seen b shape same h ∙ ap (planes_by planes head) found ∙ ap within_limits whole

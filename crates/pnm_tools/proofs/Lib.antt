@@ -1,7 +1,11 @@
 pub mod FullAnswers
 pub mod FormulaLaws
 pub mod RowWiseLaws
+pub mod ImageLaws
 pub mod HeadLaws
+pub mod RowLaws
+pub mod PickLaws
+pub mod KeepLaws
 pub mod InvertLaws
 pub mod AtLaws
 pub mod InFullLaws

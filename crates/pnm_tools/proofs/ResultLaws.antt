@@ -26,7 +26,7 @@ use Rattle.pnm_tools.specs.Depth.{nearest_sample, gray_kind, gray_type}
 use Rattle.pnm_tools.specs.Channel.{Picks, IsLawfulPick, picked_header}
 use Rattle.pnm_tools.specs.Tools.{IsLawfulTool, applied, result_head, result_sample}
 use Rattle.pnm_tools.proofs.FormulaLaws.{length-row_by}
-use Rattle.pnm_tools.proofs.HeadLaws.{IsBy, result_by_head}
+use Rattle.pnm_tools.proofs.ImageLaws.{IsBy, result_by_head}
 use Rattle.pnm_tools.proofs.CutLaws.{LiesWithin, is_cut, cut_by}
 use Rattle.pnm_tools.proofs.DepthLaws.{new_head, nearest_sample_is_nearest}
 use Rattle.pnm_tools.proofs.ChannelLaws.{is_picked}

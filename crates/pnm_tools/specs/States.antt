@@ -2,6 +2,7 @@
 use Rattle.std.specs.Prelude.{◌≡◌, ◌⊎◌, ℕ, ◌+◌, Bool, true, false, List, [], ◌∷◌, ◌++◌, map, length, Option, Some, None}
 use Rattle.std.specs.List.{range_with_len}
 use Rattle.pnm_image.specs.declared.shape.Shape.{Shape}
+use Rattle.pnm_image.specs.Heads.{IsWithinLimits}
 use Rattle.pnm_image.specs.declared.message.Message.{Message}
 use Rattle.pnm_image.specs.declared.place.Place.{Place}
 use Rattle.pnm_image.specs.declared.place.Place.TheVariants.{Between, Inside, After}
@@ -33,9 +34,9 @@ tool_of (Picking planes) = Channel planes
 
 -- it is ready for the rows of an image of this shape
 abbrev pub IsReady : Work → Shape → Type 0
-IsReady (Inverting inverter) s = Unit {0}
+IsReady (Inverting inverter) s = IsWithinLimits s
 IsReady (Cutting box) s = Unit {0}
-IsReady (Rescaling rescaler) s = HasTable rescaler s
+IsReady (Rescaling rescaler) s = IsWithinLimits s × HasTable rescaler s
 IsReady (Picking planes) s = HasPlanes planes s
 
 abbrev pub IsReadyAt : {W : Type 0} → (W → Shape → Type 0) → W → Place → Type 0

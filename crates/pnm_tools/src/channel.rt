@@ -1,6 +1,6 @@
 //! `pamchannel`: planes of the image, in the order in which they are named, from pamchannel(1).
 
-ghost use Rattle.std.specs.Prelude.{◌≡◌, ◌≤◌, ◌<◌, ◌↔◌, All, IsTrue, IfOk, IfErr, length};
+ghost use Rattle.std.specs.Prelude.{◌≡◌, ◌≤◌, ◌<◌, ◌↔◌, ◌⊎◌, ◌+◌, ◌++◌, All, IsTrue, OnOk, IfOk, IfErr, Ok, Err, length, map, slice_index};
 ghost use Rattle.pnm_image.specs.Heads.{row_length};
 ghost use Rattle.pnm_tools.specs.declared.fault.ToolFault.TheVariants.{Memory};
 ghost use Rattle.pnm_tools.specs.declared.tool.Tool.TheVariants.{Channel};
@@ -41,16 +41,7 @@ impl Rows for Planes {
     ghost ready = { HasPlanes };
 
     fn begin(&mut self, alloc: Global, head: &Head) -> Result<Head, ToolFault> {
-        let shape = head.shape();
-        if !self.numbers.iter().all(|number| u32::from(*number) < shape.depth) {
-            return Err(ToolFault::ChannelOutside);
-        }
-        let picked = Shape {
-            kind: Kind::Pam,
-            depth: self.numbers.len() as u32,
-            ..shape
-        };
-        result_head(alloc, picked, self.tuple_type.as_slice())
+        self.head(alloc, head)
     }
 
     /// Makes a new row.
@@ -69,7 +60,8 @@ impl Rows for Planes {
 }
 
 impl Planes {
-    ghost use Rattle.pnm_tools.specs.Channel.{IsLawfulPick};
+    ghost use Rattle.pnm_tools.specs.Channel.{IsLawfulPick, HasPlanes};
+    ghost use Rattle.pnm_tools.specs.Tools.{Takes, result_head};
 
     /// These planes, in this order, and this tuple type.
     pub fn new(numbers: Vec<u16>, tuple_type: Vec<u8>) -> Planes
@@ -107,6 +99,26 @@ impl Planes {
         })
     }
 
+    /// The head of the picked image, or the refusal.
+    pub(crate) fn head(&self, alloc: Global, head: &Head) -> Result<Head, ToolFault>
+        requires { IsLawfulPick self.now }
+        ensures made { IfOk result (λ made. result_head (Channel self.now) head.now ≡ Ok made) }
+        ensures planes { OnOk result (HasPlanes self.now head.now.shape) }
+        ensures refused { IfErr result (λ fault. (result_head (Channel self.now) head.now ≡ Err fault)
+            ⊎ ((fault ≡ Memory) × Takes (Channel self.now) head.now)) }
+    {
+        let shape = head.shape();
+        if !are_below(self.numbers.as_slice(), shape.depth) {
+            return Err(ToolFault::ChannelOutside);
+        }
+        let picked = Shape {
+            kind: Kind::Pam,
+            depth: self.numbers.len() as u32,
+            ..shape
+        };
+        result_head(alloc, picked, self.tuple_type.as_slice())
+    }
+
     /// Whether there are 1 to 256 numbers, each 0 to 255, and the tuple type is one of PAM.
     pub(crate) fn is_lawful(&self) -> bool
         ensures { IsTrue result ↔ IsLawfulPick self.now }
@@ -118,20 +130,42 @@ impl Planes {
     }
 }
 
+/// Whether each plane lies below the depth.
+fn are_below(numbers: &[u16], depth: u32) -> bool
+    ensures { IsTrue result ↔ All (λ number. number < depth) numbers.now }
+{
+    numbers.iter().all(|number| u32::from(*number) < depth)
+}
+
 /// The samples of these planes of a row.
 fn pick(alloc: Global, numbers: &[u16], shape: Shape, row: &[u16]) -> Result<Vec<u16>, ToolFault>
     requires numbers { All (λ number. number < shape.depth) numbers.now }
     requires row { length row.now ≡ row_length shape }
-    requires limits { (shape.width ≤ 1000000) × (length numbers.now ≤ 256) }
+    requires limits { length numbers.now ≤ 256 }
     ensures picked { IfOk result (λ picked. picked.items ≡ picked_samples numbers.now shape row.now) }
     ensures refused { IfErr result (λ fault. fault ≡ Memory) }
 {
-    let depth = shape.depth as usize;
-    let mut picked = Vec::with_capacity(alloc, shape.width as usize * numbers.len())?;
-    for pixel in row.chunks_exact(depth) {
-        for number in numbers {
-            picked.push(pixel[*number as usize])?;
-        }
+    let (width, depth) = (shape.width as usize, shape.depth as usize);
+    let mut picked = Vec::with_capacity(alloc, width * numbers.len())?;
+    for x in 0..width {
+        pick_pixel(&mut picked, numbers, row, x * depth)?;
     }
     Ok(picked)
+}
+
+/// Adds the samples of these planes of the pixel whose samples begin here.
+fn pick_pixel(
+    picked: &mut Vec<u16>,
+    numbers: &[u16],
+    row: &[u16],
+    first: usize,
+) -> Result<(), ToolFault>
+    requires { All (λ number. first + number < length row.now) numbers.now }
+    ensures picked { OnOk result (picked.new.items ≡ picked.old.items ++ map (λ number. slice_index row.now (first + number)) numbers.now) }
+    ensures refused { IfErr result (λ fault. fault ≡ Memory) }
+{
+    for number in numbers {
+        picked.push(row[first + *number as usize])?;
+    }
+    Ok(())
 }

@@ -1,10 +1,12 @@
 //! `pamdepth`: the image with another maxval, from pamdepth(1).
 
-ghost use Rattle.std.specs.Prelude.{◌≡◌, ◌≤◌, ◌+◌, All, map, ℕ, length, OnOk, IfOk, IfErr};
+ghost use Rattle.std.specs.Prelude.{◌≡◌, ◌≤◌, ◌+◌, All, map, ℕ, length, OnOk, IfOk, IfErr, Ok, Err, ◌⊎◌};
 ghost use Rattle.std.specs.List.{range_with_len};
+ghost use Rattle.pnm_image.specs.Heads.{IsWithinLimits};
 ghost use Rattle.pnm_tools.specs.declared.fault.ToolFault.TheVariants.{Memory};
 ghost use Rattle.pnm_tools.specs.declared.tool.Tool.TheVariants.{Depth};
 ghost use Rattle.pnm_tools.specs.Depth.{nearest_sample, kind_at, type_at};
+ghost use Rattle.pnm_tools.specs.Tools.{Takes, result_head};
 
 use crate::fault::ToolFault;
 use crate::rows::{Rows, result_head};
@@ -26,22 +28,17 @@ impl Rows for Rescaler {
 
     ghost tool = { λ r. Depth r.maxval };
 
-    ghost ready = { HasTable };
+    ghost ready = { λ r s. IsWithinLimits s × HasTable r s };
 
     fn begin(&mut self, alloc: Global, head: &Head) -> Result<Head, ToolFault> {
+        let rescaled = head_at(alloc, self.maxval, head)?;
         let shape = head.shape();
-        let rescaled = Shape {
-            kind: kind_at(self.maxval, shape.kind),
-            maxval: self.maxval,
-            ..shape
-        };
-        let head = result_head(alloc, rescaled, type_at(self.maxval, head.tuple_type()))?;
         self.table = if is_worth_a_table(shape) {
             table_of(alloc, self.maxval, shape.maxval)?
         } else {
             Vec::new(alloc)
         };
-        Ok(head)
+        Ok(rescaled)
     }
 
     /// Changes the row in place.
@@ -61,6 +58,22 @@ impl Rows for Rescaler {
         }
         Ok(Some(Samples::new(samples)))
     }
+}
+
+/// The head of the rescaled image, or the refusal.
+pub(crate) fn head_at(alloc: Global, maxval: u32, head: &Head) -> Result<Head, ToolFault>
+    requires { (1 ≤ maxval) × (maxval ≤ 65535) }
+    ensures made { IfOk result (λ made. result_head (Depth maxval) head.now ≡ Ok made) }
+    ensures refused { IfErr result (λ fault. (result_head (Depth maxval) head.now ≡ Err fault)
+        ⊎ ((fault ≡ Memory) × Takes (Depth maxval) head.now)) }
+{
+    let shape = head.shape();
+    let rescaled = Shape {
+        kind: kind_at(maxval, shape.kind),
+        maxval,
+        ..shape
+    };
+    result_head(alloc, rescaled, type_at(maxval, head.tuple_type()))
 }
 
 /// Takes each sample from the table.
@@ -110,7 +123,9 @@ fn table_of(alloc: Global, new: u32, old: u32) -> Result<Vec<u16>, ToolFault>
 
 /// A table costs a division for each sample up to the maxval; without it each sample of the image
 /// costs one.
-fn is_worth_a_table(shape: Shape) -> bool {
+fn is_worth_a_table(shape: Shape) -> bool
+    requires { IsWithinLimits shape }
+{
     shape.row_length() * u64::from(shape.height) > u64::from(shape.maxval)
 }
 

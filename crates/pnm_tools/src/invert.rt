@@ -13,9 +13,11 @@ use std::alloc::Global;
 pub struct Inverter;
 
 impl Rows for Inverter {
+    ghost use Rattle.pnm_image.specs.Heads.{IsWithinLimits};
+
     ghost tool = { λ _. Invert };
 
-    ghost ready = { λ _ _. Unit {0} };
+    ghost ready = { λ _ s. IsWithinLimits s };
 
     fn begin(&mut self, _alloc: Global, head: &Head) -> Result<Head, ToolFault> {
         match head.copy() {

@@ -35,7 +35,13 @@ pub trait Rows {
 
     /// The row of the result that row `y` of an image of this shape makes, if it makes one. The only
     /// fault is `Memory`.
-    fn row(&self, alloc: Global, shape: Shape, y: u32, row: Samples) -> Result<Option<Samples>, ToolFault>
+    fn row(
+        &self,
+        alloc: Global,
+        shape: Shape,
+        y: u32,
+        row: Samples,
+    ) -> Result<Option<Samples>, ToolFault>
         requires lawful { IsLawfulTool (tool self.now) }
         requires ready { ready self.now shape }
         requires row { (y < shape.height) × IsRowOf shape row }

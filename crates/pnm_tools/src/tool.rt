@@ -7,7 +7,7 @@ ghost use Rattle.pnm_tools.specs.Tools.{IsLawfulTool, Takes, is_row_wise, result
 
 use crate::channel::Planes;
 use crate::cut::CutBox;
-use crate::depth::Rescaler;
+use crate::depth::{Rescaler, head_at};
 use crate::fault::ToolFault;
 use crate::invert::Inverter;
 use crate::rows::Rows;
@@ -83,7 +83,15 @@ impl Tool {
         ensures refused { IfErr result (λ fault. (result_head self.now head.now ≡ Err fault)
             ⊎ ((fault ≡ Memory) × Takes self.now head.now)) }
     {
-        self.work(alloc)?.begin(alloc, head)
+        match self {
+            Tool::Invert => Inverter.begin(alloc, head),
+            Tool::Cut(cut) => {
+                let mut cut = *cut;
+                cut.begin(alloc, head)
+            }
+            Tool::Depth(maxval) => head_at(alloc, *maxval, head),
+            Tool::Channel(planes) => planes.head(alloc, head),
+        }
     }
 
     /// The tool at work, before the first message. The only fault is `Memory`.

@@ -1,5 +1,4 @@
 use Rattle.std.proofs.Common.{◌≡◌, ◌++◌, ◌-◌, map, take, drop}
-
 use Rattle.pnm_tools.proofs.invert.invert.Given as goal
 
 -- the samples that have passed are inverted

@@ -1,0 +1,158 @@
+-- The columns and rows that are kept.
+use Rattle.std.proofs.Common.{◌≡◌, ◌⊎◌, inl, inr, ℕ, ◌+◌, ◌-◌, ◌*◌, ◌≤◌, ◌<◌, ℤ, pos, negsuc, Bool, true, false, nat_le, nat_lt, ◌&&◌, if◌then◌else◌, Option, Some, None, Result, Ok, Err, ◌==◌, List, [], ◌∷◌, ◌++◌, mul-le-mul, length, take, drop, refl, sym, ap, ◌∙◌, subst, arith, length-take-le, length-drop}
+use Rattle.std.specs.List.{copy_within}
+use Rattle.std.proofs.Math.Seq.{paste}
+use Rattle.std.proofs.lemmas.Bool.{leb-true, ltb-true, le-leb, lt-leb, ne_eqb}
+use Rattle.std.proofs.lemmas.List.{drop-take, take_all}
+use Rattle.std.proofs.lemmas.List.Edits.{take-paste}
+use Rattle.pnm_image.specs.declared.shape.Shape.{Shape}
+use Rattle.pnm_image.specs.Heads.{Header, IsWithinLimits, row_length, header_of}
+use Rattle.pnm_tools.specs.declared.cut.CutBox.{CutBox}
+use Rattle.pnm_tools.specs.declared.cut.Span.{Span}
+use Rattle.pnm_tools.specs.declared.fault.ToolFault.{ToolFault}
+use Rattle.pnm_tools.specs.declared.fault.ToolFault.TheVariants.{OutOfOrder}
+use Rattle.pnm_tools.specs.declared.tool.Tool.TheVariants.{Cut}
+use Rattle.pnm_tools.specs.Cut.{KeepsWithin, columns_of_row, first_kept, last_kept, span_within, columns_kept, rows_kept, rows_of_spans, head_of_spans, span_count}
+use Rattle.pnm_tools.specs.Limits.{is_too_large, within_limits}
+use Rattle.pnm_tools.specs.Tools.{result_head, row_answer}
+use Rattle.pnm_tools.proofs.HeadLaws.{head_of_cut, small_sizes, small_head}
+use Rattle.pnm_tools.proofs.RowLaws.{row_of_cut}
+
+-- the samples before what is kept, and those that are kept
+both_parts : (first last depth : ℕ) → first ≤ last → (last + 1) * depth ≡ first * depth + ((last + 1) - first) * depth
+both_parts first last depth le =
+    let count : ℕ = (last + 1) - first in
+    let e : last + 1 ≡ first + count = omega arith in
+    ap (λ (n : ℕ). n * depth) e ∙ omega arith
+
+-- what is left of the front behind its first samples
+pub rest_is_kept : (columns : Span) (depth : ℕ) (row : List ℕ) → KeepsWithin columns depth row → drop (columns.first * depth) (take ((columns.last + 1) * depth) row) ≡ columns_of_row columns depth row
+rest_is_kept columns depth row h =
+    ap (λ (n : ℕ). drop (columns.first * depth) (take n row)) (both_parts columns.first columns.last depth h.0) ∙ drop-take (columns.first * depth) (((columns.last + 1) - columns.first) * depth) row
+
+-- the rest of a list, moved to its front
+moved : (xs : List ℕ) (f m : ℕ) → length xs ≡ m → f ≤ m → take (m - f) (copy_within xs f m 0) ≡ drop f xs
+moved xs f m long le =
+    let n : ℕ = m - f in
+    let size : length (drop f xs) ≡ n = omega (arith, length-drop f xs) in
+    let on : n ≡ 0 + n = omega arith in
+    ap (λ (k : ℕ). take k (paste xs 0 (drop f xs) n)) on ∙ take-paste xs 0 (drop f xs) n (omega arith) (omega arith) ∙ take_all n (drop f xs) (omega arith)
+
+-- the front is cut off, and what is kept moved there
+pub kept_in_place : (columns : Span) (depth : ℕ) (row front copied new : List ℕ) (count : ℕ) → KeepsWithin columns depth row → front ≡ take ((columns.last + 1) * depth) row → count ≡ length front
+    → copied ≡ copy_within front (columns.first * depth) count 0 → new ≡ take (count - columns.first * depth) copied → new ≡ columns_of_row columns depth row
+kept_in_place columns depth row front copied new count h fronts counted copy end =
+    let f : ℕ = columns.first * depth in
+    let within : f ≤ (columns.last + 1) * depth = omega (arith, both_parts columns.first columns.last depth h.0) in
+    let long : length front ≡ (columns.last + 1) * depth = ap length fronts ∙ length-take-le ((columns.last + 1) * depth) row h.1 in
+    end ∙ ap (take (count - f)) copy ∙ moved front f count (sym counted) (omega arith) ∙ ap (drop f) fronts ∙ rest_is_kept columns depth row h
+
+-- where nothing lies before what is kept
+pub kept_at_front : (columns : Span) (depth : ℕ) (row new : List ℕ) → KeepsWithin columns depth row → new ≡ take ((columns.last + 1) * depth) row → columns.first * depth ≤ 0 → new ≡ columns_of_row columns depth row
+kept_at_front columns depth row new h is none =
+    let zero_first : 0 ≡ columns.first * depth = omega arith in
+    is ∙ ap (λ (n : ℕ). drop n (take ((columns.last + 1) * depth) row)) zero_first ∙ rest_is_kept columns depth row h
+
+-- ---- spans
+
+both_true : (a b : Bool) → (a && b) ≡ true → (a ≡ true) × (b ≡ true)
+both_true true true e = (refl, refl)
+both_true true false e = absurd cc
+both_true false b e = absurd cc
+
+not_both : (a : Bool) → (a && false) ≡ false
+not_both true = refl
+not_both false = refl
+
+span_if : (first last count : ℕ) (b : Bool) (span : Span) → (nat_le first last && nat_lt last count) ≡ b → Some span ≡ (if b then Some (record { first = first; last = last }) else None) → (span.first ≤ span.last) × (span.last < count)
+span_if first last count true span t e =
+    let same : span ≡ record { first = first; last = last } = cc in
+    let both = both_true (nat_le first last) (nat_lt last count) t in
+    let low : first ≤ last = leb-true first last both.0 in
+    let high : last < count = ltb-true last count both.1 in
+    let a : span.first ≡ first = ap (λ (z : Span). z.first) same in
+    let b : span.last ≡ last = ap (λ (z : Span). z.last) same in
+    (omega arith, omega arith)
+span_if first last count false span t e = absurd cc
+
+-- a span lies among the columns or rows
+pub span_lies : (count : ℕ) (first last : ℤ) (span : Span) → Some span ≡ span_within count first last → (span.first ≤ span.last) × (span.last < count)
+span_lies count (pos first) (pos last) span e = span_if first last count (nat_le first last && nat_lt last count) span refl e
+span_lies count (pos first) (negsuc last) span e = absurd cc
+span_lies count (negsuc first) last span e = absurd cc
+
+pub columns_lie : (box : CutBox) (s : Shape) (span : Span) → Some span ≡ columns_kept box s → (span.first ≤ span.last) × (span.last < s.width)
+columns_lie box s span e = span_lies s.width (first_kept s.width box.left box.right box.width) (last_kept s.width box.left box.right box.width) span e
+
+pub rows_lie : (box : CutBox) (s : Shape) (span : Span) → Some span ≡ rows_kept box s → (span.first ≤ span.last) × (span.last < s.height)
+rows_lie box s span e = span_lies s.height (first_kept s.height box.top box.bottom box.height) (last_kept s.height box.top box.bottom box.height) span e
+
+-- ---- rows
+
+pub cut_row_by : (box : CutBox) (s : Shape) (y : ℕ) (row : List ℕ) (a b : Option Span) → a ≡ columns_kept box s → b ≡ rows_kept box s → row_answer (Cut box) s y row ≡ rows_of_spans a b s.depth y row
+cut_row_by box s y row a b columns rows =
+    row_of_cut box s y row ∙ ap (λ (x : Option Span). rows_of_spans x (rows_kept box s) s.depth y row) (sym columns) ∙ ap (λ (x : Option Span). rows_of_spans a x s.depth y row) (sym rows)
+
+-- a row before the first that is kept, or after the last
+pub row_outside : (columns rows : Span) (depth y : ℕ) (row : List ℕ) → (y < rows.first) ⊎ ((rows.first ≤ y) × (rows.last < y)) → rows_of_spans (Some columns) (Some rows) depth y row ≡ []
+row_outside columns rows depth y row (inl h) =
+    ap (λ (b : Bool). if b && nat_le y rows.last then columns_of_row columns depth row ∷ [] else []) (lt-leb rows.first y h)
+row_outside columns rows depth y row (inr h) =
+    ap (λ (b : Bool). if nat_le rows.first y && b then columns_of_row columns depth row ∷ [] else []) (lt-leb y rows.last h.1)
+    ∙ ap (λ (b : Bool). if b then columns_of_row columns depth row ∷ [] else []) (not_both (nat_le rows.first y))
+
+-- a row that is kept
+pub row_inside : (columns rows : Span) (depth y : ℕ) (row : List ℕ) → rows.first ≤ y → y ≤ rows.last → rows_of_spans (Some columns) (Some rows) depth y row ≡ columns_of_row columns depth row ∷ []
+row_inside columns rows depth y row low high =
+    ap (λ (b : Bool). if b && nat_le y rows.last then columns_of_row columns depth row ∷ [] else []) (le-leb rows.first y low)
+    ∙ ap (λ (b : Bool). if b then columns_of_row columns depth row ∷ [] else []) (le-leb y rows.last high)
+
+-- the columns that are kept lie in each row
+pub keeps_within : (box : CutBox) (s : Shape) (span : Span) (row samples : List ℕ) → Some span ≡ columns_kept box s → samples ≡ row → length row ≡ row_length s → KeepsWithin span s.depth samples
+keeps_within box s span row samples e same count =
+    let lies = columns_lie box s span e in
+    let below : (span.last + 1) * s.depth ≤ s.width * s.depth = mul-le-mul {n₁ = span.last + 1} {m₁ = s.depth} {n₂ = s.width} {m₂ = s.depth} (omega (arith, lies.1)) (omega arith) in
+    (lies.0, omega (arith, below, count, ap length same))
+
+-- ---- heads
+
+-- an image without rows
+pub cut_without_rows : (box : CutBox) (head : Header) → head.shape.height ≡ 0 → result_head (Cut box) head ≡ Err OutOfOrder
+cut_without_rows box head e = head_of_cut box head ∙ ap (λ (n : ℕ). if n == 0 then Err OutOfOrder else head_of_spans head (columns_kept box head.shape) (rows_kept box head.shape)) e
+
+-- an image that has rows, by the spans that were found
+abbrev cut_by : Header → Option Span → Option Span → Bool → Result Header ToolFault
+cut_by head columns rows b = if b then Err OutOfOrder else head_of_spans head columns rows
+
+pub cut_head_by : (box : CutBox) (head : Header) (s : Shape) (columns rows : Option Span) → s ≡ head.shape → (s.height ≡ 0 → ⊥) → columns ≡ columns_kept box s → rows ≡ rows_kept box s → result_head (Cut box) head ≡ head_of_spans head columns rows
+cut_head_by box head s columns rows same some a b =
+    let height : (head.shape.height == 0) ≡ false = ne_eqb head.shape.height 0 (λ e. some (ap (λ (z : Shape). z.height) same ∙ e)) in
+    head_of_cut box head
+    ∙ ap (cut_by head (columns_kept box head.shape) (rows_kept box head.shape)) height
+    ∙ ap (λ (z : Shape). head_of_spans head (columns_kept box z) (rows_kept box z)) (sym same)
+    ∙ ap (λ (x : Option Span). head_of_spans head x (rows_kept box s)) (sym a) ∙ ap (head_of_spans head columns) (sym b)
+
+-- what is kept is within the limits
+pub cut_is_small : (s : Shape) (width height : ℕ) → IsWithinLimits s → width ≤ s.width → height ≤ s.height → is_too_large (record s { width = width; height = height }) ≡ false
+cut_is_small s width height h w y =
+    let below : width * s.depth ≤ s.width * s.depth = mul-le-mul {n₁ = width} {m₁ = s.depth} {n₂ = s.width} {m₂ = s.depth} w (omega arith) in
+    let row : width * s.depth ≤ 16777216 = omega (arith, below, h.row_high) in
+    small_sizes (record s { width = width; height = height }) (omega (arith, h.width_high)) (omega (arith, h.height_high)) h.depth_high row
+
+pub cut_head_made : (box : CutBox) (head : Header) (s : Shape) (columns rows : Span) (width height : ℕ) (t : List ℕ) → s ≡ head.shape → IsWithinLimits head.shape → (s.height ≡ 0 → ⊥) → Some columns ≡ columns_kept box s → Some rows ≡ rows_kept box s
+    → width ≡ span_count columns → height ≡ span_count rows → t ≡ head.tuple_type → result_head (Cut box) head ≡ within_limits (header_of (record s { width = width; height = height }) t)
+cut_head_made box head s columns rows width height t same sound some a b wide high type =
+    let x : Header = header_of (record s { width = width; height = height }) t in
+    let whole : record head { shape = record head.shape { width = span_count columns; height = span_count rows } } ≡ x =
+    ap (λ (z : Shape). header_of (record z { width = span_count columns; height = span_count rows }) head.tuple_type) (sym same)
+    ∙ ap (λ (n : ℕ). header_of (record s { width = n; height = span_count rows }) head.tuple_type) (sym wide)
+    ∙ ap (λ (n : ℕ). header_of (record s { width = width; height = n }) head.tuple_type) (sym high)
+    ∙ ap (header_of (record s { width = width; height = height })) (sym type) in
+    let left = columns_lie box s columns a in
+    let top = rows_lie box s rows b in
+    let small = cut_is_small s width height (subst IsWithinLimits (sym same) sound) (omega (arith, wide, left.0, left.1)) (omega (arith, high, top.0, top.1)) in
+    cut_head_by box head s (Some columns) (Some rows) same some a b ∙ ap (λ (h : Header). Ok h) whole ∙ sym (small_head x small)
+
+-- an axis that is within the limits: how `Span` counts, and that something is kept
+pub counts_within : (columns : Span) (count most : ℕ) → (columns.first ≤ columns.last) × (columns.last < count) → count ≤ most → (columns.first ≤ columns.last) × (columns.last < most)
+counts_within columns count most lies le = (lies.0, omega (arith, lies.1))

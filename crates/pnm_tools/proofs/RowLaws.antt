@@ -1,0 +1,55 @@
+-- The rows that answer a row, tool by tool.
+use Rattle.std.proofs.Common.{◌≡◌, ℕ, ◌+◌, ◌<◌, ◌≤◌, List, [], ◌∷◌, ◌++◌, map, length, take, drop, get_or, All, refl, sym, ap, subst, ◌∙◌, arith}
+use Rattle.std.specs.List.{range_with_len}
+use Rattle.std.proofs.lemmas.List.{take_at, length-map, length-take, drop_more, get_or_at}
+use Rattle.std.proofs.lemmas.List.Elements.{All-get_or}
+use Rattle.std.proofs.lemmas.List.FromFn.{get_or-map-range_with_len, length-map-range_with_len}
+use Rattle.pnm_image.specs.declared.shape.Shape.{Shape}
+use Rattle.pnm_tools.specs.declared.cut.CutBox.{CutBox}
+use Rattle.pnm_tools.specs.declared.tool.Tool.TheVariants.{Invert, Cut, Depth, Channel}
+use Rattle.pnm_tools.specs.Channel.{Picks, picked_row}
+use Rattle.pnm_tools.specs.Cut.{cut_rows_of}
+use Rattle.pnm_tools.specs.Depth.{rescaled_row}
+use Rattle.pnm_tools.specs.Invert.{inverted_row}
+use Rattle.pnm_tools.specs.Tools.{row_answer}
+
+pub row_of_invert : (s : Shape) (y : ℕ) (row : List ℕ) → row_answer Invert s y row ≡ inverted_row s row ∷ []
+unfolding row_answer
+row_of_invert s y row = refl
+
+pub row_of_cut : (box : CutBox) (s : Shape) (y : ℕ) (row : List ℕ) → row_answer (Cut box) s y row ≡ cut_rows_of box s y row
+unfolding row_answer
+row_of_cut box s y row = refl
+
+pub row_of_depth : (maxval : ℕ) (s : Shape) (y : ℕ) (row : List ℕ) → row_answer (Depth maxval) s y row ≡ rescaled_row maxval s row ∷ []
+unfolding row_answer
+row_of_depth maxval s y row = refl
+
+pub row_of_channel : (planes : Picks) (s : Shape) (y : ℕ) (row : List ℕ) → row_answer (Channel planes) s y row ≡ picked_row planes s row ∷ []
+unfolding row_answer
+row_of_channel planes s y row = refl
+
+-- a row that is changed in place, sample by sample
+pub changed_in_place : (g : ℕ → ℕ) (row items lent new : List ℕ) (len : ℕ) → new ≡ map g lent → lent ≡ items → items ≡ row → len ≡ length items → take len (new ++ drop (length new) items) ≡ map g row
+changed_in_place g row items lent new len made same given count =
+    let is : new ≡ map g row = made ∙ ap (map g) (same ∙ given) in
+    let size : length new ≡ len = ap length is ∙ length-map row g ∙ sym (ap length given) ∙ sym count in
+    take_at new (drop (length new) items) len size ∙ is
+
+-- in such a loop the sample that is read is the row's
+pub sample_read : (f : ℕ → ℕ) (xs ys : List ℕ) (i x : ℕ) → i < length xs → ys ≡ map f (take i xs) ++ drop i xs → get_or ys i x ≡ get_or xs i x
+sample_read f xs ys i x lt h =
+    let front : List ℕ = map f (take i xs) in
+    let long : length front ≡ i = length-map (take i xs) f ∙ omega (arith, length-take i xs) in
+    ap (λ (l : List ℕ). get_or l i x) (h ∙ ap (λ (l : List ℕ). front ++ l) (drop_more xs i x lt)) ∙ get_or_at front (get_or xs i x) (drop (i + 1) xs) x i long
+
+-- and it is what holds of all of the row
+pub read_holds : (P : ℕ → Type 0) (f : ℕ → ℕ) (xs ys : List ℕ) (i : ℕ) → i < length xs → ys ≡ map f (take i xs) ++ drop i xs → All P xs → P (get_or ys i 0)
+read_holds P f xs ys i lt h all = subst P (sym (sample_read f xs ys i 0 lt h)) (All-get_or P xs i 0 lt all)
+
+-- in a list of the values at 0 to n the value at s
+pub at_of_values : (f : ℕ → ℕ) (table : List ℕ) (n s : ℕ) → table ≡ map f (range_with_len 0 (n + 1)) → s ≤ n → get_or table s 0 ≡ f s
+at_of_values f table n s is le = ap (λ (l : List ℕ). get_or l s 0) is ∙ get_or-map-range_with_len f 0 (n + 1) s s 0 (omega arith) (omega arith)
+
+pub within_values : (f : ℕ → ℕ) (table : List ℕ) (n s : ℕ) → table ≡ map f (range_with_len 0 (n + 1)) → s ≤ n → s < length table
+within_values f table n s is le = omega (arith, ap length is, length-map-range_with_len f 0 (n + 1))
