@@ -75,11 +75,11 @@ not_stopped s read given fault h stopped outside =
 -- ---- what holds of each message that is said
 
 -- a claim of messages that holds of each head that is read, and of each message that isn't a head
-record HoldsOfRead (Claim : Message → Type 0) : Type 0 where
-  head : (is_first : Bool) (text : List ℕ) (found : Format × List ℕ) (head : Header × List ℕ) → format_at is_first text ≡ Ok found → head_at found.0 found.1 ≡ Ok head → Claim (Begin head.0)
-  row : (row : List ℕ) → Claim (Row row)
-  image_end : Claim ImageEnd
-  stream_end : Claim StreamEnd
+pub record HoldsOfRead (Claim : Message → Type 0) : Type 0 where
+  pub head : (is_first : Bool) (text : List ℕ) (found : Format × List ℕ) (head : Header × List ℕ) → format_at is_first text ≡ Ok found → head_at found.0 found.1 ≡ Ok head → Claim (Begin head.0)
+  pub row : (row : List ℕ) → Claim (Row row)
+  pub image_end : Claim ImageEnd
+  pub stream_end : Claim StreamEnd
 
 -- the claim holds of what is said after a raw image
 abbrev HoldsOf : (Message → Type 0) → (List ℕ → Said) → Type 0
@@ -125,7 +125,7 @@ holds_of_later : (Claim : Message → Type 0) (h : HoldsOfRead Claim) → HoldsO
 unfolding later_said
 holds_of_later Claim h text = holds_of_later_in Claim h (length text) text
 
-holds_of_said : (Claim : Message → Type 0) (h : HoldsOfRead Claim) (text : List ℕ) → AllByRecursion Claim (said_of text)
+pub holds_of_said : (Claim : Message → Type 0) (h : HoldsOfRead Claim) (text : List ℕ) → AllByRecursion Claim (said_of text)
 unfolding said
 holds_of_said Claim h text = holds_of_image Claim h later_said true text (holds_of_later Claim h)
 
@@ -139,7 +139,7 @@ BeginsRows ImageEnd = Unit {0}
 BeginsRows StreamEnd = Unit {0}
 BeginsRows Stop = Unit {0}
 
-read_head_has_rows : (is_first : Bool) (text : List ℕ) (found : Format × List ℕ) (head : Header × List ℕ) → format_at is_first text ≡ Ok found → head_at found.0 found.1 ≡ Ok head → 0 < head.0.shape.height
+pub read_head_has_rows : (is_first : Bool) (text : List ℕ) (found : Format × List ℕ) (head : Header × List ℕ) → format_at is_first text ≡ Ok found → head_at found.0 found.1 ≡ Ok head → 0 < head.0.shape.height
 read_head_has_rows is_first text found head e h =
     let s = read_header_is_spelled is_first text found.1 head.1 found.0 head.0 e h in
     (spelled_head s.0 found.0 head.0 s.2).rows

@@ -22,7 +22,7 @@ use Rattle.pnm_tools.proofs.FrontLaws.{nothing_changes, front_by_results}
 use Rattle.pnm_tools.proofs.RefusalLaws.{results_are_images, results_are, same_in_turn, results_in_turn, refusal_by, refused_next}
 
 -- a front of sound messages, and the messages of images that have rows, are sound
-sound_front : (a b : List Message) → AreSound (a ++ b) → AreSound a
+pub sound_front : (a b : List Message) → AreSound (a ++ b) → AreSound a
 sound_front a b h = record { lawful = lawful_front Between a b h.lawful; messages = all_of_front IsMessage a b h.messages; sound = all_of_front IsSound a b h.sound }
 
 stream_sound : (is : List Image) → AreImages is → AllByRecursion HasRows is → AreSound (messages_of_stream is)

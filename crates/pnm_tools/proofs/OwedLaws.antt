@@ -123,7 +123,7 @@ of_image tool i is (StreamEnd ∷ f) rest answers image others none (inl h) = le
 of_image tool i is (Stop ∷ f) rest answers image others none (inl h) = let e = h.1 in absurd cc
 
 -- nothing is owed before the first message
-nothing_yet : (tool : Tool) (is : List Image) → IsOwedFront tool is []
+pub nothing_yet : (tool : Tool) (is : List Image) → IsOwedFront tool is []
 nothing_yet tool [] = ([], ap (λ (x : List Message). x ++ []) (sym (owes_nothing tool 0 false)))
 nothing_yet tool (i ∷ is) = ([], ap (λ (x : List Message). x ++ []) (sym (owes_none tool i is)))
 

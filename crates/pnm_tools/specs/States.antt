@@ -80,3 +80,9 @@ pub record IsAt {W : Type 0} (tool_at : W → Tool) (ready_for : W → Shape →
   pub place : s.place ≡ place_of Between l
   pub ready : IsReadyAt ready_for s.work s.place
   pub answers : Answers t l g
+
+-- the state of this tool before the first message
+pub record IsFresh {W : Type 0} (tool_at : W → Tool) (ready_for : W → Shape → Type 0) (s : Standing W) (t : Tool) : Type 0 where
+  pub state : IsAt tool_at ready_for s t [] []
+  pub told : is_all_given s.pending ≡ true
+  pub going : s.fault ≡ None

@@ -2,7 +2,7 @@
 
 ghost use Rattle.std.specs.Prelude.{◌≡◌, ◌↔◌, ◌⊎◌, IsTrue, true, None, [], IfOk, IfErr, Ok, Err};
 ghost use Rattle.pnm_tools.specs.declared.fault.ToolFault.TheVariants.{Memory};
-ghost use Rattle.pnm_tools.specs.States.{IsAt, IsReady, is_all_given, tool_of};
+ghost use Rattle.pnm_tools.specs.States.{IsFresh, IsReady, tool_of};
 ghost use Rattle.pnm_tools.specs.Tools.{IsLawfulTool, Takes, is_row_wise, result_head};
 
 use crate::channel::Planes;
@@ -97,7 +97,7 @@ impl Tool {
     /// The tool at work, before the first message. The only fault is `Memory`.
     pub fn start(&self, alloc: Global) -> Result<ToolState, ToolFault>
         requires { IsLawfulTool self.now }
-        ensures started { IfOk result (λ state. IsAt tool_of IsReady state self.now [] [] × (is_all_given state.pending ≡ true) × (state.fault ≡ None)) }
+        ensures started { IfOk result (λ state. IsFresh tool_of IsReady state self.now) }
         ensures refused { IfErr result (λ fault. fault ≡ Memory) }
     {
         Ok(State::new(alloc, self.work(alloc)?))

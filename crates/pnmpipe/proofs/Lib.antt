@@ -1,6 +1,7 @@
-pub mod DownstreamSteps
-pub mod EncodingLaws
 pub mod MessageSteps
+pub mod DownstreamSteps
+pub mod StageSteps
+pub mod FaultSteps
 pub mod PassingSteps
-pub mod RunSteps
 pub mod TwoWords
+pub mod ToolSteps

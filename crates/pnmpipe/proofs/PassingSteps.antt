@@ -1,6 +1,7 @@
 -- The messages that have passed from the source to the sink of a run, one after another.
 use Rattle.std.proofs.Common.{◌≡◌, ◌⊎◌, ℕ, ◌+◌, ◌-◌, ◌^◌, ◌≤◌, Bool, List, [], ◌∷◌, ◌++◌, length, Option, Some, None, Result, Ok, Err, refl, sym, ap, subst, ◌∙◌, arith, inl, inr}
 use Rattle.std.specs.Io.KnownBytes.{Consumes}
+use Rattle.std.specs.List.{AllByRecursion}
 use Rattle.std.proofs.lemmas.List.{append-nil, length-append}
 use Rattle.pnm_image.specs.Devices.{Failed}
 use Rattle.pnm_image.specs.declared.message.Message.{Message}
@@ -11,9 +12,12 @@ use Rattle.pnm_read.specs.declared.source.Source.{Source}
 use Rattle.pnm_read.specs.Said.{said_of}
 use Rattle.pnm_read.specs.Sources.{reader_of, stopped_by, MayGive, SeesEnd, HasGiven, Tells, IsFresh as IsUnread}
 use Rattle.pnm_read.proofs.Gathered.{consumes_nothing, consumes_then}
-use Rattle.pnm_read.proofs.StreamLaws.{rest_may_come, nothing_may_come, given_is_front, not_stopped}
+use Rattle.pnm_read.proofs.SaidLaws.{said_is_lawful}
+use Rattle.pnm_read.proofs.StreamLaws.{holds_of_said, read_head_has_rows, rest_may_come, nothing_may_come, given_is_front, not_stopped, said_are_messages}
 use Rattle.pnm_tools.specs.declared.fault.ToolFault.{ToolFault}
 use Rattle.pnm_tools.specs.declared.tool.Tool.{Tool}
+use Rattle.pnm_tools.specs.Stages.{IsSound, AreSound}
+use Rattle.pnm_tools.proofs.ChainLaws.{sound_front}
 use Rattle.pnmpipe.specs.declared.downstream.Downstream.{Downstream}
 use Rattle.pnmpipe.specs.declared.stage.Stage.{Stage}
 use Rattle.pnmpipe.specs.Stages.{Passes}
@@ -24,6 +28,18 @@ rest_of : (old new : Option (List ℕ)) (read text : List ℕ) → Consumes old 
 rest_of None new read text c e = absurd cc
 rest_of (Some xs) None read text c e = absurd c
 rest_of (Some xs) (Some ys) read text c e = (ys, refl, cc)
+
+-- what is said of a text, and a front of it, are messages of images that have rows
+said_is_sound : (text : List ℕ) → AllByRecursion IsSound (said_of text)
+said_is_sound text = holds_of_said IsSound (record { head = read_head_has_rows; row = λ row. tt; image_end = tt; stream_end = tt }) text
+
+pub said_are_sound : (text : List ℕ) → AreSound (said_of text)
+said_are_sound text = record { lawful = said_is_lawful text; messages = said_are_messages text; sound = said_is_sound text }
+
+given_is_sound : {R : Type 0} (s : Source R) (read : List ℕ) (given : List Message) → HasGiven s read given → AreSound given
+given_is_sound s read given h =
+    let front = given_is_front s read given [] h (nothing_may_come s) in
+    sound_front given front.0 (subst AreSound front.1 (said_are_sound (read ++ [])))
 
 -- so many messages have passed, and no fault of the input has come
 pub record Going {R F W : Type 0} (left : R → Option (List ℕ)) (reader_failures : R → ℕ) (at : F → Tool → List Message → List Message → Type 0) (all_given : F → Bool) (stopped : F → Option ToolFault) (held : W → Option (List ℕ)) (writer_failures : W → ℕ) (first source : Source R) (old new : List (Stage F)) (start now : Downstream W) (count : ℕ) : Type 0 where
@@ -92,6 +108,7 @@ pub passed_all : {R F W : Type 0} (left : R → Option (List ℕ)) (reader_failu
     → HasPassed left reader_failures at all_given stopped held writer_failures first next (Ok tt) old new start now
 passed_all left reader_failures at all_given stopped held writer_failures first source next old new start now count going t end sound = record {
   given = going.given;
+  sound = given_is_sound source going.read going.given going.told;
   told = λ text is.
       let whole = whole_text left first source next (Ok None) going.read t.more text going.consumed t.consumed (end going.end) is in
       subst (λ (l : List ℕ). IsSaidOf l going.given (Ok tt)) (sym whole.2) ((t.told going.read going.given going.told).1 whole.0 whole.1);
@@ -114,6 +131,7 @@ pub passed_until : {R F W : Type 0} (left : R → Option (List ℕ)) (reader_fai
     → HasPassed left reader_failures at all_given stopped held writer_failures first next (Err fault) old new start now
 passed_until left reader_failures at all_given stopped held writer_failures first source next old new start now count fault going t end failed = record {
   given = going.given;
+  sound = given_is_sound source going.read going.given going.told;
   told = λ text is.
       let whole = whole_text left first source next (Err fault) going.read t.more text going.consumed t.consumed (end going.end) is in
       subst (λ (l : List ℕ). IsSaidOf l going.given (Err fault)) (sym whole.2) (t.told going.read going.given going.told whole.0 whole.1);
@@ -138,6 +156,7 @@ passed_too_many left reader_failures at all_given stopped held writer_failures f
     subst (λ (l : List ℕ). IsFrontOf going.given (said_of l)) (append-nil going.read) (given_is_front source going.read going.given [] going.told (nothing_may_come source)) in
     record {
       given = going.given;
+      sound = given_is_sound source going.read going.given going.told;
       told = λ text is. inr (inl refl, front text is);
       count = tt;
       read_failed = λ e. inr (record {

@@ -1,17 +1,34 @@
--- Small texts, and the bytes due for them under pnminvert.
-use Rattle.std.specs.Prelude.{◌≡◌, [], ◌∷◌, ◌++◌, codes}
-use Rattle.pnmpipe.specs.Runs.{bytes_due}
+-- Small texts, the images that are said of them, and the bytes due for these from small chains.
+use Rattle.std.specs.Prelude.{◌≡◌, ℕ, List, [], ◌∷◌, ◌++◌, Some, None, negsuc, codes}
+use Rattle.pnm_image.specs.declared.shape.Kind.{Kind}
+use Rattle.pnm_image.specs.declared.shape.Kind.TheVariants.{Bit, Gray, Color, Pam}
+use Rattle.pnm_image.specs.Images.{Image, messages_of_stream}
+use Rattle.pnm_read.specs.Said.{said_of}
+use Rattle.pnm_tools.specs.declared.cut.CutBox.{CutBox}
+use Rattle.pnm_tools.specs.declared.tool.Tool.{Tool}
+use Rattle.pnm_tools.specs.declared.tool.Tool.TheVariants.{Invert, Cut, Depth, Channel}
+use Rattle.pnm_tools.specs.Channel.{picks}
+use Rattle.pnm_tools.specs.Chains.{due_in_turn}
+use Rattle.pnm_write.specs.Encoding.{bytes_of}
+
+abbrev pub image : Kind → ℕ → ℕ → ℕ → ℕ → List ℕ → Image
+image kind width height depth maxval samples = record { head = record { shape = record { kind = kind; width = width; height = height; depth = depth; maxval = maxval }; tuple_type = [] }; samples = samples }
+
+-- the text spells the images, and these bytes are due for them
+pub record IsExample (text : List ℕ) (tools : List Tool) (images : List Image) (bytes : List ℕ) : Type 0 where
+  pub said : said_of text ≡ messages_of_stream images
+  pub due : bytes_of (due_in_turn tools images) ≡ bytes
+
+-- the last column
+abbrev pub last_column : CutBox
+last_column = record { left = None; right = Some (negsuc 0); top = None; bottom = None; width = Some 1; height = None }
 
 pub record ExamplesHold : Type 0 where
-  pub gray : bytes_due (codes "P5\n2 1\n122\nAB") ≡ codes "P5\n2 1\n122\n98"
-  pub padded : bytes_due (codes "P5 02\t01\r\n 122\nAB") ≡ codes "P5\n2 1\n122\n98"
-  pub rows : bytes_due (codes "P5\n1 2\n9\n" ++ 1 ∷ 2 ∷ []) ≡ codes "P5\n1 2\n9\n" ++ 8 ∷ 7 ∷ []
-  pub spare_bits : bytes_due (codes "P4\n9 1\n" ++ 255 ∷ 255 ∷ []) ≡ codes "P4\n9 1\n" ++ 0 ∷ 0 ∷ []
-  pub plain_bits : bytes_due (codes "P1\n# j\n3 2\n101\n010\n") ≡ codes "P4\n3 2\n" ++ 64 ∷ 160 ∷ []
-  pub two_bytes : bytes_due (codes "P5\n1 1\n300\n" ++ 0 ∷ 1 ∷ []) ≡ codes "P5\n1 1\n300\n" ++ 1 ∷ 43 ∷ []
-  pub color : bytes_due (codes "P6\n1 1\n9\n" ++ 3 ∷ 4 ∷ 5 ∷ []) ≡ codes "P6\n1 1\n9\n" ++ 6 ∷ 5 ∷ 4 ∷ []
-  pub two_images : bytes_due (codes "P5\n2 1\n9\n" ++ (1 ∷ 2 ∷ (codes "P6\n1 1\n9\n" ++ 3 ∷ 4 ∷ 5 ∷ []))) ≡ codes "P5\n2 1\n9\n" ++ (8 ∷ 7 ∷ (codes "P6\n1 1\n9\n" ++ 6 ∷ 5 ∷ 4 ∷ []))
-  pub pam : bytes_due (codes "P7\nTUPLTYPE A\nTUPLTYPE  B \nMAXVAL 9\nDEPTH 2\nHEIGHT 1\nWIDTH 1\nENDHDR\n" ++ 1 ∷ 9 ∷ []) ≡ codes "P7\nWIDTH 1\nHEIGHT 1\nDEPTH 2\nMAXVAL 9\nTUPLTYPE A B\nENDHDR\n" ++ 8 ∷ 0 ∷ []
-  pub cut_second : bytes_due (codes "P5\n2 1\n9\n" ++ (1 ∷ 2 ∷ (codes "P6\n1 1\n9\n" ++ 3 ∷ 4 ∷ []))) ≡ codes "P5\n2 1\n9\n" ++ (8 ∷ 7 ∷ codes "P6\n1 1\n9\n")
-  pub cut_raster : bytes_due (codes "P5\n1 2\n9\n" ++ 1 ∷ []) ≡ codes "P5\n1 2\n9\n" ++ 8 ∷ []
-  pub cut_header : bytes_due (codes "P5 1 1") ≡ []
+  pub gray : IsExample (codes "P5\n2 1\n122\nAB") (Invert ∷ []) (image Gray 2 1 1 122 (65 ∷ 66 ∷ []) ∷ []) (codes "P5\n2 1\n122\n98")
+  pub bits : IsExample (codes "P4\n9 1\n" ++ 255 ∷ 255 ∷ []) (Invert ∷ []) (image Bit 9 1 1 1 (0 ∷ 0 ∷ 0 ∷ 0 ∷ 0 ∷ 0 ∷ 0 ∷ 0 ∷ 0 ∷ []) ∷ []) (codes "P4\n9 1\n" ++ 0 ∷ 0 ∷ [])
+  pub to_255 : IsExample (codes "P5\n1 1\n256\n" ++ 1 ∷ 0 ∷ []) (Depth 255 ∷ []) (image Gray 1 1 1 256 (256 ∷ []) ∷ []) (codes "P5\n1 1\n255\n" ++ 255 ∷ [])
+  pub half_up : IsExample (codes "P5\n1 1\n2\n" ++ 1 ∷ []) (Depth 1 ∷ []) (image Gray 1 1 1 2 (1 ∷ []) ∷ []) (codes "P5\n1 1\n1\n" ++ 1 ∷ [])
+  pub bits_to_gray : IsExample (codes "P4\n2 1\n" ++ 64 ∷ []) (Depth 255 ∷ []) (image Bit 2 1 1 1 (1 ∷ 0 ∷ []) ∷ []) (codes "P5\n2 1\n255\n" ++ 255 ∷ 0 ∷ [])
+  pub planes : IsExample (codes "P3 1 1 255 10 20 30") (Channel (picks (2 ∷ 0 ∷ []) []) ∷ []) (image Color 1 1 3 255 (10 ∷ 20 ∷ 30 ∷ []) ∷ []) (codes "P7\nWIDTH 1\nHEIGHT 1\nDEPTH 2\nMAXVAL 255\nENDHDR\n" ++ 30 ∷ 10 ∷ [])
+  pub last : IsExample (codes "P5\n2 1\n9\n" ++ (1 ∷ 2 ∷ (codes "P6\n1 1\n9\n" ++ 3 ∷ 4 ∷ 5 ∷ []))) (Cut last_column ∷ []) (image Gray 2 1 1 9 (1 ∷ 2 ∷ []) ∷ image Color 1 1 3 9 (3 ∷ 4 ∷ 5 ∷ []) ∷ []) (codes "P5\n1 1\n9\n" ++ (2 ∷ (codes "P6\n1 1\n9\n" ++ 3 ∷ 4 ∷ 5 ∷ [])))
+  pub chain : IsExample (codes "P5\n2 1\n9\n" ++ 1 ∷ 2 ∷ []) (Invert ∷ Cut last_column ∷ []) (image Gray 2 1 1 9 (1 ∷ 2 ∷ []) ∷ []) (codes "P5\n1 1\n9\n" ++ 7 ∷ [])

@@ -9,6 +9,7 @@ use Rattle.pnm_read.specs.declared.source.Source.{Source}
 use Rattle.pnm_read.specs.Said.{said_of, fault_of}
 use Rattle.pnm_read.specs.Inputs.{IsOutsideFault}
 use Rattle.pnm_read.specs.Sources.{reader_of}
+use Rattle.pnm_tools.specs.Stages.{AreSound}
 use Rattle.pnm_tools.specs.declared.fault.ToolFault.{ToolFault}
 use Rattle.pnm_tools.specs.declared.tool.Tool.{Tool}
 use Rattle.pnmpipe.specs.declared.downstream.Downstream.{Downstream}
@@ -33,6 +34,7 @@ pub record HaveTaken {F W : Type 0} (at : F → Tool → List Message → List M
 pub record HasPassed {R F W : Type 0} (left : R → Option (List ℕ)) (reader_failures : R → ℕ) (at : F → Tool → List Message → List Message → Type 0) (all_given : F → Bool) (stopped : F → Option ToolFault) (held : W → Option (List ℕ)) (writer_failures : W → ℕ)
     (source source_new : Source R) (result : Result (Unit {0}) InputFault) (old new : List (Stage F)) (before after : Downstream W) : Type 0 where
   pub given : List Message
+  pub sound : AreSound given
   pub told : (text : List ℕ) → left (reader_of source) ≡ Some text → IsSaidOf text given result
   pub count : OnOk result (reader_failures (reader_of source_new) ≡ reader_failures (reader_of source))
   pub read_failed : result ≡ Err ReadFailed → Failed (reader_failures (reader_of source)) (reader_failures (reader_of source_new)) ⊎ OutlastsRun (left (reader_of source)) (left (reader_of source_new))

@@ -1,5 +1,5 @@
 -- The tools of a run at work.
-use Rattle.std.specs.Prelude.{List}
+use Rattle.std.specs.Prelude.{List, [], ◌∷◌}
 use Rattle.pnm_image.specs.declared.message.Message.{Message}
 use Rattle.pnm_tools.specs.declared.tool.Tool.{Tool}
 use Rattle.pnm_tools.specs.declared.work.Work.{Work}
@@ -12,3 +12,10 @@ ToolAt stage tool received given = StageAt (IsAt tool_of IsReady) (λ s. is_all_
 
 abbrev pub ToolsAt : List (Stage (Standing Work)) → List Tool → List Message → List Message → Type 0
 ToolsAt stages tools received given = StagesAt (IsAt tool_of IsReady) (λ s. is_all_given s.pending) (λ s. s.fault) stages tools received given
+
+-- each stage is its tool before the first message
+abbrev pub AreFresh : List (Stage (Standing Work)) → List Tool → Type 0
+AreFresh [] [] = Unit {0}
+AreFresh [] (tool ∷ tools) = ⊥
+AreFresh (stage ∷ stages) [] = ⊥
+AreFresh (stage ∷ stages) (tool ∷ tools) = ToolAt stage tool [] [] × AreFresh stages tools

@@ -1,13 +1,13 @@
 //! The program.
 
 ghost use Rattle.std.specs.Prelude.{◌≡◌, ◌≢◌, ◌≤◌, ℕ, List, [], ◌∷◌, Some, codes, string_bytes};
-ghost use Rattle.pnm_write.specs.Writes.{AppendsFront};
+ghost use Rattle.pnm_tools.specs.declared.tool.Tool.TheVariants.{Invert};
 ghost use Rattle.pnmpipe.specs.declared.summary.Summary.{Summary};
-ghost use Rattle.pnmpipe.specs.Runs.{EndedWell, bytes_due};
+ghost use Rattle.pnmpipe.specs.Runs.{EndedWell, IsFrontOfDue};
 
+use crate::chain_text::{ChainFault, parse_chain};
 use crate::fault::RunFault;
 use crate::serial::run_serial;
-use crate::tool::{ChainFault, parse_chain};
 use pnm_image::{BytesIn, BytesOut};
 use std::io::Write;
 
@@ -35,9 +35,9 @@ pub fn command<H: AllocGlobal, R: BytesIn, W: BytesOut, E: Write>(
     ensures untouched { result ≡ 2 → (input.new ≡ input.old) × (output.new ≡ output.old) }
     ensures named { result ≢ 2 → (name : _) × (chain : _) × (words.now ≡ name ∷ chain ∷ []) × (string_bytes chain ≡ codes "pnminvert") }
     ensures well { result ≡ 0 → (text : List ℕ) → R.left input.old ≡ Some text
-        → (summary : Summary) × EndedWell text (W.held output.old) (W.held output.new) summary }
+        → (summary : Summary) × EndedWell text (Invert ∷ []) (W.held output.old) (W.held output.new) summary }
     ensures front { (text : List ℕ) → R.left input.old ≡ Some text → result ≢ 2
-        → AppendsFront (W.held output.old) (W.held output.new) (bytes_due text) }
+        → IsFrontOfDue text (Invert ∷ []) (W.held output.old) (W.held output.new) }
 {
     let [_, chain] = words else {
         let _ = writeln!(errors, "pnmpipe: usage: pnmpipe [--ring N] CHAIN");
@@ -54,6 +54,10 @@ pub fn command<H: AllocGlobal, R: BytesIn, W: BytesOut, E: Write>(
         Ok(_) => WELL,
         Err(RunFault::Input(fault)) => {
             let _ = writeln!(errors, "pnmpipe: input: {fault}");
+            RUN_FAULT
+        }
+        Err(RunFault::Tool(number, fault)) => {
+            let _ = writeln!(errors, "pnmpipe: tool {number}: {fault}");
             RUN_FAULT
         }
         Err(RunFault::Output(fault)) => {

@@ -3,7 +3,8 @@
 
 ghost use Rattle.pnmpipe.specs.Examples.{ExamplesHold};
 
-/// Small texts, and the bytes due for them, as the definitions compute them.
+/// Small texts, the images that are said of them, and the bytes due for these from small chains, as
+/// the definitions compute them.
 pub fn examples_hold()
     ensures { ExamplesHold }
 {}

@@ -14,7 +14,7 @@ ghost use Rattle.pnm_write.specs.declared.fault.SinkFault.TheVariants.{WriteFail
 ghost use Rattle.pnmpipe.specs.Downstreams.{output_of};
 ghost use Rattle.pnmpipe.specs.Runs.{IsChain, EndedWell, IsRefusedBy, IsTaken, IsFrontOfDue, IsAllWritten, HasRead, OutlastsRun, IfInput, IfTool, IfOutput};
 ghost use Rattle.pnmpipe.specs.Stages.{refusals_in};
-ghost use Rattle.pnmpipe.specs.Tools.{ToolAt, ToolsAt};
+ghost use Rattle.pnmpipe.specs.Tools.{ToolAt, AreFresh};
 ghost use Rattle.pnmpipe.specs.Passing.{HasPassed};
 
 use crate::downstream::Downstream;
@@ -102,7 +102,7 @@ pub fn run_serial<R: BytesIn, W: BytesOut>(
 /// `Memory`, for the list.
 fn stages_of(alloc: Global, tools: &[Tool]) -> Result<Vec<Stage<ToolState>>, ToolFault>
     requires { AreLawfulTools tools.now }
-    ensures fresh { IfOk result (λ stages. ToolsAt stages.items tools.now [] []) }
+    ensures fresh { IfOk result (λ stages. AreFresh stages.items tools.now) }
     ensures refused { IfErr result (λ fault. fault ≡ NoMemory) }
 {
     let mut stages = Vec::with_capacity(alloc, tools.len())?;

@@ -7,7 +7,7 @@ use Rattle.pnmpipe.proofs.serial.pass_all.Goals as goal
 
 pub loop-init : goal.loop-init
 loop-init g c = (
-  going_none g.R.BytesIn.left g.R.BytesIn.failures g.F.Filter.at g.F.Filter.all_given g.F.Filter.stopped g.W.BytesOut.held g.W.BytesOut.failures c.args.source.now c.args.stages.now c.args.downstream.now c.requires,
+  going_none g.R.BytesIn.left g.R.BytesIn.failures g.F.Filter.at g.F.Filter.all_given g.F.Filter.stopped g.W.BytesOut.held g.W.BytesOut.failures c.args.source.now c.args.stages.now c.args.downstream.now c.requires.unread,
   g.met.R.BytesIn.same_at_once _,
   g.met.W.BytesOut.same_at_once _,
 )
