@@ -23,7 +23,7 @@ while [ "$n" -le 40 ]; do
         echo "refused growth: $((n - 1)) allocations refused in turn, each answered by name"
         exit 0
     fi
-    grep -q '^pnmpipe: command line: Memory$\|^pnmpipe: chain: Memory$\|^pnmpipe: input: Memory$' "$work/errors" \
+    grep -q '^pnmpipe: command line: Memory$\|^pnmpipe: chain: Memory$\|^pnmpipe: tool 1: Memory$\|^pnmpipe: input: Memory$' "$work/errors" \
         || fail "$n" "no line that names want of memory"
     head -c "$size" stdout | cmp -s - "$work/out" || fail "$n" "what is written is no front of the output"
     n=$((n + 1))
