@@ -23,9 +23,12 @@ returns-in-AllGiven g c =
       given = tt;
       stop_alone = tt;
       fewer = tt;
-      full = (ap is_all_given c.replace.ensures.after, λ t l given at.
-          let is_at = rw (← c.self.view_is) at at in
-          rw c.replace.ensures.after (gave_all g.T.Rows.tool g.T.Rows.ready (standing s.work s.place s.pending s.fault) t l given is_at (none_left s.pending c.replace.result c.replace.ensures.value c.in-AllGiven.is)));
+      full = (
+        ap is_all_given c.replace.ensures.after,
+        λ t l given at.
+            let is_at = rw (← c.self.view_is) at at in
+            rw c.replace.ensures.after (gave_all g.T.Rows.tool g.T.Rows.ready (standing s.work s.place s.pending s.fault) t l given is_at (none_left s.pending c.replace.result c.replace.ensures.value c.in-AllGiven.is)),
+      );
       failed = λ e. tt;
       stops = tt;
       goes_on = (sound, c.in_default.is);
