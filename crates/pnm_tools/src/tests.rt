@@ -1,0 +1,10 @@
+//! What no clause says: worked examples of the formulas and of the order of answers, printed names,
+//! that calls can succeed, and what they answer where memory runs out.
+
+mod channel;
+mod copies;
+mod cut;
+mod lawful;
+mod parts;
+mod rows;
+mod texts;
