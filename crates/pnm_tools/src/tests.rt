@@ -4,7 +4,10 @@
 mod channel;
 mod copies;
 mod cut;
+mod depth;
 mod lawful;
+mod memory;
 mod parts;
+mod protocol;
 mod rows;
 mod texts;

@@ -1,8 +1,8 @@
 //! Messages, what they are made of, and what a tool answers to them.
 
 use crate::{CutBox, Filter, Planes, Tool, ToolFault, ToolState};
-use pnm_image::{Head, Kind, Message, Samples, Shape};
-use std::alloc::Global;
+use pnm_image::{Head, HeadFault, Kind, Message, Samples, Shape};
+use std::alloc::{AllocError, Global};
 use std::process::Abort;
 use std::test::Fail;
 
@@ -17,6 +17,22 @@ pub(super) enum Part<'a> {
     ImageEnd,
     StreamEnd,
     Stop,
+}
+
+/// A message or a tool wasn't made: there is no such head, or memory ran out.
+#[derive(Clone, Copy, Debug)]
+pub(super) struct Unmade;
+
+impl From<AllocError> for Unmade {
+    fn from(_error: AllocError) -> Unmade {
+        Unmade
+    }
+}
+
+impl From<HeadFault> for Unmade {
+    fn from(_fault: HeadFault) -> Unmade {
+        Unmade
+    }
 }
 
 /// The messages that a tool gets, those that it gives, and the fault of the last that it gets.
@@ -58,17 +74,17 @@ pub(super) fn pam(width: u32, height: u32, depth: u32, maxval: u32) -> Shape {
 }
 
 /// The tool that picks these planes.
-pub(super) fn channel(alloc: Global, numbers: &[u16], tuple_type: &str) -> Result<Tool, Fail> {
+pub(super) fn channel(alloc: Global, numbers: &[u16], tuple_type: &str) -> Result<Tool, Unmade> {
     Ok(Tool::Channel(Planes::new(
         Vec::from_slice(alloc, numbers)?,
         Vec::from_slice(alloc, tuple_type.as_bytes())?,
     )))
 }
 
-pub(super) fn head(alloc: Global, shape: Shape, tuple_type: &str) -> Result<Head, Fail> {
+pub(super) fn head(alloc: Global, shape: Shape, tuple_type: &str) -> Result<Head, Unmade> {
     let tuple_type = tuple_type.as_bytes();
     if !Head::suits(shape.kind, shape.depth, shape.maxval, tuple_type) {
-        return Err(Fail::new("the shape doesn't suit its kind"));
+        return Err(Unmade);
     }
     if shape.height > 0 {
         return Ok(Head::new(alloc, shape, tuple_type)?);
@@ -77,7 +93,7 @@ pub(super) fn head(alloc: Global, shape: Shape, tuple_type: &str) -> Result<Head
     Ok(head.with_height(0))
 }
 
-pub(super) fn message(alloc: Global, part: Part<'_>) -> Result<Message, Fail> {
+pub(super) fn message(alloc: Global, part: Part<'_>) -> Result<Message, Unmade> {
     match part {
         Part::Begin(kind, width, height, maxval) => {
             let shape = shape(kind, width, height, maxval);
