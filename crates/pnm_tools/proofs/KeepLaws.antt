@@ -153,6 +153,6 @@ cut_head_made box head s columns rows width height t same sound some a b wide hi
     let small = cut_is_small s width height (subst IsWithinLimits (sym same) sound) (omega (arith, wide, left.0, left.1)) (omega (arith, high, top.0, top.1)) in
     cut_head_by box head s (Some columns) (Some rows) same some a b ∙ ap (λ (h : Header). Ok h) whole ∙ sym (small_head x small)
 
--- an axis that is within the limits: how `Span` counts, and that something is kept
+-- the span of an axis that is within the limits lies within them
 pub counts_within : (columns : Span) (count most : ℕ) → (columns.first ≤ columns.last) × (columns.last < count) → count ≤ most → (columns.first ≤ columns.last) × (columns.last < most)
 counts_within columns count most lies le = (lies.0, omega (arith, lies.1))

@@ -36,14 +36,14 @@ changed_in_place g row items lent new len made same given count =
     let size : length new ≡ len = ap length is ∙ length-map row g ∙ sym (ap length given) ∙ sym count in
     take_at new (drop (length new) items) len size ∙ is
 
--- in such a loop the sample that is read is the row's
+-- in a loop that changes them the sample that is read is still the row's
 pub sample_read : (f : ℕ → ℕ) (xs ys : List ℕ) (i x : ℕ) → i < length xs → ys ≡ map f (take i xs) ++ drop i xs → get_or ys i x ≡ get_or xs i x
 sample_read f xs ys i x lt h =
     let front : List ℕ = map f (take i xs) in
     let long : length front ≡ i = length-map (take i xs) f ∙ omega (arith, length-take i xs) in
     ap (λ (l : List ℕ). get_or l i x) (h ∙ ap (λ (l : List ℕ). front ++ l) (drop_more xs i x lt)) ∙ get_or_at front (get_or xs i x) (drop (i + 1) xs) x i long
 
--- and it is what holds of all of the row
+-- what holds of each sample of the row holds of the one that is read
 pub read_holds : (P : ℕ → Type 0) (f : ℕ → ℕ) (xs ys : List ℕ) (i : ℕ) → i < length xs → ys ≡ map f (take i xs) ++ drop i xs → All P xs → P (get_or ys i 0)
 read_holds P f xs ys i lt h all = subst P (sym (sample_read f xs ys i 0 lt h)) (All-get_or P xs i 0 lt all)
 

@@ -19,3 +19,6 @@ pub use cut::CutBox;
 pub use fault::ToolFault;
 pub use filter::Filter;
 pub use tool::{Tool, ToolState};
+
+#[cfg(test)]
+mod tests;

@@ -1,0 +1,13 @@
+//! What no clause says: worked examples of the formulas and of the order of answers, printed names,
+//! that calls can succeed, and what they answer where memory runs out.
+
+mod channel;
+mod copies;
+mod cut;
+mod depth;
+mod lawful;
+mod memory;
+mod parts;
+mod protocol;
+mod rows;
+mod texts;

@@ -1,0 +1,254 @@
+//! Which part of an image `pamcut` keeps.
+
+use super::parts::{Part, WHOLE, head, is_made_of, message, shape, start, take_all};
+use crate::{CutBox, Filter, Tool, ToolFault};
+use pnm_image::{Kind, Message, Samples, Shape};
+use std::alloc::Global;
+use std::test::Fail;
+
+/// A start, an end and a size.
+type Options = (Option<i32>, Option<i32>, Option<u32>);
+
+/// The first that is kept, and how many.
+type Kept = (u32, u32);
+
+/// The length of an axis, its options, and what is kept, or none where it lies outside.
+type AxisCase = (u32, Options, Option<Kept>);
+
+const AXES: &[AxisCase] = &[
+    // Nothing is given.
+    (1, (None, None, None), Some((0, 1))),
+    (5, (None, None, None), Some((0, 5))),
+    // A start.
+    (5, (Some(0), None, None), Some((0, 5))),
+    (5, (Some(2), None, None), Some((2, 3))),
+    (5, (Some(4), None, None), Some((4, 1))),
+    (5, (Some(5), None, None), None),
+    (5, (Some(-1), None, None), Some((4, 1))),
+    (5, (Some(-3), None, None), Some((2, 3))),
+    (5, (Some(-5), None, None), Some((0, 5))),
+    (5, (Some(-6), None, None), None),
+    (1, (Some(0), None, None), Some((0, 1))),
+    (1, (Some(1), None, None), None),
+    (1, (Some(-1), None, None), Some((0, 1))),
+    (1, (Some(-2), None, None), None),
+    (5, (Some(16_777_216), None, None), None),
+    (5, (Some(-16_777_216), None, None), None),
+    // An end.
+    (5, (None, Some(0), None), Some((0, 1))),
+    (5, (None, Some(3), None), Some((0, 4))),
+    (5, (None, Some(4), None), Some((0, 5))),
+    (5, (None, Some(5), None), None),
+    (5, (None, Some(-1), None), Some((0, 5))),
+    (5, (None, Some(-2), None), Some((0, 4))),
+    (5, (None, Some(-5), None), Some((0, 1))),
+    (5, (None, Some(-6), None), None),
+    (5, (None, Some(16_777_216), None), None),
+    (5, (None, Some(-16_777_216), None), None),
+    // A size.
+    (5, (None, None, Some(1)), Some((0, 1))),
+    (5, (None, None, Some(4)), Some((0, 4))),
+    (5, (None, None, Some(5)), Some((0, 5))),
+    (5, (None, None, Some(6)), None),
+    (5, (None, None, Some(16_777_216)), None),
+    // A start and an end.
+    (5, (Some(0), Some(4), None), Some((0, 5))),
+    (5, (Some(1), Some(3), None), Some((1, 3))),
+    (5, (Some(2), Some(2), None), Some((2, 1))),
+    (5, (Some(3), Some(2), None), None),
+    (5, (Some(-2), Some(-1), None), Some((3, 2))),
+    (5, (Some(-1), Some(-2), None), None),
+    (5, (Some(1), Some(-2), None), Some((1, 3))),
+    (5, (Some(-4), Some(2), None), Some((1, 2))),
+    (5, (Some(-6), Some(2), None), None),
+    (5, (Some(1), Some(5), None), None),
+    (5, (Some(5), Some(5), None), None),
+    (5, (Some(-6), Some(-6), None), None),
+    (5, (Some(-16_777_216), Some(16_777_216), None), None),
+    // A start and a size.
+    (5, (Some(0), None, Some(5)), Some((0, 5))),
+    (5, (Some(1), None, Some(3)), Some((1, 3))),
+    (5, (Some(4), None, Some(1)), Some((4, 1))),
+    (5, (Some(4), None, Some(2)), None),
+    (5, (Some(0), None, Some(6)), None),
+    (5, (Some(-2), None, Some(2)), Some((3, 2))),
+    (5, (Some(-2), None, Some(1)), Some((3, 1))),
+    (5, (Some(-2), None, Some(3)), None),
+    // The start lies outside, though the end doesn't.
+    (5, (Some(-6), None, Some(2)), None),
+    (5, (Some(16_777_216), None, Some(16_777_216)), None),
+    (5, (Some(-16_777_216), None, Some(16_777_216)), None),
+    // An end and a size.
+    (5, (None, Some(4), Some(5)), Some((0, 5))),
+    (5, (None, Some(4), Some(1)), Some((4, 1))),
+    (5, (None, Some(3), Some(2)), Some((2, 2))),
+    (5, (None, Some(0), Some(1)), Some((0, 1))),
+    (5, (None, Some(0), Some(2)), None),
+    (5, (None, Some(3), Some(5)), None),
+    (5, (None, Some(-1), Some(1)), Some((4, 1))),
+    (5, (None, Some(-2), Some(3)), Some((1, 3))),
+    (5, (None, Some(-2), Some(4)), Some((0, 4))),
+    (5, (None, Some(-2), Some(5)), None),
+    (5, (None, Some(-6), Some(1)), None),
+    (5, (None, Some(5), Some(1)), None),
+    (5, (None, Some(16_777_216), Some(16_777_216)), None),
+    (5, (None, Some(-16_777_216), Some(16_777_216)), None),
+    // The most columns or rows.
+    (
+        1_000_000,
+        (Some(-1_000_000), None, None),
+        Some((0, 1_000_000)),
+    ),
+    (
+        1_000_000,
+        (Some(999_999), Some(-1), None),
+        Some((999_999, 1)),
+    ),
+    (
+        1_000_000,
+        (None, Some(-1), Some(1_000_000)),
+        Some((0, 1_000_000)),
+    ),
+    (1_000_000, (None, Some(-1), Some(1_000_001)), None),
+];
+
+/// What the cut of this axis keeps, by the head of its result.
+fn head_of(
+    alloc: Global,
+    cut: CutBox,
+    width: u32,
+    height: u32,
+) -> Result<Result<Shape, ToolFault>, Fail> {
+    let tool = Tool::Cut(cut);
+    if !tool.is_lawful() {
+        return Err(Fail::new("the cut isn't lawful"));
+    }
+    let head = head(alloc, shape(Kind::Gray, width, height, 9), "")?;
+    Ok(match tool.head(alloc, &head) {
+        Ok(result) => Ok(result.shape()),
+        Err(fault) => Err(fault),
+    })
+}
+
+/// Each row of the table of options, along both axes.
+#[test]
+fn keeps_columns_and_rows(rt: HostRuntime) -> Result<(), Fail> {
+    for (length, (start, end, size), kept) in AXES {
+        let (across, down) = match kept {
+            Some((_, count)) => (
+                Ok(shape(Kind::Gray, *count, 3, 9)),
+                Ok(shape(Kind::Gray, 3, *count, 9)),
+            ),
+            None => (Err(ToolFault::CutOutside), Err(ToolFault::CutOutside)),
+        };
+        let columns = CutBox {
+            left: *start,
+            right: *end,
+            width: *size,
+            ..WHOLE
+        };
+        let answer = head_of(rt.alloc(), columns, *length, 3)?;
+        assert_eq!(rt; answer, across, "at {length} and {columns:?}");
+        let rows = CutBox {
+            top: *start,
+            bottom: *end,
+            height: *size,
+            ..WHOLE
+        };
+        let answer = head_of(rt.alloc(), rows, 3, *length)?;
+        assert_eq!(rt; answer, down, "at {length} and {rows:?}");
+    }
+    Ok(())
+}
+
+/// The samples of a row of colours: each tells its plane, its column and its row.
+fn row(alloc: Global, (first, count): Kept, y: u32) -> Result<Vec<u16>, Fail> {
+    let mut samples = Vec::new(alloc);
+    for x in 0..count {
+        let pixel = first
+            .wrapping_add(x)
+            .wrapping_mul(10)
+            .wrapping_add(y.wrapping_mul(100));
+        for plane in 0..3 {
+            samples.push((pixel.wrapping_add(plane) % 65_536) as u16)?;
+        }
+    }
+    Ok(samples)
+}
+
+/// All that the cut gives of an image of this width and height, and its fault.
+fn cut_image(
+    alloc: Global,
+    cut: CutBox,
+    width: u32,
+    height: u32,
+) -> Result<(Vec<Message>, Option<ToolFault>), Fail> {
+    let mut state = start(alloc, &Tool::Cut(cut))?;
+    let mut given = Vec::new(alloc);
+    let head = message(alloc, Part::Begin(Kind::Color, width, height, 65_535))?;
+    if let Err(fault) = state.feed(head) {
+        return Ok((given, Some(fault)));
+    }
+    take_all(&mut state, &mut given)?;
+    for y in 0..height {
+        state.feed(Message::Row(Samples::new(row(alloc, (0, width), y)?)))?;
+        take_all(&mut state, &mut given)?;
+    }
+    state.feed(Message::ImageEnd)?;
+    take_all(&mut state, &mut given)?;
+    Ok((given, None))
+}
+
+/// Whether these are the messages of the image of these columns and rows.
+fn is_image(alloc: Global, given: &[Message], columns: Kept, rows: Kept) -> Result<bool, Fail> {
+    let mut messages = given.iter();
+    let begin = Part::Begin(Kind::Color, columns.1, rows.1, 65_535);
+    if !messages.next().is_some_and(|head| is_made_of(head, begin)) {
+        return Ok(false);
+    }
+    for y in 0..rows.1 {
+        let want = row(alloc, columns, rows.0.wrapping_add(y))?;
+        let want = Part::Row(want.as_slice());
+        if !messages.next().is_some_and(|row| is_made_of(row, want)) {
+            return Ok(false);
+        }
+    }
+    let is_ended = messages
+        .next()
+        .is_some_and(|end| is_made_of(end, Part::ImageEnd));
+    Ok(is_ended && messages.next().is_none())
+}
+
+/// Each row of the table along one axis with each along the other, for images of a few samples.
+#[test]
+fn keeps_samples(rt: HostRuntime) -> Result<(), Fail> {
+    for (width, (left, right, columns), across) in AXES {
+        for (height, (top, bottom, rows), down) in AXES {
+            if *width > 5 || *height > 5 {
+                continue;
+            }
+            let cut = CutBox {
+                left: *left,
+                right: *right,
+                top: *top,
+                bottom: *bottom,
+                width: *columns,
+                height: *rows,
+            };
+            let (given, fault) = cut_image(rt.alloc(), cut, *width, *height)?;
+            match (across, down) {
+                (Some(across), Some(down)) => {
+                    assert_eq!(rt; fault, None, "at {width}, {height} and {cut:?}");
+                    let is_kept = is_image(rt.alloc(), given.as_slice(), *across, *down)?;
+                    assert!(rt; is_kept, "{given:?} at {width}, {height} and {cut:?}");
+                }
+                _ => {
+                    let outside = Some(ToolFault::CutOutside);
+                    assert_eq!(rt; fault, outside, "at {width}, {height} and {cut:?}");
+                    assert!(rt; given.is_empty(), "at {width}, {height} and {cut:?}");
+                }
+            }
+        }
+    }
+    Ok(())
+}

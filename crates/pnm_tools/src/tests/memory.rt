@@ -1,0 +1,179 @@
+//! Want of memory. With ample memory each call succeeds; where an allocation is refused, the call
+//! answers `Memory`, and a tool at work answers it for good though memory is there again.
+
+use super::parts::{Part, WHOLE, channel, is_made_of, message, stays};
+use crate::{CutBox, Filter, Tool, ToolFault, ToolState};
+use pnm_image::{Kind, Message};
+use std::alloc::Global;
+use std::process::Abort;
+
+/// A PAM image of three columns, two rows and two planes.
+const IMAGE: &[Part<'static>] = &[
+    Part::Pam(3, 2, 2, 4, "A"),
+    Part::Row(&[0, 1, 2, 3, 4, 0]),
+    Part::Row(&[4, 3, 2, 1, 0, 4]),
+    Part::ImageEnd,
+    Part::StreamEnd,
+];
+
+const INVERTED: &[Part<'static>] = &[
+    Part::Pam(3, 2, 2, 4, "A"),
+    Part::Row(&[4, 3, 2, 1, 0, 4]),
+    Part::Row(&[0, 1, 2, 3, 4, 0]),
+    Part::ImageEnd,
+    Part::StreamEnd,
+];
+
+const CUT: &[Part<'static>] = &[
+    Part::Pam(2, 2, 2, 4, "A"),
+    Part::Row(&[2, 3, 4, 0]),
+    Part::Row(&[2, 1, 0, 4]),
+    Part::ImageEnd,
+    Part::StreamEnd,
+];
+
+const RESCALED: &[Part<'static>] = &[
+    Part::Pam(3, 2, 2, 8, "A"),
+    Part::Row(&[0, 2, 4, 6, 8, 0]),
+    Part::Row(&[8, 6, 4, 2, 0, 8]),
+    Part::ImageEnd,
+    Part::StreamEnd,
+];
+
+const PICKED: &[Part<'static>] = &[
+    Part::Pam(3, 2, 3, 4, "B"),
+    Part::Row(&[1, 0, 1, 3, 2, 3, 0, 4, 0]),
+    Part::Row(&[3, 4, 3, 1, 2, 1, 4, 0, 4]),
+    Part::ImageEnd,
+    Part::StreamEnd,
+];
+
+/// All but the first column.
+const REST: CutBox = CutBox {
+    left: Some(1),
+    ..WHOLE
+};
+
+/// Takes what the tool gives, which is made of the parts that are next among these. Whether the
+/// tool goes on.
+fn takes(rt: &impl Abort, state: &mut ToolState, wants: &[Part<'_>], given: &mut usize) -> bool {
+    for _ in 0..wants.len() + 1 {
+        match state.next() {
+            Ok(Some(message)) => {
+                let want = wants.get(*given);
+                assert!(rt;
+                    want.is_some_and(|want| is_made_of(&message, *want)),
+                    "{message:?} in place of {want:?}"
+                );
+                *given = given.wrapping_add(1);
+            }
+            Ok(None) => return true,
+            Err(fault) => {
+                assert_eq!(rt; fault, ToolFault::Memory);
+                stays(rt, state, ToolFault::Memory);
+                return false;
+            }
+        }
+    }
+    panic!(rt; "the answers have no end")
+}
+
+/// The tool answers the image with these parts, or `Memory` from some message on.
+fn answers_image(rt: &impl Abort, alloc: Global, tool: &Tool, wants: &[Part<'_>]) {
+    assert!(rt; tool.is_lawful());
+    let mut state = match tool.start(alloc) {
+        Ok(state) => state,
+        Err(fault) => {
+            assert_eq!(rt; fault, ToolFault::Memory);
+            return;
+        }
+    };
+    let mut given = 0;
+    for part in IMAGE {
+        // Where no message can be made, the test ends.
+        let Ok(message) = message(alloc, *part) else {
+            return;
+        };
+        if let Err(fault) = state.feed(message) {
+            assert_eq!(rt; fault, ToolFault::Memory, "at {part:?}");
+            stays(rt, &mut state, ToolFault::Memory);
+            return;
+        }
+        if !takes(rt, &mut state, wants, &mut given) {
+            return;
+        }
+    }
+    assert_eq!(rt; given, wants.len());
+}
+
+/// The head rule answers the image's head with this, or with `Memory`, and then with this.
+fn answers_head(rt: &impl Abort, alloc: Global, tool: &Tool, want: Part<'_>) {
+    assert!(rt; tool.is_lawful());
+    let Ok(Message::Begin(head)) = message(alloc, Part::Pam(3, 2, 2, 4, "A")) else {
+        return;
+    };
+    let answer = match tool.head(alloc, &head) {
+        Err(ToolFault::Memory) => tool.head(alloc, &head),
+        answer => answer,
+    };
+    match answer {
+        Ok(head) => {
+            let begin = Message::Begin(head);
+            assert!(rt; is_made_of(&begin, want), "{begin:?} in place of {want:?}");
+        }
+        Err(fault) => panic!(rt; "{fault:?} in place of {want:?}"),
+    }
+}
+
+#[test]
+fn inverts_or_runs_out(rt: HostRuntime) {
+    answers_image(&rt, rt.alloc(), &Tool::Invert, INVERTED);
+}
+
+#[test]
+fn cuts_or_runs_out(rt: HostRuntime) {
+    answers_image(&rt, rt.alloc(), &Tool::Cut(REST), CUT);
+}
+
+/// Twelve samples up to 4: the image is worth a table.
+#[test]
+fn rescales_or_runs_out(rt: HostRuntime) {
+    answers_image(&rt, rt.alloc(), &Tool::Depth(8), RESCALED);
+}
+
+#[test]
+fn picks_or_runs_out(rt: HostRuntime) {
+    if let Ok(tool) = channel(rt.alloc(), &[1, 0, 1], "B") {
+        answers_image(&rt, rt.alloc(), &tool, PICKED);
+    }
+}
+
+#[test]
+fn gives_heads_or_runs_out(rt: HostRuntime) {
+    let alloc = rt.alloc();
+    answers_head(&rt, alloc, &Tool::Invert, Part::Pam(3, 2, 2, 4, "A"));
+    answers_head(&rt, alloc, &Tool::Cut(REST), Part::Pam(2, 2, 2, 4, "A"));
+    answers_head(&rt, alloc, &Tool::Depth(8), Part::Pam(3, 2, 2, 8, "A"));
+    if let Ok(tool) = channel(alloc, &[1, 0, 1], "B") {
+        answers_head(&rt, alloc, &tool, Part::Pam(3, 2, 3, 4, "B"));
+    }
+}
+
+/// A copy that was refused can be asked for again.
+#[test]
+fn copies_or_runs_out(rt: HostRuntime) {
+    let Ok(tool) = channel(rt.alloc(), &[1, 0, 1], "B") else {
+        return;
+    };
+    let answer = match tool.copy(rt.alloc()) {
+        Err(ToolFault::Memory) => tool.copy(rt.alloc()),
+        answer => answer,
+    };
+    match answer {
+        Ok(Tool::Channel(planes)) => {
+            assert_eq!(rt; planes.numbers(), [1, 0, 1].as_slice());
+            assert_eq!(rt; planes.tuple_type(), b"B".as_slice());
+        }
+        answer => panic!(rt; "{answer:?} in place of a copy"),
+    }
+}
