@@ -3,6 +3,7 @@
 
 use pnm_read::InputFault;
 
+mod chains;
 mod command;
 mod devices;
 mod run;
