@@ -5,3 +5,5 @@ pub mod FaultSteps
 pub mod PassingSteps
 pub mod TwoWords
 pub mod ToolSteps
+pub mod CountLaws
+pub mod RunSteps

@@ -1,5 +1,5 @@
 -- What a run has read and written when all messages have passed.
-use Rattle.std.proofs.Common.{◌≡◌, ◌⊎◌, ℕ, Bool, true, false, List, [], ◌∷◌, ◌++◌, take, length, sum_by, zero-add, Option, None, Some, Result, Ok, Err, refl, sym, ap, subst, ◌∙◌, inl, inr}
+use Rattle.std.proofs.Common.{◌≡◌, ◌⊎◌, ℕ, Bool, true, false, List, [], ◌∷◌, ◌++◌, take, length, sum_by, zero-add, Option, None, Some, Result, Ok, Err, refl, sym, ap, subst, ◌∙◌, inl, inr, append_assoc}
 use Rattle.std.specs.Result.{MatchResult, is_err}
 use Rattle.std.specs.List.{AllByRecursion}
 use Rattle.std.specs.Io.KnownBytes.{Appends, Keeps}
@@ -11,6 +11,7 @@ use Rattle.pnm_image.specs.Images.{Image, messages_of_stream}
 use Rattle.pnm_image.specs.Completion.{IsFrontOf, Completes}
 use Rattle.pnm_image.specs.Messages.{without_stop}
 use Rattle.pnm_read.specs.declared.fault.InputFault.{InputFault}
+use Rattle.pnm_read.specs.declared.source.Source.{Source}
 use Rattle.pnm_read.specs.Spelling.{Spells}
 use Rattle.pnm_read.specs.Said.{said_of, fault_of}
 use Rattle.pnm_read.specs.Inputs.{IsOutsideFault}
@@ -20,6 +21,8 @@ use Rattle.pnm_read.proofs.FaultLaws.{fault_is_of_text}
 use Rattle.pnm_tools.specs.declared.fault.ToolFault.{ToolFault}
 use Rattle.pnm_tools.specs.declared.fault.ToolFault.TheVariants.{Memory}
 use Rattle.pnm_tools.specs.declared.tool.Tool.{Tool}
+use Rattle.pnm_tools.specs.declared.work.Work.{Work}
+use Rattle.pnm_tools.specs.States.{Standing, IsAt, IsReady, is_all_given, tool_of}
 use Rattle.pnm_tools.specs.Chains.{AreLawfulTools, due_in_turn}
 use Rattle.pnm_tools.specs.Stages.{IsSound, AreSound, HaveAnswered, AreWell, IsFirstFault}
 use Rattle.pnm_tools.proofs.ChainLaws.{given_are_sound, stream_is_answered, refusal_is_first, given_is_front}
@@ -37,9 +40,11 @@ use Rattle.pnmpipe.specs.declared.stage.Stage.TheVariants.{AtWork, Refused}
 use Rattle.pnmpipe.specs.declared.summary.Summary.{Summary}
 use Rattle.pnmpipe.specs.Counts.{counted, images_in, rows_in}
 use Rattle.pnmpipe.specs.Downstreams.{output_of, AreWritable, AreWritten, AreCutOff, HasTakenWith}
-use Rattle.pnmpipe.specs.Passing.{IsSaidOf}
+use Rattle.pnmpipe.specs.Passing.{IsSaidOf, HasPassed}
 use Rattle.pnmpipe.specs.Runs.{EndedWell, IsRefusedBy, IsTaken, IsFrontOfDue, IsAllWritten}
 use Rattle.pnmpipe.specs.Stages.{refusals_in, StageAt, StagesAt}
+use Rattle.pnmpipe.specs.Tools.{AreFresh}
+use Rattle.pnmpipe.proofs.ToolSteps.{fresh_at}
 use Rattle.pnmpipe.proofs.CountLaws.{images_in-stream, rows_in-stream}
 use Rattle.pnmpipe.proofs.MessageSteps.{bytes_of-append}
 use Rattle.pnmpipe.proofs.PassingSteps.{said_are_sound}
@@ -141,3 +146,130 @@ output_all held failures start done out d (Err fault) writable is broken kept so
 pub failed_so : {W : Type 0} (held : W → Option (List ℕ)) (failures : W → ℕ) (start : W) (out : List Message) (d : Downstream W) (o : Result (Unit {0}) SinkFault) → HasTakenWith held failures start out d o → has_failed d.sink ≡ is_err o
 failed_so held failures start out d (Ok x) is = is.sound
 failed_so held failures start out d (Err fault) is = is.failed
+
+-- ---- the run
+
+-- What a run knows at its end: what the source gave, what the stages answered, and what the sink took.
+pub record Ran {W : Type 0} (held : W → Option (List ℕ)) (failures : W → ℕ) (start : W) (tools : List Tool) (faults : List (Option ToolFault)) (given out : List Message) (d : Downstream W) : Type 0 where
+  pub lawful : AreLawfulTools tools
+  pub sound : AreSound given
+  pub answered : HaveAnswered tools faults given out
+  pub taken : HasTakenWith held failures start out d d.output
+
+out_is_writable : {W : Type 0} (held : W → Option (List ℕ)) (failures : W → ℕ) (start : W) (tools : List Tool) (faults : List (Option ToolFault)) (given out : List Message) (d : Downstream W) → Ran held failures start tools faults given out d → AreWritable out
+out_is_writable held failures start tools faults given out d ran = sound_is_writable out (given_are_sound tools faults given out ran.lawful ran.sound ran.answered)
+
+-- images that complete what is said complete a front of it
+completes_front : (l given : List Message) (is : List Image) → AreSound l → AreSound given → IsFrontOf given l → Completes is l → Completes is given
+completes_front l given is sound given_sound front c = record {
+  images = c.images;
+  front = (
+    front.0 ++ c.front.0,
+    c.front.1 ∙ ap (λ (x : List Message). x ++ c.front.0) (sound_keeps_all l sound.sound ∙ front.1) ∙ append_assoc given front.0 c.front.0 ∙ ap (λ (x : List Message). x ++ (front.0 ++ c.front.0)) (sym (sound_keeps_all given given_sound.sound)),
+  );
+}
+
+-- however it ends, what was written is a front of what is due
+pub run_front : {W : Type 0} (held : W → Option (List ℕ)) (failures : W → ℕ) (start done : W) (tools : List Tool) (faults : List (Option ToolFault)) (given out : List Message) (d : Downstream W) (text : List ℕ) (result : Result (Unit {0}) InputFault)
+    → Ran held failures start tools faults given out d → IsSaidOf text given result → Keeps (held (output_of d)) (held done) → IsFrontOfDue text tools (held start) (held done)
+run_front held failures start done tools faults given out d text result ran said kept images completes =
+    let c = completes_front (said_of text) given images (said_are_sound text) ran.sound (said_front text given result said) completes in
+    let front = given_is_front tools faults given out images ran.lawful ran.sound ran.answered c in
+    let more = bytes_of-append out front.0 in
+    front-kept (held start) (held (output_of d)) (held done) (bytes_of (due_in_turn tools images))
+    (subst (AppendsFront (held start) (held (output_of d))) (sym (ap bytes_of front.1 ∙ more.1))
+    (output_front held failures start out more.0 d d.output (out_is_writable held failures start tools faults given out d ran) ran.taken))
+    kept
+
+-- where the whole text was read, all that the tools answered was written, unless the writer failed
+pub run_all : {W : Type 0} (held : W → Option (List ℕ)) (failures : W → ℕ) (start done : W) (tools : List Tool) (faults : List (Option ToolFault)) (given out : List Message) (d : Downstream W) (text : List ℕ)
+    → Ran held failures start tools faults given out d → said_of text ≡ given → ((f : SinkFault) → d.output ≡ Err f → done ≡ output_of d) → Keeps (held (output_of d)) (held done) → ¬ Failed (failures start) (failures done)
+    → IsAllWritten text tools (held start) (held done)
+run_all held failures start done tools faults given out d text ran said broken kept sound = record {
+  faults = faults;
+  given = out;
+  answered = subst (λ (l : List Message). HaveAnswered tools faults l out) (sym said) ran.answered;
+  written = output_all held failures start done out d d.output (out_is_writable held failures start tools faults given out d ran) ran.taken broken kept sound;
+}
+
+-- the first fault of the stages
+pub run_refused : {W : Type 0} (held : W → Option (List ℕ)) (failures : W → ℕ) (start : W) (tools : List Tool) (faults : List (Option ToolFault)) (given out : List Message) (d : Downstream W) (text : List ℕ) (number : ℕ) (fault : ToolFault)
+    → Ran held failures start tools faults given out d → (said_of text ≡ given) × (fault_of text ≡ None) → IsFirstFault 1 faults number fault → (fault ≡ Memory) ⊎ IsRefusedBy text tools number fault
+run_refused held failures start tools faults given out d text number fault ran said first =
+    let found = said_text_is_spelled text said.1 in
+    let stream : given ≡ messages_of_stream found.0 = sym said.0 ∙ found.2 in
+    elim (refusal_is_first tools faults found.0 out number fault ran.lawful (spelled_are_images text found.0 found.1) (subst AreSound stream ran.sound) (subst (λ (l : List Message). HaveAnswered tools faults l out) stream ran.answered) first) [
+      | inl memory ↦ inl memory
+      | inr refusal ↦ inr (found.0, found.1, refusal)
+    ]
+
+-- no stage has refused
+pub run_taken : {W : Type 0} (held : W → Option (List ℕ)) (failures : W → ℕ) (start : W) (tools : List Tool) (faults : List (Option ToolFault)) (given out : List Message) (d : Downstream W) (text : List ℕ)
+    → Ran held failures start tools faults given out d → (said_of text ≡ given) × (fault_of text ≡ None) → AreWell faults → IsTaken text tools
+run_taken held failures start tools faults given out d text ran said well =
+    let found = said_text_is_spelled text said.1 in
+    let stream : given ≡ messages_of_stream found.0 = sym said.0 ∙ found.2 in
+    let answered = stream_is_answered tools faults found.0 out ran.lawful (spelled_are_images text found.0 found.1) well (subst (λ (l : List Message). HaveAnswered tools faults l out) stream ran.answered) in
+    (found.0, found.1, answered.4)
+
+-- the writer failed
+pub run_output : {W : Type 0} (held : W → Option (List ℕ)) (failures : W → ℕ) (start done : W) (tools : List Tool) (faults : List (Option ToolFault)) (given out : List Message) (d : Downstream W) (o : Result (Unit {0}) SinkFault) (answer : Result Summary SinkFault) (fault : SinkFault)
+    → Ran held failures start tools faults given out d → d.output ≡ o
+    → ((f : SinkFault) → d.output ≡ Err f → (answer ≡ Err f) × (done ≡ output_of d))
+    → (d.output ≡ Ok tt → MatchResult answer (λ summary. (summary ≡ d.summary) × (failures done ≡ failures (output_of d))) (λ f. (f ≡ WriteFailed) × Failed (failures (output_of d)) (failures done)))
+    → answer ≡ Err fault → (fault ≡ WriteFailed) × Failed (failures start) (failures done)
+run_output held failures start done tools faults given out d (Ok tt) answer fault ran o-is broken well answer-is =
+    let written : AreWritten held failures start out d = subst (HasTakenWith held failures start out d) o-is ran.taken in
+    let failed = rw answer-is at (well o-is) in
+    (failed.0, subst (λ (n : ℕ). Failed n (failures done)) written.count failed.1)
+run_output held failures start done tools faults given out d (Err other) answer fault ran o-is broken well answer-is =
+    let cut : AreCutOff held failures start out d other = subst (HasTakenWith held failures start out d) o-is ran.taken in
+    let both = broken other o-is in
+    let same : fault ≡ other = cc (both.0, answer-is) in
+    let front = cut.front (out_is_writable held failures start tools faults given out d ran) in
+    (same ∙ front.0, subst (λ (w : _). Failed (failures start) (failures w)) (sym both.1) front.1.1)
+
+-- the writer didn't fail
+pub run_sound : {W : Type 0} (held : W → Option (List ℕ)) (failures : W → ℕ) (start done : W) (tools : List Tool) (faults : List (Option ToolFault)) (given out : List Message) (d : Downstream W) (o : Result (Unit {0}) SinkFault) (answer : Result Summary SinkFault) (summary : Summary)
+    → Ran held failures start tools faults given out d → d.output ≡ o
+    → ((f : SinkFault) → d.output ≡ Err f → (answer ≡ Err f) × (done ≡ output_of d))
+    → (d.output ≡ Ok tt → MatchResult answer (λ summary. (summary ≡ d.summary) × (failures done ≡ failures (output_of d))) (λ f. (f ≡ WriteFailed) × Failed (failures (output_of d)) (failures done)))
+    → answer ≡ Ok summary → AreWritten held failures start out d × (summary ≡ d.summary) × (failures done ≡ failures start)
+run_sound held failures start done tools faults given out d (Ok tt) answer summary ran o-is broken well answer-is =
+    let written : AreWritten held failures start out d = subst (HasTakenWith held failures start out d) o-is ran.taken in
+    let same = rw answer-is at (well o-is) in
+    (written, same.0, same.1 ∙ written.count)
+run_sound held failures start done tools faults given out d (Err other) answer summary ran o-is broken well answer-is = absurd (cc ((broken other o-is).0, answer-is))
+
+-- a run that ended well
+pub run_well : {W : Type 0} (held : W → Option (List ℕ)) (failures : W → ℕ) (start done : W) (tools : List Tool) (faults : List (Option ToolFault)) (given out : List Message) (d : Downstream W) (summary : Summary) (text : List ℕ)
+    → Ran held failures start tools faults given out d → (said_of text ≡ given) × (fault_of text ≡ None) → AreWell faults → AreWritten held failures start out d → summary ≡ d.summary → Keeps (held (output_of d)) (held done)
+    → EndedWell text tools (held start) (held done) summary
+run_well held failures start done tools faults given out d summary text ran said well written same kept =
+    let found = said_text_is_spelled text said.1 in
+    let stream : given ≡ messages_of_stream found.0 = sym said.0 ∙ found.2 in
+    let answered = stream_is_answered tools faults found.0 out ran.lawful (spelled_are_images text found.0 found.1) well (subst (λ (l : List Message). HaveAnswered tools faults l out) stream ran.answered) in
+    let results : List Image = answered.0 in
+    let counts_images : d.summary.images ≡ counted (length results) = written.images ∙ ap (images_in 0) answered.3 ∙ images_in-stream 0 results ∙ ap counted (zero-add (length results)) in
+    let counts_rows : d.summary.rows ≡ counted (sum_by (λ i. i.head.shape.height) results) = written.rows ∙ ap (rows_in 0) answered.3 ∙ rows_in-stream 0 results ∙ ap counted (zero-add _) in
+    let both : ℕ → ℕ → Summary = λ (a b : ℕ). record { images = a; rows = b } in
+    record {
+      images = found.0;
+      results = results;
+      spelled = found.1;
+      made = answered.1;
+      written = subst (Appends (held start) (held done)) (ap bytes_of answered.3 ∙ bytes_of_stream results) (Appends-kept (held start) (held (output_of d)) (held done) (bytes_of out) written.written.bytes kept);
+      counts = same ∙ ap (λ k. both k d.summary.rows) counts_images ∙ ap (λ k. both (counted (length results)) k) counts_rows;
+    }
+
+-- the end of the source's messages
+pub ran_of : {R W : Type 0} (left : R → Option (List ℕ)) (reader_failures : R → ℕ) (held : W → Option (List ℕ)) (failures : W → ℕ) (source source_new : Source R) (result : Result (Unit {0}) InputFault) (old new : List (Stage (Standing Work))) (before after : Downstream W) (tools : List Tool)
+    → AreLawfulTools tools → AreFresh old tools → HasTakenWith held failures (output_of before) [] before before.output
+    → (passed : HasPassed left reader_failures (IsAt tool_of IsReady) (λ s. is_all_given s.pending) (λ s. s.fault) held failures source source_new result old new before after)
+    → Ran held failures (output_of before) tools (refusals_in new) passed.given passed.output.out after
+ran_of left reader_failures held failures source source_new result old new before after tools lawful fresh start passed = record {
+  lawful = lawful;
+  sound = passed.sound;
+  answered = have_answered (IsAt tool_of IsReady) (λ s. is_all_given s.pending) (λ s. s.fault) new tools passed.given passed.output.out (passed.output.stages tools (fresh_at old tools fresh));
+  taken = passed.output.taken (output_of before) start;
+}
