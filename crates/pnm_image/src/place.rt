@@ -57,10 +57,16 @@ impl Place {
     }
 }
 
+/// The greatest number that a sample can be.
+const GREATEST_SAMPLE: u32 = 65_535;
+
+/// Whether the row has so many samples, none of them above the maxval. No sample is looked at where
+/// none can be above it.
 fn is_row_of(shape: &Shape, row: &[u16]) -> bool
     ensures { IsTrue result ↔ IsRowOf shape.now row.now }
 {
-    row.len() as u64 == shape.row_length() && u32::from(greatest(row)) <= shape.maxval
+    row.len() as u64 == shape.row_length()
+        && (shape.maxval >= GREATEST_SAMPLE || u32::from(greatest(row)) <= shape.maxval)
 }
 
 /// The greatest sample, or 0 where there is none. The loop goes over all samples, so that it is

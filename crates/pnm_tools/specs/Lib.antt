@@ -11,3 +11,4 @@ pub mod States
 pub mod Steps
 pub mod Chains
 pub mod Stages
+pub mod Laws

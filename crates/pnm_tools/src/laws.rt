@@ -1,10 +1,39 @@
-//! Laws of answers. Each stands over the definitions alone, as the contract of a function that does
-//! nothing.
+//! Laws of tools and of their answers. Each stands over the definitions alone, as the contract of a
+//! function that does nothing.
 
 ghost use Rattle.pnm_tools.specs.Answers.{FullAnswerIsTheStream};
+ghost use Rattle.pnm_tools.specs.Laws.{ResultsAreImages, SamplesAreNearest, StreamsAreAnswered, FirstFaultIsTheRefusal, AnswersAreDue};
 
 /// A full answer to a stream is the tool's stream: the results of all its images, none of which is
 /// refused.
 pub fn full_answer_is_the_stream()
     ensures { FullAnswerIsTheStream }
+{}
+
+/// The result of an image is an image, and has rows where the image has.
+pub fn results_are_images()
+    ensures { ResultsAreImages }
+{}
+
+/// A rescaled sample is the nearest to the same share of the new maxval, halves up.
+pub fn rescaled_samples_are_nearest()
+    ensures { SamplesAreNearest }
+{}
+
+/// Where no tool of a chain in one thread has refused, a stream is answered by the stream of its
+/// results, and the chain refuses none of its images.
+pub fn streams_are_answered()
+    ensures { StreamsAreAnswered }
+{}
+
+/// The first fault of the tools of a chain, in their order, that a stream has passed is the chain's
+/// refusal, unless memory ran out.
+pub fn first_fault_is_the_refusal()
+    ensures { FirstFaultIsTheRefusal }
+{}
+
+/// Whatever images complete what a chain has received, what it gave is a front of the output due for
+/// them.
+pub fn answers_are_due()
+    ensures { AnswersAreDue }
 {}

@@ -2,8 +2,8 @@ use Rattle.std.proofs.Common.{arith, ◌≤◌, ◌∙◌}
 use Rattle.std.proofs.lemmas.Bool.{leb-true, le-leb}
 use Rattle.pnm_image.proofs.place.is_row_of.Goals as goal
 
-pub returns-then-row-row_length : goal.returns-then-row-row_length
-returns-then-row-row_length c = (
+pub returns-else-shape-ge-GREATEST_SAMPLE : goal.returns-else-shape-ge-GREATEST_SAMPLE
+returns-else-shape-ge-GREATEST_SAMPLE c = (
   λ t.
       let le : c.from.result ≤ c.args.shape.now.maxval = leb-true _ _ t in
       record {
