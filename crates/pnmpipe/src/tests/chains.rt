@@ -7,7 +7,7 @@ use crate::fault::RunFault;
 use crate::serial::run_serial;
 use crate::summary::Summary;
 use pnm_image::Device;
-use pnm_tools::{CutBox, Planes, Tool, ToolFault};
+use pnm_tools::{CutBox, Planes, Tool};
 use std::alloc::Global;
 use std::process::Abort;
 use std::test::Fail;
@@ -129,27 +129,138 @@ fn runs_each_tool(rt: HostRuntime) -> Result<(), Fail> {
     Ok(())
 }
 
-/// The first tool that refuses an image is answered, and nothing is written from there on.
+/// An image in bits, one in color, and one of PAM.
+const KINDS: &[u8] =
+    b"P4\n2 2\n\x40\x80P6\n2 1\n3\n\x00\x01\x02\x03\x02\x01P7\nWIDTH 2\nHEIGHT 1\nDEPTH 2\nMAXVAL 1\nTUPLTYPE BLACKANDWHITE_ALPHA\nENDHDR\n\x00\x01\x01\x00";
+
+/// Each tool takes images of any kinds, one after another.
 #[test]
-fn answers_a_refusal(rt: HostRuntime) -> Result<(), Fail> {
-    let second = channel(rt.alloc(), &[1], b"")?;
-    for (input, tool, fault, output) in [
-        (
-            b"P5\n2 1\n9\n\x01\x02P5\n1 1\n9\n\x03".as_slice(),
-            Tool::Cut(FROM_SECOND),
-            ToolFault::CutOutside,
-            b"P5\n1 1\n9\n\x02".as_slice(),
-        ),
-        (
-            b"P5\n1 1\n9\n\x05".as_slice(),
-            second,
-            ToolFault::ChannelOutside,
-            b"".as_slice(),
-        ),
-    ] {
-        let (answer, written) = run_chain(&rt, rt.alloc(), &[tool], input);
-        assert_eq!(rt; answer, Err(RunFault::Tool(1, fault)), "at {input:?}");
-        assert_eq!(rt; written.as_slice(), output, "at {input:?}");
+fn runs_each_tool_on_a_stream(rt: HostRuntime) -> Result<(), Fail> {
+    let planes = channel(rt.alloc(), &[0, 0], b"T")?;
+    let first_column = CutBox {
+        right: Some(0),
+        ..WHOLE
+    };
+    runs(
+        &rt,
+        rt.alloc(),
+        &[
+            (
+                KINDS,
+                &[Tool::Invert],
+                b"P4\n2 2\n\x80\x40P6\n2 1\n3\n\x03\x02\x01\x00\x01\x02P7\nWIDTH 2\nHEIGHT 1\nDEPTH 2\nMAXVAL 1\nTUPLTYPE BLACKANDWHITE_ALPHA\nENDHDR\n\x01\x00\x00\x01".as_slice(),
+                3,
+                4,
+            ),
+            (
+                KINDS,
+                &[Tool::Cut(first_column)],
+                b"P4\n1 2\n\x00\x80P6\n1 1\n3\n\x00\x01\x02P7\nWIDTH 1\nHEIGHT 1\nDEPTH 2\nMAXVAL 1\nTUPLTYPE BLACKANDWHITE_ALPHA\nENDHDR\n\x00\x01".as_slice(),
+                3,
+                4,
+            ),
+            (
+                KINDS,
+                &[Tool::Depth(255)],
+                b"P5\n2 2\n255\n\xff\x00\x00\xffP6\n2 1\n255\n\x00\x55\xaa\xff\xaa\x55P7\nWIDTH 2\nHEIGHT 1\nDEPTH 2\nMAXVAL 255\nTUPLTYPE GRAYSCALE_ALPHA\nENDHDR\n\x00\xff\xff\x00".as_slice(),
+                3,
+                4,
+            ),
+            (
+                KINDS,
+                &[Tool::Depth(1)],
+                b"P4\n2 2\n\x40\x80P6\n2 1\n1\n\x00\x00\x01\x01\x01\x00P7\nWIDTH 2\nHEIGHT 1\nDEPTH 2\nMAXVAL 1\nTUPLTYPE BLACKANDWHITE_ALPHA\nENDHDR\n\x00\x01\x01\x00".as_slice(),
+                3,
+                4,
+            ),
+            (
+                KINDS,
+                &[planes],
+                b"P7\nWIDTH 2\nHEIGHT 2\nDEPTH 2\nMAXVAL 1\nTUPLTYPE T\nENDHDR\n\x01\x01\x00\x00\x00\x00\x01\x01P7\nWIDTH 2\nHEIGHT 1\nDEPTH 2\nMAXVAL 3\nTUPLTYPE T\nENDHDR\n\x00\x00\x03\x03P7\nWIDTH 2\nHEIGHT 1\nDEPTH 2\nMAXVAL 1\nTUPLTYPE T\nENDHDR\n\x00\x00\x01\x01".as_slice(),
+                3,
+                4,
+            ),
+        ],
+    );
+    Ok(())
+}
+
+/// A tool takes what the one before it makes.
+#[test]
+fn runs_chains(rt: HostRuntime) -> Result<(), Fail> {
+    let three = channel(rt.alloc(), &[2, 0, 2], b"Q")?;
+    let twice = channel(rt.alloc(), &[0, 0], b"")?;
+    let from_second_row = CutBox {
+        top: Some(1),
+        ..WHOLE
+    };
+    runs(
+        &rt,
+        rt.alloc(),
+        &[
+            (
+                b"P5\n3 1\n2\n\x00\x01\x02".as_slice(),
+                &[Tool::Invert, Tool::Depth(1)],
+                b"P5\n3 1\n1\n\x01\x01\x00".as_slice(),
+                1,
+                1,
+            ),
+            (
+                b"P5\n3 1\n2\n\x00\x01\x02".as_slice(),
+                &[Tool::Depth(1), Tool::Invert],
+                b"P5\n3 1\n1\n\x01\x00\x00".as_slice(),
+                1,
+                1,
+            ),
+            (
+                b"P5\n1 2\n3\n\x01\x02".as_slice(),
+                &[Tool::Cut(from_second_row), Tool::Depth(300), twice],
+                b"P7\nWIDTH 1\nHEIGHT 1\nDEPTH 2\nMAXVAL 300\nENDHDR\n\x00\xc8\x00\xc8".as_slice(),
+                1,
+                1,
+            ),
+            (
+                b"P6\n2 1\n9\n\x00\x03\x09\x04\x05\x06".as_slice(),
+                &[
+                    Tool::Invert,
+                    Tool::Cut(FROM_SECOND),
+                    Tool::Depth(255),
+                    three,
+                ],
+                b"P7\nWIDTH 1\nHEIGHT 1\nDEPTH 3\nMAXVAL 255\nTUPLTYPE Q\nENDHDR\n\x55\x8e\x55".as_slice(),
+                1,
+                1,
+            ),
+        ],
+    );
+    Ok(())
+}
+
+/// The longest chains: an even number of inversions, and a column less for each tool.
+#[test]
+fn runs_the_longest_chains(rt: HostRuntime) -> Result<(), Fail> {
+    let mut inverts = Vec::new(rt.alloc());
+    let mut cuts = Vec::new(rt.alloc());
+    let mut wide = Vec::from_slice(rt.alloc(), b"P5\n18 1\n20\n")?;
+    wide.extend_from_slice(&[0, 1])?;
+    for number in 0..16u8 {
+        inverts.push(Tool::Invert)?;
+        cuts.push(Tool::Cut(FROM_SECOND))?;
+        wide.push(number + 2)?;
     }
+    runs(
+        &rt,
+        rt.alloc(),
+        &[
+            (KINDS, inverts.as_slice(), KINDS, 3, 4),
+            (
+                wide.as_slice(),
+                cuts.as_slice(),
+                b"P5\n2 1\n20\n\x10\x11".as_slice(),
+                1,
+                1,
+            ),
+        ],
+    );
     Ok(())
 }
