@@ -6,6 +6,7 @@ use pnm_read::InputFault;
 mod chains;
 mod command;
 mod devices;
+mod memory;
 mod order;
 mod run;
 mod streams;

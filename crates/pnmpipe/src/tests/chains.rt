@@ -8,7 +8,7 @@ use crate::serial::run_serial;
 use crate::summary::Summary;
 use pnm_image::Device;
 use pnm_tools::{CutBox, Planes, Tool};
-use std::alloc::Global;
+use std::alloc::{AllocError, Global};
 use std::process::Abort;
 use std::test::Fail;
 
@@ -37,7 +37,7 @@ pub fn are_lawful(tools: &[Tool]) -> bool
 }
 
 /// `pamchannel` of these planes.
-pub fn channel(alloc: Global, numbers: &[u16], tuple_type: &[u8]) -> Result<Tool, Fail> {
+pub fn channel(alloc: Global, numbers: &[u16], tuple_type: &[u8]) -> Result<Tool, AllocError> {
     let numbers = Vec::from_slice(alloc, numbers)?;
     let tuple_type = Vec::from_slice(alloc, tuple_type)?;
     Ok(Tool::Channel(Planes::new(numbers, tuple_type)))
