@@ -3,8 +3,11 @@
 
 use pnm_read::InputFault;
 
+mod chains;
 mod command;
 mod devices;
+mod memory;
+mod order;
 mod run;
 mod streams;
 mod texts;

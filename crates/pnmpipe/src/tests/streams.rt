@@ -5,9 +5,9 @@ use super::run::run;
 use crate::fault::RunFault;
 use crate::serial::run_serial;
 use crate::summary::Summary;
-use crate::tool::Tool;
 use pnm_image::Device;
 use pnm_read::InputFault;
+use pnm_tools::Tool;
 use pnm_write::SinkFault;
 
 /// Two images of different kinds, and both inverted.

@@ -1,0 +1,170 @@
+//! Which fault of a run over a chain is answered, and what is written before it.
+
+use super::chains::{FROM_SECOND, LAST_COLUMN, are_lawful, channel, run_chain};
+use super::devices::{FailsOnce, Sips};
+use crate::fault::RunFault;
+use crate::serial::run_serial;
+use crate::summary::Summary;
+use pnm_image::Device;
+use pnm_read::InputFault;
+use pnm_tools::{Tool, ToolFault};
+use pnm_write::SinkFault;
+use std::test::Fail;
+
+/// Images of which the first alone has a second column, or the first and the last.
+const NARROW: &[u8] = b"P5\n2 1\n9\n\x01\x02P5\n1 1\n9\n\x03";
+
+const NARROW_BETWEEN: &[u8] = b"P5\n2 1\n9\n\x01\x02P5\n1 1\n9\n\x03P5\n2 1\n9\n\x04\x05";
+
+/// An input, tools that refuse an image, what is answered and what is written.
+type Refused<'a> = (&'a [u8], &'a [Tool], RunFault, &'a [u8]);
+
+/// Of the tools that refuse an image the first is answered, whichever does so earlier in the stream;
+/// a fault of the input is answered before them. The images before the first refusal are written, and
+/// nothing after.
+#[test]
+fn answers_the_first_fault(rt: HostRuntime) -> Result<(), Fail> {
+    let outside = RunFault::Tool(1, ToolFault::CutOutside);
+    let second = channel(rt.alloc(), &[1], b"")?;
+    let second_again = channel(rt.alloc(), &[1], b"")?;
+    let second_third = channel(rt.alloc(), &[1], b"")?;
+    let cases: [Refused<'_>; 10] = [
+        (
+            NARROW,
+            &[Tool::Cut(FROM_SECOND)],
+            outside,
+            b"P5\n1 1\n9\n\x02",
+        ),
+        (
+            NARROW_BETWEEN,
+            &[Tool::Cut(FROM_SECOND)],
+            outside,
+            b"P5\n1 1\n9\n\x02",
+        ),
+        (
+            NARROW_BETWEEN,
+            &[Tool::Cut(FROM_SECOND), Tool::Invert],
+            outside,
+            b"P5\n1 1\n9\n\x07",
+        ),
+        (
+            NARROW_BETWEEN,
+            &[Tool::Invert, Tool::Cut(FROM_SECOND)],
+            RunFault::Tool(2, ToolFault::CutOutside),
+            b"P5\n1 1\n9\n\x07",
+        ),
+        // Tool 2 refuses the first image, and tool 1 the second.
+        (NARROW, &[Tool::Cut(FROM_SECOND), second], outside, b""),
+        (
+            b"P6\n1 1\n9\n\x01\x02\x03P5\n1 1\n9\n\x04",
+            &[second_again, Tool::Cut(FROM_SECOND)],
+            RunFault::Tool(1, ToolFault::ChannelOutside),
+            b"",
+        ),
+        // Both refuse the same image.
+        (
+            b"P5\n1 1\n9\n\x05",
+            &[second_third, Tool::Cut(FROM_SECOND)],
+            RunFault::Tool(1, ToolFault::ChannelOutside),
+            b"",
+        ),
+        (
+            b"P5\n1 1\n9\n\x03XX",
+            &[Tool::Cut(FROM_SECOND)],
+            RunFault::Input(InputFault::BadMagic),
+            b"",
+        ),
+        (
+            b"P5\n2 1\n9\n\x01\x02P5\n1 1\n9\n\x03XX",
+            &[Tool::Invert, Tool::Cut(FROM_SECOND)],
+            RunFault::Input(InputFault::BadMagic),
+            b"P5\n1 1\n9\n\x07",
+        ),
+        (
+            b"P5\n2 1\n9\n\x01\x02P6\n1 1\n9\n\x03\x04",
+            &[Tool::Cut(LAST_COLUMN)],
+            RunFault::Input(InputFault::RasterCut),
+            b"P5\n1 1\n9\n\x02P6\n1 1\n9\n",
+        ),
+    ];
+    for (input, tools, fault, output) in &cases {
+        let (answer, written) = run_chain(&rt, rt.alloc(), tools, input);
+        assert_eq!(rt; answer, Err(*fault), "at {:?}, {:?}", tools, input);
+        assert_eq!(rt; written.as_slice(), *output, "at {:?}, {:?}", tools, input);
+    }
+    Ok(())
+}
+
+/// A plane that isn't there.
+#[test]
+fn answers_a_missing_plane(rt: HostRuntime) -> Result<(), Fail> {
+    let tools = [channel(rt.alloc(), &[1], b"")?];
+    let (answer, written) = run_chain(&rt, rt.alloc(), &tools, b"P5\n1 1\n9\n\x05");
+    let want = Err(RunFault::Tool(1, ToolFault::ChannelOutside));
+    assert_eq!(rt; answer, want);
+    assert!(rt; written.is_empty());
+    Ok(())
+}
+
+/// A fault of a tool is answered before a failed write, which alone is the output's fault.
+#[test]
+fn answers_a_failed_write_last(rt: HostRuntime) {
+    let failed = RunFault::Output(SinkFault::WriteFailed);
+    let outside = RunFault::Tool(2, ToolFault::CutOutside);
+    let output = b"P5\n1 1\n9\n\x07P5\n1 1\n9\n\x04".as_slice();
+    let tools = [Tool::Invert, Tool::Cut(FROM_SECOND)];
+    assert!(rt; are_lawful(&tools));
+    for (input, want, most) in [
+        (
+            b"P5\n2 1\n9\n\x01\x02P5\n2 1\n9\n\x04\x05".as_slice(),
+            failed,
+            20,
+        ),
+        (NARROW, outside, 10),
+    ] {
+        for before in 0..most {
+            let mut sips = Sips {
+                held: Vec::new(rt.alloc()),
+                most: 1,
+                writes: FailsOnce::after(before),
+                flushes: FailsOnce::never(),
+            };
+            let answer = run_serial(
+                rt.alloc(),
+                &mut Device::new(input),
+                &mut Device::new(&mut sips),
+                &tools,
+            );
+            assert_eq!(rt; answer, Err(want), "after {before} writes of {input:?}");
+            assert_eq!(rt;
+                sips.held.as_slice(),
+                &output[..before],
+                "after {before} writes of {input:?}"
+            );
+        }
+    }
+}
+
+/// A stream cut at each byte, behind two tools: what was read before the cut is written, whole images
+/// and the rows and the header of the one that was begun.
+#[test]
+fn writes_all_that_was_read(rt: HostRuntime) {
+    let stream = b"P5\n2 2\n9\n\x01\x02\x03\x04P6\n1 1\n9\n\x03\x04\x05".as_slice();
+    let output = b"P5\n1 2\n9\n\x07\x05P6\n1 1\n9\n\x06\x05\x04".as_slice();
+    let tools = [Tool::Invert, Tool::Cut(LAST_COLUMN)];
+    for count in 0..26 {
+        let (want, written) = match count {
+            0 => (Err(InputFault::EmptyInput), 0),
+            1..=8 => (Err(InputFault::HeaderCut), 0),
+            9 | 10 => (Err(InputFault::RasterCut), 9),
+            11 | 12 => (Err(InputFault::RasterCut), 10),
+            13 => (Ok(Summary { images: 1, rows: 2 }), 11),
+            14..=21 => (Err(InputFault::HeaderCut), 11),
+            22..=24 => (Err(InputFault::RasterCut), 20),
+            _ => (Ok(Summary { images: 2, rows: 3 }), 23),
+        };
+        let (answer, bytes) = run_chain(&rt, rt.alloc(), &tools, &stream[..count]);
+        assert_eq!(rt; answer, want.map_err(RunFault::Input), "at {count} bytes");
+        assert_eq!(rt; bytes.as_slice(), &output[..written], "at {count} bytes");
+    }
+}
