@@ -7,13 +7,15 @@ use crate::summary::Summary;
 use pnm_image::Device;
 use pnm_read::InputFault;
 use pnm_tools::{Tool, ToolFault};
-use std::process::Abort;
 use std::alloc::Global;
+use std::process::Abort;
 
 /// A plain image would be one alone, so these are raw; the second has more samples than its maxval.
-const STREAM: &[u8] = b"P5\n2 1\n9\n\x01\x02P6\n2 2\n3\n\x00\x01\x02\x03\x02\x01\x00\x00\x00\x01\x02\x03";
+const STREAM: &[u8] =
+    b"P5\n2 1\n9\n\x01\x02P6\n2 2\n3\n\x00\x01\x02\x03\x02\x01\x00\x00\x00\x01\x02\x03";
 
-const PICKED: &[u8] = b"P7\nWIDTH 1\nHEIGHT 1\nDEPTH 2\nMAXVAL 255\nTUPLTYPE T\nENDHDR\n\x39\x39P7\nWIDTH 1\nHEIGHT 2\nDEPTH 2\nMAXVAL 255\nTUPLTYPE T\nENDHDR\n\xff\xff\x55\x55";
+const PICKED: &[u8] =
+    b"P7\nWIDTH 1\nHEIGHT 1\nDEPTH 2\nMAXVAL 255\nTUPLTYPE T\nENDHDR\n\x39\x39P7\nWIDTH 1\nHEIGHT 2\nDEPTH 2\nMAXVAL 255\nTUPLTYPE T\nENDHDR\n\xff\xff\x55\x55";
 
 /// What a run over three tools answers; none where there is no memory for these. Whatever it is, a
 /// front of the whole output is written, and want of memory alone can be at fault.
@@ -34,10 +36,11 @@ fn run_short_of_memory(rt: &impl Abort, alloc: Global) -> Option<Summary> {
             assert_eq!(rt; written, PICKED);
             Some(summary)
         }
-        Err(RunFault::Input(InputFault::Memory)) | Err(RunFault::Tool(1..=3, ToolFault::Memory)) => {
-            assert!(rt; PICKED.starts_with(written));
-            None
-        }
+        Err(RunFault::Input(InputFault::Memory)) | Err(RunFault::Tool(1..=3, ToolFault::Memory)) =>
+            {
+                assert!(rt; PICKED.starts_with(written));
+                None
+            }
         Err(fault) => {
             assert!(rt; false, "not {fault:?}");
             None
