@@ -13,9 +13,9 @@ use Rattle.pnm_tools.specs.declared.fault.ToolFault.{ToolFault}
 use Rattle.pnm_tools.specs.declared.tool.Tool.{Tool}
 use Rattle.pnm_tools.specs.Tools.{AreTaken, result_head, row_answer, output_due}
 use Rattle.pnm_tools.specs.Answers.{More, BrokenOff, ending_of, EndsBy, Answers}
-use Rattle.pnm_tools.specs.RowWise.{answered, answered_from}
+use Rattle.pnm_tools.specs.Answering.{answered, answered_from}
 use Rattle.pnm_tools.specs.States.{IsAnswering}
-use Rattle.pnm_tools.proofs.RowWiseLaws.{AnswersImages, answered_from-append, answers_are_due}
+use Rattle.pnm_tools.proofs.AnsweringLaws.{AnswersImages, answered_from-append, answers_are_due}
 
 -- no message is Stop
 abbrev pub GoOn : List Message → Type 0

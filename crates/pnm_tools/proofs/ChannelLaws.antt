@@ -20,10 +20,10 @@ use Rattle.pnm_tools.specs.Formulas.{image_by}
 use Rattle.pnm_tools.specs.Limits.{is_too_large, within_limits}
 use Rattle.pnm_tools.specs.Channel.{Picks, IsLawfulPick, HasPlanes, picked_header, picked_sample, picked_row}
 use Rattle.pnm_tools.specs.Tools.{result_head, result_sample, row_answer}
-use Rattle.pnm_tools.specs.RowWise.{answered_from}
+use Rattle.pnm_tools.specs.Answering.{answered_from}
 use Rattle.pnm_tools.proofs.FormulaLaws.{columns, row_at, rows_are, rows_of-image_by, range_alike}
 use Rattle.pnm_tools.proofs.ImageLaws.{result_by_head, answered_by_rows}
-use Rattle.pnm_tools.proofs.RowWiseLaws.{AnswersImages}
+use Rattle.pnm_tools.proofs.AnsweringLaws.{AnswersImages}
 
 -- ---- an image that isn't refused
 

@@ -18,10 +18,10 @@ use Rattle.pnm_tools.specs.declared.tool.Tool.TheVariants.{Cut}
 use Rattle.pnm_tools.specs.Formulas.{image_by}
 use Rattle.pnm_tools.specs.Cut.{span_within, span_count, first_kept, last_kept, columns_kept, rows_kept, first_of, head_of_spans, columns_of_row, rows_of_spans, cut_rows_of}
 use Rattle.pnm_tools.specs.Tools.{result_head, result_sample, row_answer}
-use Rattle.pnm_tools.specs.RowWise.{answered_from}
+use Rattle.pnm_tools.specs.Answering.{answered_from}
 use Rattle.pnm_tools.proofs.FormulaLaws.{columns, columns_at, row_at, rows_are, rows_of-image_by, range_alike}
 use Rattle.pnm_tools.proofs.ImageLaws.{result_by_head, answered_by_rows}
-use Rattle.pnm_tools.proofs.RowWiseLaws.{AnswersImages}
+use Rattle.pnm_tools.proofs.AnsweringLaws.{AnswersImages}
 
 -- ---- ranges of numbers
 

@@ -10,9 +10,9 @@ use Rattle.pnm_tools.specs.declared.tool.Tool.TheVariants.{Depth}
 use Rattle.pnm_tools.specs.Formulas.{image_by}
 use Rattle.pnm_tools.specs.Depth.{nearest_sample, kind_at, type_at, rescaled_sample}
 use Rattle.pnm_tools.specs.Tools.{result_head, result_sample, row_answer, applied}
-use Rattle.pnm_tools.specs.RowWise.{answered_from}
+use Rattle.pnm_tools.specs.Answering.{answered_from}
 use Rattle.pnm_tools.proofs.FormulaLaws.{samplewise_rows}
-use Rattle.pnm_tools.proofs.RowWiseLaws.{AnswersImages}
+use Rattle.pnm_tools.proofs.AnsweringLaws.{AnswersImages}
 
 -- the answer to rows and the end of an image
 rows_answered : (new : ℕ) (s : Shape) (y : ℕ) (rows : List (List ℕ)) → answered_from (Depth new) (Inside s y) (map Row rows ++ ImageEnd ∷ []) ≡ map Row (map (map (nearest_sample new s.maxval)) rows) ++ ImageEnd ∷ []

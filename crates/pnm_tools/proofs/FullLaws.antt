@@ -9,9 +9,9 @@ use Rattle.pnm_image.specs.Places.{place_of}
 use Rattle.pnm_image.specs.Completion.{IsFrontOf, Completes}
 use Rattle.pnm_tools.specs.declared.tool.Tool.{Tool}
 use Rattle.pnm_tools.specs.Answers.{EndsBy, images_ended, begun_of, begun_in, owed, AnswersInFull}
-use Rattle.pnm_tools.specs.RowWise.{answered_from}
+use Rattle.pnm_tools.specs.Answering.{answered_from}
 use Rattle.pnm_tools.specs.States.{IsAnswering}
-use Rattle.pnm_tools.proofs.RowWiseLaws.{AnswersImages, answered_from-append}
+use Rattle.pnm_tools.proofs.AnsweringLaws.{AnswersImages, answered_from-append}
 use Rattle.pnm_tools.proofs.AtLaws.{StopsLast, keeps_all, cuts_stop, lawful_stops, answering_answers}
 use Rattle.pnm_tools.proofs.InFullLaws.{answers_end_so}
 use Rattle.pnm_tools.proofs.OwedLaws.{owed_is_answered}

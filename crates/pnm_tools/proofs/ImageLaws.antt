@@ -1,5 +1,7 @@
 -- What becomes of an image that isn't refused.
-use Rattle.std.proofs.Common.{◌≡◌, ℕ, List, [], ◌∷◌, ◌++◌, map, Result, Ok, Err, sym, ap, ◌∙◌}
+use Rattle.std.proofs.Common.{◌≡◌, ℕ, ◌+◌, List, [], ◌∷◌, ◌++◌, map, Result, Ok, Err, sym, ap, ◌∙◌, append_assoc, append-nil}
+use Rattle.std.proofs.lemmas.List.{map-append}
+use Rattle.pnm_image.specs.declared.shape.Shape.{Shape}
 use Rattle.pnm_image.specs.declared.message.Message.{Message}
 use Rattle.pnm_image.specs.declared.message.Message.TheVariants.{Begin, Row, ImageEnd}
 use Rattle.pnm_image.specs.declared.place.Place.TheVariants.{Between, Inside}
@@ -7,9 +9,9 @@ use Rattle.pnm_image.specs.Heads.{Header}
 use Rattle.pnm_image.specs.Images.{Image, rows_of, messages_of_image}
 use Rattle.pnm_tools.specs.declared.fault.ToolFault.{ToolFault}
 use Rattle.pnm_tools.specs.declared.tool.Tool.{Tool}
-use Rattle.pnm_tools.specs.Tools.{result_head, result_sample, applied}
+use Rattle.pnm_tools.specs.Tools.{result_head, result_sample, applied, row_answer, end_answer}
 use Rattle.pnm_tools.specs.Formulas.{image_by}
-use Rattle.pnm_tools.specs.RowWise.{answered_from}
+use Rattle.pnm_tools.specs.Answering.{answered_from}
 
 abbrev made_by : (ℕ → ℕ → ℕ → ℕ) → Result Header ToolFault → Result Image ToolFault
 made_by sample r = elim r [ Ok head ↦ Ok (image_by head sample) | Err fault ↦ Err fault ]
@@ -29,13 +31,34 @@ by_head sample (Err fault) j e = absurd cc
 pub result_by_head : (tool : Tool) (i j : Image) → applied tool i ≡ Ok j → IsBy (result_head tool i.head) (result_sample tool i) j
 result_by_head tool i j e = by_head (result_sample tool i) (result_head tool i.head) j e
 
--- the answer to an image by the answer to its rows
+-- the rows that answer rows as they come, row y first
+abbrev pub answers_to_rows : Tool → Shape → ℕ → List (List ℕ) → List (List ℕ)
+answers_to_rows tool s y [] = []
+answers_to_rows tool s y (row ∷ rows) = row_answer tool s y row ++ answers_to_rows tool s (y + 1) rows
+
+-- the answer to the rows and the end of an image, of which some rows have come
+rows_answered : (tool : Tool) (s : Shape) (y : ℕ) (come rows : List (List ℕ))
+    → answered_from tool (Inside s y) come (map Row rows ++ ImageEnd ∷ []) ≡ map Row (answers_to_rows tool s y rows ++ end_answer tool s (come ++ rows)) ++ ImageEnd ∷ []
+rows_answered tool s y come [] =
+    append-nil (map Row (end_answer tool s come) ++ ImageEnd ∷ [])
+    ∙ ap (λ (l : List (List ℕ)). map Row (end_answer tool s l) ++ ImageEnd ∷ []) (sym (append-nil come))
+rows_answered tool s y come (row ∷ rows) =
+    let first : List (List ℕ) = row_answer tool s y row in
+    let others : List (List ℕ) = answers_to_rows tool s (y + 1) rows in
+    let last : List (List ℕ) = end_answer tool s (come ++ row ∷ rows) in
+    ap (λ (l : List Message). map Row first ++ l) (rows_answered tool s (y + 1) (come ++ row ∷ []) rows)
+    ∙ ap (λ (l : List (List ℕ)). map Row first ++ (map Row (others ++ end_answer tool s l) ++ ImageEnd ∷ [])) (append_assoc come (row ∷ []) rows)
+    ∙ sym (append_assoc (map Row first) (map Row (others ++ last)) (ImageEnd ∷ []))
+    ∙ ap (λ (l : List Message). l ++ ImageEnd ∷ []) (sym (map-append Row first (others ++ last)))
+    ∙ ap (λ (l : List (List ℕ)). map Row l ++ ImageEnd ∷ []) (sym (append_assoc first others last))
+
+-- an image that isn't refused is answered by its result, where its rows and its end are
 pub answered_by_rows : (tool : Tool) (i j : Image) → applied tool i ≡ Ok j
-    → answered_from tool (Inside i.head.shape 0) (map Row (rows_of i) ++ ImageEnd ∷ []) ≡ map Row (rows_of (image_by j.head (result_sample tool i))) ++ ImageEnd ∷ []
-    → answered_from tool Between (messages_of_image i) ≡ messages_of_image j
+    → answers_to_rows tool i.head.shape 0 (rows_of i) ++ end_answer tool i.head.shape (rows_of i) ≡ rows_of (image_by j.head (result_sample tool i))
+    → answered_from tool Between [] (messages_of_image i) ≡ messages_of_image j
 answered_by_rows tool i j e rows =
     let made = result_by_head tool i j e in
-    let rest : List Message = answered_from tool (Inside i.head.shape 0) (map Row (rows_of i) ++ ImageEnd ∷ []) in
+    let rest : List Message = answered_from tool (Inside i.head.shape 0) [] (map Row (rows_of i) ++ ImageEnd ∷ []) in
     ap (λ (r : Result Header ToolFault). elim r [ Ok result ↦ Begin result ∷ [] | Err fault ↦ [] ] ++ rest) made.head
-    ∙ ap (λ (l : List Message). Begin j.head ∷ l) rows
+    ∙ ap (λ (l : List Message). Begin j.head ∷ l) (rows_answered tool i.head.shape 0 [] (rows_of i) ∙ ap (λ (l : List (List ℕ)). map Row l ++ ImageEnd ∷ []) rows)
     ∙ ap messages_of_image made.whole

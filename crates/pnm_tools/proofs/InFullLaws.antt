@@ -10,7 +10,7 @@ use Rattle.pnm_tools.specs.declared.fault.ToolFault.{ToolFault}
 use Rattle.pnm_tools.specs.declared.tool.Tool.{Tool}
 use Rattle.pnm_tools.specs.Tools.{result_head, row_answer}
 use Rattle.pnm_tools.specs.Answers.{Ending, More, ending_of, EndsBy}
-use Rattle.pnm_tools.specs.RowWise.{answered, answered_from}
+use Rattle.pnm_tools.specs.Answering.{answered, answered_from}
 
 -- ---- the answers end as the messages do
 

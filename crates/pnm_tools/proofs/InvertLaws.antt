@@ -8,9 +8,9 @@ use Rattle.pnm_image.specs.Images.{Image, IsImage, sample_at, rows_of, messages_
 use Rattle.pnm_tools.specs.declared.tool.Tool.TheVariants.{Invert}
 use Rattle.pnm_tools.specs.Formulas.{image_by}
 use Rattle.pnm_tools.specs.Tools.{result_head, result_sample, row_answer, applied}
-use Rattle.pnm_tools.specs.RowWise.{answered_from}
+use Rattle.pnm_tools.specs.Answering.{answered_from}
 use Rattle.pnm_tools.proofs.FormulaLaws.{samplewise_rows}
-use Rattle.pnm_tools.proofs.RowWiseLaws.{AnswersImages}
+use Rattle.pnm_tools.proofs.AnsweringLaws.{AnswersImages}
 
 -- the answer to rows and the end of an image
 rows_answered : (s : Shape) (y : ℕ) (rows : List (List ℕ)) → answered_from Invert (Inside s y) (map Row rows ++ ImageEnd ∷ []) ≡ map Row (map (map (λ sample. s.maxval - sample)) rows) ++ ImageEnd ∷ []

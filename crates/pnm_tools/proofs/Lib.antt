@@ -1,6 +1,6 @@
 pub mod FullAnswers
 pub mod FormulaLaws
-pub mod RowWiseLaws
+pub mod AnsweringLaws
 pub mod ImageLaws
 pub mod HeadLaws
 pub mod RowLaws

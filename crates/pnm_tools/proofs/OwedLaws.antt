@@ -13,8 +13,8 @@ use Rattle.pnm_tools.specs.declared.fault.ToolFault.{ToolFault}
 use Rattle.pnm_tools.specs.declared.tool.Tool.{Tool}
 use Rattle.pnm_tools.specs.Tools.{result_head, applied}
 use Rattle.pnm_tools.specs.Answers.{images_ended, begun_of, owed}
-use Rattle.pnm_tools.specs.RowWise.{answered_from}
-use Rattle.pnm_tools.proofs.RowWiseLaws.{AnswersImages, Fronts, fronts, ends_between, answered_from-append}
+use Rattle.pnm_tools.specs.Answering.{answered_from}
+use Rattle.pnm_tools.proofs.AnsweringLaws.{AnswersImages, Fronts, fronts, ends_between, answered_from-append}
 
 pub place_of-append : (place : Place) (a b : List Message) → place_of place (a ++ b) ≡ place_of (place_of place a) b
 place_of-append place [] b = refl

@@ -16,7 +16,7 @@ use Rattle.pnm_tools.specs.Tools.{IsLawfulTool, AreTaken, result_head, result_sa
 use Rattle.pnm_tools.specs.Answers.{MayCome, RefusesHead, Judges, AreResults}
 use Rattle.pnm_tools.specs.Chains.{AreResultsInTurn, results_of, Refusal, refusal_from}
 use Rattle.pnm_tools.specs.Stages.{IsRefusedNext}
-use Rattle.pnm_tools.proofs.RowWiseLaws.{taken_rest, applied_by}
+use Rattle.pnm_tools.proofs.AnsweringLaws.{taken_rest, applied_by}
 use Rattle.pnm_tools.proofs.FrontLaws.{rest_in_turn}
 use Rattle.pnm_tools.proofs.ResultLaws.{result_is_image}
 

@@ -14,7 +14,7 @@ use Rattle.pnm_tools.specs.declared.tool.Tool.{Tool}
 use Rattle.pnm_tools.specs.Tools.{IsLawfulTool, applied, output_due}
 use Rattle.pnm_tools.specs.Answers.{Ending, More, Whole, BrokenOff, ending_of, EndsBy}
 use Rattle.pnm_tools.specs.Stages.{IsSound}
-use Rattle.pnm_tools.proofs.RowWiseLaws.{Fronts, fronts, due_by, due_is}
+use Rattle.pnm_tools.proofs.AnsweringLaws.{Fronts, fronts, due_by, due_is}
 use Rattle.pnm_tools.proofs.ResultLaws.{result_is_image, result_has_rows}
 
 -- ---- ends

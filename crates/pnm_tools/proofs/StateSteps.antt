@@ -20,14 +20,14 @@ use Rattle.pnm_tools.specs.declared.state.Pending.{Pending}
 use Rattle.pnm_tools.specs.declared.state.Pending.TheVariants.{AllGiven, Waiting, Nothing}
 use Rattle.pnm_tools.specs.declared.tool.Tool.{Tool}
 use Rattle.pnm_tools.specs.Answers.{BrokenOff, EndsBy, AnswersInFull, Begins, RefusesHead, Judges}
-use Rattle.pnm_tools.specs.RowWise.{answered, answered_from}
+use Rattle.pnm_tools.specs.Answering.{answered, answered_from}
 use Rattle.pnm_tools.specs.States.{Standing, standing, IsAnswering, IsAt, is_all_given, waiting_in}
 use Rattle.pnm_tools.specs.Steps.{IsDue, IsTaken, IsRefused}
 use Rattle.pnm_tools.specs.Tools.{AreTaken, result_head}
 use Rattle.pnm_tools.proofs.AtLaws.{GoOn, StopsLast, lawful_stops, not_broken, answering_answers}
 use Rattle.pnm_tools.proofs.FullLaws.{answering_in_full}
 use Rattle.pnm_tools.proofs.OwedLaws.{place_of-append}
-use Rattle.pnm_tools.proofs.RowWiseLaws.{answered_from-append}
+use Rattle.pnm_tools.proofs.AnsweringLaws.{answered_from-append}
 use Rattle.pnm_tools.proofs.ToolLaws.{tool_answers_images}
 
 -- no head is refused for want of memory

@@ -2,7 +2,7 @@
 use Rattle.pnm_tools.specs.declared.tool.Tool.{Tool}
 use Rattle.pnm_tools.specs.declared.tool.Tool.TheVariants.{Invert, Cut, Depth, Channel}
 use Rattle.pnm_tools.specs.Tools.{IsLawfulTool}
-use Rattle.pnm_tools.proofs.RowWiseLaws.{AnswersImages}
+use Rattle.pnm_tools.proofs.AnsweringLaws.{AnswersImages}
 use Rattle.pnm_tools.proofs.InvertLaws.{invert_answers_images}
 use Rattle.pnm_tools.proofs.CutLaws.{cut_answers_images}
 use Rattle.pnm_tools.proofs.DepthLaws.{depth_answers_images}

@@ -4,9 +4,14 @@ pub mod Invert
 pub mod Cut
 pub mod Depth
 pub mod Channel
+pub mod Pixels
+pub mod Enlarge
+pub mod Flip
+pub mod Tile
 pub mod Tools
 pub mod Answers
-pub mod RowWise
+pub mod Answering
+pub mod Keeping
 pub mod States
 pub mod Steps
 pub mod Chains

@@ -1,51 +1,89 @@
 -- The state of a tool at work: what it has accepted and given.
-use Rattle.std.specs.Prelude.{◌≡◌, ◌⊎◌, ℕ, ◌+◌, Bool, true, false, List, [], ◌∷◌, ◌++◌, map, length, Option, Some, None}
+use Rattle.std.specs.Prelude.{◌≡◌, ◌⊎◌, ℕ, ◌+◌, ◌-◌, ◌*◌, ◌<◌, ◌≤◌, ◌%◌, Bool, true, false, if◌then◌else◌, List, [], ◌∷◌, ◌++◌, map, length, take, reverse, replicate, slice_index_or, All, Option, Some, None}
 use Rattle.std.specs.List.{range_with_len}
 use Rattle.pnm_image.specs.declared.shape.Shape.{Shape}
-use Rattle.pnm_image.specs.Heads.{IsWithinLimits}
+use Rattle.pnm_image.specs.Heads.{IsWithinLimits, row_length}
 use Rattle.pnm_image.specs.declared.message.Message.{Message}
+use Rattle.pnm_image.specs.declared.message.Message.TheVariants.{Row, ImageEnd}
 use Rattle.pnm_image.specs.declared.place.Place.{Place}
 use Rattle.pnm_image.specs.declared.place.Place.TheVariants.{Between, Inside, After}
 use Rattle.pnm_image.specs.Places.{IsLawful, place_of}
 use Rattle.pnm_tools.specs.declared.depth.Rescaler.{Rescaler}
 use Rattle.pnm_tools.specs.declared.fault.ToolFault.{ToolFault}
+use Rattle.pnm_tools.specs.declared.flip.FlipWay.TheVariants.{Null, LeftRight, TopBottom, Transpose}
 use Rattle.pnm_tools.specs.declared.state.Pending.{Pending}
-use Rattle.pnm_tools.specs.declared.state.Pending.TheVariants.{AllGiven, Waiting, Nothing}
+use Rattle.pnm_tools.specs.declared.state.Pending.TheVariants.{AllGiven, Waiting, Rows, Ending, Nothing}
 use Rattle.pnm_tools.specs.declared.tool.Tool.{Tool}
-use Rattle.pnm_tools.specs.declared.tool.Tool.TheVariants.{Invert, Cut, Depth, Channel}
+use Rattle.pnm_tools.specs.declared.tool.Tool.TheVariants.{Invert, Cut, Depth, Channel, Enlarge, Flip, Tile}
 use Rattle.pnm_tools.specs.declared.work.Work.{Work}
-use Rattle.pnm_tools.specs.declared.work.Work.TheVariants.{Inverting, Cutting, Rescaling, Picking}
-use Rattle.pnm_tools.specs.Depth.{nearest_sample}
+use Rattle.pnm_tools.specs.declared.work.Work.TheVariants.{Inverting, Cutting, Rescaling, Picking, Enlarging, Passing, Mirroring, Turning, Transposing, Tiling}
 use Rattle.pnm_tools.specs.Answers.{Answers}
+use Rattle.pnm_tools.specs.Answering.{row_list, rows_come, answered_from}
+use Rattle.pnm_tools.specs.Keeping.{IsEnlarging, IsTurning, IsTransposing, IsTiling, enlarged_due, turned_due, transposed_due, tiled_due}
 use Rattle.pnm_tools.specs.Channel.{HasPlanes}
+use Rattle.pnm_tools.specs.Depth.{nearest_sample}
 use Rattle.pnm_tools.specs.Tools.{IsLawfulTool, AreTaken}
-use Rattle.pnm_tools.specs.RowWise.{answered_from}
 
 -- a table of the rescaled samples, or none, where each is computed
 abbrev pub HasTable : Rescaler → Shape → Type 0
 HasTable r s = (r.table.items ≡ []) ⊎ (r.table.items ≡ map (nearest_sample r.maxval s.maxval) (range_with_len 0 (s.maxval + 1)))
 
--- which tool is at work
+-- ---- whichever tool is at work
+
 abbrev pub tool_of : Work → Tool
-tool_of (Inverting inverter) = Invert
-tool_of (Cutting box) = Cut box
-tool_of (Rescaling rescaler) = Depth rescaler.maxval
-tool_of (Picking planes) = Channel planes
+tool_of (Inverting w) = Invert
+tool_of (Cutting w) = Cut w.tool
+tool_of (Rescaling w) = Depth w.tool.maxval
+tool_of (Picking w) = Channel w.tool
+tool_of (Enlarging w) = Enlarge w.across w.down
+tool_of (Passing w) = Flip Null
+tool_of (Mirroring w) = Flip LeftRight
+tool_of (Turning w) = Flip TopBottom
+tool_of (Transposing w) = Flip Transpose
+tool_of (Tiling w) = Tile w.across w.down
 
--- it is ready for the rows of an image of this shape
-abbrev pub IsReady : Work → Shape → Type 0
-IsReady (Inverting inverter) s = IsWithinLimits s
-IsReady (Cutting box) s = Unit {0}
-IsReady (Rescaling rescaler) s = IsWithinLimits s × HasTable rescaler s
-IsReady (Picking planes) s = HasPlanes planes s
+-- it is ready for the next row of an image of this shape, of which these have come
+abbrev pub IsReady : Work → Shape → List (List ℕ) → Type 0
+IsReady (Inverting w) s rows = IsWithinLimits s
+IsReady (Cutting w) s rows = Unit {0}
+IsReady (Rescaling w) s rows = IsWithinLimits s × HasTable w.tool s
+IsReady (Picking w) s rows = HasPlanes w.tool s
+IsReady (Enlarging w) s rows = IsEnlarging w s
+IsReady (Passing w) s rows = Unit {0}
+IsReady (Mirroring w) s rows = IsWithinLimits s
+IsReady (Turning w) s rows = IsTurning w rows
+IsReady (Transposing w) s rows = IsTransposing w s rows
+IsReady (Tiling w) s rows = IsTiling w s rows
 
-abbrev pub IsReadyAt : {W : Type 0} → (W → Shape → Type 0) → W → Place → Type 0
-IsReadyAt ready work Between = Unit {0}
-IsReadyAt ready work (Inside s y) = ready work s
-IsReadyAt ready work After = Unit {0}
+-- the rows of the result that it still gives for what has come
+abbrev pub due_of : Work → List (List ℕ)
+due_of (Inverting w) = row_list w.made
+due_of (Cutting w) = row_list w.made
+due_of (Rescaling w) = row_list w.made
+due_of (Picking w) = row_list w.made
+due_of (Enlarging w) = enlarged_due w
+due_of (Passing w) = row_list w.made
+due_of (Mirroring w) = row_list w.made
+due_of (Turning w) = turned_due w
+due_of (Transposing w) = transposed_due w
+due_of (Tiling w) = tiled_due w
 
--- the value of a state: the tool with what it keeps for the rows, the place in what it accepts, what is still to be given,
--- and the fault that there was
+-- the rows that it keeps
+abbrev pub kept_of : Work → List (List ℕ)
+kept_of (Inverting w) = row_list w.made
+kept_of (Cutting w) = row_list w.made
+kept_of (Rescaling w) = row_list w.made
+kept_of (Picking w) = row_list w.made
+kept_of (Enlarging w) = row_list w.row
+kept_of (Passing w) = row_list w.made
+kept_of (Mirroring w) = row_list w.made
+kept_of (Turning w) = w.rows.items
+kept_of (Transposing w) = w.rows ++ w.band
+kept_of (Tiling w) = w.rows
+
+-- ---- a tool at work on a stream, W being what it keeps
+
+-- the value of a state: the tool at work, the place in what it accepts, what is still to be given, and the fault that there was
 pub record Standing (W : Type 0) : Type 0 where
   pub work : W
   pub place : Place
@@ -55,34 +93,71 @@ pub record Standing (W : Type 0) : Type 0 where
 abbrev pub standing : {W : Type 0} → W → Place → Pending → Option ToolFault → Standing W
 standing work place pending fault = record { work = work; place = place; pending = pending; fault = fault }
 
--- the message that waits to be given
-abbrev pub waiting_in : Pending → List Message
-waiting_in AllGiven = []
-waiting_in (Waiting message) = message ∷ []
-waiting_in Nothing = []
+-- inside an image it is ready for the next row, where these have come
+abbrev pub IsReadyFor : {W : Type 0} → (W → Shape → List (List ℕ) → Type 0) → W → Place → List (List ℕ) → Type 0
+IsReadyFor ready work Between rows = Unit {0}
+IsReadyFor ready work (Inside s y) rows = (length rows ≡ y) × ready work s rows
+IsReadyFor ready work After rows = Unit {0}
+
+-- outside images it keeps no rows, once it has given the end of the last one; and rows are given where they can come
+abbrev pub KeepsNone : {W : Type 0} → (W → List (List ℕ)) → W → Place → Pending → Type 0
+KeepsNone kept work Between AllGiven = kept work ≡ []
+KeepsNone kept work Between (Waiting message) = kept work ≡ []
+KeepsNone kept work Between Rows = ⊥
+KeepsNone kept work Between Ending = Unit {0}
+KeepsNone kept work Between Nothing = kept work ≡ []
+KeepsNone kept work (Inside s y) AllGiven = Unit {0}
+KeepsNone kept work (Inside s y) (Waiting message) = Unit {0}
+KeepsNone kept work (Inside s y) Rows = Unit {0}
+KeepsNone kept work (Inside s y) Ending = ⊥
+KeepsNone kept work (Inside s y) Nothing = Unit {0}
+KeepsNone kept work After AllGiven = kept work ≡ []
+KeepsNone kept work After (Waiting message) = kept work ≡ []
+KeepsNone kept work After Rows = ⊥
+KeepsNone kept work After Ending = ⊥
+KeepsNone kept work After Nothing = kept work ≡ []
+
+-- a state is sound: it keeps no rows after a fault
+abbrev pub IsStanding : {W : Type 0} → (W → Shape → List (List ℕ) → Type 0) → (W → List (List ℕ)) → W → Place → Pending → Option ToolFault → Type 0
+IsStanding ready kept work place pending None = ((rows : List (List ℕ)) × IsReadyFor ready work place rows) × KeepsNone kept work place pending
+IsStanding ready kept work place pending (Some fault) = kept work ≡ []
+
+-- the messages that are still to be given, of a tool that still gives these rows
+abbrev pub waiting_in : Pending → List (List ℕ) → List Message
+waiting_in AllGiven due = []
+waiting_in (Waiting message) due = message ∷ []
+waiting_in Rows due = map Row due
+waiting_in Ending due = map Row due ++ ImageEnd ∷ []
+waiting_in Nothing due = []
 
 abbrev pub is_all_given : Pending → Bool
 is_all_given AllGiven = true
 is_all_given (Waiting message) = false
+is_all_given Rows = false
+is_all_given Ending = false
 is_all_given Nothing = false
 
 -- these were accepted, none of them refused, and the answers to them are those that were given and those that wait
 pub record IsAnswering (tool : Tool) (l g waiting : List Message) : Type 0 where
   pub lawful : IsLawful l
   pub taken : AreTaken tool l
-  pub given : answered_from tool Between l ≡ g ++ waiting
+  pub given : answered_from tool Between [] l ≡ g ++ waiting
 
 -- the state of this tool, which has accepted these messages and given those
-pub record IsAt {W : Type 0} (tool_at : W → Tool) (ready_for : W → Shape → Type 0) (s : Standing W) (t : Tool) (l g : List Message) : Type 0 where
+pub record IsAt {W : Type 0} (tool_at : W → Tool) (ready_for : W → Shape → List (List ℕ) → Type 0) (due : W → List (List ℕ)) (s : Standing W) (t : Tool) (l g : List Message) : Type 0 where
   pub tool : tool_at s.work ≡ t
   pub options : IsLawfulTool t
-  pub answering : IsAnswering t l g (waiting_in s.pending)
+  pub answering : IsAnswering t l g (waiting_in s.pending (due s.work))
   pub place : s.place ≡ place_of Between l
-  pub ready : IsReadyAt ready_for s.work s.place
+  pub ready : IsReadyFor ready_for s.work s.place (rows_come [] l)
   pub answers : Answers t l g
 
+-- the same of the tool of a chain
+abbrev pub IsToolAt : Standing Work → Tool → List Message → List Message → Type 0
+IsToolAt s t l g = IsAt tool_of IsReady due_of s t l g
+
 -- the state of this tool before the first message
-pub record IsFresh {W : Type 0} (tool_at : W → Tool) (ready_for : W → Shape → Type 0) (s : Standing W) (t : Tool) : Type 0 where
-  pub state : IsAt tool_at ready_for s t [] []
+pub record IsFresh (s : Standing Work) (t : Tool) : Type 0 where
+  pub state : IsToolAt s t [] []
   pub told : is_all_given s.pending ≡ true
   pub going : s.fault ≡ None

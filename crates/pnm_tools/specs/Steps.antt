@@ -1,37 +1,72 @@
--- How a tool at work answers one message.
-use Rattle.std.specs.Prelude.{◌≡◌, ◌⊎◌, true, false, Result, Ok, Err}
+-- How a tool at work answers one message, and how it gives one.
+use Rattle.std.specs.Prelude.{◌≡◌, ◌⊎◌, ℕ, Bool, true, false, List, [], ◌∷◌, ◌++◌, Option, Some, None, Result, Ok, Err}
 use Rattle.pnm_image.specs.declared.shape.Shape.{Shape}
 use Rattle.pnm_image.specs.declared.message.Message.{Message}
+use Rattle.pnm_image.specs.declared.place.Place.{Place}
 use Rattle.pnm_image.specs.Places.{Accepts, place_after}
 use Rattle.pnm_tools.specs.declared.fault.ToolFault.{ToolFault}
 use Rattle.pnm_tools.specs.declared.fault.ToolFault.TheVariants.{OutOfOrder, Memory}
 use Rattle.pnm_tools.specs.declared.state.Pending.{Pending}
+use Rattle.pnm_tools.specs.declared.state.Pending.TheVariants.{AllGiven, Waiting, Rows, Ending, Nothing}
 use Rattle.pnm_tools.specs.declared.tool.Tool.{Tool}
 use Rattle.pnm_tools.specs.Answers.{Begins, RefusesHead}
-use Rattle.pnm_tools.specs.RowWise.{answered}
-use Rattle.pnm_tools.specs.States.{Standing, is_all_given, waiting_in, IsReadyAt}
+use Rattle.pnm_tools.specs.Answering.{answered, rows_after}
+use Rattle.pnm_tools.specs.States.{is_all_given, waiting_in, IsReadyFor, KeepsNone}
 
--- the message may come: all was given for the one before, and the place accepts it
-abbrev pub IsDue : {W : Type 0} → Standing W → Message → Type 0
-IsDue s m = (is_all_given s.pending ≡ true) × Accepts s.place m
+-- ---- a message is fed, at a place
 
--- the message is taken
-pub record IsTaken {W : Type 0} (tool_at : W → Tool) (ready_for : W → Shape → Type 0) (old : Standing W) (m : Message) (new : Standing W) (pending : Pending) : Type 0 where
-  pub due : IsDue old m
-  pub begins : Begins (tool_at old.work) m
-  pub tool : tool_at new.work ≡ tool_at old.work
-  pub place : new.place ≡ place_after old.place m
-  pub ready : IsReadyAt ready_for new.work new.place
+-- it may come: all was given for the one before, and the place accepts it
+abbrev pub IsDue : Bool → Place → Message → Type 0
+IsDue all_given place m = (all_given ≡ true) × Accepts place m
+
+-- it is taken, whatever rows of the image have come before it
+pub record IsTaken {W : Type 0} (tool_at : W → Tool) (ready_for : W → Shape → List (List ℕ) → Type 0) (due kept : W → List (List ℕ)) (all_given : Bool) (old : W) (from : Place) (m : Message) (new : W) (to : Place) (pending : Pending) : Type 0 where
+  pub is_due : IsDue all_given from m
+  pub begins : Begins (tool_at old) m
+  pub tool : tool_at new ≡ tool_at old
+  pub place : to ≡ place_after from m
+  pub ready : (rows : List (List ℕ)) → IsReadyFor ready_for old from rows → IsReadyFor ready_for new to (rows_after rows m)
   pub not_told : is_all_given pending ≡ false
-  pub answer : waiting_in pending ≡ answered (tool_at old.work) old.place m
-  pub fault : new.fault ≡ old.fault
+  pub answer : (rows : List (List ℕ)) → IsReadyFor ready_for old from rows → waiting_in pending (due new) ≡ answered (tool_at old) from rows m
+  pub none : KeepsNone kept old from AllGiven → KeepsNone kept new to pending
 
--- the message is refused
-abbrev pub IsRefused : {W : Type 0} → (W → Tool) → Standing W → Message → ToolFault → Type 0
-IsRefused tool_at old m fault =
-    ((fault ≡ OutOfOrder) × (IsDue old m → ⊥))
-    ⊎ (IsDue old m × (RefusesHead (tool_at old.work) m fault ⊎ ((fault ≡ Memory) × Begins (tool_at old.work) m)))
+-- it is refused
+abbrev pub IsRefused : {W : Type 0} → (W → Tool) → Bool → W → Place → Message → ToolFault → Type 0
+IsRefused tool_at all_given old from m fault =
+    ((fault ≡ OutOfOrder) × (IsDue all_given from m → ⊥))
+    ⊎ (IsDue all_given from m × (RefusesHead (tool_at old) m fault ⊎ ((fault ≡ Memory) × Begins (tool_at old) m)))
 
-abbrev pub Answered : {W : Type 0} → (W → Tool) → (W → Shape → Type 0) → Standing W → Message → Standing W → Result Pending ToolFault → Type 0
-Answered tool_at ready_for old m new (Ok pending) = IsTaken tool_at ready_for old m new pending
-Answered tool_at ready_for old m new (Err fault) = IsRefused tool_at old m fault
+abbrev pub Answered : {W : Type 0} → (W → Tool) → (W → Shape → List (List ℕ) → Type 0) → (W → List (List ℕ)) → (W → List (List ℕ)) → Bool → W → Place → Message → W → Place → Result Pending ToolFault → Type 0
+Answered tool_at ready_for due kept all_given old from m new to (Ok pending) = IsTaken tool_at ready_for due kept all_given old from m new to pending
+Answered tool_at ready_for due kept all_given old from m new to (Err fault) = IsRefused tool_at all_given old from m fault × (tool_at new ≡ tool_at old)
+
+-- ---- a message is given
+
+abbrev pub message_list : Option Message → List Message
+message_list None = []
+message_list (Some m) = m ∷ []
+
+-- where none is given, that is told
+abbrev pub IsTold : Option Message → Pending → Pending → Type 0
+IsTold None old new = new ≡ AllGiven
+IsTold (Some m) old new = (is_all_given old ≡ false) × (is_all_given new ≡ false)
+
+-- the first of the messages that wait is given, if one does, and the others wait
+pub record Gives {W : Type 0} (tool_at : W → Tool) (ready_for : W → Shape → List (List ℕ) → Type 0) (due kept : W → List (List ℕ)) (old : W) (before : Pending) (new : W) (after : Pending) (given : Option Message) : Type 0 where
+  pub waits : waiting_in before (due old) ≡ message_list given ++ waiting_in after (due new)
+  pub told : IsTold given before after
+  pub tool : tool_at new ≡ tool_at old
+  pub ready : (s : Shape) (rows : List (List ℕ)) → ready_for old s rows → ready_for new s rows
+  pub none : (place : Place) → KeepsNone kept old place before → KeepsNone kept new place after
+
+-- only rows can want memory
+abbrev pub GivesRows : Pending → Type 0
+GivesRows AllGiven = ⊥
+GivesRows (Waiting message) = ⊥
+GivesRows Rows = Unit {0}
+GivesRows Ending = Unit {0}
+GivesRows Nothing = ⊥
+
+abbrev pub Gave : {W : Type 0} → (W → Tool) → (W → Shape → List (List ℕ) → Type 0) → (W → List (List ℕ)) → (W → List (List ℕ)) → W → Pending → W → Pending → Result (Option Message) ToolFault → Type 0
+Gave tool_at ready_for due kept old before new after (Ok given) = Gives tool_at ready_for due kept old before new after given
+Gave tool_at ready_for due kept old before new after (Err fault) = (fault ≡ Memory) × GivesRows before × (tool_at new ≡ tool_at old)

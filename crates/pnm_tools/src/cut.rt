@@ -1,6 +1,6 @@
 //! `pamcut`: a rectangle of the image, from pamcut(1).
 
-ghost use Rattle.std.specs.Prelude.{◌≡◌, ◌↔◌, IsTrue, IfSome};
+ghost use Rattle.std.specs.Prelude.{◌≡◌, ◌↔◌, IsTrue, IfSome, []};
 ghost use Rattle.pnm_tools.specs.Cut.{IsEdge, IsSize, IsLawfulAxis, KeepsWithin, columns_of_row, span_of, first_kept, last_kept, edge_of};
 ghost use Rattle.pnm_tools.specs.declared.tool.Tool.TheVariants.{Cut};
 
@@ -41,6 +41,8 @@ impl Rows for CutBox {
     ghost tool = { λ box. Cut box };
 
     ghost ready = { λ _ _. Unit {0} };
+
+    ghost at_once = { λ _ _ _ _. [] };
 
     fn begin(&mut self, alloc: Global, head: &Head) -> Result<Head, ToolFault> {
         let shape = head.shape();

@@ -1,6 +1,6 @@
 //! `pamdepth`: the image with another maxval, from pamdepth(1).
 
-ghost use Rattle.std.specs.Prelude.{◌≡◌, ◌≤◌, ◌+◌, All, map, ℕ, length, OnOk, IfOk, IfErr, Ok, Err, ◌⊎◌};
+ghost use Rattle.std.specs.Prelude.{◌≡◌, ◌≤◌, ◌+◌, All, map, [], ℕ, length, OnOk, IfOk, IfErr, Ok, Err, ◌⊎◌};
 ghost use Rattle.std.specs.List.{range_with_len};
 ghost use Rattle.pnm_image.specs.Heads.{IsWithinLimits};
 ghost use Rattle.pnm_tools.specs.declared.fault.ToolFault.TheVariants.{Memory};
@@ -29,6 +29,8 @@ impl Rows for Rescaler {
     ghost tool = { λ r. Depth r.maxval };
 
     ghost ready = { λ r s. IsWithinLimits s × HasTable r s };
+
+    ghost at_once = { λ _ _ _ _. [] };
 
     fn begin(&mut self, alloc: Global, head: &Head) -> Result<Head, ToolFault> {
         let rescaled = head_at(alloc, self.maxval, head)?;

@@ -1,6 +1,6 @@
 //! `pnminvert`: black becomes white and white black, from pnminvert(1).
 
-ghost use Rattle.std.specs.Prelude.{◌≡◌, ◌≤◌, ◌-◌, All, map};
+ghost use Rattle.std.specs.Prelude.{◌≡◌, ◌≤◌, ◌-◌, All, map, []};
 ghost use Rattle.pnm_tools.specs.declared.tool.Tool.TheVariants.{Invert};
 
 use crate::fault::ToolFault;
@@ -18,6 +18,8 @@ impl Rows for Inverter {
     ghost tool = { λ _. Invert };
 
     ghost ready = { λ _ s. IsWithinLimits s };
+
+    ghost at_once = { λ _ _ _ _. [] };
 
     fn begin(&mut self, _alloc: Global, head: &Head) -> Result<Head, ToolFault> {
         match head.copy() {

@@ -1,23 +1,31 @@
 //! The tools of a chain: each is a filter, which takes the messages of images and gives those of
-//! others. They are pnminvert(1), pamcut(1), pamdepth(1) and pamchannel(1).
+//! others. They are pnminvert(1), pamcut(1), pamdepth(1), pamchannel(1), pamenlarge(1), pamflip(1)
+//! and pnmtile(1).
 #![tactic(auto)]
 
+mod at_once;
 mod channel;
 mod cut;
 mod depth;
+mod enlarge;
 mod fault;
 mod filter;
+mod flip;
 mod invert;
 pub mod laws;
+mod maker;
 mod rows;
 mod state;
+mod tile;
 mod tool;
+mod transpose;
 mod work;
 
 pub use channel::Planes;
 pub use cut::CutBox;
 pub use fault::ToolFault;
 pub use filter::Filter;
+pub use flip::FlipWay;
 pub use tool::{Tool, ToolState};
 
 #[cfg(test)]

@@ -1,15 +1,15 @@
 //! What a tool is that makes of each row at most one row of the result, and keeps none: its head rule
 //! and its row rule.
 
-ghost use Rattle.std.specs.Prelude.{◌≡◌, ◌<◌, ◌≤◌, ◌⊎◌, true, false, OnOk, IfOk, IfErr, Ok, Err};
+ghost use Rattle.std.specs.Prelude.{ℕ, ◌≡◌, ◌<◌, ◌≤◌, ◌⊎◌, List, [], true, false, OnOk, IfOk, IfErr, Ok, Err};
 ghost use Rattle.pnm_image.specs.Heads.{Suits, header_of};
 ghost use Rattle.pnm_image.specs.Places.{IsRowOf};
 ghost use Rattle.pnm_image.specs.declared.shape.Shape.{Shape as ShapeValue};
 ghost use Rattle.pnm_tools.specs.declared.fault.ToolFault.TheVariants.{Memory, TooLarge};
 ghost use Rattle.pnm_tools.specs.declared.tool.Tool.{Tool as Value};
 ghost use Rattle.pnm_tools.specs.Limits.{is_too_large};
-ghost use Rattle.pnm_tools.specs.RowWise.{row_list};
-ghost use Rattle.pnm_tools.specs.Tools.{IsLawfulTool, Takes, result_head, row_answer};
+ghost use Rattle.pnm_tools.specs.Answering.{row_list};
+ghost use Rattle.pnm_tools.specs.Tools.{IsLawfulTool, Takes, result_head, row_answer, end_answer};
 
 use crate::fault::ToolFault;
 use pnm_image::{Head, HeadFault, Samples, Shape};
@@ -47,6 +47,8 @@ pub trait Rows {
         requires row { (y < shape.height) × IsRowOf shape row }
         ensures row { IfOk result (λ made. row_answer (tool self.now) shape y row ≡ row_list made) }
         ensures refused { IfErr result (λ fault. fault ≡ Memory) };
+
+    ghost at_once: { (s : Self) (shape : ShapeValue) (rows : List (List ℕ)) → end_answer (tool s) shape rows ≡ [] };
 }
 
 /// The head of a result with these fields, which may have height 0 as the image's has.

@@ -1,13 +1,13 @@
-//! A tool at work on a stream: the place, the message that waits, and the fault that stays.
+//! A tool at work on a stream: the place, what is still to be given, and the fault that stays.
 
-ghost use Rattle.std.specs.Prelude.{◌≡◌, true, false, Some, None, length};
-ghost use Rattle.pnm_tools.specs.States.{waiting_in, is_all_given};
+ghost use Rattle.std.specs.Prelude.{ℕ, ◌≡◌, Some, None, List, [], length};
+ghost use Rattle.pnm_tools.specs.States.{waiting_in, is_all_given, IsReadyFor};
 ghost use Rattle.pnm_tools.specs.Tools.{IsLawfulTool};
-ghost use Rattle.pnm_tools.specs.Steps.{Answered};
+ghost use Rattle.pnm_tools.specs.Steps.{Answered, Gave};
 
 use crate::fault::ToolFault;
 use crate::filter::Filter;
-use crate::rows::Rows;
+use crate::maker::Maker;
 use pnm_image::{Message, Place};
 use std::alloc::Global;
 use std::marker::Model;
@@ -20,13 +20,18 @@ pub enum Pending {
     AllGiven,
     /// One message.
     Waiting(Message),
+    /// The rows that the tool still gives.
+    Rows,
+    /// The rows that the tool still gives, and the end of the image.
+    Ending,
     /// Nothing, which isn't told yet.
     Nothing,
 }
 
-/// A tool at work on a stream. It answers each message at once, and keeps no rows.
+/// A tool at work on a stream. What it keeps of an image it gives up at the image's end, where the
+/// stream is broken off, and at a fault.
 #[derive(Debug, Drop)]
-pub struct State<T: Rows> {
+pub struct State<T: Maker> {
     alloc: Global,
     work: T,
     place: Place,
@@ -34,27 +39,27 @@ pub struct State<T: Rows> {
     fault: Option<ToolFault>,
 }
 
-impl<T: Rows> Model for State<T> {
-    ghost use Rattle.pnm_tools.specs.States.{Standing, standing, IsReadyAt};
+impl<T: Maker> Model for State<T> {
+    ghost use Rattle.pnm_tools.specs.States.{Standing, standing, IsStanding};
     ghost use Rattle.pnm_tools.specs.Tools.{IsLawfulTool};
 
     ghost Value = { Standing T };
 
     ghost view = { λ s. standing s.work s.place s.pending s.fault };
 
-    ghost invariant = { λ s. IsLawfulTool (T.tool s.work) × IsReadyAt T.ready s.work s.place };
+    ghost invariant = { λ s. IsLawfulTool (T.tool s.work) × IsStanding T.ready T.kept s.work s.place s.pending s.fault };
 }
 
-impl<T: Rows> Filter for State<T> {
+impl<T: Maker> Filter for State<T> {
     ghost use Rattle.pnm_tools.specs.States.{IsAt};
 
-    ghost at = { IsAt T.tool T.ready };
+    ghost at = { IsAt T.tool T.ready T.due };
 
     ghost all_given = { λ s. is_all_given s.pending };
 
     ghost stopped = { λ s. s.fault };
 
-    ghost waiting = { λ s. length (waiting_in s.pending) };
+    ghost waiting = { λ s. length (waiting_in s.pending (T.due s.work)) };
 
     ghost at_answers = { λ s tool accepted given at. at.answers };
 
@@ -62,12 +67,14 @@ impl<T: Rows> Filter for State<T> {
         if let Some(fault) = self.fault {
             return Err(fault);
         }
-        match self.answer(message) {
+        let all_given = is_all_given(&self.pending);
+        match answer(self.alloc, all_given, &mut self.work, &mut self.place, message) {
             Ok(pending) => {
                 self.pending = pending;
                 Ok(())
             }
             Err(fault) => {
+                self.work.release(self.alloc);
                 self.fault = Some(fault);
                 Err(fault)
             }
@@ -78,20 +85,22 @@ impl<T: Rows> Filter for State<T> {
         if let Some(fault) = self.fault {
             return Err(fault);
         }
-        match mem::replace(&mut self.pending, Pending::AllGiven) {
-            Pending::Waiting(message) => {
-                self.pending = Pending::Nothing;
-                Ok(Some(message))
+        match give(self.alloc, &mut self.work, &mut self.pending) {
+            Ok(message) => Ok(message),
+            Err(fault) => {
+                self.work.release(self.alloc);
+                self.fault = Some(fault);
+                Err(fault)
             }
-            Pending::AllGiven | Pending::Nothing => Ok(None),
         }
     }
 }
 
-impl<T: Rows> State<T> {
+impl<T: Maker> State<T> {
     /// The tool before the first message.
     pub fn new(alloc: Global, work: T) -> State<T>
-        requires { IsLawfulTool (T.tool work) }
+        requires lawful { IsLawfulTool (T.tool work) }
+        requires kept { T.kept work ≡ [] }
         ensures work { result.work ≡ work }
         ensures place { result.place ≡ Place.Between }
         ensures pending { result.pending ≡ Pending.AllGiven }
@@ -105,39 +114,86 @@ impl<T: Rows> State<T> {
             fault: None,
         }
     }
+}
 
-    /// The answer to the next message, if it may come.
-    fn answer(&mut self, message: Message) -> Result<Pending, ToolFault>
-        ensures { Answered T.tool T.ready self.old message self.new result }
-    {
-        if !self.is_all_given() || !self.place.accepts(&message) {
-            return Err(ToolFault::OutOfOrder);
-        }
-        let mut place = self.place;
-        place.step(&message);
-        let pending = match (self.place, message) {
-            (_, Message::Begin(head)) => {
-                let result = self.work.begin(self.alloc, &head)?;
-                Pending::Waiting(Message::Begin(result))
-            }
-            (Place::Inside(shape, y), Message::Row(row)) => {
-                match self.work.row(self.alloc, shape, y, row)? {
-                    Some(row) => Pending::Waiting(Message::Row(row)),
-                    None => Pending::Nothing,
-                }
-            }
-            (_, message) => Pending::Waiting(message),
-        };
-        self.place = place;
-        Ok(pending)
+/// What is to be given for a message, if it may come at this place.
+fn answer<T: Maker>(
+    alloc: Global,
+    all_given: bool,
+    work: &mut T,
+    place: &mut Place,
+    message: Message,
+) -> Result<Pending, ToolFault>
+    requires lawful { IsLawfulTool (T.tool work.old) }
+    requires ready { (rows : List (List ℕ)) × IsReadyFor T.ready work.old place.old rows }
+    ensures { Answered T.tool T.ready T.due T.kept all_given work.old place.old message work.new place.new result }
+{
+    if !all_given || !place.accepts(&message) {
+        return Err(ToolFault::OutOfOrder);
     }
-
-    fn is_all_given(&self) -> bool
-        ensures { result ≡ is_all_given self.now.pending }
-    {
-        match self.pending {
-            Pending::AllGiven => true,
-            Pending::Waiting(_) | Pending::Nothing => false,
+    let from = *place;
+    place.step(&message);
+    match (from, message) {
+        (_, Message::Begin(head)) => {
+            let result = work.begin(alloc, &head)?;
+            Ok(Pending::Waiting(Message::Begin(result)))
         }
+        (Place::Inside(shape, y), Message::Row(row)) => {
+            work.take(alloc, shape, y, row)?;
+            Ok(Pending::Rows)
+        }
+        (Place::Inside(shape, _), Message::ImageEnd) => {
+            work.end(shape);
+            Ok(Pending::Ending)
+        }
+        (_, Message::Stop) => {
+            work.release(alloc);
+            Ok(Pending::Waiting(Message::Stop))
+        }
+        (_, message) => Ok(Pending::Waiting(message)),
+    }
+}
+
+/// The next message that waits, if one does.
+fn give<T: Maker>(
+    alloc: Global,
+    work: &mut T,
+    pending: &mut Pending,
+) -> Result<Option<Message>, ToolFault>
+    ensures { Gave T.tool T.ready T.due T.kept work.old pending.old work.new pending.new result }
+{
+    match mem::replace(pending, Pending::AllGiven) {
+        Pending::AllGiven | Pending::Nothing => Ok(None),
+        Pending::Waiting(message) => {
+            *pending = Pending::Nothing;
+            Ok(Some(message))
+        }
+        Pending::Rows => match work.give(alloc)? {
+            Some(row) => {
+                *pending = Pending::Rows;
+                Ok(Some(Message::Row(row)))
+            }
+            None => Ok(None),
+        },
+        Pending::Ending => match work.give(alloc)? {
+            Some(row) => {
+                *pending = Pending::Ending;
+                Ok(Some(Message::Row(row)))
+            }
+            None => {
+                work.release(alloc);
+                *pending = Pending::Nothing;
+                Ok(Some(Message::ImageEnd))
+            }
+        },
+    }
+}
+
+fn is_all_given(pending: &Pending) -> bool
+    ensures { result ≡ is_all_given pending.now }
+{
+    match pending {
+        Pending::AllGiven => true,
+        Pending::Waiting(_) | Pending::Rows | Pending::Ending | Pending::Nothing => false,
     }
 }

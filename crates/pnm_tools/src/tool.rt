@@ -2,19 +2,28 @@
 
 ghost use Rattle.std.specs.Prelude.{◌≡◌, ◌↔◌, ◌⊎◌, IsTrue, true, None, [], IfOk, IfErr, Ok, Err};
 ghost use Rattle.pnm_tools.specs.declared.fault.ToolFault.TheVariants.{Memory};
-ghost use Rattle.pnm_tools.specs.States.{IsFresh, IsReady, tool_of};
+ghost use Rattle.pnm_tools.specs.States.{IsFresh, kept_of, tool_of};
+ghost use Rattle.pnm_tools.specs.Tile.{IsExtent};
 ghost use Rattle.pnm_tools.specs.Tools.{IsLawfulTool, Takes, is_row_wise, result_head};
 
+use crate::at_once::AtOnce;
 use crate::channel::Planes;
 use crate::cut::CutBox;
 use crate::depth::{Rescaler, head_at};
+use crate::enlarge::{Enlarger, enlarged_head};
 use crate::fault::ToolFault;
+use crate::flip::{FlipWay, Mirror, Passer, Turner, flipped_head};
 use crate::invert::Inverter;
 use crate::rows::Rows;
 use crate::state::State;
+use crate::tile::{Tiler, tiled_head};
+use crate::transpose::Transposer;
 use crate::work::Work;
 use pnm_image::Head;
 use std::alloc::Global;
+
+/// The greatest factor, and the most columns or rows to fill.
+const GREATEST_EXTENT: u32 = 16_777_216;
 
 /// A tool of a chain at work on a stream.
 pub type ToolState = State<Work>;
@@ -30,12 +39,19 @@ pub enum Tool {
     Depth(u32),
     /// `pamchannel`: these planes of the image.
     Channel(Planes),
+    /// `pamenlarge`: each pixel so many times across, and so many times down.
+    Enlarge(u32, u32),
+    /// `pamflip`: the image flipped this way.
+    Flip(FlipWay),
+    /// `pnmtile`: copies of the image side by side that fill so many columns, and so many rows.
+    Tile(u32, u32),
 }
 
 impl Tool {
     /// Whether the options are in their ranges: `Cut` has edges from -16,777,216 to 16,777,216 and
     /// sizes from 1 to 16,777,216, but not two edges and a size of one axis; `Depth` has 1 to 65,535;
-    /// `Channel` has 1 to 256 numbers, each 0 to 255, and a tuple type as PAM allows it.
+    /// `Channel` has 1 to 256 numbers, each 0 to 255, and a tuple type as PAM allows it; `Enlarge` and
+    /// `Tile` have 1 to 16,777,216 twice.
     pub fn is_lawful(&self) -> bool
         ensures { IsTrue result ↔ IsLawfulTool self.now }
     {
@@ -44,6 +60,10 @@ impl Tool {
             Tool::Cut(cut) => cut.is_lawful(),
             Tool::Depth(maxval) => 1 <= *maxval && *maxval <= 65_535,
             Tool::Channel(planes) => planes.is_lawful(),
+            Tool::Enlarge(across, down) | Tool::Tile(across, down) => {
+                is_extent(*across) && is_extent(*down)
+            }
+            Tool::Flip(_) => true,
         }
     }
 
@@ -60,17 +80,24 @@ impl Tool {
                 Ok(planes) => Ok(Tool::Channel(planes)),
                 Err(fault) => Err(fault),
             },
+            Tool::Enlarge(across, down) => Ok(Tool::Enlarge(*across, *down)),
+            Tool::Flip(way) => Ok(Tool::Flip(*way)),
+            Tool::Tile(across, down) => Ok(Tool::Tile(*across, *down)),
         }
     }
 
     /// Whether the rows of an image may be dealt to several of this tool, each of which sees an image
-    /// of its own: `Invert`, `Depth` and `Channel`, but not `Cut`.
+    /// of its own: `Invert`, `Depth`, `Channel`, `Enlarge` by 1 down, and `Flip` by `Null` and
+    /// `LeftRight`, but no other.
     pub fn is_row_wise(&self) -> bool
         ensures { result ≡ is_row_wise self.now }
     {
         match self {
             Tool::Invert | Tool::Depth(_) | Tool::Channel(_) => true,
-            Tool::Cut(_) => false,
+            Tool::Enlarge(_, down) => *down == 1,
+            Tool::Flip(FlipWay::Null | FlipWay::LeftRight) => true,
+            Tool::Flip(FlipWay::TopBottom | FlipWay::Transpose) => false,
+            Tool::Cut(_) | Tool::Tile(_, _) => false,
         }
     }
 
@@ -91,13 +118,16 @@ impl Tool {
             }
             Tool::Depth(maxval) => head_at(alloc, *maxval, head),
             Tool::Channel(planes) => planes.head(alloc, head),
+            Tool::Enlarge(across, down) => enlarged_head(alloc, *across, *down, head),
+            Tool::Flip(way) => flipped_head(alloc, *way, head),
+            Tool::Tile(across, down) => tiled_head(alloc, *across, *down, head),
         }
     }
 
     /// The tool at work, before the first message. The only fault is `Memory`.
     pub fn start(&self, alloc: Global) -> Result<ToolState, ToolFault>
         requires { IsLawfulTool self.now }
-        ensures started { IfOk result (λ state. IsFresh tool_of IsReady state self.now) }
+        ensures started { IfOk result (λ state. IsFresh state self.now) }
         ensures refused { IfErr result (λ fault. fault ≡ Memory) }
     {
         Ok(State::new(alloc, self.work(alloc)?))
@@ -105,19 +135,30 @@ impl Tool {
 
     fn work(&self, alloc: Global) -> Result<Work, ToolFault>
         ensures tool { IfOk result (λ work. tool_of work ≡ self.now) }
+        ensures kept { IfOk result (λ work. kept_of work ≡ []) }
         ensures refused { IfErr result (λ fault. fault ≡ Memory) }
     {
-        match self {
-            Tool::Invert => Ok(Work::Inverting(Inverter)),
-            Tool::Cut(cut) => Ok(Work::Cutting(*cut)),
-            Tool::Depth(maxval) => Ok(Work::Rescaling(Rescaler {
+        Ok(match self {
+            Tool::Invert => Work::Inverting(AtOnce::new(Inverter)),
+            Tool::Cut(cut) => Work::Cutting(AtOnce::new(*cut)),
+            Tool::Depth(maxval) => Work::Rescaling(AtOnce::new(Rescaler {
                 maxval: *maxval,
                 table: Vec::new(alloc),
             })),
-            Tool::Channel(planes) => match planes.copy() {
-                Ok(planes) => Ok(Work::Picking(planes)),
-                Err(fault) => Err(fault),
-            },
-        }
+            Tool::Channel(planes) => Work::Picking(AtOnce::new(planes.copy()?)),
+            Tool::Enlarge(across, down) => Work::Enlarging(Enlarger::new(*across, *down)),
+            Tool::Flip(FlipWay::Null) => Work::Passing(AtOnce::new(Passer)),
+            Tool::Flip(FlipWay::LeftRight) => Work::Mirroring(AtOnce::new(Mirror)),
+            Tool::Flip(FlipWay::TopBottom) => Work::Turning(Turner::new(alloc)),
+            Tool::Flip(FlipWay::Transpose) => Work::Transposing(Transposer::new(alloc)),
+            Tool::Tile(across, down) => Work::Tiling(Tiler::new(alloc, *across, *down)),
+        })
     }
+}
+
+/// Whether a factor, or a number of columns or rows to fill, is from 1 to 16,777,216.
+fn is_extent(count: u32) -> bool
+    ensures { IsTrue result ↔ IsExtent count }
+{
+    1 <= count && count <= GREATEST_EXTENT
 }

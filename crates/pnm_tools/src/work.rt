@@ -1,55 +1,133 @@
 //! A tool at work, whichever it is.
 
+use crate::at_once::AtOnce;
 use crate::channel::Planes;
 use crate::cut::CutBox;
 use crate::depth::Rescaler;
+use crate::enlarge::Enlarger;
 use crate::fault::ToolFault;
+use crate::flip::{Mirror, Passer, Turner};
 use crate::invert::Inverter;
-use crate::rows::Rows;
+use crate::maker::Maker;
+use crate::tile::Tiler;
+use crate::transpose::Transposer;
 use pnm_image::{Head, Samples, Shape};
 use std::alloc::Global;
 
-/// A tool, and what it keeps for the rows of an image.
+/// A tool, and what it keeps of an image.
 #[derive(Debug, Drop)]
 pub enum Work {
     /// `pnminvert`.
-    Inverting(Inverter),
+    Inverting(AtOnce<Inverter>),
     /// `pamcut`.
-    Cutting(CutBox),
+    Cutting(AtOnce<CutBox>),
     /// `pamdepth`.
-    Rescaling(Rescaler),
+    Rescaling(AtOnce<Rescaler>),
     /// `pamchannel`.
-    Picking(Planes),
+    Picking(AtOnce<Planes>),
+    /// `pamenlarge`.
+    Enlarging(Enlarger),
+    /// `pamflip -null`.
+    Passing(AtOnce<Passer>),
+    /// `pamflip -leftright`.
+    Mirroring(AtOnce<Mirror>),
+    /// `pamflip -topbottom`.
+    Turning(Turner),
+    /// `pamflip -transpose`.
+    Transposing(Transposer),
+    /// `pnmtile`.
+    Tiling(Tiler),
 }
 
-impl Rows for Work {
-    ghost use Rattle.pnm_tools.specs.States.{tool_of, IsReady};
+impl Maker for Work {
+    ghost use Rattle.pnm_tools.specs.States.{tool_of, IsReady, due_of, kept_of};
 
     ghost tool = { tool_of };
 
     ghost ready = { IsReady };
 
+    ghost due = { due_of };
+
+    ghost kept = { kept_of };
+
     fn begin(&mut self, alloc: Global, head: &Head) -> Result<Head, ToolFault> {
         match self {
-            Work::Inverting(inverter) => inverter.begin(alloc, head),
-            Work::Cutting(cut) => cut.begin(alloc, head),
-            Work::Rescaling(rescaler) => rescaler.begin(alloc, head),
-            Work::Picking(planes) => planes.begin(alloc, head),
+            Work::Inverting(work) => work.begin(alloc, head),
+            Work::Cutting(work) => work.begin(alloc, head),
+            Work::Rescaling(work) => work.begin(alloc, head),
+            Work::Picking(work) => work.begin(alloc, head),
+            Work::Enlarging(work) => work.begin(alloc, head),
+            Work::Passing(work) => work.begin(alloc, head),
+            Work::Mirroring(work) => work.begin(alloc, head),
+            Work::Turning(work) => work.begin(alloc, head),
+            Work::Transposing(work) => work.begin(alloc, head),
+            Work::Tiling(work) => work.begin(alloc, head),
         }
     }
 
-    fn row(
-        &self,
+    fn take(
+        &mut self,
         alloc: Global,
         shape: Shape,
         y: u32,
         row: Samples,
-    ) -> Result<Option<Samples>, ToolFault> {
+    ) -> Result<(), ToolFault> {
         match self {
-            Work::Inverting(inverter) => inverter.row(alloc, shape, y, row),
-            Work::Cutting(cut) => cut.row(alloc, shape, y, row),
-            Work::Rescaling(rescaler) => rescaler.row(alloc, shape, y, row),
-            Work::Picking(planes) => planes.row(alloc, shape, y, row),
+            Work::Inverting(work) => work.take(alloc, shape, y, row),
+            Work::Cutting(work) => work.take(alloc, shape, y, row),
+            Work::Rescaling(work) => work.take(alloc, shape, y, row),
+            Work::Picking(work) => work.take(alloc, shape, y, row),
+            Work::Enlarging(work) => work.take(alloc, shape, y, row),
+            Work::Passing(work) => work.take(alloc, shape, y, row),
+            Work::Mirroring(work) => work.take(alloc, shape, y, row),
+            Work::Turning(work) => work.take(alloc, shape, y, row),
+            Work::Transposing(work) => work.take(alloc, shape, y, row),
+            Work::Tiling(work) => work.take(alloc, shape, y, row),
+        }
+    }
+
+    fn end(&mut self, shape: Shape) {
+        match self {
+            Work::Inverting(work) => work.end(shape),
+            Work::Cutting(work) => work.end(shape),
+            Work::Rescaling(work) => work.end(shape),
+            Work::Picking(work) => work.end(shape),
+            Work::Enlarging(work) => work.end(shape),
+            Work::Passing(work) => work.end(shape),
+            Work::Mirroring(work) => work.end(shape),
+            Work::Turning(work) => work.end(shape),
+            Work::Transposing(work) => work.end(shape),
+            Work::Tiling(work) => work.end(shape),
+        }
+    }
+
+    fn give(&mut self, alloc: Global) -> Result<Option<Samples>, ToolFault> {
+        match self {
+            Work::Inverting(work) => work.give(alloc),
+            Work::Cutting(work) => work.give(alloc),
+            Work::Rescaling(work) => work.give(alloc),
+            Work::Picking(work) => work.give(alloc),
+            Work::Enlarging(work) => work.give(alloc),
+            Work::Passing(work) => work.give(alloc),
+            Work::Mirroring(work) => work.give(alloc),
+            Work::Turning(work) => work.give(alloc),
+            Work::Transposing(work) => work.give(alloc),
+            Work::Tiling(work) => work.give(alloc),
+        }
+    }
+
+    fn release(&mut self, alloc: Global) {
+        match self {
+            Work::Inverting(work) => work.release(alloc),
+            Work::Cutting(work) => work.release(alloc),
+            Work::Rescaling(work) => work.release(alloc),
+            Work::Picking(work) => work.release(alloc),
+            Work::Enlarging(work) => work.release(alloc),
+            Work::Passing(work) => work.release(alloc),
+            Work::Mirroring(work) => work.release(alloc),
+            Work::Turning(work) => work.release(alloc),
+            Work::Transposing(work) => work.release(alloc),
+            Work::Tiling(work) => work.release(alloc),
         }
     }
 }

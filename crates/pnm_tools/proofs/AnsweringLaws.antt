@@ -12,14 +12,14 @@ use Rattle.pnm_tools.specs.declared.fault.ToolFault.{ToolFault}
 use Rattle.pnm_tools.specs.declared.tool.Tool.{Tool}
 use Rattle.pnm_tools.specs.Tools.{AreTaken, result_head, result_sample, applied, output_due}
 use Rattle.pnm_tools.specs.Formulas.{image_by}
-use Rattle.pnm_tools.specs.RowWise.{answered, answered_from}
+use Rattle.pnm_tools.specs.Answering.{answered, answered_from, rows_after, rows_come}
 
 -- the answer to a front, and then to the rest
-pub answered_from-append : (tool : Tool) (place : Place) (a b : List Message) → answered_from tool place (a ++ b) ≡ answered_from tool place a ++ answered_from tool (place_of place a) b
-answered_from-append tool place [] b = refl
-answered_from-append tool place (m ∷ a) b =
-    ap (λ (l : List Message). answered tool place m ++ l) (answered_from-append tool (place_after place m) a b)
-    ∙ sym (append_assoc (answered tool place m) (answered_from tool (place_after place m) a) (answered_from tool (place_of (place_after place m) a) b))
+pub answered_from-append : (tool : Tool) (place : Place) (rows : List (List ℕ)) (a b : List Message) → answered_from tool place rows (a ++ b) ≡ answered_from tool place rows a ++ answered_from tool (place_of place a) (rows_come rows a) b
+answered_from-append tool place rows [] b = refl
+answered_from-append tool place rows (m ∷ a) b =
+    ap (λ (l : List Message). answered tool place rows m ++ l) (answered_from-append tool (place_after place m) (rows_after rows m) a b)
+    ∙ sym (append_assoc (answered tool place rows m) (answered_from tool (place_after place m) (rows_after rows m) a) (answered_from tool (place_of (place_after place m) a) (rows_come (rows_after rows m) a) b))
 
 -- two fronts of one list: one is a front of the other
 abbrev pub Fronts : List Message → List Message → List Message → List Message → Type 0
@@ -38,7 +38,7 @@ fronts (m ∷ a) b (n ∷ x) y e =
 
 -- a whole image that isn't refused is answered by its result (what each tool has to show)
 abbrev pub AnswersImages : Tool → Type 0
-AnswersImages tool = (i j : Image) → IsImage i → applied tool i ≡ Ok j → answered_from tool Between (messages_of_image i) ≡ messages_of_image j
+AnswersImages tool = (i j : Image) → IsImage i → applied tool i ≡ Ok j → answered_from tool Between [] (messages_of_image i) ≡ messages_of_image j
 
 pub taken_rest : (tool : Tool) (a b : List Message) → AreTaken tool (a ++ b) → AreTaken tool b
 taken_rest tool [] b t = t
@@ -56,6 +56,21 @@ ends_rows place (row ∷ rows) = ends_rows (place_after place (Row row)) rows
 pub ends_between : (i : Image) → place_of Between (messages_of_image i) ≡ Between
 ends_between i = ends_rows (Inside i.head.shape 0) (rows_of i)
 
+-- and no row of the next one has come
+none_after : (come rows : List (List ℕ)) → rows_come come (map Row rows ++ ImageEnd ∷ []) ≡ []
+none_after come [] = refl
+none_after come (row ∷ rows) = none_after (come ++ row ∷ []) rows
+
+pub ends_without_rows : (i : Image) → rows_come [] (messages_of_image i) ≡ []
+ends_without_rows i = none_after [] (rows_of i)
+
+-- the answer to an image, and then to what comes after it
+pub answered_after_image : (tool : Tool) (i : Image) (more : List Message) → answered_from tool Between [] (messages_of_image i ++ more) ≡ answered_from tool Between [] (messages_of_image i) ++ answered_from tool Between [] more
+answered_after_image tool i more =
+    answered_from-append tool Between [] (messages_of_image i) more
+    ∙ ap (λ (p : Place). answered_from tool Between [] (messages_of_image i) ++ answered_from tool p (rows_come [] (messages_of_image i)) more) (ends_between i)
+    ∙ ap (λ (rows : List (List ℕ)). answered_from tool Between [] (messages_of_image i) ++ answered_from tool Between rows more) (ends_without_rows i)
+
 -- the output due by what becomes of the first image
 abbrev pub due_by : Tool → List Image → Result Image ToolFault → List Message
 due_by tool is r = elim r [ Ok j ↦ messages_of_image j ++ output_due tool is | Err fault ↦ [] ]
@@ -65,7 +80,7 @@ unfolding output_due
 due_is tool i is = refl
 
 abbrev IsDueFront : Tool → List Message → List Message → Type 0
-IsDueFront tool l due = IsFrontOf (answered_from tool Between l) due
+IsDueFront tool l due = IsFrontOf (answered_from tool Between [] l) due
 
 -- an image that is refused hasn't begun
 abbrev pub applied_by : (Header → Image) → Result Header ToolFault → Result Image ToolFault
@@ -86,18 +101,19 @@ refused_front tool i is (StreamEnd ∷ l) rest fault a e t = absurd cc
 refused_front tool i is (Stop ∷ l) rest fault a e t = absurd cc
 
 -- messages within the first image, or beyond it
-image_front : (tool : Tool) (i j : Image) (is : List Image) (l rest : List Message) → answered_from tool Between (messages_of_image i) ≡ messages_of_image j → AreTaken tool l
+image_front : (tool : Tool) (i j : Image) (is : List Image) (l rest : List Message) → answered_from tool Between [] (messages_of_image i) ≡ messages_of_image j → AreTaken tool l
     → ((more : List Message) → messages_of_stream is ≡ more ++ rest → AreTaken tool more → IsDueFront tool more (output_due tool is))
     → Fronts (messages_of_image i) (messages_of_stream is) l rest → IsDueFront tool l (messages_of_image j ++ output_due tool is)
 image_front tool i j is l rest a t others (inl h) =
-    let parts : messages_of_image j ≡ answered_from tool Between l ++ answered_from tool (place_of Between l) h.0 = sym a ∙ ap (answered_from tool Between) h.1 ∙ answered_from-append tool Between l h.0 in
-    (answered_from tool (place_of Between l) h.0 ++ output_due tool is, ap (λ (x : List Message). x ++ output_due tool is) parts ∙ append_assoc (answered_from tool Between l) (answered_from tool (place_of Between l) h.0) (output_due tool is))
+    let rest : List Message = answered_from tool (place_of Between l) (rows_come [] l) h.0 in
+    let parts : messages_of_image j ≡ answered_from tool Between [] l ++ rest = sym a ∙ ap (answered_from tool Between []) h.1 ∙ answered_from-append tool Between [] l h.0 in
+    (rest ++ output_due tool is, ap (λ (x : List Message). x ++ output_due tool is) parts ∙ append_assoc (answered_from tool Between [] l) rest (output_due tool is))
 image_front tool i j is l rest a t others (inr h) =
     let more : List Message = h.0 in
     let taken : AreTaken tool more = taken_rest tool (messages_of_image i) more (subst (AreTaken tool) h.1 t) in
     let due = others more h.2 taken in
-    let answer : answered_from tool Between l ≡ messages_of_image j ++ answered_from tool Between more = ap (answered_from tool Between) h.1 ∙ answered_from-append tool Between (messages_of_image i) more ∙ ap (λ (x : List Message). x ++ answered_from tool (place_of Between (messages_of_image i)) more) a ∙ ap (λ (p : Place). messages_of_image j ++ answered_from tool p more) (ends_between i) in
-    (due.0, ap (λ (x : List Message). messages_of_image j ++ x) due.1 ∙ sym (append_assoc (messages_of_image j) (answered_from tool Between more) due.0) ∙ ap (λ (x : List Message). x ++ due.0) (sym answer))
+    let answer : answered_from tool Between [] l ≡ messages_of_image j ++ answered_from tool Between [] more = ap (answered_from tool Between []) h.1 ∙ answered_after_image tool i more ∙ ap (λ (x : List Message). x ++ answered_from tool Between [] more) a in
+    (due.0, ap (λ (x : List Message). messages_of_image j ++ x) due.1 ∙ sym (append_assoc (messages_of_image j) (answered_from tool Between [] more) due.0) ∙ ap (λ (x : List Message). x ++ due.0) (sym answer))
 
 front_by : (tool : Tool) (i : Image) (is : List Image) (l rest : List Message) (r : Result Image ToolFault) → AnswersImages tool → IsImage i → applied tool i ≡ r → messages_of_image i ++ messages_of_stream is ≡ l ++ rest → AreTaken tool l
     → ((more : List Message) → messages_of_stream is ≡ more ++ rest → AreTaken tool more → IsDueFront tool more (output_due tool is)) → IsDueFront tool l (due_by tool is r)
@@ -114,7 +130,7 @@ end_front tool (ImageEnd ∷ l) rest e = absurd cc
 end_front tool (Stop ∷ l) rest e = absurd cc
 
 -- of messages that images complete, none of whose heads is refused, the answers are a front of the output due
-pub answers_are_due : (tool : Tool) (is : List Image) (l rest : List Message) → AnswersImages tool → AreImages is → messages_of_stream is ≡ l ++ rest → AreTaken tool l → IsFrontOf (answered_from tool Between l) (output_due tool is)
+pub answers_are_due : (tool : Tool) (is : List Image) (l rest : List Message) → AnswersImages tool → AreImages is → messages_of_stream is ≡ l ++ rest → AreTaken tool l → IsFrontOf (answered_from tool Between [] l) (output_due tool is)
 unfolding output_due
 answers_are_due tool [] l rest answers are e t = end_front tool l rest e
 answers_are_due tool (i ∷ is) l rest answers are e t =

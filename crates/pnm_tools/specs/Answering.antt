@@ -1,0 +1,47 @@
+-- How a tool answers message by message: a row by rows at once, and the end of an image by what is left of the result.
+use Rattle.std.specs.Prelude.{ℕ, List, [], ◌∷◌, ◌++◌, map, Option, Some, None, Ok, Err}
+use Rattle.pnm_image.specs.declared.message.Message.{Message}
+use Rattle.pnm_image.specs.declared.message.Message.TheVariants.{Begin, Row, ImageEnd, StreamEnd, Stop}
+use Rattle.pnm_image.specs.declared.place.Place.{Place}
+use Rattle.pnm_image.specs.declared.place.Place.TheVariants.{Between, Inside, After}
+use Rattle.pnm_image.specs.Places.{place_after}
+use Rattle.pnm_tools.specs.declared.tool.Tool.{Tool}
+use Rattle.pnm_tools.specs.Tools.{result_head, row_answer, end_answer}
+
+-- a row, or none
+abbrev pub row_list : Option (List ℕ) → List (List ℕ)
+row_list None = []
+row_list (Some row) = row ∷ []
+
+-- the rows of an image that have come, with a message more
+abbrev pub rows_after : List (List ℕ) → Message → List (List ℕ)
+rows_after rows (Begin head) = []
+rows_after rows (Row row) = rows ++ row ∷ []
+rows_after rows ImageEnd = []
+rows_after rows StreamEnd = []
+rows_after rows Stop = []
+
+-- and with more messages
+abbrev pub rows_come : List (List ℕ) → List Message → List (List ℕ)
+rows_come rows [] = rows
+rows_come rows (m ∷ ms) = rows_come (rows_after rows m) ms
+
+-- the messages that answer one message, at a place, where these rows of the image have come
+abbrev pub answered : Tool → Place → List (List ℕ) → Message → List Message
+answered tool place rows (Begin head) = elim (result_head tool head) [
+  | Ok result ↦ Begin result ∷ []
+  | Err fault ↦ []
+]
+answered tool Between rows (Row row) = []
+answered tool (Inside s y) rows (Row row) = map Row (row_answer tool s y row)
+answered tool After rows (Row row) = []
+answered tool Between rows ImageEnd = ImageEnd ∷ []
+answered tool (Inside s y) rows ImageEnd = map Row (end_answer tool s rows) ++ ImageEnd ∷ []
+answered tool After rows ImageEnd = ImageEnd ∷ []
+answered tool place rows StreamEnd = StreamEnd ∷ []
+answered tool place rows Stop = Stop ∷ []
+
+-- the messages that answer messages from a place on, where these rows of the image have come
+abbrev pub answered_from : Tool → Place → List (List ℕ) → List Message → List Message
+answered_from tool place rows [] = []
+answered_from tool place rows (m ∷ ms) = answered tool place rows m ++ answered_from tool (place_after place m) (rows_after rows m) ms

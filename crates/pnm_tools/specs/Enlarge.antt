@@ -1,0 +1,36 @@
+-- The enlarged image, from pamenlarge(1): each pixel stands so many times across and so many times down.
+use Rattle.std.specs.Prelude.{◌≤◌, ℕ, ◌*◌, ◌/◌, ◌==◌, ◌&&◌, not, List, replicate, Result, Err, if◌then◌else◌}
+use Rattle.std.specs.List.{flat_map, range_with_len}
+use Rattle.pnm_image.specs.declared.shape.Shape.{Shape}
+use Rattle.pnm_image.specs.Heads.{Header}
+use Rattle.pnm_image.specs.Images.{Image, sample_at}
+use Rattle.pnm_tools.specs.declared.fault.ToolFault.{ToolFault}
+use Rattle.pnm_tools.specs.declared.fault.ToolFault.TheVariants.{OutOfOrder}
+use Rattle.pnm_tools.specs.Limits.{within_limits}
+use Rattle.pnm_tools.specs.Pixels.{pixel_of}
+
+-- the horizontal and the vertical factor lie from 1 to 16,777,216
+abbrev pub IsFactor : ℕ → Type 0
+IsFactor factor = (1 ≤ factor) × (factor ≤ 16777216)
+
+abbrev pub enlarged_header : ℕ → ℕ → Header → Header
+enlarged_header across down head = record head { shape = record head.shape { width = head.shape.width * across; height = head.shape.height * down } }
+
+-- where rows are repeated the tool sees whole images alone, so that a height of 0 is out of order
+abbrev pub enlarged_head : ℕ → ℕ → Header → Result Header ToolFault
+enlarged_head across down head = if not (down == 1) && (head.shape.height == 0) then Err OutOfOrder else within_limits (enlarged_header across down head)
+
+abbrev pub enlarged_sample : ℕ → ℕ → Image → ℕ → ℕ → ℕ → ℕ
+enlarged_sample across down i x y p = sample_at i (x / across) (y / down) p
+
+-- so many of a list, one after another
+abbrev pub repeated : ℕ → List ℕ → List ℕ
+repeated count samples = flat_map (λ _. samples) (range_with_len 0 count)
+
+-- a row of an image of this shape, each pixel repeated
+abbrev pub enlarged_row : ℕ → Shape → List ℕ → List ℕ
+enlarged_row across s row = flat_map (λ x. repeated across (pixel_of s.depth row x)) (range_with_len 0 s.width)
+
+-- the rows that answer a row
+abbrev pub enlarged_rows : ℕ → ℕ → Shape → List ℕ → List (List ℕ)
+enlarged_rows across down s row = replicate down (enlarged_row across s row)

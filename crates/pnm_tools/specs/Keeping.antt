@@ -1,0 +1,94 @@
+-- What tools keep while the rows of an image come, and the rows of the result that they still give.
+use Rattle.std.specs.Prelude.{◌≡◌, ℕ, ◌+◌, ◌-◌, ◌*◌, ◌<◌, ◌≤◌, ◌%◌, false, if◌then◌else◌, List, [], ◌++◌, map, length, take, reverse, replicate, slice_index_or, All, Option, Some, None}
+use Rattle.std.specs.List.{range_with_len}
+use Rattle.pnm_image.specs.declared.shape.Shape.{Shape}
+use Rattle.pnm_image.specs.Heads.{IsWithinLimits, row_length}
+use Rattle.pnm_tools.specs.declared.enlarge.Enlarger.{Enlarger}
+use Rattle.pnm_tools.specs.declared.flip.Turner.{Turner}
+use Rattle.pnm_tools.specs.Flip.{column_of}
+use Rattle.pnm_tools.specs.Tile.{tiled_row}
+
+-- ---- pamenlarge: a row that is given more than once
+
+-- for images of a shape that stays within the limits with its pixels repeated
+pub record IsEnlarging (w : Enlarger) (s : Shape) : Type 0 where
+  pub limits : IsWithinLimits s
+  pub width : s.width * w.across ≤ 1000000
+  pub row : s.width * w.across * s.depth ≤ 16777216
+
+abbrev pub enlarged_due : Enlarger → List (List ℕ)
+enlarged_due w = elim w.row [
+  | None ↦ []
+  | Some row ↦ replicate (w.more + 1) row
+]
+
+-- ---- pamflip -topbottom: all rows
+
+pub record IsTurning (w : Turner) (come : List (List ℕ)) : Type 0 where
+  pub rows : w.rows.items ≡ come
+  pub none_given : w.gives ≡ false
+
+-- the last row first
+abbrev pub turned_due : Turner → List (List ℕ)
+turned_due w = if w.gives then reverse w.rows.items else []
+
+-- ---- pamflip -transpose: all rows, and some rows of the result, of which the next is the last
+
+-- the rows of planes so many; of the columns, which are the rows of the result, those from the next one on aren't made yet
+pub record Transposed : Type 0 where
+  pub depth : ℕ
+  pub rows : List (List ℕ)
+  pub band : List (List ℕ)
+  pub next : ℕ
+  pub columns : ℕ
+
+abbrev pub transposed : ℕ → List (List ℕ) → List (List ℕ) → ℕ → ℕ → Transposed
+transposed depth rows band next columns = record { depth = depth; rows = rows; band = band; next = next; columns = columns }
+
+-- each column lies in each row, and has a length within the limits
+pub record HasColumns (w : Transposed) : Type 0 where
+  pub columns : All (λ row. w.columns * w.depth ≤ length row) w.rows
+  pub each : 0 < w.columns → length w.rows * w.depth ≤ 16777216
+  pub depth : w.depth ≤ 256
+  pub made : w.next ≤ w.columns
+
+pub record IsTransposing (w : Transposed) (s : Shape) (come : List (List ℕ)) : Type 0 where
+  pub limits : IsWithinLimits s
+  pub column : s.height * s.depth ≤ 16777216
+  pub rows : w.rows ≡ come
+  pub lengths : All (λ row. length row ≡ row_length s) come
+  pub none_made : (w.band ≡ []) × (w.next ≡ 0) × (w.columns ≡ 0)
+
+abbrev pub transposed_due : Transposed → List (List ℕ)
+transposed_due w = reverse w.band ++ map (column_of w.depth w.rows) (range_with_len w.next (w.columns - w.next))
+
+-- ---- pnmtile: the rows that the result shows, the next one first
+
+-- so many columns and rows to fill; the width and the planes of the image; how many rows are still to be given
+pub record Tiled : Type 0 where
+  pub across : ℕ
+  pub down : ℕ
+  pub width : ℕ
+  pub depth : ℕ
+  pub rows : List (List ℕ)
+  pub left : ℕ
+
+abbrev pub tiled : ℕ → ℕ → ℕ → ℕ → List (List ℕ) → ℕ → Tiled
+tiled across down width depth rows left = record { across = across; down = down; width = width; depth = depth; rows = rows; left = left }
+
+-- there are rows to give, each of the image's width
+pub record HasTiles (w : Tiled) : Type 0 where
+  pub some : 0 < length w.rows
+  pub lengths : All (λ row. length row ≡ w.width * w.depth) w.rows
+  pub width : 0 < w.width
+  pub filled : w.across * w.depth ≤ 16777216
+
+pub record IsTiling (w : Tiled) (s : Shape) (come : List (List ℕ)) : Type 0 where
+  pub limits : IsWithinLimits s
+  pub filled : w.across * s.depth ≤ 16777216
+  pub rows : w.rows ≡ take w.down come
+  pub lengths : All (λ row. length row ≡ row_length s) come
+  pub none_given : w.left ≡ 0
+
+abbrev pub tiled_due : Tiled → List (List ℕ)
+tiled_due w = map (λ y. tiled_row w.across w.width w.depth (slice_index_or w.rows (y % length w.rows) [])) (range_with_len 0 w.left)

@@ -1,0 +1,33 @@
+-- The tiled image, from pnmtile(1): the image side by side, as often as it takes to fill so many columns and rows. The
+-- first copy lies at the top left, and the last ones are cut off.
+use Rattle.std.specs.Prelude.{◌≤◌, ℕ, ◌%◌, ◌==◌, List, [], map, slice_index_or, Result, Err, if◌then◌else◌}
+use Rattle.std.specs.List.{flat_map, range_with_len}
+use Rattle.pnm_image.specs.declared.shape.Shape.{Shape}
+use Rattle.pnm_image.specs.Heads.{Header}
+use Rattle.pnm_image.specs.Images.{Image, sample_at}
+use Rattle.pnm_tools.specs.declared.fault.ToolFault.{ToolFault}
+use Rattle.pnm_tools.specs.declared.fault.ToolFault.TheVariants.{OutOfOrder}
+use Rattle.pnm_tools.specs.Limits.{within_limits}
+use Rattle.pnm_tools.specs.Pixels.{pixel_of}
+
+-- the columns and the rows to fill, from 1 to 16,777,216
+abbrev pub IsExtent : ℕ → Type 0
+IsExtent count = (1 ≤ count) × (count ≤ 16777216)
+
+abbrev pub tiled_header : ℕ → ℕ → Header → Header
+tiled_header across down head = record head { shape = record head.shape { width = across; height = down } }
+
+-- the tool sees whole images alone, so that a height of 0 is out of order
+abbrev pub tiled_head : ℕ → ℕ → Header → Result Header ToolFault
+tiled_head across down head = if head.shape.height == 0 then Err OutOfOrder else within_limits (tiled_header across down head)
+
+abbrev pub tiled_sample : Image → ℕ → ℕ → ℕ → ℕ
+tiled_sample i x y p = sample_at i (x % i.head.shape.width) (y % i.head.shape.height) p
+
+-- a row of so many pixels of so many planes, side by side up to so many columns
+abbrev pub tiled_row : ℕ → ℕ → ℕ → List ℕ → List ℕ
+tiled_row across width depth row = flat_map (λ x. pixel_of depth row (x % width)) (range_with_len 0 across)
+
+-- the rows that answer the end of an image of this shape and of these rows
+abbrev pub tiled_at_end : ℕ → ℕ → Shape → List (List ℕ) → List (List ℕ)
+tiled_at_end across down s rows = map (λ y. tiled_row across s.width s.depth (slice_index_or rows (y % s.height) [])) (range_with_len 0 down)

@@ -1,0 +1,188 @@
+//! `pamflip`: left and right, or top and bottom exchanged, from pamflip(1). Columns and rows are
+//! exchanged in `transpose`.
+
+ghost use Rattle.std.specs.Prelude.{◌≡◌, ◌⊎◌, length, false, [], IfOk, IfErr, Ok, Err};
+ghost use Rattle.pnm_image.specs.Heads.{IsWithinLimits, row_length};
+ghost use Rattle.pnm_tools.specs.declared.fault.ToolFault.TheVariants.{Memory};
+ghost use Rattle.pnm_tools.specs.declared.flip.FlipWay.TheVariants.{Null, LeftRight, TopBottom};
+ghost use Rattle.pnm_tools.specs.declared.tool.Tool.TheVariants.{Flip};
+ghost use Rattle.pnm_tools.specs.Flip.{mirrored_row};
+ghost use Rattle.pnm_tools.specs.Keeping.{IsTurning, turned_due};
+ghost use Rattle.pnm_tools.specs.Tools.{Takes, result_head};
+
+use crate::fault::ToolFault;
+use crate::maker::Maker;
+use crate::rows::{Rows, result_head};
+use pnm_image::{Head, Samples, Shape};
+use std::alloc::Global;
+
+/// How an image is flipped.
+#[derive(Clone, Copy, Debug, PartialEq, Eq)]
+pub enum FlipWay {
+    /// Not at all.
+    Null,
+    /// The last column becomes the first.
+    LeftRight,
+    /// The last row becomes the first.
+    TopBottom,
+    /// Columns become rows, and rows columns.
+    Transpose,
+}
+
+/// Passes the rows of images on.
+#[derive(Clone, Copy, Debug)]
+pub struct Passer;
+
+impl Rows for Passer {
+    ghost tool = { λ _. Flip Null };
+
+    ghost ready = { λ _ _. Unit {0} };
+
+    ghost at_once = { λ _ _ _ _. [] };
+
+    fn begin(&mut self, alloc: Global, head: &Head) -> Result<Head, ToolFault> {
+        flipped_head(alloc, FlipWay::Null, head)
+    }
+
+    fn row(
+        &self,
+        _alloc: Global,
+        _shape: Shape,
+        _y: u32,
+        row: Samples,
+    ) -> Result<Option<Samples>, ToolFault> {
+        Ok(Some(row))
+    }
+}
+
+/// Exchanges left and right in the rows of images.
+#[derive(Clone, Copy, Debug)]
+pub struct Mirror;
+
+impl Rows for Mirror {
+    ghost tool = { λ _. Flip LeftRight };
+
+    ghost ready = { λ _ shape. IsWithinLimits shape };
+
+    ghost at_once = { λ _ _ _ _. [] };
+
+    fn begin(&mut self, alloc: Global, head: &Head) -> Result<Head, ToolFault> {
+        flipped_head(alloc, FlipWay::LeftRight, head)
+    }
+
+    /// Changes the row in place.
+    fn row(
+        &self,
+        _alloc: Global,
+        shape: Shape,
+        _y: u32,
+        row: Samples,
+    ) -> Result<Option<Samples>, ToolFault> {
+        let mut samples = row.into_vec();
+        reverse_pixels(samples.as_mut_slice(), shape);
+        Ok(Some(Samples::new(samples)))
+    }
+}
+
+/// Exchanges top and bottom: keeps the rows of an image, and gives the last one first.
+#[derive(Debug, Drop)]
+pub struct Turner {
+    rows: Vec<Samples>,
+    /// The image has ended.
+    gives: bool,
+}
+
+impl Maker for Turner {
+    ghost tool = { λ _. Flip TopBottom };
+
+    ghost ready = { λ w shape rows. IsTurning w rows };
+
+    ghost due = { turned_due };
+
+    ghost kept = { λ w. w.rows.items };
+
+    fn begin(&mut self, alloc: Global, head: &Head) -> Result<Head, ToolFault> {
+        let turned = flipped_head(alloc, FlipWay::TopBottom, head)?;
+        self.rows = Vec::with_capacity(alloc, head.shape().height as usize)?;
+        self.gives = false;
+        Ok(turned)
+    }
+
+    fn take(
+        &mut self,
+        _alloc: Global,
+        _shape: Shape,
+        _y: u32,
+        row: Samples,
+    ) -> Result<(), ToolFault> {
+        self.rows.push(row)?;
+        Ok(())
+    }
+
+    fn end(&mut self, _shape: Shape) {
+        self.gives = true;
+    }
+
+    fn give(&mut self, _alloc: Global) -> Result<Option<Samples>, ToolFault> {
+        if !self.gives {
+            return Ok(None);
+        }
+        Ok(self.rows.pop())
+    }
+
+    fn release(&mut self, alloc: Global) {
+        self.rows = Vec::new(alloc);
+    }
+}
+
+impl Turner {
+    /// The tool before the first row.
+    pub(crate) fn new(alloc: Global) -> Turner
+        ensures rows { result.rows.items ≡ [] }
+        ensures gives { result.gives ≡ false }
+    {
+        Turner {
+            rows: Vec::new(alloc),
+            gives: false,
+        }
+    }
+}
+
+/// The head of the flipped image, or the refusal.
+pub(crate) fn flipped_head(alloc: Global, way: FlipWay, head: &Head) -> Result<Head, ToolFault>
+    ensures made { IfOk result (λ made. result_head (Flip way) head.now ≡ Ok made) }
+    ensures refused { IfErr result (λ fault. (result_head (Flip way) head.now ≡ Err fault)
+        ⊎ ((fault ≡ Memory) × Takes (Flip way) head.now)) }
+{
+    let shape = head.shape();
+    let keeps_rows = match way {
+        FlipWay::Null | FlipWay::LeftRight => false,
+        FlipWay::TopBottom | FlipWay::Transpose => true,
+    };
+    if keeps_rows && shape.height == 0 {
+        return Err(ToolFault::OutOfOrder);
+    }
+    let flipped = match way {
+        FlipWay::Null | FlipWay::LeftRight | FlipWay::TopBottom => shape,
+        FlipWay::Transpose => Shape {
+            width: shape.height,
+            height: shape.width,
+            ..shape
+        },
+    };
+    result_head(alloc, flipped, head.tuple_type())
+}
+
+/// The last pixel first: all samples change places, and then those of each pixel do again.
+fn reverse_pixels(samples: &mut [u16], shape: Shape)
+    requires limits { IsWithinLimits shape }
+    requires row { length samples.old ≡ row_length shape }
+    ensures { samples.new ≡ mirrored_row shape samples.old }
+{
+    samples.reverse();
+    if shape.depth > 1 {
+        for pixel in samples.chunks_exact_mut(shape.depth as usize) {
+            pixel.reverse();
+        }
+    }
+}
