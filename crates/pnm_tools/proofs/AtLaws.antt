@@ -1,5 +1,5 @@
 -- What a tool that answers each message at once has given, where some of it still waits.
-use Rattle.std.proofs.Common.{◌≡◌, ◌⊎◌, inl, inr, ℕ, List, [], ◌∷◌, ◌++◌, map, Result, Ok, Err, refl, sym, ap, subst, ◌∙◌, append_assoc}
+use Rattle.std.proofs.Common.{◌≡◌, ◌⊎◌, inl, inr, ℕ, ◌+◌, List, [], ◌∷◌, ◌++◌, map, Result, Ok, Err, refl, sym, ap, subst, ◌∙◌, append_assoc}
 use Rattle.pnm_image.specs.declared.message.Message.{Message}
 use Rattle.pnm_image.specs.declared.message.Message.TheVariants.{Begin, Row, ImageEnd, StreamEnd, Stop}
 use Rattle.pnm_image.specs.declared.place.Place.{Place}
@@ -11,7 +11,7 @@ use Rattle.pnm_image.specs.Images.{Image}
 use Rattle.pnm_image.specs.Completion.{IsFrontOf, Completes}
 use Rattle.pnm_tools.specs.declared.fault.ToolFault.{ToolFault}
 use Rattle.pnm_tools.specs.declared.tool.Tool.{Tool}
-use Rattle.pnm_tools.specs.Tools.{AreTaken, result_head, row_answer, output_due}
+use Rattle.pnm_tools.specs.Tools.{AreTaken, result_head, row_answer, end_answer, output_due}
 use Rattle.pnm_tools.specs.Answers.{More, BrokenOff, ending_of, EndsBy, Answers}
 use Rattle.pnm_tools.specs.Answering.{answered, answered_from}
 use Rattle.pnm_tools.specs.States.{IsAnswering}
@@ -86,15 +86,17 @@ head_goes_on : (r : Result Header ToolFault) → GoOn (elim r [ Ok result ↦ Be
 head_goes_on (Ok result) = tt
 head_goes_on (Err fault) = tt
 
-pub answers_go_on : (tool : Tool) (place : Place) (l : List Message) → GoOn l → GoOn (answered_from tool place l)
-answers_go_on tool place [] p = tt
-answers_go_on tool place (Begin head ∷ l) p = both_go_on (answered tool place (Begin head)) (answered_from tool (place_after place (Begin head)) l) (head_goes_on (result_head tool head)) (answers_go_on tool (place_after place (Begin head)) l p)
-answers_go_on tool Between (Row row ∷ l) p = answers_go_on tool Between l p
-answers_go_on tool (Inside s y) (Row row ∷ l) p = both_go_on (map Row (row_answer tool s y row)) (answered_from tool (place_after (Inside s y) (Row row)) l) (rows_go_on (row_answer tool s y row)) (answers_go_on tool (place_after (Inside s y) (Row row)) l p)
-answers_go_on tool After (Row row ∷ l) p = answers_go_on tool After l p
-answers_go_on tool place (ImageEnd ∷ l) p = answers_go_on tool Between l p
-answers_go_on tool place (StreamEnd ∷ l) p = answers_go_on tool After l p
-answers_go_on tool place (Stop ∷ l) p = absurd p
+pub answers_go_on : (tool : Tool) (place : Place) (rows : List (List ℕ)) (l : List Message) → GoOn l → GoOn (answered_from tool place rows l)
+answers_go_on tool place rows [] p = tt
+answers_go_on tool place rows (Begin head ∷ l) p = both_go_on (answered tool place rows (Begin head)) (answered_from tool (place_after place (Begin head)) [] l) (head_goes_on (result_head tool head)) (answers_go_on tool (place_after place (Begin head)) [] l p)
+answers_go_on tool Between rows (Row row ∷ l) p = answers_go_on tool Between (rows ++ row ∷ []) l p
+answers_go_on tool (Inside s y) rows (Row row ∷ l) p = both_go_on (map Row (row_answer tool s y row)) (answered_from tool (Inside s (y + 1)) (rows ++ row ∷ []) l) (rows_go_on (row_answer tool s y row)) (answers_go_on tool (Inside s (y + 1)) (rows ++ row ∷ []) l p)
+answers_go_on tool After rows (Row row ∷ l) p = answers_go_on tool After (rows ++ row ∷ []) l p
+answers_go_on tool Between rows (ImageEnd ∷ l) p = answers_go_on tool Between [] l p
+answers_go_on tool (Inside s y) rows (ImageEnd ∷ l) p = both_go_on (map Row (end_answer tool s rows) ++ ImageEnd ∷ []) (answered_from tool Between [] l) (both_go_on (map Row (end_answer tool s rows)) (ImageEnd ∷ []) (rows_go_on (end_answer tool s rows)) tt) (answers_go_on tool Between [] l p)
+answers_go_on tool After rows (ImageEnd ∷ l) p = answers_go_on tool Between [] l p
+answers_go_on tool place rows (StreamEnd ∷ l) p = answers_go_on tool After [] l p
+answers_go_on tool place rows (Stop ∷ l) p = absurd p
 
 -- ---- the relation of a state with what it accepted and gave
 
@@ -135,14 +137,14 @@ front_stop due a g r on d (inr h) = front_on due a g h.0 r on h.1 d
 front_of_due : (tool : Tool) (l g waiting : List Message) (is : List Image) → AnswersImages tool → IsAnswering tool l g waiting → StopsLast l → Completes is l → IsFrontOf (without_stop g) (output_due tool is)
 front_of_due tool l g waiting is answers at (inl on) c =
     let due = answers_are_due tool is l c.front.0 answers c.images (c.front.1 ∙ ap (λ (x : List Message). x ++ c.front.0) (keeps_all l on)) at.taken in
-    front_on (output_due tool is) (answered_from tool Between l) g waiting due.0 (answers_go_on tool Between l on) at.given due.1
+    front_on (output_due tool is) (answered_from tool Between [] l) g waiting due.0 (answers_go_on tool Between [] l on) at.given due.1
 front_of_due tool l g waiting is answers at (inr h) c =
     let front : List Message = h.0 in
     let taken : AreTaken tool front = taken_front tool front (Stop ∷ []) (subst (AreTaken tool) h.1 at.taken) in
     let cut : without_stop l ≡ front = ap without_stop h.1 ∙ cuts_stop front h.2 in
     let due = answers_are_due tool is front c.front.0 answers c.images (c.front.1 ∙ ap (λ (x : List Message). x ++ c.front.0) cut) taken in
-    let parts : answered_from tool Between front ++ Stop ∷ [] ≡ g ++ waiting = sym (ap (answered_from tool Between) h.1 ∙ answered_from-append tool Between front (Stop ∷ [])) ∙ at.given in
-    front_stop (output_due tool is) (answered_from tool Between front) g due.0 (answers_go_on tool Between front h.2) due.1 (within (answered_from tool Between front) Stop g waiting parts)
+    let parts : answered_from tool Between [] front ++ Stop ∷ [] ≡ g ++ waiting = sym (ap (answered_from tool Between []) h.1 ∙ answered_from-append tool Between [] front (Stop ∷ [])) ∙ at.given in
+    front_stop (output_due tool is) (answered_from tool Between [] front) g due.0 (answers_go_on tool Between [] front h.2) due.1 (within (answered_from tool Between [] front) Stop g waiting parts)
 
 -- what goes on isn't broken off
 pub not_broken : (g : List Message) → GoOn g → EndsBy BrokenOff g → ⊥
@@ -183,7 +185,7 @@ no_last_stop (StreamEnd ∷ front) on = no_last_stop front on
 no_last_stop (Stop ∷ front) on = on
 
 stops_so : (tool : Tool) (l g waiting front : List Message) → IsAnswering tool l g waiting → StopsLast l → g ≡ front ++ Stop ∷ [] → EndsBy BrokenOff l
-stops_so tool l g waiting front at (inl on) e = absurd (no_last_stop front (subst GoOn e (first_goes_on g waiting (subst GoOn at.given (answers_go_on tool Between l on)))))
+stops_so tool l g waiting front at (inl on) e = absurd (no_last_stop front (subst GoOn e (first_goes_on g waiting (subst GoOn at.given (answers_go_on tool Between [] l on)))))
 stops_so tool l g waiting front at (inr h) e = subst (EndsBy BrokenOff) (sym h.1) (is_broken Between h.0 (subst IsLawful h.1 at.lawful))
 
 -- the relation implies that what was given are answers

@@ -1,5 +1,5 @@
 -- The picked image is what the rows of an image, each picked, are the messages of.
-use Rattle.std.proofs.Common.{◌≡◌, ℕ, zero, suc, ◌+◌, ◌*◌, ◌<◌, ◌≤◌, Bool, true, false, List, [], ◌∷◌, ◌++◌, map, length, slice_index, take, drop, Result, Ok, Err, refl, sym, ap, subst, ◌∙◌, arith, mul_assoc, add-mul, mul-le-mul, suc-mul}
+use Rattle.std.proofs.Common.{◌≡◌, ℕ, zero, suc, ◌+◌, ◌*◌, ◌<◌, ◌≤◌, Bool, true, false, List, [], ◌∷◌, ◌++◌, map, length, slice_index, take, drop, Result, Ok, Err, refl, sym, ap, subst, ◌∙◌, arith, append-nil, mul_assoc, add-mul, mul-le-mul, suc-mul}
 use Rattle.std.specs.Prelude.{All, slice_index_or, if◌then◌else◌, nat_lt}
 use Rattle.std.specs.List.{flat_map, range_with_len, list_all}
 use Rattle.std.proofs.lemmas.Bool.{ltb-true}
@@ -22,7 +22,8 @@ use Rattle.pnm_tools.specs.Channel.{Picks, IsLawfulPick, HasPlanes, picked_heade
 use Rattle.pnm_tools.specs.Tools.{result_head, result_sample, row_answer}
 use Rattle.pnm_tools.specs.Answering.{answered_from}
 use Rattle.pnm_tools.proofs.FormulaLaws.{columns, row_at, rows_are, rows_of-image_by, range_alike}
-use Rattle.pnm_tools.proofs.ImageLaws.{result_by_head, answered_by_rows}
+use Rattle.pnm_tools.proofs.ImageLaws.{answers_to_rows, each_row_answered, result_by_head, answered_by_rows}
+use Rattle.pnm_tools.proofs.RowLaws.{row_of_channel}
 use Rattle.pnm_tools.proofs.AnsweringLaws.{AnswersImages}
 
 -- ---- an image that isn't refused
@@ -91,12 +92,6 @@ picked_rows planes i has =
     ∙ sym (map-map (picked_row planes s) (row_at i) (range_with_len 0 s.height))
     ∙ ap (map (picked_row planes s)) (sym (rows_are i))
 
--- the answer to rows and the end of an image
-rows_answered : (planes : Picks) (s : Shape) (y : ℕ) (rows : List (List ℕ)) → answered_from (Channel planes) (Inside s y) (map Row rows ++ ImageEnd ∷ []) ≡ map Row (map (picked_row planes s) rows) ++ ImageEnd ∷ []
-unfolding row_answer
-rows_answered planes s y [] = refl
-rows_answered planes s y (row ∷ rows) = ap (λ (l : List Message). Row (picked_row planes s row) ∷ l) (rows_answered planes s (y + 1) rows)
-
 answer_is : (planes : Picks) (i : Image) (result : Header) → IsPicked planes i.head result → map (picked_row planes i.head.shape) (rows_of i) ≡ rows_of (image_by result (result_sample (Channel planes) i))
 unfolding result_sample
 answer_is planes i result picked = sym (picked_rows planes i picked.has_planes) ∙ ap (λ (h : Header). rows_of (image_by h (picked_sample planes i))) (sym picked.result_is)
@@ -105,6 +100,7 @@ pub channel_answers_images : (planes : Picks) → IsLawfulPick planes → Answer
 channel_answers_images planes lawful i j is e =
     let picked = is_picked planes i.head j.head (result_by_head (Channel planes) i j e).head in
     answered_by_rows (Channel planes) i j e (
-    rows_answered planes i.head.shape 0 (rows_of i)
-    ∙ ap (λ (rows : List (List ℕ)). map Row rows ++ ImageEnd ∷ []) (answer_is planes i j.head picked)
+    append-nil (answers_to_rows (Channel planes) i.head.shape 0 (rows_of i))
+    ∙ each_row_answered (Channel planes) i.head.shape (picked_row planes i.head.shape) (λ y row. row_of_channel planes i.head.shape y row) 0 (rows_of i)
+    ∙ answer_is planes i j.head picked
     )

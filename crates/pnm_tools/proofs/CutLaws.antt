@@ -20,7 +20,7 @@ use Rattle.pnm_tools.specs.Cut.{span_within, span_count, first_kept, last_kept, 
 use Rattle.pnm_tools.specs.Tools.{result_head, result_sample, row_answer}
 use Rattle.pnm_tools.specs.Answering.{answered_from}
 use Rattle.pnm_tools.proofs.FormulaLaws.{columns, columns_at, row_at, rows_are, rows_of-image_by, range_alike}
-use Rattle.pnm_tools.proofs.ImageLaws.{result_by_head, answered_by_rows}
+use Rattle.pnm_tools.proofs.ImageLaws.{answers_to_rows, numbered_rows_answered, result_by_head, answered_by_rows}
 use Rattle.pnm_tools.proofs.AnsweringLaws.{AnswersImages}
 
 -- ---- ranges of numbers
@@ -130,17 +130,12 @@ cut_rows_are c r i is in_row in_image =
     ∙ ap (λ (a : ℕ). map row (range_with_len a (span_count r))) at
     ∙ range_alike row (λ y. columns_of_row c s.depth (row_at i y)) r.first (span_count r) (λ y lt. columns_cut i.samples s.width s.depth s.height y c.first (span_count c) (omega arith) (omega arith) is.count)
 
--- the answer to rows and the end of an image
-rows_answered : (box : CutBox) (s : Shape) (y n : ℕ) (row : ℕ → List ℕ)
-    → answered_from (Cut box) (Inside s y) (map Row (map row (range_with_len y n)) ++ ImageEnd ∷ []) ≡ map Row (flat_map (λ k. cut_rows_of box s k (row k)) (range_with_len y n)) ++ ImageEnd ∷ []
+-- the answers to the rows
+rows_cut : (box : CutBox) (i : Image) → answers_to_rows (Cut box) i.head.shape 0 (rows_of i) ≡ flat_map (λ y. cut_rows_of box i.head.shape y (row_at i y)) (range_with_len 0 i.head.shape.height)
 unfolding row_answer
-rows_answered box s y zero row = refl
-rows_answered box s y (suc n) row =
-    let first : List (List ℕ) = cut_rows_of box s y (row y) in
-    let others : List (List ℕ) = flat_map (λ k. cut_rows_of box s k (row k)) (range_with_len (y + 1) n) in
-    ap (λ (l : List Message). map Row first ++ l) (rows_answered box s (y + 1) n row)
-    ∙ sym (append_assoc (map Row first) (map Row others) (ImageEnd ∷ []))
-    ∙ ap (λ (l : List Message). l ++ ImageEnd ∷ []) (sym (map-append Row first others))
+rows_cut box i =
+    ap (answers_to_rows (Cut box) i.head.shape 0) (rows_are i)
+    ∙ numbered_rows_answered (Cut box) i.head.shape (row_at i) 0 i.head.shape.height
 
 -- ---- the spans of an image that isn't refused
 
@@ -208,7 +203,5 @@ cut_answers_images box i j is e =
     let s : Shape = i.head.shape in
     let cut = is_cut box i.head j.head (result_by_head (Cut box) i j e).head in
     answered_by_rows (Cut box) i j e (
-    ap (λ (rows : List (List ℕ)). answered_from (Cut box) (Inside s 0) (map Row rows ++ ImageEnd ∷ [])) (rows_are i)
-    ∙ rows_answered box s 0 s.height (row_at i)
-    ∙ ap (λ (rows : List (List ℕ)). map Row rows ++ ImageEnd ∷ []) (answer_is box i j.head is cut)
+    append-nil (answers_to_rows (Cut box) s 0 (rows_of i)) ∙ rows_cut box i ∙ answer_is box i j.head is cut
     )

@@ -1,45 +1,41 @@
 -- The rescaled image is what the rows of an image, each rescaled, are the messages of.
-use Rattle.std.proofs.Common.{◌≡◌, ℕ, ◌+◌, ◌*◌, ◌/◌, ◌<◌, ◌≤◌, List, [], ◌∷◌, ◌++◌, map, Ok, refl, sym, ap, ◌∙◌, arith}
+use Rattle.std.proofs.Common.{◌≡◌, ℕ, ◌+◌, ◌*◌, ◌/◌, ◌<◌, ◌≤◌, map, Ok, refl, sym, ap, ◌∙◌, arith, append-nil}
 use Rattle.pnm_image.specs.declared.shape.Shape.{Shape}
-use Rattle.pnm_image.specs.declared.message.Message.{Message}
-use Rattle.pnm_image.specs.declared.message.Message.TheVariants.{Begin, Row, ImageEnd}
-use Rattle.pnm_image.specs.declared.place.Place.TheVariants.{Between, Inside}
 use Rattle.pnm_image.specs.Heads.{Header}
-use Rattle.pnm_image.specs.Images.{Image, IsImage, rows_of, messages_of_image}
+use Rattle.pnm_image.specs.Images.{Image, IsImage, rows_of}
 use Rattle.pnm_tools.specs.declared.tool.Tool.TheVariants.{Depth}
 use Rattle.pnm_tools.specs.Formulas.{image_by}
-use Rattle.pnm_tools.specs.Depth.{nearest_sample, kind_at, type_at, rescaled_sample}
-use Rattle.pnm_tools.specs.Tools.{result_head, result_sample, row_answer, applied}
-use Rattle.pnm_tools.specs.Answering.{answered_from}
+use Rattle.pnm_tools.specs.Depth.{nearest_sample, kind_at, type_at, rescaled_sample, rescaled_row}
+use Rattle.pnm_tools.specs.Tools.{result_head, result_sample}
 use Rattle.pnm_tools.proofs.FormulaLaws.{samplewise_rows}
+use Rattle.pnm_tools.proofs.ImageLaws.{answers_to_rows, each_row_answered, result_by_head, answered_by_rows}
 use Rattle.pnm_tools.proofs.AnsweringLaws.{AnswersImages}
-
--- the answer to rows and the end of an image
-rows_answered : (new : ℕ) (s : Shape) (y : ℕ) (rows : List (List ℕ)) → answered_from (Depth new) (Inside s y) (map Row rows ++ ImageEnd ∷ []) ≡ map Row (map (map (nearest_sample new s.maxval)) rows) ++ ImageEnd ∷ []
-unfolding row_answer
-rows_answered new s y [] = refl
-rows_answered new s y (row ∷ rows) = ap (λ (l : List Message). Row (map (nearest_sample new s.maxval) row) ∷ l) (rows_answered new s (y + 1) rows)
+use Rattle.pnm_tools.proofs.RowLaws.{row_of_depth}
 
 -- the head of the rescaled image
 abbrev pub new_head : ℕ → Header → Header
 new_head new head = record { shape = record head.shape { kind = kind_at new head.shape.kind; maxval = new }; tuple_type = type_at new head.tuple_type }
 
--- the rescaled image
-abbrev rescaled : ℕ → Image → Image
-rescaled new i = image_by (new_head new i.head) (rescaled_sample new i)
-
-result_is : (new : ℕ) (i j : Image) → applied (Depth new) i ≡ Ok j → rescaled new i ≡ j
-unfolding result_head result_sample
-result_is new i j e = cc
-
-rescaled_answers : (new : ℕ) (i : Image) → IsImage i → answered_from (Depth new) Between (messages_of_image i) ≡ messages_of_image (rescaled new i)
+new_head_is : (new : ℕ) (head result : Header) → result_head (Depth new) head ≡ Ok result → result ≡ new_head new head
 unfolding result_head
-rescaled_answers new i is =
-    ap (λ (l : List Message). Begin (new_head new i.head) ∷ l) (rows_answered new i.head.shape 0 (rows_of i)
-    ∙ ap (λ (rows : List (List ℕ)). map Row rows ++ ImageEnd ∷ []) (sym (samplewise_rows (nearest_sample new i.head.shape.maxval) i (new_head new i.head) is (record { width = refl; height = refl; depth = refl }))))
+new_head_is new head result e = cc
+
+-- the rows of the rescaled image
+rescaled_rows : (new : ℕ) (i : Image) (result : Header) → IsImage i → result ≡ new_head new i.head → rows_of (image_by result (result_sample (Depth new) i)) ≡ map (rescaled_row new i.head.shape) (rows_of i)
+unfolding result_sample
+rescaled_rows new i result is same =
+    ap (λ (h : Header). rows_of (image_by h (rescaled_sample new i))) same
+    ∙ samplewise_rows (nearest_sample new i.head.shape.maxval) i (new_head new i.head) is (record { width = refl; height = refl; depth = refl })
 
 pub depth_answers_images : (maxval : ℕ) → AnswersImages (Depth maxval)
-depth_answers_images maxval i j is e = rescaled_answers maxval i is ∙ ap messages_of_image (result_is maxval i j e)
+depth_answers_images maxval i j is e =
+    let s : Shape = i.head.shape in
+    let same : j.head ≡ new_head maxval i.head = new_head_is maxval i.head j.head (result_by_head (Depth maxval) i j e).head in
+    answered_by_rows (Depth maxval) i j e (
+    append-nil (answers_to_rows (Depth maxval) s 0 (rows_of i))
+    ∙ each_row_answered (Depth maxval) s (rescaled_row maxval s) (λ y row. row_of_depth maxval s y row) 0 (rows_of i)
+    ∙ sym (rescaled_rows maxval i j.head is same)
+    )
 
 -- the whole part of a quotient
 whole_part : (share each q : ℕ) → 0 < each → q ≡ share / each → (each * q ≤ share) × (share < each * q + each)

@@ -9,7 +9,7 @@ use Rattle.pnm_image.specs.Places.{place_of}
 use Rattle.pnm_image.specs.Completion.{IsFrontOf, Completes}
 use Rattle.pnm_tools.specs.declared.tool.Tool.{Tool}
 use Rattle.pnm_tools.specs.Answers.{EndsBy, images_ended, begun_of, begun_in, owed, AnswersInFull}
-use Rattle.pnm_tools.specs.Answering.{answered_from}
+use Rattle.pnm_tools.specs.Answering.{answered_from, rows_come}
 use Rattle.pnm_tools.specs.States.{IsAnswering}
 use Rattle.pnm_tools.proofs.AnsweringLaws.{AnswersImages, answered_from-append}
 use Rattle.pnm_tools.proofs.AtLaws.{StopsLast, keeps_all, cuts_stop, lawful_stops, answering_answers}
@@ -27,13 +27,13 @@ ended_before_stop (Stop ∷ []) = refl
 ended_before_stop (Stop ∷ m ∷ l) = ended_before_stop (m ∷ l)
 
 -- the answers before a last Stop are a front of all answers
-before_stop : (tool : Tool) (l : List Message) → StopsLast l → IsFrontOf (answered_from tool Between (without_stop l)) (answered_from tool Between l)
-before_stop tool l (inl on) = ([], ap (answered_from tool Between) (sym (keeps_all l on)) ∙ sym (append-nil (answered_from tool Between (without_stop l))))
+before_stop : (tool : Tool) (l : List Message) → StopsLast l → IsFrontOf (answered_from tool Between [] (without_stop l)) (answered_from tool Between [] l)
+before_stop tool l (inl on) = ([], ap (answered_from tool Between []) (sym (keeps_all l on)) ∙ sym (append-nil (answered_from tool Between [] (without_stop l))))
 before_stop tool l (inr h) =
     let front : List Message = h.0 in
     let cut : without_stop l ≡ front = ap without_stop h.1 ∙ cuts_stop front h.2 in (
-      answered_from tool (place_of Between front) (Stop ∷ []),
-      ap (answered_from tool Between) h.1 ∙ answered_from-append tool Between front (Stop ∷ []) ∙ ap (λ (x : List Message). answered_from tool Between x ++ answered_from tool (place_of Between front) (Stop ∷ [])) (sym cut),
+      answered_from tool (place_of Between front) (rows_come [] front) (Stop ∷ []),
+      ap (answered_from tool Between []) h.1 ∙ answered_from-append tool Between [] front (Stop ∷ []) ∙ ap (λ (x : List Message). answered_from tool Between [] x ++ answered_from tool (place_of Between front) (rows_come [] front) (Stop ∷ [])) (sym cut),
     )
 
 pub front_of_front : (a b c : List Message) → IsFrontOf a b → IsFrontOf b c → IsFrontOf a c
@@ -46,7 +46,7 @@ all_owed tool l g is answers at c =
     let same : owed tool (images_ended cut) (begun_of (place_of Between cut)) is ≡ owed tool (images_ended l) (begun_in l) is = ap (λ (n : ℕ). owed tool n (begun_in l) is) (ended_before_stop l) in
     subst (λ (x : List Message). IsFrontOf x g) same
     (subst (IsFrontOf (owed tool (images_ended cut) (begun_of (place_of Between cut)) is)) (at.given ∙ append-nil g)
-    (front_of_front (owed tool (images_ended cut) (begun_of (place_of Between cut)) is) (answered_from tool Between cut) (answered_from tool Between l) part (before_stop tool l (lawful_stops Between l at.lawful))))
+    (front_of_front (owed tool (images_ended cut) (begun_of (place_of Between cut)) is) (answered_from tool Between [] cut) (answered_from tool Between [] l) part (before_stop tool l (lawful_stops Between l at.lawful))))
 
 -- a tool that answers each message at once has answered in full where nothing waits
 pub answering_in_full : (tool : Tool) (l g : List Message) → AnswersImages tool → IsAnswering tool l g [] → AnswersInFull tool l g
@@ -54,5 +54,5 @@ answering_in_full tool l g answers at = record {
   answers = answering_answers tool l g [] answers at;
   taken = at.taken;
   all = λ is c. all_owed tool l g is answers at c;
-  ends = λ e ends. subst (EndsBy e) (at.given ∙ append-nil g) (answers_end_so tool Between l e ends);
+  ends = λ e ends. subst (EndsBy e) (at.given ∙ append-nil g) (answers_end_so tool Between [] l e ends);
 }

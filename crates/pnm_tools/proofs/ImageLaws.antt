@@ -1,5 +1,6 @@
 -- What becomes of an image that isn't refused.
-use Rattle.std.proofs.Common.{◌≡◌, ℕ, ◌+◌, List, [], ◌∷◌, ◌++◌, map, Result, Ok, Err, sym, ap, ◌∙◌, append_assoc, append-nil}
+use Rattle.std.proofs.Common.{◌≡◌, ℕ, zero, suc, ◌+◌, List, [], ◌∷◌, ◌++◌, map, Result, Ok, Err, refl, sym, ap, ◌∙◌, append_assoc, append-nil}
+use Rattle.std.specs.List.{flat_map, range_with_len}
 use Rattle.std.proofs.lemmas.List.{map-append}
 use Rattle.pnm_image.specs.declared.shape.Shape.{Shape}
 use Rattle.pnm_image.specs.declared.message.Message.{Message}
@@ -35,6 +36,17 @@ result_by_head tool i j e = by_head (result_sample tool i) (result_head tool i.h
 abbrev pub answers_to_rows : Tool → Shape → ℕ → List (List ℕ) → List (List ℕ)
 answers_to_rows tool s y [] = []
 answers_to_rows tool s y (row ∷ rows) = row_answer tool s y row ++ answers_to_rows tool s (y + 1) rows
+
+-- where each row is answered by one
+pub each_row_answered : (tool : Tool) (s : Shape) (f : List ℕ → List ℕ) → ((y : ℕ) (row : List ℕ) → row_answer tool s y row ≡ f row ∷ []) → (y : ℕ) (rows : List (List ℕ)) → answers_to_rows tool s y rows ≡ map f rows
+each_row_answered tool s f one y [] = refl
+each_row_answered tool s f one y (row ∷ rows) =
+    ap (λ (l : List (List ℕ)). l ++ answers_to_rows tool s (y + 1) rows) (one y row) ∙ ap (λ (l : List (List ℕ)). f row ∷ l) (each_row_answered tool s f one (y + 1) rows)
+
+-- the answers to rows that are given by their numbers
+pub numbered_rows_answered : (tool : Tool) (s : Shape) (row : ℕ → List ℕ) (y n : ℕ) → answers_to_rows tool s y (map row (range_with_len y n)) ≡ flat_map (λ k. row_answer tool s k (row k)) (range_with_len y n)
+numbered_rows_answered tool s row y zero = refl
+numbered_rows_answered tool s row y (suc n) = ap (λ (l : List (List ℕ)). row_answer tool s y (row y) ++ l) (numbered_rows_answered tool s row (y + 1) n)
 
 -- the answer to the rows and the end of an image, of which some rows have come
 rows_answered : (tool : Tool) (s : Shape) (y : ℕ) (come rows : List (List ℕ))

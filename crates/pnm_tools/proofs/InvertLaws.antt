@@ -1,36 +1,33 @@
 -- The inverted image is what the rows of an image, each inverted, are the messages of.
-use Rattle.std.proofs.Common.{◌≡◌, ℕ, ◌+◌, ◌-◌, List, [], ◌∷◌, ◌++◌, map, Ok, refl, sym, ap, ◌∙◌}
-use Rattle.pnm_image.specs.declared.shape.Shape.{Shape}
-use Rattle.pnm_image.specs.declared.message.Message.{Message}
-use Rattle.pnm_image.specs.declared.message.Message.TheVariants.{Begin, Row, ImageEnd}
-use Rattle.pnm_image.specs.declared.place.Place.TheVariants.{Between, Inside}
-use Rattle.pnm_image.specs.Images.{Image, IsImage, sample_at, rows_of, messages_of_image}
+use Rattle.std.proofs.Common.{◌≡◌, ◌-◌, map, Ok, refl, sym, ap, ◌∙◌, append-nil}
+use Rattle.pnm_image.specs.Heads.{Header}
+use Rattle.pnm_image.specs.Images.{Image, IsImage, rows_of}
 use Rattle.pnm_tools.specs.declared.tool.Tool.TheVariants.{Invert}
 use Rattle.pnm_tools.specs.Formulas.{image_by}
-use Rattle.pnm_tools.specs.Tools.{result_head, result_sample, row_answer, applied}
-use Rattle.pnm_tools.specs.Answering.{answered_from}
+use Rattle.pnm_tools.specs.Invert.{inverted_sample, inverted_row}
+use Rattle.pnm_tools.specs.Tools.{result_head, result_sample}
 use Rattle.pnm_tools.proofs.FormulaLaws.{samplewise_rows}
+use Rattle.pnm_tools.proofs.ImageLaws.{answers_to_rows, each_row_answered, result_by_head, answered_by_rows}
 use Rattle.pnm_tools.proofs.AnsweringLaws.{AnswersImages}
+use Rattle.pnm_tools.proofs.RowLaws.{row_of_invert}
 
--- the answer to rows and the end of an image
-rows_answered : (s : Shape) (y : ℕ) (rows : List (List ℕ)) → answered_from Invert (Inside s y) (map Row rows ++ ImageEnd ∷ []) ≡ map Row (map (map (λ sample. s.maxval - sample)) rows) ++ ImageEnd ∷ []
-unfolding row_answer
-rows_answered s y [] = refl
-rows_answered s y (row ∷ rows) = ap (λ (l : List Message). Row (map (λ sample. s.maxval - sample) row) ∷ l) (rows_answered s (y + 1) rows)
-
--- the inverted image
-abbrev inverted : Image → Image
-inverted i = image_by i.head (λ x y p. i.head.shape.maxval - sample_at i x y p)
-
-result_is : (i j : Image) → applied Invert i ≡ Ok j → inverted i ≡ j
-unfolding result_head result_sample
-result_is i j e = cc
-
-inverted_answers : (i : Image) → IsImage i → answered_from Invert Between (messages_of_image i) ≡ messages_of_image (inverted i)
+-- the head stays
+same_head : (head result : Header) → result_head Invert head ≡ Ok result → result ≡ head
 unfolding result_head
-inverted_answers i is =
-    ap (λ (l : List Message). Begin i.head ∷ l) (rows_answered i.head.shape 0 (rows_of i)
-    ∙ ap (λ (rows : List (List ℕ)). map Row rows ++ ImageEnd ∷ []) (sym (samplewise_rows (λ sample. i.head.shape.maxval - sample) i i.head is (record { width = refl; height = refl; depth = refl }))))
+same_head head result e = cc
+
+-- the rows of the inverted image
+inverted_rows : (i : Image) (result : Header) → IsImage i → result ≡ i.head → rows_of (image_by result (result_sample Invert i)) ≡ map (inverted_row i.head.shape) (rows_of i)
+unfolding result_sample
+inverted_rows i result is same =
+    ap (λ (h : Header). rows_of (image_by h (inverted_sample i))) same
+    ∙ samplewise_rows (λ sample. i.head.shape.maxval - sample) i i.head is (record { width = refl; height = refl; depth = refl })
 
 pub invert_answers_images : AnswersImages Invert
-invert_answers_images i j is e = inverted_answers i is ∙ ap messages_of_image (result_is i j e)
+invert_answers_images i j is e =
+    let same : j.head ≡ i.head = same_head i.head j.head (result_by_head Invert i j e).head in
+    answered_by_rows Invert i j e (
+    append-nil (answers_to_rows Invert i.head.shape 0 (rows_of i))
+    ∙ each_row_answered Invert i.head.shape (inverted_row i.head.shape) (λ y row. row_of_invert i.head.shape y row) 0 (rows_of i)
+    ∙ sym (inverted_rows i j.head is same)
+    )

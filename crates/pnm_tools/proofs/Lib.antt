@@ -14,6 +14,9 @@ pub mod FullLaws
 pub mod CutLaws
 pub mod DepthLaws
 pub mod ChannelLaws
+pub mod EnlargeLaws
+pub mod FlipLaws
+pub mod TileLaws
 pub mod ToolLaws
 pub mod ResultLaws
 pub mod SoundLaws
@@ -21,3 +24,4 @@ pub mod FrontLaws
 pub mod RefusalLaws
 pub mod ChainLaws
 pub mod StateSteps
+pub mod GivingSteps

@@ -14,7 +14,7 @@ use Rattle.pnm_tools.specs.declared.tool.Tool.{Tool}
 use Rattle.pnm_tools.specs.Tools.{result_head, applied}
 use Rattle.pnm_tools.specs.Answers.{images_ended, begun_of, owed}
 use Rattle.pnm_tools.specs.Answering.{answered_from}
-use Rattle.pnm_tools.proofs.AnsweringLaws.{AnswersImages, Fronts, fronts, ends_between, answered_from-append}
+use Rattle.pnm_tools.proofs.AnsweringLaws.{AnswersImages, Fronts, fronts, ends_between, answered_after_image}
 
 pub place_of-append : (place : Place) (a b : List Message) → place_of place (a ++ b) ≡ place_of (place_of place a) b
 place_of-append place [] b = refl
@@ -80,7 +80,7 @@ unfolding owed
 owes_image tool n b i is = refl
 
 abbrev IsOwedFront : Tool → List Image → List Message → Type 0
-IsOwedFront tool is l = IsFrontOf (owed tool (images_ended l) (begun_of (place_of Between l)) is) (answered_from tool Between l)
+IsOwedFront tool is l = IsFrontOf (owed tool (images_ended l) (begun_of (place_of Between l)) is) (answered_from tool Between [] l)
 
 -- a whole image, and more
 beyond_image : (tool : Tool) (i : Image) (is : List Image) (l more : List Message) (r : Result Image ToolFault) → AnswersImages tool → IsImage i → applied tool i ≡ r → l ≡ messages_of_image i ++ more → IsOwedFront tool is more → IsOwedFront tool (i ∷ is) l
@@ -88,14 +88,14 @@ beyond_image tool i is l more (Err fault) answers image a e others =
     let count : images_ended l ≡ suc (images_ended more) = ap images_ended e ∙ image_ended i more in
     let b : Bool = begun_of (place_of Between l) in
     let nothing : owed tool (images_ended l) b (i ∷ is) ≡ [] = ap (λ (n : ℕ). owed tool n b (i ∷ is)) count ∙ owes_image tool (images_ended more) b i is ∙ ap (image_owed tool (images_ended more) b is) a in
-    (answered_from tool Between l, ap (λ (x : List Message). x ++ answered_from tool Between l) (sym nothing))
+    (answered_from tool Between [] l, ap (λ (x : List Message). x ++ answered_from tool Between [] l) (sym nothing))
 beyond_image tool i is l more (Ok j) answers image a e others =
     let count : images_ended l ≡ suc (images_ended more) = ap images_ended e ∙ image_ended i more in
     let place : place_of Between l ≡ place_of Between more = ap (place_of Between) e ∙ place_of-append Between (messages_of_image i) more ∙ ap (λ (p : Place). place_of p more) (ends_between i) in
     let b : Bool = begun_of (place_of Between more) in
     let all : owed tool (images_ended l) (begun_of (place_of Between l)) (i ∷ is) ≡ messages_of_image j ++ owed tool (images_ended more) b is =
     ap (λ (p : Place). owed tool (images_ended l) (begun_of p) (i ∷ is)) place ∙ ap (λ (n : ℕ). owed tool n b (i ∷ is)) count ∙ owes_image tool (images_ended more) b i is ∙ ap (image_owed tool (images_ended more) b is) a in
-    let answer : answered_from tool Between l ≡ messages_of_image j ++ answered_from tool Between more = ap (answered_from tool Between) e ∙ answered_from-append tool Between (messages_of_image i) more ∙ ap (λ (x : List Message). x ++ answered_from tool (place_of Between (messages_of_image i)) more) (answers i j image a) ∙ ap (λ (p : Place). messages_of_image j ++ answered_from tool p more) (ends_between i) in
+    let answer : answered_from tool Between [] l ≡ messages_of_image j ++ answered_from tool Between [] more = ap (answered_from tool Between []) e ∙ answered_after_image tool i more ∙ ap (λ (x : List Message). x ++ answered_from tool Between [] more) (answers i j image a) in
     (others.0, answer ∙ ap (λ (x : List Message). messages_of_image j ++ x) others.1 ∙ sym (append_assoc (messages_of_image j) (owed tool (images_ended more) b is) others.0) ∙ ap (λ (x : List Message). x ++ others.0) (sym all))
 
 -- an image that has begun
@@ -103,7 +103,7 @@ within_image : (tool : Tool) (i : Image) (is : List Image) (f : List Message) �
 within_image tool i is f none begun =
     let all : owed tool (images_ended f) (begun_of (place_of (Inside i.head.shape 0) f)) (i ∷ is) ≡ head_by (result_head tool i.head) =
     ap (λ (b : Bool). owed tool (images_ended f) b (i ∷ is)) begun ∙ ap (λ (n : ℕ). owed tool n true (i ∷ is)) none ∙ owes_head tool i is in
-    (answered_from tool (Inside i.head.shape 0) f, ap (λ (x : List Message). x ++ answered_from tool (Inside i.head.shape 0) f) (sym all))
+    (answered_from tool (Inside i.head.shape 0) [] f, ap (λ (x : List Message). x ++ answered_from tool (Inside i.head.shape 0) [] f) (sym all))
 
 -- messages of one image, or beyond it
 of_image : (tool : Tool) (i : Image) (is : List Image) (l rest : List Message) → AnswersImages tool → IsImage i → ((more : List Message) → messages_of_stream is ≡ more ++ rest → IsOwedFront tool is more) → ((more : List Message) → more ≡ [] → IsOwedFront tool is more)
@@ -129,6 +129,6 @@ nothing_yet tool (i ∷ is) = ([], ap (λ (x : List Message). x ++ []) (sym (owe
 
 -- of messages that images complete, what is owed is a front of the answers
 pub owed_is_answered : (tool : Tool) (is : List Image) (l rest : List Message) → AnswersImages tool → AreImages is → messages_of_stream is ≡ l ++ rest → IsOwedFront tool is l
-owed_is_answered tool [] l rest answers are e = (answered_from tool Between l, ap (λ (x : List Message). x ++ answered_from tool Between l) (sym (owes_nothing tool (images_ended l) (begun_of (place_of Between l)))))
+owed_is_answered tool [] l rest answers are e = (answered_from tool Between [] l, ap (λ (x : List Message). x ++ answered_from tool Between [] l) (sym (owes_nothing tool (images_ended l) (begun_of (place_of Between l)))))
 owed_is_answered tool (i ∷ is) l rest answers are e =
     of_image tool i is l rest answers are.0 (λ more f. owed_is_answered tool is more rest answers are.1 f) (λ more n. subst (IsOwedFront tool is) (sym n) (nothing_yet tool is)) (fronts (messages_of_image i) (messages_of_stream is) l rest e)

@@ -1,31 +1,35 @@
--- How a tool at work goes on from message to message.
-use Rattle.std.proofs.Common.{◌≡◌, ◌⊎◌, inl, inr, Bool, true, false, List, [], ◌∷◌, ◌++◌, refl, sym, ap, subst, ◌∙◌, append_assoc, append-nil, Option, Some, None, Result, Ok, Err, nat_lt}
+-- How a tool at work takes a message.
+use Rattle.std.proofs.Common.{◌≡◌, ◌⊎◌, inl, inr, ℕ, Bool, true, false, not, ◌&&◌, List, [], ◌∷◌, ◌++◌, refl, sym, ap, subst, ◌∙◌, append-nil, Option, Some, None, Result, Ok, Err, nat_lt}
 use Rattle.std.specs.Prelude.{◌==◌, if◌then◌else◌}
 use Rattle.std.specs.List.{list_all}
 use Rattle.pnm_image.specs.Heads.{Header}
-use Rattle.pnm_tools.specs.declared.cut.Span.{Span}
-use Rattle.pnm_tools.specs.declared.tool.Tool.TheVariants.{Invert, Cut, Depth, Channel}
-use Rattle.pnm_tools.specs.Cut.{head_of_spans, columns_kept, rows_kept}
-use Rattle.pnm_tools.specs.Channel.{picked_header}
-use Rattle.pnm_tools.specs.Limits.{is_too_large, within_limits}
 use Rattle.pnm_image.specs.declared.shape.Shape.{Shape}
 use Rattle.pnm_image.specs.declared.message.Message.{Message}
 use Rattle.pnm_image.specs.declared.message.Message.TheVariants.{Begin, Row, ImageEnd, StreamEnd, Stop}
 use Rattle.pnm_image.specs.declared.place.Place.{Place}
 use Rattle.pnm_image.specs.declared.place.Place.TheVariants.{Between}
 use Rattle.pnm_image.specs.Places.{Accepts, IsLawfulFrom, place_after, place_of}
+use Rattle.pnm_tools.specs.declared.cut.Span.{Span}
 use Rattle.pnm_tools.specs.declared.fault.ToolFault.{ToolFault}
 use Rattle.pnm_tools.specs.declared.fault.ToolFault.TheVariants.{CutOutside, ChannelOutside, TooLarge, OutOfOrder, Memory}
+use Rattle.pnm_tools.specs.declared.flip.FlipWay.{FlipWay}
+use Rattle.pnm_tools.specs.declared.flip.FlipWay.TheVariants.{Null, LeftRight, TopBottom, Transpose}
 use Rattle.pnm_tools.specs.declared.state.Pending.{Pending}
-use Rattle.pnm_tools.specs.declared.state.Pending.TheVariants.{AllGiven, Waiting, Nothing}
+use Rattle.pnm_tools.specs.declared.state.Pending.TheVariants.{AllGiven, Waiting, Rows, Ending, Nothing}
 use Rattle.pnm_tools.specs.declared.tool.Tool.{Tool}
-use Rattle.pnm_tools.specs.Answers.{BrokenOff, EndsBy, AnswersInFull, Begins, RefusesHead, Judges}
-use Rattle.pnm_tools.specs.Answering.{answered, answered_from}
-use Rattle.pnm_tools.specs.States.{Standing, standing, IsAnswering, IsAt, is_all_given, waiting_in}
+use Rattle.pnm_tools.specs.declared.tool.Tool.TheVariants.{Invert, Cut, Depth, Channel, Enlarge, Flip, Tile}
+use Rattle.pnm_tools.specs.Answers.{Begins, RefusesHead, Judges}
+use Rattle.pnm_tools.specs.Answering.{answered, answered_from, rows_after, rows_come}
+use Rattle.pnm_tools.specs.Channel.{picked_header}
+use Rattle.pnm_tools.specs.Cut.{head_of_spans, columns_kept, rows_kept}
+use Rattle.pnm_tools.specs.Enlarge.{enlarged_header}
+use Rattle.pnm_tools.specs.Flip.{transposed_header, flipped_head}
+use Rattle.pnm_tools.specs.Limits.{is_too_large, within_limits}
+use Rattle.pnm_tools.specs.States.{Standing, standing, IsAnswering, IsAt, IsReadyFor, is_all_given, waiting_in}
 use Rattle.pnm_tools.specs.Steps.{IsDue, IsTaken, IsRefused}
+use Rattle.pnm_tools.specs.Tile.{tiled_header}
 use Rattle.pnm_tools.specs.Tools.{AreTaken, result_head}
-use Rattle.pnm_tools.proofs.AtLaws.{GoOn, StopsLast, lawful_stops, not_broken, answering_answers}
-use Rattle.pnm_tools.proofs.FullLaws.{answering_in_full}
+use Rattle.pnm_tools.proofs.AtLaws.{answering_answers}
 use Rattle.pnm_tools.proofs.OwedLaws.{place_of-append}
 use Rattle.pnm_tools.proofs.AnsweringLaws.{answered_from-append}
 use Rattle.pnm_tools.proofs.ToolLaws.{tool_answers_images}
@@ -48,12 +52,24 @@ either_not_memory : (b : Bool) (r s : Result Header ToolFault) → NotMemory r �
 either_not_memory true r s p q = p
 either_not_memory false r s p q = q
 
+limits_not_memory : (head : Header) → NotMemory (within_limits head)
+limits_not_memory head = either_not_memory (is_too_large head.shape) (Err TooLarge) (Ok head) tt tt
+
+flip_not_memory : (way : FlipWay) (head : Header) → NotMemory (flipped_head way head)
+flip_not_memory Null head = tt
+flip_not_memory LeftRight head = tt
+flip_not_memory TopBottom head = either_not_memory (head.shape.height == 0) (Err OutOfOrder) (Ok head) tt tt
+flip_not_memory Transpose head = either_not_memory (head.shape.height == 0) (Err OutOfOrder) (within_limits (transposed_header head)) tt (limits_not_memory (transposed_header head))
+
 head_not_memory : (t : Tool) (head : Header) → NotMemory (result_head t head)
 unfolding result_head
 head_not_memory Invert head = tt
 head_not_memory (Cut box) head = either_not_memory (head.shape.height == 0) (Err OutOfOrder) (head_of_spans head (columns_kept box head.shape) (rows_kept box head.shape)) tt (spans_not_memory head (columns_kept box head.shape) (rows_kept box head.shape))
 head_not_memory (Depth maxval) head = tt
-head_not_memory (Channel planes) head = either_not_memory (list_all (λ number. nat_lt number head.shape.depth) planes.numbers) (within_limits (picked_header planes head)) (Err ChannelOutside) (either_not_memory (is_too_large (picked_header planes head).shape) (Err TooLarge) (Ok (picked_header planes head)) tt tt) tt
+head_not_memory (Channel planes) head = either_not_memory (list_all (λ number. nat_lt number head.shape.depth) planes.numbers) (within_limits (picked_header planes head)) (Err ChannelOutside) (limits_not_memory (picked_header planes head)) tt
+head_not_memory (Enlarge across down) head = either_not_memory (not (down == 1) && (head.shape.height == 0)) (Err OutOfOrder) (within_limits (enlarged_header across down head)) tt (limits_not_memory (enlarged_header across down head))
+head_not_memory (Flip way) head = flip_not_memory way head
+head_not_memory (Tile across down) head = either_not_memory (head.shape.height == 0) (Err OutOfOrder) (within_limits (tiled_header across down head)) tt (limits_not_memory (tiled_header across down head))
 
 -- a message more is in order, where its place accepts it
 lawful_more : (place : Place) (l : List Message) (m : Message) → IsLawfulFrom place l → Accepts (place_of place l) m → IsLawfulFrom place (l ++ m ∷ [])
@@ -72,42 +88,46 @@ taken_more tool (ImageEnd ∷ l) m t b = taken_more tool l m t b
 taken_more tool (StreamEnd ∷ l) m t b = taken_more tool l m t b
 taken_more tool (Stop ∷ l) m t b = taken_more tool l m t b
 
+-- the rows that have come, with a message more
+rows_more : (rows : List (List ℕ)) (l : List Message) (m : Message) → rows_come rows (l ++ m ∷ []) ≡ rows_after (rows_come rows l) m
+rows_more rows [] m = refl
+rows_more rows (n ∷ l) m = rows_more (rows_after rows n) l m
+
 -- where all was given nothing waits
-nothing_waits : (pending : Pending) → is_all_given pending ≡ true → waiting_in pending ≡ []
-nothing_waits AllGiven e = refl
-nothing_waits (Waiting message) e = absurd cc
-nothing_waits Nothing e = refl
+nothing_waits : (pending : Pending) (due : List (List ℕ)) → is_all_given pending ≡ true → waiting_in pending due ≡ []
+nothing_waits AllGiven due e = refl
+nothing_waits (Waiting message) due e = absurd cc
+nothing_waits Rows due e = absurd cc
+nothing_waits Ending due e = absurd cc
+nothing_waits Nothing due e = refl
 
 -- a message more was accepted, and its answer waits
-answering_more : (t : Tool) (l g before after : List Message) (m : Message) → IsAnswering t l g before → before ≡ [] → Accepts (place_of Between l) m → Begins t m → after ≡ answered t (place_of Between l) m → IsAnswering t (l ++ m ∷ []) g after
-answering_more t l g before after m a none accepts begins answer = record {
-  lawful = lawful_more Between l m a.lawful accepts;
-  taken = taken_more t l m a.taken begins;
-  given = answered_from-append t Between l (m ∷ []) ∙ ap (λ (x : List Message). x ++ (answered t (place_of Between l) m ++ [])) (a.given ∙ ap (λ (x : List Message). g ++ x) none ∙ append-nil g) ∙ ap (λ (x : List Message). g ++ x) (append-nil (answered t (place_of Between l) m) ∙ sym answer);
-}
+answering_more : (t : Tool) (l g before after : List Message) (m : Message) → IsAnswering t l g before → before ≡ [] → Accepts (place_of Between l) m → Begins t m → after ≡ answered t (place_of Between l) (rows_come [] l) m → IsAnswering t (l ++ m ∷ []) g after
+answering_more t l g before after m a none accepts begins answer =
+    let last : List Message = answered t (place_of Between l) (rows_come [] l) m in record {
+      lawful = lawful_more Between l m a.lawful accepts;
+      taken = taken_more t l m a.taken begins;
+      given = answered_from-append t Between [] l (m ∷ []) ∙ ap (λ (x : List Message). x ++ (last ++ [])) (a.given ∙ ap (λ (x : List Message). g ++ x) none ∙ append-nil g) ∙ ap (λ (x : List Message). g ++ x) (append-nil last ∙ sym answer);
+    }
 
-pub fed : {W : Type 0} (tool_at : W → Tool) (ready_for : W → Shape → Type 0) (old new : Standing W) (m : Message) (pending : Pending) (t : Tool) (l g : List Message)
-    → IsAt tool_at ready_for old t l g → IsTaken tool_at ready_for old m new pending → IsAt tool_at ready_for (standing new.work new.place pending new.fault) t (l ++ m ∷ []) g
-fed tool_at ready_for old new m pending t l g at taken =
-    let accepts : Accepts (place_of Between l) m = subst (λ (p : Place). Accepts p m) at.place taken.due.1 in
+pub fed : {W : Type 0} (tool_at : W → Tool) (ready_for : W → Shape → List (List ℕ) → Type 0) (due kept : W → List (List ℕ)) (old : Standing W) (new : W) (to : Place) (m : Message) (pending : Pending) (fault : Option ToolFault) (t : Tool) (l g : List Message)
+    → IsAt tool_at ready_for due old t l g → IsTaken tool_at ready_for due kept (is_all_given old.pending) old.work old.place m new to pending → IsAt tool_at ready_for due (standing new to pending fault) t (l ++ m ∷ []) g
+fed tool_at ready_for due kept old new to m pending fault t l g at taken =
+    let come : List (List ℕ) = rows_come [] l in
+    let accepts : Accepts (place_of Between l) m = subst (λ (p : Place). Accepts p m) at.place taken.is_due.1 in
     let begins : Begins t m = subst (λ (k : Tool). Begins k m) at.tool taken.begins in
-    let answer : waiting_in pending ≡ answered t (place_of Between l) m = taken.answer ∙ ap (λ (k : Tool). answered k old.place m) at.tool ∙ ap (λ (p : Place). answered t p m) at.place in
-    let more = answering_more t l g (waiting_in old.pending) (waiting_in pending) m at.answering (nothing_waits old.pending taken.due.0) accepts begins answer in
+    let answer : waiting_in pending (due new) ≡ answered t (place_of Between l) come m = taken.answer come at.ready ∙ ap (λ (k : Tool). answered k old.place come m) at.tool ∙ ap (λ (p : Place). answered t p come m) at.place in
+    let more = answering_more t l g (waiting_in old.pending (due old.work)) (waiting_in pending (due new)) m at.answering (nothing_waits old.pending (due old.work) taken.is_due.0) accepts begins answer in
     record {
       tool = taken.tool ∙ at.tool;
       options = at.options;
       answering = more;
       place = taken.place ∙ ap (λ (p : Place). place_after p m) at.place ∙ sym (place_of-append Between l (m ∷ []));
-      ready = taken.ready;
-      answers = answering_answers t (l ++ m ∷ []) g (waiting_in pending) (tool_answers_images t at.options) more;
+      ready = subst (IsReadyFor ready_for new to) (sym (rows_more [] l m)) (taken.ready come at.ready);
+      answers = answering_answers t (l ++ m ∷ []) g (waiting_in pending (due new)) (tool_answers_images t at.options) more;
     }
 
--- a refusal comes where it should
-may_come : {W : Type 0} (tool_at : W → Tool) (ready_for : W → Shape → Type 0) (old : Standing W) (t : Tool) (l g : List Message) (m : Message) → IsAt tool_at ready_for old t l g → IsDue old m → (is_all_given old.pending ≡ true) × Accepts (place_of Between l) m
-may_come tool_at ready_for old t l g m at due = (due.0, subst (λ (p : Place). Accepts p m) at.place due.1)
-
-no_due : {W : Type 0} (tool_at : W → Tool) (ready_for : W → Shape → Type 0) (old : Standing W) (t : Tool) (l g : List Message) (m : Message) → IsAt tool_at ready_for old t l g → (IsDue old m → ⊥) → (is_all_given old.pending ≡ true) × Accepts (place_of Between l) m → ⊥
-no_due tool_at ready_for old t l g m at none may = none (may.0, subst (λ (p : Place). Accepts p m) (sym at.place) may.1)
+-- ---- a refusal comes where it should
 
 -- want of memory is no refusal of a head
 no_memory : (r : Result Header ToolFault) → NotMemory r → r ≡ Err Memory → ⊥
@@ -137,64 +157,12 @@ refused_head all_given t l m TooLarge may (inr r) = absurd cc
 refused_head all_given t l m OutOfOrder may (inr r) = absurd cc
 refused_head all_given t l m Memory may (inr r) = (may, r.1)
 
-pub judged : {W : Type 0} (tool_at : W → Tool) (ready_for : W → Shape → Type 0) (old : Standing W) (m : Message) (fault : ToolFault) (t : Tool) (l g : List Message) → IsAt tool_at ready_for old t l g → IsRefused tool_at old m fault → Judges (is_all_given old.pending) t l m (Err fault)
-judged tool_at ready_for old m fault t l g at (inl r) = subst (λ (f : ToolFault). Judges (is_all_given old.pending) t l m (Err f)) (sym r.0) (inl (no_due tool_at ready_for old t l g m at r.1))
-judged tool_at ready_for old m fault t l g at (inr r) =
-    refused_head (is_all_given old.pending) t l m fault (may_come tool_at ready_for old t l g m at r.0) (subst (λ (k : Tool). RefusesHead k m fault ⊎ ((fault ≡ Memory) × Begins k m)) at.tool r.1)
-
--- the message that waited is given
-pub gave : {W : Type 0} (tool_at : W → Tool) (ready_for : W → Shape → Type 0) (old : Standing W) (m : Message) (t : Tool) (l g : List Message) → IsAt tool_at ready_for old t l g → old.pending ≡ Waiting m
-    → IsAt tool_at ready_for (standing old.work old.place Nothing old.fault) t l (g ++ m ∷ [])
-gave tool_at ready_for old m t l g at waits =
-    let all : IsAnswering t l (g ++ m ∷ []) [] = record {
-      lawful = at.answering.lawful;
-      taken = at.answering.taken;
-      given = at.answering.given ∙ ap (λ (p : Pending). g ++ waiting_in p) waits ∙ sym (append-nil (g ++ m ∷ []));
-    } in
-    record {
-      tool = at.tool;
-      options = at.options;
-      answering = all;
-      place = at.place;
-      ready = at.ready;
-      answers = answering_answers t l (g ++ m ∷ []) [] (tool_answers_images t at.options) all;
-    }
-
--- nothing waits
-abbrev pub NoneWaits : Pending → Type 0
-NoneWaits pending = waiting_in pending ≡ []
-
-pub gave_all : {W : Type 0} (tool_at : W → Tool) (ready_for : W → Shape → Type 0) (old : Standing W) (t : Tool) (l g : List Message) → IsAt tool_at ready_for old t l g → NoneWaits old.pending
-    → IsAt tool_at ready_for (standing old.work old.place AllGiven old.fault) t l g × AnswersInFull t l g
-gave_all tool_at ready_for old t l g at none =
-    let all : IsAnswering t l g [] = subst (IsAnswering t l g) none at.answering in (
-      record { tool = at.tool; options = at.options; answering = all; place = at.place; ready = at.ready; answers = at.answers },
-      answering_in_full t l g (tool_answers_images t at.options) all,
-    )
-
--- what was given, or is told to be, doesn't wait
-pub none_left : (pending taken : Pending) → taken ≡ pending → (taken ≡ AllGiven) ⊎ (taken ≡ Nothing) → NoneWaits pending
-none_left pending taken same (inl all) = ap waiting_in (sym same ∙ all)
-none_left pending taken same (inr nothing) = ap waiting_in (sym same ∙ nothing)
+pub judged : {W : Type 0} (tool_at : W → Tool) (ready_for : W → Shape → List (List ℕ) → Type 0) (due : W → List (List ℕ)) (old : Standing W) (m : Message) (fault : ToolFault) (t : Tool) (l g : List Message)
+    → IsAt tool_at ready_for due old t l g → IsRefused tool_at (is_all_given old.pending) old.work old.place m fault → Judges (is_all_given old.pending) t l m (Err fault)
+judged tool_at ready_for due old m fault t l g at (inl r) =
+    subst (λ (f : ToolFault). Judges (is_all_given old.pending) t l m (Err f)) (sym r.0) (inl (λ may. r.1 (may.0, subst (λ (p : Place). Accepts p m) (sym at.place) may.1)))
+judged tool_at ready_for due old m fault t l g at (inr r) =
+    refused_head (is_all_given old.pending) t l m fault (r.0.0, subst (λ (p : Place). Accepts p m) at.place r.0.1) (subst (λ (k : Tool). RefusesHead k m fault ⊎ ((fault ≡ Memory) × Begins k m)) at.tool r.1)
 
 pub no_fault : (fault : Option ToolFault) (k : ToolFault) → fault ≡ None → fault ≡ Some k → ⊥
 no_fault fault k none some = cc
-
--- ---- Stop alone
-
-last_same : (a b : List Message) (x y : Message) → a ++ x ∷ [] ≡ b ++ y ∷ [] → x ≡ y
-last_same [] [] x y e = cc
-last_same [] (n ∷ []) x y e = absurd cc
-last_same [] (n ∷ k ∷ b) x y e = absurd cc
-last_same (m ∷ []) [] x y e = absurd cc
-last_same (m ∷ k ∷ a) [] x y e = absurd cc
-last_same (m ∷ a) (n ∷ b) x y e = last_same a b x y cc
-
--- what is broken off ends in Stop, and so does its answer
-stop_waits : (t : Tool) (l g : List Message) (m : Message) → IsAnswering t l g (m ∷ []) → StopsLast l → EndsBy BrokenOff l → m ≡ Stop
-stop_waits t l g m a (inl on) ends = absurd (not_broken l on ends)
-stop_waits t l g m a (inr h) ends =
-    sym (last_same (answered_from t Between h.0) g Stop m (sym (ap (answered_from t Between) h.1 ∙ answered_from-append t Between h.0 (Stop ∷ [])) ∙ a.given))
-
-pub gave_stop : {W : Type 0} (tool_at : W → Tool) (ready_for : W → Shape → Type 0) (old : Standing W) (m : Message) (t : Tool) (l g : List Message) → IsAt tool_at ready_for old t l g → old.pending ≡ Waiting m → EndsBy BrokenOff l → m ≡ Stop
-gave_stop tool_at ready_for old m t l g at waits ends = stop_waits t l g m (subst (λ (p : Pending). IsAnswering t l g (waiting_in p)) waits at.answering) (lawful_stops Between l at.answering.lawful) ends

@@ -56,7 +56,7 @@ pub record Gives {W : Type 0} (tool_at : W → Tool) (ready_for : W → Shape �
   pub waits : waiting_in before (due old) ≡ message_list given ++ waiting_in after (due new)
   pub told : IsTold given before after
   pub tool : tool_at new ≡ tool_at old
-  pub ready : (s : Shape) (rows : List (List ℕ)) → ready_for old s rows → ready_for new s rows
+  pub ready : (place : Place) (rows : List (List ℕ)) → KeepsNone kept old place before → IsReadyFor ready_for old place rows → IsReadyFor ready_for new place rows
   pub none : (place : Place) → KeepsNone kept old place before → KeepsNone kept new place after
 
 -- only rows can want memory

@@ -1,12 +1,20 @@
-use Rattle.pnm_tools.specs.States.{standing}
+use Rattle.std.proofs.Common.{Err, subst}
+use Rattle.pnm_tools.specs.Answers.{Judges}
+use Rattle.pnm_tools.specs.States.{Standing, standing, is_all_given}
 use Rattle.pnm_tools.proofs.StateSteps.{fed, judged}
 use Rattle.pnm_tools.proofs.state.StateFilter.feed.Goals as goal
 
 pub returns-in-Ok-clause-accepted : goal.returns-in-Ok-clause-accepted
 returns-in-Ok-clause-accepted g c = λ t l given at.
-    let s = c.self-2.inside in
-    let taken = rw (← c.self-2.view_is) at c.in-Ok.ensures in
-    fed g.T.Rows.tool g.T.Rows.ready c.args.self.now (standing s.work s.place s.pending s.fault) c.args.message c.in-Ok.pending t l given at taken
+    let s = c.self.inside in
+    let is_at = rw (← c.self.view_is) at at in
+    let taken = rw c.is_all_given-all_given.ensures at c.in-Ok.ensures in
+    fed g.T.Maker.tool g.T.Maker.ready g.T.Maker.due g.T.Maker.kept (standing s.work s.place s.pending s.fault) c.answer.new.work c.answer.new.place c.args.message c.in-Ok.pending s.fault t l given is_at taken
 
 pub returns-in-Err-clause-judged : goal.returns-in-Err-clause-judged
-returns-in-Err-clause-judged g c = λ none t l given at. judged g.T.Rows.tool g.T.Rows.ready c.args.self.now c.args.message c.in-Err.fault t l given at c.in-Err.ensures
+returns-in-Err-clause-judged g c = λ none t l given at.
+    let s = c.self.inside in
+    let is_at = rw (← c.self.view_is) at at in
+    let refused = rw c.is_all_given-all_given.ensures at c.in-Err.ensures.0 in
+    subst (λ (z : Standing _). Judges (is_all_given z.pending) t l c.args.message (Err c.in-Err.fault)) c.self.view_is
+    (judged g.T.Maker.tool g.T.Maker.ready g.T.Maker.due (standing s.work s.place s.pending s.fault) c.args.message c.in-Err.fault t l given is_at refused)

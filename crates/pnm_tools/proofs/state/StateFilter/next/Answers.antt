@@ -1,36 +1,31 @@
-use Rattle.std.proofs.Common.{rules, ◌≡◌, None, sym, ap, ◌∙◌}
-use Rattle.pnm_tools.specs.States.{Standing, standing, is_all_given}
-use Rattle.pnm_tools.proofs.StateSteps.{gave, gave_stop, gave_all, none_left, no_fault}
+use Rattle.pnm_tools.specs.States.{standing}
+use Rattle.pnm_tools.proofs.GivingSteps.{given_by, stop_alone_by, full_by, wanted_memory}
 use Rattle.pnm_tools.proofs.state.StateFilter.next.Goals as goal
 
-pub returns-in-Waiting-clause-given : goal.returns-in-Waiting-clause-given
-returns-in-Waiting-clause-given g c = λ t l given at.
+pub returns-in-Ok-clause-given : goal.returns-in-Ok-clause-given
+returns-in-Ok-clause-given g c =
     let s = c.self.inside in
-    let is_at = rw (← c.self.view_is) at at in
-    gave g.T.Rows.tool g.T.Rows.ready (standing s.work s.place s.pending s.fault) c.in-Waiting.message t l given is_at (sym c.replace.ensures.value ∙ c.in-Waiting.is)
+    let sound = rw c.in_default.is at c.self.invariant.1 in
+    rw (← c.self.view_is) (given_by g.T.Maker.tool g.T.Maker.ready g.T.Maker.due g.T.Maker.kept (standing s.work s.place s.pending s.fault) c.give.new.work c.give.new.pending s.fault c.in-Ok.message sound.1 c.in-Ok.ensures)
 
-pub returns-in-Waiting-clause-stop_alone : goal.returns-in-Waiting-clause-stop_alone
-returns-in-Waiting-clause-stop_alone g c = λ t l given at ends.
+pub returns-in-Ok-clause-stop_alone : goal.returns-in-Ok-clause-stop_alone
+returns-in-Ok-clause-stop_alone g c =
     let s = c.self.inside in
-    let is_at = rw (← c.self.view_is) at at in
-    gave_stop g.T.Rows.tool g.T.Rows.ready (standing s.work s.place s.pending s.fault) c.in-Waiting.message t l given is_at (sym c.replace.ensures.value ∙ c.in-Waiting.is) ends
+    let sound = rw c.in_default.is at c.self.invariant.1 in
+    rw (← c.self.view_is) (stop_alone_by g.T.Maker.tool g.T.Maker.ready g.T.Maker.due g.T.Maker.kept (standing s.work s.place s.pending s.fault) c.give.new.work c.give.new.pending c.in-Ok.message sound.1 c.in-Ok.ensures)
 
-pub returns-in-AllGiven : goal.returns-in-AllGiven
-returns-in-AllGiven g c =
+pub returns-in-Ok-clause-full : goal.returns-in-Ok-clause-full
+returns-in-Ok-clause-full g c =
     let s = c.self.inside in
-    let sound : c.args.self.now.fault ≡ None = ap (λ (x : Standing _). x.fault) (sym c.self.view_is) ∙ c.in_default.is in
-    record {
-      given = tt;
-      stop_alone = tt;
-      fewer = tt;
-      full = (
-        ap is_all_given c.replace.ensures.after,
-        λ t l given at.
-            let is_at = rw (← c.self.view_is) at at in
-            rw c.replace.ensures.after (gave_all g.T.Rows.tool g.T.Rows.ready (standing s.work s.place s.pending s.fault) t l given is_at (none_left s.pending c.replace.result c.replace.ensures.value c.in-AllGiven.is)),
-      );
-      failed = λ e. tt;
-      stops = tt;
-      goes_on = (sound, c.in_default.is);
-      stays = λ k e. absurd (no_fault _ k sound e);
-    }
+    let sound = rw c.in_default.is at c.self.invariant.1 in
+    rw (← c.self.view_is) (full_by g.T.Maker.tool g.T.Maker.ready g.T.Maker.due g.T.Maker.kept (standing s.work s.place s.pending s.fault) c.give.new.work c.give.new.pending s.fault c.in-Ok.message sound.1 c.in-Ok.ensures)
+
+pub returns-in-Err-clause-failed : goal.returns-in-Err-clause-failed
+returns-in-Err-clause-failed g c = λ none. (
+    c.in-Err.ensures.0,
+    λ t l given at.
+        let s = c.self.inside in
+        let sound = rw c.in_default.is at c.self.invariant.1 in
+        let is_at = rw (← c.self.view_is) at at in
+        wanted_memory g.T.Maker.tool g.T.Maker.ready g.T.Maker.due g.T.Maker.kept (standing s.work s.place s.pending s.fault) t l given is_at sound.1 c.in-Err.ensures.1,
+  )
