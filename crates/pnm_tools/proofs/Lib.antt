@@ -21,3 +21,7 @@ pub mod FrontLaws
 pub mod RefusalLaws
 pub mod ChainLaws
 pub mod StateSteps
+pub mod RangeLaws
+pub mod PixelLaws
+pub mod WholeHeadLaws
+pub mod FlipLaws
