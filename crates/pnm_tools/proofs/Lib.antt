@@ -25,3 +25,4 @@ pub mod RangeLaws
 pub mod PixelLaws
 pub mod WholeHeadLaws
 pub mod FlipLaws
+pub mod EnlargeLaws
