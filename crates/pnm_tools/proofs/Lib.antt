@@ -26,3 +26,4 @@ pub mod PixelLaws
 pub mod WholeHeadLaws
 pub mod FlipLaws
 pub mod EnlargeLaws
+pub mod TileLaws
