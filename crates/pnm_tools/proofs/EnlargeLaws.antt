@@ -1,5 +1,5 @@
 -- The enlarged image is what the rows of an image, each enlarged, are the messages of.
-use Rattle.std.proofs.Common.{◌≡◌, ℕ, ◌+◌, ◌*◌, ◌/◌, ◌<◌, ◌≤◌, List, [], ◌∷◌, ◌++◌, map, replicate, Ok, refl, sym, ap, ◌∙◌, arith, append-nil}
+use Rattle.std.proofs.Common.{◌≡◌, ℕ, ◌+◌, ◌*◌, ◌/◌, ◌<◌, ◌≤◌, List, [], ◌∷◌, ◌++◌, Ok, refl, sym, ap, ◌∙◌, arith, append-nil}
 use Rattle.std.specs.List.{flat_map, range_with_len}
 use Rattle.std.proofs.Math.Nat.{div-lt_iff_lt-mul}
 use Rattle.std.proofs.lemmas.List.Folds.{flat_map-map}
@@ -41,6 +41,7 @@ rows_are_enlarged across down i wide high is =
     sym (each_repeated (λ x. pixel_of s.depth (row_at i (y / down)) x) across s.width))
     ∙ sym (rows_by_pixels i (s.width * across) (s.height * down) (λ x. x / across) (λ y. y / down) is (λ x lt. quotient_below x across s.width wide lt) (λ y lt. quotient_below y down s.height high lt))
 
+-- the answers are the rows of the result
 answer_is : (across down : ℕ) (i : Image) (result : Header) → 1 ≤ across → 1 ≤ down → IsImage i → result_head (Enlarge across down) i.head ≡ Ok result
     → answers_to_rows (Enlarge across down) i.head.shape 0 (rows_of i) ++ [] ≡ rows_of (image_by result (result_sample (Enlarge across down) i))
 unfolding result_sample
@@ -50,6 +51,7 @@ answer_is across down i result wide high is e =
     ∙ rows_are_enlarged across down i wide high is
     ∙ ap (λ (h : Header). rows_of (image_by h (enlarged_sample across down i))) (is_enlarged across down i.head result e).result_is
 
+-- a whole image that isn't refused is answered by the enlarged image
 pub enlarge_answers_images : (across down : ℕ) → 1 ≤ across → 1 ≤ down → AnswersImages (Enlarge across down)
 enlarge_answers_images across down wide high i j is e =
     answered_by_rows (Enlarge across down) i j e (answer_is across down i j.head wide high is (result_by_head (Enlarge across down) i j e).head)

@@ -27,3 +27,5 @@ pub mod WholeHeadLaws
 pub mod FlipLaws
 pub mod EnlargeLaws
 pub mod TileLaws
+pub mod MadeLaws
+pub mod WholeResultLaws

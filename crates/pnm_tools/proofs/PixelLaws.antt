@@ -1,5 +1,5 @@
 -- The rows of images that are made of the pixels of another image.
-use Rattle.std.proofs.Common.{◌≡◌, ℕ, suc, ◌+◌, ◌*◌, ◌<◌, ◌≤◌, List, length, slice_index, take, drop, map, refl, sym, ap, ◌∙◌, arith, add-mul, mul_assoc, mul-le-mul, suc-mul}
+use Rattle.std.proofs.Common.{◌≡◌, ℕ, suc, ◌+◌, ◌*◌, ◌<◌, ◌≤◌, List, length, slice_index, take, drop, map, sym, ap, ◌∙◌, arith, add-mul, mul_assoc, mul-le-mul, suc-mul}
 use Rattle.std.specs.List.{flat_map, range_with_len}
 use Rattle.std.proofs.lemmas.List.{length-drop, length-take-le, get_or-take, get_or-drop, map-id}
 use Rattle.std.proofs.lemmas.List.FromFn.{fill_by_all}

@@ -1,5 +1,5 @@
 -- Lists made from a function of each number of a range.
-use Rattle.std.proofs.Common.{◌≡◌, ℕ, zero, suc, ◌+◌, ◌-◌, ◌*◌, ◌/◌, ◌<◌, ◌≤◌, List, [], ◌∷◌, ◌++◌, length, map, reverse, replicate, refl, sym, ap, ◌∙◌, arith, append_assoc, append-nil, suc-mul, zero-mul}
+use Rattle.std.proofs.Common.{◌≡◌, ℕ, zero, suc, ◌+◌, ◌-◌, ◌*◌, ◌/◌, ◌<◌, ◌≤◌, List, [], ◌∷◌, ◌++◌, length, map, reverse, replicate, refl, sym, ap, ◌∙◌, arith, append_assoc, suc-mul, zero-mul}
 use Rattle.std.specs.List.{flat_map, range_with_len}
 use Rattle.std.proofs.lemmas.Nat.{div-mul-add}
 use Rattle.std.proofs.lemmas.List.{same_lists, length-reverse, get_or-reverse}
@@ -52,6 +52,7 @@ quotient_is a x n low high =
     let parts : x ≡ a * n + rest = omega arith in
     ap (λ (k : ℕ). k / n) parts ∙ div-mul-add a n rest (omega arith)
 
+-- each list of a range so many times, from one number on
 pieces_repeated : {A : Type 0} (f : ℕ → List A) (n a w : ℕ) → flat_map (λ x. f (x / n)) (range_with_len (a * n) (w * n)) ≡ flat_map (λ x. flat_map (λ _. f x) (range_with_len 0 n)) (range_with_len a w)
 pieces_repeated f n a zero = ap (λ (k : ℕ). flat_map (λ x. f (x / n)) (range_with_len (a * n) k)) (zero-mul n)
 pieces_repeated {A = A} f n a (suc w) =
@@ -68,6 +69,7 @@ pieces_repeated {A = A} f n a (suc w) =
 pub each_repeated : {A : Type 0} (f : ℕ → List A) (n w : ℕ) → flat_map (λ x. f (x / n)) (range_with_len 0 (w * n)) ≡ flat_map (λ x. flat_map (λ _. f x) (range_with_len 0 n)) (range_with_len 0 w)
 each_repeated f n w = ap (λ (a : ℕ). flat_map (λ x. f (x / n)) (range_with_len a (w * n))) (sym (zero-mul n)) ∙ pieces_repeated f n 0 w
 
+-- one value so many times
 replicated : {A : Type 0} (x : A) (a n : ℕ) → flat_map (λ _. x ∷ []) (range_with_len a n) ≡ replicate n x
 replicated x a zero = refl
 replicated {A = A} x a (suc n) = ap (λ (l : List A). x ∷ l) (replicated x (a + 1) n)

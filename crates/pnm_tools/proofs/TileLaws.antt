@@ -1,7 +1,6 @@
 -- The tiled image is what the end of an image, tiled, is the messages of.
-use Rattle.std.proofs.Common.{◌≡◌, ℕ, ◌+◌, ◌%◌, ◌<◌, List, [], ◌∷◌, ◌++◌, map, Ok, refl, sym, ap, ◌∙◌, arith}
+use Rattle.std.proofs.Common.{◌≡◌, ℕ, ◌+◌, ◌%◌, ◌<◌, List, [], ◌∷◌, ◌++◌, Ok, refl, sym, ap, ◌∙◌, arith}
 use Rattle.std.specs.Prelude.{slice_index_or}
-use Rattle.std.specs.List.{flat_map, range_with_len}
 use Rattle.std.proofs.Math.Nat.{mod-lt}
 use Rattle.std.proofs.lemmas.List.FromFn.{get_or-map-range_with_len}
 use Rattle.pnm_image.specs.declared.shape.Shape.{Shape}
@@ -36,6 +35,7 @@ rows_are_tiled across down i high is =
     ap (tiled_row across s.width s.depth) (row_is i (y % s.height) (mod-lt y high)))
     ∙ sym (rows_by_pixels i across down (λ x. x % s.width) (λ y. y % s.height) is (λ x lt. mod-lt x is.head.limits.width_low) (λ y lt. mod-lt y high))
 
+-- the answers are the rows of the result
 answer_is : (across down : ℕ) (i : Image) (result : Header) → IsImage i → result_head (Tile across down) i.head ≡ Ok result
     → answers_to_rows (Tile across down) i.head.shape 0 (rows_of i) ++ tiled_at_end across down i.head.shape (rows_of i) ≡ rows_of (image_by result (result_sample (Tile across down) i))
 unfolding result_sample
@@ -45,6 +45,7 @@ answer_is across down i result is e =
     ∙ rows_are_tiled across down i whole.some_rows is
     ∙ ap (λ (h : Header). rows_of (image_by h (tiled_sample i))) whole.within.result_is
 
+-- a whole image that isn't refused is answered by the tiled image
 pub tile_answers_images : (across down : ℕ) → AnswersImages (Tile across down)
 tile_answers_images across down i j is e =
     answered_by_rows (Tile across down) i j e (answer_is across down i j.head is (result_by_head (Tile across down) i j e).head)
