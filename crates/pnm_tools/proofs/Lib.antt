@@ -25,3 +25,11 @@ pub mod RefusalLaws
 pub mod ChainLaws
 pub mod StateSteps
 pub mod GivingSteps
+pub mod RangeLaws
+pub mod PixelLaws
+pub mod WholeHeadLaws
+pub mod FlipLaws
+pub mod EnlargeLaws
+pub mod TileLaws
+pub mod MadeLaws
+pub mod WholeResultLaws
