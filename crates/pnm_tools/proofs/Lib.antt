@@ -28,8 +28,5 @@ pub mod GivingSteps
 pub mod RangeLaws
 pub mod PixelLaws
 pub mod WholeHeadLaws
-pub mod FlipLaws
-pub mod EnlargeLaws
-pub mod TileLaws
 pub mod MadeLaws
 pub mod WholeResultLaws

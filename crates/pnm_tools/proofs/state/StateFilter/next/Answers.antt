@@ -22,10 +22,10 @@ returns-in-Ok-clause-full g c =
 
 pub returns-in-Err-clause-failed : goal.returns-in-Err-clause-failed
 returns-in-Err-clause-failed g c = λ none. (
-    c.in-Err.ensures.0,
-    λ t l given at.
-        let s = c.self.inside in
-        let sound = rw c.in_default.is at c.self.invariant.1 in
-        let is_at = rw (← c.self.view_is) at at in
-        wanted_memory g.T.Maker.tool g.T.Maker.ready g.T.Maker.due g.T.Maker.kept (standing s.work s.place s.pending s.fault) t l given is_at sound.1 c.in-Err.ensures.1,
-  )
+  c.in-Err.ensures.0,
+  λ t l given at.
+      let s = c.self.inside in
+      let sound = rw c.in_default.is at c.self.invariant.1 in
+      let is_at = rw (← c.self.view_is) at at in
+      wanted_memory g.T.Maker.tool g.T.Maker.ready g.T.Maker.due g.T.Maker.kept (standing s.work s.place s.pending s.fault) t l given is_at sound.1 c.in-Err.ensures.1,
+)
