@@ -144,7 +144,9 @@ fn repeat_pixels(
     for x in 0..width {
         let pixel = &row[x * depth..(x + 1) * depth];
         for _ in 0..across {
-            enlarged.extend_from_slice(pixel)?;
+            for sample in pixel {
+                enlarged.push(*sample)?;
+            }
         }
     }
     Ok(enlarged)

@@ -179,8 +179,9 @@ fn reverse_pixels(samples: &mut [u16], shape: Shape)
 {
     samples.reverse();
     if shape.depth > 1 {
-        for pixel in samples.chunks_exact_mut(shape.depth as usize) {
-            pixel.reverse();
+        let depth = shape.depth as usize;
+        for x in 0..shape.width as usize {
+            samples[x * depth..(x + 1) * depth].reverse();
         }
     }
 }
