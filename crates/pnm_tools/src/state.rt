@@ -68,7 +68,13 @@ impl<T: Maker> Filter for State<T> {
             return Err(fault);
         }
         let all_given = is_all_given(&self.pending);
-        match answer(self.alloc, all_given, &mut self.work, &mut self.place, message) {
+        match answer(
+            self.alloc,
+            all_given,
+            &mut self.work,
+            &mut self.place,
+            message,
+        ) {
             Ok(pending) => {
                 self.pending = pending;
                 Ok(())

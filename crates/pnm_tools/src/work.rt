@@ -65,13 +65,7 @@ impl Maker for Work {
         }
     }
 
-    fn take(
-        &mut self,
-        alloc: Global,
-        shape: Shape,
-        y: u32,
-        row: Samples,
-    ) -> Result<(), ToolFault> {
+    fn take(&mut self, alloc: Global, shape: Shape, y: u32, row: Samples) -> Result<(), ToolFault> {
         match self {
             Work::Inverting(work) => work.take(alloc, shape, y, row),
             Work::Cutting(work) => work.take(alloc, shape, y, row),
