@@ -6,6 +6,9 @@ pub mod HeadLaws
 pub mod RowLaws
 pub mod PickLaws
 pub mod KeepLaws
+pub mod SizeLaws
+pub mod MirrorLaws
+pub mod EnlargeRowLaws
 pub mod InvertLaws
 pub mod AtLaws
 pub mod InFullLaws

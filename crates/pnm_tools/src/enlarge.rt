@@ -104,7 +104,7 @@ pub(crate) fn enlarged_head(
 ) -> Result<Head, ToolFault>
     requires { IsFactor across × IsFactor down }
     ensures made { IfOk result (λ made. result_head (Enlarge across down) head.now ≡ Ok made) }
-    ensures limits { OnOk result ((head.now.shape.width * across ≤ 1000000) × (head.now.shape.width * across * head.now.shape.depth ≤ 16777216)) }
+    ensures limits { OnOk result (IsWithinLimits head.now.shape × (head.now.shape.width * across ≤ 1000000) × (head.now.shape.width * across * head.now.shape.depth ≤ 16777216)) }
     ensures refused { IfErr result (λ fault. (result_head (Enlarge across down) head.now ≡ Err fault)
         ⊎ ((fault ≡ Memory) × Takes (Enlarge across down) head.now)) }
 {
@@ -144,7 +144,9 @@ fn repeat_pixels(
     for x in 0..width {
         let pixel = &row[x * depth..(x + 1) * depth];
         for _ in 0..across {
-            enlarged.extend_from_slice(pixel)?;
+            for sample in pixel {
+                enlarged.push(*sample)?;
+            }
         }
     }
     Ok(enlarged)

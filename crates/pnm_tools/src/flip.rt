@@ -1,7 +1,7 @@
 //! `pamflip`: left and right, or top and bottom exchanged, from pamflip(1). Columns and rows are
 //! exchanged in `transpose`.
 
-ghost use Rattle.std.specs.Prelude.{◌≡◌, ◌⊎◌, length, false, [], IfOk, IfErr, Ok, Err};
+ghost use Rattle.std.specs.Prelude.{◌≡◌, ◌⊎◌, length, false, [], OnOk, IfOk, IfErr, Ok, Err};
 ghost use Rattle.pnm_image.specs.Heads.{IsWithinLimits, row_length};
 ghost use Rattle.pnm_tools.specs.declared.fault.ToolFault.TheVariants.{Memory};
 ghost use Rattle.pnm_tools.specs.declared.flip.FlipWay.TheVariants.{Null, LeftRight, TopBottom};
@@ -151,19 +151,17 @@ impl Turner {
 /// The head of the flipped image, or the refusal.
 pub(crate) fn flipped_head(alloc: Global, way: FlipWay, head: &Head) -> Result<Head, ToolFault>
     ensures made { IfOk result (λ made. result_head (Flip way) head.now ≡ Ok made) }
+    ensures limits { OnOk result (IsWithinLimits head.now.shape) }
     ensures refused { IfErr result (λ fault. (result_head (Flip way) head.now ≡ Err fault)
         ⊎ ((fault ≡ Memory) × Takes (Flip way) head.now)) }
 {
     let shape = head.shape();
-    let keeps_rows = match way {
-        FlipWay::Null | FlipWay::LeftRight => false,
-        FlipWay::TopBottom | FlipWay::Transpose => true,
-    };
-    if keeps_rows && shape.height == 0 {
-        return Err(ToolFault::OutOfOrder);
-    }
     let flipped = match way {
-        FlipWay::Null | FlipWay::LeftRight | FlipWay::TopBottom => shape,
+        FlipWay::Null | FlipWay::LeftRight => shape,
+        FlipWay::TopBottom | FlipWay::Transpose if shape.height == 0 => {
+            return Err(ToolFault::OutOfOrder);
+        }
+        FlipWay::TopBottom => shape,
         FlipWay::Transpose => Shape {
             width: shape.height,
             height: shape.width,
@@ -181,8 +179,9 @@ fn reverse_pixels(samples: &mut [u16], shape: Shape)
 {
     samples.reverse();
     if shape.depth > 1 {
-        for pixel in samples.chunks_exact_mut(shape.depth as usize) {
-            pixel.reverse();
+        let depth = shape.depth as usize;
+        for x in 0..shape.width as usize {
+            samples[x * depth..(x + 1) * depth].reverse();
         }
     }
 }
