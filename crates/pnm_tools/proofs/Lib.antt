@@ -21,3 +21,4 @@ pub mod FrontLaws
 pub mod RefusalLaws
 pub mod ChainLaws
 pub mod StateSteps
+pub mod TileHeadLaws
