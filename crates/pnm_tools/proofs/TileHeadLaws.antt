@@ -1,5 +1,6 @@
 -- The head of a tiled image, and what a tiler answers.
-use Rattle.std.proofs.Common.{◌≡◌, ℕ, ◌*◌, ◌≤◌, Bool, false, List, [], ◌==◌, nat_lt, ◌||◌, if◌then◌else◌, OnOk, IfOk, Result, Ok, Err, sym, ap, refl, ◌∙◌, arith}
+use Rattle.std.proofs.Common.{◌≡◌, ℕ, ◌*◌, ◌%◌, ◌≤◌, Bool, false, List, [], map, length, slice_index_or, ◌==◌, if◌then◌else◌, OnOk, IfOk, Result, Ok, Err, sym, ap, refl, ◌∙◌, arith}
+use Rattle.std.specs.List.{range_with_len}
 use Rattle.std.proofs.lemmas.Bool.{ne_eqb}
 use Rattle.std.proofs.lemmas.Bool.Decides.{nat_tests}
 use Rattle.pnm_image.specs.declared.shape.Shape.{Shape}
@@ -8,7 +9,8 @@ use Rattle.pnm_tools.specs.declared.fault.ToolFault.{ToolFault}
 use Rattle.pnm_tools.specs.declared.fault.ToolFault.TheVariants.{OutOfOrder}
 use Rattle.pnm_tools.specs.declared.tool.Tool.TheVariants.{Tile}
 use Rattle.pnm_tools.specs.Limits.{is_too_large, within_limits}
-use Rattle.pnm_tools.specs.Tile.{tiled_head, tiled_header}
+use Rattle.pnm_tools.specs.Keeping.{Tiled, tiled_due}
+use Rattle.pnm_tools.specs.Tile.{tiled_head, tiled_header, tiled_row}
 use Rattle.pnm_tools.specs.Tools.{result_head, row_answer}
 
 -- the head of a tiled image is made by its own rule
@@ -48,3 +50,7 @@ tiled_row_small across down s t x (Ok made) same shape h =
     let depth : x.shape.depth ≡ t.depth = ap (λ (z : Shape). z.depth) (shape) ∙ ap (λ (z : Shape). z.depth) same in
     omega (arith, small, ap (λ (n : ℕ). n * x.shape.depth) width, ap (λ (n : ℕ). across * n) depth)
 tiled_row_small across down s t x (Err fault) same shape h = tt
+
+-- nothing is due before the image has ended
+pub none_due : (w : Tiled) → w.left ≡ 0 → tiled_due w ≡ []
+none_due w e = ap (λ (n : ℕ). map (λ y. tiled_row w.across w.width w.depth (slice_index_or w.rows (y % length w.rows) [])) (range_with_len 0 n)) e
