@@ -22,3 +22,4 @@ pub mod RefusalLaws
 pub mod ChainLaws
 pub mod StateSteps
 pub mod TileHeadLaws
+pub mod TileDueLaws
