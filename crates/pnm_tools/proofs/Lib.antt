@@ -23,3 +23,4 @@ pub mod ChainLaws
 pub mod StateSteps
 pub mod TileHeadLaws
 pub mod TileDueLaws
+pub mod TileRowLaws
