@@ -33,3 +33,6 @@ pub mod PixelLaws
 pub mod WholeHeadLaws
 pub mod MadeLaws
 pub mod WholeResultLaws
+pub mod TileHeadLaws
+pub mod TileDueLaws
+pub mod TileRowLaws
