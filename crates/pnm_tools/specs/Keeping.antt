@@ -85,6 +85,7 @@ pub record HasTiles (w : Tiled) : Type 0 where
 
 pub record IsTiling (w : Tiled) (s : Shape) (come : List (List ℕ)) : Type 0 where
   pub limits : IsWithinLimits s
+  pub some : 0 < s.height
   pub filled : w.across * s.depth ≤ 16777216
   pub rows : w.rows ≡ take w.down come
   pub lengths : All (λ row. length row ≡ row_length s) come
