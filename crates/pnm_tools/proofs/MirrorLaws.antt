@@ -2,7 +2,7 @@
 use Rattle.std.proofs.Common.{◌≡◌, ℕ, zero, suc, ◌+◌, ◌-◌, ◌*◌, ◌<◌, ◌≤◌, List, [], ◌∷◌, ◌++◌, length, take, drop, reverse, get_or, refl, sym, ap, ◌∙◌, arith, mul-le-mul, length-take-le, length-drop}
 use Rattle.std.specs.List.{flat_map, range_with_len}
 use borrow.Rule.Slice.PartMut.{put_mid}
-use Rattle.std.proofs.lemmas.List.{append-nil, append_assoc, length-append, drop_all, reverse-append, reverse-reverse, length-reverse, take-append-drop, take_at, drop_at, drop-drop, take_more, drop_more, take_all}
+use Rattle.std.proofs.lemmas.List.{append_assoc, length-append, reverse-append, reverse-reverse, length-reverse, take-append-drop, take_at, drop_at, drop-drop, take_more, drop_more, take_all}
 use Rattle.pnm_image.specs.declared.shape.Shape.{Shape}
 use Rattle.pnm_tools.specs.Flip.{mirrored_row}
 use Rattle.pnm_tools.specs.Pixels.{pixel_of}
@@ -84,3 +84,9 @@ one_plane s row samples some one count is =
     let long : length row ≡ s.width * 1 = count ∙ ap (λ (k : ℕ). s.width * k) depth in
     is ∙ sym (take_all s.width (reverse row) (omega (arith, length-reverse row))) ∙ sym (single_pixels s.width row s.width long (omega arith))
     ∙ ap (λ (k : ℕ). last_pixels s.width k row s.width) (sym depth)
+
+-- a row that is mirrored in place
+pub mirrored_in_place : (s : Shape) (row items lent new : List ℕ) (len : ℕ) → new ≡ mirrored_row s lent → length new ≡ length lent → lent ≡ items → items ≡ row → len ≡ length items → take len (new ++ drop (length new) items) ≡ mirrored_row s row
+mirrored_in_place s row items lent new len made long same given count =
+    let size : length new ≡ len = long ∙ ap length same ∙ sym count in
+    take_at new (drop (length new) items) len size ∙ made ∙ ap (mirrored_row s) (same ∙ given)

@@ -1,4 +1,4 @@
-use Rattle.std.proofs.Common.{◌≡◌, Bool, if◌then◌else◌, List, ℕ, [], reverse, ap, sym, ◌∙◌}
+use Rattle.std.proofs.Common.{Bool, if◌then◌else◌, List, ℕ, [], reverse, ap, sym, ◌∙◌}
 use Rattle.pnm_tools.specs.declared.flip.FlipWay.TheVariants.{TopBottom}
 use Rattle.pnm_tools.proofs.RowLaws.{row_of_flip}
 use Rattle.pnm_tools.proofs.flip.TurnerMaker.take.Goals as goal
