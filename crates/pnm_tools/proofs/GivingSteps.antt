@@ -45,8 +45,8 @@ ended tool_at ready_for due kept old new before ending none same gone = record {
 
 -- the first of the messages that waited is given
 pub gave : {W : Type 0} (tool_at : W → Tool) (ready_for : W → Shape → List (List ℕ) → Type 0) (due kept : W → List (List ℕ)) (old : Standing W) (new : W) (after : Pending) (fault : Option ToolFault) (m : Message) (t : Tool) (l g : List Message)
-    → KeepsNone kept old.work old.place old.pending → IsAt tool_at ready_for due old t l g → Gives tool_at ready_for due kept old.work old.pending new after (Some m) → IsAt tool_at ready_for due (standing new old.place after fault) t l (g ++ m ∷ [])
-gave tool_at ready_for due kept old new after fault m t l g none at gives =
+    → IsAt tool_at ready_for due kept old t l g → Gives tool_at ready_for due kept old.work old.pending new after (Some m) → IsAt tool_at ready_for due kept (standing new old.place after fault) t l (g ++ m ∷ [])
+gave tool_at ready_for due kept old new after fault m t l g at gives =
     let rest : List Message = waiting_in after (due new) in
     let waits : IsAnswering t l (g ++ m ∷ []) rest = record {
       lawful = at.answering.lawful;
@@ -58,14 +58,15 @@ gave tool_at ready_for due kept old new after fault m t l g none at gives =
       options = at.options;
       answering = waits;
       place = at.place;
-      ready = gives.ready old.place (rows_come [] l) none at.ready;
+      ready = gives.ready old.place (rows_come [] l) at.none at.ready;
+      none = gives.none old.place at.none;
       answers = answering_answers t l (g ++ m ∷ []) rest (tool_answers_images t at.options) waits;
     }
 
 -- none waited
 pub gave_all : {W : Type 0} (tool_at : W → Tool) (ready_for : W → Shape → List (List ℕ) → Type 0) (due kept : W → List (List ℕ)) (old : Standing W) (new : W) (after : Pending) (fault : Option ToolFault) (t : Tool) (l g : List Message)
-    → KeepsNone kept old.work old.place old.pending → IsAt tool_at ready_for due old t l g → Gives tool_at ready_for due kept old.work old.pending new after None → IsAt tool_at ready_for due (standing new old.place after fault) t l g × AnswersInFull t l g
-gave_all tool_at ready_for due kept old new after fault t l g keeps at gives =
+    → IsAt tool_at ready_for due kept old t l g → Gives tool_at ready_for due kept old.work old.pending new after None → IsAt tool_at ready_for due kept (standing new old.place after fault) t l g × AnswersInFull t l g
+gave_all tool_at ready_for due kept old new after fault t l g at gives =
     let none : waiting_in after (due new) ≡ [] = ap (λ (p : Pending). waiting_in p (due new)) gives.told in
     let all : IsAnswering t l g [] = subst (IsAnswering t l g) (gives.waits ∙ none) at.answering in (
       record {
@@ -73,7 +74,8 @@ gave_all tool_at ready_for due kept old new after fault t l g keeps at gives =
         options = at.options;
         answering = subst (IsAnswering t l g) gives.waits at.answering;
         place = at.place;
-        ready = gives.ready old.place (rows_come [] l) keeps at.ready;
+        ready = gives.ready old.place (rows_come [] l) at.none at.ready;
+      none = gives.none old.place at.none;
         answers = at.answers;
       },
       answering_in_full t l g (tool_answers_images t at.options) all,
@@ -122,31 +124,31 @@ alone Ending due m rest e none = absurd (none tt)
 alone Nothing due m rest e none = absurd cc
 
 pub gave_stop : {W : Type 0} (tool_at : W → Tool) (ready_for : W → Shape → List (List ℕ) → Type 0) (due kept : W → List (List ℕ)) (old : Standing W) (new : W) (after : Pending) (m : Message) (t : Tool) (l g : List Message)
-    → IsAt tool_at ready_for due old t l g → KeepsNone kept old.work old.place old.pending → Gives tool_at ready_for due kept old.work old.pending new after (Some m) → EndsBy BrokenOff l → m ≡ Stop
-gave_stop tool_at ready_for due kept old new after m t l g at none gives ends =
+    → IsAt tool_at ready_for due kept old t l g → Gives tool_at ready_for due kept old.work old.pending new after (Some m) → EndsBy BrokenOff l → m ≡ Stop
+gave_stop tool_at ready_for due kept old new after m t l g at gives ends =
     let stops = lawful_stops Between l at.answering.lawful in
-    let last = alone old.pending (due old.work) m (waiting_in after (due new)) gives.waits (λ rows. no_rows_after kept old.work old.place old.pending rows none (at.place ∙ stopped_after l stops ends)) in
+    let last = alone old.pending (due old.work) m (waiting_in after (due new)) gives.waits (λ rows. no_rows_after kept old.work old.place old.pending rows at.none (at.place ∙ stopped_after l stops ends)) in
     stop_waits t l g m (subst (IsAnswering t l g) last at.answering) stops ends
 
 -- ---- whether one waits or none
 
 pub given_by : {W : Type 0} (tool_at : W → Tool) (ready_for : W → Shape → List (List ℕ) → Type 0) (due kept : W → List (List ℕ)) (old : Standing W) (new : W) (after : Pending) (fault : Option ToolFault) (given : Option Message)
-    → KeepsNone kept old.work old.place old.pending → Gives tool_at ready_for due kept old.work old.pending new after given
-    → IfSome given (λ m. (t : Tool) (l g : List Message) → IsAt tool_at ready_for due old t l g → IsAt tool_at ready_for due (standing new old.place after fault) t l (g ++ m ∷ []))
-given_by tool_at ready_for due kept old new after fault None none gives = tt
-given_by tool_at ready_for due kept old new after fault (Some m) none gives = λ t l g at. gave tool_at ready_for due kept old new after fault m t l g none at gives
+    → Gives tool_at ready_for due kept old.work old.pending new after given
+    → IfSome given (λ m. (t : Tool) (l g : List Message) → IsAt tool_at ready_for due kept old t l g → IsAt tool_at ready_for due kept (standing new old.place after fault) t l (g ++ m ∷ []))
+given_by tool_at ready_for due kept old new after fault None gives = tt
+given_by tool_at ready_for due kept old new after fault (Some m) gives = λ t l g at. gave tool_at ready_for due kept old new after fault m t l g at gives
 
 pub stop_alone_by : {W : Type 0} (tool_at : W → Tool) (ready_for : W → Shape → List (List ℕ) → Type 0) (due kept : W → List (List ℕ)) (old : Standing W) (new : W) (after : Pending) (given : Option Message)
-    → KeepsNone kept old.work old.place old.pending → Gives tool_at ready_for due kept old.work old.pending new after given
-    → IfSome given (λ m. (t : Tool) (l g : List Message) → IsAt tool_at ready_for due old t l g → EndsBy BrokenOff l → m ≡ Stop)
-stop_alone_by tool_at ready_for due kept old new after None none gives = tt
-stop_alone_by tool_at ready_for due kept old new after (Some m) none gives = λ t l g at ends. gave_stop tool_at ready_for due kept old new after m t l g at none gives ends
+    → Gives tool_at ready_for due kept old.work old.pending new after given
+    → IfSome given (λ m. (t : Tool) (l g : List Message) → IsAt tool_at ready_for due kept old t l g → EndsBy BrokenOff l → m ≡ Stop)
+stop_alone_by tool_at ready_for due kept old new after None gives = tt
+stop_alone_by tool_at ready_for due kept old new after (Some m) gives = λ t l g at ends. gave_stop tool_at ready_for due kept old new after m t l g at gives ends
 
 pub full_by : {W : Type 0} (tool_at : W → Tool) (ready_for : W → Shape → List (List ℕ) → Type 0) (due kept : W → List (List ℕ)) (old : Standing W) (new : W) (after : Pending) (fault : Option ToolFault) (given : Option Message)
-    → KeepsNone kept old.work old.place old.pending → Gives tool_at ready_for due kept old.work old.pending new after given
-    → IfNone given ((is_all_given after ≡ true) × ((t : Tool) (l g : List Message) → IsAt tool_at ready_for due old t l g → IsAt tool_at ready_for due (standing new old.place after fault) t l g × AnswersInFull t l g))
-full_by tool_at ready_for due kept old new after fault None none gives = (ap is_all_given gives.told, λ t l g at. gave_all tool_at ready_for due kept old new after fault t l g none at gives)
-full_by tool_at ready_for due kept old new after fault (Some m) none gives = tt
+    → Gives tool_at ready_for due kept old.work old.pending new after given
+    → IfNone given ((is_all_given after ≡ true) × ((t : Tool) (l g : List Message) → IsAt tool_at ready_for due kept old t l g → IsAt tool_at ready_for due kept (standing new old.place after fault) t l g × AnswersInFull t l g))
+full_by tool_at ready_for due kept old new after fault None gives = (ap is_all_given gives.told, λ t l g at. gave_all tool_at ready_for due kept old new after fault t l g at gives)
+full_by tool_at ready_for due kept old new after fault (Some m) gives = tt
 
 pub fewer_by : {W : Type 0} (tool_at : W → Tool) (ready_for : W → Shape → List (List ℕ) → Type 0) (due kept : W → List (List ℕ)) (old : W) (before : Pending) (new : W) (after : Pending) (given : Option Message) → Gives tool_at ready_for due kept old before new after given
     → IfSome given (λ m. (length (waiting_in after (due new)) < length (waiting_in before (due old))) × (is_all_given before ≡ false) × (is_all_given after ≡ false))
@@ -177,7 +179,7 @@ more_of_front (m ∷ []) (n ∷ b) e = e.0
 more_of_front (m ∷ n ∷ a) b e = (e.0, more_of_front (n ∷ a) b e.1)
 
 pub wanted_memory : {W : Type 0} (tool_at : W → Tool) (ready_for : W → Shape → List (List ℕ) → Type 0) (due kept : W → List (List ℕ)) (old : Standing W) (t : Tool) (l g : List Message)
-    → IsAt tool_at ready_for due old t l g → KeepsNone kept old.work old.place old.pending → GivesRows old.pending → EndsBy More g
-wanted_memory tool_at ready_for due kept old t l g at none rows =
-    let goes : EndsBy More l = more_of_place Between l at.answering.lawful (λ e. no_rows_after kept old.work old.place old.pending rows none (at.place ∙ e)) in
+    → IsAt tool_at ready_for due kept old t l g → GivesRows old.pending → EndsBy More g
+wanted_memory tool_at ready_for due kept old t l g at rows =
+    let goes : EndsBy More l = more_of_place Between l at.answering.lawful (λ e. no_rows_after kept old.work old.place old.pending rows at.none (at.place ∙ e)) in
     more_of_front g (waiting_in old.pending (due old.work)) (subst (EndsBy More) at.answering.given (answers_end_so t Between [] l More goes))

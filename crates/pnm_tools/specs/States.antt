@@ -144,17 +144,18 @@ pub record IsAnswering (tool : Tool) (l g waiting : List Message) : Type 0 where
   pub given : answered_from tool Between [] l ≡ g ++ waiting
 
 -- the state of this tool, which has accepted these messages and given those
-pub record IsAt {W : Type 0} (tool_at : W → Tool) (ready_for : W → Shape → List (List ℕ) → Type 0) (due : W → List (List ℕ)) (s : Standing W) (t : Tool) (l g : List Message) : Type 0 where
+pub record IsAt {W : Type 0} (tool_at : W → Tool) (ready_for : W → Shape → List (List ℕ) → Type 0) (due kept : W → List (List ℕ)) (s : Standing W) (t : Tool) (l g : List Message) : Type 0 where
   pub tool : tool_at s.work ≡ t
   pub options : IsLawfulTool t
   pub answering : IsAnswering t l g (waiting_in s.pending (due s.work))
   pub place : s.place ≡ place_of Between l
   pub ready : IsReadyFor ready_for s.work s.place (rows_come [] l)
+  pub none : KeepsNone kept s.work s.place s.pending
   pub answers : Answers t l g
 
 -- the same of the tool of a chain
 abbrev pub IsToolAt : Standing Work → Tool → List Message → List Message → Type 0
-IsToolAt s t l g = IsAt tool_of IsReady due_of s t l g
+IsToolAt s t l g = IsAt tool_of IsReady due_of kept_of s t l g
 
 -- the state of this tool before the first message
 pub record IsFresh (s : Standing Work) (t : Tool) : Type 0 where

@@ -53,7 +53,7 @@ impl<T: Maker> Model for State<T> {
 impl<T: Maker> Filter for State<T> {
     ghost use Rattle.pnm_tools.specs.States.{IsAt};
 
-    ghost at = { IsAt T.tool T.ready T.due };
+    ghost at = { IsAt T.tool T.ready T.due T.kept };
 
     ghost all_given = { λ s. is_all_given s.pending };
 
