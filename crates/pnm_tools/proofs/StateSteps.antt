@@ -15,7 +15,7 @@ use Rattle.pnm_tools.specs.declared.fault.ToolFault.TheVariants.{CutOutside, Cha
 use Rattle.pnm_tools.specs.declared.flip.FlipWay.{FlipWay}
 use Rattle.pnm_tools.specs.declared.flip.FlipWay.TheVariants.{Null, LeftRight, TopBottom, Transpose}
 use Rattle.pnm_tools.specs.declared.state.Pending.{Pending}
-use Rattle.pnm_tools.specs.declared.state.Pending.TheVariants.{AllGiven, Waiting, Rows, Ending, Nothing}
+use Rattle.pnm_tools.specs.declared.state.Pending.TheVariants.{AllGiven, Waiting, Rows, RowsAndEnd, Nothing}
 use Rattle.pnm_tools.specs.declared.tool.Tool.{Tool}
 use Rattle.pnm_tools.specs.declared.tool.Tool.TheVariants.{Invert, Cut, Depth, Channel, Enlarge, Flip, Tile}
 use Rattle.pnm_tools.specs.Answers.{Begins, RefusesHead, Judges}
@@ -98,7 +98,7 @@ told : (pending : Pending) → is_all_given pending ≡ true → pending ≡ All
 told AllGiven e = refl
 told (Waiting message) e = absurd cc
 told Rows e = absurd cc
-told Ending e = absurd cc
+told RowsAndEnd e = absurd cc
 told Nothing e = absurd cc
 
 -- a message more was accepted, and its answer waits

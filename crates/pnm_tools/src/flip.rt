@@ -7,7 +7,7 @@ ghost use Rattle.pnm_tools.specs.declared.fault.ToolFault.TheVariants.{Memory};
 ghost use Rattle.pnm_tools.specs.declared.flip.FlipWay.TheVariants.{Null, LeftRight, TopBottom};
 ghost use Rattle.pnm_tools.specs.declared.tool.Tool.TheVariants.{Flip};
 ghost use Rattle.pnm_tools.specs.Flip.{mirrored_row};
-ghost use Rattle.pnm_tools.specs.Keeping.{IsTurning, turned_due};
+ghost use Rattle.pnm_tools.specs.Keeping.{IsReversingRows, reversed_due};
 ghost use Rattle.pnm_tools.specs.Tools.{Takes, result_head};
 
 use crate::fault::ToolFault;
@@ -21,9 +21,9 @@ use std::alloc::Global;
 pub enum FlipWay {
     /// Not at all.
     Null,
-    /// The last column becomes the first.
+    /// The order of the columns is reversed.
     LeftRight,
-    /// The last row becomes the first.
+    /// The order of the rows is reversed.
     TopBottom,
     /// Columns become rows, and rows columns.
     Transpose,
@@ -86,26 +86,26 @@ impl Rows for Mirror {
 
 /// Exchanges top and bottom: keeps the rows of an image, and gives the last one first.
 #[derive(Debug, Drop)]
-pub struct Turner {
+pub struct RowReverser {
     rows: Vec<Samples>,
     /// The image has ended.
     gives: bool,
 }
 
-impl Maker for Turner {
+impl Maker for RowReverser {
     ghost tool = { λ _. Flip TopBottom };
 
-    ghost ready = { λ w shape rows. IsTurning w rows };
+    ghost ready = { λ w shape rows. IsReversingRows w rows };
 
-    ghost due = { turned_due };
+    ghost due = { reversed_due };
 
     ghost kept = { λ w. w.rows.items };
 
     fn begin(&mut self, alloc: Global, head: &Head) -> Result<Head, ToolFault> {
-        let turned = flipped_head(alloc, FlipWay::TopBottom, head)?;
+        let reversed = flipped_head(alloc, FlipWay::TopBottom, head)?;
         self.rows = Vec::with_capacity(alloc, head.shape().height as usize)?;
         self.gives = false;
-        Ok(turned)
+        Ok(reversed)
     }
 
     fn take(
@@ -135,13 +135,13 @@ impl Maker for Turner {
     }
 }
 
-impl Turner {
+impl RowReverser {
     /// The tool before the first row.
-    pub(crate) fn new(alloc: Global) -> Turner
+    pub(crate) fn new(alloc: Global) -> RowReverser
         ensures rows { result.rows.items ≡ [] }
         ensures gives { result.gives ≡ false }
     {
-        Turner {
+        RowReverser {
             rows: Vec::new(alloc),
             gives: false,
         }

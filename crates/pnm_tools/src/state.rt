@@ -23,13 +23,13 @@ pub enum Pending {
     /// The rows that the tool still gives.
     Rows,
     /// The rows that the tool still gives, and the end of the image.
-    Ending,
+    RowsAndEnd,
     /// Nothing, which isn't told yet.
     Nothing,
 }
 
-/// A tool at work on a stream. What it keeps of an image it gives up at the image's end, where the
-/// stream is broken off, and at a fault.
+/// A tool at work on a stream. What it keeps of an image it gives up once it has given the image's end,
+/// where the stream is broken off, and at a fault.
 #[derive(Debug, Drop)]
 pub struct State<T: Maker> {
     alloc: Global,
@@ -150,7 +150,7 @@ fn answer<T: Maker>(
         }
         (Place::Inside(shape, _), Message::ImageEnd) => {
             work.end(shape);
-            Ok(Pending::Ending)
+            Ok(Pending::RowsAndEnd)
         }
         (_, Message::Stop) => {
             work.release(alloc);
@@ -181,9 +181,9 @@ fn give<T: Maker>(
             }
             None => Ok(None),
         },
-        Pending::Ending => match work.give(alloc)? {
+        Pending::RowsAndEnd => match work.give(alloc)? {
             Some(row) => {
-                *pending = Pending::Ending;
+                *pending = Pending::RowsAndEnd;
                 Ok(Some(Message::Row(row)))
             }
             None => {
@@ -200,6 +200,6 @@ fn is_all_given(pending: &Pending) -> bool
 {
     match pending {
         Pending::AllGiven => true,
-        Pending::Waiting(_) | Pending::Rows | Pending::Ending | Pending::Nothing => false,
+        Pending::Waiting(_) | Pending::Rows | Pending::RowsAndEnd | Pending::Nothing => false,
     }
 }

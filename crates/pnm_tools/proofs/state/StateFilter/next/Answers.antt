@@ -22,6 +22,6 @@ returns-in-Err-clause-failed g c = λ none. (
   c.in-Err.ensures.0,
   λ t l given at.
       let s = c.self.inside in
-        let is_at = rw (← c.self.view_is) at at in
+      let is_at = rw (← c.self.view_is) at at in
       wanted_memory g.T.Maker.tool g.T.Maker.ready g.T.Maker.due g.T.Maker.kept (standing s.work s.place s.pending s.fault) t l given is_at c.in-Err.ensures.1,
 )

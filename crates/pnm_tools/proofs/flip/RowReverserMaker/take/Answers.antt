@@ -1,7 +1,7 @@
 use Rattle.std.proofs.Common.{Bool, if◌then◌else◌, List, ℕ, [], reverse, ap, sym, ◌∙◌}
 use Rattle.pnm_tools.specs.declared.flip.FlipWay.TheVariants.{TopBottom}
 use Rattle.pnm_tools.proofs.RowLaws.{row_of_flip}
-use Rattle.pnm_tools.proofs.flip.TurnerMaker.take.Goals as goal
+use Rattle.pnm_tools.proofs.flip.RowReverserMaker.take.Goals as goal
 
 pub returns-clause-due : goal.returns-clause-due
 returns-clause-due c =
