@@ -12,6 +12,7 @@ use Rattle.pnm_tools.proofs.PickLaws.{flat_map_one_more}
 abbrev pub last_pixels : ℕ → ℕ → List ℕ → ℕ → List ℕ
 last_pixels width depth row count = flat_map (λ x. pixel_of depth row (width - 1 - x)) (range_with_len 0 count)
 
+-- one pixel more
 pub one_pixel_more : (width depth : ℕ) (row : List ℕ) (x : ℕ) → last_pixels width depth row (x + 1) ≡ last_pixels width depth row x ++ pixel_of depth row (width - 1 - x)
 one_pixel_more width depth row x = flat_map_one_more (λ x. pixel_of depth row (width - 1 - x)) 0 x x (omega arith)
 

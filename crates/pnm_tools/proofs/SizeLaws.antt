@@ -15,6 +15,7 @@ use Rattle.pnm_tools.specs.Limits.{is_too_large, within_limits}
 use Rattle.pnm_tools.specs.Tools.{result_head}
 use Rattle.pnm_tools.proofs.HeadLaws.{small_head, large_head, not_too_large}
 
+-- the rule of each tool
 pub head_of_enlarge : (across down : ℕ) (head : Header) → result_head (Enlarge across down) head ≡ enlarged_head across down head
 unfolding result_head
 head_of_enlarge across down head = refl
@@ -58,6 +59,7 @@ enlarged_head_made across down head s width height t shape order wide high type 
     ∙ ap (header_of (record s { width = width; height = height })) (sym type) in
     enlarge_in_order across down head s shape order ∙ ap within_limits whole
 
+-- a width or a height beyond the limits
 too_wide : (s : Shape) → 1000000 < s.width → is_too_large s ≡ true
 too_wide s h = grind (arith, nat_tests)
 
@@ -96,10 +98,12 @@ flip_without_rows way head s (inr e) shape none =
     head_of_flip way head ∙ ap (λ (w : FlipWay). flipped_head w head) e
     ∙ ap (λ (n : ℕ). if n == 0 then Err OutOfOrder else within_limits (transposed_header head)) (ap (λ (z : Shape). z.height) (sym shape) ∙ none)
 
+-- where the rows of an image are turned
 pub flip_rows : (way : FlipWay) (head : Header) (s : Shape) → way ≡ TopBottom → s ≡ head.shape → (s.height ≡ 0 → ⊥) → result_head (Flip way) head ≡ Ok head
 flip_rows way head s e shape some =
     head_of_flip way head ∙ ap (λ (w : FlipWay). flipped_head w head) e ∙ ap (λ (b : Bool). if b then Err OutOfOrder else Ok head) (some_rows head s shape some)
 
+-- the head of a transposed image, from its parts
 pub transposed_head_made : (way : FlipWay) (head : Header) (s : Shape) (t : List ℕ) → way ≡ Transpose → s ≡ head.shape → t ≡ head.tuple_type → (s.height ≡ 0 → ⊥) → result_head (Flip way) head ≡ within_limits (header_of (record s { width = s.height; height = s.width }) t)
 transposed_head_made way head s t e shape type some =
     let whole : transposed_header head ≡ header_of (record s { width = s.height; height = s.width }) t =
