@@ -24,3 +24,4 @@ pub mod StateSteps
 pub mod TileHeadLaws
 pub mod TileDueLaws
 pub mod TileRowLaws
+pub mod ColumnLaws
