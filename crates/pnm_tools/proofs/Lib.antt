@@ -36,3 +36,4 @@ pub mod WholeResultLaws
 pub mod TileHeadLaws
 pub mod TileDueLaws
 pub mod TileRowLaws
+pub mod ColumnLaws

@@ -1,10 +1,11 @@
 //! `pamflip -transpose`: columns and rows exchanged, from pamflip(1).
 
-ghost use Rattle.std.specs.Prelude.{◌≡◌, ◌≤◌, ◌<◌, ◌+◌, ◌*◌, ◌++◌, All, length, map, reverse, OnOk, IfOk, IfErr, []};
+ghost use Rattle.std.specs.Prelude.{◌≡◌, ◌≤◌, ◌<◌, ◌+◌, ◌*◌, ◌++◌, All, length, map, reverse, vec_len, vec_capacity, IfOk, IfErr, []};
 ghost use Rattle.std.specs.List.{range_with_len};
 ghost use Rattle.pnm_tools.specs.declared.fault.ToolFault.TheVariants.{Memory};
 ghost use Rattle.pnm_tools.specs.declared.tool.Tool.TheVariants.{Flip};
 ghost use Rattle.pnm_tools.specs.declared.flip.FlipWay.TheVariants.{Transpose};
+ghost use Rattle.pnm_tools.specs.Columns.{AreEmpty, HaveRoom, HavePixels};
 ghost use Rattle.pnm_tools.specs.Flip.{column_of};
 ghost use Rattle.pnm_tools.specs.Keeping.{IsTransposing, transposed_due};
 
@@ -123,11 +124,7 @@ fn band_of(
 {
     let mut columns = empty_columns(alloc, count, rows.len() * depth)?;
     for row in rows {
-        add_pixels(
-            columns.as_mut_slice(),
-            &row.as_slice()[first * depth..],
-            depth,
-        )?;
+        add_pixels(columns.as_mut_slice(), &row.as_slice()[first * depth..], depth);
     }
     let mut band = Vec::with_capacity(alloc, count)?;
     while let Some(column) = columns.pop() {
@@ -138,7 +135,8 @@ fn band_of(
 
 /// So many columns without samples, with room for so many each.
 fn empty_columns(alloc: Global, count: usize, room: usize) -> Result<Vec<Vec<u16>>, ToolFault>
-    ensures { OnOk result (Unit {0}) }
+    ensures empty { IfOk result (λ columns. AreEmpty count room columns.items) }
+    ensures refused { IfErr result (λ fault. fault ≡ Memory) }
 {
     let mut columns = Vec::with_capacity(alloc, count)?;
     for _ in 0..count {
@@ -148,13 +146,25 @@ fn empty_columns(alloc: Global, count: usize, room: usize) -> Result<Vec<Vec<u16
 }
 
 /// Adds to each column its pixel of a row that begins with the first column's.
-fn add_pixels(columns: &mut [Vec<u16>], row: &[u16], depth: usize) -> Result<(), ToolFault>
-    requires { length columns.old * depth ≤ length row.now }
+fn add_pixels(columns: &mut [Vec<u16>], row: &[u16], depth: usize)
+    requires row { length columns.old * depth ≤ length row.now }
+    requires room { HaveRoom depth columns.old }
+    ensures { HavePixels (length columns.old) depth row.now columns.old columns.new }
 {
     let mut x = 0;
     for column in columns.iter_mut() {
-        column.extend_from_slice(&row[x..x + depth])?;
+        add_pixel(column, &row[x..x + depth]);
         x += depth;
     }
-    Ok(())
+}
+
+/// Adds a pixel to a column that has room for it.
+fn add_pixel(column: &mut Vec<u16>, pixel: &[u16])
+    requires { vec_len column.old + length pixel.now ≤ vec_capacity column.old }
+    ensures added { column.new.items ≡ column.old.items ++ pixel.now }
+    ensures enough { vec_capacity column.new ≡ vec_capacity column.old }
+{
+    for sample in pixel {
+        column.push_reserved(*sample);
+    }
 }
