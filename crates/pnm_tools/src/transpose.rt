@@ -118,7 +118,7 @@ fn band_of(
     depth: usize,
 ) -> Result<Vec<Samples>, ToolFault>
     requires rows { All (λ row. (first + count) * depth ≤ length row) rows.now }
-    requires sizes { (length rows.now * depth ≤ 16777216) × (depth ≤ 256) × (first + count ≤ 1000000) }
+    requires sizes { (length rows.now * depth ≤ 16777216) × (depth ≤ 256) × (first + count ≤ 4294967295) }
     ensures made { IfOk result (λ band. band.items ≡ reverse (map (column_of depth rows.now) (range_with_len first count))) }
     ensures refused { IfErr result (λ fault. fault ≡ Memory) }
 {
