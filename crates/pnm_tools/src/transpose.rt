@@ -54,7 +54,7 @@ impl Maker for Transposer {
 
     fn begin(&mut self, alloc: Global, head: &Head) -> Result<Head, ToolFault> {
         let transposed = flipped_head(alloc, FlipWay::Transpose, head)?;
-        self.release(alloc);
+        self.clear(alloc);
         self.rows = Vec::with_capacity(alloc, head.shape().height as usize)?;
         Ok(transposed)
     }
@@ -86,10 +86,7 @@ impl Maker for Transposer {
     }
 
     fn release(&mut self, alloc: Global) {
-        self.columns = 0;
-        self.next = 0;
-        self.rows = Vec::new(alloc);
-        self.band = Vec::new(alloc);
+        self.clear(alloc);
     }
 }
 
@@ -106,6 +103,17 @@ impl Transposer {
             next: 0,
             columns: 0,
         }
+    }
+
+    /// Gives up all rows and columns.
+    fn clear(&mut self, alloc: Global)
+        ensures rows { (self.new.rows ≡ []) × (self.new.band ≡ []) }
+        ensures columns { (self.new.next ≡ 0) × (self.new.columns ≡ 0) }
+    {
+        self.columns = 0;
+        self.next = 0;
+        self.rows = Vec::new(alloc);
+        self.band = Vec::new(alloc);
     }
 }
 
