@@ -37,3 +37,4 @@ pub mod TileHeadLaws
 pub mod TileDueLaws
 pub mod TileRowLaws
 pub mod ColumnLaws
+pub mod TransposeLaws

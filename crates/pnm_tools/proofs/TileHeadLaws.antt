@@ -39,7 +39,8 @@ tiled_head_made across down head s t shape type some =
     ap (λ (z : Shape). header_of (record z { width = across; height = down }) head.tuple_type) (sym shape) ∙ ap (header_of (record s { width = across; height = down })) (sym type) in
     head_of_tile across down head ∙ ap (tiled_by across down head) height ∙ ap within_limits whole
 
-small_row : (s : Shape) → is_too_large s ≡ false → row_length s ≤ 16777216
+-- the rows of a head within the limits are within them
+pub small_row : (s : Shape) → is_too_large s ≡ false → row_length s ≤ 16777216
 small_row s e = grind (arith, nat_tests)
 
 -- a row of the result is within the limits where its head is made

@@ -54,7 +54,7 @@ impl Maker for Transposer {
 
     fn begin(&mut self, alloc: Global, head: &Head) -> Result<Head, ToolFault> {
         let transposed = flipped_head(alloc, FlipWay::Transpose, head)?;
-        self.release(alloc);
+        self.clear(alloc);
         self.rows = Vec::with_capacity(alloc, head.shape().height as usize)?;
         Ok(transposed)
     }
@@ -86,10 +86,7 @@ impl Maker for Transposer {
     }
 
     fn release(&mut self, alloc: Global) {
-        self.columns = 0;
-        self.next = 0;
-        self.rows = Vec::new(alloc);
-        self.band = Vec::new(alloc);
+        self.clear(alloc);
     }
 }
 
@@ -107,6 +104,17 @@ impl Transposer {
             columns: 0,
         }
     }
+
+    /// Gives up all rows and columns.
+    fn clear(&mut self, alloc: Global)
+        ensures rows { (self.new.rows ≡ []) × (self.new.band ≡ []) }
+        ensures columns { (self.new.next ≡ 0) × (self.new.columns ≡ 0) }
+    {
+        self.columns = 0;
+        self.next = 0;
+        self.rows = Vec::new(alloc);
+        self.band = Vec::new(alloc);
+    }
 }
 
 /// So many columns of the rows, from the first one on, the last one first.
@@ -118,7 +126,7 @@ fn band_of(
     depth: usize,
 ) -> Result<Vec<Samples>, ToolFault>
     requires rows { All (λ row. (first + count) * depth ≤ length row) rows.now }
-    requires sizes { (length rows.now * depth ≤ 16777216) × (depth ≤ 256) × (first + count ≤ 1000000) }
+    requires sizes { (length rows.now * depth ≤ 16777216) × (depth ≤ 256) × (first + count ≤ 4294967295) }
     ensures made { IfOk result (λ band. band.items ≡ reverse (map (column_of depth rows.now) (range_with_len first count))) }
     ensures refused { IfErr result (λ fault. fault ≡ Memory) }
 {
