@@ -1,5 +1,5 @@
 -- How a tool at work gives what waits.
-use Rattle.std.proofs.Common.{◌≡◌, ◌⊎◌, inl, inr, ℕ, suc, ◌<◌, Bool, true, false, List, [], ◌∷◌, ◌++◌, map, length, refl, sym, ap, subst, ◌∙◌, append_assoc, append-nil, arith, Option, Some, None}
+use Rattle.std.proofs.Common.{◌≡◌, inl, inr, ℕ, ◌<◌, true, false, List, [], ◌∷◌, ◌++◌, map, length, refl, sym, ap, subst, ◌∙◌, append_assoc, arith, Option, Some, None}
 use Rattle.std.specs.Prelude.{IfSome, IfNone}
 use Rattle.pnm_image.specs.declared.shape.Shape.{Shape}
 use Rattle.pnm_image.specs.declared.message.Message.{Message}
@@ -14,8 +14,8 @@ use Rattle.pnm_tools.specs.declared.tool.Tool.{Tool}
 use Rattle.pnm_tools.specs.Answers.{More, BrokenOff, EndsBy, AnswersInFull}
 use Rattle.pnm_tools.specs.Answering.{answered_from, rows_come}
 use Rattle.pnm_tools.specs.States.{Standing, standing, IsAnswering, IsAt, IsReadyFor, KeepsNone, is_all_given, waiting_in}
-use Rattle.pnm_tools.specs.Steps.{IsGiven, GivesRows, IsTold, message_list}
-use Rattle.pnm_tools.proofs.AtLaws.{GoOn, StopsLast, lawful_stops, not_broken, answering_answers}
+use Rattle.pnm_tools.specs.Steps.{IsGiven, GivesRows}
+use Rattle.pnm_tools.proofs.AtLaws.{StopsLast, lawful_stops, not_broken, answering_answers}
 use Rattle.pnm_tools.proofs.FullLaws.{answering_in_full}
 use Rattle.pnm_tools.proofs.InFullLaws.{answers_end_so}
 use Rattle.pnm_tools.proofs.OwedLaws.{place_of-append}

@@ -19,14 +19,14 @@ use Rattle.pnm_tools.specs.declared.state.Pending.TheVariants.{AllGiven, Waiting
 use Rattle.pnm_tools.specs.declared.tool.Tool.{Tool}
 use Rattle.pnm_tools.specs.declared.tool.Tool.TheVariants.{Invert, Cut, Depth, Channel, Enlarge, Flip, Tile}
 use Rattle.pnm_tools.specs.Answers.{Begins, RefusesHead, Judges}
-use Rattle.pnm_tools.specs.Answering.{answered, answered_from, rows_after, rows_come}
+use Rattle.pnm_tools.specs.Answering.{answered, rows_after, rows_come}
 use Rattle.pnm_tools.specs.Channel.{picked_header}
 use Rattle.pnm_tools.specs.Cut.{head_of_spans, columns_kept, rows_kept}
 use Rattle.pnm_tools.specs.Enlarge.{enlarged_header}
 use Rattle.pnm_tools.specs.Flip.{transposed_header, flipped_head}
 use Rattle.pnm_tools.specs.Limits.{is_too_large, within_limits}
 use Rattle.pnm_tools.specs.States.{Standing, standing, IsAnswering, IsAt, IsReadyFor, KeepsNone, is_all_given, waiting_in}
-use Rattle.pnm_tools.specs.Steps.{IsDue, IsTaken, IsRefused}
+use Rattle.pnm_tools.specs.Steps.{IsTaken, IsRefused}
 use Rattle.pnm_tools.specs.Tile.{tiled_header}
 use Rattle.pnm_tools.specs.Tools.{AreTaken, result_head}
 use Rattle.pnm_tools.proofs.AtLaws.{answering_answers}

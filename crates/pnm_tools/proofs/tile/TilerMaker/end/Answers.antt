@@ -1,5 +1,4 @@
 use Rattle.std.proofs.Common.{ℕ, take, ap, sym, ◌∙◌}
-use Rattle.pnm_image.specs.declared.shape.Shape.{Shape}
 use Rattle.pnm_tools.specs.Keeping.{Tiled, tiled}
 use Rattle.pnm_tools.specs.Tile.{tiled_at_end}
 use Rattle.pnm_tools.proofs.TileDueLaws.{due_at_end, tiles_at_end}

@@ -1,6 +1,6 @@
-use Rattle.std.proofs.Common.{rules, ◌≡◌, ◌⊎◌, inl, inr, ℕ, suc, ◌-◌, ◌≤◌, List, [], ◌∷◌, ◌++◌, length, refl, ap, sym, ◌∙◌, arith}
+use Rattle.std.proofs.Common.{rules, ◌≡◌, inl, inr, suc, ◌-◌, ◌≤◌, ◌∷◌, length, refl, ap, sym, ◌∙◌, arith}
 use Rattle.pnm_tools.specs.declared.tile.Tiler.TheInside.{Inside}
-use Rattle.pnm_tools.specs.Keeping.{Tiled, tiled, tiled_due}
+use Rattle.pnm_tools.specs.Keeping.{tiled, tiled_due}
 use Rattle.pnm_tools.specs.Tile.{tiled_row}
 use Rattle.pnm_tools.proofs.TileDueLaws.{given_of_queue}
 use Rattle.pnm_tools.proofs.tile.TilerMaker.give.Goals as goal
