@@ -4,7 +4,7 @@ use Rattle.std.specs.List.{range_with_len}
 use Rattle.std.proofs.Math.Nat.{mod-eq_of_lt, mod-lt, mod_self, zero-mod, div-add-mod, add-mul-mod_self_left}
 use Rattle.std.proofs.lemmas.Bool.{cases_lt}
 use Rattle.std.proofs.lemmas.List.{get_or-take, get_or_append_left, get_or_at, length-append, length-take, length-take-le, take_all}
-use Rattle.std.proofs.lemmas.List.Elements.{All-take}
+use Rattle.std.proofs.lemmas.List.Elements.{All-head, All-push, All-rest, All-same, All-take}
 use Rattle.pnm_image.specs.declared.shape.Shape.{Shape}
 use Rattle.pnm_image.specs.Heads.{row_length}
 use Rattle.pnm_tools.specs.Keeping.{Tiled, tiled, tiled_due, HasTiles, IsTiling}
@@ -121,3 +121,22 @@ given_of_queue w row made rest rows left queue more is (inr last) =
     ∙ given_last w.across w.down w.width w.depth left row rest last.1
     ∙ ap (λ (l : List ℕ). l ∷ tiled_due (tiled w.across w.down w.width w.depth rest left)) (sym is)
     ∙ ap (λ (l : List (List ℕ)). made ∷ tiled_due (tiled w.across w.down w.width w.depth l left)) (sym last.0)
+
+-- the rows that are left are still rows of the image, and there are some where one is due
+pub tiles_left : (w : Tiled) (row : List ℕ) (rest rows : List (List ℕ)) (left : ℕ) → HasTiles w → w.rows ≡ row ∷ rest → ((rows ≡ rest ++ row ∷ []) ⊎ ((rows ≡ rest) × (left ≤ length rest))) → 0 < left
+    → HasTiles (tiled w.across w.down w.width w.depth rows left)
+tiles_left w row rest rows left h queue (inl again) more =
+    let P : List ℕ → Type 0 = λ r. length r ≡ w.width * w.depth in
+    let first : P row = All-head P row rest (All-same P (row ∷ rest) w.rows (sym queue) h.lengths) in
+    record {
+      some = omega (arith, ap length again, length-append rest (row ∷ []));
+      lengths = All-same P rows (rest ++ row ∷ []) again (All-push P rest row (All-rest P row rest w.rows queue h.lengths) first);
+      width = h.width;
+      filled = h.filled;
+    }
+tiles_left w row rest rows left h queue (inr last) more = record {
+  some = omega (arith, ap length last.0, last.1);
+  lengths = All-same (λ r. length r ≡ w.width * w.depth) rows rest last.0 (All-rest (λ r. length r ≡ w.width * w.depth) row rest w.rows queue h.lengths);
+  width = h.width;
+  filled = h.filled;
+}
