@@ -30,18 +30,9 @@ due_at_end across down s rows come kept count =
     range_alike (λ y. tiled_row across s.width s.depth (get_or rows (y % length rows) [])) (λ y. tiled_row across s.width s.depth (get_or come (y % s.height) [])) 0 down
     (λ y lt. ap (tiled_row across s.width s.depth) (kept_row down s.height y rows come kept count (omega arith) (cases_lt down s.height)))
 
--- once an image that has rows has ended there are rows to give
-pub tiles_at_end : (w : Tiled) (s : Shape) (come : List (List ℕ)) → IsTiling w s come → length come ≡ s.height → 0 < s.height → 0 < w.down
-    → HasTiles (tiled w.across w.down s.width s.depth w.rows w.down)
-tiles_at_end w s come ready count some wanted = record {
-  some = omega (arith, ap length ready.rows, length-take w.down come);
-  lengths = subst (All (λ row. length row ≡ row_length s)) (sym ready.rows) (All-take (λ row. length row ≡ row_length s) w.down come ready.lengths);
-  width = ready.limits.width_low;
-  filled = ready.filled;
-}
-
 -- ---- the queue of rows
 
+-- alike, number by number
 map_alike : (f g : ℕ → List ℕ) (a b n : ℕ) → ((i : ℕ) → i < n → f (a + i) ≡ g (b + i)) → map f (range_with_len a n) ≡ map g (range_with_len b n)
 map_alike f g a b zero same = refl
 map_alike f g a b (suc n) same =
@@ -59,6 +50,7 @@ next_remainder y n =
     let copies : y % n + 1 + n * (y / n) ≡ y + 1 = omega (arith, div-add-mod y n) in
     ap (λ (k : ℕ). k % n) (sym copies) ∙ add-mul-mod_self_left (y % n + 1) n (y / n)
 
+-- the row after the one with this number, once the first went to the end
 abbrev next_row : List ℕ → List (List ℕ) → ℕ → Type 0
 next_row row rest r = get_or (row ∷ rest) ((r + 1) % suc (length rest)) [] ≡ get_or (rest ++ row ∷ []) r []
 
@@ -74,6 +66,7 @@ next_in_turn row rest r (inr le) below =
     ap (λ (k : ℕ). get_or (row ∷ rest) (k % suc (length rest)) []) more ∙ ap (λ (k : ℕ). get_or (row ∷ rest) k []) (mod_self (suc (length rest)))
     ∙ sym (get_or_at rest row [] [] r (sym last))
 
+-- the row of the result with this number
 abbrev row_by : ℕ → ℕ → ℕ → List (List ℕ) → ℕ → List ℕ
 row_by across width depth rows y = tiled_row across width depth (get_or rows (y % length rows) [])
 
