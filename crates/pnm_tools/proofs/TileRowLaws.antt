@@ -160,7 +160,7 @@ front_grows across width depth more row items new some long front lt least made 
     record {
       count = k + j;
       is = made ∙ ap (λ (l : List ℕ). l ++ take more l) front.is ∙ ap (λ (n : ℕ). tiled_row k width depth row ++ take n (tiled_row k width depth row)) samples
-      ∙ ap (λ (l : List ℕ). tiled_row k width depth row ++ l) (tiled_shorter k j width depth row some long (omega arith)) ∙ sym (tiled_more k j width depth row whole);
+          ∙ ap (λ (l : List ℕ). tiled_row k width depth row ++ l) (tiled_shorter k j width depth row some long (omega arith)) ∙ sym (tiled_more k j width depth row whole);
       within = omega arith;
       whole = λ less. let twice : k + j ≡ k + k = omega arith in ap (λ (n : ℕ). n % width) twice ∙ same_column k k width whole ∙ whole;
       some = λ there. omega arith;

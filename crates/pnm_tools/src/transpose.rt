@@ -132,7 +132,11 @@ fn band_of(
 {
     let mut columns = empty_columns(alloc, count, rows.len() * depth)?;
     for row in rows {
-        add_pixels(columns.as_mut_slice(), &row.as_slice()[first * depth..], depth);
+        add_pixels(
+            columns.as_mut_slice(),
+            &row.as_slice()[first * depth..],
+            depth,
+        );
     }
     let mut band = Vec::with_capacity(alloc, count)?;
     while let Some(column) = columns.pop() {

@@ -18,8 +18,8 @@ invariant_of-self-2 c = λ more.
     elim c.if-len-left.branch [
       | then-len-left+in_ok-tiled+in_ok-push_back v ↦ subst back (sym v.self-inside-is) (tiles_left w row rest v.push_back.new.self.items (x.left - 1) tiles queue (inl v.in_ok-push_back.ensures.items) more)
       | else-len-left+in_ok-tiled-2 v ↦
-        let enough : x.left - 1 ≤ length rest = omega (arith, c.pop_front.new.self.ok) in
-        subst back (sym v.self-inside-is) (tiles_left w row rest rest (x.left - 1) tiles queue (inr (refl, enough)) more)
+          let enough : x.left - 1 ≤ length rest = omega (arith, c.pop_front.new.self.ok) in
+          subst back (sym v.self-inside-is) (tiles_left w row rest rest (x.left - 1) tiles queue (inr (refl, enough)) more)
     ]
 
 pub returns-clause-due : goal.returns-clause-due
@@ -33,10 +33,10 @@ returns-clause-due c =
     let back = λ (i : Inside). c.new.result ∷ tiled_due (tiled i.across i.down i.width i.depth i.rows.items (x.left - 1)) in
     ap tiled_due (sym c.self.view_is) ∙ elim c.if-len-left.branch [
       | then-len-left+in_ok-tiled+in_ok-push_back v ↦
-        let is : c.new.result ≡ tiled_row x.across x.width x.depth row = c.new.ensures ∙ ap (λ l. l.items) v.tiled-is ∙ v.in_ok-tiled.ensures.made ∙ ap (tiled_row x.across x.width x.depth) v.as_slice.ensures in
-        given_of_queue w row c.new.result rest v.push_back.new.self.items (x.left - 1) queue more is (inl v.in_ok-push_back.ensures.items) ∙ ap back (sym v.self-inside-is)
+          let is : c.new.result ≡ tiled_row x.across x.width x.depth row = c.new.ensures ∙ ap (λ l. l.items) v.tiled-is ∙ v.in_ok-tiled.ensures.made ∙ ap (tiled_row x.across x.width x.depth) v.as_slice.ensures in
+          given_of_queue w row c.new.result rest v.push_back.new.self.items (x.left - 1) queue more is (inl v.in_ok-push_back.ensures.items) ∙ ap back (sym v.self-inside-is)
       | else-len-left+in_ok-tiled-2 v ↦
-        let is : c.new.result ≡ tiled_row x.across x.width x.depth row = c.new.ensures ∙ ap (λ l. l.items) v.tiled-is ∙ v.in_ok-tiled-2.ensures.made ∙ ap (tiled_row x.across x.width x.depth) v.into_vec.ensures in
-        let enough : x.left - 1 ≤ length rest = omega (arith, c.pop_front.new.self.ok) in
-        given_of_queue w row c.new.result rest rest (x.left - 1) queue more is (inr (refl, enough)) ∙ ap back (sym v.self-inside-is)
+          let is : c.new.result ≡ tiled_row x.across x.width x.depth row = c.new.ensures ∙ ap (λ l. l.items) v.tiled-is ∙ v.in_ok-tiled-2.ensures.made ∙ ap (tiled_row x.across x.width x.depth) v.into_vec.ensures in
+          let enough : x.left - 1 ≤ length rest = omega (arith, c.pop_front.new.self.ok) in
+          given_of_queue w row c.new.result rest rest (x.left - 1) queue more is (inr (refl, enough)) ∙ ap back (sym v.self-inside-is)
     ]
