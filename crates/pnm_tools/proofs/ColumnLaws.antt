@@ -1,10 +1,9 @@
 -- Columns that are made side by side.
-use Rattle.std.proofs.Common.{◌≡◌, ℕ, zero, suc, ◌+◌, ◌*◌, ◌<◌, ◌≤◌, List, [], ◌∷◌, ◌++◌, map, length, take, drop, reverse, get_or, slice_index_or, Vec, vec_len, vec_capacity, Global, refl, ap, sym, subst, ◌∙◌, arith, append_assoc, append-nil, suc-mul, mul-le-mul}
-use Rattle.std.specs.List.{flat_map, range_with_len}
-use Rattle.std.proofs.lemmas.Grind.{flat_map-append}
-use Rattle.std.proofs.lemmas.List.{drop-drop, take_all, take_more, length-append, length-take, length-take-le, length-map, get_or-map, map-append, same_lists, reverse-append}
+use Rattle.std.proofs.Common.{◌≡◌, ℕ, suc, ◌+◌, ◌*◌, ◌<◌, ◌≤◌, List, [], ◌∷◌, ◌++◌, map, length, take, drop, reverse, get_or, Vec, vec_capacity, Global, refl, ap, sym, subst, ◌∙◌, arith, append-nil, suc-mul, mul-le-mul}
+use Rattle.std.specs.List.{range_with_len}
+use Rattle.std.proofs.lemmas.List.{take_all, length-append, length-take, length-take-le, length-map, get_or-map, same_lists}
 use Rattle.std.proofs.lemmas.List.FromFn.{get_or-map-range_with_len, length-map-range_with_len}
-use Rattle.pnm_tools.specs.Columns.{AreEmpty, HaveRoom, HavePixels}
+use Rattle.pnm_tools.specs.Columns.{HaveRoom}
 use Rattle.pnm_tools.specs.Flip.{column_of}
 use Rattle.pnm_tools.specs.Pixels.{pixel_of}
 

@@ -1,7 +1,7 @@
 -- The head of a tiled image, and what a tiler answers.
-use Rattle.std.proofs.Common.{◌≡◌, ◌⊎◌, inl, inr, ℕ, ◌*◌, ◌%◌, ◌<◌, ◌≤◌, Bool, false, List, [], map, length, slice_index_or, ◌==◌, if◌then◌else◌, OnOk, IfOk, Result, Ok, Err, sym, ap, refl, ◌∙◌, arith}
+use Rattle.std.proofs.Common.{◌≡◌, ℕ, ◌*◌, ◌%◌, ◌≤◌, Bool, false, List, [], map, length, slice_index_or, ◌==◌, if◌then◌else◌, OnOk, IfOk, Result, Ok, Err, sym, ap, refl, ◌∙◌, arith}
 use Rattle.std.specs.List.{range_with_len}
-use Rattle.std.proofs.lemmas.Bool.{ne_eqb, cases_eq}
+use Rattle.std.proofs.lemmas.Bool.{ne_eqb}
 use Rattle.std.proofs.lemmas.Bool.Decides.{nat_tests}
 use Rattle.pnm_image.specs.declared.shape.Shape.{Shape}
 use Rattle.pnm_image.specs.Heads.{Header, header_of, row_length}

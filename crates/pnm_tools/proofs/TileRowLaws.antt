@@ -1,5 +1,5 @@
 -- A row side by side: a front of it that ends with a whole copy goes on as it begins.
-use Rattle.std.proofs.Common.{min, ◌≡◌, ◌⊎◌, inl, inr, ℕ, zero, suc, ◌+◌, ◌-◌, ◌*◌, ◌/◌, ◌%◌, ◌<◌, ◌≤◌, List, [], ◌++◌, length, take, drop, ap, sym, refl, ◌∙◌, arith, append_assoc, suc-mul, zero-mul, mul-le-mul}
+use Rattle.std.proofs.Common.{min, ◌≡◌, ◌⊎◌, inl, inr, ℕ, zero, suc, ◌+◌, ◌-◌, ◌*◌, ◌/◌, ◌%◌, ◌<◌, ◌≤◌, List, ◌++◌, length, take, drop, ap, sym, refl, ◌∙◌, arith, append_assoc, suc-mul, zero-mul, mul-le-mul}
 use Rattle.std.specs.List.{flat_map, range_with_len}
 use Rattle.std.proofs.Math.Nat.{mod_self, mod-eq_of_lt, mod-lt, div-add-mod, add-mul-mod_self_left}
 use Rattle.std.proofs.lemmas.Bool.{cases_eq, cases_lt}

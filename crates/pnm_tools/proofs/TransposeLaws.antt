@@ -1,5 +1,5 @@
 -- The rows that a transposer has still to give.
-use Rattle.std.proofs.Common.{◌≡◌, ◌⊎◌, inl, inr, ℕ, zero, suc, ◌+◌, ◌-◌, ◌<◌, ◌≤◌, List, [], ◌∷◌, ◌++◌, map, reverse, length, Bool, true, false, ◌==◌, ◌*◌, if◌then◌else◌, Result, Ok, Err, refl, ap, sym, ◌∙◌, arith, append_assoc, append-nil, Option, Some, None}
+use Rattle.std.proofs.Common.{◌≡◌, ℕ, zero, suc, ◌+◌, ◌-◌, ◌≤◌, List, [], ◌∷◌, ◌++◌, map, reverse, length, Bool, true, false, ◌==◌, ◌*◌, if◌then◌else◌, Ok, Err, refl, ap, sym, ◌∙◌, arith, append-nil, Option, Some, None}
 use Rattle.std.specs.Option.{option_to_list}
 use Rattle.std.proofs.lemmas.Bool.{eqb-true}
 use Rattle.std.specs.List.{range_with_len}
@@ -7,7 +7,6 @@ use Rattle.std.proofs.lemmas.List.{nil_from_length, reverse-append, reverse-reve
 use Rattle.std.proofs.lemmas.List.Elements.{All-nil}
 use Rattle.pnm_image.specs.Heads.{Header, IsWithinLimits, row_length}
 use Rattle.pnm_image.specs.declared.shape.Shape.{Shape}
-use Rattle.pnm_tools.specs.declared.fault.ToolFault.{ToolFault}
 use Rattle.pnm_tools.specs.declared.fault.ToolFault.TheVariants.{OutOfOrder, TooLarge}
 use Rattle.pnm_tools.specs.declared.tool.Tool.TheVariants.{Flip}
 use Rattle.pnm_tools.specs.declared.flip.FlipWay.TheVariants.{Transpose}

@@ -1,4 +1,4 @@
-use Rattle.std.proofs.Common.{rules, ◌≡◌, ◌+◌, ◌-◌, ◌*◌, ◌<◌, ◌++◌, length, take, min, arith, ap, length-append, length-take}
+use Rattle.std.proofs.Common.{rules, ◌≡◌, ◌-◌, ◌*◌, ◌<◌, ◌++◌, length, take, min, arith}
 use Rattle.pnm_tools.proofs.TileRowLaws.{front_begins, front_grows, front_stands, front_is_all, longer_front}
 use Rattle.pnm_tools.proofs.tile.tile.Goals as goal
 

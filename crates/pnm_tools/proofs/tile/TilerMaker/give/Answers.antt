@@ -1,4 +1,4 @@
-use Rattle.std.proofs.Common.{rules, ◌≡◌, ◌⊎◌, inl, inr, ℕ, suc, ◌-◌, ◌≤◌, List, [], ◌∷◌, ◌++◌, length, refl, ap, subst, sym, ◌∙◌, arith}
+use Rattle.std.proofs.Common.{rules, ◌≡◌, inl, inr, suc, ◌-◌, ◌≤◌, ◌∷◌, length, refl, ap, subst, sym, ◌∙◌, arith}
 use Rattle.pnm_tools.specs.declared.tile.Tiler.TheInside.{Inside}
 use Rattle.pnm_tools.specs.Keeping.{HasTiles, tiled, tiled_due}
 use Rattle.pnm_tools.specs.Tile.{tiled_row}

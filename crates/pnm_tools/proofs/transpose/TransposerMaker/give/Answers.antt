@@ -1,9 +1,7 @@
-use Rattle.std.proofs.Common.{rules, ◌≡◌, ◌≤◌, ◌<◌, ◌+◌, ◌*◌, ◌++◌, [], length, map, reverse, vec_len, ap, sym, ◌∙◌, arith}
+use Rattle.std.proofs.Common.{◌≡◌, ◌≤◌, ◌<◌, ◌+◌, ◌*◌, [], length, map, reverse, vec_len, ap, sym, ◌∙◌, arith}
 use Rattle.std.specs.List.{range_with_len}
-use Rattle.std.proofs.lemmas.List.{nil_from_length}
 use Rattle.pnm_tools.specs.Flip.{column_of}
 use Rattle.pnm_tools.specs.declared.transpose.Transposer.TheInside.{Inside}
-use Rattle.pnm_tools.specs.Answering.{row_list}
 use Rattle.pnm_tools.specs.Keeping.{transposed, transposed_due}
 use Rattle.pnm_tools.proofs.TransposeLaws.{band_made, last_given, no_items}
 use Rattle.pnm_tools.proofs.transpose.TransposerMaker.give.Goals as goal
