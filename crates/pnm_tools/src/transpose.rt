@@ -173,7 +173,7 @@ fn add_pixels(columns: &mut [Vec<u16>], row: &[u16], depth: usize)
     }
 }
 
-/// The same where each pixel is one sample, which takes a third less time so.
+/// The same where each pixel is one sample, without a loop over its samples.
 fn add_samples(columns: &mut [Vec<u16>], row: &[u16])
     requires row { length columns.old ≤ length row.now }
     requires room { HaveRoom 1 columns.old }
