@@ -1,13 +1,12 @@
 -- The rows of a tiled image that are due.
-use Rattle.std.proofs.Common.{◌≡◌, ◌⊎◌, inl, inr, ℕ, zero, suc, ◌+◌, ◌*◌, ◌/◌, ◌%◌, ◌<◌, ◌≤◌, List, [], ◌∷◌, ◌++◌, map, length, take, get_or, slice_index_or, All, refl, ap, subst, sym, ◌∙◌, arith}
+use Rattle.std.proofs.Common.{◌≡◌, ◌⊎◌, inl, inr, ℕ, zero, suc, ◌+◌, ◌*◌, ◌/◌, ◌%◌, ◌<◌, ◌≤◌, List, [], ◌∷◌, ◌++◌, map, length, take, get_or, slice_index_or, refl, ap, sym, ◌∙◌, arith}
 use Rattle.std.specs.List.{range_with_len}
 use Rattle.std.proofs.Math.Nat.{mod-eq_of_lt, mod-lt, mod_self, zero-mod, div-add-mod, add-mul-mod_self_left}
 use Rattle.std.proofs.lemmas.Bool.{cases_lt}
-use Rattle.std.proofs.lemmas.List.{get_or-take, get_or_append_left, get_or_at, length-append, length-take, length-take-le, take_all}
-use Rattle.std.proofs.lemmas.List.Elements.{All-take}
+use Rattle.std.proofs.lemmas.List.{get_or-take, get_or_append_left, get_or_at, length-append, length-take-le, take_all}
+use Rattle.std.proofs.lemmas.List.Elements.{All-head, All-push, All-rest, All-same}
 use Rattle.pnm_image.specs.declared.shape.Shape.{Shape}
-use Rattle.pnm_image.specs.Heads.{row_length}
-use Rattle.pnm_tools.specs.Keeping.{Tiled, tiled, tiled_due, HasTiles, IsTiling}
+use Rattle.pnm_tools.specs.Keeping.{Tiled, tiled, tiled_due, HasTiles}
 use Rattle.pnm_tools.specs.Tile.{tiled_row, tiled_at_end}
 use Rattle.pnm_tools.proofs.FormulaLaws.{range_alike}
 
@@ -30,18 +29,9 @@ due_at_end across down s rows come kept count =
     range_alike (λ y. tiled_row across s.width s.depth (get_or rows (y % length rows) [])) (λ y. tiled_row across s.width s.depth (get_or come (y % s.height) [])) 0 down
     (λ y lt. ap (tiled_row across s.width s.depth) (kept_row down s.height y rows come kept count (omega arith) (cases_lt down s.height)))
 
--- once an image that has rows has ended there are rows to give
-pub tiles_at_end : (w : Tiled) (s : Shape) (come : List (List ℕ)) → IsTiling w s come → length come ≡ s.height → 0 < s.height → 0 < w.down
-    → HasTiles (tiled w.across w.down s.width s.depth w.rows w.down)
-tiles_at_end w s come ready count some wanted = record {
-  some = omega (arith, ap length ready.rows, length-take w.down come);
-  lengths = subst (All (λ row. length row ≡ row_length s)) (sym ready.rows) (All-take (λ row. length row ≡ row_length s) w.down come ready.lengths);
-  width = ready.limits.width_low;
-  filled = ready.filled;
-}
-
 -- ---- the queue of rows
 
+-- alike, number by number
 map_alike : (f g : ℕ → List ℕ) (a b n : ℕ) → ((i : ℕ) → i < n → f (a + i) ≡ g (b + i)) → map f (range_with_len a n) ≡ map g (range_with_len b n)
 map_alike f g a b zero same = refl
 map_alike f g a b (suc n) same =
@@ -59,6 +49,7 @@ next_remainder y n =
     let copies : y % n + 1 + n * (y / n) ≡ y + 1 = omega (arith, div-add-mod y n) in
     ap (λ (k : ℕ). k % n) (sym copies) ∙ add-mul-mod_self_left (y % n + 1) n (y / n)
 
+-- the row after the one with this number, once the first went to the end
 abbrev next_row : List ℕ → List (List ℕ) → ℕ → Type 0
 next_row row rest r = get_or (row ∷ rest) ((r + 1) % suc (length rest)) [] ≡ get_or (rest ++ row ∷ []) r []
 
@@ -74,6 +65,7 @@ next_in_turn row rest r (inr le) below =
     ap (λ (k : ℕ). get_or (row ∷ rest) (k % suc (length rest)) []) more ∙ ap (λ (k : ℕ). get_or (row ∷ rest) k []) (mod_self (suc (length rest)))
     ∙ sym (get_or_at rest row [] [] r (sym last))
 
+-- the row of the result with this number
 abbrev row_by : ℕ → ℕ → ℕ → List (List ℕ) → ℕ → List ℕ
 row_by across width depth rows y = tiled_row across width depth (get_or rows (y % length rows) [])
 
@@ -121,3 +113,22 @@ given_of_queue w row made rest rows left queue more is (inr last) =
     ∙ given_last w.across w.down w.width w.depth left row rest last.1
     ∙ ap (λ (l : List ℕ). l ∷ tiled_due (tiled w.across w.down w.width w.depth rest left)) (sym is)
     ∙ ap (λ (l : List (List ℕ)). made ∷ tiled_due (tiled w.across w.down w.width w.depth l left)) (sym last.0)
+
+-- the rows that are left are still rows of the image, and there are some where one is due
+pub tiles_left : (w : Tiled) (row : List ℕ) (rest rows : List (List ℕ)) (left : ℕ) → HasTiles w → w.rows ≡ row ∷ rest → ((rows ≡ rest ++ row ∷ []) ⊎ ((rows ≡ rest) × (left ≤ length rest))) → 0 < left
+    → HasTiles (tiled w.across w.down w.width w.depth rows left)
+tiles_left w row rest rows left h queue (inl again) more =
+    let P : List ℕ → Type 0 = λ r. length r ≡ w.width * w.depth in
+    let first : P row = All-head P row rest (All-same P (row ∷ rest) w.rows (sym queue) h.lengths) in
+    record {
+      some = omega (arith, ap length again, length-append rest (row ∷ []));
+      lengths = All-same P rows (rest ++ row ∷ []) again (All-push P rest row (All-rest P row rest w.rows queue h.lengths) first);
+      width = h.width;
+      filled = h.filled;
+    }
+tiles_left w row rest rows left h queue (inr last) more = record {
+  some = omega (arith, ap length last.0, last.1);
+  lengths = All-same (λ r. length r ≡ w.width * w.depth) rows rest last.0 (All-rest (λ r. length r ≡ w.width * w.depth) row rest w.rows queue h.lengths);
+  width = h.width;
+  filled = h.filled;
+}

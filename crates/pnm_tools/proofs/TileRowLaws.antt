@@ -42,6 +42,7 @@ length_of_equals f d a (suc n) long =
 
 -- ---- pixels of a row
 
+-- a front in two parts
 take_parts : (a b : ℕ) (xs : List ℕ) → take (a + b) xs ≡ take a xs ++ take b (drop a xs)
 take_parts a b xs = sym (take-append-drop a (take (a + b) xs)) ∙ ap (λ (l : List ℕ). l ++ drop a (take (a + b) xs)) (take-take a (a + b) xs (omega arith)) ∙ ap (λ (l : List ℕ). take a xs ++ l) (drop-take a b xs)
 
@@ -71,6 +72,7 @@ pixel_is_whole width depth row x lt long =
     let below : suc x * depth ≤ width * depth = mul-le-mul {n₁ = suc x} {m₁ = depth} {n₂ = width} {m₂ = depth} (omega arith) (omega arith) in
     length-take-le depth (drop (x * depth) row) (omega (arith, length-drop (x * depth) row, below, suc-mul x depth))
 
+-- each pixel has all its samples
 pub length_tiled : (n width depth : ℕ) (row : List ℕ) → 0 < width → length row ≡ width * depth → length (tiled_row n width depth row) ≡ n * depth
 length_tiled n width depth row some long =
     length_of_equals (λ x. pixel_of depth row (x % width)) depth 0 n (λ x. pixel_is_whole width depth row (x % width) (mod-lt x some) long)
@@ -81,6 +83,7 @@ same_column k i width whole =
     let copies : i + width * (k / width) ≡ k + i = omega (arith, div-add-mod k width) in
     ap (λ (n : ℕ). n % width) (sym copies) ∙ add-mul-mod_self_left i width (k / width)
 
+-- behind whole copies the row goes on as it begins
 tiled_more : (k j width depth : ℕ) (row : List ℕ) → k % width ≡ 0 → tiled_row (k + j) width depth row ≡ tiled_row k width depth row ++ tiled_row j width depth row
 tiled_more k j width depth row whole =
     let f : ℕ → List ℕ = λ x. pixel_of depth row (x % width) in
@@ -107,9 +110,11 @@ pub record IsTiledFront (across width depth : ℕ) (row items : List ℕ) : Type
   pub whole : count < across → count % width ≡ 0
   pub some : 0 < across → 0 < count
 
+-- so many pixels of so many samples each
 scaled : (a b d : ℕ) → a ≤ b → a * d ≤ b * d
 scaled a b d le = mul-le-mul {n₁ = a} {m₁ = d} {n₂ = b} {m₂ = d} le (omega arith)
 
+-- the fewer pixels have the fewer samples
 min_scaled : (a b d : ℕ) → (b < a) ⊎ (a ≤ b) → min (a * d) (b * d) ≡ min a b * d
 min_scaled a b d (inr le) =
     let below : a * d ≤ b * d = scaled a b d le in
@@ -130,6 +135,7 @@ front_begins across width depth n row items some long least made = record {
   some = λ there. omega arith;
 }
 
+-- where a sample is missing a pixel has samples
 depth_there : (across depth n : ℕ) → n < across * depth → (depth ≡ 0) ⊎ (depth ≡ 0 → ⊥) → 0 < depth
 depth_there across depth n lt (inl none) = absurd (omega (arith, ap (λ (d : ℕ). across * d) none))
 depth_there across depth n lt (inr some) = omega arith

@@ -64,6 +64,7 @@ no_items xs n count found = nil_from_length xs (sym count ∙ eqb-true n 0 (sym 
 
 -- ---- the head
 
+-- a head that is made is not too large
 not_large : (b c : Bool) (x made : Header) → (if b then Err OutOfOrder else if c then Err TooLarge else Ok x) ≡ Ok made → c ≡ false
 not_large true c x made e = absurd cc
 not_large false true x made e = absurd cc

@@ -132,7 +132,11 @@ fn band_of(
 {
     let mut columns = empty_columns(alloc, count, rows.len() * depth)?;
     for row in rows {
-        add_pixels(columns.as_mut_slice(), &row.as_slice()[first * depth..], depth);
+        add_pixels(
+            columns.as_mut_slice(),
+            &row.as_slice()[first * depth..],
+            depth,
+        );
     }
     let mut band = Vec::with_capacity(alloc, count)?;
     while let Some(column) = columns.pop() {
@@ -159,10 +163,24 @@ fn add_pixels(columns: &mut [Vec<u16>], row: &[u16], depth: usize)
     requires room { HaveRoom depth columns.old }
     ensures { HavePixels (length columns.old) depth row.now columns.old columns.new }
 {
+    if depth == 1 {
+        return add_samples(columns, row);
+    }
     let mut x = 0;
     for column in columns.iter_mut() {
         add_pixel(column, &row[x..x + depth]);
         x += depth;
+    }
+}
+
+/// The same where each pixel is one sample, without a loop over its samples.
+fn add_samples(columns: &mut [Vec<u16>], row: &[u16])
+    requires row { length columns.old ≤ length row.now }
+    requires room { HaveRoom 1 columns.old }
+    ensures { HavePixels (length columns.old) 1 row.now columns.old columns.new }
+{
+    for (x, column) in columns.iter_mut().enumerate() {
+        column.push_reserved(row[x]);
     }
 }
 

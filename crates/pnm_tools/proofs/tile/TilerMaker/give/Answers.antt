@@ -1,10 +1,26 @@
-use Rattle.std.proofs.Common.{rules, ◌≡◌, inl, inr, suc, ◌-◌, ◌≤◌, ◌∷◌, length, refl, ap, sym, ◌∙◌, arith}
+use Rattle.std.proofs.Common.{rules, ◌≡◌, inl, inr, suc, ◌-◌, ◌≤◌, ◌∷◌, length, refl, ap, subst, sym, ◌∙◌, arith}
 use Rattle.pnm_tools.specs.declared.tile.Tiler.TheInside.{Inside}
-use Rattle.pnm_tools.specs.Keeping.{tiled, tiled_due}
+use Rattle.pnm_tools.specs.Keeping.{HasTiles, tiled, tiled_due}
 use Rattle.pnm_tools.specs.Tile.{tiled_row}
-use Rattle.pnm_tools.proofs.TileDueLaws.{given_of_queue}
+use Rattle.pnm_tools.proofs.TileDueLaws.{given_of_queue, tiles_left}
 use Rattle.pnm_tools.proofs.tile.TilerMaker.give.Goals as goal
 use Rattle.pnm_tools.proofs.tile.TilerMaker.give.Goals.{then-len-left+in_ok-tiled+in_ok-push_back, else-len-left+in_ok-tiled-2}
+
+pub invariant_of-self-2 : goal.invariant_of-self-2
+invariant_of-self-2 c = λ more.
+    let x = c.self.inside in
+    let w = tiled x.across x.down x.width x.depth x.rows.items x.left in
+    let rest = c.pop_front.new.self.items in
+    let row = c.in-Some.row in
+    let queue : x.rows.items ≡ row ∷ rest = search rules in
+    let tiles : HasTiles w = c.self.invariant (omega arith) in
+    let back = λ (i : Inside). HasTiles (tiled i.across i.down i.width i.depth i.rows.items (x.left - 1)) in
+    elim c.if-len-left.branch [
+      | then-len-left+in_ok-tiled+in_ok-push_back v ↦ subst back (sym v.self-inside-is) (tiles_left w row rest v.push_back.new.self.items (x.left - 1) tiles queue (inl v.in_ok-push_back.ensures.items) more)
+      | else-len-left+in_ok-tiled-2 v ↦
+          let enough : x.left - 1 ≤ length rest = omega (arith, c.pop_front.new.self.ok) in
+          subst back (sym v.self-inside-is) (tiles_left w row rest rest (x.left - 1) tiles queue (inr (refl, enough)) more)
+    ]
 
 pub returns-clause-due : goal.returns-clause-due
 returns-clause-due c =

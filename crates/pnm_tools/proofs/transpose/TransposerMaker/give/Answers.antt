@@ -22,11 +22,11 @@ returns-clause-due c =
     let given = last_given y.depth y.next y.columns y.rows.items y.band.items c.pop.new.self.items c.pop.result c.pop.ensures.items in
     ap transposed_due (sym c.self.view_is) ∙ elim c.if-is_empty.branch [
       | then-is_empty+then-self+in_ok-self-inside w ↦
-        let empty : x.band.items ≡ [] = no_items x.band.items (vec_len x.band) x.band.ok.0 w.if-is_empty.ensures in
-        let within : x.next + w.min-count.result ≤ x.columns = omega arith in
-        let made = w.in_ok-self-inside.ensures.made ∙ ap (λ l. reverse (map (column_of x.depth l) (range_with_len x.next w.min-count.result))) w.as_slice.ensures.value in
-        ap (λ l. transposed_due (transposed x.depth x.rows.items l x.next x.columns)) empty
-        ∙ band_made x.depth x.next x.columns w.min-count.result x.rows.items w.in_ok-self-inside.field-0.items within made
-        ∙ ap (λ (i : Inside). transposed_due (transposed i.depth i.rows.items i.band.items i.next i.columns)) (sym w.self-inside-is) ∙ given
+          let empty : x.band.items ≡ [] = no_items x.band.items (vec_len x.band) x.band.ok.0 w.if-is_empty.ensures in
+          let within : x.next + w.min-count.result ≤ x.columns = omega arith in
+          let made = w.in_ok-self-inside.ensures.made ∙ ap (λ l. reverse (map (column_of x.depth l) (range_with_len x.next w.min-count.result))) w.as_slice.ensures.value in
+          ap (λ l. transposed_due (transposed x.depth x.rows.items l x.next x.columns)) empty
+          ∙ band_made x.depth x.next x.columns w.min-count.result x.rows.items w.in_ok-self-inside.field-0.items within made
+          ∙ ap (λ (i : Inside). transposed_due (transposed i.depth i.rows.items i.band.items i.next i.columns)) (sym w.self-inside-is) ∙ given
       | else-is_empty w ↦ ap (λ (i : Inside). transposed_due (transposed i.depth i.rows.items i.band.items i.next i.columns)) (sym w.self-inside-is) ∙ given
     ]
