@@ -1,12 +1,13 @@
 -- The rows of a tiled image that are due.
-use Rattle.std.proofs.Common.{◌≡◌, ◌⊎◌, inl, inr, ℕ, zero, suc, ◌+◌, ◌*◌, ◌/◌, ◌%◌, ◌<◌, ◌≤◌, List, [], ◌∷◌, ◌++◌, map, length, take, get_or, slice_index_or, refl, ap, sym, ◌∙◌, arith}
+use Rattle.std.proofs.Common.{◌≡◌, ◌⊎◌, inl, inr, ℕ, zero, suc, ◌+◌, ◌*◌, ◌/◌, ◌%◌, ◌<◌, ◌≤◌, List, [], ◌∷◌, ◌++◌, map, length, take, get_or, slice_index_or, All, refl, ap, sym, subst, ◌∙◌, arith}
 use Rattle.std.specs.List.{range_with_len}
 use Rattle.std.proofs.Math.Nat.{mod-eq_of_lt, mod-lt, mod_self, zero-mod, div-add-mod, add-mul-mod_self_left}
 use Rattle.std.proofs.lemmas.Bool.{cases_lt}
-use Rattle.std.proofs.lemmas.List.{get_or-take, get_or_append_left, get_or_at, length-append, length-take-le, take_all}
-use Rattle.std.proofs.lemmas.List.Elements.{All-head, All-push, All-rest, All-same}
+use Rattle.std.proofs.lemmas.List.{get_or-take, get_or_append_left, get_or_at, length-append, length-take, length-take-le, take_all}
+use Rattle.std.proofs.lemmas.List.Elements.{All-head, All-push, All-rest, All-same, All-take}
 use Rattle.pnm_image.specs.declared.shape.Shape.{Shape}
-use Rattle.pnm_tools.specs.Keeping.{Tiled, tiled, tiled_due, HasTiles}
+use Rattle.pnm_image.specs.Heads.{row_length}
+use Rattle.pnm_tools.specs.Keeping.{Tiled, tiled, tiled_due, HasTiles, IsTiling}
 use Rattle.pnm_tools.specs.Tile.{tiled_row, tiled_at_end}
 use Rattle.pnm_tools.proofs.FormulaLaws.{range_alike}
 
@@ -28,6 +29,16 @@ pub due_at_end : (across down : ℕ) (s : Shape) (rows come : List (List ℕ)) �
 due_at_end across down s rows come kept count =
     range_alike (λ y. tiled_row across s.width s.depth (get_or rows (y % length rows) [])) (λ y. tiled_row across s.width s.depth (get_or come (y % s.height) [])) 0 down
     (λ y lt. ap (tiled_row across s.width s.depth) (kept_row down s.height y rows come kept count (omega arith) (cases_lt down s.height)))
+
+-- once an image that has rows has ended there are rows to give
+pub tiles_at_end : (w : Tiled) (s : Shape) (come : List (List ℕ)) → IsTiling w s come → length come ≡ s.height → 0 < s.height → 0 < w.down
+    → HasTiles (tiled w.across w.down s.width s.depth w.rows w.down)
+tiles_at_end w s come ready count some wanted = record {
+  some = omega (arith, ap length ready.rows, length-take w.down come);
+  lengths = subst (All (λ row. length row ≡ row_length s)) (sym ready.rows) (All-take (λ row. length row ≡ row_length s) w.down come ready.lengths);
+  width = ready.limits.width_low;
+  filled = ready.filled;
+}
 
 -- ---- the queue of rows
 

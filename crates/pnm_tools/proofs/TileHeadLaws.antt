@@ -1,5 +1,5 @@
 -- The head of a tiled image, and what a tiler answers.
-use Rattle.std.proofs.Common.{◌≡◌, ℕ, ◌*◌, ◌%◌, ◌≤◌, Bool, false, List, [], map, length, slice_index_or, ◌==◌, if◌then◌else◌, OnOk, IfOk, Result, Ok, Err, sym, ap, refl, ◌∙◌, arith}
+use Rattle.std.proofs.Common.{◌≡◌, ◌⊎◌, inl, inr, ℕ, ◌*◌, ◌%◌, ◌<◌, ◌≤◌, Bool, false, List, [], map, length, slice_index_or, ◌==◌, if◌then◌else◌, OnOk, IfOk, Result, Ok, Err, sym, ap, refl, ◌∙◌, arith}
 use Rattle.std.specs.List.{range_with_len}
 use Rattle.std.proofs.lemmas.Bool.{ne_eqb}
 use Rattle.std.proofs.lemmas.Bool.Decides.{nat_tests}
@@ -56,3 +56,8 @@ tiled_row_small across down s t x (Err fault) same shape h = tt
 -- nothing is due before the image has ended
 pub none_due : (w : Tiled) → w.left ≡ 0 → tiled_due w ≡ []
 none_due w e = ap (λ (n : ℕ). map (λ y. tiled_row w.across w.width w.depth (slice_index_or w.rows (y % length w.rows) [])) (range_with_len 0 n)) e
+
+-- an image whose tiled head is made has rows
+pub tiled_has_rows : (across down : ℕ) (head made : Header) → result_head (Tile across down) head ≡ Ok made → (head.shape.height ≡ 0) ⊎ (head.shape.height ≡ 0 → ⊥) → 0 < head.shape.height
+tiled_has_rows across down head made e (inl none) = let refused = tiled_without_rows across down head none in absurd cc
+tiled_has_rows across down head made e (inr some) = omega arith
