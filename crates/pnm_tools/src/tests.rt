@@ -5,6 +5,8 @@ mod channel;
 mod copies;
 mod cut;
 mod depth;
+mod enlarge;
+mod formulas;
 mod lawful;
 mod memory;
 mod parts;
