@@ -6,6 +6,7 @@ mod copies;
 mod cut;
 mod depth;
 mod enlarge;
+mod flip;
 mod formulas;
 mod lawful;
 mod memory;

@@ -237,3 +237,16 @@ pub(super) fn refuses_heads(
     }
     Ok(())
 }
+
+/// The head rule of the tool gives each of these heads back.
+pub(super) fn keeps_heads(
+    rt: &impl Abort,
+    alloc: Global,
+    tool: &Tool,
+    parts: &[Part<'_>],
+) -> Result<(), Fail> {
+    for part in parts {
+        gives_heads(rt, alloc, tool, &[(*part, Ok(*part))])?;
+    }
+    Ok(())
+}
