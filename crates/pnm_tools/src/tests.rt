@@ -14,3 +14,4 @@ mod parts;
 mod protocol;
 mod rows;
 mod texts;
+mod tile;
