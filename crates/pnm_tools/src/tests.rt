@@ -13,5 +13,7 @@ mod memory;
 mod parts;
 mod protocol;
 mod rows;
+mod streams;
 mod texts;
 mod tile;
+mod whole;

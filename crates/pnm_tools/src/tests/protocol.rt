@@ -33,7 +33,7 @@ fn examples(alloc: Global) -> Result<[Example; 4], Fail> {
 }
 
 /// The tool answers nothing more: `next` is `None` however often it is asked.
-fn gives_nothing(rt: &impl Abort, state: &mut ToolState) {
+pub(super) fn gives_nothing(rt: &impl Abort, state: &mut ToolState) {
     for _ in 0..3 {
         let answer = state.next();
         assert!(rt; matches!(answer, Ok(None)), "at {answer:?}");
@@ -41,7 +41,7 @@ fn gives_nothing(rt: &impl Abort, state: &mut ToolState) {
 }
 
 /// The next answer is made of this.
-fn gives(rt: &impl Abort, state: &mut ToolState, want: Part<'_>) {
+pub(super) fn gives(rt: &impl Abort, state: &mut ToolState, want: Part<'_>) {
     let answer = state.next();
     assert!(rt;
         matches!(&answer, Ok(Some(message)) if is_made_of(message, want)),
@@ -50,7 +50,7 @@ fn gives(rt: &impl Abort, state: &mut ToolState, want: Part<'_>) {
 }
 
 /// The tool after these parts, all of whose answers were taken.
-fn after(alloc: Global, tool: &Tool, parts: &[Part<'_>]) -> Result<ToolState, Fail> {
+pub(super) fn after(alloc: Global, tool: &Tool, parts: &[Part<'_>]) -> Result<ToolState, Fail> {
     let mut state = start(alloc, tool)?;
     let mut given = Vec::new(alloc);
     for part in parts {
