@@ -466,7 +466,7 @@ fn takes_images_without_rows(rt: HostRuntime) -> Result<(), Fail> {
 #[test]
 fn fills_the_widest_row(rt: HostRuntime) -> Result<(), Fail> {
     let alloc = rt.alloc();
-    for (across, depth) in [(1_000_000, 1), (1_000_000, 16), (65_536, 256)] {
+    for (across, depth) in [(1_000_000_u32, 1_u16), (1_000_000, 16), (65_536, 256)] {
         let pixel: Vec<u16> = (0..depth).collect(alloc)?;
         let depth = u32::from(depth);
         let mut state = start(alloc, &Tool::Enlarge(across, 1))?;
