@@ -258,8 +258,8 @@ fn keeps_all_but_the_sizes(rt: HostRuntime) -> Result<(), Fail> {
     gives_heads(&rt, rt.alloc(), &Tool::Enlarge(2, 2), DOUBLED)
 }
 
-/// A result may have 1,000,000 columns, as many rows, and 16,777,216 samples a row, which is 256 times
-/// 65,536.
+/// A result may have 1,000,000 columns, as many rows, and 16,777,216 samples a row, which is 256
+/// times 65,536.
 const TWICE: &[HeadCase<'static>] = &[
     (
         Part::Begin(Kind::Gray, 500_000, 500_000, 9),
@@ -462,7 +462,8 @@ fn takes_images_without_rows(rt: HostRuntime) -> Result<(), Fail> {
     answers(&rt, rt.alloc(), &Tool::Enlarge(2, 2), NOT_ROW_WISE)
 }
 
-/// The most columns of a plane, and of 16, and the most samples: the row is the pixel again and again.
+/// The most columns of a plane, and of 16, and the most samples: the row is the pixel again and
+/// again.
 #[test]
 fn fills_the_widest_row(rt: HostRuntime) -> Result<(), Fail> {
     let alloc = rt.alloc();

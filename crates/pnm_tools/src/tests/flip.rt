@@ -181,8 +181,8 @@ fn exchanges_columns_and_rows(rt: HostRuntime) -> Result<(), Fail> {
     answers(&rt, alloc, &Tool::Flip(FlipWay::Transpose), TRANSPOSED)
 }
 
-/// Column x of the result shows column width - 1 - x, or row y shows row height - 1 - y, or column x
-/// shows row x.
+/// Column x of the result shows column width - 1 - x, or row y shows row height - 1 - y, or column
+/// x shows row x.
 #[test]
 fn follows_the_formula(rt: HostRuntime) -> Result<(), Fail> {
     for way in WAYS {
@@ -247,8 +247,8 @@ fn keeps_all_but_the_sizes(rt: HostRuntime) -> Result<(), Fail> {
     gives_heads(&rt, alloc, &transpose, TRANSPOSED_HEADS)
 }
 
-/// There may be as many rows as columns, but a row may have no more than 16,777,216 samples, which is
-/// 256 times 65,536; 17 times 986,895 is one less.
+/// There may be as many rows as columns, but a row may have no more than 16,777,216 samples, which
+/// is 256 times 65,536; 17 times 986,895 is one less.
 const TALL: &[HeadCase<'static>] = &[
     (
         Part::Begin(Kind::Gray, 1, 1_000_000, 9),

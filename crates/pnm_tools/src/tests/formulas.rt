@@ -1,5 +1,5 @@
-//! Images whose samples tell where they are, and what the formulas of the manual pages make of them,
-//! by column, row and plane.
+//! Images whose samples tell where they are, and what the formulas of the manual pages make of
+//! them, by column, row and plane.
 
 use super::parts::{Part, are_made_of, is_made_of, message, start, take_all};
 use crate::{Filter, FlipWay, Tool, ToolState};
@@ -11,8 +11,8 @@ use std::test::Fail;
 /// The columns, the rows and the planes of an image.
 pub(super) type Sizes = (u32, u32, u32);
 
-/// Images of one pixel, of one column, of one row, and of several of both; of one plane, of three and
-/// of the most.
+/// Images of one pixel, of one column, of one row, and of several of both; of one plane, of three
+/// and of the most.
 pub(super) const IMAGES: &[Sizes] = &[
     (1, 1, 1),
     (1, 1, 3),

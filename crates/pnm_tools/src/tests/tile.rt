@@ -171,8 +171,9 @@ fn fills_columns_and_rows(rt: HostRuntime) -> Result<(), Fail> {
     answers(&rt, alloc, &Tool::Tile(5, 4), PLANES)
 }
 
-/// Column x of the result shows column x mod width, and row y shows row y mod height. The images have
-/// from one column and row to five, so what is filled is less, as much, a multiple, and in between.
+/// Column x of the result shows column x mod width, and row y shows row y mod height. The images
+/// have from one column and row to five, so what is filled is less, as much, a multiple, and in
+/// between.
 #[test]
 fn follows_the_formula(rt: HostRuntime) -> Result<(), Fail> {
     for across in 1..12 {
@@ -313,8 +314,8 @@ fn judges_height_0_first(rt: HostRuntime) -> Result<(), Fail> {
     Ok(())
 }
 
-/// The most columns of one plane and of sixteen, and the most samples: pixels of one column or of three
-/// again and again. The samples of the image are 0, 1, 2 and so on.
+/// The most columns of one plane and of sixteen, and the most samples: pixels of one column or of
+/// three again and again. The samples of the image are 0, 1, 2 and so on.
 #[test]
 fn fills_the_widest_rows(rt: HostRuntime) -> Result<(), Fail> {
     let alloc = rt.alloc();

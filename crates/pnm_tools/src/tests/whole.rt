@@ -175,8 +175,8 @@ fn waits_after_each_row(rt: HostRuntime) -> Result<(), Fail> {
     Ok(())
 }
 
-/// Parts the last of which can't come: an image that doesn't begin or end where it may, a row too many,
-/// and rows of another length or beyond the maxval.
+/// Parts the last of which can't come: an image that doesn't begin or end where it may, a row too
+/// many, and rows of another length or beyond the maxval.
 const DISORDERS: &[&[Part<'static>]] = &[
     &[HEAD, HEAD],
     &[HEAD, Part::ImageEnd],

@@ -1,5 +1,5 @@
-//! Runs over chains of tools that pass images on, enlarge, flip or tile them, some of which keep an image
-//! until it has ended.
+//! Runs over chains of tools that pass images on, enlarge, flip or tile them, some of which keep an
+//! image until it has ended.
 
 use super::chains::{FROM_SECOND, channel, run_chain, runs};
 use super::run::padded;
@@ -239,16 +239,16 @@ fn runs_eight_tools_that_keep_images(rt: HostRuntime) {
     );
 }
 
-/// Images of other sizes and kinds: three columns and two rows, one column and three rows, two rows of nine
-/// bits, and one row of PAM.
+/// Images of other sizes and kinds: three columns and two rows, one column and three rows, two rows
+/// of nine bits, and one row of PAM.
 const SIZES: &[u8] =
     b"P5\n3 2\n9\n\x01\x02\x03\x04\x05\x06P6\n1 3\n9\n\x01\x02\x03\x04\x05\x06\x07\x08\x09P4\n9 2\n\x55\x00\x33\x00P7\nWIDTH 2\nHEIGHT 1\nDEPTH 2\nMAXVAL 300\nTUPLTYPE A B\nENDHDR\n\x00\x01\x00\x02\x01\x2c\x00\x04";
 
 const SIZES_TRANSPOSED: &[u8] =
     b"P5\n2 3\n9\n\x01\x04\x02\x05\x03\x06P6\n3 1\n9\n\x01\x02\x03\x04\x05\x06\x07\x08\x09P4\n2 9\n\x00\x80\x40\xc0\x00\x80\x40\xc0\x00P7\nWIDTH 1\nHEIGHT 2\nDEPTH 2\nMAXVAL 300\nTUPLTYPE A B\nENDHDR\n\x00\x01\x00\x02\x01\x2c\x00\x04";
 
-/// An image transposed twice is the image again, and so it is after four quarter turns and an even number
-/// of inversions.
+/// An image transposed twice is the image again, and so it is after four quarter turns and an even
+/// number of inversions.
 #[test]
 fn turns_images_back(rt: HostRuntime) -> Result<(), Fail> {
     let once = [Tool::Flip(FlipWay::Transpose)];
@@ -276,8 +276,8 @@ fn turns_images_back(rt: HostRuntime) -> Result<(), Fail> {
 /// An image of two columns and rows, and one of one column.
 const STREAM: &[u8] = b"P5\n2 2\n9\n\x01\x02\x03\x04P5\n1 2\n9\n\x05\x06";
 
-/// What tools make of the stream: the output, how much of it is the first result, and how much with the
-/// second header, and the rows of the first result and of both.
+/// What tools make of the stream: the output, how much of it is the first result, and how much with
+/// the second header, and the rows of the first result and of both.
 #[derive(Clone, Copy)]
 struct Results<'a> {
     output: &'a [u8],
@@ -319,8 +319,8 @@ const INVERTED_AND_BACK: Results<'static> = Results {
     rows: 3,
 };
 
-/// The stream cut at each byte: of an image that was begun the header alone is written, since its rows
-/// were kept, and the image before it is written whole.
+/// The stream cut at each byte: of an image that was begun the header alone is written, since its
+/// rows were kept, and the image before it is written whole.
 fn answers_cuts(rt: &impl Abort, alloc: Global, tools: &[Tool], results: Results<'_>) {
     for count in 0..25 {
         let (want, written) = match count {
