@@ -5,7 +5,6 @@ use Rattle.pnm_image.specs.declared.message.Message.{Message}
 use Rattle.pnm_image.specs.declared.place.Place.TheVariants.{Between}
 use Rattle.pnm_image.specs.Images.{Image, AreImages, messages_of_stream}
 use Rattle.pnm_image.specs.Messages.{IsMessage}
-use Rattle.pnm_image.specs.Places.{IsLawful}
 use Rattle.pnm_image.specs.Completion.{IsFrontOf, Completes}
 use Rattle.pnm_image.proofs.Streams.{completion, stream_is_messages, stream_is_lawful}
 use Rattle.pnm_tools.specs.declared.fault.ToolFault.{ToolFault}

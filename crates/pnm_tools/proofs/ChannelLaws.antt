@@ -1,5 +1,5 @@
 -- The picked image is what the rows of an image, each picked, are the messages of.
-use Rattle.std.proofs.Common.{◌≡◌, ℕ, zero, suc, ◌+◌, ◌*◌, ◌<◌, ◌≤◌, Bool, true, false, List, [], ◌∷◌, ◌++◌, map, length, slice_index, take, drop, Result, Ok, Err, refl, sym, ap, subst, ◌∙◌, arith, append-nil, mul_assoc, add-mul, mul-le-mul, suc-mul}
+use Rattle.std.proofs.Common.{◌≡◌, ℕ, zero, suc, ◌+◌, ◌*◌, ◌<◌, ◌≤◌, Bool, true, false, List, ◌++◌, map, length, slice_index, take, drop, Result, Ok, Err, refl, sym, ap, subst, ◌∙◌, arith, append-nil, mul_assoc, add-mul, mul-le-mul, suc-mul}
 use Rattle.std.specs.Prelude.{All, slice_index_or, if◌then◌else◌, nat_lt}
 use Rattle.std.specs.List.{flat_map, range_with_len, list_all}
 use Rattle.std.proofs.lemmas.Bool.{ltb-true}
@@ -8,9 +8,6 @@ use Rattle.std.proofs.lemmas.List.FromFn.{get_or-map-range_with_len, length-map-
 use Rattle.std.proofs.lemmas.List.Sums.{AllPass-from_list_all}
 use Rattle.std.proofs.lemmas.Simd.{map-map}
 use Rattle.pnm_image.specs.declared.shape.Shape.{Shape}
-use Rattle.pnm_image.specs.declared.message.Message.{Message}
-use Rattle.pnm_image.specs.declared.message.Message.TheVariants.{Row, ImageEnd}
-use Rattle.pnm_image.specs.declared.place.Place.TheVariants.{Inside}
 use Rattle.pnm_image.specs.Heads.{Header}
 use Rattle.pnm_image.specs.Images.{Image, rows_of}
 use Rattle.pnm_tools.specs.declared.fault.ToolFault.{ToolFault}
@@ -19,8 +16,7 @@ use Rattle.pnm_tools.specs.declared.tool.Tool.TheVariants.{Channel}
 use Rattle.pnm_tools.specs.Formulas.{image_by}
 use Rattle.pnm_tools.specs.Limits.{is_too_large, within_limits}
 use Rattle.pnm_tools.specs.Channel.{Picks, IsLawfulPick, HasPlanes, picked_header, picked_sample, picked_row}
-use Rattle.pnm_tools.specs.Tools.{result_head, result_sample, row_answer}
-use Rattle.pnm_tools.specs.Answering.{answered_from}
+use Rattle.pnm_tools.specs.Tools.{result_head, result_sample}
 use Rattle.pnm_tools.proofs.FormulaLaws.{columns, row_at, rows_are, rows_of-image_by, range_alike}
 use Rattle.pnm_tools.proofs.ImageLaws.{answers_to_rows, each_row_answered, result_by_head, answered_by_rows}
 use Rattle.pnm_tools.proofs.RowLaws.{row_of_channel}

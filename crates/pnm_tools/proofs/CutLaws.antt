@@ -1,14 +1,11 @@
 -- The cut image is what the rows of an image, each cut, are the messages of.
-use Rattle.std.proofs.Common.{◌≡◌, ℕ, zero, suc, ◌+◌, ◌-◌, ◌*◌, ◌<◌, ◌≤◌, Bool, true, false, ◌&&◌, ℤ, pos, negsuc, Option, Some, None, List, [], ◌∷◌, ◌++◌, map, length, slice_index, take, drop, Ok, Err, refl, sym, ap, subst, ◌∙◌, arith, append_assoc, append-nil, mul_assoc, add-mul, mul-le-mul, suc-mul}
+use Rattle.std.proofs.Common.{◌≡◌, ℕ, zero, suc, ◌+◌, ◌-◌, ◌*◌, ◌<◌, ◌≤◌, Bool, true, false, ◌&&◌, ℤ, pos, negsuc, Option, Some, None, List, [], ◌∷◌, ◌++◌, map, length, slice_index, take, drop, Ok, Err, refl, sym, ap, subst, ◌∙◌, arith, append-nil, mul_assoc, add-mul, mul-le-mul, suc-mul}
 use Rattle.std.specs.Prelude.{if◌then◌else◌, nat_le, nat_lt, ◌==◌}
 use Rattle.std.specs.List.{flat_map, range_with_len}
 use Rattle.std.proofs.lemmas.Bool.{leb-true, ltb-true, le-leb, lt-leb, and_from, and_left, and_right, and_parts}
 use Rattle.std.proofs.lemmas.Grind.{flat_map-append}
-use Rattle.std.proofs.lemmas.List.{drop-take, take-take, drop-drop, map-append, map-id}
+use Rattle.std.proofs.lemmas.List.{drop-take, take-take, drop-drop, map-id}
 use Rattle.pnm_image.specs.declared.shape.Shape.{Shape}
-use Rattle.pnm_image.specs.declared.message.Message.{Message}
-use Rattle.pnm_image.specs.declared.message.Message.TheVariants.{Row, ImageEnd}
-use Rattle.pnm_image.specs.declared.place.Place.TheVariants.{Inside}
 use Rattle.pnm_image.specs.Heads.{Header}
 use Rattle.pnm_image.specs.Images.{Image, IsImage, sample_at, rows_of}
 use Rattle.pnm_tools.specs.declared.cut.CutBox.{CutBox}
@@ -18,7 +15,6 @@ use Rattle.pnm_tools.specs.declared.tool.Tool.TheVariants.{Cut}
 use Rattle.pnm_tools.specs.Formulas.{image_by}
 use Rattle.pnm_tools.specs.Cut.{span_within, span_count, first_kept, last_kept, columns_kept, rows_kept, first_of, head_of_spans, columns_of_row, rows_of_spans, cut_rows_of}
 use Rattle.pnm_tools.specs.Tools.{result_head, result_sample, row_answer}
-use Rattle.pnm_tools.specs.Answering.{answered_from}
 use Rattle.pnm_tools.proofs.FormulaLaws.{columns, columns_at, row_at, rows_are, rows_of-image_by, range_alike}
 use Rattle.pnm_tools.proofs.ImageLaws.{answers_to_rows, numbered_rows_answered, result_by_head, answered_by_rows}
 use Rattle.pnm_tools.proofs.AnsweringLaws.{AnswersImages}

@@ -1,8 +1,57 @@
--- stub
-use Rattle.std.proofs.Common.{◌≡◌, ℕ, ◌≤◌}
-use Rattle.pnm_tools.specs.declared.flip.FlipWay.{FlipWay}
+-- The enlarged image is what the rows of an image, each enlarged, are the messages of.
+use Rattle.std.proofs.Common.{◌≡◌, ℕ, ◌+◌, ◌*◌, ◌/◌, ◌<◌, ◌≤◌, List, [], ◌∷◌, ◌++◌, Ok, refl, sym, ap, ◌∙◌, arith, append-nil}
+use Rattle.std.specs.List.{flat_map, range_with_len}
+use Rattle.std.proofs.Math.Nat.{div-lt_iff_lt-mul}
+use Rattle.std.proofs.lemmas.List.Folds.{flat_map-map}
+use Rattle.pnm_image.specs.declared.shape.Shape.{Shape}
+use Rattle.pnm_image.specs.Heads.{Header}
+use Rattle.pnm_image.specs.Images.{Image, IsImage, rows_of}
 use Rattle.pnm_tools.specs.declared.tool.Tool.TheVariants.{Enlarge}
+use Rattle.pnm_tools.specs.Formulas.{image_by}
+use Rattle.pnm_tools.specs.Pixels.{pixel_of}
+use Rattle.pnm_tools.specs.Enlarge.{enlarged_header, enlarged_sample, enlarged_row, enlarged_rows}
+use Rattle.pnm_tools.specs.Tools.{result_head, result_sample, row_answer}
+use Rattle.pnm_tools.proofs.FormulaLaws.{row_at, rows_are, range_alike}
+use Rattle.pnm_tools.proofs.ImageLaws.{result_by_head, answered_by_rows, answers_to_rows}
 use Rattle.pnm_tools.proofs.AnsweringLaws.{AnswersImages}
+use Rattle.pnm_tools.proofs.PixelLaws.{rows_by_pixels}
+use Rattle.pnm_tools.proofs.RangeLaws.{each_repeated, each_replicated}
+use Rattle.pnm_tools.proofs.WholeHeadLaws.{is_enlarged}
 
+-- the answers to rows
+rows_enlarged : (across down : ℕ) (s : Shape) (y : ℕ) (rows : List (List ℕ)) → answers_to_rows (Enlarge across down) s y rows ≡ flat_map (enlarged_rows across down s) rows
+unfolding row_answer
+rows_enlarged across down s y [] = refl
+rows_enlarged across down s y (row ∷ rows) = ap (λ (l : List (List ℕ)). enlarged_rows across down s row ++ l) (rows_enlarged across down s (y + 1) rows)
+
+-- a column or a row of the result is one of the image
+quotient_below : (x n count : ℕ) → 1 ≤ n → x < count * n → x / n < count
+quotient_below x n count some lt = (div-lt_iff_lt-mul {k = n} {x = x} {y = count} (omega arith)).1 lt
+
+-- the rows of the result
+rows_are_enlarged : (across down : ℕ) (i : Image) → 1 ≤ across → 1 ≤ down → IsImage i
+    → flat_map (enlarged_rows across down i.head.shape) (rows_of i) ≡ rows_of (image_by (enlarged_header across down i.head) (enlarged_sample across down i))
+rows_are_enlarged across down i wide high is =
+    let s : Shape = i.head.shape in
+    let row : ℕ → List ℕ = λ y. enlarged_row across s (row_at i y) in
+    ap (flat_map (enlarged_rows across down s)) (rows_are i)
+    ∙ flat_map-map (enlarged_rows across down s) (row_at i) (range_with_len 0 s.height)
+    ∙ sym (each_replicated row down s.height)
+    ∙ range_alike (λ y. row (y / down)) (λ y. flat_map (λ x. pixel_of s.depth (row_at i (y / down)) (x / across)) (range_with_len 0 (s.width * across))) 0 (s.height * down) (λ y lt.
+    sym (each_repeated (λ x. pixel_of s.depth (row_at i (y / down)) x) across s.width))
+    ∙ sym (rows_by_pixels i (s.width * across) (s.height * down) (λ x. x / across) (λ y. y / down) is (λ x lt. quotient_below x across s.width wide lt) (λ y lt. quotient_below y down s.height high lt))
+
+-- the answers are the rows of the result
+answer_is : (across down : ℕ) (i : Image) (result : Header) → 1 ≤ across → 1 ≤ down → IsImage i → result_head (Enlarge across down) i.head ≡ Ok result
+    → answers_to_rows (Enlarge across down) i.head.shape 0 (rows_of i) ++ [] ≡ rows_of (image_by result (result_sample (Enlarge across down) i))
+unfolding result_sample
+answer_is across down i result wide high is e =
+    append-nil (answers_to_rows (Enlarge across down) i.head.shape 0 (rows_of i))
+    ∙ rows_enlarged across down i.head.shape 0 (rows_of i)
+    ∙ rows_are_enlarged across down i wide high is
+    ∙ ap (λ (h : Header). rows_of (image_by h (enlarged_sample across down i))) (is_enlarged across down i.head result e).result_is
+
+-- a whole image that isn't refused is answered by the enlarged image
 pub enlarge_answers_images : (across down : ℕ) → 1 ≤ across → 1 ≤ down → AnswersImages (Enlarge across down)
-enlarge_answers_images across down p q = ?
+enlarge_answers_images across down wide high i j is e =
+    answered_by_rows (Enlarge across down) i j e (answer_is across down i j.head wide high is (result_by_head (Enlarge across down) i j e).head)

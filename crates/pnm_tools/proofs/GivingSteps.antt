@@ -1,5 +1,5 @@
 -- How a tool at work gives what waits.
-use Rattle.std.proofs.Common.{◌≡◌, ◌⊎◌, inl, inr, ℕ, suc, ◌<◌, Bool, true, false, List, [], ◌∷◌, ◌++◌, map, length, refl, sym, ap, subst, ◌∙◌, append_assoc, append-nil, arith, Option, Some, None}
+use Rattle.std.proofs.Common.{◌≡◌, inl, inr, ℕ, ◌<◌, true, false, List, [], ◌∷◌, ◌++◌, map, length, refl, sym, ap, subst, ◌∙◌, append_assoc, arith, Option, Some, None}
 use Rattle.std.specs.Prelude.{IfSome, IfNone}
 use Rattle.pnm_image.specs.declared.shape.Shape.{Shape}
 use Rattle.pnm_image.specs.declared.message.Message.{Message}
@@ -9,13 +9,13 @@ use Rattle.pnm_image.specs.declared.place.Place.TheVariants.{Between, Inside, Af
 use Rattle.pnm_image.specs.Places.{IsLawfulFrom, place_after, place_of}
 use Rattle.pnm_tools.specs.declared.fault.ToolFault.{ToolFault}
 use Rattle.pnm_tools.specs.declared.state.Pending.{Pending}
-use Rattle.pnm_tools.specs.declared.state.Pending.TheVariants.{AllGiven, Waiting, Rows, Ending, Nothing}
+use Rattle.pnm_tools.specs.declared.state.Pending.TheVariants.{AllGiven, Waiting, Rows, RowsAndEnd, Nothing}
 use Rattle.pnm_tools.specs.declared.tool.Tool.{Tool}
 use Rattle.pnm_tools.specs.Answers.{More, BrokenOff, EndsBy, AnswersInFull}
 use Rattle.pnm_tools.specs.Answering.{answered_from, rows_come}
 use Rattle.pnm_tools.specs.States.{Standing, standing, IsAnswering, IsAt, IsReadyFor, KeepsNone, is_all_given, waiting_in}
-use Rattle.pnm_tools.specs.Steps.{Gives, GivesRows, IsTold, message_list}
-use Rattle.pnm_tools.proofs.AtLaws.{GoOn, StopsLast, lawful_stops, not_broken, answering_answers}
+use Rattle.pnm_tools.specs.Steps.{IsGiven, GivesRows}
+use Rattle.pnm_tools.proofs.AtLaws.{StopsLast, lawful_stops, not_broken, answering_answers}
 use Rattle.pnm_tools.proofs.FullLaws.{answering_in_full}
 use Rattle.pnm_tools.proofs.InFullLaws.{answers_end_so}
 use Rattle.pnm_tools.proofs.OwedLaws.{place_of-append}
@@ -23,18 +23,18 @@ use Rattle.pnm_tools.proofs.AnsweringLaws.{answered_from-append}
 use Rattle.pnm_tools.proofs.ToolLaws.{tool_answers_images}
 
 -- the image's end is given, after which no rows are kept
-none_inside : {W : Type 0} (ready_for : W → Shape → List (List ℕ) → Type 0) (kept : W → List (List ℕ)) (old new : W) (place : Place) (rows : List (List ℕ)) → KeepsNone kept old place Ending → IsReadyFor ready_for old place rows → IsReadyFor ready_for new place rows
+none_inside : {W : Type 0} (ready_for : W → Shape → List (List ℕ) → Type 0) (kept : W → List (List ℕ)) (old new : W) (place : Place) (rows : List (List ℕ)) → KeepsNone kept old place RowsAndEnd → IsReadyFor ready_for old place rows → IsReadyFor ready_for new place rows
 none_inside ready_for kept old new Between rows none r = r
 none_inside ready_for kept old new (Inside s y) rows none r = absurd none
 none_inside ready_for kept old new After rows none r = r
 
-none_kept : {W : Type 0} (kept : W → List (List ℕ)) (old new : W) (place : Place) → kept new ≡ [] → KeepsNone kept old place Ending → KeepsNone kept new place Nothing
+none_kept : {W : Type 0} (kept : W → List (List ℕ)) (old new : W) (place : Place) → kept new ≡ [] → KeepsNone kept old place RowsAndEnd → KeepsNone kept new place Nothing
 none_kept kept old new Between gone none = gone
 none_kept kept old new (Inside s y) gone none = tt
 none_kept kept old new After gone none = gone
 
-pub ended : {W : Type 0} (tool_at : W → Tool) (ready_for : W → Shape → List (List ℕ) → Type 0) (due kept : W → List (List ℕ)) (old new : W) (before : Pending) → before ≡ Ending → due old ≡ [] → tool_at new ≡ tool_at old → kept new ≡ []
-    → Gives tool_at ready_for due kept old before new Nothing (Some ImageEnd)
+pub ended : {W : Type 0} (tool_at : W → Tool) (ready_for : W → Shape → List (List ℕ) → Type 0) (due kept : W → List (List ℕ)) (old new : W) (before : Pending) → before ≡ RowsAndEnd → due old ≡ [] → tool_at new ≡ tool_at old → kept new ≡ []
+    → IsGiven tool_at ready_for due kept old before new Nothing (Some ImageEnd)
 ended tool_at ready_for due kept old new before ending none same gone = record {
   waits = ap (λ (p : Pending). waiting_in p (due old)) ending ∙ ap (λ (rows : List (List ℕ)). map Row rows ++ ImageEnd ∷ []) none;
   told = (ap is_all_given ending, refl);
@@ -45,8 +45,8 @@ ended tool_at ready_for due kept old new before ending none same gone = record {
 
 -- the first of the messages that waited is given
 pub gave : {W : Type 0} (tool_at : W → Tool) (ready_for : W → Shape → List (List ℕ) → Type 0) (due kept : W → List (List ℕ)) (old : Standing W) (new : W) (after : Pending) (fault : Option ToolFault) (m : Message) (t : Tool) (l g : List Message)
-    → KeepsNone kept old.work old.place old.pending → IsAt tool_at ready_for due old t l g → Gives tool_at ready_for due kept old.work old.pending new after (Some m) → IsAt tool_at ready_for due (standing new old.place after fault) t l (g ++ m ∷ [])
-gave tool_at ready_for due kept old new after fault m t l g none at gives =
+    → IsAt tool_at ready_for due kept old t l g → IsGiven tool_at ready_for due kept old.work old.pending new after (Some m) → IsAt tool_at ready_for due kept (standing new old.place after fault) t l (g ++ m ∷ [])
+gave tool_at ready_for due kept old new after fault m t l g at gives =
     let rest : List Message = waiting_in after (due new) in
     let waits : IsAnswering t l (g ++ m ∷ []) rest = record {
       lawful = at.answering.lawful;
@@ -58,14 +58,15 @@ gave tool_at ready_for due kept old new after fault m t l g none at gives =
       options = at.options;
       answering = waits;
       place = at.place;
-      ready = gives.ready old.place (rows_come [] l) none at.ready;
+      ready = gives.ready old.place (rows_come [] l) at.none at.ready;
+      none = gives.none old.place at.none;
       answers = answering_answers t l (g ++ m ∷ []) rest (tool_answers_images t at.options) waits;
     }
 
 -- none waited
 pub gave_all : {W : Type 0} (tool_at : W → Tool) (ready_for : W → Shape → List (List ℕ) → Type 0) (due kept : W → List (List ℕ)) (old : Standing W) (new : W) (after : Pending) (fault : Option ToolFault) (t : Tool) (l g : List Message)
-    → KeepsNone kept old.work old.place old.pending → IsAt tool_at ready_for due old t l g → Gives tool_at ready_for due kept old.work old.pending new after None → IsAt tool_at ready_for due (standing new old.place after fault) t l g × AnswersInFull t l g
-gave_all tool_at ready_for due kept old new after fault t l g keeps at gives =
+    → IsAt tool_at ready_for due kept old t l g → IsGiven tool_at ready_for due kept old.work old.pending new after None → IsAt tool_at ready_for due kept (standing new old.place after fault) t l g × AnswersInFull t l g
+gave_all tool_at ready_for due kept old new after fault t l g at gives =
     let none : waiting_in after (due new) ≡ [] = ap (λ (p : Pending). waiting_in p (due new)) gives.told in
     let all : IsAnswering t l g [] = subst (IsAnswering t l g) (gives.waits ∙ none) at.answering in (
       record {
@@ -73,7 +74,8 @@ gave_all tool_at ready_for due kept old new after fault t l g keeps at gives =
         options = at.options;
         answering = subst (IsAnswering t l g) gives.waits at.answering;
         place = at.place;
-        ready = gives.ready old.place (rows_come [] l) keeps at.ready;
+        ready = gives.ready old.place (rows_come [] l) at.none at.ready;
+        none = gives.none old.place at.none;
         answers = at.answers;
       },
       answering_in_full t l g (tool_answers_images t at.options) all,
@@ -111,44 +113,44 @@ no_rows_after kept work (Inside s y) pending gives none e = cc
 no_rows_after kept work After AllGiven gives none e = gives
 no_rows_after kept work After (Waiting message) gives none e = gives
 no_rows_after kept work After Rows gives none e = none
-no_rows_after kept work After Ending gives none e = none
+no_rows_after kept work After RowsAndEnd gives none e = none
 no_rows_after kept work After Nothing gives none e = gives
 
 alone : (before : Pending) (due : List (List ℕ)) (m : Message) (rest : List Message) → waiting_in before due ≡ m ∷ rest → (GivesRows before → ⊥) → waiting_in before due ≡ m ∷ []
 alone AllGiven due m rest e none = absurd cc
 alone (Waiting message) due m rest e none = ap (λ (x : Message). x ∷ []) cc
 alone Rows due m rest e none = absurd (none tt)
-alone Ending due m rest e none = absurd (none tt)
+alone RowsAndEnd due m rest e none = absurd (none tt)
 alone Nothing due m rest e none = absurd cc
 
 pub gave_stop : {W : Type 0} (tool_at : W → Tool) (ready_for : W → Shape → List (List ℕ) → Type 0) (due kept : W → List (List ℕ)) (old : Standing W) (new : W) (after : Pending) (m : Message) (t : Tool) (l g : List Message)
-    → IsAt tool_at ready_for due old t l g → KeepsNone kept old.work old.place old.pending → Gives tool_at ready_for due kept old.work old.pending new after (Some m) → EndsBy BrokenOff l → m ≡ Stop
-gave_stop tool_at ready_for due kept old new after m t l g at none gives ends =
+    → IsAt tool_at ready_for due kept old t l g → IsGiven tool_at ready_for due kept old.work old.pending new after (Some m) → EndsBy BrokenOff l → m ≡ Stop
+gave_stop tool_at ready_for due kept old new after m t l g at gives ends =
     let stops = lawful_stops Between l at.answering.lawful in
-    let last = alone old.pending (due old.work) m (waiting_in after (due new)) gives.waits (λ rows. no_rows_after kept old.work old.place old.pending rows none (at.place ∙ stopped_after l stops ends)) in
+    let last = alone old.pending (due old.work) m (waiting_in after (due new)) gives.waits (λ rows. no_rows_after kept old.work old.place old.pending rows at.none (at.place ∙ stopped_after l stops ends)) in
     stop_waits t l g m (subst (IsAnswering t l g) last at.answering) stops ends
 
 -- ---- whether one waits or none
 
 pub given_by : {W : Type 0} (tool_at : W → Tool) (ready_for : W → Shape → List (List ℕ) → Type 0) (due kept : W → List (List ℕ)) (old : Standing W) (new : W) (after : Pending) (fault : Option ToolFault) (given : Option Message)
-    → KeepsNone kept old.work old.place old.pending → Gives tool_at ready_for due kept old.work old.pending new after given
-    → IfSome given (λ m. (t : Tool) (l g : List Message) → IsAt tool_at ready_for due old t l g → IsAt tool_at ready_for due (standing new old.place after fault) t l (g ++ m ∷ []))
-given_by tool_at ready_for due kept old new after fault None none gives = tt
-given_by tool_at ready_for due kept old new after fault (Some m) none gives = λ t l g at. gave tool_at ready_for due kept old new after fault m t l g none at gives
+    → IsGiven tool_at ready_for due kept old.work old.pending new after given
+    → IfSome given (λ m. (t : Tool) (l g : List Message) → IsAt tool_at ready_for due kept old t l g → IsAt tool_at ready_for due kept (standing new old.place after fault) t l (g ++ m ∷ []))
+given_by tool_at ready_for due kept old new after fault None gives = tt
+given_by tool_at ready_for due kept old new after fault (Some m) gives = λ t l g at. gave tool_at ready_for due kept old new after fault m t l g at gives
 
 pub stop_alone_by : {W : Type 0} (tool_at : W → Tool) (ready_for : W → Shape → List (List ℕ) → Type 0) (due kept : W → List (List ℕ)) (old : Standing W) (new : W) (after : Pending) (given : Option Message)
-    → KeepsNone kept old.work old.place old.pending → Gives tool_at ready_for due kept old.work old.pending new after given
-    → IfSome given (λ m. (t : Tool) (l g : List Message) → IsAt tool_at ready_for due old t l g → EndsBy BrokenOff l → m ≡ Stop)
-stop_alone_by tool_at ready_for due kept old new after None none gives = tt
-stop_alone_by tool_at ready_for due kept old new after (Some m) none gives = λ t l g at ends. gave_stop tool_at ready_for due kept old new after m t l g at none gives ends
+    → IsGiven tool_at ready_for due kept old.work old.pending new after given
+    → IfSome given (λ m. (t : Tool) (l g : List Message) → IsAt tool_at ready_for due kept old t l g → EndsBy BrokenOff l → m ≡ Stop)
+stop_alone_by tool_at ready_for due kept old new after None gives = tt
+stop_alone_by tool_at ready_for due kept old new after (Some m) gives = λ t l g at ends. gave_stop tool_at ready_for due kept old new after m t l g at gives ends
 
 pub full_by : {W : Type 0} (tool_at : W → Tool) (ready_for : W → Shape → List (List ℕ) → Type 0) (due kept : W → List (List ℕ)) (old : Standing W) (new : W) (after : Pending) (fault : Option ToolFault) (given : Option Message)
-    → KeepsNone kept old.work old.place old.pending → Gives tool_at ready_for due kept old.work old.pending new after given
-    → IfNone given ((is_all_given after ≡ true) × ((t : Tool) (l g : List Message) → IsAt tool_at ready_for due old t l g → IsAt tool_at ready_for due (standing new old.place after fault) t l g × AnswersInFull t l g))
-full_by tool_at ready_for due kept old new after fault None none gives = (ap is_all_given gives.told, λ t l g at. gave_all tool_at ready_for due kept old new after fault t l g none at gives)
-full_by tool_at ready_for due kept old new after fault (Some m) none gives = tt
+    → IsGiven tool_at ready_for due kept old.work old.pending new after given
+    → IfNone given ((is_all_given after ≡ true) × ((t : Tool) (l g : List Message) → IsAt tool_at ready_for due kept old t l g → IsAt tool_at ready_for due kept (standing new old.place after fault) t l g × AnswersInFull t l g))
+full_by tool_at ready_for due kept old new after fault None gives = (ap is_all_given gives.told, λ t l g at. gave_all tool_at ready_for due kept old new after fault t l g at gives)
+full_by tool_at ready_for due kept old new after fault (Some m) gives = tt
 
-pub fewer_by : {W : Type 0} (tool_at : W → Tool) (ready_for : W → Shape → List (List ℕ) → Type 0) (due kept : W → List (List ℕ)) (old : W) (before : Pending) (new : W) (after : Pending) (given : Option Message) → Gives tool_at ready_for due kept old before new after given
+pub fewer_by : {W : Type 0} (tool_at : W → Tool) (ready_for : W → Shape → List (List ℕ) → Type 0) (due kept : W → List (List ℕ)) (old : W) (before : Pending) (new : W) (after : Pending) (given : Option Message) → IsGiven tool_at ready_for due kept old before new after given
     → IfSome given (λ m. (length (waiting_in after (due new)) < length (waiting_in before (due old))) × (is_all_given before ≡ false) × (is_all_given after ≡ false))
 fewer_by tool_at ready_for due kept old before new after None gives = tt
 fewer_by tool_at ready_for due kept old before new after (Some m) gives = (fewer_wait (waiting_in before (due old)) (waiting_in after (due new)) m gives.waits, gives.told.0, gives.told.1)
@@ -177,7 +179,7 @@ more_of_front (m ∷ []) (n ∷ b) e = e.0
 more_of_front (m ∷ n ∷ a) b e = (e.0, more_of_front (n ∷ a) b e.1)
 
 pub wanted_memory : {W : Type 0} (tool_at : W → Tool) (ready_for : W → Shape → List (List ℕ) → Type 0) (due kept : W → List (List ℕ)) (old : Standing W) (t : Tool) (l g : List Message)
-    → IsAt tool_at ready_for due old t l g → KeepsNone kept old.work old.place old.pending → GivesRows old.pending → EndsBy More g
-wanted_memory tool_at ready_for due kept old t l g at none rows =
-    let goes : EndsBy More l = more_of_place Between l at.answering.lawful (λ e. no_rows_after kept old.work old.place old.pending rows none (at.place ∙ e)) in
+    → IsAt tool_at ready_for due kept old t l g → GivesRows old.pending → EndsBy More g
+wanted_memory tool_at ready_for due kept old t l g at rows =
+    let goes : EndsBy More l = more_of_place Between l at.answering.lawful (λ e. no_rows_after kept old.work old.place old.pending rows at.none (at.place ∙ e)) in
     more_of_front g (waiting_in old.pending (due old.work)) (subst (EndsBy More) at.answering.given (answers_end_so t Between [] l More goes))

@@ -50,7 +50,7 @@ refused_large = Err TooLarge
 pub small_head : (h : Header) → is_too_large h.shape ≡ false → within_limits h ≡ Ok h
 small_head h e = ap (λ (b : Bool). if b then refused_large else Ok h) e
 
-large_head : (h : Header) → is_too_large h.shape ≡ true → within_limits h ≡ Err TooLarge
+pub large_head : (h : Header) → is_too_large h.shape ≡ true → within_limits h ≡ Err TooLarge
 large_head h e = ap (λ (b : Bool). if b then refused_large else Ok h) e
 
 -- what making a head within the limits says of the rule of the tool

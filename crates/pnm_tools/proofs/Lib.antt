@@ -6,6 +6,9 @@ pub mod HeadLaws
 pub mod RowLaws
 pub mod PickLaws
 pub mod KeepLaws
+pub mod SizeLaws
+pub mod MirrorLaws
+pub mod EnlargeRowLaws
 pub mod InvertLaws
 pub mod AtLaws
 pub mod InFullLaws
@@ -25,3 +28,13 @@ pub mod RefusalLaws
 pub mod ChainLaws
 pub mod StateSteps
 pub mod GivingSteps
+pub mod RangeLaws
+pub mod PixelLaws
+pub mod WholeHeadLaws
+pub mod MadeLaws
+pub mod WholeResultLaws
+pub mod TileHeadLaws
+pub mod TileDueLaws
+pub mod TileRowLaws
+pub mod ColumnLaws
+pub mod TransposeLaws

@@ -1,77 +1,31 @@
 -- The result of an image is an image.
-use Rattle.std.proofs.Common.{◌≡◌, ℕ, zero, suc, ◌+◌, ◌-◌, ◌*◌, ◌<◌, ◌≤◌, Bool, true, false, not, ◌||◌, inl, inr, List, [], length, map, slice_index, Ok, refl, sym, ap, subst, arith, suc-mul, zero-mul, mul-le-mul}
+use Rattle.std.proofs.Common.{◌≡◌, ℕ, ◌+◌, ◌-◌, ◌*◌, ◌<◌, ◌≤◌, Bool, true, false, not, List, [], length, slice_index, Ok, refl, sym, ap, subst, arith, mul-le-mul}
 use Rattle.std.proofs.Math.Nat.{lt_of_mul-lt-mul_left}
-use Rattle.std.specs.Prelude.{codes, All, slice_index_or, ◌≢◌, nat_lt, ◌==◌, if◌then◌else◌}
+use Rattle.std.specs.Prelude.{codes, All, slice_index_or, ◌≢◌, ◌==◌, if◌then◌else◌}
 use Rattle.std.specs.Str.{bytes_eq}
-use Rattle.std.specs.List.{flat_map, range_with_len, list_all}
-use Rattle.std.proofs.lemmas.Bool.{cases_lt, ltb-false, eqb-true, eqb-false, not-true, or_parts}
-use Rattle.std.proofs.lemmas.List.{length-append}
+use Rattle.std.specs.List.{list_all}
+use Rattle.std.proofs.lemmas.Bool.{eqb-true, eqb-false, not-true}
 use Rattle.std.proofs.lemmas.List.Sums.{AllPass-from_list_all}
-use Rattle.std.proofs.lemmas.List.Elements.{All-nil, All-append, All-from_get_or}
-use Rattle.std.proofs.lemmas.List.FromFn.{get_or-map-range_with_len, length-map-range_with_len}
-use Rattle.std.proofs.Math.ListN.{get_or-eq_default}
 use Rattle.pnm_image.specs.declared.shape.Kind.{Kind}
 use Rattle.pnm_image.specs.declared.shape.Kind.TheVariants.{Bit, Gray, Color, Pam}
 use Rattle.pnm_image.specs.declared.shape.Shape.{Shape}
-use Rattle.pnm_image.specs.Heads.{Header, IsHeader, IsTupleType, Suits, row_length}
+use Rattle.pnm_image.specs.Heads.{Header, IsHeader, IsTupleType, Suits}
 use Rattle.pnm_image.specs.Images.{Image, IsImage, sample_at}
 use Rattle.pnm_tools.specs.declared.cut.CutBox.{CutBox}
 use Rattle.pnm_tools.specs.declared.cut.Span.{Span}
 use Rattle.pnm_tools.specs.declared.tool.Tool.{Tool}
-use Rattle.pnm_tools.specs.declared.tool.Tool.TheVariants.{Invert, Cut, Depth, Channel}
-use Rattle.pnm_tools.specs.Formulas.{row_by, image_by}
+use Rattle.pnm_tools.specs.declared.tool.Tool.TheVariants.{Invert, Cut, Depth, Channel, Enlarge, Flip, Tile}
 use Rattle.pnm_tools.specs.Limits.{is_too_large}
 use Rattle.pnm_tools.specs.Cut.{span_count}
 use Rattle.pnm_tools.specs.Depth.{nearest_sample, gray_kind, gray_type}
 use Rattle.pnm_tools.specs.Channel.{Picks, IsLawfulPick, picked_header}
 use Rattle.pnm_tools.specs.Tools.{IsLawfulTool, applied, result_head, result_sample}
-use Rattle.pnm_tools.proofs.FormulaLaws.{length-row_by}
-use Rattle.pnm_tools.proofs.ImageLaws.{IsBy, result_by_head}
+use Rattle.pnm_tools.proofs.ImageLaws.{result_by_head}
+use Rattle.pnm_tools.proofs.MadeLaws.{made_is_image, sample_in_range, sizes_within}
+use Rattle.pnm_tools.proofs.WholeResultLaws.{enlarged_is_image, enlarged_has_rows, flipped_is_image, flipped_has_rows, tiled_is_image, tiled_has_rows}
 use Rattle.pnm_tools.proofs.CutLaws.{LiesWithin, is_cut, cut_by}
 use Rattle.pnm_tools.proofs.DepthLaws.{new_head, nearest_sample_is_nearest}
 use Rattle.pnm_tools.proofs.ChannelLaws.{is_picked}
-
--- ---- an image by a formula
-
-length-rows : (row : ℕ → List ℕ) (each from count : ℕ) → ((y : ℕ) → length (row y) ≡ each) → length (flat_map row (range_with_len from count)) ≡ count * each
-length-rows row each from zero long = sym (zero-mul each)
-length-rows row each from (suc count) long =
-    omega (arith, length-append (row from) (flat_map row (range_with_len (from + 1) count)), long from, length-rows row each (from + 1) count long, suc-mul count each)
-
-all_rows : (P : ℕ → Type 0) (row : ℕ → List ℕ) (from count : ℕ) → ((y : ℕ) → y < from + count → All P (row y)) → All P (flat_map row (range_with_len from count))
-all_rows P row from zero each = All-nil P
-all_rows P row from (suc count) each =
-    All-append P (row from) (flat_map row (range_with_len (from + 1) count)) (each from (omega arith)) (all_rows P row (from + 1) count (λ y lt. each y (omega arith)))
-
-all_planes : (P : ℕ → Type 0) (sample : ℕ → ℕ) (count : ℕ) → ((p : ℕ) → p < count → P (sample p)) → All P (map sample (range_with_len 0 count))
-all_planes P sample count each =
-    All-from_get_or P (map sample (range_with_len 0 count)) 0 (λ p lt.
-    let below : p < count = omega (arith, length-map-range_with_len sample 0 count) in
-    subst P (sym (get_or-map-range_with_len sample 0 count p p 0 below (omega arith))) (each p below))
-
--- an image of a head is one whose samples are in range
-pub image_by_is_image : (head : Header) (sample : ℕ → ℕ → ℕ → ℕ) → IsHeader head → ((x y p : ℕ) → x < head.shape.width → y < head.shape.height → p < head.shape.depth → sample x y p ≤ head.shape.maxval) → IsImage (image_by head sample)
-image_by_is_image head sample sound range =
-    let s : Shape = head.shape in
-    record {
-      head = sound;
-      count = length-rows (λ y. row_by s (λ x p. sample x y p)) (row_length s) 0 s.height (λ y. length-row_by s (λ x p. sample x y p));
-      range = all_rows (λ v. v ≤ s.maxval) (λ y. row_by s (λ x p. sample x y p)) 0 s.height (λ y row.
-          all_rows (λ v. v ≤ s.maxval) (λ x. map (λ p. sample x y p) (range_with_len 0 s.depth)) 0 s.width (λ x column.
-          all_planes (λ v. v ≤ s.maxval) (λ p. sample x y p) s.depth (λ p plane. range x y p (omega arith) (omega arith) plane)));
-    }
-
--- a sample of an image is in range
-pub sample_in_range : (i : Image) (x y p : ℕ) → IsImage i → sample_at i x y p ≤ i.head.shape.maxval
-sample_in_range i x y p is =
-    let at : ℕ = (y * i.head.shape.width + x) * i.head.shape.depth + p in
-    elim (cases_lt at (length i.samples)) [
-      | inl lt ↦ is.range at 0 lt
-      | inr beyond ↦ omega (arith, get_or-eq_default i.samples 0 beyond)
-    ]
-
-made_is_image : (tool : Tool) (i j : Image) → IsBy (result_head tool i.head) (result_sample tool i) j → IsHeader j.head → ((x y p : ℕ) → result_sample tool i x y p ≤ j.head.shape.maxval) → IsImage j
-made_is_image tool i j made sound range = subst IsImage made.whole (image_by_is_image j.head (result_sample tool i) sound (λ x y p column row plane. range x y p))
 
 -- ---- inverted images
 
@@ -213,19 +167,11 @@ rescaled_is_image new i j low high is e =
 
 -- ---- picked images
 
--- what is_too_large tells of a shape that isn't
-within_by : (width height depth row : ℕ) → (nat_lt 1000000 width || nat_lt 1000000 height || nat_lt 256 depth || nat_lt 16777216 row) ≡ false → (width ≤ 1000000) × (height ≤ 1000000) × (depth ≤ 256) × (row ≤ 16777216)
-within_by width height depth row e =
-    let a = or_parts (nat_lt 1000000 width || nat_lt 1000000 height || nat_lt 256 depth) (nat_lt 16777216 row) e in
-    let b = or_parts (nat_lt 1000000 width || nat_lt 1000000 height) (nat_lt 256 depth) a.0 in
-    let c = or_parts (nat_lt 1000000 width) (nat_lt 1000000 height) b.0 in
-    (ltb-false 1000000 width c.0, ltb-false 1000000 height c.1, ltb-false 256 depth b.1, ltb-false 16777216 row a.1)
-
 picked_header_is : (planes : Picks) (head : Header) → IsLawfulPick planes → IsHeader head → is_too_large (picked_header planes head).shape ≡ false → IsHeader (picked_header planes head)
 picked_header_is planes head lawful sound fits =
     let s : Shape = head.shape in
     let limits = sound.limits in
-    let within = within_by s.width s.height (length planes.numbers) (s.width * length planes.numbers) fits in
+    let within = sizes_within s.width s.height (length planes.numbers) (s.width * length planes.numbers) fits in
     record {
       limits = record {
         width_low = limits.width_low;
@@ -260,6 +206,9 @@ result_is_image Invert i j lawful image made = inverted_is_image i j image made
 result_is_image (Cut box) i j lawful image made = cut_is_image box i j image made
 result_is_image (Depth maxval) i j lawful image made = rescaled_is_image maxval i j lawful.0 lawful.1 image made
 result_is_image (Channel planes) i j lawful image made = picked_is_image planes i j lawful image made
+result_is_image (Enlarge across down) i j lawful image made = enlarged_is_image across down i j lawful.0.0 image made
+result_is_image (Flip way) i j lawful image made = flipped_is_image way i j image made
+result_is_image (Tile across down) i j lawful image made = tiled_is_image across down i j lawful.0.0 image made
 
 -- the result of an image that has rows has rows
 pub result_has_rows : (tool : Tool) (i j : Image) → IsLawfulTool tool → IsImage i → 0 < i.head.shape.height → applied tool i ≡ Ok j → 0 < j.head.shape.height
@@ -270,3 +219,6 @@ result_has_rows (Depth maxval) i j lawful image rows made =
     subst (λ (h : Header). 0 < h.shape.height) (new_head_is maxval i.head j.head (result_by_head (Depth maxval) i j made).head) rows
 result_has_rows (Channel planes) i j lawful image rows made =
     subst (λ (h : Header). 0 < h.shape.height) (sym (is_picked planes i.head j.head (result_by_head (Channel planes) i j made).head).result_is) rows
+result_has_rows (Enlarge across down) i j lawful image rows made = enlarged_has_rows across down i j lawful.1.0 rows made
+result_has_rows (Flip way) i j lawful image rows made = flipped_has_rows way i j image rows made
+result_has_rows (Tile across down) i j lawful image rows made = tiled_has_rows across down i j lawful.1.0 made

@@ -6,10 +6,13 @@ use Rattle.std.proofs.lemmas.List.Elements.{All-get_or}
 use Rattle.std.proofs.lemmas.List.FromFn.{get_or-map-range_with_len, length-map-range_with_len}
 use Rattle.pnm_image.specs.declared.shape.Shape.{Shape}
 use Rattle.pnm_tools.specs.declared.cut.CutBox.{CutBox}
-use Rattle.pnm_tools.specs.declared.tool.Tool.TheVariants.{Invert, Cut, Depth, Channel}
+use Rattle.pnm_tools.specs.declared.flip.FlipWay.{FlipWay}
+use Rattle.pnm_tools.specs.declared.tool.Tool.TheVariants.{Invert, Cut, Depth, Channel, Enlarge, Flip}
 use Rattle.pnm_tools.specs.Channel.{Picks, picked_row}
 use Rattle.pnm_tools.specs.Cut.{cut_rows_of}
 use Rattle.pnm_tools.specs.Depth.{rescaled_row}
+use Rattle.pnm_tools.specs.Enlarge.{enlarged_rows}
+use Rattle.pnm_tools.specs.Flip.{flipped_rows}
 use Rattle.pnm_tools.specs.Invert.{inverted_row}
 use Rattle.pnm_tools.specs.Tools.{row_answer}
 
@@ -28,6 +31,14 @@ row_of_depth maxval s y row = refl
 pub row_of_channel : (planes : Picks) (s : Shape) (y : ℕ) (row : List ℕ) → row_answer (Channel planes) s y row ≡ picked_row planes s row ∷ []
 unfolding row_answer
 row_of_channel planes s y row = refl
+
+pub row_of_enlarge : (across down : ℕ) (s : Shape) (y : ℕ) (row : List ℕ) → row_answer (Enlarge across down) s y row ≡ enlarged_rows across down s row
+unfolding row_answer
+row_of_enlarge across down s y row = refl
+
+pub row_of_flip : (way : FlipWay) (s : Shape) (y : ℕ) (row : List ℕ) → row_answer (Flip way) s y row ≡ flipped_rows way s row
+unfolding row_answer
+row_of_flip way s y row = refl
 
 -- a row that is changed in place, sample by sample
 pub changed_in_place : (g : ℕ → ℕ) (row items lent new : List ℕ) (len : ℕ) → new ≡ map g lent → lent ≡ items → items ≡ row → len ≡ length items → take len (new ++ drop (length new) items) ≡ map g row

@@ -15,18 +15,18 @@ use Rattle.pnm_tools.specs.declared.fault.ToolFault.TheVariants.{CutOutside, Cha
 use Rattle.pnm_tools.specs.declared.flip.FlipWay.{FlipWay}
 use Rattle.pnm_tools.specs.declared.flip.FlipWay.TheVariants.{Null, LeftRight, TopBottom, Transpose}
 use Rattle.pnm_tools.specs.declared.state.Pending.{Pending}
-use Rattle.pnm_tools.specs.declared.state.Pending.TheVariants.{AllGiven, Waiting, Rows, Ending, Nothing}
+use Rattle.pnm_tools.specs.declared.state.Pending.TheVariants.{AllGiven, Waiting, Rows, RowsAndEnd, Nothing}
 use Rattle.pnm_tools.specs.declared.tool.Tool.{Tool}
 use Rattle.pnm_tools.specs.declared.tool.Tool.TheVariants.{Invert, Cut, Depth, Channel, Enlarge, Flip, Tile}
 use Rattle.pnm_tools.specs.Answers.{Begins, RefusesHead, Judges}
-use Rattle.pnm_tools.specs.Answering.{answered, answered_from, rows_after, rows_come}
+use Rattle.pnm_tools.specs.Answering.{answered, rows_after, rows_come}
 use Rattle.pnm_tools.specs.Channel.{picked_header}
 use Rattle.pnm_tools.specs.Cut.{head_of_spans, columns_kept, rows_kept}
 use Rattle.pnm_tools.specs.Enlarge.{enlarged_header}
 use Rattle.pnm_tools.specs.Flip.{transposed_header, flipped_head}
 use Rattle.pnm_tools.specs.Limits.{is_too_large, within_limits}
-use Rattle.pnm_tools.specs.States.{Standing, standing, IsAnswering, IsAt, IsReadyFor, is_all_given, waiting_in}
-use Rattle.pnm_tools.specs.Steps.{IsDue, IsTaken, IsRefused}
+use Rattle.pnm_tools.specs.States.{Standing, standing, IsAnswering, IsAt, IsReadyFor, KeepsNone, is_all_given, waiting_in}
+use Rattle.pnm_tools.specs.Steps.{IsTaken, IsRefused}
 use Rattle.pnm_tools.specs.Tile.{tiled_header}
 use Rattle.pnm_tools.specs.Tools.{AreTaken, result_head}
 use Rattle.pnm_tools.proofs.AtLaws.{answering_answers}
@@ -94,12 +94,12 @@ rows_more rows [] m = refl
 rows_more rows (n ∷ l) m = rows_more (rows_after rows n) l m
 
 -- where all was given nothing waits
-nothing_waits : (pending : Pending) (due : List (List ℕ)) → is_all_given pending ≡ true → waiting_in pending due ≡ []
-nothing_waits AllGiven due e = refl
-nothing_waits (Waiting message) due e = absurd cc
-nothing_waits Rows due e = absurd cc
-nothing_waits Ending due e = absurd cc
-nothing_waits Nothing due e = refl
+told : (pending : Pending) → is_all_given pending ≡ true → pending ≡ AllGiven
+told AllGiven e = refl
+told (Waiting message) e = absurd cc
+told Rows e = absurd cc
+told RowsAndEnd e = absurd cc
+told Nothing e = absurd cc
 
 -- a message more was accepted, and its answer waits
 answering_more : (t : Tool) (l g before after : List Message) (m : Message) → IsAnswering t l g before → before ≡ [] → Accepts (place_of Between l) m → Begins t m → after ≡ answered t (place_of Between l) (rows_come [] l) m → IsAnswering t (l ++ m ∷ []) g after
@@ -111,19 +111,20 @@ answering_more t l g before after m a none accepts begins answer =
     }
 
 pub fed : {W : Type 0} (tool_at : W → Tool) (ready_for : W → Shape → List (List ℕ) → Type 0) (due kept : W → List (List ℕ)) (old : Standing W) (new : W) (to : Place) (m : Message) (pending : Pending) (fault : Option ToolFault) (t : Tool) (l g : List Message)
-    → IsAt tool_at ready_for due old t l g → IsTaken tool_at ready_for due kept (is_all_given old.pending) old.work old.place m new to pending → IsAt tool_at ready_for due (standing new to pending fault) t (l ++ m ∷ []) g
+    → IsAt tool_at ready_for due kept old t l g → IsTaken tool_at ready_for due kept (is_all_given old.pending) old.work old.place m new to pending → IsAt tool_at ready_for due kept (standing new to pending fault) t (l ++ m ∷ []) g
 fed tool_at ready_for due kept old new to m pending fault t l g at taken =
     let come : List (List ℕ) = rows_come [] l in
     let accepts : Accepts (place_of Between l) m = subst (λ (p : Place). Accepts p m) at.place taken.is_due.1 in
     let begins : Begins t m = subst (λ (k : Tool). Begins k m) at.tool taken.begins in
     let answer : waiting_in pending (due new) ≡ answered t (place_of Between l) come m = taken.answer come at.ready ∙ ap (λ (k : Tool). answered k old.place come m) at.tool ∙ ap (λ (p : Place). answered t p come m) at.place in
-    let more = answering_more t l g (waiting_in old.pending (due old.work)) (waiting_in pending (due new)) m at.answering (nothing_waits old.pending (due old.work) taken.is_due.0) accepts begins answer in
+    let more = answering_more t l g (waiting_in old.pending (due old.work)) (waiting_in pending (due new)) m at.answering (ap (λ (p : Pending). waiting_in p (due old.work)) (told old.pending taken.is_due.0)) accepts begins answer in
     record {
       tool = taken.tool ∙ at.tool;
       options = at.options;
       answering = more;
       place = taken.place ∙ ap (λ (p : Place). place_after p m) at.place ∙ sym (place_of-append Between l (m ∷ []));
       ready = subst (IsReadyFor ready_for new to) (sym (rows_more [] l m)) (taken.ready come at.ready);
+      none = taken.none (subst (KeepsNone kept old.work old.place) (told old.pending taken.is_due.0) at.none);
       answers = answering_answers t (l ++ m ∷ []) g (waiting_in pending (due new)) (tool_answers_images t at.options) more;
     }
 
@@ -157,11 +158,11 @@ refused_head all_given t l m TooLarge may (inr r) = absurd cc
 refused_head all_given t l m OutOfOrder may (inr r) = absurd cc
 refused_head all_given t l m Memory may (inr r) = (may, r.1)
 
-pub judged : {W : Type 0} (tool_at : W → Tool) (ready_for : W → Shape → List (List ℕ) → Type 0) (due : W → List (List ℕ)) (old : Standing W) (m : Message) (fault : ToolFault) (t : Tool) (l g : List Message)
-    → IsAt tool_at ready_for due old t l g → IsRefused tool_at (is_all_given old.pending) old.work old.place m fault → Judges (is_all_given old.pending) t l m (Err fault)
-judged tool_at ready_for due old m fault t l g at (inl r) =
+pub judged : {W : Type 0} (tool_at : W → Tool) (ready_for : W → Shape → List (List ℕ) → Type 0) (due kept : W → List (List ℕ)) (old : Standing W) (m : Message) (fault : ToolFault) (t : Tool) (l g : List Message)
+    → IsAt tool_at ready_for due kept old t l g → IsRefused tool_at (is_all_given old.pending) old.work old.place m fault → Judges (is_all_given old.pending) t l m (Err fault)
+judged tool_at ready_for due kept old m fault t l g at (inl r) =
     subst (λ (f : ToolFault). Judges (is_all_given old.pending) t l m (Err f)) (sym r.0) (inl (λ may. r.1 (may.0, subst (λ (p : Place). Accepts p m) (sym at.place) may.1)))
-judged tool_at ready_for due old m fault t l g at (inr r) =
+judged tool_at ready_for due kept old m fault t l g at (inr r) =
     refused_head (is_all_given old.pending) t l m fault (r.0.0, subst (λ (p : Place). Accepts p m) at.place r.0.1) (subst (λ (k : Tool). RefusesHead k m fault ⊎ ((fault ≡ Memory) × Begins k m)) at.tool r.1)
 
 pub no_fault : (fault : Option ToolFault) (k : ToolFault) → fault ≡ None → fault ≡ Some k → ⊥

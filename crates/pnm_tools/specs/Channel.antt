@@ -1,6 +1,6 @@
 -- The picked image, from pamchannel(1): a PAM image of planes of the image, in the order in which they are named. Its
 -- tuple type is the one that is named.
-use Rattle.std.specs.Prelude.{◌≤◌, ◌<◌, ℕ, ◌+◌, ◌*◌, List, length, map, slice_index, All, Result, Ok, Err, if◌then◌else◌, nat_lt}
+use Rattle.std.specs.Prelude.{◌≤◌, ◌<◌, ℕ, ◌+◌, ◌*◌, List, length, map, slice_index, All, Result, Err, if◌then◌else◌, nat_lt}
 use Rattle.std.specs.List.{flat_map, range_with_len, list_all}
 use Rattle.pnm_image.specs.declared.shape.Kind.TheVariants.{Pam}
 use Rattle.pnm_image.specs.declared.shape.Shape.{Shape}

@@ -1,7 +1,7 @@
 -- The cut image, from pamcut(1): a rectangle of the image. The options name its edges, the first and the last column and
 -- the first and the last row that are kept, or in place of one of two edges its width or its height. An edge is counted
 -- from the left or the top, from 0; a negative one from the right or the bottom, so that -1 is the last column or row.
-use Rattle.std.specs.Prelude.{◌≡◌, ◌≤◌, ℕ, suc, ◌+◌, ◌-◌, ◌*◌, ℤ, pos, negsuc, ◌+ℤ◌, ◌-ℤ◌, unsigned_abs, Option, Some, None, IfSome, IsSome, List, [], ◌∷◌, length, take, drop, Result, Ok, Err, nat_le, nat_lt, ◌==◌, ◌&&◌, if◌then◌else◌}
+use Rattle.std.specs.Prelude.{◌≤◌, ℕ, suc, ◌+◌, ◌-◌, ◌*◌, ℤ, pos, negsuc, ◌+ℤ◌, ◌-ℤ◌, unsigned_abs, Option, Some, None, IfSome, IsSome, List, [], ◌∷◌, length, take, drop, Result, Ok, Err, nat_le, nat_lt, ◌==◌, ◌&&◌, if◌then◌else◌}
 use Rattle.pnm_image.specs.declared.shape.Shape.{Shape}
 use Rattle.pnm_image.specs.Heads.{Header}
 use Rattle.pnm_image.specs.Images.{Image, sample_at}

@@ -1,4 +1,4 @@
--- The enlarged image, from pamenlarge(1): each pixel stands so many times across and so many times down.
+-- The enlarged image, from pamenlarge(1): each pixel is replicated so many times across and so many times down.
 use Rattle.std.specs.Prelude.{◌≤◌, ℕ, ◌*◌, ◌/◌, ◌==◌, ◌&&◌, not, List, replicate, Result, Err, if◌then◌else◌}
 use Rattle.std.specs.List.{flat_map, range_with_len}
 use Rattle.pnm_image.specs.declared.shape.Shape.{Shape}
@@ -16,7 +16,7 @@ IsFactor factor = (1 ≤ factor) × (factor ≤ 16777216)
 abbrev pub enlarged_header : ℕ → ℕ → Header → Header
 enlarged_header across down head = record head { shape = record head.shape { width = head.shape.width * across; height = head.shape.height * down } }
 
--- where rows are repeated the tool sees whole images alone, so that a height of 0 is out of order
+-- where rows are repeated the tool isn't row-wise, so that a height of 0 is out of order
 abbrev pub enlarged_head : ℕ → ℕ → Header → Result Header ToolFault
 enlarged_head across down head = if not (down == 1) && (head.shape.height == 0) then Err OutOfOrder else within_limits (enlarged_header across down head)
 

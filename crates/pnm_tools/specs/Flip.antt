@@ -1,5 +1,5 @@
--- The flipped image, from pamflip(1): nothing changed, left and right exchanged, top and bottom exchanged, or transposed:
--- columns and rows exchanged.
+-- The flipped image, from pamflip(1): the same, flipped left for right, flipped top for bottom, or transposed: columns and
+-- rows exchanged.
 use Rattle.std.specs.Prelude.{ℕ, ◌-◌, ◌==◌, List, [], ◌∷◌, map, reverse, Result, Ok, Err, if◌then◌else◌}
 use Rattle.std.specs.List.{flat_map, range_with_len}
 use Rattle.pnm_image.specs.declared.shape.Shape.{Shape}
@@ -15,7 +15,7 @@ use Rattle.pnm_tools.specs.Pixels.{pixel_of}
 abbrev pub transposed_header : Header → Header
 transposed_header head = record head { shape = record head.shape { width = head.shape.height; height = head.shape.width } }
 
--- where rows change places the tool sees whole images alone, so that a height of 0 is out of order
+-- where rows change places the tool isn't row-wise, so that a height of 0 is out of order
 abbrev pub flipped_head : FlipWay → Header → Result Header ToolFault
 flipped_head Null head = Ok head
 flipped_head LeftRight head = Ok head

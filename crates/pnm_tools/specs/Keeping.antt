@@ -1,10 +1,10 @@
 -- What tools keep while the rows of an image come, and the rows of the result that they still give.
-use Rattle.std.specs.Prelude.{◌≡◌, ℕ, ◌+◌, ◌-◌, ◌*◌, ◌<◌, ◌≤◌, ◌%◌, false, if◌then◌else◌, List, [], ◌++◌, map, length, take, reverse, replicate, slice_index_or, All, Option, Some, None}
+use Rattle.std.specs.Prelude.{◌≡◌, ℕ, ◌+◌, ◌-◌, ◌*◌, ◌<◌, ◌≤◌, ◌%◌, false, if◌then◌else◌, List, [], ◌++◌, map, length, take, reverse, replicate, slice_index_or, All, Some, None}
 use Rattle.std.specs.List.{range_with_len}
 use Rattle.pnm_image.specs.declared.shape.Shape.{Shape}
 use Rattle.pnm_image.specs.Heads.{IsWithinLimits, row_length}
 use Rattle.pnm_tools.specs.declared.enlarge.Enlarger.{Enlarger}
-use Rattle.pnm_tools.specs.declared.flip.Turner.{Turner}
+use Rattle.pnm_tools.specs.declared.flip.RowReverser.{RowReverser}
 use Rattle.pnm_tools.specs.Flip.{column_of}
 use Rattle.pnm_tools.specs.Tile.{tiled_row}
 
@@ -24,17 +24,18 @@ enlarged_due w = elim w.row [
 
 -- ---- pamflip -topbottom: all rows
 
-pub record IsTurning (w : Turner) (come : List (List ℕ)) : Type 0 where
+pub record IsReversingRows (w : RowReverser) (come : List (List ℕ)) : Type 0 where
   pub rows : w.rows.items ≡ come
   pub none_given : w.gives ≡ false
 
 -- the last row first
-abbrev pub turned_due : Turner → List (List ℕ)
-turned_due w = if w.gives then reverse w.rows.items else []
+abbrev pub reversed_due : RowReverser → List (List ℕ)
+reversed_due w = if w.gives then reverse w.rows.items else []
 
--- ---- pamflip -transpose: all rows, and some rows of the result, of which the next is the last
+-- ---- pamflip -transpose: all rows, and a band of rows of the result
 
--- the rows of planes so many; of the columns, which are the rows of the result, those from the next one on aren't made yet
+-- the planes and the rows of the image; the band, whose last row is given next; and of all the columns, which become the
+-- rows of the result, the first one that isn't in a band yet
 pub record Transposed : Type 0 where
   pub depth : ℕ
   pub rows : List (List ℕ)
@@ -45,7 +46,7 @@ pub record Transposed : Type 0 where
 abbrev pub transposed : ℕ → List (List ℕ) → List (List ℕ) → ℕ → ℕ → Transposed
 transposed depth rows band next columns = record { depth = depth; rows = rows; band = band; next = next; columns = columns }
 
--- each column lies in each row, and has a length within the limits
+-- each row has a pixel of each column, and a row of the result is within the limits
 pub record HasColumns (w : Transposed) : Type 0 where
   pub columns : All (λ row. w.columns * w.depth ≤ length row) w.rows
   pub each : 0 < w.columns → length w.rows * w.depth ≤ 16777216
@@ -85,6 +86,7 @@ pub record HasTiles (w : Tiled) : Type 0 where
 
 pub record IsTiling (w : Tiled) (s : Shape) (come : List (List ℕ)) : Type 0 where
   pub limits : IsWithinLimits s
+  pub some : 0 < s.height
   pub filled : w.across * s.depth ≤ 16777216
   pub rows : w.rows ≡ take w.down come
   pub lengths : All (λ row. length row ≡ row_length s) come

@@ -11,6 +11,7 @@ pub mod Tile
 pub mod Tools
 pub mod Answers
 pub mod Answering
+pub mod Columns
 pub mod Keeping
 pub mod States
 pub mod Steps

@@ -1,8 +1,8 @@
 -- The state of a tool at work: what it has accepted and given.
-use Rattle.std.specs.Prelude.{◌≡◌, ◌⊎◌, ℕ, ◌+◌, ◌-◌, ◌*◌, ◌<◌, ◌≤◌, ◌%◌, Bool, true, false, if◌then◌else◌, List, [], ◌∷◌, ◌++◌, map, length, take, reverse, replicate, slice_index_or, All, Option, Some, None}
+use Rattle.std.specs.Prelude.{◌≡◌, ◌⊎◌, ℕ, ◌+◌, Bool, true, false, List, [], ◌∷◌, ◌++◌, map, length, Option, Some, None}
 use Rattle.std.specs.List.{range_with_len}
 use Rattle.pnm_image.specs.declared.shape.Shape.{Shape}
-use Rattle.pnm_image.specs.Heads.{IsWithinLimits, row_length}
+use Rattle.pnm_image.specs.Heads.{IsWithinLimits}
 use Rattle.pnm_image.specs.declared.message.Message.{Message}
 use Rattle.pnm_image.specs.declared.message.Message.TheVariants.{Row, ImageEnd}
 use Rattle.pnm_image.specs.declared.place.Place.{Place}
@@ -12,14 +12,14 @@ use Rattle.pnm_tools.specs.declared.depth.Rescaler.{Rescaler}
 use Rattle.pnm_tools.specs.declared.fault.ToolFault.{ToolFault}
 use Rattle.pnm_tools.specs.declared.flip.FlipWay.TheVariants.{Null, LeftRight, TopBottom, Transpose}
 use Rattle.pnm_tools.specs.declared.state.Pending.{Pending}
-use Rattle.pnm_tools.specs.declared.state.Pending.TheVariants.{AllGiven, Waiting, Rows, Ending, Nothing}
+use Rattle.pnm_tools.specs.declared.state.Pending.TheVariants.{AllGiven, Waiting, Rows, RowsAndEnd, Nothing}
 use Rattle.pnm_tools.specs.declared.tool.Tool.{Tool}
 use Rattle.pnm_tools.specs.declared.tool.Tool.TheVariants.{Invert, Cut, Depth, Channel, Enlarge, Flip, Tile}
 use Rattle.pnm_tools.specs.declared.work.Work.{Work}
-use Rattle.pnm_tools.specs.declared.work.Work.TheVariants.{Inverting, Cutting, Rescaling, Picking, Enlarging, Passing, Mirroring, Turning, Transposing, Tiling}
+use Rattle.pnm_tools.specs.declared.work.Work.TheVariants.{Inverting, Cutting, Rescaling, Picking, Enlarging, Passing, Mirroring, ReversingRows, Transposing, Tiling}
 use Rattle.pnm_tools.specs.Answers.{Answers}
 use Rattle.pnm_tools.specs.Answering.{row_list, rows_come, answered_from}
-use Rattle.pnm_tools.specs.Keeping.{IsEnlarging, IsTurning, IsTransposing, IsTiling, enlarged_due, turned_due, transposed_due, tiled_due}
+use Rattle.pnm_tools.specs.Keeping.{IsEnlarging, IsReversingRows, IsTransposing, IsTiling, enlarged_due, reversed_due, transposed_due, tiled_due}
 use Rattle.pnm_tools.specs.Channel.{HasPlanes}
 use Rattle.pnm_tools.specs.Depth.{nearest_sample}
 use Rattle.pnm_tools.specs.Tools.{IsLawfulTool, AreTaken}
@@ -38,7 +38,7 @@ tool_of (Picking w) = Channel w.tool
 tool_of (Enlarging w) = Enlarge w.across w.down
 tool_of (Passing w) = Flip Null
 tool_of (Mirroring w) = Flip LeftRight
-tool_of (Turning w) = Flip TopBottom
+tool_of (ReversingRows w) = Flip TopBottom
 tool_of (Transposing w) = Flip Transpose
 tool_of (Tiling w) = Tile w.across w.down
 
@@ -51,7 +51,7 @@ IsReady (Picking w) s rows = HasPlanes w.tool s
 IsReady (Enlarging w) s rows = IsEnlarging w s
 IsReady (Passing w) s rows = Unit {0}
 IsReady (Mirroring w) s rows = IsWithinLimits s
-IsReady (Turning w) s rows = IsTurning w rows
+IsReady (ReversingRows w) s rows = IsReversingRows w rows
 IsReady (Transposing w) s rows = IsTransposing w s rows
 IsReady (Tiling w) s rows = IsTiling w s rows
 
@@ -64,7 +64,7 @@ due_of (Picking w) = row_list w.made
 due_of (Enlarging w) = enlarged_due w
 due_of (Passing w) = row_list w.made
 due_of (Mirroring w) = row_list w.made
-due_of (Turning w) = turned_due w
+due_of (ReversingRows w) = reversed_due w
 due_of (Transposing w) = transposed_due w
 due_of (Tiling w) = tiled_due w
 
@@ -77,7 +77,7 @@ kept_of (Picking w) = row_list w.made
 kept_of (Enlarging w) = row_list w.row
 kept_of (Passing w) = row_list w.made
 kept_of (Mirroring w) = row_list w.made
-kept_of (Turning w) = w.rows.items
+kept_of (ReversingRows w) = w.rows.items
 kept_of (Transposing w) = w.rows ++ w.band
 kept_of (Tiling w) = w.rows
 
@@ -104,17 +104,17 @@ abbrev pub KeepsNone : {W : Type 0} → (W → List (List ℕ)) → W → Place 
 KeepsNone kept work Between AllGiven = kept work ≡ []
 KeepsNone kept work Between (Waiting message) = kept work ≡ []
 KeepsNone kept work Between Rows = ⊥
-KeepsNone kept work Between Ending = Unit {0}
+KeepsNone kept work Between RowsAndEnd = Unit {0}
 KeepsNone kept work Between Nothing = kept work ≡ []
 KeepsNone kept work (Inside s y) AllGiven = Unit {0}
 KeepsNone kept work (Inside s y) (Waiting message) = Unit {0}
 KeepsNone kept work (Inside s y) Rows = Unit {0}
-KeepsNone kept work (Inside s y) Ending = ⊥
+KeepsNone kept work (Inside s y) RowsAndEnd = ⊥
 KeepsNone kept work (Inside s y) Nothing = Unit {0}
 KeepsNone kept work After AllGiven = kept work ≡ []
 KeepsNone kept work After (Waiting message) = kept work ≡ []
 KeepsNone kept work After Rows = ⊥
-KeepsNone kept work After Ending = ⊥
+KeepsNone kept work After RowsAndEnd = ⊥
 KeepsNone kept work After Nothing = kept work ≡ []
 
 -- a state is sound: it keeps no rows after a fault
@@ -127,14 +127,14 @@ abbrev pub waiting_in : Pending → List (List ℕ) → List Message
 waiting_in AllGiven due = []
 waiting_in (Waiting message) due = message ∷ []
 waiting_in Rows due = map Row due
-waiting_in Ending due = map Row due ++ ImageEnd ∷ []
+waiting_in RowsAndEnd due = map Row due ++ ImageEnd ∷ []
 waiting_in Nothing due = []
 
 abbrev pub is_all_given : Pending → Bool
 is_all_given AllGiven = true
 is_all_given (Waiting message) = false
 is_all_given Rows = false
-is_all_given Ending = false
+is_all_given RowsAndEnd = false
 is_all_given Nothing = false
 
 -- these were accepted, none of them refused, and the answers to them are those that were given and those that wait
@@ -144,17 +144,18 @@ pub record IsAnswering (tool : Tool) (l g waiting : List Message) : Type 0 where
   pub given : answered_from tool Between [] l ≡ g ++ waiting
 
 -- the state of this tool, which has accepted these messages and given those
-pub record IsAt {W : Type 0} (tool_at : W → Tool) (ready_for : W → Shape → List (List ℕ) → Type 0) (due : W → List (List ℕ)) (s : Standing W) (t : Tool) (l g : List Message) : Type 0 where
+pub record IsAt {W : Type 0} (tool_at : W → Tool) (ready_for : W → Shape → List (List ℕ) → Type 0) (due kept : W → List (List ℕ)) (s : Standing W) (t : Tool) (l g : List Message) : Type 0 where
   pub tool : tool_at s.work ≡ t
   pub options : IsLawfulTool t
   pub answering : IsAnswering t l g (waiting_in s.pending (due s.work))
   pub place : s.place ≡ place_of Between l
   pub ready : IsReadyFor ready_for s.work s.place (rows_come [] l)
+  pub none : KeepsNone kept s.work s.place s.pending
   pub answers : Answers t l g
 
 -- the same of the tool of a chain
 abbrev pub IsToolAt : Standing Work → Tool → List Message → List Message → Type 0
-IsToolAt s t l g = IsAt tool_of IsReady due_of s t l g
+IsToolAt s t l g = IsAt tool_of IsReady due_of kept_of s t l g
 
 -- the state of this tool before the first message
 pub record IsFresh (s : Standing Work) (t : Tool) : Type 0 where

@@ -7,7 +7,7 @@ use Rattle.pnm_image.specs.Places.{Accepts, place_after}
 use Rattle.pnm_tools.specs.declared.fault.ToolFault.{ToolFault}
 use Rattle.pnm_tools.specs.declared.fault.ToolFault.TheVariants.{OutOfOrder, Memory}
 use Rattle.pnm_tools.specs.declared.state.Pending.{Pending}
-use Rattle.pnm_tools.specs.declared.state.Pending.TheVariants.{AllGiven, Waiting, Rows, Ending, Nothing}
+use Rattle.pnm_tools.specs.declared.state.Pending.TheVariants.{AllGiven, Waiting, Rows, RowsAndEnd, Nothing}
 use Rattle.pnm_tools.specs.declared.tool.Tool.{Tool}
 use Rattle.pnm_tools.specs.Answers.{Begins, RefusesHead}
 use Rattle.pnm_tools.specs.Answering.{answered, rows_after}
@@ -52,21 +52,21 @@ IsTold None old new = new ≡ AllGiven
 IsTold (Some m) old new = (is_all_given old ≡ false) × (is_all_given new ≡ false)
 
 -- the first of the messages that wait is given, if one does, and the others wait
-pub record Gives {W : Type 0} (tool_at : W → Tool) (ready_for : W → Shape → List (List ℕ) → Type 0) (due kept : W → List (List ℕ)) (old : W) (before : Pending) (new : W) (after : Pending) (given : Option Message) : Type 0 where
+pub record IsGiven {W : Type 0} (tool_at : W → Tool) (ready_for : W → Shape → List (List ℕ) → Type 0) (due kept : W → List (List ℕ)) (old : W) (before : Pending) (new : W) (after : Pending) (given : Option Message) : Type 0 where
   pub waits : waiting_in before (due old) ≡ message_list given ++ waiting_in after (due new)
   pub told : IsTold given before after
   pub tool : tool_at new ≡ tool_at old
   pub ready : (place : Place) (rows : List (List ℕ)) → KeepsNone kept old place before → IsReadyFor ready_for old place rows → IsReadyFor ready_for new place rows
   pub none : (place : Place) → KeepsNone kept old place before → KeepsNone kept new place after
 
--- only rows can want memory
+-- where rows are due, or could be
 abbrev pub GivesRows : Pending → Type 0
 GivesRows AllGiven = ⊥
 GivesRows (Waiting message) = ⊥
 GivesRows Rows = Unit {0}
-GivesRows Ending = Unit {0}
+GivesRows RowsAndEnd = Unit {0}
 GivesRows Nothing = ⊥
 
 abbrev pub Gave : {W : Type 0} → (W → Tool) → (W → Shape → List (List ℕ) → Type 0) → (W → List (List ℕ)) → (W → List (List ℕ)) → W → Pending → W → Pending → Result (Option Message) ToolFault → Type 0
-Gave tool_at ready_for due kept old before new after (Ok given) = Gives tool_at ready_for due kept old before new after given
+Gave tool_at ready_for due kept old before new after (Ok given) = IsGiven tool_at ready_for due kept old before new after given
 Gave tool_at ready_for due kept old before new after (Err fault) = (fault ≡ Memory) × GivesRows before × (tool_at new ≡ tool_at old)

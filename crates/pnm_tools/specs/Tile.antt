@@ -1,5 +1,5 @@
--- The tiled image, from pnmtile(1): the image side by side, as often as it takes to fill so many columns and rows. The
--- first copy lies at the top left, and the last ones are cut off.
+-- The tiled image, from pnmtile(1): the image replicated side by side until so many columns and rows are filled. The first
+-- copy lies at the top left, and what doesn't fit is cut off at the right and at the bottom.
 use Rattle.std.specs.Prelude.{◌≤◌, ℕ, ◌%◌, ◌==◌, List, [], map, slice_index_or, Result, Err, if◌then◌else◌}
 use Rattle.std.specs.List.{flat_map, range_with_len}
 use Rattle.pnm_image.specs.declared.shape.Shape.{Shape}
@@ -17,7 +17,7 @@ IsExtent count = (1 ≤ count) × (count ≤ 16777216)
 abbrev pub tiled_header : ℕ → ℕ → Header → Header
 tiled_header across down head = record head { shape = record head.shape { width = across; height = down } }
 
--- the tool sees whole images alone, so that a height of 0 is out of order
+-- the tool isn't row-wise, so that a height of 0 is out of order
 abbrev pub tiled_head : ℕ → ℕ → Header → Result Header ToolFault
 tiled_head across down head = if head.shape.height == 0 then Err OutOfOrder else within_limits (tiled_header across down head)
 

@@ -30,13 +30,7 @@ impl<T: Rows> Maker for AtOnce<T> {
         self.tool.begin(alloc, head)
     }
 
-    fn take(
-        &mut self,
-        alloc: Global,
-        shape: Shape,
-        y: u32,
-        row: Samples,
-    ) -> Result<(), ToolFault> {
+    fn take(&mut self, alloc: Global, shape: Shape, y: u32, row: Samples) -> Result<(), ToolFault> {
         self.made = self.tool.row(alloc, shape, y, row)?;
         Ok(())
     }

@@ -1,6 +1,7 @@
 //! `pamenlarge`: each pixel so many times across and so many times down, from pamenlarge(1).
 
-ghost use Rattle.std.specs.Prelude.{◌≡◌, ◌≤◌, ◌*◌, ◌⊎◌, length, OnOk, IfOk, IfErr, Ok, Err, None};
+ghost use Rattle.std.specs.Prelude.{◌≡◌, ◌≤◌, ◌*◌, ◌⊎◌, length, replicate, OnOk, IfOk, IfErr, Ok, Err, None};
+ghost use Rattle.std.specs.List.{flat_map};
 ghost use Rattle.pnm_image.specs.Heads.{IsWithinLimits, row_length};
 ghost use Rattle.pnm_tools.specs.declared.fault.ToolFault.TheVariants.{Memory};
 ghost use Rattle.pnm_tools.specs.declared.tool.Tool.TheVariants.{Enlarge};
@@ -104,7 +105,7 @@ pub(crate) fn enlarged_head(
 ) -> Result<Head, ToolFault>
     requires { IsFactor across × IsFactor down }
     ensures made { IfOk result (λ made. result_head (Enlarge across down) head.now ≡ Ok made) }
-    ensures limits { OnOk result ((head.now.shape.width * across ≤ 1000000) × (head.now.shape.width * across * head.now.shape.depth ≤ 16777216)) }
+    ensures limits { OnOk result (IsWithinLimits head.now.shape × (head.now.shape.width * across ≤ 1000000) × (head.now.shape.width * across * head.now.shape.depth ≤ 16777216)) }
     ensures refused { IfErr result (λ fault. (result_head (Enlarge across down) head.now ≡ Err fault)
         ⊎ ((fault ≡ Memory) × Takes (Enlarge across down) head.now)) }
 {
@@ -139,13 +140,32 @@ fn repeat_pixels(
     ensures made { IfOk result (λ made. made.items ≡ enlarged_row across shape row.now) }
     ensures refused { IfErr result (λ fault. fault ≡ Memory) }
 {
+    if shape.depth == 1 {
+        return repeat_samples(alloc, across, row);
+    }
     let (width, depth, across) = (shape.width as usize, shape.depth as usize, across as usize);
     let mut enlarged = Vec::with_capacity(alloc, width * across * depth)?;
     for x in 0..width {
         let pixel = &row[x * depth..(x + 1) * depth];
         for _ in 0..across {
-            enlarged.extend_from_slice(pixel)?;
+            for sample in pixel {
+                enlarged.push(*sample)?;
+            }
         }
+    }
+    Ok(enlarged)
+}
+
+/// The row with each sample repeated so many times: where a pixel is one sample, that is faster.
+fn repeat_samples(alloc: Global, across: u32, row: &[u16]) -> Result<Vec<u16>, ToolFault>
+    requires { length row.now * across ≤ 16777216 }
+    ensures made { IfOk result (λ made. made.items ≡ flat_map (replicate across) row.now) }
+    ensures refused { IfErr result (λ fault. fault ≡ Memory) }
+{
+    let across = across as usize;
+    let mut enlarged = Vec::with_capacity(alloc, row.len() * across)?;
+    for sample in row {
+        enlarged.resize(enlarged.len() + across, *sample)?;
     }
     Ok(enlarged)
 }

@@ -1,13 +1,13 @@
 //! `pamflip`: left and right, or top and bottom exchanged, from pamflip(1). Columns and rows are
 //! exchanged in `transpose`.
 
-ghost use Rattle.std.specs.Prelude.{◌≡◌, ◌⊎◌, length, false, [], IfOk, IfErr, Ok, Err};
+ghost use Rattle.std.specs.Prelude.{◌≡◌, ◌⊎◌, length, false, [], OnOk, IfOk, IfErr, Ok, Err};
 ghost use Rattle.pnm_image.specs.Heads.{IsWithinLimits, row_length};
 ghost use Rattle.pnm_tools.specs.declared.fault.ToolFault.TheVariants.{Memory};
 ghost use Rattle.pnm_tools.specs.declared.flip.FlipWay.TheVariants.{Null, LeftRight, TopBottom};
 ghost use Rattle.pnm_tools.specs.declared.tool.Tool.TheVariants.{Flip};
 ghost use Rattle.pnm_tools.specs.Flip.{mirrored_row};
-ghost use Rattle.pnm_tools.specs.Keeping.{IsTurning, turned_due};
+ghost use Rattle.pnm_tools.specs.Keeping.{IsReversingRows, reversed_due};
 ghost use Rattle.pnm_tools.specs.Tools.{Takes, result_head};
 
 use crate::fault::ToolFault;
@@ -21,9 +21,9 @@ use std::alloc::Global;
 pub enum FlipWay {
     /// Not at all.
     Null,
-    /// The last column becomes the first.
+    /// The order of the columns is reversed.
     LeftRight,
-    /// The last row becomes the first.
+    /// The order of the rows is reversed.
     TopBottom,
     /// Columns become rows, and rows columns.
     Transpose,
@@ -86,26 +86,26 @@ impl Rows for Mirror {
 
 /// Exchanges top and bottom: keeps the rows of an image, and gives the last one first.
 #[derive(Debug, Drop)]
-pub struct Turner {
+pub struct RowReverser {
     rows: Vec<Samples>,
     /// The image has ended.
     gives: bool,
 }
 
-impl Maker for Turner {
+impl Maker for RowReverser {
     ghost tool = { λ _. Flip TopBottom };
 
-    ghost ready = { λ w shape rows. IsTurning w rows };
+    ghost ready = { λ w shape rows. IsReversingRows w rows };
 
-    ghost due = { turned_due };
+    ghost due = { reversed_due };
 
     ghost kept = { λ w. w.rows.items };
 
     fn begin(&mut self, alloc: Global, head: &Head) -> Result<Head, ToolFault> {
-        let turned = flipped_head(alloc, FlipWay::TopBottom, head)?;
+        let reversed = flipped_head(alloc, FlipWay::TopBottom, head)?;
         self.rows = Vec::with_capacity(alloc, head.shape().height as usize)?;
         self.gives = false;
-        Ok(turned)
+        Ok(reversed)
     }
 
     fn take(
@@ -135,13 +135,13 @@ impl Maker for Turner {
     }
 }
 
-impl Turner {
+impl RowReverser {
     /// The tool before the first row.
-    pub(crate) fn new(alloc: Global) -> Turner
+    pub(crate) fn new(alloc: Global) -> RowReverser
         ensures rows { result.rows.items ≡ [] }
         ensures gives { result.gives ≡ false }
     {
-        Turner {
+        RowReverser {
             rows: Vec::new(alloc),
             gives: false,
         }
@@ -151,19 +151,17 @@ impl Turner {
 /// The head of the flipped image, or the refusal.
 pub(crate) fn flipped_head(alloc: Global, way: FlipWay, head: &Head) -> Result<Head, ToolFault>
     ensures made { IfOk result (λ made. result_head (Flip way) head.now ≡ Ok made) }
+    ensures limits { OnOk result (IsWithinLimits head.now.shape) }
     ensures refused { IfErr result (λ fault. (result_head (Flip way) head.now ≡ Err fault)
         ⊎ ((fault ≡ Memory) × Takes (Flip way) head.now)) }
 {
     let shape = head.shape();
-    let keeps_rows = match way {
-        FlipWay::Null | FlipWay::LeftRight => false,
-        FlipWay::TopBottom | FlipWay::Transpose => true,
-    };
-    if keeps_rows && shape.height == 0 {
-        return Err(ToolFault::OutOfOrder);
-    }
     let flipped = match way {
-        FlipWay::Null | FlipWay::LeftRight | FlipWay::TopBottom => shape,
+        FlipWay::Null | FlipWay::LeftRight => shape,
+        FlipWay::TopBottom | FlipWay::Transpose if shape.height == 0 => {
+            return Err(ToolFault::OutOfOrder);
+        }
+        FlipWay::TopBottom => shape,
         FlipWay::Transpose => Shape {
             width: shape.height,
             height: shape.width,
@@ -181,8 +179,9 @@ fn reverse_pixels(samples: &mut [u16], shape: Shape)
 {
     samples.reverse();
     if shape.depth > 1 {
-        for pixel in samples.chunks_exact_mut(shape.depth as usize) {
-            pixel.reverse();
+        let depth = shape.depth as usize;
+        for x in 0..shape.width as usize {
+            samples[x * depth..(x + 1) * depth].reverse();
         }
     }
 }

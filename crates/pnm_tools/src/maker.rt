@@ -38,13 +38,7 @@ pub trait Maker {
             ⊎ ((fault ≡ Memory) × Takes (tool self.old) head.now)) };
 
     /// Takes row `y` of an image of this shape. The only fault is `Memory`.
-    fn take(
-        &mut self,
-        alloc: Global,
-        shape: Shape,
-        y: u32,
-        row: Samples,
-    ) -> Result<(), ToolFault>
+    fn take(&mut self, alloc: Global, shape: Shape, y: u32, row: Samples) -> Result<(), ToolFault>
         requires lawful { IsLawfulTool (tool self.old) }
         requires row { (y < shape.height) × IsRowOf shape row }
         requires ready { (rows : List (List ℕ)) × (length rows ≡ y) × ready self.old shape rows }

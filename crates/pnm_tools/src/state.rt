@@ -23,13 +23,13 @@ pub enum Pending {
     /// The rows that the tool still gives.
     Rows,
     /// The rows that the tool still gives, and the end of the image.
-    Ending,
+    RowsAndEnd,
     /// Nothing, which isn't told yet.
     Nothing,
 }
 
-/// A tool at work on a stream. What it keeps of an image it gives up at the image's end, where the
-/// stream is broken off, and at a fault.
+/// A tool at work on a stream. What it keeps of an image it gives up once it has given the image's end,
+/// where the stream is broken off, and at a fault.
 #[derive(Debug, Drop)]
 pub struct State<T: Maker> {
     alloc: Global,
@@ -53,7 +53,7 @@ impl<T: Maker> Model for State<T> {
 impl<T: Maker> Filter for State<T> {
     ghost use Rattle.pnm_tools.specs.States.{IsAt};
 
-    ghost at = { IsAt T.tool T.ready T.due };
+    ghost at = { IsAt T.tool T.ready T.due T.kept };
 
     ghost all_given = { λ s. is_all_given s.pending };
 
@@ -68,15 +68,21 @@ impl<T: Maker> Filter for State<T> {
             return Err(fault);
         }
         let all_given = is_all_given(&self.pending);
-        match answer(self.alloc, all_given, &mut self.work, &mut self.place, message) {
+        match answer(
+            self.alloc,
+            all_given,
+            &mut self.work,
+            &mut self.place,
+            message,
+        ) {
             Ok(pending) => {
                 self.pending = pending;
                 Ok(())
             }
-            Err(fault) => {
+            Err(refusal) => {
                 self.work.release(self.alloc);
-                self.fault = Some(fault);
-                Err(fault)
+                self.fault = Some(refusal);
+                Err(refusal)
             }
         }
     }
@@ -144,7 +150,7 @@ fn answer<T: Maker>(
         }
         (Place::Inside(shape, _), Message::ImageEnd) => {
             work.end(shape);
-            Ok(Pending::Ending)
+            Ok(Pending::RowsAndEnd)
         }
         (_, Message::Stop) => {
             work.release(alloc);
@@ -175,9 +181,9 @@ fn give<T: Maker>(
             }
             None => Ok(None),
         },
-        Pending::Ending => match work.give(alloc)? {
+        Pending::RowsAndEnd => match work.give(alloc)? {
             Some(row) => {
-                *pending = Pending::Ending;
+                *pending = Pending::RowsAndEnd;
                 Ok(Some(Message::Row(row)))
             }
             None => {
@@ -194,6 +200,6 @@ fn is_all_given(pending: &Pending) -> bool
 {
     match pending {
         Pending::AllGiven => true,
-        Pending::Waiting(_) | Pending::Rows | Pending::Ending | Pending::Nothing => false,
+        Pending::Waiting(_) | Pending::Rows | Pending::RowsAndEnd | Pending::Nothing => false,
     }
 }

@@ -77,7 +77,7 @@ impl Maker for Tiler {
         self.left = self.down;
     }
 
-    /// A row that is wanted again goes to the end.
+    /// A row that is wanted again goes to the end. After a fault no row is left.
     fn give(&mut self, alloc: Global) -> Result<Option<Samples>, ToolFault> {
         if self.left == 0 {
             return Ok(None);
@@ -85,14 +85,16 @@ impl Maker for Tiler {
         let Some(row) = self.rows.pop_front() else {
             return Ok(None);
         };
-        let tiled = if self.rows.len() < self.left as usize - 1 {
+        let left = self.left - 1;
+        self.left = 0;
+        let tiled = if self.rows.len() < left as usize {
             let tiled = tile(alloc, self.across, self.width, self.depth, row.as_slice())?;
             self.rows.push_back(row)?;
             tiled
         } else {
             tile_last(alloc, self.across, self.width, self.depth, row.into_vec())?
         };
-        self.left -= 1;
+        self.left = left;
         Ok(Some(Samples::new(tiled)))
     }
 

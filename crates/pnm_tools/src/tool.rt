@@ -12,7 +12,7 @@ use crate::cut::CutBox;
 use crate::depth::{Rescaler, head_at};
 use crate::enlarge::{Enlarger, enlarged_head};
 use crate::fault::ToolFault;
-use crate::flip::{FlipWay, Mirror, Passer, Turner, flipped_head};
+use crate::flip::{FlipWay, Mirror, Passer, RowReverser, flipped_head};
 use crate::invert::Inverter;
 use crate::rows::Rows;
 use crate::state::State;
@@ -50,8 +50,8 @@ pub enum Tool {
 impl Tool {
     /// Whether the options are in their ranges: `Cut` has edges from -16,777,216 to 16,777,216 and
     /// sizes from 1 to 16,777,216, but not two edges and a size of one axis; `Depth` has 1 to 65,535;
-    /// `Channel` has 1 to 256 numbers, each 0 to 255, and a tuple type as PAM allows it; `Enlarge` and
-    /// `Tile` have 1 to 16,777,216 twice.
+    /// `Channel` has 1 to 256 numbers, each 0 to 255, and a tuple type as PAM allows it; both numbers of
+    /// `Enlarge` and of `Tile` are 1 to 16,777,216.
     pub fn is_lawful(&self) -> bool
         ensures { IsTrue result ↔ IsLawfulTool self.now }
     {
@@ -149,7 +149,7 @@ impl Tool {
             Tool::Enlarge(across, down) => Work::Enlarging(Enlarger::new(*across, *down)),
             Tool::Flip(FlipWay::Null) => Work::Passing(AtOnce::new(Passer)),
             Tool::Flip(FlipWay::LeftRight) => Work::Mirroring(AtOnce::new(Mirror)),
-            Tool::Flip(FlipWay::TopBottom) => Work::Turning(Turner::new(alloc)),
+            Tool::Flip(FlipWay::TopBottom) => Work::ReversingRows(RowReverser::new(alloc)),
             Tool::Flip(FlipWay::Transpose) => Work::Transposing(Transposer::new(alloc)),
             Tool::Tile(across, down) => Work::Tiling(Tiler::new(alloc, *across, *down)),
         })

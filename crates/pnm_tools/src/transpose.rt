@@ -1,10 +1,11 @@
 //! `pamflip -transpose`: columns and rows exchanged, from pamflip(1).
 
-ghost use Rattle.std.specs.Prelude.{◌≡◌, ◌≤◌, ◌<◌, ◌+◌, ◌*◌, ◌++◌, All, length, map, reverse, OnOk, IfOk, IfErr, []};
+ghost use Rattle.std.specs.Prelude.{◌≡◌, ◌≤◌, ◌<◌, ◌+◌, ◌*◌, ◌++◌, All, length, map, reverse, vec_len, vec_capacity, IfOk, IfErr, []};
 ghost use Rattle.std.specs.List.{range_with_len};
 ghost use Rattle.pnm_tools.specs.declared.fault.ToolFault.TheVariants.{Memory};
 ghost use Rattle.pnm_tools.specs.declared.tool.Tool.TheVariants.{Flip};
 ghost use Rattle.pnm_tools.specs.declared.flip.FlipWay.TheVariants.{Transpose};
+ghost use Rattle.pnm_tools.specs.Columns.{AreEmpty, HaveRoom, HavePixels};
 ghost use Rattle.pnm_tools.specs.Flip.{column_of};
 ghost use Rattle.pnm_tools.specs.Keeping.{IsTransposing, transposed_due};
 
@@ -53,7 +54,7 @@ impl Maker for Transposer {
 
     fn begin(&mut self, alloc: Global, head: &Head) -> Result<Head, ToolFault> {
         let transposed = flipped_head(alloc, FlipWay::Transpose, head)?;
-        self.release(alloc);
+        self.clear(alloc);
         self.rows = Vec::with_capacity(alloc, head.shape().height as usize)?;
         Ok(transposed)
     }
@@ -85,10 +86,7 @@ impl Maker for Transposer {
     }
 
     fn release(&mut self, alloc: Global) {
-        self.columns = 0;
-        self.next = 0;
-        self.rows = Vec::new(alloc);
-        self.band = Vec::new(alloc);
+        self.clear(alloc);
     }
 }
 
@@ -106,6 +104,17 @@ impl Transposer {
             columns: 0,
         }
     }
+
+    /// Gives up all rows and columns.
+    fn clear(&mut self, alloc: Global)
+        ensures rows { (self.new.rows ≡ []) × (self.new.band ≡ []) }
+        ensures columns { (self.new.next ≡ 0) × (self.new.columns ≡ 0) }
+    {
+        self.columns = 0;
+        self.next = 0;
+        self.rows = Vec::new(alloc);
+        self.band = Vec::new(alloc);
+    }
 }
 
 /// So many columns of the rows, from the first one on, the last one first.
@@ -117,13 +126,13 @@ fn band_of(
     depth: usize,
 ) -> Result<Vec<Samples>, ToolFault>
     requires rows { All (λ row. (first + count) * depth ≤ length row) rows.now }
-    requires sizes { (length rows.now * depth ≤ 16777216) × (depth ≤ 256) × (first + count ≤ 1000000) }
+    requires sizes { (length rows.now * depth ≤ 16777216) × (depth ≤ 256) × (first + count ≤ 4294967295) }
     ensures made { IfOk result (λ band. band.items ≡ reverse (map (column_of depth rows.now) (range_with_len first count))) }
     ensures refused { IfErr result (λ fault. fault ≡ Memory) }
 {
     let mut columns = empty_columns(alloc, count, rows.len() * depth)?;
     for row in rows {
-        add_pixels(columns.as_mut_slice(), &row.as_slice()[first * depth..], depth)?;
+        add_pixels(columns.as_mut_slice(), &row.as_slice()[first * depth..], depth);
     }
     let mut band = Vec::with_capacity(alloc, count)?;
     while let Some(column) = columns.pop() {
@@ -134,7 +143,8 @@ fn band_of(
 
 /// So many columns without samples, with room for so many each.
 fn empty_columns(alloc: Global, count: usize, room: usize) -> Result<Vec<Vec<u16>>, ToolFault>
-    ensures { OnOk result (Unit {0}) }
+    ensures empty { IfOk result (λ columns. AreEmpty count room columns.items) }
+    ensures refused { IfErr result (λ fault. fault ≡ Memory) }
 {
     let mut columns = Vec::with_capacity(alloc, count)?;
     for _ in 0..count {
@@ -144,13 +154,25 @@ fn empty_columns(alloc: Global, count: usize, room: usize) -> Result<Vec<Vec<u16
 }
 
 /// Adds to each column its pixel of a row that begins with the first column's.
-fn add_pixels(columns: &mut [Vec<u16>], row: &[u16], depth: usize) -> Result<(), ToolFault>
-    requires { length columns.old * depth ≤ length row.now }
+fn add_pixels(columns: &mut [Vec<u16>], row: &[u16], depth: usize)
+    requires row { length columns.old * depth ≤ length row.now }
+    requires room { HaveRoom depth columns.old }
+    ensures { HavePixels (length columns.old) depth row.now columns.old columns.new }
 {
     let mut x = 0;
     for column in columns.iter_mut() {
-        column.extend_from_slice(&row[x..x + depth])?;
+        add_pixel(column, &row[x..x + depth]);
         x += depth;
     }
-    Ok(())
+}
+
+/// Adds a pixel to a column that has room for it.
+fn add_pixel(column: &mut Vec<u16>, pixel: &[u16])
+    requires { vec_len column.old + length pixel.now ≤ vec_capacity column.old }
+    ensures added { column.new.items ≡ column.old.items ++ pixel.now }
+    ensures enough { vec_capacity column.new ≡ vec_capacity column.old }
+{
+    for sample in pixel {
+        column.push_reserved(*sample);
+    }
 }

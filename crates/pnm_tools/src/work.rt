@@ -6,7 +6,7 @@ use crate::cut::CutBox;
 use crate::depth::Rescaler;
 use crate::enlarge::Enlarger;
 use crate::fault::ToolFault;
-use crate::flip::{Mirror, Passer, Turner};
+use crate::flip::{Mirror, Passer, RowReverser};
 use crate::invert::Inverter;
 use crate::maker::Maker;
 use crate::tile::Tiler;
@@ -32,7 +32,7 @@ pub enum Work {
     /// `pamflip -leftright`.
     Mirroring(AtOnce<Mirror>),
     /// `pamflip -topbottom`.
-    Turning(Turner),
+    ReversingRows(RowReverser),
     /// `pamflip -transpose`.
     Transposing(Transposer),
     /// `pnmtile`.
@@ -59,19 +59,13 @@ impl Maker for Work {
             Work::Enlarging(work) => work.begin(alloc, head),
             Work::Passing(work) => work.begin(alloc, head),
             Work::Mirroring(work) => work.begin(alloc, head),
-            Work::Turning(work) => work.begin(alloc, head),
+            Work::ReversingRows(work) => work.begin(alloc, head),
             Work::Transposing(work) => work.begin(alloc, head),
             Work::Tiling(work) => work.begin(alloc, head),
         }
     }
 
-    fn take(
-        &mut self,
-        alloc: Global,
-        shape: Shape,
-        y: u32,
-        row: Samples,
-    ) -> Result<(), ToolFault> {
+    fn take(&mut self, alloc: Global, shape: Shape, y: u32, row: Samples) -> Result<(), ToolFault> {
         match self {
             Work::Inverting(work) => work.take(alloc, shape, y, row),
             Work::Cutting(work) => work.take(alloc, shape, y, row),
@@ -80,7 +74,7 @@ impl Maker for Work {
             Work::Enlarging(work) => work.take(alloc, shape, y, row),
             Work::Passing(work) => work.take(alloc, shape, y, row),
             Work::Mirroring(work) => work.take(alloc, shape, y, row),
-            Work::Turning(work) => work.take(alloc, shape, y, row),
+            Work::ReversingRows(work) => work.take(alloc, shape, y, row),
             Work::Transposing(work) => work.take(alloc, shape, y, row),
             Work::Tiling(work) => work.take(alloc, shape, y, row),
         }
@@ -95,7 +89,7 @@ impl Maker for Work {
             Work::Enlarging(work) => work.end(shape),
             Work::Passing(work) => work.end(shape),
             Work::Mirroring(work) => work.end(shape),
-            Work::Turning(work) => work.end(shape),
+            Work::ReversingRows(work) => work.end(shape),
             Work::Transposing(work) => work.end(shape),
             Work::Tiling(work) => work.end(shape),
         }
@@ -110,7 +104,7 @@ impl Maker for Work {
             Work::Enlarging(work) => work.give(alloc),
             Work::Passing(work) => work.give(alloc),
             Work::Mirroring(work) => work.give(alloc),
-            Work::Turning(work) => work.give(alloc),
+            Work::ReversingRows(work) => work.give(alloc),
             Work::Transposing(work) => work.give(alloc),
             Work::Tiling(work) => work.give(alloc),
         }
@@ -125,7 +119,7 @@ impl Maker for Work {
             Work::Enlarging(work) => work.release(alloc),
             Work::Passing(work) => work.release(alloc),
             Work::Mirroring(work) => work.release(alloc),
-            Work::Turning(work) => work.release(alloc),
+            Work::ReversingRows(work) => work.release(alloc),
             Work::Transposing(work) => work.release(alloc),
             Work::Tiling(work) => work.release(alloc),
         }

@@ -22,7 +22,7 @@ use Rattle.pnm_tools.specs.declared.fault.ToolFault.{ToolFault}
 use Rattle.pnm_tools.specs.declared.fault.ToolFault.TheVariants.{Memory}
 use Rattle.pnm_tools.specs.declared.tool.Tool.{Tool}
 use Rattle.pnm_tools.specs.declared.work.Work.{Work}
-use Rattle.pnm_tools.specs.States.{Standing, IsAt, IsReady, is_all_given, tool_of}
+use Rattle.pnm_tools.specs.States.{Standing, IsToolAt, is_all_given}
 use Rattle.pnm_tools.specs.Chains.{AreLawfulTools, due_in_turn}
 use Rattle.pnm_tools.specs.Stages.{IsSound, AreSound, HaveAnswered, AreWell, IsFirstFault}
 use Rattle.pnm_tools.proofs.ChainLaws.{given_are_sound, stream_is_answered, refusal_is_first, given_is_front}
@@ -265,11 +265,11 @@ run_well held failures start done tools faults given out d summary text ran said
 -- the end of the source's messages
 pub ran_of : {R W : Type 0} (left : R → Option (List ℕ)) (reader_failures : R → ℕ) (held : W → Option (List ℕ)) (failures : W → ℕ) (source source_new : Source R) (result : Result (Unit {0}) InputFault) (old new : List (Stage (Standing Work))) (before after : Downstream W) (tools : List Tool)
     → AreLawfulTools tools → AreFresh old tools → HasTakenWith held failures (output_of before) [] before before.output
-    → (passed : HasPassed left reader_failures (IsAt tool_of IsReady) (λ s. is_all_given s.pending) (λ s. s.fault) held failures source source_new result old new before after)
+    → (passed : HasPassed left reader_failures IsToolAt (λ s. is_all_given s.pending) (λ s. s.fault) held failures source source_new result old new before after)
     → Ran held failures (output_of before) tools (refusals_in new) passed.given passed.output.out after
 ran_of left reader_failures held failures source source_new result old new before after tools lawful fresh start passed = record {
   lawful = lawful;
   sound = passed.sound;
-  answered = have_answered (IsAt tool_of IsReady) (λ s. is_all_given s.pending) (λ s. s.fault) new tools passed.given passed.output.out (passed.output.stages tools (fresh_at old tools fresh));
+  answered = have_answered IsToolAt (λ s. is_all_given s.pending) (λ s. s.fault) new tools passed.given passed.output.out (passed.output.stages tools (fresh_at old tools fresh));
   taken = passed.output.taken (output_of before) start;
 }

@@ -5,7 +5,7 @@ use Rattle.pnm_tools.specs.declared.tool.Tool.{Tool}
 use Rattle.pnm_tools.specs.declared.work.Work.{Work}
 use Rattle.pnm_tools.specs.Answers.{EndsBy, Answers, AnswersInFull}
 use Rattle.pnm_tools.specs.Chains.{AreLawfulTools}
-use Rattle.pnm_tools.specs.States.{Standing, IsAt, IsFresh, IsReady, is_all_given, tool_of}
+use Rattle.pnm_tools.specs.States.{Standing, IsToolAt, IsFresh, is_all_given}
 use Rattle.pnm_tools.specs.Tools.{IsLawfulTool}
 use Rattle.pnm_tools.proofs.OwedLaws.{nothing_yet}
 use Rattle.pnmpipe.specs.declared.stage.Stage.{Stage}
@@ -16,7 +16,7 @@ use Rattle.pnmpipe.specs.Tools.{ToolAt, ToolsAt, AreFresh}
 nothing_is_full : (tool : Tool) → Answers tool [] [] → AnswersInFull tool [] []
 nothing_is_full tool answers = record { answers = answers; taken = tt; all = λ is c. nothing_yet tool is; ends = λ e ends. ends }
 
-pub fresh_is_idle : (s : Standing Work) (tool : Tool) → IsFresh tool_of IsReady s tool → IsIdle (IsAt tool_of IsReady) (λ s. is_all_given s.pending) (λ s. s.fault) s tool [] []
+pub fresh_is_idle : (s : Standing Work) (tool : Tool) → IsFresh s tool → IsIdle IsToolAt (λ s. is_all_given s.pending) (λ s. s.fault) s tool [] []
 fresh_is_idle s tool fresh = record { state = fresh.state; told = fresh.told; going = fresh.going; full = nothing_is_full tool fresh.state.answers }
 
 -- one tool more

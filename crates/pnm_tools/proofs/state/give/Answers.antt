@@ -5,8 +5,8 @@ use Rattle.pnm_tools.proofs.state.give.Goals as goal
 
 pub returns-in-None-2 : goal.returns-in-None-2
 returns-in-None-2 g c =
-    let given = c.in_ok-row-in-Ending in
-    let mid = c.give-in-Ending.new.self in
+    let given = c.in_ok-row-in-RowsAndEnd in
+    let mid = c.give-in-RowsAndEnd.new.self in
     let none = rw c.in-None-2.is at given.ensures.all in
     let waits = given.ensures.due ∙ ap (λ (row : Option (List ℕ)). row_list row ++ g.T.Maker.due mid) c.in-None-2.is ∙ none in
-    ended g.T.Maker.tool g.T.Maker.ready g.T.Maker.due g.T.Maker.kept c.args.work.now c.release.new.self c.args.pending.now (sym c.replace.ensures.value ∙ c.in-Ending.is) waits (c.release.ensures.same ∙ given.ensures.same) c.release.ensures.kept
+    ended g.T.Maker.tool g.T.Maker.ready g.T.Maker.due g.T.Maker.kept c.args.work.now c.release.new.self c.args.pending.now (sym c.replace.ensures.value ∙ c.in-RowsAndEnd.is) waits (c.release.ensures.same ∙ given.ensures.same) c.release.ensures.kept

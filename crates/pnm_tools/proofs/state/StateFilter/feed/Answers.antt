@@ -16,5 +16,5 @@ returns-in-Err-clause-judged g c = λ none t l given at.
     let s = c.self.inside in
     let is_at = rw (← c.self.view_is) at at in
     let refused = rw c.is_all_given-all_given.ensures at c.in-Err.ensures.0 in
-    subst (λ (z : Standing _). Judges (is_all_given z.pending) t l c.args.message (Err c.in-Err.fault)) c.self.view_is
-    (judged g.T.Maker.tool g.T.Maker.ready g.T.Maker.due (standing s.work s.place s.pending s.fault) c.args.message c.in-Err.fault t l given is_at refused)
+    subst (λ (z : Standing _). Judges (is_all_given z.pending) t l c.args.message (Err c.in-Err.refusal)) c.self.view_is
+    (judged g.T.Maker.tool g.T.Maker.ready g.T.Maker.due g.T.Maker.kept (standing s.work s.place s.pending s.fault) c.args.message c.in-Err.refusal t l given is_at refused)

@@ -5,27 +5,23 @@ use Rattle.pnm_tools.proofs.state.StateFilter.next.Goals as goal
 pub returns-in-Ok-clause-given : goal.returns-in-Ok-clause-given
 returns-in-Ok-clause-given g c =
     let s = c.self.inside in
-    let sound = rw c.in_default.is at c.self.invariant.1 in
-    rw (← c.self.view_is) (given_by g.T.Maker.tool g.T.Maker.ready g.T.Maker.due g.T.Maker.kept (standing s.work s.place s.pending s.fault) c.give.new.work c.give.new.pending s.fault c.in-Ok.message sound.1 c.in-Ok.ensures)
+    rw (← c.self.view_is) (given_by g.T.Maker.tool g.T.Maker.ready g.T.Maker.due g.T.Maker.kept (standing s.work s.place s.pending s.fault) c.give.new.work c.give.new.pending s.fault c.in-Ok.message c.in-Ok.ensures)
 
 pub returns-in-Ok-clause-stop_alone : goal.returns-in-Ok-clause-stop_alone
 returns-in-Ok-clause-stop_alone g c =
     let s = c.self.inside in
-    let sound = rw c.in_default.is at c.self.invariant.1 in
-    rw (← c.self.view_is) (stop_alone_by g.T.Maker.tool g.T.Maker.ready g.T.Maker.due g.T.Maker.kept (standing s.work s.place s.pending s.fault) c.give.new.work c.give.new.pending c.in-Ok.message sound.1 c.in-Ok.ensures)
+    rw (← c.self.view_is) (stop_alone_by g.T.Maker.tool g.T.Maker.ready g.T.Maker.due g.T.Maker.kept (standing s.work s.place s.pending s.fault) c.give.new.work c.give.new.pending c.in-Ok.message c.in-Ok.ensures)
 
 pub returns-in-Ok-clause-full : goal.returns-in-Ok-clause-full
 returns-in-Ok-clause-full g c =
     let s = c.self.inside in
-    let sound = rw c.in_default.is at c.self.invariant.1 in
-    rw (← c.self.view_is) (full_by g.T.Maker.tool g.T.Maker.ready g.T.Maker.due g.T.Maker.kept (standing s.work s.place s.pending s.fault) c.give.new.work c.give.new.pending s.fault c.in-Ok.message sound.1 c.in-Ok.ensures)
+    rw (← c.self.view_is) (full_by g.T.Maker.tool g.T.Maker.ready g.T.Maker.due g.T.Maker.kept (standing s.work s.place s.pending s.fault) c.give.new.work c.give.new.pending s.fault c.in-Ok.message c.in-Ok.ensures)
 
 pub returns-in-Err-clause-failed : goal.returns-in-Err-clause-failed
 returns-in-Err-clause-failed g c = λ none. (
-    c.in-Err.ensures.0,
-    λ t l given at.
-        let s = c.self.inside in
-        let sound = rw c.in_default.is at c.self.invariant.1 in
-        let is_at = rw (← c.self.view_is) at at in
-        wanted_memory g.T.Maker.tool g.T.Maker.ready g.T.Maker.due g.T.Maker.kept (standing s.work s.place s.pending s.fault) t l given is_at sound.1 c.in-Err.ensures.1,
-  )
+  c.in-Err.ensures.0,
+  λ t l given at.
+      let s = c.self.inside in
+      let is_at = rw (← c.self.view_is) at at in
+      wanted_memory g.T.Maker.tool g.T.Maker.ready g.T.Maker.due g.T.Maker.kept (standing s.work s.place s.pending s.fault) t l given is_at c.in-Err.ensures.1,
+)

@@ -1,0 +1,69 @@
+-- An image that is given by a formula is an image, where its samples are in range.
+use Rattle.std.proofs.Common.{◌≡◌, ℕ, zero, suc, ◌+◌, ◌*◌, ◌<◌, ◌≤◌, false, ◌||◌, inl, inr, length, List, map, sym, subst, arith, suc-mul, zero-mul}
+use Rattle.std.specs.Prelude.{All, nat_lt}
+use Rattle.std.specs.List.{flat_map, range_with_len}
+use Rattle.std.proofs.lemmas.Bool.{cases_lt, ltb-false, or_parts}
+use Rattle.std.proofs.lemmas.List.{length-append}
+use Rattle.std.proofs.lemmas.List.Elements.{All-nil, All-append, All-from_get_or}
+use Rattle.std.proofs.lemmas.List.FromFn.{get_or-map-range_with_len, length-map-range_with_len}
+use Rattle.std.proofs.Math.ListN.{get_or-eq_default}
+use Rattle.pnm_image.specs.declared.shape.Shape.{Shape}
+use Rattle.pnm_image.specs.Heads.{Header, IsHeader, row_length}
+use Rattle.pnm_image.specs.Images.{Image, IsImage, sample_at}
+use Rattle.pnm_tools.specs.declared.tool.Tool.{Tool}
+use Rattle.pnm_tools.specs.Formulas.{row_by, image_by}
+use Rattle.pnm_tools.specs.Tools.{result_head, result_sample}
+use Rattle.pnm_tools.proofs.FormulaLaws.{length-row_by}
+use Rattle.pnm_tools.proofs.ImageLaws.{IsBy}
+
+-- rows of one length, one after another, have so many samples
+length-rows : (row : ℕ → List ℕ) (each from count : ℕ) → ((y : ℕ) → length (row y) ≡ each) → length (flat_map row (range_with_len from count)) ≡ count * each
+length-rows row each from zero long = sym (zero-mul each)
+length-rows row each from (suc count) long =
+    omega (arith, length-append (row from) (flat_map row (range_with_len (from + 1) count)), long from, length-rows row each (from + 1) count long, suc-mul count each)
+
+-- what holds of the samples of each row holds of all samples
+all_rows : (P : ℕ → Type 0) (row : ℕ → List ℕ) (from count : ℕ) → ((y : ℕ) → y < from + count → All P (row y)) → All P (flat_map row (range_with_len from count))
+all_rows P row from zero each = All-nil P
+all_rows P row from (suc count) each =
+    All-append P (row from) (flat_map row (range_with_len (from + 1) count)) (each from (omega arith)) (all_rows P row (from + 1) count (λ y lt. each y (omega arith)))
+
+-- what holds of the sample of each plane holds of the samples of a pixel
+all_planes : (P : ℕ → Type 0) (sample : ℕ → ℕ) (count : ℕ) → ((p : ℕ) → p < count → P (sample p)) → All P (map sample (range_with_len 0 count))
+all_planes P sample count each =
+    All-from_get_or P (map sample (range_with_len 0 count)) 0 (λ p lt.
+    let below : p < count = omega (arith, length-map-range_with_len sample 0 count) in
+    subst P (sym (get_or-map-range_with_len sample 0 count p p 0 below (omega arith))) (each p below))
+
+-- an image of a head is one whose samples are in range
+pub image_by_is_image : (head : Header) (sample : ℕ → ℕ → ℕ → ℕ) → IsHeader head → ((x y p : ℕ) → x < head.shape.width → y < head.shape.height → p < head.shape.depth → sample x y p ≤ head.shape.maxval) → IsImage (image_by head sample)
+image_by_is_image head sample sound range =
+    let s : Shape = head.shape in
+    record {
+      head = sound;
+      count = length-rows (λ y. row_by s (λ x p. sample x y p)) (row_length s) 0 s.height (λ y. length-row_by s (λ x p. sample x y p));
+      range = all_rows (λ v. v ≤ s.maxval) (λ y. row_by s (λ x p. sample x y p)) 0 s.height (λ y row.
+          all_rows (λ v. v ≤ s.maxval) (λ x. map (λ p. sample x y p) (range_with_len 0 s.depth)) 0 s.width (λ x column.
+          all_planes (λ v. v ≤ s.maxval) (λ p. sample x y p) s.depth (λ p plane. range x y p (omega arith) (omega arith) plane)));
+    }
+
+-- a sample of an image is in range
+pub sample_in_range : (i : Image) (x y p : ℕ) → IsImage i → sample_at i x y p ≤ i.head.shape.maxval
+sample_in_range i x y p is =
+    let at : ℕ = (y * i.head.shape.width + x) * i.head.shape.depth + p in
+    elim (cases_lt at (length i.samples)) [
+      | inl lt ↦ is.range at 0 lt
+      | inr beyond ↦ omega (arith, get_or-eq_default i.samples 0 beyond)
+    ]
+
+-- the result of a tool, where its head is one and its samples are in range
+pub made_is_image : (tool : Tool) (i j : Image) → IsBy (result_head tool i.head) (result_sample tool i) j → IsHeader j.head → ((x y p : ℕ) → result_sample tool i x y p ≤ j.head.shape.maxval) → IsImage j
+made_is_image tool i j made sound range = subst IsImage made.whole (image_by_is_image j.head (result_sample tool i) sound (λ x y p column row plane. range x y p))
+
+-- the sizes of a shape that isn't too large
+pub sizes_within : (width height depth row : ℕ) → (nat_lt 1000000 width || nat_lt 1000000 height || nat_lt 256 depth || nat_lt 16777216 row) ≡ false → (width ≤ 1000000) × (height ≤ 1000000) × (depth ≤ 256) × (row ≤ 16777216)
+sizes_within width height depth row e =
+    let a = or_parts (nat_lt 1000000 width || nat_lt 1000000 height || nat_lt 256 depth) (nat_lt 16777216 row) e in
+    let b = or_parts (nat_lt 1000000 width || nat_lt 1000000 height) (nat_lt 256 depth) a.0 in
+    let c = or_parts (nat_lt 1000000 width) (nat_lt 1000000 height) b.0 in
+    (ltb-false 1000000 width c.0, ltb-false 1000000 height c.1, ltb-false 256 depth b.1, ltb-false 16777216 row a.1)

@@ -1,0 +1,82 @@
+-- Lists made from a function of each number of a range.
+use Rattle.std.proofs.Common.{◌≡◌, ℕ, zero, suc, ◌+◌, ◌-◌, ◌*◌, ◌/◌, ◌<◌, ◌≤◌, List, [], ◌∷◌, ◌++◌, length, map, reverse, replicate, refl, sym, ap, ◌∙◌, arith, append_assoc, suc-mul, zero-mul}
+use Rattle.std.specs.List.{flat_map, range_with_len}
+use Rattle.std.proofs.lemmas.Nat.{div-mul-add}
+use Rattle.std.proofs.lemmas.List.{same_lists, length-reverse, get_or-reverse}
+use Rattle.std.proofs.lemmas.List.Concat.{flat_map_single}
+use Rattle.std.proofs.lemmas.List.FromFn.{get_or-map-range_with_len, length-map-range_with_len}
+
+-- lists that are alike at each number of a range
+pub pieces_alike : {A : Type 0} (f g : ℕ → List A) (a n : ℕ) → ((x : ℕ) → x < a + n → f x ≡ g x) → flat_map f (range_with_len a n) ≡ flat_map g (range_with_len a n)
+pieces_alike f g a zero same = refl
+pieces_alike {A = A} f g a (suc n) same =
+    ap (λ (l : List A). l ++ flat_map f (range_with_len (a + 1) n)) (same a (omega arith)) ∙ ap (λ (l : List A). g a ++ l) (pieces_alike f g (a + 1) n (λ x lt. same x (omega arith)))
+
+-- the numbers of a range in the opposite order
+pub downward : {A : Type 0} (f : ℕ → A) (n : ℕ) → map (λ y. f (n - 1 - y)) (range_with_len 0 n) ≡ reverse (map f (range_with_len 0 n))
+downward {A = A} f n =
+    let up : List A = map f (range_with_len 0 n) in
+    let down : List A = map (λ y. f (n - 1 - y)) (range_with_len 0 n) in
+    let size : length up ≡ n = length-map-range_with_len f 0 n in
+    let other : length down ≡ n = length-map-range_with_len (λ y. f (n - 1 - y)) 0 n in
+    same_lists down (reverse up) (other ∙ sym size ∙ sym (length-reverse up)) (λ k d lt.
+    let below : k < n = omega arith in
+    let at : 0 + (length up - 1 - k) ≡ n - 1 - k = omega arith in
+    get_or-map-range_with_len (λ y. f (n - 1 - y)) 0 n k k d below (omega arith)
+    ∙ sym (get_or-reverse up k d (omega arith) ∙ get_or-map-range_with_len f 0 n (length up - 1 - k) (n - 1 - k) d (omega arith) at))
+
+-- a range in two parts
+pieces_in_parts : {A : Type 0} (f : ℕ → List A) (a m n : ℕ) → flat_map f (range_with_len a (m + n)) ≡ flat_map f (range_with_len a m) ++ flat_map f (range_with_len (a + m) n)
+pieces_in_parts f a zero n =
+    let count : zero + n ≡ n = omega arith in
+    let from : a ≡ a + zero = omega arith in
+    ap (λ (k : ℕ). flat_map f (range_with_len a k)) count ∙ ap (λ (b : ℕ). flat_map f (range_with_len b n)) from
+pieces_in_parts {A = A} f a (suc m) n =
+    let count : suc m + n ≡ suc (m + n) = omega arith in
+    let from : a + 1 + m ≡ a + suc m = omega arith in
+    ap (λ (k : ℕ). flat_map f (range_with_len a k)) count
+    ∙ ap (λ (l : List A). f a ++ l) (pieces_in_parts f (a + 1) m n ∙ ap (λ (b : ℕ). flat_map f (range_with_len (a + 1) m) ++ flat_map f (range_with_len b n)) from)
+    ∙ sym (append_assoc (f a) (flat_map f (range_with_len (a + 1) m)) (flat_map f (range_with_len (a + suc m) n)))
+
+-- so many of a list, whatever the numbers of the range
+all_one_piece : {A : Type 0} (f : ℕ → List A) (piece : List A) (a b n : ℕ) → ((x : ℕ) → a ≤ x → x < a + n → f x ≡ piece) → flat_map f (range_with_len a n) ≡ flat_map (λ _. piece) (range_with_len b n)
+all_one_piece f piece a b zero same = refl
+all_one_piece {A = A} f piece a b (suc n) same =
+    ap (λ (l : List A). l ++ flat_map f (range_with_len (a + 1) n)) (same a (omega arith) (omega arith))
+    ∙ ap (λ (l : List A). piece ++ l) (all_one_piece f piece (a + 1) (b + 1) n (λ x low high. same x (omega arith) (omega arith)))
+
+-- a number whose quotient is known
+quotient_is : (a x n : ℕ) → a * n ≤ x → x < a * n + n → x / n ≡ a
+quotient_is a x n low high =
+    let rest : ℕ = x - a * n in
+    let parts : x ≡ a * n + rest = omega arith in
+    ap (λ (k : ℕ). k / n) parts ∙ div-mul-add a n rest (omega arith)
+
+-- each list of a range so many times, from one number on
+pieces_repeated : {A : Type 0} (f : ℕ → List A) (n a w : ℕ) → flat_map (λ x. f (x / n)) (range_with_len (a * n) (w * n)) ≡ flat_map (λ x. flat_map (λ _. f x) (range_with_len 0 n)) (range_with_len a w)
+pieces_repeated f n a zero = ap (λ (k : ℕ). flat_map (λ x. f (x / n)) (range_with_len (a * n) k)) (zero-mul n)
+pieces_repeated {A = A} f n a (suc w) =
+    let g : ℕ → List A = λ x. f (x / n) in
+    let count : suc w * n ≡ n + w * n = omega (arith, suc-mul w n) in
+    let from : a * n + n ≡ (a + 1) * n = omega arith in
+    let first : flat_map g (range_with_len (a * n) n) ≡ flat_map (λ _. f a) (range_with_len 0 n) = all_one_piece g (f a) (a * n) 0 n (λ x low high. ap f (quotient_is a x n low high)) in
+    ap (λ (k : ℕ). flat_map g (range_with_len (a * n) k)) count
+    ∙ pieces_in_parts g (a * n) n (w * n)
+    ∙ ap (λ (l : List A). l ++ flat_map g (range_with_len (a * n + n) (w * n))) first
+    ∙ ap (λ (l : List A). flat_map (λ _. f a) (range_with_len 0 n) ++ l) (ap (λ (b : ℕ). flat_map g (range_with_len b (w * n))) from ∙ pieces_repeated f n (a + 1) w)
+
+-- each list of a range so many times
+pub each_repeated : {A : Type 0} (f : ℕ → List A) (n w : ℕ) → flat_map (λ x. f (x / n)) (range_with_len 0 (w * n)) ≡ flat_map (λ x. flat_map (λ _. f x) (range_with_len 0 n)) (range_with_len 0 w)
+each_repeated f n w = ap (λ (a : ℕ). flat_map (λ x. f (x / n)) (range_with_len a (w * n))) (sym (zero-mul n)) ∙ pieces_repeated f n 0 w
+
+-- one value so many times
+replicated : {A : Type 0} (x : A) (a n : ℕ) → flat_map (λ _. x ∷ []) (range_with_len a n) ≡ replicate n x
+replicated x a zero = refl
+replicated {A = A} x a (suc n) = ap (λ (l : List A). x ∷ l) (replicated x (a + 1) n)
+
+-- each value of a range so many times
+pub each_replicated : {A : Type 0} (f : ℕ → A) (n w : ℕ) → map (λ y. f (y / n)) (range_with_len 0 (w * n)) ≡ flat_map (λ y. replicate n (f y)) (range_with_len 0 w)
+each_replicated f n w =
+    sym (flat_map_single (λ y. f (y / n)) (range_with_len 0 (w * n)))
+    ∙ each_repeated (λ y. f y ∷ []) n w
+    ∙ pieces_alike (λ y. flat_map (λ _. f y ∷ []) (range_with_len 0 n)) (λ y. replicate n (f y)) 0 w (λ y lt. replicated (f y) 0 n)

@@ -1,0 +1,134 @@
+-- The enlarged, the flipped and the tiled image are images.
+use Rattle.std.proofs.Common.{◌≡◌, ℕ, ◌*◌, ◌<◌, ◌≤◌, false, Ok, ap, subst, arith, mul-le-mul}
+use Rattle.pnm_image.specs.declared.shape.Shape.{Shape}
+use Rattle.pnm_image.specs.Heads.{Header, IsHeader}
+use Rattle.pnm_image.specs.Images.{Image, IsImage}
+use Rattle.pnm_tools.specs.declared.flip.FlipWay.{FlipWay}
+use Rattle.pnm_tools.specs.declared.flip.FlipWay.TheVariants.{Null, LeftRight, TopBottom, Transpose}
+use Rattle.pnm_tools.specs.declared.tool.Tool.TheVariants.{Enlarge, Flip, Tile}
+use Rattle.pnm_tools.specs.Limits.{is_too_large}
+use Rattle.pnm_tools.specs.Tools.{applied, result_head, result_sample}
+use Rattle.pnm_tools.proofs.ImageLaws.{result_by_head}
+use Rattle.pnm_tools.proofs.MadeLaws.{made_is_image, sample_in_range, sizes_within}
+use Rattle.pnm_tools.proofs.PixelLaws.{resized}
+use Rattle.pnm_tools.proofs.WholeHeadLaws.{is_enlarged, is_tiled, is_transposed, null_keeps, left_right_keeps, top_bottom_keeps}
+
+-- a head with other sizes is a head, where they are within the limits
+resized_is : (width height : ℕ) (head : Header) → 0 < width → IsHeader head → is_too_large (resized width height head).shape ≡ false → IsHeader (resized width height head)
+resized_is width height head some sound fits =
+    let s : Shape = head.shape in
+    let limits = sound.limits in
+    let within = sizes_within width height s.depth (width * s.depth) fits in
+    record {
+      limits = record {
+        width_low = some;
+        width_high = within.0;
+        height_high = within.1;
+        depth_low = limits.depth_low;
+        depth_high = limits.depth_high;
+        row_high = within.3;
+        maxval_low = limits.maxval_low;
+        maxval_high = limits.maxval_high;
+      };
+      suits = sound.suits;
+    }
+
+-- so many of some are some
+some_times : (a b : ℕ) → 0 < a → 1 ≤ b → 0 < a * b
+some_times a b some more =
+    let least : 1 * 1 ≤ a * b = mul-le-mul {n₁ = 1} {m₁ = 1} {n₂ = a} {m₂ = b} (omega arith) (omega arith) in
+    omega arith
+
+-- ---- enlarged images
+
+-- the samples of an enlarged image are those of the image
+enlarged_in_range : (across down : ℕ) (i : Image) (x y p : ℕ) → IsImage i → result_sample (Enlarge across down) i x y p ≤ i.head.shape.maxval
+unfolding result_sample
+enlarged_in_range across down i x y p is = sample_in_range i _ _ p is
+
+-- an enlarged image is an image
+pub enlarged_is_image : (across down : ℕ) (i j : Image) → 1 ≤ across → IsImage i → applied (Enlarge across down) i ≡ Ok j → IsImage j
+enlarged_is_image across down i j wide is e =
+    let made = result_by_head (Enlarge across down) i j e in
+    let s : Shape = i.head.shape in
+    let within = is_enlarged across down i.head j.head made.head in
+    let sound = resized_is (s.width * across) (s.height * down) i.head (some_times s.width across is.head.limits.width_low wide) is.head within.limits in
+    made_is_image (Enlarge across down) i j made (subst IsHeader within.result_is sound)
+    (λ x y p. subst (λ (h : Header). result_sample (Enlarge across down) i x y p ≤ h.shape.maxval) within.result_is (enlarged_in_range across down i x y p is))
+
+-- an enlarged image of rows has rows
+pub enlarged_has_rows : (across down : ℕ) (i j : Image) → 1 ≤ down → 0 < i.head.shape.height → applied (Enlarge across down) i ≡ Ok j → 0 < j.head.shape.height
+enlarged_has_rows across down i j high rows e =
+    let within = is_enlarged across down i.head j.head (result_by_head (Enlarge across down) i j e).head in
+    subst (λ (h : Header). 0 < h.shape.height) within.result_is (some_times i.head.shape.height down rows high)
+
+-- ---- flipped images
+
+-- the samples of a flipped image are those of the image
+flipped_in_range : (way : FlipWay) (i : Image) (x y p : ℕ) → IsImage i → result_sample (Flip way) i x y p ≤ i.head.shape.maxval
+unfolding result_sample
+flipped_in_range Null i x y p is = sample_in_range i _ _ p is
+flipped_in_range LeftRight i x y p is = sample_in_range i _ _ p is
+flipped_in_range TopBottom i x y p is = sample_in_range i _ _ p is
+flipped_in_range Transpose i x y p is = sample_in_range i _ _ p is
+
+-- the flipped head: it is a head, the samples' range is kept, and there are rows
+record IsFlipped (head result : Header) : Type 0 where
+  header : IsHeader result
+  range : head.shape.maxval ≡ result.shape.maxval
+  rows : 0 < head.shape.height → 0 < result.shape.height
+
+-- a head that is kept
+same_head : (head result : Header) → IsHeader head → head ≡ result → IsFlipped head result
+same_head head result sound same =
+    record {
+      header = subst IsHeader same sound;
+      range = ap (λ (h : Header). h.shape.maxval) same;
+      rows = λ some. subst (λ (h : Header). 0 < h.shape.height) same some;
+    }
+
+-- the head of each way
+is_flipped : (way : FlipWay) (head result : Header) → IsHeader head → result_head (Flip way) head ≡ Ok result → IsFlipped head result
+is_flipped Null head result sound e = same_head head result sound (null_keeps head result e)
+is_flipped LeftRight head result sound e = same_head head result sound (left_right_keeps head result e)
+is_flipped TopBottom head result sound e = same_head head result sound (top_bottom_keeps head result e)
+is_flipped Transpose head result sound e =
+    let s : Shape = head.shape in
+    let whole = is_transposed head result e in
+    record {
+      header = subst IsHeader whole.within.result_is (resized_is s.height s.width head whole.some_rows sound whole.within.limits);
+      range = ap (λ (h : Header). h.shape.maxval) whole.within.result_is;
+      rows = λ some. subst (λ (h : Header). 0 < h.shape.height) whole.within.result_is sound.limits.width_low;
+    }
+
+-- a flipped image is an image
+pub flipped_is_image : (way : FlipWay) (i j : Image) → IsImage i → applied (Flip way) i ≡ Ok j → IsImage j
+flipped_is_image way i j is e =
+    let made = result_by_head (Flip way) i j e in
+    let flipped = is_flipped way i.head j.head is.head made.head in
+    made_is_image (Flip way) i j made flipped.header (λ x y p. subst (λ (maxval : ℕ). result_sample (Flip way) i x y p ≤ maxval) flipped.range (flipped_in_range way i x y p is))
+
+-- a flipped image of rows has rows
+pub flipped_has_rows : (way : FlipWay) (i j : Image) → IsImage i → 0 < i.head.shape.height → applied (Flip way) i ≡ Ok j → 0 < j.head.shape.height
+flipped_has_rows way i j is rows e = (is_flipped way i.head j.head is.head (result_by_head (Flip way) i j e).head).rows rows
+
+-- ---- tiled images
+
+-- the samples of a tiled image are those of the image
+tiled_in_range : (across down : ℕ) (i : Image) (x y p : ℕ) → IsImage i → result_sample (Tile across down) i x y p ≤ i.head.shape.maxval
+unfolding result_sample
+tiled_in_range across down i x y p is = sample_in_range i _ _ p is
+
+-- a tiled image is an image
+pub tiled_is_image : (across down : ℕ) (i j : Image) → 1 ≤ across → IsImage i → applied (Tile across down) i ≡ Ok j → IsImage j
+tiled_is_image across down i j wide is e =
+    let made = result_by_head (Tile across down) i j e in
+    let within = (is_tiled across down i.head j.head made.head).within in
+    made_is_image (Tile across down) i j made (subst IsHeader within.result_is (resized_is across down i.head (omega arith) is.head within.limits))
+    (λ x y p. subst (λ (h : Header). result_sample (Tile across down) i x y p ≤ h.shape.maxval) within.result_is (tiled_in_range across down i x y p is))
+
+-- a tiled image has rows
+pub tiled_has_rows : (across down : ℕ) (i j : Image) → 1 ≤ down → applied (Tile across down) i ≡ Ok j → 0 < j.head.shape.height
+tiled_has_rows across down i j high e =
+    let some : 0 < down = omega arith in
+    subst (λ (h : Header). 0 < h.shape.height) (is_tiled across down i.head j.head (result_by_head (Tile across down) i j e).head).within.result_is some

@@ -1,0 +1,18 @@
+use Rattle.std.proofs.Common.{rules, refl, sym, ◌∙◌, [], arith}
+use Rattle.std.proofs.lemmas.Bool.{cases_eq}
+use Rattle.std.proofs.lemmas.List.{take_all}
+use Rattle.pnm_tools.proofs.TileHeadLaws.{tiled_has_rows}
+use Rattle.pnm_tools.proofs.tile.TilerMaker.begin.Goals as goal
+
+pub returns-clause-ready : goal.returns-clause-ready
+returns-clause-ready c =
+    let x = c.self.inside in
+    let head = c.args.head.now in
+    record {
+      limits = search rules;
+      some = tiled_has_rows x.across x.down head c.in_ok-tiled.tiled c.in_ok-tiled.ensures.made (cases_eq head.shape.height 0);
+      filled = c.in_ok-tiled.ensures.limits;
+      rows = c.in_ok-self-inside.ensures.items ∙ sym (take_all x.down [] (omega arith));
+      lengths = search rules;
+      none_given = refl;
+    }

@@ -1,0 +1,6 @@
+use Rattle.std.proofs.Common.{◌∙◌, sym}
+use Rattle.pnm_tools.proofs.TileRowLaws.{tiled_front}
+use Rattle.pnm_tools.proofs.tile.tile_last.Goals as goal
+
+pub returns-clause-made : goal.returns-clause-made
+returns-clause-made c = c.truncate.ensures.items ∙ sym (tiled_front c.args.across c.args.width c.args.depth c.args.row.items c.if-width-across.false)

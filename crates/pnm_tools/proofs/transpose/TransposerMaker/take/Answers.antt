@@ -1,0 +1,10 @@
+use Rattle.std.proofs.Common.{ap, ◌∙◌}
+use Rattle.pnm_tools.specs.Keeping.{Transposed}
+use Rattle.pnm_tools.proofs.TransposeLaws.{none_made}
+use Rattle.pnm_tools.proofs.transpose.TransposerMaker.take.Goals as goal
+
+pub returns-clause-due : goal.returns-clause-due
+returns-clause-due c =
+    let x = c.self.inside in
+    let none = c.requires.ready.2.none_made in
+    none_made x.depth x.next x.columns c.push.new.self.items x.band.items c.args._shape c.args._y c.args.row (ap (λ (w : Transposed). w.band) c.self.view_is ∙ none.0) (ap (λ (w : Transposed). w.columns) c.self.view_is ∙ none.2)

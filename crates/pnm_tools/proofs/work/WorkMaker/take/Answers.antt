@@ -1,0 +1,7 @@
+use Rattle.pnm_tools.proofs.work.WorkMaker.take.Goals as goal
+
+pub returns-in-Rescaling-clause-ready : goal.returns-in-Rescaling-clause-ready
+returns-in-Rescaling-clause-ready c = rw c.in-Rescaling.is c.take-in-Rescaling.ensures.ready
+
+pub returns-in-ReversingRows-clause-ready : goal.returns-in-ReversingRows-clause-ready
+returns-in-ReversingRows-clause-ready c = rw c.in-ReversingRows.is c.take-in-ReversingRows.ensures.ready
