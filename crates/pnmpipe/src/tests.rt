@@ -11,6 +11,7 @@ mod order;
 mod run;
 mod streams;
 mod texts;
+mod whole;
 
 /// An image of one row, and the image inverted.
 const IMAGE: &[u8] = b"P5\n2 1\n122\nAB";

@@ -1,7 +1,7 @@
 //! A copy of a tool is equal in all its parts, and a tool stays as it is.
 
 use super::parts::channel;
-use crate::{CutBox, Planes, Tool};
+use crate::{CutBox, FlipWay, Planes, Tool};
 use std::process::Abort;
 use std::test::Fail;
 
@@ -43,6 +43,34 @@ fn copies_plain_tools(rt: HostRuntime) -> Result<(), Fail> {
         match Tool::Cut(cut).copy(rt.alloc())? {
             Tool::Cut(other) => assert_eq!(rt; other, cut),
             other => panic!(rt; "{other:?} in place of {cut:?}"),
+        }
+    }
+    Ok(())
+}
+
+/// Both numbers in their order, also those that aren't lawful, and each way.
+#[test]
+fn copies_sizes_and_ways(rt: HostRuntime) -> Result<(), Fail> {
+    for pair in [(2, 3), (1, 16_777_216), (16_777_217, 0), (0, u32::MAX)] {
+        let (across, down) = pair;
+        match Tool::Enlarge(across, down).copy(rt.alloc())? {
+            Tool::Enlarge(x, y) => assert_eq!(rt; (x, y), pair),
+            other => panic!(rt; "{other:?} in place of {pair:?}"),
+        }
+        match Tool::Tile(across, down).copy(rt.alloc())? {
+            Tool::Tile(x, y) => assert_eq!(rt; (x, y), pair),
+            other => panic!(rt; "{other:?} in place of {pair:?}"),
+        }
+    }
+    for way in [
+        FlipWay::Null,
+        FlipWay::LeftRight,
+        FlipWay::TopBottom,
+        FlipWay::Transpose,
+    ] {
+        match Tool::Flip(way).copy(rt.alloc())? {
+            Tool::Flip(other) => assert_eq!(rt; other, way),
+            other => panic!(rt; "{other:?} in place of {way:?}"),
         }
     }
     Ok(())

@@ -1,7 +1,7 @@
 //! Which options are lawful, and which tools are row-wise.
 
 use super::parts::{WHOLE, channel};
-use crate::{CutBox, Tool};
+use crate::{CutBox, FlipWay, Tool};
 use std::test::Fail;
 
 /// A start, an end, a size, and whether they are lawful.
@@ -178,7 +178,49 @@ fn judges_tuple_types(rt: HostRuntime) -> Result<(), Fail> {
     Ok(())
 }
 
-/// All but the cut, whatever the options are.
+/// Each number by itself.
+#[test]
+fn judges_factors_and_sizes(rt: HostRuntime) {
+    for (number, is_lawful) in [
+        (0, false),
+        (1, true),
+        (2, true),
+        (1_000_001, true),
+        (16_777_215, true),
+        (16_777_216, true),
+        (16_777_217, false),
+        (4_294_967_295, false),
+    ] {
+        for (across, down) in [
+            (number, 1),
+            (1, number),
+            (16_777_216, number),
+            (number, number),
+        ] {
+            let enlarge = Tool::Enlarge(across, down);
+            assert_eq!(rt; enlarge.is_lawful(), is_lawful, "at {enlarge:?}");
+            let tile = Tool::Tile(across, down);
+            assert_eq!(rt; tile.is_lawful(), is_lawful, "at {tile:?}");
+        }
+    }
+}
+
+const WAYS: [FlipWay; 4] = [
+    FlipWay::Null,
+    FlipWay::LeftRight,
+    FlipWay::TopBottom,
+    FlipWay::Transpose,
+];
+
+#[test]
+fn takes_each_way(rt: HostRuntime) {
+    for way in WAYS {
+        assert!(rt; Tool::Flip(way).is_lawful(), "at {way:?}");
+    }
+}
+
+/// Those of which a row of the result shows one row of the image, and no row another: not a cut,
+/// whatever its options are, nor a tile, nor what repeats rows or makes them change places.
 #[test]
 fn tells_row_wise_tools(rt: HostRuntime) -> Result<(), Fail> {
     assert!(rt; Tool::Invert.is_row_wise());
@@ -192,5 +234,16 @@ fn tells_row_wise_tools(rt: HostRuntime) -> Result<(), Fail> {
         ..WHOLE
     };
     assert!(rt; !Tool::Cut(columns).is_row_wise());
+    for number in [1, 2, 16_777_216] {
+        assert!(rt; Tool::Enlarge(number, 1).is_row_wise(), "at {number}");
+        assert!(rt; !Tool::Enlarge(number, 2).is_row_wise(), "at {number}");
+        assert_eq!(rt; Tool::Enlarge(1, number).is_row_wise(), number == 1);
+        assert!(rt; !Tool::Tile(number, 1).is_row_wise(), "at {number}");
+        assert!(rt; !Tool::Tile(1, number).is_row_wise(), "at {number}");
+    }
+    assert!(rt; Tool::Flip(FlipWay::Null).is_row_wise());
+    assert!(rt; Tool::Flip(FlipWay::LeftRight).is_row_wise());
+    assert!(rt; !Tool::Flip(FlipWay::TopBottom).is_row_wise());
+    assert!(rt; !Tool::Flip(FlipWay::Transpose).is_row_wise());
     Ok(())
 }

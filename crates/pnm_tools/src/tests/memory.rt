@@ -2,7 +2,7 @@
 //! answers `Memory`, and a tool at work answers it for good though memory is there again.
 
 use super::parts::{Part, WHOLE, channel, is_made_of, message, stays};
-use crate::{CutBox, Filter, Tool, ToolFault, ToolState};
+use crate::{CutBox, Filter, FlipWay, Tool, ToolFault, ToolState};
 use pnm_image::{Kind, Message};
 use std::alloc::Global;
 use std::process::Abort;
@@ -44,6 +44,67 @@ const PICKED: &[Part<'static>] = &[
     Part::Pam(3, 2, 3, 4, "B"),
     Part::Row(&[1, 0, 1, 3, 2, 3, 0, 4, 0]),
     Part::Row(&[3, 4, 3, 1, 2, 1, 4, 0, 4]),
+    Part::ImageEnd,
+    Part::StreamEnd,
+];
+
+const ENLARGED: &[Part<'static>] = &[
+    Part::Pam(6, 4, 2, 4, "A"),
+    Part::Row(&[0, 1, 0, 1, 2, 3, 2, 3, 4, 0, 4, 0]),
+    Part::Row(&[0, 1, 0, 1, 2, 3, 2, 3, 4, 0, 4, 0]),
+    Part::Row(&[4, 3, 4, 3, 2, 1, 2, 1, 0, 4, 0, 4]),
+    Part::Row(&[4, 3, 4, 3, 2, 1, 2, 1, 0, 4, 0, 4]),
+    Part::ImageEnd,
+    Part::StreamEnd,
+];
+
+const MIRRORED: &[Part<'static>] = &[
+    Part::Pam(3, 2, 2, 4, "A"),
+    Part::Row(&[4, 0, 2, 3, 0, 1]),
+    Part::Row(&[0, 4, 2, 1, 4, 3]),
+    Part::ImageEnd,
+    Part::StreamEnd,
+];
+
+const TURNED: &[Part<'static>] = &[
+    Part::Pam(3, 2, 2, 4, "A"),
+    Part::Row(&[4, 3, 2, 1, 0, 4]),
+    Part::Row(&[0, 1, 2, 3, 4, 0]),
+    Part::ImageEnd,
+    Part::StreamEnd,
+];
+
+const TRANSPOSED: &[Part<'static>] = &[
+    Part::Pam(2, 3, 2, 4, "A"),
+    Part::Row(&[0, 1, 4, 3]),
+    Part::Row(&[2, 3, 2, 1]),
+    Part::Row(&[4, 0, 0, 4]),
+    Part::ImageEnd,
+    Part::StreamEnd,
+];
+
+const TILED: &[Part<'static>] = &[
+    Part::Pam(4, 3, 2, 4, "A"),
+    Part::Row(&[0, 1, 2, 3, 4, 0, 0, 1]),
+    Part::Row(&[4, 3, 2, 1, 0, 4, 4, 3]),
+    Part::Row(&[0, 1, 2, 3, 4, 0, 0, 1]),
+    Part::ImageEnd,
+    Part::StreamEnd,
+];
+
+const CORNER: &[Part<'static>] = &[
+    Part::Pam(2, 1, 2, 4, "A"),
+    Part::Row(&[0, 1, 2, 3]),
+    Part::ImageEnd,
+    Part::StreamEnd,
+];
+
+const REPEATED: &[Part<'static>] = &[
+    Part::Pam(3, 4, 2, 4, "A"),
+    Part::Row(&[0, 1, 2, 3, 4, 0]),
+    Part::Row(&[0, 1, 2, 3, 4, 0]),
+    Part::Row(&[4, 3, 2, 1, 0, 4]),
+    Part::Row(&[4, 3, 2, 1, 0, 4]),
     Part::ImageEnd,
     Part::StreamEnd,
 ];
@@ -148,12 +209,58 @@ fn picks_or_runs_out(rt: HostRuntime) {
     }
 }
 
+/// A row that is made where it comes, and copied where it is given.
+#[test]
+fn enlarges_or_runs_out(rt: HostRuntime) {
+    answers_image(&rt, rt.alloc(), &Tool::Enlarge(2, 2), ENLARGED);
+}
+
+/// A row that is copied where it is given, and was kept as it came.
+#[test]
+fn repeats_rows_or_runs_out(rt: HostRuntime) {
+    answers_image(&rt, rt.alloc(), &Tool::Enlarge(1, 2), REPEATED);
+}
+
+#[test]
+fn mirrors_or_runs_out(rt: HostRuntime) {
+    let alloc = rt.alloc();
+    answers_image(&rt, alloc, &Tool::Flip(FlipWay::Null), IMAGE);
+    answers_image(&rt, alloc, &Tool::Flip(FlipWay::LeftRight), MIRRORED);
+}
+
+/// Rows that are kept.
+#[test]
+fn turns_or_runs_out(rt: HostRuntime) {
+    answers_image(&rt, rt.alloc(), &Tool::Flip(FlipWay::TopBottom), TURNED);
+}
+
+/// Rows that are kept, and others that are made at the image's end.
+#[test]
+fn transposes_or_runs_out(rt: HostRuntime) {
+    answers_image(&rt, rt.alloc(), &Tool::Flip(FlipWay::Transpose), TRANSPOSED);
+}
+
+/// More columns and rows than there are, and fewer of both.
+#[test]
+fn tiles_or_runs_out(rt: HostRuntime) {
+    answers_image(&rt, rt.alloc(), &Tool::Tile(4, 3), TILED);
+    answers_image(&rt, rt.alloc(), &Tool::Tile(2, 1), CORNER);
+}
+
 #[test]
 fn gives_heads_or_runs_out(rt: HostRuntime) {
     let alloc = rt.alloc();
     answers_head(&rt, alloc, &Tool::Invert, Part::Pam(3, 2, 2, 4, "A"));
     answers_head(&rt, alloc, &Tool::Cut(REST), Part::Pam(2, 2, 2, 4, "A"));
     answers_head(&rt, alloc, &Tool::Depth(8), Part::Pam(3, 2, 2, 8, "A"));
+    let (same, wider) = (Part::Pam(3, 2, 2, 4, "A"), Part::Pam(6, 4, 2, 4, "A"));
+    answers_head(&rt, alloc, &Tool::Enlarge(2, 2), wider);
+    answers_head(&rt, alloc, &Tool::Tile(6, 4), wider);
+    for way in [FlipWay::Null, FlipWay::LeftRight, FlipWay::TopBottom] {
+        answers_head(&rt, alloc, &Tool::Flip(way), same);
+    }
+    let transpose = Tool::Flip(FlipWay::Transpose);
+    answers_head(&rt, alloc, &transpose, Part::Pam(2, 3, 2, 4, "A"));
     if let Ok(tool) = channel(alloc, &[1, 0, 1], "B") {
         answers_head(&rt, alloc, &tool, Part::Pam(3, 2, 3, 4, "B"));
     }

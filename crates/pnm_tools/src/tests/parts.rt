@@ -223,3 +223,30 @@ pub(super) fn gives_heads(
     }
     Ok(())
 }
+
+/// The head rule of the tool refuses each of these heads so.
+pub(super) fn refuses_heads(
+    rt: &impl Abort,
+    alloc: Global,
+    tool: &Tool,
+    parts: &[Part<'_>],
+    fault: ToolFault,
+) -> Result<(), Fail> {
+    for part in parts {
+        gives_heads(rt, alloc, tool, &[(*part, Err(fault))])?;
+    }
+    Ok(())
+}
+
+/// The head rule of the tool gives each of these heads back.
+pub(super) fn keeps_heads(
+    rt: &impl Abort,
+    alloc: Global,
+    tool: &Tool,
+    parts: &[Part<'_>],
+) -> Result<(), Fail> {
+    for part in parts {
+        gives_heads(rt, alloc, tool, &[(*part, Ok(*part))])?;
+    }
+    Ok(())
+}

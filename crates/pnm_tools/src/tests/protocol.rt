@@ -3,7 +3,7 @@
 use super::parts::{
     Case, Part, WHOLE, answers, are_made_of, channel, is_made_of, message, start, stays, take_all,
 };
-use crate::{CutBox, Filter, Tool, ToolFault, ToolState};
+use crate::{CutBox, Filter, FlipWay, Tool, ToolFault, ToolState};
 use pnm_image::{Kind, Message};
 use std::alloc::Global;
 use std::process::Abort;
@@ -15,25 +15,56 @@ const HEAD: Part<'static> = Part::Begin(Kind::Gray, 2, 2, 9);
 /// Each row of it.
 const ROW: Part<'static> = Part::Row(&[0, 9]);
 
-/// A tool, and the head and each row that it gives.
-type Example = (Tool, Part<'static>, Part<'static>);
+/// The rows as they are, and mirrored, which is the same as inverted.
+const SAME: &[Part<'static>] = &[ROW, ROW, Part::ImageEnd];
 
-/// Each tool once.
-fn examples(alloc: Global) -> Result<[Example; 4], Fail> {
+const MIRRORED: &[Part<'static>] = &[Part::Row(&[9, 0]), Part::Row(&[9, 0]), Part::ImageEnd];
+
+/// At maxval 5.
+const RESCALED: &[Part<'static>] = &[Part::Row(&[0, 5]), Part::Row(&[0, 5]), Part::ImageEnd];
+
+/// Each pixel twice, and each row.
+const WIDER: &[Part<'static>] = &[
+    Part::Row(&[0, 0, 9, 9]),
+    Part::Row(&[0, 0, 9, 9]),
+    Part::ImageEnd,
+];
+
+const TALLER: &[Part<'static>] = &[ROW, ROW, ROW, ROW, Part::ImageEnd];
+
+/// Columns are rows.
+const TRANSPOSED: &[Part<'static>] = &[Part::Row(&[0, 0]), Part::Row(&[9, 9]), Part::ImageEnd];
+
+/// Three columns and one row.
+const TILED: &[Part<'static>] = &[Part::Row(&[0, 9, 0]), Part::ImageEnd];
+
+/// A tool, the head that it gives, and what it gives after that.
+type Example = (Tool, Part<'static>, &'static [Part<'static>]);
+
+/// Each tool once, or each way of it.
+fn examples(alloc: Global) -> Result<[Example; 11], Fail> {
     Ok([
-        (Tool::Invert, HEAD, Part::Row(&[9, 0])),
-        (Tool::Cut(WHOLE), HEAD, ROW),
-        (
-            Tool::Depth(5),
-            Part::Begin(Kind::Gray, 2, 2, 5),
-            Part::Row(&[0, 5]),
-        ),
-        (channel(alloc, &[0], "A")?, Part::Pam(2, 2, 1, 9, "A"), ROW),
+        (Tool::Invert, HEAD, MIRRORED),
+        (Tool::Cut(WHOLE), HEAD, SAME),
+        (Tool::Depth(5), gray(2, 2, 5), RESCALED),
+        (channel(alloc, &[0], "A")?, Part::Pam(2, 2, 1, 9, "A"), SAME),
+        (Tool::Enlarge(2, 1), gray(4, 2, 9), WIDER),
+        (Tool::Enlarge(1, 2), gray(2, 4, 9), TALLER),
+        (Tool::Flip(FlipWay::Null), HEAD, SAME),
+        (Tool::Flip(FlipWay::LeftRight), HEAD, MIRRORED),
+        (Tool::Flip(FlipWay::TopBottom), HEAD, SAME),
+        (Tool::Flip(FlipWay::Transpose), HEAD, TRANSPOSED),
+        (Tool::Tile(3, 1), gray(3, 1, 9), TILED),
     ])
 }
 
+/// A head of grays.
+fn gray(width: u32, height: u32, maxval: u32) -> Part<'static> {
+    Part::Begin(Kind::Gray, width, height, maxval)
+}
+
 /// The tool answers nothing more: `next` is `None` however often it is asked.
-fn gives_nothing(rt: &impl Abort, state: &mut ToolState) {
+pub(super) fn gives_nothing(rt: &impl Abort, state: &mut ToolState) {
     for _ in 0..3 {
         let answer = state.next();
         assert!(rt; matches!(answer, Ok(None)), "at {answer:?}");
@@ -41,7 +72,7 @@ fn gives_nothing(rt: &impl Abort, state: &mut ToolState) {
 }
 
 /// The next answer is made of this.
-fn gives(rt: &impl Abort, state: &mut ToolState, want: Part<'_>) {
+pub(super) fn gives(rt: &impl Abort, state: &mut ToolState, want: Part<'_>) {
     let answer = state.next();
     assert!(rt;
         matches!(&answer, Ok(Some(message)) if is_made_of(message, want)),
@@ -50,7 +81,7 @@ fn gives(rt: &impl Abort, state: &mut ToolState, want: Part<'_>) {
 }
 
 /// The tool after these parts, all of whose answers were taken.
-fn after(alloc: Global, tool: &Tool, parts: &[Part<'_>]) -> Result<ToolState, Fail> {
+pub(super) fn after(alloc: Global, tool: &Tool, parts: &[Part<'_>]) -> Result<ToolState, Fail> {
     let mut state = start(alloc, tool)?;
     let mut given = Vec::new(alloc);
     for part in parts {
@@ -64,7 +95,7 @@ fn after(alloc: Global, tool: &Tool, parts: &[Part<'_>]) -> Result<ToolState, Fa
 #[test]
 fn gives_heads_at_once(rt: HostRuntime) -> Result<(), Fail> {
     let alloc = rt.alloc();
-    for (tool, head, row) in examples(alloc)? {
+    for (tool, head, rest) in examples(alloc)? {
         let mut state = start(alloc, &tool)?;
         gives_nothing(&rt, &mut state);
         for _ in 0..2 {
@@ -76,7 +107,7 @@ fn gives_heads_at_once(rt: HostRuntime) -> Result<(), Fail> {
                 state.feed(message(alloc, part)?)?;
                 take_all(&mut state, &mut given)?;
             }
-            are_made_of(&rt, given.as_slice(), &[row, row, Part::ImageEnd]);
+            are_made_of(&rt, given.as_slice(), rest);
             gives_nothing(&rt, &mut state);
         }
         state.feed(Message::StreamEnd)?;
@@ -270,6 +301,11 @@ fn takes_images_without_rows(rt: HostRuntime) -> Result<(), Fail> {
             Tool::Cut(_) => None,
             Tool::Depth(_) => Some(Part::Begin(Kind::Gray, 2, 0, 5)),
             Tool::Channel(_) => Some(Part::Pam(2, 0, 1, 9, "A")),
+            Tool::Enlarge(_, 1) => Some(Part::Begin(Kind::Gray, 4, 0, 9)),
+            Tool::Enlarge(_, _) => None,
+            Tool::Flip(FlipWay::Null | FlipWay::LeftRight) => Some(none),
+            Tool::Flip(FlipWay::TopBottom | FlipWay::Transpose) => None,
+            Tool::Tile(_, _) => None,
         };
         let mut state = start(alloc, &tool)?;
         let answer = state.feed(message(alloc, none)?);

@@ -67,9 +67,9 @@ pub const LAST_COLUMN: CutBox = CutBox {
 };
 
 /// The input of a run that ends well, the tools, the output, and the images and rows of it.
-type Run<'a> = (&'a [u8], &'a [Tool], &'a [u8], u64, u64);
+pub type Run<'a> = (&'a [u8], &'a [Tool], &'a [u8], u64, u64);
 
-fn runs(rt: &impl Abort, alloc: Global, cases: &[Run<'_>]) {
+pub fn runs(rt: &impl Abort, alloc: Global, cases: &[Run<'_>]) {
     for (input, tools, output, images, rows) in cases {
         let (answer, written) = run_chain(rt, alloc, tools, input);
         let summary = Summary {

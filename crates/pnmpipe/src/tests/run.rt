@@ -20,7 +20,7 @@ pub fn run(alloc: Global, input: &[u8]) -> (Result<Summary, RunFault>, Vec<u8>) 
 }
 
 /// The front, so many blanks, and the back.
-fn padded(alloc: Global, front: &[u8], blanks: usize, back: &[u8]) -> Result<Vec<u8>, Fail> {
+pub fn padded(alloc: Global, front: &[u8], blanks: usize, back: &[u8]) -> Result<Vec<u8>, Fail> {
     let mut text = Vec::from_slice(alloc, front)?;
     for _ in 0..blanks {
         text.push(b' ')?;
