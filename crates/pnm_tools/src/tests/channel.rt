@@ -3,7 +3,7 @@
 use super::parts::{
     Case, HeadCase, Part, answers, are_made_of, channel, gives_heads, message, start, take_all,
 };
-use crate::{Filter, ToolFault};
+use crate::{Filter, ToolFault, ToolState};
 use pnm_image::{Kind, Message, Samples};
 use std::test::Fail;
 
@@ -200,12 +200,13 @@ fn picks_256_planes(rt: HostRuntime) -> Result<(), Fail> {
     let tool = channel(alloc, downward.as_slice(), "")?;
     let mut state = start(alloc, &tool)?;
     let mut given = Vec::new(alloc);
-    state.feed(message(alloc, Part::Pam(1, 1, 256, 255, "A"))?)?;
-    take_all(&mut state, &mut given)?;
-    state.feed(Message::Row(Samples::new(upward)))?;
-    take_all(&mut state, &mut given)?;
-    state.feed(Message::ImageEnd)?;
-    take_all(&mut state, &mut given)?;
+    pass(
+        &mut state,
+        &mut given,
+        message(alloc, Part::Pam(1, 1, 256, 255, "A"))?,
+    )?;
+    pass(&mut state, &mut given, Message::Row(Samples::new(upward)))?;
+    pass(&mut state, &mut given, Message::ImageEnd)?;
     let wants = [
         Part::Pam(1, 1, 256, 255, ""),
         Part::Row(downward.as_slice()),
@@ -213,4 +214,10 @@ fn picks_256_planes(rt: HostRuntime) -> Result<(), Fail> {
     ];
     are_made_of(&rt, given.as_slice(), &wants);
     Ok(())
+}
+
+/// Feeds a message, and takes what is given for it.
+fn pass(state: &mut ToolState, given: &mut Vec<Message>, message: Message) -> Result<(), Fail> {
+    state.feed(message)?;
+    take_all(state, given)
 }

@@ -2,11 +2,11 @@
 
 use super::formulas::{IMAGES, follows_formula};
 use super::parts::{
-    Case, HeadCase, Part, answers, are_made_of, gives_heads, keeps_heads, message, refuses_heads,
-    start, take_all,
+    Case, HeadCase, Part, answers, answers_so, are_made_of, gives_heads, keeps_heads, message,
+    refuses_heads, start, take_all,
 };
 use crate::{Filter, FlipWay, Tool, ToolFault};
-use pnm_image::{Kind, Message, Samples};
+use pnm_image::Kind;
 use std::test::Fail;
 
 /// Each way once.
@@ -367,25 +367,27 @@ fn mirrors_the_widest_row(rt: HostRuntime) -> Result<(), Fail> {
 #[test]
 fn transposes_the_tallest_column(rt: HostRuntime) -> Result<(), Fail> {
     let alloc = rt.alloc();
-    let mut state = start(alloc, &Tool::Flip(FlipWay::Transpose))?;
-    let mut given = Vec::new(alloc);
-    let mut column = Vec::new(alloc);
-    state.feed(message(alloc, Part::Pam(1, 65_536, 256, 65_535, "A"))?)?;
-    take_all(&mut state, &mut given)?;
-    for y in 0..65_536_u32 {
-        let first = (y % 65_280) as u16;
-        let pixel: Vec<u16> = (first..first.wrapping_add(256)).collect(alloc)?;
-        column.extend_from_slice(pixel.as_slice())?;
-        state.feed(Message::Row(Samples::new(pixel)))?;
-        take_all(&mut state, &mut given)?;
+    let mut samples = Vec::new(alloc);
+    for place in 0..16_777_216_u32 {
+        samples.push((place % 65_521) as u16)?;
     }
-    state.feed(Message::ImageEnd)?;
-    take_all(&mut state, &mut given)?;
+    let mut parts = Vec::new(alloc);
+    parts.push(Part::Pam(1, 65_536, 256, 65_535, "A"))?;
+    for pixel in samples.as_slice().chunks_exact(256) {
+        parts.push(Part::Row(pixel))?;
+    }
+    parts.push(Part::ImageEnd)?;
     let wants = [
         Part::Pam(65_536, 1, 256, 65_535, "A"),
-        Part::Row(column.as_slice()),
+        Part::Row(samples.as_slice()),
         Part::ImageEnd,
     ];
-    are_made_of(&rt, given.as_slice(), &wants);
-    Ok(())
+    answers_so(
+        &rt,
+        alloc,
+        &Tool::Flip(FlipWay::Transpose),
+        parts.as_slice(),
+        &wants,
+        None,
+    )
 }

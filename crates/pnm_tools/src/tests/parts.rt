@@ -178,21 +178,34 @@ pub(super) fn answers(
     cases: &[Case<'_>],
 ) -> Result<(), Fail> {
     for (parts, wants, fault) in cases {
-        let mut state = start(alloc, tool)?;
-        let mut given = Vec::new(alloc);
-        let mut answer = Ok(());
-        for part in *parts {
-            assert_eq!(rt; answer, Ok(()), "before {part:?} under {tool:?}");
-            answer = state.feed(message(alloc, *part)?);
-            if answer.is_ok() {
-                take_all(&mut state, &mut given)?;
-            }
+        answers_so(rt, alloc, tool, parts, wants, *fault)?;
+    }
+    Ok(())
+}
+
+/// The tool answers these messages by those, and the last of them by this fault, if any.
+pub(super) fn answers_so(
+    rt: &impl Abort,
+    alloc: Global,
+    tool: &Tool,
+    parts: &[Part<'_>],
+    wants: &[Part<'_>],
+    fault: Option<ToolFault>,
+) -> Result<(), Fail> {
+    let mut state = start(alloc, tool)?;
+    let mut given = Vec::new(alloc);
+    let mut answer = Ok(());
+    for part in parts {
+        assert_eq!(rt; answer, Ok(()), "before {part:?} under {tool:?}");
+        answer = state.feed(message(alloc, *part)?);
+        if answer.is_ok() {
+            take_all(&mut state, &mut given)?;
         }
-        assert_eq!(rt; answer.err(), *fault, "at {parts:?} under {tool:?}");
-        are_made_of(rt, given.as_slice(), wants);
-        if let Some(fault) = fault {
-            stays(rt, &mut state, *fault);
-        }
+    }
+    assert_eq!(rt; answer.err(), fault, "at {parts:?} under {tool:?}");
+    are_made_of(rt, given.as_slice(), wants);
+    if let Some(fault) = fault {
+        stays(rt, &mut state, fault);
     }
     Ok(())
 }

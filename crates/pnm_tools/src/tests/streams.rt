@@ -1,7 +1,7 @@
 //! Streams of several images under tools that keep rows, and which rows of an image these show.
 
 use super::formulas::follows_formula;
-use super::parts::{Case, Part, answers};
+use super::parts::{Case, Part, answers, answers_so};
 use crate::{FlipWay, Tool, ToolFault};
 use pnm_image::Kind;
 use std::test::Fail;
@@ -50,34 +50,37 @@ const WIDE_AT_LAST: &[Case<'static>] = &[(
     Some(ToolFault::TooLarge),
 )];
 
+/// An image of one plane, and then one of 256.
+const DEEP_AT_LAST: &[Part<'static>] = &[
+    Part::Begin(Kind::Gray, 1, 1, 9),
+    Part::Row(&[5]),
+    Part::ImageEnd,
+    Part::Pam(1, 1, 256, 9, ""),
+];
+
 /// The results before one that is too large are given, and nothing after it; the fault stays.
 #[test]
 fn refuses_a_later_image(rt: HostRuntime) -> Result<(), Fail> {
     let alloc = rt.alloc();
     answers(&rt, alloc, &Tool::Flip(FlipWay::Transpose), TALL_AT_LAST)?;
     answers(&rt, alloc, &Tool::Enlarge(1, 2), WIDE_AT_LAST)?;
-    // 65,537 columns of one plane, and then of 256.
     let mut row = Vec::new(alloc);
     for _ in 0..65_537 {
         row.push(5)?;
     }
-    let parts = [
-        Part::Begin(Kind::Gray, 1, 1, 9),
-        Part::Row(&[5]),
-        Part::ImageEnd,
-        Part::Pam(1, 1, 256, 9, ""),
-    ];
     let wants = [
         Part::Begin(Kind::Gray, 65_537, 1, 9),
         Part::Row(row.as_slice()),
         Part::ImageEnd,
     ];
-    let case = (
-        parts.as_slice(),
-        wants.as_slice(),
+    answers_so(
+        &rt,
+        alloc,
+        &Tool::Tile(65_537, 1),
+        DEEP_AT_LAST,
+        &wants,
         Some(ToolFault::TooLarge),
-    );
-    answers(&rt, alloc, &Tool::Tile(65_537, 1), &[case])
+    )
 }
 
 /// One row, colours of two columns and rows, a column of PAM, and one bit.
