@@ -4,4 +4,8 @@ pub mod Stages
 pub mod Tools
 pub mod Runs
 pub mod Passing
+pub mod Options
+pub mod Items
+pub mod Settings
+pub mod ChainText
 pub mod Examples

@@ -1,0 +1,75 @@
+-- The text of a chain: which texts spell which tools, and what is wrong with every other text.
+use Rattle.std.specs.Prelude.{◌≡◌, ◌≤◌, ◌↔◌, ℕ, suc, nat_lt, ◌==◌, if◌then◌else◌, Option, Some, None, List, [], ◌∷◌, length}
+use Rattle.std.specs.List.{slice_split, list_all}
+use Rattle.pnm_read.specs.Texts.{is_white, words}
+use Rattle.pnm_tools.specs.declared.tool.Tool.{Tool}
+use Rattle.pnmpipe.specs.declared.chain_text.ChainFault.{ChainFault}
+use Rattle.pnmpipe.specs.declared.chain_text.ChainKind.{ChainKind}
+use Rattle.pnmpipe.specs.declared.chain_text.ChainKind.TheVariants.{Empty, TooLong, TooMany, EmptyStage, UnknownTool}
+use Rattle.pnmpipe.specs.declared.options.ToolName.{ToolName}
+use Rattle.pnmpipe.specs.Options.{tool_named}
+use Rattle.pnmpipe.specs.Items.{items_of, Means, fault_after}
+
+-- ---- the grammar
+
+-- the texts between the bars
+abbrev pub stages_of : List ℕ → List (List ℕ)
+stages_of text = slice_split (λ b. b == 124) text
+
+-- a stage is a tool's name and what stands after it; its words are the longest runs of bytes that aren't white space
+pub record SpellsTool (stage : List ℕ) (tool : Tool) : Type 0 where
+  pub first : List ℕ
+  pub others : List (List ℕ)
+  pub name : ToolName
+  pub words_are : words stage ≡ first ∷ others
+  pub named : tool_named first ≡ Some name
+  pub meant : Means name (items_of name others) tool
+
+abbrev pub SpellTools : List (List ℕ) → List Tool → Type 0
+SpellTools [] [] = Unit {0}
+SpellTools [] (tool ∷ tools) = ⊥
+SpellTools (stage ∷ stages) [] = ⊥
+SpellTools (stage ∷ stages) (tool ∷ tools) = SpellsTool stage tool × SpellTools stages tools
+
+pub record SpellsChain (text : List ℕ) (tools : List Tool) : Type 0 where
+  pub short : length text ≤ 4096
+  pub not_many : length (stages_of text) ≤ 16
+  pub stages : SpellTools (stages_of text) tools
+
+-- ---- faults
+
+abbrev pub tool_fault : Option ToolName → List (List ℕ) → Option ChainKind
+tool_fault None others = Some UnknownTool
+tool_fault (Some name) others = fault_after name [] (items_of name others)
+
+abbrev pub words_fault : List (List ℕ) → Option ChainKind
+words_fault [] = Some EmptyStage
+words_fault (first ∷ others) = tool_fault (tool_named first) others
+
+abbrev pub stage_fault : List ℕ → Option ChainKind
+stage_fault stage = words_fault (words stage)
+
+-- the first fault of stages, the first of which has this number
+unfoldable pub fault_from : ℕ → List (List ℕ) → Option ChainFault
+fault_from number [] = None
+fault_from number (stage ∷ stages) = elim (stage_fault stage) [
+  | Some kind ↦ Some (record { stage = number; kind = kind })
+  | None ↦ fault_from (suc number) stages
+]
+
+-- no stage is at fault, but the whole text
+abbrev pub whole : ChainKind → ChainFault
+whole kind = record { stage = 0; kind = kind }
+
+unfoldable pub chain_fault_of : List ℕ → Option ChainFault
+chain_fault_of text =
+    if nat_lt 4096 (length text) then Some (whole TooLong)
+    else if list_all is_white text then Some (whole Empty)
+    else if nat_lt 16 (length (stages_of text)) then Some (whole TooMany)
+    else fault_from 1 (stages_of text)
+
+-- ---- each text is a chain or has a fault
+
+pub record IsOneChainOrOneFault (text : List ℕ) : Type 0 where
+  pub spelled : ((tools : List Tool) × SpellsChain text tools) ↔ (chain_fault_of text ≡ None)
+  pub one : (tools others : List Tool) → SpellsChain text tools → SpellsChain text others → tools ≡ others
