@@ -7,3 +7,5 @@ pub mod TwoWords
 pub mod ToolSteps
 pub mod CountLaws
 pub mod RunSteps
+pub mod ItemLaws
+pub mod ChainLaws

@@ -1,7 +1,7 @@
 -- What stands in a stage of a chain after the tool's name, and the tool that it means.
-use Rattle.std.specs.Prelude.{◌≡◌, ◌≤◌, ℕ, Bool, true, false, not, ◌==◌, ◌&&◌, ◌||◌, nat_le, nat_lt, if◌then◌else◌, Option, Some, None, is_some, option_map, unwrap_or, List, [], ◌∷◌, ◌++◌, length, map, All}
+use Rattle.std.specs.Prelude.{◌≡◌, ◌≤◌, ℕ, Bool, true, false, not, ◌==◌, ◌&&◌, ◌||◌, nat_le, nat_lt, if◌then◌else◌, Option, Some, None, is_some, option_map, unwrap_or, List, [], ◌∷◌, ◌++◌, length, map}
 use Rattle.std.specs.Option.{option_map_or}
-use Rattle.std.specs.List.{before_first, after_first, list_any, slice_index_or}
+use Rattle.std.specs.List.{before_first, after_first, list_any, slice_index_or, AllByRecursion}
 use Rattle.pnm_read.specs.Texts.{decimal_value}
 use Rattle.pnm_tools.specs.declared.cut.CutBox.{CutBox}
 use Rattle.pnm_tools.specs.declared.flip.FlipWay.{FlipWay}
@@ -176,7 +176,7 @@ is_missing Flip items = not (is_some (way_of items))
 is_missing Tile items = nat_lt (length (arguments_of items)) 2
 
 pub record Means (tool : ToolName) (items : List Item) (meaning : Tool) : Type 0 where
-  pub formed : All (IsFormed tool) items
+  pub formed : AllByRecursion (IsFormed tool) items
   pub once : AreNewAfter [] items
   pub not_many : length (arguments_of items) ≤ most_arguments tool
   pub together : is_conflict tool items ≡ false

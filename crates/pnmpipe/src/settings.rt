@@ -76,9 +76,9 @@ impl<'a> Settings<'a> {
     /// and `Memory`.
     pub(crate) fn take(&mut self, tool: ToolName, item: Item<'a>) -> Result<(), ChainKind>
         ensures set { OnOk result ((before : List ItemSaid) → AreSettingsOf tool before self.old
-            → (item_fault tool before (item_read item) ≡ None) × AreSettingsOf tool (before ++ item_read item ∷ []) self.new) }
+            → (item_fault tool before (item_read item.entry) ≡ None) × AreSettingsOf tool (before ++ item_read item.entry ∷ []) self.new) }
         ensures refused { IfErr result (λ kind. (before : List ItemSaid) → AreSettingsOf tool before self.old
-            → (kind ≡ Memory) ⊎ (item_fault tool before (item_read item) ≡ Some kind)) }
+            → (kind ≡ Memory) ⊎ (item_fault tool before (item_read item.entry) ≡ Some kind)) }
     {
         match item {
             Item::Argument(word) => self.add(tool, word),
@@ -111,8 +111,8 @@ impl<'a> Settings<'a> {
     }
 
     fn set(&mut self, option: ToolOption, value: Option<&'a [u8]>) -> Result<(), ChainKind>
-        ensures set { OnOk result ((value_fault option (value_read value) ≡ None) × (self.new ≡ with_option self.old option value)) }
-        ensures refused { IfErr result (λ kind. value_fault option (value_read value) ≡ Some kind) }
+        ensures set { OnOk result ((value_fault option (value_read value.entry) ≡ None) × (self.new ≡ with_option self.old option value.entry)) }
+        ensures refused { IfErr result (λ kind. value_fault option (value_read value.entry) ≡ Some kind) }
     {
         let Some(word) = value else {
             return self.set_way(option);
@@ -160,9 +160,9 @@ impl<'a> Settings<'a> {
 
     /// The tool that these settings mean. The faults are `Conflict`, `MissingArgument` and `Memory`.
     pub(crate) fn finish(self, alloc: Global, tool: ToolName) -> Result<Tool, ChainKind>
-        ensures meant { IfOk result (λ meaning. (items : List ItemSaid) → AreSettingsOf tool items self
+        ensures meant { IfOk result (λ meaning. (items : List ItemSaid) → AreSettingsOf tool items self.entry
             → (end_fault tool items ≡ None) × (meaning ≡ meant_by tool items)) }
-        ensures refused { IfErr result (λ kind. (items : List ItemSaid) → AreSettingsOf tool items self
+        ensures refused { IfErr result (λ kind. (items : List ItemSaid) → AreSettingsOf tool items self.entry
             → (kind ≡ Memory) ⊎ (end_fault tool items ≡ Some kind)) }
     {
         match tool {
@@ -242,7 +242,7 @@ fn pick(
     planes: Vec<u16>,
     tuple_type: Option<&[u8]>,
 ) -> Result<Tool, ChainKind>
-    ensures made { IfOk result (λ tool. (0 < length planes.items) × (tool ≡ tools.Channel (picks planes.items (unwrap_or (value_read tuple_type) [])))) }
+    ensures made { IfOk result (λ tool. (0 < length planes.items) × (tool ≡ tools.Channel (picks planes.items (unwrap_or (value_read tuple_type.entry) [])))) }
     ensures refused { IfErr result (λ kind. (kind ≡ Memory) ⊎ ((planes.items ≡ []) × (kind ≡ MissingArgument))) }
 {
     if planes.is_empty() {

@@ -1,0 +1,177 @@
+-- Items without a fault mean one tool, and items that mean a tool have no fault.
+use Rattle.std.proofs.Common.{◌≡◌, ◌≤◌, ◌<◌, ℕ, suc, ◌+◌, Bool, true, false, not, if◌then◌else◌, Option, Some, None, is_some, List, [], ◌∷◌, ◌++◌, length, refl, sym, ap, subst, ◌∙◌, append-nil, append_assoc, arith}
+use Rattle.std.specs.List.{AllByRecursion}
+use Rattle.std.specs.Prelude.{nat_le}
+use Rattle.std.proofs.lemmas.List.{length-append}
+use Rattle.std.proofs.lemmas.Bool.Decides.{nat_tests}
+use Rattle.pnm_tools.specs.declared.tool.Tool.{Tool}
+use Rattle.pnmpipe.specs.declared.chain_text.ChainKind.{ChainKind}
+use Rattle.pnmpipe.specs.declared.chain_text.ChainKind.TheVariants.{UnknownOption, BadValue, Conflict, MissingArgument, ExtraArgument}
+use Rattle.pnmpipe.specs.declared.options.ToolName.{ToolName}
+use Rattle.pnmpipe.specs.declared.options.ToolOption.{ToolOption}
+use Rattle.pnmpipe.specs.Options.{most_arguments, takes_argument}
+use Rattle.pnmpipe.specs.Items.{Item, Argument, Given, Unknown, arguments_of, is_there, value_fault, IsFormed, is_new, AreNewAfter, is_conflict, is_missing, Means, meant_by, item_fault, end_fault, fault_after}
+
+-- ---- arguments of items that follow others
+
+pub arguments_of-append : (before items : List Item) → arguments_of (before ++ items) ≡ arguments_of before ++ arguments_of items
+arguments_of-append [] items = refl
+arguments_of-append (Argument word ∷ before) items = ap (λ (words : List (List ℕ)). word ∷ words) (arguments_of-append before items)
+arguments_of-append (Given option value ∷ before) items = arguments_of-append before items
+arguments_of-append (Unknown ∷ before) items = arguments_of-append before items
+
+-- ---- one item
+
+abbrev argument_by : Bool → Bool → Option ChainKind
+argument_by full takes = if full then Some ExtraArgument else if takes then None else Some BadValue
+
+argument_free : (full takes : Bool) → argument_by full takes ≡ None → (full ≡ false) × (takes ≡ true)
+argument_free true takes e = absurd cc
+argument_free false true e = (refl, refl)
+argument_free false false e = absurd cc
+
+argument_fits : (full takes : Bool) → full ≡ false → takes ≡ true → argument_by full takes ≡ None
+argument_fits full takes e f = rw (e, f) refl
+
+abbrev option_by : Bool → Option ChainKind → Option ChainKind
+option_by there fault = if there then Some Conflict else fault
+
+option_free : (there : Bool) (fault : Option ChainKind) → option_by there fault ≡ None → (not there ≡ true) × (fault ≡ None)
+option_free true fault e = absurd cc
+option_free false fault e = (refl, e)
+
+option_fits : (there : Bool) (fault : Option ChainKind) → not there ≡ true → fault ≡ None → option_by there fault ≡ None
+option_fits true fault e f = absurd cc
+option_fits false fault e f = f
+
+-- an item that goes well with those before it
+pub record FitsAfter (tool : ToolName) (before : List Item) (item : Item) : Type 0 where
+  pub formed : IsFormed tool item
+  pub is_new_one : is_new before item ≡ true
+  pub not_many : length (arguments_of (before ++ item ∷ [])) ≤ most_arguments tool
+
+no_more : (before : List Item) (words : List (List ℕ)) (item : Item) (most : ℕ) → arguments_of (item ∷ []) ≡ [] → length (arguments_of before) ≤ most → length (arguments_of (before ++ item ∷ [])) ≤ most
+no_more before words item most none low =
+    subst (λ (args : List (List ℕ)). length args ≤ most) (sym (arguments_of-append before (item ∷ []) ∙ ap (λ (more : List (List ℕ)). arguments_of before ++ more) none ∙ append-nil (arguments_of before))) low
+
+one_more : (before : List Item) (word : List ℕ) → length (arguments_of (before ++ Argument word ∷ [])) ≡ length (arguments_of before) + 1
+one_more before word = ap (λ (args : List (List ℕ)). length args) (arguments_of-append before (Argument word ∷ [])) ∙ length-append (arguments_of before) (word ∷ [])
+
+below : (most n : ℕ) → nat_le most n ≡ false → n + 1 ≤ most
+below most n e = grind (arith, nat_tests)
+
+not_below : (most n : ℕ) → n + 1 ≤ most → nat_le most n ≡ false
+not_below most n low = grind (arith, nat_tests)
+
+pub fits : (tool : ToolName) (before : List Item) (item : Item) → item_fault tool before item ≡ None → length (arguments_of before) ≤ most_arguments tool → FitsAfter tool before item
+fits tool before (Argument word) e low =
+    let free = argument_free (nat_le (most_arguments tool) (length (arguments_of before))) (takes_argument tool word) e in
+    record {
+      formed = free.1;
+      is_new_one = refl;
+      not_many = subst (λ (n : ℕ). n ≤ most_arguments tool) (sym (one_more before word)) (below (most_arguments tool) (length (arguments_of before)) free.0)
+    }
+fits tool before (Given option value) e low =
+    let free = option_free (is_there option before) (value_fault option value) e in
+    record { formed = free.1; is_new_one = free.0; not_many = no_more before [] (Given option value) (most_arguments tool) refl low }
+fits tool before Unknown e low = absurd cc
+
+pub no_fault : (tool : ToolName) (before : List Item) (item : Item) → FitsAfter tool before item → item_fault tool before item ≡ None
+no_fault tool before (Argument word) h =
+    argument_fits (nat_le (most_arguments tool) (length (arguments_of before))) (takes_argument tool word)
+    (not_below (most_arguments tool) (length (arguments_of before)) (subst (λ (n : ℕ). n ≤ most_arguments tool) (one_more before word) h.not_many))
+    h.formed
+no_fault tool before (Given option value) h = option_fits (is_there option before) (value_fault option value) h.is_new_one h.formed
+no_fault tool before Unknown h = absurd h.formed
+
+-- ---- items that follow others
+
+pub record FitAfter (tool : ToolName) (before items : List Item) : Type 0 where
+  pub formed : AllByRecursion (IsFormed tool) items
+  pub once : AreNewAfter before items
+  pub not_many : length (arguments_of (before ++ items)) ≤ most_arguments tool
+  pub ended : end_fault tool (before ++ items) ≡ None
+
+abbrev after_by : Option ChainKind → Option ChainKind → Option ChainKind
+after_by fault others = elim fault [
+  | Some kind ↦ Some kind
+  | None ↦ others
+]
+
+after_free : (fault others : Option ChainKind) → after_by fault others ≡ None → (fault ≡ None) × (others ≡ None)
+after_free (Some kind) others e = absurd cc
+after_free None others e = (refl, e)
+
+fault_after-cons : (tool : ToolName) (before : List Item) (item : Item) (items : List Item) → fault_after tool before (item ∷ items) ≡ after_by (item_fault tool before item) (fault_after tool (before ++ item ∷ []) items)
+unfolding fault_after
+fault_after-cons tool before item items = refl
+
+fault_after-nil : (tool : ToolName) (before : List Item) → fault_after tool before [] ≡ end_fault tool before
+unfolding fault_after
+fault_after-nil tool before = refl
+
+pub fit : (tool : ToolName) (before items : List Item) → fault_after tool before items ≡ None → length (arguments_of before) ≤ most_arguments tool → FitAfter tool before items
+fit tool before [] e low =
+    let all : before ++ [] ≡ before = append-nil before in
+    record {
+      formed = cc;
+      once = cc;
+      not_many = subst (λ (l : List Item). length (arguments_of l) ≤ most_arguments tool) (sym all) low;
+      ended = subst (λ (l : List Item). end_fault tool l ≡ None) (sym all) (sym (fault_after-nil tool before) ∙ e)
+    }
+fit tool before (item ∷ items) e low =
+    let free = after_free (item_fault tool before item) (fault_after tool (before ++ item ∷ []) items) (sym (fault_after-cons tool before item items) ∙ e) in
+    let one = fits tool before item free.0 low in
+    let others = fit tool (before ++ item ∷ []) items free.1 one.not_many in
+    let all : before ++ item ∷ [] ++ items ≡ before ++ item ∷ items = append_assoc before (item ∷ []) items in
+    record {
+      formed = (one.formed, others.formed);
+      once = (one.is_new_one, others.once);
+      not_many = subst (λ (l : List Item). length (arguments_of l) ≤ most_arguments tool) all others.not_many;
+      ended = subst (λ (l : List Item). end_fault tool l ≡ None) all others.ended
+    }
+
+fewer : (before items : List Item) → length (arguments_of before) ≤ length (arguments_of (before ++ items))
+fewer before items =
+    subst (λ (args : List (List ℕ)). length (arguments_of before) ≤ length args) (sym (arguments_of-append before items))
+    (subst (λ (n : ℕ). length (arguments_of before) ≤ n) (sym (length-append (arguments_of before) (arguments_of items))) (omega arith))
+
+pub fit_fault : (tool : ToolName) (before items : List Item) → FitAfter tool before items → fault_after tool before items ≡ None
+fit_fault tool before [] h = fault_after-nil tool before ∙ subst (λ (l : List Item). end_fault tool l ≡ None) (append-nil before) h.ended
+fit_fault tool before (item ∷ items) h =
+    let all : before ++ item ∷ [] ++ items ≡ before ++ item ∷ items = append_assoc before (item ∷ []) items in
+    let many : length (arguments_of (before ++ item ∷ [] ++ items)) ≤ most_arguments tool = subst (λ (l : List Item). length (arguments_of l) ≤ most_arguments tool) (sym all) h.not_many in
+    let least : length (arguments_of (before ++ item ∷ [])) ≤ length (arguments_of (before ++ item ∷ [] ++ items)) = fewer (before ++ item ∷ []) items in
+    let one : item_fault tool before item ≡ None = no_fault tool before item (record { formed = h.formed.0; is_new_one = h.once.0; not_many = omega arith }) in
+    let others : fault_after tool (before ++ item ∷ []) items ≡ None = fit_fault tool (before ++ item ∷ []) items (record {
+      formed = h.formed.1;
+      once = h.once.1;
+      not_many = many;
+      ended = subst (λ (l : List Item). end_fault tool l ≡ None) (sym all) h.ended
+    }) in
+    fault_after-cons tool before item items ∙ ap (λ (fault : Option ChainKind). after_by fault (fault_after tool (before ++ item ∷ []) items)) one ∙ others
+
+-- ---- the end of items
+
+abbrev end_by : Bool → Bool → Option ChainKind
+end_by conflict missing = if conflict then Some Conflict else if missing then Some MissingArgument else None
+
+end_free : (conflict missing : Bool) → end_by conflict missing ≡ None → (conflict ≡ false) × (missing ≡ false)
+end_free true missing e = absurd cc
+end_free false true e = absurd cc
+end_free false false e = (refl, refl)
+
+end_fits : (conflict missing : Bool) → conflict ≡ false → missing ≡ false → end_by conflict missing ≡ None
+end_fits conflict missing e f = rw (e, f) refl
+
+-- ---- all items of a tool
+
+pub items_mean : (tool : ToolName) (items : List Item) → fault_after tool [] items ≡ None → Means tool items (meant_by tool items)
+items_mean tool items e =
+    let all = fit tool [] items e (omega arith) in
+    let ended = end_free (is_conflict tool items) (is_missing tool items) all.ended in
+    record { formed = all.formed; once = all.once; not_many = all.not_many; together = ended.0; enough = ended.1; meaning_is = refl }
+
+pub meaning_has_no_fault : (tool : ToolName) (items : List Item) (meaning : Tool) → Means tool items meaning → fault_after tool [] items ≡ None
+meaning_has_no_fault tool items meaning h =
+    fit_fault tool [] items (record { formed = h.formed; once = h.once; not_many = h.not_many; ended = end_fits (is_conflict tool items) (is_missing tool items) h.together h.enough })
