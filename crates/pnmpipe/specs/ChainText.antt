@@ -9,6 +9,7 @@ use Rattle.pnmpipe.specs.declared.chain_text.ChainKind.TheVariants.{Empty, TooLo
 use Rattle.pnmpipe.specs.declared.options.ToolName.{ToolName}
 use Rattle.pnmpipe.specs.Options.{tool_named}
 use Rattle.pnmpipe.specs.Items.{items_of, Means, fault_after}
+use Rattle.pnmpipe.specs.Runs.{IsChain}
 
 -- ---- the grammar
 
@@ -73,3 +74,10 @@ chain_fault_of text =
 pub record IsOneChainOrOneFault (text : List ℕ) : Type 0 where
   pub spelled : ((tools : List Tool) × SpellsChain text tools) ↔ (chain_fault_of text ≡ None)
   pub one : (tools others : List Tool) → SpellsChain text tools → SpellsChain text others → tools ≡ others
+
+abbrev pub OneChainOrOneFault : Type 0
+OneChainOrOneFault = (text : List ℕ) → IsOneChainOrOneFault text
+
+-- a chain that a text spells can be run
+abbrev pub SpelledChainsAreLawful : Type 0
+SpelledChainsAreLawful = (text : List ℕ) (tools : List Tool) → SpellsChain text tools → IsChain tools

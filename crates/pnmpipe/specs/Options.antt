@@ -118,19 +118,21 @@ takes_value XScale word = spells_number 1 16777216 word
 takes_value YScale word = spells_number 1 16777216 word
 takes_value (Way way) word = false
 
--- the two are one option; so are two ways to flip, of which one alone may stand
+-- an option's place among what can be set, once each: the ways to flip have one place
+abbrev pub slot_of : ToolOption → ℕ
+slot_of Left = 0
+slot_of Right = 1
+slot_of Top = 2
+slot_of Bottom = 3
+slot_of Width = 4
+slot_of Height = 5
+slot_of TupleType = 6
+slot_of XScale = 7
+slot_of YScale = 8
+slot_of (Way way) = 9
+
 abbrev pub is_same : ToolOption → ToolOption → Bool
-is_same Left Left = true
-is_same Right Right = true
-is_same Top Top = true
-is_same Bottom Bottom = true
-is_same Width Width = true
-is_same Height Height = true
-is_same TupleType TupleType = true
-is_same XScale XScale = true
-is_same YScale YScale = true
-is_same (Way one) (Way other) = true
-is_same one other = false
+is_same one other = slot_of one == slot_of other
 
 -- ---- arguments
 

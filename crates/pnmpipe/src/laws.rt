@@ -1,7 +1,7 @@
 //! Laws of what is due for a text. Each stands over the definitions alone, as the contract of a
 //! function that does nothing.
 
-ghost use Rattle.pnmpipe.specs.ChainText.{IsOneChainOrOneFault};
+ghost use Rattle.pnmpipe.specs.ChainText.{OneChainOrOneFault, SpelledChainsAreLawful};
 ghost use Rattle.pnmpipe.specs.Examples.{ExamplesHold};
 
 /// Small texts, the images that are said of them, and the bytes due for these from small chains, as
@@ -11,6 +11,11 @@ pub fn examples_hold()
 {}
 
 /// Each text spells one list of tools and has no fault, or it spells none and has one fault.
-pub fn one_chain_or_one_fault(_text: &[u8])
-    ensures { IsOneChainOrOneFault _text.now }
+pub fn one_chain_or_one_fault()
+    ensures { OneChainOrOneFault }
+{}
+
+/// The tools that a text spells are 1 to 16, and their options are in their ranges.
+pub fn spelled_chains_are_lawful()
+    ensures { SpelledChainsAreLawful }
 {}
