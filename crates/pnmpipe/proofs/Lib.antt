@@ -9,3 +9,4 @@ pub mod CountLaws
 pub mod RunSteps
 pub mod ItemLaws
 pub mod ChainLaws
+pub mod LawfulLaws
