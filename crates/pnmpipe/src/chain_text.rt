@@ -1,6 +1,6 @@
 //! The text of a chain of tools, as a user writes it.
 
-ghost use Rattle.std.specs.Prelude.{◌≡◌, ◌⊎◌, IfOk, IfErr, Some, None, length};
+ghost use Rattle.std.specs.Prelude.{◌≡◌, ◌⊎◌, ◌+◌, IfOk, IfErr, Some, None, length};
 ghost use Rattle.pnmpipe.specs.declared.chain_text.ChainKind.TheVariants.{Memory};
 ghost use Rattle.pnmpipe.specs.ChainText.{SpellsChain, SpellsTool, chain_fault_of, stage_fault, stages_of, whole};
 ghost use Rattle.pnmpipe.specs.Runs.{IsChain};
@@ -117,7 +117,7 @@ pub fn parse_chain(alloc: Global, text: &str) -> Result<Vec<Tool>, ChainFault>
     if split_word(text.as_bytes()).is_none() {
         return Err(ChainFault::whole(ChainKind::Empty));
     }
-    if count_stages(text.as_bytes()) > MOST_STAGES {
+    if count_bars(text.as_bytes()) >= MOST_STAGES {
         return Err(ChainFault::whole(ChainKind::TooMany));
     }
     let mut tools = Vec::new(alloc);
@@ -128,16 +128,17 @@ pub fn parse_chain(alloc: Global, text: &str) -> Result<Vec<Tool>, ChainFault>
     Ok(tools)
 }
 
-fn count_stages(text: &[u8]) -> usize
-    ensures { result ≡ length (stages_of text.now) }
+/// One less than the stages.
+fn count_bars(text: &[u8]) -> usize
+    ensures { result + 1 ≡ length (stages_of text.now) }
 {
-    let mut stages = 1;
+    let mut bars = 0;
     for byte in text {
         if *byte == b'|' {
-            stages += 1;
+            bars += 1;
         }
     }
-    stages
+    bars
 }
 
 /// The tool of the stage of this number.
