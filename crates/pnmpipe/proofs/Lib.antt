@@ -7,5 +7,6 @@ pub mod TwoWords
 pub mod ToolSteps
 pub mod CountLaws
 pub mod RunSteps
+pub mod WordLaws
 pub mod ItemLaws
 pub mod ChainLaws
