@@ -7,6 +7,7 @@ pub mod TwoWords
 pub mod ToolSteps
 pub mod CountLaws
 pub mod RunSteps
+pub mod WordLaws
 pub mod ItemLaws
 pub mod ChainLaws
 pub mod LawfulLaws

@@ -1,7 +1,7 @@
 //! Words of a chain's text, and the numbers that they spell.
 
 ghost use Rattle.std.specs.Prelude.{◌≡◌, ◌<◌, ◌∷◌, [], IfSome, MatchOption, length, Some, None, if◌then◌else◌};
-ghost use Rattle.pnm_read.specs.Texts.{decimal_value, words};
+ghost use Rattle.pnm_read.specs.Texts.{decimal_value, is_white, words};
 ghost use Rattle.pnmpipe.specs.Options.{offset_value, spells_number, spells_offset};
 
 /// The greatest distance of an offset.
@@ -29,7 +29,9 @@ pub(crate) fn split_word(text: &[u8]) -> Option<(&[u8], &[u8])>
     Some(rest.split_at(length))
 }
 
-fn is_white(byte: u8) -> bool {
+fn is_white(byte: u8) -> bool
+    ensures { result ≡ is_white byte }
+{
     matches!(byte, b' ' | b'\t' | b'\r' | b'\n')
 }
 
