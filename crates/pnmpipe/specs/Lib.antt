@@ -4,4 +4,7 @@ pub mod Stages
 pub mod Tools
 pub mod Runs
 pub mod Passing
+pub mod ChainText
+pub mod CommandLine
 pub mod Examples
+pub mod CommandLineExamples

@@ -1,7 +1,8 @@
 //! The text that names the tools of a chain.
 
-ghost use Rattle.std.specs.Prelude.{◌≡◌, ◌≢◌, ◌⊎◌, [], ◌∷◌, IfOk, IfErr, codes};
-ghost use Rattle.pnm_tools.specs.declared.tool.Tool.TheVariants.{Invert};
+ghost use Rattle.std.specs.Prelude.{◌≡◌, ◌≢◌, ◌⊎◌, IfOk, IfErr, codes};
+ghost use Rattle.pnmpipe.specs.ChainText.{SpellsChain};
+ghost use Rattle.pnmpipe.specs.Runs.{IsChain};
 
 use pnm_tools::Tool;
 use std::alloc::Global;
@@ -30,7 +31,8 @@ pub struct ChainFault {
 /// The tools that the text names: `pnminvert` alone is a chain so far. The faults are `UnknownTool`
 /// of stage 1 for every other text, and `Memory`.
 pub fn parse_chain(alloc: Global, text: &str) -> Result<Vec<Tool>, ChainFault>
-    ensures spelled { IfOk result (λ tools. (text.now ≡ codes "pnminvert") × (tools.items ≡ Invert ∷ [])) }
+    ensures spelled { IfOk result (λ tools. SpellsChain text.now tools.items) }
+    ensures lawful { IfOk result (λ tools. IsChain tools.items) }
     ensures refused { IfErr result (λ fault. ((fault ≡ record { stage = 0; kind = ChainKind.Memory }) × (text.now ≡ codes "pnminvert"))
         ⊎ ((fault ≡ record { stage = 1; kind = ChainKind.UnknownTool }) × (text.now ≢ codes "pnminvert"))) }
 {

@@ -1,10 +1,17 @@
-//! Laws of what is due for a text. Each stands over the definitions alone, as the contract of a
+//! Laws of what is due for a text, and of command lines. Each stands over the definitions alone, as the contract of a
 //! function that does nothing.
 
+ghost use Rattle.pnmpipe.specs.CommandLineExamples.{CommandLinesHold};
 ghost use Rattle.pnmpipe.specs.Examples.{ExamplesHold};
 
 /// Small texts, the images that are said of them, and the bytes due for these from small chains, as
 /// the definitions compute them.
 pub fn examples_hold()
     ensures { ExamplesHold }
+{}
+
+/// A word alone is the chain unless it begins with a dash; and small command lines, with what they
+/// give or why they are refused, as the definitions compute them.
+pub fn command_lines_hold()
+    ensures { CommandLinesHold }
 {}
