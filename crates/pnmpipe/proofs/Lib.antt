@@ -3,7 +3,9 @@ pub mod DownstreamSteps
 pub mod StageSteps
 pub mod FaultSteps
 pub mod PassingSteps
-pub mod TwoWords
+pub mod HelpSteps
+pub mod DefaultReads
+pub mod CommandLineSteps
 pub mod ToolSteps
 pub mod CountLaws
 pub mod RunSteps

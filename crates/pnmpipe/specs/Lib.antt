@@ -8,4 +8,6 @@ pub mod Options
 pub mod Items
 pub mod Settings
 pub mod ChainText
+pub mod CommandLine
 pub mod Examples
+pub mod CommandLineExamples

@@ -1,17 +1,20 @@
 //! The program.
 
-ghost use Rattle.std.specs.Prelude.{◌≡◌, ◌≢◌, ◌≤◌, ℕ, List, [], ◌∷◌, Some, codes, string_bytes};
-ghost use Rattle.pnm_tools.specs.declared.tool.Tool.TheVariants.{Invert};
-ghost use Rattle.pnmpipe.specs.declared.summary.Summary.{Summary};
-ghost use Rattle.pnmpipe.specs.Runs.{EndedWell, IsFrontOfDue};
+ghost use Rattle.std.specs.Prelude.{◌≡◌, ◌≢◌, ◌⊎◌, ◌≤◌, map, string_bytes};
+ghost use Rattle.pnm_write.specs.Writes.{AppendsFront};
+ghost use Rattle.pnmpipe.specs.CommandLine.{AsksForHelp, HasRun, HasRunWords};
+ghost use Rattle.pnmpipe.specs.Runs.{IsChain};
 
-use crate::chain_text::{ChainFault, parse_chain};
-use crate::fault::RunFault;
+use crate::chain_text::parse_chain;
+use crate::command_line::{CommandLineFault, read_words};
+use crate::fault_line::{print_chain_fault, print_run_fault, print_usage, print_want_of_memory};
 use crate::serial::run_serial;
 use pnm_image::{BytesIn, BytesOut};
+use pnm_tools::Tool;
+use std::alloc::Global;
 use std::io::Write;
 
-/// The status of a run that ended well.
+/// The status of a run that ended well, and of help.
 const WELL: u8 = 0;
 
 /// The status of a run that ended in a fault.
@@ -20,10 +23,11 @@ const RUN_FAULT: u8 = 1;
 /// The status of words that name no run.
 pub const COMMAND_LINE_FAULT: u8 = 2;
 
-/// Runs the program: `words` are its own name and the chain. It reads the images of `input` and
-/// writes those that come out to `output`. A fault prints one line to `errors`; if that can't be
-/// written, nothing else changes. The status is 0 where all went well, 1 after a fault of the run,
-/// and 2 where the words name no chain, and then nothing is read.
+/// Runs the program: `words` are its own name, options and the chain. It reads the images of `input`
+/// and writes those that come out to `output`. Where the words ask for help, that is written to
+/// `output` and nothing is read. A fault prints one line to `errors`; if that can't be written,
+/// nothing else changes. The status is 0 where all went well or help was asked for, 1 after a fault
+/// of the run, and 2 where the words name no chain, and then nothing is read or written.
 pub fn command<H: AllocGlobal, R: BytesIn, W: BytesOut, E: Write>(
     rt: &H,
     words: &[String],
@@ -33,45 +37,66 @@ pub fn command<H: AllocGlobal, R: BytesIn, W: BytesOut, E: Write>(
 ) -> u8
     ensures status { result ≤ 2 }
     ensures untouched { result ≡ 2 → (input.new ≡ input.old) × (output.new ≡ output.old) }
-    ensures named { result ≢ 2 → (name : _) × (chain : _) × (words.now ≡ name ∷ chain ∷ []) × (string_bytes chain ≡ codes "pnminvert") }
-    ensures well { result ≡ 0 → (text : List ℕ) → R.left input.old ≡ Some text
-        → (summary : Summary) × EndedWell text (Invert ∷ []) (W.held output.old) (W.held output.new) summary }
-    ensures front { (text : List ℕ) → R.left input.old ≡ Some text → result ≢ 2
-        → IsFrontOfDue text (Invert ∷ []) (W.held output.old) (W.held output.new) }
+    // Help reads nothing, and fails only for want of memory, whatever becomes of its text.
+    ensures help { AsksForHelp (map string_bytes words.now) → (result ≢ 1) × (input.new ≡ input.old) }
+    ensures ran { result ≢ 2 → AsksForHelp (map string_bytes words.now)
+        ⊎ HasRunWords (map string_bytes words.now) result (R.left input.old) (W.held output.old) (W.held output.new) }
 {
-    let [_, chain] = words else {
-        let _ = writeln!(errors, "pnmpipe: usage: pnmpipe [--ring N] CHAIN");
-        return COMMAND_LINE_FAULT;
-    };
-    let tools = match parse_chain(rt.alloc(), chain.as_str()) {
-        Ok(tools) => tools,
-        Err(fault) => {
-            print_chain_fault(errors, fault);
+    let line = match read_words(rt.alloc(), words) {
+        Ok(line) => line,
+        Err(CommandLineFault::Help(text)) => {
+            print_help(output, text.as_str());
+            return WELL;
+        }
+        Err(CommandLineFault::Usage) => {
+            print_usage(errors);
+            return COMMAND_LINE_FAULT;
+        }
+        Err(CommandLineFault::Memory) => {
+            print_want_of_memory(errors);
             return COMMAND_LINE_FAULT;
         }
     };
-    match run_serial(rt.alloc(), input, output, tools.as_slice()) {
+    match parse_chain(rt.alloc(), line.chain) {
+        Ok(tools) => run(rt.alloc(), tools.as_slice(), input, output, errors),
+        Err(fault) => {
+            print_chain_fault(errors, fault);
+            COMMAND_LINE_FAULT
+        }
+    }
+}
+
+/// Runs the tools over the input, and prints the run's fault.
+fn run<R: BytesIn, W: BytesOut, E: Write>(
+    alloc: Global,
+    tools: &[Tool],
+    input: &mut R,
+    output: &mut W,
+    errors: &mut E,
+) -> u8
+    requires { IsChain tools.now }
+    ensures status { result ≤ 1 }
+    ensures ran { HasRun tools.now result (R.left input.old) (W.held output.old) (W.held output.new) }
+{
+    match run_serial(alloc, input, output, tools) {
         Ok(_) => WELL,
-        Err(RunFault::Input(fault)) => {
-            let _ = writeln!(errors, "pnmpipe: input: {fault}");
-            RUN_FAULT
-        }
-        Err(RunFault::Tool(number, fault)) => {
-            let _ = writeln!(errors, "pnmpipe: tool {number}: {fault}");
-            RUN_FAULT
-        }
-        Err(RunFault::Output(fault)) => {
-            let _ = writeln!(errors, "pnmpipe: output: {fault}");
+        Err(fault) => {
+            print_run_fault(errors, fault);
             RUN_FAULT
         }
     }
 }
 
-fn print_chain_fault<E: Write>(errors: &mut E, fault: ChainFault) {
-    let ChainFault { stage, kind } = fault;
-    let _ = if stage == 0 {
-        writeln!(errors, "pnmpipe: chain: {kind}")
-    } else {
-        writeln!(errors, "pnmpipe: chain: stage {stage}: {kind}")
-    };
+/// Writes the text. What is left after a failed write is left out.
+fn print_help<W: BytesOut>(output: &mut W, text: &str)
+    ensures { AppendsFront (W.held output.old) (W.held output.new) text.now }
+{
+    let mut rest = text.as_bytes();
+    while !rest.is_empty() {
+        match output.write(rest) {
+            Ok(count) => (_, rest) = rest.split_at(count),
+            Err(_) => return,
+        }
+    }
+    let _ = output.flush();
 }

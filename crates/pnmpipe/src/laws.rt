@@ -1,7 +1,8 @@
-//! Laws of what is due for a text. Each stands over the definitions alone, as the contract of a
-//! function that does nothing.
+//! Laws of what is due for a text, of chains' texts and of command lines. Each stands over the
+//! definitions alone, as the contract of a function that does nothing.
 
 ghost use Rattle.pnmpipe.specs.ChainText.{OneChainOrOneFault, SpelledChainsAreLawful};
+ghost use Rattle.pnmpipe.specs.CommandLineExamples.{CommandLinesHold};
 ghost use Rattle.pnmpipe.specs.Examples.{ExamplesHold};
 
 /// Small texts, the images that are said of them, and the bytes due for these from small chains, as
@@ -18,4 +19,10 @@ pub fn one_chain_or_one_fault()
 /// The tools that a text spells are 1 to 16, and their options are in their ranges.
 pub fn spelled_chains_are_lawful()
     ensures { SpelledChainsAreLawful }
+{}
+
+/// A word alone is the chain unless it begins with a dash; and small command lines, with what they
+/// give or why they are refused, as the definitions compute them.
+pub fn command_lines_hold()
+    ensures { CommandLinesHold }
 {}

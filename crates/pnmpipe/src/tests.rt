@@ -6,6 +6,7 @@ use pnm_read::InputFault;
 mod chains;
 mod command;
 mod devices;
+mod fault_lines;
 mod memory;
 mod order;
 mod run;

@@ -3,7 +3,45 @@
 use super::{BAD_INPUTS, IMAGE, INVERTED};
 use crate::command::command;
 use pnm_image::Device;
+use std::alloc::Global;
 use std::test::Fail;
+
+/// The words of a command line.
+pub fn words_of(alloc: Global, texts: &[&str]) -> Result<Vec<String>, Fail> {
+    let mut words = Vec::new(alloc);
+    for text in texts {
+        words.push(String::from_str(alloc, text)?)?;
+    }
+    Ok(words)
+}
+
+/// What the program answers to these words, and what it left and wrote.
+#[derive(Drop)]
+pub struct Answer<'a> {
+    pub status: u8,
+    pub left: &'a [u8],
+    pub output: Vec<u8>,
+    pub errors: Vec<u8>,
+}
+
+/// Calls the program with these words over an input.
+pub fn answer_to<'a, H: AllocGlobal>(
+    rt: &H,
+    texts: &[&str],
+    input: &'a [u8],
+) -> Result<Answer<'a>, Fail> {
+    let words = words_of(rt.alloc(), texts)?;
+    let mut input = Device::new(input);
+    let mut output = Device::new(Vec::new(rt.alloc()));
+    let mut errors = Vec::new(rt.alloc());
+    let status = command(rt, words.as_slice(), &mut input, &mut output, &mut errors);
+    Ok(Answer {
+        status,
+        left: input.into_inner(),
+        output: output.into_inner(),
+        errors,
+    })
+}
 
 /// Words that name no run: the status is 2, and nothing is read or written.
 #[test]
@@ -14,65 +52,116 @@ fn refuses_words(rt: HostRuntime) -> Result<(), Fail> {
         ([].as_slice(), usage),
         (["pnmpipe"].as_slice(), usage),
         (["pnmpipe", "pnminvert", "pnminvert"].as_slice(), usage),
+        (["pnmpipe", "--ring", "7"].as_slice(), usage),
+        (["pnmpipe", "--lanes", "2", "pnminvert"].as_slice(), usage),
+        (["pnmpipe", "--plain", "pnminvert"].as_slice(), usage),
+        (["pnmpipe", "--version"].as_slice(), usage),
+        (["pnmpipe", "-V"].as_slice(), usage),
         (["pnmpipe", "pnmscale"].as_slice(), unknown),
-        (["pnmpipe", "--help"].as_slice(), unknown),
+        (["pnmpipe", "--ring", "7", "pnmscale"].as_slice(), unknown),
         (["pnmpipe", ""].as_slice(), unknown),
         (["pnmpipe", " pnminvert"].as_slice(), unknown),
         (["pnmpipe", "pnminvert |"].as_slice(), unknown),
     ] {
-        let mut words = Vec::new(rt.alloc());
-        for text in texts {
-            words.push(String::from_str(rt.alloc(), text)?)?;
-        }
-        let mut input = Device::new(IMAGE);
-        let mut output = Device::new(Vec::new(rt.alloc()));
-        let mut errors = Vec::new(rt.alloc());
-        let status = command(&rt, words.as_slice(), &mut input, &mut output, &mut errors);
-        assert_eq!(rt; status, 2, "at {texts:?}");
-        assert_eq!(rt; errors.as_slice(), printed.as_bytes(), "at {texts:?}");
-        assert_eq!(rt; input.into_inner(), IMAGE, "at {texts:?}");
-        assert!(rt; output.into_inner().is_empty(), "at {texts:?}");
+        let answer = answer_to(&rt, texts, IMAGE)?;
+        assert_eq!(rt; answer.status, 2, "at {texts:?}");
+        assert_eq!(rt; answer.errors.as_slice(), printed.as_bytes(), "at {texts:?}");
+        assert_eq!(rt; answer.left, IMAGE, "at {texts:?}");
+        assert!(rt; answer.output.is_empty(), "at {texts:?}");
     }
     Ok(())
 }
 
-/// A run's status is 0, or 1 after a fault, which is printed; also where it can't be.
+/// `--ring` takes a number from 1 to 1,024, and its other values are refused.
+#[test]
+fn refuses_rings(rt: HostRuntime) -> Result<(), Fail> {
+    for texts in [
+        ["pnmpipe", "--ring", "0", "pnminvert"].as_slice(),
+        ["pnmpipe", "--ring", "1025", "pnminvert"].as_slice(),
+        ["pnmpipe", "--ring", "65537", "pnminvert"].as_slice(),
+        ["pnmpipe", "--ring", "18446744073709551617", "pnminvert"].as_slice(),
+        ["pnmpipe", "--ring", "x", "pnminvert"].as_slice(),
+        ["pnmpipe", "--ring", "", "pnminvert"].as_slice(),
+        ["pnmpipe", "--ring", "0x10", "pnminvert"].as_slice(),
+        ["pnmpipe", "--ring=", "pnminvert"].as_slice(),
+        ["pnmpipe", "--ring=-1", "pnminvert"].as_slice(),
+        ["pnmpipe", "pnminvert", "--ring"].as_slice(),
+        // `clap` takes `-1` for an option, which there isn't.
+        ["pnmpipe", "--ring", "-1", "pnminvert"].as_slice(),
+        // It takes an option once alone, also with the same value.
+        ["pnmpipe", "--ring", "7", "--ring", "7", "pnminvert"].as_slice(),
+        // The word after `--ring` is its value, so here is no chain.
+        ["pnmpipe", "--ring", "pnminvert"].as_slice(),
+        // Names of options aren't shortened, and case counts.
+        ["pnmpipe", "--rin", "7", "pnminvert"].as_slice(),
+        ["pnmpipe", "--RING", "7", "pnminvert"].as_slice(),
+        ["pnmpipe", "-ring", "7", "pnminvert"].as_slice(),
+    ] {
+        let answer = answer_to(&rt, texts, IMAGE)?;
+        assert_eq!(rt; answer.status, 2, "at {texts:?}");
+        assert_eq!(rt;
+            answer.errors.as_slice(),
+            b"pnmpipe: usage: pnmpipe [--ring N] CHAIN\n".as_slice(),
+            "at {texts:?}"
+        );
+        assert_eq!(rt; answer.left, IMAGE, "at {texts:?}");
+        assert!(rt; answer.output.is_empty(), "at {texts:?}");
+    }
+    Ok(())
+}
+
+/// What `clap` takes for one chain with or without `--ring`.
+#[test]
+fn takes_words(rt: HostRuntime) -> Result<(), Fail> {
+    for texts in [
+        ["pnmpipe", "pnminvert"].as_slice(),
+        // The program's name may be any word, also an option's.
+        ["", "pnminvert"].as_slice(),
+        ["--help", "pnminvert"].as_slice(),
+        ["/usr/bin/other", "pnminvert"].as_slice(),
+        ["pnmpipe", "--ring", "1", "pnminvert"].as_slice(),
+        ["pnmpipe", "--ring", "1024", "pnminvert"].as_slice(),
+        // `clap` takes a value after `=`, one with a plus sign, and one with zeros before it.
+        ["pnmpipe", "--ring=7", "pnminvert"].as_slice(),
+        ["pnmpipe", "--ring=+7", "pnminvert"].as_slice(),
+        ["pnmpipe", "--ring", "007", "pnminvert"].as_slice(),
+        // It takes options after CHAIN too.
+        ["pnmpipe", "pnminvert", "--ring", "7"].as_slice(),
+        ["pnmpipe", "pnminvert", "--ring=7"].as_slice(),
+        // After `--` no word is an option; it may also come after CHAIN.
+        ["pnmpipe", "--", "pnminvert"].as_slice(),
+        ["pnmpipe", "--ring", "7", "--", "pnminvert"].as_slice(),
+        ["pnmpipe", "pnminvert", "--"].as_slice(),
+    ] {
+        let answer = answer_to(&rt, texts, IMAGE)?;
+        assert_eq!(rt; answer.status, 0, "at {texts:?}");
+        assert_eq!(rt; answer.output.as_slice(), INVERTED, "at {texts:?}");
+        assert!(rt; answer.errors.is_empty(), "at {texts:?}");
+    }
+    // After `--` the chain may begin with a dash.
+    let answer = answer_to(&rt, ["pnmpipe", "--", "--help"].as_slice(), IMAGE)?;
+    assert_eq!(rt; answer.status, 2);
+    assert_eq!(rt;
+        answer.errors.as_slice(),
+        b"pnmpipe: chain: stage 1: UnknownTool\n".as_slice()
+    );
+    Ok(())
+}
+
+/// A run's status is 0, or 1 after a fault, which is printed.
 #[test]
 fn runs(rt: HostRuntime) -> Result<(), Fail> {
-    let mut words = Vec::new(rt.alloc());
-    words.push(String::from_str(rt.alloc(), "pnmpipe")?)?;
-    words.push(String::from_str(rt.alloc(), "pnminvert")?)?;
-
-    let mut output = Device::new(Vec::new(rt.alloc()));
-    let mut errors = Vec::new(rt.alloc());
-    let status = command(
-        &rt,
-        words.as_slice(),
-        &mut Device::new(IMAGE),
-        &mut output,
-        &mut errors,
-    );
-    assert_eq!(rt; status, 0);
-    assert_eq!(rt; output.into_inner().as_slice(), INVERTED);
-    assert!(rt; errors.is_empty());
-
+    let texts = ["pnmpipe", "pnminvert"];
     for (input, front, _, name) in BAD_INPUTS {
         let printed = format!(in rt.alloc(); "pnmpipe: input: {}\n", name)?;
-        let mut output = Device::new(Vec::new(rt.alloc()));
-        let mut errors = Vec::new(rt.alloc());
-        let status = command(
-            &rt,
-            words.as_slice(),
-            &mut Device::new(*input),
-            &mut output,
-            &mut errors,
-        );
-        assert_eq!(rt; status, 1, "at {:?}", input);
-        assert_eq!(rt; errors.as_slice(), printed.as_bytes(), "at {:?}", input);
-        assert_eq!(rt; output.into_inner().as_slice(), *front, "at {:?}", input);
+        let answer = answer_to(&rt, texts.as_slice(), *input)?;
+        assert_eq!(rt; answer.status, 1, "at {:?}", input);
+        assert_eq!(rt; answer.errors.as_slice(), printed.as_bytes(), "at {:?}", input);
+        assert_eq!(rt; answer.output.as_slice(), *front, "at {:?}", input);
     }
 
-    // Room for 5 bytes of the output, and then for 5 of the line.
+    // Room for 5 bytes of the output.
+    let words = words_of(rt.alloc(), texts.as_slice())?;
     let mut room = [0; 5];
     let mut output = Device::new(room.as_mut_slice());
     let mut errors = Vec::new(rt.alloc());
@@ -95,19 +184,19 @@ fn runs(rt: HostRuntime) -> Result<(), Fail> {
 /// Where a line can't be printed nothing else changes.
 #[test]
 fn goes_on_without_a_line(rt: HostRuntime) -> Result<(), Fail> {
-    for (chain, input, want, written) in [
-        ("pnmscale", IMAGE, 2, b"".as_slice()),
+    for (texts, input, want, written) in [
+        (["pnmpipe"].as_slice(), IMAGE, 2, b"".as_slice()),
+        (["pnmpipe", "--ring", "0", "pnminvert"].as_slice(), IMAGE, 2, b"".as_slice()),
+        (["pnmpipe", "pnmscale"].as_slice(), IMAGE, 2, b"".as_slice()),
         (
-            "pnminvert",
+            ["pnmpipe", "pnminvert"].as_slice(),
             b"P5\n1 1\n9\n\x05X".as_slice(),
             1,
             b"P5\n1 1\n9\n\x04".as_slice(),
         ),
-        ("pnminvert", IMAGE, 0, INVERTED),
+        (["pnmpipe", "pnminvert"].as_slice(), IMAGE, 0, INVERTED),
     ] {
-        let mut words = Vec::new(rt.alloc());
-        words.push(String::from_str(rt.alloc(), "pnmpipe")?)?;
-        words.push(String::from_str(rt.alloc(), chain)?)?;
+        let words = words_of(rt.alloc(), texts)?;
         for size in [0, 5] {
             let mut room = [0; 5];
             let mut errors = &mut room[..size];
@@ -119,11 +208,11 @@ fn goes_on_without_a_line(rt: HostRuntime) -> Result<(), Fail> {
                 &mut output,
                 &mut errors,
             );
-            assert_eq!(rt; status, want, "at {chain} {input:?}");
+            assert_eq!(rt; status, want, "at {texts:?} {input:?}");
             assert_eq!(rt;
                 output.into_inner().as_slice(),
                 written,
-                "at {chain} {input:?}"
+                "at {texts:?} {input:?}"
             );
         }
     }

@@ -1,0 +1,44 @@
+use Rattle.std.proofs.Common.{◌≡◌, List, [], ◌∷◌, Some, codes, refl}
+use Rattle.std.proofs.lemmas.Bool.{ne_eqb}
+use Rattle.clap.specs.Words.{Text}
+use Rattle.clap.proofs.OnLiterals.{clap_on_literals}
+use Rattle.pnmpipe.specs.CommandLine.{GivesChain}
+use Rattle.pnmpipe.specs.CommandLineExamples.{BeginsWithDash, CommandLinesHold, GivesBoth}
+use Rattle.pnmpipe.proofs.laws.command_lines_hold.Goals as goal
+
+alone : (name chain : Text) → (BeginsWithDash chain → ⊥) → GivesChain (name ∷ chain ∷ []) chain
+unfolding clap_on_literals
+alone name [] plain = record { taken = refl; given = refl }
+alone name (c ∷ rest) plain =
+    let other = ne_eqb c 45 (λ e. plain (rest, rw e refl)) in
+    record { taken = rw (other, other) (refl {a = []}); given = rw (other, other) (refl {a = Some (c ∷ rest)}) }
+
+computed : CommandLinesHold
+unfolding clap_on_literals
+computed = record {
+  alone = alone;
+  ring_left_out = record { chain = record { taken = refl; given = refl }; ring = refl };
+  ring_before = record { chain = record { taken = refl; given = refl }; ring = refl };
+  ring_after = record { chain = record { taken = refl; given = refl }; ring = refl };
+  ring_attached = record { chain = record { taken = refl; given = refl }; ring = refl };
+  after_dashes = record { chain = record { taken = refl; given = refl }; ring = refl };
+  empty_chain = record { chain = record { taken = refl; given = refl }; ring = refl };
+  no_chain = refl;
+  no_name = refl;
+  two_chains = refl;
+  ring_zero = refl;
+  ring_large = refl;
+  ring_letter = refl;
+  ring_negative = refl;
+  ring_alone = refl;
+  ring_twice = refl;
+  unknown = refl;
+  help = refl;
+  short_help = refl;
+  help_before_fault = refl;
+  fault_before_help = refl;
+  bad_ring_before_help = refl;
+}
+
+pub returns : goal.returns
+returns c = computed

@@ -1,0 +1,73 @@
+-- What the words of the command line say, as `clap` reads them.
+use Rattle.std.specs.Prelude.{◌≡◌, ◌≢◌, ◌⊎◌, ◌∷◌, ℕ, List, [], Option, Some, codes, pos, true}
+use Rattle.pnm_tools.specs.declared.tool.Tool.{Tool}
+use Rattle.clap.specs.Words.{App, Rule, Text, IsAmong, fault_of, first_of, matches_of, new_app, new_rule, with_rule}
+use Rattle.clap.specs.declared.builder.action.ArgAction.TheVariants.{Set}
+use Rattle.clap.specs.declared.builder.value_parser.ValueParser.TheVariants.{Signed}
+use Rattle.clap.specs.declared.error.kind.ErrorKind.{ErrorKind}
+use Rattle.clap.specs.declared.error.kind.ErrorKind.TheVariants.{DisplayHelp, OutOfMemory}
+use Rattle.pnmpipe.specs.ChainText.{SpellsChain}
+use Rattle.pnmpipe.specs.Runs.{EndedWell, IsFrontOfDue}
+use Rattle.pnmpipe.specs.declared.summary.Summary.{Summary}
+use Rattle.pnmpipe.specs.declared.command_line.CommandLineFault.{CommandLineFault}
+use Rattle.pnmpipe.specs.declared.command_line.CommandLineFault.TheVariants.{Help, Usage, Memory}
+
+-- `--ring N`: 1 to 1,024, where it isn't given 64
+abbrev pub ring_rule : Rule
+ring_rule = record (new_rule (codes "ring")) {
+  long = Some (codes "ring");
+  value_names = 1;
+  action = Some Set;
+  defaults = codes "64" ∷ [];
+  parser = Some (Signed (pos 1) (pos 1024));
+}
+
+-- one text, which has to be given
+abbrev pub chain_rule : Rule
+chain_rule = record (new_rule (codes "CHAIN")) { action = Some Set; required = true }
+
+-- the command that the words are read by; `clap` adds `--help` and `-h` to it
+abbrev pub program : App
+program = with_rule (with_rule (new_app (codes "pnmpipe")) ring_rule) chain_rule
+
+-- the words, of which the first is the program's name, are a command line, and this is its CHAIN
+pub record GivesChain (words : List Text) (chain : Text) : Type 0 where
+  pub taken : fault_of program words ≡ []
+  pub given : first_of (codes "CHAIN") (matches_of program words) ≡ Some chain
+
+-- the number that `--ring` has
+abbrev pub ring_of : List Text → Option Text
+ring_of words = first_of (codes "ring") (matches_of program words)
+
+-- the first thing that isn't read on past is a call for help
+abbrev pub AsksForHelp : List Text → Type 0
+AsksForHelp words = IsAmong DisplayHelp (fault_of program words)
+
+-- it is something else
+abbrev pub IsNoCommandLine : List Text → Type 0
+IsNoCommandLine words = (kind : ErrorKind) × (kind ≢ DisplayHelp) × IsAmong kind (fault_of program words)
+
+-- the fault fits the kind of an error
+abbrev pub FitsKind : ErrorKind → CommandLineFault → Type 0
+FitsKind kind (Help text) = kind ≡ DisplayHelp
+FitsKind kind Usage = (kind ≢ DisplayHelp) × (kind ≢ OutOfMemory)
+FitsKind kind Memory = Unit {0}
+
+-- the fault fits the words
+abbrev pub IsFaultOfWords : List Text → CommandLineFault → Type 0
+IsFaultOfWords words (Help text) = AsksForHelp words
+IsFaultOfWords words Usage = IsNoCommandLine words
+IsFaultOfWords words Memory = Unit {0}
+
+-- how a run over these tools ended, by its status, the text that the reader gives and what the writer held and holds
+pub record HasRun (tools : List Tool) (status : ℕ) (left held_old held_new : Option (List ℕ)) : Type 0 where
+  pub front : (text : List ℕ) → left ≡ Some text → IsFrontOfDue text tools held_old held_new
+  pub well : status ≡ 0 → (text : List ℕ) → left ≡ Some text → (summary : Summary) × EndedWell text tools held_old held_new summary
+
+-- the words give a chain, it spells tools, and a run over these ended
+pub record HasRunWords (words : List Text) (status : ℕ) (left held_old held_new : Option (List ℕ)) : Type 0 where
+  pub chain : Text
+  pub tools : List Tool
+  pub given : GivesChain words chain
+  pub spelled : SpellsChain chain tools
+  pub run : HasRun tools status left held_old held_new

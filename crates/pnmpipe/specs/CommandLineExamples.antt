@@ -1,0 +1,43 @@
+-- Small command lines, and what they give.
+use Rattle.std.specs.Prelude.{◌≡◌, ◌∷◌, List, [], Some, codes}
+use Rattle.clap.specs.Words.{Kinds, Text, fault_of}
+use Rattle.clap.specs.declared.error.kind.ErrorKind.TheVariants.{ArgumentConflict, DisplayHelp, InvalidValue, MissingRequiredArgument, UnknownArgument, ValueValidation}
+use Rattle.pnmpipe.specs.CommandLine.{GivesChain, program, ring_of}
+
+-- `-` is code 45
+abbrev pub BeginsWithDash : Text → Type 0
+BeginsWithDash text = (rest : Text) × (text ≡ 45 ∷ rest)
+
+-- these words after the program's name give this chain, and `--ring` this number
+pub record GivesBoth (words : List Text) (text number : Text) : Type 0 where
+  pub chain : GivesChain (codes "pnmpipe" ∷ words) text
+  pub ring : ring_of (codes "pnmpipe" ∷ words) ≡ Some number
+
+-- these words after the program's name fail so
+abbrev pub FailBy : List Text → Kinds → Type 0
+FailBy words kinds = fault_of program (codes "pnmpipe" ∷ words) ≡ kinds
+
+pub record CommandLinesHold : Type 0 where
+  -- one word after the program's name is the chain, unless it begins with a dash
+  pub alone : (name chain : Text) → (BeginsWithDash chain → ⊥) → GivesChain (name ∷ chain ∷ []) chain
+  pub ring_left_out : GivesBoth (codes "pnminvert" ∷ []) (codes "pnminvert") (codes "64")
+  pub ring_before : GivesBoth (codes "--ring" ∷ codes "1" ∷ codes "pnminvert" ∷ []) (codes "pnminvert") (codes "1")
+  pub ring_after : GivesBoth (codes "pnminvert" ∷ codes "--ring" ∷ codes "1024" ∷ []) (codes "pnminvert") (codes "1024")
+  pub ring_attached : GivesBoth (codes "--ring=7" ∷ codes "pnminvert" ∷ []) (codes "pnminvert") (codes "7")
+  pub after_dashes : GivesBoth (codes "--" ∷ codes "--help" ∷ []) (codes "--help") (codes "64")
+  pub empty_chain : GivesBoth ([] ∷ []) [] (codes "64")
+  pub no_chain : FailBy [] (MissingRequiredArgument ∷ [])
+  pub no_name : fault_of program [] ≡ MissingRequiredArgument ∷ []
+  pub two_chains : FailBy (codes "a" ∷ codes "b" ∷ []) (UnknownArgument ∷ [])
+  pub ring_zero : FailBy (codes "--ring" ∷ codes "0" ∷ codes "a" ∷ []) (ValueValidation ∷ [])
+  pub ring_large : FailBy (codes "--ring" ∷ codes "1025" ∷ codes "a" ∷ []) (ValueValidation ∷ [])
+  pub ring_letter : FailBy (codes "--ring" ∷ codes "x" ∷ codes "a" ∷ []) (ValueValidation ∷ [])
+  pub ring_negative : FailBy (codes "--ring" ∷ codes "-1" ∷ codes "a" ∷ []) (UnknownArgument ∷ [])
+  pub ring_alone : FailBy (codes "a" ∷ codes "--ring" ∷ []) (InvalidValue ∷ [])
+  pub ring_twice : FailBy (codes "--ring" ∷ codes "1" ∷ codes "--ring" ∷ codes "1" ∷ codes "a" ∷ []) (ArgumentConflict ∷ [])
+  pub unknown : FailBy (codes "--lanes" ∷ codes "2" ∷ codes "a" ∷ []) (UnknownArgument ∷ [])
+  pub help : FailBy (codes "--help" ∷ []) (DisplayHelp ∷ [])
+  pub short_help : FailBy (codes "a" ∷ codes "-h" ∷ []) (DisplayHelp ∷ [])
+  pub help_before_fault : FailBy (codes "--help" ∷ codes "--lanes" ∷ []) (DisplayHelp ∷ [])
+  pub fault_before_help : FailBy (codes "--lanes" ∷ codes "--help" ∷ []) (UnknownArgument ∷ [])
+  pub bad_ring_before_help : FailBy (codes "--ring" ∷ codes "0" ∷ codes "--help" ∷ []) (ValueValidation ∷ [])

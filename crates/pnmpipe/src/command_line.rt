@@ -1,0 +1,117 @@
+//! The words of the command line, and the help text.
+
+ghost use Rattle.std.specs.Prelude.{◌≡◌, ◌≤◌, IfOk, IfErr, map, string_bytes};
+ghost use Rattle.clap.specs.Words.{app_of, kind_of};
+ghost use Rattle.pnmpipe.specs.CommandLine.{program, FitsKind, GivesChain, IsFaultOfWords};
+ghost use Rattle.pnmpipe.specs.declared.command_line.CommandLineFault.TheVariants.{Memory};
+
+use clap::error::ErrorKind;
+use clap::{Arg, ArgAction, Command, value_parser};
+use std::alloc::{AllocError, Global};
+
+/// How the program is called.
+pub const USAGE: &str = "pnmpipe [--ring N] CHAIN";
+
+const ABOUT: &str = "Reads a stream of PBM, PGM, PPM or PAM images from standard input, passes it
+through a chain of tools, and writes raw Netpbm images to standard output.";
+
+const CHAIN_HELP: &str = "1 to 16 tools, parted by |, in one word";
+
+const RING_HELP: &str = "Messages that wait between two tools, 1 to 1024";
+
+const TOOLS: &str = "Tools:
+  pnminvert
+  pamcut [-left N] [-right N] [-top N] [-bottom N] [-width N] [-height N]
+  pamdepth MAXVAL
+  pamchannel [-tupletype TEXT] PLANE...
+  pamenlarge N, or [-xscale N] [-yscale N]
+  pamflip -null, -lr (-leftright), -tb (-topbottom) or -xy (-transpose)
+  pnmtile WIDTH HEIGHT
+
+Status: 0 all went well, 1 the input, a tool or the output failed, 2 wrong words
+
+Example: pnmpipe 'pamcut -width 640 | pamflip -lr' < a.ppm > b.ppm";
+
+/// What the words name.
+#[derive(Clone, Copy, Debug)]
+pub struct CommandLine<'a> {
+    /// The text of the chain.
+    pub chain: &'a str,
+    /// How many messages a ring holds.
+    pub ring: u16,
+}
+
+/// Why words name no run.
+#[derive(Debug, Drop)]
+pub enum CommandLineFault {
+    /// They ask for help, which is this text.
+    Help(String),
+    /// They are no command line.
+    Usage,
+    /// Memory ran out.
+    Memory,
+}
+
+impl From<AllocError> for CommandLineFault {
+    ghost from_gives = { λ _ fault. fault ≡ Memory };
+
+    fn from(_error: AllocError) -> CommandLineFault {
+        CommandLineFault::Memory
+    }
+}
+
+/// Reads the words, of which the first is the program's own name.
+pub fn read_words<'a>(
+    alloc: Global,
+    words: &'a [String],
+) -> Result<CommandLine<'a>, CommandLineFault>
+    ensures given { IfOk result (λ line. GivesChain (map string_bytes words.entry.now) line.chain.now) }
+    ensures ring { IfOk result (λ line. (1 ≤ line.ring) × (line.ring ≤ 1024)) }
+    ensures refused { IfErr result (IsFaultOfWords (map string_bytes words.entry.now)) }
+{
+    let matches = match program(alloc)?.try_get_matches_from(words) {
+        Ok(matches) => matches,
+        Err(error) => return Err(fault_of(alloc, &error)),
+    };
+    Ok(CommandLine {
+        chain: matches.get_str("CHAIN").unwrap(),
+        ring: matches.get_one::<u16>("ring").unwrap(),
+    })
+}
+
+/// The command that the words are read by.
+fn program<'a>(alloc: Global) -> Result<Command<'a>, AllocError>
+    ensures { IfOk result (λ command. app_of command ≡ program) }
+{
+    let ring = Arg::new(alloc, "ring")
+        .long("ring")
+        .value_name("N")
+        .action(ArgAction::Set)
+        .value_parser(value_parser!(u16).range(1..=1024))
+        .default_value("64")
+        .help(RING_HELP);
+    let chain = Arg::new(alloc, "CHAIN")
+        .required(true)
+        .action(ArgAction::Set)
+        .help(CHAIN_HELP);
+    Command::new(alloc, "pnmpipe")
+        .about(ABOUT)
+        .override_usage(USAGE)
+        .after_help(TOOLS)
+        .arg(ring)?
+        .arg(chain)
+}
+
+/// What is at fault where `clap` gives this error.
+fn fault_of(alloc: Global, error: &clap::Error) -> CommandLineFault
+    ensures { FitsKind (kind_of error.now) result }
+{
+    match error.kind() {
+        ErrorKind::DisplayHelp => match format!(in alloc; "{error}") {
+            Ok(text) => CommandLineFault::Help(text),
+            Err(_) => CommandLineFault::Memory,
+        },
+        ErrorKind::OutOfMemory => CommandLineFault::Memory,
+        _ => CommandLineFault::Usage,
+    }
+}

@@ -1,0 +1,40 @@
+//! The lines that are printed for faults. Where one can't be written it is left out.
+
+use crate::chain_text::ChainFault;
+use crate::command_line::USAGE;
+use crate::fault::RunFault;
+use itoa::Buffer;
+use std::io::Write;
+
+/// The line for words that are no command line.
+pub fn print_usage<E: Write>(errors: &mut E) {
+    let _ = writeln!(errors, "pnmpipe: usage: {USAGE}");
+}
+
+/// The line for want of memory before the chain is read.
+pub fn print_want_of_memory<E: Write>(errors: &mut E) {
+    let _ = writeln!(errors, "pnmpipe: command line: Memory");
+}
+
+/// The line for a text that is no chain.
+pub fn print_chain_fault<E: Write>(errors: &mut E, fault: ChainFault) {
+    let ChainFault { stage, kind } = fault;
+    let _ = if stage == 0 {
+        writeln!(errors, "pnmpipe: chain: {kind}")
+    } else {
+        let mut digits = Buffer::new();
+        writeln!(errors, "pnmpipe: chain: stage {}: {kind}", digits.format(stage))
+    };
+}
+
+/// The line for a run that ended in a fault.
+pub fn print_run_fault<E: Write>(errors: &mut E, fault: RunFault) {
+    let _ = match fault {
+        RunFault::Input(fault) => writeln!(errors, "pnmpipe: input: {fault}"),
+        RunFault::Tool(number, fault) => {
+            let mut digits = Buffer::new();
+            writeln!(errors, "pnmpipe: tool {}: {fault}", digits.format(number))
+        }
+        RunFault::Output(fault) => writeln!(errors, "pnmpipe: output: {fault}"),
+    };
+}

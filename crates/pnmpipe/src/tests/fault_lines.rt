@@ -1,0 +1,50 @@
+//! The lines that are printed for faults.
+
+use crate::chain_text::{ChainFault, ChainKind};
+use crate::fault::RunFault;
+use crate::fault_line::{print_chain_fault, print_run_fault, print_want_of_memory};
+use pnm_read::InputFault;
+use pnm_tools::ToolFault;
+use pnm_write::SinkFault;
+use std::test::Fail;
+
+/// A fault of a chain's text has the number of its stage, where it has one.
+#[test]
+fn names_stages(rt: HostRuntime) -> Result<(), Fail> {
+    for (stage, kind, want) in [
+        (0, ChainKind::Memory, "pnmpipe: chain: Memory\n"),
+        (1, ChainKind::UnknownTool, "pnmpipe: chain: stage 1: UnknownTool\n"),
+        (16, ChainKind::UnknownTool, "pnmpipe: chain: stage 16: UnknownTool\n"),
+        (
+            usize::MAX,
+            ChainKind::UnknownTool,
+            "pnmpipe: chain: stage 18446744073709551615: UnknownTool\n",
+        ),
+    ] {
+        let mut errors = Vec::new(rt.alloc());
+        print_chain_fault(&mut errors, ChainFault { stage, kind });
+        assert_eq!(rt; errors.as_slice(), want.as_bytes());
+    }
+    Ok(())
+}
+
+/// A tool's fault has the tool's number.
+#[test]
+fn names_tools(rt: HostRuntime) -> Result<(), Fail> {
+    for (fault, want) in [
+        (RunFault::Tool(1, ToolFault::CutOutside), "pnmpipe: tool 1: CutOutside\n"),
+        (RunFault::Tool(2, ToolFault::ChannelOutside), "pnmpipe: tool 2: ChannelOutside\n"),
+        (RunFault::Tool(10, ToolFault::TooLarge), "pnmpipe: tool 10: TooLarge\n"),
+        (RunFault::Tool(16, ToolFault::Memory), "pnmpipe: tool 16: Memory\n"),
+        (RunFault::Input(InputFault::RasterCut), "pnmpipe: input: RasterCut\n"),
+        (RunFault::Output(SinkFault::WriteFailed), "pnmpipe: output: WriteFailed\n"),
+    ] {
+        let mut errors = Vec::new(rt.alloc());
+        print_run_fault(&mut errors, fault);
+        assert_eq!(rt; errors.as_slice(), want.as_bytes());
+    }
+    let mut errors = Vec::new(rt.alloc());
+    print_want_of_memory(&mut errors);
+    assert_eq!(rt; errors.as_slice(), b"pnmpipe: command line: Memory\n".as_slice());
+    Ok(())
+}
