@@ -1,16 +1,16 @@
 -- Items without a fault mean one tool, and items that mean a tool have no fault.
-use Rattle.std.proofs.Common.{◌≡◌, ◌≤◌, ◌<◌, ℕ, suc, ◌+◌, Bool, true, false, not, if◌then◌else◌, Option, Some, None, is_some, List, [], ◌∷◌, ◌++◌, length, refl, sym, ap, subst, ◌∙◌, append-nil, append_assoc, arith}
-use Rattle.std.specs.List.{AllByRecursion}
+use Rattle.std.proofs.Common.{◌≡◌, ◌≤◌, ◌<◌, ℕ, suc, ◌+◌, ◌==◌, ◌||◌, Bool, true, false, not, if◌then◌else◌, Option, Some, None, is_some, unwrap_or, List, [], ◌∷◌, ◌++◌, length, refl, sym, ap, subst, ◌∙◌, append-nil, append_assoc, arith}
+use Rattle.std.specs.List.{AllByRecursion, IsDistinct}
 use Rattle.std.specs.Prelude.{nat_le}
 use Rattle.std.proofs.lemmas.List.{length-append}
 use Rattle.std.proofs.lemmas.Bool.Decides.{nat_tests}
 use Rattle.pnm_tools.specs.declared.tool.Tool.{Tool}
 use Rattle.pnmpipe.specs.declared.chain_text.ChainKind.{ChainKind}
-use Rattle.pnmpipe.specs.declared.chain_text.ChainKind.TheVariants.{UnknownOption, BadValue, Conflict, MissingArgument, ExtraArgument}
+use Rattle.pnmpipe.specs.declared.chain_text.ChainKind.TheVariants.{UnknownOption, BadValue, MissingValue, Conflict, MissingArgument, ExtraArgument}
 use Rattle.pnmpipe.specs.declared.options.ToolName.{ToolName}
 use Rattle.pnmpipe.specs.declared.options.ToolOption.{ToolOption}
-use Rattle.pnmpipe.specs.Options.{most_arguments, takes_argument}
-use Rattle.pnmpipe.specs.Items.{Item, Argument, Given, Unknown, arguments_of, is_there, value_fault, IsFormed, is_new, AreNewAfter, is_conflict, is_missing, Means, meant_by, item_fault, end_fault, fault_after}
+use Rattle.pnmpipe.specs.Options.{most_arguments, takes_argument, takes_value, wants_value, slot_of, is_same}
+use Rattle.pnmpipe.specs.Items.{Item, Argument, Given, Unknown, arguments_of, is_there, value_of, options_of, value_fault, IsFormed, is_conflict, is_missing, Means, meant_by, item_fault, end_fault, fault_after}
 
 -- ---- arguments of items that follow others
 
@@ -19,6 +19,137 @@ arguments_of-append [] items = refl
 arguments_of-append (Argument word ∷ before) items = ap (λ (words : List (List ℕ)). word ∷ words) (arguments_of-append before items)
 arguments_of-append (Given option value ∷ before) items = arguments_of-append before items
 arguments_of-append (Unknown ∷ before) items = arguments_of-append before items
+
+-- ---- options of items that follow others
+
+-- the item is no option that was there before
+abbrev pub is_new : List Item → Item → Bool
+is_new before (Argument word) = true
+is_new before (Given option value) = not (is_there option before)
+is_new before Unknown = true
+
+-- each option is new; these items came before
+abbrev pub AreNewAfter : List Item → List Item → Type 0
+AreNewAfter before [] = Unit {0}
+AreNewAfter before (item ∷ items) = (is_new before item ≡ true) × AreNewAfter (before ++ item ∷ []) items
+
+there_by : (same : Bool) (value : List ℕ) (others : Option (List ℕ)) → is_some (if same then Some value else others) ≡ (same || is_some others)
+there_by true value others = refl
+there_by false value others = refl
+
+or_assoc : (a b c : Bool) → (a || (b || c)) ≡ ((a || b) || c)
+or_assoc true b c = refl
+or_assoc false b c = refl
+
+or_false : (a : Bool) → (a || false) ≡ a
+or_false true = refl
+or_false false = refl
+
+there_after : (option other : ToolOption) (value : Option (List ℕ)) (before : List Item) → is_there option (before ++ Given other value ∷ []) ≡ (is_there option before || is_same option other)
+there_after option other value [] = there_by (is_same option other) (unwrap_or value []) None ∙ or_false (is_same option other)
+there_after option other value (Argument word ∷ before) = there_after option other value before
+there_after option other value (Given third given ∷ before) =
+    there_by (is_same option third) (unwrap_or given []) (value_of option (before ++ Given other value ∷ []))
+    ∙ ap (λ (b : Bool). is_same option third || b) (there_after option other value before)
+    ∙ or_assoc (is_same option third) (is_there option before) (is_same option other)
+    ∙ ap (λ (b : Bool). b || is_same option other) (sym (there_by (is_same option third) (unwrap_or given []) (value_of option before)))
+there_after option other value (Unknown ∷ before) = there_after option other value before
+
+turned : (a b : ℕ) → (a == b) ≡ (b == a)
+turned a b = grind (arith, nat_tests)
+
+same_turned : (one other : ToolOption) → is_same one other ≡ is_same other one
+same_turned one other = turned (slot_of one) (slot_of other)
+
+-- none of the options was there before
+abbrev NoneThere : List Item → List ToolOption → Type 0
+NoneThere before options = AllByRecursion (λ option. is_there option before ≡ false) options
+
+neither : (a b : Bool) → (a || b) ≡ false → (a ≡ false) × (b ≡ false)
+neither true b e = absurd cc
+neither false b e = (refl, e)
+
+none_of : (a b : Bool) → a ≡ false → b ≡ false → (a || b) ≡ false
+none_of a b e f = rw (e, f) refl
+
+-- none there before and after one more option
+parted : (other : ToolOption) (value : Option (List ℕ)) (before : List Item) (options : List ToolOption) → NoneThere (before ++ Given other value ∷ []) options
+    → NoneThere before options × AllByRecursion (λ option. is_same other option ≡ false) options
+parted other value before [] h = (cc, cc)
+parted other value before (option ∷ options) h =
+    let both = neither (is_there option before) (is_same option other) (sym (there_after option other value before) ∙ h.0) in
+    let rest = parted other value before options h.1 in
+    ((both.0, rest.0), (same_turned other option ∙ both.1, rest.1))
+
+joined : (other : ToolOption) (value : Option (List ℕ)) (before : List Item) (options : List ToolOption) → NoneThere before options → AllByRecursion (λ option. is_same other option ≡ false) options
+    → NoneThere (before ++ Given other value ∷ []) options
+joined other value before [] h k = cc
+joined other value before (option ∷ options) h k =
+    (there_after option other value before ∙ none_of (is_there option before) (is_same option other) h.0 (same_turned option other ∙ k.0), joined other value before options h.1 k.1)
+
+not_there : (option : ToolOption) (item : Item) → options_of (item ∷ []) ≡ [] → is_there option (item ∷ []) ≡ false
+not_there option (Argument word) none = refl
+not_there option (Given other value) none = absurd cc
+not_there option Unknown none = refl
+
+others_there : (option : ToolOption) (item : Item) (before : List Item) → options_of (item ∷ []) ≡ [] → is_there option (before ++ item ∷ []) ≡ is_there option before
+others_there option item [] none = not_there option item none
+others_there option item (Argument word ∷ before) none = others_there option item before none
+others_there option item (Given other given ∷ before) none =
+    there_by (is_same option other) (unwrap_or given []) (value_of option (before ++ item ∷ []))
+    ∙ ap (λ (b : Bool). is_same option other || b) (others_there option item before none)
+    ∙ sym (there_by (is_same option other) (unwrap_or given []) (value_of option before))
+others_there option item (Unknown ∷ before) none = others_there option item before none
+
+same_there : (item : Item) (before : List Item) (options : List ToolOption) → options_of (item ∷ []) ≡ [] → NoneThere (before ++ item ∷ []) options → NoneThere before options
+same_there item before [] none h = cc
+same_there item before (option ∷ options) none h = (sym (others_there option item before none) ∙ h.0, same_there item before options none h.1)
+
+still_there : (item : Item) (before : List Item) (options : List ToolOption) → options_of (item ∷ []) ≡ [] → NoneThere before options → NoneThere (before ++ item ∷ []) options
+still_there item before [] none h = cc
+still_there item before (option ∷ options) none h = (others_there option item before none ∙ h.0, still_there item before options none h.1)
+
+is_absent : (b : Bool) → not b ≡ true → b ≡ false
+is_absent true e = absurd cc
+is_absent false e = refl
+
+distinct-cons : (option : ToolOption) (options : List ToolOption) → AllByRecursion (λ other. is_same option other ≡ false) options → IsDistinct is_same options → IsDistinct is_same (option ∷ options)
+unfolding IsDistinct
+distinct-cons option options h k = (h, k)
+
+distinct-head : (option : ToolOption) (options : List ToolOption) → IsDistinct is_same (option ∷ options) → AllByRecursion (λ other. is_same option other ≡ false) options × IsDistinct is_same options
+unfolding IsDistinct
+distinct-head option options h = h
+
+distinct-nil : IsDistinct is_same []
+unfolding IsDistinct
+distinct-nil = cc
+
+-- options that are each new are none of those before, and each is there once
+new_are_distinct : (before items : List Item) → AreNewAfter before items → NoneThere before (options_of items) × IsDistinct is_same (options_of items)
+new_are_distinct before [] h = (cc, distinct-nil)
+new_are_distinct before (Argument word ∷ items) h =
+    let rest = new_are_distinct (before ++ Argument word ∷ []) items h.1 in
+    (same_there (Argument word) before (options_of items) refl rest.0, rest.1)
+new_are_distinct before (Given option value ∷ items) h =
+    let rest = new_are_distinct (before ++ Given option value ∷ []) items h.1 in
+    let parts = parted option value before (options_of items) rest.0 in
+    ((is_absent (is_there option before) h.0, parts.0), distinct-cons option (options_of items) parts.1 rest.1)
+new_are_distinct before (Unknown ∷ items) h =
+    let rest = new_are_distinct (before ++ Unknown ∷ []) items h.1 in
+    (same_there Unknown before (options_of items) refl rest.0, rest.1)
+
+distinct_are_new : (before items : List Item) → NoneThere before (options_of items) → IsDistinct is_same (options_of items) → AreNewAfter before items
+distinct_are_new before [] h k = cc
+distinct_are_new before (Argument word ∷ items) h k = (refl, distinct_are_new (before ++ Argument word ∷ []) items (still_there (Argument word) before (options_of items) refl h) k)
+distinct_are_new before (Given option value ∷ items) h k =
+    let parts = distinct-head option (options_of items) k in
+    (ap (λ (b : Bool). not b) h.0, distinct_are_new (before ++ Given option value ∷ []) items (joined option value before (options_of items) h.1 parts.0) parts.1)
+distinct_are_new before (Unknown ∷ items) h k = (refl, distinct_are_new (before ++ Unknown ∷ []) items (still_there Unknown before (options_of items) refl h) k)
+
+none_there_yet : (options : List ToolOption) → NoneThere [] options
+none_there_yet [] = cc
+none_there_yet (option ∷ options) = (refl, none_there_yet options)
 
 -- ---- one item
 
@@ -43,6 +174,28 @@ option_free false fault e = (refl, e)
 option_fits : (there : Bool) (fault : Option ChainKind) → not there ≡ true → fault ≡ None → option_by there fault ≡ None
 option_fits true fault e f = absurd cc
 option_fits false fault e f = f
+
+abbrev value_by : Bool → Option ChainKind
+value_by takes = if takes then None else Some BadValue
+
+abbrev missing_by : Bool → Option ChainKind
+missing_by wants = if wants then Some MissingValue else None
+
+takes_by : (takes : Bool) → value_by takes ≡ None → takes ≡ true
+takes_by true e = refl
+takes_by false e = absurd cc
+
+stands_by : (wants : Bool) → missing_by wants ≡ None → wants ≡ false
+stands_by true e = absurd cc
+stands_by false e = refl
+
+formed_value : (tool : ToolName) (option : ToolOption) (value : Option (List ℕ)) → value_fault option value ≡ None → IsFormed tool (Given option value)
+formed_value tool option None e = stands_by (wants_value option) e
+formed_value tool option (Some word) e = takes_by (takes_value option word) e
+
+value_has_no_fault : (tool : ToolName) (option : ToolOption) (value : Option (List ℕ)) → IsFormed tool (Given option value) → value_fault option value ≡ None
+value_has_no_fault tool option None e = ap (λ (wants : Bool). missing_by wants) e
+value_has_no_fault tool option (Some word) e = ap (λ (takes : Bool). value_by takes) e
 
 -- an item that goes well with those before it
 pub record FitsAfter (tool : ToolName) (before : List Item) (item : Item) : Type 0 where
@@ -73,7 +226,7 @@ fits tool before (Argument word) e low =
     }
 fits tool before (Given option value) e low =
     let free = option_free (is_there option before) (value_fault option value) e in
-    record { formed = free.1; is_new_one = free.0; not_many = no_more before [] (Given option value) (most_arguments tool) refl low }
+    record { formed = formed_value tool option value free.1; is_new_one = free.0; not_many = no_more before [] (Given option value) (most_arguments tool) refl low }
 fits tool before Unknown e low = absurd cc
 
 pub no_fault : (tool : ToolName) (before : List Item) (item : Item) → FitsAfter tool before item → item_fault tool before item ≡ None
@@ -81,7 +234,7 @@ no_fault tool before (Argument word) h =
     argument_fits (nat_le (most_arguments tool) (length (arguments_of before))) (takes_argument tool word)
     (not_below (most_arguments tool) (length (arguments_of before)) (subst (λ (n : ℕ). n ≤ most_arguments tool) (one_more before word) h.not_many))
     h.formed
-no_fault tool before (Given option value) h = option_fits (is_there option before) (value_fault option value) h.is_new_one h.formed
+no_fault tool before (Given option value) h = option_fits (is_there option before) (value_fault option value) h.is_new_one (value_has_no_fault tool option value h.formed)
 no_fault tool before Unknown h = absurd h.formed
 
 -- ---- items that follow others
@@ -170,8 +323,8 @@ pub items_mean : (tool : ToolName) (items : List Item) → fault_after tool [] i
 items_mean tool items e =
     let all = fit tool [] items e (omega arith) in
     let ended = end_free (is_conflict tool items) (is_missing tool items) all.ended in
-    record { formed = all.formed; once = all.once; not_many = all.not_many; together = ended.0; enough = ended.1; meaning_is = refl }
+    record { formed = all.formed; once = (new_are_distinct [] items all.once).1; not_many = all.not_many; together = ended.0; enough = ended.1; meaning_is = refl }
 
 pub meaning_has_no_fault : (tool : ToolName) (items : List Item) (meaning : Tool) → Means tool items meaning → fault_after tool [] items ≡ None
 meaning_has_no_fault tool items meaning h =
-    fit_fault tool [] items (record { formed = h.formed; once = h.once; not_many = h.not_many; ended = end_fits (is_conflict tool items) (is_missing tool items) h.together h.enough })
+    fit_fault tool [] items (record { formed = h.formed; once = distinct_are_new [] items (none_there_yet (options_of items)) h.once; not_many = h.not_many; ended = end_fits (is_conflict tool items) (is_missing tool items) h.together h.enough })

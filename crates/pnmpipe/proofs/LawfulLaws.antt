@@ -13,14 +13,12 @@ use Rattle.pnm_tools.specs.Cut.{IsEdge, IsSize, IsLawfulAxis}
 use Rattle.pnm_tools.specs.Channel.{picks, IsLawfulPick}
 use Rattle.pnm_tools.specs.Chains.{AreLawfulTools}
 use Rattle.pnm_tools.specs.Tools.{IsLawfulTool}
-use Rattle.pnmpipe.specs.declared.chain_text.ChainKind.{ChainKind}
-use Rattle.pnmpipe.specs.declared.chain_text.ChainKind.TheVariants.{BadValue, MissingValue}
 use Rattle.pnmpipe.specs.declared.options.ToolName.{ToolName}
 use Rattle.pnmpipe.specs.declared.options.ToolName.TheVariants.{Invert, Cut, Depth, Channel, Enlarge, Flip, Tile}
 use Rattle.pnmpipe.specs.declared.options.ToolOption.{ToolOption}
 use Rattle.pnmpipe.specs.declared.options.ToolOption.TheVariants.{Left, Right, Top, Bottom, Width, Height, TupleType, XScale, YScale, Way}
 use Rattle.pnmpipe.specs.Options.{option_named, wants_value, takes_value, slot_of, is_same, takes_argument, most_arguments, is_numeral, spells_number, spells_offset, offset_value, begins_with_dash, without_dash}
-use Rattle.pnmpipe.specs.Items.{Item, Argument, Given, Unknown, without_dashes, name_in, value_in, takes_next, value_among, given_as, item_of, items_of, arguments_of, value_of, is_there, number_of, box_of, numbers_of, factor_by, meant_by, value_fault, IsFormed, has_scale, is_conflict, is_missing, Means}
+use Rattle.pnmpipe.specs.Items.{Item, Argument, Given, Unknown, without_dashes, name_in, value_in, takes_next, value_among, given_as, item_of, items_of, arguments_of, value_of, is_there, number_of, box_of, numbers_of, factor_by, meant_by, IsFormed, has_scale, is_conflict, is_missing, Means}
 use Rattle.pnmpipe.specs.ChainText.{SpellsTool, SpellTools, SpellsChain, stages_of}
 use Rattle.pnmpipe.specs.Runs.{IsChain}
 
@@ -73,36 +71,26 @@ same_option one other wants e =
 
 -- ---- values of formed items
 
-abbrev value_fault_by : Bool → Option ChainKind
-value_fault_by takes = if takes then None else Some BadValue
+not_both : (b : Bool) → b ≡ true → b ≡ false → ⊥
+not_both true e f = absurd cc
+not_both false e f = absurd cc
 
-abbrev missing_by : Bool → Option ChainKind
-missing_by wants = if wants then Some MissingValue else None
+taken_value : (tool : ToolName) (option : ToolOption) (value : Option (List ℕ)) → wants_value option ≡ true → IsFormed tool (Given option value) → takes_value option (unwrap_or value []) ≡ true
+taken_value tool option None wants e = absurd (not_both (wants_value option) wants e)
+taken_value tool option (Some word) wants e = e
 
-fault_by : (takes : Bool) → value_fault_by takes ≡ None → takes ≡ true
-fault_by true e = refl
-fault_by false e = absurd cc
-
-wanted : (wants : Bool) → missing_by wants ≡ None → wants ≡ true → ⊥
-wanted true e f = absurd cc
-wanted false e f = absurd cc
-
-taken_value : (option : ToolOption) (value : Option (List ℕ)) → wants_value option ≡ true → value_fault option value ≡ None → takes_value option (unwrap_or value []) ≡ true
-taken_value option None wants e = absurd (wanted (wants_value option) e wants)
-taken_value option (Some word) wants e = fault_by (takes_value option word) e
-
-given_value : (option other : ToolOption) (value : Option (List ℕ)) (rest : Option (List ℕ)) (same : Bool) → is_same option other ≡ same → wants_value option ≡ true → value_fault other value ≡ None
+given_value : (tool : ToolName) (option other : ToolOption) (value : Option (List ℕ)) (rest : Option (List ℕ)) (same : Bool) → is_same option other ≡ same → wants_value option ≡ true → IsFormed tool (Given other value)
     → IfSome rest (λ word. takes_value option word ≡ true) → IfSome (if same then Some (unwrap_or value []) else rest) (λ word. takes_value option word ≡ true)
-given_value option other value rest true is wants e others =
+given_value tool option other value rest true is wants e others =
     let equal : option ≡ other = same_option option other wants is in
-    taken_value option value wants (subst (λ (o : ToolOption). value_fault o value ≡ None) (sym equal) e)
-given_value option other value rest false is wants e others = others
+    taken_value tool option value wants (subst (λ (o : ToolOption). IsFormed tool (Given o value)) (sym equal) e)
+given_value tool option other value rest false is wants e others = others
 
 values_taken : (tool : ToolName) (option : ToolOption) (items : List Item) → wants_value option ≡ true → AllByRecursion (IsFormed tool) items → IfSome (value_of option items) (λ word. takes_value option word ≡ true)
 values_taken tool option [] wants formed = cc
 values_taken tool option (Argument word ∷ items) wants formed = values_taken tool option items wants formed.1
 values_taken tool option (Given other value ∷ items) wants formed =
-    given_value option other value (value_of option items) (is_same option other) refl wants formed.0 (values_taken tool option items wants formed.1)
+    given_value tool option other value (value_of option items) (is_same option other) refl wants formed.0 (values_taken tool option items wants formed.1)
 values_taken tool option (Unknown ∷ items) wants formed = values_taken tool option items wants formed.1
 
 arguments_taken : (tool : ToolName) (items : List Item) → AllByRecursion (IsFormed tool) items → AllByRecursion (λ word. takes_argument tool word ≡ true) (arguments_of items)

@@ -1,7 +1,7 @@
 -- What stands in a stage of a chain after the tool's name, and the tool that it means.
 use Rattle.std.specs.Prelude.{◌≡◌, ◌≤◌, ℕ, Bool, true, false, not, ◌==◌, ◌&&◌, ◌||◌, nat_le, nat_lt, if◌then◌else◌, Option, Some, None, is_some, option_map, unwrap_or, List, [], ◌∷◌, ◌++◌, length, map}
 use Rattle.std.specs.Option.{option_map_or}
-use Rattle.std.specs.List.{before_first, after_first, list_any, slice_index_or, AllByRecursion}
+use Rattle.std.specs.List.{before_first, after_first, list_any, slice_index_or, AllByRecursion, IsDistinct}
 use Rattle.pnm_read.specs.Texts.{decimal_value}
 use Rattle.pnm_tools.specs.declared.cut.CutBox.{CutBox}
 use Rattle.pnm_tools.specs.declared.flip.FlipWay.{FlipWay}
@@ -129,26 +129,18 @@ meant_by Tile items = tools.Tile (slice_index_or (numbers_of items) 0 0) (slice_
 
 -- ---- which items mean a tool
 
--- an option has a value just where it wants one
-abbrev pub value_fault : ToolOption → Option (List ℕ) → Option ChainKind
-value_fault option None = if wants_value option then Some MissingValue else None
-value_fault option (Some word) = if takes_value option word then None else Some BadValue
-
+-- an argument is one that the tool takes; an option is one of the tool's, and has a value that it takes just where it wants one
 abbrev pub IsFormed : ToolName → Item → Type 0
 IsFormed tool (Argument word) = takes_argument tool word ≡ true
-IsFormed tool (Given option value) = value_fault option value ≡ None
+IsFormed tool (Given option None) = wants_value option ≡ false
+IsFormed tool (Given option (Some word)) = takes_value option word ≡ true
 IsFormed tool Unknown = ⊥
 
--- the item is no option that was there before
-abbrev pub is_new : List Item → Item → Bool
-is_new before (Argument word) = true
-is_new before (Given option value) = not (is_there option before)
-is_new before Unknown = true
-
--- each option is there once; these items came before
-abbrev pub AreNewAfter : List Item → List Item → Type 0
-AreNewAfter before [] = Unit {0}
-AreNewAfter before (item ∷ items) = (is_new before item ≡ true) × AreNewAfter (before ++ item ∷ []) items
+abbrev pub options_of : List Item → List ToolOption
+options_of [] = []
+options_of (Argument word ∷ items) = options_of items
+options_of (Given option value ∷ items) = option ∷ options_of items
+options_of (Unknown ∷ items) = options_of items
 
 abbrev pub has_scale : List Item → Bool
 has_scale items = is_there XScale items || is_there YScale items
@@ -175,15 +167,20 @@ is_missing Enlarge items = nat_lt (length (arguments_of items)) 1 && not (has_sc
 is_missing Flip items = not (is_some (way_of items))
 is_missing Tile items = nat_lt (length (arguments_of items)) 2
 
+-- the items are what this tool is called by: each formed, no option twice, and neither too few nor such as can't stand together
 pub record Means (tool : ToolName) (items : List Item) (meaning : Tool) : Type 0 where
   pub formed : AllByRecursion (IsFormed tool) items
-  pub once : AreNewAfter [] items
+  pub once : IsDistinct is_same (options_of items)
   pub not_many : length (arguments_of items) ≤ most_arguments tool
   pub together : is_conflict tool items ≡ false
   pub enough : is_missing tool items ≡ false
   pub meaning_is : meaning ≡ meant_by tool items
 
 -- ---- the first fault of items, each judged after those before it
+
+abbrev pub value_fault : ToolOption → Option (List ℕ) → Option ChainKind
+value_fault option None = if wants_value option then Some MissingValue else None
+value_fault option (Some word) = if takes_value option word then None else Some BadValue
 
 abbrev pub item_fault : ToolName → List Item → Item → Option ChainKind
 item_fault tool before (Argument word) =
