@@ -8,5 +8,6 @@ pub mod ToolSteps
 pub mod CountLaws
 pub mod RunSteps
 pub mod WordLaws
+pub mod ItemSteps
 pub mod ItemLaws
 pub mod ChainLaws
