@@ -10,6 +10,7 @@ pub mod ToolSteps
 pub mod CountLaws
 pub mod RunSteps
 pub mod WordLaws
+pub mod ItemSteps
 pub mod ItemLaws
 pub mod ChainLaws
 pub mod LawfulLaws

@@ -3,6 +3,7 @@
 ghost use Rattle.std.specs.Prelude.{◌≡◌, ◌<◌, ◌∷◌, [], IfSome, MatchOption, length};
 ghost use Rattle.pnm_read.specs.Texts.{words};
 ghost use Rattle.pnmpipe.specs.Items.{items_of, name_in, value_in};
+ghost use Rattle.pnmpipe.specs.Options.{without_dash};
 ghost use Rattle.pnmpipe.specs.Settings.{item_read, value_read};
 
 use crate::options::{ToolName, ToolOption};
@@ -46,12 +47,19 @@ fn split_option(word: &[u8]) -> (&[u8], Option<&[u8]>)
     ensures name { result.0.now ≡ name_in word.now }
     ensures value { value_read result.1 ≡ value_in word.now }
 {
-    let text = match word {
-        [b'-', b'-', text @ ..] | [b'-', text @ ..] => text,
-        _ => word,
-    };
+    let text = without_dash(without_dash(word));
     match text.iter().position(|byte| *byte == b'=') {
         Some(at) => (&text[..at], Some(&text[at + 1..])),
         None => (text, None),
+    }
+}
+
+/// The text after the dash that it begins with, or all of a text that begins with none.
+fn without_dash(text: &[u8]) -> &[u8]
+    ensures { result.now ≡ without_dash text.now }
+{
+    match text {
+        [b'-', after @ ..] => after,
+        _ => text,
     }
 }
