@@ -8,4 +8,5 @@ pub mod ToolSteps
 pub mod CountLaws
 pub mod RunSteps
 pub mod ItemLaws
+pub mod NumberLaws
 pub mod ChainLaws
