@@ -12,5 +12,6 @@ pub mod RunSteps
 pub mod WordLaws
 pub mod ItemSteps
 pub mod ItemLaws
+pub mod NumberLaws
 pub mod ChainLaws
 pub mod LawfulLaws

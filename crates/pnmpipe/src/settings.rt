@@ -217,7 +217,7 @@ fn add_plane(planes: &mut Vec<u16>, word: &[u8]) -> Result<(), ChainKind>
         × (planes.new.items ≡ planes.old.items ++ decimal_value word.now ∷ [])) }
     ensures refused { IfErr result (λ kind. (kind ≡ Memory) ⊎ IsRefused (nat_le 256 (length planes.old.items)) (spells_number 0 255 word.now) kind) }
 {
-    if planes.len() == MOST_PLANES {
+    if planes.len() >= MOST_PLANES {
         return Err(ChainKind::ExtraArgument);
     }
     let plane = number(word, 0, LAST_PLANE).ok_or(ChainKind::BadValue)?;
@@ -237,11 +237,7 @@ fn cut(cut: CutBox) -> Result<Tool, ChainKind>
     Ok(Tool::Cut(cut))
 }
 
-fn pick(
-    alloc: Global,
-    planes: Vec<u16>,
-    tuple_type: Option<&[u8]>,
-) -> Result<Tool, ChainKind>
+fn pick(alloc: Global, planes: Vec<u16>, tuple_type: Option<&[u8]>) -> Result<Tool, ChainKind>
     ensures made { IfOk result (λ tool. (0 < length planes.items) × (tool ≡ tools.Channel (picks planes.items (unwrap_or (value_read tuple_type.entry) [])))) }
     ensures refused { IfErr result (λ kind. (kind ≡ Memory) ⊎ ((planes.items ≡ []) × (kind ≡ MissingArgument))) }
 {
@@ -253,11 +249,7 @@ fn pick(
 }
 
 /// The one argument is both factors, or each has an option of its own; one that isn't given is 1.
-fn enlarge(
-    factor: Option<u32>,
-    across: Option<u32>,
-    down: Option<u32>,
-) -> Result<Tool, ChainKind>
+fn enlarge(factor: Option<u32>, across: Option<u32>, down: Option<u32>) -> Result<Tool, ChainKind>
     ensures made { IfOk result (λ tool. (factors_fault factor across down ≡ None) × (tool ≡ factors_meant factor across down)) }
     ensures refused { IfErr result (λ kind. factors_fault factor across down ≡ Some kind) }
 {

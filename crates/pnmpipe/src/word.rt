@@ -39,12 +39,19 @@ fn is_white(byte: u8) -> bool
 pub(crate) fn number(word: &[u8], least: u32, most: u32) -> Option<u32>
     ensures { result ≡ (if spells_number least most word.now then Some (decimal_value word.now) else None) }
 {
-    let number = match word {
-        // `parse` would take a plus.
-        [b'+', ..] => return None,
-        _ => str::from_utf8(word).ok()?.parse().ok()?,
-    };
+    let number = decimal(word)?;
     (least <= number && number <= most).then_some(number)
+}
+
+/// The number that the word spells, if it spells one that a `u32` holds.
+fn decimal(word: &[u8]) -> Option<u32>
+    ensures { result ≡ (if spells_number 0 4294967295 word.now then Some (decimal_value word.now) else None) }
+{
+    // `parse` would take a plus.
+    if word.starts_with(b"+") {
+        return None;
+    }
+    str::from_utf8(word).ok()?.parse().ok()
 }
 
 /// The offset from -16,777,216 to 16,777,216 that the word spells, if it spells one: a number that
