@@ -245,7 +245,7 @@ pub record FitAfter (tool : ToolName) (before items : List Item) : Type 0 where
   pub not_many : length (arguments_of (before ++ items)) ≤ most_arguments tool
   pub ended : end_fault tool (before ++ items) ≡ None
 
-abbrev after_by : Option ChainKind → Option ChainKind → Option ChainKind
+abbrev pub after_by : Option ChainKind → Option ChainKind → Option ChainKind
 after_by fault others = elim fault [
   | Some kind ↦ Some kind
   | None ↦ others
@@ -255,11 +255,11 @@ after_free : (fault others : Option ChainKind) → after_by fault others ≡ Non
 after_free (Some kind) others e = absurd cc
 after_free None others e = (refl, e)
 
-fault_after-cons : (tool : ToolName) (before : List Item) (item : Item) (items : List Item) → fault_after tool before (item ∷ items) ≡ after_by (item_fault tool before item) (fault_after tool (before ++ item ∷ []) items)
+pub fault_after-cons : (tool : ToolName) (before : List Item) (item : Item) (items : List Item) → fault_after tool before (item ∷ items) ≡ after_by (item_fault tool before item) (fault_after tool (before ++ item ∷ []) items)
 unfolding fault_after
 fault_after-cons tool before item items = refl
 
-fault_after-nil : (tool : ToolName) (before : List Item) → fault_after tool before [] ≡ end_fault tool before
+pub fault_after-nil : (tool : ToolName) (before : List Item) → fault_after tool before [] ≡ end_fault tool before
 unfolding fault_after
 fault_after-nil tool before = refl
 

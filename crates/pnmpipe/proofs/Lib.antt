@@ -15,3 +15,4 @@ pub mod ItemLaws
 pub mod NumberLaws
 pub mod ChainLaws
 pub mod LawfulLaws
+pub mod ReadingLaws

@@ -1,6 +1,6 @@
 -- What the parser of a chain's text has of a stage while it reads it.
 use Rattle.std.specs.Prelude.{◌≡◌, ℕ, Bool, true, false, ◌&&◌, ◌||◌, nat_le, if◌then◌else◌, Option, Some, None, is_some, option_map, slice_get, unwrap_or, List, [], ◌∷◌, ◌++◌, length, map}
-use Rattle.pnm_read.specs.Texts.{decimal_value}
+use Rattle.pnm_read.specs.Texts.{decimal_value, words}
 use denote.Ref.{Bor}
 use Rattle.pnm_tools.specs.declared.cut.CutBox.{CutBox}
 use Rattle.pnm_tools.specs.declared.tool.Tool.{Tool}
@@ -15,7 +15,7 @@ use Rattle.pnmpipe.specs.declared.options.ToolOption.{ToolOption}
 use Rattle.pnmpipe.specs.declared.options.ToolOption.TheVariants.{Left, Right, Top, Bottom, Width, Height, TupleType, XScale, YScale, Way}
 use Rattle.pnmpipe.specs.declared.settings.Settings.{Settings}
 use Rattle.pnmpipe.specs.Options.{offset_value, takes_argument}
-use Rattle.pnmpipe.specs.Items.{Item, Argument, Given, Unknown, arguments_of, value_of, number_of, box_of, numbers_of, way_of}
+use Rattle.pnmpipe.specs.Items.{Item, Argument, Given, Unknown, arguments_of, value_of, number_of, box_of, numbers_of, way_of, items_of, fault_after}
 
 -- ---- items
 
@@ -127,3 +127,10 @@ factors_fault None (Some across) down = None
 abbrev pub factors_meant : Option ℕ → Option ℕ → Option ℕ → Tool
 factors_meant (Some factor) across down = tools.Enlarge factor factor
 factors_meant None across down = tools.Enlarge (unwrap_or across 1) (unwrap_or down 1)
+
+-- a stage while it is read: these items have been, and the others are those of the rest of the text
+pub record IsReading (tool : ToolName) (items : List Item) (s : Settings) (rest : List ℕ) : Type 0 where
+  pub before : List Item
+  pub settings_are : AreSettingsOf tool before s
+  pub items_are : items ≡ before ++ items_of tool (words rest)
+  pub fault_is : fault_after tool [] items ≡ fault_after tool before (items_of tool (words rest))
