@@ -9,4 +9,5 @@ pub mod CountLaws
 pub mod RunSteps
 pub mod ItemLaws
 pub mod NumberLaws
+pub mod SettingLaws
 pub mod ChainLaws
