@@ -63,7 +63,7 @@ one_tool stage tool other h k = one_meaning (words stage) tool other (spelled_wo
 
 -- ---- stages
 
-abbrev from_by : ℕ → Option ChainKind → Option ChainFault → Option ChainFault
+abbrev pub from_by : ℕ → Option ChainKind → Option ChainFault → Option ChainFault
 from_by number fault others = elim fault [
   | Some kind ↦ Some (record { stage = number; kind = kind })
   | None ↦ others
@@ -77,7 +77,7 @@ pub fault_from-cons : (number : ℕ) (stage : List ℕ) (stages : List (List ℕ
 unfolding fault_from
 fault_from-cons number stage stages = refl
 
-fault_from-nil : (number : ℕ) → fault_from number [] ≡ None
+pub fault_from-nil : (number : ℕ) → fault_from number [] ≡ None
 unfolding fault_from
 fault_from-nil number = refl
 
@@ -115,10 +115,10 @@ white_byte : (white others : Bool) → (white && others) ≡ true → (white ≡
 white_byte true others e = (refl, e)
 white_byte false others e = absurd cc
 
-abbrev words_by : Bool → Bool → ℕ → List (List ℕ) → List (List ℕ)
+abbrev pub words_by : Bool → Bool → ℕ → List (List ℕ) → List (List ℕ)
 words_by white begins b others = if white then others else if begins then onto_word b others else (b ∷ []) ∷ others
 
-words-cons : (b : ℕ) (text : List ℕ) → words (b ∷ text) ≡ words_by (is_white b) (begins_in_word text) b (words text)
+pub words-cons : (b : ℕ) (text : List ℕ) → words (b ∷ text) ≡ words_by (is_white b) (begins_in_word text) b (words text)
 unfolding words
 words-cons b text = refl
 
@@ -148,14 +148,14 @@ blank_spells_nothing text tools e h = one_blank text tools e (subst (λ (l : Lis
 
 -- ---- the whole text
 
-abbrev chain_fault_by : Bool → Bool → Bool → Option ChainFault → Option ChainFault
+abbrev pub chain_fault_by : Bool → Bool → Bool → Option ChainFault → Option ChainFault
 chain_fault_by long blank many others =
     if long then Some (whole TooLong)
     else if blank then Some (whole Empty)
     else if many then Some (whole TooMany)
     else others
 
-chain_fault_is : (text : List ℕ) → chain_fault_of text ≡ chain_fault_by (nat_lt 4096 (length text)) (list_all is_white text) (nat_lt 16 (length (stages_of text))) (fault_from 1 (stages_of text))
+pub chain_fault_is : (text : List ℕ) → chain_fault_of text ≡ chain_fault_by (nat_lt 4096 (length text)) (list_all is_white text) (nat_lt 16 (length (stages_of text))) (fault_from 1 (stages_of text))
 unfolding chain_fault_of
 chain_fault_is text = refl
 
@@ -177,10 +177,10 @@ chain_fits long blank many others h = rw (h.short, h.not_blank, h.not_many) h.no
 pub not_more : (most n : ℕ) → nat_lt most n ≡ false → n ≤ most
 not_more most n e = grind (arith, nat_tests)
 
-at_most : (most n : ℕ) → n ≤ most → nat_lt most n ≡ false
+pub at_most : (most n : ℕ) → n ≤ most → nat_lt most n ≡ false
 at_most most n low = grind (arith, nat_tests)
 
-is_false : (b : Bool) → (b ≡ true → ⊥) → b ≡ false
+pub is_false : (b : Bool) → (b ≡ true → ⊥) → b ≡ false
 is_false true h = absurd (h refl)
 is_false false h = refl
 

@@ -13,6 +13,8 @@ pub mod WordLaws
 pub mod ItemSteps
 pub mod ItemLaws
 pub mod NumberLaws
+pub mod SettingLaws
 pub mod ChainLaws
 pub mod LawfulLaws
 pub mod ReadingLaws
+pub mod ParsingLaws

@@ -6,8 +6,8 @@ pub mod Runs
 pub mod Passing
 pub mod Options
 pub mod Items
-pub mod Settings
 pub mod ChainText
+pub mod Settings
 pub mod CommandLine
 pub mod Examples
 pub mod CommandLineExamples

@@ -1,5 +1,5 @@
 -- What the parser of a chain's text has of a stage while it reads it.
-use Rattle.std.specs.Prelude.{◌≡◌, ℕ, Bool, true, false, ◌&&◌, ◌||◌, nat_le, if◌then◌else◌, Option, Some, None, is_some, option_map, slice_get, unwrap_or, List, [], ◌∷◌, ◌++◌, length, map}
+use Rattle.std.specs.Prelude.{◌≡◌, ℕ, Bool, true, false, ◌&&◌, ◌||◌, nat_le, if◌then◌else◌, Option, Some, None, is_some, option_map, slice_get, unwrap_or, List, [], ◌∷◌, ◌++◌, ◌+◌, length, take, drop, map}
 use Rattle.pnm_read.specs.Texts.{decimal_value, words}
 use denote.Ref.{Bor}
 use Rattle.pnm_tools.specs.declared.cut.CutBox.{CutBox}
@@ -16,6 +16,7 @@ use Rattle.pnmpipe.specs.declared.options.ToolOption.TheVariants.{Left, Right, T
 use Rattle.pnmpipe.specs.declared.settings.Settings.{Settings}
 use Rattle.pnmpipe.specs.Options.{offset_value, takes_argument}
 use Rattle.pnmpipe.specs.Items.{Item, Argument, Given, Unknown, arguments_of, value_of, number_of, box_of, numbers_of, way_of, items_of, fault_after}
+use Rattle.pnmpipe.specs.ChainText.{SpellTools, fault_from}
 
 -- ---- items
 
@@ -134,3 +135,9 @@ pub record IsReading (tool : ToolName) (items : List Item) (s : Settings) (rest 
   pub settings_are : AreSettingsOf tool before s
   pub items_are : items ≡ before ++ items_of tool (words rest)
   pub fault_is : fault_after tool [] items ≡ fault_after tool before (items_of tool (words rest))
+
+-- a chain while it is read: the tools of the first n stages have been, and no fault was met
+pub record AreRead (stages : List (List ℕ)) (n : ℕ) (tools : List Tool) : Type 0 where
+  pub count_is : length tools ≡ n
+  pub spelled : SpellTools (take n stages) tools
+  pub fault_is : fault_from 1 stages ≡ fault_from (n + 1) (drop n stages)
