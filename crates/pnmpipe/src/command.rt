@@ -1,6 +1,7 @@
 //! The program.
 
-ghost use Rattle.std.specs.Prelude.{◌≡◌, ◌≢◌, ◌⊎◌, ◌≤◌, map, string_bytes};
+ghost use Rattle.std.specs.Prelude.{◌≡◌, ◌≢◌, ◌⊎◌, ◌≤◌, ℕ, List, map, string_bytes};
+ghost use Rattle.std.specs.Io.KnownBytes.{Appends};
 ghost use Rattle.pnm_write.specs.Writes.{AppendsFront};
 ghost use Rattle.pnmpipe.specs.CommandLine.{AsksForHelp, HasRun, HasRunWords};
 ghost use Rattle.pnmpipe.specs.Runs.{IsChain};
@@ -39,6 +40,8 @@ pub fn command<H: AllocGlobal, R: BytesIn, W: BytesOut, E: Write>(
     ensures untouched { result ≡ 2 → (input.new ≡ input.old) × (output.new ≡ output.old) }
     // Help reads nothing, and fails only for want of memory, whatever becomes of its text.
     ensures help { AsksForHelp (map string_bytes words.now) → (result ≢ 1) × (input.new ≡ input.old) }
+    ensures helped { AsksForHelp (map string_bytes words.now) → result ≡ 0
+        → (text : List ℕ) × Appends (W.held output.old) (W.held output.new) text }
     ensures ran { result ≢ 2 → AsksForHelp (map string_bytes words.now)
         ⊎ HasRunWords (map string_bytes words.now) result (R.left input.old) (W.held output.old) (W.held output.new) }
 {

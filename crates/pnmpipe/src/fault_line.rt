@@ -23,7 +23,11 @@ pub fn print_chain_fault<E: Write>(errors: &mut E, fault: ChainFault) {
         writeln!(errors, "pnmpipe: chain: {kind}")
     } else {
         let mut digits = Buffer::new();
-        writeln!(errors, "pnmpipe: chain: stage {}: {kind}", digits.format(stage))
+        writeln!(
+            errors,
+            "pnmpipe: chain: stage {}: {kind}",
+            digits.format(stage)
+        )
     };
 }
 

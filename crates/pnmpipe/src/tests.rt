@@ -7,12 +7,14 @@ mod chains;
 mod command;
 mod devices;
 mod fault_lines;
+mod help;
 mod memory;
 mod order;
 mod run;
 mod streams;
 mod texts;
 mod whole;
+mod words_memory;
 
 /// An image of one row, and the image inverted.
 const IMAGE: &[u8] = b"P5\n2 1\n122\nAB";

@@ -3,11 +3,11 @@
 use super::{BAD_INPUTS, IMAGE, INVERTED};
 use crate::command::command;
 use pnm_image::Device;
-use std::alloc::Global;
+use std::alloc::{AllocError, Global};
 use std::test::Fail;
 
 /// The words of a command line.
-pub fn words_of(alloc: Global, texts: &[&str]) -> Result<Vec<String>, Fail> {
+pub fn words_of(alloc: Global, texts: &[&str]) -> Result<Vec<String>, AllocError> {
     let mut words = Vec::new(alloc);
     for text in texts {
         words.push(String::from_str(alloc, text)?)?;
@@ -65,7 +65,11 @@ fn refuses_words(rt: HostRuntime) -> Result<(), Fail> {
     ] {
         let answer = answer_to(&rt, texts, IMAGE)?;
         assert_eq!(rt; answer.status, 2, "at {texts:?}");
-        assert_eq!(rt; answer.errors.as_slice(), printed.as_bytes(), "at {texts:?}");
+        assert_eq!(rt;
+            answer.errors.as_slice(),
+            printed.as_bytes(),
+            "at {texts:?}"
+        );
         assert_eq!(rt; answer.left, IMAGE, "at {texts:?}");
         assert!(rt; answer.output.is_empty(), "at {texts:?}");
     }
@@ -156,7 +160,12 @@ fn runs(rt: HostRuntime) -> Result<(), Fail> {
         let printed = format!(in rt.alloc(); "pnmpipe: input: {}\n", name)?;
         let answer = answer_to(&rt, texts.as_slice(), *input)?;
         assert_eq!(rt; answer.status, 1, "at {:?}", input);
-        assert_eq!(rt; answer.errors.as_slice(), printed.as_bytes(), "at {:?}", input);
+        assert_eq!(rt;
+            answer.errors.as_slice(),
+            printed.as_bytes(),
+            "at {:?}",
+            input
+        );
         assert_eq!(rt; answer.output.as_slice(), *front, "at {:?}", input);
     }
 
@@ -186,7 +195,12 @@ fn runs(rt: HostRuntime) -> Result<(), Fail> {
 fn goes_on_without_a_line(rt: HostRuntime) -> Result<(), Fail> {
     for (texts, input, want, written) in [
         (["pnmpipe"].as_slice(), IMAGE, 2, b"".as_slice()),
-        (["pnmpipe", "--ring", "0", "pnminvert"].as_slice(), IMAGE, 2, b"".as_slice()),
+        (
+            ["pnmpipe", "--ring", "0", "pnminvert"].as_slice(),
+            IMAGE,
+            2,
+            b"".as_slice(),
+        ),
         (["pnmpipe", "pnmscale"].as_slice(), IMAGE, 2, b"".as_slice()),
         (
             ["pnmpipe", "pnminvert"].as_slice(),

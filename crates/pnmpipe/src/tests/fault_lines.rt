@@ -13,8 +13,16 @@ use std::test::Fail;
 fn names_stages(rt: HostRuntime) -> Result<(), Fail> {
     for (stage, kind, want) in [
         (0, ChainKind::Memory, "pnmpipe: chain: Memory\n"),
-        (1, ChainKind::UnknownTool, "pnmpipe: chain: stage 1: UnknownTool\n"),
-        (16, ChainKind::UnknownTool, "pnmpipe: chain: stage 16: UnknownTool\n"),
+        (
+            1,
+            ChainKind::UnknownTool,
+            "pnmpipe: chain: stage 1: UnknownTool\n",
+        ),
+        (
+            16,
+            ChainKind::UnknownTool,
+            "pnmpipe: chain: stage 16: UnknownTool\n",
+        ),
         (
             usize::MAX,
             ChainKind::UnknownTool,
@@ -32,12 +40,30 @@ fn names_stages(rt: HostRuntime) -> Result<(), Fail> {
 #[test]
 fn names_tools(rt: HostRuntime) -> Result<(), Fail> {
     for (fault, want) in [
-        (RunFault::Tool(1, ToolFault::CutOutside), "pnmpipe: tool 1: CutOutside\n"),
-        (RunFault::Tool(2, ToolFault::ChannelOutside), "pnmpipe: tool 2: ChannelOutside\n"),
-        (RunFault::Tool(10, ToolFault::TooLarge), "pnmpipe: tool 10: TooLarge\n"),
-        (RunFault::Tool(16, ToolFault::Memory), "pnmpipe: tool 16: Memory\n"),
-        (RunFault::Input(InputFault::RasterCut), "pnmpipe: input: RasterCut\n"),
-        (RunFault::Output(SinkFault::WriteFailed), "pnmpipe: output: WriteFailed\n"),
+        (
+            RunFault::Tool(1, ToolFault::CutOutside),
+            "pnmpipe: tool 1: CutOutside\n",
+        ),
+        (
+            RunFault::Tool(2, ToolFault::ChannelOutside),
+            "pnmpipe: tool 2: ChannelOutside\n",
+        ),
+        (
+            RunFault::Tool(10, ToolFault::TooLarge),
+            "pnmpipe: tool 10: TooLarge\n",
+        ),
+        (
+            RunFault::Tool(16, ToolFault::Memory),
+            "pnmpipe: tool 16: Memory\n",
+        ),
+        (
+            RunFault::Input(InputFault::RasterCut),
+            "pnmpipe: input: RasterCut\n",
+        ),
+        (
+            RunFault::Output(SinkFault::WriteFailed),
+            "pnmpipe: output: WriteFailed\n",
+        ),
     ] {
         let mut errors = Vec::new(rt.alloc());
         print_run_fault(&mut errors, fault);
@@ -45,6 +71,9 @@ fn names_tools(rt: HostRuntime) -> Result<(), Fail> {
     }
     let mut errors = Vec::new(rt.alloc());
     print_want_of_memory(&mut errors);
-    assert_eq!(rt; errors.as_slice(), b"pnmpipe: command line: Memory\n".as_slice());
+    assert_eq!(rt;
+        errors.as_slice(),
+        b"pnmpipe: command line: Memory\n".as_slice()
+    );
     Ok(())
 }

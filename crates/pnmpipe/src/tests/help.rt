@@ -1,0 +1,137 @@
+//! The help text.
+
+use super::command::{answer_to, words_of};
+use super::{IMAGE, INVERTED};
+use crate::command::command;
+use pnm_image::Device;
+use std::test::Fail;
+
+pub const HELP: &str = "Reads a stream of PBM, PGM, PPM or PAM images from standard input, passes it
+through a chain of tools, and writes raw Netpbm images to standard output.
+
+Usage: pnmpipe [--ring N] CHAIN
+
+Arguments:
+  <CHAIN>  1 to 16 tools, parted by |, in one word
+
+Options:
+      --ring <N>  Room between two tools, 1 to 1024; no effect yet [default: 64]
+  -h, --help      Print help
+
+Tools:
+  pnminvert
+  pamcut [-left N] [-right N] [-top N] [-bottom N] [-width N] [-height N]
+  pamdepth MAXVAL
+  pamchannel [-tupletype TEXT] PLANE...
+  pamenlarge N, or [-xscale N] [-yscale N]
+  pamflip -null, -lr (-leftright), -tb (-topbottom) or -xy (-transpose)
+  pnmtile WIDTH HEIGHT
+
+Status: 0 all went well, 1 the input, a tool or the output failed, 2 wrong words
+
+Example: pnmpipe 'pamcut -width 640 | pamflip -lr' < a.ppm > b.ppm
+";
+
+/// Calls for help get it on the output, status 0, and nothing is read.
+#[test]
+fn helps(rt: HostRuntime) -> Result<(), Fail> {
+    for texts in [
+        ["pnmpipe", "--help"].as_slice(),
+        ["pnmpipe", "-h"].as_slice(),
+        ["pnmpipe", "pnminvert", "--help"].as_slice(),
+        ["pnmpipe", "--ring", "7", "-h", "pnminvert"].as_slice(),
+        // A chain's text isn't looked at.
+        ["pnmpipe", "--help", "pnmscale"].as_slice(),
+        // `clap` reads the words in turn, and help comes before the faults after it.
+        ["pnmpipe", "--help", "--ring", "0"].as_slice(),
+        ["pnmpipe", "-h", "--lanes"].as_slice(),
+        ["pnmpipe", "--help", "a", "b"].as_slice(),
+        // `-hx` is `-h` and `-x`.
+        ["pnmpipe", "-hx"].as_slice(),
+    ] {
+        let answer = answer_to(&rt, texts, IMAGE)?;
+        assert_eq!(rt; answer.status, 0, "at {texts:?}");
+        assert_eq!(rt; answer.output.as_slice(), HELP.as_bytes(), "at {texts:?}");
+        assert!(rt; answer.errors.is_empty(), "at {texts:?}");
+        assert_eq!(rt; answer.left, IMAGE, "at {texts:?}");
+    }
+    Ok(())
+}
+
+/// A fault before the call for help comes first, and so does a value of an option, or `--`.
+#[test]
+fn refuses_before_help(rt: HostRuntime) -> Result<(), Fail> {
+    let usage = "pnmpipe: usage: pnmpipe [--ring N] CHAIN\n";
+    for (texts, printed) in [
+        (["pnmpipe", "--lanes", "--help"].as_slice(), usage),
+        (["pnmpipe", "--ring", "0", "--help"].as_slice(), usage),
+        (["pnmpipe", "--ring", "--help"].as_slice(), usage),
+        (["pnmpipe", "a", "b", "--help"].as_slice(), usage),
+        (["pnmpipe", "--help=x"].as_slice(), usage),
+        (["pnmpipe", "--hel"].as_slice(), usage),
+        (
+            ["pnmpipe", "--", "-h"].as_slice(),
+            "pnmpipe: chain: stage 1: UnknownTool\n",
+        ),
+    ] {
+        let answer = answer_to(&rt, texts, IMAGE)?;
+        assert_eq!(rt; answer.status, 2, "at {texts:?}");
+        assert_eq!(rt;
+            answer.errors.as_slice(),
+            printed.as_bytes(),
+            "at {texts:?}"
+        );
+        assert!(rt; answer.output.is_empty(), "at {texts:?}");
+        assert_eq!(rt; answer.left, IMAGE, "at {texts:?}");
+    }
+    Ok(())
+}
+
+/// The text fits a screen, and so does each line.
+#[test]
+fn fits_a_screen(rt: HostRuntime) {
+    assert_eq!(rt; HELP.lines().count(), 24);
+    for line in HELP.lines() {
+        assert!(rt; line.len() <= 80, "at {line}");
+    }
+}
+
+/// Where the help can't be written whole, the status is 0 and nothing is printed.
+#[test]
+fn helps_without_room(rt: HostRuntime) -> Result<(), Fail> {
+    let words = words_of(rt.alloc(), ["pnmpipe", "--help"].as_slice())?;
+    for size in [0, 1, 100] {
+        let mut room = [0; 100];
+        let mut input = Device::new(IMAGE);
+        let mut output = Device::new(&mut room[..size]);
+        let mut errors = Vec::new(rt.alloc());
+        let status = command(&rt, words.as_slice(), &mut input, &mut output, &mut errors);
+        assert_eq!(rt; status, 0);
+        assert!(rt; errors.is_empty());
+        assert_eq!(rt; input.into_inner(), IMAGE);
+        assert!(rt; HELP.as_bytes().starts_with(&room[..size]));
+    }
+    Ok(())
+}
+
+/// After a call for help the output still takes a run.
+#[test]
+fn helps_between_runs(rt: HostRuntime) -> Result<(), Fail> {
+    let help = words_of(rt.alloc(), ["pnmpipe", "--help"].as_slice())?;
+    let run = words_of(rt.alloc(), ["pnmpipe", "pnminvert"].as_slice())?;
+    let mut input = Device::new(IMAGE);
+    let mut output = Device::new(Vec::new(rt.alloc()));
+    let mut errors = Vec::new(rt.alloc());
+    assert_eq!(rt;
+        command(&rt, help.as_slice(), &mut input, &mut output, &mut errors),
+        0
+    );
+    assert_eq!(rt;
+        command(&rt, run.as_slice(), &mut input, &mut output, &mut errors),
+        0
+    );
+    let written = output.into_inner();
+    assert!(rt; written.as_slice().starts_with(HELP.as_bytes()));
+    assert!(rt; written.as_slice().ends_with(INVERTED));
+    Ok(())
+}

@@ -1,0 +1,77 @@
+//! Want of memory in the program. `scripts/refused_growth_of_words.sh` refuses each allocation of these
+//! tests in turn.
+
+use super::command::words_of;
+use super::help::HELP;
+use super::{IMAGE, INVERTED};
+use crate::command::command;
+use pnm_image::Device;
+use std::process::Abort;
+
+/// The program's status, or none where there is no memory for the words. Whatever it is, want of
+/// memory alone can be at fault, and is printed; and what was written is a front of the whole output,
+/// and all of it where the status is 0.
+fn status<H: Abort + AllocGlobal>(rt: &H, texts: &[&str], whole: &[u8]) -> Option<u8> {
+    let Ok(words) = words_of(rt.alloc(), texts) else {
+        return None;
+    };
+    let mut room = [0; 2000];
+    let mut line = [0; 100];
+    let mut output = Device::new(room.as_mut_slice());
+    let mut errors = line.as_mut_slice();
+    let mut input = Device::new(IMAGE);
+    let status = command(rt, words.as_slice(), &mut input, &mut output, &mut errors);
+    let (left, unused) = (output.into_inner().len(), errors.len());
+    assert!(rt; left <= room.len() && unused <= line.len());
+    let written = &room[..room.len() - left];
+    let printed = &line[..line.len() - unused];
+    let memory = [
+        b"pnmpipe: command line: Memory\n".as_slice(),
+        b"pnmpipe: chain: Memory\n".as_slice(),
+        b"pnmpipe: tool 1: Memory\n".as_slice(),
+        b"pnmpipe: input: Memory\n".as_slice(),
+    ];
+    match status {
+        0 => {
+            assert_eq!(rt; written, whole);
+            assert!(rt; printed.is_empty());
+        }
+        1 => {
+            assert!(rt; whole.starts_with(written));
+            assert!(rt; memory[2..].contains(&printed));
+        }
+        _ => {
+            assert!(rt; written.is_empty());
+            assert!(rt; memory[..2].contains(&printed));
+        }
+    }
+    Some(status)
+}
+
+/// Each growth of a call for help may be refused.
+#[test]
+fn answers_want_of_memory_for_help(rt: HostRuntime) {
+    let _ = status(&rt, ["pnmpipe", "--help"].as_slice(), HELP.as_bytes());
+}
+
+/// The same, where none is refused.
+#[test]
+fn helps_with_memory(rt: HostRuntime) {
+    let status = status(&rt, ["pnmpipe", "--help"].as_slice(), HELP.as_bytes());
+    assert_eq!(rt; status, Some(0));
+}
+
+/// Each growth of a run may be refused.
+#[test]
+fn answers_want_of_memory_for_a_run(rt: HostRuntime) {
+    let texts = ["pnmpipe", "--ring", "7", "pnminvert"];
+    let _ = status(&rt, texts.as_slice(), INVERTED);
+}
+
+/// The same, where none is refused.
+#[test]
+fn runs_with_memory(rt: HostRuntime) {
+    let texts = ["pnmpipe", "--ring", "7", "pnminvert"];
+    let status = status(&rt, texts.as_slice(), INVERTED);
+    assert_eq!(rt; status, Some(0));
+}
