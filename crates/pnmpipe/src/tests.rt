@@ -3,6 +3,9 @@
 
 use pnm_read::InputFault;
 
+mod chain_faults;
+mod chain_limits;
+mod chain_texts;
 mod chains;
 mod command;
 mod devices;
