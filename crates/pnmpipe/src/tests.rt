@@ -9,6 +9,7 @@ mod chain_texts;
 mod chains;
 mod command;
 mod devices;
+mod examples;
 mod fault_lines;
 mod help;
 mod memory;

@@ -59,9 +59,15 @@ fn refuses_words(rt: HostRuntime) -> Result<(), Fail> {
         (["pnmpipe", "-V"].as_slice(), usage),
         (["pnmpipe", "pnmscale"].as_slice(), unknown),
         (["pnmpipe", "--ring", "7", "pnmscale"].as_slice(), unknown),
-        (["pnmpipe", ""].as_slice(), unknown),
-        (["pnmpipe", " pnminvert"].as_slice(), unknown),
-        (["pnmpipe", "pnminvert |"].as_slice(), unknown),
+        (["pnmpipe", ""].as_slice(), "pnmpipe: chain: Empty\n"),
+        (
+            ["pnmpipe", "pnminvert | | pnminvert"].as_slice(),
+            "pnmpipe: chain: stage 2: EmptyStage\n",
+        ),
+        (
+            ["pnmpipe", "pnminvert | pamcut -l 1"].as_slice(),
+            "pnmpipe: chain: stage 2: UnknownOption\n",
+        ),
     ] {
         let answer = answer_to(&rt, texts, IMAGE)?;
         assert_eq!(rt; answer.status, 2, "at {texts:?}");
