@@ -10,4 +10,5 @@ pub mod RunSteps
 pub mod ItemLaws
 pub mod NumberLaws
 pub mod SettingLaws
+pub mod MeaningLaws
 pub mod ChainLaws
