@@ -14,6 +14,7 @@ pub mod ItemSteps
 pub mod ItemLaws
 pub mod NumberLaws
 pub mod SettingLaws
+pub mod MeaningLaws
 pub mod ChainLaws
 pub mod LawfulLaws
 pub mod ReadingLaws

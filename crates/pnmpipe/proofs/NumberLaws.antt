@@ -1,18 +1,20 @@
--- What `parse` reads is the number that a word spells.
-use Rattle.std.proofs.Common.{◌≡◌, ◌≢◌, ℕ, ◌<◌, ◌^◌, true, false, ◌&&◌, if◌then◌else◌, Option, Some, None, Result, Ok, Err, MatchResult, List, [], ◌∷◌, length, get_or, nat_eq, nat_le, refl, sym, ap, subst, ◌∙◌, arith}
+-- The numbers that words spell: what `parse` reads, and an offset with a dash.
+use Rattle.std.proofs.Common.{◌≡◌, ◌≢◌, ℕ, ◌-◌, ◌<◌, ◌≤◌, ◌^◌, ℤ, pos, neg_ℤ, ◌-ℤ◌, to_z, of_z, w32, Bool, true, false, ◌&&◌, if◌then◌else◌, Option, Some, None, Result, Ok, Err, MatchResult, List, [], ◌∷◌, length, get_or, take, drop, ◌==◌, nat_eq, nat_le, refl, sym, ap, subst, ◌∙◌, arith}
 use denote.Bor.{Bor}
 use Rattle.std.specs.List.{list_all, starts_with}
 use Rattle.std.specs.Result.{OkIff, result_ok}
 use Rattle.std.specs.Str.{IsAscii, IsUtf8}
 use Rattle.std.specs.Str.Parse.{ParsesUnsigned}
-use Rattle.std.proofs.lemmas.Bool.{and_parts, and_from, and_left, cond-true, cond-false, false_from_ne_true}
+use Rattle.std.proofs.lemmas.Bool.{leb-true, eq-eqb, and_parts, and_from, and_left, cond-true, cond-false, false_from_ne_true}
 use Rattle.std.proofs.lemmas.Bool.Decides.{nat_tests}
+use Rattle.std.proofs.lemmas.Int.{ints}
+use Rattle.std.proofs.lemmas.List.{take_all}
 use Rattle.std.proofs.lemmas.Option.{same_Some}
 use Rattle.std.proofs.lemmas.Str.{IsUtf8-from_ascii}
 use Rattle.std.proofs.lemmas.Str.Ascii.{IsAscii-nil, IsAscii-cons}
 use Rattle.std.proofs.lemmas.Str.Parse.{IsDigitsTest, IsNumeralModel, numerals_by_value, parse_plain}
 use Rattle.pnm_read.specs.Texts.{is_digit, decimal_value}
-use Rattle.pnmpipe.specs.Options.{is_numeral, spells_number}
+use Rattle.pnmpipe.specs.Options.{begins_with_dash, is_numeral, offset_value, spells_number, spells_offset, without_dash}
 
 abbrev AreDigits : List ℕ → Type 0
 AreDigits word = list_all is_digit word ≡ true
@@ -99,3 +101,28 @@ no_plus (b ∷ word) e = grind (arith, nat_tests)
 
 pub parse_is_spelled : {E : Type 0} (word text : List ℕ) (r : Result ℕ E) → get_or word 0 0 ≢ 43 → text ≡ word → ParsesUnsigned 32 10 text r → result_ok r ≡ spelled word
 parse_is_spelled word text r plus same h = read_is_spelled word r (parse_plain model 32 word r (subst (λ (t : List ℕ). ParsesUnsigned 32 10 t r) same h) plus)
+
+-- ---- an offset counted from the other side
+
+negated : (n : ℕ) → n ≤ 16777216 → to_z w32 (of_z w32 (pos 0 -ℤ to_z w32 n)) ≡ neg_ℤ (pos n)
+negated n low = grind (arith, ints)
+
+negated_by : (spells : Bool) (n m : ℕ) → (spells ≡ true → m ≤ 16777216) → Some n ≡ (if spells then Some m else None) → Some (to_z w32 (of_z w32 (pos 0 -ℤ to_z w32 n))) ≡ (if spells then Some (neg_ℤ (pos m)) else None)
+negated_by true n m low e = ap (λ (k : ℕ). Some (to_z w32 (of_z w32 (pos 0 -ℤ to_z w32 k)))) (same_Some n m e) ∙ ap (λ (z : ℤ). Some z) (negated m (low refl))
+negated_by false n m low e = absurd cc
+
+spelled_low : (digits : List ℕ) → spells_number 0 16777216 digits ≡ true → decimal_value digits ≤ 16777216
+spelled_low digits e = leb-true (decimal_value digits) 16777216 (and_parts (nat_le 0 (decimal_value digits)) (nat_le (decimal_value digits) 16777216) (and_parts (is_numeral digits) (nat_le 0 (decimal_value digits) && nat_le (decimal_value digits) 16777216) e).1).1
+
+dashed_by : (word digits : List ℕ) (n : ℕ) → begins_with_dash word ≡ true → digits ≡ without_dash word → Some n ≡ (if spells_number 0 16777216 digits then Some (decimal_value digits) else None) → Some (to_z w32 (of_z w32 (pos 0 -ℤ to_z w32 n))) ≡ (if spells_offset word then Some (offset_value word) else None)
+dashed_by word digits n dash same e =
+    negated_by (spells_number 0 16777216 digits) n (decimal_value digits) (spelled_low digits) e
+    ∙ ap (λ (ds : List ℕ). if spells_number 0 16777216 ds then Some (neg_ℤ (pos (decimal_value ds))) else None) same
+    ∙ ap (λ (z : ℤ). if spells_offset word then Some z else None) (sym (cond-true (begins_with_dash word) (neg_ℤ (pos (decimal_value (without_dash word)))) (pos (decimal_value word)) dash))
+
+after_dash : (b : ℕ) (word : List ℕ) → b ≡ 45 → take (length (b ∷ word) - 1) word ≡ without_dash (b ∷ word)
+after_dash b word e = take_all (length (b ∷ word) - 1) word (omega arith) ∙ sym (cond-true (b == 45) word (b ∷ word) (eq-eqb b 45 e))
+
+pub dashed : (word : List ℕ) (n : ℕ) → 0 < length word → get_or word 0 0 ≡ 45 → Some n ≡ (if spells_number 0 16777216 (take (length word - 1) (drop 1 word)) then Some (decimal_value (take (length word - 1) (drop 1 word))) else None) → Some (to_z w32 (of_z w32 (pos 0 -ℤ to_z w32 n))) ≡ (if spells_offset word then Some (offset_value word) else None)
+dashed [] n some dash e = absurd (omega arith)
+dashed (b ∷ word) n some dash e = dashed_by (b ∷ word) (take (length (b ∷ word) - 1) word) n (eq-eqb b 45 dash) (after_dash b word dash) e

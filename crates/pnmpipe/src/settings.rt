@@ -1,6 +1,6 @@
 //! What the words of a stage set, and the tool that they mean.
 
-ghost use Rattle.std.specs.Prelude.{◌≡◌, ◌⊎◌, ◌++◌, ◌∷◌, ◌<◌, [], List, IfOk, IfErr, OnOk, Some, None, true, false, is_some, length, nat_le, unwrap_or};
+ghost use Rattle.std.specs.Prelude.{◌≡◌, ◌⊎◌, ◌++◌, ◌&&◌, ◌∷◌, ◌<◌, [], List, IfOk, IfErr, OnOk, Some, None, true, false, is_some, length, nat_le, unwrap_or};
 ghost use Rattle.pnm_read.specs.Texts.{decimal_value};
 ghost use Rattle.pnm_tools.specs.Channel.{picks};
 ghost use Rattle.pnm_tools.specs.declared.tool.Tool.TheVariants as tools;
@@ -178,10 +178,7 @@ impl<'a> Settings<'a> {
                 Some(way) => Ok(Tool::Flip(way)),
                 None => Err(ChainKind::MissingArgument),
             },
-            ToolName::Tile => match (self.first, self.second) {
-                (Some(columns), Some(rows)) => Ok(Tool::Tile(columns, rows)),
-                _ => Err(ChainKind::MissingArgument),
-            },
+            ToolName::Tile => tile(self.first, self.second),
         }
     }
 }
@@ -258,5 +255,15 @@ fn enlarge(factor: Option<u32>, across: Option<u32>, down: Option<u32>) -> Resul
         (Some(_), _, _) => Err(ChainKind::Conflict),
         (None, None, None) => Err(ChainKind::MissingArgument),
         (None, _, _) => Ok(Tool::Enlarge(across.unwrap_or(1), down.unwrap_or(1))),
+    }
+}
+
+fn tile(columns: Option<u32>, rows: Option<u32>) -> Result<Tool, ChainKind>
+    ensures made { IfOk result (λ tool. ((is_some columns && is_some rows) ≡ true) × (tool ≡ tools.Tile (unwrap_or columns 0) (unwrap_or rows 0))) }
+    ensures refused { IfErr result (λ kind. ((is_some columns && is_some rows) ≡ false) × (kind ≡ MissingArgument)) }
+{
+    match (columns, rows) {
+        (Some(columns), Some(rows)) => Ok(Tool::Tile(columns, rows)),
+        _ => Err(ChainKind::MissingArgument),
     }
 }
