@@ -1,5 +1,5 @@
 -- Each text spells one chain and has no fault, or it spells none and has one.
-use Rattle.std.proofs.Common.{◌≡◌, ◌≤◌, ◌<◌, ◌↔◌, ℕ, suc, ◌==◌, ◌&&◌, Bool, true, false, if◌then◌else◌, Option, Some, None, List, [], ◌∷◌, length, refl, sym, ap, subst, ◌∙◌, arith}
+use Rattle.std.proofs.Common.{◌≡◌, ◌≤◌, ℕ, suc, ◌==◌, ◌&&◌, Bool, true, false, if◌then◌else◌, Option, Some, None, List, [], ◌∷◌, length, refl, sym, ap, subst, ◌∙◌, arith}
 use Rattle.std.specs.Prelude.{nat_lt}
 use Rattle.std.specs.List.{list_all}
 use Rattle.std.proofs.lemmas.Bool.Decides.{nat_tests}
@@ -9,10 +9,10 @@ use Rattle.pnm_read.specs.Texts.{is_white, begins_in_word, onto_first as onto_wo
 use Rattle.pnm_tools.specs.declared.tool.Tool.{Tool}
 use Rattle.pnmpipe.specs.declared.chain_text.ChainFault.{ChainFault}
 use Rattle.pnmpipe.specs.declared.chain_text.ChainKind.{ChainKind}
-use Rattle.pnmpipe.specs.declared.chain_text.ChainKind.TheVariants.{Empty, TooLong, TooMany, EmptyStage, UnknownTool}
+use Rattle.pnmpipe.specs.declared.chain_text.ChainKind.TheVariants.{Empty, TooLong, TooMany}
 use Rattle.pnmpipe.specs.declared.options.ToolName.{ToolName}
 use Rattle.pnmpipe.specs.Options.{tool_named}
-use Rattle.pnmpipe.specs.Items.{items_of, Means, meant_by, fault_after}
+use Rattle.pnmpipe.specs.Items.{items_of, meant_by}
 use Rattle.pnmpipe.specs.ChainText.{SpellsTool, SpellTools, SpellsChain, stages_of, tool_fault, words_fault, stage_fault, fault_from, whole, chain_fault_of, IsOneChainOrOneFault}
 use Rattle.pnmpipe.proofs.ItemLaws.{items_mean, meaning_has_no_fault}
 
@@ -196,11 +196,11 @@ spelled_chain_has_no_fault text tools h =
       short = at_most 4096 (length text) h.short;
       not_blank = is_false (list_all is_white text) (λ blank. blank_spells_nothing text tools blank h.stages);
       not_many = at_most 16 (length (stages_of text)) h.not_many;
-      no_fault = spelled_have_no_fault 1 (stages_of text) tools h.stages
+      no_fault = spelled_have_no_fault 1 (stages_of text) tools h.stages;
     })
 
 pub one_chain_or_one_fault : (text : List ℕ) → IsOneChainOrOneFault text
 one_chain_or_one_fault text = record {
   spelled = (λ found. spelled_chain_has_no_fault text found.0 found.1, λ e. chain_spelled text e);
-  one = λ tools others h k. same_tools (stages_of text) tools others h.stages k.stages
+  one = λ tools others h k. same_tools (stages_of text) tools others h.stages k.stages;
 }

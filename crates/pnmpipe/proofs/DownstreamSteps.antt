@@ -1,6 +1,5 @@
 -- A message that is put into the sink.
 use Rattle.std.proofs.Common.{◌≡◌, ℕ, Bool, true, false, List, [], ◌∷◌, ◌++◌, Option, Result, Ok, Err, OnOk, OnErr, refl, sym, ap, subst, ◌∙◌}
-use Rattle.std.specs.Io.KnownBytes.{Appends}
 use Rattle.std.specs.Result.{is_ok, is_err, result_and, MatchResult, IfErr}
 use Rattle.pnm_image.specs.Devices.{Failed}
 use Rattle.pnm_image.specs.declared.message.Message.{Message}

@@ -1,12 +1,12 @@
 -- Items without a fault mean one tool, and items that mean a tool have no fault.
-use Rattle.std.proofs.Common.{◌≡◌, ◌≤◌, ◌<◌, ℕ, suc, ◌+◌, ◌==◌, ◌||◌, Bool, true, false, not, if◌then◌else◌, Option, Some, None, is_some, unwrap_or, List, [], ◌∷◌, ◌++◌, length, refl, sym, ap, subst, ◌∙◌, append-nil, append_assoc, arith}
+use Rattle.std.proofs.Common.{◌≡◌, ◌≤◌, ℕ, ◌+◌, ◌==◌, ◌||◌, Bool, true, false, not, if◌then◌else◌, Option, Some, None, is_some, unwrap_or, List, [], ◌∷◌, ◌++◌, length, refl, sym, ap, subst, ◌∙◌, append-nil, append_assoc, arith}
 use Rattle.std.specs.List.{AllByRecursion, IsDistinct}
 use Rattle.std.specs.Prelude.{nat_le}
 use Rattle.std.proofs.lemmas.List.{length-append}
 use Rattle.std.proofs.lemmas.Bool.Decides.{nat_tests}
 use Rattle.pnm_tools.specs.declared.tool.Tool.{Tool}
 use Rattle.pnmpipe.specs.declared.chain_text.ChainKind.{ChainKind}
-use Rattle.pnmpipe.specs.declared.chain_text.ChainKind.TheVariants.{UnknownOption, BadValue, MissingValue, Conflict, MissingArgument, ExtraArgument}
+use Rattle.pnmpipe.specs.declared.chain_text.ChainKind.TheVariants.{BadValue, MissingValue, Conflict, MissingArgument, ExtraArgument}
 use Rattle.pnmpipe.specs.declared.options.ToolName.{ToolName}
 use Rattle.pnmpipe.specs.declared.options.ToolOption.{ToolOption}
 use Rattle.pnmpipe.specs.Options.{most_arguments, takes_argument, takes_value, wants_value, slot_of, is_same}
@@ -222,7 +222,7 @@ fits tool before (Argument word) e low =
     record {
       formed = free.1;
       is_new_one = refl;
-      not_many = subst (λ (n : ℕ). n ≤ most_arguments tool) (sym (one_more before word)) (below (most_arguments tool) (length (arguments_of before)) free.0)
+      not_many = subst (λ (n : ℕ). n ≤ most_arguments tool) (sym (one_more before word)) (below (most_arguments tool) (length (arguments_of before)) free.0);
     }
 fits tool before (Given option value) e low =
     let free = option_free (is_there option before) (value_fault option value) e in
@@ -270,7 +270,7 @@ fit tool before [] e low =
       formed = cc;
       once = cc;
       not_many = subst (λ (l : List Item). length (arguments_of l) ≤ most_arguments tool) (sym all) low;
-      ended = subst (λ (l : List Item). end_fault tool l ≡ None) (sym all) (sym (fault_after-nil tool before) ∙ e)
+      ended = subst (λ (l : List Item). end_fault tool l ≡ None) (sym all) (sym (fault_after-nil tool before) ∙ e);
     }
 fit tool before (item ∷ items) e low =
     let free = after_free (item_fault tool before item) (fault_after tool (before ++ item ∷ []) items) (sym (fault_after-cons tool before item items) ∙ e) in
@@ -281,7 +281,7 @@ fit tool before (item ∷ items) e low =
       formed = (one.formed, others.formed);
       once = (one.is_new_one, others.once);
       not_many = subst (λ (l : List Item). length (arguments_of l) ≤ most_arguments tool) all others.not_many;
-      ended = subst (λ (l : List Item). end_fault tool l ≡ None) all others.ended
+      ended = subst (λ (l : List Item). end_fault tool l ≡ None) all others.ended;
     }
 
 fewer : (before items : List Item) → length (arguments_of before) ≤ length (arguments_of (before ++ items))
@@ -300,7 +300,7 @@ fit_fault tool before (item ∷ items) h =
       formed = h.formed.1;
       once = h.once.1;
       not_many = many;
-      ended = subst (λ (l : List Item). end_fault tool l ≡ None) (sym all) h.ended
+      ended = subst (λ (l : List Item). end_fault tool l ≡ None) (sym all) h.ended;
     }) in
     fault_after-cons tool before item items ∙ ap (λ (fault : Option ChainKind). after_by fault (fault_after tool (before ++ item ∷ []) items)) one ∙ others
 

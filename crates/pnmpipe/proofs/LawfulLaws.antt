@@ -1,7 +1,7 @@
 -- The tools that a text spells are a chain that can be run: 1 to 16, with options in their ranges.
-use Rattle.std.proofs.Common.{◌≡◌, ◌≤◌, ◌<◌, ◌⊎◌, ℕ, zero, suc, ◌+◌, ◌-◌, ◌==◌, ◌&&◌, ◌||◌, Bool, true, false, not, if◌then◌else◌, ℤ, pos, negsuc, Option, Some, None, is_some, option_map, unwrap_or, IfSome, IsSome, List, [], ◌∷◌, ◌++◌, length, map, drop, refl, sym, ap, subst, ◌∙◌, arith}
+use Rattle.std.proofs.Common.{◌≡◌, ◌≤◌, ℕ, zero, suc, ◌+◌, ◌-◌, ◌==◌, ◌&&◌, ◌||◌, Bool, true, false, not, if◌then◌else◌, ℤ, pos, Option, Some, None, is_some, option_map, unwrap_or, IfSome, IsSome, List, [], ◌∷◌, length, map, drop, refl, sym, ap, subst, ◌∙◌, arith}
 use Rattle.std.specs.Prelude.{◌≢◌, nat_le, nat_lt, slice_index, slice_index_or, neg_ℤ, unsigned_abs, All}
-use Rattle.std.specs.List.{AllByRecursion, list_all, list_any, after_first, position_or_len, slice_split}
+use Rattle.std.specs.List.{AllByRecursion, list_all, list_any, after_first, position_or_len}
 use Rattle.std.proofs.lemmas.List.{length-map}
 use Rattle.std.proofs.lemmas.List.Elements.{All-cons, All-nil}
 use Rattle.std.proofs.lemmas.List.Splits.{length-slice_split}
@@ -10,7 +10,6 @@ use Rattle.pnm_image.specs.Heads.{IsTupleType, is_blank}
 use Rattle.pnm_read.specs.Texts.{is_white, begins_in_word, onto_first as onto_word, words, decimal_value}
 use Rattle.pnm_tools.specs.declared.tool.Tool.{Tool}
 use Rattle.pnm_tools.specs.Cut.{IsEdge, IsSize, IsLawfulAxis}
-use Rattle.pnm_tools.specs.Channel.{picks, IsLawfulPick}
 use Rattle.pnm_tools.specs.Chains.{AreLawfulTools}
 use Rattle.pnm_tools.specs.Tools.{IsLawfulTool}
 use Rattle.pnmpipe.specs.declared.options.ToolName.{ToolName}
@@ -18,7 +17,7 @@ use Rattle.pnmpipe.specs.declared.options.ToolName.TheVariants.{Invert, Cut, Dep
 use Rattle.pnmpipe.specs.declared.options.ToolOption.{ToolOption}
 use Rattle.pnmpipe.specs.declared.options.ToolOption.TheVariants.{Left, Right, Top, Bottom, Width, Height, TupleType, XScale, YScale, Way}
 use Rattle.pnmpipe.specs.Options.{option_named, wants_value, takes_value, slot_of, is_same, takes_argument, most_arguments, is_numeral, spells_number, spells_offset, offset_value, begins_with_dash, without_dash}
-use Rattle.pnmpipe.specs.Items.{Item, Argument, Given, Unknown, without_dashes, name_in, value_in, takes_next, value_among, given_as, item_of, items_of, arguments_of, value_of, is_there, number_of, box_of, numbers_of, factor_by, meant_by, IsFormed, has_scale, is_conflict, is_missing, Means}
+use Rattle.pnmpipe.specs.Items.{Item, Argument, Given, Unknown, without_dashes, name_in, value_in, takes_next, value_among, given_as, item_of, items_of, arguments_of, value_of, is_there, factor_by, meant_by, IsFormed, is_conflict, is_missing}
 use Rattle.pnmpipe.specs.ChainText.{SpellsTool, SpellTools, SpellsChain, stages_of}
 use Rattle.pnmpipe.specs.Runs.{IsChain}
 
@@ -327,7 +326,7 @@ is_tuple_type word e short =
       short = short;
       one_line = λ k d lt. no_line_end (slice_index_or word k d) (all k d lt);
       first = λ some. no_blank (slice_index word 0) (all 0 0 some);
-      last = λ some. no_blank (slice_index word (length word - 1)) (all (length word - 1) 0 (omega arith))
+      last = λ some. no_blank (slice_index word (length word - 1)) (all (length word - 1) 0 (omega arith));
     }
 
 some_tuple_type : (value : Option (List ℕ)) → IfSome value (λ word. takes_value TupleType word ≡ true) → IfSome value (λ word. no_white word ≡ true) → IsTupleType (unwrap_or value [])
@@ -346,18 +345,19 @@ lawful Cut items clear formed many together more =
     let free = neither (is_there Left items && (is_there Right items && is_there Width items)) (is_there Top items && (is_there Bottom items && is_there Height items)) together in
     record {
       columns = axis (value_of Left items) (value_of Right items) (value_of Width items) (values_taken Cut Left items refl formed) (values_taken Cut Right items refl formed) (values_taken Cut Width items refl formed) free.0;
-      rows = axis (value_of Top items) (value_of Bottom items) (value_of Height items) (values_taken Cut Top items refl formed) (values_taken Cut Bottom items refl formed) (values_taken Cut Height items refl formed) free.1
+      rows = axis (value_of Top items) (value_of Bottom items) (value_of Height items) (values_taken Cut Top items refl formed) (values_taken Cut Bottom items refl formed) (values_taken Cut Height items refl formed) free.1;
     }
 lawful Depth items clear formed many together more = first_in_range 1 65535 (arguments_of items) (arguments_taken Depth items formed) more
 lawful Channel items clear formed many together more = record {
   some = subst (λ (n : ℕ). 1 ≤ n) (sym (length-map (arguments_of items) decimal_value)) (enough (length (arguments_of items)) more);
   not_many = subst (λ (n : ℕ). n ≤ 256) (sym (length-map (arguments_of items) decimal_value)) many;
   in_range = planes_in_range (arguments_of items) (arguments_taken Channel items formed);
-  tuple_type = some_tuple_type (value_of TupleType items) (values_taken Channel TupleType items refl formed) (value_clear TupleType items clear)
+  tuple_type = some_tuple_type (value_of TupleType items) (values_taken Channel TupleType items refl formed) (value_clear TupleType items clear);
 }
-lawful Enlarge items clear formed many together more =
-    (factor_in_range (arguments_of items) (value_of XScale items) (arguments_taken Enlarge items formed) (values_taken Enlarge XScale items refl formed),
-    factor_in_range (arguments_of items) (value_of YScale items) (arguments_taken Enlarge items formed) (values_taken Enlarge YScale items refl formed))
+lawful Enlarge items clear formed many together more = (
+  factor_in_range (arguments_of items) (value_of XScale items) (arguments_taken Enlarge items formed) (values_taken Enlarge XScale items refl formed),
+  factor_in_range (arguments_of items) (value_of YScale items) (arguments_taken Enlarge items formed) (values_taken Enlarge YScale items refl formed),
+)
 lawful Flip items clear formed many together more = cc
 lawful Tile items clear formed many together more =
     (first_of_two (arguments_of items) (arguments_taken Tile items formed) more, second_of_two (arguments_of items) (arguments_taken Tile items formed) more)
@@ -391,5 +391,5 @@ spelled_chain_is_lawful text tools h =
     record {
       some = subst (λ (n : ℕ). 1 ≤ n) (sym (count ∙ parts)) (omega arith);
       not_many = subst (λ (n : ℕ). n ≤ 16) (sym count) h.not_many;
-      lawful = spelled_are_lawful (stages_of text) tools h.stages
+      lawful = spelled_are_lawful (stages_of text) tools h.stages;
     }

@@ -1,5 +1,5 @@
 -- A chain while it is read, stage by stage.
-use Rattle.std.proofs.Common.{◌≡◌, ◌≤◌, ◌<◌, ◌⊎◌, inl, inr, ℕ, suc, ◌+◌, ◌==◌, ◌&&◌, Bool, true, false, Option, Some, None, is_some, List, [], ◌∷◌, ◌++◌, length, take, drop, get_or, refl, sym, ap, subst, ◌∙◌, arith}
+use Rattle.std.proofs.Common.{◌≡◌, ◌≤◌, ◌<◌, ◌⊎◌, inl, inr, ℕ, suc, ◌+◌, ◌&&◌, Bool, true, false, Option, Some, None, is_some, List, [], ◌∷◌, ◌++◌, length, take, drop, get_or, refl, sym, ap, subst, ◌∙◌, arith}
 use Rattle.std.specs.Prelude.{nat_lt, MatchOption}
 use Rattle.std.specs.List.{list_all}
 use denote.Ref.{Bor}
@@ -33,7 +33,7 @@ next_fault stages n stage at =
     let less : suc n ≡ n + 1 = omega arith in
     let more : suc (n + 1) ≡ n + 1 + 1 = omega arith in
     let parts : drop n stages ≡ stage ∷ drop (n + 1) stages =
-        drop-cons stages n stage at.0 ∙ ap (λ (s : List ℕ). s ∷ drop (suc n) stages) (sym at.1) ∙ ap (λ (k : ℕ). stage ∷ drop k stages) less in
+    drop-cons stages n stage at.0 ∙ ap (λ (s : List ℕ). s ∷ drop (suc n) stages) (sym at.1) ∙ ap (λ (k : ℕ). stage ∷ drop k stages) less in
     ap (λ (l : List (List ℕ)). fault_from (n + 1) l) parts ∙ fault_from-cons (n + 1) stage (drop (n + 1) stages)
     ∙ ap (λ (k : ℕ). from_by (n + 1) (stage_fault stage) (fault_from k (drop (n + 1) stages))) more
 
@@ -45,7 +45,7 @@ one_read_more stages n more tools all stage bytes tool h at next equal pushed k 
     let now : AreRead stages (n + 1) (tools ++ tool ∷ []) = record {
       count_is = length-append tools (tool ∷ []) ∙ ap (λ (k : ℕ). k + 1) h.count_is;
       spelled = subst (λ (l : List (List ℕ)). SpellTools l (tools ++ tool ∷ [])) (sym parts) (one_spelled_more (take n stages) tools stage tool h.spelled of_stage.1);
-      fault_is = h.fault_is ∙ next_fault stages n stage at ∙ ap (λ (f : Option ChainKind). from_by (n + 1) f (fault_from (n + 1 + 1) (drop (n + 1) stages))) of_stage.0
+      fault_is = h.fault_is ∙ next_fault stages n stage at ∙ ap (λ (f : Option ChainKind). from_by (n + 1) f (fault_from (n + 1 + 1) (drop (n + 1) stages))) of_stage.0;
     } in
     subst (λ (k : ℕ). AreRead stages k all) (sym next) (subst (λ (l : List Tool). AreRead stages (n + 1) l) (sym pushed) now)
 

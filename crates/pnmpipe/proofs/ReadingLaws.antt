@@ -25,8 +25,8 @@ goes_on tool items old new rest after item h e taken =
       settings_are = now.1;
       items_are = h.items_are ∙ ap (λ (l : List Item). h.before ++ l) e ∙ sym (append_assoc h.before (item ∷ []) (items_of tool (words after)));
       fault_is =
-        h.fault_is ∙ ap (λ (l : List Item). fault_after tool h.before l) e ∙ fault_after-cons tool h.before item (items_of tool (words after))
-        ∙ ap (λ (fault : Option ChainKind). after_by fault (fault_after tool (h.before ++ item ∷ []) (items_of tool (words after)))) now.0
+          h.fault_is ∙ ap (λ (l : List Item). fault_after tool h.before l) e ∙ fault_after-cons tool h.before item (items_of tool (words after))
+          ∙ ap (λ (fault : Option ChainKind). after_by fault (fault_after tool (h.before ++ item ∷ []) (items_of tool (words after)))) now.0;
     }
 
 pub stops : (tool : ToolName) (items : List Item) (s : Settings) (rest : List ℕ) (item : Item) (others : List Item) (kind : ChainKind) → IsReading tool items s rest → items_of tool (words rest) ≡ item ∷ others
@@ -34,8 +34,8 @@ pub stops : (tool : ToolName) (items : List Item) (s : Settings) (rest : List �
 stops tool items s rest item others kind h e refused = elim (refused h.before h.settings_are) [
   | inl memory ↦ inl memory
   | inr fault ↦ inr (
-    h.fault_is ∙ ap (λ (l : List Item). fault_after tool h.before l) e ∙ fault_after-cons tool h.before item others
-    ∙ ap (λ (f : Option ChainKind). after_by f (fault_after tool (h.before ++ item ∷ []) others)) fault)
+      h.fault_is ∙ ap (λ (l : List Item). fault_after tool h.before l) e ∙ fault_after-cons tool h.before item others
+      ∙ ap (λ (f : Option ChainKind). after_by f (fault_after tool (h.before ++ item ∷ []) others)) fault)
 ]
 
 no_items : (tool : ToolName) → items_of tool [] ≡ []
@@ -59,16 +59,17 @@ ends_well stage first rest text tool s meaning is named h none finished =
     let end = finished h.before h.settings_are in
     let all : items_of tool (words text) ≡ h.before = all_read tool (items_of tool (words text)) s rest h none in
     let free : fault_after tool [] (items_of tool (words text)) ≡ None = end_is tool (items_of tool (words text)) s rest h none ∙ end.0 in
-    let meant : meaning ≡ meant_by tool (items_of tool (words text)) = end.1 ∙ ap (λ (l : List Item). meant_by tool l) (sym all) in
-    (stage_is stage first (words text) tool is named ∙ free,
-    record {
-      first = first;
-      others = words text;
-      name = tool;
-      words_are = is;
-      named = named;
-      meant = subst (λ (t : Tool). Means tool (items_of tool (words text)) t) (sym meant) (items_mean tool (items_of tool (words text)) free)
-    })
+    let meant : meaning ≡ meant_by tool (items_of tool (words text)) = end.1 ∙ ap (λ (l : List Item). meant_by tool l) (sym all) in (
+      stage_is stage first (words text) tool is named ∙ free,
+      record {
+        first = first;
+        others = words text;
+        name = tool;
+        words_are = is;
+        named = named;
+        meant = subst (λ (t : Tool). Means tool (items_of tool (words text)) t) (sym meant) (items_mean tool (items_of tool (words text)) free);
+      },
+    )
 
 pub ends_badly : (stage first rest text : List ℕ) (tool : ToolName) (s : Settings) (kind : ChainKind) → words stage ≡ first ∷ words text → tool_named first ≡ Some tool → IsReading tool (items_of tool (words text)) s rest → words rest ≡ []
     → ((items : List Item) → AreSettingsOf tool items s → (kind ≡ Memory) ⊎ (end_fault tool items ≡ Some kind)) → (kind ≡ Memory) ⊎ (stage_fault stage ≡ Some kind)

@@ -1,5 +1,5 @@
 -- What a run has read and written when all messages have passed.
-use Rattle.std.proofs.Common.{◌≡◌, ◌⊎◌, ℕ, Bool, true, false, List, [], ◌∷◌, ◌++◌, take, length, sum_by, zero-add, Option, None, Some, Result, Ok, Err, refl, sym, ap, subst, ◌∙◌, inl, inr, append_assoc}
+use Rattle.std.proofs.Common.{◌≡◌, ◌⊎◌, ℕ, Bool, List, [], ◌∷◌, ◌++◌, take, length, sum_by, zero-add, Option, None, Some, Result, Ok, Err, refl, sym, ap, subst, ◌∙◌, inl, inr, append_assoc}
 use Rattle.std.specs.Result.{MatchResult, is_err}
 use Rattle.std.specs.List.{AllByRecursion}
 use Rattle.std.specs.Io.KnownBytes.{Appends, Keeps}
@@ -9,10 +9,8 @@ use Rattle.pnm_image.specs.declared.message.Message.{Message}
 use Rattle.pnm_image.specs.declared.message.Message.TheVariants.{Begin, Row, ImageEnd, StreamEnd, Stop}
 use Rattle.pnm_image.specs.Images.{Image, messages_of_stream}
 use Rattle.pnm_image.specs.Completion.{IsFrontOf, Completes}
-use Rattle.pnm_image.specs.Messages.{without_stop}
 use Rattle.pnm_read.specs.declared.fault.InputFault.{InputFault}
 use Rattle.pnm_read.specs.declared.source.Source.{Source}
-use Rattle.pnm_read.specs.Spelling.{Spells}
 use Rattle.pnm_read.specs.Said.{said_of, fault_of}
 use Rattle.pnm_read.specs.Inputs.{IsOutsideFault}
 use Rattle.pnm_read.specs.TextLaws.{IsAtFault}
@@ -29,7 +27,7 @@ use Rattle.pnm_tools.proofs.ChainLaws.{given_are_sound, stream_is_answered, refu
 use Rattle.pnm_tools.proofs.SoundLaws.{sound_keeps_all}
 use Rattle.pnm_write.specs.declared.fault.SinkFault.{SinkFault}
 use Rattle.pnm_write.specs.declared.fault.SinkFault.TheVariants.{WriteFailed}
-use Rattle.pnm_write.specs.Encoding.{bytes_of, encoding_of}
+use Rattle.pnm_write.specs.Encoding.{bytes_of}
 use Rattle.pnm_write.specs.Sinks.{HasRows, has_failed}
 use Rattle.pnm_write.specs.Writes.{AppendsFront}
 use Rattle.pnm_write.proofs.MessageLaws.{bytes_of_stream}
@@ -42,7 +40,7 @@ use Rattle.pnmpipe.specs.Counts.{counted, images_in, rows_in}
 use Rattle.pnmpipe.specs.Downstreams.{output_of, AreWritable, AreWritten, AreCutOff, HasTakenWith}
 use Rattle.pnmpipe.specs.Passing.{IsSaidOf, HasPassed}
 use Rattle.pnmpipe.specs.Runs.{EndedWell, IsRefusedBy, IsTaken, IsFrontOfDue, IsAllWritten}
-use Rattle.pnmpipe.specs.Stages.{refusals_in, StageAt, StagesAt}
+use Rattle.pnmpipe.specs.Stages.{refusals_in, StagesAt}
 use Rattle.pnmpipe.specs.Tools.{AreFresh}
 use Rattle.pnmpipe.proofs.ToolSteps.{fresh_at}
 use Rattle.pnmpipe.proofs.CountLaws.{images_in-stream, rows_in-stream}

@@ -1,5 +1,5 @@
 -- A message that passes through the stages.
-use Rattle.std.proofs.Common.{◌≡◌, inl, inr, ℕ, Bool, true, List, [], ◌∷◌, ◌++◌, Option, Some, None, Result, Ok, Err, refl, sym, ap, subst, ◌∙◌, append_assoc, append-nil, ◌-◌, length, take, drop, get_or, false, arith}
+use Rattle.std.proofs.Common.{◌≡◌, inl, inr, ℕ, Bool, true, List, [], ◌∷◌, ◌++◌, Option, None, Ok, Err, refl, sym, ap, subst, ◌∙◌, append_assoc, append-nil, ◌-◌, length, take, drop, get_or, false, arith}
 use Rattle.std.specs.Prelude.{◌==◌, slice_set}
 use Rattle.std.proofs.lemmas.List.{take_all, drop_all}
 use Rattle.std.proofs.lemmas.Bool.Decides.{nat_tests}
@@ -8,12 +8,11 @@ use Rattle.pnm_image.specs.declared.message.Message.{Message}
 use Rattle.pnm_image.specs.declared.message.Message.TheVariants.{Begin, Row, ImageEnd, StreamEnd, Stop}
 use Rattle.pnm_tools.specs.declared.fault.ToolFault.{ToolFault}
 use Rattle.pnm_tools.specs.declared.tool.Tool.{Tool}
-use Rattle.pnm_tools.specs.Answers.{AnswersInFull, Begins, Judges}
+use Rattle.pnm_tools.specs.Answers.{Begins, Judges}
 use Rattle.pnm_tools.specs.Stages.{IsRefusedNext, HasRefused}
 use Rattle.pnm_tools.specs.Tools.{AreTaken}
 use Rattle.pnmpipe.specs.declared.downstream.Downstream.{Downstream}
 use Rattle.pnmpipe.specs.declared.stage.Stage.{Stage}
-use Rattle.pnmpipe.specs.declared.stage.Stage.TheVariants.{AtWork, Refused}
 use Rattle.pnmpipe.specs.Downstreams.{HasTaken}
 use Rattle.pnmpipe.specs.Stages.{IsIdle, IsBusy, StageAt, StageBusy, StagesAt, Passes, waiting_at}
 

@@ -1,9 +1,8 @@
 -- The tools of a chain before the first message.
-use Rattle.std.proofs.Common.{◌≡◌, ℕ, zero, suc, ◌+◌, ◌<◌, List, [], ◌∷◌, ◌++◌, length, take, get_or, refl, sym, ap, subst, ◌∙◌, arith}
-use Rattle.pnm_image.specs.declared.message.Message.{Message}
+use Rattle.std.proofs.Common.{◌≡◌, ℕ, zero, suc, ◌<◌, List, [], ◌∷◌, ◌++◌, length, take, get_or, refl, ap, arith}
 use Rattle.pnm_tools.specs.declared.tool.Tool.{Tool}
 use Rattle.pnm_tools.specs.declared.work.Work.{Work}
-use Rattle.pnm_tools.specs.Answers.{EndsBy, Answers, AnswersInFull}
+use Rattle.pnm_tools.specs.Answers.{Answers, AnswersInFull}
 use Rattle.pnm_tools.specs.Chains.{AreLawfulTools}
 use Rattle.pnm_tools.specs.States.{Standing, IsToolAt, IsFresh, is_all_given}
 use Rattle.pnm_tools.specs.Tools.{IsLawfulTool}

@@ -1,7 +1,7 @@
 -- Small texts, the images that are said of them, and the bytes due for these from small chains.
 use Rattle.std.specs.Prelude.{◌≡◌, ℕ, List, [], ◌∷◌, ◌++◌, Some, None, negsuc, codes}
 use Rattle.pnm_image.specs.declared.shape.Kind.{Kind}
-use Rattle.pnm_image.specs.declared.shape.Kind.TheVariants.{Bit, Gray, Color, Pam}
+use Rattle.pnm_image.specs.declared.shape.Kind.TheVariants.{Bit, Gray, Color}
 use Rattle.pnm_image.specs.Images.{Image, messages_of_stream}
 use Rattle.pnm_read.specs.Said.{said_of}
 use Rattle.pnm_tools.specs.declared.cut.CutBox.{CutBox}

@@ -107,7 +107,7 @@ box_of items = record {
   top = option_map offset_value (value_of Top items);
   bottom = option_map offset_value (value_of Bottom items);
   width = number_of Width items;
-  height = number_of Height items
+  height = number_of Height items;
 }
 
 abbrev pub numbers_of : List Item → List ℕ

@@ -1,5 +1,5 @@
 -- What the parser of a chain's text has of a stage while it reads it.
-use Rattle.std.specs.Prelude.{◌≡◌, ℕ, Bool, true, false, ◌&&◌, ◌||◌, nat_le, if◌then◌else◌, Option, Some, None, is_some, option_map, slice_get, unwrap_or, List, [], ◌∷◌, ◌++◌, ◌+◌, length, take, drop, map}
+use Rattle.std.specs.Prelude.{◌≡◌, ℕ, Bool, true, false, ◌&&◌, ◌||◌, nat_le, if◌then◌else◌, Option, Some, None, is_some, option_map, slice_get, unwrap_or, List, [], ◌∷◌, ◌++◌, ◌+◌, length, take, drop}
 use Rattle.pnm_read.specs.Texts.{decimal_value, words}
 use denote.Ref.{Bor}
 use Rattle.pnm_tools.specs.declared.cut.CutBox.{CutBox}
@@ -15,7 +15,7 @@ use Rattle.pnmpipe.specs.declared.options.ToolOption.{ToolOption}
 use Rattle.pnmpipe.specs.declared.options.ToolOption.TheVariants.{Left, Right, Top, Bottom, Width, Height, TupleType, XScale, YScale, Way}
 use Rattle.pnmpipe.specs.declared.settings.Settings.{Settings}
 use Rattle.pnmpipe.specs.Options.{offset_value, takes_argument}
-use Rattle.pnmpipe.specs.Items.{Item, Argument, Given, Unknown, arguments_of, value_of, number_of, box_of, numbers_of, way_of, items_of, fault_after}
+use Rattle.pnmpipe.specs.Items.{Item, Argument, Given, Unknown, value_of, number_of, box_of, numbers_of, way_of, items_of, fault_after}
 use Rattle.pnmpipe.specs.ChainText.{SpellTools, fault_from}
 
 -- ---- items

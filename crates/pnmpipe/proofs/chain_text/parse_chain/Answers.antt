@@ -1,15 +1,13 @@
-use Rattle.std.proofs.Common.{rules, ◌≡◌, ◌≤◌, ◌⊎◌, ◌+◌, ◌++◌, ◌∷◌, ◌∙◌, ◌==◌, ◌<◌, [], List, ℕ, Bool, true, false, Some, None, inr, sym, ap, subst, length, get_or, arith}
-use Rattle.std.specs.List.{list_all, slice_split}
+use Rattle.std.proofs.Common.{rules, ◌≡◌, ◌⊎◌, ◌++◌, ◌∷◌, ◌∙◌, [], List, Some, inr, sym, ap, subst, length, arith}
 use Rattle.std.proofs.lemmas.List.{length_push}
 use Rattle.std.proofs.lemmas.Iterator.Consumers.{YieldsList-at, YieldsList-turn, YieldsList-end}
 use Rattle.std.proofs.lemmas.Iterator.Splits.{YieldsList-from_str_split}
-use Rattle.pnm_read.specs.Texts.{is_white, words}
 use Rattle.pnm_tools.specs.declared.tool.Tool.{Tool}
-use Rattle.pnmpipe.specs.declared.chain_text.ChainKind.TheVariants.{Memory, Empty, TooLong, TooMany}
+use Rattle.pnmpipe.specs.declared.chain_text.ChainKind.TheVariants.{Memory}
 use Rattle.pnmpipe.specs.ChainText.{chain_fault_of, stages_of, whole}
 use Rattle.pnmpipe.specs.Settings.{AreRead}
 use Rattle.pnmpipe.proofs.LawfulLaws.{spelled_chain_is_lawful}
-use Rattle.pnmpipe.proofs.ParsingLaws.{none_read, one_read_more, is_all_white, has_words, stage_at_fault, chain_read, too_long, no_words_at_all, too_many, no_word_found, word_found, few_stages, many_stages}
+use Rattle.pnmpipe.proofs.ParsingLaws.{none_read, one_read_more, stage_at_fault, chain_read, too_long, no_words_at_all, too_many, no_word_found, word_found, few_stages, many_stages}
 use Rattle.pnmpipe.proofs.chain_text.parse_chain.Goals as goal
 
 pub returns-then-text-gt-LONGEST-clause-refused : goal.returns-then-text-gt-LONGEST-clause-refused
@@ -37,8 +35,8 @@ returns-in_err-tool-clause-refused c =
     let black = word_found c.args.text.now c.as_bytes.result.now c.split_word.result c.as_bytes.ensures.value c.split_word.ensures.first c.if-is_none.ensures in
     let few = few_stages c.args.text.now c.as_bytes-2.result.now c.count_bars.result c.as_bytes-2.ensures.value c.count_bars.ensures c.if-count_bars-ge-MOST_STAGES.false in
     let fault : (c.in_err-tool.field-0.0 ≡ whole Memory) ⊎ (chain_fault_of c.args.text.now ≡ Some c.in_err-tool.field-0.0) =
-        stage_at_fault c.args.text.now (length c.loop-stage.yielded) c.len.result c.loop-stage.tools.items c.in-Some.stage.now c.as_bytes-in-loop-stage.result.now c.in_err-tool.field-0.0
-        c.if-text-gt-LONGEST.false black few c.loop-stage.invariant turn (search rules) c.as_bytes-in-loop-stage.ensures.value c.in_err-tool.ensures.refused in
+    stage_at_fault c.args.text.now (length c.loop-stage.yielded) c.len.result c.loop-stage.tools.items c.in-Some.stage.now c.as_bytes-in-loop-stage.result.now c.in_err-tool.field-0.0
+    c.if-text-gt-LONGEST.false black few c.loop-stage.invariant turn (search rules) c.as_bytes-in-loop-stage.ensures.value c.in_err-tool.ensures.refused in
     search rules
 
 pub loop-stage-preserved : goal.loop-stage-preserved

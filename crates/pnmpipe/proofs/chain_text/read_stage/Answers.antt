@@ -1,10 +1,10 @@
-use Rattle.std.proofs.Common.{rules, ◌≡◌, ◌∙◌, ◌⊎◌, sym, Some, None}
+use Rattle.std.proofs.Common.{rules, ◌≡◌, ◌∙◌, ◌⊎◌, sym, Some}
 use Rattle.pnmpipe.specs.declared.chain_text.ChainKind.TheVariants.{Memory}
 use Rattle.pnm_read.specs.Texts.{words}
 use Rattle.pnmpipe.specs.ChainText.{stage_fault}
 use Rattle.pnmpipe.specs.Items.{items_of}
 use Rattle.pnmpipe.specs.Settings.{item_read}
-use Rattle.pnmpipe.proofs.ReadingLaws.{begins, goes_on, stops_badly, ends_ok, ends_err, no_word, no_tool}
+use Rattle.pnmpipe.proofs.ReadingLaws.{begins, goes_on, stops_badly, ends_ok, ends_err}
 use Rattle.pnmpipe.proofs.chain_text.read_stage.Goals as goal
 
 pub loop-item-init : goal.loop-item-init
@@ -13,9 +13,9 @@ loop-item-init c = begins c.in-Some-named.tool c.new-settings.result c.in-Some.r
 pub returns-in_err-take-clause-refused : goal.returns-in_err-take-clause-refused
 returns-in_err-take-clause-refused c =
     let fault : (c.in_err-take.field-0.0 ≡ Memory) ⊎ (stage_fault c.args.stage.now ≡ Some c.in_err-take.field-0.0) =
-        stops_badly c.args.stage.now c.in-Some.name.now c.loop-item.rest.now c.in-Some.rest.now c.in-Some-named.tool c.loop-item.settings
-        (item_read c.in-Some-split_item.item) (items_of c.in-Some-named.tool (words c.in-Some-split_item.after.now)) c.in_err-take.field-0.0
-        c.in-Some.ensures.first (sym c.named.ensures ∙ c.in-Some-named.is) c.loop-item.invariant c.in-Some-split_item.ensures.first c.in_err-take.ensures.refused in
+    stops_badly c.args.stage.now c.in-Some.name.now c.loop-item.rest.now c.in-Some.rest.now c.in-Some-named.tool c.loop-item.settings
+    (item_read c.in-Some-split_item.item) (items_of c.in-Some-named.tool (words c.in-Some-split_item.after.now)) c.in_err-take.field-0.0
+    c.in-Some.ensures.first (sym c.named.ensures ∙ c.in-Some-named.is) c.loop-item.invariant c.in-Some-split_item.ensures.first c.in_err-take.ensures.refused in
     search rules
 
 pub loop-item-smaller : goal.loop-item-smaller

@@ -1,9 +1,9 @@
-use Rattle.std.proofs.Common.{◌≡◌, List, [], ◌∷◌, Some, codes, refl}
+use Rattle.std.proofs.Common.{[], ◌∷◌, Some, refl}
 use Rattle.std.proofs.lemmas.Bool.{ne_eqb}
 use Rattle.clap.specs.Words.{Text}
 use Rattle.clap.proofs.OnLiterals.{clap_on_literals}
 use Rattle.pnmpipe.specs.CommandLine.{GivesChain}
-use Rattle.pnmpipe.specs.CommandLineExamples.{BeginsWithDash, CommandLinesHold, GivesBoth}
+use Rattle.pnmpipe.specs.CommandLineExamples.{BeginsWithDash, CommandLinesHold}
 use Rattle.pnmpipe.proofs.laws.command_lines_hold.Goals as goal
 
 alone : (name chain : Text) → (BeginsWithDash chain → ⊥) → GivesChain (name ∷ chain ∷ []) chain

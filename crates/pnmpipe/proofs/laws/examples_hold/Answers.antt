@@ -6,7 +6,7 @@ use Rattle.pnm_read.specs.Items.{piece_from, second_magic_item, first_magic_item
 use Rattle.pnm_read.specs.Said.{in_turn, format_at, pnm_head_at, pam_head_at, raw_row, plain_row, last_plain_row, end_said, rows_said, image_said, later_said_in, later_said, said}
 use Rattle.pnm_tools.specs.Tools.{result_head, result_sample}
 use Rattle.pnm_tools.specs.Chains.{due_in_turn}
-use Rattle.pnmpipe.specs.Examples.{IsExample, ExamplesHold}
+use Rattle.pnmpipe.specs.Examples.{ExamplesHold}
 use Rattle.pnmpipe.proofs.laws.examples_hold.Goals as goal
 
 computed : ExamplesHold

@@ -1,4 +1,4 @@
-use Rattle.std.proofs.Common.{ℕ, length}
+use Rattle.std.proofs.Common.{length}
 use Rattle.pnmpipe.specs.Downstreams.{output_of}
 use Rattle.pnmpipe.proofs.StageSteps.{Going, first_waiting}
 use Rattle.pnmpipe.proofs.stage.+pass.Given as goal
