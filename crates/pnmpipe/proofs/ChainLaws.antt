@@ -13,15 +13,15 @@ use Rattle.pnmpipe.specs.declared.chain_text.ChainKind.TheVariants.{Empty, TooLo
 use Rattle.pnmpipe.specs.declared.options.ToolName.{ToolName}
 use Rattle.pnmpipe.specs.Options.{tool_named}
 use Rattle.pnmpipe.specs.Items.{items_of, meant_by}
-use Rattle.pnmpipe.specs.ChainText.{SpellsTool, SpellTools, SpellsChain, stages_of, tool_fault, words_fault, stage_fault, fault_from, whole, chain_fault_of, IsOneChainOrOneFault}
+use Rattle.pnmpipe.specs.ChainText.{SpellsTool, SpellTools, SpellsChain, stages_of, named_fault, words_fault, stage_fault, fault_from, whole, chain_fault_of, IsOneChainOrOneFault}
 use Rattle.pnmpipe.proofs.ItemLaws.{items_mean, meaning_has_no_fault}
 
 -- ---- a stage
 
-named_spells : (stage first : List ℕ) (others : List (List ℕ)) (name : Option ToolName) → words stage ≡ first ∷ others → tool_named first ≡ name → tool_fault name others ≡ None → (tool : Tool) × SpellsTool stage tool
+named_spells : (stage first : List ℕ) (others : List (List ℕ)) (name : Option ToolName) → words stage ≡ first ∷ others → tool_named first ≡ name → named_fault name others ≡ None → (tool : Tool) × SpellsTool stage tool
 named_spells stage first others None is named e = absurd cc
 named_spells stage first others (Some name) is named e =
-    (meant_by name (items_of name others), record { first = first; others = others; name = name; words_are = is; named = named; meant = items_mean name (items_of name others) e })
+    (meant_by name (items_of name others), record { name = first; others = others; tool_name = name; words_are = is; named = named; meant = items_mean name (items_of name others) e })
 
 words_spell : (stage : List ℕ) (found : List (List ℕ)) → words stage ≡ found → words_fault found ≡ None → (tool : Tool) × SpellsTool stage tool
 words_spell stage [] is e = absurd cc
@@ -33,8 +33,8 @@ stage_spells stage e = words_spell stage (words stage) refl e
 pub spelled_has_no_fault : (stage : List ℕ) (tool : Tool) → SpellsTool stage tool → stage_fault stage ≡ None
 spelled_has_no_fault stage tool h =
     ap (λ (found : List (List ℕ)). words_fault found) h.words_are
-    ∙ ap (λ (name : Option ToolName). tool_fault name h.others) h.named
-    ∙ meaning_has_no_fault h.name (items_of h.name h.others) tool h.meant
+    ∙ ap (λ (name : Option ToolName). named_fault name h.others) h.named
+    ∙ meaning_has_no_fault h.tool_name (items_of h.tool_name h.others) tool h.meant
 
 -- what a stage spells, by its words
 abbrev spelled_by : Option ToolName → List (List ℕ) → Tool → Type 0

@@ -9,7 +9,7 @@ use Rattle.pnmpipe.specs.declared.chain_text.ChainKind.{ChainKind}
 use Rattle.pnmpipe.specs.declared.chain_text.ChainKind.TheVariants.{BadValue, MissingValue, Conflict, MissingArgument, ExtraArgument}
 use Rattle.pnmpipe.specs.declared.options.ToolName.{ToolName}
 use Rattle.pnmpipe.specs.declared.options.ToolOption.{ToolOption}
-use Rattle.pnmpipe.specs.Options.{most_arguments, takes_argument, takes_value, wants_value, slot_of, is_same}
+use Rattle.pnmpipe.specs.Options.{most_arguments, takes_argument, takes_value, wants_value, slot_of, excludes}
 use Rattle.pnmpipe.specs.Items.{Item, Argument, Given, Unknown, arguments_of, is_there, value_of, options_of, value_fault, IsFormed, is_conflict, is_missing, Means, meant_by, item_fault, end_fault, fault_after}
 
 -- ---- arguments of items that follow others
@@ -45,20 +45,20 @@ or_false : (a : Bool) → (a || false) ≡ a
 or_false true = refl
 or_false false = refl
 
-there_after : (option other : ToolOption) (value : Option (List ℕ)) (before : List Item) → is_there option (before ++ Given other value ∷ []) ≡ (is_there option before || is_same option other)
-there_after option other value [] = there_by (is_same option other) (unwrap_or value []) None ∙ or_false (is_same option other)
+there_after : (option other : ToolOption) (value : Option (List ℕ)) (before : List Item) → is_there option (before ++ Given other value ∷ []) ≡ (is_there option before || excludes option other)
+there_after option other value [] = there_by (excludes option other) (unwrap_or value []) None ∙ or_false (excludes option other)
 there_after option other value (Argument word ∷ before) = there_after option other value before
 there_after option other value (Given third given ∷ before) =
-    there_by (is_same option third) (unwrap_or given []) (value_of option (before ++ Given other value ∷ []))
-    ∙ ap (λ (b : Bool). is_same option third || b) (there_after option other value before)
-    ∙ or_assoc (is_same option third) (is_there option before) (is_same option other)
-    ∙ ap (λ (b : Bool). b || is_same option other) (sym (there_by (is_same option third) (unwrap_or given []) (value_of option before)))
+    there_by (excludes option third) (unwrap_or given []) (value_of option (before ++ Given other value ∷ []))
+    ∙ ap (λ (b : Bool). excludes option third || b) (there_after option other value before)
+    ∙ or_assoc (excludes option third) (is_there option before) (excludes option other)
+    ∙ ap (λ (b : Bool). b || excludes option other) (sym (there_by (excludes option third) (unwrap_or given []) (value_of option before)))
 there_after option other value (Unknown ∷ before) = there_after option other value before
 
 turned : (a b : ℕ) → (a == b) ≡ (b == a)
 turned a b = grind (arith, nat_tests)
 
-same_turned : (one other : ToolOption) → is_same one other ≡ is_same other one
+same_turned : (one other : ToolOption) → excludes one other ≡ excludes other one
 same_turned one other = turned (slot_of one) (slot_of other)
 
 -- none of the options was there before
@@ -74,18 +74,18 @@ none_of a b e f = rw (e, f) refl
 
 -- none there before and after one more option
 parted : (other : ToolOption) (value : Option (List ℕ)) (before : List Item) (options : List ToolOption) → NoneThere (before ++ Given other value ∷ []) options
-    → NoneThere before options × AllByRecursion (λ option. is_same other option ≡ false) options
+    → NoneThere before options × AllByRecursion (λ option. excludes other option ≡ false) options
 parted other value before [] h = (cc, cc)
 parted other value before (option ∷ options) h =
-    let both = neither (is_there option before) (is_same option other) (sym (there_after option other value before) ∙ h.0) in
+    let both = neither (is_there option before) (excludes option other) (sym (there_after option other value before) ∙ h.0) in
     let rest = parted other value before options h.1 in
     ((both.0, rest.0), (same_turned other option ∙ both.1, rest.1))
 
-joined : (other : ToolOption) (value : Option (List ℕ)) (before : List Item) (options : List ToolOption) → NoneThere before options → AllByRecursion (λ option. is_same other option ≡ false) options
+joined : (other : ToolOption) (value : Option (List ℕ)) (before : List Item) (options : List ToolOption) → NoneThere before options → AllByRecursion (λ option. excludes other option ≡ false) options
     → NoneThere (before ++ Given other value ∷ []) options
 joined other value before [] h k = cc
 joined other value before (option ∷ options) h k =
-    (there_after option other value before ∙ none_of (is_there option before) (is_same option other) h.0 (same_turned option other ∙ k.0), joined other value before options h.1 k.1)
+    (there_after option other value before ∙ none_of (is_there option before) (excludes option other) h.0 (same_turned option other ∙ k.0), joined other value before options h.1 k.1)
 
 not_there : (option : ToolOption) (item : Item) → options_of (item ∷ []) ≡ [] → is_there option (item ∷ []) ≡ false
 not_there option (Argument word) none = refl
@@ -96,9 +96,9 @@ others_there : (option : ToolOption) (item : Item) (before : List Item) → opti
 others_there option item [] none = not_there option item none
 others_there option item (Argument word ∷ before) none = others_there option item before none
 others_there option item (Given other given ∷ before) none =
-    there_by (is_same option other) (unwrap_or given []) (value_of option (before ++ item ∷ []))
-    ∙ ap (λ (b : Bool). is_same option other || b) (others_there option item before none)
-    ∙ sym (there_by (is_same option other) (unwrap_or given []) (value_of option before))
+    there_by (excludes option other) (unwrap_or given []) (value_of option (before ++ item ∷ []))
+    ∙ ap (λ (b : Bool). excludes option other || b) (others_there option item before none)
+    ∙ sym (there_by (excludes option other) (unwrap_or given []) (value_of option before))
 others_there option item (Unknown ∷ before) none = others_there option item before none
 
 same_there : (item : Item) (before : List Item) (options : List ToolOption) → options_of (item ∷ []) ≡ [] → NoneThere (before ++ item ∷ []) options → NoneThere before options
@@ -113,20 +113,20 @@ is_absent : (b : Bool) → not b ≡ true → b ≡ false
 is_absent true e = absurd cc
 is_absent false e = refl
 
-distinct-cons : (option : ToolOption) (options : List ToolOption) → AllByRecursion (λ other. is_same option other ≡ false) options → IsDistinct is_same options → IsDistinct is_same (option ∷ options)
+distinct-cons : (option : ToolOption) (options : List ToolOption) → AllByRecursion (λ other. excludes option other ≡ false) options → IsDistinct excludes options → IsDistinct excludes (option ∷ options)
 unfolding IsDistinct
 distinct-cons option options h k = (h, k)
 
-distinct-head : (option : ToolOption) (options : List ToolOption) → IsDistinct is_same (option ∷ options) → AllByRecursion (λ other. is_same option other ≡ false) options × IsDistinct is_same options
+distinct-head : (option : ToolOption) (options : List ToolOption) → IsDistinct excludes (option ∷ options) → AllByRecursion (λ other. excludes option other ≡ false) options × IsDistinct excludes options
 unfolding IsDistinct
 distinct-head option options h = h
 
-distinct-nil : IsDistinct is_same []
+distinct-nil : IsDistinct excludes []
 unfolding IsDistinct
 distinct-nil = cc
 
 -- options that are each new are none of those before, and each is there once
-new_are_distinct : (before items : List Item) → AreNewAfter before items → NoneThere before (options_of items) × IsDistinct is_same (options_of items)
+new_are_distinct : (before items : List Item) → AreNewAfter before items → NoneThere before (options_of items) × IsDistinct excludes (options_of items)
 new_are_distinct before [] h = (cc, distinct-nil)
 new_are_distinct before (Argument word ∷ items) h =
     let rest = new_are_distinct (before ++ Argument word ∷ []) items h.1 in
@@ -139,7 +139,7 @@ new_are_distinct before (Unknown ∷ items) h =
     let rest = new_are_distinct (before ++ Unknown ∷ []) items h.1 in
     (same_there Unknown before (options_of items) refl rest.0, rest.1)
 
-distinct_are_new : (before items : List Item) → NoneThere before (options_of items) → IsDistinct is_same (options_of items) → AreNewAfter before items
+distinct_are_new : (before items : List Item) → NoneThere before (options_of items) → IsDistinct excludes (options_of items) → AreNewAfter before items
 distinct_are_new before [] h k = cc
 distinct_are_new before (Argument word ∷ items) h k = (refl, distinct_are_new (before ++ Argument word ∷ []) items (still_there (Argument word) before (options_of items) refl h) k)
 distinct_are_new before (Given option value ∷ items) h k =
@@ -153,7 +153,7 @@ none_there_yet (option ∷ options) = (refl, none_there_yet options)
 
 -- ---- one item
 
-abbrev argument_by : Bool → Bool → Option ChainKind
+abbrev pub argument_by : Bool → Bool → Option ChainKind
 argument_by full takes = if full then Some ExtraArgument else if takes then None else Some BadValue
 
 argument_free : (full takes : Bool) → argument_by full takes ≡ None → (full ≡ false) × (takes ≡ true)
@@ -164,7 +164,7 @@ argument_free false false e = absurd cc
 argument_fits : (full takes : Bool) → full ≡ false → takes ≡ true → argument_by full takes ≡ None
 argument_fits full takes e f = rw (e, f) refl
 
-abbrev option_by : Bool → Option ChainKind → Option ChainKind
+abbrev pub option_by : Bool → Option ChainKind → Option ChainKind
 option_by there fault = if there then Some Conflict else fault
 
 option_free : (there : Bool) (fault : Option ChainKind) → option_by there fault ≡ None → (not there ≡ true) × (fault ≡ None)
@@ -175,10 +175,10 @@ option_fits : (there : Bool) (fault : Option ChainKind) → not there ≡ true �
 option_fits true fault e f = absurd cc
 option_fits false fault e f = f
 
-abbrev value_by : Bool → Option ChainKind
+abbrev pub value_by : Bool → Option ChainKind
 value_by takes = if takes then None else Some BadValue
 
-abbrev missing_by : Bool → Option ChainKind
+abbrev pub missing_by : Bool → Option ChainKind
 missing_by wants = if wants then Some MissingValue else None
 
 takes_by : (takes : Bool) → value_by takes ≡ None → takes ≡ true
@@ -306,7 +306,7 @@ fit_fault tool before (item ∷ items) h =
 
 -- ---- the end of items
 
-abbrev end_by : Bool → Bool → Option ChainKind
+abbrev pub end_by : Bool → Bool → Option ChainKind
 end_by conflict missing = if conflict then Some Conflict else if missing then Some MissingArgument else None
 
 end_free : (conflict missing : Bool) → end_by conflict missing ≡ None → (conflict ≡ false) × (missing ≡ false)

@@ -16,7 +16,7 @@ use Rattle.pnmpipe.specs.declared.options.ToolName.{ToolName}
 use Rattle.pnmpipe.specs.declared.options.ToolName.TheVariants.{Invert, Cut, Depth, Channel, Enlarge, Flip, Tile}
 use Rattle.pnmpipe.specs.declared.options.ToolOption.{ToolOption}
 use Rattle.pnmpipe.specs.declared.options.ToolOption.TheVariants.{Left, Right, Top, Bottom, Width, Height, TupleType, XScale, YScale, Way}
-use Rattle.pnmpipe.specs.Options.{option_named, wants_value, takes_value, slot_of, is_same, takes_argument, most_arguments, is_numeral, spells_number, spells_offset, offset_value, begins_with_dash, without_dash}
+use Rattle.pnmpipe.specs.Options.{option_named, wants_value, takes_value, slot_of, excludes, takes_argument, most_arguments, is_numeral, spells_number, spells_offset, offset_value, begins_with_dash, without_dash}
 use Rattle.pnmpipe.specs.Items.{Item, Argument, Given, Unknown, without_dashes, name_in, value_in, takes_next, value_among, given_as, item_of, items_of, arguments_of, value_of, is_there, factor_by, meant_by, IsFormed, is_conflict, is_missing}
 use Rattle.pnmpipe.specs.ChainText.{SpellsTool, SpellTools, SpellsChain, stages_of}
 use Rattle.pnmpipe.specs.Runs.{IsChain}
@@ -62,7 +62,7 @@ wants_by_slot (Way way) = refl
 same_number : (a b : ℕ) → (a == b) ≡ true → a ≡ b
 same_number a b e = grind (arith, nat_tests)
 
-same_option : (one other : ToolOption) → wants_value one ≡ true → is_same one other ≡ true → one ≡ other
+same_option : (one other : ToolOption) → wants_value one ≡ true → excludes one other ≡ true → one ≡ other
 same_option one other wants e =
     let slots : slot_of one ≡ slot_of other = same_number (slot_of one) (slot_of other) e in
     let wants_other : wants_value other ≡ true = wants_by_slot other ∙ ap (λ (n : ℕ). not (n == 9)) (sym slots) ∙ sym (wants_by_slot one) ∙ wants in
@@ -78,7 +78,7 @@ taken_value : (tool : ToolName) (option : ToolOption) (value : Option (List ℕ)
 taken_value tool option None wants e = absurd (not_both (wants_value option) wants e)
 taken_value tool option (Some word) wants e = e
 
-given_value : (tool : ToolName) (option other : ToolOption) (value : Option (List ℕ)) (rest : Option (List ℕ)) (same : Bool) → is_same option other ≡ same → wants_value option ≡ true → IsFormed tool (Given other value)
+given_value : (tool : ToolName) (option other : ToolOption) (value : Option (List ℕ)) (rest : Option (List ℕ)) (same : Bool) → excludes option other ≡ same → wants_value option ≡ true → IsFormed tool (Given other value)
     → IfSome rest (λ word. takes_value option word ≡ true) → IfSome (if same then Some (unwrap_or value []) else rest) (λ word. takes_value option word ≡ true)
 given_value tool option other value rest true is wants e others =
     let equal : option ≡ other = same_option option other wants is in
@@ -89,7 +89,7 @@ values_taken : (tool : ToolName) (option : ToolOption) (items : List Item) → w
 values_taken tool option [] wants formed = cc
 values_taken tool option (Argument word ∷ items) wants formed = values_taken tool option items wants formed.1
 values_taken tool option (Given other value ∷ items) wants formed =
-    given_value tool option other value (value_of option items) (is_same option other) refl wants formed.0 (values_taken tool option items wants formed.1)
+    given_value tool option other value (value_of option items) (excludes option other) refl wants formed.0 (values_taken tool option items wants formed.1)
 values_taken tool option (Unknown ∷ items) wants formed = values_taken tool option items wants formed.1
 
 arguments_taken : (tool : ToolName) (items : List Item) → AllByRecursion (IsFormed tool) items → AllByRecursion (λ word. takes_argument tool word ≡ true) (arguments_of items)
@@ -298,7 +298,7 @@ clear_by false value rest h k = k
 value_clear : (option : ToolOption) (items : List Item) → AllByRecursion HasNoWhite items → IfSome (value_of option items) (λ word. no_white word ≡ true)
 value_clear option [] h = cc
 value_clear option (Argument word ∷ items) h = value_clear option items h.1
-value_clear option (Given other value ∷ items) h = clear_by (is_same option other) value (value_of option items) h.0 (value_clear option items h.1)
+value_clear option (Given other value ∷ items) h = clear_by (excludes option other) value (value_of option items) h.0 (value_clear option items h.1)
 value_clear option (Unknown ∷ items) h = value_clear option items h.1
 
 -- ---- a tuple type
@@ -368,7 +368,7 @@ rest_clear stage first others e = (subst AreWords e (words_have_no_white stage))
 pub spelled_is_lawful : (stage : List ℕ) (tool : Tool) → SpellsTool stage tool → IsLawfulTool tool
 spelled_is_lawful stage tool h =
     subst IsLawfulTool (sym h.meant.meaning_is)
-    (lawful h.name (items_of h.name h.others) (items_clear h.name h.others (rest_clear stage h.first h.others h.words_are)) h.meant.formed h.meant.not_many h.meant.together h.meant.enough)
+    (lawful h.tool_name (items_of h.tool_name h.others) (items_clear h.tool_name h.others (rest_clear stage h.name h.others h.words_are)) h.meant.formed h.meant.not_many h.meant.together h.meant.enough)
 
 -- ---- a chain
 

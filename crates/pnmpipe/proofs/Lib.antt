@@ -19,3 +19,4 @@ pub mod ChainLaws
 pub mod LawfulLaws
 pub mod ReadingLaws
 pub mod ParsingLaws
+pub mod FaultLaws

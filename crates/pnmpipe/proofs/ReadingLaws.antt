@@ -10,7 +10,7 @@ use Rattle.pnmpipe.specs.declared.settings.Settings.{Settings}
 use Rattle.pnmpipe.specs.Options.{tool_named}
 use Rattle.pnmpipe.specs.Items.{Item, items_of, Means, meant_by, item_fault, end_fault, fault_after}
 use Rattle.pnmpipe.specs.Settings.{AreSettingsOf, IsReading}
-use Rattle.pnmpipe.specs.ChainText.{SpellsTool, tool_fault, words_fault, stage_fault}
+use Rattle.pnmpipe.specs.ChainText.{SpellsTool, named_fault, words_fault, stage_fault}
 use Rattle.pnmpipe.proofs.ItemLaws.{after_by, fault_after-cons, fault_after-nil, items_mean}
 
 pub begins : (tool : ToolName) (s : Settings) (rest : List ℕ) → AreSettingsOf tool [] s → IsReading tool (items_of tool (words rest)) s rest
@@ -51,7 +51,7 @@ end_is tool items s rest h none =
 
 -- a stage's fault is that of its items
 stage_is : (stage first : List ℕ) (others : List (List ℕ)) (name : ToolName) → words stage ≡ first ∷ others → tool_named first ≡ Some name → stage_fault stage ≡ fault_after name [] (items_of name others)
-stage_is stage first others name is named = ap (λ (found : List (List ℕ)). words_fault found) is ∙ ap (λ (found : Option ToolName). tool_fault found others) named
+stage_is stage first others name is named = ap (λ (found : List (List ℕ)). words_fault found) is ∙ ap (λ (found : Option ToolName). named_fault found others) named
 
 pub ends_well : (stage first rest text : List ℕ) (tool : ToolName) (s : Settings) (meaning : Tool) → words stage ≡ first ∷ words text → tool_named first ≡ Some tool → IsReading tool (items_of tool (words text)) s rest → words rest ≡ []
     → ((items : List Item) → AreSettingsOf tool items s → (end_fault tool items ≡ None) × (meaning ≡ meant_by tool items)) → (stage_fault stage ≡ None) × SpellsTool stage meaning
@@ -90,7 +90,7 @@ pub no_word : (stage : List ℕ) → words stage ≡ [] → stage_fault stage �
 no_word stage none = ap (λ (found : List (List ℕ)). words_fault found) none
 
 pub no_tool : (stage first : List ℕ) (others : List (List ℕ)) → words stage ≡ first ∷ others → tool_named first ≡ None → stage_fault stage ≡ Some UnknownTool
-no_tool stage first others is named = ap (λ (found : List (List ℕ)). words_fault found) is ∙ ap (λ (found : Option ToolName). tool_fault found others) named
+no_tool stage first others is named = ap (λ (found : List (List ℕ)). words_fault found) is ∙ ap (λ (found : Option ToolName). named_fault found others) named
 
 -- ---- what a stage is answered
 

@@ -15,7 +15,7 @@ use Rattle.pnmpipe.specs.declared.options.ToolName.TheVariants.{Invert, Cut, Dep
 use Rattle.pnmpipe.specs.declared.options.ToolOption.{ToolOption}
 use Rattle.pnmpipe.specs.declared.options.ToolOption.TheVariants.{Left, Right, Top, Bottom, Width, Height, TupleType, XScale, YScale, Way}
 use Rattle.pnmpipe.specs.declared.settings.Settings.{Settings}
-use Rattle.pnmpipe.specs.Options.{is_same, most_arguments, offset_value, takes_argument, wants_value}
+use Rattle.pnmpipe.specs.Options.{excludes, most_arguments, offset_value, takes_argument, wants_value}
 use Rattle.pnmpipe.specs.Items.{Item, Argument, Given, Unknown, arguments_of, value_of, is_there, way_among, way_of, number_of, box_of, numbers_of, item_fault, value_fault}
 use Rattle.pnmpipe.specs.Settings.{AreArgumentsOf, AreSettingsOf, IsWithArgument, argument_fault, first_free, has_all_arguments, has_option, value_read, with_option}
 use Rattle.pnmpipe.proofs.ItemLaws.{arguments_of-append}
@@ -38,8 +38,8 @@ value_of-append : (option : ToolOption) (before items : List Item) → value_of 
 value_of-append option [] items = refl
 value_of-append option (Argument word ∷ before) items = value_of-append option before items
 value_of-append option (Given other value ∷ before) items =
-    ap (λ (rest : Option (List ℕ)). if is_same option other then Some (unwrap_or value []) else rest) (value_of-append option before items)
-    ∙ value_by (is_same option other) (value_of option before) (value_of option items) (unwrap_or value [])
+    ap (λ (rest : Option (List ℕ)). if excludes option other then Some (unwrap_or value []) else rest) (value_of-append option before items)
+    ∙ value_by (excludes option other) (value_of option before) (value_of option items) (unwrap_or value [])
 value_of-append option (Unknown ∷ before) items = value_of-append option before items
 
 way_by : (option : ToolOption) (rest others : Option FlipWay) → way_among option (first_some rest others) ≡ first_some (way_among option rest) others
@@ -65,7 +65,7 @@ way_of-append (Unknown ∷ before) items = way_of-append before items
 abbrev after : List Item → ToolOption → Option (List ℕ) → List Item
 after before option value = before ++ Given option value ∷ []
 
-value_kept : (other option : ToolOption) (value : Option (List ℕ)) (before : List Item) → is_same other option ≡ false → value_of other before ≡ value_of other (after before option value)
+value_kept : (other option : ToolOption) (value : Option (List ℕ)) (before : List Item) → excludes other option ≡ false → value_of other before ≡ value_of other (after before option value)
 value_kept other option value before e = sym
     (value_of-append other before (Given option value ∷ [])
     ∙ ap (λ (same : Bool). first_some (value_of other before) (if same then Some (unwrap_or value []) else None)) e
@@ -105,7 +105,7 @@ value_wanted : (option : ToolOption) (value : Option (List ℕ)) → wants_value
 value_wanted option (Some word) e f = refl
 value_wanted option None e f = absurd (no_value_missing (wants_value option) e f)
 
-value_given : (option : ToolOption) (value : Option (List ℕ)) (before : List Item) → is_same option option ≡ true → wants_value option ≡ true → is_there option before ≡ false → value_fault option value ≡ None → value ≡ value_of option (after before option value)
+value_given : (option : ToolOption) (value : Option (List ℕ)) (before : List Item) → excludes option option ≡ true → wants_value option ≡ true → is_there option before ≡ false → value_fault option value ≡ None → value ≡ value_of option (after before option value)
 value_given option value before e wants new fits =
     value_wanted option value wants fits ∙ sym
     (value_of-append option before (Given option value ∷ [])
@@ -168,7 +168,7 @@ box_by left right top bottom width height = record {
 same_box : {l r t b w h left right top bottom width height : Option (List ℕ)} → l ≡ left → r ≡ right → t ≡ top → b ≡ bottom → w ≡ width → h ≡ height → box_by l r t b w h ≡ box_by left right top bottom width height
 same_box e1 e2 e3 e4 e5 e6 = cc
 
-box_kept : (option : ToolOption) (value : Option (List ℕ)) (before : List Item) → is_same Left option ≡ false → is_same Right option ≡ false → is_same Top option ≡ false → is_same Bottom option ≡ false → is_same Width option ≡ false → is_same Height option ≡ false → box_of before ≡ box_of (after before option value)
+box_kept : (option : ToolOption) (value : Option (List ℕ)) (before : List Item) → excludes Left option ≡ false → excludes Right option ≡ false → excludes Top option ≡ false → excludes Bottom option ≡ false → excludes Width option ≡ false → excludes Height option ≡ false → box_of before ≡ box_of (after before option value)
 box_kept option value before e1 e2 e3 e4 e5 e6 = same_box
     (value_kept Left option value before e1) (value_kept Right option value before e2) (value_kept Top option value before e3)
     (value_kept Bottom option value before e4) (value_kept Width option value before e5) (value_kept Height option value before e6)
@@ -186,16 +186,16 @@ module _ (tool : ToolName) (before : List Item) (value : Option (Bor (List ℕ))
   abbrev given : Option (List ℕ)
   given = value_read value
 
-  kept : (option other : ToolOption) → is_same other option ≡ false → value_of other before ≡ value_of other (after before option given)
+  kept : (option other : ToolOption) → excludes other option ≡ false → value_of other before ≡ value_of other (after before option given)
   kept option other e = value_kept other option given before e
 
-  number_kept : (option other : ToolOption) → is_same other option ≡ false → number_of other before ≡ number_of other (after before option given)
+  number_kept : (option other : ToolOption) → excludes other option ≡ false → number_of other before ≡ number_of other (after before option given)
   number_kept option other e = ap (λ (one : Option (List ℕ)). option_map decimal_value one) (kept option other e)
 
   arguments : (option : ToolOption) (t : Settings) → t.first ≡ s.first → t.second ≡ s.second → t.planes.items ≡ s.planes.items → AreArgumentsOf tool (numbers_of (after before option given)) t
   arguments option t e f g = same_arguments tool (numbers_of before) (numbers_of (after before option given)) s t (numbers_kept option given before) e f g h.arguments_are
 
-  with_box : (option : ToolOption) (box : CutBox) → is_same TupleType option ≡ false → is_same XScale option ≡ false → is_same YScale option ≡ false → way_among option None ≡ None → box ≡ box_of (after before option given) → AreSettingsOf tool (after before option given) (record s { cut = box })
+  with_box : (option : ToolOption) (box : CutBox) → excludes TupleType option ≡ false → excludes XScale option ≡ false → excludes YScale option ≡ false → way_among option None ≡ None → box ≡ box_of (after before option given) → AreSettingsOf tool (after before option given) (record s { cut = box })
   with_box option box e1 e2 e3 e4 e = record {
     box_is = e;
     tuple_type_is = h.tuple_type_is ∙ kept option TupleType e1;

@@ -15,7 +15,7 @@ use Rattle.pnmpipe.specs.declared.options.ToolName.{ToolName}
 use Rattle.pnmpipe.specs.declared.options.ToolName.TheVariants.{Invert, Cut, Depth, Channel, Enlarge, Flip, Tile}
 use Rattle.pnmpipe.specs.declared.options.ToolOption.{ToolOption}
 use Rattle.pnmpipe.specs.declared.options.ToolOption.TheVariants.{Left, Right, Top, Bottom, Width, Height, TupleType, XScale, YScale, Way}
-use Rattle.pnmpipe.specs.Options.{option_named, wants_value, takes_value, is_same, most_arguments, takes_argument, offset_value, begins_with_dash, without_dash}
+use Rattle.pnmpipe.specs.Options.{option_named, wants_value, takes_value, excludes, most_arguments, takes_argument, offset_value, begins_with_dash, without_dash}
 
 -- an argument; an option of the tool, with the value that it is given, if it is; or an option that the tool hasn't
 pub data Item : Type 0 where
@@ -60,6 +60,7 @@ items_of tool (word ∷ next ∷ words) =
     if takes_next tool word then item_of tool word (Some next) ∷ items_of tool words
     else item_of tool word None ∷ items_of tool (next ∷ words)
 
+-- the words of the arguments
 abbrev pub arguments_of : List Item → List (List ℕ)
 arguments_of [] = []
 arguments_of (Argument word ∷ items) = word ∷ arguments_of items
@@ -70,13 +71,14 @@ arguments_of (Unknown ∷ items) = arguments_of items
 abbrev pub value_of : ToolOption → List Item → Option (List ℕ)
 value_of option [] = None
 value_of option (Argument word ∷ items) = value_of option items
-value_of option (Given other value ∷ items) = if is_same option other then Some (unwrap_or value []) else value_of option items
+value_of option (Given other value ∷ items) = if excludes option other then Some (unwrap_or value []) else value_of option items
 value_of option (Unknown ∷ items) = value_of option items
 
+-- the option, or one that excludes it, is among the items
 abbrev pub is_there : ToolOption → List Item → Bool
 is_there option items = is_some (value_of option items)
 
--- the way to flip
+-- the option's way to flip, if it is one, or else the other
 abbrev pub way_among : ToolOption → Option FlipWay → Option FlipWay
 way_among Left other = other
 way_among Right other = other
@@ -89,6 +91,7 @@ way_among XScale other = other
 way_among YScale other = other
 way_among (Way way) other = Some way
 
+-- the way to flip
 abbrev pub way_of : List Item → Option FlipWay
 way_of [] = None
 way_of (Argument word ∷ items) = way_of items
@@ -100,6 +103,7 @@ way_of (Unknown ∷ items) = way_of items
 abbrev pub number_of : ToolOption → List Item → Option ℕ
 number_of option items = option_map decimal_value (value_of option items)
 
+-- the edges and sizes of pamcut
 abbrev pub box_of : List Item → CutBox
 box_of items = record {
   left = option_map offset_value (value_of Left items);
@@ -118,6 +122,7 @@ abbrev pub factor_by : List ℕ → Option ℕ → ℕ
 factor_by [] scale = unwrap_or scale 1
 factor_by (factor ∷ numbers) scale = factor
 
+-- the tool, where the items are such as can mean one
 abbrev pub meant_by : ToolName → List Item → Tool
 meant_by Invert items = tools.Invert
 meant_by Cut items = tools.Cut (box_of items)
@@ -136,6 +141,7 @@ IsFormed tool (Given option None) = wants_value option ≡ false
 IsFormed tool (Given option (Some word)) = takes_value option word ≡ true
 IsFormed tool Unknown = ⊥
 
+-- the options, in order
 abbrev pub options_of : List Item → List ToolOption
 options_of [] = []
 options_of (Argument word ∷ items) = options_of items
@@ -170,7 +176,7 @@ is_missing Tile items = nat_lt (length (arguments_of items)) 2
 -- the items are what this tool is called by: each formed, no option twice, and neither too few nor such as can't stand together
 pub record Means (tool : ToolName) (items : List Item) (meaning : Tool) : Type 0 where
   pub formed : AllByRecursion (IsFormed tool) items
-  pub once : IsDistinct is_same (options_of items)
+  pub once : IsDistinct excludes (options_of items)
   pub not_many : length (arguments_of items) ≤ most_arguments tool
   pub together : is_conflict tool items ≡ false
   pub enough : is_missing tool items ≡ false

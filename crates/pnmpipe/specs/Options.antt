@@ -74,11 +74,12 @@ is_numeral (b ∷ word) = is_digit b && list_all is_digit word
 abbrev pub spells_number : ℕ → ℕ → List ℕ → Bool
 spells_number least most word = is_numeral word && (nat_le least (decimal_value word) && nat_le (decimal_value word) most)
 
--- a dash, 45, begins an option's word, and an offset that is counted from the other side
+-- a dash, 45, begins an option's word, and may begin an offset
 abbrev pub begins_with_dash : List ℕ → Bool
 begins_with_dash [] = false
 begins_with_dash (b ∷ word) = b == 45
 
+-- a word without the dash that it begins with, if it does
 abbrev pub without_dash : List ℕ → List ℕ
 without_dash [] = []
 without_dash (b ∷ word) = if b == 45 then word else b ∷ word
@@ -118,7 +119,7 @@ takes_value XScale word = spells_number 1 16777216 word
 takes_value YScale word = spells_number 1 16777216 word
 takes_value (Way way) word = false
 
--- an option's place among what can be set, once each: the ways to flip have one place
+-- the options by number; the ways to flip have one, since one way alone may stand
 abbrev pub slot_of : ToolOption → ℕ
 slot_of Left = 0
 slot_of Right = 1
@@ -131,8 +132,9 @@ slot_of XScale = 7
 slot_of YScale = 8
 slot_of (Way way) = 9
 
-abbrev pub is_same : ToolOption → ToolOption → Bool
-is_same one other = slot_of one == slot_of other
+-- the two can't both stand: they are one option, or two ways to flip
+abbrev pub excludes : ToolOption → ToolOption → Bool
+excludes one other = slot_of one == slot_of other
 
 -- ---- arguments
 

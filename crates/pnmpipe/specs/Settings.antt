@@ -1,4 +1,4 @@
--- What the parser of a chain's text has of a stage while it reads it.
+-- What the parser of a chain's text holds while it reads: of a stage its settings, and of the chain its tools.
 use Rattle.std.specs.Prelude.{◌≡◌, ℕ, Bool, true, false, ◌&&◌, ◌||◌, nat_le, if◌then◌else◌, Option, Some, None, is_some, option_map, slice_get, unwrap_or, List, [], ◌∷◌, ◌++◌, ◌+◌, length, take, drop}
 use Rattle.pnm_read.specs.Texts.{decimal_value, words}
 use denote.Ref.{Bor}
@@ -40,7 +40,7 @@ AreArgumentsOf Enlarge numbers s = s.first ≡ slice_get numbers 0
 AreArgumentsOf Flip numbers s = Unit {0}
 AreArgumentsOf Tile numbers s = (s.first ≡ slice_get numbers 0) × (s.second ≡ slice_get numbers 1)
 
--- the settings are those of items, none of which is at fault
+-- the settings are those that the items make
 pub record AreSettingsOf (tool : ToolName) (items : List Item) (s : Settings) : Type 0 where
   pub box_is : s.cut ≡ box_of items
   pub tuple_type_is : value_read s.tuple_type ≡ value_of TupleType items

@@ -43,14 +43,14 @@ pub enum ChainKind {
     /// The option wants a value, and no word follows it.
     #[error("MissingValue")]
     MissingValue,
-    /// The value or the argument is no number, is out of range, or is too long; or the option has no
-    /// value.
+    /// The value or the argument is no number, is out of range, or is too long; or the option takes
+    /// none.
     #[error("BadValue")]
     BadValue,
     /// The options, or an argument and an option, can't stand together.
     #[error("Conflict")]
     Conflict,
-    /// The tool wants more.
+    /// The tool wants another argument, a way to flip, or a factor.
     #[error("MissingArgument")]
     MissingArgument,
     /// The tool takes no more arguments.

@@ -1,7 +1,7 @@
 //! Laws of what is due for a text, of chains' texts and of command lines. Each stands over the
 //! definitions alone, as the contract of a function that does nothing.
 
-ghost use Rattle.pnmpipe.specs.ChainText.{OneChainOrOneFault, SpelledChainsAreLawful};
+ghost use Rattle.pnmpipe.specs.ChainText.{ChainFaultsArePlaced, OneChainOrOneFault, SpelledChainsAreLawful};
 ghost use Rattle.pnmpipe.specs.CommandLineExamples.{CommandLinesHold};
 ghost use Rattle.pnmpipe.specs.Examples.{ExamplesHold};
 
@@ -14,6 +14,12 @@ pub fn examples_hold()
 /// Each text spells one list of tools and has no fault, or it spells none and has one fault.
 pub fn one_chain_or_one_fault()
     ensures { OneChainOrOneFault }
+{}
+
+/// A fault of a text is of the whole, and has stage 0, or of one of its stages, and has its number, 1
+/// to 16. None is want of memory.
+pub fn chain_faults_are_placed()
+    ensures { ChainFaultsArePlaced }
 {}
 
 /// The tools that a text spells are 1 to 16, and their options are in their ranges.
