@@ -1,14 +1,15 @@
 -- What a parse of the words by the program's command gives.
-use Rattle.std.proofs.Common.{◌≡◌, ◌∙◌, ◌<◌, ◌≤◌, ℕ, zero, suc, true, false, List, [], ◌∷◌, length, map, codes, Option, Some, is_some, inl, inr, refl, sym, ap, subst, arith, slice_index}
+use Rattle.std.proofs.Common.{◌≡◌, ◌≢◌, ◌∙◌, ◌⊎◌, ◌<◌, ◌≤◌, ℕ, Bool, zero, suc, true, false, List, [], ◌∷◌, length, map, codes, Option, Some, None, is_some, inl, inr, refl, sym, ap, subst, arith, slice_index}
 use Rattle.std.specs.Prelude.{Result, pos}
-use Rattle.std.specs.List.{list_all, slice_index_or}
+use Rattle.std.specs.List.{All, list_all, slice_index_or}
 use Rattle.std.specs.Str.{bytes_eq}
-use Rattle.clap.specs.Words.{IsSignedIn, App, items_of, one_text, without_minus, Rule, Shape, Text, FailsBy, HasKind, HasMatchesOf, IsAmong, IsParsedFrom, IsPlain, app_of, args_of, fault_of, first_of, first_value, found_of, is_simple, is_simple_and_free, kind_of, rule_of, shape_of}
+use Rattle.clap.specs.Words.{IsSignedIn, App, items_of, one_text, without_minus, Rule, Shape, Text, FailsBy, HasKind, HasMatchesOf, IsAmong, IsParsedFrom, IsPlain, Kinds, app_of, args_of, fault_of, first_of, first_value, found_of, is_simple, is_simple_and_free, kind_of, matches_of, one_of, rule_of, rows_of, shape_of}
 use Rattle.std.specs.Borrow.{Bor}
 use Rattle.clap.specs.Walk.{texts}
 use Rattle.clap.specs.Facts.{least_values, unwrap_or_range}
 use Rattle.clap.specs.Faults.{has_free_rules}
 use Rattle.clap.specs.Simple.{IsSimple, is_ready, is_ready_leaf}
+use Rattle.clap.specs.declared.builder.action.ArgAction.TheVariants.{Set}
 use Rattle.clap.specs.declared.builder.arg.Arg.{Arg}
 use Rattle.clap.specs.declared.builder.value_parser.ValueParser.TheVariants.{Signed}
 use Rattle.clap.specs.declared.builder.command.Command.{Command}
@@ -22,9 +23,9 @@ use Rattle.clap.proofs.CallerLemmas.{required_has_value}
 use Rattle.clap.proofs.FaultLemmas.{free_args}
 use Rattle.clap.proofs.OnLiterals.{clap_on_literals}
 use Rattle.clap.proofs.SimpleLemmas.{plain_fields, ready_simple, simple_groups, HasPlainFields}
-use Rattle.clap.proofs.WalkLemmas.{first_value-rows}
+use Rattle.clap.proofs.WalkLemmas.{first_value-rows, one_text-rows}
 use Rattle.pnmpipe.proofs.DefaultReads.{default_reads}
-use Rattle.pnmpipe.specs.CommandLine.{program, chain_rule, ring_rule, FitsKind, GivesChain, IsFaultOfWords}
+use Rattle.pnmpipe.specs.CommandLine.{program, chain_rule, ring_rule, FitsKind, GivesChain, IsFaultOfWords, ring_of}
 use Rattle.pnmpipe.specs.declared.command_line.CommandLineFault.{CommandLineFault}
 use Rattle.pnmpipe.specs.declared.command_line.CommandLineFault.TheVariants.{Help, Usage, Memory}
 
@@ -61,6 +62,13 @@ chain_given a words m chain same taken has first = record {
       let rows = (subst (λ (x : App). HasMatchesOf x words m) same has) program_is_simple in
       ap (first_of (codes "CHAIN")) (sym rows.0) ∙ (sym (first_value-rows (found_of m) (codes "CHAIN")) ∙ first);
 }
+
+-- and the text that `--ring` is read from is that of the words
+pub ring_given : (a : App) (words : List Text) (m : ArgMatches) (text : Text) → a ≡ program → HasMatchesOf a words m
+    → one_text (found_of m) (codes "ring") ≡ Some text → ring_of words ≡ Some text
+ring_given a words m text same has read =
+    let rows = (subst (λ (x : App). HasMatchesOf x words m) same has) program_is_simple in
+    ap (one_of (codes "ring")) (sym rows.0) ∙ (sym (one_text-rows (found_of m) (codes "ring")) ∙ read)
 
 -- two members, and what a function gives for them
 pub record HasTwo {A B : Type 0} (f : A → B) (xs : List A) (y z : B) : Type 0 where

@@ -1,7 +1,8 @@
 -- What the words of the command line say, as `clap` reads them.
-use Rattle.std.specs.Prelude.{◌≡◌, ◌≢◌, ◌∷◌, ℕ, List, [], Option, Some, codes, pos, true}
+use Rattle.std.specs.Str.Parse.{digits_value, without_leading_plus}
+use Rattle.std.specs.Prelude.{◌≡◌, ◌≢◌, ◌⊎◌, ◌≤◌, ◌∷◌, ℕ, List, [], Option, Some, codes, pos, true}
 use Rattle.pnm_tools.specs.declared.tool.Tool.{Tool}
-use Rattle.clap.specs.Words.{App, Rule, Text, IsAmong, fault_of, first_of, matches_of, new_app, new_rule, with_rule}
+use Rattle.clap.specs.Words.{App, Rule, Text, IsAmong, fault_of, first_of, matches_of, one_of, new_app, new_rule, with_rule}
 use Rattle.clap.specs.declared.builder.action.ArgAction.TheVariants.{Set}
 use Rattle.clap.specs.declared.builder.value_parser.ValueParser.TheVariants.{Signed}
 use Rattle.clap.specs.declared.error.kind.ErrorKind.{ErrorKind}
@@ -35,9 +36,17 @@ pub record GivesChain (words : List Text) (chain : Text) : Type 0 where
   pub taken : fault_of program words ≡ []
   pub given : first_of (codes "CHAIN") (matches_of program words) ≡ Some chain
 
--- the number that `--ring` has
+-- the text that the number of `--ring` is read from
 abbrev pub ring_of : List Text → Option Text
-ring_of words = first_of (codes "ring") (matches_of program words)
+ring_of words = one_of (codes "ring") (matches_of program words)
+
+-- the words give `--ring` this number
+pub record GivesRing (words : List Text) (ring : ℕ) : Type 0 where
+  pub least : 1 ≤ ring
+  pub most : ring ≤ 1024
+  pub text : Text
+  pub given : ring_of words ≡ Some text
+  pub spelled : ring ≡ digits_value 10 (without_leading_plus text)
 
 -- the first thing that isn't read on past is a call for help
 abbrev pub AsksForHelp : List Text → Type 0
@@ -51,7 +60,7 @@ IsNoCommandLine words = (kind : ErrorKind) × (kind ≢ DisplayHelp) × IsAmong 
 abbrev pub FitsKind : ErrorKind → CommandLineFault → Type 0
 FitsKind kind (Help text) = kind ≡ DisplayHelp
 FitsKind kind Usage = (kind ≢ DisplayHelp) × (kind ≢ OutOfMemory)
-FitsKind kind Memory = Unit {0}
+FitsKind kind Memory = (kind ≡ OutOfMemory) ⊎ (kind ≡ DisplayHelp)
 
 -- the fault fits the words
 abbrev pub IsFaultOfWords : List Text → CommandLineFault → Type 0

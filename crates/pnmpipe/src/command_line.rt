@@ -1,8 +1,8 @@
 //! The words of the command line, and the help text.
 
-ghost use Rattle.std.specs.Prelude.{◌≡◌, ◌≤◌, IfOk, IfErr, map, string_bytes};
+ghost use Rattle.std.specs.Prelude.{◌≡◌, IfOk, IfErr, map, string_bytes};
 ghost use Rattle.clap.specs.Words.{app_of, kind_of};
-ghost use Rattle.pnmpipe.specs.CommandLine.{program, FitsKind, GivesChain, IsFaultOfWords};
+ghost use Rattle.pnmpipe.specs.CommandLine.{program, FitsKind, GivesChain, GivesRing, IsFaultOfWords};
 ghost use Rattle.pnmpipe.specs.declared.command_line.CommandLineFault.TheVariants.{Memory};
 
 use clap::error::ErrorKind;
@@ -66,7 +66,7 @@ pub fn read_words<'a>(
     words: &'a [String],
 ) -> Result<CommandLine<'a>, CommandLineFault>
     ensures given { IfOk result (λ line. GivesChain (map string_bytes words.entry.now) line.chain.now) }
-    ensures ring { IfOk result (λ line. (1 ≤ line.ring) × (line.ring ≤ 1024)) }
+    ensures ring { IfOk result (λ line. GivesRing (map string_bytes words.entry.now) line.ring) }
     ensures refused { IfErr result (IsFaultOfWords (map string_bytes words.entry.now)) }
 {
     let matches = match program(alloc)?.try_get_matches_from(words) {

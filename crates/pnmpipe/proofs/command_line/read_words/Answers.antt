@@ -5,7 +5,7 @@ use Rattle.clap.specs.Words.{app_of, first_value, found_of, without_minus}
 use Rattle.clap.specs.declared.parser.matches.ArgMatches.{ArgMatches}
 use Rattle.clap.proofs.CallerLemmas.{some_of_text}
 use Rattle.clap.proofs.CallerReads.{signed_reads}
-use Rattle.pnmpipe.proofs.CommandLineSteps.{chain_given, fault_fits, has_chain, parse_fails, ring_read}
+use Rattle.pnmpipe.proofs.CommandLineSteps.{chain_given, fault_fits, has_chain, parse_fails, ring_given, ring_read}
 use Rattle.pnmpipe.proofs.command_line.read_words.Goals as goal
 
 pub returns-in-Err-clause-refused : goal.returns-in-Err-clause-refused
@@ -40,4 +40,11 @@ returns-clause-ring c =
     let got = signed_reads _ (λ bs r. ParsesUnsigned 16 10 bs r × ExplainsUnsignedError 10 bs r × HasUnsignedDigitsIfOk bs r) 16 1 1024 read.0 c.get_one.result one (λ u x g. g.0) (omega arith) read.2 in
     let is : c.get_one.result ≡ Some c.unwrap-2.result = search rules in
     let same : got.0 ≡ c.unwrap-2.result = cc in
-    (omega arith, omega arith)
+    let parsed = rw is at one in
+    record {
+      least = omega arith;
+      most = omega arith;
+      text = without_minus read.0;
+      given = ring_given (app_of c.in_ok-program.field-0) (map string_bytes c.args.words.now) c.in-Ok.matches (without_minus read.0) c.in_ok-program.ensures c.in-Ok.ensures.matches read.1;
+      spelled = parsed.0.1;
+    }
