@@ -15,10 +15,11 @@ check: toolchain
 	sh scripts/refused_growth.sh
 	rt ci
 
-# each allocation of the stored run, and of a run over three tools, refused in turn
+# each allocation of the stored run, of a run over three tools, and of the program's words, refused in turn
 refused-growth: toolchain
 	sh scripts/refused_growth.sh
 	sh scripts/refused_growth_of_chains.sh
+	sh scripts/refused_growth_of_words.sh
 
 toolchain:
 	@$(if $(shell command -v rt),:,$(error the command rt of the Rattle toolchain is not on the PATH))
@@ -26,5 +27,5 @@ toolchain:
 help:
 	@echo "make                 proves the crates, builds the program and leaves it as bin/pnmpipe"
 	@echo "make check           the whole gate: every proof from nothing, the edits that must fail, the tests and the stored run"
-	@echo "make refused-growth  refuses each allocation of the stored run, and of a chain of three tools, in turn"
+	@echo "make refused-growth  refuses each allocation of the stored run, of a chain of three tools, and of the program's words, in turn"
 	@echo "make help            this list"

@@ -1,7 +1,7 @@
 #!/bin/sh
-# Refuses each allocation of a call for help, and then of a run, in turn, until it meets no refusal. The
-# program has to answer each by name, and to write a front of its whole output: two tests of
-# src/tests/words_memory.rt say so, and the other two whether one was met.
+# Refuses each allocation of a chain's text, of a call for help, and of a run, in turn, until it meets no
+# refusal. Each has to be answered by name, and what the program wrote to be a front of its whole output:
+# three tests of src/tests/words_memory.rt say so, and the other three whether one was met.
 set -eu
 cd "$(dirname "$0")/../crates/pnmpipe"
 work=$(mktemp -d)
@@ -30,5 +30,6 @@ refuse() {
     fail "$1" "$n" "no end without a refusal"
 }
 
+refuse "a chain's text" answers_want_of_memory_for_a_chain parses_with_memory
 refuse help answers_want_of_memory_for_help helps_with_memory
 refuse "a run" answers_want_of_memory_for_a_run runs_with_memory

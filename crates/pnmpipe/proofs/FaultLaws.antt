@@ -1,8 +1,7 @@
 -- The faults of chains' texts: each is of the whole text or of a stage by its number, and none is want of memory.
-use Rattle.std.proofs.Common.{◌≡◌, ◌≤◌, ◌<◌, ◌⊎◌, inl, inr, ℕ, suc, ◌+◌, Bool, true, false, Option, Some, None, IfSome, List, [], ◌∷◌, ◌++◌, length, refl, sym, ap, subst, ◌∙◌, arith}
+use Rattle.std.proofs.Common.{◌≡◌, ◌≤◌, ◌<◌, inl, inr, ℕ, suc, ◌+◌, Bool, true, false, Option, Some, None, IfSome, List, [], ◌∷◌, ◌++◌, length, refl, sym, subst, arith}
 use Rattle.std.specs.Prelude.{nat_le, nat_lt, ◌≢◌}
 use Rattle.std.specs.List.{list_all}
-use Rattle.std.proofs.lemmas.Bool.Decides.{nat_tests}
 use Rattle.pnm_read.specs.Texts.{is_white, words}
 use Rattle.pnmpipe.specs.declared.chain_text.ChainFault.{ChainFault}
 use Rattle.pnmpipe.specs.declared.chain_text.ChainKind.{ChainKind}
@@ -10,8 +9,8 @@ use Rattle.pnmpipe.specs.declared.chain_text.ChainKind.TheVariants.{Empty, TooLo
 use Rattle.pnmpipe.specs.declared.options.ToolName.{ToolName}
 use Rattle.pnmpipe.specs.declared.options.ToolOption.{ToolOption}
 use Rattle.pnmpipe.specs.Options.{tool_named, wants_value, takes_value, most_arguments, takes_argument}
-use Rattle.pnmpipe.specs.Items.{Item, Argument, Given, Unknown, items_of, arguments_of, is_there, value_fault, is_conflict, is_missing, item_fault, end_fault, fault_after}
-use Rattle.pnmpipe.specs.ChainText.{stages_of, named_fault, words_fault, stage_fault, fault_from, whole, chain_fault_of, is_of_stage, IsPlaced}
+use Rattle.pnmpipe.specs.Items.{Item, Argument, Given, Unknown, items_of, arguments_of, is_there, value_fault, is_conflict, is_missing, item_fault, fault_after}
+use Rattle.pnmpipe.specs.ChainText.{stages_of, named_fault, words_fault, stage_fault, fault_from, chain_fault_of, is_of_stage, IsPlaced}
 use Rattle.pnmpipe.proofs.ItemLaws.{argument_by, option_by, value_by, missing_by, end_by, after_by, fault_after-cons, fault_after-nil}
 use Rattle.pnmpipe.proofs.ChainLaws.{from_by, fault_from-cons, fault_from-nil, chain_fault_by, chain_fault_is, not_more}
 

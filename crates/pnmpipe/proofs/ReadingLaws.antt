@@ -62,9 +62,9 @@ ends_well stage first rest text tool s meaning is named h none finished =
     let meant : meaning ≡ meant_by tool (items_of tool (words text)) = end.1 ∙ ap (λ (l : List Item). meant_by tool l) (sym all) in (
       stage_is stage first (words text) tool is named ∙ free,
       record {
-        first = first;
+        name = first;
         others = words text;
-        name = tool;
+        tool_name = tool;
         words_are = is;
         named = named;
         meant = subst (λ (t : Tool). Means tool (items_of tool (words text)) t) (sym meant) (items_mean tool (items_of tool (words text)) free);

@@ -10,4 +10,5 @@ pub mod ChainText
 pub mod Settings
 pub mod CommandLine
 pub mod Examples
+pub mod ChainExamples
 pub mod CommandLineExamples

@@ -1,6 +1,7 @@
 //! Laws of what is due for a text, of chains' texts and of command lines. Each stands over the
 //! definitions alone, as the contract of a function that does nothing.
 
+ghost use Rattle.pnmpipe.specs.ChainExamples.{ChainTextsHold};
 ghost use Rattle.pnmpipe.specs.ChainText.{ChainFaultsArePlaced, OneChainOrOneFault, SpelledChainsAreLawful};
 ghost use Rattle.pnmpipe.specs.CommandLineExamples.{CommandLinesHold};
 ghost use Rattle.pnmpipe.specs.Examples.{ExamplesHold};
@@ -9,6 +10,11 @@ ghost use Rattle.pnmpipe.specs.Examples.{ExamplesHold};
 /// the definitions compute them.
 pub fn examples_hold()
     ensures { ExamplesHold }
+{}
+
+/// Small texts of chains, their faults and what they mean, as the definitions compute them.
+pub fn chain_texts_hold()
+    ensures { ChainTextsHold }
 {}
 
 /// Each text spells one list of tools and has no fault, or it spells none and has one fault.
