@@ -15,10 +15,11 @@ check: toolchain
 	sh scripts/refused_growth.sh
 	rt ci
 
-# each allocation of the stored run, and of a run over three tools, refused in turn
+# each allocation of the stored run, of a run over three tools, and of a call for help, refused in turn
 refused-growth: toolchain
 	sh scripts/refused_growth.sh
 	sh scripts/refused_growth_of_chains.sh
+	sh scripts/refused_growth_of_words.sh
 
 toolchain:
 	@$(if $(shell command -v rt),:,$(error the command rt of the Rattle toolchain is not on the PATH))

@@ -1,15 +1,14 @@
 -- What a parse of the words by the program's command gives.
-use Rattle.std.proofs.Common.{◌≡◌, ◌≢◌, ◌∙◌, ◌⊎◌, ◌<◌, ◌≤◌, ℕ, Bool, zero, suc, true, false, List, [], ◌∷◌, length, map, codes, Option, Some, None, is_some, inl, inr, refl, sym, ap, subst, arith, slice_index}
+use Rattle.std.proofs.Common.{◌≡◌, ◌∙◌, ◌<◌, ◌≤◌, ℕ, zero, suc, true, false, List, [], ◌∷◌, length, map, codes, Option, Some, is_some, inl, inr, refl, sym, ap, subst, arith, slice_index}
 use Rattle.std.specs.Prelude.{Result, pos}
-use Rattle.std.specs.List.{All, list_all, slice_index_or}
+use Rattle.std.specs.List.{list_all, slice_index_or}
 use Rattle.std.specs.Str.{bytes_eq}
-use Rattle.clap.specs.Words.{IsSignedIn, App, items_of, one_text, without_minus, Rule, Shape, Text, FailsBy, HasKind, HasMatchesOf, IsAmong, IsParsedFrom, IsPlain, Kinds, app_of, args_of, fault_of, first_of, first_value, found_of, is_simple, is_simple_and_free, kind_of, matches_of, one_of, rule_of, rows_of, shape_of}
+use Rattle.clap.specs.Words.{IsSignedIn, App, items_of, one_text, without_minus, Rule, Shape, Text, FailsBy, HasKind, HasMatchesOf, IsAmong, IsParsedFrom, IsPlain, app_of, args_of, fault_of, first_of, first_value, found_of, is_simple, is_simple_and_free, kind_of, one_of, rule_of, shape_of}
 use Rattle.std.specs.Borrow.{Bor}
 use Rattle.clap.specs.Walk.{texts}
 use Rattle.clap.specs.Facts.{least_values, unwrap_or_range}
 use Rattle.clap.specs.Faults.{has_free_rules}
 use Rattle.clap.specs.Simple.{IsSimple, is_ready, is_ready_leaf}
-use Rattle.clap.specs.declared.builder.action.ArgAction.TheVariants.{Set}
 use Rattle.clap.specs.declared.builder.arg.Arg.{Arg}
 use Rattle.clap.specs.declared.builder.value_parser.ValueParser.TheVariants.{Signed}
 use Rattle.clap.specs.declared.builder.command.Command.{Command}

@@ -1,5 +1,5 @@
 -- What a parse gives for an argument with a default.
-use Rattle.std.proofs.Common.{◌≡◌, ◌∙◌, ◌⊎◌, ◌<◌, ◌≤◌, ap, ℕ, Bool, zero, suc, true, false, List, [], ◌∷◌, length, is_some, Option, Some, None, refl, sym, subst, inl, inr, arith, true≢false}
+use Rattle.std.proofs.Common.{◌≡◌, ◌∙◌, ◌<◌, ◌≤◌, ap, ℕ, Bool, zero, suc, true, false, List, [], ◌∷◌, length, is_some, Option, Some, None, refl, sym, subst, inl, inr, arith}
 use Rattle.std.specs.List.{All, slice_index_or}
 use Rattle.std.specs.Str.{bytes_eq}
 use Rattle.std.specs.Prelude.{find, option_map, slice_get}
@@ -7,7 +7,7 @@ use Rattle.std.specs.Borrow.{Bor}
 use Rattle.std.proofs.lemmas.Slice.Eq.{bytes_eq-Decides}
 use Rattle.std.proofs.lemmas.List.Elements.{All-get_or}
 use Rattle.clap.specs.Values.{Accepts, read_as, reading_of}
-use Rattle.clap.specs.Facts.{AllowsNone, Entry, EntryPasses, HasIn, HasReading, IsCountArg, PassesArg, WantsDefault, args_of, groups_of, least_values, parser_of, parser_of_value}
+use Rattle.clap.specs.Facts.{Entry, EntryPasses, HasIn, IsCountArg, PassesArg, WantsDefault, args_of, groups_of, least_values, parser_of, parser_of_value}
 use Rattle.clap.specs.Built.{IsAuto, IsParsedFrom, IsPlain, SameRules}
 use Rattle.clap.specs.Matches.{found_of, matched_of, one_text}
 use Rattle.clap.specs.declared.builder.action.ArgAction.TheVariants.{Count, Set}

@@ -1,10 +1,10 @@
 -- What a parse reads of the command, argument by argument.
-use Rattle.std.proofs.Common.{rules, ap, ap₂, refl, codes, pos, ◌≡◌, ◌∙◌, Some}
+use Rattle.std.proofs.Common.{rules, ap, ap₂, codes, pos, ◌≡◌, ◌∙◌, Some}
 use Rattle.std.proofs.lemmas.Result.{IfOk-weaker}
 use Rattle.clap.specs.Simple.{app_of_fields}
 use Rattle.clap.specs.Words.{app_of, new_app, rule_of, with_rule}
 use Rattle.clap.specs.declared.builder.value_parser.ValueParser.TheVariants.{Signed}
-use Rattle.pnmpipe.specs.CommandLine.{program, chain_rule, ring_rule}
+use Rattle.pnmpipe.specs.CommandLine.{chain_rule, ring_rule}
 use Rattle.pnmpipe.proofs.command_line.program.Goals as goal
 
 pub returns : goal.returns
