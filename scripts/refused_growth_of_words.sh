@@ -1,35 +1,37 @@
 #!/bin/sh
-# Refuses each allocation of a chain's text, of a call for help, and of a run, in turn, until it meets no
-# refusal. Each has to be answered by name, and what the program wrote to be a front of its whole output:
-# three tests of src/tests/words_memory.rt say so, and the other three whether one was met.
+# Refuses each allocation of a chain's text, of a call for help, and of a run, in turn, until none of them
+# meets a refusal. Each has to be answered by name, and what the program wrote to be a front of its whole
+# output: three tests of src/tests/words_memory.rt say so, and the other three whether one was met. A turn
+# builds the tests anew, so this takes most of an hour. FIRST, by default 1, is the first turn.
 set -eu
 cd "$(dirname "$0")/../crates/pnmpipe"
 work=$(mktemp -d)
 trap 'rm -rf "$work"' EXIT
 
-fail() {
-    echo "refused growth $2 of $1: $3" >&2
-    cat "$work/log" >&2
-    exit 1
+# passed NAME: the test passed in this turn
+passed() {
+    grep -q "^test tests::words_memory::$1 \.\.\. ok\$" "$work/log"
 }
 
-# refuse NAME ANSWERS ENDS: the test ANSWERS passes at each refusal, and ENDS where none is met
-refuse() {
-    n=1
-    while [ "$n" -le 400 ]; do
-        rt try --test --fail-alloc "$n" -- "tests::words_memory::" > "$work/log" 2>&1 || true
-        grep -q "^test tests::words_memory::$2 \.\.\. ok\$" "$work/log" \
-            || fail "$1" "$n" "it isn't answered as it should be"
-        if grep -q "^test tests::words_memory::$3 \.\.\. ok\$" "$work/log"; then
-            [ "$n" -gt 1 ] || fail "$1" "$n" "nothing was refused"
-            echo "refused growth: $((n - 1)) allocations of $1 refused in turn, each answered by name"
-            return
+n=${FIRST:-1}
+while [ "$n" -le 400 ]; do
+    rt try --test --fail-alloc "$n" -- "tests::words_memory::" > "$work/log" 2>&1 || true
+    for answers in answers_want_of_memory_for_a_chain answers_want_of_memory_for_help answers_want_of_memory_for_a_run; do
+        if ! passed "$answers"; then
+            echo "refused growth $n: $answers failed" >&2
+            cat "$work/log" >&2
+            exit 1
         fi
-        n=$((n + 1))
     done
-    fail "$1" "$n" "no end without a refusal"
-}
-
-refuse "a chain's text" answers_want_of_memory_for_a_chain parses_with_memory
-refuse help answers_want_of_memory_for_help helps_with_memory
-refuse "a run" answers_want_of_memory_for_a_run runs_with_memory
+    if passed parses_with_memory && passed helps_with_memory && passed runs_with_memory; then
+        if [ "$n" -eq 1 ]; then
+            echo "refused growth: nothing was refused" >&2
+            exit 1
+        fi
+        echo "refused growth: allocations 1 to $((n - 1)) refused in turn, each answered by name"
+        exit 0
+    fi
+    n=$((n + 1))
+done
+echo "refused growth: no end without a refusal" >&2
+exit 1
