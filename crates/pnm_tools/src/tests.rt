@@ -13,6 +13,7 @@ mod memory;
 mod parts;
 mod protocol;
 mod rows;
+mod steps;
 mod streams;
 mod texts;
 mod tile;

@@ -1,10 +1,8 @@
 //! Which samples `pamchannel` picks, and what the head of its result says.
 
-use super::parts::{
-    Case, HeadCase, Part, answers, are_made_of, channel, gives_heads, message, start, take_all,
-};
-use crate::{Filter, ToolFault, ToolState};
-use pnm_image::{Kind, Message, Samples};
+use super::parts::{Case, HeadCase, Part, answers, are_made_of, channel, gives_heads, results};
+use crate::ToolFault;
+use pnm_image::Kind;
 use std::test::Fail;
 
 /// Two columns and two rows of three planes.
@@ -198,15 +196,9 @@ fn picks_256_planes(rt: HostRuntime) -> Result<(), Fail> {
     let mut downward = upward.clone()?;
     downward.as_mut_slice().reverse();
     let tool = channel(alloc, downward.as_slice(), "")?;
-    let mut state = start(alloc, &tool)?;
-    let mut given = Vec::new(alloc);
-    pass(
-        &mut state,
-        &mut given,
-        message(alloc, Part::Pam(1, 1, 256, 255, "A"))?,
-    )?;
-    pass(&mut state, &mut given, Message::Row(Samples::new(upward)))?;
-    pass(&mut state, &mut given, Message::ImageEnd)?;
+    let begin = Part::Pam(1, 1, 256, 255, "A");
+    let parts = [begin, Part::Row(upward.as_slice()), Part::ImageEnd];
+    let given = results(alloc, &tool, &parts)?;
     let wants = [
         Part::Pam(1, 1, 256, 255, ""),
         Part::Row(downward.as_slice()),
@@ -214,10 +206,4 @@ fn picks_256_planes(rt: HostRuntime) -> Result<(), Fail> {
     ];
     are_made_of(&rt, given.as_slice(), &wants);
     Ok(())
-}
-
-/// Feeds a message, and takes what is given for it.
-fn pass(state: &mut ToolState, given: &mut Vec<Message>, message: Message) -> Result<(), Fail> {
-    state.feed(message)?;
-    take_all(state, given)
 }

@@ -1,7 +1,7 @@
 //! Which part of an image `pamcut` keeps.
 
 use super::parts::{Part, WHOLE, head, is_made_of, message, shape, start, take_all};
-use crate::{CutBox, Filter, Tool, ToolFault};
+use crate::{CutBox, Filter, Tool, ToolFault, ToolState};
 use pnm_image::{Kind, Message, Samples, Shape};
 use std::alloc::Global;
 use std::test::Fail;
@@ -184,18 +184,28 @@ fn cut_image(
     height: u32,
 ) -> Result<(Vec<Message>, Option<ToolFault>), Fail> {
     let mut state = start(alloc, &Tool::Cut(cut))?;
+    cut_at_work(alloc, &mut state, width, height)
+}
+
+/// The same of the cut at work.
+fn cut_at_work(
+    alloc: Global,
+    state: &mut ToolState,
+    width: u32,
+    height: u32,
+) -> Result<(Vec<Message>, Option<ToolFault>), Fail> {
     let mut given = Vec::new(alloc);
     let head = message(alloc, Part::Begin(Kind::Color, width, height, 65_535))?;
     if let Err(fault) = state.feed(head) {
         return Ok((given, Some(fault)));
     }
-    take_all(&mut state, &mut given)?;
+    take_all(state, &mut given)?;
     for y in 0..height {
         state.feed(Message::Row(Samples::new(row(alloc, (0, width), y)?)))?;
-        take_all(&mut state, &mut given)?;
+        take_all(state, &mut given)?;
     }
     state.feed(Message::ImageEnd)?;
-    take_all(&mut state, &mut given)?;
+    take_all(state, &mut given)?;
     Ok((given, None))
 }
 

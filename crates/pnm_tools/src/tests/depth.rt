@@ -1,7 +1,7 @@
 //! What `pamdepth` makes of samples, kinds and tuple types.
 
-use super::parts::{Case, HeadCase, Part, answers, gives_heads, message, start, take_all};
-use crate::{Filter, Tool};
+use super::parts::{Case, HeadCase, Part, answers, gives_heads, results};
+use crate::Tool;
 use pnm_image::{Kind, Message, Samples};
 use std::alloc::Global;
 use std::test::Fail;
@@ -9,13 +9,9 @@ use std::test::Fail;
 /// The samples of a row of one image of grays, at another maxval.
 fn rescaled(alloc: Global, new: u16, old: u16, samples: &[u16]) -> Result<Vec<u16>, Fail> {
     let width = u32::try_from(samples.len())?;
-    let mut state = start(alloc, &Tool::Depth(u32::from(new)))?;
-    let mut given = Vec::new(alloc);
     let head = Part::Begin(Kind::Gray, width, 1, u32::from(old));
-    for part in [head, Part::Row(samples), Part::ImageEnd] {
-        state.feed(message(alloc, part)?)?;
-        take_all(&mut state, &mut given)?;
-    }
+    let parts = [head, Part::Row(samples), Part::ImageEnd];
+    let given = results(alloc, &Tool::Depth(u32::from(new)), &parts)?;
     let mut rows = Vec::new(alloc);
     for message in given {
         if let Message::Row(row) = message {

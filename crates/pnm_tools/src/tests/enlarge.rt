@@ -2,11 +2,12 @@
 
 use super::formulas::{IMAGES, follows_formula};
 use super::parts::{
-    Case, HeadCase, Part, answers, are_made_of, gives_heads, message, refuses_heads, start,
-    take_all,
+    Case, HeadCase, Part, answers, are_made_of, gives_heads, refuses_heads, results,
 };
-use crate::{Filter, Tool, ToolFault};
+use crate::{Tool, ToolFault};
 use pnm_image::Kind;
+use std::alloc::Global;
+use std::process::Abort;
 use std::test::Fail;
 
 /// Each pixel twice, with all its planes.
@@ -466,27 +467,28 @@ fn takes_images_without_rows(rt: HostRuntime) -> Result<(), Fail> {
 /// again.
 #[test]
 fn fills_the_widest_row(rt: HostRuntime) -> Result<(), Fail> {
-    let alloc = rt.alloc();
-    for (across, depth) in [(1_000_000_u32, 1_u16), (1_000_000, 16), (65_536, 256)] {
-        let pixel: Vec<u16> = (0..depth).collect(alloc)?;
-        let depth = u32::from(depth);
-        let mut state = start(alloc, &Tool::Enlarge(across, 1))?;
-        let mut given = Vec::new(alloc);
-        let begin = Part::Pam(1, 1, depth, 255, "A");
-        for part in [begin, Part::Row(pixel.as_slice()), Part::ImageEnd] {
-            state.feed(message(alloc, part)?)?;
-            take_all(&mut state, &mut given)?;
-        }
-        let mut row = Vec::new(alloc);
-        for _ in 0..across {
-            row.extend_from_slice(pixel.as_slice())?;
-        }
-        let wants = [
-            Part::Pam(across, 1, depth, 255, "A"),
-            Part::Row(row.as_slice()),
-            Part::ImageEnd,
-        ];
-        are_made_of(&rt, given.as_slice(), &wants);
+    for (across, depth) in [(1_000_000, 1), (1_000_000, 16), (65_536, 256)] {
+        fills_a_row(&rt, rt.alloc(), across, depth)?;
     }
+    Ok(())
+}
+
+/// A pixel of so many planes, the samples 0, 1, 2 and so on, becomes so many.
+fn fills_a_row(rt: &impl Abort, alloc: Global, across: u32, depth: u16) -> Result<(), Fail> {
+    let pixel: Vec<u16> = (0..depth).collect(alloc)?;
+    let depth = u32::from(depth);
+    let begin = Part::Pam(1, 1, depth, 255, "A");
+    let parts = [begin, Part::Row(pixel.as_slice()), Part::ImageEnd];
+    let given = results(alloc, &Tool::Enlarge(across, 1), &parts)?;
+    let mut row = Vec::new(alloc);
+    for _ in 0..across {
+        row.extend_from_slice(pixel.as_slice())?;
+    }
+    let wants = [
+        Part::Pam(across, 1, depth, 255, "A"),
+        Part::Row(row.as_slice()),
+        Part::ImageEnd,
+    ];
+    are_made_of(rt, given.as_slice(), &wants);
     Ok(())
 }

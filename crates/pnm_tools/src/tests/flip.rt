@@ -2,10 +2,10 @@
 
 use super::formulas::{IMAGES, follows_formula};
 use super::parts::{
-    Case, HeadCase, Part, answers, answers_so, are_made_of, gives_heads, keeps_heads, message,
-    refuses_heads, start, take_all,
+    Case, HeadCase, Part, answers, answers_so, are_made_of, gives_heads, keeps_heads,
+    refuses_heads, results,
 };
-use crate::{Filter, FlipWay, Tool, ToolFault};
+use crate::{FlipWay, Tool, ToolFault};
 use pnm_image::Kind;
 use std::test::Fail;
 
@@ -352,12 +352,8 @@ fn mirrors_the_widest_row(rt: HostRuntime) -> Result<(), Fail> {
         mirrored.push((999_999_u32.wrapping_sub(x) % 65_521) as u16)?;
     }
     let begin = Part::Begin(Kind::Gray, 1_000_000, 1, 65_535);
-    let mut state = start(alloc, &Tool::Flip(FlipWay::LeftRight))?;
-    let mut given = Vec::new(alloc);
-    for part in [begin, Part::Row(row.as_slice()), Part::ImageEnd] {
-        state.feed(message(alloc, part)?)?;
-        take_all(&mut state, &mut given)?;
-    }
+    let parts = [begin, Part::Row(row.as_slice()), Part::ImageEnd];
+    let given = results(alloc, &Tool::Flip(FlipWay::LeftRight), &parts)?;
     let wants = [begin, Part::Row(mirrored.as_slice()), Part::ImageEnd];
     are_made_of(&rt, given.as_slice(), &wants);
     Ok(())

@@ -1,7 +1,7 @@
 //! Images whose samples tell where they are, and what the formulas of the manual pages make of
 //! them, by column, row and plane.
 
-use super::parts::{Part, are_made_of, is_made_of, message, start, take_all};
+use super::parts::{Part, are_made_of, is_made_of, message, pass_all, start, take_all};
 use crate::{Filter, FlipWay, Tool, ToolState};
 use pnm_image::{Message, Samples};
 use std::alloc::Global;
@@ -147,14 +147,23 @@ pub(super) fn follows_formula(
     images: &[Sizes],
 ) -> Result<(), Fail> {
     let mut state = start(alloc, tool)?;
+    follows_at_work(rt, alloc, tool, &mut state, images)
+}
+
+/// The same of the tool at work.
+fn follows_at_work(
+    rt: &impl Abort,
+    alloc: Global,
+    tool: &Tool,
+    state: &mut ToolState,
+    images: &[Sizes],
+) -> Result<(), Fail> {
     for sizes in images {
-        let given = answers_to(alloc, &mut state, *sizes)?;
+        let given = answers_to(alloc, state, *sizes)?;
         let is_result = is_result(alloc, tool, *sizes, given.as_slice())?;
         assert!(rt; is_result, "{given:?} of {sizes:?} under {tool:?}");
     }
-    let mut given = Vec::new(alloc);
-    state.feed(Message::StreamEnd)?;
-    take_all(&mut state, &mut given)?;
+    let given = pass_all(alloc, state, &[Part::StreamEnd])?;
     are_made_of(rt, given.as_slice(), &[Part::StreamEnd]);
     Ok(())
 }

@@ -142,13 +142,14 @@ fn takes(rt: &impl Abort, state: &mut ToolState, wants: &[Part<'_>], given: &mut
 /// The tool answers the image with these parts, or `Memory` from some message on.
 fn answers_image(rt: &impl Abort, alloc: Global, tool: &Tool, wants: &[Part<'_>]) {
     assert!(rt; tool.is_lawful());
-    let mut state = match tool.start(alloc) {
-        Ok(state) => state,
-        Err(fault) => {
-            assert_eq!(rt; fault, ToolFault::Memory);
-            return;
-        }
-    };
+    match tool.start(alloc) {
+        Ok(mut state) => answers_parts(rt, alloc, &mut state, wants),
+        Err(fault) => assert_eq!(rt; fault, ToolFault::Memory),
+    }
+}
+
+/// The same of a tool at work.
+fn answers_parts(rt: &impl Abort, alloc: Global, state: &mut ToolState, wants: &[Part<'_>]) {
     let mut given = 0;
     for part in IMAGE {
         // Where no message can be made, the test ends.
@@ -157,10 +158,10 @@ fn answers_image(rt: &impl Abort, alloc: Global, tool: &Tool, wants: &[Part<'_>]
         };
         if let Err(fault) = state.feed(message) {
             assert_eq!(rt; fault, ToolFault::Memory, "at {part:?}");
-            stays(rt, &mut state, ToolFault::Memory);
+            stays(rt, state, ToolFault::Memory);
             return;
         }
-        if !takes(rt, &mut state, wants, &mut given) {
+        if !takes(rt, state, wants, &mut given) {
             return;
         }
     }

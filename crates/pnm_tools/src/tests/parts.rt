@@ -193,21 +193,58 @@ pub(super) fn answers_so(
     fault: Option<ToolFault>,
 ) -> Result<(), Fail> {
     let mut state = start(alloc, tool)?;
+    answers_at_work(rt, alloc, tool, &mut state, parts, wants, fault)
+}
+
+/// The same of the tool at work.
+fn answers_at_work(
+    rt: &impl Abort,
+    alloc: Global,
+    tool: &Tool,
+    state: &mut ToolState,
+    parts: &[Part<'_>],
+    wants: &[Part<'_>],
+    fault: Option<ToolFault>,
+) -> Result<(), Fail> {
     let mut given = Vec::new(alloc);
     let mut answer = Ok(());
     for part in parts {
         assert_eq!(rt; answer, Ok(()), "before {part:?} under {tool:?}");
         answer = state.feed(message(alloc, *part)?);
         if answer.is_ok() {
-            take_all(&mut state, &mut given)?;
+            take_all(state, &mut given)?;
         }
     }
     assert_eq!(rt; answer.err(), fault, "at {parts:?} under {tool:?}");
     are_made_of(rt, given.as_slice(), wants);
     if let Some(fault) = fault {
-        stays(rt, &mut state, fault);
+        stays(rt, state, fault);
     }
     Ok(())
+}
+
+/// All that the tool gives for these messages.
+pub(super) fn results(
+    alloc: Global,
+    tool: &Tool,
+    parts: &[Part<'_>],
+) -> Result<Vec<Message>, Fail> {
+    let mut state = start(alloc, tool)?;
+    pass_all(alloc, &mut state, parts)
+}
+
+/// All that a tool at work gives for these messages.
+pub(super) fn pass_all(
+    alloc: Global,
+    state: &mut ToolState,
+    parts: &[Part<'_>],
+) -> Result<Vec<Message>, Fail> {
+    let mut given = Vec::new(alloc);
+    for part in parts {
+        state.feed(message(alloc, *part)?)?;
+        take_all(state, &mut given)?;
+    }
+    Ok(given)
 }
 
 /// A head, and what a tool makes of it.

@@ -1,10 +1,9 @@
 //! The order in which a tool is fed and asked.
 
-use super::parts::{
-    Case, Part, WHOLE, answers, are_made_of, channel, is_made_of, message, start, stays, take_all,
-};
-use crate::{CutBox, Filter, FlipWay, Tool, ToolFault, ToolState};
-use pnm_image::{Kind, Message};
+use super::parts::{Case, Part, WHOLE, answers, channel};
+use super::steps::{Step, goes};
+use crate::{CutBox, FlipWay, Tool, ToolFault};
+use pnm_image::Kind;
 use std::alloc::Global;
 use std::process::Abort;
 use std::test::Fail;
@@ -63,32 +62,12 @@ fn gray(width: u32, height: u32, maxval: u32) -> Part<'static> {
     Part::Begin(Kind::Gray, width, height, maxval)
 }
 
-/// The tool answers nothing more: `next` is `None` however often it is asked.
-pub(super) fn gives_nothing(rt: &impl Abort, state: &mut ToolState) {
-    for _ in 0..3 {
-        let answer = state.next();
-        assert!(rt; matches!(answer, Ok(None)), "at {answer:?}");
+/// Each tool goes these steps from its start.
+fn each_goes(rt: &impl Abort, alloc: Global, steps: &[Step<'_>]) -> Result<(), Fail> {
+    for (tool, _, _) in examples(alloc)? {
+        goes(rt, alloc, &tool, steps)?;
     }
-}
-
-/// The next answer is made of this.
-pub(super) fn gives(rt: &impl Abort, state: &mut ToolState, want: Part<'_>) {
-    let answer = state.next();
-    assert!(rt;
-        matches!(&answer, Ok(Some(message)) if is_made_of(message, want)),
-        "{answer:?} in place of {want:?}"
-    );
-}
-
-/// The tool after these parts, all of whose answers were taken.
-pub(super) fn after(alloc: Global, tool: &Tool, parts: &[Part<'_>]) -> Result<ToolState, Fail> {
-    let mut state = start(alloc, tool)?;
-    let mut given = Vec::new(alloc);
-    for part in parts {
-        state.feed(message(alloc, *part)?)?;
-        take_all(&mut state, &mut given)?;
-    }
-    Ok(state)
+    Ok(())
 }
 
 /// The head is given at once, before a row comes, and the rest of the image by its end.
@@ -96,23 +75,24 @@ pub(super) fn after(alloc: Global, tool: &Tool, parts: &[Part<'_>]) -> Result<To
 fn gives_heads_at_once(rt: HostRuntime) -> Result<(), Fail> {
     let alloc = rt.alloc();
     for (tool, head, rest) in examples(alloc)? {
-        let mut state = start(alloc, &tool)?;
-        gives_nothing(&rt, &mut state);
-        for _ in 0..2 {
-            state.feed(message(alloc, HEAD)?)?;
-            gives(&rt, &mut state, head);
-            gives_nothing(&rt, &mut state);
-            let mut given = Vec::new(alloc);
-            for part in [ROW, ROW, Part::ImageEnd] {
-                state.feed(message(alloc, part)?)?;
-                take_all(&mut state, &mut given)?;
-            }
-            are_made_of(&rt, given.as_slice(), rest);
-            gives_nothing(&rt, &mut state);
-        }
-        state.feed(Message::StreamEnd)?;
-        gives(&rt, &mut state, Part::StreamEnd);
-        gives_nothing(&rt, &mut state);
+        let image = Step::Answers(&[ROW, ROW, Part::ImageEnd], rest);
+        let steps = [
+            Step::GivesNothing,
+            Step::Takes(HEAD),
+            Step::Gives(head),
+            Step::GivesNothing,
+            image,
+            Step::GivesNothing,
+            Step::Takes(HEAD),
+            Step::Gives(head),
+            Step::GivesNothing,
+            image,
+            Step::GivesNothing,
+            Step::Takes(Part::StreamEnd),
+            Step::Gives(Part::StreamEnd),
+            Step::GivesNothing,
+        ];
+        goes(&rt, alloc, &tool, &steps)?;
     }
     Ok(())
 }
@@ -121,60 +101,66 @@ fn gives_heads_at_once(rt: HostRuntime) -> Result<(), Fail> {
 #[test]
 fn waits_until_all_is_given(rt: HostRuntime) -> Result<(), Fail> {
     let alloc = rt.alloc();
+    each_goes(&rt, alloc, UNASKED)?;
     for (tool, head, _) in examples(alloc)? {
-        for asks in [false, true] {
-            let mut state = start(alloc, &tool)?;
-            state.feed(message(alloc, HEAD)?)?;
-            if asks {
-                gives(&rt, &mut state, head);
-            }
-            let answer = state.feed(message(alloc, ROW)?);
-            assert_eq!(rt; answer, Err(ToolFault::OutOfOrder), "at {tool:?}");
-            stays(&rt, &mut state, ToolFault::OutOfOrder);
-            let answer = state.feed(message(alloc, ROW)?);
-            assert_eq!(rt; answer, Err(ToolFault::OutOfOrder), "at {tool:?}");
-        }
+        let steps = [
+            Step::Takes(HEAD),
+            Step::Gives(head),
+            Step::Refuses(ROW),
+            Step::Refuses(ROW),
+        ];
+        goes(&rt, alloc, &tool, &steps)?;
     }
     Ok(())
 }
 
+/// A row that comes before the head was asked for, and once more.
+const UNASKED: &[Step<'static>] = &[Step::Takes(HEAD), Step::Refuses(ROW), Step::Refuses(ROW)];
+
 /// The same after a row that isn't kept, to which there is no answer.
 #[test]
 fn waits_where_nothing_is_given(rt: HostRuntime) -> Result<(), Fail> {
-    let alloc = rt.alloc();
     let tool = Tool::Cut(CutBox {
         top: Some(1),
         ..WHOLE
     });
-    let mut state = after(alloc, &tool, &[HEAD])?;
-    state.feed(message(alloc, ROW)?)?;
-    let answer = state.feed(message(alloc, ROW)?);
-    assert_eq!(rt; answer, Err(ToolFault::OutOfOrder));
-    stays(&rt, &mut state, ToolFault::OutOfOrder);
-    Ok(())
+    let steps = [Step::Passes(&[HEAD]), Step::Takes(ROW), Step::Refuses(ROW)];
+    goes(&rt, rt.alloc(), &tool, &steps)
 }
 
 /// The parts before a stream ends well.
 const FRONTS: &[&[Part<'static>]] = &[&[], &[HEAD, ROW, ROW, Part::ImageEnd]];
 
-/// Nothing is given after the end of the stream, and nothing is taken.
-#[test]
-fn ends_the_stream(rt: HostRuntime) -> Result<(), Fail> {
-    let alloc = rt.alloc();
-    for (tool, _, _) in examples(alloc)? {
-        for front in FRONTS {
-            for later in [HEAD, ROW, Part::ImageEnd, Part::StreamEnd, Part::Stop] {
-                let mut state = after(alloc, &tool, front)?;
-                state.feed(Message::StreamEnd)?;
-                gives(&rt, &mut state, Part::StreamEnd);
-                gives_nothing(&rt, &mut state);
-                let answer = state.feed(message(alloc, later)?);
-                assert_eq!(rt; answer, Err(ToolFault::OutOfOrder), "at {later:?}");
-                stays(&rt, &mut state, ToolFault::OutOfOrder);
-            }
+/// What can't come once a stream has ended or was broken off.
+const LATER: &[Part<'static>] = &[HEAD, ROW, Part::ImageEnd, Part::StreamEnd, Part::Stop];
+
+/// After each of these fronts each tool takes this part and gives it back, and then gives nothing
+/// and takes nothing.
+fn ends_by(
+    rt: &impl Abort,
+    alloc: Global,
+    fronts: &[&'static [Part<'static>]],
+    part: Part<'static>,
+) -> Result<(), Fail> {
+    for front in fronts {
+        for later in LATER {
+            let steps = [
+                Step::Passes(front),
+                Step::Takes(part),
+                Step::Gives(part),
+                Step::GivesNothing,
+                Step::Refuses(*later),
+            ];
+            each_goes(rt, alloc, &steps)?;
         }
     }
     Ok(())
+}
+
+/// Nothing is given after the end of the stream, and nothing is taken.
+#[test]
+fn ends_the_stream(rt: HostRuntime) -> Result<(), Fail> {
+    ends_by(&rt, rt.alloc(), FRONTS, Part::StreamEnd)
 }
 
 /// The parts before a stream is broken off.
@@ -189,21 +175,7 @@ const BROKEN_FRONTS: &[&[Part<'static>]] = &[
 /// Stop gives Stop alone, wherever it comes; nothing is given after it, and nothing is taken.
 #[test]
 fn passes_stop(rt: HostRuntime) -> Result<(), Fail> {
-    let alloc = rt.alloc();
-    for (tool, _, _) in examples(alloc)? {
-        for front in BROKEN_FRONTS {
-            for later in [HEAD, ROW, Part::ImageEnd, Part::StreamEnd, Part::Stop] {
-                let mut state = after(alloc, &tool, front)?;
-                state.feed(Message::Stop)?;
-                gives(&rt, &mut state, Part::Stop);
-                gives_nothing(&rt, &mut state);
-                let answer = state.feed(message(alloc, later)?);
-                assert_eq!(rt; answer, Err(ToolFault::OutOfOrder), "at {later:?}");
-                stays(&rt, &mut state, ToolFault::OutOfOrder);
-            }
-        }
-    }
-    Ok(())
+    ends_by(&rt, rt.alloc(), BROKEN_FRONTS, Part::Stop)
 }
 
 /// The parts before one that can't come, and that one.
@@ -232,18 +204,9 @@ const DISORDERS: &[Disorder<'static>] = &[
 
 #[test]
 fn refuses_disorder(rt: HostRuntime) -> Result<(), Fail> {
-    let alloc = rt.alloc();
-    for (tool, _, _) in examples(alloc)? {
-        for (front, part) in DISORDERS {
-            let mut state = after(alloc, &tool, front)?;
-            let answer = state.feed(message(alloc, *part)?);
-            assert_eq!(rt;
-                answer,
-                Err(ToolFault::OutOfOrder),
-                "at {part:?} after {front:?}"
-            );
-            stays(&rt, &mut state, ToolFault::OutOfOrder);
-        }
+    for (front, part) in DISORDERS {
+        let steps = [Step::Passes(front), Step::Refuses(*part)];
+        each_goes(&rt, rt.alloc(), &steps)?;
     }
     Ok(())
 }
@@ -290,55 +253,62 @@ fn stays_refused(rt: HostRuntime) -> Result<(), Fail> {
     answers(&rt, alloc, &channel(alloc, &[0; 17], "")?, TOO_LARGE)
 }
 
+/// The head of an image without rows.
+const NO_ROWS: Part<'static> = Part::Begin(Kind::Gray, 2, 0, 9);
+
+/// What the tool makes of it, if it takes it.
+fn without_rows(tool: &Tool) -> Option<Part<'static>> {
+    match tool {
+        Tool::Invert => Some(NO_ROWS),
+        Tool::Cut(_) => None,
+        Tool::Depth(_) => Some(gray(2, 0, 5)),
+        Tool::Channel(_) => Some(Part::Pam(2, 0, 1, 9, "A")),
+        Tool::Enlarge(_, 1) => Some(gray(4, 0, 9)),
+        Tool::Enlarge(_, _) => None,
+        Tool::Flip(FlipWay::Null | FlipWay::LeftRight) => Some(NO_ROWS),
+        Tool::Flip(FlipWay::TopBottom | FlipWay::Transpose) => None,
+        Tool::Tile(_, _) => None,
+    }
+}
+
 /// An image without rows ends at once, and a row can't come.
 #[test]
 fn takes_images_without_rows(rt: HostRuntime) -> Result<(), Fail> {
     let alloc = rt.alloc();
-    let none = Part::Begin(Kind::Gray, 2, 0, 9);
     for (tool, _, _) in examples(alloc)? {
-        let want = match &tool {
-            Tool::Invert => Some(none),
-            Tool::Cut(_) => None,
-            Tool::Depth(_) => Some(Part::Begin(Kind::Gray, 2, 0, 5)),
-            Tool::Channel(_) => Some(Part::Pam(2, 0, 1, 9, "A")),
-            Tool::Enlarge(_, 1) => Some(Part::Begin(Kind::Gray, 4, 0, 9)),
-            Tool::Enlarge(_, _) => None,
-            Tool::Flip(FlipWay::Null | FlipWay::LeftRight) => Some(none),
-            Tool::Flip(FlipWay::TopBottom | FlipWay::Transpose) => None,
-            Tool::Tile(_, _) => None,
-        };
-        let mut state = start(alloc, &tool)?;
-        let answer = state.feed(message(alloc, none)?);
-        let Some(want) = want else {
-            assert_eq!(rt; answer, Err(ToolFault::OutOfOrder), "at {tool:?}");
-            stays(&rt, &mut state, ToolFault::OutOfOrder);
-            continue;
-        };
-        assert_eq!(rt; answer, Ok(()), "at {tool:?}");
-        gives(&rt, &mut state, want);
-        gives_nothing(&rt, &mut state);
-        state.feed(Message::ImageEnd)?;
-        gives(&rt, &mut state, Part::ImageEnd);
-        gives_nothing(&rt, &mut state);
-        let mut state = after(alloc, &tool, &[none])?;
-        let answer = state.feed(message(alloc, ROW)?);
-        assert_eq!(rt; answer, Err(ToolFault::OutOfOrder), "at {tool:?}");
-        stays(&rt, &mut state, ToolFault::OutOfOrder);
+        takes_no_rows(&rt, alloc, &tool)?;
     }
     Ok(())
+}
+
+/// The tool takes an image without rows, or refuses it.
+fn takes_no_rows(rt: &impl Abort, alloc: Global, tool: &Tool) -> Result<(), Fail> {
+    let Some(want) = without_rows(tool) else {
+        return goes(rt, alloc, tool, &[Step::Refuses(NO_ROWS)]);
+    };
+    let image = [
+        Step::Takes(NO_ROWS),
+        Step::Gives(want),
+        Step::GivesNothing,
+        Step::Takes(Part::ImageEnd),
+        Step::Gives(Part::ImageEnd),
+        Step::GivesNothing,
+    ];
+    goes(rt, alloc, tool, &image)?;
+    goes(
+        rt,
+        alloc,
+        tool,
+        &[Step::Passes(&[NO_ROWS]), Step::Refuses(ROW)],
+    )
 }
 
 /// A tool that was started and not fed: its first message is the end of an image.
 #[test]
 fn refuses_the_first_message(rt: HostRuntime) -> Result<(), Fail> {
-    let mut state = start(rt.alloc(), &Tool::Invert)?;
-    assert_eq!(rt; state.feed(Message::ImageEnd), Err(ToolFault::OutOfOrder));
-    let answer = state.next();
-    assert!(rt;
-        matches!(answer, Err(ToolFault::OutOfOrder)),
-        "at {answer:?}"
-    );
-    assert_eq!(rt; state.feed(Message::StreamEnd), Err(ToolFault::OutOfOrder));
-    stays(&rt, &mut state, ToolFault::OutOfOrder);
-    Ok(())
+    let steps = [
+        Step::Refuses(Part::ImageEnd),
+        Step::Refuses(Part::StreamEnd),
+    ];
+    goes(&rt, rt.alloc(), &Tool::Invert, &steps)
 }

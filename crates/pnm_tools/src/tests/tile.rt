@@ -1,12 +1,13 @@
 //! How `pnmtile` fills columns and rows with an image.
 
-use super::formulas::{IMAGES, follows_formula};
+use super::formulas::{IMAGES, Sizes, follows_formula};
 use super::parts::{
-    Case, HeadCase, Part, answers, are_made_of, gives_heads, message, refuses_heads, start,
-    take_all,
+    Case, HeadCase, Part, answers, are_made_of, gives_heads, refuses_heads, results,
 };
-use crate::{Filter, Tool, ToolFault};
+use crate::{Tool, ToolFault};
 use pnm_image::Kind;
+use std::alloc::Global;
+use std::process::Abort;
 use std::test::Fail;
 
 /// Three columns and two rows.
@@ -315,35 +316,42 @@ fn judges_height_0_first(rt: HostRuntime) -> Result<(), Fail> {
 }
 
 /// The most columns of one plane and of sixteen, and the most samples: pixels of one column or of
-/// three again and again. The samples of the image are 0, 1, 2 and so on.
+/// three again and again.
 #[test]
 fn fills_the_widest_rows(rt: HostRuntime) -> Result<(), Fail> {
-    let alloc = rt.alloc();
     for (across, width, depth, count) in [
-        (1_000_000_u32, 1_u32, 1_u32, 1_u16),
+        (1_000_000, 1, 1, 1),
         (1_000_000, 3, 1, 3),
         (1_000_000, 3, 16, 48),
         (65_536, 3, 256, 768),
     ] {
-        let samples: Vec<u16> = (0..count).collect(alloc)?;
-        let mut state = start(alloc, &Tool::Tile(across, 2))?;
-        let mut given = Vec::new(alloc);
-        let begin = Part::Pam(width, 1, depth, 1000, "A");
-        for part in [begin, Part::Row(samples.as_slice()), Part::ImageEnd] {
-            state.feed(message(alloc, part)?)?;
-            take_all(&mut state, &mut given)?;
-        }
-        let mut row = Vec::new(alloc);
-        for x in 0..across {
-            let first = x.checked_rem(width).unwrap_or(0).wrapping_mul(depth);
-            for plane in 0..depth {
-                row.push((first.wrapping_add(plane) % 65_536) as u16)?;
-            }
-        }
-        let row = Part::Row(row.as_slice());
-        let begin = Part::Pam(across, 2, depth, 1000, "A");
-        are_made_of(&rt, given.as_slice(), &[begin, row, row, Part::ImageEnd]);
+        fills_rows(&rt, rt.alloc(), across, (width, 1, depth), count)?;
     }
+    Ok(())
+}
+
+/// An image of so many samples, which are 0, 1, 2 and so on, fills so many columns and two rows.
+fn fills_rows(
+    rt: &impl Abort,
+    alloc: Global,
+    across: u32,
+    (width, height, depth): Sizes,
+    count: u16,
+) -> Result<(), Fail> {
+    let samples: Vec<u16> = (0..count).collect(alloc)?;
+    let begin = Part::Pam(width, height, depth, 1000, "A");
+    let parts = [begin, Part::Row(samples.as_slice()), Part::ImageEnd];
+    let given = results(alloc, &Tool::Tile(across, 2), &parts)?;
+    let mut row = Vec::new(alloc);
+    for x in 0..across {
+        let first = x.checked_rem(width).unwrap_or(0).wrapping_mul(depth);
+        for plane in 0..depth {
+            row.push((first.wrapping_add(plane) % 65_536) as u16)?;
+        }
+    }
+    let row = Part::Row(row.as_slice());
+    let begin = Part::Pam(across, 2, depth, 1000, "A");
+    are_made_of(rt, given.as_slice(), &[begin, row, row, Part::ImageEnd]);
     Ok(())
 }
 

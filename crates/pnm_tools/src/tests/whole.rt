@@ -1,9 +1,9 @@
 //! Tools that keep the rows of an image until it has ended.
 
-use super::parts::{Part, answers, are_made_of, message, start, stays, take_all};
-use super::protocol::{after, gives, gives_nothing};
-use crate::{Filter, FlipWay, Tool, ToolFault, ToolState};
-use pnm_image::{Kind, Message};
+use super::parts::{Part, answers};
+use super::steps::{Step, goes};
+use crate::{FlipWay, Tool, ToolFault};
+use pnm_image::Kind;
 use std::alloc::Global;
 use std::process::Abort;
 use std::test::Fail;
@@ -36,69 +36,84 @@ const TILED: &[Part<'static>] = &[
     Part::ImageEnd,
 ];
 
-/// A tool, the head that it gives, and what it gives after that.
-type Keeper = (Tool, Part<'static>, &'static [Part<'static>]);
+/// A tool, what it gives for the head, and what it gives after that.
+type Keeper = (Tool, &'static [Part<'static>], &'static [Part<'static>]);
 
 /// Each tool once.
 fn keepers() -> [Keeper; 3] {
     [
-        (Tool::Flip(FlipWay::TopBottom), HEAD, TURNED),
+        (Tool::Flip(FlipWay::TopBottom), &[HEAD], TURNED),
         (
             Tool::Flip(FlipWay::Transpose),
-            Part::Begin(Kind::Gray, 2, 3, 9),
+            &[Part::Begin(Kind::Gray, 2, 3, 9)],
             TRANSPOSED,
         ),
-        (Tool::Tile(4, 3), Part::Begin(Kind::Gray, 4, 3, 9), TILED),
+        (Tool::Tile(4, 3), &[Part::Begin(Kind::Gray, 4, 3, 9)], TILED),
     ]
-}
-
-/// The tool takes this part, and gives these for it.
-fn answers_by(
-    rt: &impl Abort,
-    alloc: Global,
-    state: &mut ToolState,
-    part: Part<'_>,
-    wants: &[Part<'_>],
-) -> Result<(), Fail> {
-    let mut given = Vec::new(alloc);
-    state.feed(message(alloc, part)?)?;
-    take_all(state, &mut given)?;
-    are_made_of(rt, given.as_slice(), wants);
-    Ok(())
 }
 
 /// Nothing is given for a row, and the whole result at the end of the image; the next image finds
 /// nothing of it.
 #[test]
 fn gives_all_rows_at_the_end(rt: HostRuntime) -> Result<(), Fail> {
-    let alloc = rt.alloc();
-    for (tool, head, rest) in keepers() {
-        let mut state = start(alloc, &tool)?;
-        for _ in 0..3 {
-            answers_by(&rt, alloc, &mut state, HEAD, &[head])?;
-            answers_by(&rt, alloc, &mut state, FIRST, &[])?;
-            answers_by(&rt, alloc, &mut state, SECOND, &[])?;
-            answers_by(&rt, alloc, &mut state, Part::ImageEnd, rest)?;
-        }
-        answers_by(&rt, alloc, &mut state, Part::StreamEnd, &[Part::StreamEnd])?;
-        gives_nothing(&rt, &mut state);
+    for (tool, heads, rest) in keepers() {
+        gives_images(&rt, rt.alloc(), &tool, heads, rest)?;
     }
     Ok(())
 }
 
+/// Nothing is given for either row.
+const NO_FIRST: Step<'static> = Step::Answers(&[FIRST], &[]);
+
+const NO_SECOND: Step<'static> = Step::Answers(&[SECOND], &[]);
+
+const LAST: Step<'static> = Step::Answers(&[Part::StreamEnd], &[Part::StreamEnd]);
+
+/// The tool gives the results of three images, each at its end.
+fn gives_images(
+    rt: &impl Abort,
+    alloc: Global,
+    tool: &Tool,
+    heads: &'static [Part<'static>],
+    rest: &'static [Part<'static>],
+) -> Result<(), Fail> {
+    let begins = Step::Answers(&[HEAD], heads);
+    let ends = Step::Answers(&[Part::ImageEnd], rest);
+    let steps = [
+        begins,
+        NO_FIRST,
+        NO_SECOND,
+        ends,
+        begins,
+        NO_FIRST,
+        NO_SECOND,
+        ends,
+        begins,
+        NO_FIRST,
+        NO_SECOND,
+        ends,
+        LAST,
+        Step::GivesNothing,
+    ];
+    goes(rt, alloc, tool, &steps)
+}
+
+/// Two images whose rows are given twice.
+const REPEATED: &[Step<'static>] = &[
+    Step::Answers(&[HEAD], &[Part::Begin(Kind::Gray, 3, 4, 9)]),
+    Step::Answers(&[FIRST], &[FIRST, FIRST]),
+    Step::Answers(&[SECOND], &[SECOND, SECOND]),
+    Step::Answers(&[Part::ImageEnd], &[Part::ImageEnd]),
+    Step::Answers(&[HEAD], &[Part::Begin(Kind::Gray, 3, 4, 9)]),
+    Step::Answers(&[FIRST], &[FIRST, FIRST]),
+    Step::Answers(&[SECOND], &[SECOND, SECOND]),
+    Step::Answers(&[Part::ImageEnd], &[Part::ImageEnd]),
+];
+
 /// Repeated rows don't wait for the end.
 #[test]
 fn gives_repeated_rows_at_once(rt: HostRuntime) -> Result<(), Fail> {
-    let alloc = rt.alloc();
-    let mut state = start(alloc, &Tool::Enlarge(1, 2))?;
-    let head = Part::Begin(Kind::Gray, 3, 4, 9);
-    for _ in 0..2 {
-        answers_by(&rt, alloc, &mut state, HEAD, &[head])?;
-        answers_by(&rt, alloc, &mut state, FIRST, &[FIRST, FIRST])?;
-        answers_by(&rt, alloc, &mut state, SECOND, &[SECOND, SECOND])?;
-        answers_by(&rt, alloc, &mut state, Part::ImageEnd, &[Part::ImageEnd])?;
-    }
-    Ok(())
+    goes(&rt, rt.alloc(), &Tool::Enlarge(1, 2), REPEATED)
 }
 
 /// The parts before a stream is broken off.
@@ -111,19 +126,22 @@ const BROKEN_FRONTS: &[&[Part<'static>]] = &[
     &[HEAD, FIRST, SECOND, Part::ImageEnd, HEAD, SECOND],
 ];
 
+/// What can't come once a stream was broken off.
+const LATER: &[Part<'static>] = &[HEAD, SECOND, Part::ImageEnd, Part::StreamEnd, Part::Stop];
+
 /// Stop gives Stop alone, and none of the rows that were kept; nothing is taken after it.
 #[test]
 fn gives_no_row_after_stop(rt: HostRuntime) -> Result<(), Fail> {
-    let alloc = rt.alloc();
     for (tool, _, _) in keepers() {
         for front in BROKEN_FRONTS {
-            for later in [HEAD, SECOND, Part::ImageEnd, Part::StreamEnd, Part::Stop] {
-                let mut state = after(alloc, &tool, front)?;
-                answers_by(&rt, alloc, &mut state, Part::Stop, &[Part::Stop])?;
-                gives_nothing(&rt, &mut state);
-                let answer = state.feed(message(alloc, later)?);
-                assert_eq!(rt; answer, Err(ToolFault::OutOfOrder), "at {later:?}");
-                stays(&rt, &mut state, ToolFault::OutOfOrder);
+            for later in LATER {
+                let steps = [
+                    Step::Passes(front),
+                    Step::Answers(&[Part::Stop], &[Part::Stop]),
+                    Step::GivesNothing,
+                    Step::Refuses(*later),
+                ];
+                goes(&rt, rt.alloc(), &tool, &steps)?;
             }
         }
     }
@@ -133,22 +151,16 @@ fn gives_no_row_after_stop(rt: HostRuntime) -> Result<(), Fail> {
 /// No message is taken before all rows of the result were given, and `None` after them.
 #[test]
 fn waits_until_all_rows_are_given(rt: HostRuntime) -> Result<(), Fail> {
-    let alloc = rt.alloc();
     for (tool, _, rest) in keepers() {
         for taken in 0..rest.len() + 1 {
             for later in [HEAD, Part::StreamEnd, Part::Stop] {
-                let mut state = after(alloc, &tool, &[HEAD, FIRST, SECOND])?;
-                state.feed(Message::ImageEnd)?;
-                for want in &rest[..taken] {
-                    gives(&rt, &mut state, *want);
-                }
-                let answer = state.feed(message(alloc, later)?);
-                assert_eq!(rt;
-                    answer,
-                    Err(ToolFault::OutOfOrder),
-                    "after {taken} of {rest:?}"
-                );
-                stays(&rt, &mut state, ToolFault::OutOfOrder);
+                let steps = [
+                    Step::Passes(&[HEAD, FIRST, SECOND]),
+                    Step::Takes(Part::ImageEnd),
+                    Step::GivesAll(&rest[..taken]),
+                    Step::Refuses(later),
+                ];
+                goes(&rt, rt.alloc(), &tool, &steps)?;
             }
         }
     }
@@ -158,18 +170,14 @@ fn waits_until_all_rows_are_given(rt: HostRuntime) -> Result<(), Fail> {
 /// Nor before `None` was the answer to a row, to which there is no other.
 #[test]
 fn waits_after_each_row(rt: HostRuntime) -> Result<(), Fail> {
-    let alloc = rt.alloc();
     for (tool, _, _) in keepers() {
         for later in [SECOND, Part::Stop] {
-            let mut state = after(alloc, &tool, &[HEAD])?;
-            state.feed(message(alloc, FIRST)?)?;
-            let answer = state.feed(message(alloc, later)?);
-            assert_eq!(rt;
-                answer,
-                Err(ToolFault::OutOfOrder),
-                "at {later:?} under {tool:?}"
-            );
-            stays(&rt, &mut state, ToolFault::OutOfOrder);
+            let steps = [
+                Step::Passes(&[HEAD]),
+                Step::Takes(FIRST),
+                Step::Refuses(later),
+            ];
+            goes(&rt, rt.alloc(), &tool, &steps)?;
         }
     }
     Ok(())
@@ -197,10 +205,9 @@ const DISORDERS: &[&[Part<'static>]] = &[
 #[test]
 fn refuses_disorder(rt: HostRuntime) -> Result<(), Fail> {
     let alloc = rt.alloc();
-    for (tool, head, _) in keepers() {
+    for (tool, heads, _) in keepers() {
         for parts in DISORDERS {
-            let wants = [head];
-            let case = (*parts, wants.as_slice(), Some(ToolFault::OutOfOrder));
+            let case = (*parts, heads, Some(ToolFault::OutOfOrder));
             answers(&rt, alloc, &tool, &[case])?;
         }
     }
@@ -210,7 +217,6 @@ fn refuses_disorder(rt: HostRuntime) -> Result<(), Fail> {
 /// The same in the second image: the result of the first was given.
 #[test]
 fn refuses_disorder_in_the_second_image(rt: HostRuntime) -> Result<(), Fail> {
-    let alloc = rt.alloc();
     for (tool, _, _) in keepers() {
         for part in [
             HEAD,
@@ -218,10 +224,8 @@ fn refuses_disorder_in_the_second_image(rt: HostRuntime) -> Result<(), Fail> {
             Part::ImageEnd,
             Part::StreamEnd,
         ] {
-            let mut state = after(alloc, &tool, IMAGE_AND_HEAD)?;
-            let answer = state.feed(message(alloc, part)?);
-            assert_eq!(rt; answer, Err(ToolFault::OutOfOrder), "at {part:?}");
-            stays(&rt, &mut state, ToolFault::OutOfOrder);
+            let steps = [Step::Passes(IMAGE_AND_HEAD), Step::Refuses(part)];
+            goes(&rt, rt.alloc(), &tool, &steps)?;
         }
     }
     Ok(())
