@@ -2,7 +2,6 @@
 
 use super::parts::{Part, are_made_of, is_made_of, message, pass_all, start, stays};
 use crate::{Filter, Tool, ToolFault, ToolState};
-use pnm_image::Message;
 use std::alloc::Global;
 use std::process::Abort;
 use std::test::Fail;
@@ -48,19 +47,19 @@ fn goes_on(
     for step in steps {
         match *step {
             Step::Takes(part) => state.feed(message(alloc, part)?)?,
-            Step::Passes(parts) => answers_somehow(alloc, state, parts)?,
+            Step::Passes(parts) => passes(alloc, state, parts)?,
             Step::Answers(parts, wants) => answers_by(rt, alloc, state, parts, wants)?,
             Step::Gives(want) => gives(rt, tool, state, want),
             Step::GivesAll(wants) => gives_all(rt, tool, state, wants),
             Step::GivesNothing => gives_nothing(rt, tool, state),
-            Step::Refuses(part) => refuses(rt, tool, state, message(alloc, part)?),
+            Step::Refuses(part) => refuses(rt, alloc, tool, state, part)?,
         }
     }
     Ok(())
 }
 
-/// The tool takes these parts, and gives something for them.
-fn answers_somehow(alloc: Global, state: &mut ToolState, parts: &[Part<'_>]) -> Result<(), Fail> {
+/// The tool takes these parts, and what it gives for them is let go.
+fn passes(alloc: Global, state: &mut ToolState, parts: &[Part<'_>]) -> Result<(), Fail> {
     let _given = pass_all(alloc, state, parts)?;
     Ok(())
 }
@@ -102,9 +101,20 @@ fn gives_nothing(rt: &impl Abort, tool: &Tool, state: &mut ToolState) {
     }
 }
 
-/// The tool refuses this message, and stays refused.
-fn refuses(rt: &impl Abort, tool: &Tool, state: &mut ToolState, message: Message) {
-    let answer = state.feed(message);
-    assert_eq!(rt; answer, Err(ToolFault::OutOfOrder), "under {tool:?}");
+/// The tool refuses this part, and stays refused.
+fn refuses(
+    rt: &impl Abort,
+    alloc: Global,
+    tool: &Tool,
+    state: &mut ToolState,
+    part: Part<'_>,
+) -> Result<(), Fail> {
+    let answer = state.feed(message(alloc, part)?);
+    assert_eq!(rt;
+        answer,
+        Err(ToolFault::OutOfOrder),
+        "at {part:?} under {tool:?}"
+    );
     stays(rt, state, ToolFault::OutOfOrder);
+    Ok(())
 }
