@@ -11,10 +11,10 @@ use Rattle.pnm_tools.specs.Tile.{tiled_row}
 -- ---- pamenlarge: a row that is given more than once
 
 -- for images of a shape that stays within the limits with its pixels repeated
-pub record IsEnlarging (w : Enlarger) (s : Shape) : Type 0 where
+pub record IsEnlarging (across : ℕ) (s : Shape) : Type 0 where
   pub limits : IsWithinLimits s
-  pub width : s.width * w.across ≤ 1000000
-  pub row : s.width * w.across * s.depth ≤ 16777216
+  pub width : s.width * across ≤ 1000000
+  pub row : s.width * across * s.depth ≤ 16777216
 
 abbrev pub enlarged_due : Enlarger → List (List ℕ)
 enlarged_due w = elim w.row [
@@ -26,11 +26,11 @@ enlarged_due w = elim w.row [
 
 pub record IsReversingRows (w : RowReverser) (come : List (List ℕ)) : Type 0 where
   pub rows : w.rows.items ≡ come
-  pub none_given : w.gives ≡ false
+  pub none_given : w.has_ended ≡ false
 
 -- the last row first
 abbrev pub reversed_due : RowReverser → List (List ℕ)
-reversed_due w = if w.gives then reverse w.rows.items else []
+reversed_due w = if w.has_ended then reverse w.rows.items else []
 
 -- ---- pamflip -transpose: all rows, and a band of rows of the result
 

@@ -54,10 +54,8 @@ impl Rows for Planes {
         _y: u32,
         row: Samples,
     ) -> Result<Option<Samples>, ToolFault> {
-        match pick(alloc, self.numbers.as_slice(), shape, row.as_slice()) {
-            Ok(picked) => Ok(Some(Samples::new(picked))),
-            Err(fault) => Err(fault),
-        }
+        let picked = pick(alloc, self.numbers.as_slice(), shape, row.as_slice())?;
+        Ok(Some(Samples::new(picked)))
     }
 }
 

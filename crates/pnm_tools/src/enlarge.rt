@@ -2,7 +2,7 @@
 
 ghost use Rattle.std.specs.Prelude.{◌≡◌, ◌≤◌, ◌*◌, ◌⊎◌, length, replicate, OnOk, IfOk, IfErr, Ok, Err, None};
 ghost use Rattle.std.specs.List.{flat_map};
-ghost use Rattle.pnm_image.specs.Heads.{IsWithinLimits, row_length};
+ghost use Rattle.pnm_image.specs.Heads.{row_length};
 ghost use Rattle.pnm_tools.specs.declared.fault.ToolFault.TheVariants.{Memory};
 ghost use Rattle.pnm_tools.specs.declared.tool.Tool.TheVariants.{Enlarge};
 ghost use Rattle.pnm_tools.specs.Answering.{row_list};
@@ -30,7 +30,7 @@ pub struct Enlarger {
 impl Maker for Enlarger {
     ghost tool = { λ w. Enlarge w.across w.down };
 
-    ghost ready = { λ w shape rows. IsEnlarging w shape };
+    ghost ready = { λ w shape rows. IsEnlarging w.across shape };
 
     ghost due = { enlarged_due };
 
@@ -105,7 +105,7 @@ pub(crate) fn enlarged_head(
 ) -> Result<Head, ToolFault>
     requires { IsFactor across × IsFactor down }
     ensures made { IfOk result (λ made. result_head (Enlarge across down) head.now ≡ Ok made) }
-    ensures limits { OnOk result (IsWithinLimits head.now.shape × (head.now.shape.width * across ≤ 1000000) × (head.now.shape.width * across * head.now.shape.depth ≤ 16777216)) }
+    ensures ready { OnOk result (IsEnlarging across head.now.shape) }
     ensures refused { IfErr result (λ fault. (result_head (Enlarge across down) head.now ≡ Err fault)
         ⊎ ((fault ≡ Memory) × Takes (Enlarge across down) head.now)) }
 {
@@ -135,8 +135,7 @@ fn repeat_pixels(
     row: &[u16],
 ) -> Result<Vec<u16>, ToolFault>
     requires row { length row.now ≡ row_length shape }
-    requires limits { IsWithinLimits shape }
-    requires fits { shape.width * across * shape.depth ≤ 16777216 }
+    requires ready { IsEnlarging across shape }
     ensures made { IfOk result (λ made. made.items ≡ enlarged_row across shape row.now) }
     ensures refused { IfErr result (λ fault. fault ≡ Memory) }
 {

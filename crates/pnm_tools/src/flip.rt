@@ -88,8 +88,8 @@ impl Rows for Mirror {
 #[derive(Debug, Drop)]
 pub struct RowReverser {
     rows: Vec<Samples>,
-    /// The image has ended.
-    gives: bool,
+    /// Whether the image has ended, and its rows are given.
+    has_ended: bool,
 }
 
 impl Maker for RowReverser {
@@ -104,7 +104,7 @@ impl Maker for RowReverser {
     fn begin(&mut self, alloc: Global, head: &Head) -> Result<Head, ToolFault> {
         let reversed = flipped_head(alloc, FlipWay::TopBottom, head)?;
         self.rows = Vec::with_capacity(alloc, head.shape().height as usize)?;
-        self.gives = false;
+        self.has_ended = false;
         Ok(reversed)
     }
 
@@ -120,11 +120,11 @@ impl Maker for RowReverser {
     }
 
     fn end(&mut self, _shape: Shape) {
-        self.gives = true;
+        self.has_ended = true;
     }
 
     fn give(&mut self, _alloc: Global) -> Result<Option<Samples>, ToolFault> {
-        if !self.gives {
+        if !self.has_ended {
             return Ok(None);
         }
         Ok(self.rows.pop())
@@ -139,11 +139,11 @@ impl RowReverser {
     /// The tool before the first row.
     pub(crate) fn new(alloc: Global) -> RowReverser
         ensures rows { result.rows.items ≡ [] }
-        ensures gives { result.gives ≡ false }
+        ensures coming { result.has_ended ≡ false }
     {
         RowReverser {
             rows: Vec::new(alloc),
-            gives: false,
+            has_ended: false,
         }
     }
 }

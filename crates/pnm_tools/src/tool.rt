@@ -72,18 +72,15 @@ impl Tool {
         ensures equal { IfOk result (λ tool. tool ≡ self.now) }
         ensures refused { IfErr result (λ fault. fault ≡ Memory) }
     {
-        match self {
-            Tool::Invert => Ok(Tool::Invert),
-            Tool::Cut(cut) => Ok(Tool::Cut(*cut)),
-            Tool::Depth(maxval) => Ok(Tool::Depth(*maxval)),
-            Tool::Channel(planes) => match planes.copy() {
-                Ok(planes) => Ok(Tool::Channel(planes)),
-                Err(fault) => Err(fault),
-            },
-            Tool::Enlarge(across, down) => Ok(Tool::Enlarge(*across, *down)),
-            Tool::Flip(way) => Ok(Tool::Flip(*way)),
-            Tool::Tile(across, down) => Ok(Tool::Tile(*across, *down)),
-        }
+        Ok(match self {
+            Tool::Invert => Tool::Invert,
+            Tool::Cut(cut) => Tool::Cut(*cut),
+            Tool::Depth(maxval) => Tool::Depth(*maxval),
+            Tool::Channel(planes) => Tool::Channel(planes.copy()?),
+            Tool::Enlarge(across, down) => Tool::Enlarge(*across, *down),
+            Tool::Flip(way) => Tool::Flip(*way),
+            Tool::Tile(across, down) => Tool::Tile(*across, *down),
+        })
     }
 
     /// Whether the rows of an image may be dealt to several of this tool, each of which sees an image

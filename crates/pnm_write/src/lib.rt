@@ -15,6 +15,7 @@ mod write;
 
 pub use fault::SinkFault;
 pub use sink::Sink;
+pub use write::write_all;
 
 #[cfg(test)]
 mod tests;

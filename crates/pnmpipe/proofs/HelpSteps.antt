@@ -1,12 +1,10 @@
 -- Writing the help text.
-use Rattle.std.proofs.Common.{ℕ, List, Option, sym, subst}
-use Rattle.std.specs.Io.KnownBytes.{Keeps}
+use Rattle.std.proofs.Common.{ℕ, List, Option, [], subst}
+use Rattle.std.proofs.lemmas.List.{append-nil}
+use Rattle.std.specs.Io.KnownBytes.{Appends, Keeps}
 use Rattle.pnm_write.specs.Writes.{AppendsFront}
-use Rattle.pnm_write.proofs.Written.{Sending, Appends-nothing, then_front}
+use Rattle.pnm_write.proofs.Written.{Appends-nothing, then_front}
 
--- where the writer takes no more, what it took is a front of the text
-pub sent_front : {W : Type 0} (held : W → Option (List ℕ)) (failures : W → ℕ) (same : W → W → Type 0) (old a b : W) (bytes rest : List ℕ)
-    → Sending held failures same old a bytes rest → Keeps (held a) (held b) → AppendsFront (held old) (held b) bytes
-sent_front held failures same old a b bytes rest s keeps =
-    subst (AppendsFront (held old) (held b)) (sym s.written.parts)
-    (then_front (held old) (held a) (held b) s.written.front rest s.written.appended (0, Appends-nothing (held a) (held b) keeps))
+-- what was written whole and then kept is a front of the text
+pub flushed_front : (old written new : Option (List ℕ)) (text : List ℕ) → Appends old written text → Keeps written new → AppendsFront old new text
+flushed_front old written new text appended kept = subst (AppendsFront old new) (append-nil text) (then_front old written new text [] appended (0, Appends-nothing written new kept))

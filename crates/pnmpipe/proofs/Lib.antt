@@ -3,7 +3,6 @@ pub mod DownstreamSteps
 pub mod StageSteps
 pub mod FaultSteps
 pub mod PassingSteps
-pub mod HelpSteps
 pub mod DefaultReads
 pub mod CommandLineSteps
 pub mod ToolSteps
@@ -20,3 +19,4 @@ pub mod LawfulLaws
 pub mod ReadingLaws
 pub mod ParsingLaws
 pub mod FaultLaws
+pub mod HelpSteps

@@ -6,7 +6,8 @@ use Rattle.pnm_image.specs.Images.{Image, messages_of_stream}
 use Rattle.pnm_read.specs.Said.{said_of}
 use Rattle.pnm_tools.specs.declared.cut.CutBox.{CutBox}
 use Rattle.pnm_tools.specs.declared.tool.Tool.{Tool}
-use Rattle.pnm_tools.specs.declared.tool.Tool.TheVariants.{Invert, Cut, Depth, Channel}
+use Rattle.pnm_tools.specs.declared.flip.FlipWay.TheVariants.{LeftRight, TopBottom, Transpose}
+use Rattle.pnm_tools.specs.declared.tool.Tool.TheVariants.{Invert, Cut, Depth, Channel, Enlarge, Flip, Tile}
 use Rattle.pnm_tools.specs.Channel.{picks}
 use Rattle.pnm_tools.specs.Chains.{due_in_turn}
 use Rattle.pnm_write.specs.Encoding.{bytes_of}
@@ -32,3 +33,9 @@ pub record ExamplesHold : Type 0 where
   pub planes : IsExample (codes "P3 1 1 255 10 20 30") (Channel (picks (2 ∷ 0 ∷ []) []) ∷ []) (image Color 1 1 3 255 (10 ∷ 20 ∷ 30 ∷ []) ∷ []) (codes "P7\nWIDTH 1\nHEIGHT 1\nDEPTH 2\nMAXVAL 255\nENDHDR\n" ++ 30 ∷ 10 ∷ [])
   pub last : IsExample (codes "P5\n2 1\n9\n" ++ (1 ∷ 2 ∷ (codes "P6\n1 1\n9\n" ++ 3 ∷ 4 ∷ 5 ∷ []))) (Cut last_column ∷ []) (image Gray 2 1 1 9 (1 ∷ 2 ∷ []) ∷ image Color 1 1 3 9 (3 ∷ 4 ∷ 5 ∷ []) ∷ []) (codes "P5\n1 1\n9\n" ++ (2 ∷ (codes "P6\n1 1\n9\n" ++ 3 ∷ 4 ∷ 5 ∷ [])))
   pub chain : IsExample (codes "P5\n2 1\n9\n" ++ 1 ∷ 2 ∷ []) (Invert ∷ Cut last_column ∷ []) (image Gray 2 1 1 9 (1 ∷ 2 ∷ []) ∷ []) (codes "P5\n1 1\n9\n" ++ 7 ∷ [])
+  pub enlarged : IsExample (codes "P5\n1 1\n9\n" ++ 7 ∷ []) (Enlarge 2 2 ∷ Invert ∷ []) (image Gray 1 1 1 9 (7 ∷ []) ∷ []) (codes "P5\n2 2\n9\n" ++ 2 ∷ 2 ∷ 2 ∷ 2 ∷ [])
+  pub enlarged_across : IsExample (codes "P5\n1 3\n9\n" ++ 1 ∷ 2 ∷ 3 ∷ []) (Enlarge 2 1 ∷ []) (image Gray 1 3 1 9 (1 ∷ 2 ∷ 3 ∷ []) ∷ []) (codes "P5\n2 3\n9\n" ++ 1 ∷ 1 ∷ 2 ∷ 2 ∷ 3 ∷ 3 ∷ [])
+  pub left_right : IsExample (codes "P6\n2 1\n255\nABCDEF") (Flip LeftRight ∷ []) (image Color 2 1 3 255 (65 ∷ 66 ∷ 67 ∷ 68 ∷ 69 ∷ 70 ∷ []) ∷ []) (codes "P6\n2 1\n255\nDEFABC")
+  pub top_bottom : IsExample (codes "P6\n1 2\n255\nABCDEF") (Flip TopBottom ∷ []) (image Color 1 2 3 255 (65 ∷ 66 ∷ 67 ∷ 68 ∷ 69 ∷ 70 ∷ []) ∷ []) (codes "P6\n1 2\n255\nDEFABC")
+  pub transposed : IsExample (codes "P5\n2 3\n9\n" ++ 1 ∷ 2 ∷ 3 ∷ 4 ∷ 5 ∷ 6 ∷ []) (Flip Transpose ∷ []) (image Gray 2 3 1 9 (1 ∷ 2 ∷ 3 ∷ 4 ∷ 5 ∷ 6 ∷ []) ∷ []) (codes "P5\n3 2\n9\n" ++ 1 ∷ 3 ∷ 5 ∷ 2 ∷ 4 ∷ 6 ∷ [])
+  pub tiled : IsExample (codes "P5\n2 2\n9\n" ++ 1 ∷ 2 ∷ 3 ∷ 4 ∷ []) (Tile 3 3 ∷ []) (image Gray 2 2 1 9 (1 ∷ 2 ∷ 3 ∷ 4 ∷ []) ∷ []) (codes "P5\n3 3\n9\n" ++ 1 ∷ 2 ∷ 1 ∷ 3 ∷ 4 ∷ 3 ∷ 1 ∷ 2 ∷ 1 ∷ [])

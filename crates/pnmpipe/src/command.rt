@@ -12,6 +12,7 @@ use crate::fault_line::{print_chain_fault, print_run_fault, print_usage, print_w
 use crate::serial::run_serial;
 use pnm_image::{BytesIn, BytesOut};
 use pnm_tools::Tool;
+use pnm_write::write_all;
 use std::alloc::Global;
 use std::io::Write;
 
@@ -94,12 +95,7 @@ fn run<R: BytesIn, W: BytesOut, E: Write>(
 fn print_help<W: BytesOut>(output: &mut W, text: &str)
     ensures { AppendsFront (W.held output.old) (W.held output.new) text.now }
 {
-    let mut rest = text.as_bytes();
-    while !rest.is_empty() {
-        match output.write(rest) {
-            Ok(count) => (_, rest) = rest.split_at(count),
-            Err(_) => return,
-        }
+    if let Ok(()) = write_all(output, text.as_bytes()) {
+        let _ = output.flush();
     }
-    let _ = output.flush();
 }

@@ -19,7 +19,7 @@ const CHAIN_HELP: &str = "1 to 16 tools, parted by |, in one word";
 
 const RING_HELP: &str = "Room between two tools, 1 to 1024; no effect yet";
 
-const TOOLS: &str = "Tools:
+const AFTER_HELP: &str = "Tools:
   pnminvert
   pamcut [-left N] [-right N] [-top N] [-bottom N] [-width N] [-height N]
   pamdepth MAXVAL
@@ -97,7 +97,7 @@ fn program<'a>(alloc: Global) -> Result<Command<'a>, AllocError>
     Command::new(alloc, "pnmpipe")
         .about(ABOUT)
         .override_usage(USAGE)
-        .after_help(TOOLS)
+        .after_help(AFTER_HELP)
         .arg(ring)?
         .arg(chain)
 }

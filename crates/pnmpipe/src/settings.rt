@@ -42,8 +42,9 @@ pub(crate) struct Settings<'a> {
     way: Option<FlipWay>,
     /// The arguments of `pamchannel`.
     planes: Vec<u16>,
-    /// The arguments of another tool.
+    /// The maxval, the factor, or the width that `pnmtile` fills.
     first: Option<u32>,
+    /// The height that `pnmtile` fills.
     second: Option<u32>,
 }
 

@@ -117,15 +117,29 @@ fn waits_until_all_is_given(rt: HostRuntime) -> Result<(), Fail> {
 /// A row that comes before the head was asked for, and once more.
 const UNASKED: &[Step<'static>] = &[Step::Takes(HEAD), Step::Refuses(ROW), Step::Refuses(ROW)];
 
-/// The same after a row that isn't kept, to which there is no answer.
+/// The same after a row to which there is no answer, or none before the image's end.
 #[test]
 fn waits_where_nothing_is_given(rt: HostRuntime) -> Result<(), Fail> {
-    let tool = Tool::Cut(CutBox {
+    let second_row = CutBox {
         top: Some(1),
         ..WHOLE
-    });
-    let steps = [Step::Passes(&[HEAD]), Step::Takes(ROW), Step::Refuses(ROW)];
-    goes(&rt, rt.alloc(), &tool, &steps)
+    };
+    for tool in [
+        Tool::Cut(second_row),
+        Tool::Flip(FlipWay::TopBottom),
+        Tool::Flip(FlipWay::Transpose),
+        Tool::Tile(3, 1),
+    ] {
+        for later in [ROW, Part::Stop] {
+            let steps = [
+                Step::Passes(&[HEAD]),
+                Step::Takes(ROW),
+                Step::Refuses(later),
+            ];
+            goes(&rt, rt.alloc(), &tool, &steps)?;
+        }
+    }
+    Ok(())
 }
 
 /// The parts before a stream ends well.
@@ -170,6 +184,7 @@ const BROKEN_FRONTS: &[&[Part<'static>]] = &[
     &[HEAD, ROW],
     &[HEAD, ROW, ROW],
     &[HEAD, ROW, ROW, Part::ImageEnd],
+    &[HEAD, ROW, ROW, Part::ImageEnd, HEAD, ROW],
 ];
 
 /// Stop gives Stop alone, wherever it comes; nothing is given after it, and nothing is taken.
@@ -195,12 +210,23 @@ const DISORDERS: &[Disorder<'static>] = &[
     (&[HEAD, ROW], HEAD),
     (&[HEAD, ROW], Part::ImageEnd),
     (&[HEAD, ROW], Part::StreamEnd),
+    (&[HEAD, ROW], Part::Row(&[])),
+    (&[HEAD, ROW], Part::Row(&[1])),
+    (&[HEAD, ROW], Part::Row(&[1, 2, 3])),
+    (&[HEAD, ROW], Part::Row(&[0, 10])),
     (&[HEAD, ROW, ROW], ROW),
     (&[HEAD, ROW, ROW], HEAD),
     (&[HEAD, ROW, ROW], Part::StreamEnd),
     (&[HEAD, ROW, ROW, Part::ImageEnd], Part::ImageEnd),
     (&[HEAD, ROW, ROW, Part::ImageEnd], ROW),
+    (IMAGE_AND_HEAD, HEAD),
+    (IMAGE_AND_HEAD, Part::Row(&[0, 10])),
+    (IMAGE_AND_HEAD, Part::ImageEnd),
+    (IMAGE_AND_HEAD, Part::StreamEnd),
 ];
+
+/// A whole image, and the head of a second one.
+const IMAGE_AND_HEAD: &[Part<'static>] = &[HEAD, ROW, ROW, Part::ImageEnd, HEAD];
 
 #[test]
 fn refuses_disorder(rt: HostRuntime) -> Result<(), Fail> {

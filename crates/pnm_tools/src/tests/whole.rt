@@ -1,8 +1,8 @@
 //! Tools that keep the rows of an image until it has ended.
 
-use super::parts::{Part, answers};
+use super::parts::Part;
 use super::steps::{Step, goes};
-use crate::{FlipWay, Tool, ToolFault};
+use crate::{FlipWay, Tool};
 use pnm_image::Kind;
 use std::alloc::Global;
 use std::process::Abort;
@@ -14,10 +14,6 @@ const HEAD: Part<'static> = Part::Begin(Kind::Gray, 3, 2, 9);
 const FIRST: Part<'static> = Part::Row(&[1, 2, 3]);
 
 const SECOND: Part<'static> = Part::Row(&[4, 5, 6]);
-
-const IMAGE: &[Part<'static>] = &[HEAD, FIRST, SECOND, Part::ImageEnd];
-
-const IMAGE_AND_HEAD: &[Part<'static>] = &[HEAD, FIRST, SECOND, Part::ImageEnd, HEAD];
 
 /// What each tool gives after the head.
 const TURNED: &[Part<'static>] = &[Part::Row(&[4, 5, 6]), Part::Row(&[1, 2, 3]), Part::ImageEnd];
@@ -116,38 +112,6 @@ fn gives_repeated_rows_at_once(rt: HostRuntime) -> Result<(), Fail> {
     goes(&rt, rt.alloc(), &Tool::Enlarge(1, 2), REPEATED)
 }
 
-/// The parts before a stream is broken off.
-const BROKEN_FRONTS: &[&[Part<'static>]] = &[
-    &[],
-    &[HEAD],
-    &[HEAD, FIRST],
-    &[HEAD, FIRST, SECOND],
-    IMAGE,
-    &[HEAD, FIRST, SECOND, Part::ImageEnd, HEAD, SECOND],
-];
-
-/// What can't come once a stream was broken off.
-const LATER: &[Part<'static>] = &[HEAD, SECOND, Part::ImageEnd, Part::StreamEnd, Part::Stop];
-
-/// Stop gives Stop alone, and none of the rows that were kept; nothing is taken after it.
-#[test]
-fn gives_no_row_after_stop(rt: HostRuntime) -> Result<(), Fail> {
-    for (tool, _, _) in keepers() {
-        for front in BROKEN_FRONTS {
-            for later in LATER {
-                let steps = [
-                    Step::Passes(front),
-                    Step::Answers(&[Part::Stop], &[Part::Stop]),
-                    Step::GivesNothing,
-                    Step::Refuses(*later),
-                ];
-                goes(&rt, rt.alloc(), &tool, &steps)?;
-            }
-        }
-    }
-    Ok(())
-}
-
 /// No message is taken before all rows of the result were given, and `None` after them.
 #[test]
 fn waits_until_all_rows_are_given(rt: HostRuntime) -> Result<(), Fail> {
@@ -162,70 +126,6 @@ fn waits_until_all_rows_are_given(rt: HostRuntime) -> Result<(), Fail> {
                 ];
                 goes(&rt, rt.alloc(), &tool, &steps)?;
             }
-        }
-    }
-    Ok(())
-}
-
-/// Nor before `None` was the answer to a row, to which there is no other.
-#[test]
-fn waits_after_each_row(rt: HostRuntime) -> Result<(), Fail> {
-    for (tool, _, _) in keepers() {
-        for later in [SECOND, Part::Stop] {
-            let steps = [
-                Step::Passes(&[HEAD]),
-                Step::Takes(FIRST),
-                Step::Refuses(later),
-            ];
-            goes(&rt, rt.alloc(), &tool, &steps)?;
-        }
-    }
-    Ok(())
-}
-
-/// Parts the last of which can't come: an image that doesn't begin or end where it may, a row too
-/// many, and rows of another length or beyond the maxval.
-const DISORDERS: &[&[Part<'static>]] = &[
-    &[HEAD, HEAD],
-    &[HEAD, Part::ImageEnd],
-    &[HEAD, FIRST, HEAD],
-    &[HEAD, FIRST, Part::ImageEnd],
-    &[HEAD, FIRST, Part::StreamEnd],
-    &[HEAD, FIRST, SECOND, SECOND],
-    &[HEAD, FIRST, SECOND, HEAD],
-    &[HEAD, FIRST, SECOND, Part::StreamEnd],
-    &[HEAD, FIRST, Part::Row(&[])],
-    &[HEAD, FIRST, Part::Row(&[4, 5])],
-    &[HEAD, FIRST, Part::Row(&[4, 5, 6, 7])],
-    &[HEAD, FIRST, Part::Row(&[4, 10, 6])],
-    &[HEAD, Part::Row(&[10, 2, 3])],
-];
-
-/// The head alone was given before; the fault stays.
-#[test]
-fn refuses_disorder(rt: HostRuntime) -> Result<(), Fail> {
-    let alloc = rt.alloc();
-    for (tool, heads, _) in keepers() {
-        for parts in DISORDERS {
-            let case = (*parts, heads, Some(ToolFault::OutOfOrder));
-            answers(&rt, alloc, &tool, &[case])?;
-        }
-    }
-    Ok(())
-}
-
-/// The same in the second image: the result of the first was given.
-#[test]
-fn refuses_disorder_in_the_second_image(rt: HostRuntime) -> Result<(), Fail> {
-    for (tool, _, _) in keepers() {
-        for part in [
-            HEAD,
-            Part::Row(&[4, 10, 6]),
-            Part::ImageEnd,
-            Part::StreamEnd,
-        ] {
-            let steps = [Step::Passes(IMAGE_AND_HEAD), Step::Refuses(part)];
-            goes(&rt, rt.alloc(), &tool, &steps)?;
         }
     }
     Ok(())

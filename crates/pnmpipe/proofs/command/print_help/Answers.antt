@@ -1,16 +1,11 @@
-use Rattle.pnm_write.proofs.Written.{sending_more}
-use Rattle.pnmpipe.proofs.HelpSteps.{sent_front}
+use Rattle.std.proofs.Common.{subst}
+use Rattle.pnm_write.specs.Writes.{AppendsFront}
+use Rattle.pnmpipe.proofs.HelpSteps.{flushed_front}
 use Rattle.pnmpipe.proofs.command.print_help.Goals as goal
 
-pub loop-rest-preserved : goal.loop-rest-preserved
-loop-rest-preserved g c =
-    rw c.split_at.ensures.back (sending_more g.W.BytesOut.held g.W.BytesOut.failures g.W.BytesOut.same c.args.output.now c.loop-rest.output c.write.new.self c.args.text.now c.loop-rest.rest.now c.in-Ok.count c.loop-rest.invariant c.in-Ok.ensures.bytes c.in-Ok.ensures.count
-    (g.met.W.BytesOut.same_later _ _ _ c.loop-rest.invariant.same_device c.in-Ok.ensures.same_device))
-
-pub returns-in-Err : goal.returns-in-Err
-returns-in-Err g c =
-    sent_front g.W.BytesOut.held g.W.BytesOut.failures g.W.BytesOut.same c.args.output.now c.loop-rest.output c.write.new.self c.args.text.now c.loop-rest.rest.now c.loop-rest.invariant c.in-Err.ensures.bytes
-
-pub returns : goal.returns
-returns g c =
-    sent_front g.W.BytesOut.held g.W.BytesOut.failures g.W.BytesOut.same c.args.output.now c.loop-rest.output c.flush.new.self c.args.text.now c.loop-rest.rest.now c.loop-rest.invariant c.flush.ensures.bytes
+pub returns-in-Ok : goal.returns-in-Ok
+returns-in-Ok g c =
+    let held = g.W.BytesOut.held in
+    let old = held c.args.output.now in
+    let new = held c.flush.new.self in
+    subst (AppendsFront old new) c.as_bytes.ensures.value (flushed_front old (held c.write_all.new.writer) new c.as_bytes.result.now c.in-Ok.ensures.written c.flush.ensures.bytes)

@@ -20,6 +20,12 @@ computed = record {
   planes = record { said = refl; due = refl };
   last = record { said = refl; due = refl };
   chain = record { said = refl; due = refl };
+  enlarged = record { said = refl; due = refl };
+  enlarged_across = record { said = refl; due = refl };
+  left_right = record { said = refl; due = refl };
+  top_bottom = record { said = refl; due = refl };
+  transposed = record { said = refl; due = refl };
+  tiled = record { said = refl; due = refl };
 }
 
 pub returns : goal.returns

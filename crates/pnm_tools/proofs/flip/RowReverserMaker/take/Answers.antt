@@ -6,4 +6,4 @@ use Rattle.pnm_tools.proofs.flip.RowReverserMaker.take.Goals as goal
 pub returns-clause-due : goal.returns-clause-due
 returns-clause-due c =
     let none : List (List ℕ) = [] in
-    ap (λ (gives : Bool). if gives then reverse c.push.new.self.items else none) c.requires.ready.2.none_given ∙ sym (row_of_flip TopBottom c.args._shape c.args._y c.args.row)
+    ap (λ (ended : Bool). if ended then reverse c.push.new.self.items else none) c.requires.ready.2.none_given ∙ sym (row_of_flip TopBottom c.args._shape c.args._y c.args.row)
