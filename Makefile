@@ -15,9 +15,10 @@ check: toolchain
 	sh scripts/refused_growth.sh
 	rt ci
 
-# each allocation of the stored run, of a run over three tools, and of the program's words, refused in turn
+# each allocation of the stored run, of each tool, of a run over three tools, and of the program's words, refused in turn
 refused-growth: toolchain
 	sh scripts/refused_growth.sh
+	sh scripts/refused_growth_of_tools.sh
 	sh scripts/refused_growth_of_chains.sh
 	sh scripts/refused_growth_of_words.sh
 
@@ -27,5 +28,5 @@ toolchain:
 help:
 	@echo "make                 proves the crates, builds the program and leaves it as bin/pnmpipe"
 	@echo "make check           the whole gate: every proof from nothing, the edits that must fail, the tests and the stored run"
-	@echo "make refused-growth  refuses each allocation of the stored run, of a chain of three tools, and of the program's words, in turn"
+	@echo "make refused-growth  refuses each allocation of the stored run, of each tool, of a chain of three tools, and of the program's words, in turn"
 	@echo "make help            this list"

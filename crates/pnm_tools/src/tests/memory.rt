@@ -1,5 +1,6 @@
 //! Want of memory. With ample memory each call succeeds; where an allocation is refused, the call
 //! answers `Memory`, and a tool at work answers it for good though memory is there again.
+//! `scripts/refused_growth_of_tools.sh` refuses each allocation of these tests in turn.
 
 use super::parts::{Part, WHOLE, channel, is_made_of, message, stays};
 use crate::{CutBox, Filter, FlipWay, Tool, ToolFault, ToolState};
@@ -139,44 +140,55 @@ fn takes(rt: &impl Abort, state: &mut ToolState, wants: &[Part<'_>], given: &mut
     panic!(rt; "the answers have no end")
 }
 
-/// The tool answers the image with these parts, or `Memory` from some message on.
-fn answers_image(rt: &impl Abort, alloc: Global, tool: &Tool, wants: &[Part<'_>]) {
+/// The tool answers the image with these parts, or `Memory` from some message on. Whether nothing was
+/// refused.
+fn answers_image(rt: &impl Abort, alloc: Global, tool: &Tool, wants: &[Part<'_>]) -> bool {
     assert!(rt; tool.is_lawful());
     match tool.start(alloc) {
         Ok(mut state) => answers_parts(rt, alloc, &mut state, wants),
-        Err(fault) => assert_eq!(rt; fault, ToolFault::Memory),
+        Err(fault) => {
+            assert_eq!(rt; fault, ToolFault::Memory);
+            false
+        }
     }
 }
 
 /// The same of a tool at work.
-fn answers_parts(rt: &impl Abort, alloc: Global, state: &mut ToolState, wants: &[Part<'_>]) {
+fn answers_parts(
+    rt: &impl Abort,
+    alloc: Global,
+    state: &mut ToolState,
+    wants: &[Part<'_>],
+) -> bool {
     let mut given = 0;
     for part in IMAGE {
         // Where no message can be made, the test ends.
         let Ok(message) = message(alloc, *part) else {
-            return;
+            return false;
         };
         if let Err(fault) = state.feed(message) {
             assert_eq!(rt; fault, ToolFault::Memory, "at {part:?}");
             stays(rt, state, ToolFault::Memory);
-            return;
+            return false;
         }
         if !takes(rt, state, wants, &mut given) {
-            return;
+            return false;
         }
     }
     assert_eq!(rt; given, wants.len());
+    true
 }
 
-/// The head rule answers the image's head with this, or with `Memory`, and then with this.
-fn answers_head(rt: &impl Abort, alloc: Global, tool: &Tool, want: Part<'_>) {
+/// The head rule answers the image's head with this, or with `Memory`, and then with this. Whether
+/// nothing was refused.
+fn answers_head(rt: &impl Abort, alloc: Global, tool: &Tool, want: Part<'_>) -> bool {
     assert!(rt; tool.is_lawful());
     let Ok(Message::Begin(head)) = message(alloc, Part::Pam(3, 2, 2, 4, "A")) else {
-        return;
+        return false;
     };
-    let answer = match tool.head(alloc, &head) {
-        Err(ToolFault::Memory) => tool.head(alloc, &head),
-        answer => answer,
+    let (answer, refused) = match tool.head(alloc, &head) {
+        Err(ToolFault::Memory) => (tool.head(alloc, &head), true),
+        answer => (answer, false),
     };
     match answer {
         Ok(head) => {
@@ -185,86 +197,120 @@ fn answers_head(rt: &impl Abort, alloc: Global, tool: &Tool, want: Part<'_>) {
         }
         Err(fault) => panic!(rt; "{fault:?} in place of {want:?}"),
     }
+    !refused
 }
 
 #[test]
 fn inverts_or_runs_out(rt: HostRuntime) {
-    answers_image(&rt, rt.alloc(), &Tool::Invert, INVERTED);
+    let _ = answers_image(&rt, rt.alloc(), &Tool::Invert, INVERTED);
 }
 
 #[test]
 fn cuts_or_runs_out(rt: HostRuntime) {
-    answers_image(&rt, rt.alloc(), &Tool::Cut(REST), CUT);
+    let _ = answers_image(&rt, rt.alloc(), &Tool::Cut(REST), CUT);
 }
 
 /// Twelve samples up to 4: the image is worth a table.
 #[test]
 fn rescales_or_runs_out(rt: HostRuntime) {
-    answers_image(&rt, rt.alloc(), &Tool::Depth(8), RESCALED);
+    let _ = answers_image(&rt, rt.alloc(), &Tool::Depth(8), RESCALED);
 }
 
 #[test]
 fn picks_or_runs_out(rt: HostRuntime) {
     if let Ok(tool) = channel(rt.alloc(), &[1, 0, 1], "B") {
-        answers_image(&rt, rt.alloc(), &tool, PICKED);
+        let _ = answers_image(&rt, rt.alloc(), &tool, PICKED);
     }
 }
 
 /// A row that is made where it comes, and copied where it is given.
 #[test]
 fn enlarges_or_runs_out(rt: HostRuntime) {
-    answers_image(&rt, rt.alloc(), &Tool::Enlarge(2, 2), ENLARGED);
+    let _ = answers_image(&rt, rt.alloc(), &Tool::Enlarge(2, 2), ENLARGED);
 }
 
 /// A row that is copied where it is given, and was kept as it came.
 #[test]
 fn repeats_rows_or_runs_out(rt: HostRuntime) {
-    answers_image(&rt, rt.alloc(), &Tool::Enlarge(1, 2), REPEATED);
+    let _ = answers_image(&rt, rt.alloc(), &Tool::Enlarge(1, 2), REPEATED);
 }
 
 #[test]
 fn mirrors_or_runs_out(rt: HostRuntime) {
     let alloc = rt.alloc();
-    answers_image(&rt, alloc, &Tool::Flip(FlipWay::Null), IMAGE);
-    answers_image(&rt, alloc, &Tool::Flip(FlipWay::LeftRight), MIRRORED);
+    let _ = answers_image(&rt, alloc, &Tool::Flip(FlipWay::Null), IMAGE);
+    let _ = answers_image(&rt, alloc, &Tool::Flip(FlipWay::LeftRight), MIRRORED);
 }
 
 /// Rows that are kept.
 #[test]
 fn turns_or_runs_out(rt: HostRuntime) {
-    answers_image(&rt, rt.alloc(), &Tool::Flip(FlipWay::TopBottom), TURNED);
+    let _ = answers_image(&rt, rt.alloc(), &Tool::Flip(FlipWay::TopBottom), TURNED);
 }
 
 /// Rows that are kept, and others that are made at the image's end.
 #[test]
 fn transposes_or_runs_out(rt: HostRuntime) {
-    answers_image(&rt, rt.alloc(), &Tool::Flip(FlipWay::Transpose), TRANSPOSED);
+    let _ = answers_image(&rt, rt.alloc(), &Tool::Flip(FlipWay::Transpose), TRANSPOSED);
 }
 
-/// More columns and rows than there are, and fewer of both.
+/// More columns and rows than there are, and fewer of both. Whether nothing was refused.
+fn tiles(rt: &impl Abort, alloc: Global) -> bool {
+    let filled = answers_image(rt, alloc, &Tool::Tile(4, 3), TILED);
+    answers_image(rt, alloc, &Tool::Tile(2, 1), CORNER) && filled
+}
+
 #[test]
 fn tiles_or_runs_out(rt: HostRuntime) {
-    answers_image(&rt, rt.alloc(), &Tool::Tile(4, 3), TILED);
-    answers_image(&rt, rt.alloc(), &Tool::Tile(2, 1), CORNER);
+    let _ = tiles(&rt, rt.alloc());
+}
+
+/// The same, where nothing is refused.
+#[test]
+fn tiles_with_memory(rt: HostRuntime) {
+    assert!(rt; tiles(&rt, rt.alloc()));
+}
+
+/// The tools that hold no list, and the head that each makes of the image's.
+fn heads() -> [(Tool, Part<'static>); 9] {
+    let same = Part::Pam(3, 2, 2, 4, "A");
+    let wider = Part::Pam(6, 4, 2, 4, "A");
+    [
+        (Tool::Invert, same),
+        (Tool::Cut(REST), Part::Pam(2, 2, 2, 4, "A")),
+        (Tool::Depth(8), Part::Pam(3, 2, 2, 8, "A")),
+        (Tool::Enlarge(2, 2), wider),
+        (Tool::Tile(6, 4), wider),
+        (Tool::Flip(FlipWay::Null), same),
+        (Tool::Flip(FlipWay::LeftRight), same),
+        (Tool::Flip(FlipWay::TopBottom), same),
+        (Tool::Flip(FlipWay::Transpose), Part::Pam(2, 3, 2, 4, "A")),
+    ]
+}
+
+/// Whether nothing was refused.
+fn gives_heads(rt: &impl Abort, alloc: Global) -> bool {
+    let mut refused = false;
+    for (tool, want) in heads() {
+        if !answers_head(rt, alloc, &tool, want) {
+            refused = true;
+        }
+    }
+    match channel(alloc, &[1, 0, 1], "B") {
+        Ok(tool) => answers_head(rt, alloc, &tool, Part::Pam(3, 2, 3, 4, "B")) && !refused,
+        Err(_) => false,
+    }
 }
 
 #[test]
 fn gives_heads_or_runs_out(rt: HostRuntime) {
-    let alloc = rt.alloc();
-    answers_head(&rt, alloc, &Tool::Invert, Part::Pam(3, 2, 2, 4, "A"));
-    answers_head(&rt, alloc, &Tool::Cut(REST), Part::Pam(2, 2, 2, 4, "A"));
-    answers_head(&rt, alloc, &Tool::Depth(8), Part::Pam(3, 2, 2, 8, "A"));
-    let (same, wider) = (Part::Pam(3, 2, 2, 4, "A"), Part::Pam(6, 4, 2, 4, "A"));
-    answers_head(&rt, alloc, &Tool::Enlarge(2, 2), wider);
-    answers_head(&rt, alloc, &Tool::Tile(6, 4), wider);
-    for way in [FlipWay::Null, FlipWay::LeftRight, FlipWay::TopBottom] {
-        answers_head(&rt, alloc, &Tool::Flip(way), same);
-    }
-    let transpose = Tool::Flip(FlipWay::Transpose);
-    answers_head(&rt, alloc, &transpose, Part::Pam(2, 3, 2, 4, "A"));
-    if let Ok(tool) = channel(alloc, &[1, 0, 1], "B") {
-        answers_head(&rt, alloc, &tool, Part::Pam(3, 2, 3, 4, "B"));
-    }
+    let _ = gives_heads(&rt, rt.alloc());
+}
+
+/// The same, where nothing is refused.
+#[test]
+fn gives_heads_with_memory(rt: HostRuntime) {
+    assert!(rt; gives_heads(&rt, rt.alloc()));
 }
 
 /// A copy that was refused can be asked for again.

@@ -107,14 +107,11 @@ fn answers_a_failed_read(rt: HostRuntime) {
     }
 }
 
-/// How a writer fails, what is answered, and how many bytes of the output are written.
+/// A write for each byte; the write after so many fails, and later ones don't. The bytes before it are
+/// written.
 #[test]
 fn answers_a_failed_write(rt: HostRuntime) {
-    let failed = Err(RunFault::Output(SinkFault::WriteFailed));
-    let cut = Err(RunFault::Input(InputFault::RasterCut));
-    let well = Ok(Summary { images: 1, rows: 1 });
     for before in 0..14 {
-        // A write for each byte; the write after so many fails, and later ones don't.
         let mut sips = Sips {
             held: Vec::new(rt.alloc()),
             most: 1,
@@ -128,9 +125,9 @@ fn answers_a_failed_write(rt: HostRuntime) {
             &[Tool::Invert],
         );
         let want = if before < INVERTED.len() {
-            failed
+            Err(RunFault::Output(SinkFault::WriteFailed))
         } else {
-            well
+            Ok(Summary { images: 1, rows: 1 })
         };
         assert_eq!(rt; answer, want, "after {before} writes");
         assert_eq!(rt;
@@ -139,7 +136,15 @@ fn answers_a_failed_write(rt: HostRuntime) {
             "after {before} writes"
         );
     }
-    for (input, most, writes, flushes, want, output) in [
+}
+
+/// How a writer fails, whole or cut input, what is answered, and what is written. The fault of the
+/// input comes before that of the output.
+#[test]
+fn answers_a_failed_flush(rt: HostRuntime) {
+    let failed = RunFault::Output(SinkFault::WriteFailed);
+    let cut = RunFault::Input(InputFault::RasterCut);
+    for (input, most, writes, flushes, fault, output) in [
         (
             IMAGE,
             0,
@@ -185,7 +190,7 @@ fn answers_a_failed_write(rt: HostRuntime) {
             &mut Device::new(&mut sips),
             &[Tool::Invert],
         );
-        assert_eq!(rt; answer, want, "{most} bytes a write");
+        assert_eq!(rt; answer, Err(fault), "{most} bytes a write");
         assert_eq!(rt; sips.held.as_slice(), output, "{most} bytes a write");
     }
 }

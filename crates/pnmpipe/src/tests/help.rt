@@ -90,7 +90,7 @@ fn refuses_before_help(rt: HostRuntime) -> Result<(), Fail> {
 /// The text fits a screen, and so does each line.
 #[test]
 fn fits_a_screen(rt: HostRuntime) {
-    assert_eq!(rt; HELP.lines().count(), 24);
+    assert!(rt; HELP.lines().count() <= 24);
     for line in HELP.lines() {
         assert!(rt; line.len() <= 80, "at {line}");
     }

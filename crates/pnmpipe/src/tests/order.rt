@@ -9,6 +9,8 @@ use pnm_image::Device;
 use pnm_read::InputFault;
 use pnm_tools::{Tool, ToolFault};
 use pnm_write::SinkFault;
+use std::alloc::Global;
+use std::process::Abort;
 use std::test::Fail;
 
 /// Images of which the first alone has a second column, or the first and the last.
@@ -19,16 +21,15 @@ const NARROW_BETWEEN: &[u8] = b"P5\n2 1\n9\n\x01\x02P5\n1 1\n9\n\x03P5\n2 1\n9\n
 /// An input, tools that refuse an image, what is answered and what is written.
 type Refused<'a> = (&'a [u8], &'a [Tool], RunFault, &'a [u8]);
 
-/// Of the tools that refuse an image the first is answered, whichever does so earlier in the stream;
-/// a fault of the input is answered before them. The images before the first refusal are written, and
-/// nothing after.
+/// Of the tools that refuse an image the first is answered, whichever does so earlier in the stream.
+/// The images before the first refusal are written, and nothing after.
 #[test]
 fn answers_the_first_fault(rt: HostRuntime) -> Result<(), Fail> {
     let outside = RunFault::Tool(1, ToolFault::CutOutside);
     let second = channel(rt.alloc(), &[1], b"")?;
     let second_again = channel(rt.alloc(), &[1], b"")?;
     let second_third = channel(rt.alloc(), &[1], b"")?;
-    let cases: [Refused<'_>; 10] = [
+    let cases: [Refused<'_>; 7] = [
         (
             NARROW,
             &[Tool::Cut(FROM_SECOND)],
@@ -68,6 +69,24 @@ fn answers_the_first_fault(rt: HostRuntime) -> Result<(), Fail> {
             RunFault::Tool(1, ToolFault::ChannelOutside),
             b"",
         ),
+    ];
+    are_refused(&rt, rt.alloc(), &cases);
+    Ok(())
+}
+
+/// Each is refused so.
+fn are_refused(rt: &impl Abort, alloc: Global, cases: &[Refused<'_>]) {
+    for (input, tools, fault, output) in cases {
+        let (answer, written) = run_chain(rt, alloc, tools, input);
+        assert_eq!(rt; answer, Err(*fault), "at {:?}, {:?}", tools, input);
+        assert_eq!(rt; written.as_slice(), *output, "at {:?}, {:?}", tools, input);
+    }
+}
+
+/// A fault of the input is answered before those of the tools, also where it comes after them.
+#[test]
+fn answers_the_input_first(rt: HostRuntime) {
+    let cases: [Refused<'_>; 3] = [
         (
             b"P5\n1 1\n9\n\x03XX",
             &[Tool::Cut(FROM_SECOND)],
@@ -87,12 +106,7 @@ fn answers_the_first_fault(rt: HostRuntime) -> Result<(), Fail> {
             b"P5\n1 1\n9\n\x02P6\n1 1\n9\n",
         ),
     ];
-    for (input, tools, fault, output) in &cases {
-        let (answer, written) = run_chain(&rt, rt.alloc(), tools, input);
-        assert_eq!(rt; answer, Err(*fault), "at {:?}, {:?}", tools, input);
-        assert_eq!(rt; written.as_slice(), *output, "at {:?}, {:?}", tools, input);
-    }
-    Ok(())
+    are_refused(&rt, rt.alloc(), &cases);
 }
 
 /// A plane that isn't there.

@@ -179,7 +179,8 @@ fn runs_on_the_widest_image(rt: HostRuntime) -> Result<(), Fail> {
     Ok(())
 }
 
-/// Two images, the second of one row, through all seven.
+/// Two images, the second of one row, through all seven. What comes of them, here and below, was
+/// computed by the formulas of the manual pages, apart from the program.
 const SEVEN: &[u8] =
     b"P6\n3 2\n9\n\x00\x01\x02\x03\x04\x05\x06\x07\x08\x09\x08\x07\x06\x05\x04\x03\x02\x01P7\nWIDTH 2\nHEIGHT 1\nDEPTH 3\nMAXVAL 3\nTUPLTYPE X\nENDHDR\n\x00\x01\x02\x03\x00\x01";
 
