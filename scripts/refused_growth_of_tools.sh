@@ -1,7 +1,7 @@
 #!/bin/sh
-# Refuses each allocation of a tool at work, of its head rule and of its copy in turn, until none of them
-# meets a refusal. Each has to be answered by name, and a tool at work to stay refused: the tests of
-# src/tests/memory.rt say so, and those of the two that allocate most whether one was met.
+# Refuses the allocations of a tool at work, of its head rule and of its copy in turn, until the tests of
+# pnmtile and of all head rules meet no refusal; that the others allocate no more often isn't tested. Each
+# has to be answered by name, and a tool at work to stay refused: the tests of src/tests/memory.rt say so.
 set -eu
 cd "$(dirname "$0")/../crates/pnm_tools"
 work=$(mktemp -d)
