@@ -1,3 +1,4 @@
 pub mod Greatest
 pub mod Rows
 pub mod Streams
+pub mod Written

@@ -4,7 +4,7 @@ use Rattle.std.specs.List.{AllByRecursion, concat}
 use Rattle.std.proofs.lemmas.List.{take_at, drop_at, take-append-drop, length-take, length-drop, length-append, nil_from_length}
 use Rattle.std.proofs.lemmas.List.Elements.{All-nil, All-append, All-take, All-drop}
 use Rattle.pnm_image.specs.declared.shape.Shape.{Shape}
-use Rattle.pnm_image.specs.Heads.{Header, IsHeader, row_length}
+use Rattle.pnm_image.specs.Heads.{HeadValue, IsHead, row_length}
 use Rattle.pnm_image.specs.Places.{IsRowOf}
 use Rattle.pnm_image.specs.Images.{Image, IsImage, cut_rows, rows_of}
 
@@ -55,11 +55,11 @@ range-concat s [] h = All-nil (λ sample. sample ≤ s.maxval)
 range-concat s (row ∷ rows) h = All-append (λ sample. sample ≤ s.maxval) row (concat rows) h.0.range (range-concat s rows h.1)
 
 -- the image of a head and rows
-abbrev pub image_of : Header → List (List ℕ) → Image
+abbrev pub image_of : HeadValue → List (List ℕ) → Image
 image_of head rows = record { head = head; samples = concat rows }
 
 -- all rows of a head's shape make an image
-pub IsImage-image_of : (head : Header) (rows : List (List ℕ)) → IsHeader head → length rows ≡ head.shape.height → AreRowsOf head.shape rows → IsImage (image_of head rows)
+pub IsImage-image_of : (head : HeadValue) (rows : List (List ℕ)) → IsHead head → length rows ≡ head.shape.height → AreRowsOf head.shape rows → IsImage (image_of head rows)
 IsImage-image_of head rows h count are = record {
   head = h;
   count = length-concat (row_length head.shape) rows (lengths_of_rows head.shape rows are) ∙ ap (λ (n : ℕ). n * row_length head.shape) count;
@@ -67,7 +67,7 @@ IsImage-image_of head rows h count are = record {
 }
 
 -- the rows of the image of a head and rows are these rows
-pub rows_of-image_of : (head : Header) (rows : List (List ℕ)) → length rows ≡ head.shape.height → AreRowsOf head.shape rows → rows_of (image_of head rows) ≡ rows
+pub rows_of-image_of : (head : HeadValue) (rows : List (List ℕ)) → length rows ≡ head.shape.height → AreRowsOf head.shape rows → rows_of (image_of head rows) ≡ rows
 rows_of-image_of head rows count are =
     ap (λ (n : ℕ). cut_rows n (row_length head.shape) (concat rows)) (sym count) ∙ cut_rows-concat (row_length head.shape) rows (lengths_of_rows head.shape rows are)
 

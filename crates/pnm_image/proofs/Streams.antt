@@ -8,7 +8,7 @@ use Rattle.pnm_image.specs.declared.message.Message.{Message}
 use Rattle.pnm_image.specs.declared.message.Message.TheVariants.{Begin, Row, ImageEnd, StreamEnd, Stop}
 use Rattle.pnm_image.specs.declared.place.Place.{Place}
 use Rattle.pnm_image.specs.declared.place.Place.TheVariants.{Between, Inside, After}
-use Rattle.pnm_image.specs.Heads.{Header, IsHeader, row_length}
+use Rattle.pnm_image.specs.Heads.{HeadValue, IsHead, row_length}
 use Rattle.pnm_image.specs.Messages.{IsMessage, EndsStream, without_stop}
 use Rattle.pnm_image.specs.Places.{IsRowOf, IsLawfulFrom, IsLawful}
 use Rattle.pnm_image.specs.Images.{Image, AreImages, rows_of, messages_of_stream}
@@ -20,7 +20,7 @@ abbrev pub rest_of_image : List (List ℕ) → List Message → List Message
 rest_of_image rows rest = (map Row rows ++ ImageEnd ∷ []) ++ rest
 
 -- the messages of the image of a head and rows, and of more images
-pub stream_of_image : (head : Header) (rows : List (List ℕ)) (is : List Image) → length rows ≡ head.shape.height → AreRowsOf head.shape rows
+pub stream_of_image : (head : HeadValue) (rows : List (List ℕ)) (is : List Image) → length rows ≡ head.shape.height → AreRowsOf head.shape rows
     → messages_of_stream (image_of head rows ∷ is) ≡ Begin head ∷ rest_of_image rows (messages_of_stream is)
 stream_of_image head rows is count are = ap (λ (rs : List (List ℕ)). Begin head ∷ rest_of_image rs (messages_of_stream is)) (rows_of-image_of head rows count are)
 
@@ -38,7 +38,7 @@ nothing_after [] lawful = refl
 nothing_after (m ∷ ms) lawful = absurd lawful.0
 
 -- an image begins: its rows are those that come, and the images are one more
-begin_rest : (head : Header) (ms : List Message) → IsHeader head → IsRestOfStream (Inside head.shape 0) ms → IsRestOfStream Between (Begin head ∷ ms)
+begin_rest : (head : HeadValue) (ms : List Message) → IsHead head → IsRestOfStream (Inside head.shape 0) ms → IsRestOfStream Between (Begin head ∷ ms)
 begin_rest head ms h r =
     let count : length r.0 ≡ head.shape.height = omega (arith, r.2) in
     (image_of head r.0 ∷ r.1, (IsImage-image_of head r.0 h count r.3, r.4), ap (λ (rest : List Message). Begin head ∷ rest) r.5 ∙ sym (stream_of_image head r.0 r.1 count r.3))
@@ -163,7 +163,7 @@ complete_here (Inside s y) reached =
 complete_here After reached = tt
 
 -- an image begins: the rows that complete it make an image
-complete_begin : (head : Header) (ms : List Message) → IsHeader head → HasCompletion (Inside head.shape 0) ms → HasCompletion Between (Begin head ∷ ms)
+complete_begin : (head : HeadValue) (ms : List Message) → IsHead head → HasCompletion (Inside head.shape 0) ms → HasCompletion Between (Begin head ∷ ms)
 complete_begin head ms h r =
     let count : length r.0 ≡ head.shape.height = omega (arith, r.2) in
     let f = front_more (Begin head) (without_stop ms) (rest_of_image r.0 (messages_of_stream r.1)) r.5 in

@@ -1,5 +1,6 @@
 -- What a device says of its calls: how many of them failed, and which bytes it gave or took.
-use Rattle.std.specs.Prelude.{◌≡◌, ℕ, ◌+◌, ◌-◌, ◌^◌, ◌<◌, min, ◌⊎◌, Result, MatchResult}
+use Rattle.std.specs.Prelude.{◌≡◌, ℕ, ◌+◌, ◌-◌, ◌^◌, ◌<◌, min, ◌⊎◌, List, take, Option, Result, MatchResult}
+use Rattle.std.specs.Io.KnownBytes.{Appends}
 use Rattle.pnm_image.specs.declared.device.Device.{Device}
 
 -- the count of failures after a call: a failed call adds one, up to the greatest u64
@@ -17,3 +18,11 @@ device_inner d = d.inner
 -- the failures that a device has counted
 abbrev pub device_failures : {D : Type 0} → Device D → ℕ
 device_failures d = d.failures
+
+-- known bytes grow by a front of these
+abbrev pub AppendsFront : Option (List ℕ) → Option (List ℕ) → List ℕ → Type 0
+AppendsFront old new bytes = (n : ℕ) × Appends old new (take n bytes)
+
+-- the writer failed, and a front of the bytes was written
+abbrev pub FailsIn : List ℕ → Option (List ℕ) → Option (List ℕ) → ℕ → ℕ → Type 0
+FailsIn bytes old new failures_old failures_new = AppendsFront old new bytes × Failed failures_old failures_new

@@ -1,5 +1,7 @@
 -- Heads: the kind, the sizes and the maxval of an image, and the tuple type of a PAM image.
 use Rattle.std.specs.Prelude.{◌≡◌, ◌≢◌, ℕ, ◌*◌, ◌-◌, ◌<◌, ◌≤◌, Bool, false, List, [], length, slice_index, All, Option, Some, None, nat_lt, ◌==◌, ◌||◌, if◌then◌else◌}
+use Rattle.pnm_image.specs.Limits.{max_side, max_depth, max_row_length, max_maxval, max_tuple_type_length}
+use Rattle.pnm_image.specs.Texts.{is_blank}
 use Rattle.pnm_image.specs.declared.shape.Kind.{Kind}
 use Rattle.pnm_image.specs.declared.shape.Kind.TheVariants.{Bit, Gray, Color, Pam}
 use Rattle.pnm_image.specs.declared.shape.Shape.{Shape}
@@ -7,7 +9,7 @@ use Rattle.pnm_image.specs.declared.head.HeadFault.{HeadFault}
 use Rattle.pnm_image.specs.declared.head.HeadFault.TheVariants.{ZeroSize, TooLarge, BadMaxval}
 
 -- the value of a head: its shape, and the bytes of its tuple type
-pub record Header : Type 0 where
+pub record HeadValue : Type 0 where
   pub shape : Shape
   pub tuple_type : List ℕ
 
@@ -16,20 +18,16 @@ abbrev pub row_length : Shape → ℕ
 row_length s = s.width * s.depth
 
 -- a head of these fields
-abbrev pub header_of : Shape → List ℕ → Header
-header_of shape tuple_type = record { shape = shape; tuple_type = tuple_type }
+abbrev pub head_value : Shape → List ℕ → HeadValue
+head_value shape tuple_type = record { shape = shape; tuple_type = tuple_type }
 
 -- the same head with another height
-abbrev pub with_height : Header → ℕ → Header
+abbrev pub with_height : HeadValue → ℕ → HeadValue
 with_height h height = record h { shape = record h.shape { height = height } }
-
--- blank, TAB or CR: white space that a line can hold
-abbrev pub is_blank : ℕ → Bool
-is_blank b = (b == 32) || (b == 9) || (b == 13)
 
 -- the text of TUPLTYPE lines, from pam(5): one line, without white space at its ends
 pub record IsTupleType (text : List ℕ) : Type 0 where
-  pub short : length text ≤ 255
+  pub short : length text ≤ max_tuple_type_length
   pub one_line : All (λ b. b ≢ 10) text
   pub first : 0 < length text → is_blank (slice_index text 0) ≡ false
   pub last : 0 < length text → is_blank (slice_index text (length text - 1)) ≡ false
@@ -44,23 +42,27 @@ Suits Pam depth maxval tuple_type = IsTupleType tuple_type
 -- the limits on sizes and maxval; a height of 0 occurs inside the program alone
 pub record IsWithinLimits (s : Shape) : Type 0 where
   pub width_low : 0 < s.width
-  pub width_high : s.width ≤ 1000000
-  pub height_high : s.height ≤ 1000000
+  pub width_high : s.width ≤ max_side
+  pub height_high : s.height ≤ max_side
   pub depth_low : 0 < s.depth
-  pub depth_high : s.depth ≤ 256
-  pub row_high : row_length s ≤ 16777216
+  pub depth_high : s.depth ≤ max_depth
+  pub row_high : row_length s ≤ max_row_length
   pub maxval_low : 0 < s.maxval
-  pub maxval_high : s.maxval ≤ 65535
+  pub maxval_high : s.maxval ≤ max_maxval
 
 -- what holds of each head
-pub record IsHeader (h : Header) : Type 0 where
+pub record IsHead (h : HeadValue) : Type 0 where
   pub limits : IsWithinLimits h.shape
   pub suits : Suits h.shape.kind h.shape.depth h.shape.maxval h.tuple_type
+
+-- a size is beyond the limits
+abbrev pub is_too_large : Shape → Bool
+is_too_large s = nat_lt max_side s.width || nat_lt max_side s.height || nat_lt max_depth s.depth || nat_lt max_row_length (row_length s)
 
 -- what is wrong with a new head's numbers: the first of the faults in their order
 abbrev pub shape_fault : Shape → Option HeadFault
 shape_fault s =
     if (s.width == 0) || (s.height == 0) || (s.depth == 0) then Some ZeroSize
-    else if nat_lt 1000000 s.width || nat_lt 1000000 s.height || nat_lt 256 s.depth || nat_lt 16777216 (row_length s) then Some TooLarge
-    else if (s.maxval == 0) || nat_lt 65535 s.maxval then Some BadMaxval
+    else if is_too_large s then Some TooLarge
+    else if (s.maxval == 0) || nat_lt max_maxval s.maxval then Some BadMaxval
     else None

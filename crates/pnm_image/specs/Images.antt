@@ -3,15 +3,15 @@ use Rattle.std.specs.Prelude.{◌≡◌, ℕ, zero, suc, ◌+◌, ◌*◌, ◌�
 use Rattle.std.specs.List.{AllByRecursion}
 use Rattle.pnm_image.specs.declared.message.Message.{Message}
 use Rattle.pnm_image.specs.declared.message.Message.TheVariants.{Begin, Row, ImageEnd, StreamEnd}
-use Rattle.pnm_image.specs.Heads.{Header, IsHeader, row_length}
+use Rattle.pnm_image.specs.Heads.{HeadValue, IsHead, row_length}
 
 -- a head, and the samples: rows top to bottom, columns left to right, planes in order
 pub record Image : Type 0 where
-  pub head : Header
+  pub head : HeadValue
   pub samples : List ℕ
 
 pub record IsImage (i : Image) : Type 0 where
-  pub head : IsHeader i.head
+  pub head : IsHead i.head
   pub count : length i.samples ≡ i.head.shape.height * row_length i.head.shape
   pub range : All (λ sample. sample ≤ i.head.shape.maxval) i.samples
 

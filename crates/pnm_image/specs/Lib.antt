@@ -1,5 +1,8 @@
+pub mod Limits
+pub mod Texts
 pub mod Devices
 pub mod Heads
+pub mod Packings
 pub mod Messages
 pub mod Places
 pub mod Images

@@ -2,11 +2,11 @@
 use Rattle.std.specs.Prelude.{List, [], ◌∷◌}
 use Rattle.pnm_image.specs.declared.message.Message.{Message}
 use Rattle.pnm_image.specs.declared.message.Message.TheVariants.{Begin, Row, ImageEnd, StreamEnd, Stop}
-use Rattle.pnm_image.specs.Heads.{IsHeader}
+use Rattle.pnm_image.specs.Heads.{IsHead}
 
 -- a message of a program: the head of each image keeps the rules of heads
 abbrev pub IsMessage : Message → Type 0
-IsMessage (Begin head) = IsHeader head
+IsMessage (Begin head) = IsHead head
 IsMessage (Row row) = Unit {0}
 IsMessage ImageEnd = Unit {0}
 IsMessage StreamEnd = Unit {0}

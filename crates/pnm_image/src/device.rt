@@ -1,10 +1,10 @@
 //! Where bytes come from and go to.
 
-ghost use Rattle.std.specs.Prelude.{◌≡◌, ℕ, ◌+◌, ◌-◌, ◌^◌, ◌<◌, min, length, IfOk, List, Option, refl};
+ghost use Rattle.std.specs.Prelude.{◌≡◌, ℕ, ◌+◌, ◌-◌, ◌^◌, ◌<◌, min, length, IfOk, OnOk, OnErr, List, Option, refl};
 ghost use Rattle.std.proofs.Common.{◌∙◌};
 ghost use Rattle.std.specs.Io.{ReadsAtMost, WritesAtMost};
-ghost use Rattle.std.specs.Io.KnownBytes.{ReadConsumes, WriteAppends, Keeps};
-ghost use Rattle.pnm_image.specs.Devices.{CountsFailure, device_inner, device_failures};
+ghost use Rattle.std.specs.Io.KnownBytes.{ReadConsumes, WriteAppends, Appends, Keeps};
+ghost use Rattle.pnm_image.specs.Devices.{CountsFailure, FailsIn, device_inner, device_failures};
 
 use std::io::{Read, Write};
 use thiserror::Error;
@@ -182,4 +182,21 @@ impl<D: Write> BytesOut for Device<D> {
             Err(_) => Err(self.fail()),
         }
     }
+}
+
+/// Writes all the bytes. Where a write fails, what was taken before it is a front of them.
+pub fn write_all<W: BytesOut>(writer: &mut W, bytes: &[u8]) -> Result<(), DeviceFailed>
+    ensures written { OnOk result (Appends (W.held writer.old) (W.held writer.new) bytes.now) }
+    ensures failed { OnErr result (FailsIn bytes.now (W.held writer.old) (W.held writer.new) (W.failures writer.old) (W.failures writer.new)) }
+    ensures count { OnOk result (W.failures writer.new ≡ W.failures writer.old) }
+    ensures same_device { W.same writer.old writer.new }
+{
+    let mut rest = bytes;
+    while !rest.is_empty() {
+        match writer.write(rest) {
+            Ok(count) => (_, rest) = rest.split_at(count),
+            Err(failed) => return Err(failed),
+        }
+    }
+    Ok(())
 }

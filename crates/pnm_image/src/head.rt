@@ -1,8 +1,11 @@
 //! Heads: what an image says of itself before its rows.
 
 ghost use Rattle.std.specs.Prelude.{◌≡◌, ◌≤◌, ◌⊎◌, ◌↔◌, IsTrue, IfOk, OnOk, IfErr};
-ghost use Rattle.pnm_image.specs.Heads.{Suits, IsTupleType, IsHeader, header_of, with_height, is_blank, shape_fault};
+ghost use Rattle.pnm_image.specs.Limits.{max_side};
+ghost use Rattle.pnm_image.specs.Heads.{Suits, IsTupleType, IsHead, head_value, with_height, shape_fault};
 
+use crate::characters::is_blank;
+use crate::limits::MAX_TUPLE_TYPE_LENGTH;
 use crate::shape::{Kind, Shape};
 use std::alloc::Global;
 use std::marker::Model;
@@ -34,13 +37,13 @@ pub struct Head {
 }
 
 impl Model for Head {
-    ghost use Rattle.pnm_image.specs.Heads.{Header, header_of, IsHeader};
+    ghost use Rattle.pnm_image.specs.Heads.{HeadValue, head_value, IsHead};
 
-    ghost Value = { Header };
+    ghost Value = { HeadValue };
 
-    ghost view = { λ h. header_of h.shape h.tuple_type.items };
+    ghost view = { λ h. head_value h.shape h.tuple_type.items };
 
-    ghost invariant = { λ h. IsHeader (header_of h.shape h.tuple_type.items) };
+    ghost invariant = { λ h. IsHead (head_value h.shape h.tuple_type.items) };
 }
 
 impl Head {
@@ -62,7 +65,7 @@ impl Head {
     /// by a fault.
     pub fn new(alloc: Global, shape: Shape, tuple_type: &[u8]) -> Result<Head, HeadFault>
         requires { Suits shape.kind shape.depth shape.maxval tuple_type.now }
-        ensures made { IfOk result (λ head. head ≡ header_of shape tuple_type.now) }
+        ensures made { IfOk result (λ head. head ≡ head_value shape tuple_type.now) }
         ensures sound { OnOk result (shape_fault shape ≡ None) }
         // The numbers are judged first: want of memory comes only where nothing is wrong with them.
         ensures refused { IfErr result (λ fault. (shape_fault shape ≡ Some fault)
@@ -93,7 +96,7 @@ impl Head {
 
     /// The same head with another height, which may be 0 inside a program.
     pub fn with_height(self, height: u32) -> Head
-        requires { height ≤ 1000000 }
+        requires { height ≤ max_side }
         ensures { result ≡ with_height self height }
     {
         let Head { shape, tuple_type } = self;
@@ -106,7 +109,7 @@ impl Head {
     /// The kind, the sizes and the maxval.
     pub fn shape(&self) -> Shape
         ensures shape { result ≡ self.now.shape }
-        ensures sound { IsHeader self.now }
+        ensures sound { IsHead self.now }
     {
         self.shape
     }
@@ -119,17 +122,10 @@ impl Head {
     }
 }
 
-/// Blank, TAB or CR, which don't stand at either end of a tuple type.
-fn is_blank(byte: u8) -> bool
-    ensures { result ≡ is_blank byte }
-{
-    byte == b' ' || byte == b'\t' || byte == b'\r'
-}
-
 fn is_tuple_type(text: &[u8]) -> bool
     ensures { IsTrue result ↔ IsTupleType text.now }
 {
-    if text.len() > 255 || text.contains(&b'\n') {
+    if text.len() > MAX_TUPLE_TYPE_LENGTH || text.contains(&b'\n') {
         return false;
     }
     text.is_empty() || !(is_blank(text[0]) || is_blank(text[text.len() - 1]))

@@ -5,17 +5,21 @@
 //! next. The images are those of pbm(5), pgm(5), ppm(5) and pam(5).
 #![tactic(auto)]
 
+pub mod characters;
 mod device;
 mod head;
 pub mod laws;
+pub mod limits;
 mod message;
+mod packing;
 mod place;
 mod samples;
 mod shape;
 
-pub use device::{BytesIn, BytesOut, Device, DeviceFailed};
+pub use device::{BytesIn, BytesOut, Device, DeviceFailed, write_all};
 pub use head::{Head, HeadFault};
 pub use message::Message;
+pub use packing::Packing;
 pub use place::Place;
 pub use samples::Samples;
 pub use shape::{Kind, Shape};

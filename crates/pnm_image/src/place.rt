@@ -3,6 +3,7 @@
 ghost use Rattle.std.specs.Prelude.{◌≡◌, ◌≤◌, ◌↔◌, IsTrue, All};
 ghost use Rattle.pnm_image.specs.Places.{Accepts, IsRowOf, place_after};
 
+use crate::limits::MAX_MAXVAL;
 use crate::message::Message;
 use crate::shape::Shape;
 
@@ -57,16 +58,13 @@ impl Place {
     }
 }
 
-/// The greatest number that a sample can be.
-const GREATEST_SAMPLE: u32 = 65_535;
-
 /// Whether the row has so many samples, none of them above the maxval. No sample is looked at where
 /// none can be above it.
 fn is_row_of(shape: &Shape, row: &[u16]) -> bool
     ensures { IsTrue result ↔ IsRowOf shape.now row.now }
 {
     row.len() as u64 == shape.row_length()
-        && (shape.maxval >= GREATEST_SAMPLE || u32::from(greatest(row)) <= shape.maxval)
+        && (shape.maxval >= MAX_MAXVAL || u32::from(greatest(row)) <= shape.maxval)
 }
 
 /// The greatest sample, or 0 where there is none. The loop goes over all samples, so that it is

@@ -4,6 +4,7 @@ ghost use Rattle.std.specs.Prelude.{◌≡◌};
 ghost use Rattle.pnm_image.specs.Heads.{row_length, shape_fault};
 
 use crate::head::HeadFault;
+use crate::limits::{MAX_DEPTH, MAX_MAXVAL, MAX_ROW_LENGTH, MAX_SIDE};
 
 /// The format of an image, from pbm(5), pgm(5), ppm(5) and pam(5).
 #[derive(Clone, Copy, Debug, PartialEq, Eq)]
@@ -33,18 +34,6 @@ pub struct Shape {
     pub maxval: u32,
 }
 
-/// The greatest width and the greatest height.
-const MOST_PIXELS: u32 = 1_000_000;
-
-/// The greatest depth.
-const MOST_PLANES: u32 = 256;
-
-/// The greatest number of samples in a row.
-const MOST_SAMPLES: u64 = 16_777_216;
-
-/// The greatest maxval.
-const MOST_MAXVAL: u32 = 65_535;
-
 impl Shape {
     /// Samples in a row: the width times the depth.
     pub fn row_length(&self) -> u64
@@ -60,14 +49,14 @@ impl Shape {
         if self.width == 0 || self.height == 0 || self.depth == 0 {
             return Some(HeadFault::ZeroSize);
         }
-        if self.width > MOST_PIXELS
-            || self.height > MOST_PIXELS
-            || self.depth > MOST_PLANES
-            || self.row_length() > MOST_SAMPLES
+        if self.width > MAX_SIDE
+            || self.height > MAX_SIDE
+            || self.depth > MAX_DEPTH
+            || self.row_length() > MAX_ROW_LENGTH
         {
             return Some(HeadFault::TooLarge);
         }
-        if self.maxval == 0 || self.maxval > MOST_MAXVAL {
+        if self.maxval == 0 || self.maxval > MAX_MAXVAL {
             return Some(HeadFault::BadMaxval);
         }
         None

@@ -7,7 +7,8 @@ use Rattle.pnm_read.specs.declared.fault.InputFault.TheVariants.{TooLong, BadSam
 use Rattle.pnm_read.specs.declared.judgement.Judgement.{Judgement}
 use Rattle.pnm_read.specs.declared.judgement.Judgement.TheVariants.{GoesOn, EndsWith, EndsBefore, Fails}
 use Rattle.pnm_read.specs.declared.decimal.DecimalScanner.{DecimalScanner}
-use Rattle.pnm_read.specs.Texts.{is_digit, is_line_end, commented, commented_after, ends_in_comment, ends_by, uncommented_from, number_in}
+use Rattle.pnm_read.specs.Texts.{is_line_end, commented, commented_after, ends_in_comment, ends_by, uncommented_from, number_in}
+use Rattle.pnm_image.specs.Texts.{is_digit}
 use Rattle.pnm_read.specs.Items.{decimal_item}
 use Rattle.pnm_read.specs.Scans.{JudgesByte}
 use Rattle.pnm_read.specs.Saturation.{saturated, with_digit}

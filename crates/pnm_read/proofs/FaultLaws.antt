@@ -5,15 +5,16 @@ use Rattle.std.specs.List.{concat}
 use Rattle.pnm_image.specs.declared.shape.Shape.{Shape}
 use Rattle.pnm_image.specs.declared.shape.Kind.{Kind}
 use Rattle.pnm_image.specs.declared.shape.Kind.TheVariants.{Bit, Gray, Color, Pam}
-use Rattle.pnm_image.specs.Heads.{Header, row_length}
+use Rattle.pnm_image.specs.Heads.{HeadValue, row_length}
 use Rattle.pnm_read.specs.declared.fault.InputFault.{InputFault}
 use Rattle.pnm_read.specs.declared.fault.InputFault.TheVariants.{TooLong, RasterCut, SampleAboveMaxval, BadSample, ReadFailed, Memory}
 use Rattle.pnm_read.specs.declared.format.Format.{Format}
 use Rattle.pnm_read.specs.declared.judgement.Judgement.TheVariants.{EndsWith, EndsBefore}
-use Rattle.pnm_read.specs.declared.packing.Packing.{Packing}
-use Rattle.pnm_read.specs.declared.packing.Packing.TheVariants.{Packed, Narrow, Wide}
-use Rattle.pnm_read.specs.Texts.{is_digit, is_apart, begins_apart, ends_in_comment, number_in}
-use Rattle.pnm_read.specs.Rasters.{packing_of}
+use Rattle.pnm_image.specs.declared.packing.Packing.{Packing}
+use Rattle.pnm_image.specs.declared.packing.Packing.TheVariants.{Packed, Narrow, Wide}
+use Rattle.pnm_read.specs.Texts.{is_apart, begins_apart, ends_in_comment, number_in}
+use Rattle.pnm_image.specs.Texts.{is_digit}
+use Rattle.pnm_image.specs.Packings.{packing_of}
 use Rattle.pnm_read.specs.Items.{◌>>=◌, piece_from, raw_item, gap_limit, ends_in_digit, is_complete, decimal_item, decimal_end, is_pixel, pixel_item, pixel_end, pixel_in, plain_pixel, sample_item, plain_decimal, plain_sample, after_last_item}
 use Rattle.pnm_read.specs.Said.{Said, in_turn, units_in_row, units_at, raw_row, plain_row, last_plain_row, row_by, row_at, end_said, rows_said, head_said, format_said, image_said, later_said_in, later_said, format_at, head_at, said, fault_of}
 use Rattle.pnm_read.proofs.PlainLaws.{said_from}
@@ -113,7 +114,7 @@ unfolding rows_said
 rows_by_text later format s zero text so = end_by_text later format.is_plain text so
 rows_by_text later format s (suc more) text so = from_row_by_text later format s more (row_at format s more text) (row_by_text format.is_plain s more text) (λ rest. rows_by_text later format s more rest so)
 
-head_said_by_text : (later : List ℕ → Said) (format : Format) (found : Result (Header × List ℕ) InputFault) → EndsSo later → FailsByText found → EndsByText (head_said later format found).fault
+head_said_by_text : (later : List ℕ → Said) (format : Format) (found : Result (HeadValue × List ℕ) InputFault) → EndsSo later → FailsByText found → EndsByText (head_said later format found).fault
 head_said_by_text later format (Ok x) so h = rows_by_text later format x.0.shape x.0.shape.height x.1 so
 head_said_by_text later format (Err fault) so h = h
 

@@ -11,7 +11,7 @@ use Rattle.pnm_read.specs.declared.line.Field.{Field}
 use Rattle.pnm_read.specs.declared.line.Field.TheVariants.{Width, Height, Depth, Maxval}
 use Rattle.pnm_read.specs.declared.line.LineKind.{LineKind}
 use Rattle.pnm_read.specs.declared.line.LineKind.TheVariants.{Nothing, Number, TupleType, End, Unknown}
-use Rattle.pnm_read.specs.Texts.{is_digit, decimal_value}
+use Rattle.pnm_image.specs.Texts.{is_digit, decimal_value}
 use Rattle.pnm_read.specs.Saturation.{saturated}
 use Rattle.pnm_read.specs.PamLines.{after_first, second_token, value_of, line_kind, field_values, joined_with, tuple_type_in}
 use Rattle.pnm_read.specs.Items.{line_item, number_item, tuple_type_item}

@@ -7,7 +7,7 @@ use Rattle.pnm_image.specs.declared.shape.Kind.{Kind}
 use Rattle.pnm_image.specs.declared.shape.Kind.TheVariants.{Bit, Gray, Color, Pam}
 use Rattle.pnm_image.specs.declared.head.HeadFault.{HeadFault}
 use Rattle.pnm_image.specs.declared.head.HeadFault.TheVariants as heads
-use Rattle.pnm_image.specs.Heads.{Header, header_of, shape_fault}
+use Rattle.pnm_image.specs.Heads.{HeadValue, head_value, shape_fault}
 use Rattle.pnm_read.specs.declared.fault.InputFault.{InputFault}
 use Rattle.pnm_read.specs.declared.fault.InputFault.TheVariants.{ReadFailed}
 use Rattle.pnm_read.specs.declared.header.HeaderScanner.{HeaderScanner}
@@ -29,8 +29,8 @@ unfolding numbers_item
 numbers_item_is kind numbers = refl
 
 -- the head that was made of the shape, or what was wrong with it
-pub numbers_given : (kind : Kind) (numbers : List ℕ) (shape : Shape) (made : Result Header HeadFault) (result : Result Header InputFault) → shape ≡ saturated_shape (shape_of kind numbers)
-    → IfOk made (λ head. head ≡ header_of shape []) → OnOk made (shape_fault shape ≡ None) → IfErr made (λ e. (shape_fault shape ≡ Some e) ⊎ ((e ≡ heads.Memory) × (shape_fault shape ≡ None)))
+pub numbers_given : (kind : Kind) (numbers : List ℕ) (shape : Shape) (made : Result HeadValue HeadFault) (result : Result HeadValue InputFault) → shape ≡ saturated_shape (shape_of kind numbers)
+    → IfOk made (λ head. head ≡ head_value shape []) → OnOk made (shape_fault shape ≡ None) → IfErr made (λ e. (shape_fault shape ≡ Some e) ⊎ ((e ≡ heads.Memory) × (shape_fault shape ≡ None)))
     → MatchResult made (λ head. result ≡ Ok head) (λ e. IsErrAnd result (λ fault. fault ≡ fault_of_head e)) → GivesInMemory result (numbers_item kind numbers)
 numbers_given kind numbers shape made result same is sound refused cases =
     subst (GivesInMemory result) (sym (numbers_item_is kind numbers)) (head_given shape (shape_of kind numbers) [] made result same is sound refused cases)
@@ -86,19 +86,19 @@ shape_of_three Pam sizes depth held found e s d n = rw s (shape_of_all Pam depth
 -- ---- the head of a text
 
 -- what the head of a text is after its piece
-abbrev head_after : Kind → Result (List ℕ × List ℕ) InputFault → Result (Header × List ℕ) InputFault
+abbrev head_after : Kind → Result (List ℕ × List ℕ) InputFault → Result (HeadValue × List ℕ) InputFault
 head_after kind piece = piece >>= λ p. numbers_item kind (numbers_in p.0) >>= λ head. Ok (head, p.1)
 
 head_at_is : (kind : Kind) (text : List ℕ) → pnm_head_at kind text ≡ head_after kind (piece_from (header_item (number_count kind)) header_end [] text)
 unfolding pnm_head_at
 head_at_is kind text = refl
 
-abbrev head_with : List ℕ → Result Header InputFault → Result (Header × List ℕ) InputFault
+abbrev head_with : List ℕ → Result HeadValue InputFault → Result (HeadValue × List ℕ) InputFault
 head_with after read = read >>= λ head. Ok (head, after)
 
 -- the head of the numbers of a piece
-found_after : (kind : Kind) (result : Result Header InputFault) (piece text after : List ℕ) → piece_from (header_item (number_count kind)) header_end [] text ≡ Ok (piece, after)
-    → GivesInMemory result (numbers_item kind (numbers_in piece)) → Finds (λ (head : Header). head) (pnm_head_at kind) result text after
+found_after : (kind : Kind) (result : Result HeadValue InputFault) (piece text after : List ℕ) → piece_from (header_item (number_count kind)) header_end [] text ≡ Ok (piece, after)
+    → GivesInMemory result (numbers_item kind (numbers_in piece)) → Finds (λ (head : HeadValue). head) (pnm_head_at kind) result text after
 found_after kind (Ok head) piece text after p gives = head_at_is kind text ∙ ap (head_after kind) p ∙ ap (head_with after) gives
 found_after kind (Err fault) piece text after p gives =
     elim gives [
@@ -132,17 +132,17 @@ numbers_found : (kind : Kind) (now : HeaderScanner) (text piece after : List ℕ
 numbers_found kind now text piece after whole p = record { count = count_is kind text piece after p; most = few_numbers kind; last = whole.last }
 
 -- a head of these numbers is given
-abbrev pub HeadOf : Kind → List ℕ → Result Header InputFault → Type 0
+abbrev pub HeadOf : Kind → List ℕ → Result HeadValue InputFault → Type 0
 HeadOf kind held result = (found : List ℕ) → IsNumbers (number_count kind) found held → GivesInMemory result (numbers_item kind found)
 
-pub head_found : (kind : Kind) (wanted : ℕ) (old now : HeaderScanner) (result : Result Header InputFault) (text after : List ℕ) → IsHeaderFresh wanted old → wanted ≡ number_count kind → length old.numbers ≤ 3 → HeadOf kind now.numbers result
-    → Scans (header_item old.wanted) header_end (IsHeaderAfter old) (IsHeaderWhole now) (Ok tt) text after → Finds (λ (head : Header). head) (pnm_head_at kind) result text after
+pub head_found : (kind : Kind) (wanted : ℕ) (old now : HeaderScanner) (result : Result HeadValue InputFault) (text after : List ℕ) → IsHeaderFresh wanted old → wanted ≡ number_count kind → length old.numbers ≤ 3 → HeadOf kind now.numbers result
+    → Scans (header_item old.wanted) header_end (IsHeaderAfter old) (IsHeaderWhole now) (Ok tt) text after → Finds (λ (head : HeadValue). head) (pnm_head_at kind) result text after
 head_found kind wanted old now result text after fresh count three gives scans =
     let s = fresh_scans kind wanted old now (Ok tt) text after fresh count three scans in
     found_after kind result s.0 text after s.2 (gives (numbers_in s.0) (numbers_found kind now text s.0 after s.1 s.2))
 
 -- the numbers' fault is none of the reader's
-pub head_of_text : (kind : Kind) (wanted : ℕ) (old now : HeaderScanner) (result : Result Header InputFault) (text after : List ℕ) → IsHeaderFresh wanted old → wanted ≡ number_count kind → length old.numbers ≤ 3 → HeadOf kind now.numbers result
+pub head_of_text : (kind : Kind) (wanted : ℕ) (old now : HeaderScanner) (result : Result HeadValue InputFault) (text after : List ℕ) → IsHeaderFresh wanted old → wanted ≡ number_count kind → length old.numbers ≤ 3 → HeadOf kind now.numbers result
     → Scans (header_item old.wanted) header_end (IsHeaderAfter old) (IsHeaderWhole now) (Ok tt) text after → result ≡ Err ReadFailed → ⊥
 head_of_text kind wanted old now result text after fresh count three gives scans =
     let s = fresh_scans kind wanted old now (Ok tt) text after fresh count three scans in

@@ -7,7 +7,7 @@ use Rattle.pnm_image.specs.declared.head.HeadFault.TheVariants as heads
 use Rattle.pnm_image.specs.declared.shape.Kind.{Kind}
 use Rattle.pnm_image.specs.declared.shape.Kind.TheVariants.{Bit, Gray, Color, Pam}
 use Rattle.pnm_image.specs.declared.shape.Shape.{Shape}
-use Rattle.pnm_image.specs.Heads.{Header, header_of, row_length, shape_fault}
+use Rattle.pnm_image.specs.Heads.{HeadValue, head_value, row_length, shape_fault}
 use Rattle.pnm_read.specs.declared.fault.InputFault.{InputFault}
 use Rattle.pnm_read.specs.declared.fault.InputFault.TheVariants.{BadMagic, TooLong, BadNumber, BadPamLine, DuplicateField, MissingField, PlainInStream, ReadFailed, Memory}
 use Rattle.pnm_read.specs.declared.format.Format.{Format}
@@ -16,7 +16,8 @@ use Rattle.pnm_read.specs.declared.judgement.Judgement.TheVariants.{GoesOn, Ends
 use Rattle.pnm_read.specs.declared.line.Field.{Field}
 use Rattle.pnm_read.specs.declared.line.LineKind.{LineKind}
 use Rattle.pnm_read.specs.declared.line.LineKind.TheVariants.{Nothing, Number, TupleType, End, Unknown}
-use Rattle.pnm_read.specs.Texts.{is_digit, numbers_in}
+use Rattle.pnm_read.specs.Texts.{numbers_in}
+use Rattle.pnm_image.specs.Texts.{is_digit}
 use Rattle.pnm_read.specs.Formats.{format_of, number_count, shape_of}
 use Rattle.pnm_read.specs.PamLines.{ended_lines, last_line, second_token, line_kind, field_values, tuple_type_in}
 use Rattle.pnm_read.specs.Items.{◌>>=◌, piece_from, first_magic_item, second_magic_item, header_limit, is_bad_in_header, is_delimiter, header_item, header_end, fault_of_head, numbers_item, line_feed_item, pam_limit, number_item, tuple_type_item, line_item, pam_item, is_incomplete, shape_in, lines_item}
@@ -137,25 +138,25 @@ unfolding header_item
 header_byte_by_text count before b = three_by_text (nat_le header_limit (length before)) (is_bad_in_header before b) (is_delimiter count before b) TooLong BadNumber EndsWith tt tt tt
 
 -- a head, or its fault
-abbrev head_or_fault : Option HeadFault → Header → Result Header InputFault
+abbrev head_or_fault : Option HeadFault → HeadValue → Result HeadValue InputFault
 head_or_fault fault head = elim fault [
   | Some f ↦ Err (fault_of_head f)
   | None ↦ Ok head
 ]
 
 -- a head's fault is one of its numbers
-judged_by_text : (a b c : Bool) (head : Header) → FailsByText (head_or_fault (if a then Some heads.ZeroSize else if b then Some heads.TooLarge else if c then Some heads.BadMaxval else None) head)
+judged_by_text : (a b c : Bool) (head : HeadValue) → FailsByText (head_or_fault (if a then Some heads.ZeroSize else if b then Some heads.TooLarge else if c then Some heads.BadMaxval else None) head)
 judged_by_text true b c head = tt
 judged_by_text false true c head = tt
 judged_by_text false false true head = tt
 judged_by_text false false false head = tt
 
-shape_by_text : (s : Shape) (head : Header) → FailsByText (head_or_fault (shape_fault s) head)
+shape_by_text : (s : Shape) (head : HeadValue) → FailsByText (head_or_fault (shape_fault s) head)
 shape_by_text s head = judged_by_text ((s.width == 0) || (s.height == 0) || (s.depth == 0)) (nat_lt 1000000 s.width || nat_lt 1000000 s.height || nat_lt 256 s.depth || nat_lt 16777216 (row_length s)) ((s.maxval == 0) || nat_lt 65535 s.maxval) head
 
 numbers_by_text : (kind : Kind) (numbers : List ℕ) → FailsByText (numbers_item kind numbers)
 unfolding numbers_item
-numbers_by_text kind numbers = shape_by_text (shape_of kind numbers) (header_of (shape_of kind numbers) [])
+numbers_by_text kind numbers = shape_by_text (shape_of kind numbers) (head_value (shape_of kind numbers) [])
 
 pnm_head_by_text : (kind : Kind) (text : List ℕ) → FailsByText (pnm_head_at kind text)
 unfolding pnm_head_at
@@ -218,17 +219,17 @@ unfolding pam_item
 pam_item_by_text before b = pam_byte_by (nat_le pam_limit (length before)) (b == 10) (line_item (ended_lines before) (last_line before)) (line_kind_by_text (line_kind (last_line before)) (ended_lines before) (last_line before))
 
 -- lines without a number fail, and others make a head or its fault
-lines_by : (missing : Bool) (made : Result Header InputFault) → FailsByText made → FailsByText {A = Header} (if missing then Err MissingField else made)
+lines_by : (missing : Bool) (made : Result HeadValue InputFault) → FailsByText made → FailsByText {A = HeadValue} (if missing then Err MissingField else made)
 lines_by true made h = tt
 lines_by false made h = h
 
 -- the head that lines with each number make, or its fault
-abbrev lines_made : List (List ℕ) → Result Header InputFault
-lines_made lines = head_or_fault (shape_fault (shape_in lines)) (header_of (shape_in lines) (tuple_type_in lines))
+abbrev lines_made : List (List ℕ) → Result HeadValue InputFault
+lines_made lines = head_or_fault (shape_fault (shape_in lines)) (head_value (shape_in lines) (tuple_type_in lines))
 
 pub lines_item_by_text : (lines : List (List ℕ)) → FailsByText (lines_item lines)
 unfolding lines_item
-lines_item_by_text lines = lines_by (is_incomplete lines) (lines_made lines) (shape_by_text (shape_in lines) (header_of (shape_in lines) (tuple_type_in lines)))
+lines_item_by_text lines = lines_by (is_incomplete lines) (lines_made lines) (shape_by_text (shape_in lines) (head_value (shape_in lines) (tuple_type_in lines)))
 
 pub pam_head_by_text : (text : List ℕ) → FailsByText (pam_head_at text)
 unfolding pam_head_at

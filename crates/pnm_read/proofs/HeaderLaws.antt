@@ -8,13 +8,14 @@ use Rattle.std.proofs.lemmas.List.Elements.{All-nil, All-push}
 use Rattle.pnm_image.specs.declared.shape.Shape.{Shape}
 use Rattle.pnm_image.specs.declared.shape.Kind.{Kind}
 use Rattle.pnm_image.specs.declared.shape.Kind.TheVariants.{Bit, Gray, Color, Pam}
-use Rattle.pnm_image.specs.Heads.{Header, IsHeader, IsTupleType, Suits, header_of, shape_fault}
+use Rattle.pnm_image.specs.Heads.{HeadValue, IsHead, IsTupleType, Suits, head_value, shape_fault}
 use Rattle.pnm_read.specs.declared.fault.InputFault.{InputFault}
 use Rattle.pnm_read.specs.declared.fault.InputFault.TheVariants.{BadMagic, TooLong, BadNumber, PlainInStream}
 use Rattle.pnm_read.specs.declared.format.Format.{Format}
 use Rattle.pnm_read.specs.declared.judgement.Judgement.{Judgement}
 use Rattle.pnm_read.specs.declared.judgement.Judgement.TheVariants.{GoesOn, EndsWith, EndsBefore, Fails}
-use Rattle.pnm_read.specs.Texts.{is_white, is_digit, is_apart, begins_apart, ends_in_comment, uncommented, uncommented_from, ends_in_word, words, numbers_in}
+use Rattle.pnm_read.specs.Texts.{is_apart, begins_apart, ends_in_comment, uncommented, uncommented_from, ends_in_word, numbers_in}
+use Rattle.pnm_image.specs.Texts.{is_white, is_digit, words}
 use Rattle.pnm_read.specs.Formats.{plain, raw, format_of, number_count, planes, shape_of, header_numbers}
 use Rattle.pnm_read.specs.Headers.{SpellsPnmHeader, SpellsHeaderBy, SpellsHeader}
 use Rattle.pnm_read.specs.Items.{◌>>=◌, piece_from, first_magic_item, second_magic_item, header_limit, is_bad_in_header, is_delimiter, header_item, header_end, numbers_item}
@@ -253,18 +254,18 @@ suits_kind Color numbers = (refl, refl)
 suits_kind Pam numbers = no_tuple_type
 
 -- numbers that make a head
-record Made (kind : Kind) (numbers : List ℕ) (head : Header) : Type 0 where
-  pub head_is : header_of (shape_of kind numbers) [] ≡ head
-  pub sound : IsHeader head
+record Made (kind : Kind) (numbers : List ℕ) (head : HeadValue) : Type 0 where
+  pub head_is : head_value (shape_of kind numbers) [] ≡ head
+  pub sound : IsHead head
   pub rows : 0 < head.shape.height
 
-numbers_make_head : (kind : Kind) (numbers : List ℕ) (head : Header) → numbers_item kind numbers ≡ Ok head → Made kind numbers head
+numbers_make_head : (kind : Kind) (numbers : List ℕ) (head : HeadValue) → numbers_item kind numbers ≡ Ok head → Made kind numbers head
 unfolding numbers_item
 numbers_make_head kind numbers head e =
     let s : Shape = shape_of kind numbers in
-    let good = head_or_fault_ok (shape_fault s) (header_of s []) head e in
+    let good = head_or_fault_ok (shape_fault s) (head_value s []) head e in
     let limits = limits_of s good.0 in
-    let made : Made kind numbers (header_of s []) = record { head_is = refl; sound = record { limits = limits.0; suits = suits_kind kind numbers }; rows = limits.1 } in
+    let made : Made kind numbers (head_value s []) = record { head_is = refl; sound = record { limits = limits.0; suits = suits_kind kind numbers }; rows = limits.1 } in
     subst (Made kind numbers) good.1 made
 
 -- ---- the magic
@@ -345,7 +346,7 @@ pam_is digit format h k = pam_by (digit == 49) (digit == 50) (digit == 51) (digi
 -- ---- the header that was read
 
 -- the body, the delimiter and the head of a header that was read
-record HeadRead (kind : Kind) (after : List ℕ) (head : Header) (rest : List ℕ) : Type 0 where
+record HeadRead (kind : Kind) (after : List ℕ) (head : HeadValue) (rest : List ℕ) : Type 0 where
   pub body : List ℕ
   pub delimiter : ℕ
   pub so_far : SoFar (number_count kind) body
@@ -353,7 +354,7 @@ record HeadRead (kind : Kind) (after : List ℕ) (head : Header) (rest : List �
   pub whole : after ≡ (body ++ delimiter ∷ []) ++ rest
   pub made : Made kind (numbers_in body) head
 
-head_parts : (kind : Kind) (after : List ℕ) (head : Header) (rest : List ℕ) → pnm_head_at kind after ≡ Ok (head, rest) → HeadRead kind after head rest
+head_parts : (kind : Kind) (after : List ℕ) (head : HeadValue) (rest : List ℕ) → pnm_head_at kind after ≡ Ok (head, rest) → HeadRead kind after head rest
 unfolding pnm_head_at
 head_parts kind after head rest e =
     let count = number_count kind in
@@ -368,8 +369,8 @@ head_parts kind after head rest e =
       delimiter = read.delimiter;
       so_far = read.so_far;
       ended = end;
-      whole = read.whole ∙ ap (λ (t : List ℕ). t ++ piece.0.1) read.piece_is ∙ ap (λ (p : Header × List ℕ). (read.body ++ read.delimiter ∷ []) ++ p.1) parts;
-      made = subst (λ (p : Header × List ℕ). Made kind (numbers_in read.body) p.0) parts (subst (λ (n : List ℕ). Made kind n made.0) numbers (numbers_make_head kind (numbers_in piece.0.0) made.0 made.1));
+      whole = read.whole ∙ ap (λ (t : List ℕ). t ++ piece.0.1) read.piece_is ∙ ap (λ (p : HeadValue × List ℕ). (read.body ++ read.delimiter ∷ []) ++ p.1) parts;
+      made = subst (λ (p : HeadValue × List ℕ). Made kind (numbers_in read.body) p.0) parts (subst (λ (n : List ℕ). Made kind n made.0) numbers (numbers_make_head kind (numbers_in piece.0.0) made.0 made.1));
     }
 
 -- a header of a short body is short
@@ -377,13 +378,13 @@ short_header : (digit delimiter : ℕ) (body : List ℕ) → length body < 65534
 short_header digit delimiter body h = omega (arith, length-append body (delimiter ∷ []))
 
 -- a header of PBM, PGM or PPM that is read is spelled
-pnm_header_is_spelled : (is_first : Bool) (text after rest : List ℕ) (format : Format) (head : Header) → format_at is_first text ≡ Ok (format, after) → pnm_head_at format.kind after ≡ Ok (head, rest)
+pnm_header_is_spelled : (is_first : Bool) (text after rest : List ℕ) (format : Format) (head : HeadValue) → format_at is_first text ≡ Ok (format, after) → pnm_head_at format.kind after ≡ Ok (head, rest)
     → (header : List ℕ) × (text ≡ header ++ rest) × SpellsPnmHeader header format head
 pnm_header_is_spelled is_first text after rest format head f h =
     let magic = magic_is_spelled is_first text format after f in
     let read = head_parts format.kind after head rest h in
     let numbers : List ℕ = numbers_in read.body in
-    let shape : shape_of format.kind numbers ≡ head.shape = ap (λ (x : Header). x.shape) read.made.head_is in (
+    let shape : shape_of format.kind numbers ≡ head.shape = ap (λ (x : HeadValue). x.shape) read.made.head_is in (
       80 ∷ magic.digit ∷ (read.body ++ read.delimiter ∷ []),
       magic.text_is ∙ ap (λ (t : List ℕ). 80 ∷ magic.digit ∷ t) read.whole,
       record {
@@ -406,7 +407,7 @@ pnm_header_is_spelled is_first text after rest format head f h =
     )
 
 -- a header of a kind that is read is spelled
-header_by : (kind : Kind) (is_first : Bool) (text after rest : List ℕ) (format : Format) (head : Header) → format.kind ≡ kind → format_at is_first text ≡ Ok (format, after) → head_by kind after ≡ Ok (head, rest)
+header_by : (kind : Kind) (is_first : Bool) (text after rest : List ℕ) (format : Format) (head : HeadValue) → format.kind ≡ kind → format_at is_first text ≡ Ok (format, after) → head_by kind after ≡ Ok (head, rest)
     → (header : List ℕ) × (text ≡ header ++ rest) × SpellsHeaderBy kind header format head
 header_by Bit is_first text after rest format head k f h = pnm_header_is_spelled is_first text after rest format head f (ap (λ (x : Kind). pnm_head_at x after) k ∙ h)
 header_by Gray is_first text after rest format head k f h = pnm_header_is_spelled is_first text after rest format head f (ap (λ (x : Kind). pnm_head_at x after) k ∙ h)
@@ -418,42 +419,42 @@ header_by Pam is_first text after rest format head k f h =
     (found.0, magic.text_is ∙ ap (λ (d : ℕ). 80 ∷ d ∷ after) seven ∙ found.1, found.2)
 
 -- a header that is read is spelled
-pub read_header_is_spelled : (is_first : Bool) (text after rest : List ℕ) (format : Format) (head : Header) → format_at is_first text ≡ Ok (format, after) → head_at format after ≡ Ok (head, rest)
+pub read_header_is_spelled : (is_first : Bool) (text after rest : List ℕ) (format : Format) (head : HeadValue) → format_at is_first text ≡ Ok (format, after) → head_at format after ≡ Ok (head, rest)
     → (header : List ℕ) × (text ≡ header ++ rest) × SpellsHeader header format head
 read_header_is_spelled is_first text after rest format head f h = header_by format.kind is_first text after rest format head refl f h
 
 -- ---- what holds of any header that is spelled
 
 -- what is known of its head
-pub record IsSpelledHead (format : Format) (head : Header) : Type 0 where
+pub record IsSpelledHead (format : Format) (head : HeadValue) : Type 0 where
   pub kind : head.shape.kind ≡ format.kind
-  pub sound : IsHeader head
+  pub sound : IsHead head
   pub rows : 0 < head.shape.height
 
-spelled_head_by : (kind : Kind) (text : List ℕ) (format : Format) (head : Header) → format.kind ≡ kind → SpellsHeaderBy kind text format head → IsSpelledHead format head
+spelled_head_by : (kind : Kind) (text : List ℕ) (format : Format) (head : HeadValue) → format.kind ≡ kind → SpellsHeaderBy kind text format head → IsSpelledHead format head
 spelled_head_by Bit text format head k s = record { kind = s.kind; sound = s.sound; rows = s.rows }
 spelled_head_by Gray text format head k s = record { kind = s.kind; sound = s.sound; rows = s.rows }
 spelled_head_by Color text format head k s = record { kind = s.kind; sound = s.sound; rows = s.rows }
 spelled_head_by Pam text format head k s = record { kind = s.kind ∙ sym k; sound = s.sound; rows = s.rows }
 
-pub spelled_head : (text : List ℕ) (format : Format) (head : Header) → SpellsHeader text format head → IsSpelledHead format head
+pub spelled_head : (text : List ℕ) (format : Format) (head : HeadValue) → SpellsHeader text format head → IsSpelledHead format head
 spelled_head text format head s = spelled_head_by format.kind text format head refl s
 
 -- it has some bytes
 longer_than : (text : List ℕ) (b : ℕ) (others : List ℕ) → text ≡ b ∷ others → 0 < length text
 longer_than text b others e = let lengths : length text ≡ length others + 1 = ap (λ (t : List ℕ). length t) e ∙ omega arith in omega arith
 
-bytes_by : (kind : Kind) (text : List ℕ) (format : Format) (head : Header) → SpellsHeaderBy kind text format head → 0 < length text
+bytes_by : (kind : Kind) (text : List ℕ) (format : Format) (head : HeadValue) → SpellsHeaderBy kind text format head → 0 < length text
 bytes_by Bit text format head s = longer_than text 80 (s.digit ∷ (s.body ++ s.delimiter ∷ [])) s.whole
 bytes_by Gray text format head s = longer_than text 80 (s.digit ∷ (s.body ++ s.delimiter ∷ [])) s.whole
 bytes_by Color text format head s = longer_than text 80 (s.digit ∷ (s.body ++ s.delimiter ∷ [])) s.whole
 bytes_by Pam text format head s = longer_than text 80 _ s.whole
 
-pub header_has_bytes : (header : List ℕ) (format : Format) (head : Header) → SpellsHeader header format head → 0 < length header
+pub header_has_bytes : (header : List ℕ) (format : Format) (head : HeadValue) → SpellsHeader header format head → 0 < length header
 header_has_bytes header format head s = bytes_by format.kind header format head s
 
 -- what follows a header that is read is shorter than the text
-pub header_shorter : (is_first : Bool) (text after : List ℕ) (format : Format) (found : Header × List ℕ) → format_at is_first text ≡ Ok (format, after) → head_at format after ≡ Ok found → length found.1 < length text
+pub header_shorter : (is_first : Bool) (text after : List ℕ) (format : Format) (found : HeadValue × List ℕ) → format_at is_first text ≡ Ok (format, after) → head_at format after ≡ Ok found → length found.1 < length text
 header_shorter is_first text after format found f h =
     let header = read_header_is_spelled is_first text after found.1 format found.0 f h in
     let some = header_has_bytes header.0 format found.0 header.2 in

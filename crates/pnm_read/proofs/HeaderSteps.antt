@@ -9,7 +9,8 @@ use Rattle.std.proofs.lemmas.List.Elements.{All-nil}
 use Rattle.pnm_read.specs.declared.judgement.Judgement.{Judgement}
 use Rattle.pnm_read.specs.declared.judgement.Judgement.TheVariants.{GoesOn, EndsWith, EndsBefore, Fails}
 use Rattle.pnm_read.specs.declared.header.HeaderScanner.{HeaderScanner}
-use Rattle.pnm_read.specs.Texts.{is_white, is_digit, is_apart, commented, commented_after, ends_in_comment, ends_by, uncommented_from, words, numbers_in}
+use Rattle.pnm_read.specs.Texts.{is_apart, commented, commented_after, ends_in_comment, ends_by, uncommented_from, numbers_in}
+use Rattle.pnm_image.specs.Texts.{is_white, is_digit, words}
 use Rattle.pnm_read.specs.Items.{header_limit, is_bad_in_header, is_delimiter, header_item}
 use Rattle.pnm_read.specs.Scans.{JudgesByte}
 use Rattle.pnm_read.specs.Saturation.{saturated, with_digit}

@@ -7,7 +7,7 @@ use Rattle.pnm_image.specs.declared.shape.Shape.{Shape}
 use Rattle.pnm_image.specs.declared.shape.Kind.{Kind}
 use Rattle.pnm_image.specs.declared.head.HeadFault.{HeadFault}
 use Rattle.pnm_image.specs.declared.head.HeadFault.TheVariants as heads
-use Rattle.pnm_image.specs.Heads.{Header, header_of, shape_fault}
+use Rattle.pnm_image.specs.Heads.{HeadValue, head_value, shape_fault}
 use Rattle.pnm_read.specs.declared.fault.InputFault.{InputFault}
 use Rattle.pnm_read.specs.declared.fault.InputFault.TheVariants.{ReadFailed, Memory}
 use Rattle.pnm_read.specs.Items.{fault_of_head}
@@ -103,17 +103,17 @@ same_shape s e =
 -- ---- the head of a shape
 
 -- what a shape and a tuple type make
-abbrev pub head_item : Shape → List ℕ → Result Header InputFault
-head_item s tuple_type = head_or_fault (shape_fault s) (header_of s tuple_type)
+abbrev pub head_item : Shape → List ℕ → Result HeadValue InputFault
+head_item s tuple_type = head_or_fault (shape_fault s) (head_value s tuple_type)
 
 -- what a shape makes, by what is wrong with it as it is held
-head_as : (held s : Shape) (tuple_type : List ℕ) (fault : Option HeadFault) → held ≡ saturated_shape s → shape_fault held ≡ fault → head_item s tuple_type ≡ head_or_fault fault (header_of s tuple_type)
-head_as held s tuple_type fault same is = ap (λ (f : Option HeadFault). head_or_fault f (header_of s tuple_type)) (sym (same_fault s) ∙ ap shape_fault (sym same) ∙ is)
+head_as : (held s : Shape) (tuple_type : List ℕ) (fault : Option HeadFault) → held ≡ saturated_shape s → shape_fault held ≡ fault → head_item s tuple_type ≡ head_or_fault fault (head_value s tuple_type)
+head_as held s tuple_type fault same is = ap (λ (f : Option HeadFault). head_or_fault f (head_value s tuple_type)) (sym (same_fault s) ∙ ap shape_fault (sym same) ∙ is)
 
 -- the head was made
-head_made : (held s : Shape) (tuple_type : List ℕ) (head : Header) → held ≡ saturated_shape s → head ≡ header_of held tuple_type → shape_fault held ≡ None → head_item s tuple_type ≡ Ok head
+head_made : (held s : Shape) (tuple_type : List ℕ) (head : HeadValue) → held ≡ saturated_shape s → head ≡ head_value held tuple_type → shape_fault held ≡ None → head_item s tuple_type ≡ Ok head
 head_made held s tuple_type head same made sound =
-    head_as held s tuple_type None same sound ∙ ap (λ (h : Header). Ok h) (ap (λ (s : Shape). header_of s tuple_type) (sym (same ∙ same_shape s (ap shape_fault (sym same) ∙ sound))) ∙ sym made)
+    head_as held s tuple_type None same sound ∙ ap (λ (h : HeadValue). Ok h) (ap (λ (s : Shape). head_value s tuple_type) (sym (same ∙ same_shape s (ap shape_fault (sym same) ∙ sound))) ∙ sym made)
 
 -- the head was refused, or memory ran out
 head_refused : (held s : Shape) (tuple_type : List ℕ) (e : HeadFault) (fault : InputFault) → held ≡ saturated_shape s → fault ≡ fault_of_head e → (shape_fault held ≡ Some e) ⊎ ((e ≡ heads.Memory) × (shape_fault held ≡ None))
@@ -125,16 +125,16 @@ head_refused held s tuple_type e fault same is why =
     ]
 
 -- the head that was made of a shape and a tuple type, or what was wrong with it
-pub head_given : (held s : Shape) (tuple_type : List ℕ) (made : Result Header HeadFault) (result : Result Header InputFault) → held ≡ saturated_shape s
-    → IfOk made (λ head. head ≡ header_of held tuple_type) → OnOk made (shape_fault held ≡ None) → IfErr made (λ e. (shape_fault held ≡ Some e) ⊎ ((e ≡ heads.Memory) × (shape_fault held ≡ None)))
+pub head_given : (held s : Shape) (tuple_type : List ℕ) (made : Result HeadValue HeadFault) (result : Result HeadValue InputFault) → held ≡ saturated_shape s
+    → IfOk made (λ head. head ≡ head_value held tuple_type) → OnOk made (shape_fault held ≡ None) → IfErr made (λ e. (shape_fault held ≡ Some e) ⊎ ((e ≡ heads.Memory) × (shape_fault held ≡ None)))
     → MatchResult made (λ head. result ≡ Ok head) (λ e. IsErrAnd result (λ fault. fault ≡ fault_of_head e)) → GivesInMemory result (head_item s tuple_type)
 head_given held s tuple_type (Ok head) result same made sound refused is =
-    subst (λ (r : Result Header InputFault). GivesInMemory r (head_item s tuple_type)) (sym is) (head_made held s tuple_type head same made sound)
+    subst (λ (r : Result HeadValue InputFault). GivesInMemory r (head_item s tuple_type)) (sym is) (head_made held s tuple_type head same made sound)
 head_given held s tuple_type (Err e) (Ok head) same made sound refused is = absurd is
 head_given held s tuple_type (Err e) (Err fault) same made sound refused is = head_refused held s tuple_type e fault same is refused
 
 -- what is wrong with a shape isn't that the reader failed
-pub head_item_of_text : (fault : Option HeadFault) (head : Header) → head_or_fault fault head ≡ Err ReadFailed → ⊥
+pub head_item_of_text : (fault : Option HeadFault) (head : HeadValue) → head_or_fault fault head ≡ Err ReadFailed → ⊥
 head_item_of_text (Some heads.ZeroSize) head e = absurd cc
 head_item_of_text (Some heads.TooLarge) head e = absurd cc
 head_item_of_text (Some heads.BadMaxval) head e = absurd cc
@@ -142,7 +142,7 @@ head_item_of_text (Some heads.Memory) head e = absurd cc
 head_item_of_text None head e = absurd cc
 
 -- nor is it so for what is given in memory
-pub given_of_text : (s : Shape) (tuple_type : List ℕ) (result : Result Header InputFault) → GivesInMemory result (head_item s tuple_type) → result ≡ Err ReadFailed → ⊥
+pub given_of_text : (s : Shape) (tuple_type : List ℕ) (result : Result HeadValue InputFault) → GivesInMemory result (head_item s tuple_type) → result ≡ Err ReadFailed → ⊥
 given_of_text s tuple_type (Ok head) gives e = absurd cc
 given_of_text s tuple_type (Err fault) (inl memory) e = absurd cc
-given_of_text s tuple_type (Err fault) (inr read) e = head_item_of_text (shape_fault s) (header_of s tuple_type) (read ∙ e)
+given_of_text s tuple_type (Err fault) (inr read) e = head_item_of_text (shape_fault s) (head_value s tuple_type) (read ∙ e)

@@ -1,15 +1,12 @@
 -- What is said after a raw image: the end of the stream, or what is said of the next image.
 use Rattle.std.proofs.Common.{◌≡◌, ℕ, zero, suc, ◌<◌, ◌≤◌, Bool, true, false, not, ◌&&◌, if◌then◌else◌, List, [], ◌∷◌, length, Option, Some, None, Result, Ok, Err, refl, sym, ap, ◌∙◌, arith}
 use Rattle.pnm_image.specs.declared.shape.Shape.{Shape}
-use Rattle.pnm_image.specs.declared.shape.Kind.{Kind}
-use Rattle.pnm_image.specs.declared.shape.Kind.TheVariants.{Bit, Gray, Color, Pam}
 use Rattle.pnm_image.specs.declared.message.Message.TheVariants.{Begin, Row, ImageEnd}
-use Rattle.pnm_image.specs.Heads.{Header}
+use Rattle.pnm_image.specs.Heads.{HeadValue}
 use Rattle.pnm_read.specs.declared.fault.InputFault.{InputFault}
 use Rattle.pnm_read.specs.declared.fault.InputFault.TheVariants.{BadMagic, PlainInStream}
 use Rattle.pnm_read.specs.declared.format.Format.{Format}
 use Rattle.pnm_read.specs.Formats.{format_of}
-use Rattle.pnm_read.specs.Headers.{SpellsHeaderBy, SpellsHeader}
 use Rattle.pnm_read.specs.Items.{first_magic_item, second_magic_item}
 use Rattle.pnm_read.specs.Said.{Said, then_said, ends_stream, format_at, head_at, row_by, row_at, end_said, rows_said, head_said, format_said, image_said, later_said_in, later_said}
 use Rattle.pnm_read.proofs.HeaderLaws.{header_shorter}
@@ -78,7 +75,7 @@ rows_same : (plain : Bool) (f g : List ℕ → Said) (format : Format) (s : Shap
 rows_same true f g format s n text e same = plain_same f g format s n text e
 rows_same false f g format s n text e same = raw_same f g format s n text e same
 
-head_same : (f g : List ℕ → Said) (format : Format) (r : Result (Header × List ℕ) InputFault) → ((found : Header × List ℕ) → r ≡ Ok found → SameUpTo (length found.1) f g) → head_said f format r ≡ head_said g format r
+head_same : (f g : List ℕ → Said) (format : Format) (r : Result (HeadValue × List ℕ) InputFault) → ((found : HeadValue × List ℕ) → r ≡ Ok found → SameUpTo (length found.1) f g) → head_said f format r ≡ head_said g format r
 head_same f g format (Err fault) same = refl
 head_same f g format (Ok found) same = ap (then_said (Begin found.0)) (rows_same format.is_plain f g format found.0.shape found.0.shape.height found.1 refl (same found refl))
 

@@ -6,7 +6,7 @@ use Rattle.pnm_read.specs.declared.line.Field.{Field}
 use Rattle.pnm_read.specs.declared.line.Field.TheVariants.{Width, Height, Depth, Maxval}
 use Rattle.pnm_read.specs.declared.line.LineKind.{LineKind}
 use Rattle.pnm_read.specs.declared.line.LineKind.TheVariants.{Nothing, Number, TupleType, End, Unknown}
-use Rattle.pnm_read.specs.Texts.{decimal_value}
+use Rattle.pnm_image.specs.Texts.{decimal_value}
 use Rattle.pnm_read.specs.PamLines.{first_token, second_token, value_of, name_of, begins_with, kind_of_token, line_kind, field_values, joined_with, tuple_type_in}
 use Rattle.pnm_read.proofs.LineLaws.{joined_with-nothing, field_values-append, tuple_type_in-append}
 

@@ -4,7 +4,7 @@ use Rattle.std.specs.List.{AllByRecursion, flat_map}
 use Rattle.std.proofs.lemmas.Bool.Decides.{nat_tests}
 use Rattle.std.proofs.lemmas.List.Elements.{All-push}
 use Rattle.pnm_read.specs.declared.line.Field.{Field}
-use Rattle.pnm_read.specs.Texts.{decimal_value}
+use Rattle.pnm_image.specs.Texts.{decimal_value}
 use Rattle.pnm_read.specs.PamLines.{ended_after, ended_lines, last_after, last_line, second_token, value_of, name_of, begins_with, field_values, joined_with, tuple_type_in}
 use Rattle.pnm_read.specs.Headers.{IsOneLine}
 

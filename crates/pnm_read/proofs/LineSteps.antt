@@ -6,8 +6,7 @@ use Rattle.std.proofs.lemmas.Bool.Decides.{nat_tests}
 use Rattle.std.proofs.lemmas.Int.Digits.{digits_value_more}
 use Rattle.std.proofs.lemmas.List.Folds.{list_all_more, list_all_at}
 use Rattle.std.proofs.lemmas.List.{take_more, drop_more, take_all, drop_all}
-use Rattle.pnm_image.specs.Heads.{is_blank}
-use Rattle.pnm_read.specs.Texts.{is_digit, decimal_value}
+use Rattle.pnm_image.specs.Texts.{is_blank, is_digit, decimal_value}
 use Rattle.pnm_read.specs.Saturation.{saturated, with_digit}
 use Rattle.pnm_read.specs.PamScanners.{number_of}
 use Rattle.pnm_read.proofs.DecimalSteps.{with_digit-saturated}

@@ -6,7 +6,7 @@ use Rattle.pnm_image.specs.declared.shape.Shape.{Shape}
 use Rattle.pnm_image.specs.declared.shape.Kind.{Kind}
 use Rattle.pnm_image.specs.declared.shape.Kind.TheVariants.{Pam}
 use Rattle.pnm_image.specs.declared.head.HeadFault.{HeadFault}
-use Rattle.pnm_image.specs.Heads.{Header, IsHeader, header_of, shape_fault}
+use Rattle.pnm_image.specs.Heads.{HeadValue, IsHead, head_value, shape_fault}
 use Rattle.pnm_read.specs.declared.fault.InputFault.{InputFault}
 use Rattle.pnm_read.specs.declared.fault.InputFault.TheVariants.{MissingField}
 use Rattle.pnm_read.specs.declared.line.Field.TheVariants.{Width, Height, Depth, Maxval}
@@ -18,7 +18,7 @@ use Rattle.pnm_read.proofs.ShapeLaws.{head_or_fault, head_or_fault_ok, limits_of
 use Rattle.pnm_read.proofs.TupleTypeLaws.{tuple_type_in-is}
 use Rattle.pnm_read.proofs.PamLineLaws.{values-end, tuple_type-end, Judged}
 
-missing_by : (w h d m : Bool) (made : Result Header InputFault) (head : Header) → (if w || h || d || m then Err MissingField else made) ≡ Ok head → (w ≡ false) × (h ≡ false) × (d ≡ false) × (m ≡ false) × (made ≡ Ok head)
+missing_by : (w h d m : Bool) (made : Result HeadValue InputFault) (head : HeadValue) → (if w || h || d || m then Err MissingField else made) ≡ Ok head → (w ≡ false) × (h ≡ false) × (d ≡ false) × (m ≡ false) × (made ≡ Ok head)
 missing_by true h d m made head e = absurd cc
 missing_by false true d m made head e = absurd cc
 missing_by false false true m made head e = absurd cc
@@ -32,23 +32,23 @@ one_value (a ∷ []) some single = refl
 one_value (a ∷ b ∷ values) some single = absurd (omega arith)
 
 -- lines that make a head
-pub record MadeOf (lines : List (List ℕ)) (head : Header) : Type 0 where
+pub record MadeOf (lines : List (List ℕ)) (head : HeadValue) : Type 0 where
   pub width : field_values Width lines ≡ head.shape.width ∷ []
   pub height : field_values Height lines ≡ head.shape.height ∷ []
   pub depth : field_values Depth lines ≡ head.shape.depth ∷ []
   pub maxval : field_values Maxval lines ≡ head.shape.maxval ∷ []
   pub tuple_type : tuple_type_in lines ≡ head.tuple_type
   pub kind : head.shape.kind ≡ Pam
-  pub sound : IsHeader head
+  pub sound : IsHead head
   pub rows : 0 < head.shape.height
 
-pub lines_make_head : (lines : List (List ℕ)) (head : Header) → Judged lines → AllByRecursion IsOneLine lines → lines_item lines ≡ Ok head → MadeOf lines head
+pub lines_make_head : (lines : List (List ℕ)) (head : HeadValue) → Judged lines → AllByRecursion IsOneLine lines → lines_item lines ≡ Ok head → MadeOf lines head
 unfolding lines_item
 lines_make_head lines head j one e =
-    let parts = missing_by (is_missing Width lines) (is_missing Height lines) (is_missing Depth lines) (is_missing Maxval lines) (head_or_fault (shape_fault (shape_in lines)) (header_of (shape_in lines) (tuple_type_in lines))) head e in
-    let good = head_or_fault_ok (shape_fault (shape_in lines)) (header_of (shape_in lines) (tuple_type_in lines)) head parts.4 in
+    let parts = missing_by (is_missing Width lines) (is_missing Height lines) (is_missing Depth lines) (is_missing Maxval lines) (head_or_fault (shape_fault (shape_in lines)) (head_value (shape_in lines) (tuple_type_in lines))) head e in
+    let good = head_or_fault_ok (shape_fault (shape_in lines)) (head_value (shape_in lines) (tuple_type_in lines)) head parts.4 in
     let limits = limits_of (shape_in lines) good.0 in
-    let made : MadeOf lines (header_of (shape_in lines) (tuple_type_in lines)) = record {
+    let made : MadeOf lines (head_value (shape_in lines) (tuple_type_in lines)) = record {
       width = one_value (field_values Width lines) parts.0 (j.single Width);
       height = one_value (field_values Height lines) parts.1 (j.single Height);
       depth = one_value (field_values Depth lines) parts.2 (j.single Depth);
@@ -61,10 +61,10 @@ lines_make_head lines head j one e =
     subst (MadeOf lines) good.1 made
 
 -- what the numbers of the four fields and a tuple type make
-abbrev made_by : List ℕ → List ℕ → List ℕ → List ℕ → List ℕ → Result Header InputFault
+abbrev made_by : List ℕ → List ℕ → List ℕ → List ℕ → List ℕ → Result HeadValue InputFault
 made_by w h d m tuple_type =
     let s : Shape = record { kind = Pam; width = slice_index w 0; height = slice_index h 0; depth = slice_index d 0; maxval = slice_index m 0 } in
-    if (length w == 0) || (length h == 0) || (length d == 0) || (length m == 0) then Err MissingField else head_or_fault (shape_fault s) (header_of s tuple_type)
+    if (length w == 0) || (length h == 0) || (length d == 0) || (length m == 0) then Err MissingField else head_or_fault (shape_fault s) (head_value s tuple_type)
 
 lines_item_is : (lines : List (List ℕ)) → lines_item lines ≡ made_by (field_values Width lines) (field_values Height lines) (field_values Depth lines) (field_values Maxval lines) (tuple_type_in lines)
 unfolding lines_item
@@ -82,14 +82,14 @@ same_made lines w h d m tuple_type width height depth maxval text =
     ∙ ap (λ (x : List ℕ). made_by w h d m x) text
 
 -- the head of PAM that a shape and a tuple type make
-pam_head_of : (head : Header) (kind : Kind) → head.shape.kind ≡ kind → IsHeader head → 0 < head.shape.height
-    → (let s : Shape = record { kind = kind; width = head.shape.width; height = head.shape.height; depth = head.shape.depth; maxval = head.shape.maxval } in head_or_fault (shape_fault s) (header_of s head.tuple_type)) ≡ Ok head
+pam_head_of : (head : HeadValue) (kind : Kind) → head.shape.kind ≡ kind → IsHead head → 0 < head.shape.height
+    → (let s : Shape = record { kind = kind; width = head.shape.width; height = head.shape.height; depth = head.shape.depth; maxval = head.shape.maxval } in head_or_fault (shape_fault s) (head_value s head.tuple_type)) ≡ Ok head
 pam_head_of head kind k sound rows =
-    ap (λ (x : Kind). let s : Shape = record { kind = x; width = head.shape.width; height = head.shape.height; depth = head.shape.depth; maxval = head.shape.maxval } in head_or_fault (shape_fault s) (header_of s head.tuple_type)) (sym k)
+    ap (λ (x : Kind). let s : Shape = record { kind = x; width = head.shape.width; height = head.shape.height; depth = head.shape.depth; maxval = head.shape.maxval } in head_or_fault (shape_fault s) (head_value s head.tuple_type)) (sym k)
     ∙ ap (λ (f : Option HeadFault). head_or_fault f head) (no_shape_fault head.shape sound.limits rows)
 
 -- such lines are read as the head
-pub made_is_found : (lines : List (List ℕ)) (head : Header) → MadeOf lines head → lines_item lines ≡ Ok head
+pub made_is_found : (lines : List (List ℕ)) (head : HeadValue) → MadeOf lines head → lines_item lines ≡ Ok head
 made_is_found lines head m =
     same_made lines (head.shape.width ∷ []) (head.shape.height ∷ []) (head.shape.depth ∷ []) (head.shape.maxval ∷ []) head.tuple_type m.width m.height m.depth m.maxval m.tuple_type ∙ pam_head_of head Pam m.kind m.sound m.rows
 

@@ -5,7 +5,7 @@ use Rattle.std.specs.List.{AllByRecursion}
 use Rattle.std.proofs.lemmas.Bool.{eqb-true, leb-false, lt-leb}
 use Rattle.std.proofs.lemmas.List.Elements.{All-head, All-tail}
 use Rattle.pnm_image.specs.declared.shape.Kind.{Kind}
-use Rattle.pnm_image.specs.Heads.{Header, IsTupleType, Suits}
+use Rattle.pnm_image.specs.Heads.{HeadValue, IsTupleType, Suits}
 use Rattle.pnm_read.specs.declared.fault.InputFault.TheVariants.{TooLong, BadPamLine}
 use Rattle.pnm_read.specs.declared.format.Format.{Format}
 use Rattle.pnm_read.specs.declared.judgement.Judgement.{Judgement}
@@ -104,7 +104,7 @@ line_feed_is [] rest e = absurd cc
 line_feed_is (b ∷ text) rest e = line_feed_by (b == 10) b text rest refl e
 
 -- the body and the head of a header that was read
-record PamRead (text : List ℕ) (head : Header) (rest : List ℕ) : Type 0 where
+record PamRead (text : List ℕ) (head : HeadValue) (rest : List ℕ) : Type 0 where
   pub body : List ℕ
   pub ends : line_kind (last_line body) ≡ End
   pub short : length body < 65533
@@ -120,12 +120,12 @@ whole_after : (text : List ℕ) (found : List ℕ × List ℕ) (body rest : List
 whole_after text found body rest whole piece back = whole ∙ ap (λ (t : List ℕ). t ++ found.1) piece ∙ ap (λ (t : List ℕ). (body ++ 10 ∷ []) ++ t) back
 
 -- a step has one head, and one rest
-both_are : (made head : Header) (after rest : List ℕ) → done {A = Header × List ℕ} (made, after) ≡ Ok (head, rest) → (made ≡ head) × (after ≡ rest)
+both_are : (made head : HeadValue) (after rest : List ℕ) → done {A = HeadValue × List ℕ} (made, after) ≡ Ok (head, rest) → (made ≡ head) × (after ≡ rest)
 both_are made head after rest e =
     let parts : (made, after) ≡ (head, rest) = ok_is (made, after) (head, rest) e in
-    (ap (λ (p : Header × List ℕ). p.0) parts, ap (λ (p : Header × List ℕ). p.1) parts)
+    (ap (λ (p : HeadValue × List ℕ). p.0) parts, ap (λ (p : HeadValue × List ℕ). p.1) parts)
 
-pam_parts : (text : List ℕ) (head : Header) (rest : List ℕ) → pam_head_at text ≡ Ok (head, rest) → PamRead text head rest
+pam_parts : (text : List ℕ) (head : HeadValue) (rest : List ℕ) → pam_head_at text ≡ Ok (head, rest) → PamRead text head rest
 unfolding pam_head_at
 pam_parts text head rest e =
     let feed = bind_ok (line_feed_item text) (λ after. piece_from pam_item header_end [] after >>= λ piece. lines_item (ended_lines piece.0) >>= λ made. Ok (made, piece.1)) (head, rest) e in
@@ -154,7 +154,7 @@ short_header : (body : List ℕ) → length body < 65533 → length (80 ∷ 55 �
 short_header body h = omega (arith, length-append body (10 ∷ []))
 
 -- a header that is read is spelled
-pub pam_head_is_spelled : (text rest : List ℕ) (format : Format) (head : Header) → format_of 55 ≡ Some format → pam_head_at text ≡ Ok (head, rest) → (header : List ℕ) × (80 ∷ 55 ∷ text ≡ header ++ rest) × SpellsPamHeader header format head
+pub pam_head_is_spelled : (text rest : List ℕ) (format : Format) (head : HeadValue) → format_of 55 ≡ Some format → pam_head_at text ≡ Ok (head, rest) → (header : List ℕ) × (80 ∷ 55 ∷ text ≡ header ++ rest) × SpellsPamHeader header format head
 pam_head_is_spelled text rest format head names e =
     let read = pam_parts text head rest e in
     let lines : List (List ℕ) = ended_lines read.body in
@@ -183,7 +183,7 @@ pam_head_is_spelled text rest format head names e =
     )
 
 -- a header that is read has some bytes
-pub pam_head_shorter : (text : List ℕ) (found : Header × List ℕ) → pam_head_at text ≡ Ok found → length found.1 < length text
+pub pam_head_shorter : (text : List ℕ) (found : HeadValue × List ℕ) → pam_head_at text ≡ Ok found → length found.1 < length text
 pam_head_shorter text found e =
     let read = pam_parts text found.0 found.1 e in
     let lengths : length text ≡ length (read.body ++ 10 ∷ []) + length found.1 + 1 = ap (λ (t : List ℕ). length t) read.whole ∙ omega (arith, length-append (read.body ++ 10 ∷ []) found.1) in
@@ -270,14 +270,14 @@ may_stand (line ∷ lines) are = (are.0.says, may_stand lines are.1)
 one_of : (values : List ℕ) (n : ℕ) → values ≡ n ∷ [] → length values ≤ 1
 one_of values n e = let lengths = ap (λ (l : List ℕ). length l) e in omega arith
 
-single_values : (text : List ℕ) (format : Format) (head : Header) → (s : SpellsPamHeader text format head) (field : Field) → length (field_values field s.lines) ≤ 1
+single_values : (text : List ℕ) (format : Format) (head : HeadValue) → (s : SpellsPamHeader text format head) (field : Field) → length (field_values field s.lines) ≤ 1
 single_values text format head s Width = one_of (field_values Width s.lines) head.shape.width s.width
 single_values text format head s Height = one_of (field_values Height s.lines) head.shape.height s.height
 single_values text format head s Depth = one_of (field_values Depth s.lines) head.shape.depth s.depth
 single_values text format head s Maxval = one_of (field_values Maxval s.lines) head.shape.maxval s.maxval
 
 -- the lines of a header go on
-judged_lines : (text : List ℕ) (format : Format) (head : Header) (s : SpellsPamHeader text format head) → Judged s.lines
+judged_lines : (text : List ℕ) (format : Format) (head : HeadValue) (s : SpellsPamHeader text format head) → Judged s.lines
 judged_lines text format head s =
     let suits : IsTupleType head.tuple_type = subst (λ (k : Kind). Suits k head.shape.depth head.shape.maxval head.tuple_type) s.kind s.sound.suits in
     let lengths : length (tuple_type_in s.lines) ≡ length head.tuple_type = ap (λ (l : List ℕ). length l) s.tuple_type in
@@ -291,7 +291,7 @@ short_body text body whole short =
     omega (arith, length-append body (10 ∷ []))
 
 -- the head is read of the body, its LF and what follows
-head_is_read : (body rest : List ℕ) (lines : List (List ℕ)) (last : List ℕ) (head : Header) → ended_lines body ≡ lines → last_line body ≡ last → Judged lines → line_kind last ≡ End → length body < 65533 → MadeOf lines head
+head_is_read : (body rest : List ℕ) (lines : List (List ℕ)) (last : List ℕ) (head : HeadValue) → ended_lines body ≡ lines → last_line body ≡ last → Judged lines → line_kind last ≡ End → length body < 65533 → MadeOf lines head
     → pam_head_at (10 ∷ (body ++ 10 ∷ rest)) ≡ Ok (head, rest)
 unfolding pam_head_at line_feed_item
 head_is_read body rest lines last head e l judged ends short made =
@@ -301,7 +301,7 @@ head_is_read body rest lines last head e l judged ends short made =
     rw (piece, found) refl
 
 -- a header that is spelled is read
-pub spelled_pam_is_head : (header rest : List ℕ) (format : Format) (head : Header) → SpellsPamHeader header format head → (text : List ℕ) × (header ++ rest ≡ 80 ∷ 55 ∷ text) × (pam_head_at text ≡ Ok (head, rest))
+pub spelled_pam_is_head : (header rest : List ℕ) (format : Format) (head : HeadValue) → SpellsPamHeader header format head → (text : List ℕ) × (header ++ rest ≡ 80 ∷ 55 ∷ text) × (pam_head_at text ≡ Ok (head, rest))
 spelled_pam_is_head header rest format head s =
     let body : List ℕ = with_feeds s.lines ++ s.last in
     let lines = lines_of_text s.lines s.last s.lines_are s.last_one_line in

@@ -5,7 +5,7 @@ use Rattle.pnm_image.specs.declared.shape.Shape.{Shape}
 use Rattle.pnm_image.specs.declared.shape.Kind.TheVariants.{Pam}
 use Rattle.pnm_image.specs.declared.head.HeadFault.{HeadFault}
 use Rattle.pnm_image.specs.declared.head.HeadFault.TheVariants as heads
-use Rattle.pnm_image.specs.Heads.{Header, header_of, shape_fault}
+use Rattle.pnm_image.specs.Heads.{HeadValue, head_value, shape_fault}
 use Rattle.pnm_read.specs.declared.fault.InputFault.{InputFault}
 use Rattle.pnm_read.specs.declared.fault.InputFault.TheVariants.{MissingField, ReadFailed}
 use Rattle.pnm_read.specs.declared.fields.Fields.{Fields}
@@ -67,7 +67,7 @@ held_is fields lines f =
     ∙ ap (λ (o : Option ℕ). shape_by (held_number (field_values Width lines)) (held_number (field_values Height lines)) (held_number (field_values Depth lines)) o) f.maxval
 
 -- the head of lines, where a number may be missing
-abbrev lines_as : Bool → List (List ℕ) → Result Header InputFault
+abbrev lines_as : Bool → List (List ℕ) → Result HeadValue InputFault
 lines_as incomplete lines = if incomplete then Err MissingField else head_item (shape_in lines) (tuple_type_in lines)
 
 -- what lines are, by whether a number is missing
@@ -82,8 +82,8 @@ lines_missing fields lines found is none f =
     lines_item_is lines ∙ ap (λ (t : Bool). lines_as t lines) lacks
 
 -- the head that was made of the shape and the tuple type, or what was wrong with it
-pub lines_given : (fields : Fields) (lines : List (List ℕ)) (found : Option Shape) (shape : Shape) (tuple_type : List ℕ) (made : Result Header HeadFault) (result : Result Header InputFault) → found ≡ shape_held fields → found ≡ Some shape → tuple_type ≡ fields.tuple_type.items → IsFields fields lines
-    → IfOk made (λ head. head ≡ header_of shape tuple_type) → OnOk made (shape_fault shape ≡ None) → IfErr made (λ e. (shape_fault shape ≡ Some e) ⊎ ((e ≡ heads.Memory) × (shape_fault shape ≡ None)))
+pub lines_given : (fields : Fields) (lines : List (List ℕ)) (found : Option Shape) (shape : Shape) (tuple_type : List ℕ) (made : Result HeadValue HeadFault) (result : Result HeadValue InputFault) → found ≡ shape_held fields → found ≡ Some shape → tuple_type ≡ fields.tuple_type.items → IsFields fields lines
+    → IfOk made (λ head. head ≡ head_value shape tuple_type) → OnOk made (shape_fault shape ≡ None) → IfErr made (λ e. (shape_fault shape ≡ Some e) ⊎ ((e ≡ heads.Memory) × (shape_fault shape ≡ None)))
     → MatchResult made (λ head. result ≡ Ok head) (λ e. IsErrAnd result (λ fault. fault ≡ fault_of_head e)) → GivesInMemory result (lines_item lines)
 lines_given fields lines found shape tuple_type made result is some type f head sound refused cases =
     let all = has_all (field_values Width lines) (field_values Height lines) (field_values Depth lines) (field_values Maxval lines) shape (sym (held_is fields lines f) ∙ sym is ∙ some) in
@@ -94,10 +94,10 @@ lines_given fields lines found shape tuple_type made result is some type f head 
 -- their fault is none of the reader's
 lines_as_of_text : (incomplete : Bool) (lines : List (List ℕ)) → lines_as incomplete lines ≡ Err ReadFailed → ⊥
 lines_as_of_text true lines e = absurd cc
-lines_as_of_text false lines e = head_item_of_text (shape_fault (shape_in lines)) (header_of (shape_in lines) (tuple_type_in lines)) e
+lines_as_of_text false lines e = head_item_of_text (shape_fault (shape_in lines)) (head_value (shape_in lines) (tuple_type_in lines)) e
 
 -- what is wrong with lines isn't that the reader failed
-pub lines_of_text : (lines : List (List ℕ)) (result : Result Header InputFault) → GivesInMemory result (lines_item lines) → result ≡ Err ReadFailed → ⊥
+pub lines_of_text : (lines : List (List ℕ)) (result : Result HeadValue InputFault) → GivesInMemory result (lines_item lines) → result ≡ Err ReadFailed → ⊥
 lines_of_text lines (Ok head) gives e = absurd cc
 lines_of_text lines (Err fault) (inl memory) e = absurd cc
 lines_of_text lines (Err fault) (inr read) e = lines_as_of_text (is_incomplete lines) lines (sym (lines_item_is lines) ∙ read ∙ e)

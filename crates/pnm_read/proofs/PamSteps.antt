@@ -4,7 +4,7 @@ use Rattle.std.specs.Prelude.{nat_le}
 use Rattle.std.proofs.lemmas.Bool.{ne_eqb}
 use Rattle.std.proofs.lemmas.Bool.Decides.{nat_tests}
 use Rattle.std.proofs.lemmas.List.{length-append}
-use Rattle.pnm_image.specs.Heads.{Header, IsTupleType}
+use Rattle.pnm_image.specs.Heads.{HeadValue, IsTupleType}
 use Rattle.pnm_read.specs.declared.fault.InputFault.{InputFault}
 use Rattle.pnm_read.specs.declared.fault.InputFault.TheVariants.{TooLong, ReadFailed}
 use Rattle.pnm_read.specs.declared.judgement.Judgement.{Judgement}
@@ -94,11 +94,11 @@ pam_feed old new b line j lt e l is none judges = subst (λ (b : ℕ). JudgesByt
 -- ---- the head
 
 -- the head of a text after its LF
-abbrev head_after : Result (List ℕ × List ℕ) InputFault → Result (Header × List ℕ) InputFault
+abbrev head_after : Result (List ℕ × List ℕ) InputFault → Result (HeadValue × List ℕ) InputFault
 head_after piece = piece >>= λ p. lines_item (ended_lines p.0) >>= λ head. Ok (head, p.1)
 
 -- the head of a text from its LF on
-abbrev head_from : Result (List ℕ) InputFault → Result (Header × List ℕ) InputFault
+abbrev head_from : Result (List ℕ) InputFault → Result (HeadValue × List ℕ) InputFault
 head_from rest = rest >>= λ text. head_after (piece_from pam_item header_end [] text)
 
 -- the head of a text, step by step
@@ -107,17 +107,17 @@ unfolding pam_head_at
 head_at_is text = refl
 
 -- a head, and what is left after it
-abbrev head_with : List ℕ → Result Header InputFault → Result (Header × List ℕ) InputFault
+abbrev head_with : List ℕ → Result HeadValue InputFault → Result (HeadValue × List ℕ) InputFault
 head_with after read = read >>= λ head. Ok (head, after)
 
 -- no LF follows the magic
-pub pam_no_feed : (fault : InputFault) (text after : List ℕ) → Passes line_feed_item (Err fault) text after → Finds (λ (head : Header). head) pam_head_at (Err fault) text after
+pub pam_no_feed : (fault : InputFault) (text after : List ℕ) → Passes line_feed_item (Err fault) text after → Finds (λ (head : HeadValue). head) pam_head_at (Err fault) text after
 pam_no_feed fault text after (inl e) = inl (head_at_is text ∙ ap head_from e)
 pam_no_feed fault text after (inr outside) = inr outside
 
 -- the header is at fault
 pub pam_missed : (old : PamScanner) (is_whole : List ℕ → Type 0) (fault : InputFault) (text rest after : List ℕ) → IsPamAfter old [] → line_feed_item text ≡ Ok rest → Scans pam_item header_end (IsPamAfter old) is_whole (Err fault) rest after
-    → Finds (λ (head : Header). head) pam_head_at (Err fault) text after
+    → Finds (λ (head : HeadValue). head) pam_head_at (Err fault) text after
 pam_missed old is_whole fault text rest after fresh feed scans =
     elim (scans [] fresh) [
       | inl at_fault ↦ inl (head_at_is text ∙ ap head_from feed ∙ ap head_after at_fault)
@@ -131,24 +131,24 @@ pam_type old now rest after fresh scans =
     subst IsTupleType (sym s.1.tuple_type) (tuple_type_in-is (ended_lines s.0) (ended_lines-are s.0) s.1.short)
 
 -- a head is given of any lines of these fields
-abbrev pub HeadOfFields : Fields → Result Header InputFault → Type 0
+abbrev pub HeadOfFields : Fields → Result HeadValue InputFault → Type 0
 HeadOfFields fields result = (lines : List (List ℕ)) → IsFields fields lines → GivesInMemory result (lines_item lines)
 
 -- the head of the lines of a piece
-given_after : (result : Result Header InputFault) (text rest piece after : List ℕ) → line_feed_item text ≡ Ok rest → piece_from pam_item header_end [] rest ≡ Ok (piece, after) → GivesInMemory result (lines_item (ended_lines piece))
-    → Finds (λ (head : Header). head) pam_head_at result text after
+given_after : (result : Result HeadValue InputFault) (text rest piece after : List ℕ) → line_feed_item text ≡ Ok rest → piece_from pam_item header_end [] rest ≡ Ok (piece, after) → GivesInMemory result (lines_item (ended_lines piece))
+    → Finds (λ (head : HeadValue). head) pam_head_at result text after
 given_after (Ok head) text rest piece after feed p gives = head_at_is text ∙ ap head_from feed ∙ ap head_after p ∙ ap (head_with after) gives
 given_after (Err fault) text rest piece after feed p (inl memory) = inr (inr memory)
 given_after (Err fault) text rest piece after feed p (inr lines) = inl (head_at_is text ∙ ap head_from feed ∙ ap head_after p ∙ ap (head_with after) lines)
 
 -- the header was taken, and its head given
-pub pam_found : (old now : PamScanner) (result : Result Header InputFault) (text rest after : List ℕ) → IsPamAfter old [] → HeadOfFields now.fields result → line_feed_item text ≡ Ok rest
-    → Scans pam_item header_end (IsPamAfter old) (IsPamWhole now) (Ok tt) rest after → Finds (λ (head : Header). head) pam_head_at result text after
+pub pam_found : (old now : PamScanner) (result : Result HeadValue InputFault) (text rest after : List ℕ) → IsPamAfter old [] → HeadOfFields now.fields result → line_feed_item text ≡ Ok rest
+    → Scans pam_item header_end (IsPamAfter old) (IsPamWhole now) (Ok tt) rest after → Finds (λ (head : HeadValue). head) pam_head_at result text after
 pam_found old now result text rest after fresh gives feed scans =
     let s = scans [] fresh in
     given_after result text rest s.0 after feed s.2 (gives (ended_lines s.0) s.1)
 
 -- its fault is none of the reader's
-pub pam_of_text : (old now : PamScanner) (result : Result Header InputFault) (rest after : List ℕ) → IsPamAfter old [] → HeadOfFields now.fields result → Scans pam_item header_end (IsPamAfter old) (IsPamWhole now) (Ok tt) rest after
+pub pam_of_text : (old now : PamScanner) (result : Result HeadValue InputFault) (rest after : List ℕ) → IsPamAfter old [] → HeadOfFields now.fields result → Scans pam_item header_end (IsPamAfter old) (IsPamWhole now) (Ok tt) rest after
     → result ≡ Err ReadFailed → ⊥
 pam_of_text old now result rest after fresh gives scans = let s = scans [] fresh in lines_of_text (ended_lines s.0) result (gives (ended_lines s.0) s.1)

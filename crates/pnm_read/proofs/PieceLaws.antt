@@ -11,7 +11,8 @@ use Rattle.pnm_read.specs.declared.fault.InputFault.{InputFault}
 use Rattle.pnm_read.specs.declared.fault.InputFault.TheVariants.{TooLong, BadSample}
 use Rattle.pnm_read.specs.declared.judgement.Judgement.{Judgement}
 use Rattle.pnm_read.specs.declared.judgement.Judgement.TheVariants.{GoesOn, EndsWith, EndsBefore, Fails}
-use Rattle.pnm_read.specs.Texts.{is_white, is_digit, is_line_end, is_apart, ends_by, commented, commented_after, ends_in_comment, uncommented_from, uncommented, decimal_value, number_in}
+use Rattle.pnm_read.specs.Texts.{is_line_end, is_apart, ends_by, commented, commented_after, ends_in_comment, uncommented_from, uncommented, number_in}
+use Rattle.pnm_image.specs.Texts.{is_white, is_digit, decimal_value}
 use Rattle.pnm_read.specs.Rasters.{IsGap}
 use Rattle.pnm_read.specs.Items.{◌>>=◌, piece_from, gap_limit, ends_in_digit, is_complete, decimal_item, is_pixel, pixel_item}
 use Rattle.pnm_read.proofs.CommentLaws.{commented_after-push, uncommented_from-append, ends_by-push}

@@ -7,7 +7,7 @@ use Rattle.pnm_image.specs.declared.message.Message.TheVariants.{Row, ImageEnd, 
 use Rattle.pnm_image.specs.declared.shape.Shape.{Shape}
 use Rattle.pnm_image.specs.declared.shape.Kind.{Kind}
 use Rattle.pnm_image.specs.declared.shape.Kind.TheVariants.{Bit, Gray, Color, Pam}
-use Rattle.pnm_image.specs.Heads.{Header, IsHeader, Suits, row_length}
+use Rattle.pnm_image.specs.Heads.{HeadValue, IsHead, Suits, row_length}
 use Rattle.pnm_image.specs.Images.{Image, cut_rows, rows_of}
 use Rattle.pnm_image.specs.Places.{IsRowOf}
 use Rattle.pnm_read.specs.declared.fault.InputFault.{InputFault}
@@ -249,7 +249,7 @@ range_by Color depth maxval tuple_type sample suits h = h
 range_by Pam depth maxval tuple_type sample suits h = h
 
 -- samples that were read as a row are a row of a head's shape
-samples_are_row : (head : Header) (text : List ℕ) (row : List ℕ × List ℕ) → IsHeader head → IsRead head.shape.kind head.shape.maxval (row_length head.shape) text row → IsRowOf head.shape row.0
+samples_are_row : (head : HeadValue) (text : List ℕ) (row : List ℕ × List ℕ) → IsHead head → IsRead head.shape.kind head.shape.maxval (row_length head.shape) text row → IsRowOf head.shape row.0
 samples_are_row head text row h r =
     let s : Shape = head.shape in
     record {
@@ -258,14 +258,14 @@ samples_are_row head text row h r =
     }
 
 -- a plain row that was read is a row of the head's shape
-pub plain_row_is_row : (head : Header) (text : List ℕ) (row : List ℕ × List ℕ) → IsHeader head → plain_row head.shape text ≡ Ok row → IsRowOf head.shape row.0
+pub plain_row_is_row : (head : HeadValue) (text : List ℕ) (row : List ℕ × List ℕ) → IsHead head → plain_row head.shape text ≡ Ok row → IsRowOf head.shape row.0
 plain_row_is_row head text row h e = samples_are_row head text row h (read_row head.shape text row e)
 
-pub last_plain_row_is_row : (head : Header) (text : List ℕ) (row : List ℕ × List ℕ) → IsHeader head → last_plain_row head.shape text ≡ Ok row → IsRowOf head.shape row.0
+pub last_plain_row_is_row : (head : HeadValue) (text : List ℕ) (row : List ℕ × List ℕ) → IsHead head → last_plain_row head.shape text ≡ Ok row → IsRowOf head.shape row.0
 last_plain_row_is_row head text row h e = samples_are_row head text row h (read_last_row head.shape text row e).0
 
 -- a raster whose rows are said without a fault spells the image of these rows, and what may follow it
-pub said_plain_is_spelled : (later : List ℕ → Said) (format : Format) (head : Header) (text : List ℕ) → format.is_plain ≡ true → head.shape.kind ≡ format.kind → IsHeader head → 0 < head.shape.height → (rows_said later format head.shape head.shape.height text).fault ≡ None
+pub said_plain_is_spelled : (later : List ℕ → Said) (format : Format) (head : HeadValue) (text : List ℕ) → format.is_plain ≡ true → head.shape.kind ≡ format.kind → IsHead head → 0 < head.shape.height → (rows_said later format head.shape head.shape.height text).fault ≡ None
     → (image : Image) × (raster : List ℕ) × (rest : List ℕ) × (text ≡ raster ++ rest) × (image.head ≡ head) × SpellsPlain raster image × (begins_apart rest ≡ true)
     × ((rows_said later format head.shape head.shape.height text).messages ≡ map Row (rows_of image) ++ ImageEnd ∷ StreamEnd ∷ [])
 said_plain_is_spelled later format head text plain kind h some e =

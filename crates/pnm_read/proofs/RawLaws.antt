@@ -7,16 +7,17 @@ use Rattle.pnm_image.specs.declared.shape.Shape.{Shape}
 use Rattle.pnm_image.specs.declared.shape.Kind.{Kind}
 use Rattle.pnm_image.specs.declared.shape.Kind.TheVariants.{Bit, Gray, Color, Pam}
 use Rattle.pnm_image.specs.declared.message.Message.TheVariants.{Row, ImageEnd}
-use Rattle.pnm_image.specs.Heads.{Header, IsHeader, Suits, row_length}
+use Rattle.pnm_image.specs.Heads.{HeadValue, IsHead, Suits, row_length}
 use Rattle.pnm_image.specs.Images.{Image, cut_rows, rows_of}
 use Rattle.pnm_image.specs.Places.{IsRowOf}
 use Rattle.pnm_image.proofs.Rows.{AreRowsOf, image_of, IsImage-image_of, rows_of-image_of, AreRowsOf-rows_of, length-cut_rows}
 use Rattle.pnm_read.specs.declared.fault.InputFault.{InputFault}
 use Rattle.pnm_read.specs.declared.fault.InputFault.TheVariants.{SampleAboveMaxval}
 use Rattle.pnm_read.specs.declared.format.Format.{Format}
-use Rattle.pnm_read.specs.declared.packing.Packing.{Packing}
-use Rattle.pnm_read.specs.declared.packing.Packing.TheVariants.{Packed, Narrow, Wide}
-use Rattle.pnm_read.specs.Rasters.{packing_of, row_bytes, pixel_at, pixels, wide_samples, raw_samples, SpellsRaw}
+use Rattle.pnm_image.specs.declared.packing.Packing.{Packing}
+use Rattle.pnm_image.specs.declared.packing.Packing.TheVariants.{Packed, Narrow, Wide}
+use Rattle.pnm_read.specs.Rasters.{bytes_in_row, pixel_at, pixels, wide_samples, raw_samples, SpellsRaw}
+use Rattle.pnm_image.specs.Packings.{packing_of}
 use Rattle.pnm_read.specs.Items.{◌>>=◌, raw_item}
 use Rattle.pnm_read.specs.Packings.{unit_bytes}
 use Rattle.pnm_read.specs.Said.{in_turn, units_in_row, units_at, raw_row, row_by, row_at, Said, then_said, says_fault, end_said, rows_said}
@@ -182,28 +183,28 @@ packable_by Pam depth maxval m tuple_type h e = absurd (not_packed (nat_lt m 256
 abbrev packing_in : Shape → Packing
 packing_in s = packing_of s.kind s.maxval
 
-packable : (head : Header) → IsHeader head → IsPackable (packing_in head.shape) head.shape
+packable : (head : HeadValue) → IsHead head → IsPackable (packing_in head.shape) head.shape
 packable head h = record {
   one = packable_by head.shape.kind head.shape.depth head.shape.maxval head.shape.maxval head.tuple_type h.suits;
   maxval_low = h.limits.maxval_low;
 }
 
 -- the first row of a text that is long enough
-row_read : (s : Shape) (text : List ℕ) → IsPackable (packing_in s) s → row_bytes s ≤ length text
-    → raw_row s text ≡ row_if (are_within s.maxval (raw_samples s (take (row_bytes s) text))) (raw_samples s (take (row_bytes s) text)) (drop (row_bytes s) text)
+row_read : (s : Shape) (text : List ℕ) → IsPackable (packing_in s) s → bytes_in_row s ≤ length text
+    → raw_row s text ≡ row_if (are_within s.maxval (raw_samples s (take (bytes_in_row s) text))) (raw_samples s (take (bytes_in_row s) text)) (drop (bytes_in_row s) text)
 unfolding raw_row
 row_read s text h long =
-    ap (row_in (packing_in s) s) (sym (take-append-drop (row_bytes s) text))
-    ∙ row_read_by (packing_in s) s (take (row_bytes s) text) (drop (row_bytes s) text) h (length-take-le (row_bytes s) text long)
+    ap (row_in (packing_in s) s) (sym (take-append-drop (bytes_in_row s) text))
+    ∙ row_read_by (packing_in s) s (take (bytes_in_row s) text) (drop (bytes_in_row s) text) h (length-take-le (bytes_in_row s) text long)
 
 -- a row that was read is long enough
-row_long : (s : Shape) (text : List ℕ) (found : List ℕ × List ℕ) → raw_row s text ≡ Ok found → row_bytes s ≤ length text
+row_long : (s : Shape) (text : List ℕ) (found : List ℕ × List ℕ) → raw_row s text ≡ Ok found → bytes_in_row s ≤ length text
 unfolding raw_row
 row_long s text found e = row_length_by (packing_in s) s text found e
 
 -- the rows of samples in the rows of bytes
 abbrev raw_rows : Shape → ℕ → List ℕ → List (List ℕ)
-raw_rows s count text = map (raw_samples s) (cut_rows count (row_bytes s) text)
+raw_rows s count text = map (raw_samples s) (cut_rows count (bytes_in_row s) text)
 
 -- the messages of rows and of the image's end, and then what is said
 abbrev pub rows_then : List (List ℕ) → Said → Said
@@ -221,10 +222,10 @@ row_at_raw : (format : Format) (s : Shape) (more : ℕ) (text : List ℕ) → fo
 row_at_raw format s more text plain = ap (λ (b : Bool). row_by b s more text) plain
 
 -- a row that a longer text begins with
-row_in_front : (s : Shape) (text rest : List ℕ) → IsPackable (packing_in s) s → row_bytes s ≤ length text → are_within s.maxval (raw_samples s (take (row_bytes s) text)) ≡ true
-    → raw_row s (text ++ rest) ≡ row_if true (raw_samples s (take (row_bytes s) text)) (drop (row_bytes s) text ++ rest)
+row_in_front : (s : Shape) (text rest : List ℕ) → IsPackable (packing_in s) s → bytes_in_row s ≤ length text → are_within s.maxval (raw_samples s (take (bytes_in_row s) text)) ≡ true
+    → raw_row s (text ++ rest) ≡ row_if true (raw_samples s (take (bytes_in_row s) text)) (drop (bytes_in_row s) text ++ rest)
 row_in_front s text rest h long within =
-    let each : ℕ = row_bytes s in
+    let each : ℕ = bytes_in_row s in
     let front : take each (text ++ rest) ≡ take each text = take-append-le each text rest long in
     let back : drop each (text ++ rest) ≡ drop each text ++ rest = drop-append-le each text rest long in
     row_read s (text ++ rest) h (omega (arith, length-append text rest))
@@ -233,12 +234,12 @@ row_in_front s text rest h long within =
     ∙ ap (λ (t : Bool). row_if t (raw_samples s (take each text)) (drop each text ++ rest)) within
 
 -- of whole rows the rows are said, the image's end, and what follows
-rows_are_said : (later : List ℕ → Said) (format : Format) (s : Shape) (n : ℕ) (text rest : List ℕ) → format.is_plain ≡ false → IsPackable (packing_in s) s → length text ≡ n * row_bytes s → AreRowsOf s (raw_rows s n text)
+rows_are_said : (later : List ℕ → Said) (format : Format) (s : Shape) (n : ℕ) (text rest : List ℕ) → format.is_plain ≡ false → IsPackable (packing_in s) s → length text ≡ n * bytes_in_row s → AreRowsOf s (raw_rows s n text)
     → rows_said later format s n (text ++ rest) ≡ rows_then (raw_rows s n text) (later rest)
 unfolding rows_said end_said
-rows_are_said later format s zero text rest plain h count are = let nothing : text ≡ [] = nil_from_length text (count ∙ zero-mul (row_bytes s)) in rw (nothing, plain) refl
+rows_are_said later format s zero text rest plain h count are = let nothing : text ≡ [] = nil_from_length text (count ∙ zero-mul (bytes_in_row s)) in rw (nothing, plain) refl
 rows_are_said later format s (suc n) text rest plain h count are =
-    let each : ℕ = row_bytes s in
+    let each : ℕ = bytes_in_row s in
     let total : length text ≡ n * each + each = count ∙ suc-mul n each in
     let row : List ℕ = raw_samples s (take each text) in
     let within : are_within s.maxval row ≡ true = are_within_all s.maxval row are.0.range in
@@ -262,10 +263,10 @@ row_if_row true row rest found e = cc
 row_if_row false row rest found e = absurd cc
 
 -- a raw row that was read is a row of the head's shape
-pub raw_row_is_row : (head : Header) (text : List ℕ) (found : List ℕ × List ℕ) → IsHeader head → raw_row head.shape text ≡ Ok found → IsRowOf head.shape found.0
+pub raw_row_is_row : (head : HeadValue) (text : List ℕ) (found : List ℕ × List ℕ) → IsHead head → raw_row head.shape text ≡ Ok found → IsRowOf head.shape found.0
 raw_row_is_row head text found h e =
     let s : Shape = head.shape in
-    let each : ℕ = row_bytes s in
+    let each : ℕ = bytes_in_row s in
     let row : List ℕ = raw_samples s (take each text) in
     let long : each ≤ length text = row_long s text found e in
     let test : row_if (are_within s.maxval row) row (drop each text) ≡ Ok found = sym (row_read s text (packable head h) long) ∙ e in
@@ -280,15 +281,15 @@ record RowsAndRest (later : List ℕ → Said) (s : Shape) (n : ℕ) (text : Lis
   pub bytes : List ℕ
   pub rest : List ℕ
   pub whole : text ≡ bytes ++ rest
-  pub count : length bytes ≡ n * row_bytes s
+  pub count : length bytes ≡ n * bytes_in_row s
   pub are : AreRowsOf s (raw_rows s n bytes)
   pub sound : (later rest).fault ≡ None
 
 -- a row before whole rows
-row_before : (later : List ℕ → Said) (s : Shape) (n : ℕ) (text : List ℕ) → IsPackable (packing_in s) s → row_bytes s ≤ length text → are_within s.maxval (raw_samples s (take (row_bytes s) text)) ≡ true
-    → RowsAndRest later s n (drop (row_bytes s) text) → RowsAndRest later s (suc n) text
+row_before : (later : List ℕ → Said) (s : Shape) (n : ℕ) (text : List ℕ) → IsPackable (packing_in s) s → bytes_in_row s ≤ length text → are_within s.maxval (raw_samples s (take (bytes_in_row s) text)) ≡ true
+    → RowsAndRest later s n (drop (bytes_in_row s) text) → RowsAndRest later s (suc n) text
 row_before later s n text h long within r =
-    let each : ℕ = row_bytes s in
+    let each : ℕ = bytes_in_row s in
     let first : List ℕ = take each text in
     let size : length first ≡ each = length-take-le each text long in
     let front : take each (first ++ r.bytes) ≡ first = take_at first r.bytes each size in
@@ -313,12 +314,12 @@ rows_are_spelled later format s zero text plain h e = record {
   bytes = [];
   rest = text;
   whole = refl;
-  count = sym (zero-mul (row_bytes s));
+  count = sym (zero-mul (bytes_in_row s));
   are = tt;
   sound = sym (ap (λ (p : Bool). (end_said later p text).fault) plain) ∙ e;
 }
 rows_are_spelled later format s (suc n) text plain h e =
-    let each : ℕ = row_bytes s in
+    let each : ℕ = bytes_in_row s in
     let row : List ℕ = raw_samples s (take each text) in
     let first = row_without_fault later format s n (row_at format s n text) e in
     let found : raw_row s text ≡ Ok first.0 = sym (row_at_raw format s n text plain) ∙ first.1 in
@@ -345,13 +346,13 @@ spelled_raw_is_said later format raster rest image plain h =
     rows_are_said later format s s.height raster rest plain (packable image.head h.sound.head) h.count (subst (AreRowsOf s) h.rows (AreRowsOf-rows_of image h.sound)) ∙ ap (λ (rows : List (List ℕ)). rows_then rows (later rest)) (sym h.rows)
 
 -- a raster whose rows are said without a fault spells an image, and what follows has no fault
-pub said_raw_is_spelled : (later : List ℕ → Said) (format : Format) (head : Header) (text : List ℕ) → format.is_plain ≡ false → IsHeader head → (rows_said later format head.shape head.shape.height text).fault ≡ None
+pub said_raw_is_spelled : (later : List ℕ → Said) (format : Format) (head : HeadValue) (text : List ℕ) → format.is_plain ≡ false → IsHead head → (rows_said later format head.shape head.shape.height text).fault ≡ None
     → (image : Image) × (raster : List ℕ) × (rest : List ℕ) × (text ≡ raster ++ rest) × (image.head ≡ head) × SpellsRaw raster image × ((later rest).fault ≡ None)
 said_raw_is_spelled later format head text plain h e =
     let s : Shape = head.shape in
     let found = rows_are_spelled later format s s.height text plain (packable head h) e in
     let rows : List (List ℕ) = raw_rows s s.height found.bytes in
-    let count : length rows ≡ s.height = length-map (cut_rows s.height (row_bytes s) found.bytes) (raw_samples s) ∙ length-cut_rows s.height (row_bytes s) found.bytes in
+    let count : length rows ≡ s.height = length-map (cut_rows s.height (bytes_in_row s) found.bytes) (raw_samples s) ∙ length-cut_rows s.height (bytes_in_row s) found.bytes in
     let same : rows_of (image_of head rows) ≡ rows = rows_of-image_of head rows count found.are in (
       image_of head rows,
       found.bytes,

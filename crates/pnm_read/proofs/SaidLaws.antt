@@ -2,7 +2,7 @@
 use Rattle.std.proofs.Common.{◌≡◌, ◌↔◌, ℕ, zero, suc, ◌+◌, Bool, true, false, List, [], ◌∷◌, length, None, Result, Ok, Err, refl, sym, subst, arith}
 use Rattle.pnm_image.specs.declared.shape.Shape.{Shape}
 use Rattle.pnm_image.specs.declared.place.Place.TheVariants.{Inside}
-use Rattle.pnm_image.specs.Heads.{Header, IsHeader}
+use Rattle.pnm_image.specs.Heads.{HeadValue, IsHead}
 use Rattle.pnm_image.specs.Messages.{EndsStream}
 use Rattle.pnm_image.specs.Places.{IsRowOf, IsLawfulFrom, IsLawful}
 use Rattle.pnm_image.proofs.Streams.{stream_ends}
@@ -17,7 +17,7 @@ use Rattle.pnm_read.proofs.TextLaws.{said_text_is_spelled}
 -- ---- what is said may come in turn
 
 -- a row that was read is a row of the head's shape
-row_is_row : (is_plain : Bool) (head : Header) (more : ℕ) (text : List ℕ) (found : List ℕ × List ℕ) → IsHeader head → row_by is_plain head.shape more text ≡ Ok found → IsRowOf head.shape found.0
+row_is_row : (is_plain : Bool) (head : HeadValue) (more : ℕ) (text : List ℕ) (found : List ℕ × List ℕ) → IsHead head → row_by is_plain head.shape more text ≡ Ok found → IsRowOf head.shape found.0
 row_is_row false head more text found h e = raw_row_is_row head text found h e
 row_is_row true head zero text found h e = last_plain_row_is_row head text found h e
 row_is_row true head (suc more) text found h e = plain_row_is_row head text found h e
@@ -38,7 +38,7 @@ row_is_lawful : (later : List ℕ → Said) (format : Format) (s : Shape) (more 
 row_is_lawful later format s more y (Err fault) count row others = tt
 row_is_lawful later format s more y (Ok found) count row others = ((omega arith, row found refl), others found.1)
 
-rows_are_lawful : (later : List ℕ → Said) (format : Format) (head : Header) (more y : ℕ) (text : List ℕ) → AreLawful later → IsHeader head → more + y ≡ head.shape.height → IsLawfulFrom (Inside head.shape y) (rows_said later format head.shape more text).messages
+rows_are_lawful : (later : List ℕ → Said) (format : Format) (head : HeadValue) (more y : ℕ) (text : List ℕ) → AreLawful later → IsHead head → more + y ≡ head.shape.height → IsLawfulFrom (Inside head.shape y) (rows_said later format head.shape more text).messages
 unfolding rows_said
 rows_are_lawful later format head zero y text are h count = (omega arith, end_is_lawful later format.is_plain text are)
 rows_are_lawful later format head (suc more) y text are h count =
@@ -46,12 +46,12 @@ rows_are_lawful later format head (suc more) y text are h count =
     (λ rest. rows_are_lawful later format head more (y + 1) rest are h (omega arith))
 
 -- an image's messages may come where its head keeps the rules of heads
-head_is_lawful : (later : List ℕ → Said) (format : Format) (r : Result (Header × List ℕ) InputFault) → AreLawful later → ((found : Header × List ℕ) → r ≡ Ok found → IsHeader found.0) → IsLawful (head_said later format r).messages
+head_is_lawful : (later : List ℕ → Said) (format : Format) (r : Result (HeadValue × List ℕ) InputFault) → AreLawful later → ((found : HeadValue × List ℕ) → r ≡ Ok found → IsHead found.0) → IsLawful (head_said later format r).messages
 head_is_lawful later format (Err fault) are sound = tt
 head_is_lawful later format (Ok found) are sound = (tt, rows_are_lawful later format found.0 found.0.shape.height 0 found.1 are (sound found refl) (omega arith))
 
 -- the head of a header that was read
-pub read_head_is_header : (is_first : Bool) (text : List ℕ) (found : Format × List ℕ) (head : Header × List ℕ) → format_at is_first text ≡ Ok found → head_at found.0 found.1 ≡ Ok head → IsHeader head.0
+pub read_head_is_header : (is_first : Bool) (text : List ℕ) (found : Format × List ℕ) (head : HeadValue × List ℕ) → format_at is_first text ≡ Ok found → head_at found.0 found.1 ≡ Ok head → IsHead head.0
 read_head_is_header is_first text found head e h =
     let s = read_header_is_spelled is_first text found.1 head.1 found.0 head.0 e h in
     (spelled_head s.0 found.0 head.0 s.2).sound
@@ -101,7 +101,7 @@ unfolding rows_said
 sound_rows later format s zero text sound ends = sound_end later format.is_plain text sound ends
 sound_rows later format s (suc more) text sound ends = sound_row later format s more (row_at format s more text) (λ rest e. sound_rows later format s more rest sound e) ends
 
-sound_head : (later : List ℕ → Said) (format : Format) (r : Result (Header × List ℕ) InputFault) → EndIsSound later → EndsStream (head_said later format r).messages → (head_said later format r).fault ≡ None
+sound_head : (later : List ℕ → Said) (format : Format) (r : Result (HeadValue × List ℕ) InputFault) → EndIsSound later → EndsStream (head_said later format r).messages → (head_said later format r).fault ≡ None
 sound_head later format (Err fault) sound ends = absurd ends
 sound_head later format (Ok found) sound ends = sound_rows later format found.0.shape found.0.shape.height found.1 sound ends
 

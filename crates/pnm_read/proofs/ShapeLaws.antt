@@ -5,16 +5,16 @@ use Rattle.std.proofs.lemmas.Bool.Decides.{nat_tests}
 use Rattle.pnm_image.specs.declared.shape.Shape.{Shape}
 use Rattle.pnm_image.specs.declared.head.HeadFault.{HeadFault}
 use Rattle.pnm_image.specs.declared.head.HeadFault.TheVariants as heads
-use Rattle.pnm_image.specs.Heads.{Header, IsWithinLimits, row_length, shape_fault}
+use Rattle.pnm_image.specs.Heads.{HeadValue, IsWithinLimits, row_length, shape_fault}
 use Rattle.pnm_read.specs.declared.fault.InputFault.{InputFault}
 use Rattle.pnm_read.specs.Items.{fault_of_head}
 
 -- a head, or its fault
-abbrev pub head_or_fault : Option HeadFault → Header → Result Header InputFault
+abbrev pub head_or_fault : Option HeadFault → HeadValue → Result HeadValue InputFault
 head_or_fault fault head = elim fault [ Some f ↦ Err (fault_of_head f) | None ↦ Ok head ]
 
 -- where a head is made, there is no fault
-pub head_or_fault_ok : (fault : Option HeadFault) (made head : Header) → head_or_fault fault made ≡ Ok head → (fault ≡ None) × (made ≡ head)
+pub head_or_fault_ok : (fault : Option HeadFault) (made head : HeadValue) → head_or_fault fault made ≡ Ok head → (fault ≡ None) × (made ≡ head)
 head_or_fault_ok None made head e = (refl, cc)
 head_or_fault_ok (Some f) made head e = absurd cc
 

@@ -8,12 +8,13 @@ use Rattle.std.proofs.lemmas.List.Elements.{All-head, All-tail}
 use Rattle.pnm_image.specs.declared.shape.Kind.{Kind}
 use Rattle.pnm_image.specs.declared.shape.Kind.TheVariants.{Bit, Gray, Color, Pam}
 use Rattle.pnm_image.specs.declared.head.HeadFault.{HeadFault}
-use Rattle.pnm_image.specs.Heads.{Header, IsHeader, Suits, header_of, shape_fault}
+use Rattle.pnm_image.specs.Heads.{HeadValue, IsHead, Suits, head_value, shape_fault}
 use Rattle.pnm_read.specs.declared.fault.InputFault.TheVariants.{PlainInStream}
 use Rattle.pnm_read.specs.declared.format.Format.{Format}
 use Rattle.pnm_read.specs.declared.judgement.Judgement.{Judgement}
 use Rattle.pnm_read.specs.declared.judgement.Judgement.TheVariants.{GoesOn, EndsWith}
-use Rattle.pnm_read.specs.Texts.{is_white, is_digit, is_apart, begins_apart, ends_in_comment, uncommented, ends_in_word, numbers_in}
+use Rattle.pnm_read.specs.Texts.{is_apart, begins_apart, ends_in_comment, uncommented, ends_in_word, numbers_in}
+use Rattle.pnm_image.specs.Texts.{is_white, is_digit}
 use Rattle.pnm_read.specs.Formats.{format_of, number_count, shape_of, header_numbers}
 use Rattle.pnm_read.specs.Headers.{SpellsPnmHeader, SpellsPamHeader, SpellsHeaderBy, SpellsHeader}
 use Rattle.pnm_read.specs.Items.{piece_from, first_magic_item, second_magic_item, header_limit, is_bad_in_header, is_delimiter, header_item, header_end, numbers_item}
@@ -100,25 +101,25 @@ is_named Pam = false
 
 -- the numbers of a shape, and no tuple type, make the head
 head_is_made : (kind : Kind) (width height depth maxval : ℕ) (tuple_type : List ℕ) → is_named kind ≡ true → Suits kind depth maxval tuple_type
-    → header_of (shape_of kind (header_numbers (record { kind = kind; width = width; height = height; depth = depth; maxval = maxval }))) [] ≡ header_of (record { kind = kind; width = width; height = height; depth = depth; maxval = maxval }) tuple_type
+    → head_value (shape_of kind (header_numbers (record { kind = kind; width = width; height = height; depth = depth; maxval = maxval }))) [] ≡ head_value (record { kind = kind; width = width; height = height; depth = depth; maxval = maxval }) tuple_type
 head_is_made Bit width height depth maxval tuple_type n s = rw (s.0, s.1, s.2) refl
 head_is_made Gray width height depth maxval tuple_type n s = rw (s.0, s.1) refl
 head_is_made Color width height depth maxval tuple_type n s = rw (s.0, s.1) refl
 head_is_made Pam width height depth maxval tuple_type n s = absurd cc
 
 -- numbers that make a head without a fault are read as the head
-head_is_found : (kind : Kind) (numbers : List ℕ) (head : Header) → header_of (shape_of kind numbers) [] ≡ head → shape_fault head.shape ≡ None → numbers_item kind numbers ≡ Ok head
+head_is_found : (kind : Kind) (numbers : List ℕ) (head : HeadValue) → head_value (shape_of kind numbers) [] ≡ head → shape_fault head.shape ≡ None → numbers_item kind numbers ≡ Ok head
 unfolding numbers_item
 head_is_found kind numbers head made sound =
-    let shape : shape_of kind numbers ≡ head.shape = ap (λ (x : Header). x.shape) made in
+    let shape : shape_of kind numbers ≡ head.shape = ap (λ (x : HeadValue). x.shape) made in
     let none : shape_fault (shape_of kind numbers) ≡ None = ap shape_fault shape ∙ sound in
-    ap (λ (f : Option HeadFault). head_or_fault f (header_of (shape_of kind numbers) [])) none ∙ ap done made
+    ap (λ (f : Option HeadFault). head_or_fault f (head_value (shape_of kind numbers) [])) none ∙ ap done made
 
 -- the head that its numbers make
-spelled_head_is_found : (kind : Kind) (head : Header) → is_named kind ≡ true → head.shape.kind ≡ kind → IsHeader head → 0 < head.shape.height → numbers_item kind (header_numbers head.shape) ≡ Ok head
+spelled_head_is_found : (kind : Kind) (head : HeadValue) → is_named kind ≡ true → head.shape.kind ≡ kind → IsHead head → 0 < head.shape.height → numbers_item kind (header_numbers head.shape) ≡ Ok head
 spelled_head_is_found kind head n k sound rows =
     let named_kind : is_named head.shape.kind ≡ true = ap is_named k ∙ n in
-    let made : header_of (shape_of head.shape.kind (header_numbers head.shape)) [] ≡ head = head_is_made head.shape.kind head.shape.width head.shape.height head.shape.depth head.shape.maxval head.tuple_type named_kind sound.suits in
+    let made : head_value (shape_of head.shape.kind (header_numbers head.shape)) [] ≡ head = head_is_made head.shape.kind head.shape.width head.shape.height head.shape.depth head.shape.maxval head.tuple_type named_kind sound.suits in
     ap (λ (x : Kind). numbers_item x (header_numbers head.shape)) (sym k) ∙ head_is_found head.shape.kind (header_numbers head.shape) head made (no_shape_fault head.shape sound.limits rows)
 
 -- ---- the header that is spelled
@@ -137,7 +138,7 @@ short_body text digit delimiter body whole short =
     omega (arith, length-append body (delimiter ∷ []))
 
 -- the body of a header
-decimal_body : (text : List ℕ) (format : Format) (head : Header) (s : SpellsPnmHeader text format head) → Decimal (number_count format.kind) s.body
+decimal_body : (text : List ℕ) (format : Format) (head : HeadValue) (s : SpellsPnmHeader text format head) → Decimal (number_count format.kind) s.body
 decimal_body text format head s = record {
   short = short_body text s.digit s.delimiter s.body s.whole s.short;
   begins = s.begins;
@@ -159,7 +160,7 @@ spelled_magic_is_read digit after format is_first first e =
     ap (λ (f : Option Format). second_magic is_first f after) e ∙ ap (λ (refused : Bool). if refused then Err PlainInStream else Ok (format, after)) (not_refused format.is_plain is_first first)
 
 -- the head is read
-spelled_pnm_head_is_read : (text : List ℕ) (format : Format) (head : Header) (s : SpellsPnmHeader text format head) (rest : List ℕ) → is_named format.kind ≡ true → pnm_head_at format.kind (s.body ++ s.delimiter ∷ rest) ≡ Ok (head, rest)
+spelled_pnm_head_is_read : (text : List ℕ) (format : Format) (head : HeadValue) (s : SpellsPnmHeader text format head) (rest : List ℕ) → is_named format.kind ≡ true → pnm_head_at format.kind (s.body ++ s.delimiter ∷ rest) ≡ Ok (head, rest)
 unfolding pnm_head_at
 spelled_pnm_head_is_read text format head s rest named =
     let body = decimal_body text format head s in
@@ -169,11 +170,11 @@ spelled_pnm_head_is_read text format head s rest named =
     rw (piece, numbers, found) refl
 
 -- where the magic and the head of a text of this kind are read
-abbrev HeaderIsRead : Kind → Bool → List ℕ → Format → Header → List ℕ → Type 0
+abbrev HeaderIsRead : Kind → Bool → List ℕ → Format → HeadValue → List ℕ → Type 0
 HeaderIsRead kind is_first text format head rest = (after : List ℕ) × (format_at is_first text ≡ Ok (format, after)) × (head_by kind after ≡ Ok (head, rest))
 
 -- a header of PBM, PGM or PPM that is spelled is read
-spelled_pnm_is_read : (text rest : List ℕ) (format : Format) (head : Header) (is_first : Bool) → (format.is_plain ≡ true → is_first ≡ true) → is_named format.kind ≡ true → SpellsPnmHeader text format head
+spelled_pnm_is_read : (text rest : List ℕ) (format : Format) (head : HeadValue) (is_first : Bool) → (format.is_plain ≡ true → is_first ≡ true) → is_named format.kind ≡ true → SpellsPnmHeader text format head
     → (after : List ℕ) × (format_at is_first (text ++ rest) ≡ Ok (format, after)) × (pnm_head_at format.kind after ≡ Ok (head, rest))
 spelled_pnm_is_read text rest format head is_first first named s =
     let whole : text ++ rest ≡ 80 ∷ s.digit ∷ (s.body ++ s.delimiter ∷ rest) = ap (λ (t : List ℕ). t ++ rest) s.whole ∙ ap (λ (t : List ℕ). 80 ∷ s.digit ∷ t) (append_assoc s.body (s.delimiter ∷ []) rest) in (
@@ -183,14 +184,14 @@ spelled_pnm_is_read text rest format head is_first first named s =
     )
 
 -- a header of PAM that is spelled is read
-spelled_pam_is_read : (text rest : List ℕ) (format : Format) (head : Header) (is_first : Bool) → (format.is_plain ≡ true → is_first ≡ true) → SpellsPamHeader text format head
+spelled_pam_is_read : (text rest : List ℕ) (format : Format) (head : HeadValue) (is_first : Bool) → (format.is_plain ≡ true → is_first ≡ true) → SpellsPamHeader text format head
     → HeaderIsRead Pam is_first (text ++ rest) format head rest
 spelled_pam_is_read text rest format head is_first first s =
     let found = spelled_pam_is_head text rest format head s in
     (found.0, ap (format_at is_first) found.1 ∙ spelled_magic_is_read 55 found.0 format is_first first s.format_is, found.2)
 
 -- a header of a kind that is spelled is read
-spelled_by : (kind : Kind) (text rest : List ℕ) (format : Format) (head : Header) (is_first : Bool) → format.kind ≡ kind → (format.is_plain ≡ true → is_first ≡ true) → SpellsHeaderBy kind text format head
+spelled_by : (kind : Kind) (text rest : List ℕ) (format : Format) (head : HeadValue) (is_first : Bool) → format.kind ≡ kind → (format.is_plain ≡ true → is_first ≡ true) → SpellsHeaderBy kind text format head
     → HeaderIsRead kind is_first (text ++ rest) format head rest
 spelled_by Bit text rest format head is_first k first s =
     let found = spelled_pnm_is_read text rest format head is_first first (ap is_named k) s in
@@ -204,6 +205,6 @@ spelled_by Color text rest format head is_first k first s =
 spelled_by Pam text rest format head is_first k first s = spelled_pam_is_read text rest format head is_first first s
 
 -- a header that is spelled is read; a plain one as the first of a text
-pub spelled_header_is_read : (text rest : List ℕ) (format : Format) (head : Header) (is_first : Bool) → (format.is_plain ≡ true → is_first ≡ true) → SpellsHeader text format head
+pub spelled_header_is_read : (text rest : List ℕ) (format : Format) (head : HeadValue) (is_first : Bool) → (format.is_plain ≡ true → is_first ≡ true) → SpellsHeader text format head
     → (after : List ℕ) × (format_at is_first (text ++ rest) ≡ Ok (format, after)) × (head_at format after ≡ Ok (head, rest))
 spelled_header_is_read text rest format head is_first first s = spelled_by format.kind text rest format head is_first refl first s

@@ -4,7 +4,7 @@ use Rattle.std.proofs.lemmas.Bool.{cases_lt}
 use Rattle.std.proofs.lemmas.Bool.Decides.{nat_tests}
 use Rattle.pnm_image.specs.declared.shape.Shape.{Shape}
 use Rattle.pnm_image.specs.declared.message.Message.TheVariants.{Begin, Row, ImageEnd, StreamEnd}
-use Rattle.pnm_image.specs.Heads.{Header}
+use Rattle.pnm_image.specs.Heads.{HeadValue}
 use Rattle.pnm_read.specs.declared.fault.InputFault.{InputFault}
 use Rattle.pnm_read.specs.declared.fault.InputFault.TheVariants.{ReadFailed}
 use Rattle.pnm_read.specs.declared.format.Format.{Format}
@@ -28,18 +28,18 @@ no_format is_first k b a (inl e) = inl (ap (format_said later_said) e)
 no_format is_first k b a (inr o) = inr o
 
 -- a text whose header is at fault
-pub no_head : (is_first : Bool) (format : Format) (k : InputFault) (b m a : List ℕ) → Finds {X = Format} (λ format. format) (format_at is_first) (Ok format) b m → Finds {X = Header} (λ head. head) (head_at format) (Err k) m a → Begins is_first (Err k) b a
+pub no_head : (is_first : Bool) (format : Format) (k : InputFault) (b m a : List ℕ) → Finds {X = Format} (λ format. format) (format_at is_first) (Ok format) b m → Finds {X = HeadValue} (λ head. head) (head_at format) (Err k) m a → Begins is_first (Err k) b a
 unfolding image_said
 no_head is_first format k b m a f (inl e) = inl (ap (format_said later_said) f ∙ ap (head_said later_said format) e)
 no_head is_first format k b m a f (inr o) = inr o
 
-due_at : (format : Format) (head : Header) (raster : Raster) (a : List ℕ) → raster.format ≡ format → raster.shape ≡ head.shape → raster.y ≡ 0 → rows_said later_said format head.shape head.shape.height a ≡ stage_due (Rows raster) a
+due_at : (format : Format) (head : HeadValue) (raster : Raster) (a : List ℕ) → raster.format ≡ format → raster.shape ≡ head.shape → raster.y ≡ 0 → rows_said later_said format head.shape head.shape.height a ≡ stage_due (Rows raster) a
 due_at format head raster a rf rs ry =
     let rows : raster.shape.height - raster.y ≡ head.shape.height = let same = ap (λ (s : Shape). s.height) rs in omega arith in
     rw (rf, rows, rs) refl
 
 -- a header, and its raster
-pub begins : (is_first : Bool) (format : Format) (head : Header) (raster : Raster) (step : Step) (b m a : List ℕ) → Finds {X = Format} (λ format. format) (format_at is_first) (Ok format) b m → Finds {X = Header} (λ head. head) (head_at format) (Ok head) m a
+pub begins : (is_first : Bool) (format : Format) (head : HeadValue) (raster : Raster) (step : Step) (b m a : List ℕ) → Finds {X = Format} (λ format. format) (format_at is_first) (Ok format) b m → Finds {X = HeadValue} (λ head. head) (head_at format) (Ok head) m a
     → raster.format ≡ format → raster.shape ≡ head.shape → raster.y ≡ 0 → step.message ≡ Begin head → step.stage ≡ Rows raster → Begins is_first (Ok step) b a
 unfolding image_said
 begins is_first format head raster step b m a f h rf rs ry sm ss =

@@ -5,7 +5,7 @@ use Rattle.std.specs.List.{AllByRecursion}
 use Rattle.std.specs.Io.KnownBytes.{IsAtEnd}
 use Rattle.pnm_image.specs.declared.message.Message.{Message}
 use Rattle.pnm_image.specs.declared.message.Message.TheVariants.{Begin, Row, ImageEnd, StreamEnd, Stop}
-use Rattle.pnm_image.specs.Heads.{Header}
+use Rattle.pnm_image.specs.Heads.{HeadValue}
 use Rattle.pnm_image.specs.Completion.{IsFrontOf}
 use Rattle.pnm_image.specs.Messages.{IsMessage}
 use Rattle.pnm_image.specs.declared.shape.Shape.{Shape}
@@ -76,7 +76,7 @@ not_stopped s read given fault h stopped outside =
 
 -- a claim of messages that holds of each head that is read, and of each message that isn't a head
 pub record HoldsOfRead (Claim : Message → Type 0) : Type 0 where
-  pub head : (is_first : Bool) (text : List ℕ) (found : Format × List ℕ) (head : Header × List ℕ) → format_at is_first text ≡ Ok found → head_at found.0 found.1 ≡ Ok head → Claim (Begin head.0)
+  pub head : (is_first : Bool) (text : List ℕ) (found : Format × List ℕ) (head : HeadValue × List ℕ) → format_at is_first text ≡ Ok found → head_at found.0 found.1 ≡ Ok head → Claim (Begin head.0)
   pub row : (row : List ℕ) → Claim (Row row)
   pub image_end : Claim ImageEnd
   pub stream_end : Claim StreamEnd
@@ -100,7 +100,7 @@ unfolding rows_said
 holds_of_rows Claim h later format s zero text holds = (h.image_end, holds_of_end Claim h later format.is_plain text holds)
 holds_of_rows Claim h later format s (suc more) text holds = holds_of_row Claim h later format s more (row_at format s more text) (λ rest. holds_of_rows Claim h later format s more rest holds)
 
-holds_of_head : (Claim : Message → Type 0) (h : HoldsOfRead Claim) (later : List ℕ → Said) (format : Format) (r : Result (Header × List ℕ) InputFault) → HoldsOf Claim later → ((found : Header × List ℕ) → r ≡ Ok found → Claim (Begin found.0))
+holds_of_head : (Claim : Message → Type 0) (h : HoldsOfRead Claim) (later : List ℕ → Said) (format : Format) (r : Result (HeadValue × List ℕ) InputFault) → HoldsOf Claim later → ((found : HeadValue × List ℕ) → r ≡ Ok found → Claim (Begin found.0))
     → AllByRecursion Claim (head_said later format r).messages
 holds_of_head Claim h later format (Err fault) holds head = tt
 holds_of_head Claim h later format (Ok found) holds head = (head found refl, holds_of_rows Claim h later format found.0.shape found.0.shape.height found.1 holds)
@@ -139,7 +139,7 @@ BeginsRows ImageEnd = Unit {0}
 BeginsRows StreamEnd = Unit {0}
 BeginsRows Stop = Unit {0}
 
-pub read_head_has_rows : (is_first : Bool) (text : List ℕ) (found : Format × List ℕ) (head : Header × List ℕ) → format_at is_first text ≡ Ok found → head_at found.0 found.1 ≡ Ok head → 0 < head.0.shape.height
+pub read_head_has_rows : (is_first : Bool) (text : List ℕ) (found : Format × List ℕ) (head : HeadValue × List ℕ) → format_at is_first text ≡ Ok found → head_at found.0 found.1 ≡ Ok head → 0 < head.0.shape.height
 read_head_has_rows is_first text found head e h =
     let s = read_header_is_spelled is_first text found.1 head.1 found.0 head.0 e h in
     (spelled_head s.0 found.0 head.0 s.2).rows

@@ -3,7 +3,7 @@ use Rattle.std.proofs.Common.{◌≡◌, ◌⊎◌, ℕ, zero, suc, ◌+◌, ◌
 use Rattle.std.proofs.lemmas.List.{length-append}
 use Rattle.pnm_image.specs.declared.message.Message.{Message}
 use Rattle.pnm_image.specs.declared.message.Message.TheVariants.{Begin, Row, ImageEnd}
-use Rattle.pnm_image.specs.Heads.{Header}
+use Rattle.pnm_image.specs.Heads.{HeadValue}
 use Rattle.pnm_image.specs.Images.{Image, IsImage, AreImages, rows_of, messages_of_image, messages_of_stream}
 use Rattle.pnm_image.proofs.Streams.{is_stream_of, stream_is_messages, stream_is_lawful, stream_ends}
 use Rattle.pnm_read.specs.declared.fault.InputFault.{InputFault}
@@ -122,7 +122,7 @@ abbrev IsPlainAlone : List ℕ → Type 0
 IsPlainAlone text = (images : List Image) × SpellsPlainAlone text images
 
 -- a header, and the raster that was read after it
-image_of_parts : (text rest header raster : List ℕ) (format : Format) (head : Header) (image : Image) → text ≡ header ++ raster → SpellsHeader header format head → image.head ≡ head → SpellsRasterBy format.is_plain raster image → SpellsImage text format image
+image_of_parts : (text rest header raster : List ℕ) (format : Format) (head : HeadValue) (image : Image) → text ≡ header ++ raster → SpellsHeader header format head → image.head ≡ head → SpellsRasterBy format.is_plain raster image → SpellsImage text format image
 image_of_parts text rest header raster format head image whole h same r = record {
   header = header;
   raster = raster;
@@ -131,7 +131,7 @@ image_of_parts text rest header raster format head image whole h same r = record
   raster_is = r;
 }
 
-raw_raster_is_spelled : (later : List ℕ → Said) (text header after : List ℕ) (format : Format) (head : Header) → format.is_plain ≡ false → text ≡ header ++ after → SpellsHeader header format head
+raw_raster_is_spelled : (later : List ℕ → Said) (text header after : List ℕ) (format : Format) (head : HeadValue) → format.is_plain ≡ false → text ≡ header ++ after → SpellsHeader header format head
     → (rows_said later format head.shape head.shape.height after).fault ≡ None → RawAndRest later text
 raw_raster_is_spelled later text header after format head raw whole h e =
     let facts = spelled_head header format head h in
@@ -148,7 +148,7 @@ raw_raster_is_spelled later text header after format head raw whole h e =
       sound = r.6;
     }
 
-plain_raster_is_spelled : (later : List ℕ → Said) (text header after : List ℕ) (format : Format) (head : Header) → format.is_plain ≡ true → text ≡ header ++ after → SpellsHeader header format head
+plain_raster_is_spelled : (later : List ℕ → Said) (text header after : List ℕ) (format : Format) (head : HeadValue) → format.is_plain ≡ true → text ≡ header ++ after → SpellsHeader header format head
     → (rows_said later format head.shape head.shape.height after).fault ≡ None → IsPlainAlone text
 plain_raster_is_spelled later text header after format head plain whole h e =
     let facts = spelled_head header format head h in
@@ -168,7 +168,7 @@ plain_raster_is_spelled later text header after format head plain whole h e =
       },
     )
 
-raster_is_spelled : (is_plain : Bool) (later : List ℕ → Said) (text header after : List ℕ) (format : Format) (head : Header) → format.is_plain ≡ is_plain → text ≡ header ++ after → SpellsHeader header format head
+raster_is_spelled : (is_plain : Bool) (later : List ℕ → Said) (text header after : List ℕ) (format : Format) (head : HeadValue) → format.is_plain ≡ is_plain → text ≡ header ++ after → SpellsHeader header format head
     → (rows_said later format head.shape head.shape.height after).fault ≡ None → ((format.is_plain ≡ false) × RawAndRest later text) ⊎ ((format.is_plain ≡ true) × IsPlainAlone text)
 raster_is_spelled false later text header after format head plain whole h e = inl (plain, raw_raster_is_spelled later text header after format head plain whole h e)
 raster_is_spelled true later text header after format head plain whole h e = inr (plain, plain_raster_is_spelled later text header after format head plain whole h e)
@@ -179,7 +179,7 @@ sound_format later (Ok x) e = (x, refl, e)
 sound_format later (Err fault) e = absurd cc
 
 -- where an image of a format is said without a fault, a head was read
-sound_head : (later : List ℕ → Said) (format : Format) (found : Result (Header × List ℕ) InputFault) → (head_said later format found).fault ≡ None → (x : Header × List ℕ) × (found ≡ Ok x) × ((rows_said later format x.0.shape x.0.shape.height x.1).fault ≡ None)
+sound_head : (later : List ℕ → Said) (format : Format) (found : Result (HeadValue × List ℕ) InputFault) → (head_said later format found).fault ≡ None → (x : HeadValue × List ℕ) × (found ≡ Ok x) × ((rows_said later format x.0.shape x.0.shape.height x.1).fault ≡ None)
 sound_head later format (Ok x) e = (x, refl, e)
 sound_head later format (Err fault) e = absurd cc
 

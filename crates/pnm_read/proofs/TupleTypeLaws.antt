@@ -5,7 +5,8 @@ use Rattle.std.proofs.lemmas.Bool.{and_parts}
 use Rattle.std.proofs.lemmas.Bool.Decides.{nat_tests}
 use Rattle.std.proofs.lemmas.List.Sums.{AllPass-from_list_all, list_all-from_AllPass}
 use Rattle.std.proofs.lemmas.List.Folds.{list_all-append}
-use Rattle.pnm_image.specs.Heads.{is_blank, IsTupleType}
+use Rattle.pnm_image.specs.Heads.{IsTupleType}
+use Rattle.pnm_image.specs.Texts.{is_blank}
 use Rattle.pnm_read.specs.Texts.{ends_by}
 use Rattle.pnm_read.specs.PamLines.{trimmed_start, onto_trimmed, trimmed_end, after_token, value_of, begins_with, joined_with, tuple_type_in}
 use Rattle.pnm_read.specs.Headers.{IsOneLine}

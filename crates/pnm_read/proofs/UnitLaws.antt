@@ -6,8 +6,8 @@ use Rattle.std.proofs.lemmas.List.Elements.{All-weaker}
 use Rattle.std.proofs.lemmas.List.Sums.{AllPass-from_list_all, list_all-from_AllPass}
 use Rattle.pnm_read.specs.declared.fault.InputFault.{InputFault}
 use Rattle.pnm_read.specs.declared.fault.InputFault.TheVariants.{SampleAboveMaxval}
-use Rattle.pnm_read.specs.declared.packing.Packing.{Packing}
-use Rattle.pnm_read.specs.declared.packing.Packing.TheVariants.{Packed, Narrow, Wide}
+use Rattle.pnm_image.specs.declared.packing.Packing.{Packing}
+use Rattle.pnm_image.specs.declared.packing.Packing.TheVariants.{Packed, Narrow, Wide}
 use Rattle.pnm_read.specs.Rasters.{pixels, wide_samples}
 use Rattle.pnm_read.specs.Items.{◌>>=◌, raw_item}
 use Rattle.pnm_read.specs.Said.{in_turn}

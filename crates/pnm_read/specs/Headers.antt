@@ -3,19 +3,20 @@ use Rattle.std.specs.Prelude.{◌≡◌, ℕ, ◌<◌, ◌≤◌, true, false, n
 use Rattle.std.specs.List.{AllPass, AllByRecursion}
 use Rattle.pnm_image.specs.declared.shape.Kind.{Kind}
 use Rattle.pnm_image.specs.declared.shape.Kind.TheVariants.{Bit, Gray, Color, Pam}
-use Rattle.pnm_image.specs.Heads.{Header, IsHeader}
+use Rattle.pnm_image.specs.Heads.{HeadValue, IsHead}
 use Rattle.pnm_read.specs.declared.format.Format.{Format}
 use Rattle.pnm_read.specs.declared.line.Field.TheVariants.{Width, Height, Depth, Maxval}
 use Rattle.pnm_read.specs.declared.line.LineKind.{LineKind}
 use Rattle.pnm_read.specs.declared.line.LineKind.TheVariants.{Nothing, Number, TupleType, End, Unknown}
-use Rattle.pnm_read.specs.Texts.{is_white, is_digit, begins_apart, ends_in_comment, uncommented, ends_in_word, numbers_in}
+use Rattle.pnm_read.specs.Texts.{begins_apart, ends_in_comment, uncommented, ends_in_word, numbers_in}
+use Rattle.pnm_image.specs.Texts.{is_white, is_digit}
 use Rattle.pnm_read.specs.Formats.{format_of, header_numbers}
 use Rattle.pnm_read.specs.PamLines.{second_token, line_kind, field_values, tuple_type_in}
 
 -- PBM, PGM and PPM: the magic, a body, and one byte of white space outside comments, the delimiter. The body begins with
 -- white space or a comment; comments cut out, it is the numbers, each after white space (a comment is
 -- enough before the first), and ends with the digits of the last.
-pub record SpellsPnmHeader (text : List ℕ) (format : Format) (head : Header) : Type 0 where
+pub record SpellsPnmHeader (text : List ℕ) (format : Format) (head : HeadValue) : Type 0 where
   pub digit : ℕ
   pub body : List ℕ
   pub delimiter : ℕ
@@ -29,7 +30,7 @@ pub record SpellsPnmHeader (text : List ℕ) (format : Format) (head : Header) :
   pub outside : ends_in_comment body ≡ false
   pub delimiter_is : is_white delimiter ≡ true
   pub kind : head.shape.kind ≡ format.kind
-  pub sound : IsHeader head
+  pub sound : IsHead head
   pub rows : 0 < head.shape.height
 
 -- ---- PAM
@@ -51,7 +52,7 @@ pub record IsPamLine (line : List ℕ) : Type 0 where
 
 -- The magic (55 is its 7) and a LF, lines and their LFs, and the line ENDHDR and its LF. Among the lines is exactly one of each
 -- number; the tuple type is what the TUPLTYPE lines have, in order.
-pub record SpellsPamHeader (text : List ℕ) (format : Format) (head : Header) : Type 0 where
+pub record SpellsPamHeader (text : List ℕ) (format : Format) (head : HeadValue) : Type 0 where
   pub lines : List (List ℕ)
   pub last : List ℕ
   pub whole : text ≡ codes "P7\n" ++ (flat_map (λ line. line ++ 10 ∷ []) lines ++ (last ++ 10 ∷ []))
@@ -66,16 +67,16 @@ pub record SpellsPamHeader (text : List ℕ) (format : Format) (head : Header) :
   pub maxval : field_values Maxval lines ≡ head.shape.maxval ∷ []
   pub tuple_type : tuple_type_in lines ≡ head.tuple_type
   pub kind : head.shape.kind ≡ Pam
-  pub sound : IsHeader head
+  pub sound : IsHead head
   pub rows : 0 < head.shape.height
 
 -- ---- a header of any format
 
-abbrev pub SpellsHeaderBy : Kind → List ℕ → Format → Header → Type 0
+abbrev pub SpellsHeaderBy : Kind → List ℕ → Format → HeadValue → Type 0
 SpellsHeaderBy Bit text format head = SpellsPnmHeader text format head
 SpellsHeaderBy Gray text format head = SpellsPnmHeader text format head
 SpellsHeaderBy Color text format head = SpellsPnmHeader text format head
 SpellsHeaderBy Pam text format head = SpellsPamHeader text format head
 
-abbrev pub SpellsHeader : List ℕ → Format → Header → Type 0
+abbrev pub SpellsHeader : List ℕ → Format → HeadValue → Type 0
 SpellsHeader text format head = SpellsHeaderBy format.kind text format head

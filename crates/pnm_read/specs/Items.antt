@@ -8,18 +8,19 @@ use Rattle.pnm_image.specs.declared.shape.Kind.{Kind}
 use Rattle.pnm_image.specs.declared.shape.Kind.TheVariants.{Bit, Gray, Color, Pam}
 use Rattle.pnm_image.specs.declared.head.HeadFault.{HeadFault}
 use Rattle.pnm_image.specs.declared.head.HeadFault.TheVariants as heads
-use Rattle.pnm_image.specs.Heads.{Header, header_of, shape_fault}
+use Rattle.pnm_image.specs.Heads.{HeadValue, head_value, shape_fault}
 use Rattle.pnm_read.specs.declared.fault.InputFault.{InputFault}
 use Rattle.pnm_read.specs.declared.fault.InputFault.TheVariants.{EmptyInput, BadMagic, HeaderCut, TooLong, BadNumber, ZeroSize, TooLarge, BadMaxval, BadPamLine, DuplicateField, MissingField, RasterCut, SampleAboveMaxval, BadSample, PlainInStream, Memory}
 use Rattle.pnm_read.specs.declared.format.Format.{Format}
 use Rattle.pnm_read.specs.declared.line.Field.{Field}
 use Rattle.pnm_read.specs.declared.line.Field.TheVariants.{Width, Height, Depth, Maxval}
 use Rattle.pnm_read.specs.declared.line.LineKind.TheVariants.{Nothing, Number, TupleType, End, Unknown}
-use Rattle.pnm_read.specs.declared.packing.Packing.{Packing}
-use Rattle.pnm_read.specs.declared.packing.Packing.TheVariants.{Packed, Narrow, Wide}
+use Rattle.pnm_image.specs.declared.packing.Packing.{Packing}
+use Rattle.pnm_image.specs.declared.packing.Packing.TheVariants.{Packed, Narrow, Wide}
 use Rattle.pnm_read.specs.declared.judgement.Judgement.{Judgement}
 use Rattle.pnm_read.specs.declared.judgement.Judgement.TheVariants.{GoesOn, EndsWith, EndsBefore, Fails}
-use Rattle.pnm_read.specs.Texts.{is_white, is_digit, is_apart, begins_apart, ends_by, ends_in_comment, number_in, numbers_in}
+use Rattle.pnm_read.specs.Texts.{is_apart, begins_apart, ends_by, ends_in_comment, number_in, numbers_in}
+use Rattle.pnm_image.specs.Texts.{is_white, is_digit}
 use Rattle.pnm_read.specs.Formats.{format_of, shape_of}
 use Rattle.pnm_read.specs.PamLines.{ended_lines, last_line, second_token, line_kind, field_values, tuple_type_in}
 use Rattle.pnm_read.specs.Rasters.{pixels}
@@ -94,10 +95,10 @@ fault_of_head heads.BadMaxval = BadMaxval
 fault_of_head heads.Memory = Memory
 
 -- the end of a header: its numbers together
-unfoldable pub numbers_item : Kind → List ℕ → Result Header InputFault
+unfoldable pub numbers_item : Kind → List ℕ → Result HeadValue InputFault
 numbers_item kind numbers = elim (shape_fault (shape_of kind numbers)) [
   | Some fault ↦ Err (fault_of_head fault)
-  | None ↦ Ok (header_of (shape_of kind numbers) [])
+  | None ↦ Ok (head_value (shape_of kind numbers) [])
 ]
 
 -- ---- the header of PAM
@@ -158,12 +159,12 @@ shape_in lines =
     record { kind = Pam; width = field_in Width lines; height = field_in Height lines; depth = field_in Depth lines; maxval = field_in Maxval lines }
 
 -- the end of a header: the lines together
-unfoldable pub lines_item : List (List ℕ) → Result Header InputFault
+unfoldable pub lines_item : List (List ℕ) → Result HeadValue InputFault
 lines_item lines =
     if is_incomplete lines then Err MissingField
     else elim (shape_fault (shape_in lines)) [
       | Some fault ↦ Err (fault_of_head fault)
-      | None ↦ Ok (header_of (shape_in lines) (tuple_type_in lines))
+      | None ↦ Ok (head_value (shape_in lines) (tuple_type_in lines))
     ]
 
 -- ---- raw rasters

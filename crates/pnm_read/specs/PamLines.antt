@@ -1,12 +1,11 @@
 -- Lines of a PAM header: their tokens, and what a line says. From pam(5), 'The layout'.
 use Rattle.std.specs.Prelude.{ℕ, ◌==◌, if◌then◌else◌, Bool, List, [], ◌∷◌, ◌++◌, codes}
 use Rattle.std.specs.Str.{bytes_eq}
-use Rattle.pnm_image.specs.Heads.{is_blank}
+use Rattle.pnm_image.specs.Texts.{is_blank, decimal_value}
 use Rattle.pnm_read.specs.declared.line.Field.{Field}
 use Rattle.pnm_read.specs.declared.line.Field.TheVariants.{Width, Height, Depth, Maxval}
 use Rattle.pnm_read.specs.declared.line.LineKind.{LineKind}
 use Rattle.pnm_read.specs.declared.line.LineKind.TheVariants.{Nothing, Number, TupleType, End, Unknown}
-use Rattle.pnm_read.specs.Texts.{decimal_value}
 
 -- ---- lines: each ends with its LF
 

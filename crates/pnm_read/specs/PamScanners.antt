@@ -4,13 +4,14 @@ use Rattle.std.specs.List.{list_all}
 use Rattle.pnm_read.specs.declared.fault.InputFault.TheVariants.{BadPamLine, BadNumber, DuplicateField, TooLong, Memory}
 use Rattle.pnm_read.specs.declared.judgement.Judgement.{Judgement}
 use Rattle.pnm_read.specs.declared.judgement.Judgement.TheVariants.{GoesOn, EndsWith, EndsBefore, Fails}
+use Rattle.pnm_image.specs.Limits.{max_tuple_type_length}
 use Rattle.pnm_image.specs.declared.shape.Shape.{Shape}
 use Rattle.pnm_image.specs.declared.shape.Kind.TheVariants.{Pam}
 use Rattle.pnm_read.specs.declared.line.Field.{Field}
 use Rattle.pnm_read.specs.declared.line.Field.TheVariants.{Width, Height, Depth, Maxval}
 use Rattle.pnm_read.specs.declared.fields.Fields.{Fields}
 use Rattle.pnm_read.specs.declared.pam.PamScanner.{PamScanner}
-use Rattle.pnm_read.specs.Texts.{is_digit, decimal_value}
+use Rattle.pnm_image.specs.Texts.{is_digit, decimal_value}
 use Rattle.pnm_read.specs.PamLines.{ended_lines, last_line, first_token, field_values, joined_with, tuple_type_in}
 use Rattle.pnm_read.specs.Saturation.{saturated}
 use Rattle.pnm_read.specs.Items.{line_item}
@@ -31,7 +32,7 @@ pub record IsFields (fields : Fields) (lines : List (List ℕ)) : Type 0 where
   pub depth : fields.depth ≡ held_number (field_values Depth lines)
   pub maxval : fields.maxval ≡ held_number (field_values Maxval lines)
   pub tuple_type : fields.tuple_type.items ≡ tuple_type_in lines
-  pub short : length (tuple_type_in lines) ≤ 255
+  pub short : length (tuple_type_in lines) ≤ max_tuple_type_length
 
 -- the fields after a line that was judged so
 abbrev pub TakesLine : Fields → Judgement → List (List ℕ) → Type 0

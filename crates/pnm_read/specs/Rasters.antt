@@ -1,28 +1,22 @@
 -- How a raster is spelled. From pbm(5), pgm(5), ppm(5) and pam(5), 'The layout', and of the plain formats 'Plain PBM' and
 -- so on. There is no plain PAM: what is said of it under 'plain' means nothing.
-use Rattle.std.specs.Prelude.{◌≡◌, ℕ, ◌+◌, ◌*◌, ◌-◌, ◌^◌, ◌/◌, ◌%◌, ◌<◌, ◌≤◌, true, false, nat_lt, if◌then◌else◌, List, [], ◌∷◌, ◌++◌, length, take, map, flat_map}
+use Rattle.std.specs.Prelude.{◌≡◌, ℕ, ◌+◌, ◌*◌, ◌-◌, ◌^◌, ◌/◌, ◌%◌, ◌<◌, ◌≤◌, true, false, List, [], ◌∷◌, ◌++◌, length, take, map, flat_map}
 use Rattle.std.specs.List.{AllPass}
 use Rattle.pnm_image.specs.declared.shape.Shape.{Shape}
 use Rattle.pnm_image.specs.declared.shape.Kind.{Kind}
 use Rattle.pnm_image.specs.declared.shape.Kind.TheVariants.{Bit, Gray, Color, Pam}
 use Rattle.pnm_image.specs.Heads.{row_length}
+use Rattle.pnm_image.specs.Packings.{packing_of}
 use Rattle.pnm_image.specs.Images.{Image, IsImage, cut_rows, rows_of}
-use Rattle.pnm_read.specs.declared.packing.Packing.{Packing}
-use Rattle.pnm_read.specs.declared.packing.Packing.TheVariants.{Packed, Narrow, Wide}
-use Rattle.pnm_read.specs.Texts.{is_white, is_digit, begins_apart, ends_in_comment, uncommented, decimal_value}
+use Rattle.pnm_image.specs.declared.packing.Packing.TheVariants.{Packed, Narrow, Wide}
+use Rattle.pnm_read.specs.Texts.{begins_apart, ends_in_comment, uncommented}
+use Rattle.pnm_image.specs.Texts.{is_white, is_digit, decimal_value}
 
 -- ---- raw
 
--- how the samples of a raw row lie in its bytes: eight pixels a byte, a byte a sample, or two
-abbrev pub packing_of : Kind → ℕ → Packing
-packing_of Bit maxval = Packed
-packing_of Gray maxval = if nat_lt maxval 256 then Narrow else Wide
-packing_of Color maxval = if nat_lt maxval 256 then Narrow else Wide
-packing_of Pam maxval = if nat_lt maxval 256 then Narrow else Wide
-
 -- the bytes of a raw row
-abbrev pub row_bytes : Shape → ℕ
-row_bytes s = elim (packing_of s.kind s.maxval) [
+abbrev pub bytes_in_row : Shape → ℕ
+bytes_in_row s = elim (packing_of s.kind s.maxval) [
   | Packed ↦ (s.width + 7) / 8
   | Narrow ↦ row_length s
   | Wide ↦ 2 * row_length s
@@ -54,8 +48,8 @@ raw_samples s bytes = elim (packing_of s.kind s.maxval) [
 -- the rows of bytes, top to bottom, with nothing between or after them
 pub record SpellsRaw (text : List ℕ) (image : Image) : Type 0 where
   pub sound : IsImage image
-  pub count : length text ≡ image.head.shape.height * row_bytes image.head.shape
-  pub rows : rows_of image ≡ map (raw_samples image.head.shape) (cut_rows image.head.shape.height (row_bytes image.head.shape) text)
+  pub count : length text ≡ image.head.shape.height * bytes_in_row image.head.shape
+  pub rows : rows_of image ≡ map (raw_samples image.head.shape) (cut_rows image.head.shape.height (bytes_in_row image.head.shape) text)
 
 -- ---- plain
 

@@ -7,14 +7,14 @@ use Rattle.pnm_image.specs.declared.shape.Kind.TheVariants.{Bit, Gray, Color, Pa
 use Rattle.pnm_image.specs.declared.shape.Shape.{Shape}
 use Rattle.pnm_image.specs.declared.message.Message.{Message}
 use Rattle.pnm_image.specs.declared.message.Message.TheVariants.{Begin, Row, ImageEnd, StreamEnd}
-use Rattle.pnm_image.specs.Heads.{Header, row_length}
+use Rattle.pnm_image.specs.Heads.{HeadValue, row_length}
 use Rattle.pnm_read.specs.declared.fault.InputFault.{InputFault}
 use Rattle.pnm_read.specs.declared.format.Format.{Format}
-use Rattle.pnm_read.specs.declared.packing.Packing.{Packing}
-use Rattle.pnm_read.specs.declared.packing.Packing.TheVariants.{Packed, Narrow, Wide}
+use Rattle.pnm_image.specs.declared.packing.Packing.{Packing}
+use Rattle.pnm_image.specs.declared.packing.Packing.TheVariants.{Packed, Narrow, Wide}
 use Rattle.pnm_read.specs.Texts.{numbers_in}
 use Rattle.pnm_read.specs.Formats.{number_count}
-use Rattle.pnm_read.specs.Rasters.{packing_of}
+use Rattle.pnm_image.specs.Packings.{packing_of}
 use Rattle.pnm_read.specs.PamLines.{ended_lines}
 use Rattle.pnm_read.specs.Items.{◌>>=◌, piece_from, first_magic_item, second_magic_item, header_item, header_end, numbers_item, line_feed_item, pam_item, lines_item, raw_item, plain_sample, after_last_item}
 
@@ -32,26 +32,26 @@ format_at is_first text = do
   rest ← first_magic_item text
   second_magic_item is_first rest
 
-unfoldable pub pnm_head_at : Kind → List ℕ → Result (Header × List ℕ) InputFault
+unfoldable pub pnm_head_at : Kind → List ℕ → Result (HeadValue × List ℕ) InputFault
 pnm_head_at kind text = do
   piece ← piece_from (header_item (number_count kind)) header_end [] text
   head ← numbers_item kind (numbers_in piece.0)
   Ok (head, piece.1)
 
-unfoldable pub pam_head_at : List ℕ → Result (Header × List ℕ) InputFault
+unfoldable pub pam_head_at : List ℕ → Result (HeadValue × List ℕ) InputFault
 pam_head_at text = do
   rest ← line_feed_item text
   piece ← piece_from pam_item header_end [] rest
   head ← lines_item (ended_lines piece.0)
   Ok (head, piece.1)
 
-abbrev pub head_by : Kind → List ℕ → Result (Header × List ℕ) InputFault
+abbrev pub head_by : Kind → List ℕ → Result (HeadValue × List ℕ) InputFault
 head_by Bit text = pnm_head_at Bit text
 head_by Gray text = pnm_head_at Gray text
 head_by Color text = pnm_head_at Color text
 head_by Pam text = pam_head_at text
 
-abbrev pub head_at : Format → List ℕ → Result (Header × List ℕ) InputFault
+abbrev pub head_at : Format → List ℕ → Result (HeadValue × List ℕ) InputFault
 head_at format text = head_by format.kind text
 
 -- ---- rows
@@ -123,7 +123,7 @@ rows_said later format s (suc more) text = elim (row_at format s more text) [
   | Ok row ↦ then_said (Row row.0) (rows_said later format s more row.1)
 ]
 
-abbrev pub head_said : (List ℕ → Said) → Format → Result (Header × List ℕ) InputFault → Said
+abbrev pub head_said : (List ℕ → Said) → Format → Result (HeadValue × List ℕ) InputFault → Said
 head_said later format (Err fault) = says_fault fault
 head_said later format (Ok found) = then_said (Begin found.0) (rows_said later format found.0.shape found.0.shape.height found.1)
 

@@ -5,7 +5,8 @@ use Rattle.pnm_read.specs.declared.judgement.Judgement.{Judgement}
 use Rattle.pnm_read.specs.declared.header.HeaderScanner.{HeaderScanner}
 use Rattle.pnm_read.specs.declared.decimal.DecimalScanner.{DecimalScanner}
 use Rattle.pnm_read.specs.declared.pixel.PixelScanner.{PixelScanner}
-use Rattle.pnm_read.specs.Texts.{is_white, is_digit, commented, ends_in_comment, uncommented, ends_in_word, numbers_in, number_in}
+use Rattle.pnm_read.specs.Texts.{commented, ends_in_comment, uncommented, ends_in_word, numbers_in, number_in}
+use Rattle.pnm_image.specs.Texts.{is_white, is_digit}
 use Rattle.pnm_read.specs.Saturation.{saturated, with_digit, IsNumbers}
 use Rattle.pnm_read.specs.Items.{header_item, decimal_item, pixel_item, ends_in_digit, pixel_in}
 

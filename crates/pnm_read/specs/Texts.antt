@@ -1,13 +1,6 @@
 -- Bytes of a text: white space, digits, comments and words. From pbm(5), 'The layout'.
-use Rattle.std.specs.Prelude.{ℕ, Bool, true, false, not, ◌==◌, nat_le, ◌&&◌, ◌||◌, if◌then◌else◌, List, [], ◌∷◌, map, filter}
-use Rattle.std.specs.Str.Parse.{digits_value}
-
--- blank, TAB, CR or LF
-abbrev pub is_white : ℕ → Bool
-is_white b = (b == 32) || (b == 9) || (b == 13) || (b == 10)
-
-abbrev pub is_digit : ℕ → Bool
-is_digit b = nat_le 48 b && nat_le b 57
+use Rattle.std.specs.Prelude.{ℕ, Bool, true, false, not, ◌==◌, ◌||◌, if◌then◌else◌, List, [], ◌∷◌, map, filter}
+use Rattle.pnm_image.specs.Texts.{is_white, is_digit, words, decimal_value}
 
 -- CR or LF
 abbrev pub is_line_end : ℕ → Bool
@@ -53,31 +46,11 @@ uncommented text = uncommented_from false text
 
 -- ---- words: the longest runs of bytes that aren't white space
 
--- the text begins with a byte of a word
-abbrev pub begins_in_word : List ℕ → Bool
-begins_in_word [] = false
-begins_in_word (b ∷ text) = not (is_white b)
-
 -- the text ends with a byte of a word
 abbrev pub ends_in_word : List ℕ → Bool
 ends_in_word text = ends_by (λ b. not (is_white b)) text
 
--- the byte before the first of the words
-abbrev pub onto_first : ℕ → List (List ℕ) → List (List ℕ)
-onto_first b [] = (b ∷ []) ∷ []
-onto_first b (word ∷ words) = (b ∷ word) ∷ words
-
-unfoldable pub words : List ℕ → List (List ℕ)
-words [] = []
-words (b ∷ text) =
-    if is_white b then words text
-    else if begins_in_word text then onto_first b (words text)
-    else (b ∷ []) ∷ words text
-
 -- ---- numbers: decimal, with any leading zeros and any number of digits
-
-abbrev pub decimal_value : List ℕ → ℕ
-decimal_value digits = digits_value 10 digits
 
 -- the number that the digits of a plain sample's piece spell; they stand together, outside comments, at its end
 abbrev pub number_in : List ℕ → ℕ

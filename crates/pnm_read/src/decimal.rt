@@ -3,12 +3,13 @@
 ghost use Rattle.std.specs.Prelude.{◌≡◌, ◌<◌, ◌≤◌, ◌-◌, [], not, ◌&&◌};
 ghost use Rattle.pnm_read.specs.declared.judgement.Judgement.TheVariants.{GoesOn, Fails};
 ghost use Rattle.pnm_read.specs.declared.fault.InputFault.TheVariants.{ReadFailed};
-ghost use Rattle.pnm_read.specs.Texts.{is_digit};
+ghost use Rattle.pnm_image.specs.Texts.{is_digit};
 
-use crate::characters::{commented, is_apart, is_digit};
+use crate::comments::{commented, is_apart};
 use crate::fault::InputFault;
 use crate::judgement::Judgement;
 use crate::scan::Scanner;
+use pnm_image::characters::is_digit;
 
 /// The bytes from after a sample's last digit, or the header, through the last digit of the next
 /// sample, at most.

@@ -12,11 +12,9 @@ use crate::fault::InputFault;
 use crate::header::fault_of_head;
 use crate::judgement::Judgement;
 use crate::line::{Field, LineKind, number_of, split_token, trimmed};
+use pnm_image::limits::MAX_TUPLE_TYPE_LENGTH;
 use pnm_image::{Head, Kind, Shape};
 use std::alloc::Global;
-
-/// The bytes of a tuple type, at most.
-const TUPLE_TYPE_LIMIT: usize = 255;
 
 /// The fields of a header that have come.
 #[derive(Debug, Drop)]
@@ -97,8 +95,8 @@ impl Fields {
         } else {
             b" "
         };
-        if text.len() > TUPLE_TYPE_LIMIT
-            || self.tuple_type.len() + blank.len() + text.len() > TUPLE_TYPE_LIMIT
+        if text.len() > MAX_TUPLE_TYPE_LENGTH
+            || self.tuple_type.len() + blank.len() + text.len() > MAX_TUPLE_TYPE_LENGTH
         {
             return Judgement::Fails(InputFault::TooLong);
         }

@@ -3,7 +3,8 @@
 ghost use Rattle.std.specs.Prelude.{◌≡◌, ◌≤◌, ◌<◌, ◌==◌, ◌-◌, ◌++◌, [], ◌∷◌, List, ℕ, Some, not, ◌&&◌, ◌||◌};
 ghost use Rattle.pnm_read.specs.declared.judgement.Judgement.TheVariants.{GoesOn, Fails};
 ghost use Rattle.pnm_read.specs.declared.fault.InputFault.TheVariants.{ReadFailed};
-ghost use Rattle.pnm_read.specs.Texts.{is_digit, is_apart};
+ghost use Rattle.pnm_read.specs.Texts.{is_apart};
+ghost use Rattle.pnm_image.specs.Texts.{is_digit};
 ghost use Rattle.pnm_read.specs.Formats.{shape_of, number_count};
 ghost use Rattle.pnm_read.specs.Items.{fault_of_head, numbers_item};
 ghost use Rattle.pnm_read.specs.Said.{format_at, pnm_head_at, head_at};
@@ -11,7 +12,7 @@ ghost use Rattle.pnm_read.specs.Inputs.{Turn, Finds};
 ghost use Rattle.pnm_read.specs.Magics.{format_named};
 ghost use Rattle.pnm_read.specs.Saturation.{IsNumbers, GivesInMemory};
 
-use crate::characters::{commented, is_apart, is_digit, is_white};
+use crate::comments::{commented, is_apart};
 use crate::fault::InputFault;
 use crate::format::{Format, number_count, planes};
 use crate::input::Input;
@@ -20,6 +21,7 @@ use crate::pam;
 use crate::scan::{Scanner, scan};
 use pnm_image::{BytesIn, Head, HeadFault, Kind, Shape};
 use std::alloc::Global;
+use pnm_image::characters::{is_digit, is_white};
 
 /// The bytes of a header after its magic, at most: 65,536 with the magic.
 const HEADER_LIMIT: usize = 65_534;

@@ -4,7 +4,7 @@
 //! the one fault of the text. The formats are those of pbm(5), pgm(5), ppm(5) and pam(5).
 #![tactic(auto)]
 
-mod characters;
+mod comments;
 mod decimal;
 mod fault;
 mod fields;

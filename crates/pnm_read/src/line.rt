@@ -4,7 +4,8 @@ ghost use Rattle.std.specs.Prelude.{◌≡◌, length};
 ghost use Rattle.pnm_read.specs.PamLines.{trimmed_start, trimmed_end, first_token, after_first, kind_of_token};
 ghost use Rattle.pnm_read.specs.PamScanners.{number_of};
 
-use crate::characters::{is_blank, is_digit};
+use pnm_image::characters::{is_blank, is_digit};
+
 
 /// A number of a PAM header.
 #[derive(Clone, Copy, Debug, PartialEq, Eq)]

@@ -1,77 +1,59 @@
 //! How the samples of a raw row lie in its bytes.
 
 ghost use Rattle.std.specs.Prelude.{◌≡◌, ◌≤◌, ◌↔◌, ◌*◌, ◌++◌, length, map, ℕ, All, OnOk, IfErr};
-ghost use Rattle.pnm_read.specs.Rasters.{packing_of, pixel_at, pixels, wide_samples};
+ghost use Rattle.pnm_read.specs.Rasters.{pixel_at, pixels, wide_samples};
+ghost use Rattle.pnm_image.specs.Limits.{max_side};
 ghost use Rattle.pnm_read.specs.Packings.{unit_bytes, AppendsUnits, AppendsPixels, AppendsNarrow, AppendsWide};
 ghost use Rattle.pnm_read.specs.Said.{units_in_row};
 
 use crate::fault::InputFault;
-use pnm_image::{Kind, Shape};
+use pnm_image::{Packing, Shape};
 
-/// How the samples of a raw row lie in its bytes. A unit is a sample, or a byte of eight pixels.
-#[derive(Clone, Copy, Debug, PartialEq, Eq)]
-pub enum Packing {
-    /// Eight pixels a byte, the most significant bit leftmost; 1 is black, which is sample 0.
-    Packed,
-    /// A byte a sample.
-    Narrow,
-    /// Two bytes a sample, the most significant first.
-    Wide,
+/// The bytes of a unit: a sample, or a byte of eight pixels.
+pub fn unit_bytes(packing: Packing) -> usize
+    ensures { result ≡ unit_bytes packing }
+{
+    match packing {
+        Packing::Packed | Packing::Narrow => 1,
+        Packing::Wide => 2,
+    }
 }
 
-impl Packing {
-    /// The packing of images of this kind and maxval.
-    pub fn of(kind: Kind, maxval: u32) -> Packing
-        ensures { result ≡ packing_of kind maxval }
-    {
-        match kind {
-            Kind::Bit => Packing::Packed,
-            Kind::Gray | Kind::Color | Kind::Pam if maxval < 256 => Packing::Narrow,
-            Kind::Gray | Kind::Color | Kind::Pam => Packing::Wide,
-        }
+/// The units in a row of this shape.
+pub fn units_in_row(packing: Packing, shape: Shape) -> usize
+    requires { shape.width ≤ max_side }
+    ensures { result ≡ units_in_row packing shape }
+{
+    match packing {
+        Packing::Packed => (shape.width as usize).div_ceil(8),
+        Packing::Narrow | Packing::Wide => shape.row_length() as usize,
     }
+}
 
-    /// The bytes of a unit.
-    pub fn unit_bytes(self) -> usize
-        ensures { result ≡ unit_bytes self }
-    {
-        match self {
-            Packing::Packed | Packing::Narrow => 1,
-            Packing::Wide => 2,
-        }
+/// The samples that the units of a row of this shape hold, with those of spare bits.
+pub fn samples_in_row(packing: Packing, shape: Shape) -> usize
+    requires { shape.width ≤ max_side }
+{
+    match packing {
+        Packing::Packed => (shape.width as usize).div_ceil(8) * 8,
+        Packing::Narrow | Packing::Wide => shape.row_length() as usize,
     }
+}
 
-    /// The units in a row of this shape.
-    pub fn units_in_row(self, shape: Shape) -> usize
-        requires { shape.width ≤ 1000000 }
-        ensures { result ≡ units_in_row self shape }
-    {
-        match self {
-            Packing::Packed => (shape.width as usize).div_ceil(8),
-            Packing::Narrow | Packing::Wide => shape.row_length() as usize,
-        }
-    }
-
-    /// The samples that the units of a row of this shape hold, with those of spare bits.
-    pub fn samples_in_row(self, shape: Shape) -> usize
-        requires { shape.width ≤ 1000000 }
-    {
-        match self {
-            Packing::Packed => (shape.width as usize).div_ceil(8) * 8,
-            Packing::Narrow | Packing::Wide => shape.row_length() as usize,
-        }
-    }
-
-    /// Appends the samples of so many units, which these bytes are, to a row. The loops over the
-    /// bytes are vector code. A row that holds samples above the maxval is never given on.
-    pub fn append(self, bytes: &[u8], maxval: u32, row: &mut Vec<u16>) -> Result<(), InputFault>
-        ensures { (n : ℕ) → length bytes.now ≡ n * unit_bytes self → AppendsUnits self maxval n bytes.now row.old.items row.new.items result }
-    {
-        match self {
-            Packing::Packed => append_pixels(bytes, row),
-            Packing::Narrow => append_narrow(bytes, maxval, row),
-            Packing::Wide => append_wide(bytes, maxval, row),
-        }
+/// Appends the samples of so many units, which these bytes are, to a row. The loops over the
+/// bytes are vector code. A row that holds samples above the maxval is never given on.
+pub fn append(
+    packing: Packing,
+    bytes: &[u8],
+    maxval: u32,
+    row: &mut Vec<u16>,
+) -> Result<(), InputFault>
+    ensures { (n : ℕ) → length bytes.now ≡ n * unit_bytes packing → AppendsUnits packing maxval n bytes.now row.old.items row.new.items result }
+{
+    match packing {
+        Packing::Packed => append_pixels(bytes, row),
+        Packing::Narrow => append_narrow(bytes, maxval, row),
+        Packing::Wide => append_wide(bytes, maxval, row),
     }
 }
 

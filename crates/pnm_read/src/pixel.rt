@@ -4,7 +4,7 @@ ghost use Rattle.std.specs.Prelude.{◌≡◌, ◌<◌, ◌≤◌, ◌-◌, []};
 ghost use Rattle.pnm_read.specs.declared.judgement.Judgement.TheVariants.{GoesOn, Fails};
 ghost use Rattle.pnm_read.specs.declared.fault.InputFault.TheVariants.{ReadFailed};
 
-use crate::characters::{commented, is_apart};
+use crate::comments::{commented, is_apart};
 use crate::decimal::GAP_LIMIT;
 use crate::fault::InputFault;
 use crate::judgement::Judgement;

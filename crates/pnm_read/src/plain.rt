@@ -1,12 +1,13 @@
 //! The rows of a plain raster.
 
 ghost use Rattle.std.specs.Prelude.{◌≡◌, ◌≤◌, true};
+ghost use Rattle.pnm_image.specs.Limits.{max_maxval};
 ghost use Rattle.pnm_image.specs.Heads.{row_length};
 ghost use Rattle.pnm_read.specs.Items.{plain_pixel, plain_decimal, plain_sample, after_last_item};
 ghost use Rattle.pnm_read.specs.Said.{plain_row, row_by};
 ghost use Rattle.pnm_read.specs.Inputs.{Turn, Finds, Passes};
 
-use crate::characters::is_apart;
+use crate::comments::is_apart;
 use crate::decimal::DecimalScanner;
 use crate::fault::InputFault;
 use crate::input::Input;
@@ -20,7 +21,7 @@ pub fn read_row<R: BytesIn>(
     shape: Shape,
     more: u32,
 ) -> Result<Samples, InputFault>
-    requires { shape.maxval ≤ 65535 }
+    requires { shape.maxval ≤ max_maxval }
     ensures { Turn R.left R.failures R.same input.old input.new result (Finds (λ row. row) (row_by true shape more) result) }
 {
     let row = read_samples(input, shape)?;
@@ -32,7 +33,7 @@ pub fn read_row<R: BytesIn>(
 
 /// The samples of the next row.
 fn read_samples<R: BytesIn>(input: &mut Input<R>, shape: Shape) -> Result<Samples, InputFault>
-    requires { shape.maxval ≤ 65535 }
+    requires { shape.maxval ≤ max_maxval }
     ensures { Turn R.left R.failures R.same input.old input.new result (Finds (λ row. row) (plain_row shape) result) }
 {
     let length = shape.row_length() as usize;
@@ -50,7 +51,7 @@ fn read_samples<R: BytesIn>(input: &mut Input<R>, shape: Shape) -> Result<Sample
 
 /// The next sample.
 fn read_sample<R: BytesIn>(input: &mut Input<R>, kind: Kind, maxval: u32) -> Result<u16, InputFault>
-    requires { maxval ≤ 65535 }
+    requires { maxval ≤ max_maxval }
     ensures { Turn R.left R.failures R.same input.old input.new result (Finds (λ sample. sample) (plain_sample kind maxval) result) }
 {
     match kind {
@@ -72,7 +73,7 @@ fn read_pixel<R: BytesIn>(input: &mut Input<R>) -> Result<u16, InputFault>
 /// The next number, at most the maxval.
 #[tactic(auto, unfolding(crate::specs::Items::plain_decimal))]
 fn read_decimal<R: BytesIn>(input: &mut Input<R>, maxval: u32) -> Result<u16, InputFault>
-    requires { maxval ≤ 65535 }
+    requires { maxval ≤ max_maxval }
     ensures { Turn R.left R.failures R.same input.old input.new result (Finds (λ sample. sample) (plain_decimal maxval) result) }
 {
     let mut number = DecimalScanner::new();

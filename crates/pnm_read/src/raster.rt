@@ -1,6 +1,7 @@
 //! How far a raster was read.
 
 ghost use Rattle.std.specs.Prelude.{◌≡◌, ◌≤◌, ◌<◌, ◌+◌};
+ghost use Rattle.pnm_image.specs.Limits.{max_maxval, max_side};
 
 use crate::format::Format;
 use pnm_image::Shape;
@@ -12,15 +13,15 @@ pub struct Raster {
     pub shape: Shape,
     pub y: u32,
     ghost within: { y ≤ shape.height },
-    ghost width: { shape.width ≤ 1000000 },
-    ghost maxval: { shape.maxval ≤ 65535 },
+    ghost width: { shape.width ≤ max_side },
+    ghost maxval: { shape.maxval ≤ max_maxval },
 }
 
 impl Raster {
     /// A raster of which no row has passed.
     pub fn new(format: Format, shape: Shape) -> Raster
-        requires width { shape.width ≤ 1000000 }
-        requires maxval { shape.maxval ≤ 65535 }
+        requires width { shape.width ≤ max_side }
+        requires maxval { shape.maxval ≤ max_maxval }
         ensures format { result.format ≡ format }
         ensures shape { result.shape ≡ shape }
         ensures y { result.y ≡ 0 }

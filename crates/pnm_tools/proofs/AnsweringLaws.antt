@@ -4,7 +4,7 @@ use Rattle.pnm_image.specs.declared.message.Message.{Message}
 use Rattle.pnm_image.specs.declared.message.Message.TheVariants.{Begin, Row, ImageEnd, StreamEnd, Stop}
 use Rattle.pnm_image.specs.declared.place.Place.{Place}
 use Rattle.pnm_image.specs.declared.place.Place.TheVariants.{Between, Inside}
-use Rattle.pnm_image.specs.Heads.{Header}
+use Rattle.pnm_image.specs.Heads.{HeadValue}
 use Rattle.pnm_image.specs.Images.{Image, IsImage, AreImages, rows_of, messages_of_image, messages_of_stream}
 use Rattle.pnm_image.specs.Places.{place_after, place_of}
 use Rattle.pnm_image.specs.Completion.{IsFrontOf}
@@ -83,10 +83,10 @@ abbrev IsDueFront : Tool → List Message → List Message → Type 0
 IsDueFront tool l due = IsFrontOf (answered_from tool Between [] l) due
 
 -- an image that is refused hasn't begun
-abbrev pub applied_by : (Header → Image) → Result Header ToolFault → Result Image ToolFault
+abbrev pub applied_by : (HeadValue → Image) → Result HeadValue ToolFault → Result Image ToolFault
 applied_by make r = elim r [ Ok head ↦ Ok (make head) | Err fault ↦ Err fault ]
 
-head_refused : (make : Header → Image) (r : Result Header ToolFault) (fault : ToolFault) (result : Header) → applied_by make r ≡ Err fault → r ≡ Ok result → ⊥
+head_refused : (make : HeadValue → Image) (r : Result HeadValue ToolFault) (fault : ToolFault) (result : HeadValue) → applied_by make r ≡ Err fault → r ≡ Ok result → ⊥
 head_refused make (Ok head) fault result a e = absurd cc
 head_refused make (Err other) fault result a e = absurd cc
 

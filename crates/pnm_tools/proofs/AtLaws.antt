@@ -4,7 +4,7 @@ use Rattle.pnm_image.specs.declared.message.Message.{Message}
 use Rattle.pnm_image.specs.declared.message.Message.TheVariants.{Begin, Row, ImageEnd, StreamEnd, Stop}
 use Rattle.pnm_image.specs.declared.place.Place.{Place}
 use Rattle.pnm_image.specs.declared.place.Place.TheVariants.{Between, Inside, After}
-use Rattle.pnm_image.specs.Heads.{Header}
+use Rattle.pnm_image.specs.Heads.{HeadValue}
 use Rattle.pnm_image.specs.Messages.{without_stop}
 use Rattle.pnm_image.specs.Places.{IsLawfulFrom, IsLawful, place_after}
 use Rattle.pnm_image.specs.Images.{Image}
@@ -82,7 +82,7 @@ lawful_stops place (Stop ∷ []) h = inr ([], refl, tt)
 lawful_stops place (Stop ∷ m ∷ l) h = absurd h.1.0
 
 -- answers to messages that go on do so
-head_goes_on : (r : Result Header ToolFault) → GoOn (elim r [ Ok result ↦ Begin result ∷ [] | Err fault ↦ [] ])
+head_goes_on : (r : Result HeadValue ToolFault) → GoOn (elim r [ Ok result ↦ Begin result ∷ [] | Err fault ↦ [] ])
 head_goes_on (Ok result) = tt
 head_goes_on (Err fault) = tt
 

@@ -13,7 +13,7 @@ use Rattle.pnm_tools.specs.declared.tool.Tool.{Tool}
 use Rattle.pnm_tools.specs.Tools.{IsLawfulTool, output_due}
 use Rattle.pnm_tools.specs.Answers.{More, EndsBy, Answers, AnswersInFull, AreResults}
 use Rattle.pnm_tools.specs.Chains.{AreLawfulTools, AreResultsInTurn, due_in_turn, results_of, refusal_from, refusal_of}
-use Rattle.pnm_tools.specs.Stages.{IsSound, AreSound, AreWell, IsFirstFault, IsRefusedNext, HasRefused, HasAnswered, HaveAnswered}
+use Rattle.pnm_tools.specs.ChainAnswers.{IsSound, AreSound, AreWell, IsFirstFault, IsRefusedNext, HasRefused, HasAnswered, HaveAnswered}
 use Rattle.pnm_tools.proofs.FullAnswers.{full_answer_is_the_stream}
 use Rattle.pnm_tools.proofs.FullLaws.{front_of_front}
 use Rattle.pnm_tools.proofs.SoundLaws.{HasRows, EndsUnbroken, sound_ends, unbroken_keeps_all, sound_keeps_all, lawful_front, all_of_front, stream_is_sound, HasSoundImages, sound_images, due_is_sound}

@@ -8,14 +8,14 @@ use Rattle.std.proofs.lemmas.List.FromFn.{get_or-map-range_with_len, length-map-
 use Rattle.std.proofs.lemmas.List.Sums.{AllPass-from_list_all}
 use Rattle.std.proofs.lemmas.Simd.{map-map}
 use Rattle.pnm_image.specs.declared.shape.Shape.{Shape}
-use Rattle.pnm_image.specs.Heads.{Header}
+use Rattle.pnm_image.specs.Heads.{HeadValue, is_too_large}
 use Rattle.pnm_image.specs.Images.{Image, rows_of}
 use Rattle.pnm_tools.specs.declared.fault.ToolFault.{ToolFault}
 use Rattle.pnm_tools.specs.declared.fault.ToolFault.TheVariants.{TooLarge, ChannelOutside}
 use Rattle.pnm_tools.specs.declared.tool.Tool.TheVariants.{Channel}
 use Rattle.pnm_tools.specs.Formulas.{image_by}
-use Rattle.pnm_tools.specs.Limits.{is_too_large, within_limits}
-use Rattle.pnm_tools.specs.Channel.{Picks, IsLawfulPick, HasPlanes, picked_header, picked_sample, picked_row}
+use Rattle.pnm_tools.specs.Limits.{within_limits}
+use Rattle.pnm_tools.specs.Channel.{Picks, IsLawfulPick, HasPlanes, picked_head_value, picked_sample, picked_row}
 use Rattle.pnm_tools.specs.Tools.{result_head, result_sample}
 use Rattle.pnm_tools.proofs.FormulaLaws.{columns, row_at, rows_are, rows_of-image_by, range_alike}
 use Rattle.pnm_tools.proofs.ImageLaws.{answers_to_rows, each_row_answered, result_by_head, answered_by_rows}
@@ -24,25 +24,25 @@ use Rattle.pnm_tools.proofs.AnsweringLaws.{AnswersImages}
 
 -- ---- an image that isn't refused
 
-pub record IsPicked (planes : Picks) (head result : Header) : Type 0 where
+pub record IsPicked (planes : Picks) (head result : HeadValue) : Type 0 where
   pub has_planes : HasPlanes planes head.shape
   pub limits : is_too_large result.shape ≡ false
-  pub result_is : result ≡ picked_header planes head
+  pub result_is : result ≡ picked_head_value planes head
 
-within_by : (too_large : Bool) (head result : Header) → is_too_large head.shape ≡ too_large → ◌≡◌ {A = Result Header ToolFault} (if too_large then Err TooLarge else Ok head) (Ok result) → (is_too_large result.shape ≡ false) × (result ≡ head)
+within_by : (too_large : Bool) (head result : HeadValue) → is_too_large head.shape ≡ too_large → ◌≡◌ {A = Result HeadValue ToolFault} (if too_large then Err TooLarge else Ok head) (Ok result) → (is_too_large result.shape ≡ false) × (result ≡ head)
 within_by true head result is e = absurd cc
 within_by false head result is e =
     let same : head ≡ result = cc in
-    (subst (λ (h : Header). is_too_large h.shape ≡ false) same is, sym same)
+    (subst (λ (h : HeadValue). is_too_large h.shape ≡ false) same is, sym same)
 
-picked_by : (all : Bool) (planes : Picks) (head result : Header) → list_all (λ number. nat_lt number head.shape.depth) planes.numbers ≡ all → (if all then within_limits (picked_header planes head) else Err ChannelOutside) ≡ Ok result → IsPicked planes head result
+picked_by : (all : Bool) (planes : Picks) (head result : HeadValue) → list_all (λ number. nat_lt number head.shape.depth) planes.numbers ≡ all → (if all then within_limits (picked_head_value planes head) else Err ChannelOutside) ≡ Ok result → IsPicked planes head result
 picked_by true planes head result is e =
     let passed = AllPass-from_list_all (λ number. nat_lt number head.shape.depth) planes.numbers is in
-    let within = within_by (is_too_large (picked_header planes head).shape) (picked_header planes head) result refl e in
+    let within = within_by (is_too_large (picked_head_value planes head).shape) (picked_head_value planes head) result refl e in
     record { has_planes = λ k d lt. ltb-true (slice_index_or planes.numbers k d) head.shape.depth (passed k d lt); limits = within.0; result_is = within.1 }
 picked_by false planes head result is e = absurd cc
 
-pub is_picked : (planes : Picks) (head result : Header) → result_head (Channel planes) head ≡ Ok result → IsPicked planes head result
+pub is_picked : (planes : Picks) (head result : HeadValue) → result_head (Channel planes) head ≡ Ok result → IsPicked planes head result
 unfolding result_head
 is_picked planes head result e = picked_by (list_all (λ number. nat_lt number head.shape.depth) planes.numbers) planes head result refl e
 
@@ -80,17 +80,17 @@ row_picked planes i y has =
 
 -- ---- the whole image
 
-picked_rows : (planes : Picks) (i : Image) → HasPlanes planes i.head.shape → rows_of (image_by (picked_header planes i.head) (picked_sample planes i)) ≡ map (picked_row planes i.head.shape) (rows_of i)
+picked_rows : (planes : Picks) (i : Image) → HasPlanes planes i.head.shape → rows_of (image_by (picked_head_value planes i.head) (picked_sample planes i)) ≡ map (picked_row planes i.head.shape) (rows_of i)
 picked_rows planes i has =
     let s : Shape = i.head.shape in
-    rows_of-image_by (picked_header planes i.head) (picked_sample planes i)
+    rows_of-image_by (picked_head_value planes i.head) (picked_sample planes i)
     ∙ range_alike (λ y. columns 0 s.width (length planes.numbers) (λ x p. picked_sample planes i x y p)) (λ y. picked_row planes s (row_at i y)) 0 s.height (λ y lt. row_picked planes i y has)
     ∙ sym (map-map (picked_row planes s) (row_at i) (range_with_len 0 s.height))
     ∙ ap (map (picked_row planes s)) (sym (rows_are i))
 
-answer_is : (planes : Picks) (i : Image) (result : Header) → IsPicked planes i.head result → map (picked_row planes i.head.shape) (rows_of i) ≡ rows_of (image_by result (result_sample (Channel planes) i))
+answer_is : (planes : Picks) (i : Image) (result : HeadValue) → IsPicked planes i.head result → map (picked_row planes i.head.shape) (rows_of i) ≡ rows_of (image_by result (result_sample (Channel planes) i))
 unfolding result_sample
-answer_is planes i result picked = sym (picked_rows planes i picked.has_planes) ∙ ap (λ (h : Header). rows_of (image_by h (picked_sample planes i))) (sym picked.result_is)
+answer_is planes i result picked = sym (picked_rows planes i picked.has_planes) ∙ ap (λ (h : HeadValue). rows_of (image_by h (picked_sample planes i))) (sym picked.result_is)
 
 pub channel_answers_images : (planes : Picks) → IsLawfulPick planes → AnswersImages (Channel planes)
 channel_answers_images planes lawful i j is e =

@@ -6,7 +6,7 @@ use Rattle.std.proofs.lemmas.Bool.{leb-true, ltb-true, le-leb, lt-leb, and_from,
 use Rattle.std.proofs.lemmas.Grind.{flat_map-append}
 use Rattle.std.proofs.lemmas.List.{drop-take, take-take, drop-drop, map-id}
 use Rattle.pnm_image.specs.declared.shape.Shape.{Shape}
-use Rattle.pnm_image.specs.Heads.{Header}
+use Rattle.pnm_image.specs.Heads.{HeadValue}
 use Rattle.pnm_image.specs.Images.{Image, IsImage, sample_at, rows_of}
 use Rattle.pnm_tools.specs.declared.cut.CutBox.{CutBox}
 use Rattle.pnm_tools.specs.declared.cut.Span.{Span}
@@ -111,7 +111,7 @@ columns_cut xs w d h y first count fits lt size =
 -- ---- the rows
 
 -- the head of the columns and rows of spans
-abbrev pub cut_by : Span → Span → Header → Header
+abbrev pub cut_by : Span → Span → HeadValue → HeadValue
 cut_by columns rows head = record head { shape = record head.shape { width = span_count columns; height = span_count rows } }
 
 -- the rows of the cut image
@@ -148,26 +148,26 @@ span_lies count (pos a) (negsuc b) span e = absurd cc
 span_lies count (negsuc a) last span e = absurd cc
 
 -- the head of the cut image
-pub record IsCutHead (cs rs : Option Span) (head result : Header) : Type 0 where
+pub record IsCutHead (cs rs : Option Span) (head result : HeadValue) : Type 0 where
   pub columns : Span
   pub rows : Span
   pub columns_are : cs ≡ Some columns
   pub rows_are : rs ≡ Some rows
   pub result_is : result ≡ cut_by columns rows head
 
-head_cut : (none : Bool) (cs rs : Option Span) (head result : Header) → (if none then Err OutOfOrder else head_of_spans head cs rs) ≡ Ok result → IsCutHead cs rs head result
+head_cut : (none : Bool) (cs rs : Option Span) (head result : HeadValue) → (if none then Err OutOfOrder else head_of_spans head cs rs) ≡ Ok result → IsCutHead cs rs head result
 head_cut true cs rs head result e = absurd cc
 head_cut false (Some c) (Some r) head result e = record { columns = c; rows = r; columns_are = refl; rows_are = refl; result_is = cc }
 head_cut false (Some c) None head result e = absurd cc
 head_cut false None rs head result e = absurd cc
 
 -- an image that isn't refused is cut to spans that lie in it
-pub record IsCut (box : CutBox) (head result : Header) : Type 0 where
+pub record IsCut (box : CutBox) (head result : HeadValue) : Type 0 where
   pub spans : IsCutHead (columns_kept box head.shape) (rows_kept box head.shape) head result
   pub in_row : LiesWithin spans.columns head.shape.width
   pub in_image : LiesWithin spans.rows head.shape.height
 
-pub is_cut : (box : CutBox) (head result : Header) → result_head (Cut box) head ≡ Ok result → IsCut box head result
+pub is_cut : (box : CutBox) (head result : HeadValue) → result_head (Cut box) head ≡ Ok result → IsCut box head result
 unfolding result_head
 is_cut box head result e =
     let s : Shape = head.shape in
@@ -180,7 +180,7 @@ is_cut box head result e =
 
 -- ---- the whole image
 
-answer_is : (box : CutBox) (i : Image) (result : Header) → IsImage i → IsCut box i.head result → flat_map (λ y. cut_rows_of box i.head.shape y (row_at i y)) (range_with_len 0 i.head.shape.height) ≡ rows_of (image_by result (result_sample (Cut box) i))
+answer_is : (box : CutBox) (i : Image) (result : HeadValue) → IsImage i → IsCut box i.head result → flat_map (λ y. cut_rows_of box i.head.shape y (row_at i y)) (range_with_len 0 i.head.shape.height) ≡ rows_of (image_by result (result_sample (Cut box) i))
 unfolding result_sample
 answer_is box i result is cut =
     let s : Shape = i.head.shape in
@@ -192,7 +192,7 @@ answer_is box i result is cut =
     ∙ sym (cut_rows_are c r i is cut.in_row cut.in_image)
     ∙ ap (λ (cs : Option Span). rows_of (image_by (cut_by c r i.head) (λ x y p. sample_at i (x + first_of cs) (y + r.first) p))) (sym cut.spans.columns_are)
     ∙ ap (λ (rs : Option Span). rows_of (image_by (cut_by c r i.head) (λ x y p. sample_at i (x + first_of (columns_kept box s)) (y + first_of rs) p))) (sym cut.spans.rows_are)
-    ∙ ap (λ (h : Header). rows_of (image_by h (λ x y p. sample_at i (x + first_of (columns_kept box s)) (y + first_of (rows_kept box s)) p))) (sym cut.spans.result_is)
+    ∙ ap (λ (h : HeadValue). rows_of (image_by h (λ x y p. sample_at i (x + first_of (columns_kept box s)) (y + first_of (rows_kept box s)) p))) (sym cut.spans.result_is)
 
 pub cut_answers_images : (box : CutBox) → AnswersImages (Cut box)
 cut_answers_images box i j is e =

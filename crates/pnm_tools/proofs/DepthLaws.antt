@@ -1,7 +1,7 @@
 -- The rescaled image is what the rows of an image, each rescaled, are the messages of.
 use Rattle.std.proofs.Common.{◌≡◌, ℕ, ◌+◌, ◌*◌, ◌/◌, ◌<◌, ◌≤◌, map, Ok, refl, sym, ap, ◌∙◌, arith, append-nil}
 use Rattle.pnm_image.specs.declared.shape.Shape.{Shape}
-use Rattle.pnm_image.specs.Heads.{Header}
+use Rattle.pnm_image.specs.Heads.{HeadValue}
 use Rattle.pnm_image.specs.Images.{Image, IsImage, rows_of}
 use Rattle.pnm_tools.specs.declared.tool.Tool.TheVariants.{Depth}
 use Rattle.pnm_tools.specs.Formulas.{image_by}
@@ -13,18 +13,18 @@ use Rattle.pnm_tools.proofs.AnsweringLaws.{AnswersImages}
 use Rattle.pnm_tools.proofs.RowLaws.{row_of_depth}
 
 -- the head of the rescaled image
-abbrev pub new_head : ℕ → Header → Header
+abbrev pub new_head : ℕ → HeadValue → HeadValue
 new_head new head = record { shape = record head.shape { kind = kind_at new head.shape.kind; maxval = new }; tuple_type = type_at new head.tuple_type }
 
-new_head_is : (new : ℕ) (head result : Header) → result_head (Depth new) head ≡ Ok result → result ≡ new_head new head
+new_head_is : (new : ℕ) (head result : HeadValue) → result_head (Depth new) head ≡ Ok result → result ≡ new_head new head
 unfolding result_head
 new_head_is new head result e = cc
 
 -- the rows of the rescaled image
-rescaled_rows : (new : ℕ) (i : Image) (result : Header) → IsImage i → result ≡ new_head new i.head → rows_of (image_by result (result_sample (Depth new) i)) ≡ map (rescaled_row new i.head.shape) (rows_of i)
+rescaled_rows : (new : ℕ) (i : Image) (result : HeadValue) → IsImage i → result ≡ new_head new i.head → rows_of (image_by result (result_sample (Depth new) i)) ≡ map (rescaled_row new i.head.shape) (rows_of i)
 unfolding result_sample
 rescaled_rows new i result is same =
-    ap (λ (h : Header). rows_of (image_by h (rescaled_sample new i))) same
+    ap (λ (h : HeadValue). rows_of (image_by h (rescaled_sample new i))) same
     ∙ samplewise_rows (nearest_sample new i.head.shape.maxval) i (new_head new i.head) is (record { width = refl; height = refl; depth = refl })
 
 pub depth_answers_images : (maxval : ℕ) → AnswersImages (Depth maxval)

@@ -4,12 +4,12 @@ use Rattle.std.specs.List.{flat_map, range_with_len}
 use Rattle.std.proofs.Math.Nat.{div-lt_iff_lt-mul}
 use Rattle.std.proofs.lemmas.List.Folds.{flat_map-map}
 use Rattle.pnm_image.specs.declared.shape.Shape.{Shape}
-use Rattle.pnm_image.specs.Heads.{Header}
+use Rattle.pnm_image.specs.Heads.{HeadValue}
 use Rattle.pnm_image.specs.Images.{Image, IsImage, rows_of}
 use Rattle.pnm_tools.specs.declared.tool.Tool.TheVariants.{Enlarge}
 use Rattle.pnm_tools.specs.Formulas.{image_by}
 use Rattle.pnm_tools.specs.Pixels.{pixel_of}
-use Rattle.pnm_tools.specs.Enlarge.{enlarged_header, enlarged_sample, enlarged_row, enlarged_rows}
+use Rattle.pnm_tools.specs.Enlarge.{enlarged_head_value, enlarged_sample, enlarged_row, enlarged_rows}
 use Rattle.pnm_tools.specs.Tools.{result_head, result_sample, row_answer}
 use Rattle.pnm_tools.proofs.FormulaLaws.{row_at, rows_are, range_alike}
 use Rattle.pnm_tools.proofs.ImageLaws.{result_by_head, answered_by_rows, answers_to_rows}
@@ -30,7 +30,7 @@ quotient_below x n count some lt = (div-lt_iff_lt-mul {k = n} {x = x} {y = count
 
 -- the rows of the result
 rows_are_enlarged : (across down : ℕ) (i : Image) → 1 ≤ across → 1 ≤ down → IsImage i
-    → flat_map (enlarged_rows across down i.head.shape) (rows_of i) ≡ rows_of (image_by (enlarged_header across down i.head) (enlarged_sample across down i))
+    → flat_map (enlarged_rows across down i.head.shape) (rows_of i) ≡ rows_of (image_by (enlarged_head_value across down i.head) (enlarged_sample across down i))
 rows_are_enlarged across down i wide high is =
     let s : Shape = i.head.shape in
     let row : ℕ → List ℕ = λ y. enlarged_row across s (row_at i y) in
@@ -42,14 +42,14 @@ rows_are_enlarged across down i wide high is =
     ∙ sym (rows_by_pixels i (s.width * across) (s.height * down) (λ x. x / across) (λ y. y / down) is (λ x lt. quotient_below x across s.width wide lt) (λ y lt. quotient_below y down s.height high lt))
 
 -- the answers are the rows of the result
-answer_is : (across down : ℕ) (i : Image) (result : Header) → 1 ≤ across → 1 ≤ down → IsImage i → result_head (Enlarge across down) i.head ≡ Ok result
+answer_is : (across down : ℕ) (i : Image) (result : HeadValue) → 1 ≤ across → 1 ≤ down → IsImage i → result_head (Enlarge across down) i.head ≡ Ok result
     → answers_to_rows (Enlarge across down) i.head.shape 0 (rows_of i) ++ [] ≡ rows_of (image_by result (result_sample (Enlarge across down) i))
 unfolding result_sample
 answer_is across down i result wide high is e =
     append-nil (answers_to_rows (Enlarge across down) i.head.shape 0 (rows_of i))
     ∙ rows_enlarged across down i.head.shape 0 (rows_of i)
     ∙ rows_are_enlarged across down i wide high is
-    ∙ ap (λ (h : Header). rows_of (image_by h (enlarged_sample across down i))) (is_enlarged across down i.head result e).result_is
+    ∙ ap (λ (h : HeadValue). rows_of (image_by h (enlarged_sample across down i))) (is_enlarged across down i.head result e).result_is
 
 -- a whole image that isn't refused is answered by the enlarged image
 pub enlarge_answers_images : (across down : ℕ) → 1 ≤ across → 1 ≤ down → AnswersImages (Enlarge across down)

@@ -5,7 +5,7 @@ use Rattle.std.proofs.lemmas.List.{take_at, drop_at, take-append-drop, take-take
 use Rattle.std.proofs.lemmas.Simd.{map-map}
 use Rattle.std.proofs.lemmas.List.FromFn.{get_or-map-range_with_len, length-map-range_with_len}
 use Rattle.pnm_image.specs.declared.shape.Shape.{Shape}
-use Rattle.pnm_image.specs.Heads.{Header, row_length}
+use Rattle.pnm_image.specs.Heads.{HeadValue, row_length}
 use Rattle.pnm_image.specs.Images.{Image, IsImage, sample_at, cut_rows, rows_of}
 use Rattle.pnm_tools.specs.Formulas.{row_by, image_by}
 
@@ -34,7 +34,7 @@ cut_again from (suc count) each row long =
     ∙ ap (λ (l : List (List ℕ)). row from ∷ l) (cut_again (from + 1) count each row long)
 
 -- the rows of an image of a formula are those of the formula
-pub rows_of-image_by : (head : Header) (sample : ℕ → ℕ → ℕ → ℕ) → rows_of (image_by head sample) ≡ map (λ y. row_by head.shape (λ x p. sample x y p)) (range_with_len 0 head.shape.height)
+pub rows_of-image_by : (head : HeadValue) (sample : ℕ → ℕ → ℕ → ℕ) → rows_of (image_by head sample) ≡ map (λ y. row_by head.shape (λ x p. sample x y p)) (range_with_len 0 head.shape.height)
 rows_of-image_by head sample = cut_again 0 head.shape.height (row_length head.shape) (λ y. row_by head.shape (λ x p. sample x y p)) (λ y. length-row_by head.shape (λ x p. sample x y p))
 
 -- ---- formulas that take each sample by itself
@@ -109,7 +109,7 @@ row_is g i y count lt =
     columns_at g i.samples (y * s.width) 0 s.width s.depth (omega (arith, at, count, below, suc-mul y each)) ∙ ap (λ (n : ℕ). map g (take each (drop n i.samples))) at
 
 -- the rows of a formula that takes each sample by itself are those of the image, each sample changed
-pub samplewise_rows : (g : ℕ → ℕ) (i : Image) (head : Header) → IsImage i → HasSizes head.shape i.head.shape → rows_of (image_by head (λ x y p. g (sample_at i x y p))) ≡ map (map g) (rows_of i)
+pub samplewise_rows : (g : ℕ → ℕ) (i : Image) (head : HeadValue) → IsImage i → HasSizes head.shape i.head.shape → rows_of (image_by head (λ x y p. g (sample_at i x y p))) ≡ map (map g) (rows_of i)
 samplewise_rows g i head is sizes =
     let s : Shape = i.head.shape in
     let each : ℕ = row_length s in

@@ -5,32 +5,32 @@ use Rattle.std.proofs.lemmas.Bool.Decides.{nat_tests}
 use Rattle.pnm_image.specs.declared.shape.Shape.{Shape}
 use Rattle.pnm_image.specs.declared.shape.Kind.{Kind}
 use Rattle.pnm_image.specs.declared.shape.Kind.TheVariants.{Pam}
-use Rattle.pnm_image.specs.Heads.{Header, IsWithinLimits, header_of, row_length}
+use Rattle.pnm_image.specs.Heads.{HeadValue, IsWithinLimits, head_value, row_length, is_too_large}
 use Rattle.pnm_tools.specs.declared.fault.ToolFault.{ToolFault}
 use Rattle.pnm_tools.specs.declared.fault.ToolFault.TheVariants.{Memory, TooLarge, ChannelOutside}
 use Rattle.pnm_tools.specs.declared.cut.CutBox.{CutBox}
 use Rattle.pnm_tools.specs.declared.tool.Tool.{Tool}
 use Rattle.pnm_tools.specs.declared.tool.Tool.TheVariants.{Invert, Cut, Depth, Channel}
-use Rattle.pnm_tools.specs.Channel.{Picks, picked_head, picked_header}
+use Rattle.pnm_tools.specs.Channel.{Picks, picked_head, picked_head_value}
 use Rattle.pnm_tools.specs.Cut.{cut_head}
 use Rattle.pnm_tools.specs.Depth.{kind_at, type_at, rescaled_head}
-use Rattle.pnm_tools.specs.Limits.{is_too_large, within_limits}
+use Rattle.pnm_tools.specs.Limits.{within_limits}
 use Rattle.pnm_tools.specs.Tools.{Takes, result_head}
 use Rattle.pnm_tools.proofs.PickLaws.{all_below}
 
-pub head_of_invert : (head : Header) → result_head Invert head ≡ Ok head
+pub head_of_invert : (head : HeadValue) → result_head Invert head ≡ Ok head
 unfolding result_head
 head_of_invert head = refl
 
-pub head_of_cut : (box : CutBox) (head : Header) → result_head (Cut box) head ≡ cut_head box head
+pub head_of_cut : (box : CutBox) (head : HeadValue) → result_head (Cut box) head ≡ cut_head box head
 unfolding result_head
 head_of_cut box head = refl
 
-pub head_of_depth : (maxval : ℕ) (head : Header) → result_head (Depth maxval) head ≡ rescaled_head maxval head
+pub head_of_depth : (maxval : ℕ) (head : HeadValue) → result_head (Depth maxval) head ≡ rescaled_head maxval head
 unfolding result_head
 head_of_depth maxval head = refl
 
-pub head_of_channel : (planes : Picks) (head : Header) → result_head (Channel planes) head ≡ picked_head planes head
+pub head_of_channel : (planes : Picks) (head : HeadValue) → result_head (Channel planes) head ≡ picked_head planes head
 unfolding result_head
 head_of_channel planes head = refl
 
@@ -43,22 +43,22 @@ small_sizes s width height depth row = grind (arith, nat_tests)
 pub not_too_large : (s : Shape) → IsWithinLimits s → is_too_large s ≡ false
 not_too_large s h = small_sizes s h.width_high h.height_high h.depth_high h.row_high
 
-abbrev refused_large : Result Header ToolFault
+abbrev refused_large : Result HeadValue ToolFault
 refused_large = Err TooLarge
 
 -- a head within the limits is made
-pub small_head : (h : Header) → is_too_large h.shape ≡ false → within_limits h ≡ Ok h
+pub small_head : (h : HeadValue) → is_too_large h.shape ≡ false → within_limits h ≡ Ok h
 small_head h e = ap (λ (b : Bool). if b then refused_large else Ok h) e
 
-pub large_head : (h : Header) → is_too_large h.shape ≡ true → within_limits h ≡ Err TooLarge
+pub large_head : (h : HeadValue) → is_too_large h.shape ≡ true → within_limits h ≡ Err TooLarge
 large_head h e = ap (λ (b : Bool). if b then refused_large else Ok h) e
 
 -- what making a head within the limits says of the rule of the tool
-pub head_so : (tool : Tool) (head x : Header) (r : Result Header ToolFault) → result_head tool head ≡ within_limits x → IfOk r (λ made. (made ≡ x) × (is_too_large x.shape ≡ false)) → IfOk r (λ made. result_head tool head ≡ Ok made)
-head_so tool head x (Ok made) e h = e ∙ small_head x h.1 ∙ ap (λ (y : Header). Ok y) (sym h.0)
+pub head_so : (tool : Tool) (head x : HeadValue) (r : Result HeadValue ToolFault) → result_head tool head ≡ within_limits x → IfOk r (λ made. (made ≡ x) × (is_too_large x.shape ≡ false)) → IfOk r (λ made. result_head tool head ≡ Ok made)
+head_so tool head x (Ok made) e h = e ∙ small_head x h.1 ∙ ap (λ (y : HeadValue). Ok y) (sym h.0)
 head_so tool head x (Err fault) e h = tt
 
-pub fault_so : (tool : Tool) (head x : Header) (r : Result Header ToolFault) → result_head tool head ≡ within_limits x
+pub fault_so : (tool : Tool) (head x : HeadValue) (r : Result HeadValue ToolFault) → result_head tool head ≡ within_limits x
     → IfErr r (λ fault. ((fault ≡ TooLarge) × (is_too_large x.shape ≡ true)) ⊎ ((fault ≡ Memory) × (is_too_large x.shape ≡ false)))
     → IfErr r (λ fault. (result_head tool head ≡ Err fault) ⊎ ((fault ≡ Memory) × Takes tool head))
 fault_so tool head x (Ok made) e h = tt
@@ -68,34 +68,34 @@ fault_so tool head x (Err fault) e (inr h) = inr (h.0, (x, e ∙ small_head x h.
 -- ---- heads that are made
 
 -- the head of a rescaled image, from its parts
-pub rescaled_head_made : (maxval : ℕ) (head : Header) (s : Shape) (kind : Kind) (t old : List ℕ) → s ≡ head.shape → kind ≡ kind_at maxval s.kind → t ≡ type_at maxval old → old ≡ head.tuple_type
-    → IsWithinLimits head.shape → result_head (Depth maxval) head ≡ within_limits (header_of (record s { kind = kind; maxval = maxval }) t)
+pub rescaled_head_made : (maxval : ℕ) (head : HeadValue) (s : Shape) (kind : Kind) (t old : List ℕ) → s ≡ head.shape → kind ≡ kind_at maxval s.kind → t ≡ type_at maxval old → old ≡ head.tuple_type
+    → IsWithinLimits head.shape → result_head (Depth maxval) head ≡ within_limits (head_value (record s { kind = kind; maxval = maxval }) t)
 rescaled_head_made maxval head s kind t old shape kinds types olds sound =
-    let x : Header = header_of (record s { kind = kind; maxval = maxval }) t in
-    let whole : x ≡ header_of (record head.shape { kind = kind_at maxval head.shape.kind; maxval = maxval }) (type_at maxval head.tuple_type) =
-    ap (λ (k : Kind). header_of (record s { kind = k; maxval = maxval }) t) kinds
-    ∙ ap (λ (z : Shape). header_of (record z { kind = kind_at maxval z.kind; maxval = maxval }) t) shape
-    ∙ ap (header_of (record head.shape { kind = kind_at maxval head.shape.kind; maxval = maxval })) (types ∙ ap (type_at maxval) olds) in
-    head_of_depth maxval head ∙ ap (λ (h : Header). Ok h) (sym whole) ∙ sym (small_head x (not_too_large s (subst IsWithinLimits (sym shape) sound)))
+    let x : HeadValue = head_value (record s { kind = kind; maxval = maxval }) t in
+    let whole : x ≡ head_value (record head.shape { kind = kind_at maxval head.shape.kind; maxval = maxval }) (type_at maxval head.tuple_type) =
+    ap (λ (k : Kind). head_value (record s { kind = k; maxval = maxval }) t) kinds
+    ∙ ap (λ (z : Shape). head_value (record z { kind = kind_at maxval z.kind; maxval = maxval }) t) shape
+    ∙ ap (head_value (record head.shape { kind = kind_at maxval head.shape.kind; maxval = maxval })) (types ∙ ap (type_at maxval) olds) in
+    head_of_depth maxval head ∙ ap (λ (h : HeadValue). Ok h) (sym whole) ∙ sym (small_head x (not_too_large s (subst IsWithinLimits (sym shape) sound)))
 
 -- the head of planes, where it was seen whether all are there
-abbrev planes_by : Picks → Header → Bool → Result Header ToolFault
-planes_by planes head b = if b then within_limits (picked_header planes head) else Err ChannelOutside
+abbrev planes_by : Picks → HeadValue → Bool → Result HeadValue ToolFault
+planes_by planes head b = if b then within_limits (picked_head_value planes head) else Err ChannelOutside
 
-planes_head : (planes : Picks) (head : Header) (s : Shape) (seen : List ℕ) (b : Bool) → s ≡ head.shape → seen ≡ planes.numbers → (IsTrue b ↔ All (λ number. number < s.depth) seen) → result_head (Channel planes) head ≡ planes_by planes head b
+planes_head : (planes : Picks) (head : HeadValue) (s : Shape) (seen : List ℕ) (b : Bool) → s ≡ head.shape → seen ≡ planes.numbers → (IsTrue b ↔ All (λ number. number < s.depth) seen) → result_head (Channel planes) head ≡ planes_by planes head b
 planes_head planes head s seen b shape same h =
     let there : list_all (λ number. nat_lt number head.shape.depth) planes.numbers ≡ b =
     ap (λ (z : Shape). list_all (λ number. nat_lt number z.depth) planes.numbers) (sym shape) ∙ ap (λ (l : List ℕ). list_all (λ number. nat_lt number s.depth) l) (sym same) ∙ all_below seen s.depth b h in
     head_of_channel planes head ∙ ap (planes_by planes head) there
 
-pub planes_outside : (planes : Picks) (head : Header) (s : Shape) (seen : List ℕ) (b : Bool) → s ≡ head.shape → seen ≡ planes.numbers → (IsTrue b ↔ All (λ number. number < s.depth) seen) → b ≡ false → result_head (Channel planes) head ≡ Err ChannelOutside
+pub planes_outside : (planes : Picks) (head : HeadValue) (s : Shape) (seen : List ℕ) (b : Bool) → s ≡ head.shape → seen ≡ planes.numbers → (IsTrue b ↔ All (λ number. number < s.depth) seen) → b ≡ false → result_head (Channel planes) head ≡ Err ChannelOutside
 planes_outside planes head s seen b shape same h found = planes_head planes head s seen b shape same h ∙ ap (planes_by planes head) found
 
-pub planes_inside : (planes : Picks) (head : Header) (s : Shape) (seen : List ℕ) (b : Bool) (n : ℕ) (t : List ℕ) → s ≡ head.shape → seen ≡ planes.numbers → (IsTrue b ↔ All (λ number. number < s.depth) seen) → b ≡ true → n ≡ length seen → t ≡ planes.tuple_type
-    → result_head (Channel planes) head ≡ within_limits (header_of (record s { kind = Pam; depth = n }) t)
+pub planes_inside : (planes : Picks) (head : HeadValue) (s : Shape) (seen : List ℕ) (b : Bool) (n : ℕ) (t : List ℕ) → s ≡ head.shape → seen ≡ planes.numbers → (IsTrue b ↔ All (λ number. number < s.depth) seen) → b ≡ true → n ≡ length seen → t ≡ planes.tuple_type
+    → result_head (Channel planes) head ≡ within_limits (head_value (record s { kind = Pam; depth = n }) t)
 planes_inside planes head s seen b n t shape same h found count type =
-    let whole : picked_header planes head ≡ header_of (record s { kind = Pam; depth = n }) t =
-    ap (λ (z : Shape). header_of (record z { kind = Pam; depth = length planes.numbers }) planes.tuple_type) (sym shape)
-    ∙ ap (λ (k : ℕ). header_of (record s { kind = Pam; depth = k }) planes.tuple_type) (sym (count ∙ ap length same))
-    ∙ ap (λ (l : List ℕ). header_of (record s { kind = Pam; depth = n }) l) (sym type) in
+    let whole : picked_head_value planes head ≡ head_value (record s { kind = Pam; depth = n }) t =
+    ap (λ (z : Shape). head_value (record z { kind = Pam; depth = length planes.numbers }) planes.tuple_type) (sym shape)
+    ∙ ap (λ (k : ℕ). head_value (record s { kind = Pam; depth = k }) planes.tuple_type) (sym (count ∙ ap length same))
+    ∙ ap (λ (l : List ℕ). head_value (record s { kind = Pam; depth = n }) l) (sym type) in
     planes_head planes head s seen b shape same h ∙ ap (planes_by planes head) found ∙ ap within_limits whole

@@ -6,7 +6,7 @@ use Rattle.pnm_image.specs.declared.shape.Shape.{Shape}
 use Rattle.pnm_image.specs.declared.message.Message.{Message}
 use Rattle.pnm_image.specs.declared.message.Message.TheVariants.{Begin, Row, ImageEnd}
 use Rattle.pnm_image.specs.declared.place.Place.TheVariants.{Between, Inside}
-use Rattle.pnm_image.specs.Heads.{Header}
+use Rattle.pnm_image.specs.Heads.{HeadValue}
 use Rattle.pnm_image.specs.Images.{Image, rows_of, messages_of_image}
 use Rattle.pnm_tools.specs.declared.fault.ToolFault.{ToolFault}
 use Rattle.pnm_tools.specs.declared.tool.Tool.{Tool}
@@ -14,15 +14,15 @@ use Rattle.pnm_tools.specs.Tools.{result_head, result_sample, applied, row_answe
 use Rattle.pnm_tools.specs.Formulas.{image_by}
 use Rattle.pnm_tools.specs.Answering.{answered_from}
 
-abbrev made_by : (ℕ → ℕ → ℕ → ℕ) → Result Header ToolFault → Result Image ToolFault
+abbrev made_by : (ℕ → ℕ → ℕ → ℕ) → Result HeadValue ToolFault → Result Image ToolFault
 made_by sample r = elim r [ Ok head ↦ Ok (image_by head sample) | Err fault ↦ Err fault ]
 
 -- an image by its head
-pub record IsBy (r : Result Header ToolFault) (sample : ℕ → ℕ → ℕ → ℕ) (j : Image) : Type 0 where
+pub record IsBy (r : Result HeadValue ToolFault) (sample : ℕ → ℕ → ℕ → ℕ) (j : Image) : Type 0 where
   pub head : r ≡ Ok j.head
   pub whole : image_by j.head sample ≡ j
 
-by_head : (sample : ℕ → ℕ → ℕ → ℕ) (r : Result Header ToolFault) (j : Image) → made_by sample r ≡ Ok j → IsBy r sample j
+by_head : (sample : ℕ → ℕ → ℕ → ℕ) (r : Result HeadValue ToolFault) (j : Image) → made_by sample r ≡ Ok j → IsBy r sample j
 by_head sample (Ok head) j e =
     let same : image_by head sample ≡ j = cc in
     record { head = ap (λ (k : Image). Ok k.head) same; whole = ap (λ (k : Image). image_by k.head sample) (sym same) ∙ same }
@@ -71,6 +71,6 @@ pub answered_by_rows : (tool : Tool) (i j : Image) → applied tool i ≡ Ok j
 answered_by_rows tool i j e rows =
     let made = result_by_head tool i j e in
     let rest : List Message = answered_from tool (Inside i.head.shape 0) [] (map Row (rows_of i) ++ ImageEnd ∷ []) in
-    ap (λ (r : Result Header ToolFault). elim r [ Ok result ↦ Begin result ∷ [] | Err fault ↦ [] ] ++ rest) made.head
+    ap (λ (r : Result HeadValue ToolFault). elim r [ Ok result ↦ Begin result ∷ [] | Err fault ↦ [] ] ++ rest) made.head
     ∙ ap (λ (l : List Message). Begin j.head ∷ l) (rows_answered tool i.head.shape 0 [] (rows_of i) ∙ ap (λ (l : List (List ℕ)). map Row l ++ ImageEnd ∷ []) rows)
     ∙ ap messages_of_image made.whole

@@ -4,7 +4,7 @@ use Rattle.pnm_image.specs.declared.message.Message.{Message}
 use Rattle.pnm_image.specs.declared.message.Message.TheVariants.{Begin, Row, ImageEnd, StreamEnd, Stop}
 use Rattle.pnm_image.specs.declared.place.Place.{Place}
 use Rattle.pnm_image.specs.declared.place.Place.TheVariants.{Between, Inside, After}
-use Rattle.pnm_image.specs.Heads.{Header}
+use Rattle.pnm_image.specs.Heads.{HeadValue}
 use Rattle.pnm_image.specs.Places.{place_after}
 use Rattle.pnm_tools.specs.declared.fault.ToolFault.{ToolFault}
 use Rattle.pnm_tools.specs.declared.tool.Tool.{Tool}
@@ -34,7 +34,7 @@ ends_after e (m ∷ []) [] h ends = h.0 ∙ sym ends
 ends_after e (m ∷ []) (n ∷ b) h ends = (h.0, ends)
 ends_after e (m ∷ n ∷ a) b h ends = (h.0, ends_after e (n ∷ a) b h.1 ends)
 
-head_ends_nothing : (r : Result Header ToolFault) → EndNothing (elim r [ Ok result ↦ Begin result ∷ [] | Err fault ↦ [] ])
+head_ends_nothing : (r : Result HeadValue ToolFault) → EndNothing (elim r [ Ok result ↦ Begin result ∷ [] | Err fault ↦ [] ])
 head_ends_nothing (Ok result) = (refl, tt)
 head_ends_nothing (Err fault) = tt
 

@@ -1,6 +1,6 @@
 -- The inverted image is what the rows of an image, each inverted, are the messages of.
 use Rattle.std.proofs.Common.{◌≡◌, ◌-◌, map, Ok, refl, sym, ap, ◌∙◌, append-nil}
-use Rattle.pnm_image.specs.Heads.{Header}
+use Rattle.pnm_image.specs.Heads.{HeadValue}
 use Rattle.pnm_image.specs.Images.{Image, IsImage, rows_of}
 use Rattle.pnm_tools.specs.declared.tool.Tool.TheVariants.{Invert}
 use Rattle.pnm_tools.specs.Formulas.{image_by}
@@ -12,15 +12,15 @@ use Rattle.pnm_tools.proofs.AnsweringLaws.{AnswersImages}
 use Rattle.pnm_tools.proofs.RowLaws.{row_of_invert}
 
 -- the head stays
-same_head : (head result : Header) → result_head Invert head ≡ Ok result → result ≡ head
+same_head : (head result : HeadValue) → result_head Invert head ≡ Ok result → result ≡ head
 unfolding result_head
 same_head head result e = cc
 
 -- the rows of the inverted image
-inverted_rows : (i : Image) (result : Header) → IsImage i → result ≡ i.head → rows_of (image_by result (result_sample Invert i)) ≡ map (inverted_row i.head.shape) (rows_of i)
+inverted_rows : (i : Image) (result : HeadValue) → IsImage i → result ≡ i.head → rows_of (image_by result (result_sample Invert i)) ≡ map (inverted_row i.head.shape) (rows_of i)
 unfolding result_sample
 inverted_rows i result is same =
-    ap (λ (h : Header). rows_of (image_by h (inverted_sample i))) same
+    ap (λ (h : HeadValue). rows_of (image_by h (inverted_sample i))) same
     ∙ samplewise_rows (λ sample. i.head.shape.maxval - sample) i i.head is (record { width = refl; height = refl; depth = refl })
 
 pub invert_answers_images : AnswersImages Invert

@@ -6,14 +6,14 @@ use Rattle.std.proofs.lemmas.Bool.{leb-true, ltb-true, le-leb, lt-leb, ne_eqb}
 use Rattle.std.proofs.lemmas.List.{drop-take, take_all}
 use Rattle.std.proofs.lemmas.List.Edits.{take-paste}
 use Rattle.pnm_image.specs.declared.shape.Shape.{Shape}
-use Rattle.pnm_image.specs.Heads.{Header, IsWithinLimits, row_length, header_of}
+use Rattle.pnm_image.specs.Heads.{HeadValue, IsWithinLimits, row_length, head_value, is_too_large}
 use Rattle.pnm_tools.specs.declared.cut.CutBox.{CutBox}
 use Rattle.pnm_tools.specs.declared.cut.Span.{Span}
 use Rattle.pnm_tools.specs.declared.fault.ToolFault.{ToolFault}
 use Rattle.pnm_tools.specs.declared.fault.ToolFault.TheVariants.{OutOfOrder}
 use Rattle.pnm_tools.specs.declared.tool.Tool.TheVariants.{Cut}
 use Rattle.pnm_tools.specs.Cut.{KeepsWithin, columns_of_row, first_kept, last_kept, span_within, columns_kept, rows_kept, rows_of_spans, head_of_spans, span_count}
-use Rattle.pnm_tools.specs.Limits.{is_too_large, within_limits}
+use Rattle.pnm_tools.specs.Limits.{within_limits}
 use Rattle.pnm_tools.specs.Tools.{result_head, row_answer}
 use Rattle.pnm_tools.proofs.HeadLaws.{head_of_cut, small_sizes, small_head}
 use Rattle.pnm_tools.proofs.RowLaws.{row_of_cut}
@@ -117,14 +117,14 @@ keeps_within box s span row samples e same count =
 -- ---- heads
 
 -- an image without rows
-pub cut_without_rows : (box : CutBox) (head : Header) → head.shape.height ≡ 0 → result_head (Cut box) head ≡ Err OutOfOrder
+pub cut_without_rows : (box : CutBox) (head : HeadValue) → head.shape.height ≡ 0 → result_head (Cut box) head ≡ Err OutOfOrder
 cut_without_rows box head e = head_of_cut box head ∙ ap (λ (n : ℕ). if n == 0 then Err OutOfOrder else head_of_spans head (columns_kept box head.shape) (rows_kept box head.shape)) e
 
 -- an image that has rows, by the spans that were found
-abbrev cut_by : Header → Option Span → Option Span → Bool → Result Header ToolFault
+abbrev cut_by : HeadValue → Option Span → Option Span → Bool → Result HeadValue ToolFault
 cut_by head columns rows b = if b then Err OutOfOrder else head_of_spans head columns rows
 
-pub cut_head_by : (box : CutBox) (head : Header) (s : Shape) (columns rows : Option Span) → s ≡ head.shape → (s.height ≡ 0 → ⊥) → columns ≡ columns_kept box s → rows ≡ rows_kept box s → result_head (Cut box) head ≡ head_of_spans head columns rows
+pub cut_head_by : (box : CutBox) (head : HeadValue) (s : Shape) (columns rows : Option Span) → s ≡ head.shape → (s.height ≡ 0 → ⊥) → columns ≡ columns_kept box s → rows ≡ rows_kept box s → result_head (Cut box) head ≡ head_of_spans head columns rows
 cut_head_by box head s columns rows same some a b =
     let height : (head.shape.height == 0) ≡ false = ne_eqb head.shape.height 0 (λ e. some (ap (λ (z : Shape). z.height) same ∙ e)) in
     head_of_cut box head
@@ -139,19 +139,19 @@ cut_is_small s width height h w y =
     let row : width * s.depth ≤ 16777216 = omega (arith, below, h.row_high) in
     small_sizes (record s { width = width; height = height }) (omega (arith, h.width_high)) (omega (arith, h.height_high)) h.depth_high row
 
-pub cut_head_made : (box : CutBox) (head : Header) (s : Shape) (columns rows : Span) (width height : ℕ) (t : List ℕ) → s ≡ head.shape → IsWithinLimits head.shape → (s.height ≡ 0 → ⊥) → Some columns ≡ columns_kept box s → Some rows ≡ rows_kept box s
-    → width ≡ span_count columns → height ≡ span_count rows → t ≡ head.tuple_type → result_head (Cut box) head ≡ within_limits (header_of (record s { width = width; height = height }) t)
+pub cut_head_made : (box : CutBox) (head : HeadValue) (s : Shape) (columns rows : Span) (width height : ℕ) (t : List ℕ) → s ≡ head.shape → IsWithinLimits head.shape → (s.height ≡ 0 → ⊥) → Some columns ≡ columns_kept box s → Some rows ≡ rows_kept box s
+    → width ≡ span_count columns → height ≡ span_count rows → t ≡ head.tuple_type → result_head (Cut box) head ≡ within_limits (head_value (record s { width = width; height = height }) t)
 cut_head_made box head s columns rows width height t same sound some a b wide high type =
-    let x : Header = header_of (record s { width = width; height = height }) t in
+    let x : HeadValue = head_value (record s { width = width; height = height }) t in
     let whole : record head { shape = record head.shape { width = span_count columns; height = span_count rows } } ≡ x =
-    ap (λ (z : Shape). header_of (record z { width = span_count columns; height = span_count rows }) head.tuple_type) (sym same)
-    ∙ ap (λ (n : ℕ). header_of (record s { width = n; height = span_count rows }) head.tuple_type) (sym wide)
-    ∙ ap (λ (n : ℕ). header_of (record s { width = width; height = n }) head.tuple_type) (sym high)
-    ∙ ap (header_of (record s { width = width; height = height })) (sym type) in
+    ap (λ (z : Shape). head_value (record z { width = span_count columns; height = span_count rows }) head.tuple_type) (sym same)
+    ∙ ap (λ (n : ℕ). head_value (record s { width = n; height = span_count rows }) head.tuple_type) (sym wide)
+    ∙ ap (λ (n : ℕ). head_value (record s { width = width; height = n }) head.tuple_type) (sym high)
+    ∙ ap (head_value (record s { width = width; height = height })) (sym type) in
     let left = columns_lie box s columns a in
     let top = rows_lie box s rows b in
     let small = cut_is_small s width height (subst IsWithinLimits (sym same) sound) (omega (arith, wide, left.0, left.1)) (omega (arith, high, top.0, top.1)) in
-    cut_head_by box head s (Some columns) (Some rows) same some a b ∙ ap (λ (h : Header). Ok h) whole ∙ sym (small_head x small)
+    cut_head_by box head s (Some columns) (Some rows) same some a b ∙ ap (λ (h : HeadValue). Ok h) whole ∙ sym (small_head x small)
 
 -- the span of an axis that is within the limits lies within them
 pub counts_within : (columns : Span) (count most : ℕ) → (columns.first ≤ columns.last) × (columns.last < count) → count ≤ most → (columns.first ≤ columns.last) × (columns.last < most)

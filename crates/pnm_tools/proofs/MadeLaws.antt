@@ -8,7 +8,7 @@ use Rattle.std.proofs.lemmas.List.Elements.{All-nil, All-append, All-from_get_or
 use Rattle.std.proofs.lemmas.List.FromFn.{get_or-map-range_with_len, length-map-range_with_len}
 use Rattle.std.proofs.Math.ListN.{get_or-eq_default}
 use Rattle.pnm_image.specs.declared.shape.Shape.{Shape}
-use Rattle.pnm_image.specs.Heads.{Header, IsHeader, row_length}
+use Rattle.pnm_image.specs.Heads.{HeadValue, IsHead, row_length}
 use Rattle.pnm_image.specs.Images.{Image, IsImage, sample_at}
 use Rattle.pnm_tools.specs.declared.tool.Tool.{Tool}
 use Rattle.pnm_tools.specs.Formulas.{row_by, image_by}
@@ -36,7 +36,7 @@ all_planes P sample count each =
     subst P (sym (get_or-map-range_with_len sample 0 count p p 0 below (omega arith))) (each p below))
 
 -- an image of a head is one whose samples are in range
-pub image_by_is_image : (head : Header) (sample : ℕ → ℕ → ℕ → ℕ) → IsHeader head → ((x y p : ℕ) → x < head.shape.width → y < head.shape.height → p < head.shape.depth → sample x y p ≤ head.shape.maxval) → IsImage (image_by head sample)
+pub image_by_is_image : (head : HeadValue) (sample : ℕ → ℕ → ℕ → ℕ) → IsHead head → ((x y p : ℕ) → x < head.shape.width → y < head.shape.height → p < head.shape.depth → sample x y p ≤ head.shape.maxval) → IsImage (image_by head sample)
 image_by_is_image head sample sound range =
     let s : Shape = head.shape in
     record {
@@ -57,7 +57,7 @@ sample_in_range i x y p is =
     ]
 
 -- the result of a tool, where its head is one and its samples are in range
-pub made_is_image : (tool : Tool) (i j : Image) → IsBy (result_head tool i.head) (result_sample tool i) j → IsHeader j.head → ((x y p : ℕ) → result_sample tool i x y p ≤ j.head.shape.maxval) → IsImage j
+pub made_is_image : (tool : Tool) (i j : Image) → IsBy (result_head tool i.head) (result_sample tool i) j → IsHead j.head → ((x y p : ℕ) → result_sample tool i x y p ≤ j.head.shape.maxval) → IsImage j
 made_is_image tool i j made sound range = subst IsImage made.whole (image_by_is_image j.head (result_sample tool i) sound (λ x y p column row plane. range x y p))
 
 -- the sizes of a shape that isn't too large

@@ -5,7 +5,7 @@ use Rattle.pnm_image.specs.declared.message.Message.{Message}
 use Rattle.pnm_image.specs.declared.message.Message.TheVariants.{Begin, Row, ImageEnd, StreamEnd, Stop}
 use Rattle.pnm_image.specs.declared.place.Place.{Place}
 use Rattle.pnm_image.specs.declared.place.Place.TheVariants.{Between, Inside}
-use Rattle.pnm_image.specs.Heads.{Header}
+use Rattle.pnm_image.specs.Heads.{HeadValue}
 use Rattle.pnm_image.specs.Images.{Image, IsImage, AreImages, rows_of, messages_of_image, messages_of_stream}
 use Rattle.pnm_image.specs.Places.{place_after, place_of}
 use Rattle.pnm_image.specs.Completion.{IsFrontOf}
@@ -65,7 +65,7 @@ unfolding owed
 owes_none tool i is = refl
 
 -- where an image has begun, its head
-abbrev head_by : Result Header ToolFault → List Message
+abbrev head_by : Result HeadValue ToolFault → List Message
 head_by r = elim r [ Ok head ↦ Begin head ∷ [] | Err fault ↦ [] ]
 
 owes_head : (tool : Tool) (i : Image) (is : List Image) → owed tool zero true (i ∷ is) ≡ head_by (result_head tool i.head)
@@ -114,8 +114,8 @@ of_image tool i is (Begin head ∷ f) rest answers image others none (inl h) =
     let same : i.head ≡ head = let e = h.1 in cc in
     let tail : map Row (rows_of i) ++ ImageEnd ∷ [] ≡ f ++ h.0 = let e = h.1 in cc in
     elim (rows_inside i.head.shape 0 (rows_of i) f h.0 tail) [
-      | inl w ↦ beyond_image tool i is (Begin head ∷ f) [] (applied tool i) answers image refl (ap (λ (x : List Message). Begin head ∷ x) w.0 ∙ ap (λ (k : Header). Begin k ∷ (map Row (rows_of i) ++ ImageEnd ∷ [])) (sym same) ∙ sym (append-nil (messages_of_image i))) (none [] refl)
-      | inr w ↦ subst (λ (k : Header). IsOwedFront tool (i ∷ is) (Begin k ∷ f)) same (within_image tool i is f w.0 w.1)
+      | inl w ↦ beyond_image tool i is (Begin head ∷ f) [] (applied tool i) answers image refl (ap (λ (x : List Message). Begin head ∷ x) w.0 ∙ ap (λ (k : HeadValue). Begin k ∷ (map Row (rows_of i) ++ ImageEnd ∷ [])) (sym same) ∙ sym (append-nil (messages_of_image i))) (none [] refl)
+      | inr w ↦ subst (λ (k : HeadValue). IsOwedFront tool (i ∷ is) (Begin k ∷ f)) same (within_image tool i is f w.0 w.1)
     ]
 of_image tool i is (Row row ∷ f) rest answers image others none (inl h) = let e = h.1 in absurd cc
 of_image tool i is (ImageEnd ∷ f) rest answers image others none (inl h) = let e = h.1 in absurd cc

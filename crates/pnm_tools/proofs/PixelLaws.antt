@@ -4,7 +4,7 @@ use Rattle.std.specs.List.{flat_map, range_with_len}
 use Rattle.std.proofs.lemmas.List.{length-drop, length-take-le, get_or-take, get_or-drop, map-id}
 use Rattle.std.proofs.lemmas.List.FromFn.{fill_by_all}
 use Rattle.pnm_image.specs.declared.shape.Shape.{Shape}
-use Rattle.pnm_image.specs.Heads.{Header, row_length}
+use Rattle.pnm_image.specs.Heads.{HeadValue, row_length}
 use Rattle.pnm_image.specs.Images.{Image, IsImage, sample_at, rows_of}
 use Rattle.pnm_tools.specs.Formulas.{image_by}
 use Rattle.pnm_tools.specs.Pixels.{pixel_of}
@@ -46,7 +46,7 @@ whole_row i y is lt =
     ∙ ap (λ (n : ℕ). take each (drop n i.samples)) at
 
 -- the same head with other sizes
-abbrev pub resized : ℕ → ℕ → Header → Header
+abbrev pub resized : ℕ → ℕ → HeadValue → HeadValue
 resized width height head = record head { shape = record head.shape { width = width; height = height } }
 
 -- the rows of an image whose columns and rows are those of another image, in whatever order

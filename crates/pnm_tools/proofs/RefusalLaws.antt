@@ -4,7 +4,7 @@ use Rattle.pnm_image.specs.declared.message.Message.{Message}
 use Rattle.pnm_image.specs.declared.message.Message.TheVariants.{Begin, Row, ImageEnd, StreamEnd, Stop}
 use Rattle.pnm_image.specs.declared.place.Place.{Place}
 use Rattle.pnm_image.specs.declared.place.Place.TheVariants.{Between}
-use Rattle.pnm_image.specs.Heads.{Header}
+use Rattle.pnm_image.specs.Heads.{HeadValue}
 use Rattle.pnm_image.specs.Places.{Accepts, IsLawfulFrom, place_after, place_of}
 use Rattle.pnm_image.specs.Images.{Image, AreImages, rows_of, messages_of_stream}
 use Rattle.pnm_image.proofs.Streams.{stream_is_lawful}
@@ -15,7 +15,7 @@ use Rattle.pnm_tools.specs.Formulas.{image_by}
 use Rattle.pnm_tools.specs.Tools.{IsLawfulTool, AreTaken, result_head, result_sample, applied}
 use Rattle.pnm_tools.specs.Answers.{MayCome, RefusesHead, Judges, AreResults}
 use Rattle.pnm_tools.specs.Chains.{AreResultsInTurn, results_of, Refusal, refusal_from}
-use Rattle.pnm_tools.specs.Stages.{IsRefusedNext}
+use Rattle.pnm_tools.specs.ChainAnswers.{IsRefusedNext}
 use Rattle.pnm_tools.proofs.AnsweringLaws.{taken_rest, applied_by}
 use Rattle.pnm_tools.proofs.FrontLaws.{rest_in_turn}
 use Rattle.pnm_tools.proofs.ResultLaws.{result_is_image}
@@ -65,10 +65,10 @@ refusal_by number tools r = elim r [
 -- ---- a refusal
 
 -- messages that go on to a head have passed the rows and the end of an image
-abbrev Passed : List (List ℕ) → List Message → List Message → Header → List Message → Type 0
+abbrev Passed : List (List ℕ) → List Message → List Message → HeadValue → List Message → Type 0
 Passed rows tail accepted head rest = (more : List Message) × (accepted ≡ (map Row rows ++ ImageEnd ∷ []) ++ more) × (tail ≡ more ++ Begin head ∷ rest)
 
-passed : (rows : List (List ℕ)) (tail accepted : List Message) (head : Header) (rest : List Message) → (map Row rows ++ ImageEnd ∷ []) ++ tail ≡ accepted ++ Begin head ∷ rest → Passed rows tail accepted head rest
+passed : (rows : List (List ℕ)) (tail accepted : List Message) (head : HeadValue) (rest : List Message) → (map Row rows ++ ImageEnd ∷ []) ++ tail ≡ accepted ++ Begin head ∷ rest → Passed rows tail accepted head rest
 passed [] tail [] head rest e = absurd cc
 passed [] tail (m ∷ accepted) head rest e =
     let first : ImageEnd ≡ m = cc in
@@ -82,7 +82,7 @@ passed (row ∷ rows) tail (m ∷ accepted) head rest e =
     (others.0, ap (λ (k : Message). k ∷ accepted) (sym first) ∙ ap (λ (l : List Message). Row row ∷ l) others.1, others.2)
 
 -- where the images before it are taken, an image that is refused is the first
-head_is_refused : (tool : Tool) (is : List Image) (accepted : List Message) (head : Header) (rest : List Message) (fault : ToolFault) → messages_of_stream is ≡ accepted ++ Begin head ∷ rest → AreTaken tool accepted → result_head tool head ≡ Err fault
+head_is_refused : (tool : Tool) (is : List Image) (accepted : List Message) (head : HeadValue) (rest : List Message) (fault : ToolFault) → messages_of_stream is ≡ accepted ++ Begin head ∷ rest → AreTaken tool accepted → result_head tool head ≡ Err fault
     → results_of tool is ≡ Err fault
 head_is_refused tool [] [] head rest fault e taken refused = absurd cc
 head_is_refused tool [] (m ∷ []) head rest fault e taken refused = absurd cc

@@ -9,16 +9,15 @@ use Rattle.std.proofs.lemmas.List.Sums.{AllPass-from_list_all}
 use Rattle.pnm_image.specs.declared.shape.Kind.{Kind}
 use Rattle.pnm_image.specs.declared.shape.Kind.TheVariants.{Bit, Gray, Color, Pam}
 use Rattle.pnm_image.specs.declared.shape.Shape.{Shape}
-use Rattle.pnm_image.specs.Heads.{Header, IsHeader, IsTupleType, Suits}
+use Rattle.pnm_image.specs.Heads.{HeadValue, IsHead, IsTupleType, Suits, is_too_large}
 use Rattle.pnm_image.specs.Images.{Image, IsImage, sample_at}
 use Rattle.pnm_tools.specs.declared.cut.CutBox.{CutBox}
 use Rattle.pnm_tools.specs.declared.cut.Span.{Span}
 use Rattle.pnm_tools.specs.declared.tool.Tool.{Tool}
 use Rattle.pnm_tools.specs.declared.tool.Tool.TheVariants.{Invert, Cut, Depth, Channel, Enlarge, Flip, Tile}
-use Rattle.pnm_tools.specs.Limits.{is_too_large}
 use Rattle.pnm_tools.specs.Cut.{span_count}
 use Rattle.pnm_tools.specs.Depth.{nearest_sample, gray_kind, gray_type}
-use Rattle.pnm_tools.specs.Channel.{Picks, IsLawfulPick, picked_header}
+use Rattle.pnm_tools.specs.Channel.{Picks, IsLawfulPick, picked_head_value}
 use Rattle.pnm_tools.specs.Tools.{IsLawfulTool, applied, result_head, result_sample}
 use Rattle.pnm_tools.proofs.ImageLaws.{result_by_head}
 use Rattle.pnm_tools.proofs.MadeLaws.{made_is_image, sample_in_range, sizes_within}
@@ -29,23 +28,23 @@ use Rattle.pnm_tools.proofs.ChannelLaws.{is_picked}
 
 -- ---- inverted images
 
-inverted_head_is : (i : Image) (result : Header) → result_head Invert i.head ≡ Ok result → i.head ≡ result
+inverted_head_is : (i : Image) (result : HeadValue) → result_head Invert i.head ≡ Ok result → i.head ≡ result
 unfolding result_head
 inverted_head_is i result e = cc
 
-inverted_in_range : (i : Image) (result : Header) (x y p : ℕ) → i.head ≡ result → result_sample Invert i x y p ≤ result.shape.maxval
+inverted_in_range : (i : Image) (result : HeadValue) (x y p : ℕ) → i.head ≡ result → result_sample Invert i x y p ≤ result.shape.maxval
 unfolding result_sample
-inverted_in_range i result x y p e = subst (λ (h : Header). i.head.shape.maxval - sample_at i x y p ≤ h.shape.maxval) e (omega arith)
+inverted_in_range i result x y p e = subst (λ (h : HeadValue). i.head.shape.maxval - sample_at i x y p ≤ h.shape.maxval) e (omega arith)
 
 inverted_is_image : (i j : Image) → IsImage i → applied Invert i ≡ Ok j → IsImage j
 inverted_is_image i j is e =
     let made = result_by_head Invert i j e in
     let same = inverted_head_is i j.head made.head in
-    made_is_image Invert i j made (subst IsHeader same is.head) (λ x y p. inverted_in_range i j.head x y p same)
+    made_is_image Invert i j made (subst IsHead same is.head) (λ x y p. inverted_in_range i j.head x y p same)
 
 -- ---- cut images
 
-cut_within : (c r : Span) (head : Header) → IsHeader head → LiesWithin c head.shape.width → LiesWithin r head.shape.height → IsHeader (cut_by c r head)
+cut_within : (c r : Span) (head : HeadValue) → IsHead head → LiesWithin c head.shape.width → LiesWithin r head.shape.height → IsHead (cut_by c r head)
 cut_within c r head sound in_row in_image =
     let s : Shape = head.shape in
     let limits = sound.limits in
@@ -74,14 +73,14 @@ cut_is_image box i j is e =
     let cut = is_cut box i.head j.head made.head in
     let same : cut_by cut.spans.columns cut.spans.rows i.head ≡ j.head = sym cut.spans.result_is in
     made_is_image (Cut box) i j made
-    (subst IsHeader same (cut_within cut.spans.columns cut.spans.rows i.head is.head cut.in_row cut.in_image))
-    (λ x y p. subst (λ (h : Header). result_sample (Cut box) i x y p ≤ h.shape.maxval) same (cut_in_range box i x y p is))
+    (subst IsHead same (cut_within cut.spans.columns cut.spans.rows i.head is.head cut.in_row cut.in_image))
+    (λ x y p. subst (λ (h : HeadValue). result_sample (Cut box) i x y p ≤ h.shape.maxval) same (cut_in_range box i x y p is))
 
 cut_has_rows : (box : CutBox) (i j : Image) → applied (Cut box) i ≡ Ok j → 0 < j.head.shape.height
 cut_has_rows box i j e =
     let cut = is_cut box i.head j.head (result_by_head (Cut box) i j e).head in
     let some : 0 < span_count cut.spans.rows = omega (arith, cut.in_image.in_order) in
-    subst (λ (h : Header). 0 < h.shape.height) (sym cut.spans.result_is) some
+    subst (λ (h : HeadValue). 0 < h.shape.height) (sym cut.spans.result_is) some
 
 -- ---- rescaled images
 
@@ -132,7 +131,7 @@ suits_by : (one : Bool) (kind : Kind) (depth maxval new : ℕ) (text : List ℕ)
 suits_by true kind depth maxval new text is suits = same_suits kind depth maxval new text (eqb-true new 1 is) suits
 suits_by false kind depth maxval new text is suits = gray_suits kind depth maxval new text suits
 
-rescaled_head_is : (new : ℕ) (head : Header) → 1 ≤ new → new ≤ 65535 → IsHeader head → IsHeader (new_head new head)
+rescaled_head_is : (new : ℕ) (head : HeadValue) → 1 ≤ new → new ≤ 65535 → IsHead head → IsHead (new_head new head)
 rescaled_head_is new head low high sound =
     let s : Shape = head.shape in
     let limits = sound.limits in
@@ -150,7 +149,7 @@ rescaled_head_is new head low high sound =
       suits = suits_by (new == 1) s.kind s.depth s.maxval new head.tuple_type refl sound.suits;
     }
 
-new_head_is : (new : ℕ) (head result : Header) → result_head (Depth new) head ≡ Ok result → new_head new head ≡ result
+new_head_is : (new : ℕ) (head result : HeadValue) → result_head (Depth new) head ≡ Ok result → new_head new head ≡ result
 unfolding result_head
 new_head_is new head result e = cc
 
@@ -162,12 +161,12 @@ rescaled_is_image : (new : ℕ) (i j : Image) → 1 ≤ new → new ≤ 65535 �
 rescaled_is_image new i j low high is e =
     let made = result_by_head (Depth new) i j e in
     let same = new_head_is new i.head j.head made.head in
-    made_is_image (Depth new) i j made (subst IsHeader same (rescaled_head_is new i.head low high is.head))
-    (λ x y p. subst (λ (h : Header). result_sample (Depth new) i x y p ≤ h.shape.maxval) same (rescaled_in_range new i x y p is))
+    made_is_image (Depth new) i j made (subst IsHead same (rescaled_head_is new i.head low high is.head))
+    (λ x y p. subst (λ (h : HeadValue). result_sample (Depth new) i x y p ≤ h.shape.maxval) same (rescaled_in_range new i x y p is))
 
 -- ---- picked images
 
-picked_header_is : (planes : Picks) (head : Header) → IsLawfulPick planes → IsHeader head → is_too_large (picked_header planes head).shape ≡ false → IsHeader (picked_header planes head)
+picked_header_is : (planes : Picks) (head : HeadValue) → IsLawfulPick planes → IsHead head → is_too_large (picked_head_value planes head).shape ≡ false → IsHead (picked_head_value planes head)
 picked_header_is planes head lawful sound fits =
     let s : Shape = head.shape in
     let limits = sound.limits in
@@ -194,10 +193,10 @@ picked_is_image : (planes : Picks) (i j : Image) → IsLawfulPick planes → IsI
 picked_is_image planes i j lawful is e =
     let made = result_by_head (Channel planes) i j e in
     let picked = is_picked planes i.head j.head made.head in
-    let same : picked_header planes i.head ≡ j.head = sym picked.result_is in
-    let fits : is_too_large (picked_header planes i.head).shape ≡ false = subst (λ (h : Header). is_too_large h.shape ≡ false) picked.result_is picked.limits in
-    made_is_image (Channel planes) i j made (subst IsHeader same (picked_header_is planes i.head lawful is.head fits))
-    (λ x y p. subst (λ (h : Header). result_sample (Channel planes) i x y p ≤ h.shape.maxval) same (picked_in_range planes i x y p is))
+    let same : picked_head_value planes i.head ≡ j.head = sym picked.result_is in
+    let fits : is_too_large (picked_head_value planes i.head).shape ≡ false = subst (λ (h : HeadValue). is_too_large h.shape ≡ false) picked.result_is picked.limits in
+    made_is_image (Channel planes) i j made (subst IsHead same (picked_header_is planes i.head lawful is.head fits))
+    (λ x y p. subst (λ (h : HeadValue). result_sample (Channel planes) i x y p ≤ h.shape.maxval) same (picked_in_range planes i x y p is))
 
 -- ---- each tool
 
@@ -213,12 +212,12 @@ result_is_image (Tile across down) i j lawful image made = tiled_is_image across
 -- the result of an image that has rows has rows
 pub result_has_rows : (tool : Tool) (i j : Image) → IsLawfulTool tool → IsImage i → 0 < i.head.shape.height → applied tool i ≡ Ok j → 0 < j.head.shape.height
 result_has_rows Invert i j lawful image rows made =
-    subst (λ (h : Header). 0 < h.shape.height) (inverted_head_is i j.head (result_by_head Invert i j made).head) rows
+    subst (λ (h : HeadValue). 0 < h.shape.height) (inverted_head_is i j.head (result_by_head Invert i j made).head) rows
 result_has_rows (Cut box) i j lawful image rows made = cut_has_rows box i j made
 result_has_rows (Depth maxval) i j lawful image rows made =
-    subst (λ (h : Header). 0 < h.shape.height) (new_head_is maxval i.head j.head (result_by_head (Depth maxval) i j made).head) rows
+    subst (λ (h : HeadValue). 0 < h.shape.height) (new_head_is maxval i.head j.head (result_by_head (Depth maxval) i j made).head) rows
 result_has_rows (Channel planes) i j lawful image rows made =
-    subst (λ (h : Header). 0 < h.shape.height) (sym (is_picked planes i.head j.head (result_by_head (Channel planes) i j made).head).result_is) rows
+    subst (λ (h : HeadValue). 0 < h.shape.height) (sym (is_picked planes i.head j.head (result_by_head (Channel planes) i j made).head).result_is) rows
 result_has_rows (Enlarge across down) i j lawful image rows made = enlarged_has_rows across down i j lawful.1.0 rows made
 result_has_rows (Flip way) i j lawful image rows made = flipped_has_rows way i j image rows made
 result_has_rows (Tile across down) i j lawful image rows made = tiled_has_rows across down i j lawful.1.0 made

@@ -3,60 +3,60 @@ use Rattle.std.proofs.Common.{◌≡◌, ◌⊎◌, inl, inr, ℕ, ◌*◌, ◌<
 use Rattle.std.proofs.lemmas.Bool.{ne_eqb}
 use Rattle.std.proofs.lemmas.Bool.Decides.{nat_tests}
 use Rattle.pnm_image.specs.declared.shape.Shape.{Shape}
-use Rattle.pnm_image.specs.Heads.{Header, IsWithinLimits, header_of}
+use Rattle.pnm_image.specs.Heads.{HeadValue, IsWithinLimits, head_value, is_too_large}
 use Rattle.pnm_tools.specs.declared.fault.ToolFault.TheVariants.{OutOfOrder, TooLarge}
 use Rattle.pnm_tools.specs.declared.flip.FlipWay.{FlipWay}
 use Rattle.pnm_tools.specs.declared.flip.FlipWay.TheVariants.{Null, LeftRight, TopBottom, Transpose}
 use Rattle.pnm_tools.specs.declared.tool.Tool.{Tool}
 use Rattle.pnm_tools.specs.declared.tool.Tool.TheVariants.{Enlarge, Flip}
-use Rattle.pnm_tools.specs.Enlarge.{enlarged_head, enlarged_header}
-use Rattle.pnm_tools.specs.Flip.{flipped_head, transposed_header}
-use Rattle.pnm_tools.specs.Limits.{is_too_large, within_limits}
+use Rattle.pnm_tools.specs.Enlarge.{enlarged_head, enlarged_head_value}
+use Rattle.pnm_tools.specs.Flip.{flipped_head, transposed_head_value}
+use Rattle.pnm_tools.specs.Limits.{within_limits}
 use Rattle.pnm_tools.specs.Tools.{result_head}
 use Rattle.pnm_tools.proofs.HeadLaws.{small_head, large_head, not_too_large}
 
 -- the rule of each tool
-pub head_of_enlarge : (across down : ℕ) (head : Header) → result_head (Enlarge across down) head ≡ enlarged_head across down head
+pub head_of_enlarge : (across down : ℕ) (head : HeadValue) → result_head (Enlarge across down) head ≡ enlarged_head across down head
 unfolding result_head
 head_of_enlarge across down head = refl
 
-pub head_of_flip : (way : FlipWay) (head : Header) → result_head (Flip way) head ≡ flipped_head way head
+pub head_of_flip : (way : FlipWay) (head : HeadValue) → result_head (Flip way) head ≡ flipped_head way head
 unfolding result_head
 head_of_flip way head = refl
 
 -- ---- enlarged images
 
 -- an image that has rows
-some_rows : (head : Header) (s : Shape) → s ≡ head.shape → (s.height ≡ 0 → ⊥) → (head.shape.height == 0) ≡ false
+some_rows : (head : HeadValue) (s : Shape) → s ≡ head.shape → (s.height ≡ 0 → ⊥) → (head.shape.height == 0) ≡ false
 some_rows head s shape some = ne_eqb head.shape.height 0 (λ e. some (ap (λ (z : Shape). z.height) shape ∙ e))
 
 -- an image without rows that are to be repeated
-pub enlarge_without_rows : (across down : ℕ) (head : Header) (s : Shape) → s ≡ head.shape → (down ≡ 1 → ⊥) → s.height ≡ 0 → result_head (Enlarge across down) head ≡ Err OutOfOrder
+pub enlarge_without_rows : (across down : ℕ) (head : HeadValue) (s : Shape) → s ≡ head.shape → (down ≡ 1 → ⊥) → s.height ≡ 0 → result_head (Enlarge across down) head ≡ Err OutOfOrder
 enlarge_without_rows across down head s shape many none =
     let repeated : (down == 1) ≡ false = ne_eqb down 1 many in
     head_of_enlarge across down head
-    ∙ ap (λ (b : Bool). if not b && (head.shape.height == 0) then Err OutOfOrder else within_limits (enlarged_header across down head)) repeated
-    ∙ ap (λ (n : ℕ). if n == 0 then Err OutOfOrder else within_limits (enlarged_header across down head)) (ap (λ (z : Shape). z.height) (sym shape) ∙ none)
+    ∙ ap (λ (b : Bool). if not b && (head.shape.height == 0) then Err OutOfOrder else within_limits (enlarged_head_value across down head)) repeated
+    ∙ ap (λ (n : ℕ). if n == 0 then Err OutOfOrder else within_limits (enlarged_head_value across down head)) (ap (λ (z : Shape). z.height) (sym shape) ∙ none)
 
 -- any other image
-pub enlarge_in_order : (across down : ℕ) (head : Header) (s : Shape) → s ≡ head.shape → ((down ≡ 1 → ⊥) × (s.height ≡ 0 → ⊥)) ⊎ (down ≡ 1) → result_head (Enlarge across down) head ≡ within_limits (enlarged_header across down head)
+pub enlarge_in_order : (across down : ℕ) (head : HeadValue) (s : Shape) → s ≡ head.shape → ((down ≡ 1 → ⊥) × (s.height ≡ 0 → ⊥)) ⊎ (down ≡ 1) → result_head (Enlarge across down) head ≡ within_limits (enlarged_head_value across down head)
 enlarge_in_order across down head s shape (inl h) =
     head_of_enlarge across down head
-    ∙ ap (λ (b : Bool). if not b && (head.shape.height == 0) then Err OutOfOrder else within_limits (enlarged_header across down head)) (ne_eqb down 1 h.0)
-    ∙ ap (λ (b : Bool). if b then Err OutOfOrder else within_limits (enlarged_header across down head)) (some_rows head s shape h.1)
+    ∙ ap (λ (b : Bool). if not b && (head.shape.height == 0) then Err OutOfOrder else within_limits (enlarged_head_value across down head)) (ne_eqb down 1 h.0)
+    ∙ ap (λ (b : Bool). if b then Err OutOfOrder else within_limits (enlarged_head_value across down head)) (some_rows head s shape h.1)
 enlarge_in_order across down head s shape (inr h) =
     head_of_enlarge across down head
-    ∙ ap (λ (n : ℕ). if not (n == 1) && (head.shape.height == 0) then Err OutOfOrder else within_limits (enlarged_header across down head)) h
+    ∙ ap (λ (n : ℕ). if not (n == 1) && (head.shape.height == 0) then Err OutOfOrder else within_limits (enlarged_head_value across down head)) h
 
 -- the head of an enlarged image, from its parts
-pub enlarged_head_made : (across down : ℕ) (head : Header) (s : Shape) (width height : ℕ) (t : List ℕ) → s ≡ head.shape → ((down ≡ 1 → ⊥) × (s.height ≡ 0 → ⊥)) ⊎ (down ≡ 1)
-    → width ≡ s.width * across → height ≡ s.height * down → t ≡ head.tuple_type → result_head (Enlarge across down) head ≡ within_limits (header_of (record s { width = width; height = height }) t)
+pub enlarged_head_made : (across down : ℕ) (head : HeadValue) (s : Shape) (width height : ℕ) (t : List ℕ) → s ≡ head.shape → ((down ≡ 1 → ⊥) × (s.height ≡ 0 → ⊥)) ⊎ (down ≡ 1)
+    → width ≡ s.width * across → height ≡ s.height * down → t ≡ head.tuple_type → result_head (Enlarge across down) head ≡ within_limits (head_value (record s { width = width; height = height }) t)
 enlarged_head_made across down head s width height t shape order wide high type =
-    let whole : enlarged_header across down head ≡ header_of (record s { width = width; height = height }) t =
-    ap (λ (z : Shape). header_of (record z { width = z.width * across; height = z.height * down }) head.tuple_type) (sym shape)
-    ∙ ap (λ (n : ℕ). header_of (record s { width = n; height = s.height * down }) head.tuple_type) (sym wide)
-    ∙ ap (λ (n : ℕ). header_of (record s { width = width; height = n }) head.tuple_type) (sym high)
-    ∙ ap (header_of (record s { width = width; height = height })) (sym type) in
+    let whole : enlarged_head_value across down head ≡ head_value (record s { width = width; height = height }) t =
+    ap (λ (z : Shape). head_value (record z { width = z.width * across; height = z.height * down }) head.tuple_type) (sym shape)
+    ∙ ap (λ (n : ℕ). head_value (record s { width = n; height = s.height * down }) head.tuple_type) (sym wide)
+    ∙ ap (λ (n : ℕ). head_value (record s { width = width; height = n }) head.tuple_type) (sym high)
+    ∙ ap (head_value (record s { width = width; height = height })) (sym type) in
     enlarge_in_order across down head s shape order ∙ ap within_limits whole
 
 -- a width or a height beyond the limits
@@ -67,46 +67,46 @@ too_high : (s : Shape) → 1000000 < s.height → is_too_large s ≡ true
 too_high s h = grind (arith, nat_tests)
 
 -- a width or a height that no number of the program holds
-pub enlarged_too_large : (across down : ℕ) (head : Header) (s : Shape) → s ≡ head.shape → ((down ≡ 1 → ⊥) × (s.height ≡ 0 → ⊥)) ⊎ (down ≡ 1)
+pub enlarged_too_large : (across down : ℕ) (head : HeadValue) (s : Shape) → s ≡ head.shape → ((down ≡ 1 → ⊥) × (s.height ≡ 0 → ⊥)) ⊎ (down ≡ 1)
     → (1000000 < s.width * across) ⊎ (1000000 < s.height * down) → result_head (Enlarge across down) head ≡ Err TooLarge
 enlarged_too_large across down head s shape order (inl h) =
     let below : 1000000 < head.shape.width * across = subst (λ (z : Shape). 1000000 < z.width * across) shape h in
-    enlarge_in_order across down head s shape order ∙ large_head (enlarged_header across down head) (too_wide (enlarged_header across down head).shape below)
+    enlarge_in_order across down head s shape order ∙ large_head (enlarged_head_value across down head) (too_wide (enlarged_head_value across down head).shape below)
 enlarged_too_large across down head s shape order (inr h) =
     let below : 1000000 < head.shape.height * down = subst (λ (z : Shape). 1000000 < z.height * down) shape h in
-    enlarge_in_order across down head s shape order ∙ large_head (enlarged_header across down head) (too_high (enlarged_header across down head).shape below)
+    enlarge_in_order across down head s shape order ∙ large_head (enlarged_head_value across down head) (too_high (enlarged_head_value across down head).shape below)
 
 -- ---- flipped images
 
 -- a head that is the result's too
-pub same_head_made : (tool : Tool) (head : Header) (s : Shape) (t : List ℕ) → result_head tool head ≡ Ok head → s ≡ head.shape → t ≡ head.tuple_type → IsWithinLimits head.shape → result_head tool head ≡ within_limits (header_of s t)
+pub same_head_made : (tool : Tool) (head : HeadValue) (s : Shape) (t : List ℕ) → result_head tool head ≡ Ok head → s ≡ head.shape → t ≡ head.tuple_type → IsWithinLimits head.shape → result_head tool head ≡ within_limits (head_value s t)
 same_head_made tool head s t same shape type limits =
-    let whole : header_of s t ≡ head = ap (λ (z : Shape). header_of z t) shape ∙ ap (header_of head.shape) type in
+    let whole : head_value s t ≡ head = ap (λ (z : Shape). head_value z t) shape ∙ ap (head_value head.shape) type in
     same ∙ sym (small_head head (not_too_large head.shape limits)) ∙ ap within_limits (sym whole)
 
 -- where rows stay in their places
-pub flip_in_rows : (way : FlipWay) (head : Header) → (way ≡ Null) ⊎ (way ≡ LeftRight) → result_head (Flip way) head ≡ Ok head
+pub flip_in_rows : (way : FlipWay) (head : HeadValue) → (way ≡ Null) ⊎ (way ≡ LeftRight) → result_head (Flip way) head ≡ Ok head
 flip_in_rows way head (inl e) = head_of_flip way head ∙ ap (λ (w : FlipWay). flipped_head w head) e
 flip_in_rows way head (inr e) = head_of_flip way head ∙ ap (λ (w : FlipWay). flipped_head w head) e
 
 -- where rows change places there have to be rows
-pub flip_without_rows : (way : FlipWay) (head : Header) (s : Shape) → (way ≡ TopBottom) ⊎ (way ≡ Transpose) → s ≡ head.shape → s.height ≡ 0 → result_head (Flip way) head ≡ Err OutOfOrder
+pub flip_without_rows : (way : FlipWay) (head : HeadValue) (s : Shape) → (way ≡ TopBottom) ⊎ (way ≡ Transpose) → s ≡ head.shape → s.height ≡ 0 → result_head (Flip way) head ≡ Err OutOfOrder
 flip_without_rows way head s (inl e) shape none =
     head_of_flip way head ∙ ap (λ (w : FlipWay). flipped_head w head) e
     ∙ ap (λ (n : ℕ). if n == 0 then Err OutOfOrder else Ok head) (ap (λ (z : Shape). z.height) (sym shape) ∙ none)
 flip_without_rows way head s (inr e) shape none =
     head_of_flip way head ∙ ap (λ (w : FlipWay). flipped_head w head) e
-    ∙ ap (λ (n : ℕ). if n == 0 then Err OutOfOrder else within_limits (transposed_header head)) (ap (λ (z : Shape). z.height) (sym shape) ∙ none)
+    ∙ ap (λ (n : ℕ). if n == 0 then Err OutOfOrder else within_limits (transposed_head_value head)) (ap (λ (z : Shape). z.height) (sym shape) ∙ none)
 
 -- where the rows of an image are turned
-pub flip_rows : (way : FlipWay) (head : Header) (s : Shape) → way ≡ TopBottom → s ≡ head.shape → (s.height ≡ 0 → ⊥) → result_head (Flip way) head ≡ Ok head
+pub flip_rows : (way : FlipWay) (head : HeadValue) (s : Shape) → way ≡ TopBottom → s ≡ head.shape → (s.height ≡ 0 → ⊥) → result_head (Flip way) head ≡ Ok head
 flip_rows way head s e shape some =
     head_of_flip way head ∙ ap (λ (w : FlipWay). flipped_head w head) e ∙ ap (λ (b : Bool). if b then Err OutOfOrder else Ok head) (some_rows head s shape some)
 
 -- the head of a transposed image, from its parts
-pub transposed_head_made : (way : FlipWay) (head : Header) (s : Shape) (t : List ℕ) → way ≡ Transpose → s ≡ head.shape → t ≡ head.tuple_type → (s.height ≡ 0 → ⊥) → result_head (Flip way) head ≡ within_limits (header_of (record s { width = s.height; height = s.width }) t)
+pub transposed_head_made : (way : FlipWay) (head : HeadValue) (s : Shape) (t : List ℕ) → way ≡ Transpose → s ≡ head.shape → t ≡ head.tuple_type → (s.height ≡ 0 → ⊥) → result_head (Flip way) head ≡ within_limits (head_value (record s { width = s.height; height = s.width }) t)
 transposed_head_made way head s t e shape type some =
-    let whole : transposed_header head ≡ header_of (record s { width = s.height; height = s.width }) t =
-    ap (λ (z : Shape). header_of (record z { width = z.height; height = z.width }) head.tuple_type) (sym shape) ∙ ap (header_of (record s { width = s.height; height = s.width })) (sym type) in
+    let whole : transposed_head_value head ≡ head_value (record s { width = s.height; height = s.width }) t =
+    ap (λ (z : Shape). head_value (record z { width = z.height; height = z.width }) head.tuple_type) (sym shape) ∙ ap (head_value (record s { width = s.height; height = s.width })) (sym type) in
     head_of_flip way head ∙ ap (λ (w : FlipWay). flipped_head w head) e
-    ∙ ap (λ (b : Bool). if b then Err OutOfOrder else within_limits (transposed_header head)) (some_rows head s shape some) ∙ ap within_limits whole
+    ∙ ap (λ (b : Bool). if b then Err OutOfOrder else within_limits (transposed_head_value head)) (some_rows head s shape some) ∙ ap within_limits whole

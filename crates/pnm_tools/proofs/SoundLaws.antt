@@ -4,7 +4,7 @@ use Rattle.std.specs.List.{AllByRecursion}
 use Rattle.pnm_image.specs.declared.message.Message.{Message}
 use Rattle.pnm_image.specs.declared.message.Message.TheVariants.{Begin, Row, ImageEnd, StreamEnd, Stop}
 use Rattle.pnm_image.specs.declared.place.Place.{Place}
-use Rattle.pnm_image.specs.Heads.{Header}
+use Rattle.pnm_image.specs.Heads.{HeadValue}
 use Rattle.pnm_image.specs.Messages.{without_stop}
 use Rattle.pnm_image.specs.Places.{IsLawfulFrom, place_after}
 use Rattle.pnm_image.specs.Images.{Image, IsImage, AreImages, rows_of, messages_of_image, messages_of_stream}
@@ -13,7 +13,7 @@ use Rattle.pnm_tools.specs.declared.fault.ToolFault.{ToolFault}
 use Rattle.pnm_tools.specs.declared.tool.Tool.{Tool}
 use Rattle.pnm_tools.specs.Tools.{IsLawfulTool, applied, output_due}
 use Rattle.pnm_tools.specs.Answers.{Ending, More, Whole, BrokenOff, ending_of, EndsBy}
-use Rattle.pnm_tools.specs.Stages.{IsSound}
+use Rattle.pnm_tools.specs.ChainAnswers.{IsSound}
 use Rattle.pnm_tools.proofs.AnsweringLaws.{Fronts, fronts, due_by, due_is}
 use Rattle.pnm_tools.proofs.ResultLaws.{result_is_image, result_has_rows}
 
@@ -119,7 +119,7 @@ sound_images [] l rest are e sound = ([], tt, tt, (rest, e))
 sound_images (i ∷ is) [] rest are e sound = ([], tt, tt, (StreamEnd ∷ [], refl))
 sound_images (i ∷ is) (Begin head ∷ l) rest are e sound =
     let same : i.head ≡ head = cc in
-    let rows : HasRows i = subst (λ (h : Header). 0 < h.shape.height) (sym same) sound.0 in
+    let rows : HasRows i = subst (λ (h : HeadValue). 0 < h.shape.height) (sym same) sound.0 in
     sound_beyond i is (Begin head ∷ l) rest are.0 rows sound (λ more f s. sound_images is more rest are.1 f s) (fronts (messages_of_image i) (messages_of_stream is) (Begin head ∷ l) rest e)
 sound_images (i ∷ is) (Row row ∷ l) rest are e sound = absurd cc
 sound_images (i ∷ is) (ImageEnd ∷ l) rest are e sound = absurd cc

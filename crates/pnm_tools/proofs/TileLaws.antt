@@ -4,11 +4,11 @@ use Rattle.std.specs.Prelude.{slice_index_or}
 use Rattle.std.proofs.Math.Nat.{mod-lt}
 use Rattle.std.proofs.lemmas.List.FromFn.{get_or-map-range_with_len}
 use Rattle.pnm_image.specs.declared.shape.Shape.{Shape}
-use Rattle.pnm_image.specs.Heads.{Header}
+use Rattle.pnm_image.specs.Heads.{HeadValue}
 use Rattle.pnm_image.specs.Images.{Image, IsImage, rows_of}
 use Rattle.pnm_tools.specs.declared.tool.Tool.TheVariants.{Tile}
 use Rattle.pnm_tools.specs.Formulas.{image_by}
-use Rattle.pnm_tools.specs.Tile.{tiled_header, tiled_sample, tiled_row, tiled_at_end}
+use Rattle.pnm_tools.specs.Tile.{tiled_head_value, tiled_sample, tiled_row, tiled_at_end}
 use Rattle.pnm_tools.specs.Tools.{result_head, result_sample, row_answer}
 use Rattle.pnm_tools.proofs.FormulaLaws.{row_at, rows_are, range_alike}
 use Rattle.pnm_tools.proofs.ImageLaws.{result_by_head, answered_by_rows, answers_to_rows}
@@ -28,7 +28,7 @@ row_is i y lt = ap (λ (rows : List (List ℕ)). slice_index_or rows y []) (rows
 
 -- the rows of the result
 rows_are_tiled : (across down : ℕ) (i : Image) → 0 < i.head.shape.height → IsImage i
-    → tiled_at_end across down i.head.shape (rows_of i) ≡ rows_of (image_by (tiled_header across down i.head) (tiled_sample i))
+    → tiled_at_end across down i.head.shape (rows_of i) ≡ rows_of (image_by (tiled_head_value across down i.head) (tiled_sample i))
 rows_are_tiled across down i high is =
     let s : Shape = i.head.shape in
     range_alike (λ y. tiled_row across s.width s.depth (slice_index_or (rows_of i) (y % s.height) [])) (λ y. tiled_row across s.width s.depth (row_at i (y % s.height))) 0 down (λ y lt.
@@ -36,14 +36,14 @@ rows_are_tiled across down i high is =
     ∙ sym (rows_by_pixels i across down (λ x. x % s.width) (λ y. y % s.height) is (λ x lt. mod-lt x is.head.limits.width_low) (λ y lt. mod-lt y high))
 
 -- the answers are the rows of the result
-answer_is : (across down : ℕ) (i : Image) (result : Header) → IsImage i → result_head (Tile across down) i.head ≡ Ok result
+answer_is : (across down : ℕ) (i : Image) (result : HeadValue) → IsImage i → result_head (Tile across down) i.head ≡ Ok result
     → answers_to_rows (Tile across down) i.head.shape 0 (rows_of i) ++ tiled_at_end across down i.head.shape (rows_of i) ≡ rows_of (image_by result (result_sample (Tile across down) i))
 unfolding result_sample
 answer_is across down i result is e =
     let whole = is_tiled across down i.head result e in
     ap (λ (rows : List (List ℕ)). rows ++ tiled_at_end across down i.head.shape (rows_of i)) (none_before_end across down i.head.shape 0 (rows_of i))
     ∙ rows_are_tiled across down i whole.some_rows is
-    ∙ ap (λ (h : Header). rows_of (image_by h (tiled_sample i))) whole.within.result_is
+    ∙ ap (λ (h : HeadValue). rows_of (image_by h (tiled_sample i))) whole.within.result_is
 
 -- a whole image that isn't refused is answered by the tiled image
 pub tile_answers_images : (across down : ℕ) → AnswersImages (Tile across down)

@@ -5,15 +5,14 @@ use Rattle.std.proofs.lemmas.Bool.{eqb-true}
 use Rattle.std.specs.List.{range_with_len}
 use Rattle.std.proofs.lemmas.List.{nil_from_length, reverse-append, reverse-reverse}
 use Rattle.std.proofs.lemmas.List.Elements.{All-nil}
-use Rattle.pnm_image.specs.Heads.{Header, IsWithinLimits, row_length}
+use Rattle.pnm_image.specs.Heads.{HeadValue, IsWithinLimits, row_length, is_too_large}
 use Rattle.pnm_image.specs.declared.shape.Shape.{Shape}
 use Rattle.pnm_tools.specs.declared.fault.ToolFault.TheVariants.{OutOfOrder, TooLarge}
 use Rattle.pnm_tools.specs.declared.tool.Tool.TheVariants.{Flip}
 use Rattle.pnm_tools.specs.declared.flip.FlipWay.TheVariants.{Transpose}
 use Rattle.pnm_tools.specs.Answering.{row_list}
-use Rattle.pnm_tools.specs.Flip.{column_of, transposed_header}
+use Rattle.pnm_tools.specs.Flip.{column_of, transposed_head_value}
 use Rattle.pnm_tools.specs.Keeping.{Transposed, IsTransposing, transposed, transposed_due}
-use Rattle.pnm_tools.specs.Limits.{is_too_large}
 use Rattle.pnm_tools.specs.Tools.{result_head, row_answer}
 use Rattle.pnm_tools.proofs.TileHeadLaws.{small_row}
 
@@ -65,20 +64,20 @@ no_items xs n count found = nil_from_length xs (sym count ∙ eqb-true n 0 (sym 
 -- ---- the head
 
 -- a head that is made is not too large
-not_large : (b c : Bool) (x made : Header) → (if b then Err OutOfOrder else if c then Err TooLarge else Ok x) ≡ Ok made → c ≡ false
+not_large : (b c : Bool) (x made : HeadValue) → (if b then Err OutOfOrder else if c then Err TooLarge else Ok x) ≡ Ok made → c ≡ false
 not_large true c x made e = absurd cc
 not_large false true x made e = absurd cc
 not_large false false x made e = refl
 
 -- a column of an image is within the limits where its transposed head is made
-column_small : (head made : Header) → result_head (Flip Transpose) head ≡ Ok made → head.shape.height * head.shape.depth ≤ 16777216
+column_small : (head made : HeadValue) → result_head (Flip Transpose) head ≡ Ok made → head.shape.height * head.shape.depth ≤ 16777216
 unfolding result_head
 column_small head made e =
-    let x : Header = transposed_header head in
+    let x : HeadValue = transposed_head_value head in
     small_row x.shape (not_large (head.shape.height == 0) (is_too_large x.shape) x made e)
 
 -- a transposer that has begun is ready for the first row
-pub ready_to_transpose : (w : Transposed) (head made : Header) → IsWithinLimits head.shape → result_head (Flip Transpose) head ≡ Ok made → w.rows ≡ [] → w.band ≡ [] → w.next ≡ 0 → w.columns ≡ 0 → IsTransposing w head.shape []
+pub ready_to_transpose : (w : Transposed) (head made : HeadValue) → IsWithinLimits head.shape → result_head (Flip Transpose) head ≡ Ok made → w.rows ≡ [] → w.band ≡ [] → w.next ≡ 0 → w.columns ≡ 0 → IsTransposing w head.shape []
 ready_to_transpose w head made limits e rows band next columns = record {
   limits = limits;
   column = column_small head made e;

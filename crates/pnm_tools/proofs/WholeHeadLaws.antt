@@ -2,38 +2,38 @@
 use Rattle.std.proofs.Common.{◌≡◌, ℕ, ◌<◌, Bool, true, false, not, ◌&&◌, Ok, Err, Result, refl, arith}
 use Rattle.std.specs.Prelude.{◌≢◌, ◌==◌, if◌then◌else◌}
 use Rattle.std.proofs.lemmas.Bool.{eqb-false}
-use Rattle.pnm_image.specs.Heads.{Header}
+use Rattle.pnm_image.specs.Heads.{HeadValue, is_too_large}
 use Rattle.pnm_tools.specs.declared.fault.ToolFault.{ToolFault}
 use Rattle.pnm_tools.specs.declared.fault.ToolFault.TheVariants.{OutOfOrder, TooLarge}
 use Rattle.pnm_tools.specs.declared.flip.FlipWay.TheVariants.{Null, LeftRight, TopBottom, Transpose}
 use Rattle.pnm_tools.specs.declared.tool.Tool.TheVariants.{Enlarge, Flip, Tile}
-use Rattle.pnm_tools.specs.Limits.{is_too_large, within_limits}
-use Rattle.pnm_tools.specs.Enlarge.{enlarged_header}
-use Rattle.pnm_tools.specs.Flip.{transposed_header}
-use Rattle.pnm_tools.specs.Tile.{tiled_header}
+use Rattle.pnm_tools.specs.Limits.{within_limits}
+use Rattle.pnm_tools.specs.Enlarge.{enlarged_head_value}
+use Rattle.pnm_tools.specs.Flip.{transposed_head_value}
+use Rattle.pnm_tools.specs.Tile.{tiled_head_value}
 use Rattle.pnm_tools.specs.Tools.{result_head}
 
 -- a head within the limits is the result's
-pub record IsWithin (head result : Header) : Type 0 where
+pub record IsWithin (head result : HeadValue) : Type 0 where
   pub limits : is_too_large head.shape ≡ false
   pub result_is : head ≡ result
 
 -- what the test of the limits has found
-within_by : (too_large : Bool) (head result : Header) → is_too_large head.shape ≡ too_large → ◌≡◌ {A = Result Header ToolFault} (if too_large then Err TooLarge else Ok head) (Ok result) → IsWithin head result
+within_by : (too_large : Bool) (head result : HeadValue) → is_too_large head.shape ≡ too_large → ◌≡◌ {A = Result HeadValue ToolFault} (if too_large then Err TooLarge else Ok head) (Ok result) → IsWithin head result
 within_by true head result is e = absurd cc
 within_by false head result is e = record { limits = is; result_is = cc }
 
 -- a head that the limits let pass is within them
-is_within : (head result : Header) → within_limits head ≡ Ok result → IsWithin head result
+is_within : (head result : HeadValue) → within_limits head ≡ Ok result → IsWithin head result
 is_within head result e = within_by (is_too_large head.shape) head result refl e
 
 -- what isn't out of order
-pub record InOrder (out : Bool) (r : Result Header ToolFault) (result : Header) : Type 0 where
+pub record InOrder (out : Bool) (r : Result HeadValue ToolFault) (result : HeadValue) : Type 0 where
   pub in_order : out ≡ false
   pub same : r ≡ Ok result
 
 -- what is answered where an image out of order is refused first
-in_order : (out : Bool) (r : Result Header ToolFault) (result : Header) → (if out then Err OutOfOrder else r) ≡ Ok result → InOrder out r result
+in_order : (out : Bool) (r : Result HeadValue ToolFault) (result : HeadValue) → (if out then Err OutOfOrder else r) ≡ Ok result → InOrder out r result
 in_order true r result e = absurd cc
 in_order false r result e = record { in_order = refl; same = e }
 
@@ -44,42 +44,42 @@ some_rows height e =
     omega (arith, other)
 
 -- the head of an enlarged image
-pub is_enlarged : (across down : ℕ) (head result : Header) → result_head (Enlarge across down) head ≡ Ok result → IsWithin (enlarged_header across down head) result
+pub is_enlarged : (across down : ℕ) (head result : HeadValue) → result_head (Enlarge across down) head ≡ Ok result → IsWithin (enlarged_head_value across down head) result
 unfolding result_head
 is_enlarged across down head result e =
-    is_within (enlarged_header across down head) result (in_order (not (down == 1) && (head.shape.height == 0)) (within_limits (enlarged_header across down head)) result e).same
+    is_within (enlarged_head_value across down head) result (in_order (not (down == 1) && (head.shape.height == 0)) (within_limits (enlarged_head_value across down head)) result e).same
 
 -- an image with rows, whose result has a head within the limits
-pub record IsWhole (head made result : Header) : Type 0 where
+pub record IsWhole (head made result : HeadValue) : Type 0 where
   pub some_rows : 0 < head.shape.height
   pub within : IsWithin made result
 
 -- the head of a tiled image
-pub is_tiled : (across down : ℕ) (head result : Header) → result_head (Tile across down) head ≡ Ok result → IsWhole head (tiled_header across down head) result
+pub is_tiled : (across down : ℕ) (head result : HeadValue) → result_head (Tile across down) head ≡ Ok result → IsWhole head (tiled_head_value across down head) result
 unfolding result_head
 is_tiled across down head result e =
-    let order = in_order (head.shape.height == 0) (within_limits (tiled_header across down head)) result e in
-    record { some_rows = some_rows head.shape.height order.in_order; within = is_within (tiled_header across down head) result order.same }
+    let order = in_order (head.shape.height == 0) (within_limits (tiled_head_value across down head)) result e in
+    record { some_rows = some_rows head.shape.height order.in_order; within = is_within (tiled_head_value across down head) result order.same }
 
 -- the head of a transposed image
-pub is_transposed : (head result : Header) → result_head (Flip Transpose) head ≡ Ok result → IsWhole head (transposed_header head) result
+pub is_transposed : (head result : HeadValue) → result_head (Flip Transpose) head ≡ Ok result → IsWhole head (transposed_head_value head) result
 unfolding result_head
 is_transposed head result e =
-    let order = in_order (head.shape.height == 0) (within_limits (transposed_header head)) result e in
-    record { some_rows = some_rows head.shape.height order.in_order; within = is_within (transposed_header head) result order.same }
+    let order = in_order (head.shape.height == 0) (within_limits (transposed_head_value head)) result e in
+    record { some_rows = some_rows head.shape.height order.in_order; within = is_within (transposed_head_value head) result order.same }
 
 -- nothing changed keeps the head
-pub null_keeps : (head result : Header) → result_head (Flip Null) head ≡ Ok result → head ≡ result
+pub null_keeps : (head result : HeadValue) → result_head (Flip Null) head ≡ Ok result → head ≡ result
 unfolding result_head
 null_keeps head result e = cc
 
 -- left and right exchanged keep the head
-pub left_right_keeps : (head result : Header) → result_head (Flip LeftRight) head ≡ Ok result → head ≡ result
+pub left_right_keeps : (head result : HeadValue) → result_head (Flip LeftRight) head ≡ Ok result → head ≡ result
 unfolding result_head
 left_right_keeps head result e = cc
 
 -- top and bottom exchanged keep the head
-pub top_bottom_keeps : (head result : Header) → result_head (Flip TopBottom) head ≡ Ok result → head ≡ result
+pub top_bottom_keeps : (head result : HeadValue) → result_head (Flip TopBottom) head ≡ Ok result → head ≡ result
 unfolding result_head
 top_bottom_keeps head result e =
     let same = (in_order (head.shape.height == 0) (Ok head) result e).same in

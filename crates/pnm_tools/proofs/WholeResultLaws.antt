@@ -1,12 +1,11 @@
 -- The enlarged, the flipped and the tiled image are images.
 use Rattle.std.proofs.Common.{◌≡◌, ℕ, ◌*◌, ◌<◌, ◌≤◌, false, Ok, ap, subst, arith, mul-le-mul}
 use Rattle.pnm_image.specs.declared.shape.Shape.{Shape}
-use Rattle.pnm_image.specs.Heads.{Header, IsHeader}
+use Rattle.pnm_image.specs.Heads.{HeadValue, IsHead, is_too_large}
 use Rattle.pnm_image.specs.Images.{Image, IsImage}
 use Rattle.pnm_tools.specs.declared.flip.FlipWay.{FlipWay}
 use Rattle.pnm_tools.specs.declared.flip.FlipWay.TheVariants.{Null, LeftRight, TopBottom, Transpose}
 use Rattle.pnm_tools.specs.declared.tool.Tool.TheVariants.{Enlarge, Flip, Tile}
-use Rattle.pnm_tools.specs.Limits.{is_too_large}
 use Rattle.pnm_tools.specs.Tools.{applied, result_head, result_sample}
 use Rattle.pnm_tools.proofs.ImageLaws.{result_by_head}
 use Rattle.pnm_tools.proofs.MadeLaws.{made_is_image, sample_in_range, sizes_within}
@@ -14,7 +13,7 @@ use Rattle.pnm_tools.proofs.PixelLaws.{resized}
 use Rattle.pnm_tools.proofs.WholeHeadLaws.{is_enlarged, is_tiled, is_transposed, null_keeps, left_right_keeps, top_bottom_keeps}
 
 -- a head with other sizes is a head, where they are within the limits
-resized_is : (width height : ℕ) (head : Header) → 0 < width → IsHeader head → is_too_large (resized width height head).shape ≡ false → IsHeader (resized width height head)
+resized_is : (width height : ℕ) (head : HeadValue) → 0 < width → IsHead head → is_too_large (resized width height head).shape ≡ false → IsHead (resized width height head)
 resized_is width height head some sound fits =
     let s : Shape = head.shape in
     let limits = sound.limits in
@@ -53,14 +52,14 @@ enlarged_is_image across down i j wide is e =
     let s : Shape = i.head.shape in
     let within = is_enlarged across down i.head j.head made.head in
     let sound = resized_is (s.width * across) (s.height * down) i.head (some_times s.width across is.head.limits.width_low wide) is.head within.limits in
-    made_is_image (Enlarge across down) i j made (subst IsHeader within.result_is sound)
-    (λ x y p. subst (λ (h : Header). result_sample (Enlarge across down) i x y p ≤ h.shape.maxval) within.result_is (enlarged_in_range across down i x y p is))
+    made_is_image (Enlarge across down) i j made (subst IsHead within.result_is sound)
+    (λ x y p. subst (λ (h : HeadValue). result_sample (Enlarge across down) i x y p ≤ h.shape.maxval) within.result_is (enlarged_in_range across down i x y p is))
 
 -- an enlarged image of rows has rows
 pub enlarged_has_rows : (across down : ℕ) (i j : Image) → 1 ≤ down → 0 < i.head.shape.height → applied (Enlarge across down) i ≡ Ok j → 0 < j.head.shape.height
 enlarged_has_rows across down i j high rows e =
     let within = is_enlarged across down i.head j.head (result_by_head (Enlarge across down) i j e).head in
-    subst (λ (h : Header). 0 < h.shape.height) within.result_is (some_times i.head.shape.height down rows high)
+    subst (λ (h : HeadValue). 0 < h.shape.height) within.result_is (some_times i.head.shape.height down rows high)
 
 -- ---- flipped images
 
@@ -73,22 +72,22 @@ flipped_in_range TopBottom i x y p is = sample_in_range i _ _ p is
 flipped_in_range Transpose i x y p is = sample_in_range i _ _ p is
 
 -- the flipped head: it is a head, the samples' range is kept, and there are rows
-record IsFlipped (head result : Header) : Type 0 where
-  header : IsHeader result
+record IsFlipped (head result : HeadValue) : Type 0 where
+  header : IsHead result
   range : head.shape.maxval ≡ result.shape.maxval
   rows : 0 < head.shape.height → 0 < result.shape.height
 
 -- a head that is kept
-same_head : (head result : Header) → IsHeader head → head ≡ result → IsFlipped head result
+same_head : (head result : HeadValue) → IsHead head → head ≡ result → IsFlipped head result
 same_head head result sound same =
     record {
-      header = subst IsHeader same sound;
-      range = ap (λ (h : Header). h.shape.maxval) same;
-      rows = λ some. subst (λ (h : Header). 0 < h.shape.height) same some;
+      header = subst IsHead same sound;
+      range = ap (λ (h : HeadValue). h.shape.maxval) same;
+      rows = λ some. subst (λ (h : HeadValue). 0 < h.shape.height) same some;
     }
 
 -- the head of each way
-is_flipped : (way : FlipWay) (head result : Header) → IsHeader head → result_head (Flip way) head ≡ Ok result → IsFlipped head result
+is_flipped : (way : FlipWay) (head result : HeadValue) → IsHead head → result_head (Flip way) head ≡ Ok result → IsFlipped head result
 is_flipped Null head result sound e = same_head head result sound (null_keeps head result e)
 is_flipped LeftRight head result sound e = same_head head result sound (left_right_keeps head result e)
 is_flipped TopBottom head result sound e = same_head head result sound (top_bottom_keeps head result e)
@@ -96,9 +95,9 @@ is_flipped Transpose head result sound e =
     let s : Shape = head.shape in
     let whole = is_transposed head result e in
     record {
-      header = subst IsHeader whole.within.result_is (resized_is s.height s.width head whole.some_rows sound whole.within.limits);
-      range = ap (λ (h : Header). h.shape.maxval) whole.within.result_is;
-      rows = λ some. subst (λ (h : Header). 0 < h.shape.height) whole.within.result_is sound.limits.width_low;
+      header = subst IsHead whole.within.result_is (resized_is s.height s.width head whole.some_rows sound whole.within.limits);
+      range = ap (λ (h : HeadValue). h.shape.maxval) whole.within.result_is;
+      rows = λ some. subst (λ (h : HeadValue). 0 < h.shape.height) whole.within.result_is sound.limits.width_low;
     }
 
 -- a flipped image is an image
@@ -124,11 +123,11 @@ pub tiled_is_image : (across down : ℕ) (i j : Image) → 1 ≤ across → IsIm
 tiled_is_image across down i j wide is e =
     let made = result_by_head (Tile across down) i j e in
     let within = (is_tiled across down i.head j.head made.head).within in
-    made_is_image (Tile across down) i j made (subst IsHeader within.result_is (resized_is across down i.head (omega arith) is.head within.limits))
-    (λ x y p. subst (λ (h : Header). result_sample (Tile across down) i x y p ≤ h.shape.maxval) within.result_is (tiled_in_range across down i x y p is))
+    made_is_image (Tile across down) i j made (subst IsHead within.result_is (resized_is across down i.head (omega arith) is.head within.limits))
+    (λ x y p. subst (λ (h : HeadValue). result_sample (Tile across down) i x y p ≤ h.shape.maxval) within.result_is (tiled_in_range across down i x y p is))
 
 -- a tiled image has rows
 pub tiled_has_rows : (across down : ℕ) (i j : Image) → 1 ≤ down → applied (Tile across down) i ≡ Ok j → 0 < j.head.shape.height
 tiled_has_rows across down i j high e =
     let some : 0 < down = omega arith in
-    subst (λ (h : Header). 0 < h.shape.height) (is_tiled across down i.head j.head (result_by_head (Tile across down) i j e).head).within.result_is some
+    subst (λ (h : HeadValue). 0 < h.shape.height) (is_tiled across down i.head j.head (result_by_head (Tile across down) i j e).head).within.result_is some

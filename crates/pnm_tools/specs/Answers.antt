@@ -4,7 +4,7 @@ use Rattle.pnm_image.specs.declared.message.Message.{Message}
 use Rattle.pnm_image.specs.declared.message.Message.TheVariants.{Begin, Row, ImageEnd, StreamEnd, Stop}
 use Rattle.pnm_image.specs.declared.place.Place.{Place}
 use Rattle.pnm_image.specs.declared.place.Place.TheVariants.{Between, Inside, After}
-use Rattle.pnm_image.specs.Heads.{Header}
+use Rattle.pnm_image.specs.Heads.{HeadValue}
 use Rattle.pnm_image.specs.Images.{Image, AreImages, messages_of_image, messages_of_stream}
 use Rattle.pnm_image.specs.Messages.{without_stop}
 use Rattle.pnm_image.specs.Places.{Accepts, IsLawful, place_of}
@@ -80,7 +80,7 @@ pub record AnswersInFull (tool : Tool) (accepted given : List Message) : Type 0 
 
 -- ---- what a message that is fed meets
 
-abbrev pub IfBegin : Message → (Header → Type 0) → Type 0
+abbrev pub IfBegin : Message → (HeadValue → Type 0) → Type 0
 IfBegin (Begin head) P = P head
 IfBegin (Row row) P = Unit {0}
 IfBegin ImageEnd P = Unit {0}

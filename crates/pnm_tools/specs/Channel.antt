@@ -4,7 +4,7 @@ use Rattle.std.specs.Prelude.{◌≤◌, ◌<◌, ℕ, ◌+◌, ◌*◌, List, l
 use Rattle.std.specs.List.{flat_map, range_with_len, list_all}
 use Rattle.pnm_image.specs.declared.shape.Kind.TheVariants.{Pam}
 use Rattle.pnm_image.specs.declared.shape.Shape.{Shape}
-use Rattle.pnm_image.specs.Heads.{Header, IsTupleType}
+use Rattle.pnm_image.specs.Heads.{HeadValue, IsTupleType}
 use Rattle.pnm_image.specs.Images.{Image, sample_at}
 use Rattle.pnm_tools.specs.declared.fault.ToolFault.{ToolFault}
 use Rattle.pnm_tools.specs.declared.fault.ToolFault.TheVariants.{ChannelOutside}
@@ -25,13 +25,13 @@ pub record IsLawfulPick (picks : Picks) : Type 0 where
   pub in_range : All (λ number. number ≤ 255) picks.numbers
   pub tuple_type : IsTupleType picks.tuple_type
 
-abbrev pub picked_header : Picks → Header → Header
-picked_header picks head = record { shape = record head.shape { kind = Pam; depth = length picks.numbers }; tuple_type = picks.tuple_type }
+abbrev pub picked_head_value : Picks → HeadValue → HeadValue
+picked_head_value picks head = record { shape = record head.shape { kind = Pam; depth = length picks.numbers }; tuple_type = picks.tuple_type }
 
 -- refused where the image has no plane of one of the numbers
-abbrev pub picked_head : Picks → Header → Result Header ToolFault
+abbrev pub picked_head : Picks → HeadValue → Result HeadValue ToolFault
 picked_head picks head =
-    if list_all (λ number. nat_lt number head.shape.depth) picks.numbers then within_limits (picked_header picks head)
+    if list_all (λ number. nat_lt number head.shape.depth) picks.numbers then within_limits (picked_head_value picks head)
     else Err ChannelOutside
 
 abbrev pub picked_sample : Picks → Image → ℕ → ℕ → ℕ → ℕ

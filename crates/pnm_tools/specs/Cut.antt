@@ -3,7 +3,7 @@
 -- from the left or the top, from 0; a negative one from the right or the bottom, so that -1 is the last column or row.
 use Rattle.std.specs.Prelude.{◌≤◌, ℕ, suc, ◌+◌, ◌-◌, ◌*◌, ℤ, pos, negsuc, ◌+ℤ◌, ◌-ℤ◌, unsigned_abs, Option, Some, None, IfSome, IsSome, List, [], ◌∷◌, length, take, drop, Result, Ok, Err, nat_le, nat_lt, ◌==◌, ◌&&◌, if◌then◌else◌}
 use Rattle.pnm_image.specs.declared.shape.Shape.{Shape}
-use Rattle.pnm_image.specs.Heads.{Header}
+use Rattle.pnm_image.specs.Heads.{HeadValue}
 use Rattle.pnm_image.specs.Images.{Image, sample_at}
 use Rattle.pnm_tools.specs.declared.cut.CutBox.{CutBox}
 use Rattle.pnm_tools.specs.declared.cut.Span.{Span}
@@ -65,12 +65,12 @@ abbrev pub span_count : Span → ℕ
 span_count span = (span.last + 1) - span.first
 
 -- the head of the columns and rows that are kept; the tool sees whole images alone, so that a height of 0 is out of order
-abbrev pub head_of_spans : Header → Option Span → Option Span → Result Header ToolFault
+abbrev pub head_of_spans : HeadValue → Option Span → Option Span → Result HeadValue ToolFault
 head_of_spans head (Some columns) (Some rows) = Ok (record head { shape = record head.shape { width = span_count columns; height = span_count rows } })
 head_of_spans head (Some columns) None = Err CutOutside
 head_of_spans head None rows = Err CutOutside
 
-abbrev pub cut_head : CutBox → Header → Result Header ToolFault
+abbrev pub cut_head : CutBox → HeadValue → Result HeadValue ToolFault
 cut_head box head = if head.shape.height == 0 then Err OutOfOrder else head_of_spans head (columns_kept box head.shape) (rows_kept box head.shape)
 
 -- the first of what is kept, from 0

@@ -5,7 +5,7 @@ use Rattle.std.specs.Str.{bytes_eq}
 use Rattle.pnm_image.specs.declared.shape.Kind.{Kind}
 use Rattle.pnm_image.specs.declared.shape.Kind.TheVariants.{Bit, Gray, Color, Pam}
 use Rattle.pnm_image.specs.declared.shape.Shape.{Shape}
-use Rattle.pnm_image.specs.Heads.{Header}
+use Rattle.pnm_image.specs.Heads.{HeadValue}
 use Rattle.pnm_image.specs.Images.{Image, sample_at}
 use Rattle.pnm_tools.specs.declared.fault.ToolFault.{ToolFault}
 
@@ -32,7 +32,7 @@ kind_at new kind = if new == 1 then kind else gray_kind kind
 abbrev pub type_at : ℕ → List ℕ → List ℕ
 type_at new tuple_type = if new == 1 then tuple_type else gray_type tuple_type
 
-abbrev pub rescaled_head : ℕ → Header → Result Header ToolFault
+abbrev pub rescaled_head : ℕ → HeadValue → Result HeadValue ToolFault
 rescaled_head new head = Ok (record { shape = record head.shape { kind = kind_at new head.shape.kind; maxval = new }; tuple_type = type_at new head.tuple_type })
 
 abbrev pub rescaled_sample : ℕ → Image → ℕ → ℕ → ℕ → ℕ

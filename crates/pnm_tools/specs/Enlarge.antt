@@ -2,7 +2,7 @@
 use Rattle.std.specs.Prelude.{◌≤◌, ℕ, ◌*◌, ◌/◌, ◌==◌, ◌&&◌, not, List, replicate, Result, Err, if◌then◌else◌}
 use Rattle.std.specs.List.{flat_map, range_with_len}
 use Rattle.pnm_image.specs.declared.shape.Shape.{Shape}
-use Rattle.pnm_image.specs.Heads.{Header}
+use Rattle.pnm_image.specs.Heads.{HeadValue}
 use Rattle.pnm_image.specs.Images.{Image, sample_at}
 use Rattle.pnm_tools.specs.declared.fault.ToolFault.{ToolFault}
 use Rattle.pnm_tools.specs.declared.fault.ToolFault.TheVariants.{OutOfOrder}
@@ -13,12 +13,12 @@ use Rattle.pnm_tools.specs.Pixels.{pixel_of}
 abbrev pub IsFactor : ℕ → Type 0
 IsFactor factor = (1 ≤ factor) × (factor ≤ 16777216)
 
-abbrev pub enlarged_header : ℕ → ℕ → Header → Header
-enlarged_header across down head = record head { shape = record head.shape { width = head.shape.width * across; height = head.shape.height * down } }
+abbrev pub enlarged_head_value : ℕ → ℕ → HeadValue → HeadValue
+enlarged_head_value across down head = record head { shape = record head.shape { width = head.shape.width * across; height = head.shape.height * down } }
 
 -- where rows are repeated the tool isn't row-wise, so that a height of 0 is out of order
-abbrev pub enlarged_head : ℕ → ℕ → Header → Result Header ToolFault
-enlarged_head across down head = if not (down == 1) && (head.shape.height == 0) then Err OutOfOrder else within_limits (enlarged_header across down head)
+abbrev pub enlarged_head : ℕ → ℕ → HeadValue → Result HeadValue ToolFault
+enlarged_head across down head = if not (down == 1) && (head.shape.height == 0) then Err OutOfOrder else within_limits (enlarged_head_value across down head)
 
 abbrev pub enlarged_sample : ℕ → ℕ → Image → ℕ → ℕ → ℕ → ℕ
 enlarged_sample across down i x y p = sample_at i (x / across) (y / down) p

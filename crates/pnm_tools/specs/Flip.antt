@@ -3,7 +3,7 @@
 use Rattle.std.specs.Prelude.{ℕ, ◌-◌, ◌==◌, List, [], ◌∷◌, map, reverse, Result, Ok, Err, if◌then◌else◌}
 use Rattle.std.specs.List.{flat_map, range_with_len}
 use Rattle.pnm_image.specs.declared.shape.Shape.{Shape}
-use Rattle.pnm_image.specs.Heads.{Header}
+use Rattle.pnm_image.specs.Heads.{HeadValue}
 use Rattle.pnm_image.specs.Images.{Image, sample_at}
 use Rattle.pnm_tools.specs.declared.fault.ToolFault.{ToolFault}
 use Rattle.pnm_tools.specs.declared.fault.ToolFault.TheVariants.{OutOfOrder}
@@ -12,15 +12,15 @@ use Rattle.pnm_tools.specs.declared.flip.FlipWay.TheVariants.{Null, LeftRight, T
 use Rattle.pnm_tools.specs.Limits.{within_limits}
 use Rattle.pnm_tools.specs.Pixels.{pixel_of}
 
-abbrev pub transposed_header : Header → Header
-transposed_header head = record head { shape = record head.shape { width = head.shape.height; height = head.shape.width } }
+abbrev pub transposed_head_value : HeadValue → HeadValue
+transposed_head_value head = record head { shape = record head.shape { width = head.shape.height; height = head.shape.width } }
 
 -- where rows change places the tool isn't row-wise, so that a height of 0 is out of order
-abbrev pub flipped_head : FlipWay → Header → Result Header ToolFault
+abbrev pub flipped_head : FlipWay → HeadValue → Result HeadValue ToolFault
 flipped_head Null head = Ok head
 flipped_head LeftRight head = Ok head
 flipped_head TopBottom head = if head.shape.height == 0 then Err OutOfOrder else Ok head
-flipped_head Transpose head = if head.shape.height == 0 then Err OutOfOrder else within_limits (transposed_header head)
+flipped_head Transpose head = if head.shape.height == 0 then Err OutOfOrder else within_limits (transposed_head_value head)
 
 abbrev pub flipped_sample : FlipWay → Image → ℕ → ℕ → ℕ → ℕ
 flipped_sample Null i x y p = sample_at i x y p

@@ -2,12 +2,12 @@
 -- PAM image, in every plane.
 use Rattle.std.specs.Prelude.{ℕ, ◌-◌, List, map, Result, Ok}
 use Rattle.pnm_image.specs.declared.shape.Shape.{Shape}
-use Rattle.pnm_image.specs.Heads.{Header}
+use Rattle.pnm_image.specs.Heads.{HeadValue}
 use Rattle.pnm_image.specs.Images.{Image, sample_at}
 use Rattle.pnm_tools.specs.declared.fault.ToolFault.{ToolFault}
 
 -- the head stays
-abbrev pub inverted_head : Header → Result Header ToolFault
+abbrev pub inverted_head : HeadValue → Result HeadValue ToolFault
 inverted_head head = Ok head
 
 abbrev pub inverted_sample : Image → ℕ → ℕ → ℕ → ℕ

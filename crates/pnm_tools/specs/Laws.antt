@@ -9,7 +9,7 @@ use Rattle.pnm_tools.specs.declared.tool.Tool.{Tool}
 use Rattle.pnm_tools.specs.Depth.{nearest_sample}
 use Rattle.pnm_tools.specs.Tools.{IsLawfulTool, applied}
 use Rattle.pnm_tools.specs.Chains.{AreLawfulTools, AreResultsInTurn, due_in_turn, refusal_of}
-use Rattle.pnm_tools.specs.Stages.{AreSound, HaveAnswered, AreWell, IsFirstFault}
+use Rattle.pnm_tools.specs.ChainAnswers.{AreSound, HaveAnswered, AreWell, IsFirstFault}
 
 -- the result of an image is an image, and has rows where the image has
 abbrev pub ResultsAreImages : Type 0

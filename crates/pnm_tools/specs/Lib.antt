@@ -16,5 +16,5 @@ pub mod Keeping
 pub mod States
 pub mod Steps
 pub mod Chains
-pub mod Stages
+pub mod ChainAnswers
 pub mod Laws

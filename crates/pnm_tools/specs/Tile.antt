@@ -3,7 +3,7 @@
 use Rattle.std.specs.Prelude.{◌≤◌, ℕ, ◌%◌, ◌==◌, List, [], map, slice_index_or, Result, Err, if◌then◌else◌}
 use Rattle.std.specs.List.{flat_map, range_with_len}
 use Rattle.pnm_image.specs.declared.shape.Shape.{Shape}
-use Rattle.pnm_image.specs.Heads.{Header}
+use Rattle.pnm_image.specs.Heads.{HeadValue}
 use Rattle.pnm_image.specs.Images.{Image, sample_at}
 use Rattle.pnm_tools.specs.declared.fault.ToolFault.{ToolFault}
 use Rattle.pnm_tools.specs.declared.fault.ToolFault.TheVariants.{OutOfOrder}
@@ -14,12 +14,12 @@ use Rattle.pnm_tools.specs.Pixels.{pixel_of}
 abbrev pub IsExtent : ℕ → Type 0
 IsExtent count = (1 ≤ count) × (count ≤ 16777216)
 
-abbrev pub tiled_header : ℕ → ℕ → Header → Header
-tiled_header across down head = record head { shape = record head.shape { width = across; height = down } }
+abbrev pub tiled_head_value : ℕ → ℕ → HeadValue → HeadValue
+tiled_head_value across down head = record head { shape = record head.shape { width = across; height = down } }
 
 -- the tool isn't row-wise, so that a height of 0 is out of order
-abbrev pub tiled_head : ℕ → ℕ → Header → Result Header ToolFault
-tiled_head across down head = if head.shape.height == 0 then Err OutOfOrder else within_limits (tiled_header across down head)
+abbrev pub tiled_head : ℕ → ℕ → HeadValue → Result HeadValue ToolFault
+tiled_head across down head = if head.shape.height == 0 then Err OutOfOrder else within_limits (tiled_head_value across down head)
 
 abbrev pub tiled_sample : Image → ℕ → ℕ → ℕ → ℕ
 tiled_sample i x y p = sample_at i (x % i.head.shape.width) (y % i.head.shape.height) p

@@ -3,7 +3,7 @@ use Rattle.std.specs.Prelude.{◌≡◌, ◌≤◌, ℕ, ◌==◌, Bool, true, f
 use Rattle.pnm_image.specs.declared.shape.Shape.{Shape}
 use Rattle.pnm_image.specs.declared.message.Message.{Message}
 use Rattle.pnm_image.specs.declared.message.Message.TheVariants.{Begin, Row, ImageEnd, StreamEnd, Stop}
-use Rattle.pnm_image.specs.Heads.{Header}
+use Rattle.pnm_image.specs.Heads.{HeadValue}
 use Rattle.pnm_image.specs.Images.{Image, messages_of_image}
 use Rattle.pnm_tools.specs.declared.fault.ToolFault.{ToolFault}
 use Rattle.pnm_tools.specs.declared.tool.Tool.{Tool}
@@ -42,7 +42,7 @@ is_row_wise (Flip Transpose) = false
 is_row_wise (Tile across down) = false
 
 -- the head of the result, or the refusal
-unfoldable pub result_head : Tool → Header → Result Header ToolFault
+unfoldable pub result_head : Tool → HeadValue → Result HeadValue ToolFault
 result_head Invert head = inverted_head head
 result_head (Cut box) head = cut_head box head
 result_head (Depth maxval) head = rescaled_head maxval head
@@ -52,8 +52,8 @@ result_head (Flip way) head = flipped_head way head
 result_head (Tile across down) head = tiled_head across down head
 
 -- the tool takes an image with this head
-abbrev pub Takes : Tool → Header → Type 0
-Takes tool head = (result : Header) × (result_head tool head ≡ Ok result)
+abbrev pub Takes : Tool → HeadValue → Type 0
+Takes tool head = (result : HeadValue) × (result_head tool head ≡ Ok result)
 
 -- no image that begins is refused
 abbrev pub AreTaken : Tool → List Message → Type 0

@@ -1,11 +1,11 @@
 //! What a tool is to those who run it: a filter of messages.
 
 ghost use Rattle.std.specs.Prelude.{◌≡◌, ℕ, ◌<◌, List, [], ◌∷◌, ◌++◌, Bool, true, false, Option, Some, None, OnOk, IfOk, IfErr, IfSome, IfNone, Err};
-ghost use Rattle.pnm_image.specs.declared.message.Message.{Message as Said};
+ghost use Rattle.pnm_image.specs.declared.message.Message.{Message as MessageValue};
 ghost use Rattle.pnm_image.specs.declared.message.Message.TheVariants.{Stop};
 ghost use Rattle.pnm_tools.specs.declared.fault.ToolFault.{ToolFault as Fault};
 ghost use Rattle.pnm_tools.specs.declared.fault.ToolFault.TheVariants.{Memory};
-ghost use Rattle.pnm_tools.specs.declared.tool.Tool.{Tool as Value};
+ghost use Rattle.pnm_tools.specs.declared.tool.Tool.{Tool as ToolValue};
 ghost use Rattle.pnm_tools.specs.Answers.{Ending, EndsBy, Answers, AnswersInFull, Judges};
 
 use crate::fault::ToolFault;
@@ -19,7 +19,7 @@ use pnm_image::Message;
 /// and Stop gives Stop alone; nothing is given after either.
 pub trait Filter {
     /// The state of this tool, which has accepted these messages and given those.
-    ghost at: { Self → Value → List Said → List Said → Type 0 };
+    ghost at: { Self → ToolValue → List MessageValue → List MessageValue → Type 0 };
 
     /// `next` has answered `None` since the last message that was accepted, or none was accepted.
     ghost all_given: { Self → Bool };
@@ -37,9 +37,9 @@ pub trait Filter {
     /// `ChannelOutside` where the image that begins hasn't the part that is asked for; `TooLarge`
     /// where its result is beyond the limits; `Memory`.
     fn feed(&mut self, message: Message) -> Result<(), ToolFault>
-        ensures accepted { OnOk result ((t : Value) (l g : List Said) → at self.old t l g → at self.new t (l ++ message ∷ []) g) }
+        ensures accepted { OnOk result ((t : ToolValue) (l g : List MessageValue) → at self.old t l g → at self.new t (l ++ message ∷ []) g) }
         ensures owes { OnOk result (all_given self.new ≡ false) }
-        ensures judged { stopped self.old ≡ None → (t : Value) (l g : List Said) → at self.old t l g → Judges (all_given self.old) t l message result }
+        ensures judged { stopped self.old ≡ None → (t : ToolValue) (l g : List MessageValue) → at self.old t l g → Judges (all_given self.old) t l message result }
         ensures stops { IfErr result (λ k. stopped self.new ≡ Some k) }
         ensures goes_on { OnOk result ((stopped self.old ≡ None) × (stopped self.new ≡ None)) }
         ensures stays { (k : Fault) → stopped self.old ≡ Some k → result ≡ Err k };
@@ -48,14 +48,14 @@ pub trait Filter {
     /// is answered for good. The only fault that begins here is `Memory`, and not once the end of the
     /// stream or Stop was given.
     fn next(&mut self) -> Result<Option<Message>, ToolFault>
-        ensures given { IfOk result (λ r. IfSome r (λ m. (t : Value) (l g : List Said) → at self.old t l g → at self.new t l (g ++ m ∷ []))) }
-        ensures stop_alone { IfOk result (λ r. IfSome r (λ m. (t : Value) (l g : List Said) → at self.old t l g → EndsBy Ending.BrokenOff l → m ≡ Stop)) }
+        ensures given { IfOk result (λ r. IfSome r (λ m. (t : ToolValue) (l g : List MessageValue) → at self.old t l g → at self.new t l (g ++ m ∷ []))) }
+        ensures stop_alone { IfOk result (λ r. IfSome r (λ m. (t : ToolValue) (l g : List MessageValue) → at self.old t l g → EndsBy Ending.BrokenOff l → m ≡ Stop)) }
         ensures fewer { IfOk result (λ r. IfSome r (λ m. (waiting self.new < waiting self.old) × (all_given self.old ≡ false) × (all_given self.new ≡ false))) }
-        ensures full { IfOk result (λ r. IfNone r ((all_given self.new ≡ true) × ((t : Value) (l g : List Said) → at self.old t l g → at self.new t l g × AnswersInFull t l g))) }
-        ensures failed { stopped self.old ≡ None → IfErr result (λ k. (k ≡ Memory) × ((t : Value) (l g : List Said) → at self.old t l g → EndsBy Ending.More g)) }
+        ensures full { IfOk result (λ r. IfNone r ((all_given self.new ≡ true) × ((t : ToolValue) (l g : List MessageValue) → at self.old t l g → at self.new t l g × AnswersInFull t l g))) }
+        ensures failed { stopped self.old ≡ None → IfErr result (λ k. (k ≡ Memory) × ((t : ToolValue) (l g : List MessageValue) → at self.old t l g → EndsBy Ending.More g)) }
         ensures stops { IfErr result (λ k. stopped self.new ≡ Some k) }
         ensures goes_on { OnOk result ((stopped self.old ≡ None) × (stopped self.new ≡ None)) }
         ensures stays { (k : Fault) → stopped self.old ≡ Some k → result ≡ Err k };
 
-    ghost at_answers: { (s : Self) (t : Value) (l g : List Said) → at s t l g → Answers t l g };
+    ghost at_answers: { (s : Self) (t : ToolValue) (l g : List MessageValue) → at s t l g → Answers t l g };
 }

@@ -6,7 +6,7 @@ ghost use Rattle.pnm_image.specs.Places.{IsRowOf};
 ghost use Rattle.pnm_image.specs.declared.shape.Shape.{Shape as ShapeValue};
 ghost use Rattle.pnm_tools.specs.Answering.{row_list};
 ghost use Rattle.pnm_tools.specs.declared.fault.ToolFault.TheVariants.{Memory};
-ghost use Rattle.pnm_tools.specs.declared.tool.Tool.{Tool as Value};
+ghost use Rattle.pnm_tools.specs.declared.tool.Tool.{Tool as ToolValue};
 ghost use Rattle.pnm_tools.specs.Tools.{IsLawfulTool, Takes, result_head, row_answer, end_answer};
 
 use crate::fault::ToolFault;
@@ -16,7 +16,7 @@ use std::alloc::Global;
 /// A tool at work on one image after another.
 pub trait Maker {
     /// Which tool it is.
-    ghost tool: { Self → Value };
+    ghost tool: { Self → ToolValue };
 
     /// It is ready for the next row of an image of this shape, of which these rows have come.
     ghost ready: { Self → ShapeValue → List (List ℕ) → Type 0 };

@@ -2,12 +2,11 @@
 //! and its row rule.
 
 ghost use Rattle.std.specs.Prelude.{ℕ, ◌≡◌, ◌<◌, ◌≤◌, ◌⊎◌, List, [], true, false, OnOk, IfOk, IfErr, Ok, Err};
-ghost use Rattle.pnm_image.specs.Heads.{Suits, header_of};
+ghost use Rattle.pnm_image.specs.Heads.{Suits, head_value, is_too_large};
 ghost use Rattle.pnm_image.specs.Places.{IsRowOf};
 ghost use Rattle.pnm_image.specs.declared.shape.Shape.{Shape as ShapeValue};
 ghost use Rattle.pnm_tools.specs.declared.fault.ToolFault.TheVariants.{Memory, TooLarge};
-ghost use Rattle.pnm_tools.specs.declared.tool.Tool.{Tool as Value};
-ghost use Rattle.pnm_tools.specs.Limits.{is_too_large};
+ghost use Rattle.pnm_tools.specs.declared.tool.Tool.{Tool as ToolValue};
 ghost use Rattle.pnm_tools.specs.Answering.{row_list};
 ghost use Rattle.pnm_tools.specs.Tools.{IsLawfulTool, Takes, result_head, row_answer, end_answer};
 
@@ -18,7 +17,7 @@ use std::alloc::Global;
 /// The head rule and the row rule of a tool.
 pub trait Rows {
     /// Which tool it is.
-    ghost tool: { Self → Value };
+    ghost tool: { Self → ToolValue };
 
     /// It is ready for the rows of an image of this shape.
     ghost ready: { Self → ShapeValue → Type 0 };
@@ -56,7 +55,7 @@ pub(crate) fn result_head(alloc: Global, shape: Shape, tuple_type: &[u8]) -> Res
     requires some { (1 ≤ shape.width) × (1 ≤ shape.depth) }
     requires maxval { (1 ≤ shape.maxval) × (shape.maxval ≤ 65535) }
     requires suits { Suits shape.kind shape.depth shape.maxval tuple_type.now }
-    ensures made { IfOk result (λ head. (head ≡ header_of shape tuple_type.now) × (is_too_large shape ≡ false)) }
+    ensures made { IfOk result (λ head. (head ≡ head_value shape tuple_type.now) × (is_too_large shape ≡ false)) }
     ensures refused { IfErr result (λ fault. ((fault ≡ TooLarge) × (is_too_large shape ≡ true))
         ⊎ ((fault ≡ Memory) × (is_too_large shape ≡ false))) }
 {

@@ -4,9 +4,10 @@ use Rattle.std.specs.List.{AllPass}
 use Rattle.pnm_image.specs.declared.shape.Shape.{Shape}
 use Rattle.pnm_image.specs.declared.shape.Kind.{Kind}
 use Rattle.pnm_image.specs.declared.shape.Kind.TheVariants.{Bit, Gray, Color, Pam}
-use Rattle.pnm_image.specs.Heads.{Header, IsHeader, IsWithinLimits}
+use Rattle.pnm_image.specs.Heads.{HeadValue, IsHead, IsWithinLimits}
 use Rattle.pnm_read.specs.declared.format.Format.{Format}
-use Rattle.pnm_read.specs.Texts.{is_white, is_digit, begins_apart, ends_in_word}
+use Rattle.pnm_read.specs.Texts.{begins_apart, ends_in_word}
+use Rattle.pnm_image.specs.Texts.{is_white, is_digit}
 use Rattle.pnm_read.specs.Formats.{format_of, header_numbers}
 use Rattle.pnm_read.specs.Headers.{SpellsPnmHeader, SpellsHeaderBy, SpellsHeader}
 use Rattle.pnm_read.specs.Rasters.{SpellsDecimal}
@@ -51,8 +52,8 @@ maxval_short : (w h m : List ℕ) → length w ≤ 10 → length h ≤ 10 → le
 maxval_short w h m sw sh sm = omega (arith, sizes_short w h sw sh, length-append (sizes_line w h) (m ++ 10 ∷ []), length-append m (10 ∷ []))
 
 -- a body of numbers, between a magic and white space
-body_spells : (digit : ℕ) (body after : List ℕ) (format : Format) (head : Header) → format_of digit ≡ Some format → 10 ∷ after ≡ body ++ 10 ∷ [] → length after ≤ 33 → begins_apart body ≡ true → SpellsNumbers body (header_numbers head.shape)
-    → ends_in_word body ≡ true → head.shape.kind ≡ format.kind → IsHeader head → 0 < head.shape.height → SpellsPnmHeader (80 ∷ digit ∷ 10 ∷ after) format head
+body_spells : (digit : ℕ) (body after : List ℕ) (format : Format) (head : HeadValue) → format_of digit ≡ Some format → 10 ∷ after ≡ body ++ 10 ∷ [] → length after ≤ 33 → begins_apart body ≡ true → SpellsNumbers body (header_numbers head.shape)
+    → ends_in_word body ≡ true → head.shape.kind ≡ format.kind → IsHead head → 0 < head.shape.height → SpellsPnmHeader (80 ∷ digit ∷ 10 ∷ after) format head
 body_spells digit body after format head named whole short begins numbers ends kind sound rows = record {
   digit = digit;
   body = body;
@@ -95,14 +96,14 @@ number_texts s limits = record {
 abbrev shape_by : Kind → ℕ → ℕ → ℕ → ℕ → Shape
 shape_by kind width height depth maxval = record { kind = kind; width = width; height = height; depth = depth; maxval = maxval }
 
-abbrev head_by : Kind → ℕ → ℕ → ℕ → ℕ → List ℕ → Header
+abbrev head_by : Kind → ℕ → ℕ → ℕ → ℕ → List ℕ → HeadValue
 head_by kind width height depth maxval tuple_type = record { shape = shape_by kind width height depth maxval; tuple_type = tuple_type }
 
 -- the raw format of a kind
 abbrev pub raw_format : Kind → Format
 raw_format kind = record { kind = kind; is_plain = false }
 
-header_by : (kind : Kind) (width height depth maxval : ℕ) (tuple_type : List ℕ) → IsHeader (head_by kind width height depth maxval tuple_type) → 0 < height
+header_by : (kind : Kind) (width height depth maxval : ℕ) (tuple_type : List ℕ) → IsHead (head_by kind width height depth maxval tuple_type) → 0 < height
     → SpellsHeaderBy kind (kind_text kind (shape_by kind width height depth maxval) tuple_type) (raw_format kind) (head_by kind width height depth maxval tuple_type)
 header_by Bit width height depth maxval tuple_type sound rows =
     let n = number_texts (shape_by Bit width height depth maxval) sound.limits in
@@ -130,5 +131,5 @@ header_by Color width height depth maxval tuple_type sound rows =
 header_by Pam width height depth maxval tuple_type sound rows = pam_text_spells width height depth maxval tuple_type sound rows
 
 -- the header of an image spells its head
-pub header_text_spells : (head : Header) → IsHeader head → 0 < head.shape.height → SpellsHeader (header_text head) (raw_format head.shape.kind) head
+pub header_text_spells : (head : HeadValue) → IsHead head → 0 < head.shape.height → SpellsHeader (header_text head) (raw_format head.shape.kind) head
 header_text_spells head sound rows = header_by head.shape.kind head.shape.width head.shape.height head.shape.depth head.shape.maxval head.tuple_type sound rows

@@ -13,7 +13,7 @@ use Rattle.pnm_image.specs.Places.{Accepts, IsLawfulFrom, place_after, place_of}
 use Rattle.pnm_write.specs.declared.sink.Sink.{Sink}
 use Rattle.pnm_write.specs.Encoding.{header_text, row_bytes, encoding_of, bytes_at, bytes_from}
 use Rattle.pnm_write.specs.Sinks.{writer_of, next_place, has_failed, HasRows, HasPut, HasWritten}
-use Rattle.pnm_write.proofs.Written.{Appends-then}
+use Rattle.pnm_image.proofs.Written.{Appends-then}
 
 -- the bytes of rows, and of what comes after the image
 bytes_of_rows : (s : Shape) (y : ℕ) (rows : List (List ℕ)) (rest : List Message)

@@ -3,7 +3,8 @@ use Rattle.std.proofs.Common.{◌≡◌, ℕ, Bool, true, false, not, ◌||◌, 
 use Rattle.std.specs.List.{AllPass}
 use Rattle.std.proofs.lemmas.List.{map-append}
 use Rattle.std.proofs.lemmas.List.Elements.{All-nil, All-cons, All-append, All-weaker}
-use Rattle.pnm_read.specs.Texts.{is_white, is_digit, commented, commented_after, uncommented_from, uncommented, ends_in_comment, ends_in_word, words, decimal_value, numbers_in}
+use Rattle.pnm_read.specs.Texts.{commented, commented_after, uncommented_from, uncommented, ends_in_comment, ends_in_word, numbers_in}
+use Rattle.pnm_image.specs.Texts.{is_white, is_digit, words, decimal_value}
 use Rattle.pnm_read.specs.Rasters.{SpellsDecimal}
 use Rattle.pnm_read.proofs.CommentLaws.{commented_after-append}
 use Rattle.pnm_read.proofs.WordLaws.{white_is_not_sharp, words-split, uncommented-split, ends_by-split}

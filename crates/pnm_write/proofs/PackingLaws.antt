@@ -5,8 +5,8 @@ use Rattle.std.proofs.lemmas.Bool.{cases_lt}
 use Rattle.std.proofs.lemmas.Grind.{flat_map-append}
 use Rattle.std.proofs.lemmas.List.{append-nil, take_all, drop_all, take_more, take_more_set, take-append-drop, take-take, drop-take, drop-drop, length-take, length-drop}
 use Rattle.std.proofs.lemmas.List.Elements.{All-drop}
-use Rattle.pnm_write.specs.declared.packing.Packing.{Packing}
-use Rattle.pnm_write.specs.declared.packing.Packing.TheVariants.{Packed, Narrow, Wide}
+use Rattle.pnm_image.specs.declared.packing.Packing.{Packing}
+use Rattle.pnm_image.specs.declared.packing.Packing.TheVariants.{Packed, Narrow, Wide}
 use Rattle.pnm_write.specs.Encoding.{pixel_bits, packed_byte, packed_groups, packed_bytes, wide_bytes, bytes_in}
 use Rattle.pnm_write.specs.Writes.{most_samples, FitIn}
 

@@ -6,13 +6,13 @@ use Rattle.std.proofs.lemmas.List.Elements.{All-head, All-tail}
 use Rattle.std.proofs.lemmas.List.Sums.{AllPass-from_list_all}
 use Rattle.pnm_image.specs.declared.shape.Shape.{Shape}
 use Rattle.pnm_image.specs.declared.shape.Kind.TheVariants.{Pam}
-use Rattle.pnm_image.specs.Heads.{Header, IsHeader, IsTupleType, is_blank}
+use Rattle.pnm_image.specs.Heads.{HeadValue, IsHead, IsTupleType}
+use Rattle.pnm_image.specs.Texts.{is_blank, is_digit, decimal_value}
 use Rattle.pnm_read.specs.declared.format.Format.{Format}
 use Rattle.pnm_read.specs.declared.line.Field.{Field}
 use Rattle.pnm_read.specs.declared.line.Field.TheVariants.{Width, Height, Depth, Maxval}
 use Rattle.pnm_read.specs.declared.line.LineKind.{LineKind}
 use Rattle.pnm_read.specs.declared.line.LineKind.TheVariants.{Number, End}
-use Rattle.pnm_read.specs.Texts.{is_digit, decimal_value}
 use Rattle.pnm_read.specs.PamLines.{trimmed_start, onto_trimmed, trimmed_end, token_of, after_token, second_token, value_of, name_of, kind_of_token, line_kind, field_values, tuple_type_in}
 use Rattle.pnm_read.specs.Headers.{MaySay, IsPamLine, SpellsPamHeader}
 use Rattle.pnm_read.specs.Rasters.{SpellsDecimal}
@@ -198,9 +198,9 @@ longer_by_magic text h = omega arith
 -- the header of a PAM image spells its head
 pub pam_text_spells : (width height depth maxval : ℕ) (tuple_type : List ℕ)
     → (let s : Shape = record { kind = Pam; width = width; height = height; depth = depth; maxval = maxval } in
-    let head : Header = record { shape = s; tuple_type = tuple_type } in
+    let head : HeadValue = record { shape = s; tuple_type = tuple_type } in
     let format : Format = record { kind = Pam; is_plain = false } in
-    IsHeader head → 0 < height → SpellsPamHeader (pam_text s tuple_type) format head)
+    IsHead head → 0 < height → SpellsPamHeader (pam_text s tuple_type) format head)
 pam_text_spells width height depth maxval tuple_type sound rows =
     let limits = sound.limits in
     let type : IsTupleType tuple_type = sound.suits in

@@ -3,10 +3,10 @@ use Rattle.std.proofs.Common.{◌≡◌, ℕ, ◌*◌, ◌<◌, inl, List, [], �
 use Rattle.std.specs.List.{AllByRecursion}
 use Rattle.std.proofs.lemmas.List.{take_at, drop_at, length-append}
 use Rattle.pnm_image.specs.declared.shape.Shape.{Shape}
-use Rattle.pnm_image.specs.Heads.{Header, IsHeader}
+use Rattle.pnm_image.specs.Heads.{HeadValue, IsHead}
 use Rattle.pnm_image.specs.Images.{Image, IsImage, AreImages, cut_rows, rows_of}
 use Rattle.pnm_image.proofs.Rows.{AreRowsOf, AreRowsOf-rows_of, length-rows_of}
-use Rattle.pnm_read.specs.Rasters.{raw_samples, row_bytes as bytes_in_row, SpellsRaw}
+use Rattle.pnm_read.specs.Rasters.{raw_samples, bytes_in_row, SpellsRaw}
 use Rattle.pnm_read.specs.Spelling.{SpellsRawImage, SpellsRawImages, Spells}
 use Rattle.pnm_write.specs.Encoding.{header_text, row_bytes, image_bytes, encoding_of}
 use Rattle.pnm_write.proofs.HeaderText.{raw_format, header_text_spells}
@@ -17,7 +17,7 @@ use Rattle.pnm_write.proofs.RowText.{RowIsReadAgain, row_is_read_again}
 abbrev AreReadAgain : Shape → List (List ℕ) → Type 0
 AreReadAgain s rows = AllByRecursion (RowIsReadAgain s) rows
 
-rows_are_read_again : (head : Header) (rows : List (List ℕ)) → IsHeader head → AreRowsOf head.shape rows → AreReadAgain head.shape rows
+rows_are_read_again : (head : HeadValue) (rows : List (List ℕ)) → IsHead head → AreRowsOf head.shape rows → AreReadAgain head.shape rows
 rows_are_read_again head [] sound are = tt
 rows_are_read_again head (row ∷ rows) sound are = (row_is_read_again head sound row are.0, rows_are_read_again head rows sound are.1)
 

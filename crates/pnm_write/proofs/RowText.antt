@@ -4,13 +4,13 @@ use Rattle.std.proofs.lemmas.List.{length-map}
 use Rattle.pnm_image.specs.declared.shape.Shape.{Shape}
 use Rattle.pnm_image.specs.declared.shape.Kind.{Kind}
 use Rattle.pnm_image.specs.declared.shape.Kind.TheVariants.{Bit, Gray, Color, Pam}
-use Rattle.pnm_image.specs.Heads.{Header, IsHeader, Suits, row_length}
+use Rattle.pnm_image.specs.Heads.{HeadValue, IsHead, Suits, row_length}
 use Rattle.pnm_image.specs.Images.{cut_rows}
 use Rattle.pnm_image.specs.Places.{IsRowOf}
 use Rattle.pnm_image.proofs.Rows.{length-cut_rows}
-use Rattle.pnm_read.specs.declared.packing.Packing.TheVariants.{Packed, Narrow, Wide}
-use Rattle.pnm_read.specs.Rasters.{pixels, wide_samples, raw_samples, row_bytes as bytes_in_row}
-use Rattle.pnm_write.specs.declared.packing.Packing.TheVariants as written
+use Rattle.pnm_image.specs.declared.packing.Packing.TheVariants.{Packed, Narrow, Wide}
+use Rattle.pnm_read.specs.Rasters.{pixels, wide_samples, raw_samples, bytes_in_row}
+use Rattle.pnm_image.specs.declared.packing.Packing.TheVariants as written
 use Rattle.pnm_write.specs.Encoding.{packed_byte, packed_bytes, wide_bytes, bytes_in, row_bytes}
 use Rattle.pnm_write.proofs.PixelText.{ArePixels, pixels_of_groups}
 
@@ -74,7 +74,7 @@ pub record RowIsReadAgain (s : Shape) (row : List ℕ) : Type 0 where
   pub count : length (row_bytes s row) ≡ bytes_in_row s
   pub samples : raw_samples s (row_bytes s row) ≡ row
 
-pub row_is_read_again : (head : Header) → IsHeader head → (row : List ℕ) → IsRowOf head.shape row → RowIsReadAgain head.shape row
+pub row_is_read_again : (head : HeadValue) → IsHead head → (row : List ℕ) → IsRowOf head.shape row → RowIsReadAgain head.shape row
 row_is_read_again head sound row is =
     let again = row_by head.shape.kind head.shape.width head.shape.height head.shape.depth head.shape.maxval head.tuple_type sound.suits row is in
     record { count = again.0; samples = again.1 }

@@ -1,5 +1,5 @@
 -- The bytes of images and of messages. From pbm(5), pgm(5), ppm(5) and pam(5), 'The layout' of the raw formats.
-use Rattle.std.specs.Prelude.{ℕ, ◌+◌, ◌*◌, ◌-◌, ◌/◌, ◌%◌, nat_lt, if◌then◌else◌, List, [], ◌∷◌, ◌++◌, length, map, codes, decimal}
+use Rattle.std.specs.Prelude.{ℕ, ◌+◌, ◌*◌, ◌-◌, ◌/◌, ◌%◌, List, [], ◌∷◌, ◌++◌, length, map, codes, decimal}
 use Rattle.std.specs.List.{flat_map}
 use Rattle.pnm_image.specs.declared.message.Message.{Message}
 use Rattle.pnm_image.specs.declared.message.Message.TheVariants.{Begin, Row, ImageEnd, StreamEnd, Stop}
@@ -8,11 +8,12 @@ use Rattle.pnm_image.specs.declared.place.Place.TheVariants.{Between, Inside, Af
 use Rattle.pnm_image.specs.declared.shape.Kind.{Kind}
 use Rattle.pnm_image.specs.declared.shape.Kind.TheVariants.{Bit, Gray, Color, Pam}
 use Rattle.pnm_image.specs.declared.shape.Shape.{Shape}
-use Rattle.pnm_image.specs.Heads.{Header}
+use Rattle.pnm_image.specs.Heads.{HeadValue}
 use Rattle.pnm_image.specs.Images.{Image, cut_rows, rows_of}
+use Rattle.pnm_image.specs.Packings.{packing_of}
 use Rattle.pnm_image.specs.Places.{place_after}
-use Rattle.pnm_write.specs.declared.packing.Packing.{Packing}
-use Rattle.pnm_write.specs.declared.packing.Packing.TheVariants.{Packed, Narrow, Wide}
+use Rattle.pnm_image.specs.declared.packing.Packing.{Packing}
+use Rattle.pnm_image.specs.declared.packing.Packing.TheVariants.{Packed, Narrow, Wide}
 
 -- ---- headers: numbers are decimal, without leading zeros
 
@@ -47,17 +48,10 @@ kind_text Gray s tuple_type = codes "P5\n" ++ size_line s ++ maxval_line s
 kind_text Color s tuple_type = codes "P6\n" ++ size_line s ++ maxval_line s
 kind_text Pam s tuple_type = pam_text s tuple_type
 
-abbrev pub header_text : Header → List ℕ
+abbrev pub header_text : HeadValue → List ℕ
 header_text h = kind_text h.shape.kind h.shape h.tuple_type
 
 -- ---- rows
-
--- how the samples of a row lie in its bytes: eight pixels a byte, a byte a sample, or two
-abbrev pub packing_of : Kind → ℕ → Packing
-packing_of Bit maxval = Packed
-packing_of Gray maxval = if nat_lt maxval 256 then Narrow else Wide
-packing_of Color maxval = if nat_lt maxval 256 then Narrow else Wide
-packing_of Pam maxval = if nat_lt maxval 256 then Narrow else Wide
 
 -- The number of pixels as bits, the first in the bit of this weight, each next one in the bit to its right.
 -- Black, which is sample 0, is 1. Bits without a pixel are 0.

@@ -11,7 +11,7 @@ use Rattle.pnm_write.specs.declared.fault.SinkFault.{SinkFault}
 use Rattle.pnm_write.specs.declared.fault.SinkFault.TheVariants.{WriteFailed, OutOfOrder, Broken}
 use Rattle.pnm_write.specs.declared.sink.Sink.{Sink}
 use Rattle.pnm_write.specs.Encoding.{bytes_at, bytes_of}
-use Rattle.pnm_write.specs.Writes.{FailsIn}
+use Rattle.pnm_image.specs.Devices.{FailsIn}
 
 abbrev pub writer_of : {W : Type 0} → Sink W → W
 writer_of sink = sink.writer

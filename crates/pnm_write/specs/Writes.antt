@@ -1,17 +1,7 @@
--- What a writer took of some bytes, and what fits into a fixed room.
-use Rattle.std.specs.Prelude.{ℕ, ◌≤◌, List, take, Option, All}
-use Rattle.std.specs.Io.KnownBytes.{Appends}
-use Rattle.pnm_image.specs.Devices.{Failed}
-use Rattle.pnm_write.specs.declared.packing.Packing.{Packing}
-use Rattle.pnm_write.specs.declared.packing.Packing.TheVariants.{Packed, Narrow, Wide}
-
--- known bytes grow by a front of these
-abbrev pub AppendsFront : Option (List ℕ) → Option (List ℕ) → List ℕ → Type 0
-AppendsFront old new bytes = (n : ℕ) × Appends old new (take n bytes)
-
--- the writer failed, and a front of the bytes was written
-abbrev pub FailsIn : List ℕ → Option (List ℕ) → Option (List ℕ) → ℕ → ℕ → Type 0
-FailsIn bytes old new failures_old failures_new = AppendsFront old new bytes × Failed failures_old failures_new
+-- What fits into a fixed room.
+use Rattle.std.specs.Prelude.{ℕ, ◌≤◌, List, All}
+use Rattle.pnm_image.specs.declared.packing.Packing.{Packing}
+use Rattle.pnm_image.specs.declared.packing.Packing.TheVariants.{Packed, Narrow, Wide}
 
 -- the most samples whose bytes fit into 4,096 bytes
 abbrev pub most_samples : Packing → ℕ

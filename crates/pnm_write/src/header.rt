@@ -1,14 +1,14 @@
 //! The headers of images, from pbm(5), pgm(5), ppm(5) and pam(5).
 
 ghost use Rattle.std.specs.Prelude.{◌≡◌, ◌+◌, ◌≤◌, ◌++◌, length, codes, decimal, OnOk, OnErr};
+ghost use Rattle.pnm_image.specs.Limits.{max_tuple_type_length};
 ghost use Rattle.std.specs.Io.KnownBytes.{Appends};
 ghost use Rattle.pnm_write.specs.Encoding.{size_line, tuple_type_line, pam_text, header_text};
-ghost use Rattle.pnm_write.specs.Writes.{FailsIn};
+ghost use Rattle.pnm_image.specs.Devices.{FailsIn};
 
 use crate::room::Room;
-use crate::write::write_all;
 use itoa::Buffer;
-use pnm_image::{BytesOut, DeviceFailed, Head, Kind, Shape};
+use pnm_image::{BytesOut, DeviceFailed, Head, Kind, Shape, write_all};
 
 /// Writes the header of an image with this head.
 pub fn write_header<W: BytesOut>(
@@ -52,7 +52,7 @@ fn push_header(room: &mut Room, head: &Head)
 
 fn push_pam(room: &mut Room, shape: Shape, tuple_type: &[u8])
     requires room { length room.old ≡ 0 }
-    requires short { length tuple_type.now ≤ 255 }
+    requires short { length tuple_type.now ≤ max_tuple_type_length }
     ensures { room.new ≡ room.old ++ pam_text shape tuple_type.now }
 {
     room.push(b"P7\n");

@@ -11,11 +11,9 @@ mod packing;
 mod room;
 mod row;
 mod sink;
-mod write;
 
 pub use fault::SinkFault;
 pub use sink::Sink;
-pub use write::write_all;
 
 #[cfg(test)]
 mod tests;

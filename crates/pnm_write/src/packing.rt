@@ -1,58 +1,34 @@
 //! How the samples of a raw row lie in its bytes.
 
 ghost use Rattle.std.specs.Prelude.{◌≡◌, ◌≤◌, ◌*◌, ◌-◌, All, length, take};
-ghost use Rattle.pnm_write.specs.Encoding.{packing_of, packed_byte, packed_bytes, wide_bytes, bytes_in};
+ghost use Rattle.pnm_write.specs.Encoding.{packed_byte, packed_bytes, wide_bytes, bytes_in};
 ghost use Rattle.pnm_write.specs.Writes.{most_samples, FitIn};
 
-use pnm_image::{Kind, Shape};
+use pnm_image::Packing;
 
-/// How the samples of a raw row lie in its bytes.
-#[derive(Clone, Copy, Debug, PartialEq, Eq)]
-pub enum Packing {
-    /// Eight pixels a byte, the most significant bit leftmost; 1 is black, which is sample 0.
-    Packed,
-    /// A byte a sample.
-    Narrow,
-    /// Two bytes a sample, the most significant first.
-    Wide,
+/// The most samples whose bytes fit into 4,096 bytes.
+pub fn most_samples(packing: Packing) -> usize
+    ensures { result ≡ most_samples packing }
+{
+    match packing {
+        Packing::Packed => 32_768,
+        Packing::Narrow => 4096,
+        Packing::Wide => 2048,
+    }
 }
 
-impl Packing {
-    /// The packing of images of this shape.
-    pub fn of(shape: Shape) -> Packing
-        ensures { result ≡ packing_of shape.kind shape.maxval }
-    {
-        match shape.kind {
-            Kind::Bit => Packing::Packed,
-            Kind::Gray | Kind::Color | Kind::Pam if shape.maxval < 256 => Packing::Narrow,
-            Kind::Gray | Kind::Color | Kind::Pam => Packing::Wide,
-        }
-    }
-
-    /// The most samples whose bytes fit into 4,096 bytes.
-    pub fn most_samples(self) -> usize
-        ensures { result ≡ most_samples self }
-    {
-        match self {
-            Packing::Packed => 32_768,
-            Packing::Narrow => 4096,
-            Packing::Wide => 2048,
-        }
-    }
-
-    /// Writes the bytes of the samples to the front of the room, and answers how many they are.
-    pub fn encode(self, samples: &[u16], room: &mut [u8]) -> usize
-        requires room { length room.old ≡ 4096 }
-        requires count { length samples.now ≤ most_samples self }
-        requires range { FitIn self samples.now }
-        ensures within { result ≤ length room.new }
-        ensures bytes { take result room.new ≡ bytes_in self samples.now }
-    {
-        match self {
-            Packing::Packed => pack(samples, room),
-            Packing::Narrow => narrow(samples, room),
-            Packing::Wide => widen(samples, room),
-        }
+/// Writes the bytes of the samples to the front of the room, and answers how many they are.
+pub fn encode(packing: Packing, samples: &[u16], room: &mut [u8]) -> usize
+    requires room { length room.old ≡ 4096 }
+    requires count { length samples.now ≤ most_samples packing }
+    requires range { FitIn packing samples.now }
+    ensures within { result ≤ length room.new }
+    ensures bytes { take result room.new ≡ bytes_in packing samples.now }
+{
+    match packing {
+        Packing::Packed => pack(samples, room),
+        Packing::Narrow => narrow(samples, room),
+        Packing::Wide => widen(samples, room),
     }
 }
 

@@ -4,7 +4,8 @@ ghost use Rattle.std.specs.Prelude.{◌≡◌, ◌+◌, ◌≤◌, [], ◌++◌,
 ghost use Rattle.pnm_write.specs.Encoding.{bytes_in};
 ghost use Rattle.pnm_write.specs.Writes.{most_samples, FitIn};
 
-use crate::packing::Packing;
+use crate::packing::encode;
+use pnm_image::Packing;
 use std::marker::Model;
 
 /// The most bytes that are held.
@@ -69,6 +70,6 @@ impl Room {
         requires range { FitIn packing samples.now }
         ensures { self.new ≡ bytes_in packing samples.now }
     {
-        self.length = packing.encode(samples, &mut self.bytes);
+        self.length = encode(packing, samples, &mut self.bytes);
     }
 }

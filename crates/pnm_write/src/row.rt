@@ -3,12 +3,11 @@
 ghost use Rattle.std.specs.Prelude.{◌≡◌, ◌≤◌, All, OnOk, OnErr};
 ghost use Rattle.std.specs.Io.KnownBytes.{Appends};
 ghost use Rattle.pnm_write.specs.Encoding.{row_bytes};
-ghost use Rattle.pnm_write.specs.Writes.{FailsIn};
+ghost use Rattle.pnm_image.specs.Devices.{FailsIn};
 
-use crate::packing::Packing;
+use crate::packing::most_samples;
 use crate::room::Room;
-use crate::write::write_all;
-use pnm_image::{BytesOut, DeviceFailed, Shape};
+use pnm_image::{BytesOut, DeviceFailed, Packing, Shape, write_all};
 
 /// Writes the samples of a row of an image of this shape, as many at a time as there is room for.
 pub fn write_row<W: BytesOut>(
@@ -23,8 +22,8 @@ pub fn write_row<W: BytesOut>(
     ensures count { OnOk result (W.failures writer.new ≡ W.failures writer.old) }
     ensures same_device { W.same writer.old writer.new }
 {
-    let packing = Packing::of(shape);
-    let most = packing.most_samples();
+    let packing = Packing::of(shape.kind, shape.maxval);
+    let most = most_samples(packing);
     let mut rest = samples;
     while !rest.is_empty() {
         let count = rest.len().min(most);

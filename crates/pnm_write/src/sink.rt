@@ -2,10 +2,9 @@
 
 ghost use Rattle.std.specs.Prelude.{◌≡◌, ◌↔◌, List, [], ◌∷◌, ◌++◌, IsTrue, MatchResult, IfErr, OnOk, OnErr, Err, true, false};
 ghost use Rattle.std.specs.Io.KnownBytes.{Appends, Keeps};
-ghost use Rattle.pnm_image.specs.Devices.{Failed};
+ghost use Rattle.pnm_image.specs.Devices.{Failed, FailsIn};
 ghost use Rattle.pnm_image.specs.Places.{Accepts, place_after};
 ghost use Rattle.pnm_write.specs.Encoding.{bytes_at};
-ghost use Rattle.pnm_write.specs.Writes.{FailsIn};
 ghost use Rattle.pnm_write.specs.Sinks.{writer_of, next_place, has_failed, HasRows, Takes, HasPut, HasWritten, Refuses};
 
 use crate::fault::SinkFault;

@@ -1,7 +1,7 @@
 -- A message that is put into the sink.
 use Rattle.std.proofs.Common.{◌≡◌, ℕ, Bool, true, false, List, [], ◌∷◌, ◌++◌, Option, Result, Ok, Err, OnOk, OnErr, refl, sym, ap, subst, ◌∙◌}
 use Rattle.std.specs.Result.{is_ok, is_err, result_and, MatchResult, IfErr}
-use Rattle.pnm_image.specs.Devices.{Failed}
+use Rattle.pnm_image.specs.Devices.{Failed, AppendsFront, FailsIn}
 use Rattle.pnm_image.specs.declared.message.Message.{Message}
 use Rattle.pnm_image.specs.declared.place.Place.{Place}
 use Rattle.pnm_image.specs.declared.place.Place.TheVariants.{Between}
@@ -10,9 +10,8 @@ use Rattle.pnm_write.specs.declared.fault.SinkFault.{SinkFault}
 use Rattle.pnm_write.specs.declared.fault.SinkFault.TheVariants.{WriteFailed, OutOfOrder, Broken}
 use Rattle.pnm_write.specs.Encoding.{bytes_at, bytes_of}
 use Rattle.pnm_write.specs.Sinks.{next_place, has_failed, Takes, HasWritten, Refuses}
-use Rattle.pnm_write.specs.Writes.{AppendsFront, FailsIn}
 use Rattle.pnm_write.proofs.MessageLaws.{bytes_of_more}
-use Rattle.pnm_write.proofs.Written.{front-more, then_front}
+use Rattle.pnm_image.proofs.Written.{front-more, then_front}
 use Rattle.pnmpipe.specs.declared.downstream.Downstream.{Downstream}
 use Rattle.pnmpipe.specs.Counts.{images_after, rows_after}
 use Rattle.pnmpipe.specs.Downstreams.{output_of, AreWritable, AreWritten, HasTakenWith}

@@ -2,7 +2,7 @@
 use Rattle.std.proofs.Common.{◌≡◌, ◌≤◌, ◌<◌, inl, inr, ℕ, suc, ◌+◌, Bool, true, false, Option, Some, None, IfSome, List, [], ◌∷◌, ◌++◌, length, refl, sym, subst, arith}
 use Rattle.std.specs.Prelude.{nat_le, nat_lt, ◌≢◌}
 use Rattle.std.specs.List.{list_all}
-use Rattle.pnm_read.specs.Texts.{is_white, words}
+use Rattle.pnm_image.specs.Texts.{is_white, words}
 use Rattle.pnmpipe.specs.declared.chain_text.ChainFault.{ChainFault}
 use Rattle.pnmpipe.specs.declared.chain_text.ChainKind.{ChainKind}
 use Rattle.pnmpipe.specs.declared.chain_text.ChainKind.TheVariants.{Empty, TooLong, TooMany, Memory}

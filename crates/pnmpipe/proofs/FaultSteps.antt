@@ -2,7 +2,7 @@
 use Rattle.std.proofs.Common.{◌≡◌, ℕ, zero, suc, ◌+◌, ◌<◌, List, [], ◌∷◌, length, take, get_or, Option, Some, None, sym, subst, arith}
 use Rattle.pnm_tools.specs.declared.fault.ToolFault.{ToolFault}
 use Rattle.std.proofs.lemmas.List.{get_or-map, length-map}
-use Rattle.pnm_tools.specs.Stages.{AreWell, IsFirstFault}
+use Rattle.pnm_tools.specs.ChainAnswers.{AreWell, IsFirstFault}
 use Rattle.pnmpipe.specs.declared.stage.Stage.{Stage}
 use Rattle.pnmpipe.specs.Stages.{refusal_in, refusals_in}
 

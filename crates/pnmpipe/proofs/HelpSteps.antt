@@ -2,8 +2,8 @@
 use Rattle.std.proofs.Common.{ℕ, List, Option, [], subst}
 use Rattle.std.proofs.lemmas.List.{append-nil}
 use Rattle.std.specs.Io.KnownBytes.{Appends, Keeps}
-use Rattle.pnm_write.specs.Writes.{AppendsFront}
-use Rattle.pnm_write.proofs.Written.{Appends-nothing, then_front}
+use Rattle.pnm_image.specs.Devices.{AppendsFront}
+use Rattle.pnm_image.proofs.Written.{Appends-nothing, then_front}
 
 -- what was written whole and then kept is a front of the text
 pub flushed_front : (old written new : Option (List ℕ)) (text : List ℕ) → Appends old written text → Keeps written new → AppendsFront old new text

@@ -6,8 +6,8 @@ use Rattle.std.proofs.lemmas.List.{length-map}
 use Rattle.std.proofs.lemmas.List.Elements.{All-cons, All-nil}
 use Rattle.std.proofs.lemmas.List.Splits.{length-slice_split}
 use Rattle.std.proofs.lemmas.Bool.Decides.{nat_tests}
-use Rattle.pnm_image.specs.Heads.{IsTupleType, is_blank}
-use Rattle.pnm_read.specs.Texts.{is_white, begins_in_word, onto_first as onto_word, words, decimal_value}
+use Rattle.pnm_image.specs.Heads.{IsTupleType}
+use Rattle.pnm_image.specs.Texts.{is_blank, is_white, begins_in_word, onto_first as onto_word, words, decimal_value}
 use Rattle.pnm_tools.specs.declared.tool.Tool.{Tool}
 use Rattle.pnm_tools.specs.Cut.{IsEdge, IsSize, IsLawfulAxis}
 use Rattle.pnm_tools.specs.Chains.{AreLawfulTools}

@@ -1,7 +1,7 @@
 -- The tool that settings mean, and their fault, are those of their items.
 use Rattle.std.proofs.Common.{◌≡◌, ℕ, suc, Bool, true, false, not, ◌&&◌, ◌||◌, nat_lt, if◌then◌else◌, Option, Some, None, is_some, option_map, slice_get, List, [], ◌∷◌, length, map, refl, sym, ap, ◌∙◌, arith}
 use Rattle.std.proofs.lemmas.Bool.Decides.{nat_tests}
-use Rattle.pnm_read.specs.Texts.{decimal_value}
+use Rattle.pnm_image.specs.Texts.{decimal_value}
 use Rattle.pnmpipe.specs.declared.chain_text.ChainKind.{ChainKind}
 use Rattle.pnmpipe.specs.declared.chain_text.ChainKind.TheVariants.{Conflict, MissingArgument}
 use Rattle.pnmpipe.specs.declared.options.ToolName.TheVariants.{Enlarge}

@@ -13,7 +13,7 @@ use Rattle.std.proofs.lemmas.Option.{same_Some}
 use Rattle.std.proofs.lemmas.Str.{IsUtf8-from_ascii}
 use Rattle.std.proofs.lemmas.Str.Ascii.{IsAscii-nil, IsAscii-cons}
 use Rattle.std.proofs.lemmas.Str.Parse.{IsDigitsTest, IsNumeralModel, numerals_by_value, parse_plain}
-use Rattle.pnm_read.specs.Texts.{is_digit, decimal_value}
+use Rattle.pnm_image.specs.Texts.{is_digit, decimal_value}
 use Rattle.pnmpipe.specs.Options.{begins_with_dash, is_numeral, offset_value, spells_number, spells_offset, without_dash}
 
 abbrev AreDigits : List ℕ → Type 0

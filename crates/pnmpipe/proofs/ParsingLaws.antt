@@ -6,7 +6,7 @@ use denote.Ref.{Bor}
 use Rattle.std.proofs.Math.Seq.{take-length, drop-cons}
 use Rattle.std.proofs.lemmas.List.{take_more, length-append}
 use Rattle.std.proofs.lemmas.Bool.Decides.{nat_tests}
-use Rattle.pnm_read.specs.Texts.{is_white, begins_in_word, onto_first as onto_word, words}
+use Rattle.pnm_image.specs.Texts.{is_white, begins_in_word, onto_first as onto_word, words}
 use Rattle.pnm_tools.specs.declared.tool.Tool.{Tool}
 use Rattle.pnmpipe.specs.declared.chain_text.ChainFault.{ChainFault}
 use Rattle.pnmpipe.specs.declared.chain_text.ChainKind.{ChainKind}

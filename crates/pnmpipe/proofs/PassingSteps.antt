@@ -16,7 +16,7 @@ use Rattle.pnm_read.proofs.SaidLaws.{said_is_lawful}
 use Rattle.pnm_read.proofs.StreamLaws.{holds_of_said, read_head_has_rows, rest_may_come, nothing_may_come, given_is_front, not_stopped, said_are_messages}
 use Rattle.pnm_tools.specs.declared.fault.ToolFault.{ToolFault}
 use Rattle.pnm_tools.specs.declared.tool.Tool.{Tool}
-use Rattle.pnm_tools.specs.Stages.{IsSound, AreSound}
+use Rattle.pnm_tools.specs.ChainAnswers.{IsSound, AreSound}
 use Rattle.pnm_tools.proofs.ChainLaws.{sound_front}
 use Rattle.pnmpipe.specs.declared.downstream.Downstream.{Downstream}
 use Rattle.pnmpipe.specs.declared.stage.Stage.{Stage}

@@ -1,7 +1,7 @@
 -- A stage while it is read, item by item.
 use Rattle.std.proofs.Common.{◌≡◌, ◌⊎◌, inl, inr, ℕ, Option, Some, None, List, [], ◌∷◌, ◌++◌, refl, sym, ap, subst, ◌∙◌, append-nil, append_assoc}
 use Rattle.std.specs.Prelude.{Result, Ok, Err, IfOk, IfErr}
-use Rattle.pnm_read.specs.Texts.{words}
+use Rattle.pnm_image.specs.Texts.{words}
 use Rattle.pnm_tools.specs.declared.tool.Tool.{Tool}
 use Rattle.pnmpipe.specs.declared.chain_text.ChainKind.{ChainKind}
 use Rattle.pnmpipe.specs.declared.chain_text.ChainKind.TheVariants.{EmptyStage, UnknownTool, Memory}

@@ -4,7 +4,7 @@ use Rattle.std.specs.Result.{MatchResult, is_err}
 use Rattle.std.specs.List.{AllByRecursion}
 use Rattle.std.specs.Io.KnownBytes.{Appends, Keeps}
 use Rattle.std.proofs.lemmas.List.{append-nil, take_at}
-use Rattle.pnm_image.specs.Devices.{Failed}
+use Rattle.pnm_image.specs.Devices.{Failed, AppendsFront}
 use Rattle.pnm_image.specs.declared.message.Message.{Message}
 use Rattle.pnm_image.specs.declared.message.Message.TheVariants.{Begin, Row, ImageEnd, StreamEnd, Stop}
 use Rattle.pnm_image.specs.Images.{Image, messages_of_stream}
@@ -22,16 +22,15 @@ use Rattle.pnm_tools.specs.declared.tool.Tool.{Tool}
 use Rattle.pnm_tools.specs.declared.work.Work.{Work}
 use Rattle.pnm_tools.specs.States.{Standing, IsToolAt, is_all_given}
 use Rattle.pnm_tools.specs.Chains.{AreLawfulTools, due_in_turn}
-use Rattle.pnm_tools.specs.Stages.{IsSound, AreSound, HaveAnswered, AreWell, IsFirstFault}
+use Rattle.pnm_tools.specs.ChainAnswers.{IsSound, AreSound, HaveAnswered, AreWell, IsFirstFault}
 use Rattle.pnm_tools.proofs.ChainLaws.{given_are_sound, stream_is_answered, refusal_is_first, given_is_front}
 use Rattle.pnm_tools.proofs.SoundLaws.{sound_keeps_all}
 use Rattle.pnm_write.specs.declared.fault.SinkFault.{SinkFault}
 use Rattle.pnm_write.specs.declared.fault.SinkFault.TheVariants.{WriteFailed}
 use Rattle.pnm_write.specs.Encoding.{bytes_of}
 use Rattle.pnm_write.specs.Sinks.{HasRows, has_failed}
-use Rattle.pnm_write.specs.Writes.{AppendsFront}
 use Rattle.pnm_write.proofs.MessageLaws.{bytes_of_stream}
-use Rattle.pnm_write.proofs.Written.{front-more}
+use Rattle.pnm_image.proofs.Written.{front-more}
 use Rattle.pnmpipe.specs.declared.downstream.Downstream.{Downstream}
 use Rattle.pnmpipe.specs.declared.stage.Stage.{Stage}
 use Rattle.pnmpipe.specs.declared.stage.Stage.TheVariants.{AtWork, Refused}

@@ -9,7 +9,7 @@ use Rattle.pnm_image.specs.declared.message.Message.TheVariants.{Begin, Row, Ima
 use Rattle.pnm_tools.specs.declared.fault.ToolFault.{ToolFault}
 use Rattle.pnm_tools.specs.declared.tool.Tool.{Tool}
 use Rattle.pnm_tools.specs.Answers.{Begins, Judges}
-use Rattle.pnm_tools.specs.Stages.{IsRefusedNext, HasRefused}
+use Rattle.pnm_tools.specs.ChainAnswers.{IsRefusedNext, HasRefused}
 use Rattle.pnm_tools.specs.Tools.{AreTaken}
 use Rattle.pnmpipe.specs.declared.downstream.Downstream.{Downstream}
 use Rattle.pnmpipe.specs.declared.stage.Stage.{Stage}

@@ -3,7 +3,7 @@ use Rattle.std.proofs.Common.{◌≡◌, ◌⊎◌, inl, inr, ℕ, ◌+◌, ◌-
 use Rattle.std.specs.List.{list_all}
 use Rattle.std.proofs.lemmas.List.Folds.{list_all_more}
 use Rattle.std.proofs.lemmas.List.{drop_more, take_all, drop_all, take-append-drop, length-take, length-drop}
-use Rattle.pnm_read.specs.Texts.{is_white, begins_in_word, onto_first, words}
+use Rattle.pnm_image.specs.Texts.{is_white, begins_in_word, onto_first, words}
 
 -- ---- words by the first byte of a text
 

@@ -1,6 +1,6 @@
 -- Small texts of chains, their faults, and the tools that they mean, as the definitions compute them.
 use Rattle.std.specs.Prelude.{◌≡◌, ℕ, negsuc, Some, None, Option, [], ◌∷◌, codes}
-use Rattle.pnm_read.specs.Texts.{words}
+use Rattle.pnm_image.specs.Texts.{words}
 use Rattle.pnm_tools.specs.declared.flip.FlipWay.TheVariants.{LeftRight}
 use Rattle.pnm_tools.specs.declared.tool.Tool.TheVariants as tools
 use Rattle.pnm_tools.specs.Channel.{picks}

@@ -1,7 +1,7 @@
 -- The text of a chain: which texts spell which tools, and what is wrong with every other text.
 use Rattle.std.specs.Prelude.{◌≡◌, ◌≢◌, ◌≤◌, ◌↔◌, ◌⊎◌, ℕ, suc, Bool, true, false, nat_lt, ◌==◌, if◌then◌else◌, Option, Some, None, List, [], ◌∷◌, length}
 use Rattle.std.specs.List.{slice_split, list_all}
-use Rattle.pnm_read.specs.Texts.{is_white, words}
+use Rattle.pnm_image.specs.Texts.{is_white, words}
 use Rattle.pnm_tools.specs.declared.tool.Tool.{Tool}
 use Rattle.pnmpipe.specs.declared.chain_text.ChainFault.{ChainFault}
 use Rattle.pnmpipe.specs.declared.chain_text.ChainKind.{ChainKind}

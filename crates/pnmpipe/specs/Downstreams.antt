@@ -6,7 +6,7 @@ use Rattle.pnm_image.specs.Places.{IsLawful}
 use Rattle.pnm_write.specs.declared.fault.SinkFault.{SinkFault}
 use Rattle.pnm_write.specs.declared.fault.SinkFault.TheVariants.{WriteFailed}
 use Rattle.pnm_write.specs.Encoding.{bytes_of}
-use Rattle.pnm_write.specs.Writes.{FailsIn}
+use Rattle.pnm_image.specs.Devices.{FailsIn}
 use Rattle.pnm_write.specs.Sinks.{writer_of, has_failed, HasRows, HasWritten}
 use Rattle.pnmpipe.specs.declared.downstream.Downstream.{Downstream}
 use Rattle.pnmpipe.specs.Counts.{images_in, rows_in}

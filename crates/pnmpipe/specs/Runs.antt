@@ -11,10 +11,10 @@ use Rattle.pnm_tools.specs.declared.fault.ToolFault.{ToolFault}
 use Rattle.pnm_tools.specs.declared.fault.ToolFault.TheVariants.{Memory}
 use Rattle.pnm_tools.specs.declared.tool.Tool.{Tool}
 use Rattle.pnm_tools.specs.Chains.{AreLawfulTools, AreResultsInTurn, due_in_turn, refusal_of}
-use Rattle.pnm_tools.specs.Stages.{HaveAnswered}
+use Rattle.pnm_tools.specs.ChainAnswers.{HaveAnswered}
 use Rattle.pnm_write.specs.declared.fault.SinkFault.{SinkFault}
 use Rattle.pnm_write.specs.Encoding.{bytes_of, encoding_of}
-use Rattle.pnm_write.specs.Writes.{AppendsFront}
+use Rattle.pnm_image.specs.Devices.{AppendsFront}
 use Rattle.pnmpipe.specs.declared.fault.RunFault.{RunFault}
 use Rattle.pnmpipe.specs.declared.fault.RunFault.TheVariants.{Input, Tool as OfTool, Output}
 use Rattle.pnmpipe.specs.declared.summary.Summary.{Summary}

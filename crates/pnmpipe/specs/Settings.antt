@@ -1,6 +1,6 @@
 -- What the parser of a chain's text holds while it reads: of a stage its settings, and of the chain its tools.
 use Rattle.std.specs.Prelude.{◌≡◌, ℕ, Bool, true, false, ◌&&◌, ◌||◌, nat_le, if◌then◌else◌, Option, Some, None, is_some, option_map, slice_get, unwrap_or, List, [], ◌∷◌, ◌++◌, ◌+◌, length, take, drop}
-use Rattle.pnm_read.specs.Texts.{decimal_value, words}
+use Rattle.pnm_image.specs.Texts.{decimal_value, words}
 use denote.Ref.{Bor}
 use Rattle.pnm_tools.specs.declared.cut.CutBox.{CutBox}
 use Rattle.pnm_tools.specs.declared.tool.Tool.{Tool}

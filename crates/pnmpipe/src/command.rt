@@ -2,7 +2,7 @@
 
 ghost use Rattle.std.specs.Prelude.{◌≡◌, ◌≢◌, ◌⊎◌, ◌≤◌, ℕ, List, map, string_bytes};
 ghost use Rattle.std.specs.Io.KnownBytes.{Appends};
-ghost use Rattle.pnm_write.specs.Writes.{AppendsFront};
+ghost use Rattle.pnm_image.specs.Devices.{AppendsFront};
 ghost use Rattle.pnmpipe.specs.CommandLine.{AsksForHelp, HasRun, HasRunWords};
 ghost use Rattle.pnmpipe.specs.Runs.{IsChain};
 

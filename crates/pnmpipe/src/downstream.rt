@@ -4,7 +4,7 @@ ghost use Rattle.std.specs.Prelude.{◌≡◌, [], ◌∷◌, ◌++◌, List, Ok
 ghost use Rattle.std.specs.Result.{is_err};
 ghost use Rattle.std.specs.Io.KnownBytes.{Keeps};
 ghost use Rattle.pnm_image.specs.Devices.{Failed};
-ghost use Rattle.pnm_image.specs.declared.message.Message.{Message as Said};
+ghost use Rattle.pnm_image.specs.declared.message.Message.{Message as MessageValue};
 ghost use Rattle.pnm_write.specs.declared.fault.SinkFault.{SinkFault as Fault};
 ghost use Rattle.pnm_write.specs.declared.fault.SinkFault.TheVariants.{WriteFailed};
 ghost use Rattle.pnm_write.specs.Sinks.{has_failed};
@@ -38,7 +38,7 @@ impl<W: BytesOut + Drop> Downstream<W> {
 
     /// Writes the message, unless there was a fault of the output before.
     pub fn put(&mut self, message: Message)
-        ensures taken { (start : W) (messages : List Said) → HasTaken W.held W.failures start messages self.old
+        ensures taken { (start : W) (messages : List MessageValue) → HasTaken W.held W.failures start messages self.old
             → HasTaken W.held W.failures start (messages ++ message ∷ []) self.new }
         ensures same_device { W.same (output_of self.old) (output_of self.new) }
     {

@@ -1,7 +1,7 @@
 //! What stands in a stage of a chain after the tool's name.
 
 ghost use Rattle.std.specs.Prelude.{◌≡◌, ◌<◌, ◌∷◌, [], IfSome, MatchOption, length};
-ghost use Rattle.pnm_read.specs.Texts.{words};
+ghost use Rattle.pnm_image.specs.Texts.{words};
 ghost use Rattle.pnmpipe.specs.Items.{items_of, name_in, value_in};
 ghost use Rattle.pnmpipe.specs.Options.{without_dash};
 ghost use Rattle.pnmpipe.specs.Settings.{item_read, value_read};

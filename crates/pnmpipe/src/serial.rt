@@ -8,7 +8,7 @@ ghost use Rattle.pnm_read.specs.Sources.{reader_of, IsFresh as IsUnread};
 ghost use Rattle.pnm_read.specs.TextLaws.{IsAtFault};
 ghost use Rattle.pnm_tools.specs.declared.fault.ToolFault.TheVariants.{Memory as NoMemory};
 ghost use Rattle.pnm_tools.specs.Chains.{AreLawfulTools};
-ghost use Rattle.pnm_tools.specs.Stages.{AreWell, IsFirstFault};
+ghost use Rattle.pnm_tools.specs.ChainAnswers.{AreWell, IsFirstFault};
 ghost use Rattle.pnm_tools.specs.Tools.{IsLawfulTool};
 ghost use Rattle.pnm_write.specs.declared.fault.SinkFault.TheVariants.{WriteFailed};
 ghost use Rattle.pnmpipe.specs.Downstreams.{output_of};

@@ -1,7 +1,7 @@
 //! What the words of a stage set, and the tool that they mean.
 
 ghost use Rattle.std.specs.Prelude.{◌≡◌, ◌⊎◌, ◌++◌, ◌&&◌, ◌∷◌, ◌<◌, [], List, IfOk, IfErr, OnOk, Some, None, true, false, is_some, length, nat_le, unwrap_or};
-ghost use Rattle.pnm_read.specs.Texts.{decimal_value};
+ghost use Rattle.pnm_image.specs.Texts.{decimal_value};
 ghost use Rattle.pnm_tools.specs.Channel.{picks};
 ghost use Rattle.pnm_tools.specs.declared.tool.Tool.TheVariants as tools;
 ghost use Rattle.pnmpipe.specs.Options.{offset_value, spells_number, spells_offset};

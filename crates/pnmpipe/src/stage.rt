@@ -1,8 +1,8 @@
 //! The tools of a chain at work, each a stage, in one thread.
 
 ghost use Rattle.std.specs.Prelude.{◌≡◌, ◌<◌, ◌∷◌, ◌++◌, [], List, IfSome, IfNone};
-ghost use Rattle.pnm_image.specs.declared.message.Message.{Message as Said};
-ghost use Rattle.pnm_tools.specs.declared.tool.Tool.{Tool as Value};
+ghost use Rattle.pnm_image.specs.declared.message.Message.{Message as MessageValue};
+ghost use Rattle.pnm_tools.specs.declared.tool.Tool.{Tool as ToolValue};
 ghost use Rattle.pnmpipe.specs.Downstreams.{output_of};
 ghost use Rattle.pnmpipe.specs.Stages.{refusal_in, waiting_at, StageAt, StageBusy, Passes};
 
@@ -32,7 +32,7 @@ impl<F: Filter + Drop> Stage<F> {
 
     /// Feeds the tool a message. After its refusal the message is dropped.
     fn feed(&mut self, message: Message)
-        ensures { (tool : Value) (l g : List Said) → StageAt F.at F.all_given F.stopped self.old tool l g
+        ensures { (tool : ToolValue) (l g : List MessageValue) → StageAt F.at F.all_given F.stopped self.old tool l g
             → StageBusy F.at F.stopped self.new tool (l ++ message ∷ []) g }
     {
         if let Stage::AtWork(filter) = self {
@@ -44,10 +44,10 @@ impl<F: Filter + Drop> Stage<F> {
 
     /// The next message that the tool gives, until it has given all, or refused.
     fn next(&mut self) -> Option<Message>
-        ensures given { IfSome result (λ m. (tool : Value) (l g : List Said) → StageBusy F.at F.stopped self.old tool l g
+        ensures given { IfSome result (λ m. (tool : ToolValue) (l g : List MessageValue) → StageBusy F.at F.stopped self.old tool l g
             → StageBusy F.at F.stopped self.new tool l (g ++ m ∷ [])) }
         ensures fewer { IfSome result (λ _. waiting_at F.waiting self.new < waiting_at F.waiting self.old) }
-        ensures full { IfNone result ((tool : Value) (l g : List Said) → StageBusy F.at F.stopped self.old tool l g
+        ensures full { IfNone result ((tool : ToolValue) (l g : List MessageValue) → StageBusy F.at F.stopped self.old tool l g
             → StageAt F.at F.all_given F.stopped self.new tool l g) }
     {
         let Stage::AtWork(filter) = self else {

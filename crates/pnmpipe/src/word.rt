@@ -1,7 +1,7 @@
 //! Words of a chain's text, and the numbers that they spell.
 
 ghost use Rattle.std.specs.Prelude.{◌≡◌, ◌<◌, ◌∷◌, [], IfSome, MatchOption, length, Some, None, if◌then◌else◌};
-ghost use Rattle.pnm_read.specs.Texts.{decimal_value, is_white, words};
+ghost use Rattle.pnm_image.specs.Texts.{decimal_value, is_white, words};
 ghost use Rattle.pnmpipe.specs.Options.{offset_value, spells_number, spells_offset};
 
 /// The greatest distance of an offset.

@@ -2,8 +2,8 @@ use Rattle.std.proofs.Common.{arith, ◌≤◌, ◌∙◌}
 use Rattle.std.proofs.lemmas.Bool.{leb-true, le-leb}
 use Rattle.pnm_image.proofs.place.is_row_of.Goals as goal
 
-pub returns-else-shape-ge-GREATEST_SAMPLE : goal.returns-else-shape-ge-GREATEST_SAMPLE
-returns-else-shape-ge-GREATEST_SAMPLE c = (
+pub returns-else-shape-ge-MAX_MAXVAL : goal.returns-else-shape-ge-MAX_MAXVAL
+returns-else-shape-ge-MAX_MAXVAL c = (
   λ t.
       let le : c.from.result ≤ c.args.shape.now.maxval = leb-true _ _ t in
       record {

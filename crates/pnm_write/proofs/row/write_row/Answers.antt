@@ -1,9 +1,10 @@
 use Rattle.std.proofs.Common.{◌≡◌, ◌∙◌, ◌++◌, min, List, ℕ, length, take, drop, ap, sym, subst}
-use Rattle.pnm_write.specs.declared.packing.Packing.{Packing}
+use Rattle.pnm_image.specs.declared.packing.Packing.{Packing}
 use Rattle.pnm_write.specs.Encoding.{bytes_in}
-use Rattle.pnm_write.specs.Writes.{most_samples, FailsIn}
+use Rattle.pnm_write.specs.Writes.{most_samples}
+use Rattle.pnm_image.specs.Devices.{FailsIn}
 use Rattle.pnm_write.proofs.PackingLaws.{parts, fit_rest}
-use Rattle.pnm_write.proofs.Written.{at_any_error, sending_part, sending_part_failed}
+use Rattle.pnm_image.proofs.Written.{at_any_error, sending_part, sending_part_failed}
 use Rattle.pnm_write.proofs.row.write_row.Goals as goal
 
 -- the bytes that are left are those of the part that is written now, and those after it

@@ -1,7 +1,7 @@
 use Rattle.std.proofs.Common.{length}
 use Rattle.pnm_write.specs.Encoding.{bytes_in}
 use Rattle.pnm_write.specs.Writes.{FitIn}
-use Rattle.pnm_write.proofs.Written.{Sending}
+use Rattle.pnm_image.proofs.Written.{Sending}
 use Rattle.pnm_write.proofs.row.write_row.Given as goal
 
 -- what is left is what isn't written, and each sample of it fits its bytes

@@ -1,6 +1,6 @@
 use Rattle.std.proofs.Common.{rules, ◌≡◌, ◌∙◌, ◌⊎◌, sym, Some}
 use Rattle.pnmpipe.specs.declared.chain_text.ChainKind.TheVariants.{Memory}
-use Rattle.pnm_read.specs.Texts.{words}
+use Rattle.pnm_image.specs.Texts.{words}
 use Rattle.pnmpipe.specs.ChainText.{stage_fault}
 use Rattle.pnmpipe.specs.Items.{items_of}
 use Rattle.pnmpipe.specs.Settings.{item_read}

@@ -1,5 +1,5 @@
 use Rattle.std.proofs.Common.{length}
-use Rattle.pnm_read.specs.Texts.{words}
+use Rattle.pnm_image.specs.Texts.{words}
 use Rattle.pnmpipe.specs.Items.{items_of}
 use Rattle.pnmpipe.specs.Settings.{IsReading}
 use Rattle.pnmpipe.proofs.chain_text.read_stage.Given as goal

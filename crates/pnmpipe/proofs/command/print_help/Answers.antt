@@ -1,5 +1,5 @@
 use Rattle.std.proofs.Common.{subst}
-use Rattle.pnm_write.specs.Writes.{AppendsFront}
+use Rattle.pnm_image.specs.Devices.{AppendsFront}
 use Rattle.pnmpipe.proofs.HelpSteps.{flushed_front}
 use Rattle.pnmpipe.proofs.command.print_help.Goals as goal
 

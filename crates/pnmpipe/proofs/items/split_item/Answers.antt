@@ -1,5 +1,5 @@
 use Rattle.std.proofs.Common.{not, inl, inr, sym, ap, ◌∙◌, rules}
-use Rattle.pnm_read.specs.Texts.{words}
+use Rattle.pnm_image.specs.Texts.{words}
 use Rattle.pnmpipe.specs.Settings.{value_read}
 use Rattle.pnmpipe.proofs.ItemSteps.{option_word, argument_first, unknown_first, next_value_first, own_value_first, HasNoNext, is_some-value_read}
 use Rattle.pnmpipe.proofs.items.split_item.Goals as goal

@@ -1,5 +1,5 @@
 use Rattle.std.proofs.Common.{refl}
-use Rattle.pnm_read.specs.Texts.{words}
+use Rattle.pnm_image.specs.Texts.{words}
 use Rattle.pnmpipe.specs.Options.{tool_named, cut_option, channel_option, enlarge_option, flip_option}
 use Rattle.pnmpipe.specs.Items.{items_of, fault_after}
 use Rattle.pnmpipe.specs.ChainText.{fault_from, chain_fault_of}

@@ -1,5 +1,5 @@
 use Rattle.std.proofs.Common.{◌≡◌, ℕ, suc, ◌+◌, take, subst, ◌<◌, length, arith, ◌∙◌, sym, ap}
-use Rattle.pnm_tools.specs.Stages.{AreWell, IsFirstFault}
+use Rattle.pnm_tools.specs.ChainAnswers.{AreWell, IsFirstFault}
 use Rattle.pnmpipe.specs.Stages.{refusal_in, refusals_in}
 use Rattle.pnmpipe.proofs.FaultSteps.{well_more, first_here, refusal_at, one_each}
 use Rattle.pnmpipe.proofs.serial.first_fault.Goals as goal

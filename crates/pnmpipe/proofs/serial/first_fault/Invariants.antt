@@ -1,5 +1,5 @@
 use Rattle.std.proofs.Common.{take}
-use Rattle.pnm_tools.specs.Stages.{AreWell}
+use Rattle.pnm_tools.specs.ChainAnswers.{AreWell}
 use Rattle.pnmpipe.specs.Stages.{refusals_in}
 use Rattle.pnmpipe.proofs.serial.first_fault.Given as goal
 

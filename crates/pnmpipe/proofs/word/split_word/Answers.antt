@@ -1,5 +1,5 @@
 use Rattle.std.proofs.Common.{◌≡◌, ℕ, List, ◌∷◌, length, inl, inr, sym, ◌∙◌, arith, rules}
-use Rattle.pnm_read.specs.Texts.{words}
+use Rattle.pnm_image.specs.Texts.{words}
 use Rattle.pnmpipe.proofs.WordLaws.{start_more, shorter_more, in_word_more, IsWordEnd, IsAtWord, first_word_is, no_word_is}
 use Rattle.pnmpipe.proofs.word.split_word.Goals as goal
 use Rattle.pnmpipe.proofs.word.split_word.Goals.{then-rest-lt1, in-len1-up+else-is_white, then-loop-length-test+else-not-is_white, else-loop-length-test}

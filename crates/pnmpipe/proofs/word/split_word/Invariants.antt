@@ -1,5 +1,5 @@
 use Rattle.std.proofs.Common.{◌≡◌, ◌≤◌, ◌-◌, length}
-use Rattle.pnm_read.specs.Texts.{words}
+use Rattle.pnm_image.specs.Texts.{words}
 use Rattle.pnmpipe.proofs.WordLaws.{IsInWord}
 use Rattle.pnmpipe.proofs.word.split_word.Given as goal
 

@@ -1,6 +1,6 @@
 use Rattle.std.proofs.Common.{Some, None, inl, ap, sym, subst, ◌∙◌, arith}
 use Rattle.pnm_image.specs.declared.shape.Shape.{Shape}
-use Rattle.pnm_image.specs.Heads.{IsWithinLimits, header_of}
+use Rattle.pnm_image.specs.Heads.{IsWithinLimits, head_value}
 use Rattle.pnm_tools.specs.declared.tool.Tool.TheVariants.{Cut}
 use Rattle.pnm_tools.proofs.HeadLaws.{head_so, fault_so}
 use Rattle.pnm_tools.proofs.KeepLaws.{columns_lie, rows_lie, counts_within, cut_without_rows, cut_head_by, cut_head_made}
@@ -40,11 +40,11 @@ returns-clause-head c =
     let spans = c.in-Some-Some in
     let s = c.shape-shape.result in
     let made = cut_head_made c.args.self.now c.args.head.now s spans.columns spans.rows c.count.result c.count-2.result c.tuple_type.result.now c.shape-shape.ensures.shape c.shape-shape.ensures.sound.limits c.if-shape-eq0.false spans.ensures spans.ensures' c.count.ensures c.count-2.ensures c.tuple_type.ensures in
-    head_so (Cut c.args.self.now) c.args.head.now (header_of (record s { width = c.count.result; height = c.count-2.result }) c.tuple_type.result.now) c.result_head.result made c.result_head.ensures.made
+    head_so (Cut c.args.self.now) c.args.head.now (head_value (record s { width = c.count.result; height = c.count-2.result }) c.tuple_type.result.now) c.result_head.result made c.result_head.ensures.made
 
 pub returns-clause-refused : goal.returns-clause-refused
 returns-clause-refused c =
     let spans = c.in-Some-Some in
     let s = c.shape-shape.result in
     let made = cut_head_made c.args.self.now c.args.head.now s spans.columns spans.rows c.count.result c.count-2.result c.tuple_type.result.now c.shape-shape.ensures.shape c.shape-shape.ensures.sound.limits c.if-shape-eq0.false spans.ensures spans.ensures' c.count.ensures c.count-2.ensures c.tuple_type.ensures in
-    fault_so (Cut c.args.self.now) c.args.head.now (header_of (record s { width = c.count.result; height = c.count-2.result }) c.tuple_type.result.now) c.result_head.result made c.result_head.ensures.refused
+    fault_so (Cut c.args.self.now) c.args.head.now (head_value (record s { width = c.count.result; height = c.count-2.result }) c.tuple_type.result.now) c.result_head.result made c.result_head.ensures.refused

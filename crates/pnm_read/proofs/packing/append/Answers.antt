@@ -1,5 +1,5 @@
 use Rattle.pnm_read.proofs.UnitLaws.{pixels_append_units, narrow_append_units, wide_append_units}
-use Rattle.pnm_read.proofs.packing.Packing.append.Goals as goal
+use Rattle.pnm_read.proofs.packing.append.Goals as goal
 
 pub returns-in-Packed : goal.returns-in-Packed
 returns-in-Packed c =

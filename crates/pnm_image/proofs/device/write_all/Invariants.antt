@@ -1,6 +1,6 @@
 use Rattle.std.proofs.Common.{length}
-use Rattle.pnm_write.proofs.Written.{Sending}
-use Rattle.pnm_write.proofs.write.write_all.Given as goal
+use Rattle.pnm_image.proofs.Written.{Sending}
+use Rattle.pnm_image.proofs.device.write_all.Given as goal
 
 -- what is left is what isn't written
 abbrev pub invariant-loop-rest : goal.invariant-loop-rest

@@ -1,5 +1,5 @@
-use Rattle.pnm_write.proofs.Written.{sending_more, sending_failed}
-use Rattle.pnm_write.proofs.write.write_all.Goals as goal
+use Rattle.pnm_image.proofs.Written.{sending_more, sending_failed}
+use Rattle.pnm_image.proofs.device.write_all.Goals as goal
 
 pub loop-rest-preserved : goal.loop-rest-preserved
 loop-rest-preserved g c =

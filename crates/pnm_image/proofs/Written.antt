@@ -5,8 +5,7 @@ use Rattle.std.proofs.lemmas.List.{append-nil, take_at, take-append-drop}
 use Rattle.std.specs.Io.KnownBytes.{Appends, Keeps}
 use Rattle.std.proofs.lemmas.Bool.{cases_lt}
 use Rattle.std.specs.Prelude.{OnErr}
-use Rattle.pnm_image.specs.Devices.{Failed}
-use Rattle.pnm_write.specs.Writes.{AppendsFront, FailsIn}
+use Rattle.pnm_image.specs.Devices.{Failed, AppendsFront, FailsIn}
 
 -- the bytes are a front that was written, and a rest that wasn't
 pub record Written (old now : Option (List ℕ)) (bytes rest : List ℕ) : Type 0 where

@@ -1,0 +1,19 @@
+//! The limits of images.
+
+/// The greatest width and the greatest height.
+pub const MAX_SIDE: u32 = 1_000_000;
+
+/// The greatest depth: samples in a pixel.
+pub const MAX_DEPTH: u32 = 256;
+
+/// The most samples in a row.
+pub const MAX_ROW_LENGTH: u64 = 16_777_216;
+
+/// The greatest maxval.
+pub const MAX_MAXVAL: u32 = 65_535;
+
+/// The longest tuple type, in bytes.
+pub const MAX_TUPLE_TYPE_LENGTH: usize = 255;
+
+/// The greatest number of columns or rows that an option of a tool names.
+pub const MAX_EXTENT: u32 = 16_777_216;

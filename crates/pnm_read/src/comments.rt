@@ -1,0 +1,25 @@
+//! Comments in a header or a plain raster, from pbm(5), 'The layout'.
+
+ghost use Rattle.std.specs.Prelude.{◌≡◌};
+ghost use Rattle.pnm_read.specs.Texts.{is_apart, commented};
+
+use pnm_image::characters::is_white;
+
+/// White space, or the beginning of a comment.
+pub fn is_apart(byte: u8) -> bool
+    ensures { result ≡ is_apart byte }
+{
+    is_white(byte) || byte == b'#'
+}
+
+/// Whether what follows the byte is inside a comment; `inside` tells it of the byte. A comment goes
+/// from a `#` through the next CR or LF.
+pub fn commented(inside: bool, byte: u8) -> bool
+    ensures { result ≡ commented inside byte }
+{
+    if inside {
+        byte != b'\r' && byte != b'\n'
+    } else {
+        byte == b'#'
+    }
+}
