@@ -19,9 +19,9 @@ use crate::input::Input;
 use crate::judgement::Judgement;
 use crate::pam;
 use crate::scan::{Scanner, scan};
+use pnm_image::characters::{is_digit, is_white};
 use pnm_image::{BytesIn, Head, HeadFault, Kind, Shape};
 use std::alloc::Global;
-use pnm_image::characters::{is_digit, is_white};
 
 /// The bytes of a header after its magic, at most: 65,536 with the magic.
 const HEADER_LIMIT: usize = 65_534;

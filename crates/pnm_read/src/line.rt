@@ -6,7 +6,6 @@ ghost use Rattle.pnm_read.specs.PamScanners.{number_of};
 
 use pnm_image::characters::{is_blank, is_digit};
 
-
 /// A number of a PAM header.
 #[derive(Clone, Copy, Debug, PartialEq, Eq)]
 pub enum Field {

@@ -1,5 +1,5 @@
 -- What a chain of tools makes of images, and what is due from it.
-use Rattle.std.specs.Prelude.{◌≡◌, ℕ, ◌+◌, List, [], ◌∷◌, ◌++◌, Option, Some, None, Result, Ok, Err}
+use Rattle.std.specs.Prelude.{◌≡◌, ◌≤◌, ℕ, ◌+◌, List, length, [], ◌∷◌, ◌++◌, Option, Some, None, Result, Ok, Err}
 use Rattle.pnm_image.specs.declared.message.Message.{Message}
 use Rattle.pnm_image.specs.declared.message.Message.TheVariants.{StreamEnd}
 use Rattle.pnm_image.specs.Images.{Image, messages_of_image}
@@ -11,6 +11,12 @@ use Rattle.pnm_tools.specs.Tools.{IsLawfulTool, applied}
 abbrev pub AreLawfulTools : List Tool → Type 0
 AreLawfulTools [] = Unit {0}
 AreLawfulTools (tool ∷ tools) = IsLawfulTool tool × AreLawfulTools tools
+
+-- 1 to 16 tools whose options are in their ranges
+pub record IsChain (tools : List Tool) : Type 0 where
+  pub some : 1 ≤ length tools
+  pub not_many : length tools ≤ 16
+  pub lawful : AreLawfulTools tools
 
 -- what the tools make of an image, one after another; the first refusal of one of them
 abbrev pub applied_in_turn : List Tool → Image → Result Image ToolFault

@@ -7,9 +7,9 @@ use Rattle.clap.specs.declared.builder.action.ArgAction.TheVariants.{Set}
 use Rattle.clap.specs.declared.builder.value_parser.ValueParser.TheVariants.{Signed}
 use Rattle.clap.specs.declared.error.kind.ErrorKind.{ErrorKind}
 use Rattle.clap.specs.declared.error.kind.ErrorKind.TheVariants.{DisplayHelp, OutOfMemory}
-use Rattle.pnmpipe.specs.ChainText.{SpellsChain}
-use Rattle.pnmpipe.specs.Runs.{EndedWell, IsFrontOfDue}
-use Rattle.pnmpipe.specs.declared.summary.Summary.{Summary}
+use Rattle.pnm_chain.specs.ChainText.{SpellsChain}
+use Rattle.pnm_flow.specs.Runs.{EndedWell, IsFrontOfDue}
+use Rattle.pnm_flow.specs.declared.summary.Summary.{Summary}
 use Rattle.pnmpipe.specs.declared.command_line.CommandLineFault.{CommandLineFault}
 use Rattle.pnmpipe.specs.declared.command_line.CommandLineFault.TheVariants.{Help, Usage, Memory}
 

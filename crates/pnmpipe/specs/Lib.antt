@@ -1,14 +1,2 @@
-pub mod Counts
-pub mod Downstreams
-pub mod Stages
-pub mod Tools
-pub mod Runs
-pub mod Passing
-pub mod Options
-pub mod Items
-pub mod ChainText
-pub mod Settings
 pub mod CommandLine
-pub mod Examples
-pub mod ChainExamples
 pub mod CommandLineExamples

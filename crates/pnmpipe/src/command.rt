@@ -4,15 +4,14 @@ ghost use Rattle.std.specs.Prelude.{◌≡◌, ◌≢◌, ◌⊎◌, ◌≤◌, 
 ghost use Rattle.std.specs.Io.KnownBytes.{Appends};
 ghost use Rattle.pnm_image.specs.Devices.{AppendsFront};
 ghost use Rattle.pnmpipe.specs.CommandLine.{AsksForHelp, HasRun, HasRunWords};
-ghost use Rattle.pnmpipe.specs.Runs.{IsChain};
+ghost use Rattle.pnm_tools.specs.Chains.{IsChain};
 
-use crate::chain_text::parse_chain;
 use crate::command_line::{CommandLineFault, read_words};
 use crate::fault_line::{print_chain_fault, print_run_fault, print_usage, print_want_of_memory};
-use crate::serial::run_serial;
-use pnm_image::{BytesIn, BytesOut};
+use pnm_chain::parse_chain;
+use pnm_flow::run_serial;
+use pnm_image::{BytesIn, BytesOut, write_all};
 use pnm_tools::Tool;
-use pnm_write::write_all;
 use std::alloc::Global;
 use std::io::Write;
 

@@ -1,9 +1,9 @@
 //! The lines that are printed for faults. Where one can't be written it is left out.
 
-use crate::chain_text::ChainFault;
 use crate::command_line::USAGE;
-use crate::fault::RunFault;
 use itoa::Buffer;
+use pnm_chain::ChainFault;
+use pnm_flow::RunFault;
 use std::io::Write;
 
 /// The line for words that are no command line.

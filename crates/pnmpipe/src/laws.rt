@@ -1,37 +1,7 @@
-//! Laws of what is due for a text, of chains' texts and of command lines. Each stands over the
-//! definitions alone, as the contract of a function that does nothing.
+//! Laws of command lines. Each stands over the definitions alone, as the contract of a function that
+//! does nothing.
 
-ghost use Rattle.pnmpipe.specs.ChainExamples.{ChainTextsHold};
-ghost use Rattle.pnmpipe.specs.ChainText.{ChainFaultsArePlaced, OneChainOrOneFault, SpelledChainsAreLawful};
 ghost use Rattle.pnmpipe.specs.CommandLineExamples.{CommandLinesHold};
-ghost use Rattle.pnmpipe.specs.Examples.{ExamplesHold};
-
-/// Small texts, the images that are said of them, and the bytes due for these from small chains, as
-/// the definitions compute them.
-pub fn examples_hold()
-    ensures { ExamplesHold }
-{}
-
-/// Small texts of chains, their faults and what they mean, as the definitions compute them.
-pub fn chain_texts_hold()
-    ensures { ChainTextsHold }
-{}
-
-/// Each text spells one list of tools and has no fault, or it spells none and has one fault.
-pub fn one_chain_or_one_fault()
-    ensures { OneChainOrOneFault }
-{}
-
-/// A fault of a text is of the whole, and has stage 0, or of one of its stages, and has its number, 1
-/// to 16. None is want of memory.
-pub fn chain_faults_are_placed()
-    ensures { ChainFaultsArePlaced }
-{}
-
-/// The tools that a text spells are 1 to 16, and their options are in their ranges.
-pub fn spelled_chains_are_lawful()
-    ensures { SpelledChainsAreLawful }
-{}
 
 /// A word alone is the chain unless it begins with a dash; and small command lines, with what they
 /// give or why they are refused, as the definitions compute them.

@@ -1,6 +1,6 @@
 //! The program: its status and what it prints.
 
-use super::{BAD_INPUTS, IMAGE, INVERTED};
+use super::{IMAGE, INVERTED};
 use crate::command::command;
 use pnm_image::Device;
 use std::alloc::{AllocError, Global};
@@ -158,12 +158,32 @@ fn takes_words(rt: HostRuntime) -> Result<(), Fail> {
     Ok(())
 }
 
+/// An input that is at fault, what is written before the fault, and the line that names it.
+const BAD_INPUTS: &[(&[u8], &[u8], &str)] = &[
+    (b"", b"", "pnmpipe: input: EmptyInput\n"),
+    (b"P5 1 1", b"", "pnmpipe: input: HeaderCut\n"),
+    (
+        b"P5\n2 1\n122\nA",
+        b"P5\n2 1\n122\n",
+        "pnmpipe: input: RasterCut\n",
+    ),
+    (
+        b"P2 1 1 9 5x",
+        b"P5\n1 1\n9\n",
+        "pnmpipe: input: BadSample\n",
+    ),
+    (
+        b"P5\n1 1\n9\n\x05X",
+        b"P5\n1 1\n9\n\x04",
+        "pnmpipe: input: BadMagic\n",
+    ),
+];
+
 /// A run's status is 0, or 1 after a fault, which is printed.
 #[test]
 fn runs(rt: HostRuntime) -> Result<(), Fail> {
     let texts = ["pnmpipe", "pnminvert"];
-    for (input, front, _, name) in BAD_INPUTS {
-        let printed = format!(in rt.alloc(); "pnmpipe: input: {}\n", name)?;
+    for (input, front, printed) in BAD_INPUTS {
         let answer = answer_to(&rt, texts.as_slice(), *input)?;
         assert_eq!(rt; answer.status, 1, "at {:?}", input);
         assert_eq!(rt;

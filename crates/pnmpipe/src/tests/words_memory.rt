@@ -4,7 +4,6 @@
 use super::command::words_of;
 use super::help::HELP;
 use super::{IMAGE, INVERTED};
-use crate::chain_text::{ChainFault, ChainKind, parse_chain};
 use crate::command::command;
 use pnm_image::Device;
 use std::process::Abort;
@@ -75,26 +74,4 @@ fn runs_with_memory(rt: HostRuntime) {
     let texts = ["pnmpipe", "--ring", "7", "pnminvert"];
     let status = status(&rt, texts.as_slice(), INVERTED);
     assert_eq!(rt; status, Some(0));
-}
-
-/// A chain whose planes, tuple type and list are allocated, in turn.
-const ALLOCATES: &str = "pamchannel 2 0 -tupletype RGB";
-
-/// Want of memory for a chain's text is Memory, and no stage is at fault.
-#[test]
-fn answers_want_of_memory_for_a_chain(rt: HostRuntime) {
-    let memory = ChainFault {
-        stage: 0,
-        kind: ChainKind::Memory,
-    };
-    match parse_chain(rt.alloc(), ALLOCATES) {
-        Ok(tools) => assert_eq!(rt; tools.len(), 1),
-        Err(fault) => assert_eq!(rt; fault, memory),
-    }
-}
-
-/// Where no allocation is refused the text is a chain.
-#[test]
-fn parses_with_memory(rt: HostRuntime) {
-    assert!(rt; parse_chain(rt.alloc(), ALLOCATES).is_ok());
 }

@@ -1,0 +1,394 @@
+-- The tools that a text spells are a chain that can be run: 1 to 16, with options in their ranges.
+use Rattle.std.proofs.Common.{◌≡◌, ◌≤◌, ℕ, zero, suc, ◌+◌, ◌-◌, ◌==◌, ◌&&◌, ◌||◌, Bool, true, false, not, if◌then◌else◌, ℤ, pos, Option, Some, None, is_some, option_map, unwrap_or, IfSome, IsSome, List, [], ◌∷◌, length, map, drop, refl, sym, ap, subst, ◌∙◌, arith}
+use Rattle.std.specs.Prelude.{◌≢◌, nat_le, nat_lt, slice_index, slice_index_or, neg_ℤ, unsigned_abs, All}
+use Rattle.std.specs.List.{AllByRecursion, list_all, list_any, after_first, position_or_len}
+use Rattle.std.proofs.lemmas.List.{length-map}
+use Rattle.std.proofs.lemmas.List.Elements.{All-cons, All-nil}
+use Rattle.std.proofs.lemmas.List.Splits.{length-slice_split}
+use Rattle.std.proofs.lemmas.Bool.Decides.{nat_tests}
+use Rattle.pnm_image.specs.Heads.{IsTupleType}
+use Rattle.pnm_image.specs.Texts.{is_blank, is_white, begins_in_word, onto_first as onto_word, words, decimal_value}
+use Rattle.pnm_tools.specs.declared.tool.Tool.{Tool}
+use Rattle.pnm_tools.specs.Cut.{IsEdge, IsSize, IsLawfulAxis}
+use Rattle.pnm_tools.specs.Chains.{AreLawfulTools, IsChain}
+use Rattle.pnm_tools.specs.Tools.{IsLawfulTool}
+use Rattle.pnm_chain.specs.declared.options.ToolName.{ToolName}
+use Rattle.pnm_chain.specs.declared.options.ToolName.TheVariants.{Invert, Cut, Depth, Channel, Enlarge, Flip, Tile}
+use Rattle.pnm_chain.specs.declared.options.ToolOption.{ToolOption}
+use Rattle.pnm_chain.specs.declared.options.ToolOption.TheVariants.{Left, Right, Top, Bottom, Width, Height, TupleType, XScale, YScale, Way}
+use Rattle.pnm_chain.specs.Options.{option_named, wants_value, takes_value, slot_of, excludes, takes_argument, most_arguments, is_numeral, spells_number, spells_offset, offset_value, begins_with_dash, without_dash}
+use Rattle.pnm_chain.specs.Items.{Item, Argument, Given, Unknown, without_dashes, name_in, value_in, takes_next, value_among, given_as, item_of, items_of, arguments_of, value_of, is_there, factor_by, meant_by, IsFormed, is_conflict, is_missing}
+use Rattle.pnm_chain.specs.ChainText.{SpellsTool, SpellTools, SpellsChain, stages_of}
+
+both : (a b : Bool) → (a && b) ≡ true → (a ≡ true) × (b ≡ true)
+both true b e = (refl, e)
+both false b e = absurd cc
+
+le_by : (a b : ℕ) → nat_le a b ≡ true → a ≤ b
+le_by a b e = grind (arith, nat_tests)
+
+-- ---- options that are the same
+
+abbrev option_at : ℕ → ToolOption
+option_at n =
+    if n == 0 then Left else if n == 1 then Right else if n == 2 then Top else if n == 3 then Bottom else if n == 4 then Width
+    else if n == 5 then Height else if n == 6 then TupleType else if n == 7 then XScale else YScale
+
+at_slot : (option : ToolOption) → wants_value option ≡ true → option_at (slot_of option) ≡ option
+at_slot Left e = refl
+at_slot Right e = refl
+at_slot Top e = refl
+at_slot Bottom e = refl
+at_slot Width e = refl
+at_slot Height e = refl
+at_slot TupleType e = refl
+at_slot XScale e = refl
+at_slot YScale e = refl
+at_slot (Way way) e = absurd cc
+
+wants_by_slot : (option : ToolOption) → wants_value option ≡ not (slot_of option == 9)
+wants_by_slot Left = refl
+wants_by_slot Right = refl
+wants_by_slot Top = refl
+wants_by_slot Bottom = refl
+wants_by_slot Width = refl
+wants_by_slot Height = refl
+wants_by_slot TupleType = refl
+wants_by_slot XScale = refl
+wants_by_slot YScale = refl
+wants_by_slot (Way way) = refl
+
+same_number : (a b : ℕ) → (a == b) ≡ true → a ≡ b
+same_number a b e = grind (arith, nat_tests)
+
+same_option : (one other : ToolOption) → wants_value one ≡ true → excludes one other ≡ true → one ≡ other
+same_option one other wants e =
+    let slots : slot_of one ≡ slot_of other = same_number (slot_of one) (slot_of other) e in
+    let wants_other : wants_value other ≡ true = wants_by_slot other ∙ ap (λ (n : ℕ). not (n == 9)) (sym slots) ∙ sym (wants_by_slot one) ∙ wants in
+    sym (at_slot one wants) ∙ ap (λ (n : ℕ). option_at n) slots ∙ at_slot other wants_other
+
+-- ---- values of formed items
+
+not_both : (b : Bool) → b ≡ true → b ≡ false → ⊥
+not_both true e f = absurd cc
+not_both false e f = absurd cc
+
+taken_value : (tool : ToolName) (option : ToolOption) (value : Option (List ℕ)) → wants_value option ≡ true → IsFormed tool (Given option value) → takes_value option (unwrap_or value []) ≡ true
+taken_value tool option None wants e = absurd (not_both (wants_value option) wants e)
+taken_value tool option (Some word) wants e = e
+
+given_value : (tool : ToolName) (option other : ToolOption) (value : Option (List ℕ)) (rest : Option (List ℕ)) (same : Bool) → excludes option other ≡ same → wants_value option ≡ true → IsFormed tool (Given other value)
+    → IfSome rest (λ word. takes_value option word ≡ true) → IfSome (if same then Some (unwrap_or value []) else rest) (λ word. takes_value option word ≡ true)
+given_value tool option other value rest true is wants e others =
+    let equal : option ≡ other = same_option option other wants is in
+    taken_value tool option value wants (subst (λ (o : ToolOption). IsFormed tool (Given o value)) (sym equal) e)
+given_value tool option other value rest false is wants e others = others
+
+values_taken : (tool : ToolName) (option : ToolOption) (items : List Item) → wants_value option ≡ true → AllByRecursion (IsFormed tool) items → IfSome (value_of option items) (λ word. takes_value option word ≡ true)
+values_taken tool option [] wants formed = cc
+values_taken tool option (Argument word ∷ items) wants formed = values_taken tool option items wants formed.1
+values_taken tool option (Given other value ∷ items) wants formed =
+    given_value tool option other value (value_of option items) (excludes option other) refl wants formed.0 (values_taken tool option items wants formed.1)
+values_taken tool option (Unknown ∷ items) wants formed = values_taken tool option items wants formed.1
+
+arguments_taken : (tool : ToolName) (items : List Item) → AllByRecursion (IsFormed tool) items → AllByRecursion (λ word. takes_argument tool word ≡ true) (arguments_of items)
+arguments_taken tool [] formed = cc
+arguments_taken tool (Argument word ∷ items) formed = (formed.0, arguments_taken tool items formed.1)
+arguments_taken tool (Given option value ∷ items) formed = arguments_taken tool items formed.1
+arguments_taken tool (Unknown ∷ items) formed = arguments_taken tool items formed.1
+
+-- ---- numbers in their ranges
+
+in_range : (least most : ℕ) (word : List ℕ) → spells_number least most word ≡ true → (least ≤ decimal_value word) × (decimal_value word ≤ most)
+in_range least most word e =
+    let parts = both (is_numeral word) (nat_le least (decimal_value word) && nat_le (decimal_value word) most) e in
+    let ends = both (nat_le least (decimal_value word)) (nat_le (decimal_value word) most) parts.1 in
+    (le_by least (decimal_value word) ends.0, le_by (decimal_value word) most ends.1)
+
+abs_neg : (n : ℕ) → unsigned_abs (neg_ℤ (pos n)) ≡ n
+abs_neg zero = refl
+abs_neg (suc n) = refl
+
+abs_offset : (dash : Bool) (n : ℕ) → unsigned_abs (if dash then neg_ℤ (pos n) else pos n) ≡ n
+abs_offset true n = abs_neg n
+abs_offset false n = refl
+
+offset_by_dash : (dash : Bool) (b : ℕ) (word : List ℕ) → (if dash then neg_ℤ (pos (decimal_value (if dash then word else b ∷ word))) else pos (decimal_value (b ∷ word)))
+    ≡ (if dash then neg_ℤ (pos (decimal_value (if dash then word else b ∷ word))) else pos (decimal_value (if dash then word else b ∷ word)))
+offset_by_dash true b word = refl
+offset_by_dash false b word = refl
+
+offset_by : (word : List ℕ) → offset_value word ≡ (if begins_with_dash word then neg_ℤ (pos (decimal_value (without_dash word))) else pos (decimal_value (without_dash word)))
+offset_by [] = refl
+offset_by (b ∷ word) = offset_by_dash (b == 45) b word
+
+edge_in_range : (word : List ℕ) → spells_offset word ≡ true → IsEdge (offset_value word)
+edge_in_range word e =
+    let range = in_range 0 16777216 (without_dash word) e in
+    let size : unsigned_abs (offset_value word) ≡ decimal_value (without_dash word) = ap (λ (z : ℤ). unsigned_abs z) (offset_by word) ∙ abs_offset (begins_with_dash word) (decimal_value (without_dash word)) in
+    subst (λ (n : ℕ). n ≤ 16777216) (sym size) range.1
+
+-- ---- pamcut
+
+mapped : {A B : Type 0} (f : A → B) (P : B → Type 0) (o : Option A) → IfSome o (λ a. P (f a)) → IfSome (option_map f o) P
+mapped f P None h = h
+mapped f P (Some a) h = h
+
+some_edge : (o : Option (List ℕ)) → IfSome o (λ word. spells_offset word ≡ true) → IfSome (option_map offset_value o) IsEdge
+some_edge None h = h
+some_edge (Some word) h = edge_in_range word h
+
+some_size : (o : Option (List ℕ)) → IfSome o (λ word. spells_number 1 16777216 word ≡ true) → IfSome (option_map decimal_value o) IsSize
+some_size None h = h
+some_size (Some word) h = in_range 1 16777216 word h
+
+bad_bool : false ≡ true → ⊥
+bad_bool e = absurd cc
+
+not_three : (start end size : Option (List ℕ)) → (is_some start && (is_some end && is_some size)) ≡ false → IsSome (option_map offset_value start) × IsSome (option_map offset_value end) × IsSome (option_map decimal_value size) → ⊥
+not_three None end size e h = bad_bool h.0
+not_three (Some start) None size e h = bad_bool h.1
+not_three (Some start) (Some end) None e h = bad_bool h.2
+not_three (Some start) (Some end) (Some size) e h = absurd cc
+
+axis : (start end size : Option (List ℕ)) → IfSome start (λ word. spells_offset word ≡ true) → IfSome end (λ word. spells_offset word ≡ true) → IfSome size (λ word. spells_number 1 16777216 word ≡ true)
+    → (is_some start && (is_some end && is_some size)) ≡ false → IsLawfulAxis (option_map offset_value start) (option_map offset_value end) (option_map decimal_value size)
+axis start end size s e z three = record { start_edge = some_edge start s; end_edge = some_edge end e; one_size = some_size size z; one_free = λ h. not_three start end size three h }
+
+neither : (a b : Bool) → (a || b) ≡ false → (a ≡ false) × (b ≡ false)
+neither true b e = absurd cc
+neither false b e = (refl, e)
+
+-- ---- arguments
+
+first_in_range : (least most : ℕ) (args : List (List ℕ)) → AllByRecursion (λ word. spells_number least most word ≡ true) args → nat_lt (length args) 1 ≡ false
+    → (least ≤ slice_index_or (map decimal_value args) 0 0) × (slice_index_or (map decimal_value args) 0 0 ≤ most)
+first_in_range least most [] all e = absurd cc
+first_in_range least most (word ∷ args) all e = in_range least most word all.0
+
+first_of_two : (args : List (List ℕ)) → AllByRecursion (λ word. spells_number 1 16777216 word ≡ true) args → nat_lt (length args) 2 ≡ false
+    → (1 ≤ slice_index_or (map decimal_value args) 0 0) × (slice_index_or (map decimal_value args) 0 0 ≤ 16777216)
+first_of_two [] all e = absurd cc
+first_of_two (word ∷ args) all e = in_range 1 16777216 word all.0
+
+second_of_two : (args : List (List ℕ)) → AllByRecursion (λ word. spells_number 1 16777216 word ≡ true) args → nat_lt (length args) 2 ≡ false
+    → (1 ≤ slice_index_or (map decimal_value args) 1 0) × (slice_index_or (map decimal_value args) 1 0 ≤ 16777216)
+second_of_two [] all e = absurd cc
+second_of_two (word ∷ []) all e = absurd cc
+second_of_two (word ∷ other ∷ args) all e = in_range 1 16777216 other all.1.0
+
+planes_in_range : (args : List (List ℕ)) → AllByRecursion (λ word. spells_number 0 255 word ≡ true) args → All (λ number. number ≤ 255) (map decimal_value args)
+planes_in_range [] all = All-nil (λ number. number ≤ 255)
+planes_in_range (word ∷ args) all = All-cons (λ number. number ≤ 255) (decimal_value word) (map decimal_value args) (in_range 0 255 word all.0).1 (planes_in_range args all.1)
+
+scale_in_range : (scale : Option (List ℕ)) → IfSome scale (λ word. spells_number 1 16777216 word ≡ true) → (1 ≤ unwrap_or (option_map decimal_value scale) 1) × (unwrap_or (option_map decimal_value scale) 1 ≤ 16777216)
+scale_in_range None h = (omega arith, omega arith)
+scale_in_range (Some word) h = in_range 1 16777216 word h
+
+factor_in_range : (args : List (List ℕ)) (scale : Option (List ℕ)) → AllByRecursion (λ word. spells_number 1 16777216 word ≡ true) args → IfSome scale (λ word. spells_number 1 16777216 word ≡ true)
+    → (1 ≤ factor_by (map decimal_value args) (option_map decimal_value scale)) × (factor_by (map decimal_value args) (option_map decimal_value scale) ≤ 16777216)
+factor_in_range [] scale all h = scale_in_range scale h
+factor_in_range (word ∷ args) scale all h = in_range 1 16777216 word all.0
+
+-- ---- words and values without white space
+
+abbrev no_white : List ℕ → Bool
+no_white word = list_all (λ b. not (is_white b)) word
+
+black : (b : ℕ) (white : Bool) → is_white b ≡ white → white ≡ false → not (is_white b) ≡ true
+black b true e f = absurd cc
+black b false e f = rw e refl
+
+abbrev words_by : Bool → Bool → ℕ → List (List ℕ) → List (List ℕ)
+words_by white begins b others = if white then others else if begins then onto_word b others else (b ∷ []) ∷ others
+
+words-cons : (b : ℕ) (text : List ℕ) → words (b ∷ text) ≡ words_by (is_white b) (begins_in_word text) b (words text)
+unfolding words
+words-cons b text = refl
+
+words-nil : words [] ≡ []
+unfolding words
+words-nil = refl
+
+abbrev AreWords : List (List ℕ) → Type 0
+AreWords found = AllByRecursion (λ word. no_white word ≡ true) found
+
+and_true : (a b : Bool) → a ≡ true → b ≡ true → (a && b) ≡ true
+and_true a b e f = rw (e, f) refl
+
+onto_is : (b : ℕ) (others : List (List ℕ)) → not (is_white b) ≡ true → AreWords others → AreWords (onto_word b others)
+onto_is b [] e h = (and_true (not (is_white b)) true e refl, cc)
+onto_is b (word ∷ others) e h = (and_true (not (is_white b)) (no_white word) e h.0, h.1)
+
+by_byte : (white begins : Bool) (b : ℕ) (others : List (List ℕ)) → is_white b ≡ white → AreWords others → AreWords (words_by white begins b others)
+by_byte true begins b others e h = h
+by_byte false true b others e h = onto_is b others (black b false e refl) h
+by_byte false false b others e h = (and_true (not (is_white b)) true (black b false e refl) refl, h)
+
+words_have_no_white : (text : List ℕ) → AreWords (words text)
+words_have_no_white [] = subst AreWords (sym words-nil) cc
+words_have_no_white (b ∷ text) = subst AreWords (sym (words-cons b text)) (by_byte (is_white b) (begins_in_word text) b (words text) refl (words_have_no_white text))
+
+without_front : (n : ℕ) (word : List ℕ) → no_white word ≡ true → no_white (drop n word) ≡ true
+without_front zero word e = e
+without_front (suc n) [] e = refl
+without_front (suc n) (b ∷ word) e = without_front n word (both (not (is_white b)) (no_white word) e).1
+
+dash_by : (dash : Bool) (b : ℕ) (word : List ℕ) → no_white (b ∷ word) ≡ true → no_white (if dash then word else b ∷ word) ≡ true
+dash_by true b word e = (both (not (is_white b)) (no_white word) e).1
+dash_by false b word e = e
+
+undashed : (word : List ℕ) → no_white word ≡ true → no_white (without_dash word) ≡ true
+undashed [] e = refl
+undashed (b ∷ word) e = dash_by (b == 45) b word e
+
+value_by : (any : Bool) (word : List ℕ) → no_white word ≡ true → IfSome (if any then Some (after_first (λ b. b == 61) word) else None) (λ value. no_white value ≡ true)
+value_by true word e = without_front (position_or_len (λ b. b == 61) word + 1) word e
+value_by false word e = cc
+
+value_has_no_white : (word : List ℕ) → no_white word ≡ true → IfSome (value_in word) (λ value. no_white value ≡ true)
+value_has_no_white word e = value_by (list_any (λ b. b == 61) (without_dashes word)) (without_dashes word) (undashed (without_dash word) (undashed word e))
+
+-- ---- items without white space
+
+abbrev HasNoWhite : Item → Type 0
+HasNoWhite (Argument word) = no_white word ≡ true
+HasNoWhite (Given option value) = IfSome value (λ word. no_white word ≡ true)
+HasNoWhite Unknown = Unit {0}
+
+among : (value next : Option (List ℕ)) → IfSome value (λ word. no_white word ≡ true) → IfSome next (λ word. no_white word ≡ true) → IfSome (value_among value next) (λ word. no_white word ≡ true)
+among None next h k = k
+among (Some value) next h k = h
+
+given_clear : (option : Option ToolOption) (value : Option (List ℕ)) → IfSome value (λ word. no_white word ≡ true) → HasNoWhite (given_as option value)
+given_clear None value h = cc
+given_clear (Some option) value h = h
+
+item_by : (dash : Bool) (option : Option ToolOption) (value : Option (List ℕ)) (word : List ℕ) → no_white word ≡ true → IfSome value (λ w. no_white w ≡ true) → HasNoWhite (if dash then given_as option value else Argument word)
+item_by true option value word e h = given_clear option value h
+item_by false option value word e h = e
+
+item_clear : (tool : ToolName) (word : List ℕ) (next : Option (List ℕ)) → no_white word ≡ true → IfSome next (λ w. no_white w ≡ true) → HasNoWhite (item_of tool word next)
+item_clear tool word next e h = item_by (begins_with_dash word) (option_named tool (name_in word)) (value_among (value_in word) next) word e (among (value_in word) next (value_has_no_white word e) h)
+
+abbrev items_by : Bool → ToolName → List ℕ → List ℕ → List Item → List Item → List Item
+items_by takes tool word next after_next after_word = if takes then item_of tool word (Some next) ∷ after_next else item_of tool word None ∷ after_word
+
+items_clear_by : (takes : Bool) (tool : ToolName) (word next : List ℕ) (after_next after_word : List Item) → no_white word ≡ true → no_white next ≡ true
+    → AllByRecursion HasNoWhite after_next → AllByRecursion HasNoWhite after_word → AllByRecursion HasNoWhite (items_by takes tool word next after_next after_word)
+items_clear_by true tool word next after_next after_word e f h k = (item_clear tool word (Some next) e f, h)
+items_clear_by false tool word next after_next after_word e f h k = (item_clear tool word None e cc, k)
+
+items_clear : (tool : ToolName) (found : List (List ℕ)) → AreWords found → AllByRecursion HasNoWhite (items_of tool found)
+unfolding items_of
+items_clear tool [] h = cc
+items_clear tool (word ∷ []) h = (item_clear tool word None h.0 cc, cc)
+items_clear tool (word ∷ next ∷ found) h =
+    items_clear_by (takes_next tool word) tool word next (items_of tool found) (items_of tool (next ∷ found)) h.0 h.1.0 (items_clear tool found h.1.1) (items_clear tool (next ∷ found) h.1)
+
+clear_value : (value : Option (List ℕ)) → IfSome value (λ word. no_white word ≡ true) → no_white (unwrap_or value []) ≡ true
+clear_value None h = refl
+clear_value (Some word) h = h
+
+clear_by : (same : Bool) (value rest : Option (List ℕ)) → IfSome value (λ word. no_white word ≡ true) → IfSome rest (λ word. no_white word ≡ true) → IfSome (if same then Some (unwrap_or value []) else rest) (λ word. no_white word ≡ true)
+clear_by true value rest h k = clear_value value h
+clear_by false value rest h k = k
+
+value_clear : (option : ToolOption) (items : List Item) → AllByRecursion HasNoWhite items → IfSome (value_of option items) (λ word. no_white word ≡ true)
+value_clear option [] h = cc
+value_clear option (Argument word ∷ items) h = value_clear option items h.1
+value_clear option (Given other value ∷ items) h = clear_by (excludes option other) value (value_of option items) h.0 (value_clear option items h.1)
+value_clear option (Unknown ∷ items) h = value_clear option items h.1
+
+-- ---- a tuple type
+
+not_white : (white : Bool) → not white ≡ true → white ≡ false
+not_white true e = absurd cc
+not_white false e = refl
+
+each_black : (word : List ℕ) → no_white word ≡ true → All (λ b. is_white b ≡ false) word
+each_black [] e = All-nil (λ b. is_white b ≡ false)
+each_black (b ∷ word) e =
+    let parts = both (not (is_white b)) (no_white word) e in
+    All-cons (λ c. is_white c ≡ false) b word (not_white (is_white b) parts.0) (each_black word parts.1)
+
+no_line_end : (b : ℕ) → is_white b ≡ false → b ≢ 10
+no_line_end b e = grind (arith, nat_tests)
+
+no_blank : (b : ℕ) → is_white b ≡ false → is_blank b ≡ false
+no_blank b e = grind (arith, nat_tests)
+
+is_tuple_type : (word : List ℕ) → no_white word ≡ true → length word ≤ 255 → IsTupleType word
+is_tuple_type word e short =
+    let all = each_black word e in
+    record {
+      short = short;
+      one_line = λ k d lt. no_line_end (slice_index_or word k d) (all k d lt);
+      first = λ some. no_blank (slice_index word 0) (all 0 0 some);
+      last = λ some. no_blank (slice_index word (length word - 1)) (all (length word - 1) 0 (omega arith));
+    }
+
+some_tuple_type : (value : Option (List ℕ)) → IfSome value (λ word. takes_value TupleType word ≡ true) → IfSome value (λ word. no_white word ≡ true) → IsTupleType (unwrap_or value [])
+some_tuple_type None h k = is_tuple_type [] refl (omega arith)
+some_tuple_type (Some word) h k = is_tuple_type word k (le_by (length word) 255 h)
+
+-- ---- a tool
+
+enough : (n : ℕ) → nat_lt n 1 ≡ false → 1 ≤ n
+enough n e = grind (arith, nat_tests)
+
+lawful : (tool : ToolName) (items : List Item) → AllByRecursion HasNoWhite items → AllByRecursion (IsFormed tool) items → length (arguments_of items) ≤ most_arguments tool
+    → is_conflict tool items ≡ false → is_missing tool items ≡ false → IsLawfulTool (meant_by tool items)
+lawful Invert items clear formed many together more = cc
+lawful Cut items clear formed many together more =
+    let free = neither (is_there Left items && (is_there Right items && is_there Width items)) (is_there Top items && (is_there Bottom items && is_there Height items)) together in
+    record {
+      columns = axis (value_of Left items) (value_of Right items) (value_of Width items) (values_taken Cut Left items refl formed) (values_taken Cut Right items refl formed) (values_taken Cut Width items refl formed) free.0;
+      rows = axis (value_of Top items) (value_of Bottom items) (value_of Height items) (values_taken Cut Top items refl formed) (values_taken Cut Bottom items refl formed) (values_taken Cut Height items refl formed) free.1;
+    }
+lawful Depth items clear formed many together more = first_in_range 1 65535 (arguments_of items) (arguments_taken Depth items formed) more
+lawful Channel items clear formed many together more = record {
+  some = subst (λ (n : ℕ). 1 ≤ n) (sym (length-map (arguments_of items) decimal_value)) (enough (length (arguments_of items)) more);
+  not_many = subst (λ (n : ℕ). n ≤ 256) (sym (length-map (arguments_of items) decimal_value)) many;
+  in_range = planes_in_range (arguments_of items) (arguments_taken Channel items formed);
+  tuple_type = some_tuple_type (value_of TupleType items) (values_taken Channel TupleType items refl formed) (value_clear TupleType items clear);
+}
+lawful Enlarge items clear formed many together more = (
+  factor_in_range (arguments_of items) (value_of XScale items) (arguments_taken Enlarge items formed) (values_taken Enlarge XScale items refl formed),
+  factor_in_range (arguments_of items) (value_of YScale items) (arguments_taken Enlarge items formed) (values_taken Enlarge YScale items refl formed),
+)
+lawful Flip items clear formed many together more = cc
+lawful Tile items clear formed many together more =
+    (first_of_two (arguments_of items) (arguments_taken Tile items formed) more, second_of_two (arguments_of items) (arguments_taken Tile items formed) more)
+
+rest_clear : (stage first : List ℕ) (others : List (List ℕ)) → words stage ≡ first ∷ others → AreWords others
+rest_clear stage first others e = (subst AreWords e (words_have_no_white stage)).1
+
+pub spelled_is_lawful : (stage : List ℕ) (tool : Tool) → SpellsTool stage tool → IsLawfulTool tool
+spelled_is_lawful stage tool h =
+    subst IsLawfulTool (sym h.meant.meaning_is)
+    (lawful h.tool_name (items_of h.tool_name h.others) (items_clear h.tool_name h.others (rest_clear stage h.name h.others h.words_are)) h.meant.formed h.meant.not_many h.meant.together h.meant.enough)
+
+-- ---- a chain
+
+spelled_are_lawful : (stages : List (List ℕ)) (tools : List Tool) → SpellTools stages tools → AreLawfulTools tools
+spelled_are_lawful [] [] h = cc
+spelled_are_lawful [] (tool ∷ tools) h = absurd h
+spelled_are_lawful (stage ∷ stages) [] h = absurd h
+spelled_are_lawful (stage ∷ stages) (tool ∷ tools) h = (spelled_is_lawful stage tool h.0, spelled_are_lawful stages tools h.1)
+
+as_many : (stages : List (List ℕ)) (tools : List Tool) → SpellTools stages tools → length tools ≡ length stages
+as_many [] [] h = refl
+as_many [] (tool ∷ tools) h = absurd h
+as_many (stage ∷ stages) [] h = absurd h
+as_many (stage ∷ stages) (tool ∷ tools) h = ap (λ (n : ℕ). suc n) (as_many stages tools h.1)
+
+pub spelled_chain_is_lawful : (text : List ℕ) (tools : List Tool) → SpellsChain text tools → IsChain tools
+spelled_chain_is_lawful text tools h =
+    let count : length tools ≡ length (stages_of text) = as_many (stages_of text) tools h.stages in
+    let parts = length-slice_split (λ b. b == 124) text in
+    record {
+      some = subst (λ (n : ℕ). 1 ≤ n) (sym (count ∙ parts)) (omega arith);
+      not_many = subst (λ (n : ℕ). n ≤ 16) (sym count) h.not_many;
+      lawful = spelled_are_lawful (stages_of text) tools h.stages;
+    }

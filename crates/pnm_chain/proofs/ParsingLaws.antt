@@ -1,0 +1,139 @@
+-- A chain while it is read, stage by stage.
+use Rattle.std.proofs.Common.{◌≡◌, ◌≤◌, ◌<◌, ◌⊎◌, inl, inr, ℕ, suc, ◌+◌, ◌&&◌, Bool, true, false, Option, Some, None, is_some, List, [], ◌∷◌, ◌++◌, length, take, drop, get_or, refl, sym, ap, subst, ◌∙◌, arith}
+use Rattle.std.specs.Prelude.{nat_lt, MatchOption}
+use Rattle.std.specs.List.{list_all}
+use denote.Ref.{Bor}
+use Rattle.std.proofs.Math.Seq.{take-length, drop-cons}
+use Rattle.std.proofs.lemmas.List.{take_more, length-append}
+use Rattle.std.proofs.lemmas.Bool.Decides.{nat_tests}
+use Rattle.pnm_image.specs.Texts.{is_white, begins_in_word, onto_first as onto_word, words}
+use Rattle.pnm_tools.specs.declared.tool.Tool.{Tool}
+use Rattle.pnm_chain.specs.declared.chain_text.ChainFault.{ChainFault}
+use Rattle.pnm_chain.specs.declared.chain_text.ChainKind.{ChainKind}
+use Rattle.pnm_chain.specs.declared.chain_text.ChainKind.TheVariants.{Empty, TooLong, TooMany, Memory}
+use Rattle.pnm_chain.specs.ChainText.{SpellsTool, SpellTools, SpellsChain, stages_of, stage_fault, fault_from, whole, chain_fault_of}
+use Rattle.pnm_chain.specs.Settings.{AreRead}
+use Rattle.pnm_chain.proofs.ChainLaws.{words_by, words-cons, no_words, is_false, from_by, fault_from-cons, chain_fault_by, chain_fault_is, at_most}
+
+-- ---- stages
+
+pub none_read : (stages : List (List ℕ)) → AreRead stages 0 []
+none_read stages = record { count_is = refl; spelled = cc; fault_is = refl }
+
+one_spelled_more : (stages : List (List ℕ)) (tools : List Tool) (stage : List ℕ) (tool : Tool) → SpellTools stages tools → SpellsTool stage tool → SpellTools (stages ++ stage ∷ []) (tools ++ tool ∷ [])
+one_spelled_more [] [] stage tool h k = (k, cc)
+one_spelled_more [] (other ∷ tools) stage tool h k = absurd h
+one_spelled_more (other ∷ stages) [] stage tool h k = absurd h
+one_spelled_more (other ∷ stages) (one ∷ tools) stage tool h k = (h.0, one_spelled_more stages tools stage tool h.1 k)
+
+-- the fault of what is left, by that of the next stage
+next_fault : (stages : List (List ℕ)) (n : ℕ) (stage : List ℕ) → (n < length stages) × (stage ≡ get_or stages n stage)
+    → fault_from (n + 1) (drop n stages) ≡ from_by (n + 1) (stage_fault stage) (fault_from (n + 1 + 1) (drop (n + 1) stages))
+next_fault stages n stage at =
+    let less : suc n ≡ n + 1 = omega arith in
+    let more : suc (n + 1) ≡ n + 1 + 1 = omega arith in
+    let parts : drop n stages ≡ stage ∷ drop (n + 1) stages =
+    drop-cons stages n stage at.0 ∙ ap (λ (s : List ℕ). s ∷ drop (suc n) stages) (sym at.1) ∙ ap (λ (k : ℕ). stage ∷ drop k stages) less in
+    ap (λ (l : List (List ℕ)). fault_from (n + 1) l) parts ∙ fault_from-cons (n + 1) stage (drop (n + 1) stages)
+    ∙ ap (λ (k : ℕ). from_by (n + 1) (stage_fault stage) (fault_from k (drop (n + 1) stages))) more
+
+pub one_read_more : (stages : List (List ℕ)) (n more : ℕ) (tools all : List Tool) (stage bytes : List ℕ) (tool : Tool) → AreRead stages n tools → (n < length stages) × (stage ≡ get_or stages n stage)
+    → more ≡ n + 1 → bytes ≡ stage → all ≡ tools ++ tool ∷ [] → (stage_fault bytes ≡ None) × SpellsTool bytes tool → AreRead stages more all
+one_read_more stages n more tools all stage bytes tool h at next equal pushed k =
+    let parts : take (n + 1) stages ≡ take n stages ++ stage ∷ [] = take_more stages n stage at.0 ∙ ap (λ (s : List ℕ). take n stages ++ s ∷ []) (sym at.1) in
+    let of_stage : (stage_fault stage ≡ None) × SpellsTool stage tool = subst (λ (b : List ℕ). (stage_fault b ≡ None) × SpellsTool b tool) equal k in
+    let now : AreRead stages (n + 1) (tools ++ tool ∷ []) = record {
+      count_is = length-append tools (tool ∷ []) ∙ ap (λ (k : ℕ). k + 1) h.count_is;
+      spelled = subst (λ (l : List (List ℕ)). SpellTools l (tools ++ tool ∷ [])) (sym parts) (one_spelled_more (take n stages) tools stage tool h.spelled of_stage.1);
+      fault_is = h.fault_is ∙ next_fault stages n stage at ∙ ap (λ (f : Option ChainKind). from_by (n + 1) f (fault_from (n + 1 + 1) (drop (n + 1) stages))) of_stage.0;
+    } in
+    subst (λ (k : ℕ). AreRead stages k all) (sym next) (subst (λ (l : List Tool). AreRead stages (n + 1) l) (sym pushed) now)
+
+-- ---- the whole text
+
+numbered : (stages : List (List ℕ)) (n : ℕ) (tools : List Tool) (stage : List ℕ) (kind : ChainKind) → AreRead stages n tools → (n < length stages) × (stage ≡ get_or stages n stage)
+    → stage_fault stage ≡ Some kind → fault_from 1 stages ≡ Some (record { stage = n + 1; kind = kind })
+numbered stages n tools stage kind h at e = h.fault_is ∙ next_fault stages n stage at ∙ ap (λ (f : Option ChainKind). from_by (n + 1) f (fault_from (n + 1 + 1) (drop (n + 1) stages))) e
+
+more_than : (least n : ℕ) → least < n → nat_lt least n ≡ true
+more_than least n h = grind (arith, nat_tests)
+
+no_first : (b : ℕ) (word : List (List ℕ)) → onto_word b word ≡ [] → ⊥
+no_first b [] e = absurd cc
+no_first b (w ∷ ws) e = absurd cc
+
+all_white_by : (white begins : Bool) (b : ℕ) (text : List ℕ) → is_white b ≡ white → words_by white begins b (words text) ≡ [] → (words text ≡ [] → list_all is_white text ≡ true) → (is_white b && list_all is_white text) ≡ true
+all_white_by true begins b text is e rest = rw is (rest e)
+all_white_by false true b text is e rest = absurd (no_first b (words text) e)
+all_white_by false false b text is e rest = absurd cc
+
+-- a text has no word where it is white space alone, and only there
+pub is_all_white : (text : List ℕ) → words text ≡ [] → list_all is_white text ≡ true
+is_all_white [] e = refl
+is_all_white (b ∷ text) e = all_white_by (is_white b) (begins_in_word text) b text refl (sym (words-cons b text) ∙ e) (λ f. is_all_white text f)
+
+pub has_words : (text : List ℕ) → (words text ≡ [] → ⊥) → list_all is_white text ≡ false
+has_words text h = is_false (list_all is_white text) (λ e. h (no_words text e))
+
+by_tests : (long blank many : Bool) (others : Option ChainFault) → long ≡ false → blank ≡ false → many ≡ false → chain_fault_by long blank many others ≡ others
+by_tests long blank many others e f g = rw (e, f, g) refl
+
+-- a text that isn't too long, nor white space alone, nor of too many stages, is judged by its stages
+pub by_stages : (text : List ℕ) → length text ≤ 4096 → list_all is_white text ≡ false → length (stages_of text) ≤ 16 → chain_fault_of text ≡ fault_from 1 (stages_of text)
+by_stages text short black few =
+    chain_fault_is text ∙ by_tests (nat_lt 4096 (length text)) (list_all is_white text) (nat_lt 16 (length (stages_of text))) (fault_from 1 (stages_of text))
+    (at_most 4096 (length text) short) black (at_most 16 (length (stages_of text)) few)
+
+pub stage_at_fault : (text : List ℕ) (n count : ℕ) (tools : List Tool) (stage bytes : List ℕ) (fault : ChainFault) → length text ≤ 4096 → list_all is_white text ≡ false → length (stages_of text) ≤ 16
+    → AreRead (stages_of text) n tools → (n < length (stages_of text)) × (stage ≡ get_or (stages_of text) n stage) → count ≡ n → bytes ≡ stage
+    → (fault ≡ whole Memory) ⊎ ((stage_fault bytes ≡ Some fault.kind) × (fault.stage ≡ count + 1)) → (fault ≡ whole Memory) ⊎ (chain_fault_of text ≡ Some fault)
+stage_at_fault text n count tools stage bytes fault short black few h at same equal (inl memory) = inl memory
+stage_at_fault text n count tools stage bytes fault short black few h at same equal (inr is) =
+    let of_stage : stage_fault stage ≡ Some fault.kind = sym (ap (λ (b : List ℕ). stage_fault b) equal) ∙ is.0 in
+    let placed : fault.stage ≡ n + 1 = is.1 ∙ ap (λ (k : ℕ). k + 1) same in
+    inr (by_stages text short black few ∙ numbered (stages_of text) n tools stage fault.kind h at of_stage ∙ ap (λ (k : ℕ). Some (record { stage = k; kind = fault.kind })) (sym placed))
+
+pub chain_read : (text : List ℕ) (n : ℕ) (tools : List Tool) → length text ≤ 4096 → length (stages_of text) ≤ 16 → AreRead (stages_of text) n tools → n ≡ length (stages_of text) → SpellsChain text tools
+chain_read text n tools short few h all =
+    let parts : take n (stages_of text) ≡ stages_of text = ap (λ (k : ℕ). take k (stages_of text)) all ∙ take-length (stages_of text) in
+    record { short = short; not_many = few; stages = subst (λ (l : List (List ℕ)). SpellTools l tools) parts h.spelled }
+
+-- ---- faults of the whole text
+
+pub too_long : (text : List ℕ) → 4096 < length text → chain_fault_of text ≡ Some (whole TooLong)
+too_long text long =
+    chain_fault_is text ∙ ap (λ (b : Bool). chain_fault_by b (list_all is_white text) (nat_lt 16 (length (stages_of text))) (fault_from 1 (stages_of text))) (more_than 4096 (length text) long)
+
+pub no_words_at_all : (text : List ℕ) → length text ≤ 4096 → list_all is_white text ≡ true → chain_fault_of text ≡ Some (whole Empty)
+no_words_at_all text short blank =
+    chain_fault_is text
+    ∙ ap (λ (b : Bool). chain_fault_by b (list_all is_white text) (nat_lt 16 (length (stages_of text))) (fault_from 1 (stages_of text))) (at_most 4096 (length text) short)
+    ∙ ap (λ (b : Bool). chain_fault_by false b (nat_lt 16 (length (stages_of text))) (fault_from 1 (stages_of text))) blank
+
+pub too_many : (text : List ℕ) → length text ≤ 4096 → list_all is_white text ≡ false → 16 < length (stages_of text) → chain_fault_of text ≡ Some (whole TooMany)
+too_many text short black many =
+    chain_fault_is text
+    ∙ ap (λ (b : Bool). chain_fault_by b (list_all is_white text) (nat_lt 16 (length (stages_of text))) (fault_from 1 (stages_of text))) (at_most 4096 (length text) short)
+    ∙ ap (λ (b : Bool). chain_fault_by false b (nat_lt 16 (length (stages_of text))) (fault_from 1 (stages_of text))) black
+    ∙ ap (λ (b : Bool). chain_fault_by false false b (fault_from 1 (stages_of text))) (more_than 16 (length (stages_of text)) many)
+
+-- ---- what is known of a text whose first word was looked for
+
+pub no_word_found : (text bytes : List ℕ) (found : Option (Bor (List ℕ) × Bor (List ℕ))) → bytes ≡ text → MatchOption found (words bytes ≡ []) (λ r. words bytes ≡ r.0.now ∷ words r.1.now) → is_some found ≡ false
+    → list_all is_white text ≡ true
+no_word_found text bytes None same first none = is_all_white text (sym (ap (λ (b : List ℕ). words b) same) ∙ first)
+no_word_found text bytes (Some r) same first none = absurd cc
+
+no_cons : (word : List ℕ) (others : List (List ℕ)) → word ∷ others ≡ [] → ⊥
+no_cons word others e = absurd cc
+
+pub word_found : (text bytes : List ℕ) (found : Option (Bor (List ℕ) × Bor (List ℕ))) → bytes ≡ text → MatchOption found (words bytes ≡ []) (λ r. words bytes ≡ r.0.now ∷ words r.1.now) → is_some found ≡ true
+    → list_all is_white text ≡ false
+word_found text bytes None same first some = absurd cc
+word_found text bytes (Some r) same first some = has_words text (λ none. no_cons r.0.now (words r.1.now) (sym first ∙ ap (λ (b : List ℕ). words b) same ∙ none))
+
+pub few_stages : (text bytes : List ℕ) (bars : ℕ) → bytes ≡ text → bars + 1 ≡ length (stages_of bytes) → bars < 16 → length (stages_of text) ≤ 16
+few_stages text bytes bars same count few = subst (λ (n : ℕ). n ≤ 16) (count ∙ ap (λ (b : List ℕ). length (stages_of b)) same) (omega arith)
+
+pub many_stages : (text bytes : List ℕ) (bars : ℕ) → bytes ≡ text → bars + 1 ≡ length (stages_of bytes) → 16 ≤ bars → 16 < length (stages_of text)
+many_stages text bytes bars same count many = subst (λ (n : ℕ). 16 < n) (count ∙ ap (λ (b : List ℕ). length (stages_of b)) same) (omega arith)

@@ -1,0 +1,5 @@
+pub mod Options
+pub mod Items
+pub mod ChainText
+pub mod Settings
+pub mod ChainExamples

@@ -1,0 +1,176 @@
+//! The text of a chain of tools, as a user writes it.
+
+ghost use Rattle.std.specs.Prelude.{◌≡◌, ◌⊎◌, ◌+◌, IfOk, IfErr, Some, None, length};
+ghost use Rattle.pnm_chain.specs.declared.chain_text.ChainKind.TheVariants.{Memory};
+ghost use Rattle.pnm_chain.specs.ChainText.{SpellsChain, SpellsTool, chain_fault_of, stage_fault, stages_of, whole};
+ghost use Rattle.pnm_tools.specs.Chains.{IsChain};
+
+use crate::items::split_item;
+use crate::options::ToolName;
+use crate::settings::Settings;
+use crate::word::split_word;
+use pnm_tools::Tool;
+use std::alloc::{AllocError, AllocFailed, Global};
+use thiserror::Error;
+
+/// The longest text of a chain, in bytes.
+const LONGEST: usize = 4_096;
+
+/// The most tools of a chain.
+const MOST_STAGES: usize = 16;
+
+/// What is wrong with a chain's text. The text of each variant is its name.
+#[derive(Clone, Copy, Debug, PartialEq, Eq, Error)]
+pub enum ChainKind {
+    /// The text is nothing but white space.
+    #[error("Empty")]
+    Empty,
+    /// The text has more than 4,096 bytes.
+    #[error("TooLong")]
+    TooLong,
+    /// There are more than 16 stages.
+    #[error("TooMany")]
+    TooMany,
+    /// The stage has no word.
+    #[error("EmptyStage")]
+    EmptyStage,
+    /// There is no tool of this name.
+    #[error("UnknownTool")]
+    UnknownTool,
+    /// The tool has no option of this name.
+    #[error("UnknownOption")]
+    UnknownOption,
+    /// The option wants a value, and no word follows it.
+    #[error("MissingValue")]
+    MissingValue,
+    /// The value or the argument is no number, is out of range, or is too long; or the option takes
+    /// none.
+    #[error("BadValue")]
+    BadValue,
+    /// The options, or an argument and an option, can't stand together.
+    #[error("Conflict")]
+    Conflict,
+    /// The tool wants another argument, a way to flip, or a factor.
+    #[error("MissingArgument")]
+    MissingArgument,
+    /// The tool takes no more arguments.
+    #[error("ExtraArgument")]
+    ExtraArgument,
+    /// Memory ran out.
+    #[error("Memory")]
+    Memory,
+}
+
+impl From<AllocError> for ChainKind {
+    ghost from_gives = { λ _ result. result ≡ Memory };
+
+    fn from(_error: AllocError) -> ChainKind {
+        ChainKind::Memory
+    }
+}
+
+impl<T: Drop> From<AllocFailed<T>> for ChainKind {
+    ghost from_gives = { λ _ result. result ≡ Memory };
+
+    fn from(_error: AllocFailed<T>) -> ChainKind {
+        ChainKind::Memory
+    }
+}
+
+/// Why a text is no chain.
+#[derive(Clone, Copy, Debug, PartialEq, Eq)]
+pub struct ChainFault {
+    /// The number of the stage, from 1, or 0 where no stage is at fault.
+    pub stage: usize,
+    /// The fault.
+    pub kind: ChainKind,
+}
+
+impl<T: Drop> From<AllocFailed<T>> for ChainFault {
+    ghost from_gives = { λ _ result. result ≡ whole Memory };
+
+    fn from(_error: AllocFailed<T>) -> ChainFault {
+        ChainFault::whole(ChainKind::Memory)
+    }
+}
+
+impl ChainFault {
+    /// The whole text is at fault, and no stage.
+    fn whole(kind: ChainKind) -> ChainFault
+        ensures { result ≡ whole kind }
+    {
+        ChainFault { stage: 0, kind }
+    }
+}
+
+/// The tools that the text names, 1 to 16 with bars between them, each with its options. The fault is
+/// the first of `TooLong`, `Empty` and `TooMany`, or else the first of the first stage that has one;
+/// or `Memory`.
+pub fn parse_chain(alloc: Global, text: &str) -> Result<Vec<Tool>, ChainFault>
+    ensures spelled { IfOk result (λ tools. SpellsChain text.now tools.items) }
+    ensures lawful { IfOk result (λ tools. IsChain tools.items) }
+    ensures refused { IfErr result (λ fault. (fault ≡ whole Memory) ⊎ (chain_fault_of text.now ≡ Some fault)) }
+{
+    if text.len() > LONGEST {
+        return Err(ChainFault::whole(ChainKind::TooLong));
+    }
+    if split_word(text.as_bytes()).is_none() {
+        return Err(ChainFault::whole(ChainKind::Empty));
+    }
+    if count_bars(text.as_bytes()) >= MOST_STAGES {
+        return Err(ChainFault::whole(ChainKind::TooMany));
+    }
+    let mut tools = Vec::new(alloc);
+    for stage in text.split('|') {
+        let tool = read_numbered(alloc, tools.len() + 1, stage.as_bytes())?;
+        tools.push(tool)?;
+    }
+    Ok(tools)
+}
+
+/// One less than the stages.
+fn count_bars(text: &[u8]) -> usize
+    ensures { result + 1 ≡ length (stages_of text.now) }
+{
+    let mut bars = 0;
+    for byte in text {
+        if *byte == b'|' {
+            bars += 1;
+        }
+    }
+    bars
+}
+
+/// The tool of the stage of this number.
+fn read_numbered(alloc: Global, number: usize, stage: &[u8]) -> Result<Tool, ChainFault>
+    ensures spelled { IfOk result (λ tool. (stage_fault stage.now ≡ None) × SpellsTool stage.now tool) }
+    ensures refused { IfErr result (λ fault. (fault ≡ whole Memory) ⊎ ((stage_fault stage.now ≡ Some fault.kind) × (fault.stage ≡ number))) }
+{
+    match read_stage(alloc, stage) {
+        Ok(tool) => Ok(tool),
+        Err(ChainKind::Memory) => Err(ChainFault::whole(ChainKind::Memory)),
+        Err(kind) => Err(ChainFault {
+            stage: number,
+            kind,
+        }),
+    }
+}
+
+/// The tool of a stage.
+fn read_stage(alloc: Global, stage: &[u8]) -> Result<Tool, ChainKind>
+    ensures spelled { IfOk result (λ tool. (stage_fault stage.now ≡ None) × SpellsTool stage.now tool) }
+    ensures refused { IfErr result (λ kind. (kind ≡ Memory) ⊎ (stage_fault stage.now ≡ Some kind)) }
+{
+    let Some((name, mut rest)) = split_word(stage) else {
+        return Err(ChainKind::EmptyStage);
+    };
+    let Some(tool) = ToolName::named(name) else {
+        return Err(ChainKind::UnknownTool);
+    };
+    let mut settings = Settings::new(alloc, tool);
+    while let Some((item, after)) = split_item(tool, rest) {
+        settings.take(tool, item)?;
+        rest = after;
+    }
+    settings.finish(alloc, tool)
+}

@@ -1,0 +1,26 @@
+//! Laws of chains' texts. Each stands over the definitions alone, as the contract of a function that
+//! does nothing.
+
+ghost use Rattle.pnm_chain.specs.ChainExamples.{ChainTextsHold};
+ghost use Rattle.pnm_chain.specs.ChainText.{ChainFaultsArePlaced, OneChainOrOneFault, SpelledChainsAreLawful};
+
+/// Small texts of chains, their faults and what they mean, as the definitions compute them.
+pub fn chain_texts_hold()
+    ensures { ChainTextsHold }
+{}
+
+/// Each text spells one list of tools and has no fault, or it spells none and has one fault.
+pub fn one_chain_or_one_fault()
+    ensures { OneChainOrOneFault }
+{}
+
+/// A fault of a text is of the whole, and has stage 0, or of one of its stages, and has its number, 1
+/// to 16. None is want of memory.
+pub fn chain_faults_are_placed()
+    ensures { ChainFaultsArePlaced }
+{}
+
+/// The tools that a text spells are 1 to 16, and their options are in their ranges.
+pub fn spelled_chains_are_lawful()
+    ensures { SpelledChainsAreLawful }
+{}

@@ -1,0 +1,270 @@
+//! What the words of a stage set, and the tool that they mean.
+
+ghost use Rattle.std.specs.Prelude.{◌≡◌, ◌⊎◌, ◌++◌, ◌&&◌, ◌∷◌, ◌<◌, [], List, IfOk, IfErr, OnOk, Some, None, true, false, is_some, length, nat_le, unwrap_or};
+ghost use Rattle.pnm_image.specs.Texts.{decimal_value};
+ghost use Rattle.pnm_tools.specs.Channel.{picks};
+ghost use Rattle.pnm_tools.specs.declared.tool.Tool.TheVariants as tools;
+ghost use Rattle.pnm_chain.specs.Options.{offset_value, spells_number, spells_offset};
+ghost use Rattle.pnm_chain.specs.declared.chain_text.ChainKind.TheVariants.{BadValue, Conflict, Memory, MissingArgument};
+ghost use Rattle.pnm_chain.specs.Items.{end_fault, item_fault, meant_by, value_fault};
+ghost use Rattle.pnm_chain.specs.Items.{Item as ItemSaid};
+ghost use Rattle.pnm_chain.specs.Settings.{AreSettingsOf, argument_fault, has_option, item_read, value_read, with_option, factors_fault, factors_meant, has_three, IsRefused, IsWithArgument};
+
+use crate::chain_text::ChainKind;
+use crate::items::Item;
+use crate::options::{ToolName, ToolOption};
+use crate::word::{number, offset};
+use pnm_tools::{CutBox, FlipWay, Planes, Tool};
+use std::alloc::Global;
+
+/// The most planes that are picked.
+const MOST_PLANES: usize = 256;
+
+/// The greatest number of a plane.
+const LAST_PLANE: u32 = 255;
+
+/// The greatest maxval.
+const GREATEST_MAXVAL: u32 = 65_535;
+
+/// The greatest width, height and factor, and the most columns or rows to fill.
+const GREATEST_EXTENT: u32 = 16_777_216;
+
+/// The longest tuple type, in bytes.
+const LONGEST_TUPLE_TYPE: usize = 255;
+
+/// What the words of a stage have set so far.
+#[derive(Debug, Drop)]
+pub(crate) struct Settings<'a> {
+    cut: CutBox,
+    tuple_type: Option<&'a [u8]>,
+    across: Option<u32>,
+    down: Option<u32>,
+    way: Option<FlipWay>,
+    /// The arguments of `pamchannel`.
+    planes: Vec<u16>,
+    /// The maxval, the factor, or the width that `pnmtile` fills.
+    first: Option<u32>,
+    /// The height that `pnmtile` fills.
+    second: Option<u32>,
+}
+
+impl<'a> Settings<'a> {
+    /// Nothing is set.
+    pub(crate) fn new(alloc: Global, tool: ToolName) -> Settings<'a>
+        ensures { AreSettingsOf tool [] result }
+    {
+        Settings {
+            cut: CutBox {
+                left: None,
+                right: None,
+                top: None,
+                bottom: None,
+                width: None,
+                height: None,
+            },
+            tuple_type: None,
+            across: None,
+            down: None,
+            way: None,
+            planes: Vec::new(alloc),
+            first: None,
+            second: None,
+        }
+    }
+
+    /// Sets what the tool's next item says. The faults are `UnknownOption`, `Conflict`,
+    /// `MissingValue` and `BadValue` for an option, `ExtraArgument` and `BadValue` for an argument,
+    /// and `Memory`.
+    pub(crate) fn take(&mut self, tool: ToolName, item: Item<'a>) -> Result<(), ChainKind>
+        ensures set { OnOk result ((before : List ItemSaid) → AreSettingsOf tool before self.old
+            → (item_fault tool before (item_read item.entry) ≡ None) × AreSettingsOf tool (before ++ item_read item.entry ∷ []) self.new) }
+        ensures refused { IfErr result (λ kind. (before : List ItemSaid) → AreSettingsOf tool before self.old
+            → (kind ≡ Memory) ⊎ (item_fault tool before (item_read item.entry) ≡ Some kind)) }
+    {
+        match item {
+            Item::Argument(word) => self.add(tool, word),
+            Item::Given(option, value) => {
+                if self.has(option) {
+                    return Err(ChainKind::Conflict);
+                }
+                self.set(option, value)
+            }
+            Item::Unknown => Err(ChainKind::UnknownOption),
+        }
+    }
+
+    /// Whether the option was there.
+    fn has(&self, option: ToolOption) -> bool
+        ensures { result ≡ has_option self.now option }
+    {
+        match option {
+            ToolOption::Left => self.cut.left.is_some(),
+            ToolOption::Right => self.cut.right.is_some(),
+            ToolOption::Top => self.cut.top.is_some(),
+            ToolOption::Bottom => self.cut.bottom.is_some(),
+            ToolOption::Width => self.cut.width.is_some(),
+            ToolOption::Height => self.cut.height.is_some(),
+            ToolOption::TupleType => self.tuple_type.is_some(),
+            ToolOption::XScale => self.across.is_some(),
+            ToolOption::YScale => self.down.is_some(),
+            ToolOption::Way(_) => self.way.is_some(),
+        }
+    }
+
+    fn set(&mut self, option: ToolOption, value: Option<&'a [u8]>) -> Result<(), ChainKind>
+        ensures set { OnOk result ((value_fault option (value_read value.entry) ≡ None) × (self.new ≡ with_option self.old option value.entry)) }
+        ensures refused { IfErr result (λ kind. value_fault option (value_read value.entry) ≡ Some kind) }
+    {
+        let Some(word) = value else {
+            return self.set_way(option);
+        };
+        match option {
+            ToolOption::Left => self.cut.left = Some(edge(word)?),
+            ToolOption::Right => self.cut.right = Some(edge(word)?),
+            ToolOption::Top => self.cut.top = Some(edge(word)?),
+            ToolOption::Bottom => self.cut.bottom = Some(edge(word)?),
+            ToolOption::Width => self.cut.width = Some(extent(word)?),
+            ToolOption::Height => self.cut.height = Some(extent(word)?),
+            ToolOption::TupleType if word.len() <= LONGEST_TUPLE_TYPE => self.tuple_type = value,
+            ToolOption::XScale => self.across = Some(extent(word)?),
+            ToolOption::YScale => self.down = Some(extent(word)?),
+            ToolOption::TupleType | ToolOption::Way(_) => return Err(ChainKind::BadValue),
+        }
+        Ok(())
+    }
+
+    /// Sets the way to flip; any other option wants a value.
+    fn set_way(&mut self, option: ToolOption) -> Result<(), ChainKind>
+        ensures set { OnOk result ((value_fault option None ≡ None) × (self.new ≡ with_option self.old option None)) }
+        ensures refused { IfErr result (λ kind. value_fault option None ≡ Some kind) }
+    {
+        let ToolOption::Way(way) = option else {
+            return Err(ChainKind::MissingValue);
+        };
+        self.way = Some(way);
+        Ok(())
+    }
+
+    fn add(&mut self, tool: ToolName, word: &[u8]) -> Result<(), ChainKind>
+        ensures added { OnOk result ((argument_fault tool self.old word.now ≡ None) × IsWithArgument tool self.old word.now self.new) }
+        ensures refused { IfErr result (λ kind. (kind ≡ Memory) ⊎ (argument_fault tool self.old word.now ≡ Some kind)) }
+    {
+        match tool {
+            ToolName::Invert | ToolName::Cut | ToolName::Flip => Err(ChainKind::ExtraArgument),
+            ToolName::Depth => fill(&mut self.first, word, GREATEST_MAXVAL),
+            ToolName::Channel => add_plane(&mut self.planes, word),
+            ToolName::Enlarge => fill(&mut self.first, word, GREATEST_EXTENT),
+            ToolName::Tile if self.first.is_none() => fill(&mut self.first, word, GREATEST_EXTENT),
+            ToolName::Tile => fill(&mut self.second, word, GREATEST_EXTENT),
+        }
+    }
+
+    /// The tool that these settings mean. The faults are `Conflict`, `MissingArgument` and `Memory`.
+    pub(crate) fn finish(self, alloc: Global, tool: ToolName) -> Result<Tool, ChainKind>
+        ensures meant { IfOk result (λ meaning. (items : List ItemSaid) → AreSettingsOf tool items self.entry
+            → (end_fault tool items ≡ None) × (meaning ≡ meant_by tool items)) }
+        ensures refused { IfErr result (λ kind. (items : List ItemSaid) → AreSettingsOf tool items self.entry
+            → (kind ≡ Memory) ⊎ (end_fault tool items ≡ Some kind)) }
+    {
+        match tool {
+            ToolName::Invert => Ok(Tool::Invert),
+            ToolName::Cut => cut(self.cut),
+            ToolName::Depth => match self.first {
+                Some(maxval) => Ok(Tool::Depth(maxval)),
+                None => Err(ChainKind::MissingArgument),
+            },
+            ToolName::Channel => pick(alloc, self.planes, self.tuple_type),
+            ToolName::Enlarge => enlarge(self.first, self.across, self.down),
+            ToolName::Flip => match self.way {
+                Some(way) => Ok(Tool::Flip(way)),
+                None => Err(ChainKind::MissingArgument),
+            },
+            ToolName::Tile => tile(self.first, self.second),
+        }
+    }
+}
+
+fn edge(word: &[u8]) -> Result<i32, ChainKind>
+    ensures read { IfOk result (λ edge. (spells_offset word.now ≡ true) × (edge ≡ offset_value word.now)) }
+    ensures refused { IfErr result (λ kind. (spells_offset word.now ≡ false) × (kind ≡ BadValue)) }
+{
+    offset(word).ok_or(ChainKind::BadValue)
+}
+
+fn extent(word: &[u8]) -> Result<u32, ChainKind>
+    ensures read { IfOk result (λ extent. (spells_number 1 16777216 word.now ≡ true) × (extent ≡ decimal_value word.now)) }
+    ensures refused { IfErr result (λ kind. (spells_number 1 16777216 word.now ≡ false) × (kind ≡ BadValue)) }
+{
+    number(word, 1, GREATEST_EXTENT).ok_or(ChainKind::BadValue)
+}
+
+/// Fills an argument with a number from 1 to `most`.
+fn fill(argument: &mut Option<u32>, word: &[u8], most: u32) -> Result<(), ChainKind>
+    ensures filled { OnOk result ((argument.old ≡ None) × (spells_number 1 most word.now ≡ true) × (argument.new ≡ Some (decimal_value word.now))) }
+    ensures refused { IfErr result (λ kind. IsRefused (is_some argument.old) (spells_number 1 most word.now) kind) }
+{
+    if argument.is_some() {
+        return Err(ChainKind::ExtraArgument);
+    }
+    *argument = Some(number(word, 1, most).ok_or(ChainKind::BadValue)?);
+    Ok(())
+}
+
+fn add_plane(planes: &mut Vec<u16>, word: &[u8]) -> Result<(), ChainKind>
+    ensures added { OnOk result ((nat_le 256 (length planes.old.items) ≡ false) × (spells_number 0 255 word.now ≡ true)
+        × (planes.new.items ≡ planes.old.items ++ decimal_value word.now ∷ [])) }
+    ensures refused { IfErr result (λ kind. (kind ≡ Memory) ⊎ IsRefused (nat_le 256 (length planes.old.items)) (spells_number 0 255 word.now) kind) }
+{
+    if planes.len() >= MOST_PLANES {
+        return Err(ChainKind::ExtraArgument);
+    }
+    let plane = number(word, 0, LAST_PLANE).ok_or(ChainKind::BadValue)?;
+    planes.push(plane as u16)?;
+    Ok(())
+}
+
+fn cut(cut: CutBox) -> Result<Tool, ChainKind>
+    ensures made { IfOk result (λ tool. (has_three cut ≡ false) × (tool ≡ tools.Cut cut)) }
+    ensures refused { IfErr result (λ kind. (has_three cut ≡ true) × (kind ≡ Conflict)) }
+{
+    let across = cut.left.is_some() && cut.right.is_some() && cut.width.is_some();
+    let down = cut.top.is_some() && cut.bottom.is_some() && cut.height.is_some();
+    if across || down {
+        return Err(ChainKind::Conflict);
+    }
+    Ok(Tool::Cut(cut))
+}
+
+fn pick(alloc: Global, planes: Vec<u16>, tuple_type: Option<&[u8]>) -> Result<Tool, ChainKind>
+    ensures made { IfOk result (λ tool. (0 < length planes.items) × (tool ≡ tools.Channel (picks planes.items (unwrap_or (value_read tuple_type.entry) [])))) }
+    ensures refused { IfErr result (λ kind. (kind ≡ Memory) ⊎ ((planes.items ≡ []) × (kind ≡ MissingArgument))) }
+{
+    if planes.is_empty() {
+        return Err(ChainKind::MissingArgument);
+    }
+    let tuple_type = Vec::from_slice(alloc, tuple_type.unwrap_or(b""))?;
+    Ok(Tool::Channel(Planes::new(planes, tuple_type)))
+}
+
+/// The one argument is both factors, or each has an option of its own; one that isn't given is 1.
+fn enlarge(factor: Option<u32>, across: Option<u32>, down: Option<u32>) -> Result<Tool, ChainKind>
+    ensures made { IfOk result (λ tool. (factors_fault factor across down ≡ None) × (tool ≡ factors_meant factor across down)) }
+    ensures refused { IfErr result (λ kind. factors_fault factor across down ≡ Some kind) }
+{
+    match (factor, across, down) {
+        (Some(factor), None, None) => Ok(Tool::Enlarge(factor, factor)),
+        (Some(_), _, _) => Err(ChainKind::Conflict),
+        (None, None, None) => Err(ChainKind::MissingArgument),
+        (None, _, _) => Ok(Tool::Enlarge(across.unwrap_or(1), down.unwrap_or(1))),
+    }
+}
+
+fn tile(columns: Option<u32>, rows: Option<u32>) -> Result<Tool, ChainKind>
+    ensures made { IfOk result (λ tool. ((is_some columns && is_some rows) ≡ true) × (tool ≡ tools.Tile (unwrap_or columns 0) (unwrap_or rows 0))) }
+    ensures refused { IfErr result (λ kind. ((is_some columns && is_some rows) ≡ false) × (kind ≡ MissingArgument)) }
+{
+    match (columns, rows) {
+        (Some(columns), Some(rows)) => Ok(Tool::Tile(columns, rows)),
+        _ => Err(ChainKind::MissingArgument),
+    }
+}

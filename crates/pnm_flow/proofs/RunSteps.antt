@@ -1,0 +1,272 @@
+-- What a run has read and written when all messages have passed.
+use Rattle.std.proofs.Common.{◌≡◌, ◌⊎◌, ℕ, Bool, List, [], ◌∷◌, ◌++◌, take, length, sum_by, zero-add, Option, None, Some, Result, Ok, Err, refl, sym, ap, subst, ◌∙◌, inl, inr, append_assoc}
+use Rattle.std.specs.Result.{MatchResult, is_err}
+use Rattle.std.specs.List.{AllByRecursion}
+use Rattle.std.specs.Io.KnownBytes.{Appends, Keeps}
+use Rattle.std.proofs.lemmas.List.{append-nil, take_at}
+use Rattle.pnm_image.specs.Devices.{Failed, AppendsFront}
+use Rattle.pnm_image.specs.declared.message.Message.{Message}
+use Rattle.pnm_image.specs.declared.message.Message.TheVariants.{Begin, Row, ImageEnd, StreamEnd, Stop}
+use Rattle.pnm_image.specs.Images.{Image, messages_of_stream}
+use Rattle.pnm_image.specs.Completion.{IsFrontOf, Completes}
+use Rattle.pnm_read.specs.declared.fault.InputFault.{InputFault}
+use Rattle.pnm_read.specs.declared.source.Source.{Source}
+use Rattle.pnm_read.specs.Said.{said_of, fault_of}
+use Rattle.pnm_read.specs.Inputs.{IsOutsideFault}
+use Rattle.pnm_read.specs.TextLaws.{IsAtFault}
+use Rattle.pnm_read.proofs.TextLaws.{spelled_text_is_said, said_text_is_spelled, spelled_are_images}
+use Rattle.pnm_read.proofs.FaultLaws.{fault_is_of_text}
+use Rattle.pnm_tools.specs.declared.fault.ToolFault.{ToolFault}
+use Rattle.pnm_tools.specs.declared.fault.ToolFault.TheVariants.{Memory}
+use Rattle.pnm_tools.specs.declared.tool.Tool.{Tool}
+use Rattle.pnm_tools.specs.declared.work.Work.{Work}
+use Rattle.pnm_tools.specs.States.{Standing, IsToolAt, is_all_given}
+use Rattle.pnm_tools.specs.Chains.{AreLawfulTools, due_in_turn}
+use Rattle.pnm_tools.specs.ChainAnswers.{IsSound, AreSound, HaveAnswered, AreWell, IsFirstFault}
+use Rattle.pnm_tools.proofs.ChainLaws.{given_are_sound, stream_is_answered, refusal_is_first, given_is_front}
+use Rattle.pnm_tools.proofs.SoundLaws.{sound_keeps_all}
+use Rattle.pnm_write.specs.declared.fault.SinkFault.{SinkFault}
+use Rattle.pnm_write.specs.declared.fault.SinkFault.TheVariants.{WriteFailed}
+use Rattle.pnm_write.specs.Encoding.{bytes_of}
+use Rattle.pnm_write.specs.Sinks.{HasRows, has_failed}
+use Rattle.pnm_write.proofs.MessageLaws.{bytes_of_stream}
+use Rattle.pnm_image.proofs.Written.{front-more}
+use Rattle.pnm_flow.specs.declared.downstream.Downstream.{Downstream}
+use Rattle.pnm_flow.specs.declared.serial_stage.SerialStage.{SerialStage}
+use Rattle.pnm_flow.specs.declared.serial_stage.SerialStage.TheVariants.{AtWork, Refused}
+use Rattle.pnm_flow.specs.declared.summary.Summary.{Summary}
+use Rattle.pnm_flow.specs.Counts.{counted, images_in, rows_in}
+use Rattle.pnm_flow.specs.Downstreams.{output_of, AreWritable, AreWritten, AreCutOff, HasTakenWith}
+use Rattle.pnm_flow.specs.Feeding.{IsSaidOf, HasFed}
+use Rattle.pnm_flow.specs.Runs.{EndedWell, IsRefusedBy, IsTaken, IsFrontOfDue, IsAllWritten}
+use Rattle.pnm_flow.specs.SerialStages.{refusals_in, StagesAt}
+use Rattle.pnm_flow.specs.SerialTools.{AreFresh}
+use Rattle.pnm_flow.proofs.ToolSteps.{fresh_at}
+use Rattle.pnm_flow.proofs.CountLaws.{images_in-stream, rows_in-stream}
+use Rattle.pnm_flow.proofs.MessageSteps.{bytes_of-append}
+use Rattle.pnm_flow.proofs.FeedingSteps.{said_are_sound}
+
+-- ---- what is said
+
+-- a fault from outside is no fault of a text
+pub no_text_fault : (text : List ℕ) (fault : InputFault) → fault_of text ≡ Some fault → IsOutsideFault fault → ⊥
+no_text_fault text fault e (inl read) = (fault_is_of_text text).0 (e ∙ ap (λ (f : InputFault). Some f) read)
+no_text_fault text fault e (inr memory) = (fault_is_of_text text).1 (e ∙ ap (λ (f : InputFault). Some f) memory)
+
+-- the fault of a text, which spells no images
+at_fault : (text : List ℕ) (fault : InputFault) → fault_of text ≡ Some fault → IsAtFault text fault
+at_fault text fault e = record {
+  first = e;
+  not_spelled = λ images s. let none = (spelled_text_is_said text images s).1 in cc (e, none);
+}
+
+pub input_fault : (text : List ℕ) (given : List Message) (fault : InputFault) → IsSaidOf text given (Err fault) → IsOutsideFault fault ⊎ IsAtFault text fault
+input_fault text given fault is =
+    elim is [
+      | inl own ↦ inr (at_fault text fault own.1)
+      | inr outside ↦ inl outside.0
+    ]
+
+-- what was given is a front of what is said
+said_front : (text : List ℕ) (given : List Message) (result : Result (Unit {0}) InputFault) → IsSaidOf text given result → IsFrontOf given (said_of text)
+said_front text given (Ok x) is = ([], is.0 ∙ sym (append-nil given))
+said_front text given (Err fault) is =
+    elim is [
+      | inl own ↦ ([], own.0 ∙ sym (append-nil given))
+      | inr outside ↦ outside.1
+    ]
+
+-- at the text's own fault it is all of it
+pub said_before_fault : (text : List ℕ) (given : List Message) (fault : InputFault) → IsSaidOf text given (Err fault) → fault_of text ≡ Some fault → said_of text ≡ given
+said_before_fault text given fault is e =
+    elim is [
+      | inl own ↦ own.0
+      | inr outside ↦ absurd (no_text_fault text fault e outside.0)
+    ]
+
+-- ---- the stages
+
+-- stages have answered what they received
+pub have_answered : {F : Type 0} (at : F → Tool → List Message → List Message → Type 0) (all_given : F → Bool) (stopped : F → Option ToolFault) (stages : List (SerialStage F)) (tools : List Tool) (l g : List Message) → StagesAt at all_given stopped stages tools l g → HaveAnswered tools (refusals_in stages) l g
+have_answered at all_given stopped [] [] l g is = is
+have_answered at all_given stopped [] (tool ∷ tools) l g is = absurd is
+have_answered at all_given stopped (stage ∷ stages) [] l g is = absurd is
+have_answered at all_given stopped (AtWork filter ∷ stages) (tool ∷ tools) l g is = (is.0, is.1.full, have_answered at all_given stopped stages tools is.0 g is.2)
+have_answered at all_given stopped (Refused fault ∷ stages) (tool ∷ tools) l g is = (is.0, is.1, have_answered at all_given stopped stages tools is.0 g is.2)
+
+-- a sink takes sound messages
+rows_of_sound : (l : List Message) → AllByRecursion IsSound l → AllByRecursion HasRows l
+rows_of_sound [] s = tt
+rows_of_sound (Begin head ∷ l) s = (s.0, rows_of_sound l s.1)
+rows_of_sound (Row row ∷ l) s = (tt, rows_of_sound l s.1)
+rows_of_sound (ImageEnd ∷ l) s = (tt, rows_of_sound l s.1)
+rows_of_sound (StreamEnd ∷ l) s = (tt, rows_of_sound l s.1)
+rows_of_sound (Stop ∷ l) s = absurd s.0
+
+sound_is_writable : (l : List Message) → AreSound l → AreWritable l
+sound_is_writable l s = (s.lawful, rows_of_sound l s.sound)
+
+-- ---- what is written
+
+-- a growth, and nothing after it
+Appends-kept : (a b c : Option (List ℕ)) (x : List ℕ) → Appends a b x → Keeps b c → Appends a c x
+Appends-kept None b c x p k = tt
+Appends-kept (Some xs) None c x p k = absurd p
+Appends-kept (Some xs) (Some ys) None x p k = k
+Appends-kept (Some xs) (Some ys) (Some zs) x p k = k ∙ p
+
+-- a growth is a front of more
+front_of_more : (a b : Option (List ℕ)) (x y : List ℕ) → Appends a b x → AppendsFront a b (x ++ y)
+front_of_more a b x y p = (length x, subst (Appends a b) (sym (take_at x y (length x) refl)) p)
+
+-- a front, and then nothing more
+front-kept : (a b c : Option (List ℕ)) (x : List ℕ) → AppendsFront a b x → Keeps b c → AppendsFront a c x
+front-kept a b c x p k = (p.0, Appends-kept a b c (take p.0 x) p.1 k)
+
+-- nothing is written yet
+pub nothing_front : (a : Option (List ℕ)) (bytes : List ℕ) → AppendsFront a a bytes
+nothing_front None bytes = (0, tt)
+nothing_front (Some xs) bytes = (0, sym (append-nil xs))
+
+output_front : {W : Type 0} (held : W → Option (List ℕ)) (failures : W → ℕ) (start : W) (out : List Message) (more : List ℕ) (d : Downstream W) (o : Result (Unit {0}) SinkFault) → AreWritable out → HasTakenWith held failures start out d o → AppendsFront (held start) (held (output_of d)) (bytes_of out ++ more)
+output_front held failures start out more d (Ok x) writable is = front_of_more (held start) (held (output_of d)) (bytes_of out) more is.written.bytes
+output_front held failures start out more d (Err fault) writable is = front-more (held start) (held (output_of d)) (bytes_of out) more (is.front writable).1.0
+
+output_all : {W : Type 0} (held : W → Option (List ℕ)) (failures : W → ℕ) (start done : W) (out : List Message) (d : Downstream W) (o : Result (Unit {0}) SinkFault) → AreWritable out → HasTakenWith held failures start out d o
+    → ((fault : SinkFault) → o ≡ Err fault → done ≡ output_of d) → Keeps (held (output_of d)) (held done) → ¬ Failed (failures start) (failures done)
+    → Appends (held start) (held done) (bytes_of out)
+output_all held failures start done out d (Ok x) writable is broken kept sound = Appends-kept (held start) (held (output_of d)) (held done) (bytes_of out) is.written.bytes kept
+output_all held failures start done out d (Err fault) writable is broken kept sound =
+    absurd (sound (subst (λ (w : _). Failed (failures start) (failures w)) (sym (broken fault refl)) (is.front writable).1.1))
+
+-- the sink has failed where its output is at fault
+pub failed_so : {W : Type 0} (held : W → Option (List ℕ)) (failures : W → ℕ) (start : W) (out : List Message) (d : Downstream W) (o : Result (Unit {0}) SinkFault) → HasTakenWith held failures start out d o → has_failed d.sink ≡ is_err o
+failed_so held failures start out d (Ok x) is = is.sound
+failed_so held failures start out d (Err fault) is = is.failed
+
+-- ---- the run
+
+-- What a run knows at its end: what the source gave, what the stages answered, and what the sink took.
+pub record Ran {W : Type 0} (held : W → Option (List ℕ)) (failures : W → ℕ) (start : W) (tools : List Tool) (faults : List (Option ToolFault)) (given out : List Message) (d : Downstream W) : Type 0 where
+  pub lawful : AreLawfulTools tools
+  pub sound : AreSound given
+  pub answered : HaveAnswered tools faults given out
+  pub taken : HasTakenWith held failures start out d d.output
+
+out_is_writable : {W : Type 0} (held : W → Option (List ℕ)) (failures : W → ℕ) (start : W) (tools : List Tool) (faults : List (Option ToolFault)) (given out : List Message) (d : Downstream W) → Ran held failures start tools faults given out d → AreWritable out
+out_is_writable held failures start tools faults given out d ran = sound_is_writable out (given_are_sound tools faults given out ran.lawful ran.sound ran.answered)
+
+-- images that complete what is said complete a front of it
+completes_front : (l given : List Message) (is : List Image) → AreSound l → AreSound given → IsFrontOf given l → Completes is l → Completes is given
+completes_front l given is sound given_sound front c = record {
+  images = c.images;
+  front = (
+    front.0 ++ c.front.0,
+    c.front.1 ∙ ap (λ (x : List Message). x ++ c.front.0) (sound_keeps_all l sound.sound ∙ front.1) ∙ append_assoc given front.0 c.front.0 ∙ ap (λ (x : List Message). x ++ (front.0 ++ c.front.0)) (sym (sound_keeps_all given given_sound.sound)),
+  );
+}
+
+-- however it ends, what was written is a front of what is due
+pub run_front : {W : Type 0} (held : W → Option (List ℕ)) (failures : W → ℕ) (start done : W) (tools : List Tool) (faults : List (Option ToolFault)) (given out : List Message) (d : Downstream W) (text : List ℕ) (result : Result (Unit {0}) InputFault)
+    → Ran held failures start tools faults given out d → IsSaidOf text given result → Keeps (held (output_of d)) (held done) → IsFrontOfDue text tools (held start) (held done)
+run_front held failures start done tools faults given out d text result ran said kept images completes =
+    let c = completes_front (said_of text) given images (said_are_sound text) ran.sound (said_front text given result said) completes in
+    let front = given_is_front tools faults given out images ran.lawful ran.sound ran.answered c in
+    let more = bytes_of-append out front.0 in
+    front-kept (held start) (held (output_of d)) (held done) (bytes_of (due_in_turn tools images))
+    (subst (AppendsFront (held start) (held (output_of d))) (sym (ap bytes_of front.1 ∙ more.1))
+    (output_front held failures start out more.0 d d.output (out_is_writable held failures start tools faults given out d ran) ran.taken))
+    kept
+
+-- where the whole text was read, all that the tools answered was written, unless the writer failed
+pub run_all : {W : Type 0} (held : W → Option (List ℕ)) (failures : W → ℕ) (start done : W) (tools : List Tool) (faults : List (Option ToolFault)) (given out : List Message) (d : Downstream W) (text : List ℕ)
+    → Ran held failures start tools faults given out d → said_of text ≡ given → ((f : SinkFault) → d.output ≡ Err f → done ≡ output_of d) → Keeps (held (output_of d)) (held done) → ¬ Failed (failures start) (failures done)
+    → IsAllWritten text tools (held start) (held done)
+run_all held failures start done tools faults given out d text ran said broken kept sound = record {
+  faults = faults;
+  given = out;
+  answered = subst (λ (l : List Message). HaveAnswered tools faults l out) (sym said) ran.answered;
+  written = output_all held failures start done out d d.output (out_is_writable held failures start tools faults given out d ran) ran.taken broken kept sound;
+}
+
+-- the first fault of the stages
+pub run_refused : {W : Type 0} (held : W → Option (List ℕ)) (failures : W → ℕ) (start : W) (tools : List Tool) (faults : List (Option ToolFault)) (given out : List Message) (d : Downstream W) (text : List ℕ) (number : ℕ) (fault : ToolFault)
+    → Ran held failures start tools faults given out d → (said_of text ≡ given) × (fault_of text ≡ None) → IsFirstFault 1 faults number fault → (fault ≡ Memory) ⊎ IsRefusedBy text tools number fault
+run_refused held failures start tools faults given out d text number fault ran said first =
+    let found = said_text_is_spelled text said.1 in
+    let stream : given ≡ messages_of_stream found.0 = sym said.0 ∙ found.2 in
+    elim (refusal_is_first tools faults found.0 out number fault ran.lawful (spelled_are_images text found.0 found.1) (subst AreSound stream ran.sound) (subst (λ (l : List Message). HaveAnswered tools faults l out) stream ran.answered) first) [
+      | inl memory ↦ inl memory
+      | inr refusal ↦ inr (found.0, found.1, refusal)
+    ]
+
+-- no stage has refused
+pub run_taken : {W : Type 0} (held : W → Option (List ℕ)) (failures : W → ℕ) (start : W) (tools : List Tool) (faults : List (Option ToolFault)) (given out : List Message) (d : Downstream W) (text : List ℕ)
+    → Ran held failures start tools faults given out d → (said_of text ≡ given) × (fault_of text ≡ None) → AreWell faults → IsTaken text tools
+run_taken held failures start tools faults given out d text ran said well =
+    let found = said_text_is_spelled text said.1 in
+    let stream : given ≡ messages_of_stream found.0 = sym said.0 ∙ found.2 in
+    let answered = stream_is_answered tools faults found.0 out ran.lawful (spelled_are_images text found.0 found.1) well (subst (λ (l : List Message). HaveAnswered tools faults l out) stream ran.answered) in
+    (found.0, found.1, answered.4)
+
+-- the writer failed
+pub run_output : {W : Type 0} (held : W → Option (List ℕ)) (failures : W → ℕ) (start done : W) (tools : List Tool) (faults : List (Option ToolFault)) (given out : List Message) (d : Downstream W) (o : Result (Unit {0}) SinkFault) (answer : Result Summary SinkFault) (fault : SinkFault)
+    → Ran held failures start tools faults given out d → d.output ≡ o
+    → ((f : SinkFault) → d.output ≡ Err f → (answer ≡ Err f) × (done ≡ output_of d))
+    → (d.output ≡ Ok tt → MatchResult answer (λ summary. (summary ≡ d.summary) × (failures done ≡ failures (output_of d))) (λ f. (f ≡ WriteFailed) × Failed (failures (output_of d)) (failures done)))
+    → answer ≡ Err fault → (fault ≡ WriteFailed) × Failed (failures start) (failures done)
+run_output held failures start done tools faults given out d (Ok tt) answer fault ran o-is broken well answer-is =
+    let written : AreWritten held failures start out d = subst (HasTakenWith held failures start out d) o-is ran.taken in
+    let failed = rw answer-is at (well o-is) in
+    (failed.0, subst (λ (n : ℕ). Failed n (failures done)) written.count failed.1)
+run_output held failures start done tools faults given out d (Err other) answer fault ran o-is broken well answer-is =
+    let cut : AreCutOff held failures start out d other = subst (HasTakenWith held failures start out d) o-is ran.taken in
+    let both = broken other o-is in
+    let same : fault ≡ other = cc (both.0, answer-is) in
+    let front = cut.front (out_is_writable held failures start tools faults given out d ran) in
+    (same ∙ front.0, subst (λ (w : _). Failed (failures start) (failures w)) (sym both.1) front.1.1)
+
+-- the writer didn't fail
+pub run_sound : {W : Type 0} (held : W → Option (List ℕ)) (failures : W → ℕ) (start done : W) (tools : List Tool) (faults : List (Option ToolFault)) (given out : List Message) (d : Downstream W) (o : Result (Unit {0}) SinkFault) (answer : Result Summary SinkFault) (summary : Summary)
+    → Ran held failures start tools faults given out d → d.output ≡ o
+    → ((f : SinkFault) → d.output ≡ Err f → (answer ≡ Err f) × (done ≡ output_of d))
+    → (d.output ≡ Ok tt → MatchResult answer (λ summary. (summary ≡ d.summary) × (failures done ≡ failures (output_of d))) (λ f. (f ≡ WriteFailed) × Failed (failures (output_of d)) (failures done)))
+    → answer ≡ Ok summary → AreWritten held failures start out d × (summary ≡ d.summary) × (failures done ≡ failures start)
+run_sound held failures start done tools faults given out d (Ok tt) answer summary ran o-is broken well answer-is =
+    let written : AreWritten held failures start out d = subst (HasTakenWith held failures start out d) o-is ran.taken in
+    let same = rw answer-is at (well o-is) in
+    (written, same.0, same.1 ∙ written.count)
+run_sound held failures start done tools faults given out d (Err other) answer summary ran o-is broken well answer-is = absurd (cc ((broken other o-is).0, answer-is))
+
+-- a run that ended well
+pub run_well : {W : Type 0} (held : W → Option (List ℕ)) (failures : W → ℕ) (start done : W) (tools : List Tool) (faults : List (Option ToolFault)) (given out : List Message) (d : Downstream W) (summary : Summary) (text : List ℕ)
+    → Ran held failures start tools faults given out d → (said_of text ≡ given) × (fault_of text ≡ None) → AreWell faults → AreWritten held failures start out d → summary ≡ d.summary → Keeps (held (output_of d)) (held done)
+    → EndedWell text tools (held start) (held done) summary
+run_well held failures start done tools faults given out d summary text ran said well written same kept =
+    let found = said_text_is_spelled text said.1 in
+    let stream : given ≡ messages_of_stream found.0 = sym said.0 ∙ found.2 in
+    let answered = stream_is_answered tools faults found.0 out ran.lawful (spelled_are_images text found.0 found.1) well (subst (λ (l : List Message). HaveAnswered tools faults l out) stream ran.answered) in
+    let results : List Image = answered.0 in
+    let counts_images : d.summary.images ≡ counted (length results) = written.images ∙ ap (images_in 0) answered.3 ∙ images_in-stream 0 results ∙ ap counted (zero-add (length results)) in
+    let counts_rows : d.summary.rows ≡ counted (sum_by (λ i. i.head.shape.height) results) = written.rows ∙ ap (rows_in 0) answered.3 ∙ rows_in-stream 0 results ∙ ap counted (zero-add _) in
+    let both : ℕ → ℕ → Summary = λ (a b : ℕ). record { images = a; rows = b } in
+    record {
+      images = found.0;
+      results = results;
+      spelled = found.1;
+      made = answered.1;
+      written = subst (Appends (held start) (held done)) (ap bytes_of answered.3 ∙ bytes_of_stream results) (Appends-kept (held start) (held (output_of d)) (held done) (bytes_of out) written.written.bytes kept);
+      counts = same ∙ ap (λ k. both k d.summary.rows) counts_images ∙ ap (λ k. both (counted (length results)) k) counts_rows;
+    }
+
+-- the end of the source's messages
+pub ran_of : {R W : Type 0} (left : R → Option (List ℕ)) (reader_failures : R → ℕ) (held : W → Option (List ℕ)) (failures : W → ℕ) (source source_new : Source R) (result : Result (Unit {0}) InputFault) (old new : List (SerialStage (Standing Work))) (before after : Downstream W) (tools : List Tool)
+    → AreLawfulTools tools → AreFresh old tools → HasTakenWith held failures (output_of before) [] before before.output
+    → (fed : HasFed left reader_failures IsToolAt (λ s. is_all_given s.pending) (λ s. s.fault) held failures source source_new result old new before after)
+    → Ran held failures (output_of before) tools (refusals_in new) fed.given fed.output.out after
+ran_of left reader_failures held failures source source_new result old new before after tools lawful fresh start fed = record {
+  lawful = lawful;
+  sound = fed.sound;
+  answered = have_answered IsToolAt (λ s. is_all_given s.pending) (λ s. s.fault) new tools fed.given fed.output.out (fed.output.stages tools (fresh_at old tools fresh));
+  taken = fed.output.taken (output_of before) start;
+}

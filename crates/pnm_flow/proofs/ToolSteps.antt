@@ -1,0 +1,45 @@
+-- The tools of a chain before the first message.
+use Rattle.std.proofs.Common.{◌≡◌, ℕ, zero, suc, ◌<◌, List, [], ◌∷◌, ◌++◌, length, take, get_or, refl, ap, arith}
+use Rattle.pnm_tools.specs.declared.tool.Tool.{Tool}
+use Rattle.pnm_tools.specs.declared.work.Work.{Work}
+use Rattle.pnm_tools.specs.Answers.{Answers, AnswersInFull}
+use Rattle.pnm_tools.specs.Chains.{AreLawfulTools}
+use Rattle.pnm_tools.specs.States.{Standing, IsToolAt, IsFresh, is_all_given}
+use Rattle.pnm_tools.specs.Tools.{IsLawfulTool}
+use Rattle.pnm_tools.proofs.OwedLaws.{nothing_yet}
+use Rattle.pnm_flow.specs.declared.serial_stage.SerialStage.{SerialStage}
+use Rattle.pnm_flow.specs.SerialStages.{IsIdle}
+use Rattle.pnm_flow.specs.SerialTools.{ToolAt, ToolsAt, AreFresh}
+
+-- nothing is a full answer to nothing
+nothing_is_full : (tool : Tool) → Answers tool [] [] → AnswersInFull tool [] []
+nothing_is_full tool answers = record { answers = answers; taken = tt; all = λ is c. nothing_yet tool is; ends = λ e ends. ends }
+
+pub fresh_is_idle : (s : Standing Work) (tool : Tool) → IsFresh s tool → IsIdle IsToolAt (λ s. is_all_given s.pending) (λ s. s.fault) s tool [] []
+fresh_is_idle s tool fresh = record { state = fresh.state; told = fresh.told; going = fresh.going; full = nothing_is_full tool fresh.state.answers }
+
+-- one tool more
+pub fresh_more : (stages : List (SerialStage (Standing Work))) (tools : List Tool) (stage : SerialStage (Standing Work)) (tool : Tool) → AreFresh stages tools → ToolAt stage tool [] [] → AreFresh (stages ++ stage ∷ []) (tools ++ tool ∷ [])
+fresh_more [] [] stage tool at one = (one, tt)
+fresh_more [] (t ∷ tools) stage tool at one = absurd at
+fresh_more (s ∷ stages) [] stage tool at one = absurd at
+fresh_more (s ∷ stages) (t ∷ tools) stage tool at one = (at.0, fresh_more stages tools stage tool at.1 one)
+
+-- together they are a chain that has received nothing
+pub fresh_at : (stages : List (SerialStage (Standing Work))) (tools : List Tool) → AreFresh stages tools → ToolsAt stages tools [] []
+fresh_at [] [] at = refl
+fresh_at [] (t ∷ tools) at = absurd at
+fresh_at (s ∷ stages) [] at = absurd at
+fresh_at (s ∷ stages) (t ∷ tools) at = ([], at.0, fresh_at stages tools at.1)
+
+-- a tool of a lawful chain
+pub lawful_at : (tools : List Tool) (i : ℕ) (other : Tool) → AreLawfulTools tools → i < length tools → IsLawfulTool (get_or tools i other)
+lawful_at [] i other lawful within = absurd (omega arith)
+lawful_at (t ∷ tools) zero other lawful within = lawful.0
+lawful_at (t ∷ tools) (suc i) other lawful within = lawful_at tools i other lawful.1 (omega arith)
+
+-- a front of the tools, and the next
+pub front_more : (tools : List Tool) (i : ℕ) (other : Tool) → i < length tools → take i tools ++ get_or tools i other ∷ [] ≡ take (suc i) tools
+front_more [] i other within = absurd (omega arith)
+front_more (t ∷ tools) zero other within = refl
+front_more (t ∷ tools) (suc i) other within = ap (λ (l : List Tool). t ∷ l) (front_more tools i other (omega arith))

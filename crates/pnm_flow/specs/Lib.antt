@@ -1,0 +1,7 @@
+pub mod Counts
+pub mod Downstreams
+pub mod SerialStages
+pub mod SerialTools
+pub mod Runs
+pub mod Feeding
+pub mod Examples

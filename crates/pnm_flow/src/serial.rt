@@ -1,0 +1,157 @@
+//! A run in one thread: read, pass through the tools, write.
+
+ghost use Rattle.std.specs.Prelude.{◌≡◌, ◌⊎◌, List, [], ℕ, Some, None, Err, Ok, IfOk, IfErr, IfSome, IfNone, OnOk};
+ghost use Rattle.pnm_image.specs.Devices.{Failed};
+ghost use Rattle.pnm_read.specs.declared.fault.InputFault.TheVariants.{ReadFailed, Memory};
+ghost use Rattle.pnm_read.specs.Inputs.{IsOutsideFault};
+ghost use Rattle.pnm_read.specs.Sources.{reader_of, IsFresh as IsUnread};
+ghost use Rattle.pnm_read.specs.TextLaws.{IsAtFault};
+ghost use Rattle.pnm_tools.specs.declared.fault.ToolFault.TheVariants.{Memory as NoMemory};
+ghost use Rattle.pnm_tools.specs.Chains.{AreLawfulTools, IsChain};
+ghost use Rattle.pnm_tools.specs.ChainAnswers.{AreWell, IsFirstFault};
+ghost use Rattle.pnm_tools.specs.Tools.{IsLawfulTool};
+ghost use Rattle.pnm_write.specs.declared.fault.SinkFault.TheVariants.{WriteFailed};
+ghost use Rattle.pnm_flow.specs.Downstreams.{output_of};
+ghost use Rattle.pnm_flow.specs.Runs.{EndedWell, IsRefusedBy, IsTaken, IsFrontOfDue, IsAllWritten, HasRead, OutlastsRun, IfInput, IfTool, IfOutput};
+ghost use Rattle.pnm_flow.specs.SerialStages.{refusals_in};
+ghost use Rattle.pnm_flow.specs.SerialTools.{ToolAt, AreFresh};
+ghost use Rattle.pnm_flow.specs.Feeding.{HasFed};
+
+use crate::downstream::Downstream;
+use crate::fault::RunFault;
+use crate::serial_stage::{SerialStage, feed_through};
+use crate::summary::Summary;
+use pnm_image::{BytesIn, BytesOut};
+use pnm_read::{InputFault, Source};
+use pnm_tools::{Filter, Tool, ToolFault, ToolState};
+use std::alloc::Global;
+
+/// Reads the images of the reader, passes them through the tools and writes what comes out. The
+/// input's fault is answered before those of the tools, these in the order of the tools, and all of
+/// them before the output's. After a fault of a tool or of the output it goes on reading, and so it
+/// does after want of memory for one of the tools, so that a fault that comes before that one in this
+/// order is still met; where there is no memory for the list of the tools, nothing is read and the
+/// fault is that of tool 1. An input of which `u64::MAX` messages are said is answered by `ReadFailed`
+/// after them.
+pub fn run_serial<R: BytesIn, W: BytesOut>(
+    alloc: Global,
+    reader: &mut R,
+    writer: &mut W,
+    tools: &[Tool],
+) -> Result<Summary, RunFault>
+    requires { IsChain tools.now }
+    // It ends well only where the whole input is accepted, no tool refuses an image, and the results of all
+    // images are written.
+    ensures well { (text : List ℕ) → R.left reader.old ≡ Some text
+        → IfOk result (EndedWell text tools.now (W.held writer.old) (W.held writer.new)) }
+    ensures no_failure { OnOk result ((R.failures reader.new ≡ R.failures reader.old) × (W.failures writer.new ≡ W.failures writer.old)) }
+
+    // An input that is accepted is refused only where the reader fails or memory runs out.
+    ensures input { (text : List ℕ) → R.left reader.old ≡ Some text
+        → IfInput result (λ fault. IsOutsideFault fault ⊎ IsAtFault text fault) }
+    ensures read_failed { IfInput result (λ fault. fault ≡ ReadFailed
+        → Failed (R.failures reader.old) (R.failures reader.new) ⊎ OutlastsRun (R.left reader.old) (R.left reader.new)) }
+
+    // A tool's fault is answered only where the input has none, and no tool before it refuses an image.
+    ensures tool { (text : List ℕ) → R.left reader.old ≡ Some text
+        → IfTool result (λ number fault. (fault ≡ NoMemory) ⊎ IsRefusedBy text tools.now number fault) }
+
+    // The output's fault is answered only where the input and the tools have none.
+    ensures output { IfOutput result (λ fault. (fault ≡ WriteFailed)
+        × Failed (W.failures writer.old) (W.failures writer.new)
+        × (R.failures reader.new ≡ R.failures reader.old)) }
+    ensures output_last { (text : List ℕ) → R.left reader.old ≡ Some text
+        → IfOutput result (λ _. IsTaken text tools.now) }
+
+    // However it ends, what is written is a front of the output due. At the end of the input or at its fault
+    // it is all that the tools have answered, unless the writer failed.
+    ensures front { (text : List ℕ) → R.left reader.old ≡ Some text
+        → IsFrontOfDue text tools.now (W.held writer.old) (W.held writer.new) }
+    ensures all_written { (text : List ℕ) → R.left reader.old ≡ Some text
+        → HasRead text result → ¬ Failed (W.failures writer.old) (W.failures writer.new)
+        → IsAllWritten text tools.now (W.held writer.old) (W.held writer.new) }
+
+    // Where memory runs out before the first message, the reader is gone with the source.
+    ensures same_reader { ¬ (result ≡ Err (RunFault.Input Memory)) → R.same reader.old reader.new }
+    ensures same_writer { W.same writer.old writer.new }
+{
+    let mut stages = match stages_of(alloc, tools) {
+        Ok(stages) => stages,
+        Err(fault) => return Err(RunFault::Tool(1, fault)),
+    };
+    let mut source = match Source::new(alloc, &mut *reader) {
+        Ok(source) => source,
+        Err(fault) => return Err(RunFault::Input(fault)),
+    };
+    let mut downstream = Downstream::new(&mut *writer);
+    let input = feed_all(&mut source, stages.as_mut_slice(), &mut downstream);
+    let read = source.into_reader();
+    let (written, output) = downstream.finish();
+    // No effect at run time. The proof reads from these uses what the two devices hold.
+    let _ = &*read;
+    let _ = &*written;
+    match (input, first_fault(stages.as_slice()), output) {
+        (Err(fault), _, _) => Err(RunFault::Input(fault)),
+        (Ok(()), Some((number, fault)), _) => Err(RunFault::Tool(number, fault)),
+        (Ok(()), None, Err(fault)) => Err(RunFault::Output(fault)),
+        (Ok(()), None, Ok(summary)) => Ok(summary),
+    }
+}
+
+/// Each tool at work, as a stage; one for which there is no memory has refused. The only fault is
+/// `Memory`, for the list.
+fn stages_of(alloc: Global, tools: &[Tool]) -> Result<Vec<SerialStage<ToolState>>, ToolFault>
+    requires { AreLawfulTools tools.now }
+    ensures fresh { IfOk result (λ stages. AreFresh stages.items tools.now) }
+    ensures refused { IfErr result (λ fault. fault ≡ NoMemory) }
+{
+    let mut stages = Vec::with_capacity(alloc, tools.len())?;
+    for tool in tools {
+        stages.push(stage_of(alloc, tool))?;
+    }
+    Ok(stages)
+}
+
+fn stage_of(alloc: Global, tool: &Tool) -> SerialStage<ToolState>
+    requires { IsLawfulTool tool.now }
+    ensures { ToolAt result tool.now [] [] }
+{
+    match tool.start(alloc) {
+        Ok(state) => SerialStage::AtWork(state),
+        Err(fault) => SerialStage::Refused(fault),
+    }
+}
+
+/// The number and the fault of the first stage that has refused.
+fn first_fault<F: Filter + Drop>(stages: &[SerialStage<F>]) -> Option<(usize, ToolFault)>
+    ensures first { IfSome result (λ found. IsFirstFault 1 (refusals_in stages.now) found.0 found.1) }
+    ensures none { IfNone result (AreWell (refusals_in stages.now)) }
+{
+    for (index, stage) in stages.iter().enumerate() {
+        if let Some(fault) = stage.fault() {
+            return Some((index + 1, fault));
+        }
+    }
+    None
+}
+
+/// Passes on all messages of the source, through to its end or its fault. After `u64::MAX` of them
+/// it answers `ReadFailed`.
+fn feed_all<R: BytesIn, F: Filter + Drop, W: BytesOut + Drop>(
+    source: &mut Source<R>,
+    stages: &mut [SerialStage<F>],
+    downstream: &mut Downstream<W>,
+) -> Result<(), InputFault>
+    requires unread { IsUnread (reader_of source.old) source.old }
+    ensures fed { HasFed R.left R.failures F.at F.all_given F.stopped W.held W.failures source.old source.new result stages.old stages.new downstream.old downstream.new }
+    ensures same_reader { R.same (reader_of source.old) (reader_of source.new) }
+    ensures same_writer { W.same (output_of downstream.old) (output_of downstream.new) }
+{
+    for _ in 0..u64::MAX {
+        match source.next()? {
+            Some(message) => feed_through(stages, message, downstream),
+            None => return Ok(()),
+        }
+    }
+    Err(InputFault::ReadFailed)
+}

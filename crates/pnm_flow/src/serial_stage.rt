@@ -1,0 +1,83 @@
+//! The tools of a chain at work, each a stage, in one thread.
+
+ghost use Rattle.std.specs.Prelude.{◌≡◌, ◌<◌, ◌∷◌, ◌++◌, [], List, IfSome, IfNone};
+ghost use Rattle.pnm_image.specs.declared.message.Message.{Message as MessageValue};
+ghost use Rattle.pnm_tools.specs.declared.tool.Tool.{Tool as ToolValue};
+ghost use Rattle.pnm_flow.specs.Downstreams.{output_of};
+ghost use Rattle.pnm_flow.specs.SerialStages.{refusal_in, waiting_at, StageAt, StageBusy, FeedsThrough};
+
+use crate::downstream::Downstream;
+use pnm_image::{BytesOut, Message};
+use pnm_tools::{Filter, ToolFault};
+
+/// A tool of a chain.
+#[derive(Debug, Drop)]
+pub enum SerialStage<F> {
+    /// It takes messages.
+    AtWork(F),
+    /// It refused so, and takes no more.
+    Refused(ToolFault),
+}
+
+impl<F: Filter + Drop> SerialStage<F> {
+    /// Why the tool refused, if it did.
+    pub fn fault(&self) -> Option<ToolFault>
+        ensures { result ≡ refusal_in self.now }
+    {
+        match self {
+            SerialStage::AtWork(_) => None,
+            SerialStage::Refused(fault) => Some(*fault),
+        }
+    }
+
+    /// Feeds the tool a message. After its refusal the message is dropped.
+    fn feed(&mut self, message: Message)
+        ensures { (tool : ToolValue) (l g : List MessageValue) → StageAt F.at F.all_given F.stopped self.old tool l g
+            → StageBusy F.at F.stopped self.new tool (l ++ message ∷ []) g }
+    {
+        if let SerialStage::AtWork(filter) = self {
+            if let Err(fault) = filter.feed(message) {
+                *self = SerialStage::Refused(fault);
+            }
+        }
+    }
+
+    /// The next message that the tool gives, until it has given all, or refused.
+    fn next(&mut self) -> Option<Message>
+        ensures given { IfSome result (λ m. (tool : ToolValue) (l g : List MessageValue) → StageBusy F.at F.stopped self.old tool l g
+            → StageBusy F.at F.stopped self.new tool l (g ++ m ∷ [])) }
+        ensures fewer { IfSome result (λ _. waiting_at F.waiting self.new < waiting_at F.waiting self.old) }
+        ensures full { IfNone result ((tool : ToolValue) (l g : List MessageValue) → StageBusy F.at F.stopped self.old tool l g
+            → StageAt F.at F.all_given F.stopped self.new tool l g) }
+    {
+        let SerialStage::AtWork(filter) = self else {
+            return None;
+        };
+        match filter.next() {
+            Ok(answer) => answer,
+            Err(fault) => {
+                *self = SerialStage::Refused(fault);
+                None
+            }
+        }
+    }
+}
+
+/// Passes a message through the stages, and writes what the last of them gives.
+pub fn feed_through<F: Filter + Drop, W: BytesOut + Drop>(
+    stages: &mut [SerialStage<F>],
+    message: Message,
+    downstream: &mut Downstream<W>,
+)
+    ensures fed { FeedsThrough F.at F.all_given F.stopped W.held W.failures stages.old message stages.new downstream.old downstream.new }
+    ensures same_device { W.same (output_of downstream.old) (output_of downstream.new) }
+{
+    if stages.is_empty() {
+        downstream.put(message);
+        return;
+    }
+    stages[0].feed(message);
+    while let Some(answer) = stages[0].next() {
+        feed_through(&mut stages[1..], answer, downstream);
+    }
+}

@@ -1,7 +1,0 @@
-use Rattle.std.proofs.Common.{length}
-use Rattle.pnmpipe.specs.ChainText.{stages_of}
-use Rattle.pnmpipe.specs.Settings.{AreRead}
-use Rattle.pnmpipe.proofs.chain_text.parse_chain.Given as goal
-
-abbrev pub invariant-loop-stage : goal.invariant-loop-stage
-invariant-loop-stage l = AreRead (stages_of l.text) (length l.yielded) l.tools.items

@@ -1,5 +1,0 @@
-use Rattle.pnmpipe.proofs.ChainLaws.{one_chain_or_one_fault}
-use Rattle.pnmpipe.proofs.laws.one_chain_or_one_fault.Goals as goal
-
-pub returns : goal.returns
-returns c = one_chain_or_one_fault

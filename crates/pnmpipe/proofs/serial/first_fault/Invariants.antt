@@ -1,8 +1,0 @@
-use Rattle.std.proofs.Common.{take}
-use Rattle.pnm_tools.specs.ChainAnswers.{AreWell}
-use Rattle.pnmpipe.specs.Stages.{refusals_in}
-use Rattle.pnmpipe.proofs.serial.first_fault.Given as goal
-
--- the stages that were looked at haven't refused
-abbrev pub invariant-loop-index : goal.invariant-loop-index
-invariant-loop-index g l = AreWell (take l.index (refusals_in l.stages))
