@@ -8,7 +8,7 @@ is_blank b = (b == 32) || (b == 9) || (b == 13)
 
 -- blank, TAB, CR or LF
 abbrev pub is_white : ℕ → Bool
-is_white b = (b == 32) || (b == 9) || (b == 13) || (b == 10)
+is_white b = is_blank b || (b == 10)
 
 abbrev pub is_digit : ℕ → Bool
 is_digit b = nat_le 48 b && nat_le b 57

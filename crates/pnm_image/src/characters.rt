@@ -7,7 +7,7 @@ ghost use Rattle.pnm_image.specs.Texts.{is_white, is_blank, is_digit};
 pub fn is_white(byte: u8) -> bool
     ensures { result ≡ is_white byte }
 {
-    byte == b' ' || byte == b'\t' || byte == b'\r' || byte == b'\n'
+    is_blank(byte) || byte == b'\n'
 }
 
 /// Blank, TAB or CR: white space that a line can hold.

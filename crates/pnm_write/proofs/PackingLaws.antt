@@ -8,7 +8,7 @@ use Rattle.std.proofs.lemmas.List.Elements.{All-drop}
 use Rattle.pnm_image.specs.declared.packing.Packing.{Packing}
 use Rattle.pnm_image.specs.declared.packing.Packing.TheVariants.{Packed, Narrow, Wide}
 use Rattle.pnm_write.specs.Encoding.{pixel_bits, packed_byte, packed_groups, packed_bytes, wide_bytes, bytes_in}
-use Rattle.pnm_write.specs.Writes.{most_samples, FitIn}
+use Rattle.pnm_write.specs.Rooms.{most_samples, FitIn}
 
 -- ---- pixels
 

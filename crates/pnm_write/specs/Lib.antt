@@ -1,4 +1,4 @@
 pub mod Encoding
-pub mod Writes
+pub mod Rooms
 pub mod Sinks
 pub mod EncodingLaws

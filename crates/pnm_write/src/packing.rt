@@ -2,7 +2,7 @@
 
 ghost use Rattle.std.specs.Prelude.{◌≡◌, ◌≤◌, ◌*◌, ◌-◌, All, length, take};
 ghost use Rattle.pnm_write.specs.Encoding.{packed_byte, packed_bytes, wide_bytes, bytes_in};
-ghost use Rattle.pnm_write.specs.Writes.{most_samples, FitIn};
+ghost use Rattle.pnm_write.specs.Rooms.{most_samples, FitIn};
 
 use pnm_image::Packing;
 

@@ -2,7 +2,7 @@
 
 ghost use Rattle.std.specs.Prelude.{◌≡◌, ◌+◌, ◌≤◌, [], ◌++◌, length};
 ghost use Rattle.pnm_write.specs.Encoding.{bytes_in};
-ghost use Rattle.pnm_write.specs.Writes.{most_samples, FitIn};
+ghost use Rattle.pnm_write.specs.Rooms.{most_samples, FitIn};
 
 use crate::packing::encode;
 use pnm_image::Packing;

@@ -1,7 +1,7 @@
 use Rattle.std.proofs.Common.{◌≡◌, ◌∙◌, ◌++◌, min, List, ℕ, length, take, drop, ap, sym, subst}
 use Rattle.pnm_image.specs.declared.packing.Packing.{Packing}
 use Rattle.pnm_write.specs.Encoding.{bytes_in}
-use Rattle.pnm_write.specs.Writes.{most_samples}
+use Rattle.pnm_write.specs.Rooms.{most_samples}
 use Rattle.pnm_image.specs.Devices.{FailsIn}
 use Rattle.pnm_write.proofs.PackingLaws.{parts, fit_rest}
 use Rattle.pnm_image.proofs.Written.{at_any_error, sending_part, sending_part_failed}
