@@ -1,8 +1,9 @@
 # pnmpipe: `make` proves and builds, `make check` is the whole gate.
 
 PROGRAM := crates/pnmpipe
+CRATES := pnm_image pnm_read pnm_tools pnm_write pnm_chain pnm_flow pnmpipe
 
-.PHONY: all check help toolchain refused-growth
+.PHONY: all check test help toolchain refused-growth
 
 all: toolchain
 	mkdir -p bin
@@ -11,9 +12,14 @@ all: toolchain
 	rm bin/stored-run
 	cp $(PROGRAM)/out/pnmpipe bin/pnmpipe
 
+# a sample of the refused allocations, since each turn builds the program anew
 check: toolchain
-	sh scripts/refused_growth.sh
+	STEP=10 sh scripts/refused_growth.sh
 	rt ci
+
+# the tests alone, built and run as they stand: `make check` proves them too
+test: toolchain
+	for crate in $(CRATES); do (cd crates/$$crate && rt try --test) || exit 1; done
 
 # each allocation of the stored run, of each tool, of a run over three tools, and of the program's words, refused in turn
 refused-growth: toolchain
@@ -27,6 +33,7 @@ toolchain:
 
 help:
 	@echo "make                 proves the crates, builds the program and leaves it as bin/pnmpipe"
+	@echo "make test            the tests alone, without their proofs"
 	@echo "make check           the whole gate: every proof from nothing, the edits that must fail, the tests and the stored run"
 	@echo "make refused-growth  refuses each allocation of the stored run, of each tool, of a chain of three tools, and of the program's words, in turn"
 	@echo "make help            this list"

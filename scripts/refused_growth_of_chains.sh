@@ -3,7 +3,7 @@
 # one has to answer want of memory by name, and to write a front of the whole output: the first test of
 # src/tests/memory.rt says so, and the second whether one was met.
 set -eu
-cd "$(dirname "$0")/../crates/pnmpipe"
+cd "$(dirname "$0")/../crates/pnm_flow"
 work=$(mktemp -d)
 trap 'rm -rf "$work"' EXIT
 

@@ -1,21 +1,23 @@
 #!/bin/sh
 # Refuses each allocation of a chain's text, of a call for help, and of a run, in turn, until none of them
 # meets a refusal. Each has to be answered by name, and what the program wrote to be a front of its whole
-# output: three tests of src/tests/words_memory.rt say so, and the other three whether one was met. A turn
-# builds the tests anew, so this takes most of an hour. FIRST, by default 1, is the first turn.
+# output: a test of pnm_chain's src/tests/memory.rt and two of pnmpipe's src/tests/words_memory.rt say so,
+# and the other three whether one was met. A turn builds the tests anew, so this takes most of an hour.
+# FIRST, by default 1, is the first turn.
 set -eu
-cd "$(dirname "$0")/../crates/pnmpipe"
+cd "$(dirname "$0")/../crates"
 work=$(mktemp -d)
 trap 'rm -rf "$work"' EXIT
 
 # passed NAME: the test passed in this turn
 passed() {
-    grep -q "^test tests::words_memory::$1 \.\.\. ok\$" "$work/log"
+    grep -q "^test tests::[a-z_]*memory::$1 \.\.\. ok\$" "$work/log"
 }
 
 n=${FIRST:-1}
 while [ "$n" -le 400 ]; do
-    rt try --test --fail-alloc "$n" -- "tests::words_memory::" > "$work/log" 2>&1 || true
+    (cd pnm_chain && rt try --test --fail-alloc "$n" -- "tests::memory::") > "$work/log" 2>&1 || true
+    (cd pnmpipe && rt try --test --fail-alloc "$n" -- "tests::words_memory::") >> "$work/log" 2>&1 || true
     for answers in answers_want_of_memory_for_a_chain answers_want_of_memory_for_help answers_want_of_memory_for_a_run; do
         if ! passed "$answers"; then
             echo "refused growth $n: $answers failed" >&2
