@@ -38,7 +38,8 @@ impl<W: BytesOut + Drop> Downstream<W> {
 
     /// Writes the message, unless there was a fault of the output before.
     pub fn put(&mut self, message: Message)
-        ensures taken { (start : W) (messages : List MessageValue) → HasTaken W.held W.failures start messages self.old
+        ensures taken { (start : W) (messages : List MessageValue)
+            → HasTaken W.held W.failures start messages self.old
             → HasTaken W.held W.failures start (messages ++ message ∷ []) self.new }
         ensures same_device { W.same (output_of self.old) (output_of self.new) }
     {
@@ -54,7 +55,8 @@ impl<W: BytesOut + Drop> Downstream<W> {
     pub fn finish(self) -> (W, Result<Summary, SinkFault>)
         requires { has_failed self.sink ≡ is_err self.output }
         ensures bytes { Keeps (W.held (output_of self)) (W.held result.0) }
-        ensures broken { (fault : Fault) → self.output ≡ Err fault → (result.1 ≡ Err fault) × (result.0 ≡ output_of self) }
+        ensures broken { (fault : Fault) → self.output ≡ Err fault
+            → (result.1 ≡ Err fault) × (result.0 ≡ output_of self) }
         ensures well { self.output ≡ Ok tt → MatchResult result.1
             (λ summary. (summary ≡ self.summary) × (W.failures result.0 ≡ W.failures (output_of self)))
             (λ fault. (fault ≡ WriteFailed) × Failed (W.failures (output_of self)) (W.failures result.0)) }

@@ -44,13 +44,15 @@ pub fn run_serial<R: BytesIn, W: BytesOut>(
     // images are written.
     ensures well { (text : List ℕ) → R.left reader.old ≡ Some text
         → IfOk result (EndedWell text tools.now (W.held writer.old) (W.held writer.new)) }
-    ensures no_failure { OnOk result ((R.failures reader.new ≡ R.failures reader.old) × (W.failures writer.new ≡ W.failures writer.old)) }
+    ensures no_failure { OnOk result
+        ((R.failures reader.new ≡ R.failures reader.old) × (W.failures writer.new ≡ W.failures writer.old)) }
 
     // An input that is accepted is refused only where the reader fails or memory runs out.
     ensures input { (text : List ℕ) → R.left reader.old ≡ Some text
         → IfInput result (λ fault. IsOutsideFault fault ⊎ IsAtFault text fault) }
     ensures read_failed { IfInput result (λ fault. fault ≡ ReadFailed
-        → Failed (R.failures reader.old) (R.failures reader.new) ⊎ OutlastsRun (R.left reader.old) (R.left reader.new)) }
+        → Failed (R.failures reader.old) (R.failures reader.new)
+        ⊎ OutlastsRun (R.left reader.old) (R.left reader.new)) }
 
     // A tool's fault is answered only where the input has none, and no tool before it refuses an image.
     ensures tool { (text : List ℕ) → R.left reader.old ≡ Some text
@@ -143,7 +145,8 @@ fn feed_all<R: BytesIn, F: Filter + Drop, W: BytesOut + Drop>(
     downstream: &mut Downstream<W>,
 ) -> Result<(), InputFault>
     requires unread { IsUnread (reader_of source.old) source.old }
-    ensures fed { HasFed R.left R.failures F.at F.all_given F.stopped W.held W.failures source.old source.new result stages.old stages.new downstream.old downstream.new }
+    ensures fed { HasFed R.left R.failures F.at F.all_given F.stopped W.held W.failures
+        source.old source.new result stages.old stages.new downstream.old downstream.new }
     ensures same_reader { R.same (reader_of source.old) (reader_of source.new) }
     ensures same_writer { W.same (output_of downstream.old) (output_of downstream.new) }
 {

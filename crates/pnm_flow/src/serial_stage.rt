@@ -44,10 +44,12 @@ impl<F: Filter + Drop> SerialStage<F> {
 
     /// The next message that the tool gives, until it has given all, or refused.
     fn next(&mut self) -> Option<Message>
-        ensures given { IfSome result (λ m. (tool : ToolValue) (l g : List MessageValue) → StageBusy F.at F.stopped self.old tool l g
+        ensures given { IfSome result (λ m. (tool : ToolValue) (l g : List MessageValue)
+            → StageBusy F.at F.stopped self.old tool l g
             → StageBusy F.at F.stopped self.new tool l (g ++ m ∷ [])) }
         ensures fewer { IfSome result (λ _. waiting_at F.waiting self.new < waiting_at F.waiting self.old) }
-        ensures full { IfNone result ((tool : ToolValue) (l g : List MessageValue) → StageBusy F.at F.stopped self.old tool l g
+        ensures full { IfNone result ((tool : ToolValue) (l g : List MessageValue)
+            → StageBusy F.at F.stopped self.old tool l g
             → StageAt F.at F.all_given F.stopped self.new tool l g) }
     {
         let SerialStage::AtWork(filter) = self else {
@@ -69,7 +71,8 @@ pub fn feed_through<F: Filter + Drop, W: BytesOut + Drop>(
     message: Message,
     downstream: &mut Downstream<W>,
 )
-    ensures fed { FeedsThrough F.at F.all_given F.stopped W.held W.failures stages.old message stages.new downstream.old downstream.new }
+    ensures fed { FeedsThrough F.at F.all_given F.stopped W.held W.failures
+        stages.old message stages.new downstream.old downstream.new }
     ensures same_device { W.same (output_of downstream.old) (output_of downstream.new) }
 {
     if stages.is_empty() {

@@ -187,7 +187,8 @@ impl<D: Write> BytesOut for Device<D> {
 /// Writes all the bytes. Where a write fails, what was taken before it is a front of them.
 pub fn write_all<W: BytesOut>(writer: &mut W, bytes: &[u8]) -> Result<(), DeviceFailed>
     ensures written { OnOk result (Appends (W.held writer.old) (W.held writer.new) bytes.now) }
-    ensures failed { OnErr result (FailsIn bytes.now (W.held writer.old) (W.held writer.new) (W.failures writer.old) (W.failures writer.new)) }
+    ensures failed { OnErr result
+        (FailsIn bytes.now (W.held writer.old) (W.held writer.new) (W.failures writer.old) (W.failures writer.new)) }
     ensures count { OnOk result (W.failures writer.new ≡ W.failures writer.old) }
     ensures same_device { W.same writer.old writer.new }
 {

@@ -17,7 +17,8 @@ pub fn write_header<W: BytesOut>(
     head: &Head,
 ) -> Result<(), DeviceFailed>
     ensures written { OnOk result (Appends (W.held writer.old) (W.held writer.new) (header_text head.now)) }
-    ensures failed { OnErr result (FailsIn (header_text head.now) (W.held writer.old) (W.held writer.new) (W.failures writer.old) (W.failures writer.new)) }
+    ensures failed { OnErr result
+        (FailsIn (header_text head.now) (W.held writer.old) (W.held writer.new) (W.failures writer.old) (W.failures writer.new)) }
     ensures count { OnOk result (W.failures writer.new ≡ W.failures writer.old) }
     ensures same_device { W.same writer.old writer.new }
 {

@@ -18,7 +18,9 @@ pub fn write_row<W: BytesOut>(
 ) -> Result<(), DeviceFailed>
     requires { All (λ sample. sample ≤ shape.maxval) samples.now }
     ensures written { OnOk result (Appends (W.held writer.old) (W.held writer.new) (row_bytes shape samples.now)) }
-    ensures failed { OnErr result (FailsIn (row_bytes shape samples.now) (W.held writer.old) (W.held writer.new) (W.failures writer.old) (W.failures writer.new)) }
+    ensures failed { OnErr result
+        (FailsIn (row_bytes shape samples.now) (W.held writer.old) (W.held writer.new)
+        (W.failures writer.old) (W.failures writer.new)) }
     ensures count { OnOk result (W.failures writer.new ≡ W.failures writer.old) }
     ensures same_device { W.same writer.old writer.new }
 {

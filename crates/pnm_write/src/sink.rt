@@ -46,22 +46,28 @@ impl<W: BytesOut> Sink<W> {
     /// can't come at this place of the stream, or begins an image of height 0, with nothing
     /// written; `WriteFailed` where the writer fails, with a front of the bytes written.
     pub fn put(&mut self, message: &Message) -> Result<(), SinkFault>
-        ensures written { OnOk result (Appends (W.held (writer_of self.old)) (W.held (writer_of self.new)) (bytes_at (next_place self.old) message.now)) }
-        ensures taken { OnOk result (Takes (next_place self.old) message.now × (W.failures (writer_of self.new) ≡ W.failures (writer_of self.old))) }
+        ensures written { OnOk result
+            (Appends (W.held (writer_of self.old)) (W.held (writer_of self.new)) (bytes_at (next_place self.old) message.now)) }
+        ensures taken { OnOk result
+            (Takes (next_place self.old) message.now × (W.failures (writer_of self.new) ≡ W.failures (writer_of self.old))) }
         ensures sound { OnOk result ((has_failed self.old ≡ false) × (has_failed self.new ≡ false)) }
 
         // The messages that were put are one more, or the same after a fault.
-        ensures more { OnOk result ((messages : List _) → HasPut self.old messages → HasPut self.new (messages ++ message.now ∷ [])) }
+        ensures more { OnOk result
+            ((messages : List _) → HasPut self.old messages → HasPut self.new (messages ++ message.now ∷ [])) }
         ensures same { OnErr result ((messages : List _) → HasPut self.old messages → HasPut self.new messages) }
 
         // All that was written is the bytes of the messages that were put.
-        ensures bytes { OnOk result ((start : _) (messages : List _) → HasWritten W.held start self.old messages → HasWritten W.held start self.new (messages ++ message.now ∷ [])) }
+        ensures bytes { OnOk result ((start : _) (messages : List _) → HasWritten W.held start self.old messages
+            → HasWritten W.held start self.new (messages ++ message.now ∷ [])) }
 
         // After a fault nothing more is written.
         ensures stays { OnErr result (has_failed self.new ≡ true) }
         ensures broken { has_failed self.old ≡ true → (result ≡ Err SinkFault.Broken) × (self.new ≡ self.old) }
-        ensures refused { has_failed self.old ≡ false → IfErr result (λ fault. Refuses (next_place self.old) message.now fault
-            (W.held (writer_of self.old)) (W.held (writer_of self.new)) (W.failures (writer_of self.old)) (W.failures (writer_of self.new))) }
+        ensures refused { has_failed self.old ≡ false
+            → IfErr result (λ fault. Refuses (next_place self.old) message.now fault
+            (W.held (writer_of self.old)) (W.held (writer_of self.new))
+            (W.failures (writer_of self.old)) (W.failures (writer_of self.new))) }
         ensures same_device { W.same (writer_of self.old) (writer_of self.new) }
     {
         if self.has_failed {
@@ -77,7 +83,8 @@ impl<W: BytesOut> Sink<W> {
     /// doesn't say that the stream was ended.
     pub fn finish(self) -> (W, Result<(), SinkFault>)
         ensures bytes { Keeps (W.held (writer_of self)) (W.held result.0) }
-        ensures broken { has_failed self ≡ true → (result.0 ≡ writer_of self) × (result.1 ≡ Err SinkFault.Broken) }
+        ensures broken { has_failed self ≡ true
+            → (result.0 ≡ writer_of self) × (result.1 ≡ Err SinkFault.Broken) }
         ensures flush { has_failed self ≡ false → MatchResult result.1
             (λ _. W.failures result.0 ≡ W.failures (writer_of self))
             (λ fault. (fault ≡ SinkFault.WriteFailed) × Failed (W.failures (writer_of self)) (W.failures result.0)) }
@@ -99,10 +106,13 @@ impl<W: BytesOut> Sink<W> {
     }
 
     fn write(&mut self, message: &Message) -> Result<(), SinkFault>
-        ensures written { OnOk result (Appends (W.held (writer_of self.old)) (W.held (writer_of self.new)) (bytes_at (next_place self.old) message.now)) }
-        ensures taken { OnOk result (Takes (next_place self.old) message.now × (next_place self.new ≡ place_after (next_place self.old) message.now)) }
+        ensures written { OnOk result
+            (Appends (W.held (writer_of self.old)) (W.held (writer_of self.new)) (bytes_at (next_place self.old) message.now)) }
+        ensures taken { OnOk result
+            (Takes (next_place self.old) message.now × (next_place self.new ≡ place_after (next_place self.old) message.now)) }
         ensures refused { IfErr result (λ fault. Refuses (next_place self.old) message.now fault
-            (W.held (writer_of self.old)) (W.held (writer_of self.new)) (W.failures (writer_of self.old)) (W.failures (writer_of self.new))) }
+            (W.held (writer_of self.old)) (W.held (writer_of self.new))
+            (W.failures (writer_of self.old)) (W.failures (writer_of self.new))) }
         ensures sound { has_failed self.new ≡ has_failed self.old }
         ensures count { OnOk result (W.failures (writer_of self.new) ≡ W.failures (writer_of self.old)) }
         ensures same_device { W.same (writer_of self.old) (writer_of self.new) }
@@ -137,7 +147,9 @@ fn write_message<W: BytesOut>(
 ) -> Result<(), DeviceFailed>
     requires { Accepts place message.now }
     ensures written { OnOk result (Appends (W.held writer.old) (W.held writer.new) (bytes_at place message.now)) }
-    ensures failed { OnErr result (FailsIn (bytes_at place message.now) (W.held writer.old) (W.held writer.new) (W.failures writer.old) (W.failures writer.new)) }
+    ensures failed { OnErr result
+        (FailsIn (bytes_at place message.now) (W.held writer.old) (W.held writer.new)
+        (W.failures writer.old) (W.failures writer.new)) }
     ensures count { OnOk result (W.failures writer.new ≡ W.failures writer.old) }
     ensures same_device { W.same writer.old writer.new }
 {
