@@ -1,6 +1,6 @@
 -- The picked image, from pamchannel(1): a PAM image of planes of the image, in the order in which they are named. Its
 -- tuple type is the one that is named.
-use Rattle.std.specs.Prelude.{◌≤◌, ◌<◌, ℕ, ◌+◌, ◌*◌, List, length, map, slice_index, All, Result, Err, if◌then◌else◌, nat_lt}
+use Rattle.std.specs.Prelude.{◌≤◌, ◌<◌, ℕ, ◌+◌, ◌*◌, List, length, map, slice_index, All, Result, Err, if◌then◌else◌, nat_lt, true, [], ◌∷◌}
 use Rattle.std.specs.List.{flat_map, range_with_len, list_all}
 use Rattle.pnm_image.specs.declared.shape.Kind.TheVariants.{Pam}
 use Rattle.pnm_image.specs.declared.shape.Shape.{Shape}
@@ -9,6 +9,7 @@ use Rattle.pnm_image.specs.Images.{Image, sample_at}
 use Rattle.pnm_tools.specs.declared.fault.ToolFault.{ToolFault}
 use Rattle.pnm_tools.specs.declared.fault.ToolFault.TheVariants.{ChannelOutside}
 use Rattle.pnm_tools.specs.Limits.{within_limits}
+use Rattle.pnm_tools.specs.Meaning.{Meaning}
 
 -- the numbers of the planes, from 0, and the tuple type of what is picked
 pub record Picks : Type 0 where
@@ -48,3 +49,13 @@ picked_row picks s row = picked_samples picks.numbers s row
 -- an image of this shape has the planes
 abbrev pub HasPlanes : Picks → Shape → Type 0
 HasPlanes picks s = All (λ number. number < s.depth) picks.numbers
+
+abbrev pub picking : Picks → Meaning
+picking picks = record {
+  lawful = IsLawfulPick picks;
+  row_wise = true;
+  head = picked_head picks;
+  sample = picked_sample picks;
+  row_answer = λ s y row. picked_row picks s row ∷ [];
+  end_answer = λ s rows. [];
+}

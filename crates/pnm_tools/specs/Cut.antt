@@ -1,7 +1,7 @@
 -- The cut image, from pamcut(1): a rectangle of the image. The options name its edges, the first and the last column and
 -- the first and the last row that are kept, or in place of one of two edges its width or its height. An edge is counted
 -- from the left or the top, from 0; a negative one from the right or the bottom, so that -1 is the last column or row.
-use Rattle.std.specs.Prelude.{◌≤◌, ℕ, suc, ◌+◌, ◌-◌, ◌*◌, ℤ, pos, negsuc, ◌+ℤ◌, ◌-ℤ◌, unsigned_abs, Option, Some, None, IfSome, IsSome, List, [], ◌∷◌, length, take, drop, Result, Ok, Err, nat_le, nat_lt, ◌==◌, ◌&&◌, if◌then◌else◌}
+use Rattle.std.specs.Prelude.{◌≤◌, ℕ, suc, ◌+◌, ◌-◌, ◌*◌, ℤ, pos, negsuc, ◌+ℤ◌, ◌-ℤ◌, unsigned_abs, Option, Some, None, IfSome, IsSome, List, [], ◌∷◌, length, take, drop, Result, Ok, Err, nat_le, nat_lt, ◌==◌, ◌&&◌, if◌then◌else◌, false}
 use Rattle.pnm_image.specs.declared.shape.Shape.{Shape}
 use Rattle.pnm_image.specs.Heads.{HeadValue}
 use Rattle.pnm_image.specs.Images.{Image, sample_at}
@@ -9,6 +9,7 @@ use Rattle.pnm_tools.specs.declared.cut.CutBox.{CutBox}
 use Rattle.pnm_tools.specs.declared.cut.Span.{Span}
 use Rattle.pnm_tools.specs.declared.fault.ToolFault.{ToolFault}
 use Rattle.pnm_tools.specs.declared.fault.ToolFault.TheVariants.{CutOutside, OutOfOrder}
+use Rattle.pnm_tools.specs.Meaning.{Meaning}
 
 -- an edge lies from -16,777,216 to 16,777,216, and a size from 1
 abbrev pub IsEdge : ℤ → Type 0
@@ -97,3 +98,13 @@ cut_rows_of box s y row = rows_of_spans (columns_kept box s) (rows_kept box s) s
 -- the columns lie in the row
 abbrev pub KeepsWithin : Span → ℕ → List ℕ → Type 0
 KeepsWithin columns depth row = (columns.first ≤ columns.last) × ((columns.last + 1) * depth ≤ length row)
+
+abbrev pub cutting : CutBox → Meaning
+cutting box = record {
+  lawful = IsLawfulBox box;
+  row_wise = false;
+  head = cut_head box;
+  sample = cut_sample box;
+  row_answer = cut_rows_of box;
+  end_answer = λ s rows. [];
+}

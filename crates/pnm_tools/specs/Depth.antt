@@ -1,6 +1,6 @@
 -- The rescaled image, from pamdepth(1): the image with another maxval. Each sample becomes the one nearest to the same
 -- share of the new maxval; of two that are as near, the greater.
-use Rattle.std.specs.Prelude.{ℕ, ◌+◌, ◌*◌, ◌/◌, List, map, codes, Result, Ok, ◌==◌, if◌then◌else◌}
+use Rattle.std.specs.Prelude.{ℕ, ◌+◌, ◌*◌, ◌/◌, List, map, codes, Result, Ok, ◌==◌, if◌then◌else◌, ◌≤◌, true, [], ◌∷◌}
 use Rattle.std.specs.Str.{bytes_eq}
 use Rattle.pnm_image.specs.declared.shape.Kind.{Kind}
 use Rattle.pnm_image.specs.declared.shape.Kind.TheVariants.{Bit, Gray, Color, Pam}
@@ -8,6 +8,7 @@ use Rattle.pnm_image.specs.declared.shape.Shape.{Shape}
 use Rattle.pnm_image.specs.Heads.{HeadValue}
 use Rattle.pnm_image.specs.Images.{Image, sample_at}
 use Rattle.pnm_tools.specs.declared.fault.ToolFault.{ToolFault}
+use Rattle.pnm_tools.specs.Meaning.{Meaning}
 
 -- the sample nearest to sample * new / old, halves up
 abbrev pub nearest_sample : ℕ → ℕ → ℕ → ℕ
@@ -41,3 +42,13 @@ rescaled_sample new i x y p = nearest_sample new i.head.shape.maxval (sample_at 
 -- a row of an image of this shape
 abbrev pub rescaled_row : ℕ → Shape → List ℕ → List ℕ
 rescaled_row new s row = map (nearest_sample new s.maxval) row
+
+abbrev pub rescaling : ℕ → Meaning
+rescaling new = record {
+  lawful = (1 ≤ new) × (new ≤ 65535);
+  row_wise = true;
+  head = rescaled_head new;
+  sample = rescaled_sample new;
+  row_answer = λ s y row. rescaled_row new s row ∷ [];
+  end_answer = λ s rows. [];
+}

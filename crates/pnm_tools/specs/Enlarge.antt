@@ -1,5 +1,5 @@
 -- The enlarged image, from pamenlarge(1): each pixel is replicated so many times across and so many times down.
-use Rattle.std.specs.Prelude.{◌≤◌, ℕ, ◌*◌, ◌/◌, ◌==◌, ◌&&◌, not, List, replicate, Result, Err, if◌then◌else◌}
+use Rattle.std.specs.Prelude.{◌≤◌, ℕ, ◌*◌, ◌/◌, ◌==◌, ◌&&◌, not, List, replicate, Result, Err, if◌then◌else◌, []}
 use Rattle.std.specs.List.{flat_map, range_with_len}
 use Rattle.pnm_image.specs.declared.shape.Shape.{Shape}
 use Rattle.pnm_image.specs.Heads.{HeadValue}
@@ -8,6 +8,7 @@ use Rattle.pnm_tools.specs.declared.fault.ToolFault.{ToolFault}
 use Rattle.pnm_tools.specs.declared.fault.ToolFault.TheVariants.{OutOfOrder}
 use Rattle.pnm_tools.specs.Limits.{within_limits}
 use Rattle.pnm_tools.specs.Pixels.{pixel_of}
+use Rattle.pnm_tools.specs.Meaning.{Meaning}
 
 -- the horizontal and the vertical factor lie from 1 to 16,777,216
 abbrev pub IsFactor : ℕ → Type 0
@@ -34,3 +35,13 @@ enlarged_row across s row = flat_map (λ x. repeated across (pixel_of s.depth ro
 -- the rows that answer a row
 abbrev pub enlarged_rows : ℕ → ℕ → Shape → List ℕ → List (List ℕ)
 enlarged_rows across down s row = replicate down (enlarged_row across s row)
+
+abbrev pub enlargement : ℕ → ℕ → Meaning
+enlargement across down = record {
+  lawful = IsFactor across × IsFactor down;
+  row_wise = down == 1;
+  head = enlarged_head across down;
+  sample = enlarged_sample across down;
+  row_answer = λ s y row. enlarged_rows across down s row;
+  end_answer = λ s rows. [];
+}

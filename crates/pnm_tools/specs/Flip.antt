@@ -1,6 +1,6 @@
 -- The flipped image, from pamflip(1): the same, flipped left for right, flipped top for bottom, or transposed: columns and
 -- rows exchanged.
-use Rattle.std.specs.Prelude.{ℕ, ◌-◌, ◌==◌, List, [], ◌∷◌, map, reverse, Result, Ok, Err, if◌then◌else◌}
+use Rattle.std.specs.Prelude.{ℕ, ◌-◌, ◌==◌, List, [], ◌∷◌, map, reverse, Result, Ok, Err, if◌then◌else◌, Bool, true, false}
 use Rattle.std.specs.List.{flat_map, range_with_len}
 use Rattle.pnm_image.specs.declared.shape.Shape.{Shape}
 use Rattle.pnm_image.specs.Heads.{HeadValue}
@@ -11,6 +11,7 @@ use Rattle.pnm_tools.specs.declared.flip.FlipWay.{FlipWay}
 use Rattle.pnm_tools.specs.declared.flip.FlipWay.TheVariants.{Null, LeftRight, TopBottom, Transpose}
 use Rattle.pnm_tools.specs.Limits.{within_limits}
 use Rattle.pnm_tools.specs.Pixels.{pixel_of}
+use Rattle.pnm_tools.specs.Meaning.{Meaning}
 
 abbrev pub transposed_head_value : HeadValue → HeadValue
 transposed_head_value head = record head { shape = record head.shape { width = head.shape.height; height = head.shape.width } }
@@ -49,3 +50,20 @@ flipped_at_end Null s rows = []
 flipped_at_end LeftRight s rows = []
 flipped_at_end TopBottom s rows = reverse rows
 flipped_at_end Transpose s rows = map (column_of s.depth rows) (range_with_len 0 s.width)
+
+-- rows stay where they are
+abbrev pub keeps_rows : FlipWay → Bool
+keeps_rows Null = true
+keeps_rows LeftRight = true
+keeps_rows TopBottom = false
+keeps_rows Transpose = false
+
+abbrev pub flipping : FlipWay → Meaning
+flipping way = record {
+  lawful = Unit {0};
+  row_wise = keeps_rows way;
+  head = flipped_head way;
+  sample = flipped_sample way;
+  row_answer = λ s y row. flipped_rows way s row;
+  end_answer = flipped_at_end way;
+}

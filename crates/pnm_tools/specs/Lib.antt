@@ -1,5 +1,6 @@
 pub mod Formulas
 pub mod Limits
+pub mod Meaning
 pub mod Invert
 pub mod Cut
 pub mod Depth

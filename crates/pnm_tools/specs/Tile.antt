@@ -1,6 +1,6 @@
 -- The tiled image, from pnmtile(1): the image replicated side by side until so many columns and rows are filled. The first
 -- copy lies at the top left, and what doesn't fit is cut off at the right and at the bottom.
-use Rattle.std.specs.Prelude.{◌≤◌, ℕ, ◌%◌, ◌==◌, List, [], map, slice_index_or, Result, Err, if◌then◌else◌}
+use Rattle.std.specs.Prelude.{◌≤◌, ℕ, ◌%◌, ◌==◌, List, [], map, slice_index_or, Result, Err, if◌then◌else◌, false}
 use Rattle.std.specs.List.{flat_map, range_with_len}
 use Rattle.pnm_image.specs.declared.shape.Shape.{Shape}
 use Rattle.pnm_image.specs.Heads.{HeadValue}
@@ -9,6 +9,7 @@ use Rattle.pnm_tools.specs.declared.fault.ToolFault.{ToolFault}
 use Rattle.pnm_tools.specs.declared.fault.ToolFault.TheVariants.{OutOfOrder}
 use Rattle.pnm_tools.specs.Limits.{within_limits}
 use Rattle.pnm_tools.specs.Pixels.{pixel_of}
+use Rattle.pnm_tools.specs.Meaning.{Meaning}
 
 -- the columns and the rows to fill, from 1 to 16,777,216
 abbrev pub IsExtent : ℕ → Type 0
@@ -31,3 +32,13 @@ tiled_row across width depth row = flat_map (λ x. pixel_of depth row (x % width
 -- the rows that answer the end of an image of this shape and of these rows
 abbrev pub tiled_at_end : ℕ → ℕ → Shape → List (List ℕ) → List (List ℕ)
 tiled_at_end across down s rows = map (λ y. tiled_row across s.width s.depth (slice_index_or rows (y % s.height) [])) (range_with_len 0 down)
+
+abbrev pub tiling : ℕ → ℕ → Meaning
+tiling across down = record {
+  lawful = IsExtent across × IsExtent down;
+  row_wise = false;
+  head = tiled_head across down;
+  sample = tiled_sample;
+  row_answer = λ s y row. [];
+  end_answer = tiled_at_end across down;
+}
