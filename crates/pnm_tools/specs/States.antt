@@ -30,17 +30,36 @@ HasTable r s = (r.table.items ≡ []) ⊎ (r.table.items ≡ map (nearest_sample
 
 -- ---- whichever tool is at work
 
+-- which tool it is, the rows of the result that it still gives for what has come, and the rows that it keeps
+pub record Worker : Type 0 where
+  pub tool : Tool
+  pub due : List (List ℕ)
+  pub kept : List (List ℕ)
+
+-- a tool that has made at most one row, which it still gives
+abbrev pub at_once : Tool → Option (List ℕ) → Worker
+at_once tool made = record { tool = tool; due = row_list made; kept = row_list made }
+
+abbrev pub worker : Work → Worker
+worker (Inverting w) = at_once Invert w.made
+worker (Cutting w) = at_once (Cut w.tool) w.made
+worker (Rescaling w) = at_once (Depth w.tool.maxval) w.made
+worker (Picking w) = at_once (Channel w.tool) w.made
+worker (Enlarging w) = record { tool = Enlarge w.across w.down; due = enlarged_due w; kept = row_list w.row }
+worker (Passing w) = at_once (Flip Null) w.made
+worker (Mirroring w) = at_once (Flip LeftRight) w.made
+worker (ReversingRows w) = record { tool = Flip TopBottom; due = reversed_due w; kept = w.rows.items }
+worker (Transposing w) = record { tool = Flip Transpose; due = transposed_due w; kept = w.rows ++ w.band }
+worker (Tiling w) = record { tool = Tile w.across w.down; due = tiled_due w; kept = w.rows }
+
 abbrev pub tool_of : Work → Tool
-tool_of (Inverting w) = Invert
-tool_of (Cutting w) = Cut w.tool
-tool_of (Rescaling w) = Depth w.tool.maxval
-tool_of (Picking w) = Channel w.tool
-tool_of (Enlarging w) = Enlarge w.across w.down
-tool_of (Passing w) = Flip Null
-tool_of (Mirroring w) = Flip LeftRight
-tool_of (ReversingRows w) = Flip TopBottom
-tool_of (Transposing w) = Flip Transpose
-tool_of (Tiling w) = Tile w.across w.down
+tool_of work = (worker work).tool
+
+abbrev pub due_of : Work → List (List ℕ)
+due_of work = (worker work).due
+
+abbrev pub kept_of : Work → List (List ℕ)
+kept_of work = (worker work).kept
 
 -- it is ready for the next row of an image of this shape, of which these have come
 abbrev pub IsReady : Work → Shape → List (List ℕ) → Type 0
@@ -54,32 +73,6 @@ IsReady (Mirroring w) s rows = IsWithinLimits s
 IsReady (ReversingRows w) s rows = IsReversingRows w rows
 IsReady (Transposing w) s rows = IsTransposing w s rows
 IsReady (Tiling w) s rows = IsTiling w s rows
-
--- the rows of the result that it still gives for what has come
-abbrev pub due_of : Work → List (List ℕ)
-due_of (Inverting w) = row_list w.made
-due_of (Cutting w) = row_list w.made
-due_of (Rescaling w) = row_list w.made
-due_of (Picking w) = row_list w.made
-due_of (Enlarging w) = enlarged_due w
-due_of (Passing w) = row_list w.made
-due_of (Mirroring w) = row_list w.made
-due_of (ReversingRows w) = reversed_due w
-due_of (Transposing w) = transposed_due w
-due_of (Tiling w) = tiled_due w
-
--- the rows that it keeps
-abbrev pub kept_of : Work → List (List ℕ)
-kept_of (Inverting w) = row_list w.made
-kept_of (Cutting w) = row_list w.made
-kept_of (Rescaling w) = row_list w.made
-kept_of (Picking w) = row_list w.made
-kept_of (Enlarging w) = row_list w.row
-kept_of (Passing w) = row_list w.made
-kept_of (Mirroring w) = row_list w.made
-kept_of (ReversingRows w) = w.rows.items
-kept_of (Transposing w) = w.rows ++ w.band
-kept_of (Tiling w) = w.rows
 
 -- ---- a tool at work on a stream, W being what it keeps
 

@@ -14,6 +14,24 @@ use crate::transpose::Transposer;
 use pnm_image::{Head, Samples, Shape};
 use std::alloc::Global;
 
+/// What the tool at work does, whichever it is.
+macro_rules! with_tool {
+    ($self:ident, $work:ident => $does:expr) => {
+        match $self {
+            Work::Inverting($work) => $does,
+            Work::Cutting($work) => $does,
+            Work::Rescaling($work) => $does,
+            Work::Picking($work) => $does,
+            Work::Enlarging($work) => $does,
+            Work::Passing($work) => $does,
+            Work::Mirroring($work) => $does,
+            Work::ReversingRows($work) => $does,
+            Work::Transposing($work) => $does,
+            Work::Tiling($work) => $does,
+        }
+    };
+}
+
 /// A tool, and what it keeps of an image.
 #[derive(Debug, Drop)]
 pub enum Work {
@@ -51,77 +69,22 @@ impl Maker for Work {
     ghost kept = { kept_of };
 
     fn begin(&mut self, alloc: Global, head: &Head) -> Result<Head, ToolFault> {
-        match self {
-            Work::Inverting(work) => work.begin(alloc, head),
-            Work::Cutting(work) => work.begin(alloc, head),
-            Work::Rescaling(work) => work.begin(alloc, head),
-            Work::Picking(work) => work.begin(alloc, head),
-            Work::Enlarging(work) => work.begin(alloc, head),
-            Work::Passing(work) => work.begin(alloc, head),
-            Work::Mirroring(work) => work.begin(alloc, head),
-            Work::ReversingRows(work) => work.begin(alloc, head),
-            Work::Transposing(work) => work.begin(alloc, head),
-            Work::Tiling(work) => work.begin(alloc, head),
-        }
+        with_tool!(self, work => work.begin(alloc, head))
     }
 
     fn take(&mut self, alloc: Global, shape: Shape, y: u32, row: Samples) -> Result<(), ToolFault> {
-        match self {
-            Work::Inverting(work) => work.take(alloc, shape, y, row),
-            Work::Cutting(work) => work.take(alloc, shape, y, row),
-            Work::Rescaling(work) => work.take(alloc, shape, y, row),
-            Work::Picking(work) => work.take(alloc, shape, y, row),
-            Work::Enlarging(work) => work.take(alloc, shape, y, row),
-            Work::Passing(work) => work.take(alloc, shape, y, row),
-            Work::Mirroring(work) => work.take(alloc, shape, y, row),
-            Work::ReversingRows(work) => work.take(alloc, shape, y, row),
-            Work::Transposing(work) => work.take(alloc, shape, y, row),
-            Work::Tiling(work) => work.take(alloc, shape, y, row),
-        }
+        with_tool!(self, work => work.take(alloc, shape, y, row))
     }
 
     fn end(&mut self, shape: Shape) {
-        match self {
-            Work::Inverting(work) => work.end(shape),
-            Work::Cutting(work) => work.end(shape),
-            Work::Rescaling(work) => work.end(shape),
-            Work::Picking(work) => work.end(shape),
-            Work::Enlarging(work) => work.end(shape),
-            Work::Passing(work) => work.end(shape),
-            Work::Mirroring(work) => work.end(shape),
-            Work::ReversingRows(work) => work.end(shape),
-            Work::Transposing(work) => work.end(shape),
-            Work::Tiling(work) => work.end(shape),
-        }
+        with_tool!(self, work => work.end(shape))
     }
 
     fn give(&mut self, alloc: Global) -> Result<Option<Samples>, ToolFault> {
-        match self {
-            Work::Inverting(work) => work.give(alloc),
-            Work::Cutting(work) => work.give(alloc),
-            Work::Rescaling(work) => work.give(alloc),
-            Work::Picking(work) => work.give(alloc),
-            Work::Enlarging(work) => work.give(alloc),
-            Work::Passing(work) => work.give(alloc),
-            Work::Mirroring(work) => work.give(alloc),
-            Work::ReversingRows(work) => work.give(alloc),
-            Work::Transposing(work) => work.give(alloc),
-            Work::Tiling(work) => work.give(alloc),
-        }
+        with_tool!(self, work => work.give(alloc))
     }
 
     fn release(&mut self, alloc: Global) {
-        match self {
-            Work::Inverting(work) => work.release(alloc),
-            Work::Cutting(work) => work.release(alloc),
-            Work::Rescaling(work) => work.release(alloc),
-            Work::Picking(work) => work.release(alloc),
-            Work::Enlarging(work) => work.release(alloc),
-            Work::Passing(work) => work.release(alloc),
-            Work::Mirroring(work) => work.release(alloc),
-            Work::ReversingRows(work) => work.release(alloc),
-            Work::Transposing(work) => work.release(alloc),
-            Work::Tiling(work) => work.release(alloc),
-        }
+        with_tool!(self, work => work.release(alloc))
     }
 }
