@@ -30,49 +30,41 @@ HasTable r s = (r.table.items ≡ []) ⊎ (r.table.items ≡ map (nearest_sample
 
 -- ---- whichever tool is at work
 
--- which tool it is, the rows of the result that it still gives for what has come, and the rows that it keeps
-pub record Worker : Type 0 where
+-- which tool it is, the rows of the result that it still gives for what has come, the rows that it keeps, and that it is
+-- ready for the next row of an image of this shape, of which these have come
+pub record Worker : Type 1 where
   pub tool : Tool
   pub due : List (List ℕ)
   pub kept : List (List ℕ)
+  pub ready : Shape → List (List ℕ) → Type 0
 
 -- a tool that has made at most one row, which it still gives
-abbrev pub at_once : Tool → Option (List ℕ) → Worker
-at_once tool made = record { tool = tool; due = row_list made; kept = row_list made }
+abbrev pub at_once : Tool → Option (List ℕ) → (Shape → Type 0) → Worker
+at_once tool made ready = record { tool = tool; due = row_list made; kept = row_list made; ready = λ s rows. ready s }
 
 abbrev pub worker : Work → Worker
-worker (Inverting w) = at_once Invert w.made
-worker (Cutting w) = at_once (Cut w.tool) w.made
-worker (Rescaling w) = at_once (Depth w.tool.maxval) w.made
-worker (Picking w) = at_once (Channel w.tool) w.made
-worker (Enlarging w) = record { tool = Enlarge w.across w.down; due = enlarged_due w; kept = row_list w.row }
-worker (Passing w) = at_once (Flip Null) w.made
-worker (Mirroring w) = at_once (Flip LeftRight) w.made
-worker (ReversingRows w) = record { tool = Flip TopBottom; due = reversed_due w; kept = w.rows.items }
-worker (Transposing w) = record { tool = Flip Transpose; due = transposed_due w; kept = w.rows ++ w.band }
-worker (Tiling w) = record { tool = Tile w.across w.down; due = tiled_due w; kept = w.rows }
+worker (Inverting w) = at_once Invert w.made IsWithinLimits
+worker (Cutting w) = at_once (Cut w.tool) w.made (λ s. Unit {0})
+worker (Rescaling w) = at_once (Depth w.tool.maxval) w.made (λ s. IsWithinLimits s × HasTable w.tool s)
+worker (Picking w) = at_once (Channel w.tool) w.made (HasPlanes w.tool)
+worker (Enlarging w) = record { tool = Enlarge w.across w.down; due = enlarged_due w; kept = row_list w.row; ready = λ s rows. IsEnlarging w.across s }
+worker (Passing w) = at_once (Flip Null) w.made (λ s. Unit {0})
+worker (Mirroring w) = at_once (Flip LeftRight) w.made IsWithinLimits
+worker (ReversingRows w) = record { tool = Flip TopBottom; due = reversed_due w; kept = w.rows.items; ready = λ s rows. IsReversingRows w rows }
+worker (Transposing w) = record { tool = Flip Transpose; due = transposed_due w; kept = w.rows ++ w.band; ready = λ s rows. IsTransposing w s rows }
+worker (Tiling w) = record { tool = Tile w.across w.down; due = tiled_due w; kept = w.rows; ready = λ s rows. IsTiling w s rows }
 
 abbrev pub tool_of : Work → Tool
 tool_of work = (worker work).tool
+
+abbrev pub IsReady : Work → Shape → List (List ℕ) → Type 0
+IsReady work s rows = (worker work).ready s rows
 
 abbrev pub due_of : Work → List (List ℕ)
 due_of work = (worker work).due
 
 abbrev pub kept_of : Work → List (List ℕ)
 kept_of work = (worker work).kept
-
--- it is ready for the next row of an image of this shape, of which these have come
-abbrev pub IsReady : Work → Shape → List (List ℕ) → Type 0
-IsReady (Inverting w) s rows = IsWithinLimits s
-IsReady (Cutting w) s rows = Unit {0}
-IsReady (Rescaling w) s rows = IsWithinLimits s × HasTable w.tool s
-IsReady (Picking w) s rows = HasPlanes w.tool s
-IsReady (Enlarging w) s rows = IsEnlarging w.across s
-IsReady (Passing w) s rows = Unit {0}
-IsReady (Mirroring w) s rows = IsWithinLimits s
-IsReady (ReversingRows w) s rows = IsReversingRows w rows
-IsReady (Transposing w) s rows = IsTransposing w s rows
-IsReady (Tiling w) s rows = IsTiling w s rows
 
 -- ---- a tool at work on a stream, W being what it keeps
 
