@@ -1,7 +1,8 @@
 -- The picked image, from pamchannel(1): a PAM image of planes of the image, in the order in which they are named. Its
 -- tuple type is the one that is named.
-use Rattle.std.specs.Prelude.{◌≤◌, ◌<◌, ℕ, ◌+◌, ◌*◌, List, length, map, slice_index, All, Result, Err, if◌then◌else◌, nat_lt, true, [], ◌∷◌}
+use Rattle.std.specs.Prelude.{◌≤◌, ◌<◌, ℕ, ◌+◌, ◌-◌, ◌*◌, List, length, map, slice_index, All, Result, Err, if◌then◌else◌, nat_lt, true, [], ◌∷◌}
 use Rattle.std.specs.List.{flat_map, range_with_len, list_all}
+use Rattle.pnm_image.specs.Limits.{max_depth}
 use Rattle.pnm_image.specs.declared.shape.Kind.TheVariants.{Pam}
 use Rattle.pnm_image.specs.declared.shape.Shape.{Shape}
 use Rattle.pnm_image.specs.Heads.{HeadValue, IsTupleType}
@@ -19,11 +20,11 @@ pub record Picks : Type 0 where
 abbrev pub picks : List ℕ → List ℕ → Picks
 picks numbers tuple_type = record { numbers = numbers; tuple_type = tuple_type }
 
--- 1 to 256 planes, each numbered 0 to 255
+-- as many planes as an image has at most, each numbered as one of those
 pub record IsLawfulPick (picks : Picks) : Type 0 where
   pub some : 1 ≤ length picks.numbers
-  pub not_many : length picks.numbers ≤ 256
-  pub in_range : All (λ number. number ≤ 255) picks.numbers
+  pub not_many : length picks.numbers ≤ max_depth
+  pub in_range : All (λ number. number ≤ max_depth - 1) picks.numbers
   pub tuple_type : IsTupleType picks.tuple_type
 
 abbrev pub picked_head_value : Picks → HeadValue → HeadValue

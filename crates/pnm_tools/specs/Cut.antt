@@ -2,6 +2,7 @@
 -- the first and the last row that are kept, or in place of one of two edges its width or its height. An edge is counted
 -- from the left or the top, from 0; a negative one from the right or the bottom, so that -1 is the last column or row.
 use Rattle.std.specs.Prelude.{◌≤◌, ℕ, suc, ◌+◌, ◌-◌, ◌*◌, ℤ, pos, negsuc, ◌+ℤ◌, ◌-ℤ◌, unsigned_abs, Option, Some, None, IfSome, IsSome, List, [], ◌∷◌, length, take, drop, Result, Ok, Err, nat_le, nat_lt, ◌==◌, ◌&&◌, if◌then◌else◌, false}
+use Rattle.pnm_image.specs.Limits.{max_extent}
 use Rattle.pnm_image.specs.declared.shape.Shape.{Shape}
 use Rattle.pnm_image.specs.Heads.{HeadValue}
 use Rattle.pnm_image.specs.Images.{Image, sample_at}
@@ -9,20 +10,18 @@ use Rattle.pnm_tools.specs.declared.cut.CutBox.{CutBox}
 use Rattle.pnm_tools.specs.declared.cut.Span.{Span}
 use Rattle.pnm_tools.specs.declared.fault.ToolFault.{ToolFault}
 use Rattle.pnm_tools.specs.declared.fault.ToolFault.TheVariants.{CutOutside, OutOfOrder}
+use Rattle.pnm_tools.specs.Limits.{IsExtent}
 use Rattle.pnm_tools.specs.Meaning.{Meaning}
 
--- an edge lies from -16,777,216 to 16,777,216, and a size from 1
+-- an edge lies as far as the greatest extent from either end
 abbrev pub IsEdge : ℤ → Type 0
-IsEdge edge = unsigned_abs edge ≤ 16777216
-
-abbrev pub IsSize : ℕ → Type 0
-IsSize size = (1 ≤ size) × (size ≤ 16777216)
+IsEdge edge = unsigned_abs edge ≤ max_extent
 
 -- the options of one axis: both edges and the size don't stand together
 pub record IsLawfulAxis (start end : Option ℤ) (size : Option ℕ) : Type 0 where
   pub start_edge : IfSome start IsEdge
   pub end_edge : IfSome end IsEdge
-  pub one_size : IfSome size IsSize
+  pub one_size : IfSome size IsExtent
   pub one_free : IsSome start × IsSome end × IsSome size → ⊥
 
 pub record IsLawfulBox (box : CutBox) : Type 0 where

@@ -1,18 +1,14 @@
 -- The enlarged image, from pamenlarge(1): each pixel is replicated so many times across and so many times down.
-use Rattle.std.specs.Prelude.{◌≤◌, ℕ, ◌*◌, ◌/◌, ◌==◌, ◌&&◌, not, List, replicate, Result, Err, if◌then◌else◌, []}
+use Rattle.std.specs.Prelude.{ℕ, ◌*◌, ◌/◌, ◌==◌, ◌&&◌, not, List, replicate, Result, Err, if◌then◌else◌, []}
 use Rattle.std.specs.List.{flat_map, range_with_len}
 use Rattle.pnm_image.specs.declared.shape.Shape.{Shape}
 use Rattle.pnm_image.specs.Heads.{HeadValue}
 use Rattle.pnm_image.specs.Images.{Image, sample_at}
 use Rattle.pnm_tools.specs.declared.fault.ToolFault.{ToolFault}
 use Rattle.pnm_tools.specs.declared.fault.ToolFault.TheVariants.{OutOfOrder}
-use Rattle.pnm_tools.specs.Limits.{within_limits}
+use Rattle.pnm_tools.specs.Limits.{IsExtent, within_limits}
 use Rattle.pnm_tools.specs.Pixels.{pixel_of}
 use Rattle.pnm_tools.specs.Meaning.{Meaning}
-
--- the horizontal and the vertical factor lie from 1 to 16,777,216
-abbrev pub IsFactor : ℕ → Type 0
-IsFactor factor = (1 ≤ factor) × (factor ≤ 16777216)
 
 abbrev pub enlarged_head_value : ℕ → ℕ → HeadValue → HeadValue
 enlarged_head_value across down head = record head { shape = record head.shape { width = head.shape.width * across; height = head.shape.height * down } }
@@ -38,7 +34,7 @@ enlarged_rows across down s row = replicate down (enlarged_row across s row)
 
 abbrev pub enlargement : ℕ → ℕ → Meaning
 enlargement across down = record {
-  lawful = IsFactor across × IsFactor down;
+  lawful = IsExtent across × IsExtent down;
   row_wise = down == 1;
   head = enlarged_head across down;
   sample = enlarged_sample across down;

@@ -1,6 +1,7 @@
 -- What tools keep while the rows of an image come, and the rows of the result that they still give.
 use Rattle.std.specs.Prelude.{◌≡◌, ℕ, ◌+◌, ◌-◌, ◌*◌, ◌<◌, ◌≤◌, ◌%◌, false, if◌then◌else◌, List, [], ◌++◌, map, length, take, reverse, replicate, slice_index_or, All, Some, None}
 use Rattle.std.specs.List.{range_with_len}
+use Rattle.pnm_image.specs.Limits.{max_side, max_depth, max_row_length}
 use Rattle.pnm_image.specs.declared.shape.Shape.{Shape}
 use Rattle.pnm_image.specs.Heads.{IsWithinLimits, row_length}
 use Rattle.pnm_tools.specs.declared.enlarge.Enlarger.{Enlarger}
@@ -13,8 +14,8 @@ use Rattle.pnm_tools.specs.Tile.{tiled_row}
 -- for images of a shape that stays within the limits with its pixels repeated
 pub record IsEnlarging (across : ℕ) (s : Shape) : Type 0 where
   pub limits : IsWithinLimits s
-  pub width : s.width * across ≤ 1000000
-  pub row : s.width * across * s.depth ≤ 16777216
+  pub width : s.width * across ≤ max_side
+  pub row : s.width * across * s.depth ≤ max_row_length
 
 abbrev pub enlarged_due : Enlarger → List (List ℕ)
 enlarged_due w = elim w.row [
@@ -49,13 +50,13 @@ transposed depth rows band next columns = record { depth = depth; rows = rows; b
 -- each row has a pixel of each column, and a row of the result is within the limits
 pub record HasColumns (w : Transposed) : Type 0 where
   pub columns : All (λ row. w.columns * w.depth ≤ length row) w.rows
-  pub each : 0 < w.columns → length w.rows * w.depth ≤ 16777216
-  pub depth : w.depth ≤ 256
+  pub each : 0 < w.columns → length w.rows * w.depth ≤ max_row_length
+  pub depth : w.depth ≤ max_depth
   pub made : w.next ≤ w.columns
 
 pub record IsTransposing (w : Transposed) (s : Shape) (come : List (List ℕ)) : Type 0 where
   pub limits : IsWithinLimits s
-  pub column : s.height * s.depth ≤ 16777216
+  pub column : s.height * s.depth ≤ max_row_length
   pub rows : w.rows ≡ come
   pub lengths : All (λ row. length row ≡ row_length s) come
   pub none_made : (w.band ≡ []) × (w.next ≡ 0) × (w.columns ≡ 0)
@@ -82,12 +83,12 @@ pub record HasTiles (w : Tiled) : Type 0 where
   pub some : 0 < length w.rows
   pub lengths : All (λ row. length row ≡ w.width * w.depth) w.rows
   pub width : 0 < w.width
-  pub filled : w.across * w.depth ≤ 16777216
+  pub filled : w.across * w.depth ≤ max_row_length
 
 pub record IsTiling (w : Tiled) (s : Shape) (come : List (List ℕ)) : Type 0 where
   pub limits : IsWithinLimits s
   pub some : 0 < s.height
-  pub filled : w.across * s.depth ≤ 16777216
+  pub filled : w.across * s.depth ≤ max_row_length
   pub rows : w.rows ≡ take w.down come
   pub lengths : All (λ row. length row ≡ row_length s) come
   pub none_given : w.left ≡ 0

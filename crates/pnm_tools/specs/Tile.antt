@@ -1,19 +1,15 @@
 -- The tiled image, from pnmtile(1): the image replicated side by side until so many columns and rows are filled. The first
 -- copy lies at the top left, and what doesn't fit is cut off at the right and at the bottom.
-use Rattle.std.specs.Prelude.{◌≤◌, ℕ, ◌%◌, ◌==◌, List, [], map, slice_index_or, Result, Err, if◌then◌else◌, false}
+use Rattle.std.specs.Prelude.{ℕ, ◌%◌, ◌==◌, List, [], map, slice_index_or, Result, Err, if◌then◌else◌, false}
 use Rattle.std.specs.List.{flat_map, range_with_len}
 use Rattle.pnm_image.specs.declared.shape.Shape.{Shape}
 use Rattle.pnm_image.specs.Heads.{HeadValue}
 use Rattle.pnm_image.specs.Images.{Image, sample_at}
 use Rattle.pnm_tools.specs.declared.fault.ToolFault.{ToolFault}
 use Rattle.pnm_tools.specs.declared.fault.ToolFault.TheVariants.{OutOfOrder}
-use Rattle.pnm_tools.specs.Limits.{within_limits}
+use Rattle.pnm_tools.specs.Limits.{IsExtent, within_limits}
 use Rattle.pnm_tools.specs.Pixels.{pixel_of}
 use Rattle.pnm_tools.specs.Meaning.{Meaning}
-
--- the columns and the rows to fill, from 1 to 16,777,216
-abbrev pub IsExtent : ℕ → Type 0
-IsExtent count = (1 ≤ count) × (count ≤ 16777216)
 
 abbrev pub tiled_head_value : ℕ → ℕ → HeadValue → HeadValue
 tiled_head_value across down head = record head { shape = record head.shape { width = across; height = down } }

@@ -1,22 +1,25 @@
 //! `pamchannel`: planes of the image, in the order in which they are named, from pamchannel(1).
 
 ghost use Rattle.std.specs.Prelude.{◌≡◌, ◌≤◌, ◌<◌, ◌↔◌, ◌⊎◌, ◌+◌, ◌++◌, All, IsTrue, OnOk, IfOk, IfErr, Ok, Err, length, map, slice_index, []};
+ghost use Rattle.pnm_image.specs.Limits.{max_depth};
 ghost use Rattle.pnm_image.specs.Heads.{row_length};
 ghost use Rattle.pnm_tools.specs.declared.fault.ToolFault.TheVariants.{Memory};
 ghost use Rattle.pnm_tools.specs.declared.tool.Tool.TheVariants.{Channel};
 ghost use Rattle.pnm_tools.specs.Channel.{picked_samples};
 
 use crate::fault::ToolFault;
-use crate::rows::{Rows, result_head};
+use crate::limits::head_within_limits;
+use crate::rows::Rows;
+use pnm_image::limits::MAX_DEPTH;
 use pnm_image::{Head, Kind, Samples, Shape};
 use std::alloc::Global;
 use std::marker::Model;
 
 /// The most planes that are picked.
-const MOST_PLANES: usize = 256;
+const MOST_PLANES: usize = MAX_DEPTH as usize;
 
 /// The greatest number of a plane.
-const LAST_PLANE: u16 = 255;
+const LAST_PLANE: u16 = MAX_DEPTH as u16 - 1;
 
 /// The numbers of the planes that are picked, from 0, and the tuple type of what is picked.
 #[derive(Debug, Drop)]
@@ -116,7 +119,7 @@ impl Planes {
             depth: self.numbers.len() as u32,
             ..shape
         };
-        result_head(alloc, picked, self.tuple_type.as_slice())
+        head_within_limits(alloc, picked, self.tuple_type.as_slice())
     }
 
     /// Whether there are 1 to 256 numbers, each 0 to 255, and the tuple type is one of PAM.
@@ -141,7 +144,7 @@ fn are_below(numbers: &[u16], depth: u32) -> bool
 fn pick(alloc: Global, numbers: &[u16], shape: Shape, row: &[u16]) -> Result<Vec<u16>, ToolFault>
     requires numbers { All (λ number. number < shape.depth) numbers.now }
     requires row { length row.now ≡ row_length shape }
-    requires limits { length numbers.now ≤ 256 }
+    requires limits { length numbers.now ≤ max_depth }
     ensures picked { IfOk result (λ picked. picked.items ≡ picked_samples numbers.now shape row.now) }
     ensures refused { IfErr result (λ fault. fault ≡ Memory) }
 {

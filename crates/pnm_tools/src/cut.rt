@@ -1,16 +1,17 @@
 //! `pamcut`: a rectangle of the image, from pamcut(1).
 
 ghost use Rattle.std.specs.Prelude.{◌≡◌, ◌↔◌, IsTrue, IfSome, []};
-ghost use Rattle.pnm_tools.specs.Cut.{IsEdge, IsSize, IsLawfulAxis, KeepsWithin, columns_of_row, span_of, first_kept, last_kept, edge_of};
+ghost use Rattle.pnm_image.specs.Limits.{max_side};
+ghost use Rattle.pnm_tools.specs.Cut.{IsEdge, IsLawfulAxis, KeepsWithin, columns_of_row, span_of, first_kept, last_kept, edge_of};
+ghost use Rattle.pnm_tools.specs.Limits.{IsExtent};
 ghost use Rattle.pnm_tools.specs.declared.tool.Tool.TheVariants.{Cut};
 
 use crate::fault::ToolFault;
-use crate::rows::{Rows, result_head};
+use crate::limits::{head_within_limits, is_extent};
+use crate::rows::Rows;
+use pnm_image::limits::MAX_EXTENT;
 use pnm_image::{Head, Samples, Shape};
 use std::alloc::Global;
-
-/// The greatest distance of an edge, and the greatest size.
-const FARTHEST: u32 = 16_777_216;
 
 /// Which part of an image is kept: the first and the last column and row, of which negative numbers
 /// count from the end (-1 is the last), or its width and height in place of one of two edges.
@@ -57,7 +58,7 @@ impl Rows for CutBox {
             height: rows.count(),
             ..shape
         };
-        result_head(alloc, kept, head.tuple_type())
+        head_within_limits(alloc, kept, head.tuple_type())
     }
 
     /// Moves the columns that are kept to the row's front.
@@ -115,7 +116,7 @@ impl Span {
 
     /// How many columns or rows these are.
     fn count(self) -> u32
-        requires { (self.first ≤ self.last) × (self.last < 1000000) }
+        requires { (self.first ≤ self.last) × (self.last < max_side) }
         ensures { result ≡ span_count self }
     {
         self.last - self.first + 1
@@ -147,16 +148,16 @@ fn is_edge(edge: Option<i32>) -> bool
     ensures { IsTrue result ↔ IfSome edge IsEdge }
 {
     match edge {
-        Some(edge) => edge.unsigned_abs() <= FARTHEST,
+        Some(edge) => edge.unsigned_abs() <= MAX_EXTENT,
         None => true,
     }
 }
 
 fn is_size(size: Option<u32>) -> bool
-    ensures { IsTrue result ↔ IfSome size IsSize }
+    ensures { IsTrue result ↔ IfSome size IsExtent }
 {
     match size {
-        Some(size) => 1 <= size && size <= FARTHEST,
+        Some(size) => is_extent(size),
         None => true,
     }
 }

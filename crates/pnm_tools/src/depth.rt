@@ -2,6 +2,7 @@
 
 ghost use Rattle.std.specs.Prelude.{◌≡◌, ◌≤◌, ◌+◌, All, map, [], ℕ, length, OnOk, IfOk, IfErr, Ok, Err, ◌⊎◌};
 ghost use Rattle.std.specs.List.{range_with_len};
+ghost use Rattle.pnm_image.specs.Limits.{max_maxval};
 ghost use Rattle.pnm_image.specs.Heads.{IsWithinLimits};
 ghost use Rattle.pnm_tools.specs.declared.fault.ToolFault.TheVariants.{Memory};
 ghost use Rattle.pnm_tools.specs.declared.tool.Tool.TheVariants.{Depth};
@@ -9,7 +10,8 @@ ghost use Rattle.pnm_tools.specs.Depth.{nearest_sample, kind_at, type_at};
 ghost use Rattle.pnm_tools.specs.Tools.{Takes, result_head};
 
 use crate::fault::ToolFault;
-use crate::rows::{Rows, result_head};
+use crate::limits::head_within_limits;
+use crate::rows::Rows;
 use pnm_image::{Head, Kind, Samples, Shape};
 use std::alloc::Global;
 
@@ -64,7 +66,7 @@ impl Rows for Rescaler {
 
 /// The head of the rescaled image, or the refusal.
 pub(crate) fn head_at(alloc: Global, maxval: u32, head: &Head) -> Result<Head, ToolFault>
-    requires { (1 ≤ maxval) × (maxval ≤ 65535) }
+    requires { (1 ≤ maxval) × (maxval ≤ max_maxval) }
     ensures made { IfOk result (λ made. result_head (Depth maxval) head.now ≡ Ok made) }
     ensures refused { IfErr result (λ fault. (result_head (Depth maxval) head.now ≡ Err fault)
         ⊎ ((fault ≡ Memory) × Takes (Depth maxval) head.now)) }
@@ -75,7 +77,7 @@ pub(crate) fn head_at(alloc: Global, maxval: u32, head: &Head) -> Result<Head, T
         maxval,
         ..shape
     };
-    result_head(alloc, rescaled, type_at(maxval, head.tuple_type()))
+    head_within_limits(alloc, rescaled, type_at(maxval, head.tuple_type()))
 }
 
 /// Takes each sample from the table.
@@ -91,7 +93,7 @@ fn rescale_by_table(samples: &mut [u16], table: &[u16], new: u32, old: u32)
 
 /// Computes each sample.
 fn rescale(samples: &mut [u16], new: u32, old: u32)
-    requires limits { (1 ≤ new) × (new ≤ 65535) × (1 ≤ old) × (old ≤ 65535) }
+    requires limits { (1 ≤ new) × (new ≤ max_maxval) × (1 ≤ old) × (old ≤ max_maxval) }
     requires samples { All (λ sample. sample ≤ old) samples.old }
     ensures { samples.new ≡ map (nearest_sample new old) samples.old }
 {
@@ -102,7 +104,7 @@ fn rescale(samples: &mut [u16], new: u32, old: u32)
 
 /// The sample nearest to the same share of the new maxval, halves up.
 fn nearest_sample(new: u32, old: u32, sample: u32) -> u16
-    requires limits { (1 ≤ new) × (new ≤ 65535) × (1 ≤ old) × (old ≤ 65535) }
+    requires limits { (1 ≤ new) × (new ≤ max_maxval) × (1 ≤ old) × (old ≤ max_maxval) }
     requires sample { sample ≤ old }
     ensures { result ≡ nearest_sample new old sample }
 {
@@ -112,7 +114,7 @@ fn nearest_sample(new: u32, old: u32, sample: u32) -> u16
 
 /// What becomes of each sample from 0 to the old maxval.
 fn table_of(alloc: Global, new: u32, old: u32) -> Result<Vec<u16>, ToolFault>
-    requires limits { (1 ≤ new) × (new ≤ 65535) × (1 ≤ old) × (old ≤ 65535) }
+    requires limits { (1 ≤ new) × (new ≤ max_maxval) × (1 ≤ old) × (old ≤ max_maxval) }
     ensures made { IfOk result (λ table. table.items ≡ map (nearest_sample new old) (range_with_len 0 (old + 1))) }
     ensures refused { IfErr result (λ fault. fault ≡ Memory) }
 {

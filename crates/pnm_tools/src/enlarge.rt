@@ -2,17 +2,19 @@
 
 ghost use Rattle.std.specs.Prelude.{◌≡◌, ◌≤◌, ◌*◌, ◌⊎◌, length, replicate, OnOk, IfOk, IfErr, Ok, Err, None};
 ghost use Rattle.std.specs.List.{flat_map};
+ghost use Rattle.pnm_image.specs.Limits.{max_row_length};
 ghost use Rattle.pnm_image.specs.Heads.{row_length};
 ghost use Rattle.pnm_tools.specs.declared.fault.ToolFault.TheVariants.{Memory};
 ghost use Rattle.pnm_tools.specs.declared.tool.Tool.TheVariants.{Enlarge};
 ghost use Rattle.pnm_tools.specs.Answering.{row_list};
-ghost use Rattle.pnm_tools.specs.Enlarge.{IsFactor, enlarged_row};
+ghost use Rattle.pnm_tools.specs.Enlarge.{enlarged_row};
 ghost use Rattle.pnm_tools.specs.Keeping.{IsEnlarging, enlarged_due};
+ghost use Rattle.pnm_tools.specs.Limits.{IsExtent};
 ghost use Rattle.pnm_tools.specs.Tools.{Takes, result_head};
 
 use crate::fault::ToolFault;
+use crate::limits::head_within_limits;
 use crate::maker::Maker;
-use crate::rows::result_head;
 use pnm_image::{Head, Samples, Shape};
 use std::alloc::Global;
 use std::mem;
@@ -103,7 +105,7 @@ pub(crate) fn enlarged_head(
     down: u32,
     head: &Head,
 ) -> Result<Head, ToolFault>
-    requires { IsFactor across × IsFactor down }
+    requires { IsExtent across × IsExtent down }
     ensures made { IfOk result (λ made. result_head (Enlarge across down) head.now ≡ Ok made) }
     ensures ready { OnOk result (IsEnlarging across head.now.shape) }
     ensures refused { IfErr result (λ fault. (result_head (Enlarge across down) head.now ≡ Err fault)
@@ -124,7 +126,7 @@ pub(crate) fn enlarged_head(
         height,
         ..shape
     };
-    result_head(alloc, enlarged, head.tuple_type())
+    head_within_limits(alloc, enlarged, head.tuple_type())
 }
 
 /// The row with each pixel repeated so many times.
@@ -157,7 +159,7 @@ fn repeat_pixels(
 
 /// The row with each sample repeated so many times: where a pixel is one sample, that is faster.
 fn repeat_samples(alloc: Global, across: u32, row: &[u16]) -> Result<Vec<u16>, ToolFault>
-    requires { length row.now * across ≤ 16777216 }
+    requires { length row.now * across ≤ max_row_length }
     ensures made { IfOk result (λ made. made.items ≡ flat_map (replicate across) row.now) }
     ensures refused { IfErr result (λ fault. fault ≡ Memory) }
 {

@@ -11,8 +11,9 @@ ghost use Rattle.pnm_tools.specs.Keeping.{IsReversingRows, reversed_due};
 ghost use Rattle.pnm_tools.specs.Tools.{Takes, result_head};
 
 use crate::fault::ToolFault;
+use crate::limits::head_within_limits;
 use crate::maker::Maker;
-use crate::rows::{Rows, result_head};
+use crate::rows::Rows;
 use pnm_image::{Head, Samples, Shape};
 use std::alloc::Global;
 
@@ -168,7 +169,7 @@ pub(crate) fn flipped_head(alloc: Global, way: FlipWay, head: &Head) -> Result<H
             ..shape
         },
     };
-    result_head(alloc, flipped, head.tuple_type())
+    head_within_limits(alloc, flipped, head.tuple_type())
 }
 
 /// The last pixel first: all samples change places, and then those of each pixel do again.

@@ -13,6 +13,7 @@ mod filter;
 mod flip;
 mod invert;
 pub mod laws;
+mod limits;
 mod maker;
 mod rows;
 mod state;

@@ -2,16 +2,15 @@
 //! and its row rule.
 
 ghost use Rattle.std.specs.Prelude.{ℕ, ◌≡◌, ◌<◌, ◌≤◌, ◌⊎◌, List, [], true, false, OnOk, IfOk, IfErr, Ok, Err};
-ghost use Rattle.pnm_image.specs.Heads.{Suits, head_value, is_too_large};
 ghost use Rattle.pnm_image.specs.Places.{IsRowOf};
 ghost use Rattle.pnm_image.specs.declared.shape.Shape.{Shape as ShapeValue};
-ghost use Rattle.pnm_tools.specs.declared.fault.ToolFault.TheVariants.{Memory, TooLarge};
+ghost use Rattle.pnm_tools.specs.declared.fault.ToolFault.TheVariants.{Memory};
 ghost use Rattle.pnm_tools.specs.declared.tool.Tool.{Tool as ToolValue};
 ghost use Rattle.pnm_tools.specs.Answering.{row_list};
 ghost use Rattle.pnm_tools.specs.Tools.{IsLawfulTool, Takes, result_head, row_answer, end_answer};
 
 use crate::fault::ToolFault;
-use pnm_image::{Head, HeadFault, Samples, Shape};
+use pnm_image::{Head, Samples, Shape};
 use std::alloc::Global;
 
 /// The head rule and the row rule of a tool.
@@ -48,26 +47,4 @@ pub trait Rows {
         ensures refused { IfErr result (λ fault. fault ≡ Memory) };
 
     ghost at_once: { (s : Self) (shape : ShapeValue) (rows : List (List ℕ)) → end_answer (tool s) shape rows ≡ [] };
-}
-
-/// The head of a result with these fields, which may have height 0 as the image's has.
-pub(crate) fn result_head(alloc: Global, shape: Shape, tuple_type: &[u8]) -> Result<Head, ToolFault>
-    requires some { (1 ≤ shape.width) × (1 ≤ shape.depth) }
-    requires maxval { (1 ≤ shape.maxval) × (shape.maxval ≤ 65535) }
-    requires suits { Suits shape.kind shape.depth shape.maxval tuple_type.now }
-    ensures made { IfOk result (λ head. (head ≡ head_value shape tuple_type.now) × (is_too_large shape ≡ false)) }
-    ensures refused { IfErr result (λ fault. ((fault ≡ TooLarge) × (is_too_large shape ≡ true))
-        ⊎ ((fault ≡ Memory) × (is_too_large shape ≡ false))) }
-{
-    // No new head has height 0, but one is changed to it.
-    let height = shape.height;
-    let shape = Shape {
-        height: height.max(1),
-        ..shape
-    };
-    match Head::new(alloc, shape, tuple_type) {
-        Ok(head) => Ok(head.with_height(height)),
-        Err(HeadFault::Memory) => Err(ToolFault::Memory),
-        Err(_) => Err(ToolFault::TooLarge),
-    }
 }

@@ -1,15 +1,17 @@
 //! `pnmtile`: the image side by side, from pnmtile(1).
 
 ghost use Rattle.std.specs.Prelude.{◌≡◌, ◌≤◌, ◌<◌, ◌*◌, ◌⊎◌, length, OnOk, IfOk, IfErr, Ok, Err, []};
+ghost use Rattle.pnm_image.specs.Limits.{max_row_length};
 ghost use Rattle.pnm_tools.specs.declared.fault.ToolFault.TheVariants.{Memory};
 ghost use Rattle.pnm_tools.specs.declared.tool.Tool.TheVariants.{Tile};
-ghost use Rattle.pnm_tools.specs.Tile.{IsExtent, tiled_row};
+ghost use Rattle.pnm_tools.specs.Tile.{tiled_row};
 ghost use Rattle.pnm_tools.specs.Keeping.{IsTiling, tiled_due};
+ghost use Rattle.pnm_tools.specs.Limits.{IsExtent};
 ghost use Rattle.pnm_tools.specs.Tools.{Takes, result_head};
 
 use crate::fault::ToolFault;
+use crate::limits::head_within_limits;
 use crate::maker::Maker;
-use crate::rows::result_head;
 use pnm_image::{Head, Samples, Shape};
 use std::alloc::Global;
 use std::collections::VecDeque;
@@ -131,7 +133,7 @@ pub(crate) fn tiled_head(
 ) -> Result<Head, ToolFault>
     requires { IsExtent across × IsExtent down }
     ensures made { IfOk result (λ made. result_head (Tile across down) head.now ≡ Ok made) }
-    ensures limits { OnOk result (across * head.now.shape.depth ≤ 16777216) }
+    ensures limits { OnOk result (across * head.now.shape.depth ≤ max_row_length) }
     ensures refused { IfErr result (λ fault. (result_head (Tile across down) head.now ≡ Err fault)
         ⊎ ((fault ≡ Memory) × Takes (Tile across down) head.now)) }
 {
@@ -144,7 +146,7 @@ pub(crate) fn tiled_head(
         height: down,
         ..shape
     };
-    result_head(alloc, tiled, head.tuple_type())
+    head_within_limits(alloc, tiled, head.tuple_type())
 }
 
 /// The row side by side up to so many columns.
@@ -156,7 +158,7 @@ fn tile(
     row: &[u16],
 ) -> Result<Vec<u16>, ToolFault>
     requires row { (0 < width) × (length row.now ≡ width * depth) }
-    requires fits { across * depth ≤ 16777216 }
+    requires fits { across * depth ≤ max_row_length }
     ensures made { IfOk result (λ made. made.items ≡ tiled_row across width depth row.now) }
     ensures refused { IfErr result (λ fault. fault ≡ Memory) }
 {
@@ -180,7 +182,7 @@ fn tile_last(
     mut row: Vec<u16>,
 ) -> Result<Vec<u16>, ToolFault>
     requires row { (0 < width) × (length row.items ≡ width * depth) }
-    requires fits { across * depth ≤ 16777216 }
+    requires fits { across * depth ≤ max_row_length }
     ensures made { IfOk result (λ made. made.items ≡ tiled_row across width depth row.items) }
     ensures refused { IfErr result (λ fault. fault ≡ Memory) }
 {

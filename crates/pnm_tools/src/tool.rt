@@ -3,7 +3,6 @@
 ghost use Rattle.std.specs.Prelude.{◌≡◌, ◌↔◌, ◌⊎◌, IsTrue, true, None, [], IfOk, IfErr, Ok, Err};
 ghost use Rattle.pnm_tools.specs.declared.fault.ToolFault.TheVariants.{Memory};
 ghost use Rattle.pnm_tools.specs.States.{IsFresh, kept_of, tool_of};
-ghost use Rattle.pnm_tools.specs.Tile.{IsExtent};
 ghost use Rattle.pnm_tools.specs.Tools.{IsLawfulTool, Takes, is_row_wise, result_head};
 
 use crate::at_once::AtOnce;
@@ -14,16 +13,15 @@ use crate::enlarge::{Enlarger, enlarged_head};
 use crate::fault::ToolFault;
 use crate::flip::{FlipWay, Mirror, Passer, RowReverser, flipped_head};
 use crate::invert::Inverter;
+use crate::limits::is_extent;
 use crate::rows::Rows;
 use crate::state::State;
 use crate::tile::{Tiler, tiled_head};
 use crate::transpose::Transposer;
 use crate::work::Work;
 use pnm_image::Head;
+use pnm_image::limits::MAX_MAXVAL;
 use std::alloc::Global;
-
-/// The greatest factor, and the most columns or rows to fill.
-const GREATEST_EXTENT: u32 = 16_777_216;
 
 /// A tool of a chain at work on a stream.
 pub type ToolState = State<Work>;
@@ -58,7 +56,7 @@ impl Tool {
         match self {
             Tool::Invert => true,
             Tool::Cut(cut) => cut.is_lawful(),
-            Tool::Depth(maxval) => 1 <= *maxval && *maxval <= 65_535,
+            Tool::Depth(maxval) => 1 <= *maxval && *maxval <= MAX_MAXVAL,
             Tool::Channel(planes) => planes.is_lawful(),
             Tool::Enlarge(across, down) | Tool::Tile(across, down) => {
                 is_extent(*across) && is_extent(*down)
@@ -151,11 +149,4 @@ impl Tool {
             Tool::Tile(across, down) => Work::Tiling(Tiler::new(alloc, *across, *down)),
         })
     }
-}
-
-/// Whether a factor, or a number of columns or rows to fill, is from 1 to 16,777,216.
-fn is_extent(count: u32) -> bool
-    ensures { IsTrue result ↔ IsExtent count }
-{
-    1 <= count && count <= GREATEST_EXTENT
 }

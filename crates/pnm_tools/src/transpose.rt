@@ -2,6 +2,7 @@
 
 ghost use Rattle.std.specs.Prelude.{◌≡◌, ◌≤◌, ◌<◌, ◌+◌, ◌*◌, ◌++◌, All, length, map, reverse, vec_len, vec_capacity, IfOk, IfErr, []};
 ghost use Rattle.std.specs.List.{range_with_len};
+ghost use Rattle.pnm_image.specs.Limits.{max_depth, max_row_length};
 ghost use Rattle.pnm_tools.specs.declared.fault.ToolFault.TheVariants.{Memory};
 ghost use Rattle.pnm_tools.specs.declared.tool.Tool.TheVariants.{Flip};
 ghost use Rattle.pnm_tools.specs.declared.flip.FlipWay.TheVariants.{Transpose};
@@ -126,7 +127,7 @@ fn band_of(
     depth: usize,
 ) -> Result<Vec<Samples>, ToolFault>
     requires rows { All (λ row. (first + count) * depth ≤ length row) rows.now }
-    requires sizes { (length rows.now * depth ≤ 16777216) × (depth ≤ 256) × (first + count ≤ 4294967295) }
+    requires sizes { (length rows.now * depth ≤ max_row_length) × (depth ≤ max_depth) × (first + count ≤ 4294967295) }
     ensures made { IfOk result (λ band. band.items ≡ reverse (map (column_of depth rows.now) (range_with_len first count))) }
     ensures refused { IfErr result (λ fault. fault ≡ Memory) }
 {

@@ -21,11 +21,11 @@ returns-in_default-clause-refused c =
     inl (enlarged_too_large c.args.across c.args.down c.args.head.now s c.shape-shape.ensures.shape c.else-down-ne1.either beyond)
 
 -- the head that is made is the one of the rule
-made : (c : goal.After-result_head) → result_head (Enlarge c.args.across c.args.down) c.args.head.now ≡ within_limits (head_value (record c.shape-shape.result { width = c.in-Some-Some.width; height = c.in-Some-Some.height }) c.tuple_type.result.now)
+made : (c : goal.After-head_within_limits) → result_head (Enlarge c.args.across c.args.down) c.args.head.now ≡ within_limits (head_value (record c.shape-shape.result { width = c.in-Some-Some.width; height = c.in-Some-Some.height }) c.tuple_type.result.now)
 made c = enlarged_head_made c.args.across c.args.down c.args.head.now c.shape-shape.result c.in-Some-Some.width c.in-Some-Some.height c.tuple_type.result.now c.shape-shape.ensures.shape c.else-down-ne1.either c.in-Some-Some.ensures.1 c.in-Some-Some.ensures'.1 c.tuple_type.ensures
 
 pub returns-clause-made : goal.returns-clause-made
-returns-clause-made c = head_so (Enlarge c.args.across c.args.down) c.args.head.now (head_value (record c.shape-shape.result { width = c.in-Some-Some.width; height = c.in-Some-Some.height }) c.tuple_type.result.now) c.result_head.result (made c) c.result_head.ensures.made
+returns-clause-made c = head_so (Enlarge c.args.across c.args.down) c.args.head.now (head_value (record c.shape-shape.result { width = c.in-Some-Some.width; height = c.in-Some-Some.height }) c.tuple_type.result.now) c.head_within_limits.result (made c) c.head_within_limits.ensures.made
 
 pub returns-clause-refused : goal.returns-clause-refused
-returns-clause-refused c = fault_so (Enlarge c.args.across c.args.down) c.args.head.now (head_value (record c.shape-shape.result { width = c.in-Some-Some.width; height = c.in-Some-Some.height }) c.tuple_type.result.now) c.result_head.result (made c) c.result_head.ensures.refused
+returns-clause-refused c = fault_so (Enlarge c.args.across c.args.down) c.args.head.now (head_value (record c.shape-shape.result { width = c.in-Some-Some.width; height = c.in-Some-Some.height }) c.tuple_type.result.now) c.head_within_limits.result (made c) c.head_within_limits.ensures.refused

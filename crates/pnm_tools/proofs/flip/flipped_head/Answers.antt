@@ -14,7 +14,7 @@ pub returns-in-TopBottom-clause-refused : goal.returns-in-TopBottom-clause-refus
 returns-in-TopBottom-clause-refused c = inl (flip_without_rows c.args.way c.args.head.now c.shape-shape.result c.in-TopBottom.is c.shape-shape.ensures.shape c.if-shape-eq0.true)
 
 -- the head that is made is the one of the rule
-made : (c : goal.After-result_head) → result_head (Flip c.args.way) c.args.head.now ≡ within_limits (head_value c.match-way.flipped c.tuple_type.result.now)
+made : (c : goal.After-head_within_limits) → result_head (Flip c.args.way) c.args.head.now ≡ within_limits (head_value c.match-way.flipped c.tuple_type.result.now)
 made c =
     let s = c.shape-shape.result in
     let shape = c.shape-shape.ensures.shape in
@@ -26,7 +26,7 @@ made c =
     ]
 
 pub returns-clause-made : goal.returns-clause-made
-returns-clause-made c = head_so (Flip c.args.way) c.args.head.now (head_value c.match-way.flipped c.tuple_type.result.now) c.result_head.result (made c) c.result_head.ensures.made
+returns-clause-made c = head_so (Flip c.args.way) c.args.head.now (head_value c.match-way.flipped c.tuple_type.result.now) c.head_within_limits.result (made c) c.head_within_limits.ensures.made
 
 pub returns-clause-refused : goal.returns-clause-refused
-returns-clause-refused c = fault_so (Flip c.args.way) c.args.head.now (head_value c.match-way.flipped c.tuple_type.result.now) c.result_head.result (made c) c.result_head.ensures.refused
+returns-clause-refused c = fault_so (Flip c.args.way) c.args.head.now (head_value c.match-way.flipped c.tuple_type.result.now) c.head_within_limits.result (made c) c.head_within_limits.ensures.refused

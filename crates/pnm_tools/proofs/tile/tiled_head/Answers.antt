@@ -14,15 +14,15 @@ pub returns-clause-made : goal.returns-clause-made
 returns-clause-made c =
     let s = c.shape-shape.result in
     let made = tiled_head_made c.args.across c.args.down c.args.head.now s c.tuple_type.result.now c.shape-shape.ensures.shape c.tuple_type.ensures c.if-shape-eq0.false in
-    head_so (Tile c.args.across c.args.down) c.args.head.now (head_value (record s { width = c.args.across; height = c.args.down }) c.tuple_type.result.now) c.result_head.result made c.result_head.ensures.made
+    head_so (Tile c.args.across c.args.down) c.args.head.now (head_value (record s { width = c.args.across; height = c.args.down }) c.tuple_type.result.now) c.head_within_limits.result made c.head_within_limits.ensures.made
 
 pub returns-clause-limits : goal.returns-clause-limits
 returns-clause-limits c =
     let s = c.shape-shape.result in
-    tiled_row_small c.args.across c.args.down s c.args.head.now.shape (head_value (record s { width = c.args.across; height = c.args.down }) c.tuple_type.result.now) c.result_head.result c.shape-shape.ensures.shape refl c.result_head.ensures.made
+    tiled_row_small c.args.across c.args.down s c.args.head.now.shape (head_value (record s { width = c.args.across; height = c.args.down }) c.tuple_type.result.now) c.head_within_limits.result c.shape-shape.ensures.shape refl c.head_within_limits.ensures.made
 
 pub returns-clause-refused : goal.returns-clause-refused
 returns-clause-refused c =
     let s = c.shape-shape.result in
     let made = tiled_head_made c.args.across c.args.down c.args.head.now s c.tuple_type.result.now c.shape-shape.ensures.shape c.tuple_type.ensures c.if-shape-eq0.false in
-    fault_so (Tile c.args.across c.args.down) c.args.head.now (head_value (record s { width = c.args.across; height = c.args.down }) c.tuple_type.result.now) c.result_head.result made c.result_head.ensures.refused
+    fault_so (Tile c.args.across c.args.down) c.args.head.now (head_value (record s { width = c.args.across; height = c.args.down }) c.tuple_type.result.now) c.head_within_limits.result made c.head_within_limits.ensures.refused

@@ -29,8 +29,8 @@ count-requires-2 c =
     let lies = rows_lie c.args.self.now c.shape-shape.result c.in-Some-Some.rows c.in-Some-Some.ensures' in
     counts_within c.in-Some-Some.rows c.shape-shape.result.height 1000000 lies limits.height_high
 
-pub result_head-requires-clause-some : goal.result_head-requires-clause-some
-result_head-requires-clause-some c =
+pub head_within_limits-requires-clause-some : goal.head_within_limits-requires-clause-some
+head_within_limits-requires-clause-some c =
     let limits = subst IsWithinLimits (sym c.shape-shape.ensures.shape) c.shape-shape.ensures.sound.limits in
     let lies = columns_lie c.args.self.now c.shape-shape.result c.in-Some-Some.columns c.in-Some-Some.ensures in
     (omega (arith, c.count.ensures, lies.0), limits.depth_low)
@@ -40,11 +40,11 @@ returns-clause-head c =
     let spans = c.in-Some-Some in
     let s = c.shape-shape.result in
     let made = cut_head_made c.args.self.now c.args.head.now s spans.columns spans.rows c.count.result c.count-2.result c.tuple_type.result.now c.shape-shape.ensures.shape c.shape-shape.ensures.sound.limits c.if-shape-eq0.false spans.ensures spans.ensures' c.count.ensures c.count-2.ensures c.tuple_type.ensures in
-    head_so (Cut c.args.self.now) c.args.head.now (head_value (record s { width = c.count.result; height = c.count-2.result }) c.tuple_type.result.now) c.result_head.result made c.result_head.ensures.made
+    head_so (Cut c.args.self.now) c.args.head.now (head_value (record s { width = c.count.result; height = c.count-2.result }) c.tuple_type.result.now) c.head_within_limits.result made c.head_within_limits.ensures.made
 
 pub returns-clause-refused : goal.returns-clause-refused
 returns-clause-refused c =
     let spans = c.in-Some-Some in
     let s = c.shape-shape.result in
     let made = cut_head_made c.args.self.now c.args.head.now s spans.columns spans.rows c.count.result c.count-2.result c.tuple_type.result.now c.shape-shape.ensures.shape c.shape-shape.ensures.sound.limits c.if-shape-eq0.false spans.ensures spans.ensures' c.count.ensures c.count-2.ensures c.tuple_type.ensures in
-    fault_so (Cut c.args.self.now) c.args.head.now (head_value (record s { width = c.count.result; height = c.count-2.result }) c.tuple_type.result.now) c.result_head.result made c.result_head.ensures.refused
+    fault_so (Cut c.args.self.now) c.args.head.now (head_value (record s { width = c.count.result; height = c.count-2.result }) c.tuple_type.result.now) c.head_within_limits.result made c.head_within_limits.ensures.refused
