@@ -1,13 +1,28 @@
 -- What tools keep while the rows of an image come, and the rows of the result that they still give.
-use Rattle.std.specs.Prelude.{◌≡◌, ℕ, ◌+◌, ◌-◌, ◌*◌, ◌<◌, ◌≤◌, ◌%◌, false, if◌then◌else◌, List, [], ◌++◌, map, length, take, reverse, replicate, slice_index_or, All, Some, None}
+use Rattle.std.specs.Prelude.{◌≡◌, ◌⊎◌, ℕ, ◌+◌, ◌-◌, ◌*◌, ◌<◌, ◌≤◌, ◌%◌, false, if◌then◌else◌, List, [], ◌++◌, map, length, take, reverse, replicate, slice_index_or, All, Some, None}
 use Rattle.std.specs.List.{range_with_len}
 use Rattle.pnm_image.specs.Limits.{max_side, max_depth, max_row_length}
 use Rattle.pnm_image.specs.declared.shape.Shape.{Shape}
 use Rattle.pnm_image.specs.Heads.{IsWithinLimits, row_length}
+use Rattle.pnm_tools.specs.declared.cut.Cutter.{Cutter}
+use Rattle.pnm_tools.specs.declared.depth.Rescaler.{Rescaler}
 use Rattle.pnm_tools.specs.declared.enlarge.Enlarger.{Enlarger}
 use Rattle.pnm_tools.specs.declared.flip.RowReverser.{RowReverser}
+use Rattle.pnm_tools.specs.Cut.{columns_kept, rows_kept}
+use Rattle.pnm_tools.specs.Depth.{nearest_sample}
 use Rattle.pnm_tools.specs.Flip.{column_of}
 use Rattle.pnm_tools.specs.Tile.{tiled_row}
+
+-- ---- pamcut: the columns and the rows that are kept of an image
+
+pub record HasSpans (w : Cutter) (s : Shape) : Type 0 where
+  pub columns : columns_kept w.cut s ≡ Some w.columns
+  pub rows : rows_kept w.cut s ≡ Some w.rows
+
+-- ---- pamdepth: a table of the rescaled samples, or none, where each is computed
+
+abbrev pub HasTable : Rescaler → Shape → Type 0
+HasTable r s = (r.table.items ≡ []) ⊎ (r.table.items ≡ map (nearest_sample r.maxval s.maxval) (range_with_len 0 (s.maxval + 1)))
 
 -- ---- pamenlarge: a row that is given more than once
 

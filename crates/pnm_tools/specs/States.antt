@@ -1,6 +1,5 @@
 -- The state of a tool at work: what it has accepted and given.
-use Rattle.std.specs.Prelude.{◌≡◌, ◌⊎◌, ℕ, ◌+◌, Bool, true, false, List, [], ◌∷◌, ◌++◌, map, length, Option, Some, None}
-use Rattle.std.specs.List.{range_with_len}
+use Rattle.std.specs.Prelude.{◌≡◌, ℕ, Bool, true, false, List, [], ◌∷◌, ◌++◌, map, length, Option, Some, None}
 use Rattle.pnm_image.specs.declared.shape.Shape.{Shape}
 use Rattle.pnm_image.specs.Heads.{IsWithinLimits}
 use Rattle.pnm_image.specs.declared.message.Message.{Message}
@@ -8,7 +7,6 @@ use Rattle.pnm_image.specs.declared.message.Message.TheVariants.{Row, ImageEnd}
 use Rattle.pnm_image.specs.declared.place.Place.{Place}
 use Rattle.pnm_image.specs.declared.place.Place.TheVariants.{Between, Inside, After}
 use Rattle.pnm_image.specs.Places.{IsLawful, place_of}
-use Rattle.pnm_tools.specs.declared.depth.Rescaler.{Rescaler}
 use Rattle.pnm_tools.specs.declared.fault.ToolFault.{ToolFault}
 use Rattle.pnm_tools.specs.declared.flip.FlipWay.TheVariants.{Null, LeftRight, TopBottom, Transpose}
 use Rattle.pnm_tools.specs.declared.state.Pending.{Pending}
@@ -19,14 +17,9 @@ use Rattle.pnm_tools.specs.declared.work.Work.{Work}
 use Rattle.pnm_tools.specs.declared.work.Work.TheVariants.{Inverting, Cutting, Rescaling, Picking, Enlarging, Passing, Mirroring, ReversingRows, Transposing, Tiling}
 use Rattle.pnm_tools.specs.Answers.{Answers}
 use Rattle.pnm_tools.specs.Answering.{row_list, rows_come, answered_from}
-use Rattle.pnm_tools.specs.Keeping.{IsEnlarging, IsReversingRows, IsTransposing, IsTiling, enlarged_due, reversed_due, transposed_due, tiled_due}
+use Rattle.pnm_tools.specs.Keeping.{HasSpans, HasTable, IsEnlarging, IsReversingRows, IsTransposing, IsTiling, enlarged_due, reversed_due, transposed_due, tiled_due}
 use Rattle.pnm_tools.specs.Channel.{HasPlanes}
-use Rattle.pnm_tools.specs.Depth.{nearest_sample}
 use Rattle.pnm_tools.specs.Tools.{IsLawfulTool, AreTaken}
-
--- a table of the rescaled samples, or none, where each is computed
-abbrev pub HasTable : Rescaler → Shape → Type 0
-HasTable r s = (r.table.items ≡ []) ⊎ (r.table.items ≡ map (nearest_sample r.maxval s.maxval) (range_with_len 0 (s.maxval + 1)))
 
 -- ---- whichever tool is at work
 
@@ -44,7 +37,7 @@ at_once tool made ready = record { tool = tool; due = row_list made; kept = row_
 
 abbrev pub worker : Work → Worker
 worker (Inverting w) = at_once Invert w.made IsWithinLimits
-worker (Cutting w) = at_once (Cut w.tool) w.made (λ s. Unit {0})
+worker (Cutting w) = at_once (Cut w.tool.cut) w.made (HasSpans w.tool)
 worker (Rescaling w) = at_once (Depth w.tool.maxval) w.made (λ s. IsWithinLimits s × HasTable w.tool s)
 worker (Picking w) = at_once (Channel w.tool) w.made (HasPlanes w.tool)
 worker (Enlarging w) = record { tool = Enlarge w.across w.down; due = enlarged_due w; kept = row_list w.row; ready = λ s rows. IsEnlarging w.across s }

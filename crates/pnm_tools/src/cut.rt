@@ -38,10 +38,21 @@ pub(crate) struct Span {
     last: u32,
 }
 
-impl Rows for CutBox {
-    ghost tool = { λ box. Cut box };
+/// Cuts the rows of images.
+#[derive(Clone, Copy, Debug)]
+pub struct Cutter {
+    cut: CutBox,
+    /// The columns and the rows that are kept of the image.
+    columns: Span,
+    rows: Span,
+}
 
-    ghost ready = { λ _ _. Unit {0} };
+impl Rows for Cutter {
+    ghost use Rattle.pnm_tools.specs.Keeping.{HasSpans};
+
+    ghost tool = { λ w. Cut w.cut };
+
+    ghost ready = { HasSpans };
 
     ghost at_once = { λ _ _ _ _. [] };
 
@@ -50,9 +61,11 @@ impl Rows for CutBox {
         if shape.height == 0 {
             return Err(ToolFault::OutOfOrder);
         }
-        let (Some(columns), Some(rows)) = (self.columns(shape), self.rows(shape)) else {
+        let (Some(columns), Some(rows)) = (self.cut.columns(shape), self.cut.rows(shape)) else {
             return Err(ToolFault::CutOutside);
         };
+        self.columns = columns;
+        self.rows = rows;
         let kept = Shape {
             width: columns.count(),
             height: rows.count(),
@@ -69,15 +82,26 @@ impl Rows for CutBox {
         y: u32,
         row: Samples,
     ) -> Result<Option<Samples>, ToolFault> {
-        let (Some(columns), Some(rows)) = (self.columns(shape), self.rows(shape)) else {
-            return Ok(None);
-        };
-        if y < rows.first || rows.last < y {
+        if y < self.rows.first || self.rows.last < y {
             return Ok(None);
         }
         let mut samples = row.into_vec();
-        keep(&mut samples, columns, shape.depth as usize);
+        keep(&mut samples, self.columns, shape.depth as usize);
         Ok(Some(Samples::new(samples)))
+    }
+}
+
+impl Cutter {
+    /// The tool before the first image.
+    pub(crate) fn new(cut: CutBox) -> Cutter
+        ensures { result.cut ≡ cut }
+    {
+        let none = Span { first: 0, last: 0 };
+        Cutter {
+            cut,
+            columns: none,
+            rows: none,
+        }
     }
 }
 

@@ -26,7 +26,7 @@ pub struct Rescaler {
 }
 
 impl Rows for Rescaler {
-    ghost use Rattle.pnm_tools.specs.States.{HasTable};
+    ghost use Rattle.pnm_tools.specs.Keeping.{HasTable};
 
     ghost tool = { λ r. Depth r.maxval };
 

@@ -7,7 +7,7 @@ ghost use Rattle.pnm_tools.specs.Tools.{IsLawfulTool, Takes, is_row_wise, result
 
 use crate::at_once::AtOnce;
 use crate::channel::Planes;
-use crate::cut::CutBox;
+use crate::cut::{CutBox, Cutter};
 use crate::depth::{Rescaler, head_at};
 use crate::enlarge::{Enlarger, enlarged_head};
 use crate::fault::ToolFault;
@@ -107,10 +107,7 @@ impl Tool {
     {
         match self {
             Tool::Invert => Inverter.begin(alloc, head),
-            Tool::Cut(cut) => {
-                let mut cut = *cut;
-                cut.begin(alloc, head)
-            }
+            Tool::Cut(cut) => Cutter::new(*cut).begin(alloc, head),
             Tool::Depth(maxval) => head_at(alloc, *maxval, head),
             Tool::Channel(planes) => planes.head(alloc, head),
             Tool::Enlarge(across, down) => enlarged_head(alloc, *across, *down, head),
@@ -135,7 +132,7 @@ impl Tool {
     {
         Ok(match self {
             Tool::Invert => Work::Inverting(AtOnce::new(Inverter)),
-            Tool::Cut(cut) => Work::Cutting(AtOnce::new(*cut)),
+            Tool::Cut(cut) => Work::Cutting(AtOnce::new(Cutter::new(*cut))),
             Tool::Depth(maxval) => Work::Rescaling(AtOnce::new(Rescaler {
                 maxval: *maxval,
                 table: Vec::new(alloc),

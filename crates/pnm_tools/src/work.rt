@@ -2,7 +2,7 @@
 
 use crate::at_once::AtOnce;
 use crate::channel::Planes;
-use crate::cut::CutBox;
+use crate::cut::Cutter;
 use crate::depth::Rescaler;
 use crate::enlarge::Enlarger;
 use crate::fault::ToolFault;
@@ -38,7 +38,7 @@ pub enum Work {
     /// `pnminvert`.
     Inverting(AtOnce<Inverter>),
     /// `pamcut`.
-    Cutting(AtOnce<CutBox>),
+    Cutting(AtOnce<Cutter>),
     /// `pamdepth`.
     Rescaling(AtOnce<Rescaler>),
     /// `pamchannel`.

@@ -1,5 +1,11 @@
 use Rattle.pnm_tools.proofs.work.WorkMaker.give.Goals as goal
 
+pub returns-in-Cutting-clause-ready : goal.returns-in-Cutting-clause-ready
+returns-in-Cutting-clause-ready c = rw c.in-Cutting.is c.give-in-Cutting.ensures.ready
+
+pub returns-in-Rescaling-clause-ready : goal.returns-in-Rescaling-clause-ready
+returns-in-Rescaling-clause-ready c = rw c.in-Rescaling.is c.give-in-Rescaling.ensures.ready
+
 pub returns-in-ReversingRows-clause-ready : goal.returns-in-ReversingRows-clause-ready
 returns-in-ReversingRows-clause-ready c = rw c.in-ReversingRows.is c.give-in-ReversingRows.ensures.ready
 
