@@ -31,11 +31,11 @@ due_at_end across down s rows come kept count =
     (λ y lt. ap (tiled_row across s.width s.depth) (kept_row down s.height y rows come kept count (omega arith) (cases_lt down s.height)))
 
 -- once an image that has rows has ended there are rows to give
-pub tiles_at_end : (w : Tiled) (s : Shape) (come : List (List ℕ)) → IsTiling w s come → length come ≡ s.height → 0 < s.height → 0 < w.down
-    → HasTiles (tiled w.across w.down s.width s.depth w.rows w.down)
+pub tiles_at_end : (w : Tiled) (s : Shape) (come : List (List ℕ)) → IsTiling w s come → length come ≡ s.height → 0 < s.height → 0 < w.height
+    → HasTiles (tiled w.width w.height s.width s.depth w.rows w.height)
 tiles_at_end w s come ready count some wanted = record {
-  some = omega (arith, ap length ready.rows, length-take w.down come);
-  lengths = subst (All (λ row. length row ≡ row_length s)) (sym ready.rows) (All-take (λ row. length row ≡ row_length s) w.down come ready.lengths);
+  some = omega (arith, ap length ready.rows, length-take w.height come);
+  lengths = subst (All (λ row. length row ≡ row_length s)) (sym ready.rows) (All-take (λ row. length row ≡ row_length s) w.height come ready.lengths);
   width = ready.limits.width_low;
   filled = ready.filled;
 }
@@ -112,24 +112,24 @@ given_last across down width depth m row rest le =
     ∙ ap (λ (k : ℕ). get_or rest k []) (sym (mod-eq_of_lt below)) ∙ ap (λ (k : ℕ). get_or rest (k % length rest) []) (sym there))))
 
 -- a row of the result, and the rows that are due behind it
-pub given_of_queue : (w : Tiled) (row made : List ℕ) (rest rows : List (List ℕ)) (left : ℕ) → w.rows ≡ row ∷ rest → w.left ≡ suc left → made ≡ tiled_row w.across w.width w.depth row
-    → ((rows ≡ rest ++ row ∷ []) ⊎ ((rows ≡ rest) × (left ≤ length rest))) → tiled_due w ≡ made ∷ tiled_due (tiled w.across w.down w.width w.depth rows left)
+pub given_of_queue : (w : Tiled) (row made : List ℕ) (rest rows : List (List ℕ)) (left : ℕ) → w.rows ≡ row ∷ rest → w.left ≡ suc left → made ≡ tiled_row w.width w.image_width w.depth row
+    → ((rows ≡ rest ++ row ∷ []) ⊎ ((rows ≡ rest) × (left ≤ length rest))) → tiled_due w ≡ made ∷ tiled_due (tiled w.width w.height w.image_width w.depth rows left)
 given_of_queue w row made rest rows left queue more is (inl again) =
-    ap (λ (l : List (List ℕ)). tiled_due (tiled w.across w.down w.width w.depth l w.left)) queue ∙ ap (λ (n : ℕ). tiled_due (tiled w.across w.down w.width w.depth (row ∷ rest) n)) more
-    ∙ given_again w.across w.down w.width w.depth left row rest
-    ∙ ap (λ (l : List ℕ). l ∷ tiled_due (tiled w.across w.down w.width w.depth (rest ++ row ∷ []) left)) (sym is)
-    ∙ ap (λ (l : List (List ℕ)). made ∷ tiled_due (tiled w.across w.down w.width w.depth l left)) (sym again)
+    ap (λ (l : List (List ℕ)). tiled_due (tiled w.width w.height w.image_width w.depth l w.left)) queue ∙ ap (λ (n : ℕ). tiled_due (tiled w.width w.height w.image_width w.depth (row ∷ rest) n)) more
+    ∙ given_again w.width w.height w.image_width w.depth left row rest
+    ∙ ap (λ (l : List ℕ). l ∷ tiled_due (tiled w.width w.height w.image_width w.depth (rest ++ row ∷ []) left)) (sym is)
+    ∙ ap (λ (l : List (List ℕ)). made ∷ tiled_due (tiled w.width w.height w.image_width w.depth l left)) (sym again)
 given_of_queue w row made rest rows left queue more is (inr last) =
-    ap (λ (l : List (List ℕ)). tiled_due (tiled w.across w.down w.width w.depth l w.left)) queue ∙ ap (λ (n : ℕ). tiled_due (tiled w.across w.down w.width w.depth (row ∷ rest) n)) more
-    ∙ given_last w.across w.down w.width w.depth left row rest last.1
-    ∙ ap (λ (l : List ℕ). l ∷ tiled_due (tiled w.across w.down w.width w.depth rest left)) (sym is)
-    ∙ ap (λ (l : List (List ℕ)). made ∷ tiled_due (tiled w.across w.down w.width w.depth l left)) (sym last.0)
+    ap (λ (l : List (List ℕ)). tiled_due (tiled w.width w.height w.image_width w.depth l w.left)) queue ∙ ap (λ (n : ℕ). tiled_due (tiled w.width w.height w.image_width w.depth (row ∷ rest) n)) more
+    ∙ given_last w.width w.height w.image_width w.depth left row rest last.1
+    ∙ ap (λ (l : List ℕ). l ∷ tiled_due (tiled w.width w.height w.image_width w.depth rest left)) (sym is)
+    ∙ ap (λ (l : List (List ℕ)). made ∷ tiled_due (tiled w.width w.height w.image_width w.depth l left)) (sym last.0)
 
 -- the rows that are left are still rows of the image, and there are some where one is due
 pub tiles_left : (w : Tiled) (row : List ℕ) (rest rows : List (List ℕ)) (left : ℕ) → HasTiles w → w.rows ≡ row ∷ rest → ((rows ≡ rest ++ row ∷ []) ⊎ ((rows ≡ rest) × (left ≤ length rest))) → 0 < left
-    → HasTiles (tiled w.across w.down w.width w.depth rows left)
+    → HasTiles (tiled w.width w.height w.image_width w.depth rows left)
 tiles_left w row rest rows left h queue (inl again) more =
-    let P : List ℕ → Type 0 = λ r. length r ≡ w.width * w.depth in
+    let P : List ℕ → Type 0 = λ r. length r ≡ w.image_width * w.depth in
     let first : P row = All-head P row rest (All-same P (row ∷ rest) w.rows (sym queue) h.lengths) in
     record {
       some = omega (arith, ap length again, length-append rest (row ∷ []));
@@ -139,7 +139,7 @@ tiles_left w row rest rows left h queue (inl again) more =
     }
 tiles_left w row rest rows left h queue (inr last) more = record {
   some = omega (arith, ap length last.0, last.1);
-  lengths = All-same (λ r. length r ≡ w.width * w.depth) rows rest last.0 (All-rest (λ r. length r ≡ w.width * w.depth) row rest w.rows queue h.lengths);
+  lengths = All-same (λ r. length r ≡ w.image_width * w.depth) rows rest last.0 (All-rest (λ r. length r ≡ w.image_width * w.depth) row rest w.rows queue h.lengths);
   width = h.width;
   filled = h.filled;
 }

@@ -55,7 +55,7 @@ tiled_row_small across down s t x (Err fault) same shape h = tt
 
 -- nothing is due before the image has ended
 pub none_due : (w : Tiled) → w.left ≡ 0 → tiled_due w ≡ []
-none_due w e = ap (λ (n : ℕ). map (λ y. tiled_row w.across w.width w.depth (slice_index_or w.rows (y % length w.rows) [])) (range_with_len 0 n)) e
+none_due w e = ap (λ (n : ℕ). map (λ y. tiled_row w.width w.image_width w.depth (slice_index_or w.rows (y % length w.rows) [])) (range_with_len 0 n)) e
 
 -- an image whose tiled head is made has rows
 pub tiled_has_rows : (across down : ℕ) (head made : HeadValue) → result_head (Tile across down) head ≡ Ok made → (head.shape.height ≡ 0) ⊎ (head.shape.height ≡ 0 → ⊥) → 0 < head.shape.height

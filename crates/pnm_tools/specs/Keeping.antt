@@ -83,30 +83,30 @@ transposed_due w = reverse w.band ++ map (column_of w.depth w.rows) (range_with_
 
 -- so many columns and rows to fill; the width and the planes of the image; how many rows are still to be given
 pub record Tiled : Type 0 where
-  pub across : ℕ
-  pub down : ℕ
   pub width : ℕ
+  pub height : ℕ
+  pub image_width : ℕ
   pub depth : ℕ
   pub rows : List (List ℕ)
   pub left : ℕ
 
 abbrev pub tiled : ℕ → ℕ → ℕ → ℕ → List (List ℕ) → ℕ → Tiled
-tiled across down width depth rows left = record { across = across; down = down; width = width; depth = depth; rows = rows; left = left }
+tiled width height image_width depth rows left = record { width = width; height = height; image_width = image_width; depth = depth; rows = rows; left = left }
 
 -- there are rows to give, each of the image's width
 pub record HasTiles (w : Tiled) : Type 0 where
   pub some : 0 < length w.rows
-  pub lengths : All (λ row. length row ≡ w.width * w.depth) w.rows
-  pub width : 0 < w.width
-  pub filled : w.across * w.depth ≤ max_row_length
+  pub lengths : All (λ row. length row ≡ w.image_width * w.depth) w.rows
+  pub width : 0 < w.image_width
+  pub filled : w.width * w.depth ≤ max_row_length
 
 pub record IsTiling (w : Tiled) (s : Shape) (come : List (List ℕ)) : Type 0 where
   pub limits : IsWithinLimits s
   pub some : 0 < s.height
-  pub filled : w.across * s.depth ≤ max_row_length
-  pub rows : w.rows ≡ take w.down come
+  pub filled : w.width * s.depth ≤ max_row_length
+  pub rows : w.rows ≡ take w.height come
   pub lengths : All (λ row. length row ≡ row_length s) come
   pub none_given : w.left ≡ 0
 
 abbrev pub tiled_due : Tiled → List (List ℕ)
-tiled_due w = map (λ y. tiled_row w.across w.width w.depth (slice_index_or w.rows (y % length w.rows) [])) (range_with_len 0 w.left)
+tiled_due w = map (λ y. tiled_row w.width w.image_width w.depth (slice_index_or w.rows (y % length w.rows) [])) (range_with_len 0 w.left)

@@ -45,7 +45,7 @@ worker (Passing w) = at_once (Flip Null) w.made (λ s. Unit {0})
 worker (Mirroring w) = at_once (Flip LeftRight) w.made IsWithinLimits
 worker (ReversingRows w) = record { tool = Flip TopBottom; due = reversed_due w; kept = w.rows.items; ready = λ s rows. IsReversingRows w rows }
 worker (Transposing w) = record { tool = Flip Transpose; due = transposed_due w; kept = w.rows ++ w.band; ready = λ s rows. IsTransposing w s rows }
-worker (Tiling w) = record { tool = Tile w.across w.down; due = tiled_due w; kept = w.rows; ready = λ s rows. IsTiling w s rows }
+worker (Tiling w) = record { tool = Tile w.width w.height; due = tiled_due w; kept = w.rows; ready = λ s rows. IsTiling w s rows }
 
 abbrev pub tool_of : Work → Tool
 tool_of work = (worker work).tool

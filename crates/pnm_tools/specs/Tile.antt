@@ -12,29 +12,29 @@ use Rattle.pnm_tools.specs.Pixels.{pixel_of}
 use Rattle.pnm_tools.specs.Meaning.{Meaning}
 
 abbrev pub tiled_head_value : ℕ → ℕ → HeadValue → HeadValue
-tiled_head_value across down head = record head { shape = record head.shape { width = across; height = down } }
+tiled_head_value width height head = record head { shape = record head.shape { width = width; height = height } }
 
 -- the tool isn't row-wise, so that a height of 0 is out of order
 abbrev pub tiled_head : ℕ → ℕ → HeadValue → Result HeadValue ToolFault
-tiled_head across down head = if head.shape.height == 0 then Err OutOfOrder else within_limits (tiled_head_value across down head)
+tiled_head width height head = if head.shape.height == 0 then Err OutOfOrder else within_limits (tiled_head_value width height head)
 
 abbrev pub tiled_sample : Image → ℕ → ℕ → ℕ → ℕ
 tiled_sample i x y p = sample_at i (x % i.head.shape.width) (y % i.head.shape.height) p
 
 -- a row of so many pixels of so many planes, side by side up to so many columns
 abbrev pub tiled_row : ℕ → ℕ → ℕ → List ℕ → List ℕ
-tiled_row across width depth row = flat_map (λ x. pixel_of depth row (x % width)) (range_with_len 0 across)
+tiled_row width image_width depth row = flat_map (λ x. pixel_of depth row (x % image_width)) (range_with_len 0 width)
 
 -- the rows that answer the end of an image of this shape and of these rows
 abbrev pub tiled_at_end : ℕ → ℕ → Shape → List (List ℕ) → List (List ℕ)
-tiled_at_end across down s rows = map (λ y. tiled_row across s.width s.depth (slice_index_or rows (y % s.height) [])) (range_with_len 0 down)
+tiled_at_end width height s rows = map (λ y. tiled_row width s.width s.depth (slice_index_or rows (y % s.height) [])) (range_with_len 0 height)
 
 abbrev pub tiling : ℕ → ℕ → Meaning
-tiling across down = record {
-  lawful = IsExtent across × IsExtent down;
+tiling width height = record {
+  lawful = IsExtent width × IsExtent height;
   row_wise = false;
-  head = tiled_head across down;
+  head = tiled_head width height;
   sample = tiled_sample;
   row_answer = λ s y row. [];
-  end_answer = tiled_at_end across down;
+  end_answer = tiled_at_end width height;
 }

@@ -25,7 +25,7 @@ meaning (Depth maxval) = rescaling maxval
 meaning (Channel planes) = picking planes
 meaning (Enlarge across down) = enlargement across down
 meaning (Flip way) = flipping way
-meaning (Tile across down) = tiling across down
+meaning (Tile width height) = tiling width height
 
 -- the values of the options are in their ranges
 abbrev pub IsLawfulTool : Tool → Type 0

@@ -28,6 +28,39 @@ pub struct Planes {
     tuple_type: Vec<u8>,
 }
 
+/// The samples of these planes of a row.
+fn pick(alloc: Global, numbers: &[u16], shape: Shape, row: &[u16]) -> Result<Vec<u16>, ToolFault>
+    requires numbers { All (λ number. number < shape.depth) numbers.now }
+    requires row { length row.now ≡ row_length shape }
+    requires limits { length numbers.now ≤ max_depth }
+    ensures picked { IfOk result (λ picked. picked.items ≡ picked_samples numbers.now shape row.now) }
+    ensures refused { IfErr result (λ fault. fault ≡ Memory) }
+{
+    let (width, depth) = (shape.width as usize, shape.depth as usize);
+    let mut picked = Vec::with_capacity(alloc, width * numbers.len())?;
+    for x in 0..width {
+        pick_pixel(&mut picked, numbers, row, x * depth)?;
+    }
+    Ok(picked)
+}
+
+/// Adds the samples of these planes of the pixel whose samples begin here.
+fn pick_pixel(
+    picked: &mut Vec<u16>,
+    numbers: &[u16],
+    row: &[u16],
+    first: usize,
+) -> Result<(), ToolFault>
+    requires { All (λ number. first + number < length row.now) numbers.now }
+    ensures picked { OnOk result (picked.new.items ≡ picked.old.items ++ map (λ number. slice_index row.now (first + number)) numbers.now) }
+    ensures refused { IfErr result (λ fault. fault ≡ Memory) }
+{
+    for number in numbers {
+        picked.push(row[first + *number as usize])?;
+    }
+    Ok(())
+}
+
 impl Model for Planes {
     ghost use Rattle.pnm_tools.specs.Channel.{Picks, picks};
 
@@ -138,37 +171,4 @@ fn are_below(numbers: &[u16], depth: u32) -> bool
     ensures { IsTrue result ↔ All (λ number. number < depth) numbers.now }
 {
     numbers.iter().all(|number| u32::from(*number) < depth)
-}
-
-/// The samples of these planes of a row.
-fn pick(alloc: Global, numbers: &[u16], shape: Shape, row: &[u16]) -> Result<Vec<u16>, ToolFault>
-    requires numbers { All (λ number. number < shape.depth) numbers.now }
-    requires row { length row.now ≡ row_length shape }
-    requires limits { length numbers.now ≤ max_depth }
-    ensures picked { IfOk result (λ picked. picked.items ≡ picked_samples numbers.now shape row.now) }
-    ensures refused { IfErr result (λ fault. fault ≡ Memory) }
-{
-    let (width, depth) = (shape.width as usize, shape.depth as usize);
-    let mut picked = Vec::with_capacity(alloc, width * numbers.len())?;
-    for x in 0..width {
-        pick_pixel(&mut picked, numbers, row, x * depth)?;
-    }
-    Ok(picked)
-}
-
-/// Adds the samples of these planes of the pixel whose samples begin here.
-fn pick_pixel(
-    picked: &mut Vec<u16>,
-    numbers: &[u16],
-    row: &[u16],
-    first: usize,
-) -> Result<(), ToolFault>
-    requires { All (λ number. first + number < length row.now) numbers.now }
-    ensures picked { OnOk result (picked.new.items ≡ picked.old.items ++ map (λ number. slice_index row.now (first + number)) numbers.now) }
-    ensures refused { IfErr result (λ fault. fault ≡ Memory) }
-{
-    for number in numbers {
-        picked.push(row[first + *number as usize])?;
-    }
-    Ok(())
 }

@@ -13,6 +13,27 @@ use pnm_image::limits::MAX_EXTENT;
 use pnm_image::{Head, Samples, Shape};
 use std::alloc::Global;
 
+/// Columns or rows that are kept, from the first to the last.
+#[derive(Clone, Copy, Debug)]
+pub(crate) struct Span {
+    first: u32,
+    last: u32,
+}
+
+/// Keeps these columns of a row of so many samples a pixel.
+fn keep(row: &mut Vec<u16>, columns: Span, depth: usize)
+    requires { KeepsWithin columns depth row.old.items }
+    ensures { row.new.items ≡ columns_of_row columns depth row.old.items }
+{
+    let first = columns.first as usize * depth;
+    row.truncate((columns.last as usize + 1) * depth);
+    if first > 0 {
+        let kept = row.len() - first;
+        row.copy_within(first.., 0);
+        row.truncate(kept);
+    }
+}
+
 /// Which part of an image is kept: the first and the last column and row, of which negative numbers
 /// count from the end (-1 is the last), or its width and height in place of one of two edges.
 #[derive(Clone, Copy, Debug, PartialEq, Eq)]
@@ -29,13 +50,6 @@ pub struct CutBox {
     pub width: Option<u32>,
     /// Rows.
     pub height: Option<u32>,
-}
-
-/// Columns or rows that are kept, from the first to the last.
-#[derive(Clone, Copy, Debug)]
-pub(crate) struct Span {
-    first: u32,
-    last: u32,
 }
 
 /// Cuts the rows of images.
@@ -144,20 +158,6 @@ impl Span {
         ensures { result ≡ span_count self }
     {
         self.last - self.first + 1
-    }
-}
-
-/// Keeps these columns of a row of so many samples a pixel.
-fn keep(row: &mut Vec<u16>, columns: Span, depth: usize)
-    requires { KeepsWithin columns depth row.old.items }
-    ensures { row.new.items ≡ columns_of_row columns depth row.old.items }
-{
-    let first = columns.first as usize * depth;
-    row.truncate((columns.last as usize + 1) * depth);
-    if first > 0 {
-        let kept = row.len() - first;
-        row.copy_within(first.., 0);
-        row.truncate(kept);
     }
 }
 

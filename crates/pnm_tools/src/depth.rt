@@ -25,6 +25,38 @@ pub struct Rescaler {
     pub(crate) table: Vec<u16>,
 }
 
+/// The sample nearest to the same share of the new maxval, halves up.
+fn nearest_sample(new: u32, old: u32, sample: u32) -> u16
+    requires limits { (1 ≤ new) × (new ≤ max_maxval) × (1 ≤ old) × (old ≤ max_maxval) }
+    requires sample { sample ≤ old }
+    ensures { result ≡ nearest_sample new old sample }
+{
+    let (new, old, sample) = (u64::from(new), u64::from(old), u64::from(sample));
+    ((2 * sample * new + old) / (2 * old)) as u16
+}
+
+/// Computes each sample.
+fn rescale(samples: &mut [u16], new: u32, old: u32)
+    requires limits { (1 ≤ new) × (new ≤ max_maxval) × (1 ≤ old) × (old ≤ max_maxval) }
+    requires samples { All (λ sample. sample ≤ old) samples.old }
+    ensures { samples.new ≡ map (nearest_sample new old) samples.old }
+{
+    for sample in samples.iter_mut() {
+        *sample = nearest_sample(new, old, u32::from(*sample));
+    }
+}
+
+/// Takes each sample from the table.
+fn rescale_by_table(samples: &mut [u16], table: &[u16], new: u32, old: u32)
+    requires table { table.now ≡ map (nearest_sample new old) (range_with_len 0 (old + 1)) }
+    requires samples { All (λ sample. sample ≤ old) samples.old }
+    ensures { samples.new ≡ map (nearest_sample new old) samples.old }
+{
+    for sample in samples.iter_mut() {
+        *sample = table[*sample as usize];
+    }
+}
+
 impl Rows for Rescaler {
     ghost use Rattle.pnm_tools.specs.Keeping.{HasTable};
 
@@ -78,38 +110,6 @@ pub(crate) fn head_at(alloc: Global, maxval: u32, head: &Head) -> Result<Head, T
         ..shape
     };
     head_within_limits(alloc, rescaled, type_at(maxval, head.tuple_type()))
-}
-
-/// Takes each sample from the table.
-fn rescale_by_table(samples: &mut [u16], table: &[u16], new: u32, old: u32)
-    requires table { table.now ≡ map (nearest_sample new old) (range_with_len 0 (old + 1)) }
-    requires samples { All (λ sample. sample ≤ old) samples.old }
-    ensures { samples.new ≡ map (nearest_sample new old) samples.old }
-{
-    for sample in samples.iter_mut() {
-        *sample = table[*sample as usize];
-    }
-}
-
-/// Computes each sample.
-fn rescale(samples: &mut [u16], new: u32, old: u32)
-    requires limits { (1 ≤ new) × (new ≤ max_maxval) × (1 ≤ old) × (old ≤ max_maxval) }
-    requires samples { All (λ sample. sample ≤ old) samples.old }
-    ensures { samples.new ≡ map (nearest_sample new old) samples.old }
-{
-    for sample in samples.iter_mut() {
-        *sample = nearest_sample(new, old, u32::from(*sample));
-    }
-}
-
-/// The sample nearest to the same share of the new maxval, halves up.
-fn nearest_sample(new: u32, old: u32, sample: u32) -> u16
-    requires limits { (1 ≤ new) × (new ≤ max_maxval) × (1 ≤ old) × (old ≤ max_maxval) }
-    requires sample { sample ≤ old }
-    ensures { result ≡ nearest_sample new old sample }
-{
-    let (new, old, sample) = (u64::from(new), u64::from(old), u64::from(sample));
-    ((2 * sample * new + old) / (2 * old)) as u16
 }
 
 /// What becomes of each sample from 0 to the old maxval.

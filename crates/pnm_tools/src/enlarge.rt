@@ -29,6 +29,48 @@ pub struct Enlarger {
     more: u32,
 }
 
+/// The row with each pixel repeated so many times.
+fn repeat_pixels(
+    alloc: Global,
+    across: u32,
+    shape: Shape,
+    row: &[u16],
+) -> Result<Vec<u16>, ToolFault>
+    requires row { length row.now ≡ row_length shape }
+    requires ready { IsEnlarging across shape }
+    ensures made { IfOk result (λ made. made.items ≡ enlarged_row across shape row.now) }
+    ensures refused { IfErr result (λ fault. fault ≡ Memory) }
+{
+    if shape.depth == 1 {
+        return repeat_samples(alloc, across, row);
+    }
+    let (width, depth, across) = (shape.width as usize, shape.depth as usize, across as usize);
+    let mut enlarged = Vec::with_capacity(alloc, width * across * depth)?;
+    for x in 0..width {
+        let pixel = &row[x * depth..(x + 1) * depth];
+        for _ in 0..across {
+            for sample in pixel {
+                enlarged.push(*sample)?;
+            }
+        }
+    }
+    Ok(enlarged)
+}
+
+/// The row with each sample repeated so many times: where a pixel is one sample, that is faster.
+fn repeat_samples(alloc: Global, across: u32, row: &[u16]) -> Result<Vec<u16>, ToolFault>
+    requires { length row.now * across ≤ max_row_length }
+    ensures made { IfOk result (λ made. made.items ≡ flat_map (replicate across) row.now) }
+    ensures refused { IfErr result (λ fault. fault ≡ Memory) }
+{
+    let across = across as usize;
+    let mut enlarged = Vec::with_capacity(alloc, row.len() * across)?;
+    for sample in row {
+        enlarged.resize(enlarged.len() + across, *sample)?;
+    }
+    Ok(enlarged)
+}
+
 impl Maker for Enlarger {
     ghost tool = { λ w. Enlarge w.across w.down };
 
@@ -127,46 +169,4 @@ pub(crate) fn enlarged_head(
         ..shape
     };
     head_within_limits(alloc, enlarged, head.tuple_type())
-}
-
-/// The row with each pixel repeated so many times.
-fn repeat_pixels(
-    alloc: Global,
-    across: u32,
-    shape: Shape,
-    row: &[u16],
-) -> Result<Vec<u16>, ToolFault>
-    requires row { length row.now ≡ row_length shape }
-    requires ready { IsEnlarging across shape }
-    ensures made { IfOk result (λ made. made.items ≡ enlarged_row across shape row.now) }
-    ensures refused { IfErr result (λ fault. fault ≡ Memory) }
-{
-    if shape.depth == 1 {
-        return repeat_samples(alloc, across, row);
-    }
-    let (width, depth, across) = (shape.width as usize, shape.depth as usize, across as usize);
-    let mut enlarged = Vec::with_capacity(alloc, width * across * depth)?;
-    for x in 0..width {
-        let pixel = &row[x * depth..(x + 1) * depth];
-        for _ in 0..across {
-            for sample in pixel {
-                enlarged.push(*sample)?;
-            }
-        }
-    }
-    Ok(enlarged)
-}
-
-/// The row with each sample repeated so many times: where a pixel is one sample, that is faster.
-fn repeat_samples(alloc: Global, across: u32, row: &[u16]) -> Result<Vec<u16>, ToolFault>
-    requires { length row.now * across ≤ max_row_length }
-    ensures made { IfOk result (λ made. made.items ≡ flat_map (replicate across) row.now) }
-    ensures refused { IfErr result (λ fault. fault ≡ Memory) }
-{
-    let across = across as usize;
-    let mut enlarged = Vec::with_capacity(alloc, row.len() * across)?;
-    for sample in row {
-        enlarged.resize(enlarged.len() + across, *sample)?;
-    }
-    Ok(enlarged)
 }

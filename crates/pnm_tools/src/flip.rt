@@ -30,6 +30,21 @@ pub enum FlipWay {
     Transpose,
 }
 
+/// The last pixel first: all samples change places, and then those of each pixel do again.
+fn reverse_pixels(samples: &mut [u16], shape: Shape)
+    requires limits { IsWithinLimits shape }
+    requires row { length samples.old ≡ row_length shape }
+    ensures { samples.new ≡ mirrored_row shape samples.old }
+{
+    samples.reverse();
+    if shape.depth > 1 {
+        let depth = shape.depth as usize;
+        for x in 0..shape.width as usize {
+            samples[x * depth..(x + 1) * depth].reverse();
+        }
+    }
+}
+
 /// Passes the rows of images on.
 #[derive(Clone, Copy, Debug)]
 pub struct Passer;
@@ -170,19 +185,4 @@ pub(crate) fn flipped_head(alloc: Global, way: FlipWay, head: &Head) -> Result<H
         },
     };
     head_within_limits(alloc, flipped, head.tuple_type())
-}
-
-/// The last pixel first: all samples change places, and then those of each pixel do again.
-fn reverse_pixels(samples: &mut [u16], shape: Shape)
-    requires limits { IsWithinLimits shape }
-    requires row { length samples.old ≡ row_length shape }
-    ensures { samples.new ≡ mirrored_row shape samples.old }
-{
-    samples.reverse();
-    if shape.depth > 1 {
-        let depth = shape.depth as usize;
-        for x in 0..shape.width as usize {
-            samples[x * depth..(x + 1) * depth].reverse();
-        }
-    }
 }

@@ -12,6 +12,16 @@ use std::alloc::Global;
 #[derive(Clone, Copy, Debug)]
 pub struct Inverter;
 
+/// Takes each sample from the maxval.
+fn invert(samples: &mut [u16], maxval: u16)
+    requires { All (λ sample. sample ≤ maxval) samples.old }
+    ensures { samples.new ≡ map (λ sample. maxval - sample) samples.old }
+{
+    for sample in samples.iter_mut() {
+        *sample = maxval - *sample;
+    }
+}
+
 impl Rows for Inverter {
     ghost use Rattle.pnm_image.specs.Heads.{IsWithinLimits};
 
@@ -39,15 +49,5 @@ impl Rows for Inverter {
         let mut samples = row.into_vec();
         invert(samples.as_mut_slice(), shape.maxval as u16);
         Ok(Some(Samples::new(samples)))
-    }
-}
-
-/// Takes each sample from the maxval.
-fn invert(samples: &mut [u16], maxval: u16)
-    requires { All (λ sample. sample ≤ maxval) samples.old }
-    ensures { samples.new ≡ map (λ sample. maxval - sample) samples.old }
-{
-    for sample in samples.iter_mut() {
-        *sample = maxval - *sample;
     }
 }

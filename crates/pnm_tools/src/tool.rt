@@ -58,10 +58,9 @@ impl Tool {
             Tool::Cut(cut) => cut.is_lawful(),
             Tool::Depth(maxval) => 1 <= *maxval && *maxval <= MAX_MAXVAL,
             Tool::Channel(planes) => planes.is_lawful(),
-            Tool::Enlarge(across, down) | Tool::Tile(across, down) => {
-                is_extent(*across) && is_extent(*down)
-            }
+            Tool::Enlarge(across, down) => is_extent(*across) && is_extent(*down),
             Tool::Flip(_) => true,
+            Tool::Tile(width, height) => is_extent(*width) && is_extent(*height),
         }
     }
 
@@ -77,7 +76,7 @@ impl Tool {
             Tool::Channel(planes) => Tool::Channel(planes.copy()?),
             Tool::Enlarge(across, down) => Tool::Enlarge(*across, *down),
             Tool::Flip(way) => Tool::Flip(*way),
-            Tool::Tile(across, down) => Tool::Tile(*across, *down),
+            Tool::Tile(width, height) => Tool::Tile(*width, *height),
         })
     }
 
@@ -112,7 +111,7 @@ impl Tool {
             Tool::Channel(planes) => planes.head(alloc, head),
             Tool::Enlarge(across, down) => enlarged_head(alloc, *across, *down, head),
             Tool::Flip(way) => flipped_head(alloc, *way, head),
-            Tool::Tile(across, down) => tiled_head(alloc, *across, *down, head),
+            Tool::Tile(width, height) => tiled_head(alloc, *width, *height, head),
         }
     }
 
@@ -143,7 +142,7 @@ impl Tool {
             Tool::Flip(FlipWay::LeftRight) => Work::Mirroring(AtOnce::new(Mirror)),
             Tool::Flip(FlipWay::TopBottom) => Work::ReversingRows(RowReverser::new(alloc)),
             Tool::Flip(FlipWay::Transpose) => Work::Transposing(Transposer::new(alloc)),
-            Tool::Tile(across, down) => Work::Tiling(Tiler::new(alloc, *across, *down)),
+            Tool::Tile(width, height) => Work::Tiling(Tiler::new(alloc, *width, *height)),
         })
     }
 }

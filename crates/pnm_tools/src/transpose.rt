@@ -34,6 +34,84 @@ pub struct Transposer {
     columns: u32,
 }
 
+/// So many columns of the rows, from the first one on, the last one first.
+fn band_of(
+    alloc: Global,
+    rows: &[Samples],
+    first: usize,
+    count: usize,
+    depth: usize,
+) -> Result<Vec<Samples>, ToolFault>
+    requires rows { All (λ row. (first + count) * depth ≤ length row) rows.now }
+    requires sizes { (length rows.now * depth ≤ max_row_length) × (depth ≤ max_depth) × (first + count ≤ 4294967295) }
+    ensures made { IfOk result (λ band. band.items ≡ reverse (map (column_of depth rows.now) (range_with_len first count))) }
+    ensures refused { IfErr result (λ fault. fault ≡ Memory) }
+{
+    let mut columns = empty_columns(alloc, count, rows.len() * depth)?;
+    for row in rows {
+        add_pixels(
+            columns.as_mut_slice(),
+            &row.as_slice()[first * depth..],
+            depth,
+        );
+    }
+    let mut band = Vec::with_capacity(alloc, count)?;
+    while let Some(column) = columns.pop() {
+        band.push(Samples::new(column))?;
+    }
+    Ok(band)
+}
+
+/// Adds to each column its pixel of a row that begins with the first column's.
+fn add_pixels(columns: &mut [Vec<u16>], row: &[u16], depth: usize)
+    requires row { length columns.old * depth ≤ length row.now }
+    requires room { HaveRoom depth columns.old }
+    ensures { HavePixels (length columns.old) depth row.now columns.old columns.new }
+{
+    if depth == 1 {
+        return add_samples(columns, row);
+    }
+    let mut x = 0;
+    for column in columns.iter_mut() {
+        add_pixel(column, &row[x..x + depth]);
+        x += depth;
+    }
+}
+
+/// The same where each pixel is one sample, without a loop over its samples.
+fn add_samples(columns: &mut [Vec<u16>], row: &[u16])
+    requires row { length columns.old ≤ length row.now }
+    requires room { HaveRoom 1 columns.old }
+    ensures { HavePixels (length columns.old) 1 row.now columns.old columns.new }
+{
+    for (x, column) in columns.iter_mut().enumerate() {
+        column.push_reserved(row[x]);
+    }
+}
+
+/// Adds a pixel to a column that has room for it.
+fn add_pixel(column: &mut Vec<u16>, pixel: &[u16])
+    requires { vec_len column.old + length pixel.now ≤ vec_capacity column.old }
+    ensures added { column.new.items ≡ column.old.items ++ pixel.now }
+    ensures enough { vec_capacity column.new ≡ vec_capacity column.old }
+{
+    for sample in pixel {
+        column.push_reserved(*sample);
+    }
+}
+
+/// So many columns without samples, with room for so many each.
+fn empty_columns(alloc: Global, count: usize, room: usize) -> Result<Vec<Vec<u16>>, ToolFault>
+    ensures empty { IfOk result (λ columns. AreEmpty count room columns.items) }
+    ensures refused { IfErr result (λ fault. fault ≡ Memory) }
+{
+    let mut columns = Vec::with_capacity(alloc, count)?;
+    for _ in 0..count {
+        columns.push(Vec::with_capacity(alloc, room)?)?;
+    }
+    Ok(columns)
+}
+
 impl Model for Transposer {
     ghost use Rattle.pnm_tools.specs.Keeping.{Transposed, transposed, HasColumns};
 
@@ -115,83 +193,5 @@ impl Transposer {
         self.next = 0;
         self.rows = Vec::new(alloc);
         self.band = Vec::new(alloc);
-    }
-}
-
-/// So many columns of the rows, from the first one on, the last one first.
-fn band_of(
-    alloc: Global,
-    rows: &[Samples],
-    first: usize,
-    count: usize,
-    depth: usize,
-) -> Result<Vec<Samples>, ToolFault>
-    requires rows { All (λ row. (first + count) * depth ≤ length row) rows.now }
-    requires sizes { (length rows.now * depth ≤ max_row_length) × (depth ≤ max_depth) × (first + count ≤ 4294967295) }
-    ensures made { IfOk result (λ band. band.items ≡ reverse (map (column_of depth rows.now) (range_with_len first count))) }
-    ensures refused { IfErr result (λ fault. fault ≡ Memory) }
-{
-    let mut columns = empty_columns(alloc, count, rows.len() * depth)?;
-    for row in rows {
-        add_pixels(
-            columns.as_mut_slice(),
-            &row.as_slice()[first * depth..],
-            depth,
-        );
-    }
-    let mut band = Vec::with_capacity(alloc, count)?;
-    while let Some(column) = columns.pop() {
-        band.push(Samples::new(column))?;
-    }
-    Ok(band)
-}
-
-/// So many columns without samples, with room for so many each.
-fn empty_columns(alloc: Global, count: usize, room: usize) -> Result<Vec<Vec<u16>>, ToolFault>
-    ensures empty { IfOk result (λ columns. AreEmpty count room columns.items) }
-    ensures refused { IfErr result (λ fault. fault ≡ Memory) }
-{
-    let mut columns = Vec::with_capacity(alloc, count)?;
-    for _ in 0..count {
-        columns.push(Vec::with_capacity(alloc, room)?)?;
-    }
-    Ok(columns)
-}
-
-/// Adds to each column its pixel of a row that begins with the first column's.
-fn add_pixels(columns: &mut [Vec<u16>], row: &[u16], depth: usize)
-    requires row { length columns.old * depth ≤ length row.now }
-    requires room { HaveRoom depth columns.old }
-    ensures { HavePixels (length columns.old) depth row.now columns.old columns.new }
-{
-    if depth == 1 {
-        return add_samples(columns, row);
-    }
-    let mut x = 0;
-    for column in columns.iter_mut() {
-        add_pixel(column, &row[x..x + depth]);
-        x += depth;
-    }
-}
-
-/// The same where each pixel is one sample, without a loop over its samples.
-fn add_samples(columns: &mut [Vec<u16>], row: &[u16])
-    requires row { length columns.old ≤ length row.now }
-    requires room { HaveRoom 1 columns.old }
-    ensures { HavePixels (length columns.old) 1 row.now columns.old columns.new }
-{
-    for (x, column) in columns.iter_mut().enumerate() {
-        column.push_reserved(row[x]);
-    }
-}
-
-/// Adds a pixel to a column that has room for it.
-fn add_pixel(column: &mut Vec<u16>, pixel: &[u16])
-    requires { vec_len column.old + length pixel.now ≤ vec_capacity column.old }
-    ensures added { column.new.items ≡ column.old.items ++ pixel.now }
-    ensures enough { vec_capacity column.new ≡ vec_capacity column.old }
-{
-    for sample in pixel {
-        column.push_reserved(*sample);
     }
 }

@@ -10,9 +10,9 @@ returns-clause-ready c =
     let head = c.args.head.now in
     record {
       limits = search rules;
-      some = tiled_has_rows x.across x.down head c.in_ok-tiled.tiled c.in_ok-tiled.ensures.made (cases_eq head.shape.height 0);
+      some = tiled_has_rows x.width x.height head c.in_ok-tiled.tiled c.in_ok-tiled.ensures.made (cases_eq head.shape.height 0);
       filled = c.in_ok-tiled.ensures.limits;
-      rows = c.in_ok-self-inside.ensures.items ∙ sym (take_all x.down [] (omega arith));
+      rows = c.in_ok-self-inside.ensures.items ∙ sym (take_all x.height [] (omega arith));
       lengths = search rules;
       none_given = refl;
     }

@@ -7,13 +7,13 @@ use Rattle.pnm_tools.proofs.tile.TilerMaker.end.Goals as goal
 pub returns-clause-due : goal.returns-clause-due
 returns-clause-due c = λ come count ready.
     let x = c.self.inside in
-    let down = ap (λ (w : Tiled). w.down) c.self.view_is in
+    let down = ap (λ (w : Tiled). w.height) c.self.view_is in
     let rows = ap (λ (w : Tiled). w.rows) c.self.view_is ∙ ready.rows ∙ ap (λ (n : ℕ). take n come) (sym down) in
-    due_at_end x.across x.down c.args.shape x.rows.items come rows count
-    ∙ ap (λ (w : Tiled). tiled_at_end w.across w.down c.args.shape come) c.self.view_is
+    due_at_end x.width x.height c.args.shape x.rows.items come rows count
+    ∙ ap (λ (w : Tiled). tiled_at_end w.width w.height c.args.shape come) c.self.view_is
 
 pub invariant_of-self : goal.invariant_of-self
 invariant_of-self c = λ wanted.
     let x = c.self.inside in
     let ready = rw (← c.self.view_is) at c.requires.ready.2 in
-    tiles_at_end (tiled x.across x.down x.width x.depth x.rows.items x.left) c.args.shape c.requires.ready.0 ready c.requires.ready.1 ready.some wanted
+    tiles_at_end (tiled x.width x.height x.image_width x.depth x.rows.items x.left) c.args.shape c.requires.ready.0 ready c.requires.ready.1 ready.some wanted
