@@ -99,3 +99,7 @@ planes_inside planes head s seen b n t shape same h found count type =
     ∙ ap (λ (k : ℕ). head_value (record s { kind = Pam; depth = k }) planes.tuple_type) (sym (count ∙ ap length same))
     ∙ ap (λ (l : List ℕ). head_value (record s { kind = Pam; depth = n }) l) (sym type) in
     planes_head planes head s seen b shape same h ∙ ap (planes_by planes head) found ∙ ap within_limits whole
+
+-- the rows of a head within the limits are within them
+pub small_row : (s : Shape) → is_too_large s ≡ false → row_length s ≤ 16777216
+small_row s e = grind (arith, nat_tests)

@@ -5,9 +5,9 @@ pub mod ImageLaws
 pub mod HeadLaws
 pub mod RowLaws
 pub mod PickLaws
-pub mod KeepLaws
+pub mod CutRowLaws
 pub mod SizeLaws
-pub mod MirrorLaws
+pub mod FlipRowLaws
 pub mod EnlargeRowLaws
 pub mod InvertLaws
 pub mod AtLaws
@@ -33,8 +33,4 @@ pub mod PixelLaws
 pub mod WholeHeadLaws
 pub mod MadeLaws
 pub mod WholeResultLaws
-pub mod TileHeadLaws
-pub mod TileDueLaws
 pub mod TileRowLaws
-pub mod ColumnLaws
-pub mod TransposeLaws

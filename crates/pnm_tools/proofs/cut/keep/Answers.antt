@@ -1,6 +1,6 @@
 use Rattle.std.proofs.Common.{◌≡◌, ℕ, ◌*◌, ◌∙◌, length, ap, sym}
 use Rattle.std.specs.List.{copy_within}
-use Rattle.pnm_tools.proofs.KeepLaws.{kept_in_place, kept_at_front}
+use Rattle.pnm_tools.proofs.CutRowLaws.{kept_in_place, kept_at_front}
 use Rattle.pnm_tools.proofs.cut.keep.Goals as goal
 
 pub returns-then-first-gt0 : goal.returns-then-first-gt0

@@ -1,5 +1,5 @@
 use Rattle.std.proofs.Common.{◌+◌, ◌-◌, ◌*◌, arith}
-use Rattle.pnm_tools.proofs.MirrorLaws.{pixel_more, one_plane}
+use Rattle.pnm_tools.proofs.FlipRowLaws.{pixel_more, one_plane}
 use Rattle.pnm_tools.proofs.flip.reverse_pixels.Goals as goal
 
 pub loop-x-preserved : goal.loop-x-preserved

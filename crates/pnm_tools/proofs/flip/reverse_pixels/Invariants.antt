@@ -1,5 +1,5 @@
 use Rattle.std.proofs.Common.{◌≡◌, ◌*◌, ◌++◌, drop, reverse}
-use Rattle.pnm_tools.proofs.MirrorLaws.{last_pixels}
+use Rattle.pnm_tools.proofs.FlipRowLaws.{last_pixels}
 use Rattle.pnm_tools.proofs.flip.reverse_pixels.Given as goal
 
 -- the columns that have passed are those of the mirrored row

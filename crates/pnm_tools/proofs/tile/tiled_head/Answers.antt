@@ -3,7 +3,7 @@ use Rattle.pnm_image.specs.declared.shape.Shape.{Shape}
 use Rattle.pnm_image.specs.Heads.{head_value}
 use Rattle.pnm_tools.specs.declared.tool.Tool.TheVariants.{Tile}
 use Rattle.pnm_tools.proofs.HeadLaws.{head_so, fault_so}
-use Rattle.pnm_tools.proofs.TileHeadLaws.{tiled_without_rows, tiled_head_made, tiled_row_small}
+use Rattle.pnm_tools.proofs.TileRowLaws.{tiled_without_rows, tiled_head_made, tiled_row_small}
 use Rattle.pnm_tools.proofs.tile.tiled_head.Goals as goal
 
 pub returns-then-shape-eq0-clause-refused : goal.returns-then-shape-eq0-clause-refused

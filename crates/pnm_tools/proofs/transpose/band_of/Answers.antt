@@ -1,6 +1,6 @@
 use Rattle.std.proofs.Common.{rules, ◌≡◌, [], ◌*◌, length, subst, sym}
 use Rattle.pnm_tools.specs.Columns.{HaveRoom}
-use Rattle.pnm_tools.proofs.ColumnLaws.{room_is_left, all_went_over}
+use Rattle.pnm_tools.proofs.FlipRowLaws.{room_is_left, all_went_over}
 use Rattle.pnm_tools.proofs.transpose.band_of.Goals as goal
 
 pub add_pixels-requires-clause-room : goal.add_pixels-requires-clause-room

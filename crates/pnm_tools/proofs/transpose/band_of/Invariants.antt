@@ -1,5 +1,5 @@
 use Rattle.std.proofs.Common.{◌≡◌, ◌*◌, ◌++◌, length, take, reverse}
-use Rattle.pnm_tools.proofs.ColumnLaws.{AreColumns, samples_of}
+use Rattle.pnm_tools.proofs.FlipRowLaws.{AreColumns, samples_of}
 use Rattle.pnm_tools.proofs.transpose.band_of.Given as goal
 
 -- the columns of the rows that have passed

@@ -1,6 +1,6 @@
 use Rattle.std.proofs.Common.{inl, inr, Some, ◌∷◌, [], List, ℕ, ap, sym, ◌∙◌}
 use Rattle.pnm_tools.specs.Cut.{columns_of_row}
-use Rattle.pnm_tools.proofs.KeepLaws.{cut_row_by, row_outside, row_inside, keeps_within}
+use Rattle.pnm_tools.proofs.CutRowLaws.{cut_row_by, row_outside, row_inside, keeps_within}
 use Rattle.pnm_tools.proofs.cut.CutterRows.row.Goals as goal
 use Rattle.pnm_tools.proofs.cut.CutterRows.row.Goals.{then-y-self-via-then-y-self, then-y-self-via-else-y-self+then-self-y}
 

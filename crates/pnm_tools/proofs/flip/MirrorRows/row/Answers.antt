@@ -1,6 +1,6 @@
 use Rattle.std.proofs.Common.{◌≡◌, ◌∙◌, [], ◌∷◌, List, ℕ, length, ap, sym, arith}
 use Rattle.pnm_tools.specs.declared.flip.FlipWay.TheVariants.{LeftRight}
-use Rattle.pnm_tools.proofs.MirrorLaws.{mirrored_in_place}
+use Rattle.pnm_tools.proofs.FlipRowLaws.{mirrored_in_place}
 use Rattle.pnm_tools.proofs.RowLaws.{row_of_flip}
 use Rattle.pnm_tools.proofs.flip.MirrorRows.row.Goals as goal
 

@@ -1,7 +1,7 @@
 use Rattle.std.proofs.Common.{rules, refl, sym, ◌∙◌, [], arith}
 use Rattle.std.proofs.lemmas.Bool.{cases_eq}
 use Rattle.std.proofs.lemmas.List.{take_all}
-use Rattle.pnm_tools.proofs.TileHeadLaws.{tiled_has_rows}
+use Rattle.pnm_tools.proofs.TileRowLaws.{tiled_has_rows}
 use Rattle.pnm_tools.proofs.tile.TilerMaker.begin.Goals as goal
 
 pub returns-clause-ready : goal.returns-clause-ready

@@ -1,7 +1,7 @@
 use Rattle.std.proofs.Common.{ℕ, take, ap, sym, ◌∙◌}
 use Rattle.pnm_tools.specs.Keeping.{Tiled, tiled}
 use Rattle.pnm_tools.specs.Tile.{tiled_at_end}
-use Rattle.pnm_tools.proofs.TileDueLaws.{due_at_end, tiles_at_end}
+use Rattle.pnm_tools.proofs.TileRowLaws.{due_at_end, tiles_at_end}
 use Rattle.pnm_tools.proofs.tile.TilerMaker.end.Goals as goal
 
 pub returns-clause-due : goal.returns-clause-due

@@ -2,7 +2,7 @@ use Rattle.std.proofs.Common.{rules, ◌≡◌, inl, inr, suc, ◌-◌, ◌≤�
 use Rattle.pnm_tools.specs.declared.tile.Tiler.TheInside.{Inside}
 use Rattle.pnm_tools.specs.Keeping.{HasTiles, tiled, tiled_due}
 use Rattle.pnm_tools.specs.Tile.{tiled_row}
-use Rattle.pnm_tools.proofs.TileDueLaws.{given_of_queue, tiles_left}
+use Rattle.pnm_tools.proofs.TileRowLaws.{given_of_queue, tiles_left}
 use Rattle.pnm_tools.proofs.tile.TilerMaker.give.Goals as goal
 use Rattle.pnm_tools.proofs.tile.TilerMaker.give.Goals.{then-len-left+in_ok-tiled+in_ok-push_back, else-len-left+in_ok-tiled-2}
 

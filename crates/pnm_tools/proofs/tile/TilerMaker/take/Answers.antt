@@ -1,6 +1,6 @@
 use Rattle.std.proofs.Common.{ap, sym, ◌∙◌}
 use Rattle.pnm_tools.specs.Keeping.{Tiled, tiled}
-use Rattle.pnm_tools.proofs.TileHeadLaws.{none_due, row_of_tile}
+use Rattle.pnm_tools.proofs.TileRowLaws.{none_due, row_of_tile}
 use Rattle.pnm_tools.proofs.tile.TilerMaker.take.Goals as goal
 
 pub returns-in_ok-push_back-clause-due : goal.returns-in_ok-push_back-clause-due

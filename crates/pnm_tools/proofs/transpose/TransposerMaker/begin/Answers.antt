@@ -1,6 +1,6 @@
 use Rattle.std.proofs.Common.{ap, ◌∙◌}
 use Rattle.pnm_tools.specs.Keeping.{Transposed, transposed}
-use Rattle.pnm_tools.proofs.TransposeLaws.{ready_to_transpose}
+use Rattle.pnm_tools.proofs.FlipRowLaws.{ready_to_transpose}
 use Rattle.pnm_tools.proofs.transpose.TransposerMaker.begin.Goals as goal
 
 pub returns-clause-ready : goal.returns-clause-ready

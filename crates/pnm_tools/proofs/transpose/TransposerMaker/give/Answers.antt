@@ -3,7 +3,7 @@ use Rattle.std.specs.List.{range_with_len}
 use Rattle.pnm_tools.specs.Flip.{column_of}
 use Rattle.pnm_tools.specs.declared.transpose.Transposer.TheInside.{Inside}
 use Rattle.pnm_tools.specs.Keeping.{transposed, transposed_due}
-use Rattle.pnm_tools.proofs.TransposeLaws.{band_made, last_given, no_items}
+use Rattle.pnm_tools.proofs.FlipRowLaws.{band_made, last_given, no_items}
 use Rattle.pnm_tools.proofs.transpose.TransposerMaker.give.Goals as goal
 use Rattle.pnm_tools.proofs.transpose.TransposerMaker.give.Goals.{then-is_empty+then-self+in_ok-self-inside, else-is_empty}
 

@@ -1,6 +1,6 @@
 use Rattle.std.proofs.Common.{ap, ◌∙◌}
 use Rattle.pnm_tools.specs.Keeping.{Transposed}
-use Rattle.pnm_tools.proofs.TransposeLaws.{none_made}
+use Rattle.pnm_tools.proofs.FlipRowLaws.{none_made}
 use Rattle.pnm_tools.proofs.transpose.TransposerMaker.take.Goals as goal
 
 pub returns-clause-due : goal.returns-clause-due
