@@ -1,8 +1,8 @@
 -- The cut image is what the rows of an image, each cut, are the messages of.
-use Rattle.std.proofs.Common.{◌≡◌, ℕ, zero, suc, ◌+◌, ◌-◌, ◌*◌, ◌<◌, ◌≤◌, Bool, true, false, ◌&&◌, ℤ, pos, negsuc, Option, Some, None, List, [], ◌∷◌, ◌++◌, map, length, slice_index, take, drop, Ok, Err, refl, sym, ap, subst, ◌∙◌, arith, append-nil, mul_assoc, add-mul, mul-le-mul, suc-mul}
-use Rattle.std.specs.Prelude.{if◌then◌else◌, nat_le, nat_lt, ◌==◌}
+use Rattle.std.proofs.Common.{◌≡◌, ℕ, zero, suc, ◌+◌, ◌-◌, ◌*◌, ◌<◌, ◌≤◌, Bool, true, false, ◌&&◌, ℤ, Option, Some, None, List, [], ◌∷◌, ◌++◌, map, length, slice_index, take, drop, Ok, Err, refl, sym, ap, ◌∙◌, arith, append-nil, mul_assoc, add-mul, mul-le-mul, suc-mul}
+use Rattle.std.specs.Prelude.{if◌then◌else◌, nat_le, ◌==◌}
 use Rattle.std.specs.List.{flat_map, range_with_len}
-use Rattle.std.proofs.lemmas.Bool.{leb-true, ltb-true, le-leb, lt-leb, and_from, and_left, and_right, and_parts}
+use Rattle.std.proofs.lemmas.Bool.{le-leb, lt-leb, and_from, and_left, and_right}
 use Rattle.std.proofs.lemmas.Grind.{flat_map-append}
 use Rattle.std.proofs.lemmas.List.{drop-take, take-take, drop-drop, map-id}
 use Rattle.pnm_image.specs.declared.shape.Shape.{Shape}
@@ -18,6 +18,7 @@ use Rattle.pnm_tools.specs.Tools.{result_head, result_sample, row_answer}
 use Rattle.pnm_tools.proofs.FormulaLaws.{columns, columns_at, row_at, rows_are, rows_of-image_by, range_alike}
 use Rattle.pnm_tools.proofs.ImageLaws.{answers_to_rows, numbered_rows_answered, result_by_head, answered_by_rows}
 use Rattle.pnm_tools.proofs.AnsweringLaws.{AnswersImages}
+use Rattle.pnm_tools.proofs.CutRowLaws.{span_lies}
 
 -- ---- ranges of numbers
 
@@ -135,17 +136,10 @@ rows_cut box i =
 
 -- ---- the spans of an image that isn't refused
 
-lies_by : (count a b : ℕ) (test : Bool) (span : Span) → (nat_le a b && nat_lt b count) ≡ test → ◌≡◌ {A = Option Span} (if test then Some (record { first = a; last = b }) else None) (Some span) → LiesWithin span count
-lies_by count a b true span is e =
-    let same : ◌≡◌ {A = Span} (record { first = a; last = b }) span = cc in
-    let parts = and_parts (nat_le a b) (nat_lt b count) is in
-    subst (λ (k : Span). LiesWithin k count) same (record { in_order = leb-true a b parts.0; below = ltb-true b count parts.1 })
-lies_by count a b false span is e = absurd cc
-
-span_lies : (count : ℕ) (first last : ℤ) (span : Span) → span_within count first last ≡ Some span → LiesWithin span count
-span_lies count (pos a) (pos b) span e = lies_by count a b (nat_le a b && nat_lt b count) span refl e
-span_lies count (pos a) (negsuc b) span e = absurd cc
-span_lies count (negsuc a) last span e = absurd cc
+lies_within : (count : ℕ) (first last : ℤ) (span : Span) → span_within count first last ≡ Some span → LiesWithin span count
+lies_within count first last span e =
+    let lies = span_lies count first last span (sym e) in
+    record { in_order = lies.0; below = lies.1 }
 
 -- the head of the cut image
 pub record IsCutHead (cs rs : Option Span) (head result : HeadValue) : Type 0 where
@@ -174,8 +168,8 @@ is_cut box head result e =
     let cut = head_cut (s.height == 0) (columns_kept box s) (rows_kept box s) head result e in
     record {
       spans = cut;
-      in_row = span_lies s.width (first_kept s.width box.left box.right box.width) (last_kept s.width box.left box.right box.width) cut.columns cut.columns_are;
-      in_image = span_lies s.height (first_kept s.height box.top box.bottom box.height) (last_kept s.height box.top box.bottom box.height) cut.rows cut.rows_are;
+      in_row = lies_within s.width (first_kept s.width box.left box.right box.width) (last_kept s.width box.left box.right box.width) cut.columns cut.columns_are;
+      in_image = lies_within s.height (first_kept s.height box.top box.bottom box.height) (last_kept s.height box.top box.bottom box.height) cut.rows cut.rows_are;
     }
 
 -- ---- the whole image

@@ -52,7 +52,8 @@ fn pick_pixel(
     first: usize,
 ) -> Result<(), ToolFault>
     requires { All (λ number. first + number < length row.now) numbers.now }
-    ensures picked { OnOk result (picked.new.items ≡ picked.old.items ++ map (λ number. slice_index row.now (first + number)) numbers.now) }
+    ensures picked { OnOk result (picked.new.items
+        ≡ picked.old.items ++ map (λ number. slice_index row.now (first + number)) numbers.now) }
     ensures refused { IfErr result (λ fault. fault ≡ Memory) }
 {
     for number in numbers {

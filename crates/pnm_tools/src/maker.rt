@@ -43,7 +43,8 @@ pub trait Maker {
         requires row { (y < shape.height) × IsRowOf shape row }
         requires ready { (rows : List (List ℕ)) × (length rows ≡ y) × ready self.old shape rows }
         ensures same { tool self.new ≡ tool self.old }
-        ensures ready { OnOk result ((rows : List (List ℕ)) → ready self.old shape rows → ready self.new shape (rows ++ row ∷ [])) }
+        ensures ready { OnOk result ((rows : List (List ℕ))
+            → ready self.old shape rows → ready self.new shape (rows ++ row ∷ [])) }
         ensures due { OnOk result (due self.new ≡ row_answer (tool self.old) shape y row) }
         ensures refused { IfErr result (λ fault. fault ≡ Memory) };
 
@@ -52,12 +53,14 @@ pub trait Maker {
         requires lawful { IsLawfulTool (tool self.old) }
         requires ready { (rows : List (List ℕ)) × (length rows ≡ shape.height) × ready self.old shape rows }
         ensures same { tool self.new ≡ tool self.old }
-        ensures due { (rows : List (List ℕ)) → length rows ≡ shape.height → ready self.old shape rows → due self.new ≡ end_answer (tool self.old) shape rows };
+        ensures due { (rows : List (List ℕ)) → length rows ≡ shape.height → ready self.old shape rows
+            → due self.new ≡ end_answer (tool self.old) shape rows };
 
     /// The next row of the result, if one is due. The only fault is `Memory`.
     fn give(&mut self, alloc: Global) -> Result<Option<Samples>, ToolFault>
         ensures same { tool self.new ≡ tool self.old }
-        ensures ready { OnOk result ((shape : ShapeValue) (rows : List (List ℕ)) → ready self.old shape rows → ready self.new shape rows) }
+        ensures ready { OnOk result ((shape : ShapeValue) (rows : List (List ℕ))
+            → ready self.old shape rows → ready self.new shape rows) }
         ensures due { IfOk result (λ row. due self.old ≡ row_list row ++ due self.new) }
         ensures all { IfOk result (λ row. IfNone row (due self.new ≡ [])) }
         ensures refused { IfErr result (λ fault. fault ≡ Memory) };

@@ -47,7 +47,8 @@ impl<T: Maker> Model for State<T> {
 
     ghost view = { λ s. standing s.work s.place s.pending s.fault };
 
-    ghost invariant = { λ s. IsLawfulTool (T.tool s.work) × IsStanding T.ready T.kept s.work s.place s.pending s.fault };
+    ghost invariant = { λ s. IsLawfulTool (T.tool s.work)
+        × IsStanding T.ready T.kept s.work s.place s.pending s.fault };
 }
 
 impl<T: Maker> Filter for State<T> {

@@ -83,7 +83,8 @@ impl Model for Tiler {
 
     ghost view = { λ w. tiled w.width w.height w.image_width w.depth w.rows.items w.left };
 
-    ghost invariant = { λ w. 0 < w.left → HasTiles (tiled w.width w.height w.image_width w.depth w.rows.items w.left) };
+    ghost invariant = { λ w. 0 < w.left
+        → HasTiles (tiled w.width w.height w.image_width w.depth w.rows.items w.left) };
 }
 
 impl Maker for Tiler {

@@ -43,8 +43,10 @@ fn band_of(
     depth: usize,
 ) -> Result<Vec<Samples>, ToolFault>
     requires rows { All (λ row. (first + count) * depth ≤ length row) rows.now }
-    requires sizes { (length rows.now * depth ≤ max_row_length) × (depth ≤ max_depth) × (first + count ≤ 4294967295) }
-    ensures made { IfOk result (λ band. band.items ≡ reverse (map (column_of depth rows.now) (range_with_len first count))) }
+    requires sizes { (length rows.now * depth ≤ max_row_length) × (depth ≤ max_depth)
+        × (first + count ≤ 4294967295) }
+    ensures made { IfOk result (λ band. band.items
+        ≡ reverse (map (column_of depth rows.now) (range_with_len first count))) }
     ensures refused { IfErr result (λ fault. fault ≡ Memory) }
 {
     let mut columns = empty_columns(alloc, count, rows.len() * depth)?;
