@@ -1,8 +1,9 @@
 -- The tools of a chain and their options, by the names that their manual pages give them, and what each takes: pnminvert(1),
 -- pamcut(1), pamdepth(1), pamchannel(1), pamenlarge(1), pamflip(1) and pnmtile(1). Names are exact, and case counts.
-use Rattle.std.specs.Prelude.{ℕ, Bool, true, false, ◌==◌, ◌&&◌, nat_le, if◌then◌else◌, ℤ, pos, neg_ℤ, Option, Some, None, List, [], ◌∷◌, length, codes}
+use Rattle.std.specs.Prelude.{ℕ, Bool, true, false, ◌==◌, ◌&&◌, ◌-◌, nat_le, if◌then◌else◌, ℤ, pos, neg_ℤ, Option, Some, None, List, [], ◌∷◌, length, codes}
 use Rattle.std.specs.List.{list_all}
 use Rattle.std.specs.Str.{bytes_eq}
+use Rattle.pnm_image.specs.Limits.{max_depth, max_extent, max_maxval, max_tuple_type_length}
 use Rattle.pnm_image.specs.Texts.{is_digit, decimal_value}
 use Rattle.pnm_tools.specs.declared.flip.FlipWay.TheVariants.{Null, LeftRight, TopBottom, Transpose}
 use Rattle.pnm_chain.specs.declared.options.ToolName.{ToolName}
@@ -86,7 +87,7 @@ without_dash (b ∷ word) = if b == 45 then word else b ∷ word
 
 -- an offset may have one dash before its number
 abbrev pub spells_offset : List ℕ → Bool
-spells_offset word = spells_number 0 16777216 (without_dash word)
+spells_offset word = spells_number 0 max_extent (without_dash word)
 
 abbrev pub offset_value : List ℕ → ℤ
 offset_value word = if begins_with_dash word then neg_ℤ (pos (decimal_value (without_dash word))) else pos (decimal_value word)
@@ -112,11 +113,11 @@ takes_value Left word = spells_offset word
 takes_value Right word = spells_offset word
 takes_value Top word = spells_offset word
 takes_value Bottom word = spells_offset word
-takes_value Width word = spells_number 1 16777216 word
-takes_value Height word = spells_number 1 16777216 word
-takes_value TupleType word = nat_le (length word) 255
-takes_value XScale word = spells_number 1 16777216 word
-takes_value YScale word = spells_number 1 16777216 word
+takes_value Width word = spells_number 1 max_extent word
+takes_value Height word = spells_number 1 max_extent word
+takes_value TupleType word = nat_le (length word) max_tuple_type_length
+takes_value XScale word = spells_number 1 max_extent word
+takes_value YScale word = spells_number 1 max_extent word
 takes_value (Way way) word = false
 
 -- the options by number; the ways to flip have one, since one way alone may stand
@@ -142,7 +143,7 @@ abbrev pub most_arguments : ToolName → ℕ
 most_arguments Invert = 0
 most_arguments Cut = 0
 most_arguments Depth = 1
-most_arguments Channel = 256
+most_arguments Channel = max_depth
 most_arguments Enlarge = 1
 most_arguments Flip = 0
 most_arguments Tile = 2
@@ -151,8 +152,8 @@ most_arguments Tile = 2
 abbrev pub takes_argument : ToolName → List ℕ → Bool
 takes_argument Invert word = false
 takes_argument Cut word = false
-takes_argument Depth word = spells_number 1 65535 word
-takes_argument Channel word = spells_number 0 255 word
-takes_argument Enlarge word = spells_number 1 16777216 word
+takes_argument Depth word = spells_number 1 max_maxval word
+takes_argument Channel word = spells_number 0 (max_depth - 1) word
+takes_argument Enlarge word = spells_number 1 max_extent word
 takes_argument Flip word = false
-takes_argument Tile word = spells_number 1 16777216 word
+takes_argument Tile word = spells_number 1 max_extent word

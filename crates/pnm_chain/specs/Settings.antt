@@ -1,5 +1,6 @@
 -- What the parser of a chain's text holds while it reads: of a stage its settings, and of the chain its tools.
 use Rattle.std.specs.Prelude.{◌≡◌, ℕ, Bool, true, false, ◌&&◌, ◌||◌, nat_le, if◌then◌else◌, Option, Some, None, is_some, option_map, slice_get, unwrap_or, List, [], ◌∷◌, ◌++◌, ◌+◌, length, take, drop}
+use Rattle.pnm_image.specs.Limits.{max_depth}
 use Rattle.pnm_image.specs.Texts.{decimal_value, words}
 use denote.Ref.{Bor}
 use Rattle.pnm_tools.specs.declared.cut.CutBox.{CutBox}
@@ -79,7 +80,7 @@ abbrev pub has_all_arguments : ToolName → Settings → Bool
 has_all_arguments Invert s = true
 has_all_arguments Cut s = true
 has_all_arguments Depth s = is_some s.first
-has_all_arguments Channel s = nat_le 256 (length s.planes.items)
+has_all_arguments Channel s = nat_le max_depth (length s.planes.items)
 has_all_arguments Enlarge s = is_some s.first
 has_all_arguments Flip s = true
 has_all_arguments Tile s = is_some s.first && is_some s.second

@@ -1,6 +1,7 @@
 //! What the words of a stage set, and the tool that they mean.
 
-ghost use Rattle.std.specs.Prelude.{◌≡◌, ◌⊎◌, ◌++◌, ◌&&◌, ◌∷◌, ◌<◌, [], List, IfOk, IfErr, OnOk, Some, None, true, false, is_some, length, nat_le, unwrap_or};
+ghost use Rattle.std.specs.Prelude.{◌≡◌, ◌⊎◌, ◌++◌, ◌&&◌, ◌∷◌, ◌<◌, ◌-◌, [], List, IfOk, IfErr, OnOk, Some, None, true, false, is_some, length, nat_le, unwrap_or};
+ghost use Rattle.pnm_image.specs.Limits.{max_depth, max_extent};
 ghost use Rattle.pnm_image.specs.Texts.{decimal_value};
 ghost use Rattle.pnm_tools.specs.Channel.{picks};
 ghost use Rattle.pnm_tools.specs.declared.tool.Tool.TheVariants as tools;
@@ -14,23 +15,9 @@ use crate::chain_text::ChainKind;
 use crate::items::Item;
 use crate::options::{ToolName, ToolOption};
 use crate::word::{number, offset};
+use pnm_image::limits::{MAX_DEPTH, MAX_EXTENT, MAX_MAXVAL, MAX_TUPLE_TYPE_LENGTH};
 use pnm_tools::{CutBox, FlipWay, Planes, Tool};
 use std::alloc::Global;
-
-/// The most planes that are picked.
-const MOST_PLANES: usize = 256;
-
-/// The greatest number of a plane.
-const LAST_PLANE: u32 = 255;
-
-/// The greatest maxval.
-const GREATEST_MAXVAL: u32 = 65_535;
-
-/// The greatest width, height and factor, and the most columns or rows to fill.
-const GREATEST_EXTENT: u32 = 16_777_216;
-
-/// The longest tuple type, in bytes.
-const LONGEST_TUPLE_TYPE: usize = 255;
 
 /// What the words of a stage have set so far.
 #[derive(Debug, Drop)]
@@ -125,7 +112,7 @@ impl<'a> Settings<'a> {
             ToolOption::Bottom => self.cut.bottom = Some(edge(word)?),
             ToolOption::Width => self.cut.width = Some(extent(word)?),
             ToolOption::Height => self.cut.height = Some(extent(word)?),
-            ToolOption::TupleType if word.len() <= LONGEST_TUPLE_TYPE => self.tuple_type = value,
+            ToolOption::TupleType if word.len() <= MAX_TUPLE_TYPE_LENGTH => self.tuple_type = value,
             ToolOption::XScale => self.across = Some(extent(word)?),
             ToolOption::YScale => self.down = Some(extent(word)?),
             ToolOption::TupleType | ToolOption::Way(_) => return Err(ChainKind::BadValue),
@@ -151,11 +138,11 @@ impl<'a> Settings<'a> {
     {
         match tool {
             ToolName::Invert | ToolName::Cut | ToolName::Flip => Err(ChainKind::ExtraArgument),
-            ToolName::Depth => fill(&mut self.first, word, GREATEST_MAXVAL),
+            ToolName::Depth => fill(&mut self.first, word, MAX_MAXVAL),
             ToolName::Channel => add_plane(&mut self.planes, word),
-            ToolName::Enlarge => fill(&mut self.first, word, GREATEST_EXTENT),
-            ToolName::Tile if self.first.is_none() => fill(&mut self.first, word, GREATEST_EXTENT),
-            ToolName::Tile => fill(&mut self.second, word, GREATEST_EXTENT),
+            ToolName::Enlarge => fill(&mut self.first, word, MAX_EXTENT),
+            ToolName::Tile if self.first.is_none() => fill(&mut self.first, word, MAX_EXTENT),
+            ToolName::Tile => fill(&mut self.second, word, MAX_EXTENT),
         }
     }
 
@@ -192,10 +179,10 @@ fn edge(word: &[u8]) -> Result<i32, ChainKind>
 }
 
 fn extent(word: &[u8]) -> Result<u32, ChainKind>
-    ensures read { IfOk result (λ extent. (spells_number 1 16777216 word.now ≡ true) × (extent ≡ decimal_value word.now)) }
-    ensures refused { IfErr result (λ kind. (spells_number 1 16777216 word.now ≡ false) × (kind ≡ BadValue)) }
+    ensures read { IfOk result (λ extent. (spells_number 1 max_extent word.now ≡ true) × (extent ≡ decimal_value word.now)) }
+    ensures refused { IfErr result (λ kind. (spells_number 1 max_extent word.now ≡ false) × (kind ≡ BadValue)) }
 {
-    number(word, 1, GREATEST_EXTENT).ok_or(ChainKind::BadValue)
+    number(word, 1, MAX_EXTENT).ok_or(ChainKind::BadValue)
 }
 
 /// Fills an argument with a number from 1 to `most`.
@@ -211,14 +198,14 @@ fn fill(argument: &mut Option<u32>, word: &[u8], most: u32) -> Result<(), ChainK
 }
 
 fn add_plane(planes: &mut Vec<u16>, word: &[u8]) -> Result<(), ChainKind>
-    ensures added { OnOk result ((nat_le 256 (length planes.old.items) ≡ false) × (spells_number 0 255 word.now ≡ true)
+    ensures added { OnOk result ((nat_le max_depth (length planes.old.items) ≡ false) × (spells_number 0 (max_depth - 1) word.now ≡ true)
         × (planes.new.items ≡ planes.old.items ++ decimal_value word.now ∷ [])) }
-    ensures refused { IfErr result (λ kind. (kind ≡ Memory) ⊎ IsRefused (nat_le 256 (length planes.old.items)) (spells_number 0 255 word.now) kind) }
+    ensures refused { IfErr result (λ kind. (kind ≡ Memory) ⊎ IsRefused (nat_le max_depth (length planes.old.items)) (spells_number 0 (max_depth - 1) word.now) kind) }
 {
-    if planes.len() >= MOST_PLANES {
+    if planes.len() >= MAX_DEPTH as usize {
         return Err(ChainKind::ExtraArgument);
     }
-    let plane = number(word, 0, LAST_PLANE).ok_or(ChainKind::BadValue)?;
+    let plane = number(word, 0, MAX_DEPTH - 1).ok_or(ChainKind::BadValue)?;
     planes.push(plane as u16)?;
     Ok(())
 }

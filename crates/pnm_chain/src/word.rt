@@ -1,11 +1,11 @@
 //! Words of a chain's text, and the numbers that they spell.
 
 ghost use Rattle.std.specs.Prelude.{◌≡◌, ◌<◌, ◌∷◌, [], IfSome, MatchOption, length, Some, None, if◌then◌else◌};
-ghost use Rattle.pnm_image.specs.Texts.{decimal_value, is_white, words};
+ghost use Rattle.pnm_image.specs.Texts.{decimal_value, words};
 ghost use Rattle.pnm_chain.specs.Options.{offset_value, spells_number, spells_offset};
 
-/// The greatest distance of an offset.
-const FARTHEST: u32 = 16_777_216;
+use pnm_image::characters::is_white;
+use pnm_image::limits::MAX_EXTENT;
 
 /// The first word of a text, and the text after it. A word is a longest run of bytes that aren't
 /// white space: blank, TAB, CR and LF.
@@ -27,12 +27,6 @@ pub(crate) fn split_word(text: &[u8]) -> Option<(&[u8], &[u8])>
         return None;
     }
     Some(rest.split_at(length))
-}
-
-fn is_white(byte: u8) -> bool
-    ensures { result ≡ is_white byte }
-{
-    matches!(byte, b' ' | b'\t' | b'\r' | b'\n')
 }
 
 /// The number from `least` to `most` that the word spells, if it spells one: digits and nothing else.
@@ -60,7 +54,7 @@ pub(crate) fn offset(word: &[u8]) -> Option<i32>
     ensures { result ≡ (if spells_offset word.now then Some (offset_value word.now) else None) }
 {
     match word {
-        [b'-', digits @ ..] => Some(-(number(digits, 0, FARTHEST)? as i32)),
-        _ => Some(number(word, 0, FARTHEST)? as i32),
+        [b'-', digits @ ..] => Some(-(number(digits, 0, MAX_EXTENT)? as i32)),
+        _ => Some(number(word, 0, MAX_EXTENT)? as i32),
     }
 }
