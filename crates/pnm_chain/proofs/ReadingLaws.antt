@@ -17,9 +17,9 @@ pub begins : (tool : ToolName) (s : Settings) (rest : List ℕ) → AreSettingsO
 begins tool s rest h = record { before = []; settings_are = h; items_are = refl; fault_is = refl }
 
 pub goes_on : (tool : ToolName) (items : List Item) (old new : Settings) (rest after : List ℕ) (item : Item) → IsReading tool items old rest → items_of tool (words rest) ≡ item ∷ items_of tool (words after)
-    → ((before : List Item) → AreSettingsOf tool before old → (item_fault tool before item ≡ None) × AreSettingsOf tool (before ++ item ∷ []) new) → IsReading tool items new after
+    → ((before : List Item) → AreSettingsOf old.tool before old → (item_fault old.tool before item ≡ None) × AreSettingsOf old.tool (before ++ item ∷ []) new) → IsReading tool items new after
 goes_on tool items old new rest after item h e taken =
-    let now = taken h.before h.settings_are in
+    let now = subst (λ (t : ToolName). AreSettingsOf t h.before old → (item_fault t h.before item ≡ None) × AreSettingsOf t (h.before ++ item ∷ []) new) h.settings_are.tool_is (taken h.before) h.settings_are in
     record {
       before = h.before ++ item ∷ [];
       settings_are = now.1;
@@ -30,8 +30,8 @@ goes_on tool items old new rest after item h e taken =
     }
 
 pub stops : (tool : ToolName) (items : List Item) (s : Settings) (rest : List ℕ) (item : Item) (others : List Item) (kind : ChainKind) → IsReading tool items s rest → items_of tool (words rest) ≡ item ∷ others
-    → ((before : List Item) → AreSettingsOf tool before s → (kind ≡ Memory) ⊎ (item_fault tool before item ≡ Some kind)) → (kind ≡ Memory) ⊎ (fault_after tool [] items ≡ Some kind)
-stops tool items s rest item others kind h e refused = elim (refused h.before h.settings_are) [
+    → ((before : List Item) → AreSettingsOf s.tool before s → (kind ≡ Memory) ⊎ (item_fault s.tool before item ≡ Some kind)) → (kind ≡ Memory) ⊎ (fault_after tool [] items ≡ Some kind)
+stops tool items s rest item others kind h e refused = elim (subst (λ (t : ToolName). AreSettingsOf t h.before s → (kind ≡ Memory) ⊎ (item_fault t h.before item ≡ Some kind)) h.settings_are.tool_is (refused h.before) h.settings_are) [
   | inl memory ↦ inl memory
   | inr fault ↦ inr (
       h.fault_is ∙ ap (λ (l : List Item). fault_after tool h.before l) e ∙ fault_after-cons tool h.before item others
@@ -54,9 +54,9 @@ stage_is : (stage first : List ℕ) (others : List (List ℕ)) (name : ToolName)
 stage_is stage first others name is named = ap (λ (found : List (List ℕ)). words_fault found) is ∙ ap (λ (found : Option ToolName). named_fault found others) named
 
 pub ends_well : (stage first rest text : List ℕ) (tool : ToolName) (s : Settings) (meaning : Tool) → words stage ≡ first ∷ words text → tool_named first ≡ Some tool → IsReading tool (items_of tool (words text)) s rest → words rest ≡ []
-    → ((items : List Item) → AreSettingsOf tool items s → (end_fault tool items ≡ None) × (meaning ≡ meant_by tool items)) → (stage_fault stage ≡ None) × SpellsTool stage meaning
+    → ((items : List Item) → AreSettingsOf s.tool items s → (end_fault s.tool items ≡ None) × (meaning ≡ meant_by s.tool items)) → (stage_fault stage ≡ None) × SpellsTool stage meaning
 ends_well stage first rest text tool s meaning is named h none finished =
-    let end = finished h.before h.settings_are in
+    let end = subst (λ (t : ToolName). AreSettingsOf t h.before s → (end_fault t h.before ≡ None) × (meaning ≡ meant_by t h.before)) h.settings_are.tool_is (finished h.before) h.settings_are in
     let all : items_of tool (words text) ≡ h.before = all_read tool (items_of tool (words text)) s rest h none in
     let free : fault_after tool [] (items_of tool (words text)) ≡ None = end_is tool (items_of tool (words text)) s rest h none ∙ end.0 in
     let meant : meaning ≡ meant_by tool (items_of tool (words text)) = end.1 ∙ ap (λ (l : List Item). meant_by tool l) (sym all) in (
@@ -72,15 +72,15 @@ ends_well stage first rest text tool s meaning is named h none finished =
     )
 
 pub ends_badly : (stage first rest text : List ℕ) (tool : ToolName) (s : Settings) (kind : ChainKind) → words stage ≡ first ∷ words text → tool_named first ≡ Some tool → IsReading tool (items_of tool (words text)) s rest → words rest ≡ []
-    → ((items : List Item) → AreSettingsOf tool items s → (kind ≡ Memory) ⊎ (end_fault tool items ≡ Some kind)) → (kind ≡ Memory) ⊎ (stage_fault stage ≡ Some kind)
-ends_badly stage first rest text tool s kind is named h none refused = elim (refused h.before h.settings_are) [
+    → ((items : List Item) → AreSettingsOf s.tool items s → (kind ≡ Memory) ⊎ (end_fault s.tool items ≡ Some kind)) → (kind ≡ Memory) ⊎ (stage_fault stage ≡ Some kind)
+ends_badly stage first rest text tool s kind is named h none refused = elim (subst (λ (t : ToolName). AreSettingsOf t h.before s → (kind ≡ Memory) ⊎ (end_fault t h.before ≡ Some kind)) h.settings_are.tool_is (refused h.before) h.settings_are) [
   | inl memory ↦ inl memory
   | inr fault ↦ inr (stage_is stage first (words text) tool is named ∙ end_is tool (items_of tool (words text)) s rest h none ∙ fault)
 ]
 
 pub stops_badly : (stage first rest text : List ℕ) (tool : ToolName) (s : Settings) (item : Item) (others : List Item) (kind : ChainKind) → words stage ≡ first ∷ words text → tool_named first ≡ Some tool
     → IsReading tool (items_of tool (words text)) s rest → items_of tool (words rest) ≡ item ∷ others
-    → ((before : List Item) → AreSettingsOf tool before s → (kind ≡ Memory) ⊎ (item_fault tool before item ≡ Some kind)) → (kind ≡ Memory) ⊎ (stage_fault stage ≡ Some kind)
+    → ((before : List Item) → AreSettingsOf s.tool before s → (kind ≡ Memory) ⊎ (item_fault s.tool before item ≡ Some kind)) → (kind ≡ Memory) ⊎ (stage_fault stage ≡ Some kind)
 stops_badly stage first rest text tool s item others kind is named h e refused = elim (stops tool (items_of tool (words text)) s rest item others kind h e refused) [
   | inl memory ↦ inl memory
   | inr fault ↦ inr (stage_is stage first (words text) tool is named ∙ fault)
@@ -95,11 +95,11 @@ no_tool stage first others is named = ap (λ (found : List (List ℕ)). words_fa
 -- ---- what a stage is answered
 
 pub ends_ok : (stage first rest text : List ℕ) (tool : ToolName) (s : Settings) (result : Result Tool ChainKind) → words stage ≡ first ∷ words text → tool_named first ≡ Some tool → IsReading tool (items_of tool (words text)) s rest → words rest ≡ []
-    → IfOk result (λ meaning. (items : List Item) → AreSettingsOf tool items s → (end_fault tool items ≡ None) × (meaning ≡ meant_by tool items)) → IfOk result (λ meaning. (stage_fault stage ≡ None) × SpellsTool stage meaning)
+    → IfOk result (λ meaning. (items : List Item) → AreSettingsOf s.tool items s → (end_fault s.tool items ≡ None) × (meaning ≡ meant_by s.tool items)) → IfOk result (λ meaning. (stage_fault stage ≡ None) × SpellsTool stage meaning)
 ends_ok stage first rest text tool s (Ok meaning) is named h none finished = ends_well stage first rest text tool s meaning is named h none finished
 ends_ok stage first rest text tool s (Err kind) is named h none finished = cc
 
 pub ends_err : (stage first rest text : List ℕ) (tool : ToolName) (s : Settings) (result : Result Tool ChainKind) → words stage ≡ first ∷ words text → tool_named first ≡ Some tool → IsReading tool (items_of tool (words text)) s rest → words rest ≡ []
-    → IfErr result (λ kind. (items : List Item) → AreSettingsOf tool items s → (kind ≡ Memory) ⊎ (end_fault tool items ≡ Some kind)) → IfErr result (λ kind. (kind ≡ Memory) ⊎ (stage_fault stage ≡ Some kind))
+    → IfErr result (λ kind. (items : List Item) → AreSettingsOf s.tool items s → (kind ≡ Memory) ⊎ (end_fault s.tool items ≡ Some kind)) → IfErr result (λ kind. (kind ≡ Memory) ⊎ (stage_fault stage ≡ Some kind))
 ends_err stage first rest text tool s (Ok meaning) is named h none refused = cc
 ends_err stage first rest text tool s (Err kind) is named h none refused = ends_badly stage first rest text tool s kind is named h none refused

@@ -197,6 +197,7 @@ module _ (tool : ToolName) (before : List Item) (value : Option (Bor (List ℕ))
 
   with_box : (option : ToolOption) (box : CutBox) → excludes TupleType option ≡ false → excludes XScale option ≡ false → excludes YScale option ≡ false → way_among option None ≡ None → box ≡ box_of (after before option given) → AreSettingsOf tool (after before option given) (record s { cut = box })
   with_box option box e1 e2 e3 e4 e = record {
+    tool_is = h.tool_is;
     box_is = e;
     tuple_type_is = h.tuple_type_is ∙ kept option TupleType e1;
     across_is = h.across_is ∙ number_kept option XScale e2;
@@ -225,6 +226,7 @@ module _ (tool : ToolName) (before : List Item) (value : Option (Bor (List ℕ))
       (ap (λ (box : CutBox). record box { height = option_map decimal_value given }) h.box_is
       ∙ same_box (kept Height Left refl) (kept Height Right refl) (kept Height Top refl) (kept Height Bottom refl) (kept Height Width refl) (value_given Height given before refl refl new fits))
   with_given TupleType new fits = record {
+    tool_is = h.tool_is;
     box_is = h.box_is ∙ box_kept TupleType given before refl refl refl refl refl refl;
     tuple_type_is = value_given TupleType given before refl refl new fits;
     across_is = h.across_is ∙ number_kept TupleType XScale refl;
@@ -233,6 +235,7 @@ module _ (tool : ToolName) (before : List Item) (value : Option (Bor (List ℕ))
     arguments_are = arguments TupleType (record s { tuple_type = value }) refl refl refl;
   }
   with_given XScale new fits = record {
+    tool_is = h.tool_is;
     box_is = h.box_is ∙ box_kept XScale given before refl refl refl refl refl refl;
     tuple_type_is = h.tuple_type_is ∙ kept XScale TupleType refl;
     across_is = ap (λ (one : Option (List ℕ)). option_map decimal_value one) (value_given XScale given before refl refl new fits);
@@ -241,6 +244,7 @@ module _ (tool : ToolName) (before : List Item) (value : Option (Bor (List ℕ))
     arguments_are = arguments XScale (record s { across = option_map decimal_value given }) refl refl refl;
   }
   with_given YScale new fits = record {
+    tool_is = h.tool_is;
     box_is = h.box_is ∙ box_kept YScale given before refl refl refl refl refl refl;
     tuple_type_is = h.tuple_type_is ∙ kept YScale TupleType refl;
     across_is = h.across_is ∙ number_kept YScale XScale refl;
@@ -249,6 +253,7 @@ module _ (tool : ToolName) (before : List Item) (value : Option (Bor (List ℕ))
     arguments_are = arguments YScale (record s { down = option_map decimal_value given }) refl refl refl;
   }
   with_given (Way way) new fits = record {
+    tool_is = h.tool_is;
     box_is = h.box_is ∙ box_kept (Way way) given before refl refl refl refl refl refl;
     tuple_type_is = h.tuple_type_is ∙ kept (Way way) TupleType refl;
     across_is = h.across_is ∙ number_kept (Way way) XScale refl;
@@ -297,6 +302,7 @@ first_filled [] n e = refl
 first_filled (m ∷ numbers) n e = absurd cc
 
 record HasSameOptions (old new : Settings) : Type 0 where
+  tool_is : new.tool ≡ old.tool
   box_is : new.cut ≡ old.cut
   tuple_type_is : new.tuple_type ≡ old.tuple_type
   across_is : new.across ≡ old.across
@@ -307,13 +313,14 @@ same_options : (old new changed : Settings) → new ≡ changed → HasSameOptio
 same_options old new changed e h = subst (λ (s : Settings). HasSameOptions old s) (sym e) h
 
 with_first : (old new : Settings) (first : Option ℕ) → new ≡ record old { first = first } → HasSameOptions old new
-with_first old new first e = same_options old new (record old { first = first }) e (record { box_is = refl; tuple_type_is = refl; across_is = refl; down_is = refl; way_is = refl })
+with_first old new first e = same_options old new (record old { first = first }) e (record { tool_is = refl; box_is = refl; tuple_type_is = refl; across_is = refl; down_is = refl; way_is = refl })
 
 with_second : (old new : Settings) (second : Option ℕ) → new ≡ record old { second = second } → HasSameOptions old new
-with_second old new second e = same_options old new (record old { second = second }) e (record { box_is = refl; tuple_type_is = refl; across_is = refl; down_is = refl; way_is = refl })
+with_second old new second e = same_options old new (record old { second = second }) e (record { tool_is = refl; box_is = refl; tuple_type_is = refl; across_is = refl; down_is = refl; way_is = refl })
 
 with_argument : (tool : ToolName) (before : List Item) (word : List ℕ) (old new : Settings) → AreSettingsOf tool before old → HasSameOptions old new → AreArgumentsOf tool (numbers_of before ++ decimal_value word ∷ []) new → AreSettingsOf tool (before ++ Argument word ∷ []) new
 with_argument tool before word old new h same e = record {
+  tool_is = same.tool_is ∙ h.tool_is;
   box_is = same.box_is ∙ h.box_is ∙ same_box
       (value_beside Left word before) (value_beside Right word before) (value_beside Top word before)
       (value_beside Bottom word before) (value_beside Width word before) (value_beside Height word before);
@@ -325,7 +332,7 @@ with_argument tool before word old new h same e = record {
 }
 
 with_planes : (old new : Settings) → new ≡ record old { planes = new.planes } → HasSameOptions old new
-with_planes old new e = same_options old new (record old { planes = new.planes }) e (record { box_is = refl; tuple_type_is = refl; across_is = refl; down_is = refl; way_is = refl })
+with_planes old new e = same_options old new (record old { planes = new.planes }) e (record { tool_is = refl; box_is = refl; tuple_type_is = refl; across_is = refl; down_is = refl; way_is = refl })
 
 filled_first : (before : List Item) (word : List ℕ) (old new : Settings) → old.first ≡ slice_get (numbers_of before) 0 → is_some old.first ≡ false → new ≡ record old { first = Some (decimal_value word) } → new.first ≡ slice_get (numbers_of before ++ decimal_value word ∷ []) 0
 filled_first before word old new e free w =

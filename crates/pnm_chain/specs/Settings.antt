@@ -41,8 +41,9 @@ AreArgumentsOf Enlarge numbers s = s.first ≡ slice_get numbers 0
 AreArgumentsOf Flip numbers s = Unit {0}
 AreArgumentsOf Tile numbers s = (s.first ≡ slice_get numbers 0) × (s.second ≡ slice_get numbers 1)
 
--- the settings are those that the items make
+-- the settings are of the tool, and those that the items make
 pub record AreSettingsOf (tool : ToolName) (items : List Item) (s : Settings) : Type 0 where
+  pub tool_is : s.tool ≡ tool
   pub box_is : s.cut ≡ box_of items
   pub tuple_type_is : value_read s.tuple_type ≡ value_of TupleType items
   pub across_is : s.across ≡ number_of XScale items

@@ -169,8 +169,8 @@ fn read_stage(alloc: Global, stage: &[u8]) -> Result<Tool, ChainKind>
     };
     let mut settings = Settings::new(alloc, tool);
     while let Some((item, after)) = split_item(tool, rest) {
-        settings.take(tool, item)?;
+        settings.take(item)?;
         rest = after;
     }
-    settings.finish(alloc, tool)
+    settings.finish(alloc)
 }

@@ -22,6 +22,7 @@ use std::alloc::Global;
 /// What the words of a stage have set so far.
 #[derive(Debug, Drop)]
 pub(crate) struct Settings<'a> {
+    tool: ToolName,
     cut: CutBox,
     tuple_type: Option<&'a [u8]>,
     across: Option<u32>,
@@ -36,11 +37,12 @@ pub(crate) struct Settings<'a> {
 }
 
 impl<'a> Settings<'a> {
-    /// Nothing is set.
+    /// Nothing is set for the tool.
     pub(crate) fn new(alloc: Global, tool: ToolName) -> Settings<'a>
         ensures { AreSettingsOf tool [] result }
     {
         Settings {
+            tool,
             cut: CutBox {
                 left: None,
                 right: None,
@@ -59,17 +61,17 @@ impl<'a> Settings<'a> {
         }
     }
 
-    /// Sets what the tool's next item says. The faults are `UnknownOption`, `Conflict`,
+    /// Sets what the stage's next item says. The faults are `UnknownOption`, `Conflict`,
     /// `MissingValue` and `BadValue` for an option, `ExtraArgument` and `BadValue` for an argument,
     /// and `Memory`.
-    pub(crate) fn take(&mut self, tool: ToolName, item: Item<'a>) -> Result<(), ChainKind>
-        ensures set { OnOk result ((before : List ItemSaid) → AreSettingsOf tool before self.old
-            → (item_fault tool before (item_read item.entry) ≡ None) × AreSettingsOf tool (before ++ item_read item.entry ∷ []) self.new) }
-        ensures refused { IfErr result (λ kind. (before : List ItemSaid) → AreSettingsOf tool before self.old
-            → (kind ≡ Memory) ⊎ (item_fault tool before (item_read item.entry) ≡ Some kind)) }
+    pub(crate) fn take(&mut self, item: Item<'a>) -> Result<(), ChainKind>
+        ensures set { OnOk result ((before : List ItemSaid) → AreSettingsOf self.old.tool before self.old
+            → (item_fault self.old.tool before (item_read item.entry) ≡ None) × AreSettingsOf self.old.tool (before ++ item_read item.entry ∷ []) self.new) }
+        ensures refused { IfErr result (λ kind. (before : List ItemSaid) → AreSettingsOf self.old.tool before self.old
+            → (kind ≡ Memory) ⊎ (item_fault self.old.tool before (item_read item.entry) ≡ Some kind)) }
     {
         match item {
-            Item::Argument(word) => self.add(tool, word),
+            Item::Argument(word) => self.add(word),
             Item::Given(option, value) => {
                 if self.has(option) {
                     return Err(ChainKind::Conflict);
@@ -132,11 +134,11 @@ impl<'a> Settings<'a> {
         Ok(())
     }
 
-    fn add(&mut self, tool: ToolName, word: &[u8]) -> Result<(), ChainKind>
-        ensures added { OnOk result ((argument_fault tool self.old word.now ≡ None) × IsWithArgument tool self.old word.now self.new) }
-        ensures refused { IfErr result (λ kind. (kind ≡ Memory) ⊎ (argument_fault tool self.old word.now ≡ Some kind)) }
+    fn add(&mut self, word: &[u8]) -> Result<(), ChainKind>
+        ensures added { OnOk result ((argument_fault self.old.tool self.old word.now ≡ None) × IsWithArgument self.old.tool self.old word.now self.new) }
+        ensures refused { IfErr result (λ kind. (kind ≡ Memory) ⊎ (argument_fault self.old.tool self.old word.now ≡ Some kind)) }
     {
-        match tool {
+        match self.tool {
             ToolName::Invert | ToolName::Cut | ToolName::Flip => Err(ChainKind::ExtraArgument),
             ToolName::Depth => fill(&mut self.first, word, MAX_MAXVAL),
             ToolName::Channel => add_plane(&mut self.planes, word),
@@ -147,13 +149,13 @@ impl<'a> Settings<'a> {
     }
 
     /// The tool that these settings mean. The faults are `Conflict`, `MissingArgument` and `Memory`.
-    pub(crate) fn finish(self, alloc: Global, tool: ToolName) -> Result<Tool, ChainKind>
-        ensures meant { IfOk result (λ meaning. (items : List ItemSaid) → AreSettingsOf tool items self.entry
-            → (end_fault tool items ≡ None) × (meaning ≡ meant_by tool items)) }
-        ensures refused { IfErr result (λ kind. (items : List ItemSaid) → AreSettingsOf tool items self.entry
-            → (kind ≡ Memory) ⊎ (end_fault tool items ≡ Some kind)) }
+    pub(crate) fn finish(self, alloc: Global) -> Result<Tool, ChainKind>
+        ensures meant { IfOk result (λ meaning. (items : List ItemSaid) → AreSettingsOf self.entry.tool items self.entry
+            → (end_fault self.entry.tool items ≡ None) × (meaning ≡ meant_by self.entry.tool items)) }
+        ensures refused { IfErr result (λ kind. (items : List ItemSaid) → AreSettingsOf self.entry.tool items self.entry
+            → (kind ≡ Memory) ⊎ (end_fault self.entry.tool items ≡ Some kind)) }
     {
-        match tool {
+        match self.tool {
             ToolName::Invert => Ok(Tool::Invert),
             ToolName::Cut => cut(self.cut),
             ToolName::Depth => match self.first {

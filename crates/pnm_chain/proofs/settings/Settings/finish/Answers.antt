@@ -9,7 +9,7 @@ use Rattle.pnm_chain.proofs.settings.Settings.finish.Goals as goal
 
 pub returns-in-Enlarge-clause-refused : goal.returns-in-Enlarge-clause-refused
 returns-in-Enlarge-clause-refused c =
-    let s = c.args.self in
+    let s = record c.args.self { tool = Enlarge } in
     rw c.in-Enlarge.is (IfErr-weaker c.enlarge.result
     (λ kind. factors_fault s.first s.across s.down ≡ Some kind)
     (λ kind. (items : List Item) → AreSettingsOf Enlarge items s → (kind ≡ Memory) ⊎ (end_fault Enlarge items ≡ Some kind))
