@@ -54,16 +54,6 @@ flip_option name =
     else if bytes_eq (codes "transpose") name then Some (Way Transpose)
     else None
 
--- the tool's option of this name
-abbrev pub option_named : ToolName → List ℕ → Option ToolOption
-option_named Invert name = None
-option_named Cut name = cut_option name
-option_named Depth name = None
-option_named Channel name = channel_option name
-option_named Enlarge name = enlarge_option name
-option_named Flip name = flip_option name
-option_named Tile name = None
-
 -- ---- numbers and other values
 
 -- a decimal number is digits and nothing else, with any leading zeros
@@ -94,66 +84,76 @@ offset_value word = if begins_with_dash word then neg_ℤ (pos (decimal_value (w
 
 -- ---- options
 
--- a way to flip stands alone, and all other options have a value
+-- an option's number, whether it wants a value, and which words are values that it takes
+pub record OptionRule : Type 0 where
+  pub slot : ℕ
+  pub wants : Bool
+  pub takes : List ℕ → Bool
+
+abbrev edge_at : ℕ → OptionRule
+edge_at slot = record { slot = slot; wants = true; takes = spells_offset }
+
+abbrev size_at : ℕ → OptionRule
+size_at slot = record { slot = slot; wants = true; takes = spells_number 1 max_extent }
+
+-- the ways to flip have one number, since one way alone may stand, and it stands without a value
+abbrev pub option_rule : ToolOption → OptionRule
+option_rule Left = edge_at 0
+option_rule Right = edge_at 1
+option_rule Top = edge_at 2
+option_rule Bottom = edge_at 3
+option_rule Width = size_at 4
+option_rule Height = size_at 5
+option_rule TupleType = record { slot = 6; wants = true; takes = λ word. nat_le (length word) max_tuple_type_length }
+option_rule XScale = size_at 7
+option_rule YScale = size_at 8
+option_rule (Way way) = record { slot = 9; wants = false; takes = λ word. false }
+
 abbrev pub wants_value : ToolOption → Bool
-wants_value Left = true
-wants_value Right = true
-wants_value Top = true
-wants_value Bottom = true
-wants_value Width = true
-wants_value Height = true
-wants_value TupleType = true
-wants_value XScale = true
-wants_value YScale = true
-wants_value (Way way) = false
+wants_value option = (option_rule option).wants
 
 -- the word is a value that the option takes
 abbrev pub takes_value : ToolOption → List ℕ → Bool
-takes_value Left word = spells_offset word
-takes_value Right word = spells_offset word
-takes_value Top word = spells_offset word
-takes_value Bottom word = spells_offset word
-takes_value Width word = spells_number 1 max_extent word
-takes_value Height word = spells_number 1 max_extent word
-takes_value TupleType word = nat_le (length word) max_tuple_type_length
-takes_value XScale word = spells_number 1 max_extent word
-takes_value YScale word = spells_number 1 max_extent word
-takes_value (Way way) word = false
+takes_value option word = (option_rule option).takes word
 
--- the options by number; the ways to flip have one, since one way alone may stand
 abbrev pub slot_of : ToolOption → ℕ
-slot_of Left = 0
-slot_of Right = 1
-slot_of Top = 2
-slot_of Bottom = 3
-slot_of Width = 4
-slot_of Height = 5
-slot_of TupleType = 6
-slot_of XScale = 7
-slot_of YScale = 8
-slot_of (Way way) = 9
+slot_of option = (option_rule option).slot
 
 -- the two can't both stand: they are one option, or two ways to flip
 abbrev pub excludes : ToolOption → ToolOption → Bool
 excludes one other = slot_of one == slot_of other
 
--- ---- arguments
+-- ---- tools
+
+-- a tool's options by their names, the most arguments that it takes, and which words are such
+pub record ToolRule : Type 0 where
+  pub option : List ℕ → Option ToolOption
+  pub most : ℕ
+  pub takes : List ℕ → Bool
+
+abbrev no_option : List ℕ → Option ToolOption
+no_option name = None
+
+abbrev no_argument : List ℕ → Bool
+no_argument word = false
+
+-- the arguments are a maxval, the numbers of planes, a factor, or columns and rows to fill
+abbrev pub tool_rule : ToolName → ToolRule
+tool_rule Invert = record { option = no_option; most = 0; takes = no_argument }
+tool_rule Cut = record { option = cut_option; most = 0; takes = no_argument }
+tool_rule Depth = record { option = no_option; most = 1; takes = spells_number 1 max_maxval }
+tool_rule Channel = record { option = channel_option; most = max_depth; takes = spells_number 0 (max_depth - 1) }
+tool_rule Enlarge = record { option = enlarge_option; most = 1; takes = spells_number 1 max_extent }
+tool_rule Flip = record { option = flip_option; most = 0; takes = no_argument }
+tool_rule Tile = record { option = no_option; most = 2; takes = spells_number 1 max_extent }
+
+-- the tool's option of this name
+abbrev pub option_named : ToolName → List ℕ → Option ToolOption
+option_named tool name = (tool_rule tool).option name
 
 abbrev pub most_arguments : ToolName → ℕ
-most_arguments Invert = 0
-most_arguments Cut = 0
-most_arguments Depth = 1
-most_arguments Channel = max_depth
-most_arguments Enlarge = 1
-most_arguments Flip = 0
-most_arguments Tile = 2
+most_arguments tool = (tool_rule tool).most
 
--- the word is an argument that the tool takes: a maxval, the number of a plane, a factor, or columns or rows to fill
+-- the word is an argument that the tool takes
 abbrev pub takes_argument : ToolName → List ℕ → Bool
-takes_argument Invert word = false
-takes_argument Cut word = false
-takes_argument Depth word = spells_number 1 max_maxval word
-takes_argument Channel word = spells_number 0 (max_depth - 1) word
-takes_argument Enlarge word = spells_number 1 max_extent word
-takes_argument Flip word = false
-takes_argument Tile word = spells_number 1 max_extent word
+takes_argument tool word = (tool_rule tool).takes word
