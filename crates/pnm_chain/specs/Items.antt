@@ -122,16 +122,6 @@ abbrev pub factor_by : List ℕ → Option ℕ → ℕ
 factor_by [] scale = unwrap_or scale 1
 factor_by (factor ∷ numbers) scale = factor
 
--- the tool, where the items are such as can mean one
-abbrev pub meant_by : ToolName → List Item → Tool
-meant_by Invert items = tools.Invert
-meant_by Cut items = tools.Cut (box_of items)
-meant_by Depth items = tools.Depth (slice_index_or (numbers_of items) 0 0)
-meant_by Channel items = tools.Channel (picks (numbers_of items) (unwrap_or (value_of TupleType items) []))
-meant_by Enlarge items = tools.Enlarge (factor_by (numbers_of items) (number_of XScale items)) (factor_by (numbers_of items) (number_of YScale items))
-meant_by Flip items = tools.Flip (unwrap_or (way_of items) Null)
-meant_by Tile items = tools.Tile (slice_index_or (numbers_of items) 0 0) (slice_index_or (numbers_of items) 1 0)
-
 -- ---- which items mean a tool
 
 -- an argument is one that the tool takes; an option is one of the tool's, and has a value that it takes just where it wants one
@@ -148,30 +138,66 @@ options_of (Argument word ∷ items) = options_of items
 options_of (Given option value ∷ items) = option ∷ options_of items
 options_of (Unknown ∷ items) = options_of items
 
+-- ---- what a tool makes of its items
+
+-- which items can't stand together, which are too few, and the tool that the others mean
+pub record MeaningRule : Type 0 where
+  pub conflict : List Item → Bool
+  pub missing : List Item → Bool
+  pub meant : List Item → Tool
+
+abbrev never : List Item → Bool
+never items = false
+
+abbrev fewer_than : ℕ → List Item → Bool
+fewer_than wanted items = nat_lt (length (arguments_of items)) wanted
+
+abbrev number_at : ℕ → List Item → ℕ
+number_at at items = slice_index_or (numbers_of items) at 0
+
 abbrev pub has_scale : List Item → Bool
 has_scale items = is_there XScale items || is_there YScale items
 
--- three options of one axis; an argument beside a scale
+-- no three options of one axis stand together, and no argument beside a scale
+abbrev pub meaning_rule : ToolName → MeaningRule
+meaning_rule Invert = record { conflict = never; missing = never; meant = λ items. tools.Invert }
+meaning_rule Cut = record {
+  conflict = λ items.
+      (is_there Left items && (is_there Right items && is_there Width items))
+      || (is_there Top items && (is_there Bottom items && is_there Height items));
+  missing = never;
+  meant = λ items. tools.Cut (box_of items);
+}
+meaning_rule Depth = record { conflict = never; missing = fewer_than 1; meant = λ items. tools.Depth (number_at 0 items) }
+meaning_rule Channel = record {
+  conflict = never;
+  missing = fewer_than 1;
+  meant = λ items. tools.Channel (picks (numbers_of items) (unwrap_or (value_of TupleType items) []));
+}
+meaning_rule Enlarge = record {
+  conflict = λ items. nat_lt 0 (length (arguments_of items)) && has_scale items;
+  missing = λ items. fewer_than 1 items && not (has_scale items);
+  meant = λ items. tools.Enlarge (factor_by (numbers_of items) (number_of XScale items)) (factor_by (numbers_of items) (number_of YScale items));
+}
+meaning_rule Flip = record {
+  conflict = never;
+  missing = λ items. not (is_some (way_of items));
+  meant = λ items. tools.Flip (unwrap_or (way_of items) Null);
+}
+meaning_rule Tile = record { conflict = never; missing = fewer_than 2; meant = λ items. tools.Tile (number_at 0 items) (number_at 1 items) }
+
 abbrev pub is_conflict : ToolName → List Item → Bool
-is_conflict Invert items = false
-is_conflict Cut items =
-    (is_there Left items && (is_there Right items && is_there Width items))
-    || (is_there Top items && (is_there Bottom items && is_there Height items))
-is_conflict Depth items = false
-is_conflict Channel items = false
-is_conflict Enlarge items = nat_lt 0 (length (arguments_of items)) && has_scale items
-is_conflict Flip items = false
-is_conflict Tile items = false
+is_conflict tool items = (meaning_rule tool).conflict items
 
 -- the tool wants more than these
 abbrev pub is_missing : ToolName → List Item → Bool
-is_missing Invert items = false
-is_missing Cut items = false
-is_missing Depth items = nat_lt (length (arguments_of items)) 1
-is_missing Channel items = nat_lt (length (arguments_of items)) 1
-is_missing Enlarge items = nat_lt (length (arguments_of items)) 1 && not (has_scale items)
-is_missing Flip items = not (is_some (way_of items))
-is_missing Tile items = nat_lt (length (arguments_of items)) 2
+is_missing tool items = (meaning_rule tool).missing items
+
+-- the tool, where the items are such as can mean one
+abbrev pub meant_by : ToolName → List Item → Tool
+meant_by tool items = (meaning_rule tool).meant items
+
+-- ---- the items that a tool is called by
 
 -- the items are what this tool is called by: each formed, no option twice, and neither too few nor such as can't stand together
 pub record Means (tool : ToolName) (items : List Item) (meaning : Tool) : Type 0 where

@@ -1,5 +1,5 @@
 -- What the parser of a chain's text holds while it reads: of a stage its settings, and of the chain its tools.
-use Rattle.std.specs.Prelude.{◌≡◌, ℕ, Bool, true, false, ◌&&◌, ◌||◌, nat_le, if◌then◌else◌, Option, Some, None, is_some, option_map, slice_get, unwrap_or, List, [], ◌∷◌, ◌++◌, ◌+◌, length, take, drop}
+use Rattle.std.specs.Prelude.{◌≡◌, ℕ, ℤ, Bool, true, false, ◌&&◌, ◌||◌, nat_le, if◌then◌else◌, Option, Some, None, is_some, option_map, slice_get, unwrap_or, List, [], ◌∷◌, ◌++◌, ◌+◌, length, take, drop}
 use Rattle.pnm_image.specs.Limits.{max_depth}
 use Rattle.pnm_image.specs.Texts.{decimal_value, words}
 use denote.Ref.{Bor}
@@ -31,15 +31,59 @@ item_read read.Unknown = Unknown
 
 -- ---- settings
 
--- the arguments of a tool, as numbers
+-- how settings hold arguments: that they hold those of these numbers, that they hold as many as the tool takes, and that the
+-- new ones hold a word's number more than the old
+pub record ArgumentRule : Type 1 where
+  pub are : List ℕ → Settings → Type 0
+  pub all : Settings → Bool
+  pub more : Settings → List ℕ → Settings → Type 0
+
+abbrev no_argument : ArgumentRule
+no_argument = record { are = λ numbers s. Unit {0}; all = λ s. true; more = λ old word new. ⊥ }
+
+abbrev one_argument : ArgumentRule
+one_argument = record {
+  are = λ numbers s. s.first ≡ slice_get numbers 0;
+  all = λ s. is_some s.first;
+  more = λ old word new. new ≡ record old { first = Some (decimal_value word) };
+}
+
+-- the first of two arguments that is free is filled
+abbrev pub first_free : Option ℕ → Settings → ℕ → Settings
+first_free None s number = record s { first = Some number }
+first_free (Some other) s number = record s { second = Some number }
+
+abbrev two_arguments : ArgumentRule
+two_arguments = record {
+  are = λ numbers s. (s.first ≡ slice_get numbers 0) × (s.second ≡ slice_get numbers 1);
+  all = λ s. is_some s.first && is_some s.second;
+  more = λ old word new. new ≡ first_free old.first old (decimal_value word);
+}
+
+abbrev plane_arguments : ArgumentRule
+plane_arguments = record {
+  are = λ numbers s. s.planes.items ≡ numbers;
+  all = λ s. nat_le max_depth (length s.planes.items);
+  more = λ old word new. (new ≡ record old { planes = new.planes }) × (new.planes.items ≡ old.planes.items ++ decimal_value word ∷ []);
+}
+
+abbrev pub argument_rule : ToolName → ArgumentRule
+argument_rule Invert = no_argument
+argument_rule Cut = no_argument
+argument_rule Depth = one_argument
+argument_rule Channel = plane_arguments
+argument_rule Enlarge = one_argument
+argument_rule Flip = no_argument
+argument_rule Tile = two_arguments
+
 abbrev pub AreArgumentsOf : ToolName → List ℕ → Settings → Type 0
-AreArgumentsOf Invert numbers s = Unit {0}
-AreArgumentsOf Cut numbers s = Unit {0}
-AreArgumentsOf Depth numbers s = s.first ≡ slice_get numbers 0
-AreArgumentsOf Channel numbers s = s.planes.items ≡ numbers
-AreArgumentsOf Enlarge numbers s = s.first ≡ slice_get numbers 0
-AreArgumentsOf Flip numbers s = Unit {0}
-AreArgumentsOf Tile numbers s = (s.first ≡ slice_get numbers 0) × (s.second ≡ slice_get numbers 1)
+AreArgumentsOf tool numbers s = (argument_rule tool).are numbers s
+
+abbrev pub has_all_arguments : ToolName → Settings → Bool
+has_all_arguments tool s = (argument_rule tool).all s
+
+abbrev pub IsWithArgument : ToolName → Settings → List ℕ → Settings → Type 0
+IsWithArgument tool old word new = (argument_rule tool).more old word new
 
 -- the settings are of the tool, and those that the items make
 pub record AreSettingsOf (tool : ToolName) (items : List Item) (s : Settings) : Type 0 where
@@ -51,60 +95,42 @@ pub record AreSettingsOf (tool : ToolName) (items : List Item) (s : Settings) : 
   pub way_is : s.way ≡ way_of items
   pub arguments_are : AreArgumentsOf tool (numbers_of items) s
 
+-- an option's value as an offset, or as a number
+abbrev offset_read : Option (Bor (List ℕ)) → Option ℤ
+offset_read value = option_map offset_value (value_read value)
+
+abbrev number_read : Option (Bor (List ℕ)) → Option ℕ
+number_read value = option_map decimal_value (value_read value)
+
+-- how settings hold an option: whether they do, and those that hold it with a value
+pub record HolderRule : Type 0 where
+  pub there : Settings → Bool
+  pub given : Settings → Option (Bor (List ℕ)) → Settings
+
+abbrev pub holder_rule : ToolOption → HolderRule
+holder_rule Left = record { there = λ s. is_some s.cut.left; given = λ s value. record s { cut = record s.cut { left = offset_read value } } }
+holder_rule Right = record { there = λ s. is_some s.cut.right; given = λ s value. record s { cut = record s.cut { right = offset_read value } } }
+holder_rule Top = record { there = λ s. is_some s.cut.top; given = λ s value. record s { cut = record s.cut { top = offset_read value } } }
+holder_rule Bottom = record { there = λ s. is_some s.cut.bottom; given = λ s value. record s { cut = record s.cut { bottom = offset_read value } } }
+holder_rule Width = record { there = λ s. is_some s.cut.width; given = λ s value. record s { cut = record s.cut { width = number_read value } } }
+holder_rule Height = record { there = λ s. is_some s.cut.height; given = λ s value. record s { cut = record s.cut { height = number_read value } } }
+holder_rule TupleType = record { there = λ s. is_some s.tuple_type; given = λ s value. record s { tuple_type = value } }
+holder_rule XScale = record { there = λ s. is_some s.across; given = λ s value. record s { across = number_read value } }
+holder_rule YScale = record { there = λ s. is_some s.down; given = λ s value. record s { down = number_read value } }
+holder_rule (Way way) = record { there = λ s. is_some s.way; given = λ s value. record s { way = Some way } }
+
 abbrev pub has_option : Settings → ToolOption → Bool
-has_option s Left = is_some s.cut.left
-has_option s Right = is_some s.cut.right
-has_option s Top = is_some s.cut.top
-has_option s Bottom = is_some s.cut.bottom
-has_option s Width = is_some s.cut.width
-has_option s Height = is_some s.cut.height
-has_option s TupleType = is_some s.tuple_type
-has_option s XScale = is_some s.across
-has_option s YScale = is_some s.down
-has_option s (Way way) = is_some s.way
+has_option s option = (holder_rule option).there s
 
 -- with an option, which has this value
 abbrev pub with_option : Settings → ToolOption → Option (Bor (List ℕ)) → Settings
-with_option s Left value = record s { cut = record s.cut { left = option_map offset_value (value_read value) } }
-with_option s Right value = record s { cut = record s.cut { right = option_map offset_value (value_read value) } }
-with_option s Top value = record s { cut = record s.cut { top = option_map offset_value (value_read value) } }
-with_option s Bottom value = record s { cut = record s.cut { bottom = option_map offset_value (value_read value) } }
-with_option s Width value = record s { cut = record s.cut { width = option_map decimal_value (value_read value) } }
-with_option s Height value = record s { cut = record s.cut { height = option_map decimal_value (value_read value) } }
-with_option s TupleType value = record s { tuple_type = value }
-with_option s XScale value = record s { across = option_map decimal_value (value_read value) }
-with_option s YScale value = record s { down = option_map decimal_value (value_read value) }
-with_option s (Way way) value = record s { way = Some way }
-
--- the tool has as many arguments as it takes
-abbrev pub has_all_arguments : ToolName → Settings → Bool
-has_all_arguments Invert s = true
-has_all_arguments Cut s = true
-has_all_arguments Depth s = is_some s.first
-has_all_arguments Channel s = nat_le max_depth (length s.planes.items)
-has_all_arguments Enlarge s = is_some s.first
-has_all_arguments Flip s = true
-has_all_arguments Tile s = is_some s.first && is_some s.second
+with_option s option value = (holder_rule option).given s value
 
 abbrev pub argument_fault : ToolName → Settings → List ℕ → Option ChainKind
 argument_fault tool s word =
     if has_all_arguments tool s then Some ExtraArgument
     else if takes_argument tool word then None
     else Some BadValue
-
--- an argument is filled with the number of the word
-abbrev pub first_free : Option ℕ → Settings → ℕ → Settings
-first_free None s number = record s { first = Some number }
-first_free (Some other) s number = record s { second = Some number }
-
-abbrev pub IsWithArgument : ToolName → Settings → List ℕ → Settings → Type 0
-IsWithArgument Invert old word new = ⊥
-IsWithArgument Cut old word new = ⊥
-IsWithArgument Depth old word new = new ≡ record old { first = Some (decimal_value word) }
-IsWithArgument Channel old word new = (new ≡ record old { planes = new.planes }) × (new.planes.items ≡ old.planes.items ++ decimal_value word ∷ [])
-IsWithArgument Enlarge old word new = new ≡ record old { first = Some (decimal_value word) }
-IsWithArgument Flip old word new = ⊥
-IsWithArgument Tile old word new = new ≡ first_free old.first old (decimal_value word)
 
 -- why a word is no argument: there are as many as the tool takes, or it spells no number in the range
 abbrev pub IsRefused : Bool → Bool → ChainKind → Type 0
