@@ -13,7 +13,7 @@ use Rattle.pnm_chain.specs.declared.chain_text.ChainKind.TheVariants.{Empty, Too
 use Rattle.pnm_chain.specs.declared.options.ToolName.{ToolName}
 use Rattle.pnm_chain.specs.Options.{tool_named}
 use Rattle.pnm_chain.specs.Items.{items_of, meant_by}
-use Rattle.pnm_chain.specs.ChainText.{SpellsTool, SpellTools, SpellsChain, stages_of, named_fault, words_fault, stage_fault, fault_from, whole, chain_fault_of, IsOneChainOrOneFault}
+use Rattle.pnm_chain.specs.ChainText.{SpellsTool, SpellTools, SpellsChain, stage_texts, named_fault, words_fault, stage_fault, fault_from, whole, chain_fault_of, IsOneChainOrOneFault}
 use Rattle.pnm_chain.proofs.ItemLaws.{items_mean, meaning_has_no_fault}
 
 -- ---- a stage
@@ -129,7 +129,7 @@ no_words (b ∷ text) e =
     let both = white_byte (is_white b) (list_all is_white text) e in
     words-cons b text ∙ ap (λ (white : Bool). words_by white (begins_in_word text) b (words text)) both.0 ∙ no_words text both.1
 
-one_stage : (text : List ℕ) → list_all is_white text ≡ true → stages_of text ≡ text ∷ []
+one_stage : (text : List ℕ) → list_all is_white text ≡ true → stage_texts text ≡ text ∷ []
 one_stage [] e = refl
 one_stage (b ∷ text) e =
     let both = white_byte (is_white b) (list_all is_white text) e in
@@ -143,7 +143,7 @@ one_blank text [] e h = h
 one_blank text (tool ∷ tools) e h = no_word_spells_nothing text tool (no_words text e) h.0
 
 -- a text of white space alone spells nothing
-blank_spells_nothing : (text : List ℕ) (tools : List Tool) → list_all is_white text ≡ true → SpellTools (stages_of text) tools → ⊥
+blank_spells_nothing : (text : List ℕ) (tools : List Tool) → list_all is_white text ≡ true → SpellTools (stage_texts text) tools → ⊥
 blank_spells_nothing text tools e h = one_blank text tools e (subst (λ (l : List (List ℕ)). SpellTools l tools) (one_stage text e) h)
 
 -- ---- the whole text
@@ -155,7 +155,7 @@ chain_fault_by long blank many others =
     else if many then Some (whole TooMany)
     else others
 
-pub chain_fault_is : (text : List ℕ) → chain_fault_of text ≡ chain_fault_by (nat_lt 4096 (length text)) (list_all is_white text) (nat_lt 16 (length (stages_of text))) (fault_from 1 (stages_of text))
+pub chain_fault_is : (text : List ℕ) → chain_fault_of text ≡ chain_fault_by (nat_lt 4096 (length text)) (list_all is_white text) (nat_lt 16 (length (stage_texts text))) (fault_from 1 (stage_texts text))
 unfolding chain_fault_of
 chain_fault_is text = refl
 
@@ -186,21 +186,21 @@ is_false false h = refl
 
 pub chain_spelled : (text : List ℕ) → chain_fault_of text ≡ None → (tools : List Tool) × SpellsChain text tools
 chain_spelled text e =
-    let free = chain_free (nat_lt 4096 (length text)) (list_all is_white text) (nat_lt 16 (length (stages_of text))) (fault_from 1 (stages_of text)) (sym (chain_fault_is text) ∙ e) in
-    let found = stages_spell 1 (stages_of text) free.no_fault in
-    (found.0, record { short = not_more 4096 (length text) free.short; not_many = not_more 16 (length (stages_of text)) free.not_many; stages = found.1 })
+    let free = chain_free (nat_lt 4096 (length text)) (list_all is_white text) (nat_lt 16 (length (stage_texts text))) (fault_from 1 (stage_texts text)) (sym (chain_fault_is text) ∙ e) in
+    let found = stages_spell 1 (stage_texts text) free.no_fault in
+    (found.0, record { short = not_more 4096 (length text) free.short; not_many = not_more 16 (length (stage_texts text)) free.not_many; spelled = found.1 })
 
 pub spelled_chain_has_no_fault : (text : List ℕ) (tools : List Tool) → SpellsChain text tools → chain_fault_of text ≡ None
 spelled_chain_has_no_fault text tools h =
-    chain_fault_is text ∙ chain_fits (nat_lt 4096 (length text)) (list_all is_white text) (nat_lt 16 (length (stages_of text))) (fault_from 1 (stages_of text)) (record {
+    chain_fault_is text ∙ chain_fits (nat_lt 4096 (length text)) (list_all is_white text) (nat_lt 16 (length (stage_texts text))) (fault_from 1 (stage_texts text)) (record {
       short = at_most 4096 (length text) h.short;
-      not_blank = is_false (list_all is_white text) (λ blank. blank_spells_nothing text tools blank h.stages);
-      not_many = at_most 16 (length (stages_of text)) h.not_many;
-      no_fault = spelled_have_no_fault 1 (stages_of text) tools h.stages;
+      not_blank = is_false (list_all is_white text) (λ blank. blank_spells_nothing text tools blank h.spelled);
+      not_many = at_most 16 (length (stage_texts text)) h.not_many;
+      no_fault = spelled_have_no_fault 1 (stage_texts text) tools h.spelled;
     })
 
 pub one_chain_or_one_fault : (text : List ℕ) → IsOneChainOrOneFault text
 one_chain_or_one_fault text = record {
   spelled = (λ found. spelled_chain_has_no_fault text found.0 found.1, λ e. chain_spelled text e);
-  one = λ tools others h k. same_tools (stages_of text) tools others h.stages k.stages;
+  one = λ tools others h k. same_tools (stage_texts text) tools others h.spelled k.spelled;
 }

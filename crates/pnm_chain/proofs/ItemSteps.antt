@@ -2,7 +2,7 @@
 use Rattle.std.proofs.Common.{◌≡◌, ◌⊎◌, inl, inr, ℕ, ◌+◌, ◌-◌, ◌≤◌, ◌==◌, Bool, true, false, not, ◌&&◌, cond, if◌then◌else◌, Option, Some, None, is_some, List, [], ◌∷◌, length, take, drop, nat_eq, refl, sym, ap, ◌∙◌, arith}
 use Rattle.std.specs.Prelude.{nat_lt}
 use Rattle.std.specs.List.{list_any, position_or_len, position, before_first, after_first, starts_with}
-use Rattle.std.specs.Option.{option_map_or}
+use Rattle.std.specs.Option.{option_or, option_map_or}
 use Rattle.std.proofs.lemmas.Bool.Decides.{nat_tests}
 use Rattle.std.proofs.lemmas.List.{take_all, length-drop}
 use Rattle.std.proofs.lemmas.List.Folds.{list_any_at, list_any_none}
@@ -12,7 +12,7 @@ use denote.Ref.{Bor}
 use Rattle.pnm_chain.specs.declared.options.ToolName.{ToolName}
 use Rattle.pnm_chain.specs.declared.options.ToolOption.{ToolOption}
 use Rattle.pnm_chain.specs.Options.{option_named, wants_value, begins_with_dash}
-use Rattle.pnm_chain.specs.Items.{Item, Argument, Given, Unknown, without_dashes, name_in, value_in, takes_next, value_among, given_as, item_of, items_of}
+use Rattle.pnm_chain.specs.Items.{Item, Argument, Given, Unknown, without_dashes, name_in, value_in, takes_next, given_as, item_of, items_of}
 use Rattle.pnm_chain.specs.Settings.{value_read}
 
 -- ---- the name and the value in an option's word
@@ -113,9 +113,9 @@ takes_next_is tool word option value h =
     ∙ ap (λ (v : Option (List ℕ)). takes_by true option v) h.valued
 
 abbrev item_by : Bool → List ℕ → Option ToolOption → Option (List ℕ) → Option (List ℕ) → Item
-item_by begins word option value next = if begins then given_as option (value_among value next) else Argument word
+item_by begins word option value next = if begins then given_as option (option_or value next) else Argument word
 
-item_is : (tool : ToolName) (word : List ℕ) (option : Option ToolOption) (value next : Option (List ℕ)) → IsOptionWord tool word option value → item_of tool word next ≡ given_as option (value_among value next)
+item_is : (tool : ToolName) (word : List ℕ) (option : Option ToolOption) (value next : Option (List ℕ)) → IsOptionWord tool word option value → item_of tool word next ≡ given_as option (option_or value next)
 item_is tool word option value next h =
     ap (λ (begins : Bool). item_by begins word (option_named tool (name_in word)) (value_in word) next) h.begins
     ∙ ap (λ (o : Option ToolOption). item_by true word o (value_in word) next) h.named
@@ -168,7 +168,7 @@ takes_none tool word option value others h (inl some) = inl (takes_next_is tool 
 takes_none tool word option value others h (inr (inl wants)) = inl (takes_next_is tool word (Some option) value h ∙ ap (λ (w : Bool). w && not (is_some value)) wants)
 takes_none tool word option value others h (inr (inr none)) = inr none
 
-no_other : (value : Option (List ℕ)) → value_among value None ≡ value
+no_other : (value : Option (List ℕ)) → option_or value None ≡ value
 no_other None = refl
 no_other (Some value) = refl
 

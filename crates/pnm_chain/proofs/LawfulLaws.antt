@@ -1,6 +1,7 @@
 -- The tools that a text spells are a chain that can be run: 1 to 16, with options in their ranges.
 use Rattle.std.proofs.Common.{◌≡◌, ◌≤◌, ℕ, zero, suc, ◌+◌, ◌-◌, ◌==◌, ◌&&◌, ◌||◌, Bool, true, false, not, if◌then◌else◌, ℤ, pos, Option, Some, None, is_some, option_map, unwrap_or, IfSome, IsSome, List, [], ◌∷◌, length, map, drop, refl, sym, ap, subst, ◌∙◌, arith}
 use Rattle.std.specs.Prelude.{◌≢◌, nat_le, nat_lt, slice_index, slice_index_or, neg_ℤ, unsigned_abs, All}
+use Rattle.std.specs.Option.{option_or}
 use Rattle.std.specs.List.{AllByRecursion, list_all, list_any, after_first, position_or_len}
 use Rattle.std.proofs.lemmas.List.{length-map}
 use Rattle.std.proofs.lemmas.List.Elements.{All-cons, All-nil}
@@ -17,8 +18,8 @@ use Rattle.pnm_chain.specs.declared.options.ToolName.TheVariants.{Invert, Cut, D
 use Rattle.pnm_chain.specs.declared.options.ToolOption.{ToolOption}
 use Rattle.pnm_chain.specs.declared.options.ToolOption.TheVariants.{Left, Right, Top, Bottom, Width, Height, TupleType, XScale, YScale, Way}
 use Rattle.pnm_chain.specs.Options.{option_named, wants_value, takes_value, slot_of, excludes, takes_argument, most_arguments, is_numeral, spells_number, spells_offset, offset_value, begins_with_dash, without_dash}
-use Rattle.pnm_chain.specs.Items.{Item, Argument, Given, Unknown, without_dashes, name_in, value_in, takes_next, value_among, given_as, item_of, items_of, arguments_of, value_of, is_there, factor_by, meant_by, IsFormed, is_conflict, is_missing}
-use Rattle.pnm_chain.specs.ChainText.{SpellsTool, SpellTools, SpellsChain, stages_of}
+use Rattle.pnm_chain.specs.Items.{Item, Argument, Given, Unknown, without_dashes, name_in, value_in, takes_next, given_as, item_of, items_of, arguments_of, value_of, is_there, factor_by, meant_by, IsFormed, is_conflict, is_missing}
+use Rattle.pnm_chain.specs.ChainText.{SpellsTool, SpellTools, SpellsChain, stage_texts}
 
 both : (a b : Bool) → (a && b) ≡ true → (a ≡ true) × (b ≡ true)
 both true b e = (refl, e)
@@ -256,7 +257,7 @@ HasNoWhite (Argument word) = no_white word ≡ true
 HasNoWhite (Given option value) = IfSome value (λ word. no_white word ≡ true)
 HasNoWhite Unknown = Unit {0}
 
-among : (value next : Option (List ℕ)) → IfSome value (λ word. no_white word ≡ true) → IfSome next (λ word. no_white word ≡ true) → IfSome (value_among value next) (λ word. no_white word ≡ true)
+among : (value next : Option (List ℕ)) → IfSome value (λ word. no_white word ≡ true) → IfSome next (λ word. no_white word ≡ true) → IfSome (option_or value next) (λ word. no_white word ≡ true)
 among None next h k = k
 among (Some value) next h k = h
 
@@ -269,7 +270,7 @@ item_by true option value word e h = given_clear option value h
 item_by false option value word e h = e
 
 item_clear : (tool : ToolName) (word : List ℕ) (next : Option (List ℕ)) → no_white word ≡ true → IfSome next (λ w. no_white w ≡ true) → HasNoWhite (item_of tool word next)
-item_clear tool word next e h = item_by (begins_with_dash word) (option_named tool (name_in word)) (value_among (value_in word) next) word e (among (value_in word) next (value_has_no_white word e) h)
+item_clear tool word next e h = item_by (begins_with_dash word) (option_named tool (name_in word)) (option_or (value_in word) next) word e (among (value_in word) next (value_has_no_white word e) h)
 
 abbrev items_by : Bool → ToolName → List ℕ → List ℕ → List Item → List Item → List Item
 items_by takes tool word next after_next after_word = if takes then item_of tool word (Some next) ∷ after_next else item_of tool word None ∷ after_word
@@ -385,10 +386,10 @@ as_many (stage ∷ stages) (tool ∷ tools) h = ap (λ (n : ℕ). suc n) (as_man
 
 pub spelled_chain_is_lawful : (text : List ℕ) (tools : List Tool) → SpellsChain text tools → IsChain tools
 spelled_chain_is_lawful text tools h =
-    let count : length tools ≡ length (stages_of text) = as_many (stages_of text) tools h.stages in
+    let count : length tools ≡ length (stage_texts text) = as_many (stage_texts text) tools h.spelled in
     let parts = length-slice_split (λ b. b == 124) text in
     record {
       some = subst (λ (n : ℕ). 1 ≤ n) (sym (count ∙ parts)) (omega arith);
       not_many = subst (λ (n : ℕ). n ≤ 16) (sym count) h.not_many;
-      lawful = spelled_are_lawful (stages_of text) tools h.stages;
+      lawful = spelled_are_lawful (stage_texts text) tools h.spelled;
     }

@@ -11,7 +11,7 @@ use Rattle.pnm_tools.specs.declared.tool.Tool.{Tool}
 use Rattle.pnm_chain.specs.declared.chain_text.ChainFault.{ChainFault}
 use Rattle.pnm_chain.specs.declared.chain_text.ChainKind.{ChainKind}
 use Rattle.pnm_chain.specs.declared.chain_text.ChainKind.TheVariants.{Empty, TooLong, TooMany, Memory}
-use Rattle.pnm_chain.specs.ChainText.{SpellsTool, SpellTools, SpellsChain, stages_of, stage_fault, fault_from, whole, chain_fault_of}
+use Rattle.pnm_chain.specs.ChainText.{SpellsTool, SpellTools, SpellsChain, stage_texts, stage_fault, fault_from, whole, chain_fault_of}
 use Rattle.pnm_chain.specs.Settings.{AreRead}
 use Rattle.pnm_chain.proofs.ChainLaws.{words_by, words-cons, no_words, is_false, from_by, fault_from-cons, chain_fault_by, chain_fault_is, at_most}
 
@@ -79,43 +79,43 @@ by_tests : (long blank many : Bool) (others : Option ChainFault) → long ≡ fa
 by_tests long blank many others e f g = rw (e, f, g) refl
 
 -- a text that isn't too long, nor white space alone, nor of too many stages, is judged by its stages
-pub by_stages : (text : List ℕ) → length text ≤ 4096 → list_all is_white text ≡ false → length (stages_of text) ≤ 16 → chain_fault_of text ≡ fault_from 1 (stages_of text)
+pub by_stages : (text : List ℕ) → length text ≤ 4096 → list_all is_white text ≡ false → length (stage_texts text) ≤ 16 → chain_fault_of text ≡ fault_from 1 (stage_texts text)
 by_stages text short black few =
-    chain_fault_is text ∙ by_tests (nat_lt 4096 (length text)) (list_all is_white text) (nat_lt 16 (length (stages_of text))) (fault_from 1 (stages_of text))
-    (at_most 4096 (length text) short) black (at_most 16 (length (stages_of text)) few)
+    chain_fault_is text ∙ by_tests (nat_lt 4096 (length text)) (list_all is_white text) (nat_lt 16 (length (stage_texts text))) (fault_from 1 (stage_texts text))
+    (at_most 4096 (length text) short) black (at_most 16 (length (stage_texts text)) few)
 
-pub stage_at_fault : (text : List ℕ) (n count : ℕ) (tools : List Tool) (stage bytes : List ℕ) (fault : ChainFault) → length text ≤ 4096 → list_all is_white text ≡ false → length (stages_of text) ≤ 16
-    → AreRead (stages_of text) n tools → (n < length (stages_of text)) × (stage ≡ get_or (stages_of text) n stage) → count ≡ n → bytes ≡ stage
+pub stage_at_fault : (text : List ℕ) (n count : ℕ) (tools : List Tool) (stage bytes : List ℕ) (fault : ChainFault) → length text ≤ 4096 → list_all is_white text ≡ false → length (stage_texts text) ≤ 16
+    → AreRead (stage_texts text) n tools → (n < length (stage_texts text)) × (stage ≡ get_or (stage_texts text) n stage) → count ≡ n → bytes ≡ stage
     → (fault ≡ whole Memory) ⊎ ((stage_fault bytes ≡ Some fault.kind) × (fault.stage ≡ count + 1)) → (fault ≡ whole Memory) ⊎ (chain_fault_of text ≡ Some fault)
 stage_at_fault text n count tools stage bytes fault short black few h at same equal (inl memory) = inl memory
 stage_at_fault text n count tools stage bytes fault short black few h at same equal (inr is) =
     let of_stage : stage_fault stage ≡ Some fault.kind = sym (ap (λ (b : List ℕ). stage_fault b) equal) ∙ is.0 in
     let placed : fault.stage ≡ n + 1 = is.1 ∙ ap (λ (k : ℕ). k + 1) same in
-    inr (by_stages text short black few ∙ numbered (stages_of text) n tools stage fault.kind h at of_stage ∙ ap (λ (k : ℕ). Some (record { stage = k; kind = fault.kind })) (sym placed))
+    inr (by_stages text short black few ∙ numbered (stage_texts text) n tools stage fault.kind h at of_stage ∙ ap (λ (k : ℕ). Some (record { stage = k; kind = fault.kind })) (sym placed))
 
-pub chain_read : (text : List ℕ) (n : ℕ) (tools : List Tool) → length text ≤ 4096 → length (stages_of text) ≤ 16 → AreRead (stages_of text) n tools → n ≡ length (stages_of text) → SpellsChain text tools
+pub chain_read : (text : List ℕ) (n : ℕ) (tools : List Tool) → length text ≤ 4096 → length (stage_texts text) ≤ 16 → AreRead (stage_texts text) n tools → n ≡ length (stage_texts text) → SpellsChain text tools
 chain_read text n tools short few h all =
-    let parts : take n (stages_of text) ≡ stages_of text = ap (λ (k : ℕ). take k (stages_of text)) all ∙ take-length (stages_of text) in
-    record { short = short; not_many = few; stages = subst (λ (l : List (List ℕ)). SpellTools l tools) parts h.spelled }
+    let parts : take n (stage_texts text) ≡ stage_texts text = ap (λ (k : ℕ). take k (stage_texts text)) all ∙ take-length (stage_texts text) in
+    record { short = short; not_many = few; spelled = subst (λ (l : List (List ℕ)). SpellTools l tools) parts h.spelled }
 
 -- ---- faults of the whole text
 
 pub too_long : (text : List ℕ) → 4096 < length text → chain_fault_of text ≡ Some (whole TooLong)
 too_long text long =
-    chain_fault_is text ∙ ap (λ (b : Bool). chain_fault_by b (list_all is_white text) (nat_lt 16 (length (stages_of text))) (fault_from 1 (stages_of text))) (more_than 4096 (length text) long)
+    chain_fault_is text ∙ ap (λ (b : Bool). chain_fault_by b (list_all is_white text) (nat_lt 16 (length (stage_texts text))) (fault_from 1 (stage_texts text))) (more_than 4096 (length text) long)
 
 pub no_words_at_all : (text : List ℕ) → length text ≤ 4096 → list_all is_white text ≡ true → chain_fault_of text ≡ Some (whole Empty)
 no_words_at_all text short blank =
     chain_fault_is text
-    ∙ ap (λ (b : Bool). chain_fault_by b (list_all is_white text) (nat_lt 16 (length (stages_of text))) (fault_from 1 (stages_of text))) (at_most 4096 (length text) short)
-    ∙ ap (λ (b : Bool). chain_fault_by false b (nat_lt 16 (length (stages_of text))) (fault_from 1 (stages_of text))) blank
+    ∙ ap (λ (b : Bool). chain_fault_by b (list_all is_white text) (nat_lt 16 (length (stage_texts text))) (fault_from 1 (stage_texts text))) (at_most 4096 (length text) short)
+    ∙ ap (λ (b : Bool). chain_fault_by false b (nat_lt 16 (length (stage_texts text))) (fault_from 1 (stage_texts text))) blank
 
-pub too_many : (text : List ℕ) → length text ≤ 4096 → list_all is_white text ≡ false → 16 < length (stages_of text) → chain_fault_of text ≡ Some (whole TooMany)
+pub too_many : (text : List ℕ) → length text ≤ 4096 → list_all is_white text ≡ false → 16 < length (stage_texts text) → chain_fault_of text ≡ Some (whole TooMany)
 too_many text short black many =
     chain_fault_is text
-    ∙ ap (λ (b : Bool). chain_fault_by b (list_all is_white text) (nat_lt 16 (length (stages_of text))) (fault_from 1 (stages_of text))) (at_most 4096 (length text) short)
-    ∙ ap (λ (b : Bool). chain_fault_by false b (nat_lt 16 (length (stages_of text))) (fault_from 1 (stages_of text))) black
-    ∙ ap (λ (b : Bool). chain_fault_by false false b (fault_from 1 (stages_of text))) (more_than 16 (length (stages_of text)) many)
+    ∙ ap (λ (b : Bool). chain_fault_by b (list_all is_white text) (nat_lt 16 (length (stage_texts text))) (fault_from 1 (stage_texts text))) (at_most 4096 (length text) short)
+    ∙ ap (λ (b : Bool). chain_fault_by false b (nat_lt 16 (length (stage_texts text))) (fault_from 1 (stage_texts text))) black
+    ∙ ap (λ (b : Bool). chain_fault_by false false b (fault_from 1 (stage_texts text))) (more_than 16 (length (stage_texts text)) many)
 
 -- ---- what is known of a text whose first word was looked for
 
@@ -132,8 +132,8 @@ pub word_found : (text bytes : List ℕ) (found : Option (Bor (List ℕ) × Bor 
 word_found text bytes None same first some = absurd cc
 word_found text bytes (Some r) same first some = has_words text (λ none. no_cons r.0.now (words r.1.now) (sym first ∙ ap (λ (b : List ℕ). words b) same ∙ none))
 
-pub few_stages : (text bytes : List ℕ) (bars : ℕ) → bytes ≡ text → bars + 1 ≡ length (stages_of bytes) → bars < 16 → length (stages_of text) ≤ 16
-few_stages text bytes bars same count few = subst (λ (n : ℕ). n ≤ 16) (count ∙ ap (λ (b : List ℕ). length (stages_of b)) same) (omega arith)
+pub few_stages : (text bytes : List ℕ) (bars : ℕ) → bytes ≡ text → bars + 1 ≡ length (stage_texts bytes) → bars < 16 → length (stage_texts text) ≤ 16
+few_stages text bytes bars same count few = subst (λ (n : ℕ). n ≤ 16) (count ∙ ap (λ (b : List ℕ). length (stage_texts b)) same) (omega arith)
 
-pub many_stages : (text bytes : List ℕ) (bars : ℕ) → bytes ≡ text → bars + 1 ≡ length (stages_of bytes) → 16 ≤ bars → 16 < length (stages_of text)
-many_stages text bytes bars same count many = subst (λ (n : ℕ). 16 < n) (count ∙ ap (λ (b : List ℕ). length (stages_of b)) same) (omega arith)
+pub many_stages : (text bytes : List ℕ) (bars : ℕ) → bytes ≡ text → bars + 1 ≡ length (stage_texts bytes) → 16 ≤ bars → 16 < length (stage_texts text)
+many_stages text bytes bars same count many = subst (λ (n : ℕ). 16 < n) (count ∙ ap (λ (b : List ℕ). length (stage_texts b)) same) (omega arith)

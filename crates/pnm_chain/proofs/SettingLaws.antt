@@ -5,6 +5,7 @@ use Rattle.std.proofs.lemmas.Bool.{cond-true, cond-false}
 use Rattle.std.proofs.lemmas.Bool.Decides.{nat_tests}
 use Rattle.std.proofs.lemmas.List.{length-map, map-append}
 use Rattle.std.proofs.lemmas.Result.{IfErr-weaker, on_ok_weaker}
+use Rattle.std.specs.Option.{option_or}
 use Rattle.pnm_image.specs.Texts.{decimal_value}
 use Rattle.pnm_tools.specs.declared.cut.CutBox.{CutBox}
 use Rattle.pnm_tools.specs.declared.flip.FlipWay.{FlipWay}
@@ -15,26 +16,26 @@ use Rattle.pnm_chain.specs.declared.options.ToolName.TheVariants.{Invert, Cut, D
 use Rattle.pnm_chain.specs.declared.options.ToolOption.{ToolOption}
 use Rattle.pnm_chain.specs.declared.options.ToolOption.TheVariants.{Left, Right, Top, Bottom, Width, Height, TupleType, XScale, YScale, Way}
 use Rattle.pnm_chain.specs.declared.settings.Settings.{Settings}
-use Rattle.pnm_chain.specs.Options.{excludes, most_arguments, offset_value, takes_argument, wants_value}
-use Rattle.pnm_chain.specs.Items.{Item, Argument, Given, Unknown, arguments_of, value_of, is_there, way_among, way_of, number_of, box_of, numbers_of, item_fault, value_fault}
+use Rattle.pnm_chain.specs.Options.{excludes, most_arguments, offset_value, takes_argument, way_in, wants_value}
+use Rattle.pnm_chain.specs.Items.{Item, Argument, Given, Unknown, arguments_of, value_of, is_there, way_of, number_of, box_of, numbers_of, item_fault, value_fault}
 use Rattle.pnm_chain.specs.Settings.{AreArgumentsOf, AreSettingsOf, IsWithArgument, argument_fault, first_free, has_all_arguments, has_option, value_read, with_option}
 use Rattle.pnm_chain.proofs.ItemLaws.{arguments_of-append}
 
 -- ---- options and ways of items that follow others
 
-abbrev first_some : {T : Type 0} → Option T → Option T → Option T
-first_some (Some x) other = Some x
-first_some None other = other
+or_none : {T : Type 0} (one : Option T) → option_or one None ≡ one
+or_none (Some x) = refl
+or_none None = refl
 
-first_some-none : {T : Type 0} (one : Option T) → first_some one None ≡ one
-first_some-none (Some x) = refl
-first_some-none None = refl
+or_assoc : {T : Type 0} (one other third : Option T) → option_or one (option_or other third) ≡ option_or (option_or one other) third
+or_assoc (Some x) other third = refl
+or_assoc None other third = refl
 
-value_by : (same : Bool) (rest others : Option (List ℕ)) (word : List ℕ) → (if same then Some word else first_some rest others) ≡ first_some (if same then Some word else rest) others
+value_by : (same : Bool) (rest others : Option (List ℕ)) (word : List ℕ) → (if same then Some word else option_or rest others) ≡ option_or (if same then Some word else rest) others
 value_by true rest others word = refl
 value_by false rest others word = refl
 
-value_of-append : (option : ToolOption) (before items : List Item) → value_of option (before ++ items) ≡ first_some (value_of option before) (value_of option items)
+value_of-append : (option : ToolOption) (before items : List Item) → value_of option (before ++ items) ≡ option_or (value_of option before) (value_of option items)
 value_of-append option [] items = refl
 value_of-append option (Argument word ∷ before) items = value_of-append option before items
 value_of-append option (Given other value ∷ before) items =
@@ -42,22 +43,10 @@ value_of-append option (Given other value ∷ before) items =
     ∙ value_by (excludes option other) (value_of option before) (value_of option items) (unwrap_or value [])
 value_of-append option (Unknown ∷ before) items = value_of-append option before items
 
-way_by : (option : ToolOption) (rest others : Option FlipWay) → way_among option (first_some rest others) ≡ first_some (way_among option rest) others
-way_by Left rest others = refl
-way_by Right rest others = refl
-way_by Top rest others = refl
-way_by Bottom rest others = refl
-way_by Width rest others = refl
-way_by Height rest others = refl
-way_by TupleType rest others = refl
-way_by XScale rest others = refl
-way_by YScale rest others = refl
-way_by (Way way) rest others = refl
-
-way_of-append : (before items : List Item) → way_of (before ++ items) ≡ first_some (way_of before) (way_of items)
+way_of-append : (before items : List Item) → way_of (before ++ items) ≡ option_or (way_of before) (way_of items)
 way_of-append [] items = refl
 way_of-append (Argument word ∷ before) items = way_of-append before items
-way_of-append (Given option value ∷ before) items = ap (way_among option) (way_of-append before items) ∙ way_by option (way_of before) (way_of items)
+way_of-append (Given option value ∷ before) items = ap (option_or (way_in option)) (way_of-append before items) ∙ or_assoc (way_in option) (way_of before) (way_of items)
 way_of-append (Unknown ∷ before) items = way_of-append before items
 
 -- ---- what one item more leaves
@@ -68,20 +57,20 @@ after before option value = before ++ Given option value ∷ []
 value_kept : (other option : ToolOption) (value : Option (List ℕ)) (before : List Item) → excludes other option ≡ false → value_of other before ≡ value_of other (after before option value)
 value_kept other option value before e = sym
     (value_of-append other before (Given option value ∷ [])
-    ∙ ap (λ (same : Bool). first_some (value_of other before) (if same then Some (unwrap_or value []) else None)) e
-    ∙ first_some-none (value_of other before))
+    ∙ ap (λ (same : Bool). option_or (value_of other before) (if same then Some (unwrap_or value []) else None)) e
+    ∙ or_none (value_of other before))
 
 value_beside : (other : ToolOption) (word : List ℕ) (before : List Item) → value_of other before ≡ value_of other (before ++ Argument word ∷ [])
-value_beside other word before = sym (value_of-append other before (Argument word ∷ []) ∙ first_some-none (value_of other before))
+value_beside other word before = sym (value_of-append other before (Argument word ∷ []) ∙ or_none (value_of other before))
 
-way_kept : (option : ToolOption) (value : Option (List ℕ)) (before : List Item) → way_among option None ≡ None → way_of before ≡ way_of (after before option value)
+way_kept : (option : ToolOption) (value : Option (List ℕ)) (before : List Item) → way_in option ≡ None → way_of before ≡ way_of (after before option value)
 way_kept option value before e = sym
     (way_of-append before (Given option value ∷ [])
-    ∙ ap (λ (way : Option FlipWay). first_some (way_of before) way) e
-    ∙ first_some-none (way_of before))
+    ∙ ap (λ (way : Option FlipWay). option_or (way_of before) (option_or way None)) e
+    ∙ or_none (way_of before))
 
 way_beside : (word : List ℕ) (before : List Item) → way_of before ≡ way_of (before ++ Argument word ∷ [])
-way_beside word before = sym (way_of-append before (Argument word ∷ []) ∙ first_some-none (way_of before))
+way_beside word before = sym (way_of-append before (Argument word ∷ []) ∙ or_none (way_of before))
 
 numbers_kept : (option : ToolOption) (value : Option (List ℕ)) (before : List Item) → numbers_of before ≡ numbers_of (after before option value)
 numbers_kept option value before = ap (λ (words : List (List ℕ)). map decimal_value words) (sym (arguments_of-append before (Given option value ∷ []) ∙ append-nil (arguments_of before)))
@@ -109,13 +98,13 @@ value_given : (option : ToolOption) (value : Option (List ℕ)) (before : List I
 value_given option value before e wants new fits =
     value_wanted option value wants fits ∙ sym
     (value_of-append option before (Given option value ∷ [])
-    ∙ ap (λ (same : Bool). first_some (value_of option before) (if same then Some (unwrap_or value []) else None)) e
-    ∙ ap (λ (one : Option (List ℕ)). first_some one (Some (unwrap_or value []))) (absent (value_of option before) new))
+    ∙ ap (λ (same : Bool). option_or (value_of option before) (if same then Some (unwrap_or value []) else None)) e
+    ∙ ap (λ (one : Option (List ℕ)). option_or one (Some (unwrap_or value []))) (absent (value_of option before) new))
 
 way_given : (way : FlipWay) (value : Option (List ℕ)) (before : List Item) → is_some (way_of before) ≡ false → Some way ≡ way_of (after before (Way way) value)
 way_given way value before new = sym
     (way_of-append before (Given (Way way) value ∷ [])
-    ∙ ap (λ (one : Option FlipWay). first_some one (Some way)) (absent (way_of before) new))
+    ∙ ap (λ (one : Option FlipWay). option_or one (Some way)) (absent (way_of before) new))
 
 -- ---- what is there
 
@@ -123,7 +112,7 @@ map_there : {A B : Type 0} (f : A → B) (one : Option A) → is_some (option_ma
 map_there f (Some x) = refl
 map_there f None = refl
 
-way_there_by : (way : FlipWay) (option : ToolOption) (value : Option (List ℕ)) (items : List Item) → is_some (way_of items) ≡ is_there (Way way) items → is_some (way_among option (way_of items)) ≡ is_there (Way way) (Given option value ∷ items)
+way_there_by : (way : FlipWay) (option : ToolOption) (value : Option (List ℕ)) (items : List Item) → is_some (way_of items) ≡ is_there (Way way) items → is_some (option_or (way_in option) (way_of items)) ≡ is_there (Way way) (Given option value ∷ items)
 way_there_by way Left value items e = e
 way_there_by way Right value items e = e
 way_there_by way Top value items e = e
@@ -195,7 +184,7 @@ module _ (tool : ToolName) (before : List Item) (value : Option (Bor (List ℕ))
   arguments : (option : ToolOption) (t : Settings) → t.first ≡ s.first → t.second ≡ s.second → t.planes.items ≡ s.planes.items → AreArgumentsOf tool (numbers_of (after before option given)) t
   arguments option t e f g = same_arguments tool (numbers_of before) (numbers_of (after before option given)) s t (numbers_kept option given before) e f g h.arguments_are
 
-  with_box : (option : ToolOption) (box : CutBox) → excludes TupleType option ≡ false → excludes XScale option ≡ false → excludes YScale option ≡ false → way_among option None ≡ None → box ≡ box_of (after before option given) → AreSettingsOf tool (after before option given) (record s { cut = box })
+  with_box : (option : ToolOption) (box : CutBox) → excludes TupleType option ≡ false → excludes XScale option ≡ false → excludes YScale option ≡ false → way_in option ≡ None → box ≡ box_of (after before option given) → AreSettingsOf tool (after before option given) (record s { cut = box })
   with_box option box e1 e2 e3 e4 e = record {
     tool_is = h.tool_is;
     box_is = e;

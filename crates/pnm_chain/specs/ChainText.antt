@@ -14,28 +14,28 @@ use Rattle.pnm_tools.specs.Chains.{IsChain}
 -- ---- the grammar
 
 -- the texts between the bars
-abbrev pub stages_of : List ℕ → List (List ℕ)
-stages_of text = slice_split (λ b. b == 124) text
+abbrev pub stage_texts : List ℕ → List (List ℕ)
+stage_texts text = slice_split (λ b. b == 124) text
 
--- a stage is a tool's name and what stands after it; its words are the longest runs of bytes that aren't white space
-pub record SpellsTool (stage : List ℕ) (tool : Tool) : Type 0 where
+-- a stage's text is a tool's name and what stands after it; its words are the longest runs of bytes that aren't white space
+pub record SpellsTool (text : List ℕ) (tool : Tool) : Type 0 where
   pub name : List ℕ
   pub others : List (List ℕ)
   pub tool_name : ToolName
-  pub words_are : words stage ≡ name ∷ others
+  pub words_are : words text ≡ name ∷ others
   pub named : tool_named name ≡ Some tool_name
   pub meant : Means tool_name (items_of tool_name others) tool
 
 abbrev pub SpellTools : List (List ℕ) → List Tool → Type 0
 SpellTools [] [] = Unit {0}
 SpellTools [] (tool ∷ tools) = ⊥
-SpellTools (stage ∷ stages) [] = ⊥
-SpellTools (stage ∷ stages) (tool ∷ tools) = SpellsTool stage tool × SpellTools stages tools
+SpellTools (text ∷ texts) [] = ⊥
+SpellTools (text ∷ texts) (tool ∷ tools) = SpellsTool text tool × SpellTools texts tools
 
 pub record SpellsChain (text : List ℕ) (tools : List Tool) : Type 0 where
   pub short : length text ≤ 4096
-  pub not_many : length (stages_of text) ≤ 16
-  pub stages : SpellTools (stages_of text) tools
+  pub not_many : length (stage_texts text) ≤ 16
+  pub spelled : SpellTools (stage_texts text) tools
 
 -- ---- faults
 
@@ -49,14 +49,14 @@ words_fault [] = Some EmptyStage
 words_fault (name ∷ others) = named_fault (tool_named name) others
 
 abbrev pub stage_fault : List ℕ → Option ChainKind
-stage_fault stage = words_fault (words stage)
+stage_fault text = words_fault (words text)
 
--- the first fault of stages, the first of which has this number
+-- the first fault of stages by their texts, of which the first has this number
 unfoldable pub fault_from : ℕ → List (List ℕ) → Option ChainFault
 fault_from number [] = None
-fault_from number (stage ∷ stages) = elim (stage_fault stage) [
+fault_from number (text ∷ texts) = elim (stage_fault text) [
   | Some kind ↦ Some (record { stage = number; kind = kind })
-  | None ↦ fault_from (suc number) stages
+  | None ↦ fault_from (suc number) texts
 ]
 
 -- no stage is at fault, but the whole text
@@ -67,8 +67,8 @@ unfoldable pub chain_fault_of : List ℕ → Option ChainFault
 chain_fault_of text =
     if nat_lt 4096 (length text) then Some (whole TooLong)
     else if list_all is_white text then Some (whole Empty)
-    else if nat_lt 16 (length (stages_of text)) then Some (whole TooMany)
-    else fault_from 1 (stages_of text)
+    else if nat_lt 16 (length (stage_texts text)) then Some (whole TooMany)
+    else fault_from 1 (stage_texts text)
 
 -- ---- each text is a chain or has a fault
 

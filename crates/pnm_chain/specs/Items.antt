@@ -1,6 +1,6 @@
 -- What stands in a stage of a chain after the tool's name, and the tool that it means.
 use Rattle.std.specs.Prelude.{◌≡◌, ◌≤◌, ℕ, Bool, true, false, not, ◌==◌, ◌&&◌, ◌||◌, nat_le, nat_lt, if◌then◌else◌, Option, Some, None, is_some, option_map, unwrap_or, List, [], ◌∷◌, ◌++◌, length, map}
-use Rattle.std.specs.Option.{option_map_or}
+use Rattle.std.specs.Option.{option_map_or, option_or}
 use Rattle.std.specs.List.{before_first, after_first, list_any, slice_index_or, AllByRecursion, IsDistinct}
 use Rattle.pnm_image.specs.Texts.{decimal_value}
 use Rattle.pnm_tools.specs.declared.cut.CutBox.{CutBox}
@@ -14,8 +14,8 @@ use Rattle.pnm_chain.specs.declared.chain_text.ChainKind.TheVariants.{UnknownOpt
 use Rattle.pnm_chain.specs.declared.options.ToolName.{ToolName}
 use Rattle.pnm_chain.specs.declared.options.ToolName.TheVariants.{Invert, Cut, Depth, Channel, Enlarge, Flip, Tile}
 use Rattle.pnm_chain.specs.declared.options.ToolOption.{ToolOption}
-use Rattle.pnm_chain.specs.declared.options.ToolOption.TheVariants.{Left, Right, Top, Bottom, Width, Height, TupleType, XScale, YScale, Way}
-use Rattle.pnm_chain.specs.Options.{option_named, wants_value, takes_value, excludes, most_arguments, takes_argument, offset_value, begins_with_dash, without_dash}
+use Rattle.pnm_chain.specs.declared.options.ToolOption.TheVariants.{Left, Right, Top, Bottom, Width, Height, TupleType, XScale, YScale}
+use Rattle.pnm_chain.specs.Options.{option_named, way_in, wants_value, takes_value, excludes, most_arguments, takes_argument, offset_value, begins_with_dash, without_dash}
 
 -- an argument; an option of the tool, with the value that it is given, if it is; or an option that the tool hasn't
 pub data Item : Type 0 where
@@ -41,17 +41,13 @@ value_in word =
 abbrev pub takes_next : ToolName → List ℕ → Bool
 takes_next tool word = begins_with_dash word && (option_map_or wants_value (option_named tool (name_in word)) false && not (is_some (value_in word)))
 
-abbrev pub value_among : Option (List ℕ) → Option (List ℕ) → Option (List ℕ)
-value_among (Some value) next = Some value
-value_among None next = next
-
 abbrev pub given_as : Option ToolOption → Option (List ℕ) → Item
 given_as None value = Unknown
 given_as (Some option) value = Given option value
 
--- the item of a word, and of the next word, where it takes that
+-- the item of a word, with the value in it, or else the next word, where it takes that
 abbrev pub item_of : ToolName → List ℕ → Option (List ℕ) → Item
-item_of tool word next = if begins_with_dash word then given_as (option_named tool (name_in word)) (value_among (value_in word) next) else Argument word
+item_of tool word next = if begins_with_dash word then given_as (option_named tool (name_in word)) (option_or (value_in word) next) else Argument word
 
 unfoldable pub items_of : ToolName → List (List ℕ) → List Item
 items_of tool [] = []
@@ -78,24 +74,11 @@ value_of option (Unknown ∷ items) = value_of option items
 abbrev pub is_there : ToolOption → List Item → Bool
 is_there option items = is_some (value_of option items)
 
--- the option's way to flip, if it is one, or else the other
-abbrev pub way_among : ToolOption → Option FlipWay → Option FlipWay
-way_among Left other = other
-way_among Right other = other
-way_among Top other = other
-way_among Bottom other = other
-way_among Width other = other
-way_among Height other = other
-way_among TupleType other = other
-way_among XScale other = other
-way_among YScale other = other
-way_among (Way way) other = Some way
-
--- the way to flip
+-- the first way to flip
 abbrev pub way_of : List Item → Option FlipWay
 way_of [] = None
 way_of (Argument word ∷ items) = way_of items
-way_of (Given option value ∷ items) = way_among option (way_of items)
+way_of (Given option value ∷ items) = option_or (way_in option) (way_of items)
 way_of (Unknown ∷ items) = way_of items
 
 -- ---- the tool that items mean

@@ -1,10 +1,11 @@
 -- The tools of a chain and their options, by the names that their manual pages give them, and what each takes: pnminvert(1),
 -- pamcut(1), pamdepth(1), pamchannel(1), pamenlarge(1), pamflip(1) and pnmtile(1). Names are exact, and case counts.
-use Rattle.std.specs.Prelude.{ℕ, Bool, true, false, ◌==◌, ◌&&◌, ◌-◌, nat_le, if◌then◌else◌, ℤ, pos, neg_ℤ, Option, Some, None, List, [], ◌∷◌, length, codes}
+use Rattle.std.specs.Prelude.{ℕ, Bool, false, not, ◌==◌, ◌&&◌, ◌-◌, nat_le, if◌then◌else◌, ℤ, pos, neg_ℤ, Option, Some, None, is_some, List, [], ◌∷◌, length, codes}
 use Rattle.std.specs.List.{list_all}
 use Rattle.std.specs.Str.{bytes_eq}
 use Rattle.pnm_image.specs.Limits.{max_depth, max_extent, max_maxval, max_tuple_type_length}
 use Rattle.pnm_image.specs.Texts.{is_digit, decimal_value}
+use Rattle.pnm_tools.specs.declared.flip.FlipWay.{FlipWay}
 use Rattle.pnm_tools.specs.declared.flip.FlipWay.TheVariants.{Null, LeftRight, TopBottom, Transpose}
 use Rattle.pnm_chain.specs.declared.options.ToolName.{ToolName}
 use Rattle.pnm_chain.specs.declared.options.ToolName.TheVariants.{Invert, Cut, Depth, Channel, Enlarge, Flip, Tile}
@@ -84,19 +85,19 @@ offset_value word = if begins_with_dash word then neg_ℤ (pos (decimal_value (w
 
 -- ---- options
 
--- an option's number, whether it wants a value, and which words are values that it takes
+-- an option's number, the way to flip that it is, if it is one, and which words are values that it takes
 pub record OptionRule : Type 0 where
   pub slot : ℕ
-  pub wants : Bool
+  pub way : Option FlipWay
   pub takes : List ℕ → Bool
 
 abbrev edge_at : ℕ → OptionRule
-edge_at slot = record { slot = slot; wants = true; takes = spells_offset }
+edge_at slot = record { slot = slot; way = None; takes = spells_offset }
 
 abbrev size_at : ℕ → OptionRule
-size_at slot = record { slot = slot; wants = true; takes = spells_number 1 max_extent }
+size_at slot = record { slot = slot; way = None; takes = spells_number 1 max_extent }
 
--- the ways to flip have one number, since one way alone may stand, and it stands without a value
+-- the ways to flip have one number, since one way alone may stand
 abbrev pub option_rule : ToolOption → OptionRule
 option_rule Left = edge_at 0
 option_rule Right = edge_at 1
@@ -104,13 +105,17 @@ option_rule Top = edge_at 2
 option_rule Bottom = edge_at 3
 option_rule Width = size_at 4
 option_rule Height = size_at 5
-option_rule TupleType = record { slot = 6; wants = true; takes = λ word. nat_le (length word) max_tuple_type_length }
+option_rule TupleType = record { slot = 6; way = None; takes = λ word. nat_le (length word) max_tuple_type_length }
 option_rule XScale = size_at 7
 option_rule YScale = size_at 8
-option_rule (Way way) = record { slot = 9; wants = false; takes = λ word. false }
+option_rule (Way way) = record { slot = 9; way = Some way; takes = λ word. false }
 
+abbrev pub way_in : ToolOption → Option FlipWay
+way_in option = (option_rule option).way
+
+-- a way to flip stands without a value, and all other options have one
 abbrev pub wants_value : ToolOption → Bool
-wants_value option = (option_rule option).wants
+wants_value option = not (is_some (way_in option))
 
 -- the word is a value that the option takes
 abbrev pub takes_value : ToolOption → List ℕ → Bool

@@ -157,15 +157,15 @@ abbrev pub factors_meant : Option ℕ → Option ℕ → Option ℕ → Tool
 factors_meant (Some factor) across down = tools.Enlarge factor factor
 factors_meant None across down = tools.Enlarge (unwrap_or across 1) (unwrap_or down 1)
 
--- a stage while it is read: these items have been, and the others are those of the rest of the text
+-- a stage's text while it is read: these items have been, and the others are those of the rest of it
 pub record IsReading (tool : ToolName) (items : List Item) (s : Settings) (rest : List ℕ) : Type 0 where
   pub before : List Item
   pub settings_are : AreSettingsOf tool before s
   pub items_are : items ≡ before ++ items_of tool (words rest)
   pub fault_is : fault_after tool [] items ≡ fault_after tool before (items_of tool (words rest))
 
--- a chain while it is read: the tools of the first n stages have been, and no fault was met
-pub record AreRead (stages : List (List ℕ)) (n : ℕ) (tools : List Tool) : Type 0 where
+-- a chain's text while it is read: the tools of the first n stages have been, and no fault was met
+pub record AreRead (texts : List (List ℕ)) (n : ℕ) (tools : List Tool) : Type 0 where
   pub count_is : length tools ≡ n
-  pub spelled : SpellTools (take n stages) tools
-  pub fault_is : fault_from 1 stages ≡ fault_from (n + 1) (drop n stages)
+  pub spelled : SpellTools (take n texts) tools
+  pub fault_is : fault_from 1 texts ≡ fault_from (n + 1) (drop n texts)

@@ -2,7 +2,7 @@
 
 ghost use Rattle.std.specs.Prelude.{◌≡◌, ◌⊎◌, ◌+◌, IfOk, IfErr, Some, None, length};
 ghost use Rattle.pnm_chain.specs.declared.chain_text.ChainKind.TheVariants.{Memory};
-ghost use Rattle.pnm_chain.specs.ChainText.{SpellsChain, SpellsTool, chain_fault_of, stage_fault, stages_of, whole};
+ghost use Rattle.pnm_chain.specs.ChainText.{SpellsChain, SpellsTool, chain_fault_of, stage_fault, stage_texts, whole};
 ghost use Rattle.pnm_tools.specs.Chains.{IsChain};
 
 use crate::items::split_item;
@@ -130,7 +130,7 @@ pub fn parse_chain(alloc: Global, text: &str) -> Result<Vec<Tool>, ChainFault>
 
 /// One less than the stages.
 fn count_bars(text: &[u8]) -> usize
-    ensures { result + 1 ≡ length (stages_of text.now) }
+    ensures { result + 1 ≡ length (stage_texts text.now) }
 {
     let mut bars = 0;
     for byte in text {

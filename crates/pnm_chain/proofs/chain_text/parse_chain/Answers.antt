@@ -4,7 +4,7 @@ use Rattle.std.proofs.lemmas.Iterator.Consumers.{YieldsList-at, YieldsList-turn,
 use Rattle.std.proofs.lemmas.Iterator.Splits.{YieldsList-from_str_split}
 use Rattle.pnm_tools.specs.declared.tool.Tool.{Tool}
 use Rattle.pnm_chain.specs.declared.chain_text.ChainKind.TheVariants.{Memory}
-use Rattle.pnm_chain.specs.ChainText.{chain_fault_of, stages_of, whole}
+use Rattle.pnm_chain.specs.ChainText.{chain_fault_of, stage_texts, whole}
 use Rattle.pnm_chain.specs.Settings.{AreRead}
 use Rattle.pnm_chain.proofs.LawfulLaws.{spelled_chain_is_lawful}
 use Rattle.pnm_chain.proofs.ParsingLaws.{none_read, one_read_more, stage_at_fault, chain_read, too_long, no_words_at_all, too_many, no_word_found, word_found, few_stages, many_stages}
@@ -26,7 +26,7 @@ returns-then-count_bars-ge-MOST_STAGES-clause-refused c =
     inr (too_many c.args.text.now c.if-text-gt-LONGEST.false black many ∙ ap (λ f. Some f) (sym c.whole-then-count_bars-ge-MOST_STAGES.ensures))
 
 pub loop-stage-init : goal.loop-stage-init
-loop-stage-init c = subst (λ (tools : List Tool). AreRead (stages_of c.args.text.now) 0 tools) (sym c.new-tools.ensures.items) (none_read (stages_of c.args.text.now))
+loop-stage-init c = subst (λ (tools : List Tool). AreRead (stage_texts c.args.text.now) 0 tools) (sym c.new-tools.ensures.items) (none_read (stage_texts c.args.text.now))
 
 pub returns-in_err-tool-clause-refused : goal.returns-in_err-tool-clause-refused
 returns-in_err-tool-clause-refused c =
@@ -43,7 +43,7 @@ pub loop-stage-preserved : goal.loop-stage-preserved
 loop-stage-preserved c =
     let given = YieldsList-at c.into_iter-stage-iterator.ensures.into_iter_gives (YieldsList-from_str_split 124 c.args.text.now (omega arith) c.split-stage-items.ensures.text c.split-stage-items.ensures.has_more c.split-stage-items.ensures.pattern) in
     let turn = YieldsList-turn given c.loop-stage.yielded _ c.loop-stage.yielded_by _ _ c.in-Some.stage c.in-Some.is c.next.ensures.steps in
-    one_read_more (stages_of c.args.text.now) (length c.loop-stage.yielded) (length (c.loop-stage.yielded ++ c.in-Some.stage ∷ [])) c.loop-stage.tools.items c.push.new.self.items c.in-Some.stage.now c.as_bytes-in-loop-stage.result.now c.in_ok-tool.tool
+    one_read_more (stage_texts c.args.text.now) (length c.loop-stage.yielded) (length (c.loop-stage.yielded ++ c.in-Some.stage ∷ [])) c.loop-stage.tools.items c.push.new.self.items c.in-Some.stage.now c.as_bytes-in-loop-stage.result.now c.in_ok-tool.tool
     c.loop-stage.invariant turn (length_push c.loop-stage.yielded c.in-Some.stage) c.as_bytes-in-loop-stage.ensures.value (search rules) c.in_ok-tool.ensures.spelled
 
 pub returns-clause-spelled : goal.returns-clause-spelled

@@ -1,7 +1,7 @@
 use Rattle.std.proofs.Common.{length}
-use Rattle.pnm_chain.specs.ChainText.{stages_of}
+use Rattle.pnm_chain.specs.ChainText.{stage_texts}
 use Rattle.pnm_chain.specs.Settings.{AreRead}
 use Rattle.pnm_chain.proofs.chain_text.parse_chain.Given as goal
 
 abbrev pub invariant-loop-stage : goal.invariant-loop-stage
-invariant-loop-stage l = AreRead (stages_of l.text) (length l.yielded) l.tools.items
+invariant-loop-stage l = AreRead (stage_texts l.text) (length l.yielded) l.tools.items
