@@ -64,6 +64,15 @@ impl ToolName {
     }
 }
 
+impl ToolOption {
+    /// Whether a value has to follow the option; a way to flip has none.
+    pub(crate) fn wants_value(self) -> bool
+        ensures { result ≡ wants_value self }
+    {
+        !matches!(self, ToolOption::Way(_))
+    }
+}
+
 #[tactic(auto, unfolding(crate::specs::Options::cut_option))]
 fn cut_option(name: &[u8]) -> Option<ToolOption>
     ensures { result ≡ cut_option name.now }
@@ -110,14 +119,5 @@ fn flip_option(name: &[u8]) -> Option<ToolOption>
         b"tb" | b"topbottom" => Some(ToolOption::Way(FlipWay::TopBottom)),
         b"xy" | b"transpose" => Some(ToolOption::Way(FlipWay::Transpose)),
         _ => None,
-    }
-}
-
-impl ToolOption {
-    /// Whether a value has to follow the option; a way to flip has none.
-    pub(crate) fn wants_value(self) -> bool
-        ensures { result ≡ wants_value self }
-    {
-        !matches!(self, ToolOption::Way(_))
     }
 }

@@ -82,6 +82,30 @@ impl<'a> Settings<'a> {
         }
     }
 
+    /// The tool that these settings mean. The faults are `Conflict`, `MissingArgument` and `Memory`.
+    pub(crate) fn finish(self, alloc: Global) -> Result<Tool, ChainKind>
+        ensures meant { IfOk result (λ meaning. (items : List ItemSaid) → AreSettingsOf self.entry.tool items self.entry
+            → (end_fault self.entry.tool items ≡ None) × (meaning ≡ meant_by self.entry.tool items)) }
+        ensures refused { IfErr result (λ kind. (items : List ItemSaid) → AreSettingsOf self.entry.tool items self.entry
+            → (kind ≡ Memory) ⊎ (end_fault self.entry.tool items ≡ Some kind)) }
+    {
+        match self.tool {
+            ToolName::Invert => Ok(Tool::Invert),
+            ToolName::Cut => cut(self.cut),
+            ToolName::Depth => match self.first {
+                Some(maxval) => Ok(Tool::Depth(maxval)),
+                None => Err(ChainKind::MissingArgument),
+            },
+            ToolName::Channel => pick(alloc, self.planes, self.tuple_type),
+            ToolName::Enlarge => enlarge(self.first, self.across, self.down),
+            ToolName::Flip => match self.way {
+                Some(way) => Ok(Tool::Flip(way)),
+                None => Err(ChainKind::MissingArgument),
+            },
+            ToolName::Tile => tile(self.first, self.second),
+        }
+    }
+
     /// Whether the option was there.
     fn has(&self, option: ToolOption) -> bool
         ensures { result ≡ has_option self.now option }
@@ -145,30 +169,6 @@ impl<'a> Settings<'a> {
             ToolName::Enlarge => fill(&mut self.first, word, MAX_EXTENT),
             ToolName::Tile if self.first.is_none() => fill(&mut self.first, word, MAX_EXTENT),
             ToolName::Tile => fill(&mut self.second, word, MAX_EXTENT),
-        }
-    }
-
-    /// The tool that these settings mean. The faults are `Conflict`, `MissingArgument` and `Memory`.
-    pub(crate) fn finish(self, alloc: Global) -> Result<Tool, ChainKind>
-        ensures meant { IfOk result (λ meaning. (items : List ItemSaid) → AreSettingsOf self.entry.tool items self.entry
-            → (end_fault self.entry.tool items ≡ None) × (meaning ≡ meant_by self.entry.tool items)) }
-        ensures refused { IfErr result (λ kind. (items : List ItemSaid) → AreSettingsOf self.entry.tool items self.entry
-            → (kind ≡ Memory) ⊎ (end_fault self.entry.tool items ≡ Some kind)) }
-    {
-        match self.tool {
-            ToolName::Invert => Ok(Tool::Invert),
-            ToolName::Cut => cut(self.cut),
-            ToolName::Depth => match self.first {
-                Some(maxval) => Ok(Tool::Depth(maxval)),
-                None => Err(ChainKind::MissingArgument),
-            },
-            ToolName::Channel => pick(alloc, self.planes, self.tuple_type),
-            ToolName::Enlarge => enlarge(self.first, self.across, self.down),
-            ToolName::Flip => match self.way {
-                Some(way) => Ok(Tool::Flip(way)),
-                None => Err(ChainKind::MissingArgument),
-            },
-            ToolName::Tile => tile(self.first, self.second),
         }
     }
 }

@@ -29,6 +29,17 @@ pub(crate) fn split_word(text: &[u8]) -> Option<(&[u8], &[u8])>
     Some(rest.split_at(length))
 }
 
+/// The offset from -16,777,216 to 16,777,216 that the word spells, if it spells one: a number that
+/// may have one dash before it.
+pub(crate) fn offset(word: &[u8]) -> Option<i32>
+    ensures { result ≡ (if spells_offset word.now then Some (offset_value word.now) else None) }
+{
+    match word {
+        [b'-', digits @ ..] => Some(-(number(digits, 0, MAX_EXTENT)? as i32)),
+        _ => Some(number(word, 0, MAX_EXTENT)? as i32),
+    }
+}
+
 /// The number from `least` to `most` that the word spells, if it spells one: digits and nothing else.
 pub(crate) fn number(word: &[u8], least: u32, most: u32) -> Option<u32>
     ensures { result ≡ (if spells_number least most word.now then Some (decimal_value word.now) else None) }
@@ -46,15 +57,4 @@ fn decimal(word: &[u8]) -> Option<u32>
         return None;
     }
     str::from_utf8(word).ok()?.parse().ok()
-}
-
-/// The offset from -16,777,216 to 16,777,216 that the word spells, if it spells one: a number that
-/// may have one dash before it.
-pub(crate) fn offset(word: &[u8]) -> Option<i32>
-    ensures { result ≡ (if spells_offset word.now then Some (offset_value word.now) else None) }
-{
-    match word {
-        [b'-', digits @ ..] => Some(-(number(digits, 0, MAX_EXTENT)? as i32)),
-        _ => Some(number(word, 0, MAX_EXTENT)? as i32),
-    }
 }
