@@ -1,11 +1,12 @@
 -- Each text spells one chain and has no fault, or it spells none and has one.
-use Rattle.std.proofs.Common.{◌≡◌, ◌≤◌, ℕ, suc, ◌==◌, ◌&&◌, Bool, true, false, if◌then◌else◌, Option, Some, None, List, [], ◌∷◌, length, refl, sym, ap, subst, ◌∙◌, arith}
+use Rattle.std.proofs.Common.{◌≡◌, ℕ, suc, ◌==◌, Bool, true, false, if◌then◌else◌, Option, Some, None, List, [], ◌∷◌, length, refl, sym, ap, subst, ◌∙◌, arith}
 use Rattle.std.specs.Prelude.{nat_lt}
 use Rattle.std.specs.List.{list_all}
 use Rattle.std.proofs.lemmas.Bool.Decides.{nat_tests}
 use Rattle.std.proofs.lemmas.List.Splits.{slice_split-cons_no}
 use Rattle.std.specs.List.{onto_first}
-use Rattle.pnm_image.specs.Texts.{is_white, begins_in_word, onto_first as onto_word, words}
+use Rattle.std.proofs.lemmas.Bool.{and_parts, false_from_ne_true, ltb-false, le-ltb}
+use Rattle.pnm_image.specs.Texts.{is_white, begins_in_word, words}
 use Rattle.pnm_tools.specs.declared.tool.Tool.{Tool}
 use Rattle.pnm_chain.specs.declared.chain_text.ChainFault.{ChainFault}
 use Rattle.pnm_chain.specs.declared.chain_text.ChainKind.{ChainKind}
@@ -14,6 +15,7 @@ use Rattle.pnm_chain.specs.declared.options.ToolName.{ToolName}
 use Rattle.pnm_chain.specs.Options.{tool_named}
 use Rattle.pnm_chain.specs.Items.{items_of, meant_by}
 use Rattle.pnm_chain.specs.ChainText.{SpellsTool, SpellTools, SpellsChain, stage_texts, named_fault, words_fault, stage_fault, fault_from, whole, chain_fault_of, IsOneChainOrOneFault}
+use Rattle.pnm_chain.proofs.WordLaws.{words_by, words-cons, words-nil}
 use Rattle.pnm_chain.proofs.ItemLaws.{items_mean, meaning_has_no_fault}
 
 -- ---- a stage
@@ -111,28 +113,16 @@ same_tools (stage ∷ stages) (tool ∷ tools) (other ∷ others) h k =
 white_is_no_bar : (b : ℕ) → is_white b ≡ true → (b == 124) ≡ false
 white_is_no_bar b e = grind (arith, nat_tests)
 
-white_byte : (white others : Bool) → (white && others) ≡ true → (white ≡ true) × (others ≡ true)
-white_byte true others e = (refl, e)
-white_byte false others e = absurd cc
-
-abbrev pub words_by : Bool → Bool → ℕ → List (List ℕ) → List (List ℕ)
-words_by white begins b others = if white then others else if begins then onto_word b others else (b ∷ []) ∷ others
-
-pub words-cons : (b : ℕ) (text : List ℕ) → words (b ∷ text) ≡ words_by (is_white b) (begins_in_word text) b (words text)
-unfolding words
-words-cons b text = refl
-
 pub no_words : (text : List ℕ) → list_all is_white text ≡ true → words text ≡ []
-unfolding words
-no_words [] e = refl
+no_words [] e = words-nil
 no_words (b ∷ text) e =
-    let both = white_byte (is_white b) (list_all is_white text) e in
+    let both = and_parts (is_white b) (list_all is_white text) e in
     words-cons b text ∙ ap (λ (white : Bool). words_by white (begins_in_word text) b (words text)) both.0 ∙ no_words text both.1
 
 one_stage : (text : List ℕ) → list_all is_white text ≡ true → stage_texts text ≡ text ∷ []
 one_stage [] e = refl
 one_stage (b ∷ text) e =
-    let both = white_byte (is_white b) (list_all is_white text) e in
+    let both = and_parts (is_white b) (list_all is_white text) e in
     slice_split-cons_no (λ c. c == 124) b text (white_is_no_bar b both.0) ∙ ap (λ (l : List (List ℕ)). onto_first b l) (one_stage text both.1)
 
 no_word_spells_nothing : (text : List ℕ) (tool : Tool) → words text ≡ [] → SpellsTool text tool → ⊥
@@ -174,28 +164,18 @@ chain_free false false false others e = record { short = refl; not_blank = refl;
 chain_fits : (long blank many : Bool) (others : Option ChainFault) → IsFree long blank many others → chain_fault_by long blank many others ≡ None
 chain_fits long blank many others h = rw (h.short, h.not_blank, h.not_many) h.no_fault
 
-pub not_more : (most n : ℕ) → nat_lt most n ≡ false → n ≤ most
-not_more most n e = grind (arith, nat_tests)
-
-pub at_most : (most n : ℕ) → n ≤ most → nat_lt most n ≡ false
-at_most most n low = grind (arith, nat_tests)
-
-pub is_false : (b : Bool) → (b ≡ true → ⊥) → b ≡ false
-is_false true h = absurd (h refl)
-is_false false h = refl
-
 pub chain_spelled : (text : List ℕ) → chain_fault_of text ≡ None → (tools : List Tool) × SpellsChain text tools
 chain_spelled text e =
     let free = chain_free (nat_lt 4096 (length text)) (list_all is_white text) (nat_lt 16 (length (stage_texts text))) (fault_from 1 (stage_texts text)) (sym (chain_fault_is text) ∙ e) in
     let found = stages_spell 1 (stage_texts text) free.no_fault in
-    (found.0, record { short = not_more 4096 (length text) free.short; not_many = not_more 16 (length (stage_texts text)) free.not_many; spelled = found.1 })
+    (found.0, record { short = ltb-false 4096 (length text) free.short; not_many = ltb-false 16 (length (stage_texts text)) free.not_many; spelled = found.1 })
 
 pub spelled_chain_has_no_fault : (text : List ℕ) (tools : List Tool) → SpellsChain text tools → chain_fault_of text ≡ None
 spelled_chain_has_no_fault text tools h =
     chain_fault_is text ∙ chain_fits (nat_lt 4096 (length text)) (list_all is_white text) (nat_lt 16 (length (stage_texts text))) (fault_from 1 (stage_texts text)) (record {
-      short = at_most 4096 (length text) h.short;
-      not_blank = is_false (list_all is_white text) (λ blank. blank_spells_nothing text tools blank h.spelled);
-      not_many = at_most 16 (length (stage_texts text)) h.not_many;
+      short = le-ltb 4096 (length text) h.short;
+      not_blank = false_from_ne_true (list_all is_white text) (λ blank. blank_spells_nothing text tools blank h.spelled);
+      not_many = le-ltb 16 (length (stage_texts text)) h.not_many;
       no_fault = spelled_have_no_fault 1 (stage_texts text) tools h.spelled;
     })
 

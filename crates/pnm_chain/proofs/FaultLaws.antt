@@ -2,6 +2,7 @@
 use Rattle.std.proofs.Common.{◌≡◌, ◌≤◌, ◌<◌, inl, inr, ℕ, suc, ◌+◌, Bool, true, false, Option, Some, None, IfSome, List, [], ◌∷◌, ◌++◌, length, refl, sym, subst, arith}
 use Rattle.std.specs.Prelude.{nat_le, nat_lt, ◌≢◌}
 use Rattle.std.specs.List.{list_all}
+use Rattle.std.proofs.lemmas.Bool.{ltb-false}
 use Rattle.pnm_image.specs.Texts.{is_white, words}
 use Rattle.pnm_chain.specs.declared.chain_text.ChainFault.{ChainFault}
 use Rattle.pnm_chain.specs.declared.chain_text.ChainKind.{ChainKind}
@@ -12,7 +13,7 @@ use Rattle.pnm_chain.specs.Options.{tool_named, wants_value, takes_value, most_a
 use Rattle.pnm_chain.specs.Items.{Item, Argument, Given, Unknown, items_of, arguments_of, is_there, value_fault, is_conflict, is_missing, item_fault, fault_after}
 use Rattle.pnm_chain.specs.ChainText.{stage_texts, named_fault, words_fault, stage_fault, fault_from, chain_fault_of, is_of_stage, IsPlaced}
 use Rattle.pnm_chain.proofs.ItemLaws.{argument_by, option_by, value_by, missing_by, end_by, after_by, fault_after-cons, fault_after-nil}
-use Rattle.pnm_chain.proofs.ChainLaws.{from_by, fault_from-cons, fault_from-nil, chain_fault_by, chain_fault_is, not_more}
+use Rattle.pnm_chain.proofs.ChainLaws.{from_by, fault_from-cons, fault_from-nil, chain_fault_by, chain_fault_is}
 
 -- ---- kinds of a stage's faults
 
@@ -113,7 +114,7 @@ placed : (text : List ℕ) → IfSome (chain_fault_of text) IsPlaced
 placed text =
     subst (λ (fault : Option ChainFault). IfSome fault IsPlaced) (sym (chain_fault_is text))
     (placed_by (nat_lt 4096 (length text)) (list_all is_white text) (nat_lt 16 (length (stage_texts text))) (length (stage_texts text)) (fault_from 1 (stage_texts text))
-    (λ e. not_more 16 (length (stage_texts text)) e) (of_stages 1 (stage_texts text)))
+    (λ e. ltb-false 16 (length (stage_texts text)) e) (of_stages 1 (stage_texts text)))
 
 pub chain_faults_are_placed : (text : List ℕ) (fault : ChainFault) → chain_fault_of text ≡ Some fault → IsPlaced fault
 chain_faults_are_placed text fault e = subst (λ (f : Option ChainFault). IfSome f IsPlaced) e (placed text)

@@ -3,7 +3,9 @@ use Rattle.std.proofs.Common.{◌≡◌, ◌≤◌, ℕ, ◌+◌, ◌==◌, ◌|
 use Rattle.std.specs.List.{AllByRecursion, IsDistinct}
 use Rattle.std.specs.Prelude.{nat_le}
 use Rattle.std.proofs.lemmas.List.{length-append}
+use Rattle.std.proofs.Math.Bool.{or-false}
 use Rattle.std.proofs.lemmas.Bool.Decides.{nat_tests}
+use Rattle.std.proofs.lemmas.Bool.{or_parts, or_from, not-true}
 use Rattle.pnm_tools.specs.declared.tool.Tool.{Tool}
 use Rattle.pnm_chain.specs.declared.chain_text.ChainKind.{ChainKind}
 use Rattle.pnm_chain.specs.declared.chain_text.ChainKind.TheVariants.{BadValue, MissingValue, Conflict, MissingArgument, ExtraArgument}
@@ -41,12 +43,8 @@ or_assoc : (a b c : Bool) → (a || (b || c)) ≡ ((a || b) || c)
 or_assoc true b c = refl
 or_assoc false b c = refl
 
-or_false : (a : Bool) → (a || false) ≡ a
-or_false true = refl
-or_false false = refl
-
 there_after : (option other : ToolOption) (value : Option (List ℕ)) (before : List Item) → is_there option (before ++ Given other value ∷ []) ≡ (is_there option before || excludes option other)
-there_after option other value [] = there_by (excludes option other) (unwrap_or value []) None ∙ or_false (excludes option other)
+there_after option other value [] = there_by (excludes option other) (unwrap_or value []) None ∙ or-false (excludes option other)
 there_after option other value (Argument word ∷ before) = there_after option other value before
 there_after option other value (Given third given ∷ before) =
     there_by (excludes option third) (unwrap_or given []) (value_of option (before ++ Given other value ∷ []))
@@ -65,19 +63,12 @@ same_turned one other = turned (slot_of one) (slot_of other)
 abbrev NoneThere : List Item → List ToolOption → Type 0
 NoneThere before options = AllByRecursion (λ option. is_there option before ≡ false) options
 
-neither : (a b : Bool) → (a || b) ≡ false → (a ≡ false) × (b ≡ false)
-neither true b e = absurd cc
-neither false b e = (refl, e)
-
-none_of : (a b : Bool) → a ≡ false → b ≡ false → (a || b) ≡ false
-none_of a b e f = rw (e, f) refl
-
 -- none there before and after one more option
 parted : (other : ToolOption) (value : Option (List ℕ)) (before : List Item) (options : List ToolOption) → NoneThere (before ++ Given other value ∷ []) options
     → NoneThere before options × AllByRecursion (λ option. excludes other option ≡ false) options
 parted other value before [] h = (cc, cc)
 parted other value before (option ∷ options) h =
-    let both = neither (is_there option before) (excludes option other) (sym (there_after option other value before) ∙ h.0) in
+    let both = or_parts (is_there option before) (excludes option other) (sym (there_after option other value before) ∙ h.0) in
     let rest = parted other value before options h.1 in
     ((both.0, rest.0), (same_turned other option ∙ both.1, rest.1))
 
@@ -85,7 +76,7 @@ joined : (other : ToolOption) (value : Option (List ℕ)) (before : List Item) (
     → NoneThere (before ++ Given other value ∷ []) options
 joined other value before [] h k = cc
 joined other value before (option ∷ options) h k =
-    (there_after option other value before ∙ none_of (is_there option before) (excludes option other) h.0 (same_turned option other ∙ k.0), joined other value before options h.1 k.1)
+    (there_after option other value before ∙ or_from (is_there option before) (excludes option other) h.0 (same_turned option other ∙ k.0), joined other value before options h.1 k.1)
 
 not_there : (option : ToolOption) (item : Item) → options_of (item ∷ []) ≡ [] → is_there option (item ∷ []) ≡ false
 not_there option (Argument word) none = refl
@@ -109,10 +100,6 @@ still_there : (item : Item) (before : List Item) (options : List ToolOption) →
 still_there item before [] none h = cc
 still_there item before (option ∷ options) none h = (others_there option item before none ∙ h.0, still_there item before options none h.1)
 
-is_absent : (b : Bool) → not b ≡ true → b ≡ false
-is_absent true e = absurd cc
-is_absent false e = refl
-
 distinct-cons : (option : ToolOption) (options : List ToolOption) → AllByRecursion (λ other. excludes option other ≡ false) options → IsDistinct excludes options → IsDistinct excludes (option ∷ options)
 unfolding IsDistinct
 distinct-cons option options h k = (h, k)
@@ -134,7 +121,7 @@ new_are_distinct before (Argument word ∷ items) h =
 new_are_distinct before (Given option value ∷ items) h =
     let rest = new_are_distinct (before ++ Given option value ∷ []) items h.1 in
     let parts = parted option value before (options_of items) rest.0 in
-    ((is_absent (is_there option before) h.0, parts.0), distinct-cons option (options_of items) parts.1 rest.1)
+    ((not-true (is_there option before) h.0, parts.0), distinct-cons option (options_of items) parts.1 rest.1)
 new_are_distinct before (Unknown ∷ items) h =
     let rest = new_are_distinct (before ++ Unknown ∷ []) items h.1 in
     (same_there Unknown before (options_of items) refl rest.0, rest.1)
@@ -156,7 +143,7 @@ none_there_yet (option ∷ options) = (refl, none_there_yet options)
 abbrev pub argument_by : Bool → Bool → Option ChainKind
 argument_by full takes = if full then Some ExtraArgument else if takes then None else Some BadValue
 
-argument_free : (full takes : Bool) → argument_by full takes ≡ None → (full ≡ false) × (takes ≡ true)
+pub argument_free : (full takes : Bool) → argument_by full takes ≡ None → (full ≡ false) × (takes ≡ true)
 argument_free true takes e = absurd cc
 argument_free false true e = (refl, refl)
 argument_free false false e = absurd cc

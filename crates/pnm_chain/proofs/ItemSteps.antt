@@ -168,16 +168,16 @@ takes_none tool word option value others h (inl some) = inl (takes_next_is tool 
 takes_none tool word option value others h (inr (inl wants)) = inl (takes_next_is tool word (Some option) value h ∙ ap (λ (w : Bool). w && not (is_some value)) wants)
 takes_none tool word option value others h (inr (inr none)) = inr none
 
-no_other : (value : Option (List ℕ)) → option_or value None ≡ value
-no_other None = refl
-no_other (Some value) = refl
+pub or_none : {T : Type 0} (one : Option T) → option_or one None ≡ one
+or_none None = refl
+or_none (Some x) = refl
 
 pub own_value_first : (tool : ToolName) (word : List ℕ) (option : ToolOption) (value : Option (List ℕ)) (found others : List (List ℕ))
     → found ≡ word ∷ others → IsOptionWord tool word (Some option) value → HasNoNext option value others → items_of tool found ≡ Given option value ∷ items_of tool others
 own_value_first tool word option value found others is h no_next =
     ap (items_of tool) is
     ∙ alone tool word others (takes_none tool word option value others h no_next)
-    ∙ ap (λ (item : Item). item ∷ items_of tool others) (item_is tool word (Some option) value None h ∙ ap (λ (v : Option (List ℕ)). Given option v) (no_other value))
+    ∙ ap (λ (item : Item). item ∷ items_of tool others) (item_is tool word (Some option) value None h ∙ ap (λ (v : Option (List ℕ)). Given option v) (or_none value))
 
 -- ---- a value as it was read
 

@@ -1,5 +1,5 @@
 -- The tools that a text spells are a chain that can be run: 1 to 16, with options in their ranges.
-use Rattle.std.proofs.Common.{◌≡◌, ◌≤◌, ℕ, zero, suc, ◌+◌, ◌-◌, ◌==◌, ◌&&◌, ◌||◌, Bool, true, false, not, if◌then◌else◌, ℤ, pos, Option, Some, None, is_some, option_map, unwrap_or, IfSome, IsSome, List, [], ◌∷◌, length, map, drop, refl, sym, ap, subst, ◌∙◌, arith}
+use Rattle.std.proofs.Common.{◌≡◌, ◌≤◌, ℕ, zero, suc, ◌+◌, ◌-◌, ◌==◌, ◌&&◌, Bool, true, false, not, if◌then◌else◌, ℤ, pos, Option, Some, None, is_some, option_map, unwrap_or, IfSome, IsSome, List, [], ◌∷◌, length, map, drop, refl, sym, ap, subst, ◌∙◌, arith}
 use Rattle.std.specs.Prelude.{◌≢◌, nat_le, nat_lt, slice_index, slice_index_or, neg_ℤ, unsigned_abs, All}
 use Rattle.std.specs.Option.{option_or}
 use Rattle.std.specs.List.{AllByRecursion, list_all, list_any, after_first, position_or_len}
@@ -7,6 +7,7 @@ use Rattle.std.proofs.lemmas.List.{length-map}
 use Rattle.std.proofs.lemmas.List.Elements.{All-cons, All-nil}
 use Rattle.std.proofs.lemmas.List.Splits.{length-slice_split}
 use Rattle.std.proofs.lemmas.Bool.Decides.{nat_tests}
+use Rattle.std.proofs.lemmas.Bool.{and_parts, and_from, or_parts, leb-true, ltb-false, eqb-true, not-true}
 use Rattle.pnm_image.specs.Heads.{IsTupleType}
 use Rattle.pnm_image.specs.Texts.{is_blank, is_white, begins_in_word, onto_first as onto_word, words, decimal_value}
 use Rattle.pnm_tools.specs.declared.tool.Tool.{Tool}
@@ -20,13 +21,7 @@ use Rattle.pnm_chain.specs.declared.options.ToolOption.TheVariants.{Left, Right,
 use Rattle.pnm_chain.specs.Options.{option_named, wants_value, takes_value, slot_of, excludes, takes_argument, most_arguments, is_numeral, spells_number, spells_offset, offset_value, begins_with_dash, without_dash}
 use Rattle.pnm_chain.specs.Items.{Item, Argument, Given, Unknown, without_dashes, name_in, value_in, takes_next, given_as, item_of, items_of, arguments_of, value_of, is_there, factor_by, meant_by, IsFormed, is_conflict, is_missing}
 use Rattle.pnm_chain.specs.ChainText.{SpellsTool, SpellTools, SpellsChain, stage_texts}
-
-both : (a b : Bool) → (a && b) ≡ true → (a ≡ true) × (b ≡ true)
-both true b e = (refl, e)
-both false b e = absurd cc
-
-le_by : (a b : ℕ) → nat_le a b ≡ true → a ≤ b
-le_by a b e = grind (arith, nat_tests)
+use Rattle.pnm_chain.proofs.WordLaws.{words_by, words-cons, words-nil}
 
 -- ---- options that are the same
 
@@ -59,12 +54,9 @@ wants_by_slot XScale = refl
 wants_by_slot YScale = refl
 wants_by_slot (Way way) = refl
 
-same_number : (a b : ℕ) → (a == b) ≡ true → a ≡ b
-same_number a b e = grind (arith, nat_tests)
-
 same_option : (one other : ToolOption) → wants_value one ≡ true → excludes one other ≡ true → one ≡ other
 same_option one other wants e =
-    let slots : slot_of one ≡ slot_of other = same_number (slot_of one) (slot_of other) e in
+    let slots : slot_of one ≡ slot_of other = eqb-true (slot_of one) (slot_of other) e in
     let wants_other : wants_value other ≡ true = wants_by_slot other ∙ ap (λ (n : ℕ). not (n == 9)) (sym slots) ∙ sym (wants_by_slot one) ∙ wants in
     sym (at_slot one wants) ∙ ap (λ (n : ℕ). option_at n) slots ∙ at_slot other wants_other
 
@@ -102,9 +94,9 @@ arguments_taken tool (Unknown ∷ items) formed = arguments_taken tool items for
 
 in_range : (least most : ℕ) (word : List ℕ) → spells_number least most word ≡ true → (least ≤ decimal_value word) × (decimal_value word ≤ most)
 in_range least most word e =
-    let parts = both (is_numeral word) (nat_le least (decimal_value word) && nat_le (decimal_value word) most) e in
-    let ends = both (nat_le least (decimal_value word)) (nat_le (decimal_value word) most) parts.1 in
-    (le_by least (decimal_value word) ends.0, le_by (decimal_value word) most ends.1)
+    let parts = and_parts (is_numeral word) (nat_le least (decimal_value word) && nat_le (decimal_value word) most) e in
+    let ends = and_parts (nat_le least (decimal_value word)) (nat_le (decimal_value word) most) parts.1 in
+    (leb-true least (decimal_value word) ends.0, leb-true (decimal_value word) most ends.1)
 
 abs_neg : (n : ℕ) → unsigned_abs (neg_ℤ (pos n)) ≡ n
 abs_neg zero = refl
@@ -131,10 +123,6 @@ edge_in_range word e =
 
 -- ---- pamcut
 
-mapped : {A B : Type 0} (f : A → B) (P : B → Type 0) (o : Option A) → IfSome o (λ a. P (f a)) → IfSome (option_map f o) P
-mapped f P None h = h
-mapped f P (Some a) h = h
-
 some_edge : (o : Option (List ℕ)) → IfSome o (λ word. spells_offset word ≡ true) → IfSome (option_map offset_value o) IsEdge
 some_edge None h = h
 some_edge (Some word) h = edge_in_range word h
@@ -155,10 +143,6 @@ not_three (Some start) (Some end) (Some size) e h = absurd cc
 axis : (start end size : Option (List ℕ)) → IfSome start (λ word. spells_offset word ≡ true) → IfSome end (λ word. spells_offset word ≡ true) → IfSome size (λ word. spells_number 1 16777216 word ≡ true)
     → (is_some start && (is_some end && is_some size)) ≡ false → IsLawfulAxis (option_map offset_value start) (option_map offset_value end) (option_map decimal_value size)
 axis start end size s e z three = record { start_edge = some_edge start s; end_edge = some_edge end e; one_size = some_size size z; one_free = λ h. not_three start end size three h }
-
-neither : (a b : Bool) → (a || b) ≡ false → (a ≡ false) × (b ≡ false)
-neither true b e = absurd cc
-neither false b e = (refl, e)
 
 -- ---- arguments
 
@@ -200,31 +184,17 @@ black : (b : ℕ) (white : Bool) → is_white b ≡ white → white ≡ false �
 black b true e f = absurd cc
 black b false e f = rw e refl
 
-abbrev words_by : Bool → Bool → ℕ → List (List ℕ) → List (List ℕ)
-words_by white begins b others = if white then others else if begins then onto_word b others else (b ∷ []) ∷ others
-
-words-cons : (b : ℕ) (text : List ℕ) → words (b ∷ text) ≡ words_by (is_white b) (begins_in_word text) b (words text)
-unfolding words
-words-cons b text = refl
-
-words-nil : words [] ≡ []
-unfolding words
-words-nil = refl
-
 abbrev AreWords : List (List ℕ) → Type 0
 AreWords found = AllByRecursion (λ word. no_white word ≡ true) found
 
-and_true : (a b : Bool) → a ≡ true → b ≡ true → (a && b) ≡ true
-and_true a b e f = rw (e, f) refl
-
 onto_is : (b : ℕ) (others : List (List ℕ)) → not (is_white b) ≡ true → AreWords others → AreWords (onto_word b others)
-onto_is b [] e h = (and_true (not (is_white b)) true e refl, cc)
-onto_is b (word ∷ others) e h = (and_true (not (is_white b)) (no_white word) e h.0, h.1)
+onto_is b [] e h = (and_from (not (is_white b)) true e refl, cc)
+onto_is b (word ∷ others) e h = (and_from (not (is_white b)) (no_white word) e h.0, h.1)
 
 by_byte : (white begins : Bool) (b : ℕ) (others : List (List ℕ)) → is_white b ≡ white → AreWords others → AreWords (words_by white begins b others)
 by_byte true begins b others e h = h
 by_byte false true b others e h = onto_is b others (black b false e refl) h
-by_byte false false b others e h = (and_true (not (is_white b)) true (black b false e refl) refl, h)
+by_byte false false b others e h = (and_from (not (is_white b)) true (black b false e refl) refl, h)
 
 words_have_no_white : (text : List ℕ) → AreWords (words text)
 words_have_no_white [] = subst AreWords (sym words-nil) cc
@@ -233,10 +203,10 @@ words_have_no_white (b ∷ text) = subst AreWords (sym (words-cons b text)) (by_
 without_front : (n : ℕ) (word : List ℕ) → no_white word ≡ true → no_white (drop n word) ≡ true
 without_front zero word e = e
 without_front (suc n) [] e = refl
-without_front (suc n) (b ∷ word) e = without_front n word (both (not (is_white b)) (no_white word) e).1
+without_front (suc n) (b ∷ word) e = without_front n word (and_parts (not (is_white b)) (no_white word) e).1
 
 dash_by : (dash : Bool) (b : ℕ) (word : List ℕ) → no_white (b ∷ word) ≡ true → no_white (if dash then word else b ∷ word) ≡ true
-dash_by true b word e = (both (not (is_white b)) (no_white word) e).1
+dash_by true b word e = (and_parts (not (is_white b)) (no_white word) e).1
 dash_by false b word e = e
 
 undashed : (word : List ℕ) → no_white word ≡ true → no_white (without_dash word) ≡ true
@@ -303,15 +273,11 @@ value_clear option (Unknown ∷ items) h = value_clear option items h.1
 
 -- ---- a tuple type
 
-not_white : (white : Bool) → not white ≡ true → white ≡ false
-not_white true e = absurd cc
-not_white false e = refl
-
 each_black : (word : List ℕ) → no_white word ≡ true → All (λ b. is_white b ≡ false) word
 each_black [] e = All-nil (λ b. is_white b ≡ false)
 each_black (b ∷ word) e =
-    let parts = both (not (is_white b)) (no_white word) e in
-    All-cons (λ c. is_white c ≡ false) b word (not_white (is_white b) parts.0) (each_black word parts.1)
+    let parts = and_parts (not (is_white b)) (no_white word) e in
+    All-cons (λ c. is_white c ≡ false) b word (not-true (is_white b) parts.0) (each_black word parts.1)
 
 no_line_end : (b : ℕ) → is_white b ≡ false → b ≢ 10
 no_line_end b e = grind (arith, nat_tests)
@@ -331,25 +297,22 @@ is_tuple_type word e short =
 
 some_tuple_type : (value : Option (List ℕ)) → IfSome value (λ word. takes_value TupleType word ≡ true) → IfSome value (λ word. no_white word ≡ true) → IsTupleType (unwrap_or value [])
 some_tuple_type None h k = is_tuple_type [] refl (omega arith)
-some_tuple_type (Some word) h k = is_tuple_type word k (le_by (length word) 255 h)
+some_tuple_type (Some word) h k = is_tuple_type word k (leb-true (length word) 255 h)
 
 -- ---- a tool
-
-enough : (n : ℕ) → nat_lt n 1 ≡ false → 1 ≤ n
-enough n e = grind (arith, nat_tests)
 
 lawful : (tool : ToolName) (items : List Item) → AllByRecursion HasNoWhite items → AllByRecursion (IsFormed tool) items → length (arguments_of items) ≤ most_arguments tool
     → is_conflict tool items ≡ false → is_missing tool items ≡ false → IsLawfulTool (meant_by tool items)
 lawful Invert items clear formed many together more = cc
 lawful Cut items clear formed many together more =
-    let free = neither (is_there Left items && (is_there Right items && is_there Width items)) (is_there Top items && (is_there Bottom items && is_there Height items)) together in
+    let free = or_parts (is_there Left items && (is_there Right items && is_there Width items)) (is_there Top items && (is_there Bottom items && is_there Height items)) together in
     record {
       columns = axis (value_of Left items) (value_of Right items) (value_of Width items) (values_taken Cut Left items refl formed) (values_taken Cut Right items refl formed) (values_taken Cut Width items refl formed) free.0;
       rows = axis (value_of Top items) (value_of Bottom items) (value_of Height items) (values_taken Cut Top items refl formed) (values_taken Cut Bottom items refl formed) (values_taken Cut Height items refl formed) free.1;
     }
 lawful Depth items clear formed many together more = first_in_range 1 65535 (arguments_of items) (arguments_taken Depth items formed) more
 lawful Channel items clear formed many together more = record {
-  some = subst (λ (n : ℕ). 1 ≤ n) (sym (length-map (arguments_of items) decimal_value)) (enough (length (arguments_of items)) more);
+  some = subst (λ (n : ℕ). 1 ≤ n) (sym (length-map (arguments_of items) decimal_value)) (ltb-false (length (arguments_of items)) 1 more);
   not_many = subst (λ (n : ℕ). n ≤ 256) (sym (length-map (arguments_of items) decimal_value)) many;
   in_range = planes_in_range (arguments_of items) (arguments_taken Channel items formed);
   tuple_type = some_tuple_type (value_of TupleType items) (values_taken Channel TupleType items refl formed) (value_clear TupleType items clear);

@@ -3,15 +3,13 @@ use Rattle.std.proofs.Common.{◌≡◌, ℕ, suc, Bool, true, false, not, ◌&&
 use Rattle.std.proofs.lemmas.Bool.Decides.{nat_tests}
 use Rattle.pnm_image.specs.Texts.{decimal_value}
 use Rattle.pnm_chain.specs.declared.chain_text.ChainKind.{ChainKind}
-use Rattle.pnm_chain.specs.declared.chain_text.ChainKind.TheVariants.{Conflict, MissingArgument}
+use Rattle.pnm_chain.specs.declared.chain_text.ChainKind.TheVariants.{Conflict}
 use Rattle.pnm_chain.specs.declared.options.ToolName.TheVariants.{Enlarge}
 use Rattle.pnm_chain.specs.declared.options.ToolOption.TheVariants.{XScale, YScale}
 use Rattle.pnm_chain.specs.declared.settings.Settings.{Settings}
 use Rattle.pnm_chain.specs.Items.{Item, arguments_of, value_of, end_fault}
 use Rattle.pnm_chain.specs.Settings.{AreSettingsOf, factors_fault}
-
-abbrev end_by : Bool → Bool → Option ChainKind
-end_by conflict missing = if conflict then Some Conflict else if missing then Some MissingArgument else None
+use Rattle.pnm_chain.proofs.ItemLaws.{end_by}
 
 -- the fault of a number of arguments, and of whether there is a scale
 abbrev fault_by : ℕ → Bool → Option ChainKind

@@ -5,7 +5,7 @@ use Rattle.std.specs.List.{list_all}
 use denote.Ref.{Bor}
 use Rattle.std.proofs.Math.Seq.{take-length, drop-cons}
 use Rattle.std.proofs.lemmas.List.{take_more, length-append}
-use Rattle.std.proofs.lemmas.Bool.Decides.{nat_tests}
+use Rattle.std.proofs.lemmas.Bool.{false_from_ne_true, le-ltb, lt-ltb}
 use Rattle.pnm_image.specs.Texts.{is_white, begins_in_word, onto_first as onto_word, words}
 use Rattle.pnm_tools.specs.declared.tool.Tool.{Tool}
 use Rattle.pnm_chain.specs.declared.chain_text.ChainFault.{ChainFault}
@@ -13,7 +13,8 @@ use Rattle.pnm_chain.specs.declared.chain_text.ChainKind.{ChainKind}
 use Rattle.pnm_chain.specs.declared.chain_text.ChainKind.TheVariants.{Empty, TooLong, TooMany, Memory}
 use Rattle.pnm_chain.specs.ChainText.{SpellsTool, SpellTools, SpellsChain, stage_texts, stage_fault, fault_from, whole, chain_fault_of}
 use Rattle.pnm_chain.specs.Settings.{AreRead}
-use Rattle.pnm_chain.proofs.ChainLaws.{words_by, words-cons, no_words, is_false, from_by, fault_from-cons, chain_fault_by, chain_fault_is, at_most}
+use Rattle.pnm_chain.proofs.WordLaws.{words_by, words-cons}
+use Rattle.pnm_chain.proofs.ChainLaws.{no_words, from_by, fault_from-cons, chain_fault_by, chain_fault_is}
 
 -- ---- stages
 
@@ -55,9 +56,6 @@ numbered : (stages : List (List ℕ)) (n : ℕ) (tools : List Tool) (stage : Lis
     → stage_fault stage ≡ Some kind → fault_from 1 stages ≡ Some (record { stage = n + 1; kind = kind })
 numbered stages n tools stage kind h at e = h.fault_is ∙ next_fault stages n stage at ∙ ap (λ (f : Option ChainKind). from_by (n + 1) f (fault_from (n + 1 + 1) (drop (n + 1) stages))) e
 
-more_than : (least n : ℕ) → least < n → nat_lt least n ≡ true
-more_than least n h = grind (arith, nat_tests)
-
 no_first : (b : ℕ) (word : List (List ℕ)) → onto_word b word ≡ [] → ⊥
 no_first b [] e = absurd cc
 no_first b (w ∷ ws) e = absurd cc
@@ -73,7 +71,7 @@ is_all_white [] e = refl
 is_all_white (b ∷ text) e = all_white_by (is_white b) (begins_in_word text) b text refl (sym (words-cons b text) ∙ e) (λ f. is_all_white text f)
 
 pub has_words : (text : List ℕ) → (words text ≡ [] → ⊥) → list_all is_white text ≡ false
-has_words text h = is_false (list_all is_white text) (λ e. h (no_words text e))
+has_words text h = false_from_ne_true (list_all is_white text) (λ e. h (no_words text e))
 
 by_tests : (long blank many : Bool) (others : Option ChainFault) → long ≡ false → blank ≡ false → many ≡ false → chain_fault_by long blank many others ≡ others
 by_tests long blank many others e f g = rw (e, f, g) refl
@@ -82,7 +80,7 @@ by_tests long blank many others e f g = rw (e, f, g) refl
 pub by_stages : (text : List ℕ) → length text ≤ 4096 → list_all is_white text ≡ false → length (stage_texts text) ≤ 16 → chain_fault_of text ≡ fault_from 1 (stage_texts text)
 by_stages text short black few =
     chain_fault_is text ∙ by_tests (nat_lt 4096 (length text)) (list_all is_white text) (nat_lt 16 (length (stage_texts text))) (fault_from 1 (stage_texts text))
-    (at_most 4096 (length text) short) black (at_most 16 (length (stage_texts text)) few)
+    (le-ltb 4096 (length text) short) black (le-ltb 16 (length (stage_texts text)) few)
 
 pub stage_at_fault : (text : List ℕ) (n count : ℕ) (tools : List Tool) (stage bytes : List ℕ) (fault : ChainFault) → length text ≤ 4096 → list_all is_white text ≡ false → length (stage_texts text) ≤ 16
     → AreRead (stage_texts text) n tools → (n < length (stage_texts text)) × (stage ≡ get_or (stage_texts text) n stage) → count ≡ n → bytes ≡ stage
@@ -102,20 +100,20 @@ chain_read text n tools short few h all =
 
 pub too_long : (text : List ℕ) → 4096 < length text → chain_fault_of text ≡ Some (whole TooLong)
 too_long text long =
-    chain_fault_is text ∙ ap (λ (b : Bool). chain_fault_by b (list_all is_white text) (nat_lt 16 (length (stage_texts text))) (fault_from 1 (stage_texts text))) (more_than 4096 (length text) long)
+    chain_fault_is text ∙ ap (λ (b : Bool). chain_fault_by b (list_all is_white text) (nat_lt 16 (length (stage_texts text))) (fault_from 1 (stage_texts text))) (lt-ltb 4096 (length text) long)
 
 pub no_words_at_all : (text : List ℕ) → length text ≤ 4096 → list_all is_white text ≡ true → chain_fault_of text ≡ Some (whole Empty)
 no_words_at_all text short blank =
     chain_fault_is text
-    ∙ ap (λ (b : Bool). chain_fault_by b (list_all is_white text) (nat_lt 16 (length (stage_texts text))) (fault_from 1 (stage_texts text))) (at_most 4096 (length text) short)
+    ∙ ap (λ (b : Bool). chain_fault_by b (list_all is_white text) (nat_lt 16 (length (stage_texts text))) (fault_from 1 (stage_texts text))) (le-ltb 4096 (length text) short)
     ∙ ap (λ (b : Bool). chain_fault_by false b (nat_lt 16 (length (stage_texts text))) (fault_from 1 (stage_texts text))) blank
 
 pub too_many : (text : List ℕ) → length text ≤ 4096 → list_all is_white text ≡ false → 16 < length (stage_texts text) → chain_fault_of text ≡ Some (whole TooMany)
 too_many text short black many =
     chain_fault_is text
-    ∙ ap (λ (b : Bool). chain_fault_by b (list_all is_white text) (nat_lt 16 (length (stage_texts text))) (fault_from 1 (stage_texts text))) (at_most 4096 (length text) short)
+    ∙ ap (λ (b : Bool). chain_fault_by b (list_all is_white text) (nat_lt 16 (length (stage_texts text))) (fault_from 1 (stage_texts text))) (le-ltb 4096 (length text) short)
     ∙ ap (λ (b : Bool). chain_fault_by false b (nat_lt 16 (length (stage_texts text))) (fault_from 1 (stage_texts text))) black
-    ∙ ap (λ (b : Bool). chain_fault_by false false b (fault_from 1 (stage_texts text))) (more_than 16 (length (stage_texts text)) many)
+    ∙ ap (λ (b : Bool). chain_fault_by false false b (fault_from 1 (stage_texts text))) (lt-ltb 16 (length (stage_texts text)) many)
 
 -- ---- what is known of a text whose first word was looked for
 

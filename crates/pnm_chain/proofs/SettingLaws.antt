@@ -19,13 +19,10 @@ use Rattle.pnm_chain.specs.declared.settings.Settings.{Settings}
 use Rattle.pnm_chain.specs.Options.{excludes, most_arguments, offset_value, takes_argument, way_in, wants_value}
 use Rattle.pnm_chain.specs.Items.{Item, Argument, Given, Unknown, arguments_of, value_of, is_there, way_of, number_of, box_of, numbers_of, item_fault, value_fault}
 use Rattle.pnm_chain.specs.Settings.{AreArgumentsOf, AreSettingsOf, IsWithArgument, argument_fault, first_free, has_all_arguments, has_option, value_read, with_option}
-use Rattle.pnm_chain.proofs.ItemLaws.{arguments_of-append}
+use Rattle.pnm_chain.proofs.ItemSteps.{or_none}
+use Rattle.pnm_chain.proofs.ItemLaws.{arguments_of-append, argument_free}
 
 -- ---- options and ways of items that follow others
-
-or_none : {T : Type 0} (one : Option T) → option_or one None ≡ one
-or_none (Some x) = refl
-or_none None = refl
 
 or_assoc : {T : Type 0} (one other third : Option T) → option_or one (option_or other third) ≡ option_or (option_or one other) third
 or_assoc (Some x) other third = refl
@@ -343,10 +340,6 @@ two_filled (m ∷ []) n old new e f free w =
     (with_second old new (Some n) changed, ap (λ (s : Settings). s.first) changed ∙ e, ap (λ (s : Settings). s.second) changed)
 two_filled (m ∷ l ∷ numbers) n old new e f free w = absurd (both_there old.first old.second m l e f free)
 
-argument_free : (full takes : Bool) → (if full then Some ExtraArgument else if takes then None else Some BadValue) ≡ None → full ≡ false
-argument_free true takes e = absurd cc
-argument_free false takes e = refl
-
 pub with_word : (tool : ToolName) (before : List Item) (word : List ℕ) (old new : Settings) → AreSettingsOf tool before old → has_all_arguments tool old ≡ false → IsWithArgument tool old word new → AreSettingsOf tool (before ++ Argument word ∷ []) new
 with_word Invert before word old new h free w = absurd w
 with_word Cut before word old new h free w = absurd w
@@ -366,7 +359,7 @@ with_word Tile before word old new h free w =
 pub argument_set : (tool : ToolName) (word : List ℕ) (old new : Settings) (r : Result (Unit {0}) ChainKind) → OnOk r ((argument_fault tool old word ≡ None) × IsWithArgument tool old word new)
     → OnOk r ((before : List Item) → AreSettingsOf tool before old → (item_fault tool before (Argument word) ≡ None) × AreSettingsOf tool (before ++ Argument word ∷ []) new)
 argument_set tool word old new r = on_ok_weaker r (λ added before h.
-    (sym (same_fault tool before old word h) ∙ added.0, with_word tool before word old new h (argument_free (has_all_arguments tool old) (takes_argument tool word) added.0) added.1))
+    (sym (same_fault tool before old word h) ∙ added.0, with_word tool before word old new h (argument_free (has_all_arguments tool old) (takes_argument tool word) added.0).0 added.1))
 
 pub argument_refused : (tool : ToolName) (word : List ℕ) (old : Settings) (r : Result (Unit {0}) ChainKind) → IfErr r (λ kind. (kind ≡ Memory) ⊎ (argument_fault tool old word ≡ Some kind))
     → IfErr r (λ kind. (before : List Item) → AreSettingsOf tool before old → (kind ≡ Memory) ⊎ (item_fault tool before (Argument word) ≡ Some kind))
