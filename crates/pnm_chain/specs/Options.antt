@@ -66,6 +66,16 @@ is_numeral (b ∷ word) = is_digit b && list_all is_digit word
 abbrev pub spells_number : ℕ → ℕ → List ℕ → Bool
 spells_number least most word = is_numeral word && (nat_le least (decimal_value word) && nat_le (decimal_value word) most)
 
+abbrev pub spells_maxval : List ℕ → Bool
+spells_maxval word = spells_number 1 max_maxval word
+
+abbrev pub spells_plane : List ℕ → Bool
+spells_plane word = spells_number 0 (max_depth - 1) word
+
+-- a width, a height, a factor, or columns or rows to fill
+abbrev pub spells_extent : List ℕ → Bool
+spells_extent word = spells_number 1 max_extent word
+
 -- a dash, 45, begins an option's word, and may begin an offset
 abbrev pub begins_with_dash : List ℕ → Bool
 begins_with_dash [] = false
@@ -95,7 +105,7 @@ abbrev edge_at : ℕ → OptionRule
 edge_at slot = record { slot = slot; way = None; takes = spells_offset }
 
 abbrev size_at : ℕ → OptionRule
-size_at slot = record { slot = slot; way = None; takes = spells_number 1 max_extent }
+size_at slot = record { slot = slot; way = None; takes = spells_extent }
 
 -- the ways to flip have one number, since one way alone may stand
 abbrev pub option_rule : ToolOption → OptionRule
@@ -146,11 +156,11 @@ no_argument word = false
 abbrev pub tool_rule : ToolName → ToolRule
 tool_rule Invert = record { option = no_option; most = 0; takes = no_argument }
 tool_rule Cut = record { option = cut_option; most = 0; takes = no_argument }
-tool_rule Depth = record { option = no_option; most = 1; takes = spells_number 1 max_maxval }
-tool_rule Channel = record { option = channel_option; most = max_depth; takes = spells_number 0 (max_depth - 1) }
-tool_rule Enlarge = record { option = enlarge_option; most = 1; takes = spells_number 1 max_extent }
+tool_rule Depth = record { option = no_option; most = 1; takes = spells_maxval }
+tool_rule Channel = record { option = channel_option; most = max_depth; takes = spells_plane }
+tool_rule Enlarge = record { option = enlarge_option; most = 1; takes = spells_extent }
 tool_rule Flip = record { option = flip_option; most = 0; takes = no_argument }
-tool_rule Tile = record { option = no_option; most = 2; takes = spells_number 1 max_extent }
+tool_rule Tile = record { option = no_option; most = 2; takes = spells_extent }
 
 -- the tool's option of this name
 abbrev pub option_named : ToolName → List ℕ → Option ToolOption

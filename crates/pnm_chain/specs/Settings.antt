@@ -60,10 +60,13 @@ two_arguments = record {
   more = λ old word new. new ≡ first_free old.first old (decimal_value word);
 }
 
+abbrev pub has_all_planes : List ℕ → Bool
+has_all_planes planes = nat_le max_depth (length planes)
+
 abbrev plane_arguments : ArgumentRule
 plane_arguments = record {
   are = λ numbers s. s.planes.items ≡ numbers;
-  all = λ s. nat_le max_depth (length s.planes.items);
+  all = λ s. has_all_planes s.planes.items;
   more = λ old word new. (new ≡ record old { planes = new.planes }) × (new.planes.items ≡ old.planes.items ++ decimal_value word ∷ []);
 }
 
@@ -133,9 +136,9 @@ argument_fault tool s word =
     else Some BadValue
 
 -- why a word is no argument: there are as many as the tool takes, or it spells no number in the range
-abbrev pub IsRefused : Bool → Bool → ChainKind → Type 0
-IsRefused true spelled kind = kind ≡ ExtraArgument
-IsRefused false spelled kind = (spelled ≡ false) × (kind ≡ BadValue)
+abbrev pub IsNoArgument : Bool → Bool → ChainKind → Type 0
+IsNoArgument true spelled kind = kind ≡ ExtraArgument
+IsNoArgument false spelled kind = (spelled ≡ false) × (kind ≡ BadValue)
 
 -- ---- the tool that settings mean
 

@@ -2,7 +2,7 @@
 
 ghost use Rattle.std.specs.Prelude.{◌≡◌, ◌⊎◌, ◌+◌, IfOk, IfErr, Some, None, length};
 ghost use Rattle.pnm_chain.specs.declared.chain_text.ChainKind.TheVariants.{Memory};
-ghost use Rattle.pnm_chain.specs.ChainText.{SpellsChain, SpellsTool, chain_fault_of, stage_fault, stage_texts, whole};
+ghost use Rattle.pnm_chain.specs.ChainText.{IsRefusal, SpellsChain, SpellsTool, chain_fault_of, stage_fault, stage_texts, whole};
 ghost use Rattle.pnm_tools.specs.Chains.{IsChain};
 
 use crate::items::split_item;
@@ -144,7 +144,8 @@ fn count_bars(text: &[u8]) -> usize
 /// The tool of the stage of this number.
 fn read_numbered(alloc: Global, number: usize, stage: &[u8]) -> Result<Tool, ChainFault>
     ensures spelled { IfOk result (λ tool. (stage_fault stage.now ≡ None) × SpellsTool stage.now tool) }
-    ensures refused { IfErr result (λ fault. (fault ≡ whole Memory) ⊎ ((stage_fault stage.now ≡ Some fault.kind) × (fault.stage ≡ number))) }
+    ensures refused { IfErr result (λ fault. (fault ≡ whole Memory)
+        ⊎ ((stage_fault stage.now ≡ Some fault.kind) × (fault.stage ≡ number))) }
 {
     match read_stage(alloc, stage) {
         Ok(tool) => Ok(tool),
@@ -159,7 +160,7 @@ fn read_numbered(alloc: Global, number: usize, stage: &[u8]) -> Result<Tool, Cha
 /// The tool of a stage.
 fn read_stage(alloc: Global, stage: &[u8]) -> Result<Tool, ChainKind>
     ensures spelled { IfOk result (λ tool. (stage_fault stage.now ≡ None) × SpellsTool stage.now tool) }
-    ensures refused { IfErr result (λ kind. (kind ≡ Memory) ⊎ (stage_fault stage.now ≡ Some kind)) }
+    ensures refused { IfErr result (λ kind. IsRefusal (stage_fault stage.now) kind) }
 {
     let Some((name, mut rest)) = split_word(stage) else {
         return Err(ChainKind::EmptyStage);

@@ -1,7 +1,8 @@
 //! The tools of a chain and their options, by the names that their manual pages give them.
 
 ghost use Rattle.std.specs.Prelude.{◌≡◌};
-ghost use Rattle.pnm_chain.specs.Options.{channel_option, cut_option, enlarge_option, flip_option, option_named, tool_named, wants_value};
+ghost use Rattle.pnm_chain.specs.Options.{channel_option, cut_option, enlarge_option, flip_option};
+ghost use Rattle.pnm_chain.specs.Options.{option_named, tool_named, wants_value};
 
 use pnm_tools::FlipWay;
 

@@ -1,15 +1,19 @@
 //! What the words of a stage set, and the tool that they mean.
 
-ghost use Rattle.std.specs.Prelude.{◌≡◌, ◌⊎◌, ◌++◌, ◌&&◌, ◌∷◌, ◌<◌, ◌-◌, [], List, IfOk, IfErr, OnOk, Some, None, true, false, is_some, length, nat_le, unwrap_or};
-ghost use Rattle.pnm_image.specs.Limits.{max_depth, max_extent};
+ghost use Rattle.std.specs.Prelude.{◌≡◌, ◌⊎◌, ◌++◌, ◌&&◌, ◌∷◌, ◌<◌, [], List, IfOk, IfErr, OnOk, Some, None};
+ghost use Rattle.std.specs.Prelude.{true, false, is_some, length, unwrap_or};
 ghost use Rattle.pnm_image.specs.Texts.{decimal_value};
 ghost use Rattle.pnm_tools.specs.Channel.{picks};
 ghost use Rattle.pnm_tools.specs.declared.tool.Tool.TheVariants as tools;
-ghost use Rattle.pnm_chain.specs.Options.{offset_value, spells_number, spells_offset};
-ghost use Rattle.pnm_chain.specs.declared.chain_text.ChainKind.TheVariants.{BadValue, Conflict, Memory, MissingArgument};
+ghost use Rattle.pnm_chain.specs.Options.{offset_value, spells_extent, spells_number, spells_offset, spells_plane};
+ghost use Rattle.pnm_chain.specs.declared.chain_text.ChainKind.TheVariants.{BadValue, Conflict};
+ghost use Rattle.pnm_chain.specs.declared.chain_text.ChainKind.TheVariants.{Memory, MissingArgument};
 ghost use Rattle.pnm_chain.specs.Items.{end_fault, item_fault, meant_by, value_fault};
 ghost use Rattle.pnm_chain.specs.Items.{Item as ItemSaid};
-ghost use Rattle.pnm_chain.specs.Settings.{AreSettingsOf, argument_fault, has_option, item_read, value_read, with_option, factors_fault, factors_meant, has_three, IsRefused, IsWithArgument};
+ghost use Rattle.pnm_chain.specs.ChainText.{IsRefusal};
+ghost use Rattle.pnm_chain.specs.Settings.{AreSettingsOf, IsWithArgument, IsNoArgument, argument_fault, factors_fault};
+ghost use Rattle.pnm_chain.specs.Settings.{factors_meant, has_all_planes, has_option, has_three, item_read, value_read};
+ghost use Rattle.pnm_chain.specs.Settings.{with_option};
 
 use crate::chain_text::ChainKind;
 use crate::items::Item;
@@ -66,9 +70,10 @@ impl<'a> Settings<'a> {
     /// and `Memory`.
     pub(crate) fn take(&mut self, item: Item<'a>) -> Result<(), ChainKind>
         ensures set { OnOk result ((before : List ItemSaid) → AreSettingsOf self.old.tool before self.old
-            → (item_fault self.old.tool before (item_read item.entry) ≡ None) × AreSettingsOf self.old.tool (before ++ item_read item.entry ∷ []) self.new) }
+            → (item_fault self.old.tool before (item_read item.entry) ≡ None)
+            × AreSettingsOf self.old.tool (before ++ item_read item.entry ∷ []) self.new) }
         ensures refused { IfErr result (λ kind. (before : List ItemSaid) → AreSettingsOf self.old.tool before self.old
-            → (kind ≡ Memory) ⊎ (item_fault self.old.tool before (item_read item.entry) ≡ Some kind)) }
+            → IsRefusal (item_fault self.old.tool before (item_read item.entry)) kind) }
     {
         match item {
             Item::Argument(word) => self.add(word),
@@ -87,7 +92,7 @@ impl<'a> Settings<'a> {
         ensures meant { IfOk result (λ meaning. (items : List ItemSaid) → AreSettingsOf self.entry.tool items self.entry
             → (end_fault self.entry.tool items ≡ None) × (meaning ≡ meant_by self.entry.tool items)) }
         ensures refused { IfErr result (λ kind. (items : List ItemSaid) → AreSettingsOf self.entry.tool items self.entry
-            → (kind ≡ Memory) ⊎ (end_fault self.entry.tool items ≡ Some kind)) }
+            → IsRefusal (end_fault self.entry.tool items) kind) }
     {
         match self.tool {
             ToolName::Invert => Ok(Tool::Invert),
@@ -125,7 +130,8 @@ impl<'a> Settings<'a> {
     }
 
     fn set(&mut self, option: ToolOption, value: Option<&'a [u8]>) -> Result<(), ChainKind>
-        ensures set { OnOk result ((value_fault option (value_read value.entry) ≡ None) × (self.new ≡ with_option self.old option value.entry)) }
+        ensures set { OnOk result ((value_fault option (value_read value.entry) ≡ None)
+            × (self.new ≡ with_option self.old option value.entry)) }
         ensures refused { IfErr result (λ kind. value_fault option (value_read value.entry) ≡ Some kind) }
     {
         let Some(word) = value else {
@@ -159,8 +165,9 @@ impl<'a> Settings<'a> {
     }
 
     fn add(&mut self, word: &[u8]) -> Result<(), ChainKind>
-        ensures added { OnOk result ((argument_fault self.old.tool self.old word.now ≡ None) × IsWithArgument self.old.tool self.old word.now self.new) }
-        ensures refused { IfErr result (λ kind. (kind ≡ Memory) ⊎ (argument_fault self.old.tool self.old word.now ≡ Some kind)) }
+        ensures added { OnOk result ((argument_fault self.old.tool self.old word.now ≡ None)
+            × IsWithArgument self.old.tool self.old word.now self.new) }
+        ensures refused { IfErr result (λ kind. IsRefusal (argument_fault self.old.tool self.old word.now) kind) }
     {
         match self.tool {
             ToolName::Invert | ToolName::Cut | ToolName::Flip => Err(ChainKind::ExtraArgument),
@@ -181,16 +188,17 @@ fn edge(word: &[u8]) -> Result<i32, ChainKind>
 }
 
 fn extent(word: &[u8]) -> Result<u32, ChainKind>
-    ensures read { IfOk result (λ extent. (spells_number 1 max_extent word.now ≡ true) × (extent ≡ decimal_value word.now)) }
-    ensures refused { IfErr result (λ kind. (spells_number 1 max_extent word.now ≡ false) × (kind ≡ BadValue)) }
+    ensures read { IfOk result (λ extent. (spells_extent word.now ≡ true) × (extent ≡ decimal_value word.now)) }
+    ensures refused { IfErr result (λ kind. (spells_extent word.now ≡ false) × (kind ≡ BadValue)) }
 {
     number(word, 1, MAX_EXTENT).ok_or(ChainKind::BadValue)
 }
 
 /// Fills an argument with a number from 1 to `most`.
 fn fill(argument: &mut Option<u32>, word: &[u8], most: u32) -> Result<(), ChainKind>
-    ensures filled { OnOk result ((argument.old ≡ None) × (spells_number 1 most word.now ≡ true) × (argument.new ≡ Some (decimal_value word.now))) }
-    ensures refused { IfErr result (λ kind. IsRefused (is_some argument.old) (spells_number 1 most word.now) kind) }
+    ensures filled { OnOk result ((argument.old ≡ None) × (spells_number 1 most word.now ≡ true)
+        × (argument.new ≡ Some (decimal_value word.now))) }
+    ensures refused { IfErr result (λ kind. IsNoArgument (is_some argument.old) (spells_number 1 most word.now) kind) }
 {
     if argument.is_some() {
         return Err(ChainKind::ExtraArgument);
@@ -200,9 +208,9 @@ fn fill(argument: &mut Option<u32>, word: &[u8], most: u32) -> Result<(), ChainK
 }
 
 fn add_plane(planes: &mut Vec<u16>, word: &[u8]) -> Result<(), ChainKind>
-    ensures added { OnOk result ((nat_le max_depth (length planes.old.items) ≡ false) × (spells_number 0 (max_depth - 1) word.now ≡ true)
+    ensures added { OnOk result ((has_all_planes planes.old.items ≡ false) × (spells_plane word.now ≡ true)
         × (planes.new.items ≡ planes.old.items ++ decimal_value word.now ∷ [])) }
-    ensures refused { IfErr result (λ kind. (kind ≡ Memory) ⊎ IsRefused (nat_le max_depth (length planes.old.items)) (spells_number 0 (max_depth - 1) word.now) kind) }
+    ensures refused { IfErr result (λ kind. (kind ≡ Memory) ⊎ IsNoArgument (has_all_planes planes.old.items) (spells_plane word.now) kind) }
 {
     if planes.len() >= MAX_DEPTH as usize {
         return Err(ChainKind::ExtraArgument);
@@ -225,7 +233,8 @@ fn cut(cut: CutBox) -> Result<Tool, ChainKind>
 }
 
 fn pick(alloc: Global, planes: Vec<u16>, tuple_type: Option<&[u8]>) -> Result<Tool, ChainKind>
-    ensures made { IfOk result (λ tool. (0 < length planes.items) × (tool ≡ tools.Channel (picks planes.items (unwrap_or (value_read tuple_type.entry) [])))) }
+    ensures made { IfOk result (λ tool. (0 < length planes.items)
+        × (tool ≡ tools.Channel (picks planes.items (unwrap_or (value_read tuple_type.entry) [])))) }
     ensures refused { IfErr result (λ kind. (kind ≡ Memory) ⊎ ((planes.items ≡ []) × (kind ≡ MissingArgument))) }
 {
     if planes.is_empty() {
@@ -237,7 +246,8 @@ fn pick(alloc: Global, planes: Vec<u16>, tuple_type: Option<&[u8]>) -> Result<To
 
 /// The one argument is both factors, or each has an option of its own; one that isn't given is 1.
 fn enlarge(factor: Option<u32>, across: Option<u32>, down: Option<u32>) -> Result<Tool, ChainKind>
-    ensures made { IfOk result (λ tool. (factors_fault factor across down ≡ None) × (tool ≡ factors_meant factor across down)) }
+    ensures made { IfOk result (λ tool. (factors_fault factor across down ≡ None)
+        × (tool ≡ factors_meant factor across down)) }
     ensures refused { IfErr result (λ kind. factors_fault factor across down ≡ Some kind) }
 {
     match (factor, across, down) {
@@ -249,7 +259,8 @@ fn enlarge(factor: Option<u32>, across: Option<u32>, down: Option<u32>) -> Resul
 }
 
 fn tile(columns: Option<u32>, rows: Option<u32>) -> Result<Tool, ChainKind>
-    ensures made { IfOk result (λ tool. ((is_some columns && is_some rows) ≡ true) × (tool ≡ tools.Tile (unwrap_or columns 0) (unwrap_or rows 0))) }
+    ensures made { IfOk result (λ tool. ((is_some columns && is_some rows) ≡ true)
+        × (tool ≡ tools.Tile (unwrap_or columns 0) (unwrap_or rows 0))) }
     ensures refused { IfErr result (λ kind. ((is_some columns && is_some rows) ≡ false) × (kind ≡ MissingArgument)) }
 {
     match (columns, rows) {
