@@ -32,7 +32,7 @@ pub mod PlainLaws
 pub mod UnitLaws
 pub mod RawLaws
 pub mod LaterLaws
-pub mod StageSteps
+pub mod AwaitedSteps
 pub mod TextLaws
 pub mod SaidLaws
 pub mod FaultLaws

@@ -6,26 +6,28 @@ use Rattle.pnm_image.specs.declared.message.Message.TheVariants.{Begin, Row, Ima
 use Rattle.pnm_image.specs.Completion.{IsFrontOf}
 use Rattle.pnm_read.specs.declared.fault.InputFault.{InputFault}
 use Rattle.pnm_read.specs.declared.fault.InputFault.TheVariants.{ReadFailed}
-use Rattle.pnm_read.specs.declared.source.Stage.{Stage}
-use Rattle.pnm_read.specs.declared.source.Stage.TheVariants.{Start, Rows, End, Ended, Failed}
+use Rattle.pnm_read.specs.declared.source.Awaited.{Awaited}
+use Rattle.pnm_read.specs.declared.source.Awaited.TheVariants.{FirstImage}
+use Rattle.pnm_read.specs.declared.source.State.{State}
+use Rattle.pnm_read.specs.declared.source.State.TheVariants.{Awaits, Ended, Failed}
 use Rattle.pnm_read.specs.declared.source.Source.{Source}
 use Rattle.pnm_read.specs.Said.{Said, said, said_of, fault_of, then_said, says_nothing, says_fault}
 use Rattle.pnm_read.specs.Inputs.{Turn, IsOutsideFault, held_of}
-use Rattle.pnm_read.specs.Stages.{GoesOn, stage_due, stage_fault, is_ended, is_going}
+use Rattle.pnm_read.specs.Awaiting.{GoesOn, state_due, state_fault, is_ended}
 use Rattle.pnm_read.specs.Sources.{IsFresh, Tells, AnswerTells, HasGiven, after_messages, due, MayGive, SeesEnd}
 use Rattle.pnm_read.proofs.Gathered.{consumes_nothing}
 
 ended_not : {A : Type 0} (ended : Bool) → ended ≡ false → ended ≡ true → A
 ended_not ended f t = absurd cc
 
-pub fresh_source : {R : Type 0} (reader : R) (s : Source R) → s.input.reader ≡ reader → held_of s.input ≡ [] → s.input.ended ≡ false → s.stage ≡ Start → IsFresh reader s
+pub fresh_source : {R : Type 0} (reader : R) (s : Source R) → s.input.reader ≡ reader → held_of s.input ≡ [] → s.input.ended ≡ false → s.state ≡ Awaits FirstImage → IsFresh reader s
 unfolding due MayGive SeesEnd HasGiven
-fresh_source reader s r held ended stage = record {
+fresh_source reader s r held ended state = record {
   reader_is = r;
-  nothing_given = λ rest c. sym (rw (stage, held) refl);
+  nothing_given = λ rest c. sym (rw (state, held) refl);
   unread = λ text e. ended_not s.input.ended ended e;
   end = λ left e. ended_not s.input.ended ended e;
-  going = ap stage_fault stage;
+  going = ap state_fault state;
 }
 
 -- an answer is the next of what was to be said, and leaves the rest; a fault is what was to be said, or comes
@@ -97,15 +99,16 @@ told_so : {R : Type 0} {left : R → Option (List ℕ)} (old new : Source R) (re
 told_so old new result t = record { more = t.read; consumed = t.consumed; told = λ read given h. answer_tells old new result t read given h }
 
 -- an answer gave the next of what was to be said
-tells_on : {R : Type 0} {left : R → Option (List ℕ)} {failures : R → ℕ} {same : R → R → Type 0} (old new : Source R) (m : Option Message) → Turn left failures same old.input new.input (Ok m) (GoesOn old.stage (Ok m) new.stage) → TellsNext left old (Ok m) new
+tells_on : {R : Type 0} {left : R → Option (List ℕ)} {failures : R → ℕ} {same : R → R → Type 0} (old new : Source R) (awaited : Awaited) (m : Option Message) → old.state ≡ Awaits awaited
+    → Turn left failures same old.input new.input (Ok m) (GoesOn awaited (Ok m) new.state) → TellsNext left old (Ok m) new
 unfolding due MayGive
-tells_on old new (Some m) t = record {
+tells_on old new awaited (Some m) state t = record {
   read = t.read;
   consumed = t.consumed;
   comes = t.comes;
-  says = λ rest c. (t.told rest c).0;
+  says = λ rest c. ap (λ (g : State). state_due g (held_of old.input ++ (t.read ++ rest))) state ∙ (t.told rest c).0;
 }
-tells_on old new None t = record {
+tells_on old new awaited None state t = record {
   read = t.read;
   consumed = t.consumed;
   comes = t.comes;
@@ -113,83 +116,82 @@ tells_on old new None t = record {
 }
 
 -- an answer was a fault
-tells_fault : {R : Type 0} {left : R → Option (List ℕ)} {failures : R → ℕ} {same : R → R → Type 0} (old new : Source R) (k : InputFault) → Turn {A = Option Message} left failures same old.input new.input (Err k) (GoesOn old.stage (Err k) new.stage) → TellsNext left old (Err k) new
+tells_fault : {R : Type 0} {left : R → Option (List ℕ)} {failures : R → ℕ} {same : R → R → Type 0} (old new : Source R) (awaited : Awaited) (k : InputFault) → old.state ≡ Awaits awaited
+    → Turn {A = Option Message} left failures same old.input new.input (Err k) (GoesOn awaited (Err k) new.state) → TellsNext left old (Err k) new
 unfolding due MayGive
-tells_fault old new k t = record {
+tells_fault old new awaited k state t = record {
   read = t.read;
   consumed = t.consumed;
   comes = t.comes;
-  says = λ rest c. t.told rest c;
+  says = λ rest c. rw state (t.told rest c);
 }
 
-pub tells : {R : Type 0} {left : R → Option (List ℕ)} {failures : R → ℕ} {same : R → R → Type 0} (old new : Source R) (result : Result (Option Message) InputFault) → Turn left failures same old.input new.input result (GoesOn old.stage result new.stage) → Tells left old result new
-tells old new (Ok m) t = told_so old new (Ok m) (tells_on old new m t)
-tells old new (Err k) t = told_so old new (Err k) (tells_fault old new k t)
+pub tells : {R : Type 0} {left : R → Option (List ℕ)} {failures : R → ℕ} {same : R → R → Type 0} (old new : Source R) (awaited : Awaited) (result : Result (Option Message) InputFault) → old.state ≡ Awaits awaited
+    → Turn left failures same old.input new.input result (GoesOn awaited result new.state) → Tells left old result new
+tells old new awaited (Ok m) state t = told_so old new (Ok m) (tells_on old new awaited m state t)
+tells old new awaited (Err k) state t = told_so old new (Err k) (tells_fault old new awaited k state t)
 
 -- after the end of the stream it stays, and nothing is read
-no_more : {R : Type 0} (left : R → Option (List ℕ)) (s : Source R) → s.stage ≡ Ended → TellsNext left s (Ok None) s
+no_more : {R : Type 0} (left : R → Option (List ℕ)) (s : Source R) → s.state ≡ Ended → TellsNext left s (Ok None) s
 unfolding due MayGive
-no_more left s stage = record {
+no_more left s state = record {
   read = [];
   consumed = consumes_nothing (left s.input.reader);
   comes = λ rest c. c;
-  says = λ rest c. (ap (λ (g : Stage). stage_due g (held_of s.input ++ rest)) stage, ap (λ (g : Stage). stage_due g (held_of s.input ++ rest)) stage);
+  says = λ rest c. (ap (λ (g : State). state_due g (held_of s.input ++ rest)) state, ap (λ (g : State). state_due g (held_of s.input ++ rest)) state);
 }
 
-pub tells_no_more : {R : Type 0} (left : R → Option (List ℕ)) (s : Source R) → s.stage ≡ Ended → Tells left s (Ok None) s
-tells_no_more left s stage = told_so s s (Ok None) (no_more left s stage)
+pub tells_no_more : {R : Type 0} (left : R → Option (List ℕ)) (s : Source R) → s.state ≡ Ended → Tells left s (Ok None) s
+tells_no_more left s state = told_so s s (Ok None) (no_more left s state)
 
 -- after a fault it stays, and nothing is read
-again : {R : Type 0} (left : R → Option (List ℕ)) (s : Source R) (k : InputFault) → s.stage ≡ Failed k → TellsNext left s (Err k) s
+again : {R : Type 0} (left : R → Option (List ℕ)) (s : Source R) (k : InputFault) → s.state ≡ Failed k → TellsNext left s (Err k) s
 unfolding due MayGive
-again left s k stage = record {
+again left s k state = record {
   read = [];
   consumed = consumes_nothing (left s.input.reader);
   comes = λ rest c. c;
-  says = λ rest c. inl (ap (λ (g : Stage). stage_due g (held_of s.input ++ rest)) stage);
+  says = λ rest c. inl (ap (λ (g : State). state_due g (held_of s.input ++ rest)) state);
 }
 
-pub tells_again : {R : Type 0} (left : R → Option (List ℕ)) (s : Source R) (k : InputFault) → s.stage ≡ Failed k → Tells left s (Err k) s
-tells_again left s k stage = told_so s s (Err k) (again left s k stage)
+pub tells_again : {R : Type 0} (left : R → Option (List ℕ)) (s : Source R) (k : InputFault) → s.state ≡ Failed k → Tells left s (Err k) s
+tells_again left s k state = told_so s s (Err k) (again left s k state)
 
--- the stage after the end of the stream
-pub ended_after : {R : Type 0} {left : R → Option (List ℕ)} {failures : R → ℕ} {same : R → R → Type 0} (old new : Source R) (result : Result (Option Message) InputFault) → Turn left failures same old.input new.input result (GoesOn old.stage result new.stage) → result ≡ Ok (Some StreamEnd) → is_ended new.stage ≡ true
-ended_after old new (Ok (Some (Begin head))) t e = absurd cc
-ended_after old new (Ok (Some (Row row))) t e = absurd cc
-ended_after old new (Ok (Some ImageEnd)) t e = absurd cc
-ended_after old new (Ok (Some StreamEnd)) t e = (t.told [] (λ _. refl)).1
-ended_after old new (Ok (Some Stop)) t e = absurd (t.told [] (λ _. refl)).1
-ended_after old new (Ok None) t e = absurd cc
-ended_after old new (Err k) t e = absurd cc
+-- the state after the end of the stream
+pub ended_after : {R : Type 0} {left : R → Option (List ℕ)} {failures : R → ℕ} {same : R → R → Type 0} (old new : Source R) (awaited : Awaited) (result : Result (Option Message) InputFault) → Turn left failures same old.input new.input result (GoesOn awaited result new.state) → result ≡ Ok (Some StreamEnd) → is_ended new.state ≡ true
+ended_after old new awaited (Ok (Some (Begin head))) t e = absurd cc
+ended_after old new awaited (Ok (Some (Row row))) t e = absurd cc
+ended_after old new awaited (Ok (Some ImageEnd)) t e = absurd cc
+ended_after old new awaited (Ok (Some StreamEnd)) t e = (t.told [] (λ _. refl)).1
+ended_after old new awaited (Ok (Some Stop)) t e = absurd (t.told [] (λ _. refl)).1
+ended_after old new awaited (Ok None) t e = absurd cc
+ended_after old new awaited (Err k) t e = absurd cc
 
 -- the end was seen rightly
 pub end_stays : {R A : Type 0} {left : R → Option (List ℕ)} {failures : R → ℕ} {same : R → R → Type 0} {o : List ℕ → List ℕ → Type 0} {result : Result A InputFault} (old new : Source R) → Turn left failures same old.input new.input result o → SeesEnd left old → SeesEnd left new
 unfolding SeesEnd
 end_stays old new t = t.end
 
-pub going_not_ended : (stage : Stage) → is_going stage ≡ true → is_ended stage ≡ true → ⊥
-going_not_ended Start g e = absurd cc
-going_not_ended (Rows raster) g e = absurd cc
-going_not_ended (End is_plain) g e = absurd cc
-going_not_ended Ended g e = absurd cc
-going_not_ended (Failed fault) g e = absurd cc
+-- while something is awaited, there was neither the end nor a fault
+pub going_not_ended : (state : State) (awaited : Awaited) → state ≡ Awaits awaited → is_ended state ≡ true → ⊥
+going_not_ended (Awaits it) awaited g e = absurd cc
+going_not_ended Ended awaited g e = absurd cc
+going_not_ended (Failed fault) awaited g e = absurd cc
 
-pub going_not_stopped : (stage : Stage) (k : InputFault) → is_going stage ≡ true → stage_fault stage ≡ Some k → ⊥
-going_not_stopped Start k g e = absurd cc
-going_not_stopped (Rows raster) k g e = absurd cc
-going_not_stopped (End is_plain) k g e = absurd cc
-going_not_stopped Ended k g e = absurd cc
-going_not_stopped (Failed fault) k g e = absurd cc
+pub going_not_stopped : (state : State) (awaited : Awaited) (k : InputFault) → state ≡ Awaits awaited → state_fault state ≡ Some k → ⊥
+going_not_stopped (Awaits it) awaited k g e = absurd cc
+going_not_stopped Ended awaited k g e = absurd cc
+going_not_stopped (Failed fault) awaited k g e = absurd cc
 
 -- Stop isn't given
-pub never_stop : {R : Type 0} {left : R → Option (List ℕ)} {failures : R → ℕ} {same : R → R → Type 0} (old new : Source R) (result : Result (Option Message) InputFault) → Turn left failures same old.input new.input result (GoesOn old.stage result new.stage) → result ≡ Ok (Some Stop) → ⊥
-never_stop old new (Ok (Some (Begin head))) t e = absurd cc
-never_stop old new (Ok (Some (Row row))) t e = absurd cc
-never_stop old new (Ok (Some ImageEnd)) t e = absurd cc
-never_stop old new (Ok (Some StreamEnd)) t e = absurd cc
-never_stop old new (Ok (Some Stop)) t e = (t.told [] (λ _. refl)).1
-never_stop old new (Ok None) t e = absurd cc
-never_stop old new (Err k) t e = absurd cc
+pub never_stop : {R : Type 0} {left : R → Option (List ℕ)} {failures : R → ℕ} {same : R → R → Type 0} (old new : Source R) (awaited : Awaited) (result : Result (Option Message) InputFault) → Turn left failures same old.input new.input result (GoesOn awaited result new.state) → result ≡ Ok (Some Stop) → ⊥
+never_stop old new awaited (Ok (Some (Begin head))) t e = absurd cc
+never_stop old new awaited (Ok (Some (Row row))) t e = absurd cc
+never_stop old new awaited (Ok (Some ImageEnd)) t e = absurd cc
+never_stop old new awaited (Ok (Some StreamEnd)) t e = absurd cc
+never_stop old new awaited (Ok (Some Stop)) t e = (t.told [] (λ _. refl)).1
+never_stop old new awaited (Ok None) t e = absurd cc
+never_stop old new awaited (Err k) t e = absurd cc
 
 -- at a failed read the end wasn't seen
 pub not_at_end : {R A : Type 0} {left : R → Option (List ℕ)} {failures : R → ℕ} {same : R → R → Type 0} {o : List ℕ → List ℕ → Type 0} {result : Result A InputFault} (old new : Source R) → Turn left failures same old.input new.input result o → result ≡ Err ReadFailed → (rest : List ℕ) → MayGive new rest

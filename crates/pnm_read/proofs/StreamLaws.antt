@@ -12,10 +12,10 @@ use Rattle.pnm_image.specs.declared.shape.Shape.{Shape}
 use Rattle.pnm_read.specs.declared.fault.InputFault.{InputFault}
 use Rattle.pnm_read.specs.declared.format.Format.{Format}
 use Rattle.pnm_read.specs.declared.source.Source.{Source}
-use Rattle.pnm_read.specs.declared.source.Stage.{Stage}
-use Rattle.pnm_read.specs.declared.source.Stage.TheVariants.{Start, Rows, End, Ended, Failed}
+use Rattle.pnm_read.specs.declared.source.State.{State}
+use Rattle.pnm_read.specs.declared.source.State.TheVariants.{Awaits, Ended, Failed}
 use Rattle.pnm_read.specs.Inputs.{IsOutsideFault}
-use Rattle.pnm_read.specs.Stages.{stage_due, stage_fault}
+use Rattle.pnm_read.specs.Awaiting.{state_due, state_fault}
 use Rattle.pnm_read.specs.Said.{Said, row_at, end_said, format_at, head_at, rows_said, head_said, format_said, image_said, later_said_in, later_said, said, said_of, fault_of}
 use Rattle.pnm_read.specs.Sources.{reader_of, stopped_by, due, MayGive, SeesEnd, HasGiven, after_messages}
 use Rattle.pnm_read.proofs.FaultLaws.{fault_is_of_text}
@@ -54,11 +54,9 @@ pub given_is_front : {R : Type 0} (s : Source R) (read : List ℕ) (given : List
 unfolding HasGiven
 given_is_front s read given rest h may = ((due s rest).messages, ap (λ (said : Said). said.messages) (h rest may) ∙ messages_after given (due s rest))
 
--- at a stage after a fault, this fault is still to be said
-stopped_due : (stage : Stage) (fault : InputFault) (text : List ℕ) → stage_fault stage ≡ Some fault → (stage_due stage text).fault ≡ Some fault
-stopped_due Start fault text e = absurd cc
-stopped_due (Rows raster) fault text e = absurd cc
-stopped_due (End is_plain) fault text e = absurd cc
+-- after a fault, this fault is still to be said
+stopped_due : (state : State) (fault : InputFault) (text : List ℕ) → state_fault state ≡ Some fault → (state_due state text).fault ≡ Some fault
+stopped_due (Awaits awaited) fault text e = absurd cc
 stopped_due Ended fault text e = absurd cc
 stopped_due (Failed other) fault text e = e
 
@@ -70,7 +68,7 @@ no_text_fault text fault e (inr memory) = (fault_is_of_text text).1 (e ∙ ap (�
 pub not_stopped : {R : Type 0} (s : Source R) (read : List ℕ) (given : List Message) (fault : InputFault) → HasGiven s read given → stopped_by s ≡ Some fault → IsOutsideFault fault → ⊥
 unfolding HasGiven due
 not_stopped s read given fault h stopped outside =
-    no_text_fault (read ++ []) fault (ap (λ (said : Said). said.fault) (h [] (nothing_may_come s)) ∙ fault_after given (due s []) ∙ stopped_due s.stage fault _ stopped) outside
+    no_text_fault (read ++ []) fault (ap (λ (said : Said). said.fault) (h [] (nothing_may_come s)) ∙ fault_after given (due s []) ∙ stopped_due s.state fault _ stopped) outside
 
 -- ---- what holds of each message that is said
 

@@ -15,6 +15,6 @@ pub mod Saturation
 pub mod Scanners
 pub mod PamScanners
 pub mod Packings
-pub mod Stages
+pub mod Awaiting
 pub mod Sources
 pub mod Examples

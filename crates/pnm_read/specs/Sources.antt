@@ -7,22 +7,22 @@ use Rattle.pnm_read.specs.declared.fault.InputFault.{InputFault}
 use Rattle.pnm_read.specs.declared.source.Source.{Source}
 use Rattle.pnm_read.specs.Said.{Said, said, said_of, fault_of, then_said}
 use Rattle.pnm_read.specs.Inputs.{IsOutsideFault, held_of, CanCome, EndsRightly}
-use Rattle.pnm_read.specs.Stages.{stage_due, stage_fault, is_ended}
+use Rattle.pnm_read.specs.Awaiting.{state_due, state_fault, is_ended}
 
 abbrev pub reader_of : {R : Type 0} → Source R → R
 reader_of s = s.input.reader
 
 -- the fault that a source has stopped with, if any
 abbrev pub stopped_by : {R : Type 0} → Source R → Option InputFault
-stopped_by s = stage_fault s.stage
+stopped_by s = state_fault s.state
 
 -- the end of the stream was given
 abbrev pub has_ended : {R : Type 0} → Source R → Bool
-has_ended s = is_ended s.stage
+has_ended s = is_ended s.state
 
 -- what a source has still to say, where its reader still gives these bytes
 unfoldable pub due : {R : Type 0} → Source R → List ℕ → Said
-due s rest = stage_due s.stage (held_of s.input ++ rest)
+due s rest = state_due s.state (held_of s.input ++ rest)
 
 -- the reader may still give these bytes: none after its end was seen
 unfoldable pub MayGive : {R : Type 0} → Source R → List ℕ → Type 0

@@ -7,9 +7,10 @@ ghost use Rattle.pnm_read.specs.declared.fault.InputFault.{InputFault as Fault};
 ghost use Rattle.pnm_read.specs.declared.fault.InputFault.TheVariants.{ReadFailed, Memory};
 ghost use Rattle.pnm_read.specs.Inputs.{Turn, Finds};
 ghost use Rattle.pnm_read.specs.Said.{row_at};
-ghost use Rattle.pnm_read.specs.Stages.{is_going, GoesOn, Steps, Begins, SeesText};
+ghost use Rattle.pnm_read.specs.Awaiting.{awaited_after, GoesOn, Steps, Begins, SeesText};
 
 use crate::fault::InputFault;
+use crate::format::Format;
 use crate::header::{read_format, read_head};
 use crate::input::Input;
 use crate::raster::Raster;
@@ -17,26 +18,34 @@ use crate::{plain, raw};
 use pnm_image::{BytesIn, Message, Samples};
 use std::alloc::Global;
 
+/// What a source awaits of its input.
+#[derive(Clone, Copy, Debug)]
+enum Awaited {
+    /// The first image of the stream.
+    FirstImage,
+    /// A row, or the end of the image after the last one.
+    RowOrEnd(Raster),
+    /// After a raw image, the next one or the end of the stream.
+    ImageOrEnd,
+    /// After a plain image, the end of the stream: what follows is ignored.
+    End,
+}
+
 /// How far a source has come.
 #[derive(Clone, Copy, Debug)]
-enum Stage {
-    /// Nothing is judged.
-    Start,
-    /// Rows are left, or the end of the image.
-    Rows(Raster),
-    /// An image has ended; whether it was plain.
-    End(bool),
-    /// The stream has ended.
+enum State {
+    Awaits(Awaited),
+    /// The end of the stream was given.
     Ended,
-    /// There was a fault.
+    /// A fault was given.
     Failed(InputFault),
 }
 
-/// A message, and the stage after it.
+/// A message, and the state after it.
 #[derive(Debug, Drop)]
 struct Step {
     message: Message,
-    stage: Stage,
+    state: State,
 }
 
 /// Reads a stream of images, message by message: raw ones of `P4` to `P7` one after another, or one
@@ -47,7 +56,7 @@ struct Step {
 #[derive(Debug, Drop)]
 pub struct Source<R> {
     input: Input<R>,
-    stage: Stage,
+    state: State,
 }
 
 impl<R: BytesIn> Source<R> {
@@ -62,7 +71,7 @@ impl<R: BytesIn> Source<R> {
     {
         Ok(Source {
             input: Input::new(alloc, reader)?,
-            stage: Stage::Start,
+            state: State::Awaits(Awaited::FirstImage),
         })
     }
 
@@ -89,26 +98,25 @@ impl<R: BytesIn> Source<R> {
         ensures read_failed { result ≡ Err ReadFailed → (stopped_by self.old ≡ Some ReadFailed) ⊎ Failed (R.failures (reader_of self.old)) (R.failures (reader_of self.new)) }
         ensures not_at_end { result ≡ Err ReadFailed → (stopped_by self.old ≡ Some ReadFailed) ⊎ ((rest : List ℕ) → MayGive self.new rest) }
     {
-        match self.stage {
-            Stage::Failed(fault) => Err(fault),
-            Stage::Ended => Ok(None),
-            Stage::Start | Stage::Rows(_) | Stage::End(_) => self.go_on(),
+        match self.state {
+            State::Awaits(awaited) => self.go_on(awaited),
+            State::Ended => Ok(None),
+            State::Failed(fault) => Err(fault),
         }
     }
 
     /// The next message, before the end of the stream and any fault.
-    fn go_on(&mut self) -> Result<Option<Message>, InputFault>
-        requires { is_going self.old.stage ≡ true }
-        ensures turn { Turn R.left R.failures R.same self.old.input self.new.input result (GoesOn self.old.stage result self.new.stage) }
+    fn go_on(&mut self, awaited: Awaited) -> Result<Option<Message>, InputFault>
+        ensures turn { Turn R.left R.failures R.same self.old.input self.new.input result (GoesOn awaited result self.new.state) }
         ensures stopped { IfErr result (λ fault. stopped_by self.new ≡ Some fault) }
     {
-        match step_at(&mut self.input, self.stage) {
+        match step_at(&mut self.input, awaited) {
             Ok(step) => {
-                self.stage = step.stage;
+                self.state = step.state;
                 Ok(Some(step.message))
             }
             Err(fault) => {
-                self.stage = Stage::Failed(fault);
+                self.state = State::Failed(fault);
                 Err(fault)
             }
         }
@@ -122,18 +130,15 @@ impl<R: BytesIn> Source<R> {
     }
 }
 
-/// The next message at a stage, and the stage after it.
-fn step_at<R: BytesIn>(input: &mut Input<R>, stage: Stage) -> Result<Step, InputFault>
-    requires { is_going stage ≡ true }
-    ensures { Turn R.left R.failures R.same input.old input.new result (Steps stage result) }
+/// The next message where this is awaited, and the state after it.
+fn step_at<R: BytesIn>(input: &mut Input<R>, awaited: Awaited) -> Result<Step, InputFault>
+    ensures { Turn R.left R.failures R.same input.old input.new result (Steps awaited result) }
 {
-    match stage {
-        Stage::Start => begin(input, true),
-        Stage::Rows(raster) => next_row(input, raster),
-        // What follows a plain image is ignored.
-        Stage::End(true) => Ok(stream_end()),
-        Stage::End(false) => follow(input),
-        Stage::Ended | Stage::Failed(_) => unreachable!(),
+    match awaited {
+        Awaited::FirstImage => begin(input, true),
+        Awaited::RowOrEnd(raster) => next_row(input, raster),
+        Awaited::ImageOrEnd => follow(input),
+        Awaited::End => Ok(stream_end()),
     }
 }
 
@@ -146,25 +151,36 @@ fn begin<R: BytesIn>(input: &mut Input<R>, is_first: bool) -> Result<Step, Input
     let raster = Raster::new(format, head.shape());
     Ok(Step {
         message: Message::Begin(head),
-        stage: Stage::Rows(raster),
+        state: State::Awaits(Awaited::RowOrEnd(raster)),
     })
 }
 
 /// The next row of a raster, or the end of the image.
 fn next_row<R: BytesIn>(input: &mut Input<R>, raster: Raster) -> Result<Step, InputFault>
-    ensures { Turn R.left R.failures R.same input.old input.new result (Steps (Stage.Rows raster) result) }
+    ensures { Turn R.left R.failures R.same input.old input.new result (Steps (Awaited.RowOrEnd raster) result) }
 {
     if raster.y == raster.shape.height {
         return Ok(Step {
             message: Message::ImageEnd,
-            stage: Stage::End(raster.format.is_plain),
+            state: State::Awaits(after_image(raster.format)),
         });
     }
     let row = read_row(input, raster)?;
     Ok(Step {
         message: Message::Row(row),
-        stage: Stage::Rows(raster.after_row()),
+        state: State::Awaits(Awaited::RowOrEnd(raster.after_row())),
     })
+}
+
+/// What is awaited after an image of this format.
+fn after_image(format: Format) -> Awaited
+    ensures { result ≡ awaited_after format.is_plain }
+{
+    if format.is_plain {
+        Awaited::End
+    } else {
+        Awaited::ImageOrEnd
+    }
 }
 
 /// The samples of the next row.
@@ -181,7 +197,7 @@ fn read_row<R: BytesIn>(input: &mut Input<R>, raster: Raster) -> Result<Samples,
 
 /// What follows a raw image: the next one, or the end of the stream where no byte is left.
 fn follow<R: BytesIn>(input: &mut Input<R>) -> Result<Step, InputFault>
-    ensures { Turn R.left R.failures R.same input.old input.new result (Steps (Stage.End false) result) }
+    ensures { Turn R.left R.failures R.same input.old input.new result (Steps Awaited.ImageOrEnd result) }
 {
     if is_at_end(input)? {
         return Ok(stream_end());
@@ -192,11 +208,11 @@ fn follow<R: BytesIn>(input: &mut Input<R>) -> Result<Step, InputFault>
 /// The end of the stream.
 fn stream_end() -> Step
     ensures message { result.message ≡ StreamEnd }
-    ensures stage { result.stage ≡ Stage.Ended }
+    ensures state { result.state ≡ State.Ended }
 {
     Step {
         message: Message::StreamEnd,
-        stage: Stage::Ended,
+        state: State::Ended,
     }
 }
 

@@ -2,7 +2,7 @@ use Rattle.std.proofs.Common.{refl, Ok, ◌∙◌}
 use Rattle.std.proofs.lemmas.Result.{err_from_is_err_and}
 use Rattle.pnm_read.specs.declared.fault.InputFault.TheVariants.{ReadFailed}
 use Rattle.pnm_read.proofs.Turns.{turn_then, turn_ok_so, turn_err_so, no_fault}
-use Rattle.pnm_read.proofs.StageSteps.{no_format, no_head, begins}
+use Rattle.pnm_read.proofs.AwaitedSteps.{no_format, no_head, begins}
 use Rattle.pnm_read.proofs.source.begin.Goals as goal
 
 pub returns-in_err-format : goal.returns-in_err-format

@@ -1,4 +1,4 @@
-use Rattle.pnm_read.proofs.StageSteps.{text_seen}
+use Rattle.pnm_read.proofs.AwaitedSteps.{text_seen}
 use Rattle.pnm_read.proofs.source.is_at_end.Goals as goal
 
 pub returns : goal.returns

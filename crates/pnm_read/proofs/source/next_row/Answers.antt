@@ -1,13 +1,14 @@
-use Rattle.std.proofs.Common.{Ok, [], refl}
+use Rattle.std.proofs.Common.{Ok, [], refl, ap}
 use Rattle.std.proofs.lemmas.Result.{err_from_is_err_and}
 use Rattle.pnm_read.specs.declared.fault.InputFault.TheVariants.{ReadFailed}
+use Rattle.pnm_read.specs.declared.source.State.TheVariants.{Awaits}
 use Rattle.pnm_read.proofs.Turns.{turn_ok_so, turn_err_so, turn_taken, no_fault}
-use Rattle.pnm_read.proofs.StageSteps.{image_ends, row_step, row_fault}
+use Rattle.pnm_read.proofs.AwaitedSteps.{image_ends, row_step, row_fault}
 use Rattle.pnm_read.proofs.source.next_row.Goals as goal
 
 pub returns-then-raster : goal.returns-then-raster
 returns-then-raster g c =
-    turn_ok_so tt (Ok _) (no_fault _ ReadFailed) (λ b a o. image_ends c.args.raster _ b a c.if-raster.true refl refl o)
+    turn_ok_so tt (Ok _) (no_fault _ ReadFailed) (λ b a o. image_ends c.args.raster _ b a c.if-raster.true refl (ap Awaits c.after_image.ensures) o)
     (turn_taken {A = Unit {0}} {result = Ok tt} [] g.met.R.BytesIn.same_at_once (no_fault tt ReadFailed) refl refl refl)
 
 pub returns-in_err-row : goal.returns-in_err-row

@@ -1,27 +1,26 @@
-use Rattle.std.proofs.Common.{rules, ◌≡◌, true, inr}
-use Rattle.pnm_read.specs.Stages.{is_going}
+use Rattle.std.proofs.Common.{inr}
 use Rattle.pnm_read.proofs.SourceSteps.{tells, tells_no_more, tells_again, ended_after, end_stays, never_stop, not_at_end, going_not_ended, going_not_stopped}
 use Rattle.pnm_read.proofs.source.Source.next.Goals as goal
 
-pub returns-in-Failed-clause-told : goal.returns-in-Failed-clause-told
-returns-in-Failed-clause-told g c = tells_again g.R.BytesIn.left c.args.self.now c.in-Failed.fault c.in-Failed.is
-
-pub returns-in-Ended-clause-told : goal.returns-in-Ended-clause-told
-returns-in-Ended-clause-told g c = tells_no_more g.R.BytesIn.left c.args.self.now c.in-Ended.is
-
-pub returns-in-Start : goal.returns-in-Start
-returns-in-Start g c =
-    let going : is_going c.args.self.now.stage ≡ true = search rules in
+pub returns-in-Awaits : goal.returns-in-Awaits
+returns-in-Awaits g c =
+    let awaited = c.in-Awaits.awaited in
     record {
-      told = tells c.args.self.now c.go_on.new.self c.go_on.result c.go_on.ensures.turn;
-      no_stop = never_stop c.args.self.now c.go_on.new.self c.go_on.result c.go_on.ensures.turn;
+      told = tells c.args.self.now c.go_on.new.self awaited c.go_on.result c.in-Awaits.is c.go_on.ensures.turn;
+      no_stop = never_stop c.args.self.now c.go_on.new.self awaited c.go_on.result c.go_on.ensures.turn;
       end = end_stays c.args.self.now c.go_on.new.self c.go_on.ensures.turn;
-      ended = ended_after c.args.self.now c.go_on.new.self c.go_on.result c.go_on.ensures.turn;
-      for_good = λ e. absurd (going_not_ended c.args.self.now.stage going e);
+      ended = ended_after c.args.self.now c.go_on.new.self awaited c.go_on.result c.go_on.ensures.turn;
+      for_good = λ e. absurd (going_not_ended c.args.self.now.state awaited c.in-Awaits.is e);
       stopped = c.go_on.ensures.stopped;
-      stays = λ k e. absurd (going_not_stopped c.args.self.now.stage k going e);
+      stays = λ k e. absurd (going_not_stopped c.args.self.now.state awaited k c.in-Awaits.is e);
       same_device = c.go_on.ensures.turn.same_device;
       count = c.go_on.ensures.turn.count;
       read_failed = λ e. inr (c.go_on.ensures.turn.read_failed e).0;
       not_at_end = λ e. inr (not_at_end c.args.self.now c.go_on.new.self c.go_on.ensures.turn e);
     }
+
+pub returns-in-Ended-clause-told : goal.returns-in-Ended-clause-told
+returns-in-Ended-clause-told g c = tells_no_more g.R.BytesIn.left c.args.self.now c.in-Ended.is
+
+pub returns-in-Failed-clause-told : goal.returns-in-Failed-clause-told
+returns-in-Failed-clause-told g c = tells_again g.R.BytesIn.left c.args.self.now c.in-Failed.fault c.in-Failed.is

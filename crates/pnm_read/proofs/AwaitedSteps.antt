@@ -1,4 +1,4 @@
--- The steps of a source from stage to stage.
+-- The steps of a source, by what it awaits.
 use Rattle.std.proofs.Common.{◌≡◌, ◌⊎◌, ℕ, suc, ◌+◌, ◌-◌, ◌<◌, ◌≤◌, Bool, true, false, List, [], ◌∷◌, length, Option, ◌==◌, sym, Result, Ok, Err, inl, inr, refl, ap, subst, ◌∙◌, arith}
 use Rattle.std.proofs.lemmas.Bool.{cases_lt}
 use Rattle.std.proofs.lemmas.Bool.Decides.{nat_tests}
@@ -10,11 +10,12 @@ use Rattle.pnm_read.specs.declared.fault.InputFault.TheVariants.{ReadFailed}
 use Rattle.pnm_read.specs.declared.format.Format.{Format}
 use Rattle.pnm_read.specs.declared.input.Input.{Input}
 use Rattle.pnm_read.specs.declared.raster.Raster.{Raster}
-use Rattle.pnm_read.specs.declared.source.Stage.TheVariants.{Start, Rows, End, Ended}
+use Rattle.pnm_read.specs.declared.source.Awaited.TheVariants.{FirstImage, RowOrEnd, ImageOrEnd, End}
+use Rattle.pnm_read.specs.declared.source.State.TheVariants.{Awaits, Ended}
 use Rattle.pnm_read.specs.declared.source.Step.{Step}
 use Rattle.pnm_read.specs.Said.{Said, said, later_said, format_at, head_at, format_said, head_said, image_said, rows_said, row_at, end_said, then_said, says_fault}
 use Rattle.pnm_read.specs.Inputs.{Turn, Fills, Finds, IsOutsideFault, HoldsEnough, held_of}
-use Rattle.pnm_read.specs.Stages.{Steps, Begins, SeesText, stage_due}
+use Rattle.pnm_read.specs.Awaiting.{Steps, Begins, SeesText, awaited_after, due_at}
 use Rattle.pnm_read.proofs.Turns.{no_fault, turn_ok_so, turn_err_so, turn_seen, nothing_left, some_left}
 use Rattle.pnm_read.proofs.ScanSteps.{end_seen, none_of_length}
 use Rattle.pnm_read.proofs.LaterLaws.{later_said-nothing, later_said-next}
@@ -33,29 +34,35 @@ unfolding image_said
 no_head is_first format k b m a f (inl e) = inl (ap (format_said later_said) f ∙ ap (head_said later_said format) e)
 no_head is_first format k b m a f (inr o) = inr o
 
-due_at : (format : Format) (head : HeadValue) (raster : Raster) (a : List ℕ) → raster.format ≡ format → raster.shape ≡ head.shape → raster.y ≡ 0 → rows_said later_said format head.shape head.shape.height a ≡ stage_due (Rows raster) a
-due_at format head raster a rf rs ry =
+rows_due : (format : Format) (head : HeadValue) (raster : Raster) (a : List ℕ) → raster.format ≡ format → raster.shape ≡ head.shape → raster.y ≡ 0 → rows_said later_said format head.shape head.shape.height a ≡ due_at (RowOrEnd raster) a
+rows_due format head raster a rf rs ry =
     let rows : raster.shape.height - raster.y ≡ head.shape.height = let same = ap (λ (s : Shape). s.height) rs in omega arith in
     rw (rf, rows, rs) refl
 
 -- a header, and its raster
 pub begins : (is_first : Bool) (format : Format) (head : HeadValue) (raster : Raster) (step : Step) (b m a : List ℕ) → Finds {X = Format} (λ format. format) (format_at is_first) (Ok format) b m → Finds {X = HeadValue} (λ head. head) (head_at format) (Ok head) m a
-    → raster.format ≡ format → raster.shape ≡ head.shape → raster.y ≡ 0 → step.message ≡ Begin head → step.stage ≡ Rows raster → Begins is_first (Ok step) b a
+    → raster.format ≡ format → raster.shape ≡ head.shape → raster.y ≡ 0 → step.message ≡ Begin head → step.state ≡ Awaits (RowOrEnd raster) → Begins is_first (Ok step) b a
 unfolding image_said
 begins is_first format head raster step b m a f h rf rs ry sm ss =
-    let due : rows_said later_said format head.shape head.shape.height a ≡ stage_due (Rows raster) a = due_at format head raster a rf rs ry in
-    let all : image_said later_said is_first b ≡ then_said (Begin head) (stage_due (Rows raster) a) = ap (format_said later_said) f ∙ ap (head_said later_said format) h ∙ ap (then_said (Begin head)) due in
+    let due : rows_said later_said format head.shape head.shape.height a ≡ due_at (RowOrEnd raster) a = rows_due format head raster a rf rs ry in
+    let all : image_said later_said is_first b ≡ then_said (Begin head) (due_at (RowOrEnd raster) a) = ap (format_said later_said) f ∙ ap (head_said later_said format) h ∙ ap (then_said (Begin head)) due in
     rw (sm, ss) (all, tt)
 
 -- ---- the raster
 
+-- what is said after an image
+end_due : (is_plain : Bool) (text : List ℕ) → end_said later_said is_plain text ≡ due_at (awaited_after is_plain) text
+unfolding end_said
+end_due true text = refl
+end_due false text = refl
+
 -- the image has ended
-pub image_ends : (raster : Raster) (step : Step) (b a : List ℕ) → raster.y ≡ raster.shape.height → step.message ≡ ImageEnd → step.stage ≡ End raster.format.is_plain → b ≡ a → Steps (Rows raster) (Ok step) b a
+pub image_ends : (raster : Raster) (step : Step) (b a : List ℕ) → raster.y ≡ raster.shape.height → step.message ≡ ImageEnd → step.state ≡ Awaits (awaited_after raster.format.is_plain) → b ≡ a → Steps (RowOrEnd raster) (Ok step) b a
 unfolding rows_said
 image_ends raster step b a e sm ss same =
     let none : raster.shape.height - raster.y ≡ 0 = omega arith in
-    let said : stage_due (Rows raster) b ≡ then_said ImageEnd (end_said later_said raster.format.is_plain a) = rw (none, same) refl in
-    rw (sm, ss) (said, tt)
+    let said : due_at (RowOrEnd raster) b ≡ then_said ImageEnd (end_said later_said raster.format.is_plain a) = rw (none, same) refl in
+    rw (sm, ss) (said ∙ ap (then_said ImageEnd) (end_due raster.format.is_plain a), tt)
 
 -- what is said from a row on
 abbrev row_said : Format → Shape → ℕ → Result (List ℕ × List ℕ) InputFault → Said
@@ -83,65 +90,62 @@ rows_left raster n = let within = raster.within in rows_after raster.shape.heigh
 
 -- a row
 pub row_step : (raster next : Raster) (row : List ℕ) (step : Step) (b a : List ℕ) → (raster.y ≡ raster.shape.height → ⊥) → row_at raster.format raster.shape (raster.shape.height - raster.y - 1) b ≡ Ok (row, a)
-    → next.format ≡ raster.format → next.shape ≡ raster.shape → next.y ≡ raster.y + 1 → step.message ≡ Row row → step.stage ≡ Rows next → Steps (Rows raster) (Ok step) b a
+    → next.format ≡ raster.format → next.shape ≡ raster.shape → next.y ≡ raster.y + 1 → step.message ≡ Row row → step.state ≡ Awaits (RowOrEnd next) → Steps (RowOrEnd raster) (Ok step) b a
 row_step raster next row step b a n e nf ns ny sm ss =
     let left = rows_left raster n in
     let rows : next.shape.height - next.y ≡ raster.shape.height - raster.y - 1 = let same = ap (λ (s : Shape). s.height) ns in omega arith in
-    let due : rows_said later_said raster.format raster.shape (raster.shape.height - raster.y - 1) a ≡ stage_due (Rows next) a = rw (nf, rows, ns) refl in
-    let said : stage_due (Rows raster) b ≡ then_said (Row row) (stage_due (Rows next) a) =
+    let due : rows_said later_said raster.format raster.shape (raster.shape.height - raster.y - 1) a ≡ due_at (RowOrEnd next) a = rw (nf, rows, ns) refl in
+    let said : due_at (RowOrEnd raster) b ≡ then_said (Row row) (due_at (RowOrEnd next) a) =
     ap (λ (k : ℕ). rows_said later_said raster.format raster.shape k b) left ∙ row_is_said raster.format raster.shape (raster.shape.height - raster.y - 1) b a row e ∙ ap (then_said (Row row)) due in
     rw (sm, ss) (said, tt)
 
 -- a row at fault
-pub row_fault : (raster : Raster) (k : InputFault) (b a : List ℕ) → (raster.y ≡ raster.shape.height → ⊥) → (row_at raster.format raster.shape (raster.shape.height - raster.y - 1) b ≡ Err k) ⊎ IsOutsideFault k → Steps (Rows raster) (Err k) b a
+pub row_fault : (raster : Raster) (k : InputFault) (b a : List ℕ) → (raster.y ≡ raster.shape.height → ⊥) → (row_at raster.format raster.shape (raster.shape.height - raster.y - 1) b ≡ Err k) ⊎ IsOutsideFault k → Steps (RowOrEnd raster) (Err k) b a
 row_fault raster k b a n (inl e) = inl (ap (λ (k : ℕ). rows_said later_said raster.format raster.shape k b) (rows_left raster n) ∙ row_is_at_fault raster.format raster.shape (raster.shape.height - raster.y - 1) b k e)
 row_fault raster k b a n (inr o) = inr o
 
 -- ---- what follows an image
 
 -- the first image
-pub first_begins : (result : Result Step InputFault) (b a : List ℕ) → Begins true result b a → Steps Start result b a
+pub first_begins : (result : Result Step InputFault) (b a : List ℕ) → Begins true result b a → Steps FirstImage result b a
 unfolding said
 first_begins (Ok step) b a s = s
 first_begins (Err k) b a s = s
 
-pub first_turn : {R : Type 0} {left : R → Option (List ℕ)} {failures : R → ℕ} {same : R → R → Type 0} {old new : Input R} (result : Result Step InputFault) → Turn left failures same old new result (Begins true result) → Turn left failures same old new result (Steps Start result)
+pub first_turn : {R : Type 0} {left : R → Option (List ℕ)} {failures : R → ℕ} {same : R → R → Type 0} {old new : Input R} (result : Result Step InputFault) → Turn left failures same old new result (Begins true result) → Turn left failures same old new result (Steps FirstImage result)
 first_turn (Ok step) t = turn_ok_so step (Ok step) (no_fault step ReadFailed) (λ b a o. first_begins (Ok step) b a o) t
 first_turn (Err k) t = turn_err_so k (λ b a o. first_begins (Err k) b a o) t
 
 -- after a plain image the stream ends
-pub plain_ends : (is_plain : Bool) (step : Step) (b a : List ℕ) → is_plain ≡ true → step.message ≡ StreamEnd → step.stage ≡ Ended → Steps (End is_plain) (Ok step) b a
-unfolding end_said
-plain_ends is_plain step b a p sm ss = rw (p, sm, ss) (refl, refl)
+pub plain_ends : (step : Step) (b a : List ℕ) → step.message ≡ StreamEnd → step.state ≡ Ended → Steps End (Ok step) b a
+plain_ends step b a sm ss = rw (sm, ss) (refl, refl)
 
 -- after a raw image without a byte more it ends
-pub raw_ends : (is_plain : Bool) (step : Step) (b a : List ℕ) → is_plain ≡ false → b ≡ [] → step.message ≡ StreamEnd → step.stage ≡ Ended → Steps (End is_plain) (Ok step) b a
-unfolding end_said
-raw_ends is_plain step b a p e sm ss = rw (p, e, sm, ss) (later_said-nothing, refl)
+raw_ends : (step : Step) (b a : List ℕ) → b ≡ [] → step.message ≡ StreamEnd → step.state ≡ Ended → Steps ImageOrEnd (Ok step) b a
+raw_ends step b a e sm ss = rw (e, sm, ss) (later_said-nothing, refl)
 
 some_bytes : (text : List ℕ) → (text ≡ [] → ⊥) → 0 < length text
 some_bytes [] n = absurd (n refl)
 some_bytes (x ∷ text) n = omega arith
 
 -- with one more, the next image begins
-raw_due : (text : List ℕ) → (text ≡ [] → ⊥) → stage_due (End false) text ≡ image_said later_said false text
-unfolding end_said
+raw_due : (text : List ℕ) → (text ≡ [] → ⊥) → due_at ImageOrEnd text ≡ image_said later_said false text
 raw_due text n = later_said-next text (some_bytes text n)
 
-pub next_begins : (result : Result Step InputFault) (b a : List ℕ) → (b ≡ [] → ⊥) → Begins false result b a → Steps (End false) result b a
+pub next_begins : (result : Result Step InputFault) (b a : List ℕ) → (b ≡ [] → ⊥) → Begins false result b a → Steps ImageOrEnd result b a
 next_begins (Ok step) b a n s = (raw_due b n ∙ s.0, s.1)
 next_begins (Err k) b a n (inl e) = inl (raw_due b n ∙ e)
 next_begins (Err k) b a n (inr o) = inr o
 
 -- the next image, where the text was seen to go on
 pub next_so : {R : Type 0} {left : R → Option (List ℕ)} {failures : R → ℕ} {same : R → R → Type 0} {old new : Input R} (result : Result Step InputFault)
-    → Turn left failures same old new result (λ b a. (m : List ℕ) × SeesText (Ok false) b m × Begins false result m a) → Turn left failures same old new result (Steps (End false) result)
+    → Turn left failures same old new result (λ b a. (m : List ℕ) × SeesText (Ok false) b m × Begins false result m a) → Turn left failures same old new result (Steps ImageOrEnd result)
 next_so (Ok step) t = turn_ok_so step (Ok step) (no_fault step ReadFailed) (λ b a o. next_begins (Ok step) b a o.1.0 (subst (λ (m : List ℕ). Begins false (Ok step) m a) o.1.1 o.2)) t
 next_so (Err k) t = turn_err_so k (λ b a o. next_begins (Err k) b a o.1.0 (subst (λ (m : List ℕ). Begins false (Err k) m a) o.1.1 o.2)) t
 
 -- the text was seen to end
-pub at_end_so : (ended : Bool) (step : Step) (b a : List ℕ) → ended ≡ true → SeesText (Ok ended) b a → step.message ≡ StreamEnd → step.stage ≡ Ended → Steps (End false) (Ok step) b a
-at_end_so true step b a e seen sm ss = raw_ends false step b a refl seen.0 sm ss
+pub at_end_so : (ended : Bool) (step : Step) (b a : List ℕ) → ended ≡ true → SeesText (Ok ended) b a → step.message ≡ StreamEnd → step.state ≡ Ended → Steps ImageOrEnd (Ok step) b a
+at_end_so true step b a e seen sm ss = raw_ends step b a seen.0 sm ss
 at_end_so false step b a e seen sm ss = absurd cc
 
 seen_on : (ended : Bool) (b m : List ℕ) → ended ≡ false → SeesText (Ok ended) b m → SeesText (Ok false) b m
@@ -155,8 +159,8 @@ turn_on ended (Ok step) e t = turn_ok_so step (Ok step) (no_fault step ReadFaile
 turn_on ended (Err k) e t = turn_err_so k (λ b a o. (o.0, seen_on ended b o.0 e o.1, o.2)) t
 
 -- reading on failed
-pub raw_unread : (is_plain : Bool) (k : InputFault) (b a : List ℕ) → IsOutsideFault k → Steps (End is_plain) (Err k) b a
-raw_unread is_plain k b a o = inr o
+pub raw_unread : (k : InputFault) (b a : List ℕ) → IsOutsideFault k → Steps ImageOrEnd (Err k) b a
+raw_unread k b a o = inr o
 
 -- ---- whether a byte is left
 
