@@ -13,7 +13,7 @@ use Rattle.pnm_read.specs.declared.source.State.TheVariants.{Awaits, Ended, Fail
 use Rattle.pnm_read.specs.declared.source.Source.{Source}
 use Rattle.pnm_read.specs.Said.{Said, said, said_of, fault_of, then_said, says_nothing, says_fault}
 use Rattle.pnm_read.specs.Inputs.{Turn, IsOutsideFault, held_of}
-use Rattle.pnm_read.specs.Awaiting.{GoesOn, state_due, state_fault, is_ended}
+use Rattle.pnm_read.specs.Awaiting.{Answers, state_due, state_fault, is_ended}
 use Rattle.pnm_read.specs.Sources.{IsFresh, Tells, AnswerTells, HasGiven, after_messages, due, MayGive, SeesEnd}
 use Rattle.pnm_read.proofs.Gathered.{consumes_nothing}
 
@@ -100,7 +100,7 @@ told_so old new result t = record { more = t.read; consumed = t.consumed; told =
 
 -- an answer gave the next of what was to be said
 tells_on : {R : Type 0} {left : R → Option (List ℕ)} {failures : R → ℕ} {same : R → R → Type 0} (old new : Source R) (awaited : Awaited) (m : Option Message) → old.state ≡ Awaits awaited
-    → Turn left failures same old.input new.input (Ok m) (GoesOn awaited (Ok m) new.state) → TellsNext left old (Ok m) new
+    → Turn left failures same old.input new.input (Ok m) (Answers awaited (Ok m) new.state) → TellsNext left old (Ok m) new
 unfolding due MayGive
 tells_on old new awaited (Some m) state t = record {
   read = t.read;
@@ -117,7 +117,7 @@ tells_on old new awaited None state t = record {
 
 -- an answer was a fault
 tells_fault : {R : Type 0} {left : R → Option (List ℕ)} {failures : R → ℕ} {same : R → R → Type 0} (old new : Source R) (awaited : Awaited) (k : InputFault) → old.state ≡ Awaits awaited
-    → Turn {A = Option Message} left failures same old.input new.input (Err k) (GoesOn awaited (Err k) new.state) → TellsNext left old (Err k) new
+    → Turn {A = Option Message} left failures same old.input new.input (Err k) (Answers awaited (Err k) new.state) → TellsNext left old (Err k) new
 unfolding due MayGive
 tells_fault old new awaited k state t = record {
   read = t.read;
@@ -127,7 +127,7 @@ tells_fault old new awaited k state t = record {
 }
 
 pub tells : {R : Type 0} {left : R → Option (List ℕ)} {failures : R → ℕ} {same : R → R → Type 0} (old new : Source R) (awaited : Awaited) (result : Result (Option Message) InputFault) → old.state ≡ Awaits awaited
-    → Turn left failures same old.input new.input result (GoesOn awaited result new.state) → Tells left old result new
+    → Turn left failures same old.input new.input result (Answers awaited result new.state) → Tells left old result new
 tells old new awaited (Ok m) state t = told_so old new (Ok m) (tells_on old new awaited m state t)
 tells old new awaited (Err k) state t = told_so old new (Err k) (tells_fault old new awaited k state t)
 
@@ -158,7 +158,7 @@ pub tells_again : {R : Type 0} (left : R → Option (List ℕ)) (s : Source R) (
 tells_again left s k state = told_so s s (Err k) (again left s k state)
 
 -- the state after the end of the stream
-pub ended_after : {R : Type 0} {left : R → Option (List ℕ)} {failures : R → ℕ} {same : R → R → Type 0} (old new : Source R) (awaited : Awaited) (result : Result (Option Message) InputFault) → Turn left failures same old.input new.input result (GoesOn awaited result new.state) → result ≡ Ok (Some StreamEnd) → is_ended new.state ≡ true
+pub ended_after : {R : Type 0} {left : R → Option (List ℕ)} {failures : R → ℕ} {same : R → R → Type 0} (old new : Source R) (awaited : Awaited) (result : Result (Option Message) InputFault) → Turn left failures same old.input new.input result (Answers awaited result new.state) → result ≡ Ok (Some StreamEnd) → is_ended new.state ≡ true
 ended_after old new awaited (Ok (Some (Begin head))) t e = absurd cc
 ended_after old new awaited (Ok (Some (Row row))) t e = absurd cc
 ended_after old new awaited (Ok (Some ImageEnd)) t e = absurd cc
@@ -184,7 +184,7 @@ going_not_stopped Ended awaited k g e = absurd cc
 going_not_stopped (Failed fault) awaited k g e = absurd cc
 
 -- Stop isn't given
-pub never_stop : {R : Type 0} {left : R → Option (List ℕ)} {failures : R → ℕ} {same : R → R → Type 0} (old new : Source R) (awaited : Awaited) (result : Result (Option Message) InputFault) → Turn left failures same old.input new.input result (GoesOn awaited result new.state) → result ≡ Ok (Some Stop) → ⊥
+pub never_stop : {R : Type 0} {left : R → Option (List ℕ)} {failures : R → ℕ} {same : R → R → Type 0} (old new : Source R) (awaited : Awaited) (result : Result (Option Message) InputFault) → Turn left failures same old.input new.input result (Answers awaited result new.state) → result ≡ Ok (Some Stop) → ⊥
 never_stop old new awaited (Ok (Some (Begin head))) t e = absurd cc
 never_stop old new awaited (Ok (Some (Row row))) t e = absurd cc
 never_stop old new awaited (Ok (Some ImageEnd)) t e = absurd cc

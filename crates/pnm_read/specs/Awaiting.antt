@@ -60,10 +60,10 @@ Begins is_first (Ok step) before after = (image_said later_said is_first before 
 Begins is_first (Err fault) before after = (image_said later_said is_first before ≡ says_fault fault) ⊎ IsOutsideFault fault
 
 -- the same of an answer, and the state after it
-abbrev pub GoesOn : Awaited → Result (Option Message) InputFault → State → List ℕ → List ℕ → Type 0
-GoesOn awaited (Ok (Some m)) new before after = (due_at awaited before ≡ then_said m (state_due new after)) × IfStreamEnd m new
-GoesOn awaited (Ok None) new before after = ⊥
-GoesOn awaited (Err fault) new before after = (due_at awaited before ≡ says_fault fault) ⊎ IsOutsideFault fault
+abbrev pub Answers : Awaited → Result (Option Message) InputFault → State → List ℕ → List ℕ → Type 0
+Answers awaited (Ok (Some m)) new before after = (due_at awaited before ≡ then_said m (state_due new after)) × IfStreamEnd m new
+Answers awaited (Ok None) new before after = ⊥
+Answers awaited (Err fault) new before after = (due_at awaited before ≡ says_fault fault) ⊎ IsOutsideFault fault
 
 -- whether the text has ended; nothing was taken of it
 abbrev pub SeesText : Result Bool InputFault → List ℕ → List ℕ → Type 0

@@ -11,14 +11,16 @@ use pnm_image::BytesIn;
 use std::alloc::Global;
 
 /// The bytes that are read at a time.
-const PIECE: usize = 4096;
+const CHUNK: usize = 4096;
 
 /// A reader, and what was read of it and isn't taken yet.
 #[derive(Debug, Drop)]
 pub struct Input<R> {
     reader: R,
     held: Vec<u8>,
+    /// So many of the bytes that are held were taken.
     at: usize,
+    /// The reader's end was seen.
     ended: bool,
     ghost within: { at ≤ vec_len held },
 }
@@ -33,7 +35,7 @@ impl<R: BytesIn> Input<R> {
         ensures made { IfOk result (λ input. (input.reader ≡ reader) × (held_of input ≡ []) × (input.ended ≡ false)) }
         ensures refused { IfErr result (λ fault. fault ≡ Memory) }
     {
-        match Vec::with_capacity(alloc, PIECE) {
+        match Vec::with_capacity(alloc, CHUNK) {
             Ok(held) => Ok(Input {
                 reader,
                 held,
@@ -110,14 +112,14 @@ fn read_to_end<R: BytesIn>(reader: &mut R, held: &mut Vec<u8>) -> Result<(), Inp
     ensures failed { IfErr result (λ fault. ((fault ≡ ReadFailed) × Failed (R.failures reader.old) (R.failures reader.new)) ⊎ (fault ≡ Memory)) }
     ensures same_device { R.same reader.old reader.new }
 {
-    let mut piece = [0u8; PIECE];
+    let mut chunk = [0u8; CHUNK];
     for _ in 0..u64::MAX {
-        let count = match reader.read(&mut piece) {
+        let count = match reader.read(&mut chunk) {
             Ok(0) => return Ok(()),
             Ok(count) => count,
             Err(_) => return Err(InputFault::ReadFailed),
         };
-        if held.extend_from_slice(&piece[..count]).is_err() {
+        if held.extend_from_slice(&chunk[..count]).is_err() {
             return Err(InputFault::Memory);
         }
     }

@@ -9,54 +9,6 @@ ghost use Rattle.pnm_read.specs.Said.{units_in_row};
 use crate::fault::InputFault;
 use pnm_image::{Packing, Shape};
 
-/// The bytes of a unit: a sample, or a byte of eight pixels.
-pub fn unit_bytes(packing: Packing) -> usize
-    ensures { result ≡ unit_bytes packing }
-{
-    match packing {
-        Packing::Packed | Packing::Narrow => 1,
-        Packing::Wide => 2,
-    }
-}
-
-/// The units in a row of this shape.
-pub fn units_in_row(packing: Packing, shape: Shape) -> usize
-    requires { shape.width ≤ max_side }
-    ensures { result ≡ units_in_row packing shape }
-{
-    match packing {
-        Packing::Packed => (shape.width as usize).div_ceil(8),
-        Packing::Narrow | Packing::Wide => shape.row_length() as usize,
-    }
-}
-
-/// The samples that the units of a row of this shape hold, with those of spare bits.
-pub fn samples_in_row(packing: Packing, shape: Shape) -> usize
-    requires { shape.width ≤ max_side }
-{
-    match packing {
-        Packing::Packed => (shape.width as usize).div_ceil(8) * 8,
-        Packing::Narrow | Packing::Wide => shape.row_length() as usize,
-    }
-}
-
-/// Appends the samples of so many units, which these bytes are, to a row. The loops over the
-/// bytes are vector code. A row that holds samples above the maxval is never given on.
-pub fn append(
-    packing: Packing,
-    bytes: &[u8],
-    maxval: u32,
-    row: &mut Vec<u16>,
-) -> Result<(), InputFault>
-    ensures { (n : ℕ) → length bytes.now ≡ n * unit_bytes packing → AppendsUnits packing maxval n bytes.now row.old.items row.new.items result }
-{
-    match packing {
-        Packing::Packed => append_pixels(bytes, row),
-        Packing::Narrow => append_narrow(bytes, maxval, row),
-        Packing::Wide => append_wide(bytes, maxval, row),
-    }
-}
-
 /// The row gets its length first, and the stores of each byte's pixels then grow nothing.
 fn append_pixels(bytes: &[u8], row: &mut Vec<u16>) -> Result<(), InputFault>
     ensures { AppendsPixels bytes.now row.old.items row.new.items result }
@@ -149,4 +101,52 @@ fn greatest(samples: &[u16]) -> u16
         greatest = (*sample).max(greatest);
     }
     greatest
+}
+
+/// Appends the samples of so many units, which these bytes are, to a row. The loops over the
+/// bytes are vector code. A row that holds samples above the maxval is never given on.
+pub fn append(
+    packing: Packing,
+    bytes: &[u8],
+    maxval: u32,
+    row: &mut Vec<u16>,
+) -> Result<(), InputFault>
+    ensures { (n : ℕ) → length bytes.now ≡ n * unit_bytes packing → AppendsUnits packing maxval n bytes.now row.old.items row.new.items result }
+{
+    match packing {
+        Packing::Packed => append_pixels(bytes, row),
+        Packing::Narrow => append_narrow(bytes, maxval, row),
+        Packing::Wide => append_wide(bytes, maxval, row),
+    }
+}
+
+/// The bytes of a unit: a sample, or a byte of eight pixels.
+pub fn unit_bytes(packing: Packing) -> usize
+    ensures { result ≡ unit_bytes packing }
+{
+    match packing {
+        Packing::Packed | Packing::Narrow => 1,
+        Packing::Wide => 2,
+    }
+}
+
+/// The units in a row of this shape.
+pub fn units_in_row(packing: Packing, shape: Shape) -> usize
+    requires { shape.width ≤ max_side }
+    ensures { result ≡ units_in_row packing shape }
+{
+    match packing {
+        Packing::Packed => (shape.width as usize).div_ceil(8),
+        Packing::Narrow | Packing::Wide => shape.row_length() as usize,
+    }
+}
+
+/// The samples that the units of a row of this shape hold, with those of spare bits.
+pub fn samples_in_row(packing: Packing, shape: Shape) -> usize
+    requires { shape.width ≤ max_side }
+{
+    match packing {
+        Packing::Packed => (shape.width as usize).div_ceil(8) * 8,
+        Packing::Narrow | Packing::Wide => shape.row_length() as usize,
+    }
 }

@@ -7,7 +7,7 @@ ghost use Rattle.pnm_read.specs.declared.fault.InputFault.{InputFault as Fault};
 ghost use Rattle.pnm_read.specs.declared.fault.InputFault.TheVariants.{ReadFailed, Memory};
 ghost use Rattle.pnm_read.specs.Inputs.{Turn, Finds};
 ghost use Rattle.pnm_read.specs.Said.{row_at};
-ghost use Rattle.pnm_read.specs.Awaiting.{awaited_after, GoesOn, Steps, Begins, SeesText};
+ghost use Rattle.pnm_read.specs.Awaiting.{awaited_after, Answers, Steps, Begins, SeesText};
 
 use crate::fault::InputFault;
 use crate::format::Format;
@@ -107,7 +107,7 @@ impl<R: BytesIn> Source<R> {
 
     /// The next message, before the end of the stream and any fault.
     fn go_on(&mut self, awaited: Awaited) -> Result<Option<Message>, InputFault>
-        ensures turn { Turn R.left R.failures R.same self.old.input self.new.input result (GoesOn awaited result self.new.state) }
+        ensures turn { Turn R.left R.failures R.same self.old.input self.new.input result (Answers awaited result self.new.state) }
         ensures stopped { IfErr result (λ fault. stopped_by self.new ≡ Some fault) }
     {
         match step_at(&mut self.input, awaited) {

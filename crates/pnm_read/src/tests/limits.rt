@@ -1,4 +1,4 @@
-//! The limits on lengths in figures, long numbers, and images that are read in many pieces.
+//! The limits on lengths in figures, long numbers, and images that are read in many chunks.
 
 use super::answers::Answer::{Begin, Fault, ImageEnd, Row, StreamEnd};
 use super::answers::{Answer, answers};

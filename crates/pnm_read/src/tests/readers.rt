@@ -36,7 +36,7 @@ impl Read for Drips<'_> {
 
 /// The answers stay the same however few bytes a read gives. The first `next` reads all of them
 /// and sees the end, and no read follows.
-fn answers_in_pieces(rt: &impl Abort, alloc: Global, cases: &[Case<'_>]) -> Result<(), Fail> {
+fn answers_in_chunks(rt: &impl Abort, alloc: Global, cases: &[Case<'_>]) -> Result<(), Fail> {
     for (input, wants) in cases {
         for most in [1, 2, 3, 4097] {
             let mut drips = Drips {
@@ -56,7 +56,7 @@ fn answers_in_pieces(rt: &impl Abort, alloc: Global, cases: &[Case<'_>]) -> Resu
 }
 
 #[test]
-fn reads_in_pieces(rt: HostRuntime) -> Result<(), Fail> {
+fn reads_in_chunks(rt: HostRuntime) -> Result<(), Fail> {
     for table in [
         rows::WHOLE,
         rows::FAULTY,
@@ -72,14 +72,14 @@ fn reads_in_pieces(rt: HostRuntime) -> Result<(), Fail> {
         streams::AFTER_RAW,
         streams::AFTER_PLAIN,
     ] {
-        answers_in_pieces(&rt, rt.alloc(), table)?;
+        answers_in_chunks(&rt, rt.alloc(), table)?;
     }
     Ok(())
 }
 
 /// A raster that is longer than what is read at a time.
 #[test]
-fn reads_long_rasters_in_pieces(rt: HostRuntime) -> Result<(), Fail> {
+fn reads_long_rasters_in_chunks(rt: HostRuntime) -> Result<(), Fail> {
     let mut input = Vec::from_slice(rt.alloc(), b"P5 10000 1 250\n")?;
     let mut row = Vec::new(rt.alloc());
     for k in 0..10_000u32 {
