@@ -11,7 +11,8 @@ use Rattle.std.proofs.lemmas.Bool.{and_parts, and_from, or_parts, leb-true, ltb-
 use Rattle.pnm_image.specs.Heads.{IsTupleType}
 use Rattle.pnm_image.specs.Texts.{is_blank, is_white, begins_in_word, onto_first as onto_word, words, decimal_value}
 use Rattle.pnm_tools.specs.declared.tool.Tool.{Tool}
-use Rattle.pnm_tools.specs.Cut.{IsEdge, IsSize, IsLawfulAxis}
+use Rattle.pnm_tools.specs.Cut.{IsEdge, IsLawfulAxis}
+use Rattle.pnm_tools.specs.Limits.{IsExtent}
 use Rattle.pnm_tools.specs.Chains.{AreLawfulTools, IsChain}
 use Rattle.pnm_tools.specs.Tools.{IsLawfulTool}
 use Rattle.pnm_chain.specs.declared.options.ToolName.{ToolName}
@@ -127,7 +128,7 @@ some_edge : (o : Option (List ℕ)) → IfSome o (λ word. spells_offset word �
 some_edge None h = h
 some_edge (Some word) h = edge_in_range word h
 
-some_size : (o : Option (List ℕ)) → IfSome o (λ word. spells_number 1 16777216 word ≡ true) → IfSome (option_map decimal_value o) IsSize
+some_size : (o : Option (List ℕ)) → IfSome o (λ word. spells_number 1 16777216 word ≡ true) → IfSome (option_map decimal_value o) IsExtent
 some_size None h = h
 some_size (Some word) h = in_range 1 16777216 word h
 
