@@ -23,13 +23,13 @@ use Rattle.pnm_read.proofs.LaterLaws.{later_said-nothing, later_said-next}
 -- ---- the beginning of an image
 
 -- a text whose magic is at fault
-pub no_format : (is_first : Bool) (k : InputFault) (b a : List ℕ) → Finds {X = Format} (λ format. format) (format_at is_first) (Err k) b a → Begins is_first (Err k) b a
+pub no_format : (is_first : Bool) (k : InputFault) (b a : List ℕ) → Finds (format_at is_first) (Err k) b a → Begins is_first (Err k) b a
 unfolding image_said
 no_format is_first k b a (inl e) = inl (ap (format_said later_said) e)
 no_format is_first k b a (inr o) = inr o
 
 -- a text whose header is at fault
-pub no_head : (is_first : Bool) (format : Format) (k : InputFault) (b m a : List ℕ) → Finds {X = Format} (λ format. format) (format_at is_first) (Ok format) b m → Finds {X = HeadValue} (λ head. head) (head_at format) (Err k) m a → Begins is_first (Err k) b a
+pub no_head : (is_first : Bool) (format : Format) (k : InputFault) (b m a : List ℕ) → Finds (format_at is_first) (Ok format) b m → Finds (head_at format) (Err k) m a → Begins is_first (Err k) b a
 unfolding image_said
 no_head is_first format k b m a f (inl e) = inl (ap (format_said later_said) f ∙ ap (head_said later_said format) e)
 no_head is_first format k b m a f (inr o) = inr o
@@ -40,7 +40,7 @@ rows_due format head raster a rf rs ry =
     rw (rf, rows, rs) refl
 
 -- a header, and its raster
-pub begins : (is_first : Bool) (format : Format) (head : HeadValue) (raster : Raster) (step : Step) (b m a : List ℕ) → Finds {X = Format} (λ format. format) (format_at is_first) (Ok format) b m → Finds {X = HeadValue} (λ head. head) (head_at format) (Ok head) m a
+pub begins : (is_first : Bool) (format : Format) (head : HeadValue) (raster : Raster) (step : Step) (b m a : List ℕ) → Finds (format_at is_first) (Ok format) b m → Finds (head_at format) (Ok head) m a
     → raster.format ≡ format → raster.shape ≡ head.shape → raster.y ≡ 0 → step.message ≡ Begin head → step.state ≡ Awaits (RowOrEnd raster) → Begins is_first (Ok step) b a
 unfolding image_said
 begins is_first format head raster step b m a f h rf rs ry sm ss =

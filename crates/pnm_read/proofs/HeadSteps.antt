@@ -98,7 +98,7 @@ head_with after read = read >>= λ head. Ok (head, after)
 
 -- the head of the numbers of a piece
 found_after : (kind : Kind) (result : Result HeadValue InputFault) (piece text after : List ℕ) → piece_from (header_item (number_count kind)) header_end [] text ≡ Ok (piece, after)
-    → GivesInMemory result (numbers_item kind (numbers_in piece)) → Finds (λ (head : HeadValue). head) (pnm_head_at kind) result text after
+    → GivesInMemory result (numbers_item kind (numbers_in piece)) → Finds (pnm_head_at kind) result text after
 found_after kind (Ok head) piece text after p gives = head_at_is kind text ∙ ap (head_after kind) p ∙ ap (head_with after) gives
 found_after kind (Err fault) piece text after p gives =
     elim gives [
@@ -136,7 +136,7 @@ abbrev pub HeadOf : Kind → List ℕ → Result HeadValue InputFault → Type 0
 HeadOf kind held result = (found : List ℕ) → IsNumbers (number_count kind) found held → GivesInMemory result (numbers_item kind found)
 
 pub head_found : (kind : Kind) (wanted : ℕ) (old now : HeaderScanner) (result : Result HeadValue InputFault) (text after : List ℕ) → IsHeaderFresh wanted old → wanted ≡ number_count kind → length old.numbers ≤ 3 → HeadOf kind now.numbers result
-    → Scans (header_item old.wanted) header_end (IsHeaderAfter old) (IsHeaderWhole now) (Ok tt) text after → Finds (λ (head : HeadValue). head) (pnm_head_at kind) result text after
+    → Scans (header_item old.wanted) header_end (IsHeaderAfter old) (IsHeaderWhole now) (Ok tt) text after → Finds (pnm_head_at kind) result text after
 head_found kind wanted old now result text after fresh count three gives scans =
     let s = fresh_scans kind wanted old now (Ok tt) text after fresh count three scans in
     found_after kind result s.0 text after s.2 (gives (numbers_in s.0) (numbers_found kind now text s.0 after s.1 s.2))

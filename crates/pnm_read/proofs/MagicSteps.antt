@@ -54,18 +54,18 @@ abbrev allowed_if : Bool → Format → Result Format InputFault
 allowed_if refused format = if refused then Err PlainInStream else Ok format
 
 allowed_found : (refused : Bool) (is_first : Bool) (format : Format) (text after : List ℕ) → format_at is_first text ≡ (if refused then Err PlainInStream else Ok (format, after))
-    → Finds (λ (format : Format). format) (format_at is_first) (allowed_if refused format) text after
+    → Finds (format_at is_first) (allowed_if refused format) text after
 allowed_found true is_first format text after e = inl e
 allowed_found false is_first format text after e = e
 
-format_found : (is_first : Bool) (found : Option Format) (text after : List ℕ) → format_at is_first text ≡ second_as is_first after found → Finds (λ (format : Format). format) (format_at is_first) (format_allowed is_first found) text after
+format_found : (is_first : Bool) (found : Option Format) (text after : List ℕ) → format_at is_first text ≡ second_as is_first after found → Finds (format_at is_first) (format_allowed is_first found) text after
 format_found is_first (Some format) text after e = allowed_found (format.is_plain && not is_first) is_first format text after e
 format_found is_first None text after e = inl e
 
 pub magic_found : (is_first : Bool) (result : Result Format InputFault) (text rest after : List ℕ) (b : ℕ) → result ≡ format_named is_first b → text ≡ 80 ∷ rest → rest ≡ b ∷ after
-    → Finds (λ (format : Format). format) (format_at is_first) result text after
+    → Finds (format_at is_first) result text after
 magic_found is_first result text rest after b is e f =
-    subst (λ (r : Result Format InputFault). Finds (λ (format : Format). format) (format_at is_first) r text after) (sym is) (format_found is_first (format_of b) text after (magic_is is_first text rest after b e f))
+    subst (λ (r : Result Format InputFault). Finds (format_at is_first) r text after) (sym is) (format_found is_first (format_of b) text after (magic_is is_first text rest after b e f))
 
 allowed_of_text : (refused : Bool) (format : Format) → allowed_if refused format ≡ Err ReadFailed → ⊥
 allowed_of_text true format e = cc

@@ -111,13 +111,13 @@ abbrev head_with : List ℕ → Result HeadValue InputFault → Result (HeadValu
 head_with after read = read >>= λ head. Ok (head, after)
 
 -- no LF follows the magic
-pub pam_no_feed : (fault : InputFault) (text after : List ℕ) → Passes line_feed_item (Err fault) text after → Finds (λ (head : HeadValue). head) pam_head_at (Err fault) text after
+pub pam_no_feed : (fault : InputFault) (text after : List ℕ) → Passes line_feed_item (Err fault) text after → Finds pam_head_at (Err fault) text after
 pam_no_feed fault text after (inl e) = inl (head_at_is text ∙ ap head_from e)
 pam_no_feed fault text after (inr outside) = inr outside
 
 -- the header is at fault
 pub pam_missed : (old : PamScanner) (is_whole : List ℕ → Type 0) (fault : InputFault) (text rest after : List ℕ) → IsPamAfter old [] → line_feed_item text ≡ Ok rest → Scans pam_item header_end (IsPamAfter old) is_whole (Err fault) rest after
-    → Finds (λ (head : HeadValue). head) pam_head_at (Err fault) text after
+    → Finds pam_head_at (Err fault) text after
 pam_missed old is_whole fault text rest after fresh feed scans =
     elim (scans [] fresh) [
       | inl at_fault ↦ inl (head_at_is text ∙ ap head_from feed ∙ ap head_after at_fault)
@@ -136,14 +136,14 @@ HeadOfFields fields result = (lines : List (List ℕ)) → IsFields fields lines
 
 -- the head of the lines of a piece
 given_after : (result : Result HeadValue InputFault) (text rest piece after : List ℕ) → line_feed_item text ≡ Ok rest → piece_from pam_item header_end [] rest ≡ Ok (piece, after) → GivesInMemory result (lines_item (ended_lines piece))
-    → Finds (λ (head : HeadValue). head) pam_head_at result text after
+    → Finds pam_head_at result text after
 given_after (Ok head) text rest piece after feed p gives = head_at_is text ∙ ap head_from feed ∙ ap head_after p ∙ ap (head_with after) gives
 given_after (Err fault) text rest piece after feed p (inl memory) = inr (inr memory)
 given_after (Err fault) text rest piece after feed p (inr lines) = inl (head_at_is text ∙ ap head_from feed ∙ ap head_after p ∙ ap (head_with after) lines)
 
 -- the header was taken, and its head given
 pub pam_found : (old now : PamScanner) (result : Result HeadValue InputFault) (text rest after : List ℕ) → IsPamAfter old [] → HeadOfFields now.fields result → line_feed_item text ≡ Ok rest
-    → Scans pam_item header_end (IsPamAfter old) (IsPamWhole now) (Ok tt) rest after → Finds (λ (head : HeadValue). head) pam_head_at result text after
+    → Scans pam_item header_end (IsPamAfter old) (IsPamWhole now) (Ok tt) rest after → Finds pam_head_at result text after
 pam_found old now result text rest after fresh gives feed scans =
     let s = scans [] fresh in
     given_after result text rest s.0 after feed s.2 (gives (ended_lines s.0) s.1)

@@ -35,20 +35,20 @@ pixel_of found = found >>= λ piece. sample_done (pixel_in piece.0) piece.1
 
 pub pixel_found : {R : Type 0} {left : R → Option (List ℕ)} {failures : R → ℕ} {same : R → R → Type 0} {old new : Input R} (fresh now : PixelScanner) (sample : ℕ) → IsPixelAfter fresh [] → sample ≡ now.pixel
     → Turn {A = Unit {0}} left failures same old new (Ok tt) (Scans pixel_item pixel_end (IsPixelAfter fresh) (IsPixelWhole now) (Ok tt))
-    → Turn {A = ℕ} left failures same old new (Ok sample) (Finds (λ (sample : ℕ). sample) plain_pixel (Ok sample))
+    → Turn {A = ℕ} left failures same old new (Ok sample) (Finds plain_pixel (Ok sample))
 unfolding plain_pixel
 pixel_found fresh now sample is_fresh is_pixel t =
     turn_ok_so {A = Unit {0}} {B = ℕ} tt (Ok sample) (no_fault sample ReadFailed)
     (λ b a o. let piece = o [] is_fresh in ap pixel_of piece.2 ∙ ap (λ (n : ℕ). sample_done n a) (sym (is_pixel ∙ piece.1))) t
 
-no_pixel : (k : InputFault) (is_whole : List ℕ → Type 0) (b a : List ℕ) → ScansAfter pixel_item pixel_end is_whole (Err k) [] b a → Finds (λ (sample : ℕ). sample) plain_pixel (Err k) b a
+no_pixel : (k : InputFault) (is_whole : List ℕ → Type 0) (b a : List ℕ) → ScansAfter pixel_item pixel_end is_whole (Err k) [] b a → Finds plain_pixel (Err k) b a
 unfolding plain_pixel
 no_pixel k is_whole b a (inl e) = inl (ap pixel_of e)
 no_pixel k is_whole b a (inr outside) = inr outside
 
 pub pixel_fault : {R : Type 0} {left : R → Option (List ℕ)} {failures : R → ℕ} {same : R → R → Type 0} {old new : Input R} (fresh : PixelScanner) (is_whole : List ℕ → Type 0) (k : InputFault) → IsPixelAfter fresh []
     → Turn {A = Unit {0}} left failures same old new (Err k) (Scans pixel_item pixel_end (IsPixelAfter fresh) is_whole (Err k))
-    → Turn {A = ℕ} left failures same old new (Err k) (Finds (λ (sample : ℕ). sample) plain_pixel (Err k))
+    → Turn {A = ℕ} left failures same old new (Err k) (Finds plain_pixel (Err k))
 pixel_fault fresh is_whole k is_fresh t = turn_err_so {A = Unit {0}} {B = ℕ} k (λ b a o. no_pixel k is_whole b a (o [] is_fresh)) t
 
 -- ---- numbers
@@ -70,7 +70,7 @@ number_above maxval n value is_value above = ap (λ (t : Bool). number_if t n) (
 
 pub number_found : {R : Type 0} {left : R → Option (List ℕ)} {failures : R → ℕ} {same : R → R → Type 0} {old new : Input R} (fresh now : DecimalScanner) (maxval sample : ℕ) → IsDecimalAfter fresh [] → sample ≡ now.value → maxval ≤ 65535 → sample ≤ maxval
     → Turn {A = Unit {0}} left failures same old new (Ok tt) (Scans decimal_item decimal_end (IsDecimalAfter fresh) (IsDecimalWhole now) (Ok tt))
-    → Turn {A = ℕ} left failures same old new (Ok sample) (Finds (λ (sample : ℕ). sample) (plain_decimal maxval) (Ok sample))
+    → Turn {A = ℕ} left failures same old new (Ok sample) (Finds (plain_decimal maxval) (Ok sample))
 unfolding plain_decimal
 number_found fresh now maxval sample is_fresh is_value most le t =
     turn_ok_so {A = Unit {0}} {B = ℕ} tt (Ok sample) (no_fault sample ReadFailed)
@@ -80,7 +80,7 @@ number_found fresh now maxval sample is_fresh is_value most le t =
 
 pub number_too_great : {R : Type 0} {left : R → Option (List ℕ)} {failures : R → ℕ} {same : R → R → Type 0} {old new : Input R} (fresh now : DecimalScanner) (maxval value : ℕ) → IsDecimalAfter fresh [] → value ≡ now.value → maxval < value
     → Turn {A = Unit {0}} left failures same old new (Ok tt) (Scans decimal_item decimal_end (IsDecimalAfter fresh) (IsDecimalWhole now) (Ok tt))
-    → Turn {A = ℕ} left failures same old new (Err SampleAboveMaxval) (Finds (λ (sample : ℕ). sample) (plain_decimal maxval) (Err SampleAboveMaxval))
+    → Turn {A = ℕ} left failures same old new (Err SampleAboveMaxval) (Finds (plain_decimal maxval) (Err SampleAboveMaxval))
 unfolding plain_decimal
 number_too_great fresh now maxval value is_fresh is_value above t =
     turn_ok_so {A = Unit {0}} {B = ℕ} tt (Err SampleAboveMaxval) (λ e. absurd cc)
@@ -88,14 +88,14 @@ number_too_great fresh now maxval value is_fresh is_value above t =
     let piece = o [] is_fresh in
     inl (ap (number_of maxval) piece.2 ∙ ap (λ (r : Result ℕ InputFault). r >>= λ n. sample_done n a) (number_above maxval (number_in piece.0) value (is_value ∙ piece.1) above))) t
 
-no_number : (maxval : ℕ) (k : InputFault) (is_whole : List ℕ → Type 0) (b a : List ℕ) → ScansAfter decimal_item decimal_end is_whole (Err k) [] b a → Finds (λ (sample : ℕ). sample) (plain_decimal maxval) (Err k) b a
+no_number : (maxval : ℕ) (k : InputFault) (is_whole : List ℕ → Type 0) (b a : List ℕ) → ScansAfter decimal_item decimal_end is_whole (Err k) [] b a → Finds (plain_decimal maxval) (Err k) b a
 unfolding plain_decimal
 no_number maxval k is_whole b a (inl e) = inl (ap (number_of maxval) e)
 no_number maxval k is_whole b a (inr outside) = inr outside
 
 pub number_fault : {R : Type 0} {left : R → Option (List ℕ)} {failures : R → ℕ} {same : R → R → Type 0} {old new : Input R} (fresh : DecimalScanner) (is_whole : List ℕ → Type 0) (maxval : ℕ) (k : InputFault) → IsDecimalAfter fresh []
     → Turn {A = Unit {0}} left failures same old new (Err k) (Scans decimal_item decimal_end (IsDecimalAfter fresh) is_whole (Err k))
-    → Turn {A = ℕ} left failures same old new (Err k) (Finds (λ (sample : ℕ). sample) (plain_decimal maxval) (Err k))
+    → Turn {A = ℕ} left failures same old new (Err k) (Finds (plain_decimal maxval) (Err k))
 number_fault fresh is_whole maxval k is_fresh t = turn_err_so {A = Unit {0}} {B = ℕ} k (λ b a o. no_number maxval k is_whole b a (o [] is_fresh)) t
 
 -- ---- the end
@@ -139,8 +139,8 @@ samples_begin s all more samples input at_once is_all none = record {
       (turn_taken {A = Unit {0}} {result = Ok tt} [] at_once (no_fault tt ReadFailed) refl refl refl);
 }
 
-no_sample : (s : Shape) (more : ℕ) (samples : List ℕ) (k : InputFault) (b m a : List ℕ) → 0 < more → SamplesFrom s (row_length s) more samples b m → Finds (λ (sample : ℕ). sample) (sample_of s) (Err k) m a
-    → Finds (λ (row : List ℕ). row) (plain_row s) (Err k) b a
+no_sample : (s : Shape) (more : ℕ) (samples : List ℕ) (k : InputFault) (b m a : List ℕ) → 0 < more → SamplesFrom s (row_length s) more samples b m → Finds (sample_of s) (Err k) m a
+    → Finds (plain_row s) (Err k) b a
 unfolding plain_row
 no_sample s more samples k b m a some known (inl e) = inl (part_fails (sample_of s) (row_length s) more 1 samples b m k some (one_fails (sample_of s) m k e) known)
 no_sample s more samples k b m a some known (inr outside) = inr outside
@@ -148,8 +148,8 @@ no_sample s more samples k b m a some known (inr outside) = inr outside
 -- a sample is at fault, or can't be read
 pub samples_fault : {R : Type 0} {left : R → Option (List ℕ)} {failures : R → ℕ} {same : R → R → Type 0} {s : Shape} {all more : ℕ} {samples : List ℕ} {old now new : Input R}
     (k : InputFault) → ((a b c : R) → same a b → same b c → same a c) → ReadingSamples left failures same s all more samples old now → all ≡ row_length s → 0 < more
-    → Turn {A = ℕ} left failures same now new (Err k) (Finds (λ (sample : ℕ). sample) (sample_of s) (Err k))
-    → Turn {A = List ℕ} left failures same old new (Err k) (Finds (λ (row : List ℕ). row) (plain_row s) (Err k))
+    → Turn {A = ℕ} left failures same now new (Err k) (Finds (sample_of s) (Err k))
+    → Turn {A = List ℕ} left failures same old new (Err k) (Finds (plain_row s) (Err k))
 samples_fault {s = s} {more = more} {samples = samples} k later r is_all some t =
     turn_err_so {A = ℕ} {B = List ℕ} k
     (λ b a o. no_sample s more samples k b o.0 a some (subst (λ (n : ℕ). SamplesFrom s n more samples b o.0) is_all o.1) o.2)
@@ -158,14 +158,14 @@ samples_fault {s = s} {more = more} {samples = samples} k later r is_all some t 
 -- memory ran out
 pub samples_no_memory : {R : Type 0} {left : R → Option (List ℕ)} {failures : R → ℕ} {same : R → R → Type 0} {s : Shape} {all more : ℕ} {samples : List ℕ} {old now new : Input R}
     (sample : ℕ) → ((a b c : R) → same a b → same b c → same a c) → ReadingSamples left failures same s all more samples old now
-    → Turn {A = ℕ} left failures same now new (Ok sample) (Finds (λ (sample : ℕ). sample) (sample_of s) (Ok sample))
-    → Turn {A = List ℕ} left failures same old new (Err Memory) (Finds (λ (row : List ℕ). row) (plain_row s) (Err Memory))
+    → Turn {A = ℕ} left failures same now new (Ok sample) (Finds (sample_of s) (Ok sample))
+    → Turn {A = List ℕ} left failures same old new (Err Memory) (Finds (plain_row s) (Err Memory))
 samples_no_memory sample later r t = turn_ok_so {A = ℕ} {B = List ℕ} sample (Err Memory) (λ e. absurd cc) (λ b a o. inr (inr refl)) (turn_then {A = Unit {0}} {B = ℕ} tt later r.turn t)
 
 -- a sample more was read
 pub samples_more : {R : Type 0} {left : R → Option (List ℕ)} {failures : R → ℕ} {same : R → R → Type 0} {s : Shape} {all more : ℕ} {samples : List ℕ} {old now new : Input R}
     (sample fewer : ℕ) (others : List ℕ) → ((a b c : R) → same a b → same b c → same a c) → ReadingSamples left failures same s all more samples old now → 0 < more → fewer ≡ more - 1 → others ≡ samples ++ sample ∷ []
-    → Turn {A = ℕ} left failures same now new (Ok sample) (Finds (λ (sample : ℕ). sample) (sample_of s) (Ok sample))
+    → Turn {A = ℕ} left failures same now new (Ok sample) (Finds (sample_of s) (Ok sample))
     → ReadingSamples left failures same s all fewer others old new
 samples_more {s = s} {all = all} {more = more} {samples = samples} sample fewer others later r some is_fewer are_others t = record {
   turn = turn_ok_so {A = ℕ} {B = Unit {0}} sample (Ok tt) (no_fault tt ReadFailed) (λ b a o.
@@ -177,7 +177,7 @@ samples_more {s = s} {all = all} {more = more} {samples = samples} sample fewer 
 -- all samples were read
 pub samples_read : {R : Type 0} {left : R → Option (List ℕ)} {failures : R → ℕ} {same : R → R → Type 0} {s : Shape} {all more : ℕ} {samples : List ℕ} {old now : Input R}
     (row : List ℕ) → ReadingSamples left failures same s all more samples old now → all ≡ row_length s → more ≡ 0 → row ≡ samples
-    → Turn {A = List ℕ} left failures same old now (Ok row) (Finds (λ (row : List ℕ). row) (plain_row s) (Ok row))
+    → Turn {A = List ℕ} left failures same old now (Ok row) (Finds (plain_row s) (Ok row))
 unfolding plain_row
 samples_read {s = s} row r is_all none is_row =
     turn_ok_so {A = Unit {0}} {B = List ℕ} tt (Ok row) (no_fault row ReadFailed)
@@ -213,32 +213,32 @@ earlier_row s zero text some = absurd (omega arith)
 earlier_row s (suc more) text some = refl
 
 -- a row at fault is so wherever it stands
-no_row : (s : Shape) (more : ℕ) (k : InputFault) (b a : List ℕ) → Finds (λ (row : List ℕ). row) (plain_row s) (Err k) b a → Finds (λ (row : List ℕ). row) (row_by true s more) (Err k) b a
+no_row : (s : Shape) (more : ℕ) (k : InputFault) (b a : List ℕ) → Finds (plain_row s) (Err k) b a → Finds (row_by true s more) (Err k) b a
 no_row s zero k b a (inl e) = inl (last_row s zero b refl ∙ ap last_of e)
 no_row s (suc more) k b a (inl e) = inl e
 no_row s more k b a (inr outside) = inr outside
 
 pub row_fault : {R : Type 0} {left : R → Option (List ℕ)} {failures : R → ℕ} {same : R → R → Type 0} {old new : Input R} (s : Shape) (more : ℕ) (k : InputFault)
-    → Turn {A = List ℕ} left failures same old new (Err k) (Finds (λ (row : List ℕ). row) (plain_row s) (Err k)) → Turn {A = List ℕ} left failures same old new (Err k) (Finds (λ (row : List ℕ). row) (row_by true s more) (Err k))
+    → Turn {A = List ℕ} left failures same old new (Err k) (Finds (plain_row s) (Err k)) → Turn {A = List ℕ} left failures same old new (Err k) (Finds (row_by true s more) (Err k))
 row_fault s more k t = turn_err_so {A = List ℕ} {B = List ℕ} k (no_row s more k) t
 
-no_end : (s : Shape) (more : ℕ) (row : List ℕ) (k : InputFault) (b m a : List ℕ) → more ≡ 0 → plain_row s b ≡ row_done row m → Passes after_last_item (Err k) m a → Finds (λ (row : List ℕ). row) (row_by true s more) (Err k) b a
+no_end : (s : Shape) (more : ℕ) (row : List ℕ) (k : InputFault) (b m a : List ℕ) → more ≡ 0 → plain_row s b ≡ row_done row m → Passes after_last_item (Err k) m a → Finds (row_by true s more) (Err k) b a
 no_end s more row k b m a none found (inl e) = inl (last_row s more b none ∙ ap last_of found ∙ ap (row_then row) e)
 no_end s more row k b m a none found (inr outside) = inr outside
 
 -- what comes after the last row is at fault, or can't be read
 pub end_fault : {R : Type 0} {left : R → Option (List ℕ)} {failures : R → ℕ} {same : R → R → Type 0} {old mid new : Input R} (s : Shape) (more : ℕ) (row : List ℕ) (k : InputFault) → ((a b c : R) → same a b → same b c → same a c) → more ≡ 0
-    → Turn {A = List ℕ} left failures same old mid (Ok row) (Finds (λ (row : List ℕ). row) (plain_row s) (Ok row)) → Turn {A = Unit {0}} left failures same mid new (Err k) (Passes after_last_item (Err k))
-    → Turn {A = List ℕ} left failures same old new (Err k) (Finds (λ (row : List ℕ). row) (row_by true s more) (Err k))
+    → Turn {A = List ℕ} left failures same old mid (Ok row) (Finds (plain_row s) (Ok row)) → Turn {A = Unit {0}} left failures same mid new (Err k) (Passes after_last_item (Err k))
+    → Turn {A = List ℕ} left failures same old new (Err k) (Finds (row_by true s more) (Err k))
 end_fault s more row k later none r t =
     turn_err_so {A = Unit {0}} {B = List ℕ} k (λ b a o. no_end s more row k b o.0 a none o.1 o.2) (turn_then {A = List ℕ} {B = Unit {0}} row later r t)
 
 pub last_row_found : {R : Type 0} {left : R → Option (List ℕ)} {failures : R → ℕ} {same : R → R → Type 0} {old mid new : Input R} (s : Shape) (more : ℕ) (row : List ℕ) → ((a b c : R) → same a b → same b c → same a c) → more ≡ 0
-    → Turn {A = List ℕ} left failures same old mid (Ok row) (Finds (λ (row : List ℕ). row) (plain_row s) (Ok row)) → Turn {A = Unit {0}} left failures same mid new (Ok tt) (Passes after_last_item (Ok tt))
-    → Turn {A = List ℕ} left failures same old new (Ok row) (Finds (λ (row : List ℕ). row) (row_by true s more) (Ok row))
+    → Turn {A = List ℕ} left failures same old mid (Ok row) (Finds (plain_row s) (Ok row)) → Turn {A = Unit {0}} left failures same mid new (Ok tt) (Passes after_last_item (Ok tt))
+    → Turn {A = List ℕ} left failures same old new (Ok row) (Finds (row_by true s more) (Ok row))
 last_row_found s more row later none r t =
     turn_ok_so {A = Unit {0}} {B = List ℕ} tt (Ok row) (no_fault row ReadFailed) (λ b a o. last_row s more b none ∙ ap last_of o.1 ∙ ap (row_then row) o.2) (turn_then {A = List ℕ} {B = Unit {0}} row later r t)
 
 pub earlier_row_found : {R : Type 0} {left : R → Option (List ℕ)} {failures : R → ℕ} {same : R → R → Type 0} {old new : Input R} (s : Shape) (more : ℕ) (row : List ℕ) → 0 < more
-    → Turn {A = List ℕ} left failures same old new (Ok row) (Finds (λ (row : List ℕ). row) (plain_row s) (Ok row)) → Turn {A = List ℕ} left failures same old new (Ok row) (Finds (λ (row : List ℕ). row) (row_by true s more) (Ok row))
+    → Turn {A = List ℕ} left failures same old new (Ok row) (Finds (plain_row s) (Ok row)) → Turn {A = List ℕ} left failures same old new (Ok row) (Finds (row_by true s more) (Ok row))
 earlier_row_found s more row some t = turn_ok_so {A = List ℕ} {B = List ℕ} row (Ok row) (no_fault row ReadFailed) (λ b a o. earlier_row s more b some ∙ o) t

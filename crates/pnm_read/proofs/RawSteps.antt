@@ -194,17 +194,17 @@ abbrev row_of_units : Shape → Result (List (List ℕ) × List ℕ) InputFault 
 row_of_units s units = units >>= λ found. row_done (take (row_length s) (concat found.0)) found.1
 
 pub row_found : {R A : Type 0} {left : R → Option (List ℕ)} {failures : R → ℕ} {same : R → R → Type 0} {old new : Input R} (view : A → List ℕ) (s : Shape) (units : A) (row : List ℕ) → row ≡ take (row_length s) (view units)
-    → Turn {A = A} left failures same old new (Ok units) (FindsUnits view s (Ok units)) → Turn {A = List ℕ} left failures same old new (Ok row) (Finds (λ (row : List ℕ). row) (raw_row s) (Ok row))
+    → Turn {A = A} left failures same old new (Ok units) (FindsUnits view s (Ok units)) → Turn {A = List ℕ} left failures same old new (Ok row) (Finds (raw_row s) (Ok row))
 unfolding raw_row
 row_found {A = A} view s units row is_row t =
     turn_ok_so {A = A} {B = List ℕ} units (Ok row) (no_fault row ReadFailed)
     (λ b a o. ap (row_of_units s) o.1 ∙ ap (λ (l : List ℕ). row_done l a) (ap (take (row_length s)) (sym o.2) ∙ sym is_row)) t
 
-fault_of_units : {A : Type 0} (view : A → List ℕ) (s : Shape) (k : InputFault) (b a : List ℕ) → FindsUnits view s (Err k) b a → Finds (λ (row : List ℕ). row) (raw_row s) (Err k) b a
+fault_of_units : {A : Type 0} (view : A → List ℕ) (s : Shape) (k : InputFault) (b a : List ℕ) → FindsUnits view s (Err k) b a → Finds (raw_row s) (Err k) b a
 unfolding raw_row
 fault_of_units view s k b a (inl e) = inl (ap (row_of_units s) e)
 fault_of_units view s k b a (inr outside) = inr outside
 
 pub row_fault : {R A : Type 0} {left : R → Option (List ℕ)} {failures : R → ℕ} {same : R → R → Type 0} {old new : Input R} (view : A → List ℕ) (s : Shape) (k : InputFault)
-    → Turn {A = A} left failures same old new (Err k) (FindsUnits view s (Err k)) → Turn {A = List ℕ} left failures same old new (Err k) (Finds (λ (row : List ℕ). row) (raw_row s) (Err k))
+    → Turn {A = A} left failures same old new (Err k) (FindsUnits view s (Err k)) → Turn {A = List ℕ} left failures same old new (Err k) (Finds (raw_row s) (Err k))
 row_fault {A = A} view s k t = turn_err_so {A = A} {B = List ℕ} k (fault_of_units view s k) t

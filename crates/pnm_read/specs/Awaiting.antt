@@ -3,12 +3,13 @@ use Rattle.std.specs.Prelude.{◌≡◌, ℕ, ◌-◌, ◌⊎◌, Bool, true, fa
 use Rattle.pnm_image.specs.declared.message.Message.{Message}
 use Rattle.pnm_image.specs.declared.message.Message.TheVariants.{Begin, Row, ImageEnd, StreamEnd, Stop}
 use Rattle.pnm_read.specs.declared.fault.InputFault.{InputFault}
+use Rattle.pnm_read.specs.declared.raster.Raster.{Raster}
 use Rattle.pnm_read.specs.declared.source.Awaited.{Awaited}
 use Rattle.pnm_read.specs.declared.source.Awaited.TheVariants.{FirstImage, RowOrEnd, ImageOrEnd, End}
 use Rattle.pnm_read.specs.declared.source.State.{State}
 use Rattle.pnm_read.specs.declared.source.State.TheVariants.{Awaits, Ended, Failed}
 use Rattle.pnm_read.specs.declared.source.Step.{Step}
-use Rattle.pnm_read.specs.Said.{Said, said, later_said, ends_stream, says_nothing, says_fault, rows_said, image_said, then_said}
+use Rattle.pnm_read.specs.Said.{Said, said, later_said, ends_stream, says_nothing, says_fault, row_at, rows_said, image_said, then_said}
 use Rattle.pnm_read.specs.Inputs.{IsOutsideFault}
 
 -- what is awaited after an image, by whether it is plain: what follows a plain one is ignored
@@ -23,7 +24,11 @@ due_at (RowOrEnd raster) text = rows_said later_said raster.format raster.shape 
 due_at ImageOrEnd text = later_said text
 due_at End text = ends_stream
 
--- the same in a state
+-- the next row of a raster that has one
+abbrev pub row_of : Raster → List ℕ → Result (List ℕ × List ℕ) InputFault
+row_of raster = row_at raster.format raster.shape (raster.shape.height - raster.y - 1)
+
+-- what is still to be said in a state
 abbrev pub state_due : State → List ℕ → Said
 state_due (Awaits awaited) text = due_at awaited text
 state_due Ended text = says_nothing

@@ -50,9 +50,9 @@ IsByte (Ok None) before after = (before ≡ []) × (after ≡ [])
 IsByte (Err fault) before after = IsOutsideFault fault
 
 -- what a call found is what a reading of the text gives; a fault is the text's, or comes from outside
-abbrev pub Finds : {X Y : Type 0} → (X → Y) → (List ℕ → Result (Y × List ℕ) InputFault) → Result X InputFault → List ℕ → List ℕ → Type 0
-Finds view reading (Ok x) before after = reading before ≡ Ok (view x, after)
-Finds view reading (Err fault) before after = (reading before ≡ Err fault) ⊎ IsOutsideFault fault
+abbrev pub Finds : {X : Type 0} → (List ℕ → Result (X × List ℕ) InputFault) → Result X InputFault → List ℕ → List ℕ → Type 0
+Finds reading (Ok x) before after = reading before ≡ Ok (x, after)
+Finds reading (Err fault) before after = (reading before ≡ Err fault) ⊎ IsOutsideFault fault
 
 -- the text goes on as it may, and so much of it was taken; or it is at fault
 abbrev pub Passes : (List ℕ → Result (List ℕ) InputFault) → Result (Unit {0}) InputFault → List ℕ → List ℕ → Type 0

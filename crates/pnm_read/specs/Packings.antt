@@ -1,5 +1,5 @@
 -- What appending the units of a raw row to its samples gives.
-use Rattle.std.specs.Prelude.{◌≡◌, ℕ, ◌≤◌, ◌⊎◌, List, ◌++◌, flat_map, All, Result, Ok, Err}
+use Rattle.std.specs.Prelude.{◌≡◌, ℕ, ◌*◌, ◌≤◌, ◌⊎◌, List, ◌++◌, length, flat_map, All, Result, Ok, Err}
 use Rattle.std.specs.List.{concat}
 use Rattle.pnm_image.specs.declared.shape.Shape.{Shape}
 use Rattle.pnm_read.specs.declared.fault.InputFault.{InputFault}
@@ -23,6 +23,10 @@ AppendsUnits packing maxval n bytes old new (Ok _) =
     (units : List (List ℕ)) × (new ≡ old ++ concat units) × ((rest : List ℕ) → in_turn (raw_item packing maxval) n (bytes ++ rest) ≡ Ok (units, rest))
 AppendsUnits packing maxval n bytes old new (Err fault) =
     (fault ≡ Memory) ⊎ ((rest : List ℕ) → in_turn (raw_item packing maxval) n (bytes ++ rest) ≡ Err fault)
+
+-- the same of bytes that are so many units
+abbrev pub AppendsWholeUnits : Packing → ℕ → List ℕ → List ℕ → List ℕ → Result (Unit {0}) InputFault → Type 0
+AppendsWholeUnits packing maxval bytes old new result = (n : ℕ) → length bytes ≡ n * unit_bytes packing → AppendsUnits packing maxval n bytes old new result
 
 abbrev pub AppendsPixels : List ℕ → List ℕ → List ℕ → Result (Unit {0}) InputFault → Type 0
 AppendsPixels bytes old new (Ok _) = new ≡ old ++ flat_map pixels bytes

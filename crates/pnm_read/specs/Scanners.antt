@@ -1,11 +1,11 @@
 -- What the scanners of headers and of plain samples hold after the bytes of a piece.
-use Rattle.std.specs.Prelude.{◌≡◌, ℕ, ◌+◌, ◌-◌, ◌<◌, ◌≤◌, Bool, true, false, not, ◌&&◌, ◌||◌, if◌then◌else◌, List, [], ◌∷◌, length, map, drop, slice_index}
+use Rattle.std.specs.Prelude.{◌≡◌, ℕ, ◌+◌, ◌-◌, ◌<◌, ◌≤◌, Bool, true, false, not, ◌==◌, ◌&&◌, ◌||◌, if◌then◌else◌, List, [], ◌∷◌, length, map, drop, slice_index}
 use Rattle.std.specs.List.{AllPass}
 use Rattle.pnm_read.specs.declared.judgement.Judgement.{Judgement}
 use Rattle.pnm_read.specs.declared.header.HeaderScanner.{HeaderScanner}
 use Rattle.pnm_read.specs.declared.decimal.DecimalScanner.{DecimalScanner}
 use Rattle.pnm_read.specs.declared.pixel.PixelScanner.{PixelScanner}
-use Rattle.pnm_read.specs.Texts.{commented, ends_in_comment, uncommented, ends_in_word, numbers_in, number_in}
+use Rattle.pnm_read.specs.Texts.{is_apart, commented, ends_in_comment, uncommented, ends_in_word, numbers_in, number_in}
 use Rattle.pnm_image.specs.Texts.{is_white, is_digit}
 use Rattle.pnm_read.specs.Saturation.{saturated, with_digit, IsNumbers}
 use Rattle.pnm_read.specs.Items.{header_item, decimal_item, pixel_item, ends_in_digit, pixel_in}
@@ -37,6 +37,11 @@ IsHeaderWhole s piece = IsNumbers s.wanted (numbers_in piece) s.numbers
 
 abbrev pub JudgesHeader : HeaderScanner → ℕ → Judgement → Type 0
 JudgesHeader s byte judgement = (before : List ℕ) → IsHeaderAfter s before → judgement ≡ header_item s.wanted before byte
+
+-- this byte can't stand after them
+abbrev pub is_bad_after : HeaderScanner → ℕ → Bool
+is_bad_after s byte =
+    ((s.length == 0) && not (is_apart byte)) || (not s.in_comment && not (is_digit byte || is_apart byte))
 
 -- the last three numbers with a digit more: the next of a number, or the first of one
 abbrev pub pushed : Bool → List ℕ → ℕ → List ℕ

@@ -28,7 +28,7 @@ const HEADER_LIMIT: usize = 65_534;
 
 /// The format that the input's magic names. A plain one may come first alone.
 pub fn read_format<R: BytesIn>(input: &mut Input<R>, is_first: bool) -> Result<Format, InputFault>
-    ensures { Turn R.left R.failures R.same input.old input.new result (Finds (λ format. format) (format_at is_first) result) }
+    ensures { Turn R.left R.failures R.same input.old input.new result (Finds (format_at is_first) result) }
 {
     match input.next_byte()? {
         Some(b'P') => {}
@@ -56,7 +56,7 @@ fn format_named(byte: u8, is_first: bool) -> Result<Format, InputFault>
 
 /// The head that follows the magic. It takes the header through its last byte.
 pub fn read_head<R: BytesIn>(input: &mut Input<R>, format: Format) -> Result<Head, InputFault>
-    ensures { Turn R.left R.failures R.same input.old input.new result (Finds (λ head. head) (head_at format) result) }
+    ensures { Turn R.left R.failures R.same input.old input.new result (Finds (head_at format) result) }
 {
     match format.kind {
         Kind::Bit | Kind::Gray | Kind::Color => read_pnm_head(input, format.kind),
@@ -66,7 +66,7 @@ pub fn read_head<R: BytesIn>(input: &mut Input<R>, format: Format) -> Result<Hea
 
 /// The head of PBM, PGM or PPM. It takes the header through its last byte, the delimiter.
 fn read_pnm_head<R: BytesIn>(input: &mut Input<R>, kind: Kind) -> Result<Head, InputFault>
-    ensures { Turn R.left R.failures R.same input.old input.new result (Finds (λ head. head) (pnm_head_at kind) result) }
+    ensures { Turn R.left R.failures R.same input.old input.new result (Finds (pnm_head_at kind) result) }
 {
     let mut header = HeaderScanner::new(number_count(kind));
     scan(input, &mut header)?;
@@ -123,7 +123,7 @@ struct HeaderScanner {
 }
 
 impl HeaderScanner {
-    ghost use Rattle.pnm_read.specs.Scanners.{IsHeaderFresh, JudgesHeader, PushesHeader, PushesDigit};
+    ghost use Rattle.pnm_read.specs.Scanners.{IsHeaderFresh, JudgesHeader, PushesHeader, PushesDigit, is_bad_after};
 
     fn new(wanted: usize) -> HeaderScanner
         ensures { IsHeaderFresh wanted result }
@@ -158,7 +158,7 @@ impl HeaderScanner {
 
     /// Whether the byte can't stand here.
     fn is_bad(&self, byte: u8) -> bool
-        ensures { result ≡ (((self.now.length == 0) && not (is_apart byte)) || (not self.now.in_comment && not (is_digit byte || is_apart byte))) }
+        ensures { result ≡ is_bad_after self.now byte }
     {
         (self.length == 0 && !is_apart(byte))
             || (!self.in_comment && !(is_digit(byte) || is_apart(byte)))

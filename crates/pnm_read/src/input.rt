@@ -3,7 +3,7 @@
 ghost use Rattle.std.specs.Prelude.{◌≡◌, ◌≤◌, ◌⊎◌, ◌++◌, [], true, false, drop, length, List, ℕ, vec_len, OnOk, IfOk, IfErr};
 ghost use Rattle.std.specs.Io.KnownBytes.{Consumes, IsAtEnd};
 ghost use Rattle.pnm_image.specs.Devices.{Failed};
-ghost use Rattle.pnm_read.specs.Reads.{Gathers};
+ghost use Rattle.pnm_read.specs.Reads.{Gathers, StopsReading};
 ghost use Rattle.pnm_read.specs.declared.fault.InputFault.TheVariants.{ReadFailed, Memory};
 
 use crate::fault::InputFault;
@@ -109,7 +109,7 @@ fn read_to_end<R: BytesIn>(reader: &mut R, held: &mut Vec<u8>) -> Result<(), Inp
     ensures grows { length held.old.items ≤ length held.new.items }
     ensures end { OnOk result (IsAtEnd (R.left reader.new)) }
     ensures count { (result ≡ Err ReadFailed → ⊥) → R.failures reader.new ≡ R.failures reader.old }
-    ensures failed { IfErr result (λ fault. ((fault ≡ ReadFailed) × Failed (R.failures reader.old) (R.failures reader.new)) ⊎ (fault ≡ Memory)) }
+    ensures failed { IfErr result (StopsReading (R.failures reader.old) (R.failures reader.new)) }
     ensures same_device { R.same reader.old reader.new }
 {
     let mut chunk = [0u8; CHUNK];

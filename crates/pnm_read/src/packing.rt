@@ -3,7 +3,7 @@
 ghost use Rattle.std.specs.Prelude.{◌≡◌, ◌≤◌, ◌↔◌, ◌*◌, ◌++◌, length, map, ℕ, All, OnOk, IfErr};
 ghost use Rattle.pnm_read.specs.Rasters.{pixel_at, pixels, wide_samples};
 ghost use Rattle.pnm_image.specs.Limits.{max_side};
-ghost use Rattle.pnm_read.specs.Packings.{unit_bytes, AppendsUnits, AppendsPixels, AppendsNarrow, AppendsWide};
+ghost use Rattle.pnm_read.specs.Packings.{unit_bytes, AppendsWholeUnits, AppendsPixels, AppendsNarrow, AppendsWide};
 ghost use Rattle.pnm_read.specs.Said.{units_in_row};
 
 use crate::fault::InputFault;
@@ -111,7 +111,7 @@ pub fn append(
     maxval: u32,
     row: &mut Vec<u16>,
 ) -> Result<(), InputFault>
-    ensures { (n : ℕ) → length bytes.now ≡ n * unit_bytes packing → AppendsUnits packing maxval n bytes.now row.old.items row.new.items result }
+    ensures { AppendsWholeUnits packing maxval bytes.now row.old.items row.new.items result }
 {
     match packing {
         Packing::Packed => append_pixels(bytes, row),

@@ -19,7 +19,7 @@ const PAM_LIMIT: usize = 65_533;
 /// The head that follows the magic. It takes the header through the LF of its line ENDHDR.
 #[tactic(auto, unfolding(crate::specs::Said::pam_head_at))]
 pub fn read_head<R: BytesIn>(input: &mut Input<R>) -> Result<Head, InputFault>
-    ensures { Turn R.left R.failures R.same input.old input.new result (Finds (λ head. head) pam_head_at result) }
+    ensures { Turn R.left R.failures R.same input.old input.new result (Finds pam_head_at result) }
 {
     read_line_feed(input)?;
     let mut header = PamScanner::new(input.allocator());

@@ -22,7 +22,7 @@ pub fn read_row<R: BytesIn>(
     more: u32,
 ) -> Result<Samples, InputFault>
     requires { shape.maxval ≤ max_maxval }
-    ensures { Turn R.left R.failures R.same input.old input.new result (Finds (λ row. row) (row_by true shape more) result) }
+    ensures { Turn R.left R.failures R.same input.old input.new result (Finds (row_by true shape more) result) }
 {
     let row = read_samples(input, shape)?;
     if more == 0 {
@@ -34,7 +34,7 @@ pub fn read_row<R: BytesIn>(
 /// The samples of the next row.
 fn read_samples<R: BytesIn>(input: &mut Input<R>, shape: Shape) -> Result<Samples, InputFault>
     requires { shape.maxval ≤ max_maxval }
-    ensures { Turn R.left R.failures R.same input.old input.new result (Finds (λ row. row) (plain_row shape) result) }
+    ensures { Turn R.left R.failures R.same input.old input.new result (Finds (plain_row shape) result) }
 {
     let length = shape.row_length() as usize;
     let Ok(mut row) = Vec::with_capacity(input.allocator(), length) else {
@@ -52,7 +52,7 @@ fn read_samples<R: BytesIn>(input: &mut Input<R>, shape: Shape) -> Result<Sample
 /// The next sample.
 fn read_sample<R: BytesIn>(input: &mut Input<R>, kind: Kind, maxval: u32) -> Result<u16, InputFault>
     requires { maxval ≤ max_maxval }
-    ensures { Turn R.left R.failures R.same input.old input.new result (Finds (λ sample. sample) (plain_sample kind maxval) result) }
+    ensures { Turn R.left R.failures R.same input.old input.new result (Finds (plain_sample kind maxval) result) }
 {
     match kind {
         Kind::Bit => read_pixel(input),
@@ -63,7 +63,7 @@ fn read_sample<R: BytesIn>(input: &mut Input<R>, kind: Kind, maxval: u32) -> Res
 /// The next pixel as a sample.
 #[tactic(auto, unfolding(crate::specs::Items::plain_pixel))]
 fn read_pixel<R: BytesIn>(input: &mut Input<R>) -> Result<u16, InputFault>
-    ensures { Turn R.left R.failures R.same input.old input.new result (Finds (λ sample. sample) plain_pixel result) }
+    ensures { Turn R.left R.failures R.same input.old input.new result (Finds plain_pixel result) }
 {
     let mut pixel = PixelScanner::new();
     scan(input, &mut pixel)?;
@@ -74,7 +74,7 @@ fn read_pixel<R: BytesIn>(input: &mut Input<R>) -> Result<u16, InputFault>
 #[tactic(auto, unfolding(crate::specs::Items::plain_decimal))]
 fn read_decimal<R: BytesIn>(input: &mut Input<R>, maxval: u32) -> Result<u16, InputFault>
     requires { maxval ≤ max_maxval }
-    ensures { Turn R.left R.failures R.same input.old input.new result (Finds (λ sample. sample) (plain_decimal maxval) result) }
+    ensures { Turn R.left R.failures R.same input.old input.new result (Finds (plain_decimal maxval) result) }
 {
     let mut number = DecimalScanner::new();
     scan(input, &mut number)?;

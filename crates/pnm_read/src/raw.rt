@@ -14,7 +14,7 @@ use pnm_image::{BytesIn, Packing, Samples, Shape};
 /// The next row.
 pub fn read_row<R: BytesIn>(input: &mut Input<R>, shape: Shape) -> Result<Samples, InputFault>
     requires { shape.width ≤ max_side }
-    ensures { Turn R.left R.failures R.same input.old input.new result (Finds (λ row. row) (raw_row shape) result) }
+    ensures { Turn R.left R.failures R.same input.old input.new result (Finds (raw_row shape) result) }
 {
     let length = shape.row_length() as usize;
     let mut row = read_units(input, shape)?;

@@ -6,8 +6,7 @@ ghost use Rattle.pnm_image.specs.declared.message.Message.TheVariants.{StreamEnd
 ghost use Rattle.pnm_read.specs.declared.fault.InputFault.{InputFault as Fault};
 ghost use Rattle.pnm_read.specs.declared.fault.InputFault.TheVariants.{ReadFailed, Memory};
 ghost use Rattle.pnm_read.specs.Inputs.{Turn, Finds};
-ghost use Rattle.pnm_read.specs.Said.{row_at};
-ghost use Rattle.pnm_read.specs.Awaiting.{awaited_after, Answers, Steps, Begins, SeesText};
+ghost use Rattle.pnm_read.specs.Awaiting.{awaited_after, row_of, Answers, Steps, Begins, SeesText};
 
 use crate::fault::InputFault;
 use crate::format::Format;
@@ -186,7 +185,7 @@ fn after_image(format: Format) -> Awaited
 /// The samples of the next row.
 fn read_row<R: BytesIn>(input: &mut Input<R>, raster: Raster) -> Result<Samples, InputFault>
     requires { raster.y < raster.shape.height }
-    ensures { Turn R.left R.failures R.same input.old input.new result (Finds (λ row. row) (row_at raster.format raster.shape (raster.shape.height - raster.y - 1)) result) }
+    ensures { Turn R.left R.failures R.same input.old input.new result (Finds (row_of raster) result) }
 {
     if raster.format.is_plain {
         plain::read_row(input, raster.shape, raster.shape.height - raster.y - 1)
