@@ -3,6 +3,7 @@
 //! what a slow computation says of them.
 
 mod answers;
+mod cases;
 mod headers;
 mod limits;
 mod pam;

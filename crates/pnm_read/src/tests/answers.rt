@@ -96,12 +96,15 @@ pub fn answers<R: BytesIn>(
     }
 }
 
-/// Each input gets its answers.
-pub fn answers_all(rt: &impl Abort, alloc: Global, cases: &[Case<'_>]) -> Result<(), Fail> {
-    for (input, wants) in cases {
-        let mut source = Source::new(alloc, Device::new(*input))?;
-        answers(rt, &mut source, wants, input);
-    }
+/// A source over the input gives these answers.
+pub fn answers_to(
+    rt: &impl Abort,
+    alloc: Global,
+    input: &[u8],
+    wants: &[Answer<'_>],
+) -> Result<(), Fail> {
+    let mut source = Source::new(alloc, Device::new(input))?;
+    answers(rt, &mut source, wants, input);
     Ok(())
 }
 
@@ -111,7 +114,7 @@ pub fn answers_each_cut(rt: &impl Abort, alloc: Global, inputs: &[Cuts<'_>]) -> 
         for length in 0..=input.len() {
             let wants = cuts.iter().rev().find(|(from, _)| *from <= length);
             let (_, wants) = wants.ok_or("no answers")?;
-            answers_all(rt, alloc, &[(&input[..length], *wants)])?;
+            answers_to(rt, alloc, &input[..length], wants)?;
         }
     }
     Ok(())

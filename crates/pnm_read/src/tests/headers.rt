@@ -1,7 +1,8 @@
 //! Headers: comments, white space, numbers, and the order of their faults.
 
 use super::answers::Answer::{Begin, Fault, ImageEnd, Row, StreamEnd};
-use super::answers::{Answer, Case, answers_all};
+use super::answers::{Answer, Case};
+use super::cases::check_all;
 use crate::InputFault::{
     BadMagic, BadMaxval, BadNumber, HeaderCut, RasterCut, SampleAboveMaxval, TooLarge, ZeroSize,
 };
@@ -14,7 +15,7 @@ const FIVE: &[Answer<'static>] = &[Begin(Gray, 1, 1, 9), Row(&[5]), ImageEnd, St
 /// One pixel, which is 65, and a maxval of 255.
 const LETTER: &[Answer<'static>] = &[Begin(Gray, 1, 1, 255), Row(&[65]), ImageEnd, StreamEnd];
 
-pub const SPELLINGS: &[Case<'static>] = &[
+const SPELLINGS: &[Case<'static>] = &[
     (b"P5 1 1 9 \x05", FIVE),
     (b"P5\t1\t1\t9\t\x05", FIVE),
     (b"P5\r1\r1\r9\r\x05", FIVE),
@@ -63,7 +64,7 @@ pub const SPELLINGS: &[Case<'static>] = &[
     ),
 ];
 
-pub const WRONG_BYTES: &[Case<'static>] = &[
+const WRONG_BYTES: &[Case<'static>] = &[
     (b" P5 1 1 9\n", &[Fault(BadMagic)]),
     (b"p5 1 1 9\n", &[Fault(BadMagic)]),
     (b"\x00", &[Fault(BadMagic)]),
@@ -109,7 +110,7 @@ pub const WRONG_BYTES: &[Case<'static>] = &[
 ];
 
 /// The faults at a header's end come in this order: ZeroSize, TooLarge, BadMaxval.
-pub const WRONG_NUMBERS: &[Case<'static>] = &[
+const WRONG_NUMBERS: &[Case<'static>] = &[
     (b"P5 1 0 9\n", &[Fault(ZeroSize)]),
     (b"P5 0 0 0\n", &[Fault(ZeroSize)]),
     (b"P5 000 1 9\n", &[Fault(ZeroSize)]),
@@ -163,8 +164,16 @@ pub const WRONG_NUMBERS: &[Case<'static>] = &[
 ];
 
 #[test]
-fn reads_headers(rt: HostRuntime) -> Result<(), Fail> {
-    answers_all(&rt, rt.alloc(), SPELLINGS)?;
-    answers_all(&rt, rt.alloc(), WRONG_BYTES)?;
-    answers_all(&rt, rt.alloc(), WRONG_NUMBERS)
+fn reads_spelled_headers(rt: HostRuntime) -> Result<(), Fail> {
+    check_all(&rt, rt.alloc(), SPELLINGS)
+}
+
+#[test]
+fn refuses_wrong_bytes(rt: HostRuntime) -> Result<(), Fail> {
+    check_all(&rt, rt.alloc(), WRONG_BYTES)
+}
+
+#[test]
+fn refuses_wrong_numbers(rt: HostRuntime) -> Result<(), Fail> {
+    check_all(&rt, rt.alloc(), WRONG_NUMBERS)
 }

@@ -1,14 +1,13 @@
 //! The limits on lengths in figures, long numbers, and images that are read in many chunks.
 
 use super::answers::Answer::{Begin, Fault, ImageEnd, Row, StreamEnd};
-use super::answers::{Answer, answers};
+use super::answers::{Answer, answers_to};
 use crate::InputFault::{
     BadMaxval, BadNumber, BadSample, HeaderCut, RasterCut, SampleAboveMaxval, TooLarge, TooLong,
     ZeroSize,
 };
-use crate::Source;
+use pnm_image::Kind;
 use pnm_image::Kind::{Bit, Color, Gray};
-use pnm_image::{Device, Kind};
 use std::alloc::{AllocError, Global};
 use std::process::Abort;
 use std::test::Fail;
@@ -238,15 +237,18 @@ fn padded(
 pub fn answers_long(rt: &impl Abort, alloc: Global, cases: &[LongCase<'_>]) -> Result<(), Fail> {
     for (front, byte, count, back, wants) in cases {
         let input = padded(alloc, front, *byte, *count, back)?;
-        let mut source = Source::new(alloc, Device::new(input.as_slice()))?;
-        answers(rt, &mut source, wants, input.as_slice());
+        answers_to(rt, alloc, input.as_slice(), wants)?;
     }
     Ok(())
 }
 
 #[test]
 fn limits_headers(rt: HostRuntime) -> Result<(), Fail> {
-    answers_long(&rt, rt.alloc(), HEADERS)?;
+    answers_long(&rt, rt.alloc(), HEADERS)
+}
+
+#[test]
+fn limits_later_headers(rt: HostRuntime) -> Result<(), Fail> {
     answers_long(&rt, rt.alloc(), LATER_HEADERS)
 }
 
@@ -265,22 +267,25 @@ fn limits_filled_gaps(rt: HostRuntime) -> Result<(), Fail> {
     answers_long(&rt, rt.alloc(), FILLED_GAPS)
 }
 
+/// The second sample comes after as many bytes as may come, and the third after so many.
+fn answers_gap(
+    rt: &impl Abort,
+    alloc: Global,
+    count: usize,
+    wants: &[Answer<'_>],
+) -> Result<(), Fail> {
+    let front = padded(alloc, b"P2 3 1 9 1", b'\n', 1_048_575, b"5")?;
+    let input = padded(alloc, front.as_slice(), b'\t', count, b"6")?;
+    answers_to(rt, alloc, input.as_slice(), wants)
+}
+
 /// The limit counts from each sample anew.
 #[test]
 fn limits_each_gap(rt: HostRuntime) -> Result<(), Fail> {
-    for (count, wants) in [
-        (
-            1_048_575,
-            [Begin(Gray, 3, 1, 9), Row(&[1, 5, 6]), ImageEnd, StreamEnd].as_slice(),
-        ),
-        (1_048_576, [Begin(Gray, 3, 1, 9), Fault(TooLong)].as_slice()),
-    ] {
-        let front = padded(rt.alloc(), b"P2 3 1 9 1", b'\n', 1_048_575, b"5")?;
-        let input = padded(rt.alloc(), front.as_slice(), b'\t', count, b"6")?;
-        let mut source = Source::new(rt.alloc(), Device::new(input.as_slice()))?;
-        answers(&rt, &mut source, wants, input.as_slice());
-    }
-    Ok(())
+    let wants = [Begin(Gray, 3, 1, 9), Row(&[1, 5, 6]), ImageEnd, StreamEnd];
+    answers_gap(&rt, rt.alloc(), 1_048_575, &wants)?;
+    let wants = [Begin(Gray, 3, 1, 9), Fault(TooLong)];
+    answers_gap(&rt, rt.alloc(), 1_048_576, &wants)
 }
 
 /// The input is an image of this kind, width and maxval, and of this row alone.
@@ -292,67 +297,64 @@ fn answers_row(
     row: &[u16],
 ) -> Result<(), Fail> {
     let begin = Begin(kind, width, 1, maxval);
-    let mut source = Source::new(alloc, Device::new(input))?;
-    answers(
-        rt,
-        &mut source,
-        &[begin, Row(row), ImageEnd, StreamEnd],
-        input,
-    );
-    Ok(())
+    answers_to(rt, alloc, input, &[begin, Row(row), ImageEnd, StreamEnd])
 }
 
-/// Rows that are longer than what is read at a time.
+// Rows that are longer than what is read at a time.
+
 #[test]
-fn reads_wide_rows(rt: HostRuntime) -> Result<(), Fail> {
-    let mut bits = Vec::from_slice(rt.alloc(), b"P4 100001 1\n")?;
-    let mut bytes = Vec::from_slice(rt.alloc(), b"P5 30000 1 250\n")?;
-    let mut pairs = Vec::from_slice(rt.alloc(), b"P6 5000 1 60000\n")?;
-    let mut numbers = String::from_str(rt.alloc(), "P2 15000 1 60000\n")?;
-    let mut narrow = Vec::new(rt.alloc());
-    let mut wide = Vec::new(rt.alloc());
+fn reads_wide_rows_of_bits(rt: HostRuntime) -> Result<(), Fail> {
+    let mut text = Vec::from_slice(rt.alloc(), b"P4 100001 1\n")?;
+    let mut row = Vec::new(rt.alloc());
+    for _ in 0..12_501 {
+        text.push(0b1001_0110)?;
+        row.extend_from_slice(&[0, 1, 1, 0, 1, 0, 0, 1])?;
+    }
+    row.truncate(100_001);
+    let shape = (Bit, 100_001, 1);
+    answers_row(&rt, rt.alloc(), text.as_slice(), shape, row.as_slice())
+}
+
+#[test]
+fn reads_wide_rows_of_bytes(rt: HostRuntime) -> Result<(), Fail> {
+    let mut text = Vec::from_slice(rt.alloc(), b"P5 30000 1 250\n")?;
+    let mut row = Vec::new(rt.alloc());
     for k in 0..15_000u16 {
         let low = (k % 251) as u8;
-        let sample = 4 * k;
-        bytes.extend_from_slice(&[low, 250])?;
-        narrow.extend_from_slice(&[u16::from(low), 250])?;
-        pairs.extend_from_slice(&sample.to_be_bytes())?;
-        write!(&mut numbers, "{sample} ")?;
-        wide.push(sample)?;
+        text.extend_from_slice(&[low, 250])?;
+        row.extend_from_slice(&[u16::from(low), 250])?;
     }
-    let mut pixels = Vec::new(rt.alloc());
-    for _ in 0..12_501 {
-        bits.push(0b1001_0110)?;
-        pixels.extend_from_slice(&[0, 1, 1, 0, 1, 0, 0, 1])?;
+    let shape = (Gray, 30_000, 250);
+    answers_row(&rt, rt.alloc(), text.as_slice(), shape, row.as_slice())
+}
+
+/// The samples 0, 4, 8 and so on.
+fn every_fourth(alloc: Global) -> Result<Vec<u16>, AllocError> {
+    let mut row = Vec::new(alloc);
+    for k in 0..15_000u16 {
+        row.push(4 * k)?;
     }
-    pixels.truncate(100_001);
-    let alloc = rt.alloc();
-    answers_row(
-        &rt,
-        alloc,
-        bits.as_slice(),
-        (Bit, 100_001, 1),
-        pixels.as_slice(),
-    )?;
-    answers_row(
-        &rt,
-        alloc,
-        bytes.as_slice(),
-        (Gray, 30_000, 250),
-        narrow.as_slice(),
-    )?;
-    answers_row(
-        &rt,
-        alloc,
-        pairs.as_slice(),
-        (Color, 5_000, 60_000),
-        wide.as_slice(),
-    )?;
-    answers_row(
-        &rt,
-        alloc,
-        numbers.as_bytes(),
-        (Gray, 15_000, 60_000),
-        wide.as_slice(),
-    )
+    Ok(row)
+}
+
+#[test]
+fn reads_wide_rows_of_pairs(rt: HostRuntime) -> Result<(), Fail> {
+    let mut text = Vec::from_slice(rt.alloc(), b"P6 5000 1 60000\n")?;
+    let row = every_fourth(rt.alloc())?;
+    for sample in row.as_slice() {
+        text.extend_from_slice(&sample.to_be_bytes())?;
+    }
+    let shape = (Color, 5_000, 60_000);
+    answers_row(&rt, rt.alloc(), text.as_slice(), shape, row.as_slice())
+}
+
+#[test]
+fn reads_wide_rows_of_numbers(rt: HostRuntime) -> Result<(), Fail> {
+    let mut text = String::from_str(rt.alloc(), "P2 15000 1 60000\n")?;
+    let row = every_fourth(rt.alloc())?;
+    for sample in row.as_slice() {
+        write!(&mut text, "{sample} ")?;
+    }
+    let shape = (Gray, 15_000, 60_000);
+    answers_row(&rt, rt.alloc(), text.as_bytes(), shape, row.as_slice())
 }

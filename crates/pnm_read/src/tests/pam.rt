@@ -1,7 +1,8 @@
 //! Headers of PAM: lines, fields and the tuple type.
 
 use super::answers::Answer::{Fault, ImageEnd, Pam, Row, StreamEnd};
-use super::answers::{Answer, Case, Cuts, answers_all, answers_each_cut};
+use super::answers::{Answer, Case, Cuts, answers_each_cut};
+use super::cases::check_all;
 use crate::InputFault::{EmptyInput, HeaderCut, RasterCut, SampleAboveMaxval};
 use std::test::Fail;
 
@@ -12,7 +13,7 @@ const FIVE: &[Answer<'static>] = &[Pam(1, 1, 1, 9, b""), Row(&[5]), ImageEnd, St
 const A_B: &[Answer<'static>] = &[Pam(1, 1, 1, 9, b"A B"), Row(&[5]), ImageEnd, StreamEnd];
 
 /// Fields come in any order, with white space, comments and further tokens.
-pub const SPELLINGS: &[Case<'static>] = &[
+const SPELLINGS: &[Case<'static>] = &[
     (
         b"P7\nWIDTH 1\nHEIGHT 1\nDEPTH 1\nMAXVAL 9\nENDHDR\n\x05",
         FIVE,
@@ -96,7 +97,7 @@ pub const SPELLINGS: &[Case<'static>] = &[
 ];
 
 /// The tuple type: the values of its lines, joined by one blank each.
-pub const TYPES: &[Case<'static>] = &[
+const TYPES: &[Case<'static>] = &[
     (
         b"P7\nTUPLTYPE A\nWIDTH 1\nHEIGHT 1\nTUPLTYPE B\nDEPTH 1\nMAXVAL 9\nENDHDR\n\x05",
         A_B,
@@ -167,7 +168,7 @@ pub const TYPES: &[Case<'static>] = &[
 ];
 
 /// Planes lie side by side, a byte a sample up to a maxval of 255, and two from 256 on.
-pub const RASTERS: &[Case<'static>] = &[
+const RASTERS: &[Case<'static>] = &[
     (
         b"P7\nWIDTH 9\nHEIGHT 1\nDEPTH 1\nMAXVAL 1\nTUPLTYPE BLACKANDWHITE\nENDHDR\n\x00\x01\x01\x00\x00\x01\x01\x01\x00",
         &[
@@ -256,11 +257,18 @@ const CUTS: &[Cuts<'static>] = &[(
 )];
 
 #[test]
-fn reads_pam(rt: HostRuntime) -> Result<(), Fail> {
-    for table in [SPELLINGS, TYPES, RASTERS] {
-        answers_all(&rt, rt.alloc(), table)?;
-    }
-    Ok(())
+fn reads_spelled_pam_headers(rt: HostRuntime) -> Result<(), Fail> {
+    check_all(&rt, rt.alloc(), SPELLINGS)
+}
+
+#[test]
+fn reads_tuple_types(rt: HostRuntime) -> Result<(), Fail> {
+    check_all(&rt, rt.alloc(), TYPES)
+}
+
+#[test]
+fn reads_pam_rasters(rt: HostRuntime) -> Result<(), Fail> {
+    check_all(&rt, rt.alloc(), RASTERS)
 }
 
 #[test]

@@ -1,7 +1,8 @@
 //! Headers of PAM that are at fault: lines, fields, numbers, and the order of their faults.
 
 use super::answers::Answer::{Fault, Pam};
-use super::answers::{Case, answers_all};
+use super::answers::Case;
+use super::cases::check_all;
 use crate::InputFault::{
     BadMaxval, BadNumber, BadPamLine, DuplicateField, HeaderCut, MissingField, RasterCut,
     SampleAboveMaxval, TooLarge, ZeroSize,
@@ -9,7 +10,7 @@ use crate::InputFault::{
 use std::test::Fail;
 
 /// Lines that are refused, and headers that are cut. A line is judged once it has ended.
-pub const WRONG_LINES: &[Case<'static>] = &[
+const WRONG_LINES: &[Case<'static>] = &[
     (b"P7", &[Fault(HeaderCut)]),
     (b"P7\n", &[Fault(HeaderCut)]),
     (b"P7\nENDHDR", &[Fault(HeaderCut)]),
@@ -88,7 +89,7 @@ pub const WRONG_LINES: &[Case<'static>] = &[
 ];
 
 /// A number that comes twice, one that is missing, and faults of lines in their order.
-pub const WRONG_FIELDS: &[Case<'static>] = &[
+const WRONG_FIELDS: &[Case<'static>] = &[
     (b"P7\nWIDTH 1\nWIDTH 1\n", &[Fault(DuplicateField)]),
     (b"P7\nWIDTH 1\nWIDTH 2", &[Fault(HeaderCut)]),
     (b"P7\nHEIGHT 1\n#\nHEIGHT 2\n", &[Fault(DuplicateField)]),
@@ -150,7 +151,7 @@ pub const WRONG_FIELDS: &[Case<'static>] = &[
 ];
 
 /// The faults at a header's end come in this order: ZeroSize, TooLarge, BadMaxval.
-pub const WRONG_NUMBERS: &[Case<'static>] = &[
+const WRONG_NUMBERS: &[Case<'static>] = &[
     (
         b"P7\nWIDTH 0\nHEIGHT 1\nDEPTH 1\nMAXVAL 9\nENDHDR\n",
         &[Fault(ZeroSize)],
@@ -237,9 +238,16 @@ pub const WRONG_NUMBERS: &[Case<'static>] = &[
 ];
 
 #[test]
-fn refuses_pam(rt: HostRuntime) -> Result<(), Fail> {
-    for table in [WRONG_LINES, WRONG_FIELDS, WRONG_NUMBERS] {
-        answers_all(&rt, rt.alloc(), table)?;
-    }
-    Ok(())
+fn refuses_wrong_lines(rt: HostRuntime) -> Result<(), Fail> {
+    check_all(&rt, rt.alloc(), WRONG_LINES)
+}
+
+#[test]
+fn refuses_wrong_fields(rt: HostRuntime) -> Result<(), Fail> {
+    check_all(&rt, rt.alloc(), WRONG_FIELDS)
+}
+
+#[test]
+fn refuses_wrong_numbers(rt: HostRuntime) -> Result<(), Fail> {
+    check_all(&rt, rt.alloc(), WRONG_NUMBERS)
 }

@@ -1,7 +1,8 @@
 //! Rasters: how samples lie in bytes or are spelled, and what ends one.
 
 use super::answers::Answer::{Begin, Fault, ImageEnd, Row, StreamEnd};
-use super::answers::{Answer, Case, answers_all};
+use super::answers::{Answer, Case};
+use super::cases::check_all;
 use crate::InputFault::{BadMagic, BadSample, RasterCut, SampleAboveMaxval};
 use pnm_image::Kind::{Bit, Color, Gray};
 use std::test::Fail;
@@ -29,7 +30,7 @@ const GRAY_BAD: &[Answer<'static>] = &[Begin(Gray, 1, 1, 9), Fault(BadSample)];
 const GRAY_ABOVE: &[Answer<'static>] = &[Begin(Gray, 1, 1, 9), Fault(SampleAboveMaxval)];
 
 /// Spare bits are ignored, also where they are set.
-pub const PACKED: &[Case<'static>] = &[
+const PACKED: &[Case<'static>] = &[
     (b"P4 1 1\n\x80", BLACK),
     (b"P4 1 1\n\xff", BLACK),
     (b"P4 2 1\n\xbf", BLACK_WHITE),
@@ -70,7 +71,7 @@ pub const PACKED: &[Case<'static>] = &[
 ];
 
 /// Samples of one byte up to a maxval of 255, and of two bytes from 256 on.
-pub const BYTES: &[Case<'static>] = &[
+const BYTES: &[Case<'static>] = &[
     (
         b"P5 2 1 1\n\x01\x00",
         &[Begin(Gray, 2, 1, 1), Row(&[1, 0]), ImageEnd, StreamEnd],
@@ -162,7 +163,7 @@ pub const BYTES: &[Case<'static>] = &[
 ];
 
 /// Pixels of a plain bitmap are characters, with white space and comments anywhere.
-pub const PIXELS: &[Case<'static>] = &[
+const PIXELS: &[Case<'static>] = &[
     (b"P1 2 1 10", BLACK_WHITE),
     (b"P1 2 1 1 0\n", BLACK_WHITE),
     (b"P1\n2 1\n\t1\r\n0", BLACK_WHITE),
@@ -211,7 +212,7 @@ pub const PIXELS: &[Case<'static>] = &[
 ];
 
 /// Samples of a plain map of grays or colors are numbers, which white space and comments part.
-pub const NUMBERS: &[Case<'static>] = &[
+const NUMBERS: &[Case<'static>] = &[
     (b"P2 2 1 9 1 2", ONE_TWO),
     (b"P2 2 1 9 1\t\r\n 2\n", ONE_TWO),
     (b"P2 2 1 9 01 002", ONE_TWO),
@@ -287,9 +288,21 @@ pub const NUMBERS: &[Case<'static>] = &[
 ];
 
 #[test]
-fn reads_rasters(rt: HostRuntime) -> Result<(), Fail> {
-    for table in [PACKED, BYTES, PIXELS, NUMBERS] {
-        answers_all(&rt, rt.alloc(), table)?;
-    }
-    Ok(())
+fn reads_packed_rasters(rt: HostRuntime) -> Result<(), Fail> {
+    check_all(&rt, rt.alloc(), PACKED)
+}
+
+#[test]
+fn reads_rasters_of_bytes(rt: HostRuntime) -> Result<(), Fail> {
+    check_all(&rt, rt.alloc(), BYTES)
+}
+
+#[test]
+fn reads_plain_pixels(rt: HostRuntime) -> Result<(), Fail> {
+    check_all(&rt, rt.alloc(), PIXELS)
+}
+
+#[test]
+fn reads_plain_numbers(rt: HostRuntime) -> Result<(), Fail> {
+    check_all(&rt, rt.alloc(), NUMBERS)
 }

@@ -1,8 +1,8 @@
 //! Readers that give a few bytes at a time, and readers of which a read fails.
 
 use super::answers::Answer::{Begin, Fault, ImageEnd, Row, StreamEnd};
-use super::answers::{Case, answers};
-use super::{headers, pam, pam_faults, rasters, rows, streams};
+use super::answers::{Answer, answers};
+use super::rows;
 use crate::{InputFault, Source};
 use pnm_image::Device;
 use pnm_image::Kind::Gray;
@@ -34,45 +34,39 @@ impl Read for Drips<'_> {
     }
 }
 
-/// The answers stay the same however few bytes a read gives. The first `next` reads all of them
-/// and sees the end, and no read follows.
-fn answers_in_chunks(rt: &impl Abort, alloc: Global, cases: &[Case<'_>]) -> Result<(), Fail> {
-    for (input, wants) in cases {
-        for most in [1, 2, 3, 4097] {
-            let mut drips = Drips {
-                rest: *input,
-                most,
-                reads: 0,
-                failing: 0,
-            };
-            let mut source = Source::new(alloc, Device::new(&mut drips))?;
-            answers(rt, &mut source, wants, input);
-            let _ = source.into_reader();
-            let reads = input.len().div_ceil(most).saturating_add(1);
-            assert_eq!(rt; drips.reads, reads, "{most} bytes a read at {:?}", input);
-        }
-    }
+/// A source gives these answers after so many reads, of which each gives up to `most` bytes and
+/// one may fail; no read follows.
+fn answers_after_reads(
+    rt: &impl Abort,
+    alloc: Global,
+    (input, most, failing): (&[u8], usize, usize),
+    wants: &[Answer<'_>],
+    reads: usize,
+) -> Result<(), Fail> {
+    let mut drips = Drips {
+        rest: input,
+        most,
+        reads: 0,
+        failing,
+    };
+    let mut source = Source::new(alloc, Device::new(&mut drips))?;
+    answers(rt, &mut source, wants, input);
+    let _ = source.into_reader();
+    assert_eq!(rt; drips.reads, reads, "{most} bytes a read");
     Ok(())
 }
 
-#[test]
-fn reads_in_chunks(rt: HostRuntime) -> Result<(), Fail> {
-    for table in [
-        rows::WHOLE,
-        rows::FAULTY,
-        headers::SPELLINGS,
-        headers::WRONG_NUMBERS,
-        rasters::BYTES,
-        rasters::PIXELS,
-        rasters::NUMBERS,
-        pam::SPELLINGS,
-        pam::TYPES,
-        pam::RASTERS,
-        pam_faults::WRONG_FIELDS,
-        streams::AFTER_RAW,
-        streams::AFTER_PLAIN,
-    ] {
-        answers_in_chunks(&rt, rt.alloc(), table)?;
+/// The answers stay the same however few bytes a read gives. The first `next` reads all of them
+/// and sees the end, and no read follows.
+pub fn answers_in_chunks(
+    rt: &impl Abort,
+    alloc: Global,
+    input: &[u8],
+    wants: &[Answer<'_>],
+) -> Result<(), Fail> {
+    for most in [1, 2, 3, 4097] {
+        let reads = input.len().div_ceil(most).saturating_add(1);
+        answers_after_reads(rt, alloc, (input, most, 0), wants, reads)?;
     }
     Ok(())
 }
@@ -93,59 +87,42 @@ fn reads_long_rasters_in_chunks(rt: HostRuntime) -> Result<(), Fail> {
         ImageEnd,
         StreamEnd,
     ];
-    for most in [1, 2, 3, 4097] {
-        let drips = Drips {
-            rest: input.as_slice(),
-            most,
-            reads: 0,
-            failing: 0,
-        };
-        let mut source = Source::new(rt.alloc(), Device::new(drips))?;
-        answers(&rt, &mut source, &wants, input.as_slice());
-    }
-    Ok(())
+    answers_in_chunks(&rt, rt.alloc(), input.as_slice(), &wants)
 }
 
 /// The first `next` answers a read that fails, whichever it is and whatever came before it: it
 /// reads the whole input. That stays the answer, and the reader isn't called again.
-#[test]
-fn answers_a_failed_read(rt: HostRuntime) -> Result<(), Fail> {
-    for (input, told) in [
-        (rows::TWO_GRAYS, rows::TWO_GRAYS_ANSWERS),
-        (rows::TWO_IMAGES, rows::TWO_IMAGES_ANSWERS),
-        (rows::TWO_TYPES, rows::TWO_TYPES_ANSWERS),
-    ] {
-        for most in [1, 5, 4097] {
-            // The last read sees the end.
-            let all = input.len().div_ceil(most).saturating_add(1);
-            for failing in 0..=all {
-                let mut drips = Drips {
-                    rest: input,
-                    most,
-                    reads: 0,
-                    failing,
-                };
-                let mut source = Source::new(rt.alloc(), Device::new(&mut drips))?;
-                let (wants, reads) = if failing == 0 {
-                    (told, all)
-                } else {
-                    ([Fault(InputFault::ReadFailed)].as_slice(), failing)
-                };
-                answers(&rt, &mut source, wants, input);
-                let _ = source.into_reader();
-                assert_eq!(rt; drips.reads, reads, "{most} bytes a read");
-            }
+fn answers_each_failed_read(
+    rt: &impl Abort,
+    alloc: Global,
+    input: &[u8],
+    told: &[Answer<'_>],
+) -> Result<(), Fail> {
+    for most in [1, 5, 4097] {
+        // The last read sees the end.
+        let all = input.len().div_ceil(most).saturating_add(1);
+        answers_after_reads(rt, alloc, (input, most, 0), told, all)?;
+        for failing in 1..=all {
+            let wants = [Fault(InputFault::ReadFailed)];
+            answers_after_reads(rt, alloc, (input, most, failing), &wants, failing)?;
         }
     }
+    Ok(())
+}
+
+#[test]
+fn answers_a_failed_read(rt: HostRuntime) -> Result<(), Fail> {
+    answers_each_failed_read(&rt, rt.alloc(), rows::TWO_GRAYS, rows::TWO_GRAYS_ANSWERS)?;
+    answers_each_failed_read(&rt, rt.alloc(), rows::TWO_IMAGES, rows::TWO_IMAGES_ANSWERS)?;
+    answers_each_failed_read(&rt, rt.alloc(), rows::TWO_TYPES, rows::TWO_TYPES_ANSWERS)
+}
+
+/// Also where the text has a fault.
+#[test]
+fn answers_a_failed_read_before_faults(rt: HostRuntime) -> Result<(), Fail> {
     for input in [b"X".as_slice(), b"P5 0 1 9\n", b"P2 1 1 9 10 "] {
-        let drips = Drips {
-            rest: input,
-            most: 4097,
-            reads: 0,
-            failing: 2,
-        };
-        let mut source = Source::new(rt.alloc(), Device::new(drips))?;
-        answers(&rt, &mut source, &[Fault(InputFault::ReadFailed)], input);
+        let wants = [Fault(InputFault::ReadFailed)];
+        answers_after_reads(&rt, rt.alloc(), (input, 4097, 2), &wants, 2)?;
     }
     Ok(())
 }

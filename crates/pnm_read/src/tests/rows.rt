@@ -1,7 +1,8 @@
 //! Worked examples, whole and cut.
 
 use super::answers::Answer::{Begin, Fault, ImageEnd, Pam, Row, StreamEnd};
-use super::answers::{Answer, Case, Cuts, answers_all, answers_each_cut};
+use super::answers::{Answer, Case, Cuts, answers_each_cut};
+use super::cases::check_all;
 use crate::InputFault::{
     BadMagic, BadMaxval, BadNumber, BadPamLine, BadSample, DuplicateField, EmptyInput, HeaderCut,
     MissingField, PlainInStream, RasterCut, SampleAboveMaxval, TooLarge, ZeroSize,
@@ -50,7 +51,7 @@ pub const TWO_TYPES_ANSWERS: &[Answer<'static>] = &[
 ];
 
 /// Streams of images that are whole.
-pub const WHOLE: &[Case<'static>] = &[
+const WHOLE: &[Case<'static>] = &[
     (TWO_GRAYS, TWO_GRAYS_ANSWERS),
     (
         PLAIN_BITS,
@@ -156,7 +157,7 @@ pub const WHOLE: &[Case<'static>] = &[
 ];
 
 /// Inputs that are at fault.
-pub const FAULTY: &[Case<'static>] = &[
+const FAULTY: &[Case<'static>] = &[
     (b"", &[Fault(EmptyInput)]),
     (b"P", &[Fault(HeaderCut)]),
     (b"P8", &[Fault(BadMagic)]),
@@ -339,9 +340,13 @@ const CUTS: &[Cuts<'static>] = &[
 ];
 
 #[test]
-fn answers_examples(rt: HostRuntime) -> Result<(), Fail> {
-    answers_all(&rt, rt.alloc(), WHOLE)?;
-    answers_all(&rt, rt.alloc(), FAULTY)
+fn answers_whole_images(rt: HostRuntime) -> Result<(), Fail> {
+    check_all(&rt, rt.alloc(), WHOLE)
+}
+
+#[test]
+fn answers_faulty_images(rt: HostRuntime) -> Result<(), Fail> {
+    check_all(&rt, rt.alloc(), FAULTY)
 }
 
 #[test]

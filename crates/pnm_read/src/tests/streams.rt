@@ -1,13 +1,13 @@
 //! Streams of several images: raw ones one after another, or one plain image.
 
 use super::answers::Answer::{Begin, Fault, ImageEnd, Pam, Row, StreamEnd};
-use super::answers::{Answer, Case, answers, answers_all};
+use super::answers::{Answer, Case, answers_to};
+use super::cases::check_all;
+use crate::InputFault;
 use crate::InputFault::{
     BadMagic, BadNumber, BadPamLine, BadSample, DuplicateField, HeaderCut, PlainInStream,
     RasterCut, SampleAboveMaxval, ZeroSize,
 };
-use crate::{InputFault, Source};
-use pnm_image::Device;
 use pnm_image::Kind::{Bit, Color, Gray};
 use std::alloc::{AllocError, Global};
 use std::process::Abort;
@@ -67,7 +67,7 @@ const RAW: &[RawImage<'static>] = &[
 ];
 
 /// What follows a raw image is the next one's magic, whatever the raster ended with.
-pub const AFTER_RAW: &[Case<'static>] = &[
+const AFTER_RAW: &[Case<'static>] = &[
     (
         b"P5 1 1 9\n\x05\n",
         &[Begin(Gray, 1, 1, 9), Row(&[5]), ImageEnd, Fault(BadMagic)],
@@ -205,7 +205,7 @@ pub const AFTER_RAW: &[Case<'static>] = &[
 ];
 
 /// What follows a plain image is ignored, where it begins with white space or `#`.
-pub const AFTER_PLAIN: &[Case<'static>] = &[
+const AFTER_PLAIN: &[Case<'static>] = &[
     (
         b"P2 1 1 9 5\nP5 1 1 9\n\x05",
         &[Begin(Gray, 1, 1, 9), Row(&[5]), ImageEnd, StreamEnd],
@@ -241,9 +241,13 @@ pub const AFTER_PLAIN: &[Case<'static>] = &[
 ];
 
 #[test]
-fn reads_after_images(rt: HostRuntime) -> Result<(), Fail> {
-    answers_all(&rt, rt.alloc(), AFTER_RAW)?;
-    answers_all(&rt, rt.alloc(), AFTER_PLAIN)
+fn reads_after_raw_images(rt: HostRuntime) -> Result<(), Fail> {
+    check_all(&rt, rt.alloc(), AFTER_RAW)
+}
+
+#[test]
+fn reads_after_plain_images(rt: HostRuntime) -> Result<(), Fail> {
+    check_all(&rt, rt.alloc(), AFTER_PLAIN)
 }
 
 /// A stream under way: a text, and its messages so far.
@@ -267,98 +271,98 @@ impl<'a> Stream<'a> {
         Ok(stream)
     }
 
-    /// The stream ends here.
-    fn ends(&mut self, rt: &impl Abort, alloc: Global) -> Result<(), Fail> {
-        self.wants.push(StreamEnd)?;
-        self.answers(rt, alloc)
-    }
-
-    /// Here comes this fault.
-    fn fails(&mut self, rt: &impl Abort, alloc: Global, fault: InputFault) -> Result<(), Fail> {
-        self.wants.push(Fault(fault))?;
-        self.answers(rt, alloc)
-    }
-
-    /// A source gives these answers.
-    fn answers(&self, rt: &impl Abort, alloc: Global) -> Result<(), Fail> {
-        let text = self.text.as_slice();
-        let mut source = Source::new(alloc, Device::new(text))?;
-        answers(rt, &mut source, self.wants.as_slice(), text);
-        Ok(())
-    }
-
-    /// Here comes the front of an image, of this length.
-    fn cuts(
+    /// Adds the front of an image, of this length. Answers what comes after its messages.
+    fn add_front(
         &mut self,
-        rt: &impl Abort,
-        alloc: Global,
         (text, header, row, messages): &RawImage<'a>,
         length: usize,
-    ) -> Result<(), Fail> {
-        if length == 0 {
-            return self.ends(rt, alloc);
-        }
+    ) -> Result<Answer<'a>, AllocError> {
         for byte in text.iter().take(length) {
             self.text.push(*byte)?;
         }
-        if length < *header {
-            return self.fails(rt, alloc, HeaderCut);
-        }
         // The head, and the first of the two rows where it is whole.
-        let begun = if length >= header.saturating_add(*row) {
-            2
-        } else {
+        let begun = if length < *header {
+            0
+        } else if length < header.saturating_add(*row) {
             1
+        } else {
+            2
         };
         for message in messages.iter().take(begun) {
             self.wants.push(*message)?;
         }
-        self.fails(rt, alloc, RasterCut)
+        Ok(if length == 0 {
+            StreamEnd
+        } else if length < *header {
+            Fault(HeaderCut)
+        } else {
+            Fault(RasterCut)
+        })
+    }
+
+    /// A source gives these answers, and last this one.
+    fn ends(mut self, rt: &impl Abort, alloc: Global, last: Answer<'a>) -> Result<(), Fail> {
+        self.wants.push(last)?;
+        answers_to(rt, alloc, self.text.as_slice(), self.wants.as_slice())
     }
 }
 
 /// Two images of all kinds, one after the other, whole and cut in the second.
-#[test]
-fn reads_two_images(rt: HostRuntime) -> Result<(), Fail> {
-    for first in RAW {
-        for second in RAW {
-            Stream::of(rt.alloc(), &[*first, *second])?.ends(&rt, rt.alloc())?;
-            let (text, _, _, _) = second;
-            for length in 0..text.len() {
-                Stream::of(rt.alloc(), &[*first])?.cuts(&rt, rt.alloc(), second, length)?;
-            }
-        }
-    }
-    Ok(())
-}
-
-#[test]
-fn reads_three_images(rt: HostRuntime) -> Result<(), Fail> {
-    for first in RAW {
-        for second in RAW {
-            for third in RAW {
-                Stream::of(rt.alloc(), &[*first, *second, *third])?.ends(&rt, rt.alloc())?;
-            }
-        }
+fn answers_two_images(
+    rt: &impl Abort,
+    alloc: Global,
+    first: &RawImage<'_>,
+    second: &RawImage<'_>,
+) -> Result<(), Fail> {
+    Stream::of(alloc, &[*first, *second])?.ends(rt, alloc, StreamEnd)?;
+    let (text, _, _, _) = second;
+    for length in 0..text.len() {
+        let mut stream = Stream::of(alloc, &[*first])?;
+        let last = stream.add_front(second, length)?;
+        stream.ends(rt, alloc, last)?;
     }
     Ok(())
 }
 
 /// No byte stands between two images: after a `P` the next one's `P` is no digit.
-#[test]
-fn refuses_bytes_between(rt: HostRuntime) -> Result<(), Fail> {
-    for first in RAW {
-        for second in RAW {
-            for byte in 0..=u8::MAX {
-                let (text, _, _, _) = second;
-                let mut stream = Stream::of(rt.alloc(), &[*first])?;
-                stream.text.push(byte)?;
-                stream.text.extend_from_slice(text)?;
-                stream.fails(&rt, rt.alloc(), BadMagic)?;
+fn refuses_bytes_between(
+    rt: &impl Abort,
+    alloc: Global,
+    first: &RawImage<'_>,
+    second: &RawImage<'_>,
+) -> Result<(), Fail> {
+    let (text, _, _, _) = second;
+    for byte in 0..=u8::MAX {
+        let mut stream = Stream::of(alloc, &[*first])?;
+        stream.text.push(byte)?;
+        stream.text.extend_from_slice(text)?;
+        stream.ends(rt, alloc, Fault(BadMagic))?;
+    }
+    Ok(())
+}
+
+/// What comes after each of these images, and after two.
+fn answers_later_images(
+    rt: &impl Abort,
+    alloc: Global,
+    images: &[RawImage<'_>],
+) -> Result<(), Fail> {
+    for first in images {
+        for second in images {
+            answers_two_images(rt, alloc, first, second)?;
+            refuses_bytes_between(rt, alloc, first, second)?;
+            for third in images {
+                let stream = Stream::of(alloc, &[*first, *second, *third])?;
+                stream.ends(rt, alloc, StreamEnd)?;
             }
         }
     }
     Ok(())
+}
+
+#[test]
+fn reads_later_images(rt: HostRuntime) -> Result<(), Fail> {
+    answers_later_images(&rt, rt.alloc(), RAW)
 }
 
 /// What may not come after raw images, and its fault.
@@ -375,18 +379,36 @@ const REFUSED: &[(&[u8], InputFault)] = &[
     (b"P9", BadMagic),
 ];
 
-/// A plain image is refused after one raw image and after two, and so is what is no image.
-#[test]
-fn refuses_after_raw(rt: HostRuntime) -> Result<(), Fail> {
-    for first in RAW {
-        for (back, fault) in REFUSED {
-            let mut one = Stream::of(rt.alloc(), &[*first])?;
-            one.text.extend_from_slice(back)?;
-            one.fails(&rt, rt.alloc(), *fault)?;
-            let mut two = Stream::of(rt.alloc(), &[*first, *first])?;
-            two.text.extend_from_slice(back)?;
-            two.fails(&rt, rt.alloc(), *fault)?;
+/// This is refused with this fault after these images.
+fn refuses_after(
+    rt: &impl Abort,
+    alloc: Global,
+    images: &[RawImage<'_>],
+    (back, fault): (&[u8], InputFault),
+) -> Result<(), Fail> {
+    let mut stream = Stream::of(alloc, images)?;
+    stream.text.extend_from_slice(back)?;
+    stream.ends(rt, alloc, Fault(fault))
+}
+
+/// It is refused after each of these images, and after two.
+fn refuses_after_each(
+    rt: &impl Abort,
+    alloc: Global,
+    images: &[RawImage<'_>],
+    refused: &[(&[u8], InputFault)],
+) -> Result<(), Fail> {
+    for first in images {
+        for back in refused {
+            refuses_after(rt, alloc, &[*first], *back)?;
+            refuses_after(rt, alloc, &[*first, *first], *back)?;
         }
     }
     Ok(())
+}
+
+/// A plain image is refused after one raw image and after two, and so is what is no image.
+#[test]
+fn refuses_after_raw(rt: HostRuntime) -> Result<(), Fail> {
+    refuses_after_each(&rt, rt.alloc(), RAW, REFUSED)
 }

@@ -3,7 +3,6 @@
 
 use super::answers::answers;
 use super::slow::Said;
-use super::{headers, pam, pam_faults, rasters, rows, streams};
 use crate::Source;
 use pnm_image::Device;
 use std::alloc::{AllocError, Global};
@@ -47,7 +46,7 @@ const TELLING: &[u8] =
     b"\x00\x01\x08\t\n\x0b\x0c\r\x0e !\"#$/0123456789:PQx~\x7f\x80\x85\xa0\xfe\xff";
 
 /// The reader and the slow computation say the same of a text.
-fn agrees(rt: &impl Abort, alloc: Global, text: &[u8]) -> Result<(), Fail> {
+pub fn agrees(rt: &impl Abort, alloc: Global, text: &[u8]) -> Result<(), Fail> {
     let said = Said::of(alloc, text)?;
     let wants = said.answers(alloc)?;
     let mut source = Source::new(alloc, Device::new(text))?;
@@ -68,35 +67,6 @@ fn agrees_with_each(
         text.push(*byte)?;
         text.extend_from_slice(back)?;
         agrees(rt, alloc, text.as_slice())?;
-    }
-    Ok(())
-}
-
-/// The slow computation agrees with what was worked out by hand.
-#[test]
-fn agrees_on_examples(rt: HostRuntime) -> Result<(), Fail> {
-    for table in [
-        rows::WHOLE,
-        rows::FAULTY,
-        headers::SPELLINGS,
-        headers::WRONG_BYTES,
-        headers::WRONG_NUMBERS,
-        rasters::PACKED,
-        rasters::BYTES,
-        rasters::PIXELS,
-        rasters::NUMBERS,
-        pam::SPELLINGS,
-        pam::TYPES,
-        pam::RASTERS,
-        pam_faults::WRONG_LINES,
-        pam_faults::WRONG_FIELDS,
-        pam_faults::WRONG_NUMBERS,
-        streams::AFTER_RAW,
-        streams::AFTER_PLAIN,
-    ] {
-        for (input, _) in table {
-            agrees(&rt, rt.alloc(), input)?;
-        }
     }
     Ok(())
 }
