@@ -1,9 +1,8 @@
 -- The scanner of a number of a plain raster, byte by byte.
-use Rattle.std.proofs.Common.{◌≡◌, inl, ℕ, ◌+◌, ◌-◌, ◌*◌, Bool, true, false, not, ◌&&◌, ◌==◌, if◌then◌else◌, List, [], ◌∷◌, ◌++◌, refl, sym, ap, ◌∙◌, arith}
-use Rattle.std.proofs.lemmas.Bool.{and_parts}
+use Rattle.std.proofs.Common.{◌≡◌, inl, ℕ, ◌+◌, ◌-◌, ◌*◌, Bool, true, false, not, ◌&&◌, if◌then◌else◌, List, [], ◌∷◌, ◌++◌, refl, sym, ap, ◌∙◌, arith, subst}
+use Rattle.std.proofs.lemmas.Bool.{and_parts, and_right, not-true}
 use Rattle.std.proofs.lemmas.Bool.Decides.{nat_tests}
 use Rattle.std.proofs.lemmas.List.{length-append}
-use Rattle.pnm_read.specs.declared.fault.InputFault.TheVariants.{TooLong, BadSample}
 use Rattle.pnm_read.specs.declared.judgement.Judgement.{Judgement}
 use Rattle.pnm_read.specs.declared.judgement.Judgement.TheVariants.{GoesOn, EndsWith, EndsBefore, Fails}
 use Rattle.pnm_read.specs.declared.decimal.DecimalScanner.{DecimalScanner}
@@ -14,7 +13,8 @@ use Rattle.pnm_read.specs.Scans.{JudgesByte}
 use Rattle.pnm_read.specs.Saturation.{saturated, with_digit}
 use Rattle.pnm_read.specs.Scanners.{IsDecimalAfter, IsDecimalWhole, JudgesDecimal, PushesDecimal, is_numeral}
 use Rattle.pnm_read.proofs.CommentLaws.{commented_after-push}
-use Rattle.pnm_read.proofs.PieceLaws.{number_in-digit, number_in-other, ends_in_digit-push}
+use Rattle.pnm_read.proofs.PieceLaws.{number_in-digit, number_in-other, ends_in_digit-push, DecimalTold, decimal_told}
+use Rattle.pnm_read.proofs.WordLaws.{digit_is_not_sharp}
 
 pub decimal_fresh : (s : DecimalScanner) → s.length ≡ 0 → s.in_comment ≡ false → s.in_number ≡ false → s.value ≡ 0 → IsDecimalAfter s []
 unfolding commented_after ends_by uncommented_from
@@ -23,31 +23,20 @@ decimal_fresh s l c d v = record { length_is = l; comment = c; digit = d; value 
 digit_ends_no_line : (b : ℕ) → is_digit b ≡ true → is_line_end b ≡ false
 digit_ends_no_line b e = grind (arith, nat_tests)
 
-digit_begins_no_comment : (b : ℕ) → is_digit b ≡ true → (b == 35) ≡ false
-digit_begins_no_comment b e = grind (arith, nat_tests)
-
-and_false : (t : Bool) → (t && false) ≡ false
-and_false true = refl
-and_false false = refl
-
 -- a digit begins and ends no comment
 numeral_is : (inside : Bool) (b : ℕ) (d : Bool) → is_digit b ≡ d → (not (commented inside b) && d) ≡ (not inside && d)
-numeral_is inside b false e = and_false _ ∙ sym (and_false _)
+numeral_is inside b false e = and_right _ false refl ∙ sym (and_right _ false refl)
 numeral_is true b true e = rw (digit_ends_no_line b e) refl
-numeral_is false b true e = rw (digit_begins_no_comment b e) refl
+numeral_is false b true e = rw (digit_is_not_sharp b e) refl
 
 -- a number as a u32 with a digit more
 pub with_digit-saturated : (n d : ℕ) → with_digit (saturated n) d ≡ saturated (n * 10 + d)
 with_digit-saturated n d = omega arith
 
-not_false : (t : Bool) → not t ≡ true → t ≡ false
-not_false true e = absurd cc
-not_false false e = refl
-
 value_after : (t : Bool) (before : List ℕ) (b : ℕ) → is_numeral (ends_in_comment before) b ≡ t → (if t then with_digit (saturated (number_in before)) (b - 48) else saturated (number_in before)) ≡ saturated (number_in (before ++ b ∷ []))
 value_after true before b e =
     let parts = and_parts _ _ e in
-    with_digit-saturated (number_in before) (b - 48) ∙ ap saturated (sym (number_in-digit before b (not_false _ parts.0) parts.1))
+    with_digit-saturated (number_in before) (b - 48) ∙ ap saturated (sym (number_in-digit before b (not-true _ parts.0) parts.1))
 value_after false before b e = ap saturated (sym (number_in-other before b e))
 
 decimal_after : (old new : DecimalScanner) (b : ℕ) (before : List ℕ) → IsDecimalAfter old before → PushesDecimal old b new → IsDecimalAfter new (before ++ b ∷ [])
@@ -58,19 +47,8 @@ decimal_after old new b before a p = record {
   value = p.value ∙ rw (a.comment, a.value) (value_after (is_numeral (ends_in_comment before) b) before b refl);
 }
 
--- the judgements of decimal_item by its three tests
-abbrev chosen : Bool → Bool → Bool → Judgement
-chosen long bad ends = if long then Fails TooLong else if bad then Fails BadSample else if ends then EndsBefore else GoesOn
-
-chosen_never : (long bad ends : Bool) → chosen long bad ends ≡ EndsWith → ⊥
-chosen_never true bad ends e = absurd cc
-chosen_never false true ends e = absurd cc
-chosen_never false false true e = absurd cc
-chosen_never false false false e = absurd cc
-
 decimal_never_with : (before : List ℕ) (b : ℕ) → decimal_item before b ≡ EndsWith → ⊥
-unfolding decimal_item
-decimal_never_with before b e = chosen_never _ _ _ e
+decimal_never_with before b e = subst (DecimalTold before b) e (decimal_told before b)
 
 pub decimal_goes_on : (old new : DecimalScanner) (b : ℕ) (j : Judgement) → j ≡ GoesOn → JudgesDecimal old b j → PushesDecimal old b new
     → JudgesByte decimal_item (IsDecimalAfter old) (IsDecimalAfter new) (IsDecimalWhole new) b j

@@ -9,14 +9,14 @@ use Rattle.pnm_read.specs.declared.judgement.Judgement.TheVariants.{GoesOn, Ends
 use Rattle.pnm_read.specs.declared.fields.Fields.{Fields}
 use Rattle.pnm_read.specs.declared.line.Field.{Field}
 use Rattle.pnm_read.specs.declared.line.Field.TheVariants.{Width, Height, Depth, Maxval}
-use Rattle.pnm_read.specs.declared.line.LineKind.{LineKind}
-use Rattle.pnm_read.specs.declared.line.LineKind.TheVariants.{Nothing, Number, TupleType, End, Unknown}
+use Rattle.pnm_read.specs.declared.line.LineKind.TheVariants.{Nothing, Number, TupleType, End}
 use Rattle.pnm_image.specs.Texts.{is_digit, decimal_value}
 use Rattle.pnm_read.specs.Saturation.{saturated}
 use Rattle.pnm_read.specs.PamLines.{after_first, second_token, value_of, line_kind, field_values, joined_with, tuple_type_in}
 use Rattle.pnm_read.specs.Items.{line_item, number_item, tuple_type_item}
 use Rattle.pnm_read.specs.PamScanners.{number_of, held_number, IsFields, TakesLine, JudgesLine, field_number, with_number, SetsNumber, IsWithTupleType, SetsTupleType, AddsTupleType}
 use Rattle.pnm_read.proofs.LineKinds.{is_number, is_type, values_same, values_first, type_same, type_joined}
+use Rattle.pnm_read.proofs.PamLineLaws.{line_is_judged}
 
 -- no line so far
 pub no_fields : (s : Fields) → s.width ≡ None → s.height ≡ None → s.depth ≡ None → s.maxval ≡ None → s.tuple_type.items ≡ [] → IsFields s []
@@ -49,20 +49,6 @@ end_number Height = refl
 end_number Depth = refl
 end_number Maxval = refl
 
--- the judgement of a line of this kind
-abbrev item_of : LineKind → List (List ℕ) → List ℕ → Judgement
-item_of kind lines line = elim kind [
-  | Nothing ↦ GoesOn
-  | Number field ↦ number_item lines field line
-  | TupleType ↦ tuple_type_item lines line
-  | End ↦ EndsWith
-  | Unknown ↦ Fails BadPamLine
-]
-
--- a line is judged by its kind
-item_is : (kind : LineKind) (lines : List (List ℕ)) (line : List ℕ) → line_kind line ≡ kind → line_item lines line ≡ item_of kind lines line
-item_is kind lines line e = ap (λ (k : LineKind). item_of k lines line) e
-
 -- a line was judged, and what it says was taken
 judges_so : (s : Fields) (lines : List (List ℕ)) (line : List ℕ) (j k : Judgement) → line_item lines line ≡ k → j ≡ k → TakesLine s k (lines ++ line ∷ []) → ((j ≡ line_item lines line) × TakesLine s j (lines ++ line ∷ [])) ⊎ (j ≡ Fails Memory)
 judges_so s lines line j k item is t = inl (is ∙ sym item, subst (λ (k : Judgement). TakesLine s k (lines ++ line ∷ [])) (sym is) t)
@@ -70,12 +56,12 @@ judges_so s lines line j k item is t = inl (is ∙ sym item, subst (λ (k : Judg
 -- a line that says nothing
 pub line_of_nothing : (s : Fields) (line : List ℕ) → line_kind line ≡ Nothing → JudgesLine s line s GoesOn
 line_of_nothing s line e lines f =
-    judges_so s lines line GoesOn GoesOn (item_is Nothing lines line e) refl (fields_same s lines line (λ field. ap (is_number field) e ∙ nothing_number field) (ap is_type e) f)
+    judges_so s lines line GoesOn GoesOn (line_is_judged Nothing lines line e) refl (fields_same s lines line (λ field. ap (is_number field) e ∙ nothing_number field) (ap is_type e) f)
 
 -- the last line
 pub line_of_end : (s : Fields) (line : List ℕ) → line_kind line ≡ End → JudgesLine s line s EndsWith
 line_of_end s line e lines f =
-    judges_so s lines line EndsWith EndsWith (item_is End lines line e) refl (fields_same s lines line (λ field. ap (is_number field) e ∙ end_number field) (ap is_type e) f)
+    judges_so s lines line EndsWith EndsWith (line_is_judged End lines line e) refl (fields_same s lines line (λ field. ap (is_number field) e ∙ end_number field) (ap is_type e) f)
 
 -- ---- a number
 
@@ -174,7 +160,7 @@ line_of_number field old new line rest j e is s lines f =
     subst (λ (h : Option ℕ). Sets (length (second_token line) == 0) (number_of (second_token line)) h field old new j) (held_is field old lines f) sets in
     let p = number_by (length (second_token line) == 0) (list_all is_digit (second_token line)) (field_values field lines) (saturated (decimal_value (second_token line))) field old new j (lines ++ line ∷ []) held
     (λ same none. subst (λ (s : Fields). IsFields s (lines ++ line ∷ [])) (sym same) (with_field field old lines line e none f)) in
-    judges_so new lines line j (number_item lines field line) (item_is (Number field) lines line e) p.0 p.1
+    judges_so new lines line j (number_item lines field line) (line_is_judged (Number field) lines line e) p.0 p.1
 
 -- ---- a part of the tuple type
 
@@ -205,4 +191,4 @@ line_of_type old new line text j e is (inl s) lines f =
     subst (λ (l : List ℕ). SetsTupleType (nat_lt 255 (length l)) old l new j) all s in
     let p = type_by (nat_lt 255 (length (tuple_type_in (lines ++ line ∷ [])))) old new (tuple_type_in (lines ++ line ∷ [])) j (lines ++ line ∷ []) sets
     (λ short w. with_type old new lines line e f w (ltb-false 255 (length (tuple_type_in (lines ++ line ∷ []))) short)) in
-    judges_so new lines line j (tuple_type_item lines line) (item_is TupleType lines line e) p.0 p.1
+    judges_so new lines line j (tuple_type_item lines line) (line_is_judged TupleType lines line e) p.0 p.1

@@ -2,7 +2,7 @@
 use Rattle.std.proofs.Common.{◌≡◌, ◌⊎◌, inl, inr, ℕ, ◌+◌, ◌-◌, ◌*◌, ◌<◌, ◌≤◌, Bool, true, false, not, ◌&&◌, ◌||◌, ◌==◌, List, [], ◌∷◌, ◌++◌, length, map, drop, refl, sym, ap, subst, ◌∙◌, arith}
 use Rattle.std.specs.Prelude.{nat_le, slice_index}
 use Rattle.std.specs.List.{AllPass}
-use Rattle.std.proofs.lemmas.Bool.{eqb-true, eqb-false}
+use Rattle.std.proofs.lemmas.Bool.{eqb-true, eqb-false, and_right}
 use Rattle.std.proofs.lemmas.Bool.Decides.{nat_tests}
 use Rattle.std.proofs.lemmas.List.{length-append, get_or-drop, drop_all}
 use Rattle.std.proofs.lemmas.List.Elements.{All-nil}
@@ -83,11 +83,6 @@ header_fresh wanted s f some most three = record {
 
 -- ---- one byte more
 
--- a byte inside a comment, or one that begins one, is no digit and no white space
-and_false : (t : Bool) → (t && false) ≡ false
-and_false true = refl
-and_false false = refl
-
 sharp_is_no_digit : (b : ℕ) → b ≡ 35 → is_digit b ≡ false
 sharp_is_no_digit b e = grind (arith, nat_tests)
 
@@ -96,7 +91,7 @@ sharp_is_not_white b e = grind (arith, nat_tests)
 
 in_comment_no : (inside t : Bool) (b : ℕ) → (inside ≡ true) ⊎ (b ≡ 35) → (b ≡ 35 → t ≡ false) → (not inside && t) ≡ false
 in_comment_no inside t b (inl e) f = rw e refl
-in_comment_no inside t b (inr e) f = rw (f e) (and_false (not inside))
+in_comment_no inside t b (inr e) f = and_right (not inside) t (f e)
 
 length_after : (old new : HeaderScanner) (b : ℕ) (before : List ℕ) → IsHeaderAfter old before → PushesHeader old b new → new.length ≡ length (before ++ b ∷ [])
 length_after old new b before a p = p.length_is ∙ ap (λ n. n + 1) a.length_is ∙ sym (length-append before (b ∷ []))
@@ -128,7 +123,7 @@ after_comment old new b before a p h =
 after_white : (old new : HeaderScanner) (b : ℕ) (before : List ℕ) → IsHeaderAfter old before → PushesHeader old b new → ends_in_comment before ≡ false → is_white b ≡ true → (length (numbers_in before) == old.wanted) ≡ false → IsHeaderAfter new (before ++ b ∷ [])
 after_white old new b before a p outside white others =
     let plain : old.in_comment ≡ false = a.comment ∙ outside in
-    let digit : is_numeral old.in_comment b ≡ false = ap (λ (t : Bool). not old.in_comment && t) (white_is_not_digit b white) ∙ and_false (not old.in_comment) in
+    let digit : is_numeral old.in_comment b ≡ false = and_right (not old.in_comment) (is_digit b) (white_is_not_digit b white) in
     let gap : (not old.in_comment && is_white b) ≡ true = ap (λ (t : Bool). not t && is_white b) plain ∙ white in
     let word : new.in_number ≡ false = rw (digit, gap) at p.word in
     let found : new.found ≡ old.found = rw digit at p.found in

@@ -41,3 +41,4 @@ pub mod PartLaws
 pub mod RawSteps
 pub mod PlainSteps
 pub mod SourceSteps
+pub mod GivenLaws

@@ -1,8 +1,6 @@
 -- What the functions on a line's bytes find.
 use Rattle.std.proofs.Common.{◌≡◌, ◌⊎◌, inl, inr, ℕ, ◌+◌, ◌-◌, ◌*◌, ◌<◌, ◌≤◌, Bool, true, false, ◌&&◌, if◌then◌else◌, List, [], ◌∷◌, ◌++◌, length, take, drop, get_or, Some, None, refl, sym, ap, ◌∙◌, append_assoc, append-nil, arith}
 use Rattle.std.specs.List.{list_all}
-use Rattle.std.specs.Char.{digit_value}
-use Rattle.std.proofs.lemmas.Bool.Decides.{nat_tests}
 use Rattle.std.proofs.lemmas.Int.Digits.{digits_value_more}
 use Rattle.std.proofs.lemmas.List.Folds.{list_all_more, list_all_at}
 use Rattle.std.proofs.lemmas.List.{take_more, drop_more, take_all, drop_all}
@@ -10,6 +8,7 @@ use Rattle.pnm_image.specs.Texts.{is_blank, is_digit, decimal_value}
 use Rattle.pnm_read.specs.Saturation.{saturated, with_digit}
 use Rattle.pnm_read.specs.PamScanners.{number_of}
 use Rattle.pnm_read.proofs.DecimalSteps.{with_digit-saturated}
+use Rattle.pnm_read.proofs.WordLaws.{digit_value_is}
 use Rattle.pnm_read.specs.PamLines.{trimmed_start, trimmed_end, onto_trimmed, token_of, after_token}
 
 -- ---- white space at the ends of a text
@@ -88,10 +87,6 @@ pub record SplitAt (text : List ℕ) (n : ℕ) : Type 0 where
   pub token : token_of text ≡ take n text ++ token_of (drop n text)
   pub rest : after_token text ≡ after_token (drop n text)
 
--- no byte so far
-pub split_first : (text : List ℕ) → SplitAt text 0
-split_first text = record { within = omega arith; token = refl; rest = refl }
-
 -- a byte of the token
 token_other : (b : ℕ) (text : List ℕ) → is_blank b ≡ false → token_of (b ∷ text) ≡ b ∷ token_of text
 unfolding token_of
@@ -161,10 +156,6 @@ pub record DigitsSo (token : List ℕ) (n number : ℕ) : Type 0 where
 -- no byte so far
 pub no_digits : (token : List ℕ) → DigitsSo token 0 0
 no_digits token = record { digits = refl; value = refl }
-
--- the value of a digit
-digit_value_is : (b : ℕ) → is_digit b ≡ true → digit_value b ≡ b - 48
-digit_value_is b h = grind (arith, nat_tests)
 
 -- one digit more
 pub digits_more : (token : List ℕ) (n old new : ℕ) → DigitsSo token n old → n < length token → is_digit (get_or token n 0) ≡ true → new ≡ with_digit old (get_or token n 0 - 48) → DigitsSo token (n + 1) new

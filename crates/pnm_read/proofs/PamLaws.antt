@@ -2,7 +2,7 @@
 use Rattle.std.proofs.Common.{◌≡◌, ℕ, ◌+◌, ◌<◌, ◌≤◌, Bool, true, false, not, ◌==◌, if◌then◌else◌, List, [], ◌∷◌, ◌++◌, length, Some, Ok, Err, refl, sym, ap, subst, ◌∙◌, append_assoc, append-nil, length-append, arith}
 use Rattle.std.specs.Prelude.{nat_le}
 use Rattle.std.specs.List.{AllByRecursion}
-use Rattle.std.proofs.lemmas.Bool.{eqb-true, leb-false, lt-leb}
+use Rattle.std.proofs.lemmas.Bool.{eqb-true, leb-false, lt-leb, not-true}
 use Rattle.std.proofs.lemmas.List.Elements.{All-head, All-tail}
 use Rattle.pnm_image.specs.declared.shape.Kind.{Kind}
 use Rattle.pnm_image.specs.Heads.{HeadValue, IsTupleType, Suits}
@@ -26,10 +26,10 @@ use Rattle.pnm_read.proofs.PamLineLaws.{line_is_judged, line_ends, line_ends_wit
 
 -- ---- how a byte is judged
 
-abbrev pam_by : Bool → Bool → Judgement → Judgement
+abbrev pub pam_by : Bool → Bool → Judgement → Judgement
 pam_by long feed line = if long then Fails TooLong else if feed then line else GoesOn
 
-pam_item_is : (before : List ℕ) (b : ℕ) → pam_item before b ≡ pam_by (nat_le pam_limit (length before)) (b == 10) (line_item (ended_lines before) (last_line before))
+pub pam_item_is : (before : List ℕ) (b : ℕ) → pam_item before b ≡ pam_by (nat_le pam_limit (length before)) (b == 10) (line_item (ended_lines before) (last_line before))
 unfolding pam_item
 pam_item_is before b = refl
 
@@ -182,13 +182,6 @@ pam_head_is_spelled text rest format head names e =
       },
     )
 
--- a header that is read has some bytes
-pub pam_head_shorter : (text : List ℕ) (found : HeadValue × List ℕ) → pam_head_at text ≡ Ok found → length found.1 < length text
-pam_head_shorter text found e =
-    let read = pam_parts text found.0 found.1 e in
-    let lengths : length text ≡ length (read.body ++ 10 ∷ []) + length found.1 + 1 = ap (λ (t : List ℕ). length t) read.whole ∙ omega (arith, length-append (read.body ++ 10 ∷ []) found.1) in
-    omega arith
-
 -- ---- what is spelled is read
 
 -- three choices by the same
@@ -231,22 +224,19 @@ body_is_piece body rest j short ends =
 
 -- ---- the lines of a header
 
-no_feed : (c : ℕ) → not (c == 10) ≡ true → (c == 10) ≡ false
-no_feed c e = grind arith
-
 -- one line goes on
 ended_after-line : (line before text : List ℕ) → IsOneLine line → ended_after before (line ++ text) ≡ ended_after (before ++ line) text
 unfolding ended_after
 ended_after-line [] before text one = ap (λ (t : List ℕ). ended_after t text) (sym (append-nil before))
 ended_after-line (c ∷ line) before text one =
-    ap (λ (t : Bool). if t then before ∷ ended_after [] (line ++ text) else ended_after (before ++ c ∷ []) (line ++ text)) (no_feed c (All-head (λ x. not (x == 10) ≡ true) c line one))
+    ap (λ (t : Bool). if t then before ∷ ended_after [] (line ++ text) else ended_after (before ++ c ∷ []) (line ++ text)) (not-true (c == 10) (All-head (λ x. not (x == 10) ≡ true) c line one))
     ∙ ended_after-line line (before ++ c ∷ []) text (All-tail (λ x. not (x == 10) ≡ true) c line one) ∙ ap (λ (t : List ℕ). ended_after t text) (append_assoc before (c ∷ []) line)
 
 last_after-line : (line before text : List ℕ) → IsOneLine line → last_after before (line ++ text) ≡ last_after (before ++ line) text
 unfolding last_after
 last_after-line [] before text one = ap (λ (t : List ℕ). last_after t text) (sym (append-nil before))
 last_after-line (c ∷ line) before text one =
-    ap (λ (t : Bool). if t then last_after [] (line ++ text) else last_after (before ++ c ∷ []) (line ++ text)) (no_feed c (All-head (λ x. not (x == 10) ≡ true) c line one))
+    ap (λ (t : Bool). if t then last_after [] (line ++ text) else last_after (before ++ c ∷ []) (line ++ text)) (not-true (c == 10) (All-head (λ x. not (x == 10) ≡ true) c line one))
     ∙ last_after-line line (before ++ c ∷ []) text (All-tail (λ x. not (x == 10) ≡ true) c line one) ∙ ap (λ (t : List ℕ). last_after t text) (append_assoc before (c ∷ []) line)
 
 -- lines and their LFs, and a last line without one

@@ -6,6 +6,7 @@ use Rattle.std.specs.List.{AllPass, AllByRecursion, list_all}
 use Rattle.std.proofs.lemmas.Bool.Decides.{nat_tests}
 use Rattle.std.proofs.lemmas.List.Sums.{AllPass-from_list_all, list_all-from_AllPass}
 use Rattle.std.proofs.lemmas.Slice.Eq.{bytes_eq-Decides}
+use Rattle.std.proofs.lemmas.Bool.{false_from_ne_true, not-false, ltb-false, le-ltb}
 use Rattle.pnm_read.specs.declared.fault.InputFault.TheVariants.{TooLong, BadNumber, BadPamLine, DuplicateField}
 use Rattle.pnm_read.specs.declared.judgement.Judgement.{Judgement}
 use Rattle.pnm_read.specs.declared.judgement.Judgement.TheVariants.{GoesOn, EndsWith, EndsBefore, Fails}
@@ -110,21 +111,16 @@ tuple_type-other : (lines : List (List ℕ)) (line : List ℕ) → begins_with (
 tuple_type-other lines line e =
     tuple_type_in-append lines (line ∷ []) ∙ ap (joined_with (tuple_type_in lines)) (tuple_type-not_here line [] e ∙ no_tuple_types) ∙ joined_with-nothing (tuple_type_in lines)
 
--- a test that is not true is false
-by_test : (t : Bool) → (t ≡ true → ⊥) → t ≡ false
-by_test true h = absurd (h refl)
-by_test false h = refl
-
 -- ENDHDR adds nothing
 pub values-end : (field : Field) (lines : List (List ℕ)) (line : List ℕ) → line_kind line ≡ End → field_values field (lines ++ line ∷ []) ≡ field_values field lines
-values-end field lines line k = values-other field lines line (by_test (begins_with (name_of field) line) (λ e. let number = number_line field line e in cc))
+values-end field lines line k = values-other field lines line (false_from_ne_true (begins_with (name_of field) line) (λ e. let number = number_line field line e in cc))
 
 pub tuple_type-end : (lines : List (List ℕ)) (line : List ℕ) → line_kind line ≡ End → tuple_type_in (lines ++ line ∷ []) ≡ tuple_type_in lines
-tuple_type-end lines line k = tuple_type-other lines line (by_test (begins_with (codes "TUPLTYPE") line) (λ e. let tuple = tuple_type_line line e in cc))
+tuple_type-end lines line k = tuple_type-other lines line (false_from_ne_true (begins_with (codes "TUPLTYPE") line) (λ e. let tuple = tuple_type_line line e in cc))
 
 -- ---- how a line is judged
 
-abbrev line_by : LineKind → List (List ℕ) → List ℕ → Judgement
+abbrev pub line_by : LineKind → List (List ℕ) → List ℕ → Judgement
 line_by kind lines line = elim kind [
   | Nothing ↦ GoesOn
   | Number field ↦ number_item lines field line
@@ -172,16 +168,12 @@ zero_is n e = grind (arith, nat_tests)
 some_is : (n : ℕ) → (n == 0) ≡ false → 0 < n
 some_is n e = grind (arith, nat_tests)
 
-not_false : (t : Bool) → not t ≡ false → t ≡ true
-not_false true e = refl
-not_false false e = absurd cc
-
 first_number : (lines : List (List ℕ)) (field : Field) (line : List ℕ) → number_item lines field line ≡ GoesOn → FirstNumber lines field line
 first_number lines field line e =
     let tests = number_goes_on (length (second_token line) == 0) (not (list_all is_digit (second_token line))) (not (length (field_values field lines) == 0)) e in
     record {
       some = some_is (length (second_token line)) tests.0;
-      digits = AllPass-from_list_all is_digit (second_token line) (not_false (list_all is_digit (second_token line)) tests.1);
+      digits = AllPass-from_list_all is_digit (second_token line) (not-false (list_all is_digit (second_token line)) tests.1);
       first = zero_is (length (field_values field lines)) tests.2;
     }
 
@@ -247,13 +239,10 @@ single_by true field lines line b e single =
     omega arith
 single_by false field lines line b e single = let lengths = ap (λ (l : List ℕ). length l) (values-other field lines line b) in omega arith
 
-short_test : (n : ℕ) → nat_lt 255 n ≡ false → n ≤ 255
-short_test n e = grind (arith, nat_tests)
-
 short_by : (begins : Bool) (lines : List (List ℕ)) (line : List ℕ) → begins_with (codes "TUPLTYPE") line ≡ begins → line_item lines line ≡ GoesOn → length (tuple_type_in lines) ≤ 255 → length (tuple_type_in (lines ++ line ∷ [])) ≤ 255
 short_by true lines line b e short =
     let test = type_goes_on (nat_lt 255 (length (tuple_type_in (lines ++ line ∷ [])))) (sym (line_is_judged TupleType lines line (tuple_type_line line b)) ∙ e) in
-    short_test (length (tuple_type_in (lines ++ line ∷ []))) test
+    ltb-false 255 (length (tuple_type_in (lines ++ line ∷ []))) test
 short_by false lines line b e short = let lengths = ap (λ (l : List ℕ). length l) (tuple_type-other lines line b) in omega arith
 
 -- with one line more that goes on
@@ -277,12 +266,6 @@ joined_with-longer : (first text : List ℕ) → length first ≤ length (joined
 joined_with-longer [] text = omega arith
 joined_with-longer (b ∷ first) [] = omega arith
 joined_with-longer (b ∷ first) (c ∷ text) = omega (arith, length-append (b ∷ first) (32 ∷ c ∷ text))
-
-long_test : (n : ℕ) → n ≤ 255 → nat_lt 255 n ≡ false
-long_test n e = grind (arith, nat_tests)
-
-zero_test : (n : ℕ) → n ≡ 0 → not (n == 0) ≡ false
-zero_test n e = rw e refl
 
 some_test : (n : ℕ) → 0 < n → (n == 0) ≡ false
 some_test n e = grind (arith, nat_tests)
@@ -309,7 +292,7 @@ goes_on_by Nothing earlier line later k says j = refl
 goes_on_by (Number field) earlier line later k says j =
     let first = first_of_field field earlier line later (begins_with_name field line k) (j.single field) in
     rw (some_test (length (second_token line)) says.0, list_all-from_AllPass is_digit (second_token line) says.1, first) refl
-goes_on_by TupleType earlier line later k says j = rw (long_test (length (tuple_type_in (earlier ++ line ∷ []))) (tuple_type_so_far earlier line later j.short)) refl
+goes_on_by TupleType earlier line later k says j = rw (le-ltb 255 (length (tuple_type_in (earlier ++ line ∷ []))) (tuple_type_so_far earlier line later j.short)) refl
 goes_on_by End earlier line later k says j = absurd says
 goes_on_by Unknown earlier line later k says j = absurd says
 

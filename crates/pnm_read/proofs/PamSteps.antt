@@ -1,12 +1,12 @@
 -- The scanner of a PAM header, byte by byte, and the head of the header that it has taken.
-use Rattle.std.proofs.Common.{◌≡◌, inl, inr, ℕ, ◌+◌, ◌<◌, Bool, false, ◌==◌, if◌then◌else◌, List, [], ◌∷◌, ◌++◌, length, Result, Ok, Err, refl, sym, ap, subst, ◌∙◌, arith}
+use Rattle.std.proofs.Common.{◌≡◌, inl, inr, ℕ, ◌+◌, ◌<◌, Bool, false, ◌==◌, List, [], ◌∷◌, ◌++◌, length, Result, Ok, Err, refl, sym, ap, subst, ◌∙◌, arith}
 use Rattle.std.specs.Prelude.{nat_le}
 use Rattle.std.proofs.lemmas.Bool.{ne_eqb}
 use Rattle.std.proofs.lemmas.Bool.Decides.{nat_tests}
 use Rattle.std.proofs.lemmas.List.{length-append}
 use Rattle.pnm_image.specs.Heads.{HeadValue, IsTupleType}
 use Rattle.pnm_read.specs.declared.fault.InputFault.{InputFault}
-use Rattle.pnm_read.specs.declared.fault.InputFault.TheVariants.{TooLong, ReadFailed}
+use Rattle.pnm_read.specs.declared.fault.InputFault.TheVariants.{ReadFailed}
 use Rattle.pnm_read.specs.declared.judgement.Judgement.{Judgement}
 use Rattle.pnm_read.specs.declared.judgement.Judgement.TheVariants.{GoesOn, EndsWith, EndsBefore, Fails}
 use Rattle.pnm_read.specs.declared.fields.Fields.{Fields}
@@ -21,6 +21,7 @@ use Rattle.pnm_read.specs.PamScanners.{IsFields, TakesLine, JudgesLine, IsPamAft
 use Rattle.pnm_read.proofs.LineLaws.{ended_lines-lf, last_line-lf, ended_lines-other, last_line-other, ended_lines-are}
 use Rattle.pnm_read.proofs.TupleTypeLaws.{tuple_type_in-is}
 use Rattle.pnm_read.proofs.PamShapes.{lines_of_text}
+use Rattle.pnm_read.proofs.PamLaws.{pam_by, pam_item_is}
 
 -- no byte so far
 pub pam_fresh : (s : PamScanner) → s.length ≡ 0 → s.line.items ≡ [] → IsFields s.fields [] → IsPamAfter s []
@@ -28,14 +29,6 @@ unfolding ended_after last_after
 pam_fresh s l line fields = record { length_is = l; line = line; fields = fields }
 
 -- ---- one byte more
-
--- the judgement of a byte by whether too many came before, whether it is a LF, and the judgement of its line
-abbrev judged_by : Bool → Bool → Judgement → Judgement
-judged_by long feed line = if long then Fails TooLong else if feed then line else GoesOn
-
-pam_item_is : (before : List ℕ) (b : ℕ) → pam_item before b ≡ judged_by (nat_le pam_limit (length before)) (b == 10) (line_item (ended_lines before) (last_line before))
-unfolding pam_item
-pam_item_is before b = refl
 
 -- the length is within the limit
 is_short : (s : PamScanner) (before : List ℕ) → IsPamAfter s before → s.length < 65533 → nat_le pam_limit (length before) ≡ false
@@ -52,8 +45,8 @@ pam_goes_on old new b lt other l line fields before a =
       fields = subst (λ (f : Fields). IsFields f (ended_lines (before ++ b ∷ []))) (sym fields) (subst (IsFields old.fields) (sym (ended_lines-other before b no_feed)) a.fields);
     } in
     inl (
-      sym (pam_item_is before b ∙ ap (λ (long : Bool). judged_by long (b == 10) (line_item (ended_lines before) (last_line before))) (is_short old before a lt)
-          ∙ ap (λ (feed : Bool). judged_by false feed (line_item (ended_lines before) (last_line before))) no_feed),
+      sym (pam_item_is before b ∙ ap (λ (long : Bool). pam_by long (b == 10) (line_item (ended_lines before) (last_line before))) (is_short old before a lt)
+          ∙ ap (λ (feed : Bool). pam_by false feed (line_item (ended_lines before) (last_line before))) no_feed),
       after,
     )
 
@@ -72,7 +65,7 @@ feed_taken new (Fails k) before l line t = tt
 feed_judged : (old : PamScanner) (line : List ℕ) (j : Judgement) (before : List ℕ) → old.length < 65533 → line ≡ old.line.items → IsPamAfter old before → j ≡ line_item (ended_lines before) line → j ≡ pam_item before 10
 feed_judged old line j before lt is a judged =
     judged ∙ ap (line_item (ended_lines before)) (is ∙ a.line)
-    ∙ sym (pam_item_is before 10 ∙ ap (λ (long : Bool). judged_by long (10 == 10) (line_item (ended_lines before) (last_line before))) (is_short old before a lt))
+    ∙ sym (pam_item_is before 10 ∙ ap (λ (long : Bool). pam_by long (10 == 10) (line_item (ended_lines before) (last_line before))) (is_short old before a lt))
 
 -- a LF was judged and taken
 feed : (old new : PamScanner) (line : List ℕ) (j : Judgement) → old.length < 65533 → new.length ≡ old.length + 1 → line ≡ old.line.items → new.line.items ≡ [] → JudgesLine old.fields line new.fields j

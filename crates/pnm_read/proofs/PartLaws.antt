@@ -1,24 +1,13 @@
 -- Items of a text in turn, of which some were read already.
-use Rattle.std.proofs.Common.{◌≡◌, ℕ, zero, ◌+◌, ◌-◌, ◌≤◌, List, [], ◌∷◌, ◌++◌, Result, Ok, Err, refl, sym, ap, ◌∙◌, append_assoc, arith}
+use Rattle.std.proofs.Common.{◌≡◌, ℕ, zero, ◌+◌, ◌-◌, ◌≤◌, List, [], ◌∷◌, ◌++◌, Result, Ok, Err, refl, ap, ◌∙◌, arith}
 use Rattle.std.proofs.lemmas.List.{append-nil}
 use Rattle.pnm_read.specs.declared.fault.InputFault.{InputFault}
 use Rattle.pnm_read.specs.Items.{◌>>=◌}
 use Rattle.pnm_read.specs.Said.{in_turn}
-use Rattle.pnm_read.proofs.UnitLaws.{turned, and_turns, in_turn-add}
-
--- after no items
-after_none : {A : Type 0} (r : Result (List A × List ℕ) InputFault) → r ≡ (r >>= λ more. turned more.0 more.1)
-after_none (Ok x) = refl
-after_none (Err fault) = refl
+use Rattle.pnm_read.proofs.UnitLaws.{turned, and_turns, in_turn-add, none_before, after_both}
 
 pub all_are_left : {A : Type 0} (item : List ℕ → Result (A × List ℕ) InputFault) (n : ℕ) (text : List ℕ) → in_turn item n text ≡ and_turns item n [] text
-all_are_left item n text = after_none (in_turn item n text)
-
--- after items in two parts
-after_both : {A : Type 0} (items found : List A) (r : Result (List A × List ℕ) InputFault)
-    → ((r >>= λ more. turned (found ++ more.0) more.1) >>= λ more. turned (items ++ more.0) more.1) ≡ (r >>= λ more. turned ((items ++ found) ++ more.0) more.1)
-after_both items found (Ok x) = ap (λ l. turned l x.1) (sym (append_assoc items found x.0))
-after_both items found (Err fault) = refl
+all_are_left item n text = none_before (in_turn item n text)
 
 -- so many more were found
 some_are_read : {A : Type 0} (item : List ℕ → Result (A × List ℕ) InputFault) (n more : ℕ) (items found : List A) (text rest : List ℕ) → in_turn item n text ≡ Ok (found, rest)

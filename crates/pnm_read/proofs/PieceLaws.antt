@@ -1,9 +1,8 @@
 -- The bytes of a plain sample's piece: how each is judged, what a step of the piece finds, and how the gap before the sample is gone over.
-use Rattle.std.proofs.Common.{◌≡◌, ℕ, ◌+◌, ◌-◌, ◌*◌, ◌<◌, ◌≤◌, Bool, true, false, not, cond, ◌&&◌, ◌||◌, List, [], ◌∷◌, ◌++◌, length, Option, Some, None, Result, Ok, Err, refl, sym, ap, ap₂, subst, ◌∙◌, append_assoc, append-nil, length-append, arith}
+use Rattle.std.proofs.Common.{◌≡◌, ℕ, ◌+◌, ◌-◌, ◌*◌, ◌<◌, ◌≤◌, Bool, true, false, not, cond, ◌&&◌, ◌||◌, List, [], ◌∷◌, ◌++◌, length, Option, Some, None, Result, Ok, Err, refl, sym, ap, ap₂, subst, ◌∙◌, append_assoc, append-nil, length-append, arith, inl, inr}
 use Rattle.std.specs.Prelude.{◌==◌, nat_le, if◌then◌else◌, filter}
 use Rattle.std.specs.List.{AllPass}
-use Rattle.std.specs.Char.{digit_value}
-use Rattle.std.proofs.lemmas.Bool.{lt-leb}
+use Rattle.std.proofs.lemmas.Bool.{lt-leb, eqb-true, and_right}
 use Rattle.std.proofs.lemmas.Bool.Decides.{nat_tests}
 use Rattle.std.proofs.lemmas.Int.Digits.{digits_value_push}
 use Rattle.std.proofs.lemmas.List.Elements.{filter-append, All-head, All-tail, All-push}
@@ -15,53 +14,28 @@ use Rattle.pnm_read.specs.Texts.{is_line_end, is_apart, ends_by, commented, comm
 use Rattle.pnm_image.specs.Texts.{is_white, is_digit, decimal_value}
 use Rattle.pnm_read.specs.Rasters.{IsGap}
 use Rattle.pnm_read.specs.Items.{◌>>=◌, piece_from, gap_limit, ends_in_digit, is_complete, decimal_item, is_pixel, pixel_item}
-use Rattle.pnm_read.proofs.CommentLaws.{commented_after-push, uncommented_from-append, ends_by-push}
+use Rattle.pnm_read.proofs.CommentLaws.{commented_after-push, ends_by-push}
+use Rattle.pnm_read.proofs.WordLaws.{digit_is_not_sharp, digit_value_is, uncommented-plain, uncommented-comment}
 
 -- ---- one byte more
-
--- a byte inside a comment is cut out
-pub uncommented-inside : (before : List ℕ) (b : ℕ) → ends_in_comment before ≡ true → uncommented (before ++ b ∷ []) ≡ uncommented before
-unfolding uncommented_from
-uncommented-inside before b e =
-    uncommented_from-append false before (b ∷ []) ∙ ap (λ (i : Bool). uncommented before ++ uncommented_from i (b ∷ [])) e ∙ append-nil (uncommented before)
-
--- a byte that begins a comment is cut out
-pub uncommented-begins : (before : List ℕ) (b : ℕ) → ends_in_comment before ≡ false → (b == 35) ≡ true → uncommented (before ++ b ∷ []) ≡ uncommented before
-unfolding uncommented_from
-uncommented-begins before b e h =
-    uncommented_from-append false before (b ∷ []) ∙ ap (λ (i : Bool). uncommented before ++ uncommented_from i (b ∷ [])) e ∙ ap (λ (t : Bool). uncommented before ++ (if t then [] else b ∷ [])) h ∙ append-nil (uncommented before)
-
--- another byte outside comments stays
-pub uncommented-stays : (before : List ℕ) (b : ℕ) → ends_in_comment before ≡ false → (b == 35) ≡ false → uncommented (before ++ b ∷ []) ≡ uncommented before ++ b ∷ []
-unfolding uncommented_from
-uncommented-stays before b e h =
-    uncommented_from-append false before (b ∷ []) ∙ ap (λ (i : Bool). uncommented before ++ uncommented_from i (b ∷ [])) e ∙ ap (λ (t : Bool). uncommented before ++ (if t then [] else b ∷ [])) h
-
--- a digit begins no comment
-pub digit_is_no_mark : (b : ℕ) → is_digit b ≡ true → (b == 35) ≡ false
-digit_is_no_mark b h = grind (arith, nat_tests)
-
--- the value of a decimal digit
-digit_value_is : (b : ℕ) → is_digit b ≡ true → digit_value b ≡ b - 48
-digit_value_is b h = grind (arith, nat_tests)
 
 -- a digit outside comments is one more digit of the number
 pub number_in-digit : (before : List ℕ) (b : ℕ) → ends_in_comment before ≡ false → is_digit b ≡ true → number_in (before ++ b ∷ []) ≡ number_in before * 10 + (b - 48)
 number_in-digit before b e h =
     let digits : List ℕ = filter is_digit (uncommented before) in
     let left : filter is_digit (uncommented (before ++ b ∷ [])) ≡ digits ++ b ∷ [] =
-    ap (λ (t : List ℕ). filter is_digit t) (uncommented-stays before b e (digit_is_no_mark b h)) ∙ filter-append is_digit (uncommented before) (b ∷ []) ∙ ap (λ (t : Bool). digits ++ cond t (b ∷ []) []) h in
+    ap (λ (t : List ℕ). filter is_digit t) (uncommented-plain before b e (digit_is_not_sharp b h)) ∙ filter-append is_digit (uncommented before) (b ∷ []) ∙ ap (λ (t : Bool). digits ++ cond t (b ∷ []) []) h in
     ap decimal_value left ∙ digits_value_push 10 digits b ∙ ap (λ (n : ℕ). number_in before * 10 + n) (digit_value_is b h)
 
 -- outside comments, a byte that is no digit leaves the digits
 digits_stay : (before : List ℕ) (b : ℕ) (mark : Bool) → ends_in_comment before ≡ false → (b == 35) ≡ mark → is_digit b ≡ false → filter is_digit (uncommented (before ++ b ∷ [])) ≡ filter is_digit (uncommented before)
-digits_stay before b true e m h = ap (λ (t : List ℕ). filter is_digit t) (uncommented-begins before b e m)
+digits_stay before b true e m h = ap (λ (t : List ℕ). filter is_digit t) (uncommented-comment before b (inr (eqb-true b 35 m)))
 digits_stay before b false e m h =
     let digits : List ℕ = filter is_digit (uncommented before) in
-    ap (λ (t : List ℕ). filter is_digit t) (uncommented-stays before b e m) ∙ filter-append is_digit (uncommented before) (b ∷ []) ∙ ap (λ (t : Bool). digits ++ cond t (b ∷ []) []) h ∙ append-nil digits
+    ap (λ (t : List ℕ). filter is_digit t) (uncommented-plain before b e m) ∙ filter-append is_digit (uncommented before) (b ∷ []) ∙ ap (λ (t : Bool). digits ++ cond t (b ∷ []) []) h ∙ append-nil digits
 
 number_by : (before : List ℕ) (b : ℕ) (inside : Bool) → ends_in_comment before ≡ inside → (not inside && is_digit b) ≡ false → number_in (before ++ b ∷ []) ≡ number_in before
-number_by before b true e h = ap (λ (t : List ℕ). decimal_value (filter is_digit t)) (uncommented-inside before b e)
+number_by before b true e h = ap (λ (t : List ℕ). decimal_value (filter is_digit t)) (uncommented-comment before b (inl e))
 number_by before b false e h = ap decimal_value (digits_stay before b (b == 35) e refl h)
 
 -- another byte leaves the number: one in a comment, or no digit
@@ -82,6 +56,11 @@ done x = Ok x
 -- a step has one value
 pub ok_is : {A : Type 0} (x y : A) → done x ≡ done y → x ≡ y
 ok_is x y e = cc
+
+-- a test that let a value through
+pub if_ok : {A : Type 0} (t : Bool) (x y : A) (fault : InputFault) → (if t then Ok x else Err fault) ≡ done y → (t ≡ true) × (x ≡ y)
+if_ok true x y fault e = (refl, ok_is x y e)
+if_ok false x y fault e = absurd cc
 
 -- the piece that goes on, or ends, as a byte is judged
 abbrev pub piece_by : (List ℕ → ℕ → Judgement) → (List ℕ → Option InputFault) → List ℕ → ℕ → List ℕ → Judgement → Result (List ℕ × List ℕ) InputFault
@@ -159,20 +138,13 @@ in_gap inside b = inside || is_apart b
 pub apart_is_no_digit : (b : ℕ) → is_apart b ≡ true → is_digit b ≡ false
 apart_is_no_digit b h = grind (arith, nat_tests)
 
-pub white_is_no_digit : (b : ℕ) → is_white b ≡ true → is_digit b ≡ false
-white_is_no_digit b h = grind (arith, nat_tests)
-
 line_end_is_no_digit : (b : ℕ) → (not (not (is_line_end b)) && is_digit b) ≡ false
 line_end_is_no_digit b = grind (arith, nat_tests)
-
-no_digit_and : (t : Bool) (b : ℕ) → is_digit b ≡ false → (t && is_digit b) ≡ false
-no_digit_and true b h = h
-no_digit_and false b h = refl
 
 -- after a byte of a gap the text does not end in a digit outside comments
 pub after_gap_byte : (inside : Bool) (b : ℕ) → in_gap inside b ≡ true → (not (commented inside b) && is_digit b) ≡ false
 after_gap_byte true b h = line_end_is_no_digit b
-after_gap_byte false b h = no_digit_and (not (b == 35)) b (apart_is_no_digit b h)
+after_gap_byte false b h = and_right (not (b == 35)) (is_digit b) (apart_is_no_digit b h)
 
 -- whether a text with one byte more ends in a digit outside comments
 pub ends_in_digit-push : (before : List ℕ) (b : ℕ) → ends_in_digit (before ++ b ∷ []) ≡ (not (commented (ends_in_comment before) b) && is_digit b)
@@ -194,13 +166,13 @@ gap_head false b gap h = outside_head (b == 35) b gap refl h
 
 -- such a byte leaves what is not cut out white
 white-push : (t : Bool) (before : List ℕ) (b : ℕ) → (b == 35) ≡ t → ends_in_comment before ≡ false → is_apart b ≡ true → AllPass is_white (uncommented before) → AllPass is_white (uncommented (before ++ b ∷ []))
-white-push true before b e out h all = subst (AllPass is_white) (sym (uncommented-begins before b out e)) all
+white-push true before b e out h all = subst (AllPass is_white) (sym (uncommented-comment before b (inr (eqb-true b 35 e)))) all
 white-push false before b e out h all =
     let white : is_white b ≡ true = grind (arith, nat_tests) in
-    subst (AllPass is_white) (sym (uncommented-stays before b out e)) (All-push (λ x. is_white x ≡ true) (uncommented before) b all white)
+    subst (AllPass is_white) (sym (uncommented-plain before b out e)) (All-push (λ x. is_white x ≡ true) (uncommented before) b all white)
 
 white_by : (inside : Bool) (before : List ℕ) (b : ℕ) → ends_in_comment before ≡ inside → in_gap inside b ≡ true → AllPass is_white (uncommented before) → AllPass is_white (uncommented (before ++ b ∷ []))
-white_by true before b e h all = subst (AllPass is_white) (sym (uncommented-inside before b e)) all
+white_by true before b e h all = subst (AllPass is_white) (sym (uncommented-comment before b (inl e))) all
 white_by false before b e h all = white-push (b == 35) before b refl e h all
 
 -- a gap with one of its bytes more is white

@@ -1,46 +1,28 @@
 -- The scanner of a pixel, byte by byte.
-use Rattle.std.proofs.Common.{◌≡◌, inl, ℕ, ◌+◌, Bool, true, false, ◌||◌, ◌==◌, if◌then◌else◌, List, [], ◌∷◌, ◌++◌, refl, sym, ap, ◌∙◌, arith}
+use Rattle.std.proofs.Common.{◌≡◌, inl, ℕ, ◌+◌, Bool, true, false, ◌||◌, ◌==◌, if◌then◌else◌, List, [], ◌∷◌, ◌++◌, refl, sym, ap, ◌∙◌, arith, subst}
 use Rattle.std.proofs.lemmas.Bool.{and_parts}
 use Rattle.std.proofs.lemmas.Bool.Decides.{nat_tests}
 use Rattle.std.proofs.lemmas.List.{length-append}
-use Rattle.pnm_read.specs.declared.fault.InputFault.TheVariants.{TooLong, BadSample}
 use Rattle.pnm_read.specs.declared.judgement.Judgement.{Judgement}
-use Rattle.pnm_read.specs.declared.judgement.Judgement.TheVariants.{GoesOn, EndsWith, EndsBefore, Fails}
+use Rattle.pnm_read.specs.declared.judgement.Judgement.TheVariants.{GoesOn, EndsWith, EndsBefore}
 use Rattle.pnm_read.specs.declared.pixel.PixelScanner.{PixelScanner}
 use Rattle.pnm_read.specs.Texts.{commented, commented_after}
 use Rattle.pnm_read.specs.Items.{pixel_item, is_pixel}
 use Rattle.pnm_read.specs.Scans.{JudgesByte}
 use Rattle.pnm_read.specs.Scanners.{IsPixelAfter, IsPixelWhole, JudgesPixel}
 use Rattle.pnm_read.proofs.CommentLaws.{commented_after-push, ends_by-push}
+use Rattle.pnm_read.proofs.PieceLaws.{PixelTold, pixel_told}
 
 pub pixel_fresh : (s : PixelScanner) → s.length ≡ 0 → s.in_comment ≡ false → IsPixelAfter s []
 unfolding commented_after
 pixel_fresh s l c = record { length_is = l; comment = c }
 
--- the judgements of pixel_item by its three tests
-abbrev chosen : Bool → Bool → Bool → Judgement
-chosen long bad ends = if long then Fails TooLong else if bad then Fails BadSample else if ends then EndsWith else GoesOn
-
-chosen_ends : (long bad ends : Bool) → chosen long bad ends ≡ EndsWith → ends ≡ true
-chosen_ends true bad ends e = absurd cc
-chosen_ends false true ends e = absurd cc
-chosen_ends false false true e = refl
-chosen_ends false false false e = absurd cc
-
-chosen_never : (long bad ends : Bool) → chosen long bad ends ≡ EndsBefore → ⊥
-chosen_never true bad ends e = absurd cc
-chosen_never false true ends e = absurd cc
-chosen_never false false true e = absurd cc
-chosen_never false false false e = absurd cc
-
 -- a pixel ends with its character
 pixel_ends : (before : List ℕ) (b : ℕ) → pixel_item before b ≡ EndsWith → is_pixel b ≡ true
-unfolding pixel_item
-pixel_ends before b e = (and_parts _ _ (chosen_ends _ _ _ e)).1
+pixel_ends before b e = (and_parts _ _ (subst (PixelTold before b) e (pixel_told before b)).2).1
 
 pixel_never_before : (before : List ℕ) (b : ℕ) → pixel_item before b ≡ EndsBefore → ⊥
-unfolding pixel_item
-pixel_never_before before b e = chosen_never _ _ _ e
+pixel_never_before before b e = subst (PixelTold before b) e (pixel_told before b)
 
 -- the character of a white pixel is 0
 white_or_black : (zero_is one_is : Bool) → (zero_is || one_is) ≡ true → (zero_is ≡ true → one_is ≡ false) → ◌≡◌ {A = ℕ} (if zero_is then 1 else 0) (if one_is then 0 else 1)

@@ -1,5 +1,5 @@
 -- Plain rasters: of what spells an image its rows are said, and what is said without a fault spells an image.
-use Rattle.std.proofs.Common.{◌≡◌, ℕ, zero, suc, ◌+◌, ◌*◌, ◌<◌, ◌≤◌, Bool, true, false, List, [], ◌∷◌, ◌++◌, length, take, drop, map, All, None, Result, Ok, Err, refl, sym, ap, subst, ◌∙◌, append_assoc, length-append, length-drop, arith, zero-mul, suc-mul}
+use Rattle.std.proofs.Common.{◌≡◌, ℕ, zero, suc, ◌+◌, ◌*◌, ◌<◌, ◌≤◌, Bool, true, List, [], ◌∷◌, ◌++◌, length, take, drop, map, All, None, Result, Ok, Err, refl, sym, ap, subst, ◌∙◌, append_assoc, length-append, length-drop, arith, zero-mul, suc-mul}
 use Rattle.std.specs.Prelude.{if◌then◌else◌}
 use Rattle.std.proofs.lemmas.List.{nil_from_length}
 use Rattle.std.proofs.lemmas.List.Elements.{All-nil, All-cons, All-head, All-tail, All-append, All-drop, All-weaker}
@@ -17,7 +17,7 @@ use Rattle.pnm_read.specs.Texts.{begins_apart}
 use Rattle.pnm_read.specs.Rasters.{SpellsPiece, MayFollow, SpellsPlainSamples, SpellsPlain}
 use Rattle.pnm_read.specs.Items.{◌>>=◌, plain_sample, after_last_item}
 use Rattle.pnm_read.specs.Said.{Said, then_said, says_fault, end_said, in_turn, plain_row, last_plain_row, row_by, rows_said}
-use Rattle.pnm_read.proofs.PieceLaws.{bind_ok, done, ok_is}
+use Rattle.pnm_read.proofs.PieceLaws.{bind_ok, done, ok_is, if_ok}
 use Rattle.pnm_read.proofs.SampleLaws.{IsInRange, spelled_piece_is_read, read_piece_is_spelled}
 
 -- ---- what may follow
@@ -186,15 +186,10 @@ read_samples_are_spelled kind maxval (suc n) text found e =
 -- ---- rows that are said are spelled
 
 -- where a row is said without a fault, it was read, and the rest has no fault
-row_without_fault : (later : List ℕ → Said) (format : Format) (s : Shape) (more : ℕ) (r : Result (List ℕ × List ℕ) InputFault) → (said_from later format s more r).fault ≡ None
+pub row_without_fault : (later : List ℕ → Said) (format : Format) (s : Shape) (more : ℕ) (r : Result (List ℕ × List ℕ) InputFault) → (said_from later format s more r).fault ≡ None
     → (row : List ℕ × List ℕ) × (r ≡ Ok row) × ((rows_said later format s more row.1).fault ≡ None)
 row_without_fault later format s more (Ok row) e = (row, refl, e)
 row_without_fault later format s more (Err fault) e = absurd cc
-
--- what may follow was found
-apart_ok : (t : Bool) (text found : List ℕ) → (if t then Ok text else Err BadSample) ≡ done found → (t ≡ true) × (text ≡ found)
-apart_ok true text found e = (refl, ok_is text found e)
-apart_ok false text found e = absurd cc
 
 read_row : (s : Shape) (text : List ℕ) (row : List ℕ × List ℕ) → plain_row s text ≡ Ok row → IsRead s.kind s.maxval (row_length s) text row
 unfolding plain_row
@@ -205,7 +200,7 @@ unfolding last_plain_row after_last_item
 read_last_row s text row e =
     let a = bind_ok (plain_row s text) (λ x. after_last_item x.1 >>= λ y. Ok (x.0, y)) row e in
     let b = bind_ok (after_last_item a.0.1) (λ y. Ok (a.0.0, y)) row a.2 in
-    let c = apart_ok (begins_apart a.0.1) a.0.1 b.0 b.1 in
+    let c = if_ok (begins_apart a.0.1) a.0.1 b.0 BadSample b.1 in
     let same : a.0 ≡ row = ap (λ (t : List ℕ). (a.0.0, t)) c.1 ∙ ok_is (a.0.0, b.0) row b.2 in
     (subst (IsRead s.kind s.maxval (row_length s) text) same (read_row s text a.0 a.1), subst (λ (f : List ℕ × List ℕ). begins_apart f.1 ≡ true) same c.0)
 

@@ -1,5 +1,5 @@
 -- Raw rasters: the rows that one spells are said, and what is said without a fault is spelled.
-use Rattle.std.proofs.Common.{◌≡◌, ℕ, zero, suc, ◌+◌, ◌*◌, ◌/◌, ◌<◌, ◌≤◌, Bool, true, false, leb, nat_lt, if◌then◌else◌, List, [], ◌∷◌, ◌++◌, length, get_or, take, drop, map, flat_map, All, None, Result, Ok, Err, refl, sym, ap, append_assoc, ◌∙◌, ap₂, subst, arith, zero-mul, suc-mul}
+use Rattle.std.proofs.Common.{◌≡◌, ℕ, zero, suc, ◌+◌, ◌*◌, ◌/◌, ◌<◌, ◌≤◌, Bool, true, false, leb, nat_lt, if◌then◌else◌, List, [], ◌∷◌, ◌++◌, length, get_or, take, drop, map, flat_map, All, None, Result, Ok, refl, sym, ap, append_assoc, ◌∙◌, ap₂, subst, arith, zero-mul, suc-mul}
 use Rattle.std.specs.List.{concat}
 use Rattle.std.proofs.lemmas.List.{take_all, take_at, drop_at, take-append-le, drop-append-le, take-append-drop, length-take, length-take-le, length-drop, length-append, length-map, nil_from_length}
 use Rattle.std.proofs.lemmas.List.Elements.{All-nil, All-append, All-take, All-map}
@@ -12,7 +12,6 @@ use Rattle.pnm_image.specs.Images.{Image, cut_rows, rows_of}
 use Rattle.pnm_image.specs.Places.{IsRowOf}
 use Rattle.pnm_image.proofs.Rows.{AreRowsOf, image_of, IsImage-image_of, rows_of-image_of, AreRowsOf-rows_of, length-cut_rows}
 use Rattle.pnm_read.specs.declared.fault.InputFault.{InputFault}
-use Rattle.pnm_read.specs.declared.fault.InputFault.TheVariants.{SampleAboveMaxval}
 use Rattle.pnm_read.specs.declared.format.Format.{Format}
 use Rattle.pnm_image.specs.declared.packing.Packing.{Packing}
 use Rattle.pnm_image.specs.declared.packing.Packing.TheVariants.{Packed, Narrow, Wide}
@@ -20,9 +19,10 @@ use Rattle.pnm_read.specs.Rasters.{bytes_in_row, pixel_at, pixels, wide_samples,
 use Rattle.pnm_image.specs.Packings.{packing_of}
 use Rattle.pnm_read.specs.Items.{◌>>=◌, raw_item}
 use Rattle.pnm_read.specs.Packings.{unit_bytes}
-use Rattle.pnm_read.specs.Said.{in_turn, units_in_row, units_at, raw_row, row_by, row_at, Said, then_said, says_fault, end_said, rows_said}
+use Rattle.pnm_read.specs.Said.{in_turn, units_in_row, units_at, raw_row, row_by, row_at, Said, then_said, end_said, rows_said}
 use Rattle.pnm_read.proofs.PieceLaws.{bind_ok}
 use Rattle.pnm_read.proofs.UnitLaws.{Turns, single, concat_singles, concat_pixels, are_within, are_within_all, all_are_within, unit_if, units_if, packed_units, narrow_units, wide_units}
+use Rattle.pnm_read.proofs.PlainLaws.{said_from, row_without_fault}
 
 -- ---- the bytes of a row
 
@@ -55,10 +55,6 @@ row_done row rest = Ok (row, rest)
 
 abbrev turns_done : List (List ℕ) → List ℕ → Turns
 turns_done units rest = Ok (units, rest)
-
--- this row, or the fault of a sample above the maxval
-abbrev row_if : Bool → List ℕ → List ℕ → Read
-row_if within row rest = if within then Ok (row, rest) else Err SampleAboveMaxval
 
 -- a row has one sample a pixel where eight pixels are packed in a byte, and its maxval isn't 0
 record IsPackable (p : Packing) (s : Shape) : Type 0 where
@@ -101,12 +97,12 @@ length-samples_by Narrow s bytes h e = e
 length-samples_by Wide s bytes h e = length-wide_samples (row_length s) bytes e
 
 -- what units in turn give as a row
-after_units : (n : ℕ) (within : Bool) (units : List (List ℕ)) (rest : List ℕ) (r : Turns) → r ≡ units_if within units rest → (r >>= λ found. row_done (take n (concat found.0)) found.1) ≡ row_if within (take n (concat units)) rest
+after_units : (n : ℕ) (within : Bool) (units : List (List ℕ)) (rest : List ℕ) (r : Turns) → r ≡ units_if within units rest → (r >>= λ found. row_done (take n (concat found.0)) found.1) ≡ unit_if within (take n (concat units)) rest
 after_units n true units rest r e = rw e refl
 after_units n false units rest r e = rw e refl
 
 -- what the first so many bytes of a text give, by the packing
-row_read_by : (p : Packing) (s : Shape) (bytes rest : List ℕ) → IsPackable p s → length bytes ≡ bytes_by p s → row_in p s (bytes ++ rest) ≡ row_if (are_within s.maxval (samples_by p s bytes)) (samples_by p s bytes) rest
+row_read_by : (p : Packing) (s : Shape) (bytes rest : List ℕ) → IsPackable p s → length bytes ≡ bytes_by p s → row_in p s (bytes ++ rest) ≡ unit_if (are_within s.maxval (samples_by p s bytes)) (samples_by p s bytes) rest
 row_read_by Packed s bytes rest h e =
     let units : in_turn (raw_item Packed s.maxval) ((s.width + 7) / 8) (bytes ++ rest) ≡ units_if true (map pixels bytes) rest =
     ap (λ (n : ℕ). in_turn (raw_item Packed s.maxval) n (bytes ++ rest)) (sym e) ∙ packed_units s.maxval bytes rest in
@@ -115,22 +111,22 @@ row_read_by Packed s bytes rest h e =
     let long : row_length s ≡ s.width = omega (arith, ap (λ (d : ℕ). s.width * d) (h.one refl)) in
     after_units (row_length s) true (map pixels bytes) rest _ units
     ∙ ap₂ (λ (n : ℕ) (l : List ℕ). row_done (take n l) rest) long (concat_pixels bytes)
-    ∙ ap (λ (t : Bool). row_if t (take s.width (flat_map pixels bytes)) rest) (sym within)
+    ∙ ap (λ (t : Bool). unit_if t (take s.width (flat_map pixels bytes)) rest) (sym within)
 row_read_by Narrow s bytes rest h e =
     let units = ap (λ (n : ℕ). in_turn (raw_item Narrow s.maxval) n (bytes ++ rest)) (sym e) ∙ narrow_units s.maxval bytes rest in
     after_units (row_length s) (are_within s.maxval bytes) (map single bytes) rest _ units
-    ∙ ap (λ (l : List ℕ). row_if (are_within s.maxval bytes) l rest) (ap (take (row_length s)) (concat_singles bytes) ∙ take_all (row_length s) bytes (omega arith))
+    ∙ ap (λ (l : List ℕ). unit_if (are_within s.maxval bytes) l rest) (ap (take (row_length s)) (concat_singles bytes) ∙ take_all (row_length s) bytes (omega arith))
 row_read_by Wide s bytes rest h e =
     let units = wide_units s.maxval (row_length s) bytes rest (omega arith) in
     let samples : List ℕ = wide_samples bytes in
     let count : length samples ≡ row_length s = length-wide_samples (row_length s) bytes e in
     after_units (row_length s) (are_within s.maxval samples) (map single samples) rest _ units
-    ∙ ap (λ (l : List ℕ). row_if (are_within s.maxval samples) l rest) (ap (take (row_length s)) (concat_singles samples) ∙ take_all (row_length s) samples (omega arith))
+    ∙ ap (λ (l : List ℕ). unit_if (are_within s.maxval samples) l rest) (ap (take (row_length s)) (concat_singles samples) ∙ take_all (row_length s) samples (omega arith))
 
 -- what passed a test is left as it is
-unit_if_ok : (t : Bool) (unit rest : List ℕ) (found : List ℕ × List ℕ) → unit_if t unit rest ≡ Ok found → rest ≡ found.1
-unit_if_ok true unit rest found e = cc
-unit_if_ok false unit rest found e = absurd cc
+row_if_ok : (t : Bool) (row rest : List ℕ) (found : List ℕ × List ℕ) → unit_if t row rest ≡ Ok found → (t ≡ true) × (found.1 ≡ rest)
+row_if_ok true row rest found e = (refl, cc)
+row_if_ok false row rest found e = absurd cc
 
 -- a unit that was read has its bytes
 unit_length : (p : Packing) (maxval : ℕ) (text : List ℕ) (found : List ℕ × List ℕ) → raw_item p maxval text ≡ Ok found → length text ≡ unit_bytes p + length found.1
@@ -138,10 +134,10 @@ unfolding raw_item
 unit_length Packed maxval [] found e = absurd cc
 unit_length Packed maxval (b ∷ text) found e = let left : text ≡ found.1 = cc in omega (arith, ap length left)
 unit_length Narrow maxval [] found e = absurd cc
-unit_length Narrow maxval (b ∷ text) found e = let left = unit_if_ok (leb b maxval) (single b) text found e in omega (arith, ap length left)
+unit_length Narrow maxval (b ∷ text) found e = let left = sym (row_if_ok (leb b maxval) (single b) text found e).1 in omega (arith, ap length left)
 unit_length Wide maxval [] found e = absurd cc
 unit_length Wide maxval (b ∷ []) found e = absurd cc
-unit_length Wide maxval (b ∷ c ∷ text) found e = let left = unit_if_ok (leb (256 * b + c) maxval) (single (256 * b + c)) text found e in omega (arith, ap length left)
+unit_length Wide maxval (b ∷ c ∷ text) found e = let left = sym (row_if_ok (leb (256 * b + c) maxval) (single (256 * b + c)) text found e).1 in omega (arith, ap length left)
 
 -- units that were read in turn have their bytes
 units_length : (p : Packing) (maxval n : ℕ) (text : List ℕ) (found : List (List ℕ) × List ℕ) → in_turn (raw_item p maxval) n text ≡ Ok found → length text ≡ n * unit_bytes p + length found.1
@@ -191,7 +187,7 @@ packable head h = record {
 
 -- the first row of a text that is long enough
 row_read : (s : Shape) (text : List ℕ) → IsPackable (packing_in s) s → bytes_in_row s ≤ length text
-    → raw_row s text ≡ row_if (are_within s.maxval (raw_samples s (take (bytes_in_row s) text))) (raw_samples s (take (bytes_in_row s) text)) (drop (bytes_in_row s) text)
+    → raw_row s text ≡ unit_if (are_within s.maxval (raw_samples s (take (bytes_in_row s) text))) (raw_samples s (take (bytes_in_row s) text)) (drop (bytes_in_row s) text)
 unfolding raw_row
 row_read s text h long =
     ap (row_in (packing_in s) s) (sym (take-append-drop (bytes_in_row s) text))
@@ -210,28 +206,21 @@ raw_rows s count text = map (raw_samples s) (cut_rows count (bytes_in_row s) tex
 abbrev pub rows_then : List (List ℕ) → Said → Said
 rows_then rows s = record { messages = map Row rows ++ ImageEnd ∷ s.messages; fault = s.fault }
 
--- what is said of a row that was read, and of the others
-abbrev from_row : (List ℕ → Said) → Format → Shape → ℕ → Read → Said
-from_row later format s more found = elim found [
-  | Err fault ↦ says_fault fault
-  | Ok row ↦ then_said (Row row.0) (rows_said later format s more row.1)
-]
-
 -- a row of a raw format is a raw row
 row_at_raw : (format : Format) (s : Shape) (more : ℕ) (text : List ℕ) → format.is_plain ≡ false → row_at format s more text ≡ raw_row s text
 row_at_raw format s more text plain = ap (λ (b : Bool). row_by b s more text) plain
 
 -- a row that a longer text begins with
 row_in_front : (s : Shape) (text rest : List ℕ) → IsPackable (packing_in s) s → bytes_in_row s ≤ length text → are_within s.maxval (raw_samples s (take (bytes_in_row s) text)) ≡ true
-    → raw_row s (text ++ rest) ≡ row_if true (raw_samples s (take (bytes_in_row s) text)) (drop (bytes_in_row s) text ++ rest)
+    → raw_row s (text ++ rest) ≡ unit_if true (raw_samples s (take (bytes_in_row s) text)) (drop (bytes_in_row s) text ++ rest)
 row_in_front s text rest h long within =
     let each : ℕ = bytes_in_row s in
     let front : take each (text ++ rest) ≡ take each text = take-append-le each text rest long in
     let back : drop each (text ++ rest) ≡ drop each text ++ rest = drop-append-le each text rest long in
     row_read s (text ++ rest) h (omega (arith, length-append text rest))
-    ∙ ap (λ (l : List ℕ). row_if (are_within s.maxval (raw_samples s l)) (raw_samples s l) (drop each (text ++ rest))) front
-    ∙ ap (λ (l : List ℕ). row_if (are_within s.maxval (raw_samples s (take each text))) (raw_samples s (take each text)) l) back
-    ∙ ap (λ (t : Bool). row_if t (raw_samples s (take each text)) (drop each text ++ rest)) within
+    ∙ ap (λ (l : List ℕ). unit_if (are_within s.maxval (raw_samples s l)) (raw_samples s l) (drop each (text ++ rest))) front
+    ∙ ap (λ (l : List ℕ). unit_if (are_within s.maxval (raw_samples s (take each text))) (raw_samples s (take each text)) l) back
+    ∙ ap (λ (t : Bool). unit_if t (raw_samples s (take each text)) (drop each text ++ rest)) within
 
 -- of whole rows the rows are said, the image's end, and what follows
 rows_are_said : (later : List ℕ → Said) (format : Format) (s : Shape) (n : ℕ) (text rest : List ℕ) → format.is_plain ≡ false → IsPackable (packing_in s) s → length text ≡ n * bytes_in_row s → AreRowsOf s (raw_rows s n text)
@@ -243,22 +232,12 @@ rows_are_said later format s (suc n) text rest plain h count are =
     let total : length text ≡ n * each + each = count ∙ suc-mul n each in
     let row : List ℕ = raw_samples s (take each text) in
     let within : are_within s.maxval row ≡ true = are_within_all s.maxval row are.0.range in
-    let found : row_at format s n (text ++ rest) ≡ row_if true row (drop each text ++ rest) = row_at_raw format s n (text ++ rest) plain ∙ row_in_front s text rest h (omega arith) within in
+    let found : row_at format s n (text ++ rest) ≡ unit_if true row (drop each text ++ rest) = row_at_raw format s n (text ++ rest) plain ∙ row_in_front s text rest h (omega arith) within in
     let left : length (drop each text) ≡ n * each = omega (arith, length-drop each text) in
-    ap (from_row later format s n) found ∙ ap (λ (others : Said). then_said (Row row) others) (rows_are_said later format s n (drop each text) rest plain h left are.1)
-
--- where a row is said without a fault it was read, and the others have no fault
-row_without_fault : (later : List ℕ → Said) (format : Format) (s : Shape) (n : ℕ) (r : Read) → (from_row later format s n r).fault ≡ None → (found : List ℕ × List ℕ) × (r ≡ Ok found) × ((rows_said later format s n found.1).fault ≡ None)
-row_without_fault later format s n (Err fault) e = absurd cc
-row_without_fault later format s n (Ok found) e = (found, refl, e)
-
--- a row that was read has no sample above the maxval
-row_if_ok : (t : Bool) (row rest : List ℕ) (found : List ℕ × List ℕ) → row_if t row rest ≡ Ok found → (t ≡ true) × (found.1 ≡ rest)
-row_if_ok true row rest found e = (refl, cc)
-row_if_ok false row rest found e = absurd cc
+    ap (said_from later format s n) found ∙ ap (λ (others : Said). then_said (Row row) others) (rows_are_said later format s n (drop each text) rest plain h left are.1)
 
 -- a row that was read is the row that its test passed
-row_if_row : (t : Bool) (row rest : List ℕ) (found : List ℕ × List ℕ) → row_if t row rest ≡ Ok found → row ≡ found.0
+row_if_row : (t : Bool) (row rest : List ℕ) (found : List ℕ × List ℕ) → unit_if t row rest ≡ Ok found → row ≡ found.0
 row_if_row true row rest found e = cc
 row_if_row false row rest found e = absurd cc
 
@@ -269,7 +248,7 @@ raw_row_is_row head text found h e =
     let each : ℕ = bytes_in_row s in
     let row : List ℕ = raw_samples s (take each text) in
     let long : each ≤ length text = row_long s text found e in
-    let test : row_if (are_within s.maxval row) row (drop each text) ≡ Ok found = sym (row_read s text (packable head h) long) ∙ e in
+    let test : unit_if (are_within s.maxval row) row (drop each text) ≡ Ok found = sym (row_read s text (packable head h) long) ∙ e in
     let is : IsRowOf s row = record {
       count = length-samples_by (packing_in s) s (take each text) (packable head h) (length-take-le each text long);
       range = all_are_within s.maxval row (row_if_ok (are_within s.maxval row) row (drop each text) found test).0;

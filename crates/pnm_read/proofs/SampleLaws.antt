@@ -16,7 +16,8 @@ use Rattle.pnm_image.specs.Texts.{is_white, is_digit, decimal_value}
 use Rattle.pnm_read.specs.Rasters.{IsGap, SpellsDecimal, SpellsSample, SpellsPiece, MayFollow}
 use Rattle.pnm_read.specs.Items.{◌>>=◌, piece_from, gap_limit, ends_in_digit, is_complete, decimal_item, decimal_end, is_pixel, pixel_item, pixel_end, pixel_in, plain_pixel, sample_item, plain_decimal, plain_sample}
 use Rattle.pnm_read.proofs.CommentLaws.{uncommented_from-append, ends_by-push}
-use Rattle.pnm_read.proofs.PieceLaws.{digit_is_no_mark, bind_ok, done, ok_is, piece_step, FoundBy, found_from, found_at_end, piece_ends, found_is_whole, in_gap, apart_is_no_digit, white_is_no_digit, after_gap_byte, ends_in_digit-push, gap-push, nothing_ends, over_whole_gap, is_bad_in_decimal, decimal_goes_on, decimal_ends_before, DecimalTold, decimal_told, is_bad_in_pixels, pixel_ends_with, PixelTold, pixel_told, good_in_gap, decimals_go_over_gaps, pixels_go_over_gaps}
+use Rattle.pnm_read.proofs.PieceLaws.{bind_ok, done, ok_is, piece_step, FoundBy, found_from, found_at_end, piece_ends, found_is_whole, in_gap, apart_is_no_digit, after_gap_byte, ends_in_digit-push, gap-push, nothing_ends, over_whole_gap, is_bad_in_decimal, decimal_goes_on, decimal_ends_before, DecimalTold, decimal_told, is_bad_in_pixels, pixel_ends_with, PixelTold, pixel_told, good_in_gap, decimals_go_over_gaps, pixels_go_over_gaps, if_ok}
+use Rattle.pnm_read.proofs.WordLaws.{digit_is_not_sharp, white_is_not_digit}
 
 -- ---- digits
 
@@ -40,7 +41,7 @@ digit_goes_on before b short h = decimal_goes_on before b short (bad_no_more (en
 -- a text outside comments and a digit end in a digit
 pub ends_in_digit-digit : (before : List ℕ) (b : ℕ) → ends_in_comment before ≡ false → is_digit b ≡ true → ends_in_digit (before ++ b ∷ []) ≡ true
 ends_in_digit-digit before b e h =
-    ends_in_digit-push before b ∙ ap (λ (i : Bool). not (commented i b) && is_digit b) e ∙ ap (λ (m : Bool). not m && is_digit b) (digit_is_no_mark b h) ∙ h
+    ends_in_digit-push before b ∙ ap (λ (i : Bool). not (commented i b) && is_digit b) e ∙ ap (λ (m : Bool). not m && is_digit b) (digit_is_not_sharp b h) ∙ h
 
 -- digits are gone over
 over_digits : (digits before rest : List ℕ) → ends_in_digit before ≡ true → AllPass is_digit digits → length before + length digits ≤ gap_limit
@@ -92,7 +93,7 @@ decimal_piece_is_read gap (b ∷ digits) rest g some all short apart =
 no_digits_in_white : (text : List ℕ) → AllPass is_white text → filter is_digit text ≡ []
 no_digits_in_white [] all = refl
 no_digits_in_white (b ∷ text) all =
-    let first : is_digit b ≡ false = white_is_no_digit b (All-head (λ x. is_white x ≡ true) b text all) in
+    let first : is_digit b ≡ false = white_is_not_digit b (All-head (λ x. is_white x ≡ true) b text all) in
     rw first (no_digits_in_white text (All-tail (λ x. is_white x ≡ true) b text all))
 
 -- digits are all digits
@@ -107,7 +108,7 @@ uncommented_digits : (digits : List ℕ) → AllPass is_digit digits → uncomme
 unfolding uncommented_from
 uncommented_digits [] all = refl
 uncommented_digits (b ∷ digits) all =
-    let first : (b == 35) ≡ false = digit_is_no_mark b (All-head (λ x. is_digit x ≡ true) b digits all) in
+    let first : (b == 35) ≡ false = digit_is_not_sharp b (All-head (λ x. is_digit x ≡ true) b digits all) in
     rw first (ap (λ (t : List ℕ). b ∷ t) (uncommented_digits digits (All-tail (λ x. is_digit x ≡ true) b digits all)))
 
 -- the number of a gap and digits is that of the digits
@@ -308,11 +309,6 @@ IsInRange Pam maxval sample = sample ≤ maxval
 abbrev pub BeginsWithPiece : Kind → ℕ → List ℕ → ℕ × List ℕ → Type 0
 BeginsWithPiece kind maxval text found = (piece : List ℕ) × (text ≡ piece ++ found.1) × SpellsPiece kind piece found.0 × MayFollow kind found.1 × IsInRange kind maxval found.0
 
--- a number within the maxval
-sample_ok : (t : Bool) (sample found : ℕ) → (if t then Ok sample else Err SampleAboveMaxval) ≡ done found → (t ≡ true) × (sample ≡ found)
-sample_ok true sample found e = (refl, ok_is sample found e)
-sample_ok false sample found e = absurd cc
-
 -- a number that is read is spelled
 read_decimal_is_spelled : (maxval : ℕ) (text : List ℕ) (found : ℕ × List ℕ) → plain_decimal maxval text ≡ Ok found → BeginsWithPiece Gray maxval text found
 unfolding plain_decimal
@@ -320,7 +316,7 @@ read_decimal_is_spelled maxval text found e =
     let a = bind_ok (piece_from decimal_item decimal_end [] text) (λ piece. sample_item maxval (number_in piece.0) >>= λ number. Ok (number, piece.1)) found e in
     let piece : List ℕ = a.0.0 in
     let b = bind_ok (sample_item maxval (number_in piece)) (λ number. Ok (number, a.0.1)) found a.2 in
-    let c = sample_ok (nat_le (number_in piece) maxval) (number_in piece) b.0 b.1 in
+    let c = if_ok (nat_le (number_in piece) maxval) (number_in piece) b.0 SampleAboveMaxval b.1 in
     let d : IsDecimal a.0 = in_decimal_gap text [] a.0 no_bytes_yet a.1 in
     let value : decimal_value d.read.digits ≡ b.0 = sym (number_of_piece d.read.gap d.read.digits d.read.gap_is d.read.all) ∙ ap number_in (sym d.read.whole) ∙ c.1 in
     let range : b.0 ≤ maxval = subst (λ (n : ℕ). n ≤ maxval) c.1 (leb-true (number_in piece) maxval c.0) in

@@ -16,6 +16,7 @@ use Rattle.pnm_read.specs.Inputs.{Turn, IsOutsideFault, held_of}
 use Rattle.pnm_read.specs.Awaiting.{Answers, state_due, state_fault, is_ended}
 use Rattle.pnm_read.specs.Sources.{IsFresh, Tells, AnswerTells, HasGiven, after_messages, due, MayGive, SeesEnd}
 use Rattle.pnm_read.proofs.Gathered.{consumes_nothing}
+use Rattle.pnm_read.proofs.GivenLaws.{messages_after, fault_after}
 
 ended_not : {A : Type 0} (ended : Bool) → ended ≡ false → ended ≡ true → A
 ended_not ended f t = absurd cc
@@ -47,14 +48,6 @@ record TellsNext {R : Type 0} (left : R → Option (List ℕ)) (old : Source R) 
 after_more : (given : List Message) (m : Message) (s : Said) → after_messages (given ++ m ∷ []) s ≡ after_messages given (then_said m s)
 after_more [] m s = refl
 after_more (x ∷ given) m s = ap (then_said x) (after_more given m s)
-
-messages_after : (given : List Message) (s : Said) → (after_messages given s).messages ≡ given ++ s.messages
-messages_after [] s = refl
-messages_after (x ∷ given) s = ap (λ (l : List Message). x ∷ l) (messages_after given s)
-
-fault_after : (given : List Message) (s : Said) → (after_messages given s).fault ≡ s.fault
-fault_after [] s = refl
-fault_after (x ∷ given) s = fault_after given s
 
 -- all that is said, where this ends it
 all_said : (given : List Message) (text : List ℕ) (s end : Said) → said text ≡ after_messages given s → s ≡ end → end.messages ≡ [] → (said_of text ≡ given) × (fault_of text ≡ end.fault)

@@ -17,11 +17,12 @@ use Rattle.pnm_read.specs.declared.source.State.TheVariants.{Awaits, Ended, Fail
 use Rattle.pnm_read.specs.Inputs.{IsOutsideFault}
 use Rattle.pnm_read.specs.Awaiting.{state_due, state_fault}
 use Rattle.pnm_read.specs.Said.{Said, row_at, end_said, format_at, head_at, rows_said, head_said, format_said, image_said, later_said_in, later_said, said, said_of, fault_of}
-use Rattle.pnm_read.specs.Sources.{reader_of, stopped_by, due, MayGive, SeesEnd, HasGiven, after_messages}
+use Rattle.pnm_read.specs.Sources.{reader_of, stopped_by, due, MayGive, SeesEnd, HasGiven}
 use Rattle.pnm_read.proofs.FaultLaws.{fault_is_of_text}
 use Rattle.pnm_read.proofs.HeaderLaws.{read_header_is_spelled, spelled_head}
 use Rattle.pnm_read.proofs.PlainLaws.{said_from}
 use Rattle.pnm_read.proofs.SaidLaws.{read_head_is_header}
+use Rattle.pnm_read.proofs.GivenLaws.{messages_after, fault_after}
 
 -- ---- what may come
 
@@ -40,14 +41,6 @@ unfolding MayGive
 nothing_may_come s ended = refl
 
 -- ---- what was given
-
-messages_after : (given : List Message) (s : Said) → (after_messages given s).messages ≡ given ++ s.messages
-messages_after [] s = refl
-messages_after (m ∷ given) s = ap (λ (l : List Message). m ∷ l) (messages_after given s)
-
-fault_after : (given : List Message) (s : Said) → (after_messages given s).fault ≡ s.fault
-fault_after [] s = refl
-fault_after (m ∷ given) s = fault_after given s
 
 -- what was given is a front of what is said
 pub given_is_front : {R : Type 0} (s : Source R) (read : List ℕ) (given : List Message) (rest : List ℕ) → HasGiven s read given → MayGive s rest → IsFrontOf given (said_of (read ++ rest))
@@ -141,10 +134,6 @@ pub read_head_has_rows : (is_first : Bool) (text : List ℕ) (found : Format × 
 read_head_has_rows is_first text found head e h =
     let s = read_header_is_spelled is_first text found.1 head.1 found.0 head.0 e h in
     (spelled_head s.0 found.0 head.0 s.2).rows
-
--- each image that begins in what is said has rows
-pub said_heads_have_rows : (text : List ℕ) → AllByRecursion BeginsRows (said_of text)
-said_heads_have_rows text = holds_of_said BeginsRows (record { head = read_head_has_rows; row = λ row. tt; image_end = tt; stream_end = tt }) text
 
 -- what is said are messages: each head keeps the rules of heads
 pub said_are_messages : (text : List ℕ) → AllByRecursion IsMessage (said_of text)

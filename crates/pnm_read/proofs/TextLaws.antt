@@ -1,6 +1,7 @@
 -- What a text spells is what is said of it, and it spells one list of images or has a fault.
 use Rattle.std.proofs.Common.{◌≡◌, ◌⊎◌, ℕ, zero, suc, ◌+◌, ◌<◌, ◌≤◌, Bool, true, false, List, [], ◌∷◌, ◌++◌, length, map, Option, Some, None, Result, Ok, Err, inl, inr, refl, sym, ap, subst, ◌∙◌, append_assoc, arith}
 use Rattle.std.proofs.lemmas.List.{length-append}
+use Rattle.std.proofs.lemmas.Bool.{both_ways}
 use Rattle.pnm_image.specs.declared.message.Message.{Message}
 use Rattle.pnm_image.specs.declared.message.Message.TheVariants.{Begin, Row, ImageEnd}
 use Rattle.pnm_image.specs.Heads.{HeadValue}
@@ -18,9 +19,6 @@ use Rattle.pnm_read.proofs.SpelledHeaders.{spelled_header_is_read}
 use Rattle.pnm_read.proofs.PlainLaws.{rows_and_ends, spelled_plain_is_said, said_plain_is_spelled}
 use Rattle.pnm_read.proofs.RawLaws.{rows_then, spelled_raw_is_said, said_raw_is_spelled}
 use Rattle.pnm_read.proofs.LaterLaws.{later_is_raw, later_said-nothing, later_said-next}
-
-not_plain : (plain : Bool) → plain ≡ false → plain ≡ true → ⊥
-not_plain plain f t = cc
 
 -- ---- what is spelled is said
 
@@ -51,7 +49,7 @@ raw_image_is_said later is_first text rest image s =
     let spelled = s.2 in
     let raster : SpellsRaw spelled.raster image = subst (λ (p : Bool). SpellsRasterBy p spelled.raster image) s.1 spelled.raster_is in
     ap (image_said later is_first) (ap (λ (t : List ℕ). t ++ rest) spelled.whole ∙ append_assoc spelled.header spelled.raster rest)
-    ∙ head_is_said later is_first format image spelled.header (spelled.raster ++ rest) (λ plain. absurd (not_plain format.is_plain s.1 plain)) spelled.header_is
+    ∙ head_is_said later is_first format image spelled.header (spelled.raster ++ rest) (λ plain. absurd (both_ways format.is_plain s.1 plain)) spelled.header_is
     ∙ ap (then_said (Begin image.head)) (spelled_raw_is_said later format spelled.raster rest image s.1 raster)
     ∙ after_head image (later rest)
 
@@ -209,7 +207,7 @@ later_is_spelled (suc most) (b ∷ text) le e =
           let count : length whole ≡ length raw.first + length raw.rest = ap (λ (t : List ℕ). length t) raw.whole ∙ length-append raw.first raw.rest in
           let more = later_is_spelled most raw.rest (omega arith) raw.sound in
           (raw.image ∷ more.0, (raw.first, raw.rest, raw.whole, raw.image_is, more.1))
-      | inr p ↦ absurd (not_plain found.0.0.is_plain (later_is_raw whole found.0 found.1) p.0)
+      | inr p ↦ absurd (both_ways found.0.0.is_plain (later_is_raw whole found.0 found.1) p.0)
     ]
 
 -- a text without a fault spells images

@@ -1,5 +1,5 @@
 -- The units of a raw row in turn: what so many bytes give.
-use Rattle.std.proofs.Common.{◌≡◌, ℕ, zero, suc, ◌+◌, ◌*◌, ◌≤◌, Bool, true, false, leb, ◌&&◌, if◌then◌else◌, List, [], ◌∷◌, ◌++◌, length, map, flat_map, All, Result, Ok, Err, inl, inr, refl, sym, ap, ◌∙◌, arith, zero-add, suc-add, suc-mul}
+use Rattle.std.proofs.Common.{◌≡◌, ℕ, zero, suc, ◌+◌, ◌*◌, ◌≤◌, Bool, true, false, leb, ◌&&◌, if◌then◌else◌, List, [], ◌∷◌, ◌++◌, length, map, flat_map, All, Result, Ok, Err, inl, inr, refl, sym, ap, ◌∙◌, arith, zero-add, suc-add, suc-mul, append_assoc}
 use Rattle.std.specs.List.{concat, list_all}
 use Rattle.std.proofs.lemmas.Bool.{leb-true, le-leb}
 use Rattle.std.proofs.lemmas.List.Elements.{All-weaker}
@@ -45,20 +45,20 @@ abbrev pub and_turns : {A : Type 0} → (List ℕ → Result (A × List ℕ) Inp
 and_turns item n items text = in_turn item n text >>= λ more. turned (items ++ more.0) more.1
 
 -- no items before others
-none_before : {A : Type 0} (r : Result (List A × List ℕ) InputFault) → r ≡ (r >>= λ more. turned more.0 more.1)
+pub none_before : {A : Type 0} (r : Result (List A × List ℕ) InputFault) → r ≡ (r >>= λ more. turned more.0 more.1)
 none_before (Ok x) = refl
 none_before (Err fault) = refl
 
 -- an item before items that others follow
-two_before : {A : Type 0} (first : A) (items : List A) (r : Result (List A × List ℕ) InputFault)
-    → ((r >>= λ more. turned (items ++ more.0) more.1) >>= λ all. turned (first ∷ all.0) all.1) ≡ (r >>= λ more. turned (first ∷ (items ++ more.0)) more.1)
-two_before first items (Ok x) = refl
-two_before first items (Err fault) = refl
+pub after_both : {A : Type 0} (items found : List A) (r : Result (List A × List ℕ) InputFault)
+    → ((r >>= λ more. turned (found ++ more.0) more.1) >>= λ more. turned (items ++ more.0) more.1) ≡ (r >>= λ more. turned ((items ++ found) ++ more.0) more.1)
+after_both items found (Ok x) = ap (λ l. turned l x.1) (sym (append_assoc items found x.0))
+after_both items found (Err fault) = refl
 
 -- an item before items in two parts
 one_before : {A : Type 0} (item : List ℕ → Result (A × List ℕ) InputFault) (b : ℕ) (first : A) (r : Result (List A × List ℕ) InputFault)
     → ((r >>= λ items. and_turns item b items.0 items.1) >>= λ all. turned (first ∷ all.0) all.1) ≡ ((r >>= λ items. turned (first ∷ items.0) items.1) >>= λ items. and_turns item b items.0 items.1)
-one_before item b first (Ok x) = two_before first x.0 (in_turn item b x.1)
+one_before item b first (Ok x) = after_both (first ∷ []) x.0 (in_turn item b x.1)
 one_before item b first (Err fault) = refl
 
 -- items in turn are so many, and then the others

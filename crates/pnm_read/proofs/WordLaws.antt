@@ -27,7 +27,7 @@ pub digit_is_not_sharp : (b : ℕ) → is_digit b ≡ true → (b == 35) ≡ fal
 digit_is_not_sharp b e = grind (arith, nat_tests)
 
 -- the value of a digit
-digit_value_is : (b : ℕ) → is_digit b ≡ true → digit_value b ≡ b - 48
+pub digit_value_is : (b : ℕ) → is_digit b ≡ true → digit_value b ≡ b - 48
 digit_value_is b e = grind (arith, nat_tests)
 
 -- ---- words of a text split at white space

@@ -1,0 +1,13 @@
+-- What is said after messages that were given.
+use Rattle.std.proofs.Common.{◌≡◌, List, [], ◌∷◌, ◌++◌, refl, ap}
+use Rattle.pnm_image.specs.declared.message.Message.{Message}
+use Rattle.pnm_read.specs.Said.{Said}
+use Rattle.pnm_read.specs.Sources.{after_messages}
+
+pub messages_after : (given : List Message) (s : Said) → (after_messages given s).messages ≡ given ++ s.messages
+messages_after [] s = refl
+messages_after (m ∷ given) s = ap (λ (l : List Message). m ∷ l) (messages_after given s)
+
+pub fault_after : (given : List Message) (s : Said) → (after_messages given s).fault ≡ s.fault
+fault_after [] s = refl
+fault_after (m ∷ given) s = fault_after given s
