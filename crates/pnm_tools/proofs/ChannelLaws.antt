@@ -1,7 +1,7 @@
 -- The picked image is what the rows of an image, each picked, are the messages of.
-use Rattle.std.proofs.Common.{◌≡◌, ℕ, zero, suc, ◌+◌, ◌*◌, ◌<◌, ◌≤◌, Bool, true, false, List, ◌++◌, map, length, slice_index, take, drop, Result, Ok, Err, refl, sym, ap, subst, ◌∙◌, arith, append-nil, mul_assoc, add-mul, mul-le-mul, suc-mul}
+use Rattle.std.proofs.Common.{◌≡◌, ℕ, suc, ◌+◌, ◌*◌, ◌<◌, ◌≤◌, Bool, true, false, List, map, length, slice_index, take, drop, Ok, Err, refl, sym, ap, subst, ◌∙◌, arith, append-nil, mul_assoc, add-mul, mul-le-mul, suc-mul}
 use Rattle.std.specs.Prelude.{All, slice_index_or, if◌then◌else◌, nat_lt}
-use Rattle.std.specs.List.{flat_map, range_with_len, list_all}
+use Rattle.std.specs.List.{range_with_len, list_all}
 use Rattle.std.proofs.lemmas.Bool.{ltb-true}
 use Rattle.std.proofs.lemmas.List.{same_lists, length-map, get_or-map, get_or-take, get_or-drop}
 use Rattle.std.proofs.lemmas.List.FromFn.{get_or-map-range_with_len, length-map-range_with_len}
@@ -10,8 +10,7 @@ use Rattle.std.proofs.lemmas.Simd.{map-map}
 use Rattle.pnm_image.specs.declared.shape.Shape.{Shape}
 use Rattle.pnm_image.specs.Heads.{HeadValue, is_too_large}
 use Rattle.pnm_image.specs.Images.{Image, rows_of}
-use Rattle.pnm_tools.specs.declared.fault.ToolFault.{ToolFault}
-use Rattle.pnm_tools.specs.declared.fault.ToolFault.TheVariants.{TooLarge, ChannelOutside}
+use Rattle.pnm_tools.specs.declared.fault.ToolFault.TheVariants.{ChannelOutside}
 use Rattle.pnm_tools.specs.declared.tool.Tool.TheVariants.{Channel}
 use Rattle.pnm_tools.specs.Formulas.{image_by}
 use Rattle.pnm_tools.specs.Limits.{within_limits}
@@ -21,6 +20,8 @@ use Rattle.pnm_tools.proofs.FormulaLaws.{columns, row_at, rows_are, rows_of-imag
 use Rattle.pnm_tools.proofs.ImageLaws.{answers_to_rows, each_row_answered, result_by_head, answered_by_rows}
 use Rattle.pnm_tools.proofs.RowLaws.{row_of_channel}
 use Rattle.pnm_tools.proofs.AnsweringLaws.{AnswersImages}
+use Rattle.pnm_tools.proofs.RangeLaws.{pieces_alike}
+use Rattle.pnm_tools.proofs.WholeHeadLaws.{is_within}
 
 -- ---- an image that isn't refused
 
@@ -29,17 +30,11 @@ pub record IsPicked (planes : Picks) (head result : HeadValue) : Type 0 where
   pub limits : is_too_large result.shape ≡ false
   pub result_is : result ≡ picked_head_value planes head
 
-within_by : (too_large : Bool) (head result : HeadValue) → is_too_large head.shape ≡ too_large → ◌≡◌ {A = Result HeadValue ToolFault} (if too_large then Err TooLarge else Ok head) (Ok result) → (is_too_large result.shape ≡ false) × (result ≡ head)
-within_by true head result is e = absurd cc
-within_by false head result is e =
-    let same : head ≡ result = cc in
-    (subst (λ (h : HeadValue). is_too_large h.shape ≡ false) same is, sym same)
-
 picked_by : (all : Bool) (planes : Picks) (head result : HeadValue) → list_all (λ number. nat_lt number head.shape.depth) planes.numbers ≡ all → (if all then within_limits (picked_head_value planes head) else Err ChannelOutside) ≡ Ok result → IsPicked planes head result
 picked_by true planes head result is e =
     let passed = AllPass-from_list_all (λ number. nat_lt number head.shape.depth) planes.numbers is in
-    let within = within_by (is_too_large (picked_head_value planes head).shape) (picked_head_value planes head) result refl e in
-    record { has_planes = λ k d lt. ltb-true (slice_index_or planes.numbers k d) head.shape.depth (passed k d lt); limits = within.0; result_is = within.1 }
+    let within = is_within (picked_head_value planes head) result e in
+    record { has_planes = λ k d lt. ltb-true (slice_index_or planes.numbers k d) head.shape.depth (passed k d lt); limits = subst (λ (h : HeadValue). is_too_large h.shape ≡ false) within.result_is within.limits; result_is = sym within.result_is }
 picked_by false planes head result is e = absurd cc
 
 pub is_picked : (planes : Picks) (head result : HeadValue) → result_head (Channel planes) head ≡ Ok result → IsPicked planes head result
@@ -67,15 +62,10 @@ sample_of_row xs w d y x n column plane =
     ap (slice_index xs) at
     ∙ sym (get_or-take each (drop (y * each) xs) (x * d + n) 0 (omega (arith, below, suc-mul x d)) ∙ get_or-drop (y * each) xs (x * d + n) 0)
 
-flat_map_alike : {A : Type 0} (f g : ℕ → List A) (a n : ℕ) → ((x : ℕ) → x < a + n → f x ≡ g x) → flat_map f (range_with_len a n) ≡ flat_map g (range_with_len a n)
-flat_map_alike f g a zero same = refl
-flat_map_alike {A = A} f g a (suc n) same =
-    ap (λ (l : List A). l ++ flat_map f (range_with_len (a + 1) n)) (same a (omega arith)) ∙ ap (λ (l : List A). g a ++ l) (flat_map_alike f g (a + 1) n (λ x lt. same x (omega arith)))
-
 row_picked : (planes : Picks) (i : Image) (y : ℕ) → HasPlanes planes i.head.shape → columns 0 i.head.shape.width (length planes.numbers) (λ x p. picked_sample planes i x y p) ≡ picked_row planes i.head.shape (row_at i y)
 row_picked planes i y has =
     let s : Shape = i.head.shape in
-    flat_map_alike (λ x. map (λ p. picked_sample planes i x y p) (range_with_len 0 (length planes.numbers))) (λ x. map (λ number. slice_index (row_at i y) (x * s.depth + number)) planes.numbers) 0 s.width (λ x lt.
+    pieces_alike (λ x. map (λ p. picked_sample planes i x y p) (range_with_len 0 (length planes.numbers))) (λ x. map (λ number. slice_index (row_at i y) (x * s.depth + number)) planes.numbers) 0 s.width (λ x lt.
     planes_picked (λ n. slice_index i.samples ((y * s.width + x) * s.depth + n)) (λ n. slice_index (row_at i y) (x * s.depth + n)) planes.numbers s.depth has (λ n below. sample_of_row i.samples s.width s.depth y x n (omega arith) below))
 
 -- ---- the whole image

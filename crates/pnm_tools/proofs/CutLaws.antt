@@ -18,19 +18,10 @@ use Rattle.pnm_tools.specs.Tools.{result_head, result_sample, row_answer}
 use Rattle.pnm_tools.proofs.FormulaLaws.{columns, columns_at, row_at, rows_are, rows_of-image_by, range_alike}
 use Rattle.pnm_tools.proofs.ImageLaws.{answers_to_rows, numbered_rows_answered, result_by_head, answered_by_rows}
 use Rattle.pnm_tools.proofs.AnsweringLaws.{AnswersImages}
-use Rattle.pnm_tools.proofs.CutRowLaws.{span_lies}
+use Rattle.pnm_tools.proofs.RangeLaws.{range-append}
+use Rattle.pnm_tools.proofs.CutRowLaws.{span_lies as within_count}
 
 -- ---- ranges of numbers
-
-range-append : (a m n : ℕ) → range_with_len a (m + n) ≡ range_with_len a m ++ range_with_len (a + m) n
-range-append a zero n =
-    let count : zero + n ≡ n = omega arith in
-    let from : a ≡ a + zero = omega arith in
-    ap (range_with_len a) count ∙ ap (λ (b : ℕ). range_with_len b n) from
-range-append a (suc m) n =
-    let count : suc m + n ≡ suc (m + n) = omega arith in
-    let from : a + 1 + m ≡ a + suc m = omega arith in
-    ap (range_with_len a) count ∙ ap (λ (l : List ℕ). a ∷ l) (range-append (a + 1) m n ∙ ap (λ (b : ℕ). range_with_len (a + 1) m ++ range_with_len b n) from)
 
 map_shift : {A : Type 0} (f : ℕ → A) (k a n : ℕ) → map (λ y. f (y + k)) (range_with_len a n) ≡ map f (range_with_len (a + k) n)
 map_shift f k a zero = refl
@@ -136,10 +127,8 @@ rows_cut box i =
 
 -- ---- the spans of an image that isn't refused
 
-lies_within : (count : ℕ) (first last : ℤ) (span : Span) → span_within count first last ≡ Some span → LiesWithin span count
-lies_within count first last span e =
-    let lies = span_lies count first last span (sym e) in
-    record { in_order = lies.0; below = lies.1 }
+span_lies : (count : ℕ) (first last : ℤ) (span : Span) → span_within count first last ≡ Some span → LiesWithin span count
+span_lies count first last span e = let lies = within_count count first last span (sym e) in record { in_order = lies.0; below = lies.1 }
 
 -- the head of the cut image
 pub record IsCutHead (cs rs : Option Span) (head result : HeadValue) : Type 0 where
@@ -168,8 +157,8 @@ is_cut box head result e =
     let cut = head_cut (s.height == 0) (columns_kept box s) (rows_kept box s) head result e in
     record {
       spans = cut;
-      in_row = lies_within s.width (first_kept s.width box.left box.right box.width) (last_kept s.width box.left box.right box.width) cut.columns cut.columns_are;
-      in_image = lies_within s.height (first_kept s.height box.top box.bottom box.height) (last_kept s.height box.top box.bottom box.height) cut.rows cut.rows_are;
+      in_row = span_lies s.width (first_kept s.width box.left box.right box.width) (last_kept s.width box.left box.right box.width) cut.columns cut.columns_are;
+      in_image = span_lies s.height (first_kept s.height box.top box.bottom box.height) (last_kept s.height box.top box.bottom box.height) cut.rows cut.rows_are;
     }
 
 -- ---- the whole image

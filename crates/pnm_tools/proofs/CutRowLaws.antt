@@ -2,7 +2,7 @@
 use Rattle.std.proofs.Common.{◌≡◌, ◌⊎◌, inl, inr, ℕ, ◌+◌, ◌-◌, ◌*◌, ◌≤◌, ◌<◌, ℤ, pos, negsuc, Bool, true, false, nat_le, nat_lt, ◌&&◌, if◌then◌else◌, Option, Some, None, Result, Ok, Err, ◌==◌, List, [], ◌∷◌, mul-le-mul, length, take, drop, refl, sym, ap, ◌∙◌, subst, arith, length-take-le, length-drop}
 use Rattle.std.specs.List.{copy_within}
 use Rattle.std.proofs.Math.Seq.{paste}
-use Rattle.std.proofs.lemmas.Bool.{leb-true, ltb-true, le-leb, lt-leb, ne_eqb}
+use Rattle.std.proofs.lemmas.Bool.{leb-true, ltb-true, le-leb, lt-leb, ne_eqb, and_parts, and_right}
 use Rattle.std.proofs.lemmas.List.{drop-take, take_all}
 use Rattle.std.proofs.lemmas.List.Edits.{take-paste}
 use Rattle.pnm_image.specs.declared.shape.Shape.{Shape}
@@ -55,19 +55,10 @@ kept_at_front columns depth row new h is none =
 
 -- ---- spans
 
-both_true : (a b : Bool) → (a && b) ≡ true → (a ≡ true) × (b ≡ true)
-both_true true true e = (refl, refl)
-both_true true false e = absurd cc
-both_true false b e = absurd cc
-
-not_both : (a : Bool) → (a && false) ≡ false
-not_both true = refl
-not_both false = refl
-
 span_if : (first last count : ℕ) (b : Bool) (span : Span) → (nat_le first last && nat_lt last count) ≡ b → Some span ≡ (if b then Some (record { first = first; last = last }) else None) → (span.first ≤ span.last) × (span.last < count)
 span_if first last count true span t e =
     let same : span ≡ record { first = first; last = last } = cc in
-    let both = both_true (nat_le first last) (nat_lt last count) t in
+    let both = and_parts (nat_le first last) (nat_lt last count) t in
     let low : first ≤ last = leb-true first last both.0 in
     let high : last < count = ltb-true last count both.1 in
     let a : span.first ≡ first = ap (λ (z : Span). z.first) same in
@@ -99,7 +90,7 @@ row_outside columns rows depth y row (inl h) =
     ap (λ (b : Bool). if b && nat_le y rows.last then columns_of_row columns depth row ∷ [] else []) (lt-leb rows.first y h)
 row_outside columns rows depth y row (inr h) =
     ap (λ (b : Bool). if nat_le rows.first y && b then columns_of_row columns depth row ∷ [] else []) (lt-leb y rows.last h.1)
-    ∙ ap (λ (b : Bool). if b then columns_of_row columns depth row ∷ [] else []) (not_both (nat_le rows.first y))
+    ∙ ap (λ (b : Bool). if b then columns_of_row columns depth row ∷ [] else []) (and_right (nat_le rows.first y) false refl)
 
 -- a row that is kept
 pub row_inside : (columns rows : Span) (depth y : ℕ) (row : List ℕ) → rows.first ≤ y → y ≤ rows.last → rows_of_spans (Some columns) (Some rows) depth y row ≡ columns_of_row columns depth row ∷ []

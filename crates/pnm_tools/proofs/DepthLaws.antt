@@ -16,7 +16,7 @@ use Rattle.pnm_tools.proofs.RowLaws.{row_of_depth}
 abbrev pub new_head : ℕ → HeadValue → HeadValue
 new_head new head = record { shape = record head.shape { kind = kind_at new head.shape.kind; maxval = new }; tuple_type = type_at new head.tuple_type }
 
-new_head_is : (new : ℕ) (head result : HeadValue) → result_head (Depth new) head ≡ Ok result → result ≡ new_head new head
+pub new_head_is : (new : ℕ) (head result : HeadValue) → result_head (Depth new) head ≡ Ok result → result ≡ new_head new head
 unfolding result_head
 new_head_is new head result e = cc
 

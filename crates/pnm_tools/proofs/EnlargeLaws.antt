@@ -1,8 +1,8 @@
 -- The enlarged image is what the rows of an image, each enlarged, are the messages of.
-use Rattle.std.proofs.Common.{◌≡◌, ℕ, ◌+◌, ◌*◌, ◌/◌, ◌<◌, ◌≤◌, List, [], ◌∷◌, ◌++◌, Ok, refl, sym, ap, ◌∙◌, arith, append-nil}
+use Rattle.std.proofs.Common.{◌≡◌, ℕ, ◌+◌, ◌*◌, ◌/◌, ◌≤◌, List, [], ◌∷◌, ◌++◌, Ok, refl, sym, ap, ◌∙◌, append-nil}
 use Rattle.std.specs.List.{flat_map, range_with_len}
-use Rattle.std.proofs.Math.Nat.{div-lt_iff_lt-mul}
 use Rattle.std.proofs.lemmas.List.Folds.{flat_map-map}
+use Rattle.std.proofs.lemmas.Nat.{div_below}
 use Rattle.pnm_image.specs.declared.shape.Shape.{Shape}
 use Rattle.pnm_image.specs.Heads.{HeadValue}
 use Rattle.pnm_image.specs.Images.{Image, IsImage, rows_of}
@@ -24,10 +24,6 @@ unfolding row_answer
 rows_enlarged across down s y [] = refl
 rows_enlarged across down s y (row ∷ rows) = ap (λ (l : List (List ℕ)). enlarged_rows across down s row ++ l) (rows_enlarged across down s (y + 1) rows)
 
--- a column or a row of the result is one of the image
-quotient_below : (x n count : ℕ) → 1 ≤ n → x < count * n → x / n < count
-quotient_below x n count some lt = (div-lt_iff_lt-mul {k = n} {x = x} {y = count} (omega arith)).1 lt
-
 -- the rows of the result
 rows_are_enlarged : (across down : ℕ) (i : Image) → 1 ≤ across → 1 ≤ down → IsImage i
     → flat_map (enlarged_rows across down i.head.shape) (rows_of i) ≡ rows_of (image_by (enlarged_head_value across down i.head) (enlarged_sample across down i))
@@ -39,7 +35,7 @@ rows_are_enlarged across down i wide high is =
     ∙ sym (each_replicated row down s.height)
     ∙ range_alike (λ y. row (y / down)) (λ y. flat_map (λ x. pixel_of s.depth (row_at i (y / down)) (x / across)) (range_with_len 0 (s.width * across))) 0 (s.height * down) (λ y lt.
     sym (each_repeated (λ x. pixel_of s.depth (row_at i (y / down)) x) across s.width))
-    ∙ sym (rows_by_pixels i (s.width * across) (s.height * down) (λ x. x / across) (λ y. y / down) is (λ x lt. quotient_below x across s.width wide lt) (λ y lt. quotient_below y down s.height high lt))
+    ∙ sym (rows_by_pixels i (s.width * across) (s.height * down) (λ x. x / across) (λ y. y / down) is (λ x lt. div_below x across s.width wide lt) (λ y lt. div_below y down s.height high lt))
 
 -- the answers are the rows of the result
 answer_is : (across down : ℕ) (i : Image) (result : HeadValue) → 1 ≤ across → 1 ≤ down → IsImage i → result_head (Enlarge across down) i.head ≡ Ok result

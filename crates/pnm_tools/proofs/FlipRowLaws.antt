@@ -20,6 +20,7 @@ use Rattle.pnm_tools.specs.Answering.{row_list}
 use Rattle.pnm_tools.specs.Keeping.{Transposed, IsTransposing, transposed, transposed_due}
 use Rattle.pnm_tools.specs.Tools.{result_head, row_answer}
 use Rattle.pnm_tools.proofs.HeadLaws.{small_row}
+use Rattle.pnm_tools.proofs.RangeLaws.{map_in_parts}
 
 -- ---- a row, the last pixel first
 
@@ -169,25 +170,13 @@ none_made depth next columns rows band s y row no_band no_column =
     let none : columns - next ≡ 0 = omega arith in
     ap (λ (l : List (List ℕ)). transposed_due (transposed depth rows l next columns)) no_band ∙ ap (λ (n : ℕ). map (column_of depth rows) (range_with_len next n)) none ∙ sym (row_of_transpose s y row)
 
--- columns in two parts
-map_parts : (f : ℕ → List ℕ) (a n m : ℕ) → map f (range_with_len a (n + m)) ≡ map f (range_with_len a n) ++ map f (range_with_len (a + n) m)
-map_parts f a zero m =
-    let all : zero + m ≡ m = omega arith in
-    let from : a ≡ a + zero = omega arith in
-    ap (λ (k : ℕ). map f (range_with_len a k)) all ∙ ap (λ (b : ℕ). map f (range_with_len b m)) from
-map_parts f a (suc n) m =
-    let all : suc n + m ≡ suc (n + m) = omega arith in
-    let from : (a + 1) + n ≡ a + suc n = omega arith in
-    ap (λ (k : ℕ). map f (range_with_len a k)) all
-    ∙ ap (λ (l : List (List ℕ)). f a ∷ l) (map_parts f (a + 1) n m ∙ ap (λ (b : ℕ). map f (range_with_len (a + 1) n) ++ map f (range_with_len b m)) from)
-
 -- the band that is made holds the columns that were the next to be made
 pub band_made : (depth next columns count : ℕ) (rows band : List (List ℕ)) → next + count ≤ columns → band ≡ reverse (map (column_of depth rows) (range_with_len next count))
     → transposed_due (transposed depth rows [] next columns) ≡ transposed_due (transposed depth rows band (next + count) columns)
 band_made depth next columns count rows band within made =
     let f : ℕ → List ℕ = column_of depth rows in
     let parts : columns - next ≡ count + (columns - (next + count)) = omega arith in
-    ap (λ (n : ℕ). map f (range_with_len next n)) parts ∙ map_parts f next count (columns - (next + count))
+    ap (λ (n : ℕ). map f (range_with_len next n)) parts ∙ map_in_parts f next count (columns - (next + count))
     ∙ ap (λ (l : List (List ℕ)). l ++ map f (range_with_len (next + count) (columns - (next + count)))) (sym (reverse-reverse (map f (range_with_len next count))) ∙ ap reverse (sym made))
 
 -- the last column of the band is given

@@ -1,24 +1,22 @@
 -- The rows of an image that is given by a formula.
 use Rattle.std.proofs.Common.{◌≡◌, ℕ, zero, suc, ◌+◌, ◌*◌, ◌<◌, ◌≤◌, List, ◌∷◌, ◌++◌, length, slice_index, take, drop, map, refl, sym, ap, ◌∙◌, arith, suc-mul, zero-mul, mul_assoc, mul-le-mul}
 use Rattle.std.specs.List.{flat_map, range_with_len}
-use Rattle.std.proofs.lemmas.List.{take_at, drop_at, take-append-drop, take-take, drop-take, drop-drop, map-append, length-append, length-map, length-take-le, length-drop, same_lists, get_or-take, get_or-drop, get_or-map}
+use Rattle.std.proofs.lemmas.List.{take_at, drop_at, drop-drop, map-append, length-map, length-take-le, length-drop, same_lists, get_or-take, get_or-drop, get_or-map}
 use Rattle.std.proofs.lemmas.Simd.{map-map}
 use Rattle.std.proofs.lemmas.List.FromFn.{get_or-map-range_with_len, length-map-range_with_len}
+use Rattle.std.proofs.Math.Seq.{take-add}
 use Rattle.pnm_image.specs.declared.shape.Shape.{Shape}
 use Rattle.pnm_image.specs.Heads.{HeadValue, row_length}
 use Rattle.pnm_image.specs.Images.{Image, IsImage, sample_at, cut_rows, rows_of}
 use Rattle.pnm_tools.specs.Formulas.{row_by, image_by}
+use Rattle.pnm_tools.proofs.RangeLaws.{alike_from, length_of_equals}
 
 -- so many columns from one on, each of so many planes
 abbrev pub columns : ℕ → ℕ → ℕ → (ℕ → ℕ → ℕ) → List ℕ
 columns from count depth sample = flat_map (λ x. map (λ p. sample x p) (range_with_len 0 depth)) (range_with_len from count)
 
 length-columns : (from count depth : ℕ) (sample : ℕ → ℕ → ℕ) → length (columns from count depth sample) ≡ count * depth
-length-columns from zero depth sample = sym (zero-mul depth)
-length-columns from (suc count) depth sample =
-    let first : length (map (λ p. sample from p) (range_with_len 0 depth)) ≡ depth = length-map-range_with_len (λ p. sample from p) 0 depth in
-    let others = length-columns (from + 1) count depth sample in
-    omega (arith, length-append (map (λ p. sample from p) (range_with_len 0 depth)) (columns (from + 1) count depth sample), first, others, suc-mul count depth)
+length-columns from count depth sample = length_of_equals (λ x. map (λ p. sample x p) (range_with_len 0 depth)) depth from count (λ x. length-map-range_with_len (λ p. sample x p) 0 depth)
 
 -- a row of a formula has its length
 pub length-row_by : (s : Shape) (sample : ℕ → ℕ → ℕ) → length (row_by s sample) ≡ row_length s
@@ -49,10 +47,6 @@ group_at g xs k d within =
     get_or-map-range_with_len (λ p. g (slice_index xs (k + p))) 0 d i i e below (omega arith)
     ∙ sym (get_or-map g part i 0 e (omega arith) ∙ ap g (get_or-take d (drop k xs) i 0 below ∙ get_or-drop k xs i 0)))
 
--- a front in two parts
-take_parts : (a b : ℕ) (xs : List ℕ) → take (a + b) xs ≡ take a xs ++ take b (drop a xs)
-take_parts a b xs = sym (take-append-drop a (take (a + b) xs)) ∙ ap (λ (l : List ℕ). l ++ drop a (take (a + b) xs)) (take-take a (a + b) xs (omega arith)) ∙ ap (λ (l : List ℕ). take a xs ++ l) (drop-take a b xs)
-
 -- columns of one row of samples, each sample changed
 pub columns_at : (g : ℕ → ℕ) (xs : List ℕ) (base from count d : ℕ) → (base + from) * d + count * d ≤ length xs
     → columns from count d (λ x p. g (slice_index xs ((base + x) * d + p))) ≡ map g (take (count * d) (drop ((base + from) * d) xs))
@@ -67,7 +61,7 @@ columns_at g xs base from (suc count) d within =
     ap (λ (l : List ℕ). l ++ columns (from + 1) count d (λ x p. g (slice_index xs ((base + x) * d + p)))) first
     ∙ ap (λ (l : List ℕ). map g (take d (drop k xs)) ++ l) (others ∙ ap (λ (l : List ℕ). map g (take (count * d) l)) rest)
     ∙ sym (map-append g (take d (drop k xs)) (take (count * d) (drop d (drop k xs))))
-    ∙ ap (map g) (sym (take_parts d (count * d) (drop k xs)) ∙ ap (λ (n : ℕ). take n (drop k xs)) (sym each))
+    ∙ ap (map g) (sym (take-add d (count * d) (drop k xs)) ∙ ap (λ (n : ℕ). take n (drop k xs)) (sym each))
 
 -- the rows of samples from one on
 rows_from : (each : ℕ) (xs : List ℕ) (a n : ℕ) → cut_rows n each (drop (a * each) xs) ≡ map (λ y. take each (drop (y * each) xs)) (range_with_len a n)
@@ -88,9 +82,7 @@ rows_are i =
 
 -- values that are alike at each number of a range
 pub range_alike : {A : Type 0} (f g : ℕ → A) (a n : ℕ) → ((y : ℕ) → y < a + n → f y ≡ g y) → map f (range_with_len a n) ≡ map g (range_with_len a n)
-range_alike f g a zero same = refl
-range_alike {A = A} f g a (suc n) same =
-    ap (λ (x : A). x ∷ map f (range_with_len (a + 1) n)) (same a (omega arith)) ∙ ap (λ (l : List A). g a ∷ l) (range_alike f g (a + 1) n (λ y lt. same y (omega arith)))
+range_alike f g a n same = alike_from f g a a n (λ i lt. same (a + i) (omega arith))
 
 -- the same sizes
 pub record HasSizes (s t : Shape) : Type 0 where

@@ -18,10 +18,6 @@ use Rattle.pnm_tools.proofs.ResultLaws.{result_is_image}
 abbrev first_then : List Message → Result Image ToolFault → List Message
 first_then due r = elim r [ Ok j ↦ messages_of_image j ++ due | Err fault ↦ [] ]
 
-due_then : (tool : Tool) (i : Image) (is : List Image) → output_due tool (i ∷ is) ≡ first_then (output_due tool is) (applied tool i)
-unfolding output_due
-due_then tool i is = refl
-
 due_in_turn_then : (tools : List Tool) (i : Image) (is : List Image) → due_in_turn tools (i ∷ is) ≡ first_then (due_in_turn tools is) (applied_in_turn tools i)
 unfolding due_in_turn
 due_in_turn_then tools i is = refl

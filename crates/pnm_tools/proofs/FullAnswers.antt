@@ -1,19 +1,16 @@
 -- A full answer to a stream is the tool's stream.
-use Rattle.std.proofs.Common.{◌≡◌, ℕ, List, [], ◌∷◌, ◌++◌, map, Result, Ok, Err, refl, sym, ap, ◌∙◌, append-nil}
+use Rattle.std.proofs.Common.{◌≡◌, List, [], ◌∷◌, ◌++◌, Result, Ok, Err, refl, sym, ap, ◌∙◌, append-nil}
 use Rattle.pnm_image.specs.declared.message.Message.{Message}
-use Rattle.pnm_image.specs.declared.message.Message.TheVariants.{Begin, Row, ImageEnd, StreamEnd, Stop}
+use Rattle.pnm_image.specs.declared.message.Message.TheVariants.{StreamEnd}
 use Rattle.pnm_image.specs.Images.{Image, AreImages, rows_of, messages_of_image, messages_of_stream}
-use Rattle.pnm_image.specs.Messages.{without_stop}
 use Rattle.pnm_image.specs.Completion.{Completes}
 use Rattle.pnm_tools.specs.declared.fault.ToolFault.{ToolFault}
 use Rattle.pnm_tools.specs.declared.tool.Tool.{Tool}
 use Rattle.pnm_tools.specs.Tools.{applied, output_due}
 use Rattle.pnm_tools.specs.Answers.{More, Whole, ending_of, EndsBy, AnswersInFull, AreResults}
-
--- messages that don't end the stream
-abbrev GoOn : List Message → Type 0
-GoOn [] = Unit {0}
-GoOn (m ∷ ms) = (ending_of m ≡ More) × GoOn ms
+use Rattle.pnm_tools.proofs.AnsweringLaws.{due_by, due_is}
+use Rattle.pnm_tools.proofs.InFullLaws.{EndNothing, end_ends_nothing, ends_after}
+use Rattle.pnm_tools.proofs.SoundLaws.{unbroken_keeps_all}
 
 not_whole : {A : Type 0} → More ≡ Whole → A
 not_whole e = absurd cc
@@ -34,7 +31,7 @@ first_same m x ms xs e = cc
 rest_same : (m x : Message) (ms xs : List Message) → m ∷ ms ≡ x ∷ xs → ms ≡ xs
 rest_same m x ms xs e = cc
 
-goes_beyond : (ms due g rest : List Message) → GoOn ms → ms ++ due ≡ g ++ rest → EndsBy Whole g → Beyond ms due g rest
+goes_beyond : (ms due g rest : List Message) → EndNothing ms → ms ++ due ≡ g ++ rest → EndsBy Whole g → Beyond ms due g rest
 goes_beyond [] due g rest on e ends = record { more = g; whole = refl; left = e; ends = ends }
 goes_beyond (m ∷ ms) due [] rest on e ends = none_ends ends
 goes_beyond (m ∷ ms) due (x ∷ []) rest on e ends = not_whole (sym on.0 ∙ ap ending_of (first_same m x (ms ++ due) rest e) ∙ ends)
@@ -42,20 +39,8 @@ goes_beyond (m ∷ ms) due (x ∷ y ∷ g) rest on e ends =
     let r = goes_beyond ms due (y ∷ g) rest on.1 (rest_same m x (ms ++ due) (y ∷ g ++ rest) e) ends.1 in
     record { more = r.more; whole = ap (λ (l : List Message). x ∷ l) r.whole ∙ ap (λ (k : Message). k ∷ (ms ++ r.more)) (sym (first_same m x (ms ++ due) (y ∷ g ++ rest) e)); left = r.left; ends = r.ends }
 
-rows_go_on : (rows : List (List ℕ)) → GoOn (map Row rows ++ ImageEnd ∷ [])
-rows_go_on [] = (refl, tt)
-rows_go_on (row ∷ rows) = (refl, rows_go_on rows)
-
-image_goes_on : (i : Image) → GoOn (messages_of_image i)
-image_goes_on i = (refl, rows_go_on (rows_of i))
-
--- the output due, by what becomes of the first image
-abbrev due_by : Tool → List Image → Result Image ToolFault → List Message
-due_by tool is r = elim r [ Ok j ↦ messages_of_image j ++ output_due tool is | Err fault ↦ [] ]
-
-due_is : (tool : Tool) (i : Image) (is : List Image) → output_due tool (i ∷ is) ≡ due_by tool is (applied tool i)
-unfolding output_due
-due_is tool i is = refl
+image_goes_on : (i : Image) → EndNothing (messages_of_image i)
+image_goes_on i = (refl, end_ends_nothing (rows_of i))
 
 abbrev IsResult : Tool → List Image → List Message → Type 0
 IsResult tool is g = (js : List Image) × AreResults tool is js × (g ≡ messages_of_stream js)
@@ -82,35 +67,14 @@ unfolding output_due
 front_is_stream tool [] g rest e ends = end_alone tool g rest e ends
 front_is_stream tool (i ∷ is) g rest e ends = image_by tool i is g rest (applied tool i) refl (sym (due_is tool i is) ∙ e) ends (λ h d w. front_is_stream tool is h rest d w)
 
--- what ends the stream has no last Stop
-whole_without_stop : (g : List Message) → EndsBy Whole g → without_stop g ≡ g
-whole_without_stop [] ends = refl
-whole_without_stop (Begin head ∷ []) ends = refl
-whole_without_stop (Row row ∷ []) ends = refl
-whole_without_stop (ImageEnd ∷ []) ends = refl
-whole_without_stop (StreamEnd ∷ []) ends = refl
-whole_without_stop (Stop ∷ []) ends = absurd cc
-whole_without_stop (Begin head ∷ n ∷ g) ends = ap (λ (l : List Message). Begin head ∷ l) (whole_without_stop (n ∷ g) ends.1)
-whole_without_stop (Row row ∷ n ∷ g) ends = ap (λ (l : List Message). Row row ∷ l) (whole_without_stop (n ∷ g) ends.1)
-whole_without_stop (ImageEnd ∷ n ∷ g) ends = ap (λ (l : List Message). ImageEnd ∷ l) (whole_without_stop (n ∷ g) ends.1)
-whole_without_stop (StreamEnd ∷ n ∷ g) ends = ap (λ (l : List Message). StreamEnd ∷ l) (whole_without_stop (n ∷ g) ends.1)
-whole_without_stop (Stop ∷ n ∷ g) ends = ap (λ (l : List Message). Stop ∷ l) (whole_without_stop (n ∷ g) ends.1)
-
--- messages that don't end the stream, and then some that do
-ends_after : (ms g : List Message) → GoOn ms → EndsBy Whole g → EndsBy Whole (ms ++ g)
-ends_after [] g on ends = ends
-ends_after (m ∷ []) [] on ends = none_ends ends
-ends_after (m ∷ []) (x ∷ g) on ends = (on.0, ends)
-ends_after (m ∷ n ∷ ms) g on ends = (on.0, ends_after (n ∷ ms) g on.1 ends)
-
 stream_ends_whole : (is : List Image) → EndsBy Whole (messages_of_stream is)
 stream_ends_whole [] = refl
-stream_ends_whole (i ∷ is) = ends_after (messages_of_image i) (messages_of_stream is) (image_goes_on i) (stream_ends_whole is)
+stream_ends_whole (i ∷ is) = ends_after Whole (messages_of_image i) (messages_of_stream is) (image_goes_on i) (stream_ends_whole is)
 
 pub full_answer_is_the_stream : (tool : Tool) (is : List Image) (given : List Message) → AreImages is → AnswersInFull tool (messages_of_stream is) given → IsResult tool is given
 full_answer_is_the_stream tool is given are full =
     let whole = stream_ends_whole is in
     let ends = full.ends Whole whole in
-    let completes : Completes is (messages_of_stream is) = record { images = are; front = ([], ap (λ (l : List Message). l) (sym (append-nil (messages_of_stream is))) ∙ ap (λ (l : List Message). l ++ []) (sym (whole_without_stop (messages_of_stream is) whole))) } in
+    let completes : Completes is (messages_of_stream is) = record { images = are; front = ([], ap (λ (l : List Message). l) (sym (append-nil (messages_of_stream is))) ∙ ap (λ (l : List Message). l ++ []) (sym (unbroken_keeps_all Whole (messages_of_stream is) tt whole))) } in
     let front = full.answers.front is completes in
-    front_is_stream tool is given front.0 (front.1 ∙ ap (λ (l : List Message). l ++ front.0) (whole_without_stop given ends)) ends
+    front_is_stream tool is given front.0 (front.1 ∙ ap (λ (l : List Message). l ++ front.0) (unbroken_keeps_all Whole given tt ends)) ends

@@ -1,6 +1,7 @@
 -- How a tool at work gives what waits.
 use Rattle.std.proofs.Common.{◌≡◌, inl, inr, ℕ, ◌<◌, true, false, List, [], ◌∷◌, ◌++◌, map, length, refl, sym, ap, subst, ◌∙◌, append_assoc, arith, Option, Some, None}
 use Rattle.std.specs.Prelude.{IfSome, IfNone}
+use Rattle.std.proofs.lemmas.List.{same_from_push}
 use Rattle.pnm_image.specs.declared.shape.Shape.{Shape}
 use Rattle.pnm_image.specs.declared.message.Message.{Message}
 use Rattle.pnm_image.specs.declared.message.Message.TheVariants.{Begin, Row, ImageEnd, StreamEnd, Stop}
@@ -87,19 +88,11 @@ fewer_wait before rest m e = omega (arith, ap length e)
 
 -- ---- Stop alone
 
-last_same : (a b : List Message) (x y : Message) → a ++ x ∷ [] ≡ b ++ y ∷ [] → x ≡ y
-last_same [] [] x y e = cc
-last_same [] (n ∷ []) x y e = absurd cc
-last_same [] (n ∷ k ∷ b) x y e = absurd cc
-last_same (m ∷ []) [] x y e = absurd cc
-last_same (m ∷ k ∷ a) [] x y e = absurd cc
-last_same (m ∷ a) (n ∷ b) x y e = last_same a b x y cc
-
 -- what is broken off ends in Stop, and so does its answer
 stop_waits : (t : Tool) (l g : List Message) (m : Message) → IsAnswering t l g (m ∷ []) → StopsLast l → EndsBy BrokenOff l → m ≡ Stop
 stop_waits t l g m a (inl on) ends = absurd (not_broken l on ends)
 stop_waits t l g m a (inr h) ends =
-    sym (last_same (answered_from t Between [] h.0) g Stop m (sym (ap (answered_from t Between []) h.1 ∙ answered_from-append t Between [] h.0 (Stop ∷ [])) ∙ a.given))
+    sym (same_from_push (answered_from t Between [] h.0) g Stop m (sym (ap (answered_from t Between []) h.1 ∙ answered_from-append t Between [] h.0 (Stop ∷ [])) ∙ a.given)).1
 
 -- it has come to its end
 stopped_after : (l : List Message) → StopsLast l → EndsBy BrokenOff l → place_of Between l ≡ After

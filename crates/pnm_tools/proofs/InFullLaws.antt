@@ -15,7 +15,7 @@ use Rattle.pnm_tools.specs.Answering.{answered, answered_from, rows_after}
 -- ---- the answers end as the messages do
 
 -- messages that end nothing
-abbrev EndNothing : List Message → Type 0
+abbrev pub EndNothing : List Message → Type 0
 EndNothing [] = Unit {0}
 EndNothing (m ∷ ms) = (ending_of m ≡ More) × EndNothing ms
 
@@ -28,7 +28,7 @@ nothing_is_more [] h = refl
 nothing_is_more (m ∷ []) h = h.0
 nothing_is_more (m ∷ n ∷ a) h = (h.0, nothing_is_more (n ∷ a) h.1)
 
-ends_after : (e : Ending) (a b : List Message) → EndNothing a → EndsBy e b → EndsBy e (a ++ b)
+pub ends_after : (e : Ending) (a b : List Message) → EndNothing a → EndsBy e b → EndsBy e (a ++ b)
 ends_after e [] b h ends = ends
 ends_after e (m ∷ []) [] h ends = h.0 ∙ sym ends
 ends_after e (m ∷ []) (n ∷ b) h ends = (h.0, ends)
@@ -39,7 +39,7 @@ head_ends_nothing (Ok result) = (refl, tt)
 head_ends_nothing (Err fault) = tt
 
 -- rows end nothing before the end of their image
-end_ends_nothing : (rows : List (List ℕ)) → EndNothing (map Row rows ++ ImageEnd ∷ [])
+pub end_ends_nothing : (rows : List (List ℕ)) → EndNothing (map Row rows ++ ImageEnd ∷ [])
 end_ends_nothing [] = (refl, tt)
 end_ends_nothing (row ∷ rows) = (refl, end_ends_nothing rows)
 

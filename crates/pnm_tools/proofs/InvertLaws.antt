@@ -12,7 +12,7 @@ use Rattle.pnm_tools.proofs.AnsweringLaws.{AnswersImages}
 use Rattle.pnm_tools.proofs.RowLaws.{row_of_invert}
 
 -- the head stays
-same_head : (head result : HeadValue) → result_head Invert head ≡ Ok result → result ≡ head
+pub same_head : (head result : HeadValue) → result_head Invert head ≡ Ok result → result ≡ head
 unfolding result_head
 same_head head result e = cc
 

@@ -1,9 +1,8 @@
 -- An image that is given by a formula is an image, where its samples are in range.
-use Rattle.std.proofs.Common.{◌≡◌, ℕ, zero, suc, ◌+◌, ◌*◌, ◌<◌, ◌≤◌, false, ◌||◌, inl, inr, length, List, map, sym, subst, arith, suc-mul, zero-mul}
+use Rattle.std.proofs.Common.{◌≡◌, ℕ, zero, suc, ◌+◌, ◌*◌, ◌<◌, ◌≤◌, false, ◌||◌, inl, inr, length, List, map, sym, subst, arith}
 use Rattle.std.specs.Prelude.{All, nat_lt}
 use Rattle.std.specs.List.{flat_map, range_with_len}
 use Rattle.std.proofs.lemmas.Bool.{cases_lt, ltb-false, or_parts}
-use Rattle.std.proofs.lemmas.List.{length-append}
 use Rattle.std.proofs.lemmas.List.Elements.{All-nil, All-append, All-from_get_or}
 use Rattle.std.proofs.lemmas.List.FromFn.{get_or-map-range_with_len, length-map-range_with_len}
 use Rattle.std.proofs.Math.ListN.{get_or-eq_default}
@@ -15,12 +14,7 @@ use Rattle.pnm_tools.specs.Formulas.{row_by, image_by}
 use Rattle.pnm_tools.specs.Tools.{result_head, result_sample}
 use Rattle.pnm_tools.proofs.FormulaLaws.{length-row_by}
 use Rattle.pnm_tools.proofs.ImageLaws.{IsBy}
-
--- rows of one length, one after another, have so many samples
-length-rows : (row : ℕ → List ℕ) (each from count : ℕ) → ((y : ℕ) → length (row y) ≡ each) → length (flat_map row (range_with_len from count)) ≡ count * each
-length-rows row each from zero long = sym (zero-mul each)
-length-rows row each from (suc count) long =
-    omega (arith, length-append (row from) (flat_map row (range_with_len (from + 1) count)), long from, length-rows row each (from + 1) count long, suc-mul count each)
+use Rattle.pnm_tools.proofs.RangeLaws.{length_of_equals}
 
 -- what holds of the samples of each row holds of all samples
 all_rows : (P : ℕ → Type 0) (row : ℕ → List ℕ) (from count : ℕ) → ((y : ℕ) → y < from + count → All P (row y)) → All P (flat_map row (range_with_len from count))
@@ -41,7 +35,7 @@ image_by_is_image head sample sound range =
     let s : Shape = head.shape in
     record {
       head = sound;
-      count = length-rows (λ y. row_by s (λ x p. sample x y p)) (row_length s) 0 s.height (λ y. length-row_by s (λ x p. sample x y p));
+      count = length_of_equals (λ y. row_by s (λ x p. sample x y p)) (row_length s) 0 s.height (λ y. length-row_by s (λ x p. sample x y p));
       range = all_rows (λ v. v ≤ s.maxval) (λ y. row_by s (λ x p. sample x y p)) 0 s.height (λ y row.
           all_rows (λ v. v ≤ s.maxval) (λ x. map (λ p. sample x y p) (range_with_len 0 s.depth)) 0 s.width (λ x column.
           all_planes (λ v. v ≤ s.maxval) (λ p. sample x y p) s.depth (λ p plane. range x y p (omega arith) (omega arith) plane)));

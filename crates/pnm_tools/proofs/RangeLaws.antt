@@ -1,16 +1,38 @@
 -- Lists made from a function of each number of a range.
-use Rattle.std.proofs.Common.{◌≡◌, ℕ, zero, suc, ◌+◌, ◌-◌, ◌*◌, ◌/◌, ◌<◌, ◌≤◌, List, [], ◌∷◌, ◌++◌, length, map, reverse, replicate, refl, sym, ap, ◌∙◌, arith, append_assoc, suc-mul, zero-mul}
+use Rattle.std.proofs.Common.{◌≡◌, ℕ, zero, suc, ◌+◌, ◌-◌, ◌*◌, ◌/◌, ◌<◌, ◌≤◌, List, [], ◌∷◌, ◌++◌, length, map, reverse, replicate, refl, sym, ap, ◌∙◌, arith, suc-mul, zero-mul}
 use Rattle.std.specs.List.{flat_map, range_with_len}
 use Rattle.std.proofs.lemmas.Nat.{div-mul-add}
-use Rattle.std.proofs.lemmas.List.{same_lists, length-reverse, get_or-reverse}
+use Rattle.std.proofs.lemmas.List.{same_lists, length-reverse, get_or-reverse, map-append, length-append}
 use Rattle.std.proofs.lemmas.List.Concat.{flat_map_single}
 use Rattle.std.proofs.lemmas.List.FromFn.{get_or-map-range_with_len, length-map-range_with_len}
+use Rattle.std.proofs.lemmas.Grind.{flat_map-append}
+
+-- lists that are alike at each number of two ranges of one length
+pub alike_from : {A : Type 0} (f g : ℕ → A) (a b n : ℕ) → ((i : ℕ) → i < n → f (a + i) ≡ g (b + i)) → map f (range_with_len a n) ≡ map g (range_with_len b n)
+alike_from f g a b zero same = refl
+alike_from {A = A} f g a b (suc n) same =
+    let from : a ≡ a + 0 = omega arith in
+    let to : b + 0 ≡ b = omega arith in
+    ap (λ (x : A). x ∷ map f (range_with_len (a + 1) n)) (ap f from ∙ same 0 (omega arith) ∙ ap g to)
+    ∙ ap (λ (l : List A). g b ∷ l) (alike_from f g (a + 1) (b + 1) n (λ i lt.
+    let left : (a + 1) + i ≡ a + suc i = omega arith in
+    let right : b + suc i ≡ (b + 1) + i = omega arith in
+    ap f left ∙ same (suc i) (omega arith) ∙ ap g right))
+
+pub pieces_alike_from : {A : Type 0} (f g : ℕ → List A) (a b n : ℕ) → ((i : ℕ) → i < n → f (a + i) ≡ g (b + i)) → flat_map f (range_with_len a n) ≡ flat_map g (range_with_len b n)
+pieces_alike_from f g a b zero same = refl
+pieces_alike_from {A = A} f g a b (suc n) same =
+    let from : a ≡ a + 0 = omega arith in
+    let to : b + 0 ≡ b = omega arith in
+    ap (λ (l : List A). l ++ flat_map f (range_with_len (a + 1) n)) (ap f from ∙ same 0 (omega arith) ∙ ap g to)
+    ∙ ap (λ (l : List A). g b ++ l) (pieces_alike_from f g (a + 1) (b + 1) n (λ i lt.
+    let left : (a + 1) + i ≡ a + suc i = omega arith in
+    let right : b + suc i ≡ (b + 1) + i = omega arith in
+    ap f left ∙ same (suc i) (omega arith) ∙ ap g right))
 
 -- lists that are alike at each number of a range
 pub pieces_alike : {A : Type 0} (f g : ℕ → List A) (a n : ℕ) → ((x : ℕ) → x < a + n → f x ≡ g x) → flat_map f (range_with_len a n) ≡ flat_map g (range_with_len a n)
-pieces_alike f g a zero same = refl
-pieces_alike {A = A} f g a (suc n) same =
-    ap (λ (l : List A). l ++ flat_map f (range_with_len (a + 1) n)) (same a (omega arith)) ∙ ap (λ (l : List A). g a ++ l) (pieces_alike f g (a + 1) n (λ x lt. same x (omega arith)))
+pieces_alike f g a n same = pieces_alike_from f g a a n (λ i lt. same (a + i) (omega arith))
 
 -- the numbers of a range in the opposite order
 pub downward : {A : Type 0} (f : ℕ → A) (n : ℕ) → map (λ y. f (n - 1 - y)) (range_with_len 0 n) ≡ reverse (map f (range_with_len 0 n))
@@ -26,17 +48,21 @@ downward {A = A} f n =
     ∙ sym (get_or-reverse up k d (omega arith) ∙ get_or-map-range_with_len f 0 n (length up - 1 - k) (n - 1 - k) d (omega arith) at))
 
 -- a range in two parts
-pieces_in_parts : {A : Type 0} (f : ℕ → List A) (a m n : ℕ) → flat_map f (range_with_len a (m + n)) ≡ flat_map f (range_with_len a m) ++ flat_map f (range_with_len (a + m) n)
-pieces_in_parts f a zero n =
+pub range-append : (a m n : ℕ) → range_with_len a (m + n) ≡ range_with_len a m ++ range_with_len (a + m) n
+range-append a zero n =
     let count : zero + n ≡ n = omega arith in
     let from : a ≡ a + zero = omega arith in
-    ap (λ (k : ℕ). flat_map f (range_with_len a k)) count ∙ ap (λ (b : ℕ). flat_map f (range_with_len b n)) from
-pieces_in_parts {A = A} f a (suc m) n =
+    ap (range_with_len a) count ∙ ap (λ (b : ℕ). range_with_len b n) from
+range-append a (suc m) n =
     let count : suc m + n ≡ suc (m + n) = omega arith in
     let from : a + 1 + m ≡ a + suc m = omega arith in
-    ap (λ (k : ℕ). flat_map f (range_with_len a k)) count
-    ∙ ap (λ (l : List A). f a ++ l) (pieces_in_parts f (a + 1) m n ∙ ap (λ (b : ℕ). flat_map f (range_with_len (a + 1) m) ++ flat_map f (range_with_len b n)) from)
-    ∙ sym (append_assoc (f a) (flat_map f (range_with_len (a + 1) m)) (flat_map f (range_with_len (a + suc m) n)))
+    ap (range_with_len a) count ∙ ap (λ (l : List ℕ). a ∷ l) (range-append (a + 1) m n ∙ ap (λ (b : ℕ). range_with_len (a + 1) m ++ range_with_len b n) from)
+
+pub pieces_in_parts : {A : Type 0} (f : ℕ → List A) (a m n : ℕ) → flat_map f (range_with_len a (m + n)) ≡ flat_map f (range_with_len a m) ++ flat_map f (range_with_len (a + m) n)
+pieces_in_parts f a m n = ap (flat_map f) (range-append a m n) ∙ flat_map-append f (range_with_len a m) (range_with_len (a + m) n)
+
+pub map_in_parts : {A : Type 0} (f : ℕ → A) (a m n : ℕ) → map f (range_with_len a (m + n)) ≡ map f (range_with_len a m) ++ map f (range_with_len (a + m) n)
+map_in_parts f a m n = ap (map f) (range-append a m n) ∙ map-append f (range_with_len a m) (range_with_len (a + m) n)
 
 -- so many of a list, whatever the numbers of the range
 all_one_piece : {A : Type 0} (f : ℕ → List A) (piece : List A) (a b n : ℕ) → ((x : ℕ) → a ≤ x → x < a + n → f x ≡ piece) → flat_map f (range_with_len a n) ≡ flat_map (λ _. piece) (range_with_len b n)
@@ -80,3 +106,9 @@ each_replicated f n w =
     sym (flat_map_single (λ y. f (y / n)) (range_with_len 0 (w * n)))
     ∙ each_repeated (λ y. f y ∷ []) n w
     ∙ pieces_alike (λ y. flat_map (λ _. f y ∷ []) (range_with_len 0 n)) (λ y. replicate n (f y)) 0 w (λ y lt. replicated (f y) 0 n)
+
+-- pieces of one length
+pub length_of_equals : (f : ℕ → List ℕ) (d a n : ℕ) → ((x : ℕ) → length (f x) ≡ d) → length (flat_map f (range_with_len a n)) ≡ n * d
+length_of_equals f d a zero long = sym (zero-mul d)
+length_of_equals f d a (suc n) long =
+    omega (arith, length-append (f a) (flat_map f (range_with_len (a + 1) n)), long a, length_of_equals f d (a + 1) n long, suc-mul n d)

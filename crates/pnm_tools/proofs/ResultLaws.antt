@@ -18,19 +18,16 @@ use Rattle.pnm_tools.specs.declared.tool.Tool.TheVariants.{Invert, Cut, Depth, C
 use Rattle.pnm_tools.specs.Cut.{span_count}
 use Rattle.pnm_tools.specs.Depth.{nearest_sample, gray_kind, gray_type}
 use Rattle.pnm_tools.specs.Channel.{Picks, IsLawfulPick, picked_head_value}
-use Rattle.pnm_tools.specs.Tools.{IsLawfulTool, applied, result_head, result_sample}
+use Rattle.pnm_tools.specs.Tools.{IsLawfulTool, applied, result_sample}
 use Rattle.pnm_tools.proofs.ImageLaws.{result_by_head}
 use Rattle.pnm_tools.proofs.MadeLaws.{made_is_image, sample_in_range, sizes_within}
 use Rattle.pnm_tools.proofs.WholeResultLaws.{enlarged_is_image, enlarged_has_rows, flipped_is_image, flipped_has_rows, tiled_is_image, tiled_has_rows}
 use Rattle.pnm_tools.proofs.CutLaws.{LiesWithin, is_cut, cut_by}
-use Rattle.pnm_tools.proofs.DepthLaws.{new_head, nearest_sample_is_nearest}
+use Rattle.pnm_tools.proofs.DepthLaws.{new_head, nearest_sample_is_nearest, new_head_is}
 use Rattle.pnm_tools.proofs.ChannelLaws.{is_picked}
+use Rattle.pnm_tools.proofs.InvertLaws.{same_head as inverted_is}
 
 -- ---- inverted images
-
-inverted_head_is : (i : Image) (result : HeadValue) → result_head Invert i.head ≡ Ok result → i.head ≡ result
-unfolding result_head
-inverted_head_is i result e = cc
 
 inverted_in_range : (i : Image) (result : HeadValue) (x y p : ℕ) → i.head ≡ result → result_sample Invert i x y p ≤ result.shape.maxval
 unfolding result_sample
@@ -39,7 +36,7 @@ inverted_in_range i result x y p e = subst (λ (h : HeadValue). i.head.shape.max
 inverted_is_image : (i j : Image) → IsImage i → applied Invert i ≡ Ok j → IsImage j
 inverted_is_image i j is e =
     let made = result_by_head Invert i j e in
-    let same = inverted_head_is i j.head made.head in
+    let same = sym (inverted_is i.head j.head made.head) in
     made_is_image Invert i j made (subst IsHead same is.head) (λ x y p. inverted_in_range i j.head x y p same)
 
 -- ---- cut images
@@ -149,10 +146,6 @@ rescaled_head_is new head low high sound =
       suits = suits_by (new == 1) s.kind s.depth s.maxval new head.tuple_type refl sound.suits;
     }
 
-new_head_is : (new : ℕ) (head result : HeadValue) → result_head (Depth new) head ≡ Ok result → new_head new head ≡ result
-unfolding result_head
-new_head_is new head result e = cc
-
 rescaled_in_range : (new : ℕ) (i : Image) (x y p : ℕ) → IsImage i → result_sample (Depth new) i x y p ≤ new
 unfolding result_sample
 rescaled_in_range new i x y p is = nearest_in_range new i.head.shape.maxval (sample_at i x y p) is.head.limits.maxval_low (sample_in_range i x y p is)
@@ -160,7 +153,7 @@ rescaled_in_range new i x y p is = nearest_in_range new i.head.shape.maxval (sam
 rescaled_is_image : (new : ℕ) (i j : Image) → 1 ≤ new → new ≤ 65535 → IsImage i → applied (Depth new) i ≡ Ok j → IsImage j
 rescaled_is_image new i j low high is e =
     let made = result_by_head (Depth new) i j e in
-    let same = new_head_is new i.head j.head made.head in
+    let same = sym (new_head_is new i.head j.head made.head) in
     made_is_image (Depth new) i j made (subst IsHead same (rescaled_head_is new i.head low high is.head))
     (λ x y p. subst (λ (h : HeadValue). result_sample (Depth new) i x y p ≤ h.shape.maxval) same (rescaled_in_range new i x y p is))
 
@@ -212,10 +205,10 @@ result_is_image (Tile across down) i j lawful image made = tiled_is_image across
 -- the result of an image that has rows has rows
 pub result_has_rows : (tool : Tool) (i j : Image) → IsLawfulTool tool → IsImage i → 0 < i.head.shape.height → applied tool i ≡ Ok j → 0 < j.head.shape.height
 result_has_rows Invert i j lawful image rows made =
-    subst (λ (h : HeadValue). 0 < h.shape.height) (inverted_head_is i j.head (result_by_head Invert i j made).head) rows
+    subst (λ (h : HeadValue). 0 < h.shape.height) (sym (inverted_is i.head j.head (result_by_head Invert i j made).head)) rows
 result_has_rows (Cut box) i j lawful image rows made = cut_has_rows box i j made
 result_has_rows (Depth maxval) i j lawful image rows made =
-    subst (λ (h : HeadValue). 0 < h.shape.height) (new_head_is maxval i.head j.head (result_by_head (Depth maxval) i j made).head) rows
+    subst (λ (h : HeadValue). 0 < h.shape.height) (sym (new_head_is maxval i.head j.head (result_by_head (Depth maxval) i j made).head)) rows
 result_has_rows (Channel planes) i j lawful image rows made =
     subst (λ (h : HeadValue). 0 < h.shape.height) (sym (is_picked planes i.head j.head (result_by_head (Channel planes) i j made).head).result_is) rows
 result_has_rows (Enlarge across down) i j lawful image rows made = enlarged_has_rows across down i j lawful.1.0 rows made

@@ -1,5 +1,5 @@
 -- The head and the rows of a tiled image, and what a tiler has still to give.
-use Rattle.std.proofs.Common.{◌≡◌, ◌⊎◌, inl, inr, ℕ, ◌*◌, ◌%◌, ◌<◌, ◌≤◌, Bool, false, List, [], map, length, slice_index_or, ◌==◌, if◌then◌else◌, OnOk, IfOk, Result, Ok, Err, sym, ap, refl, ◌∙◌, arith, min, zero, suc, ◌+◌, ◌-◌, ◌/◌, ◌++◌, take, drop, append_assoc, suc-mul, zero-mul, mul-le-mul, ◌∷◌, get_or, All, subst}
+use Rattle.std.proofs.Common.{◌≡◌, ◌⊎◌, inl, inr, ℕ, ◌*◌, ◌%◌, ◌<◌, ◌≤◌, Bool, false, List, [], map, length, slice_index_or, ◌==◌, if◌then◌else◌, OnOk, IfOk, Result, Ok, Err, sym, ap, refl, ◌∙◌, arith, min, zero, suc, ◌+◌, ◌-◌, ◌/◌, ◌++◌, take, drop, suc-mul, zero-mul, mul-le-mul, mul-le-mul_right, lt_of_mul-lt-mul_right, ◌∷◌, get_or, All, subst}
 use Rattle.std.specs.List.{range_with_len, flat_map}
 use Rattle.std.proofs.lemmas.Bool.{ne_eqb, cases_eq, cases_lt}
 use Rattle.pnm_image.specs.declared.shape.Shape.{Shape}
@@ -13,8 +13,10 @@ use Rattle.pnm_tools.specs.Tile.{tiled_head, tiled_head_value, tiled_row, tiled_
 use Rattle.pnm_tools.proofs.HeadLaws.{small_row}
 use Rattle.pnm_tools.specs.Tools.{result_head, row_answer}
 use Rattle.std.proofs.Math.Nat.{mod_self, mod-eq_of_lt, mod-lt, div-add-mod, add-mul-mod_self_left, zero-mod}
-use Rattle.std.proofs.lemmas.List.{take_at, take_all, length-append, length-take, length-take-le, length-drop, take-append-drop, take-take, drop-take, drop-drop, get_or-take, get_or_append_left, get_or_at}
+use Rattle.std.proofs.lemmas.List.{take_at, take_all, length-append, length-take, length-take-le, length-drop, drop-drop, get_or-take, get_or_append_left, get_or_at}
+use Rattle.std.proofs.Math.Seq.{take-add}
 use Rattle.pnm_tools.specs.Pixels.{pixel_of}
+use Rattle.pnm_tools.proofs.RangeLaws.{pieces_alike_from, pieces_in_parts, length_of_equals, alike_from}
 use Rattle.std.proofs.lemmas.List.Elements.{All-head, All-push, All-rest, All-same, All-take}
 use Rattle.pnm_tools.proofs.FormulaLaws.{range_alike}
 
@@ -67,42 +69,7 @@ tiled_has_rows across down head made e (inr some) = omega arith
 
 -- ---- lists made number by number
 
--- in two parts
-flat_map_parts : (f : ℕ → List ℕ) (a n m : ℕ) → flat_map f (range_with_len a (n + m)) ≡ flat_map f (range_with_len a n) ++ flat_map f (range_with_len (a + n) m)
-flat_map_parts f a zero m =
-    let all : zero + m ≡ m = omega arith in
-    let from : a ≡ a + zero = omega arith in
-    ap (λ (k : ℕ). flat_map f (range_with_len a k)) all ∙ ap (λ (b : ℕ). flat_map f (range_with_len b m)) from
-flat_map_parts f a (suc n) m =
-    let all : suc n + m ≡ suc (n + m) = omega arith in
-    let from : (a + 1) + n ≡ a + suc n = omega arith in
-    ap (λ (k : ℕ). flat_map f (range_with_len a k)) all
-    ∙ ap (λ (l : List ℕ). f a ++ l) (flat_map_parts f (a + 1) n m ∙ ap (λ (b : ℕ). flat_map f (range_with_len (a + 1) n) ++ flat_map f (range_with_len b m)) from)
-    ∙ sym (append_assoc (f a) (flat_map f (range_with_len (a + 1) n)) (flat_map f (range_with_len (a + suc n) m)))
-
--- alike, number by number
-flat_map_alike : (f g : ℕ → List ℕ) (a b n : ℕ) → ((i : ℕ) → i < n → f (a + i) ≡ g (b + i)) → flat_map f (range_with_len a n) ≡ flat_map g (range_with_len b n)
-flat_map_alike f g a b zero same = refl
-flat_map_alike f g a b (suc n) same =
-    let from : a ≡ a + 0 = omega arith in
-    let to : b + 0 ≡ b = omega arith in
-    ap (λ (l : List ℕ). l ++ flat_map f (range_with_len (a + 1) n)) (ap f from ∙ same 0 (omega arith) ∙ ap g to)
-    ∙ ap (λ (l : List ℕ). g b ++ l) (flat_map_alike f g (a + 1) (b + 1) n (λ i lt.
-    let left : (a + 1) + i ≡ a + suc i = omega arith in
-    let right : b + suc i ≡ (b + 1) + i = omega arith in
-    ap f left ∙ same (suc i) (omega arith) ∙ ap g right))
-
--- each of one length
-pub length_of_equals : (f : ℕ → List ℕ) (d a n : ℕ) → ((x : ℕ) → length (f x) ≡ d) → length (flat_map f (range_with_len a n)) ≡ n * d
-length_of_equals f d a zero long = sym (zero-mul d)
-length_of_equals f d a (suc n) long =
-    omega (arith, length-append (f a) (flat_map f (range_with_len (a + 1) n)), long a, length_of_equals f d (a + 1) n long, suc-mul n d)
-
 -- ---- pixels of a row
-
--- a front in two parts
-take_parts : (a b : ℕ) (xs : List ℕ) → take (a + b) xs ≡ take a xs ++ take b (drop a xs)
-take_parts a b xs = sym (take-append-drop a (take (a + b) xs)) ∙ ap (λ (l : List ℕ). l ++ drop a (take (a + b) xs)) (take-take a (a + b) xs (omega arith)) ∙ ap (λ (l : List ℕ). take a xs ++ l) (drop-take a b xs)
 
 -- so many pixels from one on are the samples from its first on
 pub pixels_are_samples : (depth : ℕ) (row : List ℕ) (a n : ℕ) → flat_map (pixel_of depth row) (range_with_len a n) ≡ take (n * depth) (drop (a * depth) row)
@@ -114,14 +81,14 @@ pixels_are_samples depth row a (suc n) =
     let next : (a + 1) * depth ≡ depth + a * depth = ap (λ (k : ℕ). k * depth) more ∙ omega (arith, suc-mul a depth) in
     let on : depth + a * depth ≡ a * depth + depth = omega arith in
     ap (λ (l : List ℕ). take depth rest ++ l) (pixels_are_samples depth row (a + 1) n ∙ ap (λ (k : ℕ). take (n * depth) (drop k row)) (next ∙ on) ∙ ap (take (n * depth)) (sym (drop-drop depth (a * depth) row)))
-    ∙ sym (take_parts depth (n * depth) rest) ∙ ap (λ (k : ℕ). take k rest) (sym each)
+    ∙ sym (take-add depth (n * depth) rest) ∙ ap (λ (k : ℕ). take k rest) (sym each)
 
 -- ---- the row side by side
 
 -- within its width it is a front of the row
 pub tiled_front : (n width depth : ℕ) (row : List ℕ) → n ≤ width → tiled_row n width depth row ≡ take (n * depth) row
 tiled_front n width depth row le =
-    flat_map_alike (λ x. pixel_of depth row (x % width)) (pixel_of depth row) 0 0 n (λ i lt. let below : 0 + i < width = omega arith in ap (pixel_of depth row) (mod-eq_of_lt below))
+    pieces_alike_from (λ x. pixel_of depth row (x % width)) (pixel_of depth row) 0 0 n (λ i lt. let below : 0 + i < width = omega arith in ap (pixel_of depth row) (mod-eq_of_lt below))
     ∙ pixels_are_samples depth row 0 n ∙ ap (λ (k : ℕ). take (n * depth) (drop k row)) (zero-mul depth)
 
 -- each pixel of a row has all its samples
@@ -145,7 +112,7 @@ same_column k i width whole =
 tiled_more : (k j width depth : ℕ) (row : List ℕ) → k % width ≡ 0 → tiled_row (k + j) width depth row ≡ tiled_row k width depth row ++ tiled_row j width depth row
 tiled_more k j width depth row whole =
     let f : ℕ → List ℕ = λ x. pixel_of depth row (x % width) in
-    flat_map_parts f 0 k j ∙ ap (λ (l : List ℕ). tiled_row k width depth row ++ l) (flat_map_alike f f (0 + k) 0 j (λ i lt.
+    pieces_in_parts f 0 k j ∙ ap (λ (l : List ℕ). tiled_row k width depth row ++ l) (pieces_alike_from f f (0 + k) 0 j (λ i lt.
     let at : (0 + k) + i ≡ k + i = omega arith in
     let to : i ≡ 0 + i = omega arith in
     ap (pixel_of depth row) (ap (λ (n : ℕ). n % width) at ∙ same_column k i width whole ∙ ap (λ (n : ℕ). n % width) to)))
@@ -155,7 +122,7 @@ tiled_shorter : (k j width depth : ℕ) (row : List ℕ) → 0 < width → lengt
 tiled_shorter k j width depth row some long le =
     let f : ℕ → List ℕ = λ x. pixel_of depth row (x % width) in
     let parts : k ≡ j + (k - j) = omega arith in
-    ap (λ (n : ℕ). take (j * depth) (tiled_row n width depth row)) parts ∙ ap (take (j * depth)) (flat_map_parts f 0 j (k - j))
+    ap (λ (n : ℕ). take (j * depth) (tiled_row n width depth row)) parts ∙ ap (take (j * depth)) (pieces_in_parts f 0 j (k - j))
     ∙ take_at (tiled_row j width depth row) (flat_map f (range_with_len (0 + j) (k - j))) (j * depth) (length_tiled j width depth row some long)
 
 -- ---- what stands of it
@@ -168,18 +135,14 @@ pub record IsTiledFront (across width depth : ℕ) (row items : List ℕ) : Type
   pub whole : count < across → count % width ≡ 0
   pub some : 0 < across → 0 < count
 
--- so many pixels of so many samples each
-scaled : (a b d : ℕ) → a ≤ b → a * d ≤ b * d
-scaled a b d le = mul-le-mul {n₁ = a} {m₁ = d} {n₂ = b} {m₂ = d} le (omega arith)
-
 -- the fewer pixels have the fewer samples
 min_scaled : (a b d : ℕ) → (b < a) ⊎ (a ≤ b) → min (a * d) (b * d) ≡ min a b * d
 min_scaled a b d (inr le) =
-    let below : a * d ≤ b * d = scaled a b d le in
+    let below : a * d ≤ b * d = mul-le-mul_right d le in
     let least : min a b ≡ a = omega arith in
     omega (arith, below, ap (λ (n : ℕ). n * d) least)
 min_scaled a b d (inl lt) =
-    let below : b * d ≤ a * d = scaled b a d (omega arith) in
+    let below : b * d ≤ a * d = mul-le-mul_right {m = b} {n = a} d (omega arith) in
     let least : min a b ≡ b = omega arith in
     omega (arith, below, ap (λ (n : ℕ). n * d) least)
 
@@ -198,18 +161,13 @@ depth_there : (across depth n : ℕ) → n < across * depth → (depth ≡ 0) �
 depth_there across depth n lt (inl none) = absurd (omega (arith, ap (λ (d : ℕ). across * d) none))
 depth_there across depth n lt (inr some) = omega arith
 
--- what stands is shorter than the whole row where it has fewer columns
-fewer_columns : (count across depth : ℕ) → count * depth < across * depth → (count < across) ⊎ (across ≤ count) → count < across
-fewer_columns count across depth lt (inl h) = h
-fewer_columns count across depth lt (inr h) = absurd (omega (arith, scaled across count depth h))
-
 -- as many columns again as stand, or as are missing
 pub front_grows : (across width depth more : ℕ) (row items new : List ℕ) → 0 < width → length row ≡ width * depth → IsTiledFront across width depth row items → length items < across * depth
     → more ≡ min (length items) (across * depth - length items) → new ≡ items ++ take more items → IsTiledFront across width depth row new
 front_grows across width depth more row items new some long front lt least made =
     let k : ℕ = front.count in
     let size : length items ≡ k * depth = ap length front.is ∙ length_tiled k width depth row some long in
-    let fewer : k < across = fewer_columns k across depth (omega arith) (cases_lt k across) in
+    let fewer : k < across = lt_of_mul-lt-mul_right depth {m = k} {n = across} (omega arith) in
     let whole : k % width ≡ 0 = front.whole fewer in
     let parts : across ≡ k + (across - k) = omega arith in
     let rest : across * depth - k * depth ≡ (across - k) * depth = omega (arith, ap (λ (n : ℕ). n * depth) parts) in
@@ -229,9 +187,9 @@ pub front_stands : (across width depth : ℕ) (row items : List ℕ) → 0 < wid
 front_stands across width depth row items some long front lt =
     let k : ℕ = front.count in
     let size : length items ≡ k * depth = ap length front.is ∙ length_tiled k width depth row some long in
-    let fewer : k < across = fewer_columns k across depth (omega arith) (cases_lt k across) in
+    let fewer : k < across = lt_of_mul-lt-mul_right depth {m = k} {n = across} (omega arith) in
     let there : 0 < k = front.some (omega arith) in
-    omega (arith, scaled 1 k depth there, depth_there across depth (length items) lt (cases_eq depth 0))
+    omega (arith, mul-le-mul_right {m = 1} {n = k} depth there, depth_there across depth (length items) lt (cases_eq depth 0))
 
 -- where all samples stand, all columns do
 pub front_is_all : (across width depth : ℕ) (row items : List ℕ) → 0 < width → length row ≡ width * depth → IsTiledFront across width depth row items → across * depth ≤ length items → items ≡ tiled_row across width depth row
@@ -278,18 +236,6 @@ tiles_at_end w s come ready count some wanted = record {
 
 -- ---- the queue of rows
 
--- alike, number by number
-map_alike : (f g : ℕ → List ℕ) (a b n : ℕ) → ((i : ℕ) → i < n → f (a + i) ≡ g (b + i)) → map f (range_with_len a n) ≡ map g (range_with_len b n)
-map_alike f g a b zero same = refl
-map_alike f g a b (suc n) same =
-    let from : a ≡ a + 0 = omega arith in
-    let to : b + 0 ≡ b = omega arith in
-    ap (λ (l : List ℕ). l ∷ map f (range_with_len (a + 1) n)) (ap f from ∙ same 0 (omega arith) ∙ ap g to)
-    ∙ ap (λ (l : List (List ℕ)). g b ∷ l) (map_alike f g (a + 1) (b + 1) n (λ i lt.
-    let left : (a + 1) + i ≡ a + suc i = omega arith in
-    let right : b + suc i ≡ (b + 1) + i = omega arith in
-    ap f left ∙ same (suc i) (omega arith) ∙ ap g right))
-
 -- the remainder of the number after
 next_remainder : (y n : ℕ) → (y + 1) % n ≡ (y % n + 1) % n
 next_remainder y n =
@@ -323,7 +269,7 @@ given_again across down width depth m row rest =
     let first : 0 % suc (length rest) ≡ 0 = zero-mod (suc (length rest)) in
     let count : length (rest ++ row ∷ []) ≡ suc (length rest) = omega (arith, length-append rest (row ∷ [])) in
     ap (λ (k : ℕ). tiled_row across width depth (get_or (row ∷ rest) k []) ∷ map (row_by across width depth (row ∷ rest)) (range_with_len 1 m)) first
-    ∙ ap (λ (l : List (List ℕ)). tiled_row across width depth row ∷ l) (map_alike (row_by across width depth (row ∷ rest)) (row_by across width depth (rest ++ row ∷ [])) 1 0 m (λ y lt.
+    ∙ ap (λ (l : List (List ℕ)). tiled_row across width depth row ∷ l) (alike_from (row_by across width depth (row ∷ rest)) (row_by across width depth (rest ++ row ∷ [])) 1 0 m (λ y lt.
     let on : 1 + y ≡ y + 1 = omega arith in
     let there : 0 + y ≡ y = omega arith in
     let below : y % suc (length rest) < suc (length rest) = mod-lt y (omega arith) in
@@ -338,7 +284,7 @@ pub given_last : (across down width depth m : ℕ) (row : List ℕ) (rest : List
 given_last across down width depth m row rest le =
     let first : 0 % suc (length rest) ≡ 0 = zero-mod (suc (length rest)) in
     ap (λ (k : ℕ). tiled_row across width depth (get_or (row ∷ rest) k []) ∷ map (row_by across width depth (row ∷ rest)) (range_with_len 1 m)) first
-    ∙ ap (λ (l : List (List ℕ)). tiled_row across width depth row ∷ l) (map_alike (row_by across width depth (row ∷ rest)) (row_by across width depth rest) 1 0 m (λ y lt.
+    ∙ ap (λ (l : List (List ℕ)). tiled_row across width depth row ∷ l) (alike_from (row_by across width depth (row ∷ rest)) (row_by across width depth rest) 1 0 m (λ y lt.
     let on : 1 + y ≡ suc y = omega arith in
     let there : 0 + y ≡ y = omega arith in
     let fits : suc y < suc (length rest) = omega arith in

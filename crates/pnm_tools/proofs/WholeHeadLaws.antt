@@ -24,7 +24,7 @@ within_by true head result is e = absurd cc
 within_by false head result is e = record { limits = is; result_is = cc }
 
 -- a head that the limits let pass is within them
-is_within : (head result : HeadValue) → within_limits head ≡ Ok result → IsWithin head result
+pub is_within : (head result : HeadValue) → within_limits head ≡ Ok result → IsWithin head result
 is_within head result e = within_by (is_too_large head.shape) head result refl e
 
 -- what isn't out of order

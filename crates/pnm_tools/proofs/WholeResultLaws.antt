@@ -1,5 +1,5 @@
 -- The enlarged, the flipped and the tiled image are images.
-use Rattle.std.proofs.Common.{◌≡◌, ℕ, ◌*◌, ◌<◌, ◌≤◌, false, Ok, ap, subst, arith, mul-le-mul}
+use Rattle.std.proofs.Common.{◌≡◌, ℕ, ◌*◌, ◌<◌, ◌≤◌, false, Ok, ap, subst, arith, mul-pos}
 use Rattle.pnm_image.specs.declared.shape.Shape.{Shape}
 use Rattle.pnm_image.specs.Heads.{HeadValue, IsHead, is_too_large}
 use Rattle.pnm_image.specs.Images.{Image, IsImage}
@@ -32,12 +32,6 @@ resized_is width height head some sound fits =
       suits = sound.suits;
     }
 
--- so many of some are some
-some_times : (a b : ℕ) → 0 < a → 1 ≤ b → 0 < a * b
-some_times a b some more =
-    let least : 1 * 1 ≤ a * b = mul-le-mul {n₁ = 1} {m₁ = 1} {n₂ = a} {m₂ = b} (omega arith) (omega arith) in
-    omega arith
-
 -- ---- enlarged images
 
 -- the samples of an enlarged image are those of the image
@@ -51,7 +45,7 @@ enlarged_is_image across down i j wide is e =
     let made = result_by_head (Enlarge across down) i j e in
     let s : Shape = i.head.shape in
     let within = is_enlarged across down i.head j.head made.head in
-    let sound = resized_is (s.width * across) (s.height * down) i.head (some_times s.width across is.head.limits.width_low wide) is.head within.limits in
+    let sound = resized_is (s.width * across) (s.height * down) i.head (mul-pos {m = s.width} {n = across} is.head.limits.width_low wide) is.head within.limits in
     made_is_image (Enlarge across down) i j made (subst IsHead within.result_is sound)
     (λ x y p. subst (λ (h : HeadValue). result_sample (Enlarge across down) i x y p ≤ h.shape.maxval) within.result_is (enlarged_in_range across down i x y p is))
 
@@ -59,7 +53,7 @@ enlarged_is_image across down i j wide is e =
 pub enlarged_has_rows : (across down : ℕ) (i j : Image) → 1 ≤ down → 0 < i.head.shape.height → applied (Enlarge across down) i ≡ Ok j → 0 < j.head.shape.height
 enlarged_has_rows across down i j high rows e =
     let within = is_enlarged across down i.head j.head (result_by_head (Enlarge across down) i j e).head in
-    subst (λ (h : HeadValue). 0 < h.shape.height) within.result_is (some_times i.head.shape.height down rows high)
+    subst (λ (h : HeadValue). 0 < h.shape.height) within.result_is (mul-pos {m = i.head.shape.height} {n = down} rows high)
 
 -- ---- flipped images
 
