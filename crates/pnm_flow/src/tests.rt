@@ -2,13 +2,13 @@
 
 use pnm_read::InputFault;
 
+mod blanks;
 mod chains;
 mod devices;
 mod memory;
 mod order;
 mod run;
 mod streams;
-mod whole;
 
 /// An image of one row, and the image inverted.
 const IMAGE: &[u8] = b"P5\n2 1\n122\nAB";

@@ -4,6 +4,8 @@ mod command;
 mod examples;
 mod fault_lines;
 mod help;
+mod refusals;
+mod runs;
 mod words_memory;
 
 /// An image of one row, and the image inverted.

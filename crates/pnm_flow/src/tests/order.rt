@@ -1,6 +1,6 @@
 //! Which fault of a run over a chain is answered, and what is written before it.
 
-use super::chains::{FROM_SECOND, LAST_COLUMN, are_lawful, channel, run_chain};
+use super::chains::{FROM_SECOND, LAST_COLUMN, are_lawful, run_chain};
 use super::devices::{FailsOnce, Sips};
 use crate::fault::RunFault;
 use crate::serial::run_serial;
@@ -9,116 +9,9 @@ use pnm_image::Device;
 use pnm_read::InputFault;
 use pnm_tools::{Tool, ToolFault};
 use pnm_write::SinkFault;
-use std::alloc::Global;
-use std::process::Abort;
-use std::test::Fail;
 
-/// Images of which the first alone has a second column, or the first and the last.
+/// Two images, of which the first alone has a second column.
 const NARROW: &[u8] = b"P5\n2 1\n9\n\x01\x02P5\n1 1\n9\n\x03";
-
-const NARROW_BETWEEN: &[u8] = b"P5\n2 1\n9\n\x01\x02P5\n1 1\n9\n\x03P5\n2 1\n9\n\x04\x05";
-
-/// An input, tools that refuse an image, what is answered and what is written.
-type Refused<'a> = (&'a [u8], &'a [Tool], RunFault, &'a [u8]);
-
-/// Of the tools that refuse an image the first is answered, whichever does so earlier in the stream.
-/// The images before the first refusal are written, and nothing after.
-#[test]
-fn answers_the_first_fault(rt: HostRuntime) -> Result<(), Fail> {
-    let outside = RunFault::Tool(1, ToolFault::CutOutside);
-    let second = channel(rt.alloc(), &[1], b"")?;
-    let second_again = channel(rt.alloc(), &[1], b"")?;
-    let second_third = channel(rt.alloc(), &[1], b"")?;
-    let cases: [Refused<'_>; 7] = [
-        (
-            NARROW,
-            &[Tool::Cut(FROM_SECOND)],
-            outside,
-            b"P5\n1 1\n9\n\x02",
-        ),
-        (
-            NARROW_BETWEEN,
-            &[Tool::Cut(FROM_SECOND)],
-            outside,
-            b"P5\n1 1\n9\n\x02",
-        ),
-        (
-            NARROW_BETWEEN,
-            &[Tool::Cut(FROM_SECOND), Tool::Invert],
-            outside,
-            b"P5\n1 1\n9\n\x07",
-        ),
-        (
-            NARROW_BETWEEN,
-            &[Tool::Invert, Tool::Cut(FROM_SECOND)],
-            RunFault::Tool(2, ToolFault::CutOutside),
-            b"P5\n1 1\n9\n\x07",
-        ),
-        // Tool 2 refuses the first image, and tool 1 the second.
-        (NARROW, &[Tool::Cut(FROM_SECOND), second], outside, b""),
-        (
-            b"P6\n1 1\n9\n\x01\x02\x03P5\n1 1\n9\n\x04",
-            &[second_again, Tool::Cut(FROM_SECOND)],
-            RunFault::Tool(1, ToolFault::ChannelOutside),
-            b"",
-        ),
-        // Both refuse the same image.
-        (
-            b"P5\n1 1\n9\n\x05",
-            &[second_third, Tool::Cut(FROM_SECOND)],
-            RunFault::Tool(1, ToolFault::ChannelOutside),
-            b"",
-        ),
-    ];
-    are_refused(&rt, rt.alloc(), &cases);
-    Ok(())
-}
-
-/// Each is refused so.
-fn are_refused(rt: &impl Abort, alloc: Global, cases: &[Refused<'_>]) {
-    for (input, tools, fault, output) in cases {
-        let (answer, written) = run_chain(rt, alloc, tools, input);
-        assert_eq!(rt; answer, Err(*fault), "at {:?}, {:?}", tools, input);
-        assert_eq!(rt; written.as_slice(), *output, "at {:?}, {:?}", tools, input);
-    }
-}
-
-/// A fault of the input is answered before those of the tools, also where it comes after them.
-#[test]
-fn answers_the_input_first(rt: HostRuntime) {
-    let cases: [Refused<'_>; 3] = [
-        (
-            b"P5\n1 1\n9\n\x03XX",
-            &[Tool::Cut(FROM_SECOND)],
-            RunFault::Input(InputFault::BadMagic),
-            b"",
-        ),
-        (
-            b"P5\n2 1\n9\n\x01\x02P5\n1 1\n9\n\x03XX",
-            &[Tool::Invert, Tool::Cut(FROM_SECOND)],
-            RunFault::Input(InputFault::BadMagic),
-            b"P5\n1 1\n9\n\x07",
-        ),
-        (
-            b"P5\n2 1\n9\n\x01\x02P6\n1 1\n9\n\x03\x04",
-            &[Tool::Cut(LAST_COLUMN)],
-            RunFault::Input(InputFault::RasterCut),
-            b"P5\n1 1\n9\n\x02P6\n1 1\n9\n",
-        ),
-    ];
-    are_refused(&rt, rt.alloc(), &cases);
-}
-
-/// A plane that isn't there.
-#[test]
-fn answers_a_missing_plane(rt: HostRuntime) -> Result<(), Fail> {
-    let tools = [channel(rt.alloc(), &[1], b"")?];
-    let (answer, written) = run_chain(&rt, rt.alloc(), &tools, b"P5\n1 1\n9\n\x05");
-    let want = Err(RunFault::Tool(1, ToolFault::ChannelOutside));
-    assert_eq!(rt; answer, want);
-    assert!(rt; written.is_empty());
-    Ok(())
-}
 
 /// A fault of a tool is answered before a failed write, which alone is the output's fault.
 #[test]
