@@ -2,7 +2,7 @@
 
 use super::answers::Answer::{Begin, Fault, ImageEnd, Row, StreamEnd};
 use super::answers::{Answer, Case};
-use super::cases::check_all;
+use super::cases::{Refusal, check_all, check_refusals};
 use crate::InputFault::{
     BadMagic, BadMaxval, BadNumber, HeaderCut, RasterCut, SampleAboveMaxval, TooLarge, ZeroSize,
 };
@@ -64,49 +64,49 @@ const SPELLINGS: &[Case<'static>] = &[
     ),
 ];
 
-const WRONG_BYTES: &[Case<'static>] = &[
-    (b" P5 1 1 9\n", &[Fault(BadMagic)]),
-    (b"p5 1 1 9\n", &[Fault(BadMagic)]),
-    (b"\x00", &[Fault(BadMagic)]),
-    (b"#c\nP5 1 1 9\n", &[Fault(BadMagic)]),
-    (b"P0 1 1 9\n", &[Fault(BadMagic)]),
-    (b"P\n", &[Fault(BadMagic)]),
-    (b"P#\n5 1 1 9\n", &[Fault(BadMagic)]),
-    (b"PP5 1 1 9\n", &[Fault(BadMagic)]),
+const WRONG_BYTES: &[Refusal<'static>] = &[
+    (b" P5 1 1 9\n", BadMagic),
+    (b"p5 1 1 9\n", BadMagic),
+    (b"\x00", BadMagic),
+    (b"#c\nP5 1 1 9\n", BadMagic),
+    (b"P0 1 1 9\n", BadMagic),
+    (b"P\n", BadMagic),
+    (b"P#\n5 1 1 9\n", BadMagic),
+    (b"PP5 1 1 9\n", BadMagic),
     // Right after the magic stands white space or a comment.
-    (b"P51 1 9\n", &[Fault(BadNumber)]),
-    (b"P55", &[Fault(BadNumber)]),
-    (b"P5x", &[Fault(BadNumber)]),
-    (b"P5\x00", &[Fault(BadNumber)]),
-    (b"P5\x0b1 1 9\n", &[Fault(BadNumber)]),
-    (b"P5\x0c1 1 9\n", &[Fault(BadNumber)]),
-    (b"P5\xa01 1 9\n", &[Fault(BadNumber)]),
-    (b"P5 -1 1 9\n", &[Fault(BadNumber)]),
-    (b"P5 +1 1 9\n", &[Fault(BadNumber)]),
-    (b"P5 1.0 1 9\n", &[Fault(BadNumber)]),
-    (b"P5 1,1 9\n", &[Fault(BadNumber)]),
-    (b"P5 1 1\x0b9\n", &[Fault(BadNumber)]),
-    (b"P5 1 1 9x", &[Fault(BadNumber)]),
-    (b"P5 0 1 0x", &[Fault(BadNumber)]),
-    (b"P2 1 1 9x", &[Fault(BadNumber)]),
+    (b"P51 1 9\n", BadNumber),
+    (b"P55", BadNumber),
+    (b"P5x", BadNumber),
+    (b"P5\x00", BadNumber),
+    (b"P5\x0b1 1 9\n", BadNumber),
+    (b"P5\x0c1 1 9\n", BadNumber),
+    (b"P5\xa01 1 9\n", BadNumber),
+    (b"P5 -1 1 9\n", BadNumber),
+    (b"P5 +1 1 9\n", BadNumber),
+    (b"P5 1.0 1 9\n", BadNumber),
+    (b"P5 1,1 9\n", BadNumber),
+    (b"P5 1 1\x0b9\n", BadNumber),
+    (b"P5 1 1 9x", BadNumber),
+    (b"P5 0 1 0x", BadNumber),
+    (b"P2 1 1 9x", BadNumber),
     // A comment's last byte isn't the delimiter.
-    (b"P5 1 1 255#c\nA", &[Fault(BadNumber)]),
-    (b"P4 1 1#c\r\x80", &[Fault(BadNumber)]),
+    (b"P5 1 1 255#c\nA", BadNumber),
+    (b"P4 1 1#c\r\x80", BadNumber),
     // Cut in the magic, between numbers, in one, after one, and in a comment.
-    (b"P5", &[Fault(HeaderCut)]),
-    (b"P1", &[Fault(HeaderCut)]),
-    (b"P5 ", &[Fault(HeaderCut)]),
-    (b"P5 1 1 ", &[Fault(HeaderCut)]),
-    (b"P5 1 1 9", &[Fault(HeaderCut)]),
-    (b"P5 0 1 0", &[Fault(HeaderCut)]),
-    (b"P4 1 1", &[Fault(HeaderCut)]),
-    (b"P1 1 ", &[Fault(HeaderCut)]),
-    (b"P5#", &[Fault(HeaderCut)]),
-    (b"P5#c", &[Fault(HeaderCut)]),
-    (b"P5 1 1 9#c", &[Fault(HeaderCut)]),
-    (b"P5 1 1 9#c\n", &[Fault(HeaderCut)]),
-    (b"P5 1 1 9#c\r", &[Fault(HeaderCut)]),
-    (b"P5 1#1 9\n", &[Fault(HeaderCut)]),
+    (b"P5", HeaderCut),
+    (b"P1", HeaderCut),
+    (b"P5 ", HeaderCut),
+    (b"P5 1 1 ", HeaderCut),
+    (b"P5 1 1 9", HeaderCut),
+    (b"P5 0 1 0", HeaderCut),
+    (b"P4 1 1", HeaderCut),
+    (b"P1 1 ", HeaderCut),
+    (b"P5#", HeaderCut),
+    (b"P5#c", HeaderCut),
+    (b"P5 1 1 9#c", HeaderCut),
+    (b"P5 1 1 9#c\n", HeaderCut),
+    (b"P5 1 1 9#c\r", HeaderCut),
+    (b"P5 1#1 9\n", HeaderCut),
 ];
 
 /// The faults at a header's end come in this order: ZeroSize, TooLarge, BadMaxval.
@@ -170,7 +170,7 @@ fn reads_spelled_headers(rt: HostRuntime) -> Result<(), Fail> {
 
 #[test]
 fn refuses_wrong_bytes(rt: HostRuntime) -> Result<(), Fail> {
-    check_all(&rt, rt.alloc(), WRONG_BYTES)
+    check_refusals(&rt, rt.alloc(), WRONG_BYTES)
 }
 
 #[test]

@@ -2,7 +2,7 @@
 
 use super::answers::Answer::{Fault, Pam};
 use super::answers::Case;
-use super::cases::check_all;
+use super::cases::{Refusal, check_all, check_refusals};
 use crate::InputFault::{
     BadMaxval, BadNumber, BadPamLine, DuplicateField, HeaderCut, MissingField, RasterCut,
     SampleAboveMaxval, TooLarge, ZeroSize,
@@ -10,144 +10,117 @@ use crate::InputFault::{
 use std::test::Fail;
 
 /// Lines that are refused, and headers that are cut. A line is judged once it has ended.
-const WRONG_LINES: &[Case<'static>] = &[
-    (b"P7", &[Fault(HeaderCut)]),
-    (b"P7\n", &[Fault(HeaderCut)]),
-    (b"P7\nENDHDR", &[Fault(HeaderCut)]),
-    (b"P7\nFOO", &[Fault(HeaderCut)]),
-    (b"P7\nWIDTH x", &[Fault(HeaderCut)]),
-    (b"P7\n# c", &[Fault(HeaderCut)]),
-    (b"P7\nWIDTH 1\nHEIGHT 1\n", &[Fault(HeaderCut)]),
+const WRONG_LINES: &[Refusal<'static>] = &[
+    (b"P7", HeaderCut),
+    (b"P7\n", HeaderCut),
+    (b"P7\nENDHDR", HeaderCut),
+    (b"P7\nFOO", HeaderCut),
+    (b"P7\nWIDTH x", HeaderCut),
+    (b"P7\n# c", HeaderCut),
+    (b"P7\nWIDTH 1\nHEIGHT 1\n", HeaderCut),
     (
         b"P7\nWIDTH 1\nHEIGHT 1\nDEPTH 1\nMAXVAL 9\nENDHDR\r",
-        &[Fault(HeaderCut)],
+        HeaderCut,
     ),
     // LF alone stands right after the magic.
-    (b"P7 ", &[Fault(BadPamLine)]),
-    (b"P7\t\n", &[Fault(BadPamLine)]),
-    (b"P7\r", &[Fault(BadPamLine)]),
-    (b"P7\r\nWIDTH 1\n", &[Fault(BadPamLine)]),
-    (b"P7#\n", &[Fault(BadPamLine)]),
-    (b"P77\n", &[Fault(BadPamLine)]),
-    (b"P7WIDTH 1\n", &[Fault(BadPamLine)]),
-    (b"P7\x00", &[Fault(BadPamLine)]),
+    (b"P7 ", BadPamLine),
+    (b"P7\t\n", BadPamLine),
+    (b"P7\r", BadPamLine),
+    (b"P7\r\nWIDTH 1\n", BadPamLine),
+    (b"P7#\n", BadPamLine),
+    (b"P77\n", BadPamLine),
+    (b"P7WIDTH 1\n", BadPamLine),
+    (b"P7\x00", BadPamLine),
     // Names are exact, and parted from what follows by blank, TAB or CR.
-    (b"P7\nwidth 1\n", &[Fault(BadPamLine)]),
-    (b"P7\nWidth 1\n", &[Fault(BadPamLine)]),
-    (b"P7\nWIDT 1\n", &[Fault(BadPamLine)]),
-    (b"P7\nWIDTHS 1\n", &[Fault(BadPamLine)]),
-    (b"P7\nWIDTH1\n", &[Fault(BadPamLine)]),
-    (b"P7\nWIDTH#1\n", &[Fault(BadPamLine)]),
-    (b"P7\nWIDTH=1\n", &[Fault(BadPamLine)]),
-    (b"P7\nHEIGH 1\n", &[Fault(BadPamLine)]),
-    (b"P7\nDEPTHH 1\n", &[Fault(BadPamLine)]),
-    (b"P7\nmaxval 9\n", &[Fault(BadPamLine)]),
-    (b"P7\nMAXVA 9\n", &[Fault(BadPamLine)]),
-    (b"P7\nTUPLETYPE A\n", &[Fault(BadPamLine)]),
-    (b"P7\nTUPLTYPES A\n", &[Fault(BadPamLine)]),
-    (b"P7\nTUPLTYP A\n", &[Fault(BadPamLine)]),
-    (b"P7\nENDHDRX\n", &[Fault(BadPamLine)]),
-    (b"P7\nENDHDR#\n", &[Fault(BadPamLine)]),
-    (b"P7\nENDHD\n", &[Fault(BadPamLine)]),
-    (b"P7\nENDHDR\x00\n", &[Fault(BadPamLine)]),
-    (b"P7\nendhdr\n", &[Fault(BadPamLine)]),
-    (b"P7\n1\n", &[Fault(BadPamLine)]),
-    (b"P7\nW\n", &[Fault(BadPamLine)]),
-    (b"P7\n1 WIDTH\n", &[Fault(BadPamLine)]),
-    (b"P7\nX WIDTH 1\n", &[Fault(BadPamLine)]),
-    (b"P7\nX#\n", &[Fault(BadPamLine)]),
-    (b"P7\n\x00\n", &[Fault(BadPamLine)]),
-    (b"P7\n\x0b\n", &[Fault(BadPamLine)]),
-    (b"P7\n\x0c#\n", &[Fault(BadPamLine)]),
-    (b"P7\n\xa0WIDTH 1\n", &[Fault(BadPamLine)]),
-    (b"P7\nWIDTH\x0b1\n", &[Fault(BadPamLine)]),
-    (b"P7\nP7\n", &[Fault(BadPamLine)]),
+    (b"P7\nwidth 1\n", BadPamLine),
+    (b"P7\nWidth 1\n", BadPamLine),
+    (b"P7\nWIDT 1\n", BadPamLine),
+    (b"P7\nWIDTHS 1\n", BadPamLine),
+    (b"P7\nWIDTH1\n", BadPamLine),
+    (b"P7\nWIDTH#1\n", BadPamLine),
+    (b"P7\nWIDTH=1\n", BadPamLine),
+    (b"P7\nHEIGH 1\n", BadPamLine),
+    (b"P7\nDEPTHH 1\n", BadPamLine),
+    (b"P7\nmaxval 9\n", BadPamLine),
+    (b"P7\nMAXVA 9\n", BadPamLine),
+    (b"P7\nTUPLETYPE A\n", BadPamLine),
+    (b"P7\nTUPLTYPES A\n", BadPamLine),
+    (b"P7\nTUPLTYP A\n", BadPamLine),
+    (b"P7\nENDHDRX\n", BadPamLine),
+    (b"P7\nENDHDR#\n", BadPamLine),
+    (b"P7\nENDHD\n", BadPamLine),
+    (b"P7\nENDHDR\x00\n", BadPamLine),
+    (b"P7\nendhdr\n", BadPamLine),
+    (b"P7\n1\n", BadPamLine),
+    (b"P7\nW\n", BadPamLine),
+    (b"P7\n1 WIDTH\n", BadPamLine),
+    (b"P7\nX WIDTH 1\n", BadPamLine),
+    (b"P7\nX#\n", BadPamLine),
+    (b"P7\n\x00\n", BadPamLine),
+    (b"P7\n\x0b\n", BadPamLine),
+    (b"P7\n\x0c#\n", BadPamLine),
+    (b"P7\n\xa0WIDTH 1\n", BadPamLine),
+    (b"P7\nWIDTH\x0b1\n", BadPamLine),
+    (b"P7\nP7\n", BadPamLine),
     // No second token.
-    (b"P7\nWIDTH\n", &[Fault(BadPamLine)]),
-    (b"P7\nWIDTH \t\r\n", &[Fault(BadPamLine)]),
-    (b"P7\nHEIGHT\r\n", &[Fault(BadPamLine)]),
-    (b"P7\nDEPTH \n", &[Fault(BadPamLine)]),
-    (b"P7\n\tMAXVAL\t\n", &[Fault(BadPamLine)]),
-    (b"P7\nWIDTH\n1\n", &[Fault(BadPamLine)]),
+    (b"P7\nWIDTH\n", BadPamLine),
+    (b"P7\nWIDTH \t\r\n", BadPamLine),
+    (b"P7\nHEIGHT\r\n", BadPamLine),
+    (b"P7\nDEPTH \n", BadPamLine),
+    (b"P7\n\tMAXVAL\t\n", BadPamLine),
+    (b"P7\nWIDTH\n1\n", BadPamLine),
     // The second token isn't decimal.
-    (b"P7\nWIDTH x\n", &[Fault(BadNumber)]),
-    (b"P7\nWIDTH 1x\n", &[Fault(BadNumber)]),
-    (b"P7\nWIDTH x1\n", &[Fault(BadNumber)]),
-    (b"P7\nWIDTH x 1\n", &[Fault(BadNumber)]),
-    (b"P7\nHEIGHT -1\n", &[Fault(BadNumber)]),
-    (b"P7\nHEIGHT +1\n", &[Fault(BadNumber)]),
-    (b"P7\nDEPTH 1.0\n", &[Fault(BadNumber)]),
-    (b"P7\nDEPTH 1,\n", &[Fault(BadNumber)]),
-    (b"P7\nMAXVAL 0x9\n", &[Fault(BadNumber)]),
-    (b"P7\nMAXVAL 9#c\n", &[Fault(BadNumber)]),
-    (b"P7\nMAXVAL # 9\n", &[Fault(BadNumber)]),
-    (b"P7\nMAXVAL 9\x0b\n", &[Fault(BadNumber)]),
-    (b"P7\nWIDTH \x00\n", &[Fault(BadNumber)]),
-    (b"P7\nWIDTH 1\xff\n", &[Fault(BadNumber)]),
-    (b"P7\nWIDTH WIDTH\n", &[Fault(BadNumber)]),
-    (b"P7\nWIDTH 99999999999999999999x\n", &[Fault(BadNumber)]),
+    (b"P7\nWIDTH x\n", BadNumber),
+    (b"P7\nWIDTH 1x\n", BadNumber),
+    (b"P7\nWIDTH x1\n", BadNumber),
+    (b"P7\nWIDTH x 1\n", BadNumber),
+    (b"P7\nHEIGHT -1\n", BadNumber),
+    (b"P7\nHEIGHT +1\n", BadNumber),
+    (b"P7\nDEPTH 1.0\n", BadNumber),
+    (b"P7\nDEPTH 1,\n", BadNumber),
+    (b"P7\nMAXVAL 0x9\n", BadNumber),
+    (b"P7\nMAXVAL 9#c\n", BadNumber),
+    (b"P7\nMAXVAL # 9\n", BadNumber),
+    (b"P7\nMAXVAL 9\x0b\n", BadNumber),
+    (b"P7\nWIDTH \x00\n", BadNumber),
+    (b"P7\nWIDTH 1\xff\n", BadNumber),
+    (b"P7\nWIDTH WIDTH\n", BadNumber),
+    (b"P7\nWIDTH 99999999999999999999x\n", BadNumber),
 ];
 
 /// A number that comes twice, one that is missing, and faults of lines in their order.
-const WRONG_FIELDS: &[Case<'static>] = &[
-    (b"P7\nWIDTH 1\nWIDTH 1\n", &[Fault(DuplicateField)]),
-    (b"P7\nWIDTH 1\nWIDTH 2", &[Fault(HeaderCut)]),
-    (b"P7\nHEIGHT 1\n#\nHEIGHT 2\n", &[Fault(DuplicateField)]),
-    (b"P7\nDEPTH 1\n\n\tDEPTH 01 x\n", &[Fault(DuplicateField)]),
-    (
-        b"P7\nMAXVAL 9\nWIDTH 1\nMAXVAL 9\n",
-        &[Fault(DuplicateField)],
-    ),
+const WRONG_FIELDS: &[Refusal<'static>] = &[
+    (b"P7\nWIDTH 1\nWIDTH 1\n", DuplicateField),
+    (b"P7\nWIDTH 1\nWIDTH 2", HeaderCut),
+    (b"P7\nHEIGHT 1\n#\nHEIGHT 2\n", DuplicateField),
+    (b"P7\nDEPTH 1\n\n\tDEPTH 01 x\n", DuplicateField),
+    (b"P7\nMAXVAL 9\nWIDTH 1\nMAXVAL 9\n", DuplicateField),
     // Values are judged at the header's end alone.
-    (b"P7\nWIDTH 0\nWIDTH 1\n", &[Fault(DuplicateField)]),
-    (b"P7\nWIDTH 1\nWIDTH 0\n", &[Fault(DuplicateField)]),
-    (
-        b"P7\nMAXVAL 65536\nMAXVAL 65536\n",
-        &[Fault(DuplicateField)],
-    ),
-    (b"P7\nDEPTH 4294967296\nDEPTH 1\n", &[Fault(DuplicateField)]),
+    (b"P7\nWIDTH 0\nWIDTH 1\n", DuplicateField),
+    (b"P7\nWIDTH 1\nWIDTH 0\n", DuplicateField),
+    (b"P7\nMAXVAL 65536\nMAXVAL 65536\n", DuplicateField),
+    (b"P7\nDEPTH 4294967296\nDEPTH 1\n", DuplicateField),
     // A second line is judged by itself first.
-    (b"P7\nWIDTH 1\nWIDTH\n", &[Fault(BadPamLine)]),
-    (b"P7\nWIDTH 1\nWIDTH x\n", &[Fault(BadNumber)]),
+    (b"P7\nWIDTH 1\nWIDTH\n", BadPamLine),
+    (b"P7\nWIDTH 1\nWIDTH x\n", BadNumber),
     // The first line at fault decides.
-    (b"P7\nWIDTH x\nFOO\n", &[Fault(BadNumber)]),
-    (b"P7\nFOO\nWIDTH x\n", &[Fault(BadPamLine)]),
-    (b"P7\nWIDTH 1\nWIDTH 1\nFOO\n", &[Fault(DuplicateField)]),
-    (b"P7\nENDHDR\nFOO\n", &[Fault(MissingField)]),
-    (
-        b"P7\nHEIGHT 1\nDEPTH 1\nMAXVAL 9\nENDHDR\n",
-        &[Fault(MissingField)],
-    ),
-    (
-        b"P7\nWIDTH 1\nDEPTH 1\nMAXVAL 9\nENDHDR\n",
-        &[Fault(MissingField)],
-    ),
-    (
-        b"P7\nWIDTH 1\nHEIGHT 1\nMAXVAL 9\nENDHDR\n",
-        &[Fault(MissingField)],
-    ),
-    (
-        b"P7\nWIDTH 1\nHEIGHT 1\nDEPTH 1\nENDHDR\n",
-        &[Fault(MissingField)],
-    ),
+    (b"P7\nWIDTH x\nFOO\n", BadNumber),
+    (b"P7\nFOO\nWIDTH x\n", BadPamLine),
+    (b"P7\nWIDTH 1\nWIDTH 1\nFOO\n", DuplicateField),
+    (b"P7\nENDHDR\nFOO\n", MissingField),
+    (b"P7\nHEIGHT 1\nDEPTH 1\nMAXVAL 9\nENDHDR\n", MissingField),
+    (b"P7\nWIDTH 1\nDEPTH 1\nMAXVAL 9\nENDHDR\n", MissingField),
+    (b"P7\nWIDTH 1\nHEIGHT 1\nMAXVAL 9\nENDHDR\n", MissingField),
+    (b"P7\nWIDTH 1\nHEIGHT 1\nDEPTH 1\nENDHDR\n", MissingField),
     (
         b"P7\nWIDTH 1\nHEIGHT 1\nDEPTH 1\n#MAXVAL 9\nENDHDR\n",
-        &[Fault(MissingField)],
+        MissingField,
     ),
-    (
-        b"P7\nTUPLTYPE RGB\nENDHDR WIDTH 1\n",
-        &[Fault(MissingField)],
-    ),
-    (b"P7\n ENDHDR\n", &[Fault(MissingField)]),
+    (b"P7\nTUPLTYPE RGB\nENDHDR WIDTH 1\n", MissingField),
+    (b"P7\n ENDHDR\n", MissingField),
     // A number that is missing comes before those that are out of bounds.
-    (
-        b"P7\nWIDTH 0\nHEIGHT 1\nDEPTH 1\nENDHDR\n",
-        &[Fault(MissingField)],
-    ),
-    (
-        b"P7\nHEIGHT 1\nDEPTH 257\nMAXVAL 0\nENDHDR\n",
-        &[Fault(MissingField)],
-    ),
+    (b"P7\nWIDTH 0\nHEIGHT 1\nDEPTH 1\nENDHDR\n", MissingField),
+    (b"P7\nHEIGHT 1\nDEPTH 257\nMAXVAL 0\nENDHDR\n", MissingField),
 ];
 
 /// The faults at a header's end come in this order: ZeroSize, TooLarge, BadMaxval.
@@ -239,12 +212,12 @@ const WRONG_NUMBERS: &[Case<'static>] = &[
 
 #[test]
 fn refuses_wrong_lines(rt: HostRuntime) -> Result<(), Fail> {
-    check_all(&rt, rt.alloc(), WRONG_LINES)
+    check_refusals(&rt, rt.alloc(), WRONG_LINES)
 }
 
 #[test]
 fn refuses_wrong_fields(rt: HostRuntime) -> Result<(), Fail> {
-    check_all(&rt, rt.alloc(), WRONG_FIELDS)
+    check_refusals(&rt, rt.alloc(), WRONG_FIELDS)
 }
 
 #[test]
