@@ -1,7 +1,7 @@
 //! The tools that the texts of chains name.
 
 use crate::parse_chain;
-use pnm_tools::{CutBox, Tool};
+use pnm_tools::CutBox;
 use std::alloc::{AllocError, Global};
 use std::process::Abort;
 use std::test::Fail;
@@ -169,7 +169,7 @@ const CUTS: &[(&str, Axis, Axis)] = &[
 ];
 
 #[test]
-fn reads_the_options_of_pamcut(rt: HostRuntime) {
+fn reads_the_options_of_pamcut(rt: HostRuntime) -> Result<(), Fail> {
     for (text, columns, rows) in CUTS {
         let part = CutBox {
             left: columns.0,
@@ -179,14 +179,10 @@ fn reads_the_options_of_pamcut(rt: HostRuntime) {
             width: columns.2,
             height: rows.2,
         };
-        match parse_chain(rt.alloc(), text)
-            .as_ref()
-            .map(|tools| tools.as_slice())
-        {
-            Ok([Tool::Cut(cut)]) => assert_eq!(rt; *cut, part, "at {text:?}"),
-            answer => assert!(rt; false, "{answer:?} at {text:?}"),
-        }
+        let tools = format!(in rt.alloc(); "[Cut({part:?})]")?;
+        accepts(&rt, rt.alloc(), text, tools.as_str())?;
     }
+    Ok(())
 }
 
 /// Texts of `pamchannel`, the planes, and the tuple type.
@@ -225,23 +221,14 @@ const CHANNELS: &[(&str, &[u16], &str)] = &[
     ("pamchannel 1 -tupletype \0\u{7f}", &[1], "\0\u{7f}"),
 ];
 
-/// The text names `pamchannel` with these planes and this tuple type.
-pub fn picks(rt: &impl Abort, alloc: Global, text: &str, numbers: &[u16], tuple_type: &str) {
-    match parse_chain(alloc, text)
-        .as_ref()
-        .map(|tools| tools.as_slice())
-    {
-        Ok([Tool::Channel(planes)]) => {
-            assert_eq!(rt; planes.numbers(), numbers, "at {text:?}");
-            assert_eq!(rt; planes.tuple_type(), tuple_type.as_bytes(), "at {text:?}");
-        }
-        answer => assert!(rt; false, "{answer:?} at {text:?}"),
-    }
-}
-
 #[test]
-fn reads_the_words_of_pamchannel(rt: HostRuntime) {
+fn reads_the_words_of_pamchannel(rt: HostRuntime) -> Result<(), Fail> {
     for (text, numbers, tuple_type) in CHANNELS {
-        picks(&rt, rt.alloc(), text, numbers, tuple_type);
+        let bytes = tuple_type.as_bytes();
+        let tools = format!(in rt.alloc();
+            "[Channel(Planes {{ numbers: {numbers:?}, tuple_type: {bytes:?} }})]"
+        )?;
+        accepts(&rt, rt.alloc(), text, tools.as_str())?;
     }
+    Ok(())
 }
