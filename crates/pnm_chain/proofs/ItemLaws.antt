@@ -3,9 +3,10 @@ use Rattle.std.proofs.Common.{◌≡◌, ◌≤◌, ℕ, ◌+◌, ◌==◌, ◌|
 use Rattle.std.specs.List.{AllByRecursion, IsDistinct}
 use Rattle.std.specs.Prelude.{nat_le}
 use Rattle.std.proofs.lemmas.List.{length-append}
-use Rattle.std.proofs.Math.Bool.{or-false}
+use Rattle.std.proofs.Math.Bool.{or-false, or_assoc}
 use Rattle.std.proofs.lemmas.Bool.Decides.{nat_tests}
-use Rattle.std.proofs.lemmas.Bool.{or_parts, or_from, not-true}
+use Rattle.std.proofs.lemmas.Bool.{or_parts, or_from, not-true, leb-false, lt-leb}
+use Rattle.std.proofs.lemmas.Map.Keys.{IsDistinct-cons}
 use Rattle.pnm_tools.specs.declared.tool.Tool.{Tool}
 use Rattle.pnm_chain.specs.declared.chain_text.ChainKind.{ChainKind}
 use Rattle.pnm_chain.specs.declared.chain_text.ChainKind.TheVariants.{BadValue, MissingValue, Conflict, MissingArgument, ExtraArgument}
@@ -39,17 +40,13 @@ there_by : (same : Bool) (value : List ℕ) (others : Option (List ℕ)) → is_
 there_by true value others = refl
 there_by false value others = refl
 
-or_assoc : (a b c : Bool) → (a || (b || c)) ≡ ((a || b) || c)
-or_assoc true b c = refl
-or_assoc false b c = refl
-
 there_after : (option other : ToolOption) (value : Option (List ℕ)) (before : List Item) → is_there option (before ++ Given other value ∷ []) ≡ (is_there option before || excludes option other)
 there_after option other value [] = there_by (excludes option other) (unwrap_or value []) None ∙ or-false (excludes option other)
 there_after option other value (Argument word ∷ before) = there_after option other value before
 there_after option other value (Given third given ∷ before) =
     there_by (excludes option third) (unwrap_or given []) (value_of option (before ++ Given other value ∷ []))
     ∙ ap (λ (b : Bool). excludes option third || b) (there_after option other value before)
-    ∙ or_assoc (excludes option third) (is_there option before) (excludes option other)
+    ∙ sym (or_assoc (excludes option third) (is_there option before) (excludes option other))
     ∙ ap (λ (b : Bool). b || excludes option other) (sym (there_by (excludes option third) (unwrap_or given []) (value_of option before)))
 there_after option other value (Unknown ∷ before) = there_after option other value before
 
@@ -100,10 +97,6 @@ still_there : (item : Item) (before : List Item) (options : List ToolOption) →
 still_there item before [] none h = cc
 still_there item before (option ∷ options) none h = (others_there option item before none ∙ h.0, still_there item before options none h.1)
 
-distinct-cons : (option : ToolOption) (options : List ToolOption) → AllByRecursion (λ other. excludes option other ≡ false) options → IsDistinct excludes options → IsDistinct excludes (option ∷ options)
-unfolding IsDistinct
-distinct-cons option options h k = (h, k)
-
 distinct-head : (option : ToolOption) (options : List ToolOption) → IsDistinct excludes (option ∷ options) → AllByRecursion (λ other. excludes option other ≡ false) options × IsDistinct excludes options
 unfolding IsDistinct
 distinct-head option options h = h
@@ -121,7 +114,7 @@ new_are_distinct before (Argument word ∷ items) h =
 new_are_distinct before (Given option value ∷ items) h =
     let rest = new_are_distinct (before ++ Given option value ∷ []) items h.1 in
     let parts = parted option value before (options_of items) rest.0 in
-    ((not-true (is_there option before) h.0, parts.0), distinct-cons option (options_of items) parts.1 rest.1)
+    ((not-true (is_there option before) h.0, parts.0), IsDistinct-cons excludes option (options_of items) parts.1 rest.1)
 new_are_distinct before (Unknown ∷ items) h =
     let rest = new_are_distinct (before ++ Unknown ∷ []) items h.1 in
     (same_there Unknown before (options_of items) refl rest.0, rest.1)
@@ -197,19 +190,13 @@ no_more before words item most none low =
 one_more : (before : List Item) (word : List ℕ) → length (arguments_of (before ++ Argument word ∷ [])) ≡ length (arguments_of before) + 1
 one_more before word = ap (λ (args : List (List ℕ)). length args) (arguments_of-append before (Argument word ∷ [])) ∙ length-append (arguments_of before) (word ∷ [])
 
-below : (most n : ℕ) → nat_le most n ≡ false → n + 1 ≤ most
-below most n e = grind (arith, nat_tests)
-
-not_below : (most n : ℕ) → n + 1 ≤ most → nat_le most n ≡ false
-not_below most n low = grind (arith, nat_tests)
-
 pub fits : (tool : ToolName) (before : List Item) (item : Item) → item_fault tool before item ≡ None → length (arguments_of before) ≤ most_arguments tool → FitsAfter tool before item
 fits tool before (Argument word) e low =
     let free = argument_free (nat_le (most_arguments tool) (length (arguments_of before))) (takes_argument tool word) e in
     record {
       formed = free.1;
       is_new_one = refl;
-      not_many = subst (λ (n : ℕ). n ≤ most_arguments tool) (sym (one_more before word)) (below (most_arguments tool) (length (arguments_of before)) free.0);
+      not_many = subst (λ (n : ℕ). n ≤ most_arguments tool) (sym (one_more before word)) (omega (arith, leb-false (most_arguments tool) (length (arguments_of before)) free.0));
     }
 fits tool before (Given option value) e low =
     let free = option_free (is_there option before) (value_fault option value) e in
@@ -219,7 +206,7 @@ fits tool before Unknown e low = absurd cc
 pub no_fault : (tool : ToolName) (before : List Item) (item : Item) → FitsAfter tool before item → item_fault tool before item ≡ None
 no_fault tool before (Argument word) h =
     argument_fits (nat_le (most_arguments tool) (length (arguments_of before))) (takes_argument tool word)
-    (not_below (most_arguments tool) (length (arguments_of before)) (subst (λ (n : ℕ). n ≤ most_arguments tool) (one_more before word) h.not_many))
+    (lt-leb (most_arguments tool) (length (arguments_of before)) (omega (arith, subst (λ (n : ℕ). n ≤ most_arguments tool) (one_more before word) h.not_many)))
     h.formed
 no_fault tool before (Given option value) h = option_fits (is_there option before) (value_fault option value) h.is_new_one (value_has_no_fault tool option value h.formed)
 no_fault tool before Unknown h = absurd h.formed

@@ -9,6 +9,8 @@ use Rattle.std.proofs.lemmas.List.Folds.{list_any_at, list_any_none}
 use Rattle.std.proofs.lemmas.List.Quantifiers.{position-Some}
 use Rattle.std.proofs.lemmas.List.Sums.{fails_before_first}
 use denote.Ref.{Bor}
+use Rattle.std.proofs.lemmas.Bool.{ltb-false, and_right, not_from_true}
+use Rattle.std.proofs.lemmas.Option.{cond_some}
 use Rattle.pnm_chain.specs.declared.options.ToolName.{ToolName}
 use Rattle.pnm_chain.specs.declared.options.ToolOption.{ToolOption}
 use Rattle.pnm_chain.specs.Options.{option_named, wants_value, begins_with_dash}
@@ -21,16 +23,9 @@ use Rattle.pnm_chain.specs.Settings.{value_read}
 abbrev pub equals_place : List ℕ → Option ℕ
 equals_place text = position (λ b. b == 61) text
 
-place_some : (within : Bool) (n at : ℕ) → Some at ≡ cond within (Some n) None → (within ≡ true) × (at ≡ n)
-place_some true n at e = (refl, cc)
-place_some false n at e = absurd cc
-
 place_none : (within : Bool) (n : ℕ) → None ≡ cond within (Some n) None → within ≡ false
 place_none true n e = absurd cc
 place_none false n e = refl
-
-not_within : (n most : ℕ) → nat_lt n most ≡ false → most ≤ n
-not_within n most e = grind (arith, nat_tests)
 
 -- nothing passes where the first place is the end
 none_passes : (test : ℕ → Bool) (text : List ℕ) → length text ≤ position_or_len test text → list_any test text ≡ false
@@ -38,32 +33,32 @@ none_passes test text le = list_any_none test text (λ k x lt. fails_before_firs
 
 pub name_before : (text word : List ℕ) (at : ℕ) → text ≡ without_dashes word → Some at ≡ equals_place text → take at text ≡ name_in word
 name_before text word at is found =
-    let place = place_some (nat_lt (position_or_len (λ b. b == 61) text) (length text)) (position_or_len (λ b. b == 61) text) at found in
-    ap (λ (n : ℕ). take n text) place.1 ∙ ap (before_first (λ b. b == 61)) is
+    let place = cond_some (nat_lt (position_or_len (λ b. b == 61) text) (length text)) (position_or_len (λ b. b == 61) text) at (sym found) in
+    ap (λ (n : ℕ). take n text) (sym place.1) ∙ ap (before_first (λ b. b == 61)) is
 
 pub value_after : (text word : List ℕ) (at : ℕ) → text ≡ without_dashes word → Some at ≡ equals_place text → Some (take (length text - (at + 1)) (drop (at + 1) text)) ≡ value_in word
 value_after text word at is found =
-    let place = place_some (nat_lt (position_or_len (λ b. b == 61) text) (length text)) (position_or_len (λ b. b == 61) text) at found in
+    let place = cond_some (nat_lt (position_or_len (λ b. b == 61) text) (length text)) (position_or_len (λ b. b == 61) text) at (sym found) in
     let there = position-Some (λ b. b == 61) text at 0 (sym found) in
     let all : take (length text - (at + 1)) (drop (at + 1) text) ≡ drop (at + 1) text = take_all (length text - (at + 1)) (drop (at + 1) text) (omega (arith, length-drop (at + 1) text)) in
-    ap (λ (value : List ℕ). Some value) (all ∙ ap (λ (n : ℕ). drop (n + 1) text) place.1)
+    ap (λ (value : List ℕ). Some value) (all ∙ ap (λ (n : ℕ). drop (n + 1) text) (sym place.1))
     ∙ ap (λ (t : Bool). if t then Some (after_first (λ b. b == 61) text) else None) (sym (list_any_at (λ b. b == 61) text at 0 there.0 there.1))
     ∙ ap (λ (t : List ℕ). if list_any (λ b. b == 61) t then Some (after_first (λ b. b == 61) t) else None) is
 
 pub name_alone : (text word : List ℕ) → text ≡ without_dashes word → None ≡ equals_place text → text ≡ name_in word
 name_alone text word is found =
     let far = place_none (nat_lt (position_or_len (λ b. b == 61) text) (length text)) (position_or_len (λ b. b == 61) text) found in
-    sym (take_all (position_or_len (λ b. b == 61) text) text (not_within (position_or_len (λ b. b == 61) text) (length text) far)) ∙ ap (before_first (λ b. b == 61)) is
+    sym (take_all (position_or_len (λ b. b == 61) text) text (ltb-false (position_or_len (λ b. b == 61) text) (length text) far)) ∙ ap (before_first (λ b. b == 61)) is
 
 pub no_value : (text word : List ℕ) → text ≡ without_dashes word → None ≡ equals_place text → None ≡ value_in word
 no_value text word is found =
     let far = place_none (nat_lt (position_or_len (λ b. b == 61) text) (length text)) (position_or_len (λ b. b == 61) text) found in
-    ap (λ (t : Bool). if t then Some (after_first (λ b. b == 61) text) else None) (sym (none_passes (λ b. b == 61) text (not_within (position_or_len (λ b. b == 61) text) (length text) far)))
+    ap (λ (t : Bool). if t then Some (after_first (λ b. b == 61) text) else None) (sym (none_passes (λ b. b == 61) text (ltb-false (position_or_len (λ b. b == 61) text) (length text) far)))
     ∙ ap (λ (t : List ℕ). if list_any (λ b. b == 61) t then Some (after_first (λ b. b == 61) t) else None) is
 
 -- ---- the item that words begin with
 
-items_of-nil : (tool : ToolName) → items_of tool [] ≡ []
+pub items_of-nil : (tool : ToolName) → items_of tool [] ≡ []
 unfolding items_of
 items_of-nil tool = refl
 
@@ -159,12 +154,8 @@ next_value_first tool word next option (Some value) found others after is goes_o
 abbrev pub HasNoNext : ToolOption → Option (List ℕ) → List (List ℕ) → Type 0
 HasNoNext option value others = (is_some value ≡ true) ⊎ (wants_value option ≡ false) ⊎ (others ≡ [])
 
-some_takes_none : (wants there : Bool) → there ≡ true → (wants && not there) ≡ false
-some_takes_none true there e = ap not e
-some_takes_none false there e = refl
-
 takes_none : (tool : ToolName) (word : List ℕ) (option : ToolOption) (value : Option (List ℕ)) (others : List (List ℕ)) → IsOptionWord tool word (Some option) value → HasNoNext option value others → (takes_next tool word ≡ false) ⊎ (others ≡ [])
-takes_none tool word option value others h (inl some) = inl (takes_next_is tool word (Some option) value h ∙ some_takes_none (wants_value option) (is_some value) some)
+takes_none tool word option value others h (inl some) = inl (takes_next_is tool word (Some option) value h ∙ and_right (wants_value option) (not (is_some value)) (not_from_true (is_some value) some))
 takes_none tool word option value others h (inr (inl wants)) = inl (takes_next_is tool word (Some option) value h ∙ ap (λ (w : Bool). w && not (is_some value)) wants)
 takes_none tool word option value others h (inr (inr none)) = inr none
 

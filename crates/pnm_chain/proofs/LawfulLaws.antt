@@ -7,7 +7,7 @@ use Rattle.std.proofs.lemmas.List.{length-map}
 use Rattle.std.proofs.lemmas.List.Elements.{All-cons, All-nil}
 use Rattle.std.proofs.lemmas.List.Splits.{length-slice_split}
 use Rattle.std.proofs.lemmas.Bool.Decides.{nat_tests}
-use Rattle.std.proofs.lemmas.Bool.{and_parts, and_from, or_parts, leb-true, ltb-false, eqb-true, not-true}
+use Rattle.std.proofs.lemmas.Bool.{and_parts, and_from, or_parts, leb-true, ltb-false, eqb-true, not-true, both_ways, false≢true}
 use Rattle.pnm_image.specs.Heads.{IsTupleType}
 use Rattle.pnm_image.specs.Texts.{is_blank, is_white, begins_in_word, onto_first as onto_word, words, decimal_value}
 use Rattle.pnm_tools.specs.declared.tool.Tool.{Tool}
@@ -63,12 +63,8 @@ same_option one other wants e =
 
 -- ---- values of formed items
 
-not_both : (b : Bool) → b ≡ true → b ≡ false → ⊥
-not_both true e f = absurd cc
-not_both false e f = absurd cc
-
 taken_value : (tool : ToolName) (option : ToolOption) (value : Option (List ℕ)) → wants_value option ≡ true → IsFormed tool (Given option value) → takes_value option (unwrap_or value []) ≡ true
-taken_value tool option None wants e = absurd (not_both (wants_value option) wants e)
+taken_value tool option None wants e = absurd (both_ways (wants_value option) e wants)
 taken_value tool option (Some word) wants e = e
 
 given_value : (tool : ToolName) (option other : ToolOption) (value : Option (List ℕ)) (rest : Option (List ℕ)) (same : Bool) → excludes option other ≡ same → wants_value option ≡ true → IsFormed tool (Given other value)
@@ -93,7 +89,7 @@ arguments_taken tool (Unknown ∷ items) formed = arguments_taken tool items for
 
 -- ---- numbers in their ranges
 
-in_range : (least most : ℕ) (word : List ℕ) → spells_number least most word ≡ true → (least ≤ decimal_value word) × (decimal_value word ≤ most)
+pub in_range : (least most : ℕ) (word : List ℕ) → spells_number least most word ≡ true → (least ≤ decimal_value word) × (decimal_value word ≤ most)
 in_range least most word e =
     let parts = and_parts (is_numeral word) (nat_le least (decimal_value word) && nat_le (decimal_value word) most) e in
     let ends = and_parts (nat_le least (decimal_value word)) (nat_le (decimal_value word) most) parts.1 in
@@ -132,13 +128,10 @@ some_size : (o : Option (List ℕ)) → IfSome o (λ word. spells_number 1 16777
 some_size None h = h
 some_size (Some word) h = in_range 1 16777216 word h
 
-bad_bool : false ≡ true → ⊥
-bad_bool e = absurd cc
-
 not_three : (start end size : Option (List ℕ)) → (is_some start && (is_some end && is_some size)) ≡ false → IsSome (option_map offset_value start) × IsSome (option_map offset_value end) × IsSome (option_map decimal_value size) → ⊥
-not_three None end size e h = bad_bool h.0
-not_three (Some start) None size e h = bad_bool h.1
-not_three (Some start) (Some end) None e h = bad_bool h.2
+not_three None end size e h = false≢true h.0
+not_three (Some start) None size e h = false≢true h.1
+not_three (Some start) (Some end) None e h = false≢true h.2
 not_three (Some start) (Some end) (Some size) e h = absurd cc
 
 axis : (start end size : Option (List ℕ)) → IfSome start (λ word. spells_offset word ≡ true) → IfSome end (λ word. spells_offset word ≡ true) → IfSome size (λ word. spells_number 1 16777216 word ≡ true)

@@ -5,7 +5,7 @@ use Rattle.std.specs.List.{list_all, starts_with}
 use Rattle.std.specs.Result.{OkIff, result_ok}
 use Rattle.std.specs.Str.{IsAscii, IsUtf8}
 use Rattle.std.specs.Str.Parse.{ParsesUnsigned}
-use Rattle.std.proofs.lemmas.Bool.{leb-true, eq-eqb, and_parts, and_from, and_left, cond-true, cond-false, false_from_ne_true}
+use Rattle.std.proofs.lemmas.Bool.{eq-eqb, and_parts, and_from, and_left, cond-true, cond-false, false_from_ne_true}
 use Rattle.std.proofs.lemmas.Bool.Decides.{nat_tests}
 use Rattle.std.proofs.lemmas.Int.{ints}
 use Rattle.std.proofs.lemmas.List.{take_all}
@@ -15,6 +15,7 @@ use Rattle.std.proofs.lemmas.Str.Ascii.{IsAscii-nil, IsAscii-cons}
 use Rattle.std.proofs.lemmas.Str.Parse.{IsDigitsTest, IsNumeralModel, numerals_by_value, parse_plain}
 use Rattle.pnm_image.specs.Texts.{is_digit, decimal_value}
 use Rattle.pnm_chain.specs.Options.{begins_with_dash, is_numeral, offset_value, spells_number, spells_offset, without_dash}
+use Rattle.pnm_chain.proofs.LawfulLaws.{in_range as spelled_in_range}
 
 abbrev AreDigits : List ℕ → Type 0
 AreDigits word = list_all is_digit word ≡ true
@@ -111,12 +112,9 @@ negated_by : (spells : Bool) (n m : ℕ) → (spells ≡ true → m ≤ 16777216
 negated_by true n m low e = ap (λ (k : ℕ). Some (to_z w32 (of_z w32 (pos 0 -ℤ to_z w32 k)))) (same_Some n m e) ∙ ap (λ (z : ℤ). Some z) (negated m (low refl))
 negated_by false n m low e = absurd cc
 
-spelled_low : (digits : List ℕ) → spells_number 0 16777216 digits ≡ true → decimal_value digits ≤ 16777216
-spelled_low digits e = leb-true (decimal_value digits) 16777216 (and_parts (nat_le 0 (decimal_value digits)) (nat_le (decimal_value digits) 16777216) (and_parts (is_numeral digits) (nat_le 0 (decimal_value digits) && nat_le (decimal_value digits) 16777216) e).1).1
-
 dashed_by : (word digits : List ℕ) (n : ℕ) → begins_with_dash word ≡ true → digits ≡ without_dash word → Some n ≡ (if spells_number 0 16777216 digits then Some (decimal_value digits) else None) → Some (to_z w32 (of_z w32 (pos 0 -ℤ to_z w32 n))) ≡ (if spells_offset word then Some (offset_value word) else None)
 dashed_by word digits n dash same e =
-    negated_by (spells_number 0 16777216 digits) n (decimal_value digits) (spelled_low digits) e
+    negated_by (spells_number 0 16777216 digits) n (decimal_value digits) (λ t. (spelled_in_range 0 16777216 digits t).1) e
     ∙ ap (λ (ds : List ℕ). if spells_number 0 16777216 ds then Some (neg_ℤ (pos (decimal_value ds))) else None) same
     ∙ ap (λ (z : ℤ). if spells_offset word then Some z else None) (sym (cond-true (begins_with_dash word) (neg_ℤ (pos (decimal_value (without_dash word)))) (pos (decimal_value word)) dash))
 

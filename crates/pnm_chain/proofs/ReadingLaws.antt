@@ -4,13 +4,14 @@ use Rattle.std.specs.Prelude.{Result, Ok, Err, IfOk, IfErr}
 use Rattle.pnm_image.specs.Texts.{words}
 use Rattle.pnm_tools.specs.declared.tool.Tool.{Tool}
 use Rattle.pnm_chain.specs.declared.chain_text.ChainKind.{ChainKind}
-use Rattle.pnm_chain.specs.declared.chain_text.ChainKind.TheVariants.{EmptyStage, UnknownTool, Memory}
+use Rattle.pnm_chain.specs.declared.chain_text.ChainKind.TheVariants.{Memory}
 use Rattle.pnm_chain.specs.declared.options.ToolName.{ToolName}
 use Rattle.pnm_chain.specs.declared.settings.Settings.{Settings}
 use Rattle.pnm_chain.specs.Options.{tool_named}
 use Rattle.pnm_chain.specs.Items.{Item, items_of, Means, meant_by, item_fault, end_fault, fault_after}
 use Rattle.pnm_chain.specs.Settings.{AreSettingsOf, IsReading}
 use Rattle.pnm_chain.specs.ChainText.{SpellsTool, named_fault, words_fault, stage_fault}
+use Rattle.pnm_chain.proofs.ItemSteps.{items_of-nil}
 use Rattle.pnm_chain.proofs.ItemLaws.{after_by, fault_after-cons, fault_after-nil, items_mean}
 
 pub begins : (tool : ToolName) (s : Settings) (rest : List ℕ) → AreSettingsOf tool [] s → IsReading tool (items_of tool (words rest)) s rest
@@ -38,16 +39,12 @@ stops tool items s rest item others kind h e refused = elim (subst (λ (t : Tool
       ∙ ap (λ (f : Option ChainKind). after_by f (fault_after tool (h.before ++ item ∷ []) others)) fault)
 ]
 
-no_items : (tool : ToolName) → items_of tool [] ≡ []
-unfolding items_of
-no_items tool = refl
-
 all_read : (tool : ToolName) (items : List Item) (s : Settings) (rest : List ℕ) (h : IsReading tool items s rest) → words rest ≡ [] → items ≡ h.before
-all_read tool items s rest h none = h.items_are ∙ ap (λ (found : List (List ℕ)). h.before ++ items_of tool found) none ∙ ap (λ (l : List Item). h.before ++ l) (no_items tool) ∙ append-nil h.before
+all_read tool items s rest h none = h.items_are ∙ ap (λ (found : List (List ℕ)). h.before ++ items_of tool found) none ∙ ap (λ (l : List Item). h.before ++ l) (items_of-nil tool) ∙ append-nil h.before
 
 end_is : (tool : ToolName) (items : List Item) (s : Settings) (rest : List ℕ) (h : IsReading tool items s rest) → words rest ≡ [] → fault_after tool [] items ≡ end_fault tool h.before
 end_is tool items s rest h none =
-    h.fault_is ∙ ap (λ (found : List (List ℕ)). fault_after tool h.before (items_of tool found)) none ∙ ap (λ (l : List Item). fault_after tool h.before l) (no_items tool) ∙ fault_after-nil tool h.before
+    h.fault_is ∙ ap (λ (found : List (List ℕ)). fault_after tool h.before (items_of tool found)) none ∙ ap (λ (l : List Item). fault_after tool h.before l) (items_of-nil tool) ∙ fault_after-nil tool h.before
 
 -- a stage's fault is that of its items
 stage_is : (stage first : List ℕ) (others : List (List ℕ)) (name : ToolName) → words stage ≡ first ∷ others → tool_named first ≡ Some name → stage_fault stage ≡ fault_after name [] (items_of name others)
@@ -85,12 +82,6 @@ stops_badly stage first rest text tool s item others kind is named h e refused =
   | inl memory ↦ inl memory
   | inr fault ↦ inr (stage_is stage first (words text) tool is named ∙ fault)
 ]
-
-pub no_word : (stage : List ℕ) → words stage ≡ [] → stage_fault stage ≡ Some EmptyStage
-no_word stage none = ap (λ (found : List (List ℕ)). words_fault found) none
-
-pub no_tool : (stage first : List ℕ) (others : List (List ℕ)) → words stage ≡ first ∷ others → tool_named first ≡ None → stage_fault stage ≡ Some UnknownTool
-no_tool stage first others is named = ap (λ (found : List (List ℕ)). words_fault found) is ∙ ap (λ (found : Option ToolName). named_fault found others) named
 
 -- ---- what a stage is answered
 

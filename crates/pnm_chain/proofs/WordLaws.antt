@@ -43,9 +43,6 @@ pub record IsInWord (text : List ℕ) (n : ℕ) : Type 0 where
   pub within : n ≤ length text
   pub no_white : list_all (λ b. not (is_white b)) (take n text) ≡ true
 
-pub in_word_none : (text : List ℕ) → IsInWord text 0
-in_word_none text = record { within = omega arith; no_white = refl }
-
 pub in_word_more : (text : List ℕ) (n : ℕ) → IsInWord text n → n < length text → is_white (get_or text n 0) ≡ false → IsInWord text (n + 1)
 in_word_more text n h lt e = record {
   within = omega arith;
