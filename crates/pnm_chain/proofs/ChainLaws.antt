@@ -7,6 +7,7 @@ use Rattle.std.proofs.lemmas.List.Splits.{slice_split-cons_no}
 use Rattle.std.specs.List.{onto_first}
 use Rattle.std.proofs.lemmas.Bool.{and_parts, false_from_ne_true, ltb-false, le-ltb}
 use Rattle.pnm_image.specs.Texts.{is_white, begins_in_word, words}
+use Rattle.pnm_image.proofs.Words.{words_by, words-cons, words-nil}
 use Rattle.pnm_tools.specs.declared.tool.Tool.{Tool}
 use Rattle.pnm_chain.specs.declared.chain_text.ChainFault.{ChainFault}
 use Rattle.pnm_chain.specs.declared.chain_text.ChainKind.{ChainKind}
@@ -15,7 +16,6 @@ use Rattle.pnm_chain.specs.declared.options.ToolName.{ToolName}
 use Rattle.pnm_chain.specs.Options.{tool_named}
 use Rattle.pnm_chain.specs.Items.{items_of, meant_by}
 use Rattle.pnm_chain.specs.ChainText.{SpellsTool, SpellTools, SpellsChain, stage_texts, named_fault, words_fault, stage_fault, fault_from, whole, chain_fault_of, IsOneChainOrOneFault}
-use Rattle.pnm_chain.proofs.WordLaws.{words_by, words-cons, words-nil}
 use Rattle.pnm_chain.proofs.ItemLaws.{items_mean, meaning_has_no_fault}
 
 -- ---- a stage

@@ -10,6 +10,7 @@ use Rattle.std.proofs.lemmas.Bool.Decides.{nat_tests}
 use Rattle.std.proofs.lemmas.Bool.{and_parts, and_from, or_parts, leb-true, ltb-false, eqb-true, not-true, both_ways, false≢true}
 use Rattle.pnm_image.specs.Heads.{IsTupleType}
 use Rattle.pnm_image.specs.Texts.{is_blank, is_white, begins_in_word, onto_first as onto_word, words, decimal_value}
+use Rattle.pnm_image.proofs.Words.{words_by, words-cons, words-nil}
 use Rattle.pnm_tools.specs.declared.tool.Tool.{Tool}
 use Rattle.pnm_tools.specs.Cut.{IsEdge, IsLawfulAxis}
 use Rattle.pnm_tools.specs.Limits.{IsExtent}
@@ -22,7 +23,6 @@ use Rattle.pnm_chain.specs.declared.options.ToolOption.TheVariants.{Left, Right,
 use Rattle.pnm_chain.specs.Options.{option_named, wants_value, takes_value, slot_of, excludes, takes_argument, most_arguments, is_numeral, spells_number, spells_offset, offset_value, begins_with_dash, without_dash}
 use Rattle.pnm_chain.specs.Items.{Item, Argument, Given, Unknown, without_dashes, name_in, value_in, takes_next, given_as, item_of, items_of, arguments_of, value_of, is_there, factor_by, meant_by, IsFormed, is_conflict, is_missing}
 use Rattle.pnm_chain.specs.ChainText.{SpellsTool, SpellTools, SpellsChain, stage_texts}
-use Rattle.pnm_chain.proofs.WordLaws.{words_by, words-cons, words-nil}
 
 -- ---- options that are the same
 

@@ -7,13 +7,14 @@ use Rattle.std.proofs.Math.Seq.{take-length, drop-cons}
 use Rattle.std.proofs.lemmas.List.{take_more, length-append}
 use Rattle.std.proofs.lemmas.Bool.{false_from_ne_true, le-ltb, lt-ltb}
 use Rattle.pnm_image.specs.Texts.{is_white, begins_in_word, onto_first as onto_word, words}
+use Rattle.pnm_image.proofs.Lists.{not_nil}
+use Rattle.pnm_image.proofs.Words.{words_by, words-cons}
 use Rattle.pnm_tools.specs.declared.tool.Tool.{Tool}
 use Rattle.pnm_chain.specs.declared.chain_text.ChainFault.{ChainFault}
 use Rattle.pnm_chain.specs.declared.chain_text.ChainKind.{ChainKind}
 use Rattle.pnm_chain.specs.declared.chain_text.ChainKind.TheVariants.{Empty, TooLong, TooMany, Memory}
 use Rattle.pnm_chain.specs.ChainText.{SpellsTool, SpellTools, SpellsChain, stage_texts, stage_fault, fault_from, whole, chain_fault_of}
 use Rattle.pnm_chain.specs.Settings.{AreRead}
-use Rattle.pnm_chain.proofs.WordLaws.{words_by, words-cons}
 use Rattle.pnm_chain.proofs.ChainLaws.{no_words, from_by, fault_from-cons, chain_fault_by, chain_fault_is}
 
 -- ---- stages
@@ -122,13 +123,10 @@ pub no_word_found : (text bytes : List ℕ) (found : Option (Bor (List ℕ) × B
 no_word_found text bytes None same first none = is_all_white text (sym (ap (λ (b : List ℕ). words b) same) ∙ first)
 no_word_found text bytes (Some r) same first none = absurd cc
 
-no_cons : (word : List ℕ) (others : List (List ℕ)) → word ∷ others ≡ [] → ⊥
-no_cons word others e = absurd cc
-
 pub word_found : (text bytes : List ℕ) (found : Option (Bor (List ℕ) × Bor (List ℕ))) → bytes ≡ text → MatchOption found (words bytes ≡ []) (λ r. words bytes ≡ r.0.now ∷ words r.1.now) → is_some found ≡ true
     → list_all is_white text ≡ false
 word_found text bytes None same first some = absurd cc
-word_found text bytes (Some r) same first some = has_words text (λ none. no_cons r.0.now (words r.1.now) (sym first ∙ ap (λ (b : List ℕ). words b) same ∙ none))
+word_found text bytes (Some r) same first some = has_words text (λ none. not_nil r.0.now (words r.1.now) (sym first ∙ ap (λ (b : List ℕ). words b) same ∙ none))
 
 pub few_stages : (text bytes : List ℕ) (bars : ℕ) → bytes ≡ text → bars + 1 ≡ length (stage_texts bytes) → bars < 16 → length (stage_texts text) ≤ 16
 few_stages text bytes bars same count few = subst (λ (n : ℕ). n ≤ 16) (count ∙ ap (λ (b : List ℕ). length (stage_texts b)) same) (omega arith)

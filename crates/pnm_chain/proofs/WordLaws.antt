@@ -1,30 +1,14 @@
 -- The first word of a text, and the words after it.
-use Rattle.std.proofs.Common.{◌≡◌, ◌⊎◌, inl, inr, ℕ, ◌+◌, ◌-◌, ◌<◌, ◌≤◌, Bool, true, false, not, ◌&&◌, if◌then◌else◌, List, [], ◌∷◌, ◌++◌, length, take, drop, get_or, refl, sym, ap, ◌∙◌, arith}
+use Rattle.std.proofs.Common.{◌≡◌, ◌⊎◌, inl, inr, ℕ, ◌+◌, ◌-◌, ◌<◌, ◌≤◌, Bool, true, false, not, ◌&&◌, List, [], ◌∷◌, ◌++◌, length, take, drop, get_or, sym, ap, ◌∙◌, arith}
 use Rattle.std.specs.List.{list_all}
 use Rattle.std.proofs.lemmas.List.Folds.{list_all_more}
-use Rattle.std.proofs.lemmas.List.{drop_more, take_all, drop_all, take-append-drop, length-take, length-drop}
+use Rattle.std.proofs.lemmas.List.{drop_more, drop_all, take-append-drop, length-take, length-drop}
 use Rattle.pnm_image.specs.Texts.{is_white, begins_in_word, onto_first, words}
-
--- ---- words by the first byte of a text
-
--- the words of a text by its first byte: whether that is white space, and whether what follows it begins in a word
-abbrev pub words_by : Bool → Bool → ℕ → List (List ℕ) → List (List ℕ)
-words_by white begins b others = if white then others else if begins then onto_first b others else (b ∷ []) ∷ others
-
-pub words-cons : (b : ℕ) (text : List ℕ) → words (b ∷ text) ≡ words_by (is_white b) (begins_in_word text) b (words text)
-unfolding words
-words-cons b text = refl
-
-pub words-nil : words [] ≡ []
-unfolding words
-words-nil = refl
+use Rattle.pnm_image.proofs.Lists.{first_and_rest}
+use Rattle.pnm_image.proofs.Tests.{not_and_parts}
+use Rattle.pnm_image.proofs.Words.{words_by, words-cons, words-nil}
 
 -- ---- white space before the first word
-
--- a text without its first byte
-first_and_rest : (text : List ℕ) → 1 ≤ length text → text ≡ get_or text 0 0 ∷ take (length text - 1) (drop 1 text)
-first_and_rest [] le = absurd (omega arith)
-first_and_rest (b ∷ text) le = ap (λ (l : List ℕ). b ∷ l) (sym (take_all (length (b ∷ text) - 1) text (omega arith)))
 
 words_after_white : (b : ℕ) (text : List ℕ) → is_white b ≡ true → words (b ∷ text) ≡ words text
 words_after_white b text e = words-cons b text ∙ ap (λ (white : Bool). words_by white (begins_in_word text) b (words text)) e
@@ -59,16 +43,12 @@ no_word_begins text n (inr h) = ap begins_in_word (drop_more text n 0 h.0) ∙ a
 
 -- ---- the first word
 
-word_byte : (white others : Bool) → (not white && others) ≡ true → (white ≡ false) × (others ≡ true)
-word_byte true others e = absurd cc
-word_byte false others e = (refl, e)
-
 -- the words of a word, and of a text after it that doesn't go on with that word
 words_after_word : (b : ℕ) (word text : List ℕ) → is_white b ≡ false → list_all (λ c. not (is_white c)) word ≡ true → begins_in_word text ≡ false → words (b ∷ word ++ text) ≡ (b ∷ word) ∷ words text
 words_after_word b [] text e all end =
     words-cons b text ∙ ap (λ (white : Bool). words_by white (begins_in_word text) b (words text)) e ∙ ap (λ (begins : Bool). words_by false begins b (words text)) end
 words_after_word b (c ∷ word) text e all end =
-    let both = word_byte (is_white c) (list_all (λ d. not (is_white d)) word) all in
+    let both = not_and_parts (is_white c) (list_all (λ d. not (is_white d)) word) all in
     words-cons b (c ∷ word ++ text)
     ∙ ap (λ (white : Bool). words_by white (not (is_white c)) b (words (c ∷ word ++ text))) e
     ∙ ap (λ (white : Bool). words_by false (not white) b (words (c ∷ word ++ text))) both.0
@@ -77,7 +57,7 @@ words_after_word b (c ∷ word) text e all end =
 words_of_parts : (word text : List ℕ) → 0 < length word → list_all (λ b. not (is_white b)) word ≡ true → begins_in_word text ≡ false → words (word ++ text) ≡ word ∷ words text
 words_of_parts [] text some all end = absurd (omega arith)
 words_of_parts (b ∷ word) text some all end =
-    let both = word_byte (is_white b) (list_all (λ c. not (is_white c)) word) all in words_after_word b word text both.0 both.1 end
+    let both = not_and_parts (is_white b) (list_all (λ c. not (is_white c)) word) all in words_after_word b word text both.0 both.1 end
 
 pub first_word_is : (text : List ℕ) (n : ℕ) → IsInWord text n → 0 < n → IsWordEnd text n → words text ≡ take n text ∷ words (drop n text)
 first_word_is text n h some end =

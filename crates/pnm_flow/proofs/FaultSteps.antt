@@ -1,10 +1,7 @@
 -- The first stage that has refused.
 use Rattle.std.proofs.Common.{◌≡◌, ℕ, zero, suc, ◌+◌, ◌<◌, List, [], ◌∷◌, length, take, get_or, Option, Some, None, sym, subst, arith}
 use Rattle.pnm_tools.specs.declared.fault.ToolFault.{ToolFault}
-use Rattle.std.proofs.lemmas.List.{get_or-map, length-map}
 use Rattle.pnm_tools.specs.ChainAnswers.{AreWell, IsFirstFault}
-use Rattle.pnm_flow.specs.declared.serial_stage.SerialStage.{SerialStage}
-use Rattle.pnm_flow.specs.SerialStages.{refusal_in, refusals_in}
 
 -- one stage more that hasn't refused
 pub well_more : (faults : List (Option ToolFault)) (i : ℕ) (other : Option ToolFault) → AreWell (take i faults) → get_or faults i other ≡ None → AreWell (take (suc i) faults)
@@ -29,10 +26,3 @@ all_well (None ∷ faults) zero all well = absurd (omega arith)
 all_well (None ∷ faults) (suc n) all well = all_well faults n (omega arith) well
 all_well (Some fault ∷ faults) zero all well = absurd (omega arith)
 all_well (Some fault ∷ faults) (suc n) all well = absurd well
-
--- why a stage of the list refused
-pub refusal_at : {F : Type 0} (stages : List (SerialStage F)) (i : ℕ) (other : SerialStage F) → i < length stages → get_or (refusals_in stages) i (refusal_in other) ≡ refusal_in (get_or stages i other)
-refusal_at stages i other within = get_or-map refusal_in stages i other (refusal_in other) within
-
-pub one_each : {F : Type 0} (stages : List (SerialStage F)) → length (refusals_in stages) ≡ length stages
-one_each stages = length-map stages refusal_in

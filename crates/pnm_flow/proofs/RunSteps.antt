@@ -4,6 +4,7 @@ use Rattle.std.specs.Result.{MatchResult, is_err}
 use Rattle.std.specs.List.{AllByRecursion}
 use Rattle.std.specs.Io.KnownBytes.{Appends, Keeps}
 use Rattle.std.proofs.lemmas.List.{append-nil, take_at}
+use Rattle.std.proofs.KnownBytes.{Appends-kept}
 use Rattle.pnm_image.specs.Devices.{Failed, AppendsFront}
 use Rattle.pnm_image.specs.declared.message.Message.{Message}
 use Rattle.pnm_image.specs.declared.message.Message.TheVariants.{Begin, Row, ImageEnd, StreamEnd, Stop}
@@ -15,7 +16,7 @@ use Rattle.pnm_read.specs.Said.{said_of, fault_of}
 use Rattle.pnm_read.specs.Inputs.{IsOutsideFault}
 use Rattle.pnm_read.specs.TextLaws.{IsAtFault}
 use Rattle.pnm_read.proofs.TextLaws.{spelled_text_is_said, said_text_is_spelled, spelled_are_images}
-use Rattle.pnm_read.proofs.FaultLaws.{fault_is_of_text}
+use Rattle.pnm_read.proofs.StreamLaws.{no_text_fault}
 use Rattle.pnm_tools.specs.declared.fault.ToolFault.{ToolFault}
 use Rattle.pnm_tools.specs.declared.fault.ToolFault.TheVariants.{Memory}
 use Rattle.pnm_tools.specs.declared.tool.Tool.{Tool}
@@ -47,11 +48,6 @@ use Rattle.pnm_flow.proofs.MessageSteps.{bytes_of-append}
 use Rattle.pnm_flow.proofs.FeedingSteps.{said_are_sound}
 
 -- ---- what is said
-
--- a fault from outside is no fault of a text
-pub no_text_fault : (text : List ℕ) (fault : InputFault) → fault_of text ≡ Some fault → IsOutsideFault fault → ⊥
-no_text_fault text fault e (inl read) = (fault_is_of_text text).0 (e ∙ ap (λ (f : InputFault). Some f) read)
-no_text_fault text fault e (inr memory) = (fault_is_of_text text).1 (e ∙ ap (λ (f : InputFault). Some f) memory)
 
 -- the fault of a text, which spells no images
 at_fault : (text : List ℕ) (fault : InputFault) → fault_of text ≡ Some fault → IsAtFault text fault
@@ -107,13 +103,6 @@ sound_is_writable : (l : List Message) → AreSound l → AreWritable l
 sound_is_writable l s = (s.lawful, rows_of_sound l s.sound)
 
 -- ---- what is written
-
--- a growth, and nothing after it
-Appends-kept : (a b c : Option (List ℕ)) (x : List ℕ) → Appends a b x → Keeps b c → Appends a c x
-Appends-kept None b c x p k = tt
-Appends-kept (Some xs) None c x p k = absurd p
-Appends-kept (Some xs) (Some ys) None x p k = k
-Appends-kept (Some xs) (Some ys) (Some zs) x p k = k ∙ p
 
 -- a growth is a front of more
 front_of_more : (a b : Option (List ℕ)) (x y : List ℕ) → Appends a b x → AppendsFront a b (x ++ y)

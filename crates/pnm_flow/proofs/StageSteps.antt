@@ -5,30 +5,17 @@ use Rattle.std.proofs.lemmas.List.{take_all, drop_all}
 use Rattle.std.proofs.lemmas.Bool.Decides.{nat_tests}
 use borrow.Rule.Slice.PartMut.{mid_of, put_mid}
 use Rattle.pnm_image.specs.declared.message.Message.{Message}
-use Rattle.pnm_image.specs.declared.message.Message.TheVariants.{Begin, Row, ImageEnd, StreamEnd, Stop}
 use Rattle.pnm_tools.specs.declared.fault.ToolFault.{ToolFault}
 use Rattle.pnm_tools.specs.declared.tool.Tool.{Tool}
-use Rattle.pnm_tools.specs.Answers.{Begins, Judges}
+use Rattle.pnm_tools.specs.Answers.{Judges}
 use Rattle.pnm_tools.specs.ChainAnswers.{IsRefusedNext, HasRefused}
-use Rattle.pnm_tools.specs.Tools.{AreTaken}
+use Rattle.pnm_tools.proofs.AnsweringLaws.{taken_more}
 use Rattle.pnm_flow.specs.declared.downstream.Downstream.{Downstream}
 use Rattle.pnm_flow.specs.declared.serial_stage.SerialStage.{SerialStage}
 use Rattle.pnm_flow.specs.Downstreams.{HasTaken}
 use Rattle.pnm_flow.specs.SerialStages.{IsIdle, IsBusy, StageAt, StageBusy, StagesAt, FeedsThrough, waiting_at}
 
 -- ---- one stage
-
-pub taken_more : (tool : Tool) (l : List Message) (m : Message) → AreTaken tool l → Begins tool m → AreTaken tool (l ++ m ∷ [])
-taken_more tool [] (Begin head) t b = (b, tt)
-taken_more tool [] (Row row) t b = tt
-taken_more tool [] ImageEnd t b = tt
-taken_more tool [] StreamEnd t b = tt
-taken_more tool [] Stop t b = tt
-taken_more tool (Begin head ∷ l) m t b = (t.0, taken_more tool l m t.1 b)
-taken_more tool (Row row ∷ l) m t b = taken_more tool l m t b
-taken_more tool (ImageEnd ∷ l) m t b = taken_more tool l m t b
-taken_more tool (StreamEnd ∷ l) m t b = taken_more tool l m t b
-taken_more tool (Stop ∷ l) m t b = taken_more tool l m t b
 
 -- the tool took the message
 pub feeds : {F : Type 0} (at : F → Tool → List Message → List Message → Type 0) (all_given : F → Bool) (stopped : F → Option ToolFault) (old new : F) (m : Message) (tool : Tool) (l g : List Message) → IsIdle at all_given stopped old tool l g

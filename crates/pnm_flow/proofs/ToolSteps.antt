@@ -1,5 +1,5 @@
 -- The tools of a chain before the first message.
-use Rattle.std.proofs.Common.{◌≡◌, ℕ, zero, suc, ◌<◌, List, [], ◌∷◌, ◌++◌, length, take, get_or, refl, ap, arith}
+use Rattle.std.proofs.Common.{ℕ, zero, suc, ◌<◌, List, [], ◌∷◌, ◌++◌, length, get_or, refl, arith}
 use Rattle.pnm_tools.specs.declared.tool.Tool.{Tool}
 use Rattle.pnm_tools.specs.declared.work.Work.{Work}
 use Rattle.pnm_tools.specs.Answers.{Answers, AnswersInFull}
@@ -37,9 +37,3 @@ pub lawful_at : (tools : List Tool) (i : ℕ) (other : Tool) → AreLawfulTools 
 lawful_at [] i other lawful within = absurd (omega arith)
 lawful_at (t ∷ tools) zero other lawful within = lawful.0
 lawful_at (t ∷ tools) (suc i) other lawful within = lawful_at tools i other lawful.1 (omega arith)
-
--- a front of the tools, and the next
-pub front_more : (tools : List Tool) (i : ℕ) (other : Tool) → i < length tools → take i tools ++ get_or tools i other ∷ [] ≡ take (suc i) tools
-front_more [] i other within = absurd (omega arith)
-front_more (t ∷ tools) zero other within = refl
-front_more (t ∷ tools) (suc i) other within = ap (λ (l : List Tool). t ∷ l) (front_more tools i other (omega arith))

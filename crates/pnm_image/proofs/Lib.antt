@@ -1,4 +1,9 @@
 pub mod Greatest
+pub mod Heads
+pub mod Lists
+pub mod Places
 pub mod Rows
 pub mod Streams
+pub mod Tests
 pub mod Written
+pub mod Words

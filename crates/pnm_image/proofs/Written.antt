@@ -4,6 +4,7 @@ use Rattle.std.proofs.Math.Seq.{take-append-add}
 use Rattle.std.proofs.lemmas.List.{append-nil, take_at, take-append-drop}
 use Rattle.std.specs.Io.KnownBytes.{Appends, Keeps}
 use Rattle.std.proofs.lemmas.Bool.{cases_lt}
+use Rattle.std.proofs.KnownBytes.{Appends-trans}
 use Rattle.std.specs.Prelude.{OnErr}
 use Rattle.pnm_image.specs.Devices.{Failed, AppendsFront, FailsIn}
 
@@ -18,13 +19,6 @@ pub Appends-nothing : (a b : Option (List ℕ)) → Keeps a b → Appends a b []
 Appends-nothing None b k = tt
 Appends-nothing (Some xs) None k = k
 Appends-nothing (Some xs) (Some ys) k = k ∙ sym (append-nil xs)
-
--- one growth after another
-pub Appends-then : (a b c : Option (List ℕ)) (x y : List ℕ) → Appends a b x → Appends b c y → Appends a c (x ++ y)
-Appends-then None b c x y p q = tt
-Appends-then (Some xs) None c x y p q = absurd p
-Appends-then (Some xs) (Some ys) None x y p q = q
-Appends-then (Some xs) (Some ys) (Some zs) x y p q = q ∙ ap (λ (l : List ℕ). l ++ y) p ∙ append_assoc xs x y
 
 -- a front of a front of bytes is a front of more
 front_of_front : (n : ℕ) (x y : List ℕ) → (m : ℕ) × (take n x ≡ take m (x ++ y))
@@ -43,7 +37,7 @@ pub then_front : (a b c : Option (List ℕ)) (x y : List ℕ) → Appends a b x 
 then_front a b c x y p q = (
   length x + q.0,
   let e : take (length x + q.0) (x ++ y) ≡ x ++ take q.0 y = take-append-add x y q.0 in
-      subst (Appends a c) (sym e) (Appends-then a b c x (take q.0 y) p q.1),
+      subst (Appends a c) (sym e) (Appends-trans a b c x (take q.0 y) p q.1),
 )
 
 -- so many bytes more are written
@@ -51,7 +45,7 @@ written_more : (old a b : Option (List ℕ)) (bytes rest : List ℕ) (n : ℕ) �
 written_more old a b bytes rest n w p = record {
   front = w.front ++ take n rest;
   parts = w.parts ∙ ap (λ (l : List ℕ). w.front ++ l) (sym (take-append-drop n rest)) ∙ sym (append_assoc w.front (take n rest) (drop n rest));
-  appended = Appends-then old a b w.front (take n rest) w.appended p;
+  appended = Appends-trans old a b w.front (take n rest) w.appended p;
 }
 
 -- of the rest a front was written
@@ -92,7 +86,7 @@ sending_part held failures same old a b bytes rest x y parts s p e d = record {
   written = record {
     front = s.written.front ++ x;
     parts = s.written.parts ∙ ap (λ (l : List ℕ). s.written.front ++ l) parts ∙ sym (append_assoc s.written.front x y);
-    appended = Appends-then (held old) (held a) (held b) s.written.front x s.written.appended p;
+    appended = Appends-trans (held old) (held a) (held b) s.written.front x s.written.appended p;
   };
   count = e ∙ s.count;
   same_device = d;

@@ -5,28 +5,20 @@ use Rattle.std.proofs.lemmas.Int.Digits.{digits_value_more}
 use Rattle.std.proofs.lemmas.List.Folds.{list_all_more, list_all_at}
 use Rattle.std.proofs.lemmas.List.{take_more, drop_more, take_all, drop_all}
 use Rattle.pnm_image.specs.Texts.{is_blank, is_digit, decimal_value}
+use Rattle.pnm_image.proofs.Lists.{first_and_rest}
 use Rattle.pnm_read.specs.Saturation.{saturated, with_digit}
 use Rattle.pnm_read.specs.PamScanners.{number_of}
 use Rattle.pnm_read.proofs.DecimalSteps.{with_digit-saturated}
 use Rattle.pnm_read.proofs.WordLaws.{digit_value_is}
+use Rattle.pnm_read.proofs.TupleTypeLaws.{trimmed_start-same, trimmed_end-same}
 use Rattle.pnm_read.specs.PamLines.{trimmed_start, trimmed_end, onto_trimmed, token_of, after_token}
 
 -- ---- white space at the ends of a text
-
--- a text without its first byte
-first_and_rest : (text : List ℕ) → 1 ≤ length text → text ≡ get_or text 0 0 ∷ take (length text - 1) (drop 1 text)
-first_and_rest [] le = absurd (omega arith)
-first_and_rest (b ∷ text) le = ap (λ (l : List ℕ). b ∷ l) (sym (take_all (length (b ∷ text) - 1) text (omega arith)))
 
 -- white space at the start is left out
 start_blank : (b : ℕ) (text : List ℕ) → is_blank b ≡ true → trimmed_start (b ∷ text) ≡ trimmed_start text
 unfolding trimmed_start
 start_blank b text e = rw e refl
-
--- another first byte stays
-start_other : (b : ℕ) (text : List ℕ) → is_blank b ≡ false → trimmed_start (b ∷ text) ≡ b ∷ text
-unfolding trimmed_start
-start_other b text e = rw e refl
 
 -- white space at the start
 pub start_more : (text : List ℕ) → 1 ≤ length text → is_blank (get_or text 0 0) ≡ true → trimmed_start (take (length text - 1) (drop 1 text)) ≡ trimmed_start text
@@ -40,7 +32,7 @@ start_none (b ∷ text) lt = absurd (omega arith)
 
 pub start_stops : (text : List ℕ) → 1 ≤ length text → is_blank (get_or text 0 0) ≡ false → trimmed_start text ≡ text
 start_stops [] le e = absurd (omega arith)
-start_stops (b ∷ text) le e = start_other b text e
+start_stops (b ∷ text) le e = trimmed_start-same b text e
 
 -- a text and its last byte
 front_and_last : (text : List ℕ) → 1 ≤ length text → text ≡ take (length text - 1) text ++ get_or text (length text - 1) 0 ∷ []
@@ -54,17 +46,6 @@ unfolding trimmed_end
 end_blank [] b e = rw e refl
 end_blank (c ∷ text) b e = ap (onto_trimmed c) (end_blank text b e)
 
--- a byte before a text that isn't empty
-onto_some : (c : ℕ) (text : List ℕ) (b : ℕ) → onto_trimmed c (text ++ b ∷ []) ≡ c ∷ (text ++ b ∷ [])
-onto_some c [] b = refl
-onto_some c (d ∷ text) b = refl
-
--- another last byte stays
-end_other : (text : List ℕ) (b : ℕ) → is_blank b ≡ false → trimmed_end (text ++ b ∷ []) ≡ text ++ b ∷ []
-unfolding trimmed_end
-end_other [] b e = rw e refl
-end_other (c ∷ text) b e = ap (onto_trimmed c) (end_other text b e) ∙ onto_some c text b
-
 -- white space at the end
 pub end_more : (text : List ℕ) → 1 ≤ length text → is_blank (get_or text (length text - 1) 0) ≡ true → trimmed_end (take (length text - 1) text) ≡ trimmed_end text
 end_more text le e = sym (end_blank (take (length text - 1) text) (get_or text (length text - 1) 0) e) ∙ ap trimmed_end (sym (front_and_last text le))
@@ -76,8 +57,7 @@ end_none [] lt = refl
 end_none (b ∷ text) lt = absurd (omega arith)
 
 pub end_stops : (text : List ℕ) → 1 ≤ length text → is_blank (get_or text (length text - 1) 0) ≡ false → trimmed_end text ≡ text
-end_stops text le e =
-    ap trimmed_end (front_and_last text le) ∙ end_other (take (length text - 1) text) (get_or text (length text - 1) 0) e ∙ sym (front_and_last text le)
+end_stops text le e = trimmed_end-same text (λ some. e)
 
 -- ---- the first token
 

@@ -1,12 +1,12 @@
 -- The lines of a PAM header: what a line says, which lines are judged to go on, and the head that they make.
-use Rattle.std.proofs.Common.{◌≡◌, ℕ, ◌+◌, ◌<◌, ◌≤◌, Bool, true, false, not, ◌==◌, if◌then◌else◌, List, [], ◌∷◌, ◌++◌, length, refl, sym, ap, subst, ◌∙◌, append_assoc, append-nil, length-append, arith, codes}
+use Rattle.std.proofs.Common.{◌≡◌, ℕ, ◌+◌, ◌<◌, ◌≤◌, Bool, true, false, not, ◌==◌, if◌then◌else◌, List, [], ◌∷◌, ◌++◌, length, refl, sym, ap, subst, ◌∙◌, append_assoc, append-nil, length-append, arith, codes, pos_of_ne-zero}
 use Rattle.std.specs.Prelude.{nat_lt}
 use Rattle.std.specs.Str.{bytes_eq}
 use Rattle.std.specs.List.{AllPass, AllByRecursion, list_all}
 use Rattle.std.proofs.lemmas.Bool.Decides.{nat_tests}
 use Rattle.std.proofs.lemmas.List.Sums.{AllPass-from_list_all, list_all-from_AllPass}
 use Rattle.std.proofs.lemmas.Slice.Eq.{bytes_eq-Decides}
-use Rattle.std.proofs.lemmas.Bool.{false_from_ne_true, not-false, ltb-false, le-ltb}
+use Rattle.std.proofs.lemmas.Bool.{false_from_ne_true, not-false, ltb-false, le-ltb, eqb-false}
 use Rattle.pnm_read.specs.declared.fault.InputFault.TheVariants.{TooLong, BadNumber, BadPamLine, DuplicateField}
 use Rattle.pnm_read.specs.declared.judgement.Judgement.{Judgement}
 use Rattle.pnm_read.specs.declared.judgement.Judgement.TheVariants.{GoesOn, EndsWith, EndsBefore, Fails}
@@ -15,6 +15,7 @@ use Rattle.pnm_read.specs.declared.line.Field.TheVariants.{Width, Height, Depth,
 use Rattle.pnm_read.specs.declared.line.LineKind.{LineKind}
 use Rattle.pnm_read.specs.declared.line.LineKind.TheVariants.{Nothing, Number, TupleType, End, Unknown}
 use Rattle.pnm_image.specs.Texts.{is_digit, decimal_value}
+use Rattle.pnm_image.proofs.Lists.{each-middle, each-push}
 use Rattle.pnm_read.specs.PamLines.{first_token, second_token, value_of, name_of, begins_with, kind_of_token, line_kind, field_values, joined_with, tuple_type_in}
 use Rattle.pnm_read.specs.Headers.{MaySay}
 use Rattle.pnm_read.specs.Items.{number_item, tuple_type_item, line_item}
@@ -165,14 +166,11 @@ record FirstNumber (lines : List (List ℕ)) (field : Field) (line : List ℕ) :
 zero_is : (n : ℕ) → not (n == 0) ≡ false → n ≡ 0
 zero_is n e = grind (arith, nat_tests)
 
-some_is : (n : ℕ) → (n == 0) ≡ false → 0 < n
-some_is n e = grind (arith, nat_tests)
-
 first_number : (lines : List (List ℕ)) (field : Field) (line : List ℕ) → number_item lines field line ≡ GoesOn → FirstNumber lines field line
 first_number lines field line e =
     let tests = number_goes_on (length (second_token line) == 0) (not (list_all is_digit (second_token line))) (not (length (field_values field lines) == 0)) e in
     record {
-      some = some_is (length (second_token line)) tests.0;
+      some = pos_of_ne-zero (eqb-false (length (second_token line)) 0 tests.0);
       digits = AllPass-from_list_all is_digit (second_token line) (not-false (list_all is_digit (second_token line)) tests.1);
       first = zero_is (length (field_values field lines)) tests.2;
     }
@@ -218,14 +216,6 @@ pub record Judged (lines : List (List ℕ)) : Type 0 where
   pub say : AllByRecursion MayStand lines
   pub single : (field : Field) → length (field_values field lines) ≤ 1
   pub short : length (tuple_type_in lines) ≤ 255
-
-pub each-push : (P : List ℕ → Type 0) (lines : List (List ℕ)) (line : List ℕ) → AllByRecursion P lines → P line → AllByRecursion P (lines ++ line ∷ [])
-each-push P [] line all one = (one, tt)
-each-push P (x ∷ lines) line all one = (all.0, each-push P lines line all.1 one)
-
-pub each-middle : (P : List ℕ → Type 0) (earlier : List (List ℕ)) (line : List ℕ) (later : List (List ℕ)) → AllByRecursion P (earlier ++ line ∷ later) → P line
-each-middle P [] line later all = all.0
-each-middle P (x ∷ earlier) line later all = each-middle P earlier line later all.1
 
 one_value : (field : Field) (line : List ℕ) → begins_with (name_of field) line ≡ true → length (field_values field (line ∷ [])) ≡ 1
 one_value field line e = ap (λ (l : List ℕ). length l) (values-here field line [] e ∙ ap (λ (l : List ℕ). decimal_value (second_token line) ∷ l) (no_values field))

@@ -2,7 +2,7 @@
 use Rattle.std.proofs.Common.{◌≡◌, ℕ, zero, suc, ◌+◌, ◌-◌, ◌<◌, ◌≤◌, Bool, true, false, not, ◌&&◌, ◌||◌, List, [], ◌∷◌, ◌++◌, length, Some, None, Result, Ok, Err, refl, sym, ap, ap₂, subst, ◌∙◌, append_assoc, append-nil, length-append, arith}
 use Rattle.std.specs.Prelude.{◌==◌, nat_le, if◌then◌else◌, filter}
 use Rattle.std.specs.List.{AllPass}
-use Rattle.std.proofs.lemmas.Bool.{le-leb, leb-true, leb-false}
+use Rattle.std.proofs.lemmas.Bool.{le-leb, leb-true, leb-false, and_right, not_from_true}
 use Rattle.std.proofs.lemmas.Bool.Decides.{nat_tests}
 use Rattle.std.proofs.lemmas.List.Elements.{filter-append, All-nil, All-cons, All-head, All-tail, All-push}
 use Rattle.pnm_read.specs.declared.fault.InputFault.{InputFault}
@@ -13,6 +13,7 @@ use Rattle.pnm_image.specs.declared.shape.Kind.{Kind}
 use Rattle.pnm_image.specs.declared.shape.Kind.TheVariants.{Bit, Gray, Color, Pam}
 use Rattle.pnm_read.specs.Texts.{is_apart, begins_apart, ends_by, commented, ends_in_comment, uncommented_from, uncommented, number_in}
 use Rattle.pnm_image.specs.Texts.{is_white, is_digit, decimal_value}
+use Rattle.pnm_image.proofs.Tests.{not_and_parts}
 use Rattle.pnm_read.specs.Rasters.{IsGap, SpellsDecimal, SpellsSample, SpellsPiece, MayFollow}
 use Rattle.pnm_read.specs.Items.{◌>>=◌, piece_from, gap_limit, ends_in_digit, is_complete, decimal_item, decimal_end, is_pixel, pixel_item, pixel_end, pixel_in, plain_pixel, sample_item, plain_decimal, plain_sample}
 use Rattle.pnm_read.proofs.CommentLaws.{uncommented_from-append, ends_by-push}
@@ -21,22 +22,13 @@ use Rattle.pnm_read.proofs.WordLaws.{digit_is_not_sharp, white_is_not_digit}
 
 -- ---- digits
 
--- a text that ends in a digit outside comments
-outside_parts : (inside digit : Bool) → (not inside && digit) ≡ true → (inside ≡ false) × (digit ≡ true)
-outside_parts true digit e = absurd cc
-outside_parts false digit e = (refl, e)
-
-and_not : (t d : Bool) → d ≡ true → (t && not d) ≡ false
-and_not true d e = ap not e
-and_not false d e = refl
-
 bad_no_more : (inside digit apart : Bool) → digit ≡ true → (not inside && not (digit || apart)) ≡ false
 bad_no_more true digit apart e = refl
 bad_no_more false digit apart e = ap (λ (d : Bool). not (d || apart)) e
 
 -- a digit lets the piece go on
 digit_goes_on : (before : List ℕ) (b : ℕ) → length before < gap_limit → is_digit b ≡ true → decimal_item before b ≡ GoesOn
-digit_goes_on before b short h = decimal_goes_on before b short (bad_no_more (ends_in_comment before) (is_digit b) (is_apart b) h) (and_not (ends_in_digit before) (is_digit b) h)
+digit_goes_on before b short h = decimal_goes_on before b short (bad_no_more (ends_in_comment before) (is_digit b) (is_apart b) h) (and_right (ends_in_digit before) (not (is_digit b)) (not_from_true (is_digit b) h))
 
 -- a text outside comments and a digit end in a digit
 pub ends_in_digit-digit : (before : List ℕ) (b : ℕ) → ends_in_comment before ≡ false → is_digit b ≡ true → ends_in_digit (before ++ b ∷ []) ≡ true
@@ -51,7 +43,7 @@ over_digits [] before rest out digits short =
     (ap (λ (t : List ℕ). piece_from decimal_item decimal_end t rest) (sym whole), ap ends_in_digit whole ∙ out)
 over_digits (b ∷ digits) before rest out all short =
     let first : is_digit b ≡ true = All-head (λ x. is_digit x ≡ true) b digits all in
-    let outside : ends_in_comment before ≡ false = (outside_parts (ends_in_comment before) (ends_by is_digit before) out).0 in
+    let outside : ends_in_comment before ≡ false = (not_and_parts (ends_in_comment before) (ends_by is_digit before) out).0 in
     let long : length (before ++ b ∷ []) ≡ length before + 1 = length-append before (b ∷ []) in
     let more = over_digits digits (before ++ b ∷ []) rest (ends_in_digit-digit before b outside first) (All-tail (λ x. is_digit x ≡ true) b digits all) (omega arith) in
     let whole : (before ++ b ∷ []) ++ digits ≡ before ++ b ∷ digits = append_assoc before (b ∷ []) digits in
@@ -104,7 +96,7 @@ all_digits (b ∷ digits) all =
     rw first (ap (λ (t : List ℕ). b ∷ t) (all_digits digits (All-tail (λ x. is_digit x ≡ true) b digits all)))
 
 -- no comment is among digits
-uncommented_digits : (digits : List ℕ) → AllPass is_digit digits → uncommented digits ≡ digits
+pub uncommented_digits : (digits : List ℕ) → AllPass is_digit digits → uncommented digits ≡ digits
 unfolding uncommented_from
 uncommented_digits [] all = refl
 uncommented_digits (b ∷ digits) all =
@@ -205,7 +197,7 @@ digits-push before b s short h = record {
   some = omega (arith, length-append s.digits (b ∷ []));
   all = All-push (λ x. is_digit x ≡ true) s.digits b s.all h;
   short = short-push before b short;
-  ends = ends_in_digit-digit before b (outside_parts (ends_in_comment before) (ends_by is_digit before) s.ends).0 h;
+  ends = ends_in_digit-digit before b (not_and_parts (ends_in_comment before) (ends_by is_digit before) s.ends).0 h;
 }
 
 -- where digits go on, the byte is a digit; where they end, it stands apart
@@ -243,7 +235,7 @@ record InGap (before : List ℕ) : Type 0 where
 -- the first digit
 first_digit : (before : List ℕ) (b : ℕ) → InGap before → nat_le gap_limit (length before) ≡ false → (not (ends_in_comment before) && is_digit b) ≡ true → InDigits (before ++ b ∷ [])
 first_digit before b s short h =
-    let parts = outside_parts (ends_in_comment before) (is_digit b) h in
+    let parts = not_and_parts (ends_in_comment before) (is_digit b) h in
     record {
       gap = before;
       digits = b ∷ [];
@@ -343,7 +335,7 @@ in_pixel_gap_by : (before : List ℕ) (b : ℕ) (text : List ℕ) (found : List 
     → (AllPass is_white (uncommented (before ++ b ∷ [])) → piece_from pixel_item pixel_end (before ++ b ∷ []) text ≡ Ok found → IsPixelPiece found) → IsPixelPiece found
 in_pixel_gap_by before b text found (Fails fault) white told f on = absurd f
 in_pixel_gap_by before b text found EndsWith white told f on =
-    let parts = outside_parts (ends_in_comment before) (is_pixel b) told.2 in
+    let parts = not_and_parts (ends_in_comment before) (is_pixel b) told.2 in
     let here : IsPixelPiece (before ++ b ∷ [], text) = record {
       gap = before;
       character = b;

@@ -6,6 +6,7 @@ use Rattle.pnm_image.specs.declared.shape.Shape.{Shape}
 use Rattle.pnm_image.specs.declared.head.HeadFault.{HeadFault}
 use Rattle.pnm_image.specs.declared.head.HeadFault.TheVariants as heads
 use Rattle.pnm_image.specs.Heads.{HeadValue, IsWithinLimits, row_length, shape_fault}
+use Rattle.pnm_image.proofs.Heads.{sizes_within, not_large_size}
 use Rattle.pnm_read.specs.declared.fault.InputFault.{InputFault}
 use Rattle.pnm_read.specs.Items.{fault_of_head}
 
@@ -29,10 +30,6 @@ no_fault false false false x y z e = (refl, refl, refl)
 sizes_are_not_zero : (width height depth : ℕ) → ((width == 0) || (height == 0) || (depth == 0)) ≡ false → (0 < width) × (0 < height) × (0 < depth)
 sizes_are_not_zero width height depth e = (grind (arith, nat_tests), grind (arith, nat_tests), grind (arith, nat_tests))
 
--- where the test for a large size fails, no size is large
-sizes_are_not_large : (width height depth row : ℕ) → (nat_lt 1000000 width || nat_lt 1000000 height || nat_lt 256 depth || nat_lt 16777216 row) ≡ false → (width ≤ 1000000) × (height ≤ 1000000) × (depth ≤ 256) × (row ≤ 16777216)
-sizes_are_not_large width height depth row e = (grind (arith, nat_tests), grind (arith, nat_tests), grind (arith, nat_tests), grind (arith, nat_tests))
-
 -- where the test of the maxval fails, it is in its range
 maxval_is_not_bad : (maxval : ℕ) → ((maxval == 0) || nat_lt 65535 maxval) ≡ false → (0 < maxval) × (maxval ≤ 65535)
 maxval_is_not_bad maxval e = (grind (arith, nat_tests), grind (arith, nat_tests))
@@ -42,17 +39,13 @@ pub limits_of : (s : Shape) → shape_fault s ≡ None → IsWithinLimits s × (
 limits_of s e =
     let tests = no_fault ((s.width == 0) || (s.height == 0) || (s.depth == 0)) (nat_lt 1000000 s.width || nat_lt 1000000 s.height || nat_lt 256 s.depth || nat_lt 16777216 (row_length s)) ((s.maxval == 0) || nat_lt 65535 s.maxval) heads.ZeroSize heads.TooLarge heads.BadMaxval e in
     let low = sizes_are_not_zero s.width s.height s.depth tests.0 in
-    let high = sizes_are_not_large s.width s.height s.depth (row_length s) tests.1 in
+    let high = sizes_within s.width s.height s.depth (row_length s) tests.1 in
     let maxval = maxval_is_not_bad s.maxval tests.2 in
     (record { width_low = low.0; width_high = high.0; height_high = high.1; depth_low = low.2; depth_high = high.2; row_high = high.3; maxval_low = maxval.0; maxval_high = maxval.1 }, low.1)
 
 -- where no size is zero, the test for one fails
 not_zero_size : (width height depth : ℕ) → 0 < width → 0 < height → 0 < depth → ((width == 0) || (height == 0) || (depth == 0)) ≡ false
 not_zero_size width height depth w h d = grind (arith, nat_tests)
-
--- where no size is large, the test for one fails
-not_large_size : (width height depth row : ℕ) → width ≤ 1000000 → height ≤ 1000000 → depth ≤ 256 → row ≤ 16777216 → (nat_lt 1000000 width || nat_lt 1000000 height || nat_lt 256 depth || nat_lt 16777216 row) ≡ false
-not_large_size width height depth row w h d r = grind (arith, nat_tests)
 
 -- where the maxval is in its range, its test fails
 not_bad_maxval : (maxval : ℕ) → 0 < maxval → maxval ≤ 65535 → ((maxval == 0) || nat_lt 65535 maxval) ≡ false

@@ -53,7 +53,7 @@ stopped_due (Awaits awaited) fault text e = absurd cc
 stopped_due Ended fault text e = absurd cc
 stopped_due (Failed other) fault text e = e
 
-no_text_fault : (text : List ℕ) (fault : InputFault) → fault_of text ≡ Some fault → IsOutsideFault fault → ⊥
+pub no_text_fault : (text : List ℕ) (fault : InputFault) → fault_of text ≡ Some fault → IsOutsideFault fault → ⊥
 no_text_fault text fault e (inl read) = (fault_is_of_text text).0 (e ∙ ap (λ (f : InputFault). Some f) read)
 no_text_fault text fault e (inr memory) = (fault_is_of_text text).1 (e ∙ ap (λ (f : InputFault). Some f) memory)
 

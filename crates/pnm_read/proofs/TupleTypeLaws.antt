@@ -1,5 +1,5 @@
 -- The tuple type that lines have together: one line, without white space at its ends.
-use Rattle.std.proofs.Common.{◌≡◌, ◌≢◌, ℕ, ◌-◌, ◌<◌, ◌≤◌, Bool, true, false, not, ◌&&◌, ◌==◌, if◌then◌else◌, List, [], ◌∷◌, ◌++◌, length, slice_index, get_or, suc, refl, ap, ◌∙◌, arith, codes}
+use Rattle.std.proofs.Common.{◌≡◌, ◌≢◌, ℕ, ◌-◌, ◌<◌, ◌≤◌, Bool, true, false, not, ◌&&◌, ◌==◌, if◌then◌else◌, List, [], ◌∷◌, ◌++◌, length, slice_index, get_or, suc, refl, ap, ◌∙◌, arith, codes, subst}
 use Rattle.std.specs.List.{list_all, AllByRecursion}
 use Rattle.std.proofs.lemmas.Bool.{and_parts}
 use Rattle.std.proofs.lemmas.Bool.Decides.{nat_tests}
@@ -141,3 +141,19 @@ tuple_type_in-is lines one short =
       first = first_is (tuple_type_in lines) t.begins;
       last = last_is (tuple_type_in lines) t.ends;
     }
+
+-- nothing is trimmed before a byte that isn't blank
+pub trimmed_start-same : (b : ℕ) (text : List ℕ) → is_blank b ≡ false → trimmed_start (b ∷ text) ≡ b ∷ text
+unfolding trimmed_start
+trimmed_start-same b text h = rw h refl
+
+-- nothing is trimmed after a byte that isn't blank
+pub trimmed_end-same : (text : List ℕ) → (0 < length text → is_blank (slice_index text (length text - 1)) ≡ false) → trimmed_end text ≡ text
+unfolding trimmed_end
+trimmed_end-same [] h = refl
+trimmed_end-same (b ∷ []) h = rw (h (omega arith)) refl
+trimmed_end-same (b ∷ c ∷ text) h =
+    let further : length (b ∷ c ∷ text) - 1 ≡ suc (length (c ∷ text) - 1) = omega arith in
+    let last : 0 < length (c ∷ text) → is_blank (slice_index (c ∷ text) (length (c ∷ text) - 1)) ≡ false =
+    λ some. subst (λ (i : ℕ). is_blank (slice_index (b ∷ c ∷ text) i) ≡ false) further (h (omega arith)) in
+    ap (onto_trimmed b) (trimmed_end-same (c ∷ text) last)

@@ -2,6 +2,7 @@
 use Rattle.std.proofs.Common.{◌≡◌, ◌==◌, ℕ, true, false, List, [], ◌∷◌, ◌++◌, length, drop, Option, Result, Ok, Err, refl, sym, ap, subst, ◌∙◌, append_assoc}
 use Rattle.std.specs.Io.KnownBytes.{Consumes, IsAtEnd}
 use Rattle.pnm_image.specs.Devices.{Failed}
+use Rattle.pnm_image.proofs.Lists.{not_nil}
 use Rattle.pnm_read.specs.declared.fault.InputFault.{InputFault}
 use Rattle.pnm_read.specs.declared.fault.InputFault.TheVariants.{ReadFailed}
 use Rattle.pnm_read.specs.declared.input.Input.{Input}
@@ -82,10 +83,7 @@ turn_advance {left = left} {failures = failures} {same = same} {old = old} {mid 
   read_failed = λ e. absurd (f e);
 }
 
-not_none : (b : ℕ) (text : List ℕ) → b ∷ text ≡ [] → ⊥
-not_none b text e = absurd cc
-
 -- the text goes on where a byte is held
 pub some_left : {R : Type 0} (input : Input R) (bytes left : List ℕ) → bytes ≡ held_of input → (length bytes == 0) ≡ false → IsLeft input left → left ≡ [] → ⊥
 some_left input [] left e n s none = absurd cc
-some_left input (b ∷ bytes) left e n s none = not_none b (bytes ++ s.0) (ap (λ (l : List ℕ). l ++ s.0) e ∙ sym s.2 ∙ none)
+some_left input (b ∷ bytes) left e n s none = not_nil b (bytes ++ s.0) (ap (λ (l : List ℕ). l ++ s.0) e ∙ sym s.2 ∙ none)

@@ -1,11 +1,12 @@
 -- Words and numbers of a text that is read on by one byte, or split at white space.
-use Rattle.std.proofs.Common.{◌≡◌, ◌⊎◌, inl, inr, ℕ, ◌+◌, ◌-◌, ◌*◌, ◌<◌, Bool, true, false, not, ◌||◌, ◌==◌, if◌then◌else◌, List, [], ◌∷◌, ◌++◌, map, length, refl, sym, ap, subst, ◌∙◌, append_assoc, arith}
+use Rattle.std.proofs.Common.{◌≡◌, ◌⊎◌, inl, inr, ℕ, ◌+◌, ◌-◌, ◌*◌, ◌<◌, Bool, true, false, not, ◌||◌, ◌==◌, List, [], ◌∷◌, ◌++◌, map, length, refl, sym, ap, subst, ◌∙◌, append_assoc, arith}
 use Rattle.std.specs.Char.{digit_value}
 use Rattle.std.proofs.lemmas.Bool.Decides.{nat_tests}
 use Rattle.std.proofs.lemmas.List.{append-nil, map-append, length-append, length-map}
 use Rattle.std.proofs.lemmas.Int.Digits.{digits_value_push}
 use Rattle.pnm_read.specs.Texts.{ends_by, ends_in_comment, uncommented_from, uncommented, ends_in_word, numbers_in}
 use Rattle.pnm_image.specs.Texts.{is_white, is_digit, begins_in_word, onto_first, words, decimal_value}
+use Rattle.pnm_image.proofs.Words.{words_by, words-cons}
 use Rattle.pnm_read.proofs.CommentLaws.{uncommented_from-append, ends_by-push}
 
 -- ---- kinds of bytes
@@ -31,14 +32,6 @@ pub digit_value_is : (b : ℕ) → is_digit b ≡ true → digit_value b ≡ b -
 digit_value_is b e = grind (arith, nat_tests)
 
 -- ---- words of a text split at white space
-
--- the words of a text by its first byte: whether that is white space, and whether what follows it begins in a word
-abbrev words_by : Bool → Bool → ℕ → List (List ℕ) → List (List ℕ)
-words_by white begins b others = if white then others else if begins then onto_first b others else (b ∷ []) ∷ others
-
-words-cons : (b : ℕ) (text : List ℕ) → words (b ∷ text) ≡ words_by (is_white b) (begins_in_word text) b (words text)
-unfolding words
-words-cons b text = refl
 
 -- there is a first of the words
 abbrev pub HasFirst : List (List ℕ) → Type 0

@@ -13,6 +13,7 @@ use Rattle.pnm_tools.specs.declared.tool.Tool.{Tool}
 use Rattle.pnm_tools.specs.Tools.{AreTaken, result_head, result_sample, applied, output_due}
 use Rattle.pnm_tools.specs.Formulas.{image_by}
 use Rattle.pnm_tools.specs.Answering.{answered, answered_from, rows_after, rows_come}
+use Rattle.pnm_tools.specs.Answers.{Begins}
 
 -- the answer to a front, and then to the rest
 pub answered_from-append : (tool : Tool) (place : Place) (rows : List (List ℕ)) (a b : List Message) → answered_from tool place rows (a ++ b) ≡ answered_from tool place rows a ++ answered_from tool (place_of place a) (rows_come rows a) b
@@ -47,6 +48,19 @@ taken_rest tool (Row row ∷ a) b t = taken_rest tool a b t
 taken_rest tool (ImageEnd ∷ a) b t = taken_rest tool a b t
 taken_rest tool (StreamEnd ∷ a) b t = taken_rest tool a b t
 taken_rest tool (Stop ∷ a) b t = taken_rest tool a b t
+
+-- one message more
+pub taken_more : (tool : Tool) (l : List Message) (m : Message) → AreTaken tool l → Begins tool m → AreTaken tool (l ++ m ∷ [])
+taken_more tool [] (Begin head) t b = (b, tt)
+taken_more tool [] (Row row) t b = tt
+taken_more tool [] ImageEnd t b = tt
+taken_more tool [] StreamEnd t b = tt
+taken_more tool [] Stop t b = tt
+taken_more tool (Begin head ∷ l) m t b = (t.0, taken_more tool l m t.1 b)
+taken_more tool (Row row ∷ l) m t b = taken_more tool l m t b
+taken_more tool (ImageEnd ∷ l) m t b = taken_more tool l m t b
+taken_more tool (StreamEnd ∷ l) m t b = taken_more tool l m t b
+taken_more tool (Stop ∷ l) m t b = taken_more tool l m t b
 
 -- after an image the place is between images
 ends_rows : (place : Place) (rows : List (List ℕ)) → place_of place (map Row rows ++ ImageEnd ∷ []) ≡ Between

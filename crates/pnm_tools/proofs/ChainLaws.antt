@@ -7,6 +7,8 @@ use Rattle.pnm_image.specs.Images.{Image, AreImages, messages_of_stream}
 use Rattle.pnm_image.specs.Messages.{IsMessage}
 use Rattle.pnm_image.specs.Completion.{IsFrontOf, Completes}
 use Rattle.pnm_image.proofs.Streams.{completion, stream_is_messages, stream_is_lawful}
+use Rattle.pnm_image.proofs.Places.{lawful_front}
+use Rattle.pnm_image.proofs.Lists.{all_of_front}
 use Rattle.pnm_tools.specs.declared.fault.ToolFault.{ToolFault}
 use Rattle.pnm_tools.specs.declared.fault.ToolFault.TheVariants.{Memory}
 use Rattle.pnm_tools.specs.declared.tool.Tool.{Tool}
@@ -16,7 +18,7 @@ use Rattle.pnm_tools.specs.Chains.{AreLawfulTools, AreResultsInTurn, due_in_turn
 use Rattle.pnm_tools.specs.ChainAnswers.{IsSound, AreSound, AreWell, IsFirstFault, IsRefusedNext, HasRefused, HasAnswered, HaveAnswered}
 use Rattle.pnm_tools.proofs.FullAnswers.{full_answer_is_the_stream}
 use Rattle.pnm_tools.proofs.FullLaws.{front_of_front}
-use Rattle.pnm_tools.proofs.SoundLaws.{HasRows, EndsUnbroken, sound_ends, unbroken_keeps_all, sound_keeps_all, lawful_front, all_of_front, stream_is_sound, HasSoundImages, sound_images, due_is_sound}
+use Rattle.pnm_tools.proofs.SoundLaws.{HasRows, EndsUnbroken, sound_ends, unbroken_keeps_all, sound_keeps_all, stream_is_sound, HasSoundImages, sound_images, due_is_sound}
 use Rattle.pnm_tools.proofs.FrontLaws.{nothing_changes, front_by_results}
 use Rattle.pnm_tools.proofs.RefusalLaws.{results_are_images, results_are, same_in_turn, results_in_turn, refusal_by, refused_next}
 

@@ -8,6 +8,7 @@ use Rattle.pnm_image.specs.declared.message.Message.TheVariants.{Begin, Row, Ima
 use Rattle.pnm_image.specs.declared.place.Place.{Place}
 use Rattle.pnm_image.specs.declared.place.Place.TheVariants.{Between, Inside, After}
 use Rattle.pnm_image.specs.Places.{IsLawfulFrom, place_after, place_of}
+use Rattle.pnm_image.proofs.Places.{place_of-append}
 use Rattle.pnm_tools.specs.declared.fault.ToolFault.{ToolFault}
 use Rattle.pnm_tools.specs.declared.state.Pending.{Pending}
 use Rattle.pnm_tools.specs.declared.state.Pending.TheVariants.{AllGiven, Waiting, Rows, RowsAndEnd, Nothing}
@@ -19,7 +20,6 @@ use Rattle.pnm_tools.specs.Steps.{IsGiven, GivesRows}
 use Rattle.pnm_tools.proofs.AtLaws.{StopsLast, lawful_stops, not_broken, answering_answers}
 use Rattle.pnm_tools.proofs.FullLaws.{answering_in_full}
 use Rattle.pnm_tools.proofs.InFullLaws.{answers_end_so}
-use Rattle.pnm_tools.proofs.OwedLaws.{place_of-append}
 use Rattle.pnm_tools.proofs.AnsweringLaws.{answered_from-append}
 use Rattle.pnm_tools.proofs.ToolLaws.{tool_answers_images}
 

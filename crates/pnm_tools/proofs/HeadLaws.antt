@@ -1,11 +1,11 @@
 -- The head of a result, tool by tool.
-use Rattle.std.proofs.Common.{◌≡◌, ◌⊎◌, inl, inr, ℕ, Bool, false, true, List, nat_lt, if◌then◌else◌, IfOk, IfErr, ◌↔◌, ◌<◌, ◌≤◌, IsTrue, All, length, Ok, Err, Result, refl, sym, ap, subst, ◌∙◌, arith}
+use Rattle.std.proofs.Common.{◌≡◌, ◌⊎◌, inl, inr, ℕ, Bool, false, true, List, nat_lt, if◌then◌else◌, IfOk, IfErr, ◌↔◌, ◌<◌, ◌≤◌, IsTrue, All, length, Ok, Err, Result, refl, sym, ap, subst, ◌∙◌}
 use Rattle.std.specs.List.{list_all}
-use Rattle.std.proofs.lemmas.Bool.Decides.{nat_tests}
 use Rattle.pnm_image.specs.declared.shape.Shape.{Shape}
 use Rattle.pnm_image.specs.declared.shape.Kind.{Kind}
 use Rattle.pnm_image.specs.declared.shape.Kind.TheVariants.{Pam}
 use Rattle.pnm_image.specs.Heads.{HeadValue, IsWithinLimits, head_value, row_length, is_too_large}
+use Rattle.pnm_image.proofs.Heads.{not_large_size, sizes_within}
 use Rattle.pnm_tools.specs.declared.fault.ToolFault.{ToolFault}
 use Rattle.pnm_tools.specs.declared.fault.ToolFault.TheVariants.{Memory, TooLarge, ChannelOutside}
 use Rattle.pnm_tools.specs.declared.cut.CutBox.{CutBox}
@@ -37,7 +37,7 @@ head_of_channel planes head = refl
 -- ---- limits
 
 pub small_sizes : (s : Shape) → s.width ≤ 1000000 → s.height ≤ 1000000 → s.depth ≤ 256 → row_length s ≤ 16777216 → is_too_large s ≡ false
-small_sizes s width height depth row = grind (arith, nat_tests)
+small_sizes s width height depth row = not_large_size s.width s.height s.depth (row_length s) width height depth row
 
 -- an image's shape is within the limits of results
 pub not_too_large : (s : Shape) → IsWithinLimits s → is_too_large s ≡ false
@@ -102,4 +102,4 @@ planes_inside planes head s seen b n t shape same h found count type =
 
 -- the rows of a head within the limits are within them
 pub small_row : (s : Shape) → is_too_large s ≡ false → row_length s ≤ 16777216
-small_row s e = grind (arith, nat_tests)
+small_row s e = (sizes_within s.width s.height s.depth (row_length s) e).3

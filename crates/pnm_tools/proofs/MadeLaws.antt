@@ -1,8 +1,8 @@
 -- An image that is given by a formula is an image, where its samples are in range.
-use Rattle.std.proofs.Common.{◌≡◌, ℕ, zero, suc, ◌+◌, ◌*◌, ◌<◌, ◌≤◌, false, ◌||◌, inl, inr, length, List, map, sym, subst, arith}
-use Rattle.std.specs.Prelude.{All, nat_lt}
+use Rattle.std.proofs.Common.{ℕ, zero, suc, ◌+◌, ◌*◌, ◌<◌, ◌≤◌, inl, inr, length, List, map, sym, subst, arith}
+use Rattle.std.specs.Prelude.{All}
 use Rattle.std.specs.List.{flat_map, range_with_len}
-use Rattle.std.proofs.lemmas.Bool.{cases_lt, ltb-false, or_parts}
+use Rattle.std.proofs.lemmas.Bool.{cases_lt}
 use Rattle.std.proofs.lemmas.List.Elements.{All-nil, All-append, All-from_get_or}
 use Rattle.std.proofs.lemmas.List.FromFn.{get_or-map-range_with_len, length-map-range_with_len}
 use Rattle.std.proofs.Math.ListN.{get_or-eq_default}
@@ -53,11 +53,3 @@ sample_in_range i x y p is =
 -- the result of a tool, where its head is one and its samples are in range
 pub made_is_image : (tool : Tool) (i j : Image) → IsBy (result_head tool i.head) (result_sample tool i) j → IsHead j.head → ((x y p : ℕ) → result_sample tool i x y p ≤ j.head.shape.maxval) → IsImage j
 made_is_image tool i j made sound range = subst IsImage made.whole (image_by_is_image j.head (result_sample tool i) sound (λ x y p column row plane. range x y p))
-
--- the sizes of a shape that isn't too large
-pub sizes_within : (width height depth row : ℕ) → (nat_lt 1000000 width || nat_lt 1000000 height || nat_lt 256 depth || nat_lt 16777216 row) ≡ false → (width ≤ 1000000) × (height ≤ 1000000) × (depth ≤ 256) × (row ≤ 16777216)
-sizes_within width height depth row e =
-    let a = or_parts (nat_lt 1000000 width || nat_lt 1000000 height || nat_lt 256 depth) (nat_lt 16777216 row) e in
-    let b = or_parts (nat_lt 1000000 width || nat_lt 1000000 height) (nat_lt 256 depth) a.0 in
-    let c = or_parts (nat_lt 1000000 width) (nat_lt 1000000 height) b.0 in
-    (ltb-false 1000000 width c.0, ltb-false 1000000 height c.1, ltb-false 256 depth b.1, ltb-false 16777216 row a.1)

@@ -7,18 +7,15 @@ use Rattle.pnm_image.specs.declared.place.Place.{Place}
 use Rattle.pnm_image.specs.declared.place.Place.TheVariants.{Between, Inside}
 use Rattle.pnm_image.specs.Heads.{HeadValue}
 use Rattle.pnm_image.specs.Images.{Image, IsImage, AreImages, rows_of, messages_of_image, messages_of_stream}
-use Rattle.pnm_image.specs.Places.{place_after, place_of}
+use Rattle.pnm_image.specs.Places.{place_of}
 use Rattle.pnm_image.specs.Completion.{IsFrontOf}
+use Rattle.pnm_image.proofs.Places.{place_of-append}
 use Rattle.pnm_tools.specs.declared.fault.ToolFault.{ToolFault}
 use Rattle.pnm_tools.specs.declared.tool.Tool.{Tool}
 use Rattle.pnm_tools.specs.Tools.{result_head, applied}
 use Rattle.pnm_tools.specs.Answers.{images_ended, begun_of, owed}
 use Rattle.pnm_tools.specs.Answering.{answered_from}
 use Rattle.pnm_tools.proofs.AnsweringLaws.{AnswersImages, Fronts, fronts, ends_between, answered_after_image}
-
-pub place_of-append : (place : Place) (a b : List Message) → place_of place (a ++ b) ≡ place_of (place_of place a) b
-place_of-append place [] b = refl
-place_of-append place (m ∷ a) b = place_of-append (place_after place m) a b
 
 -- an image and more: one image more has ended
 rows_ended : (rows : List (List ℕ)) (more : List Message) → images_ended ((map Row rows ++ ImageEnd ∷ []) ++ more) ≡ suc (images_ended more)

@@ -2,12 +2,12 @@
 use Rattle.std.proofs.Common.{◌≡◌, ◌⊎◌, inl, inr, ℕ, ◌+◌, true, List, [], ◌∷◌, ◌++◌, map, Option, Some, Result, Ok, Err, refl, sym, ap, subst, ◌∙◌}
 use Rattle.pnm_image.specs.declared.message.Message.{Message}
 use Rattle.pnm_image.specs.declared.message.Message.TheVariants.{Begin, Row, ImageEnd, StreamEnd, Stop}
-use Rattle.pnm_image.specs.declared.place.Place.{Place}
 use Rattle.pnm_image.specs.declared.place.Place.TheVariants.{Between}
 use Rattle.pnm_image.specs.Heads.{HeadValue}
-use Rattle.pnm_image.specs.Places.{Accepts, IsLawfulFrom, place_after, place_of}
+use Rattle.pnm_image.specs.Places.{Accepts, IsLawfulFrom, place_of}
 use Rattle.pnm_image.specs.Images.{Image, AreImages, rows_of, messages_of_stream}
 use Rattle.pnm_image.proofs.Streams.{stream_is_lawful}
+use Rattle.pnm_image.proofs.Places.{next_may_come}
 use Rattle.pnm_tools.specs.declared.fault.ToolFault.{ToolFault}
 use Rattle.pnm_tools.specs.declared.fault.ToolFault.TheVariants.{CutOutside, ChannelOutside, TooLarge, OutOfOrder, Memory}
 use Rattle.pnm_tools.specs.declared.tool.Tool.{Tool}
@@ -108,11 +108,6 @@ is_refused tool is accepted (Row row) rest fault e taken refuses = absurd refuse
 is_refused tool is accepted ImageEnd rest fault e taken refuses = absurd refuses
 is_refused tool is accepted StreamEnd rest fault e taken refuses = absurd refuses
 is_refused tool is accepted Stop rest fault e taken refuses = absurd refuses
-
--- the next message of a lawful list may come
-next_may_come : (place : Place) (a : List Message) (m : Message) (b : List Message) → IsLawfulFrom place (a ++ m ∷ b) → Accepts (place_of place a) m
-next_may_come place [] m b lawful = lawful.0
-next_may_come place (n ∷ a) m b lawful = next_may_come (place_after place n) a m b lawful.1
 
 in_order : (tool : Tool) (m : Message) (accepted : List Message) → Accepts (place_of Between accepted) m → (MayCome true accepted m → ⊥) ⊎ RefusesHead tool m OutOfOrder → RefusesHead tool m OutOfOrder
 in_order tool m accepted may (inl not) = absurd (not (refl, may))

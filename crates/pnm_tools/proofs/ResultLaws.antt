@@ -11,6 +11,7 @@ use Rattle.pnm_image.specs.declared.shape.Kind.TheVariants.{Bit, Gray, Color, Pa
 use Rattle.pnm_image.specs.declared.shape.Shape.{Shape}
 use Rattle.pnm_image.specs.Heads.{HeadValue, IsHead, IsTupleType, Suits, is_too_large}
 use Rattle.pnm_image.specs.Images.{Image, IsImage, sample_at}
+use Rattle.pnm_image.proofs.Heads.{sizes_within}
 use Rattle.pnm_tools.specs.declared.cut.CutBox.{CutBox}
 use Rattle.pnm_tools.specs.declared.cut.Span.{Span}
 use Rattle.pnm_tools.specs.declared.tool.Tool.{Tool}
@@ -20,7 +21,7 @@ use Rattle.pnm_tools.specs.Depth.{nearest_sample, gray_kind, gray_type}
 use Rattle.pnm_tools.specs.Channel.{Picks, IsLawfulPick, picked_head_value}
 use Rattle.pnm_tools.specs.Tools.{IsLawfulTool, applied, result_sample}
 use Rattle.pnm_tools.proofs.ImageLaws.{result_by_head}
-use Rattle.pnm_tools.proofs.MadeLaws.{made_is_image, sample_in_range, sizes_within}
+use Rattle.pnm_tools.proofs.MadeLaws.{made_is_image, sample_in_range}
 use Rattle.pnm_tools.proofs.WholeResultLaws.{enlarged_is_image, enlarged_has_rows, flipped_is_image, flipped_has_rows, tiled_is_image, tiled_has_rows}
 use Rattle.pnm_tools.proofs.CutLaws.{LiesWithin, is_cut, cut_by}
 use Rattle.pnm_tools.proofs.DepthLaws.{new_head, nearest_sample_is_nearest, new_head_is}

@@ -66,14 +66,6 @@ sound_keeps_all (Stop ∷ l) sound = absurd sound.0
 
 -- ---- fronts
 
-pub lawful_front : (place : Place) (a b : List Message) → IsLawfulFrom place (a ++ b) → IsLawfulFrom place a
-lawful_front place [] b lawful = tt
-lawful_front place (m ∷ a) b lawful = (lawful.0, lawful_front (place_after place m) a b lawful.1)
-
-pub all_of_front : (P : Message → Type 0) (a b : List Message) → AllByRecursion P (a ++ b) → AllByRecursion P a
-all_of_front P [] b all = tt
-all_of_front P (m ∷ a) b all = (all.0, all_of_front P a b all.1)
-
 all_of_rest : (P : Message → Type 0) (a b : List Message) → AllByRecursion P (a ++ b) → AllByRecursion P b
 all_of_rest P [] b all = all
 all_of_rest P (m ∷ a) b all = all_of_rest P a b all.1

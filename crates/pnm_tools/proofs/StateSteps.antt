@@ -8,7 +8,8 @@ use Rattle.pnm_image.specs.declared.message.Message.{Message}
 use Rattle.pnm_image.specs.declared.message.Message.TheVariants.{Begin, Row, ImageEnd, StreamEnd, Stop}
 use Rattle.pnm_image.specs.declared.place.Place.{Place}
 use Rattle.pnm_image.specs.declared.place.Place.TheVariants.{Between}
-use Rattle.pnm_image.specs.Places.{Accepts, IsLawfulFrom, place_after, place_of}
+use Rattle.pnm_image.specs.Places.{Accepts, place_after, place_of}
+use Rattle.pnm_image.proofs.Places.{lawful_more, place_of-append}
 use Rattle.pnm_tools.specs.declared.cut.Span.{Span}
 use Rattle.pnm_tools.specs.declared.fault.ToolFault.{ToolFault}
 use Rattle.pnm_tools.specs.declared.fault.ToolFault.TheVariants.{CutOutside, ChannelOutside, TooLarge, OutOfOrder, Memory}
@@ -28,10 +29,9 @@ use Rattle.pnm_tools.specs.Limits.{within_limits}
 use Rattle.pnm_tools.specs.States.{Standing, standing, IsAnswering, IsAt, IsReadyFor, KeepsNone, is_all_given, waiting_in}
 use Rattle.pnm_tools.specs.Steps.{IsTaken, IsRefused}
 use Rattle.pnm_tools.specs.Tile.{tiled_head_value}
-use Rattle.pnm_tools.specs.Tools.{AreTaken, result_head}
+use Rattle.pnm_tools.specs.Tools.{result_head}
 use Rattle.pnm_tools.proofs.AtLaws.{answering_answers}
-use Rattle.pnm_tools.proofs.OwedLaws.{place_of-append}
-use Rattle.pnm_tools.proofs.AnsweringLaws.{answered_from-append}
+use Rattle.pnm_tools.proofs.AnsweringLaws.{answered_from-append, taken_more}
 use Rattle.pnm_tools.proofs.ToolLaws.{tool_answers_images}
 
 -- no head is refused for want of memory
@@ -70,23 +70,6 @@ head_not_memory (Channel planes) head = either_not_memory (list_all (λ number. 
 head_not_memory (Enlarge across down) head = either_not_memory (not (down == 1) && (head.shape.height == 0)) (Err OutOfOrder) (within_limits (enlarged_head_value across down head)) tt (limits_not_memory (enlarged_head_value across down head))
 head_not_memory (Flip way) head = flip_not_memory way head
 head_not_memory (Tile across down) head = either_not_memory (head.shape.height == 0) (Err OutOfOrder) (within_limits (tiled_head_value across down head)) tt (limits_not_memory (tiled_head_value across down head))
-
--- a message more is in order, where its place accepts it
-lawful_more : (place : Place) (l : List Message) (m : Message) → IsLawfulFrom place l → Accepts (place_of place l) m → IsLawfulFrom place (l ++ m ∷ [])
-lawful_more place [] m h a = (a, tt)
-lawful_more place (n ∷ l) m h a = (h.0, lawful_more (place_after place n) l m h.1 a)
-
-taken_more : (tool : Tool) (l : List Message) (m : Message) → AreTaken tool l → Begins tool m → AreTaken tool (l ++ m ∷ [])
-taken_more tool [] (Begin head) t b = (b, tt)
-taken_more tool [] (Row row) t b = tt
-taken_more tool [] ImageEnd t b = tt
-taken_more tool [] StreamEnd t b = tt
-taken_more tool [] Stop t b = tt
-taken_more tool (Begin head ∷ l) m t b = (t.0, taken_more tool l m t.1 b)
-taken_more tool (Row row ∷ l) m t b = taken_more tool l m t b
-taken_more tool (ImageEnd ∷ l) m t b = taken_more tool l m t b
-taken_more tool (StreamEnd ∷ l) m t b = taken_more tool l m t b
-taken_more tool (Stop ∷ l) m t b = taken_more tool l m t b
 
 -- the rows that have come, with a message more
 rows_more : (rows : List (List ℕ)) (l : List Message) (m : Message) → rows_come rows (l ++ m ∷ []) ≡ rows_after (rows_come rows l) m

@@ -1,6 +1,6 @@
 -- The heads of the results of tools that see whole images.
-use Rattle.std.proofs.Common.{◌≡◌, ℕ, ◌<◌, Bool, true, false, not, ◌&&◌, Ok, Err, Result, refl, arith}
-use Rattle.std.specs.Prelude.{◌≢◌, ◌==◌, if◌then◌else◌}
+use Rattle.std.proofs.Common.{◌≡◌, ℕ, ◌<◌, Bool, true, false, not, ◌&&◌, Ok, Err, Result, refl, pos_of_ne-zero}
+use Rattle.std.specs.Prelude.{◌==◌, if◌then◌else◌}
 use Rattle.std.proofs.lemmas.Bool.{eqb-false}
 use Rattle.pnm_image.specs.Heads.{HeadValue, is_too_large}
 use Rattle.pnm_tools.specs.declared.fault.ToolFault.{ToolFault}
@@ -37,12 +37,6 @@ in_order : (out : Bool) (r : Result HeadValue ToolFault) (result : HeadValue) �
 in_order true r result e = absurd cc
 in_order false r result e = record { in_order = refl; same = e }
 
--- a height that is not 0 is more than 0
-some_rows : (height : ℕ) → (height == 0) ≡ false → 0 < height
-some_rows height e =
-    let other : height ≢ 0 = eqb-false height 0 e in
-    omega (arith, other)
-
 -- the head of an enlarged image
 pub is_enlarged : (across down : ℕ) (head result : HeadValue) → result_head (Enlarge across down) head ≡ Ok result → IsWithin (enlarged_head_value across down head) result
 unfolding result_head
@@ -59,14 +53,14 @@ pub is_tiled : (across down : ℕ) (head result : HeadValue) → result_head (Ti
 unfolding result_head
 is_tiled across down head result e =
     let order = in_order (head.shape.height == 0) (within_limits (tiled_head_value across down head)) result e in
-    record { some_rows = some_rows head.shape.height order.in_order; within = is_within (tiled_head_value across down head) result order.same }
+    record { some_rows = pos_of_ne-zero (eqb-false head.shape.height 0 order.in_order); within = is_within (tiled_head_value across down head) result order.same }
 
 -- the head of a transposed image
 pub is_transposed : (head result : HeadValue) → result_head (Flip Transpose) head ≡ Ok result → IsWhole head (transposed_head_value head) result
 unfolding result_head
 is_transposed head result e =
     let order = in_order (head.shape.height == 0) (within_limits (transposed_head_value head)) result e in
-    record { some_rows = some_rows head.shape.height order.in_order; within = is_within (transposed_head_value head) result order.same }
+    record { some_rows = pos_of_ne-zero (eqb-false head.shape.height 0 order.in_order); within = is_within (transposed_head_value head) result order.same }
 
 -- nothing changed keeps the head
 pub null_keeps : (head result : HeadValue) → result_head (Flip Null) head ≡ Ok result → head ≡ result

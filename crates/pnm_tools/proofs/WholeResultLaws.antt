@@ -3,12 +3,13 @@ use Rattle.std.proofs.Common.{◌≡◌, ℕ, ◌*◌, ◌<◌, ◌≤◌, false
 use Rattle.pnm_image.specs.declared.shape.Shape.{Shape}
 use Rattle.pnm_image.specs.Heads.{HeadValue, IsHead, is_too_large}
 use Rattle.pnm_image.specs.Images.{Image, IsImage}
+use Rattle.pnm_image.proofs.Heads.{sizes_within}
 use Rattle.pnm_tools.specs.declared.flip.FlipWay.{FlipWay}
 use Rattle.pnm_tools.specs.declared.flip.FlipWay.TheVariants.{Null, LeftRight, TopBottom, Transpose}
 use Rattle.pnm_tools.specs.declared.tool.Tool.TheVariants.{Enlarge, Flip, Tile}
 use Rattle.pnm_tools.specs.Tools.{applied, result_head, result_sample}
 use Rattle.pnm_tools.proofs.ImageLaws.{result_by_head}
-use Rattle.pnm_tools.proofs.MadeLaws.{made_is_image, sample_in_range, sizes_within}
+use Rattle.pnm_tools.proofs.MadeLaws.{made_is_image, sample_in_range}
 use Rattle.pnm_tools.proofs.PixelLaws.{resized}
 use Rattle.pnm_tools.proofs.WholeHeadLaws.{is_enlarged, is_tiled, is_transposed, null_keeps, left_right_keeps, top_bottom_keeps}
 

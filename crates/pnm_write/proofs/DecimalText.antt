@@ -8,7 +8,7 @@ use Rattle.std.proofs.lemmas.Fmt.{decimal_is_IsNumeral, length-decimal-le}
 use Rattle.std.proofs.lemmas.List.Elements.{All-nil, All-cons, All-head, All-tail}
 use Rattle.std.proofs.lemmas.Str.Parse.{digit_from_value}
 use Rattle.pnm_image.specs.Texts.{is_blank, is_digit, words}
-use Rattle.pnm_read.specs.Texts.{commented_after, uncommented_from, uncommented, ends_in_comment, ends_by, ends_in_word}
+use Rattle.pnm_read.specs.Texts.{commented_after, ends_in_comment, ends_by, ends_in_word}
 use Rattle.pnm_read.specs.PamLines.{trimmed_start, token_of, first_token}
 use Rattle.pnm_read.specs.Rasters.{SpellsDecimal}
 use Rattle.pnm_read.proofs.WordLaws.{digit_is_not_white, digit_is_not_sharp}
@@ -38,12 +38,6 @@ first_digit b text h = All-head (λ x. is_digit x ≡ true) b text h
 
 other_digits : (b : ℕ) (text : List ℕ) → AllPass is_digit (b ∷ text) → AllPass is_digit text
 other_digits b text h = All-tail (λ x. is_digit x ≡ true) b text h
-
--- digits hold no comment
-pub uncommented-digits : (text : List ℕ) → AllPass is_digit text → uncommented text ≡ text
-unfolding uncommented_from
-uncommented-digits [] h = refl
-uncommented-digits (b ∷ text) h = rw (digit_is_not_sharp b (first_digit b text h), uncommented-digits text (other_digits b text h)) refl
 
 pub outside-digits : (text : List ℕ) → AllPass is_digit text → ends_in_comment text ≡ false
 unfolding commented_after

@@ -1,7 +1,8 @@
 -- The bytes of lists of messages, and the messages that were put into a sink.
 use Rattle.std.proofs.Common.{◌≡◌, ℕ, ◌+◌, false, List, [], ◌∷◌, ◌++◌, map, Option, Result, Ok, Err, OnOk, refl, sym, ap, ◌∙◌, append_assoc, subst}
-use Rattle.std.specs.List.{AllByRecursion, flat_map}
+use Rattle.std.specs.List.{flat_map}
 use Rattle.std.proofs.lemmas.List.{append-nil}
+use Rattle.std.proofs.KnownBytes.{Appends-trans}
 use Rattle.std.specs.Io.KnownBytes.{Appends}
 use Rattle.pnm_image.specs.declared.shape.Shape.{Shape}
 use Rattle.pnm_image.specs.declared.message.Message.{Message}
@@ -9,11 +10,12 @@ use Rattle.pnm_image.specs.declared.message.Message.TheVariants.{Row, ImageEnd}
 use Rattle.pnm_image.specs.declared.place.Place.{Place}
 use Rattle.pnm_image.specs.declared.place.Place.TheVariants.{Between, Inside}
 use Rattle.pnm_image.specs.Images.{Image, rows_of, messages_of_stream}
-use Rattle.pnm_image.specs.Places.{Accepts, IsLawfulFrom, place_after, place_of}
+use Rattle.pnm_image.specs.Places.{Accepts, place_after, place_of}
+use Rattle.pnm_image.proofs.Places.{lawful_more, place_of-append}
+use Rattle.pnm_image.proofs.Lists.{each-push}
 use Rattle.pnm_write.specs.declared.sink.Sink.{Sink}
 use Rattle.pnm_write.specs.Encoding.{header_text, row_bytes, encoding_of, bytes_at, bytes_from}
 use Rattle.pnm_write.specs.Sinks.{writer_of, next_place, has_failed, HasRows, HasPut, HasWritten}
-use Rattle.pnm_image.proofs.Written.{Appends-then}
 
 -- the bytes of rows, and of what comes after the image
 bytes_of_rows : (s : Shape) (y : ℕ) (rows : List (List ℕ)) (rest : List Message)
@@ -34,29 +36,18 @@ bytes_of_stream (i ∷ is) =
     ∙ ap (λ (l : List ℕ). text ++ l) (bytes_of_rows s 0 (rows_of i) (messages_of_stream is) ∙ ap (λ (l : List ℕ). rows ++ l) (bytes_of_stream is))
     ∙ sym (append_assoc text rows (encoding_of is))
 
+-- the bytes of a list of messages, and then of another
+pub bytes_from-append : (place : Place) (ms ns : List Message) → bytes_from place (ms ++ ns) ≡ bytes_from place ms ++ bytes_from (place_of place ms) ns
+bytes_from-append place [] ns = refl
+bytes_from-append place (m ∷ ms) ns =
+    ap (λ (l : List ℕ). bytes_at place m ++ l) (bytes_from-append (place_after place m) ms ns)
+    ∙ sym (append_assoc (bytes_at place m) (bytes_from (place_after place m) ms) (bytes_from (place_of (place_after place m) ms) ns))
+
 -- one message more adds its bytes
 pub bytes_of_more : (place : Place) (messages : List Message) (m : Message) → bytes_from place (messages ++ m ∷ []) ≡ bytes_from place messages ++ bytes_at (place_of place messages) m
-bytes_of_more place [] m = append-nil (bytes_at place m)
-bytes_of_more place (n ∷ messages) m =
-    ap (λ (l : List ℕ). bytes_at place n ++ l) (bytes_of_more (place_after place n) messages m)
-    ∙ sym (append_assoc (bytes_at place n) (bytes_from (place_after place n) messages) (bytes_at (place_of (place_after place n) messages) m))
+bytes_of_more place messages m = bytes_from-append place messages (m ∷ []) ∙ ap (λ (l : List ℕ). bytes_from place messages ++ l) (append-nil (bytes_at (place_of place messages) m))
 
 -- ---- one message more
-
--- a lawful list goes on by a message that may come where it leads
-lawful_more : (place : Place) (messages : List Message) (m : Message) → IsLawfulFrom place messages → Accepts (place_of place messages) m → IsLawfulFrom place (messages ++ m ∷ [])
-lawful_more place [] m lawful accepts = (accepts, tt)
-lawful_more place (n ∷ messages) m lawful accepts = (lawful.0, lawful_more (place_after place n) messages m lawful.1 accepts)
-
--- the place after one message more
-place_of_more : (place : Place) (messages : List Message) (m : Message) → place_of place (messages ++ m ∷ []) ≡ place_after (place_of place messages) m
-place_of_more place [] m = refl
-place_of_more place (n ∷ messages) m = place_of_more (place_after place n) messages m
-
--- what holds of each message, and of one more
-rows_more : (messages : List Message) (m : Message) → AllByRecursion HasRows messages → HasRows m → AllByRecursion HasRows (messages ++ m ∷ [])
-rows_more [] m rows has = (has, tt)
-rows_more (n ∷ messages) m rows has = (rows.0, rows_more messages m rows.1 has)
 
 -- a message was put
 pub put_more : {W : Type 0} (old new : Sink W) (messages : List Message) (m : Message) → HasPut old messages → has_failed old ≡ false → Accepts (next_place old) m → HasRows m → next_place new ≡ place_after (next_place old) m
@@ -65,8 +56,8 @@ put_more old new messages m put sound accepts has after =
     let here : next_place old ≡ place_of Between messages = put.place sound in
     record {
       lawful = lawful_more Between messages m put.lawful (subst (λ (p : Place). Accepts p m) here accepts);
-      rows = rows_more messages m put.rows has;
-      place = λ still. after ∙ ap (λ (p : Place). place_after p m) here ∙ sym (place_of_more Between messages m);
+      rows = each-push HasRows messages m put.rows has;
+      place = λ still. after ∙ ap (λ (p : Place). place_after p m) here ∙ sym (place_of-append Between messages (m ∷ []));
     }
 
 -- a message was put, and its bytes were written
@@ -79,7 +70,7 @@ written_more held start old new messages m written sound put added =
     record {
       put = put;
       bytes = subst (Appends start (held (writer_of new))) (sym (bytes_of_more Between messages m))
-          (Appends-then start (held (writer_of old)) (held (writer_of new)) (bytes_from Between messages) (bytes_at (place_of Between messages) m) written.bytes bytes);
+          (Appends-trans start (held (writer_of old)) (held (writer_of new)) (bytes_from Between messages) (bytes_at (place_of Between messages) m) written.bytes bytes);
     }
 
 -- what follows from two facts where there is no error

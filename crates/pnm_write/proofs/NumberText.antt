@@ -3,12 +3,14 @@ use Rattle.std.proofs.Common.{◌≡◌, ℕ, Bool, true, false, not, ◌||◌, 
 use Rattle.std.specs.List.{AllPass}
 use Rattle.std.proofs.lemmas.List.{map-append}
 use Rattle.std.proofs.lemmas.List.Elements.{All-nil, All-cons, All-append, All-weaker}
+use Rattle.std.proofs.lemmas.Bool.{or_left, or_right}
 use Rattle.pnm_read.specs.Texts.{commented, commented_after, uncommented_from, uncommented, ends_in_comment, ends_in_word, numbers_in}
 use Rattle.pnm_image.specs.Texts.{is_white, is_digit, words, decimal_value}
 use Rattle.pnm_read.specs.Rasters.{SpellsDecimal}
 use Rattle.pnm_read.proofs.CommentLaws.{commented_after-append}
 use Rattle.pnm_read.proofs.WordLaws.{white_is_not_sharp, words-split, uncommented-split, ends_by-split}
-use Rattle.pnm_write.proofs.DecimalText.{uncommented-digits, outside-digits, words-digits, ends-digits}
+use Rattle.pnm_read.proofs.SampleLaws.{uncommented_digits}
+use Rattle.pnm_write.proofs.DecimalText.{outside-digits, words-digits, ends-digits}
 
 abbrev is_body_byte : ℕ → Bool
 is_body_byte b = is_digit b || is_white b
@@ -33,20 +35,13 @@ outside_more text b digits outside white after =
     ∙ ap (λ (i : Bool). commented_after i digits) (white_is_not_sharp b white)
     ∙ after
 
-digit_in_body : (b : ℕ) → is_digit b ≡ true → is_body_byte b ≡ true
-digit_in_body b h = rw h refl
-
-white_by : (digit white : Bool) → white ≡ true → (digit || white) ≡ true
-white_by true white h = refl
-white_by false white h = h
-
 -- one number more, after a byte of white space
 pub number_more : (text numbers : List ℕ) (b : ℕ) (digits : List ℕ) (n : ℕ) → SpellsNumbers text numbers → is_white b ≡ true → SpellsDecimal digits n → SpellsNumbers (text ++ b ∷ digits) (numbers ++ n ∷ [])
 number_more text numbers b digits n s white d = record {
-  plain = uncommented-split text b digits s.outside (white_is_not_sharp b white) ∙ ap₂ (λ (x y : List ℕ). x ++ b ∷ y) s.plain (uncommented-digits digits d.digits);
+  plain = uncommented-split text b digits s.outside (white_is_not_sharp b white) ∙ ap₂ (λ (x y : List ℕ). x ++ b ∷ y) s.plain (uncommented_digits digits d.digits);
   outside = outside_more text b digits s.outside white (outside-digits digits d.digits);
   decimal = All-append (λ x. is_body_byte x ≡ true) text (b ∷ digits) s.decimal
-      (All-cons (λ x. is_body_byte x ≡ true) b digits (white_by (is_digit b) (is_white b) white) (All-weaker (λ x. is_digit x ≡ true) (λ x. is_body_byte x ≡ true) digit_in_body digits d.digits));
+      (All-cons (λ x. is_body_byte x ≡ true) b digits (or_right (is_digit b) (is_white b) white) (All-weaker (λ x. is_digit x ≡ true) (λ x. is_body_byte x ≡ true) (λ x h. or_left (is_digit x) (is_white x) h) digits d.digits));
   numbers_are = ap (map decimal_value) (words-split text b digits white ∙ ap (λ (w : List (List ℕ)). words text ++ w) (words-digits digits d.some d.digits))
       ∙ map-append decimal_value (words text) (digits ∷ [])
       ∙ ap₂ (λ (x : List ℕ) (k : ℕ). x ++ k ∷ []) s.numbers_are d.value;

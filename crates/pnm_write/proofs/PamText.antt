@@ -1,5 +1,5 @@
 -- The header that is written of a PAM image, as a reader takes it: its lines, and what they say.
-use Rattle.std.proofs.Common.{◌≡◌, ◌≢◌, ℕ, suc, ◌+◌, ◌-◌, ◌<◌, ◌≤◌, Bool, true, false, not, ◌==◌, List, [], ◌∷◌, ◌++◌, length, slice_index, All, codes, decimal, refl, sym, ap, subst, ◌∙◌, append_assoc, append-nil, length-append, arith}
+use Rattle.std.proofs.Common.{◌≡◌, ◌≢◌, ℕ, ◌+◌, ◌<◌, ◌≤◌, Bool, true, false, not, ◌==◌, List, [], ◌∷◌, ◌++◌, length, All, codes, decimal, refl, sym, ap, subst, ◌∙◌, append_assoc, append-nil, length-append, arith}
 use Rattle.std.specs.List.{AllPass, AllByRecursion, list_all}
 use Rattle.std.proofs.lemmas.Bool.Decides.{nat_tests}
 use Rattle.std.proofs.lemmas.List.Elements.{All-head, All-tail}
@@ -7,16 +7,17 @@ use Rattle.std.proofs.lemmas.List.Sums.{AllPass-from_list_all}
 use Rattle.pnm_image.specs.declared.shape.Shape.{Shape}
 use Rattle.pnm_image.specs.declared.shape.Kind.TheVariants.{Pam}
 use Rattle.pnm_image.specs.Heads.{HeadValue, IsHead, IsTupleType}
-use Rattle.pnm_image.specs.Texts.{is_blank, is_digit, decimal_value}
+use Rattle.pnm_image.specs.Texts.{is_digit, decimal_value}
 use Rattle.pnm_read.specs.declared.format.Format.{Format}
 use Rattle.pnm_read.specs.declared.line.Field.{Field}
 use Rattle.pnm_read.specs.declared.line.Field.TheVariants.{Width, Height, Depth, Maxval}
 use Rattle.pnm_read.specs.declared.line.LineKind.{LineKind}
 use Rattle.pnm_read.specs.declared.line.LineKind.TheVariants.{Number, End}
-use Rattle.pnm_read.specs.PamLines.{trimmed_start, onto_trimmed, trimmed_end, token_of, after_token, second_token, value_of, name_of, kind_of_token, line_kind, field_values, tuple_type_in}
+use Rattle.pnm_read.specs.PamLines.{trimmed_start, trimmed_end, token_of, after_token, second_token, value_of, name_of, kind_of_token, line_kind, field_values, tuple_type_in}
 use Rattle.pnm_read.specs.Headers.{MaySay, IsPamLine, SpellsPamHeader}
 use Rattle.pnm_read.specs.Rasters.{SpellsDecimal}
 use Rattle.pnm_read.proofs.LineLaws.{with_feeds}
+use Rattle.pnm_read.proofs.TupleTypeLaws.{trimmed_start-same, trimmed_end-same}
 use Rattle.pnm_write.specs.Encoding.{tuple_type_line, pam_text}
 use Rattle.pnm_write.proofs.DecimalText.{decimal_spells, decimal_short, first_token-digits, one_line-digits}
 
@@ -75,22 +76,6 @@ number_line_short Maxval digits h = omega (arith, length-append digits (10 ∷ [
 abbrev tuple_type_lines : List ℕ → List (List ℕ)
 tuple_type_lines [] = []
 tuple_type_lines (b ∷ text) = (codes "TUPLTYPE" ++ 32 ∷ b ∷ text) ∷ []
-
--- nothing is cut off at the end of a text that doesn't end with white space
-trimmed_end-same : (text : List ℕ) → (0 < length text → is_blank (slice_index text (length text - 1)) ≡ false) → trimmed_end text ≡ text
-unfolding trimmed_end
-trimmed_end-same [] h = refl
-trimmed_end-same (b ∷ []) h = rw (h (omega arith)) refl
-trimmed_end-same (b ∷ c ∷ text) h =
-    let further : length (b ∷ c ∷ text) - 1 ≡ suc (length (c ∷ text) - 1) = omega arith in
-    let last : 0 < length (c ∷ text) → is_blank (slice_index (c ∷ text) (length (c ∷ text) - 1)) ≡ false =
-    λ some. subst (λ (i : ℕ). is_blank (slice_index (b ∷ c ∷ text) i) ≡ false) further (h (omega arith)) in
-    ap (onto_trimmed b) (trimmed_end-same (c ∷ text) last)
-
--- nothing is cut off at its start
-trimmed_start-same : (b : ℕ) (text : List ℕ) → is_blank b ≡ false → trimmed_start (b ∷ text) ≡ b ∷ text
-unfolding trimmed_start
-trimmed_start-same b text h = rw h refl
 
 -- the value of its line is the tuple type
 tuple_type_value : (b : ℕ) (text : List ℕ) → IsTupleType (b ∷ text) → value_of (codes "TUPLTYPE" ++ 32 ∷ b ∷ text) ≡ b ∷ text

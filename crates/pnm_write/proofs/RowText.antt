@@ -1,6 +1,7 @@
 -- The bytes that are written of a row are those that a reader takes for one, and give the row again.
-use Rattle.std.proofs.Common.{◌≡◌, ℕ, ◌+◌, ◌*◌, ◌/◌, ◌%◌, ◌≤◌, Bool, true, false, nat_lt, if◌then◌else◌, List, [], ◌∷◌, length, take, flat_map, All, refl, sym, ap, ap₂, subst, ◌∙◌, arith}
+use Rattle.std.proofs.Common.{◌≡◌, ℕ, ◌+◌, ◌*◌, ◌/◌, ◌≤◌, Bool, true, false, nat_lt, if◌then◌else◌, List, [], ◌∷◌, length, take, flat_map, All, refl, sym, ap, ap₂, subst, ◌∙◌, arith}
 use Rattle.std.proofs.lemmas.List.{length-map}
+use Rattle.std.proofs.Math.Nat.{div-add-mod}
 use Rattle.pnm_image.specs.declared.shape.Shape.{Shape}
 use Rattle.pnm_image.specs.declared.shape.Kind.{Kind}
 use Rattle.pnm_image.specs.declared.shape.Kind.TheVariants.{Bit, Gray, Color, Pam}
@@ -24,13 +25,10 @@ length-wide_bytes : (row : List ℕ) → length (wide_bytes row) ≡ 2 * length 
 length-wide_bytes [] = refl
 length-wide_bytes (sample ∷ row) = omega (arith, length-wide_bytes row)
 
-two_bytes : (sample : ℕ) → 256 * (sample / 256) + sample % 256 ≡ sample
-two_bytes sample = omega arith
-
 wide_again : (row : List ℕ) → wide_samples (wide_bytes row) ≡ row
 unfolding wide_samples
 wide_again [] = refl
-wide_again (sample ∷ row) = ap₂ (λ (x : ℕ) (l : List ℕ). x ∷ l) (two_bytes sample) (wide_again row)
+wide_again (sample ∷ row) = ap₂ (λ (x : ℕ) (l : List ℕ). x ∷ l) (div-add-mod sample 256) (wide_again row)
 
 length-packed_bytes : (row : List ℕ) → length (packed_bytes row) ≡ (length row + 7) / 8
 length-packed_bytes row = length-map (cut_rows ((length row + 7) / 8) 8 row) packed_byte ∙ length-cut_rows ((length row + 7) / 8) 8 row

@@ -1,9 +1,10 @@
 use Rattle.std.proofs.Common.{rules, ◌≡◌, Some, inr, refl, ◌∙◌, arith}
 use Rattle.std.proofs.lemmas.List.{take_at}
 use Rattle.pnm_read.specs.Sources.{reader_of}
+use Rattle.pnm_read.proofs.StreamLaws.{no_text_fault}
 use Rattle.pnm_flow.specs.Downstreams.{output_of}
 use Rattle.pnm_flow.specs.SerialStages.{refusals_in}
-use Rattle.pnm_flow.proofs.RunSteps.{no_text_fault, input_fault, said_before_fault, failed_so, run_front, run_all, run_refused, run_taken, run_output, run_sound, run_well, ran_of}
+use Rattle.pnm_flow.proofs.RunSteps.{input_fault, said_before_fault, failed_so, run_front, run_all, run_refused, run_taken, run_output, run_sound, run_well, ran_of}
 use Rattle.pnm_flow.proofs.serial.run_serial.Goals as goal
 
 pub returns-in-Err-new-clause-all_written : goal.returns-in-Err-new-clause-all_written

@@ -1,13 +1,8 @@
-use Rattle.std.proofs.Common.{◌≡◌, ◌+◌, ◌*◌, ◌-◌, ◌/◌, ◌<◌, ◌++◌, Bool, false, List, ℕ, zero, suc, length, drop, replicate, refl, ap₂, arith}
-use Rattle.std.specs.Prelude.{◌==◌}
+use Rattle.std.proofs.Common.{◌≡◌, ◌+◌, ◌*◌, ◌-◌, ◌/◌, ◌<◌, ◌++◌, List, ℕ, length, drop, replicate, refl, ap₂, arith, pos_of_ne-zero, sym, ◌∙◌}
 use Rattle.std.proofs.lemmas.List.{drop-replicate}
+use Rattle.std.proofs.lemmas.Bool.{eqb-false}
 use Rattle.pnm_write.proofs.PackingLaws.{groups_step, last_step}
 use Rattle.pnm_write.proofs.packing.pack.Goals as goal
-
--- a list that isn't empty
-some_left : (n : ℕ) (b : Bool) → b ≡ (n == 0) → b ≡ false → 0 < n
-some_left zero b e not_nil = absurd cc
-some_left (suc n) b e not_nil = omega arith
 
 pub loop-i-preserved : goal.loop-i-preserved
 loop-i-preserved c =
@@ -17,7 +12,7 @@ pub returns-clause-bytes : goal.returns-clause-bytes
 returns-clause-bytes c =
     let rest : List ℕ = c.split_at.result.1.now in
     let last : List ℕ = c.copy_from_slice.new.self ++ drop (length rest) (replicate 8 1) in
-    let some : 0 < length rest = some_left (length rest) c.is_empty.result c.is_empty.ensures c.if-is_empty.false in
+    let some : 0 < length rest = pos_of_ne-zero (eqb-false (length rest) 0 (sym c.is_empty.ensures ∙ c.if-is_empty.false)) in
     let filled : last ≡ rest ++ replicate (8 - length rest) 1 = ap₂ (λ (a b : List ℕ). a ++ b) c.copy_from_slice.ensures.after (drop-replicate (length rest) 8 1) in
     let whole : c.loop-i.i ≡ length c.args.samples.now / 8 = omega arith in
     let below : length c.args.samples.now / 8 < length c.loop-i.room = omega (arith, c.split_at.ensures.back_len) in
