@@ -30,3 +30,11 @@ first_and_rest (b ∷ text) le = ap (λ (l : List ℕ). b ∷ l) (sym (take_all 
 -- a list with an element is not empty
 pub not_nil : {A : Type 0} (x : A) (xs : List A) → x ∷ xs ≡ [] → ⊥
 not_nil x xs e = absurd cc
+
+-- equal lists have the same first element
+pub same_first : {A : Type 0} (x y : A) (xs ys : List A) → x ∷ xs ≡ y ∷ ys → x ≡ y
+same_first x y xs ys e = cc
+
+-- and the same rest
+pub same_rest : {A : Type 0} (x y : A) (xs ys : List A) → x ∷ xs ≡ y ∷ ys → xs ≡ ys
+same_rest x y xs ys e = cc

@@ -4,6 +4,7 @@ use Rattle.pnm_image.specs.declared.message.Message.{Message}
 use Rattle.pnm_image.specs.declared.message.Message.TheVariants.{StreamEnd}
 use Rattle.pnm_image.specs.Images.{Image, AreImages, rows_of, messages_of_image, messages_of_stream}
 use Rattle.pnm_image.specs.Completion.{Completes}
+use Rattle.pnm_image.proofs.Lists.{same_first, same_rest}
 use Rattle.pnm_tools.specs.declared.fault.ToolFault.{ToolFault}
 use Rattle.pnm_tools.specs.declared.tool.Tool.{Tool}
 use Rattle.pnm_tools.specs.Tools.{applied, output_due}
@@ -25,19 +26,13 @@ record Beyond (ms due g rest : List Message) : Type 0 where
   left : due ≡ more ++ rest
   ends : EndsBy Whole more
 
-first_same : (m x : Message) (ms xs : List Message) → m ∷ ms ≡ x ∷ xs → m ≡ x
-first_same m x ms xs e = cc
-
-rest_same : (m x : Message) (ms xs : List Message) → m ∷ ms ≡ x ∷ xs → ms ≡ xs
-rest_same m x ms xs e = cc
-
 goes_beyond : (ms due g rest : List Message) → EndNothing ms → ms ++ due ≡ g ++ rest → EndsBy Whole g → Beyond ms due g rest
 goes_beyond [] due g rest on e ends = record { more = g; whole = refl; left = e; ends = ends }
 goes_beyond (m ∷ ms) due [] rest on e ends = none_ends ends
-goes_beyond (m ∷ ms) due (x ∷ []) rest on e ends = not_whole (sym on.0 ∙ ap ending_of (first_same m x (ms ++ due) rest e) ∙ ends)
+goes_beyond (m ∷ ms) due (x ∷ []) rest on e ends = not_whole (sym on.0 ∙ ap ending_of (same_first m x (ms ++ due) rest e) ∙ ends)
 goes_beyond (m ∷ ms) due (x ∷ y ∷ g) rest on e ends =
-    let r = goes_beyond ms due (y ∷ g) rest on.1 (rest_same m x (ms ++ due) (y ∷ g ++ rest) e) ends.1 in
-    record { more = r.more; whole = ap (λ (l : List Message). x ∷ l) r.whole ∙ ap (λ (k : Message). k ∷ (ms ++ r.more)) (sym (first_same m x (ms ++ due) (y ∷ g ++ rest) e)); left = r.left; ends = r.ends }
+    let r = goes_beyond ms due (y ∷ g) rest on.1 (same_rest m x (ms ++ due) (y ∷ g ++ rest) e) ends.1 in
+    record { more = r.more; whole = ap (λ (l : List Message). x ∷ l) r.whole ∙ ap (λ (k : Message). k ∷ (ms ++ r.more)) (sym (same_first m x (ms ++ due) (y ∷ g ++ rest) e)); left = r.left; ends = r.ends }
 
 image_goes_on : (i : Image) → EndNothing (messages_of_image i)
 image_goes_on i = (refl, end_ends_nothing (rows_of i))
@@ -51,8 +46,8 @@ no_front (m ∷ g) rest e ends = absurd cc
 
 end_alone : (tool : Tool) (g rest : List Message) → StreamEnd ∷ [] ≡ g ++ rest → EndsBy Whole g → IsResult tool [] g
 end_alone tool [] rest e ends = none_ends ends
-end_alone tool (x ∷ []) rest e ends = ([], tt, ap (λ (m : Message). m ∷ []) (sym (first_same StreamEnd x [] rest e)))
-end_alone tool (x ∷ y ∷ g) rest e ends = let none = rest_same StreamEnd x [] (y ∷ g ++ rest) e in absurd cc
+end_alone tool (x ∷ []) rest e ends = ([], tt, ap (λ (m : Message). m ∷ []) (sym (same_first StreamEnd x [] rest e)))
+end_alone tool (x ∷ y ∷ g) rest e ends = let none = same_rest StreamEnd x [] (y ∷ g ++ rest) e in absurd cc
 
 image_by : (tool : Tool) (i : Image) (is : List Image) (g rest : List Message) (r : Result Image ToolFault) → applied tool i ≡ r → due_by tool is r ≡ g ++ rest → EndsBy Whole g
     → ((h : List Message) → output_due tool is ≡ h ++ rest → EndsBy Whole h → IsResult tool is h) → IsResult tool (i ∷ is) g

@@ -23,6 +23,7 @@ use Rattle.clap.proofs.FaultLemmas.{free_args}
 use Rattle.clap.proofs.OnLiterals.{clap_on_literals}
 use Rattle.clap.proofs.SimpleLemmas.{plain_fields, ready_simple, simple_groups, HasPlainFields}
 use Rattle.clap.proofs.WalkLemmas.{first_value-rows, one_text-rows}
+use Rattle.pnm_image.proofs.Lists.{same_first, same_rest}
 use Rattle.pnmpipe.proofs.DefaultReads.{default_reads}
 use Rattle.pnmpipe.specs.CommandLine.{program, chain_rule, ring_rule, FitsKind, GivesChain, IsFaultOfWords, ring_of}
 use Rattle.pnmpipe.specs.declared.command_line.CommandLineFault.{CommandLineFault}
@@ -77,27 +78,21 @@ pub record HasTwo {A B : Type 0} (f : A → B) (xs : List A) (y z : B) : Type 0 
   pub first_is : f first ≡ y
   pub second_is : f second ≡ z
 
-head_is : {A : Type 0} (x y : A) (xs ys : List A) → x ∷ xs ≡ y ∷ ys → x ≡ y
-head_is x y xs ys e = cc
-
-tail_is : {A : Type 0} (x y : A) (xs ys : List A) → x ∷ xs ≡ y ∷ ys → xs ≡ ys
-tail_is x y xs ys e = cc
-
 two_of : {A B : Type 0} (f : A → B) (xs : List A) (y z : B) → map f xs ≡ y ∷ z ∷ [] → HasTwo f xs y z
 two_of f [] y z e = cc
 two_of f (a ∷ []) y z e =
-    let bad : [] ≡ z ∷ [] = tail_is (f a) y [] (z ∷ []) e in
+    let bad : [] ≡ z ∷ [] = same_rest (f a) y [] (z ∷ []) e in
     cc
 two_of f (a ∷ b ∷ []) y z e = record {
   first = a;
   second = b;
   list = refl;
-  first_is = head_is (f a) y (f b ∷ []) (z ∷ []) e;
-  second_is = head_is (f b) z [] [] (tail_is (f a) y (f b ∷ []) (z ∷ []) e);
+  first_is = same_first (f a) y (f b ∷ []) (z ∷ []) e;
+  second_is = same_first (f b) z [] [] (same_rest (f a) y (f b ∷ []) (z ∷ []) e);
 }
 two_of f (a ∷ b ∷ x ∷ xs) y z e =
-    let bad : f b ∷ f x ∷ map f xs ≡ z ∷ [] = tail_is (f a) y (f b ∷ f x ∷ map f xs) (z ∷ []) e in
-    let worse : f x ∷ map f xs ≡ [] = tail_is (f b) z (f x ∷ map f xs) [] bad in
+    let bad : f b ∷ f x ∷ map f xs ≡ z ∷ [] = same_rest (f a) y (f b ∷ f x ∷ map f xs) (z ∷ []) e in
+    let worse : f x ∷ map f xs ≡ [] = same_rest (f b) z (f x ∷ map f xs) [] bad in
     cc
 
 -- what a command is that reads like the program's
