@@ -3,6 +3,8 @@
 use super::parts::{Case, HeadCase, Part, answers, are_made_of, channel, gives_heads, results};
 use crate::ToolFault;
 use pnm_image::Kind;
+use std::alloc::Global;
+use std::process::Abort;
 use std::test::Fail;
 
 /// Two columns and two rows of three planes.
@@ -99,13 +101,37 @@ const FIRST: &[Case<'static>] = &[
     ),
 ];
 
+/// The pick of these planes answers each case as it says.
+fn picks(
+    rt: &impl Abort,
+    alloc: Global,
+    numbers: &[u16],
+    tuple_type: &str,
+    cases: &[Case<'_>],
+) -> Result<(), Fail> {
+    let tool = channel(alloc, numbers, tuple_type)?;
+    answers(rt, alloc, &tool, cases)
+}
+
 #[test]
 fn picks_in_order(rt: HostRuntime) -> Result<(), Fail> {
     let alloc = rt.alloc();
-    answers(&rt, alloc, &channel(alloc, &[2, 1, 0], "")?, REVERSED)?;
-    answers(&rt, alloc, &channel(alloc, &[1, 1, 0, 1], "A B")?, REPEATED)?;
-    answers(&rt, alloc, &channel(alloc, &[0, 1, 2], "RGB")?, SAME)?;
-    answers(&rt, alloc, &channel(alloc, &[0], "")?, FIRST)
+    picks(&rt, alloc, &[2, 1, 0], "", REVERSED)?;
+    picks(&rt, alloc, &[1, 1, 0, 1], "A B", REPEATED)?;
+    picks(&rt, alloc, &[0, 1, 2], "RGB", SAME)?;
+    picks(&rt, alloc, &[0], "", FIRST)
+}
+
+/// The head rule of the pick of these planes answers each case as it says.
+fn picks_heads(
+    rt: &impl Abort,
+    alloc: Global,
+    numbers: &[u16],
+    tuple_type: &str,
+    cases: &[HeadCase<'_>],
+) -> Result<(), Fail> {
+    let tool = channel(alloc, numbers, tuple_type)?;
+    gives_heads(rt, alloc, &tool, cases)
 }
 
 /// A number that is the depth, or above it, at any place.
@@ -130,8 +156,7 @@ const OUTSIDE: &[HeadCase<'static>] = &[
 #[test]
 fn refuses_planes_outside(rt: HostRuntime) -> Result<(), Fail> {
     for numbers in [[3, 0], [0, 3], [3, 3]] {
-        let tool = channel(rt.alloc(), numbers.as_slice(), "B")?;
-        gives_heads(&rt, rt.alloc(), &tool, OUTSIDE)?;
+        picks_heads(&rt, rt.alloc(), numbers.as_slice(), "B", OUTSIDE)?;
     }
     Ok(())
 }
@@ -144,8 +169,7 @@ const MOST_PLANES: &[HeadCase<'static>] = &[
 
 #[test]
 fn picks_the_last_plane(rt: HostRuntime) -> Result<(), Fail> {
-    let tool = channel(rt.alloc(), &[255], "")?;
-    gives_heads(&rt, rt.alloc(), &tool, MOST_PLANES)
+    picks_heads(&rt, rt.alloc(), &[255], "", MOST_PLANES)
 }
 
 /// Seventeen planes of gray: a row may have 16,777,216 samples, and 17 times 986,895 is 16,777,215.
@@ -181,11 +205,10 @@ const OUTSIDE_AND_WIDE: &[HeadCase<'static>] = &[(
 #[test]
 fn refuses_large_results(rt: HostRuntime) -> Result<(), Fail> {
     let alloc = rt.alloc();
-    let mut numbers = [0; 17];
-    gives_heads(&rt, alloc, &channel(alloc, &numbers, "")?, WIDE)?;
-    gives_heads(&rt, alloc, &channel(alloc, &numbers[..16], "")?, LESS_WIDE)?;
-    numbers[16] = 1;
-    gives_heads(&rt, alloc, &channel(alloc, &numbers, "")?, OUTSIDE_AND_WIDE)
+    picks_heads(&rt, alloc, &[0; 17], "", WIDE)?;
+    picks_heads(&rt, alloc, &[0; 16], "", LESS_WIDE)?;
+    let outside = [0, 0, 0, 0, 0, 0, 0, 0, 0, 0, 0, 0, 0, 0, 0, 0, 1];
+    picks_heads(&rt, alloc, &outside, "", OUTSIDE_AND_WIDE)
 }
 
 /// All 256 planes in the reverse order: sample p of the result is sample 255 - p.

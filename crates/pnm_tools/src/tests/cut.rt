@@ -1,9 +1,10 @@
 //! Which part of an image `pamcut` keeps.
 
-use super::parts::{Part, WHOLE, head, is_made_of, message, shape, start, take_all};
+use super::parts::{Part, WHOLE, gives_heads, is_made_of, message, start, take_all};
 use crate::{CutBox, Filter, Tool, ToolFault, ToolState};
-use pnm_image::{Kind, Message, Samples, Shape};
+use pnm_image::{Kind, Message, Samples};
 use std::alloc::Global;
+use std::process::Abort;
 use std::test::Fail;
 
 /// A start, an end and a size.
@@ -112,22 +113,21 @@ const AXES: &[AxisCase] = &[
     (1_000_000, (None, Some(-1), Some(1_000_001)), None),
 ];
 
-/// What the cut of this axis keeps, by the head of its result.
-fn head_of(
+/// The head of the cut of an image of these sizes has those, if there are any, and is refused
+/// otherwise.
+fn keeps(
+    rt: &impl Abort,
     alloc: Global,
     cut: CutBox,
-    width: u32,
-    height: u32,
-) -> Result<Result<Shape, ToolFault>, Fail> {
-    let tool = Tool::Cut(cut);
-    if !tool.is_lawful() {
-        return Err(Fail::new("the cut isn't lawful"));
-    }
-    let head = head(alloc, shape(Kind::Gray, width, height, 9), "")?;
-    Ok(match tool.head(alloc, &head) {
-        Ok(result) => Ok(result.shape()),
-        Err(fault) => Err(fault),
-    })
+    (width, height): (u32, u32),
+    kept: Option<(u32, u32)>,
+) -> Result<(), Fail> {
+    let want = match kept {
+        Some((width, height)) => Ok(Part::Begin(Kind::Gray, width, height, 9)),
+        None => Err(ToolFault::CutOutside),
+    };
+    let head = Part::Begin(Kind::Gray, width, height, 9);
+    gives_heads(rt, alloc, &Tool::Cut(cut), &[(head, want)])
 }
 
 /// Each row of the table of options, along both axes.
@@ -135,11 +135,8 @@ fn head_of(
 fn keeps_columns_and_rows(rt: HostRuntime) -> Result<(), Fail> {
     for (length, (start, end, size), kept) in AXES {
         let (across, down) = match kept {
-            Some((_, count)) => (
-                Ok(shape(Kind::Gray, *count, 3, 9)),
-                Ok(shape(Kind::Gray, 3, *count, 9)),
-            ),
-            None => (Err(ToolFault::CutOutside), Err(ToolFault::CutOutside)),
+            Some((_, count)) => (Some((*count, 3)), Some((3, *count))),
+            None => (None, None),
         };
         let columns = CutBox {
             left: *start,
@@ -147,16 +144,14 @@ fn keeps_columns_and_rows(rt: HostRuntime) -> Result<(), Fail> {
             width: *size,
             ..WHOLE
         };
-        let answer = head_of(rt.alloc(), columns, *length, 3)?;
-        assert_eq!(rt; answer, across, "at {length} and {columns:?}");
+        keeps(&rt, rt.alloc(), columns, (*length, 3), across)?;
         let rows = CutBox {
             top: *start,
             bottom: *end,
             height: *size,
             ..WHOLE
         };
-        let answer = head_of(rt.alloc(), rows, 3, *length)?;
-        assert_eq!(rt; answer, down, "at {length} and {rows:?}");
+        keeps(&rt, rt.alloc(), rows, (3, *length), down)?;
     }
     Ok(())
 }
@@ -245,20 +240,35 @@ fn keeps_samples(rt: HostRuntime) -> Result<(), Fail> {
                 width: *columns,
                 height: *rows,
             };
-            let (given, fault) = cut_image(rt.alloc(), cut, *width, *height)?;
-            match (across, down) {
-                (Some(across), Some(down)) => {
-                    assert_eq!(rt; fault, None, "at {width}, {height} and {cut:?}");
-                    let is_kept = is_image(rt.alloc(), given.as_slice(), *across, *down)?;
-                    assert!(rt; is_kept, "{given:?} at {width}, {height} and {cut:?}");
-                }
-                _ => {
-                    let outside = Some(ToolFault::CutOutside);
-                    assert_eq!(rt; fault, outside, "at {width}, {height} and {cut:?}");
-                    assert!(rt; given.is_empty(), "at {width}, {height} and {cut:?}");
-                }
-            }
+            let left = match (across, down) {
+                (Some(across), Some(down)) => Some((*across, *down)),
+                _ => None,
+            };
+            keeps_image(&rt, rt.alloc(), cut, (*width, *height), left)?;
         }
     }
+    Ok(())
+}
+
+/// The cut of an image of these sizes gives these columns and rows, if there are any, and is refused
+/// otherwise.
+fn keeps_image(
+    rt: &impl Abort,
+    alloc: Global,
+    cut: CutBox,
+    (width, height): (u32, u32),
+    left: Option<(Kept, Kept)>,
+) -> Result<(), Fail> {
+    let (given, fault) = cut_image(alloc, cut, width, height)?;
+    let is_so = match left {
+        Some((columns, rows)) => {
+            fault.is_none() && is_image(alloc, given.as_slice(), columns, rows)?
+        }
+        None => fault == Some(ToolFault::CutOutside) && given.is_empty(),
+    };
+    assert!(rt;
+        is_so,
+        "{given:?} and {fault:?} at {width}, {height} and {cut:?}"
+    );
     Ok(())
 }

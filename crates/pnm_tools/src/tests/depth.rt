@@ -2,8 +2,9 @@
 
 use super::parts::{Case, HeadCase, Part, answers, gives_heads, results};
 use crate::Tool;
-use pnm_image::{Kind, Message, Samples};
+use pnm_image::{Kind, Message};
 use std::alloc::Global;
+use std::process::Abort;
 use std::test::Fail;
 
 /// The samples of a row of one image of grays, at another maxval.
@@ -12,14 +13,10 @@ fn rescaled(alloc: Global, new: u16, old: u16, samples: &[u16]) -> Result<Vec<u1
     let head = Part::Begin(Kind::Gray, width, 1, u32::from(old));
     let parts = [head, Part::Row(samples), Part::ImageEnd];
     let given = results(alloc, &Tool::Depth(u32::from(new)), &parts)?;
-    let mut rows = Vec::new(alloc);
-    for message in given {
-        if let Message::Row(row) = message {
-            rows.push(row)?;
-        }
+    match given.get(1) {
+        Some(Message::Row(row)) => Ok(Vec::from_slice(alloc, row.as_slice())?),
+        _ => Err(Fail::new("no row")),
     }
-    let row = rows.pop().ok_or("no row")?;
-    Ok(row.into_vec())
 }
 
 /// The new maxval, the old one, a row, and what becomes of it.
@@ -83,74 +80,96 @@ const ROWS: &[RowCase<'static>] = &[
     (1, 1, &[0, 1], &[0, 1]),
 ];
 
+/// The row is as it should be.
+fn is_row(rt: &impl Abort, row: &[u16], want: &[u16]) {
+    assert!(rt; row == want, "{row:?} in place of {want:?}");
+}
+
 #[test]
 fn takes_the_nearest(rt: HostRuntime) -> Result<(), Fail> {
     for (new, old, samples, want) in ROWS {
         let row = rescaled(rt.alloc(), *new, *old, samples)?;
-        assert_eq!(rt; row.as_slice(), *want, "at {samples:?} of {old} to {new}");
+        is_row(&rt, row.as_slice(), want);
     }
     Ok(())
 }
 
-/// The nearest sample by the formula.
-fn nearest(new: u16, old: u16, sample: u16) -> u64 {
+/// The nearest sample by the formula, which is at most the new maxval.
+fn nearest(new: u16, old: u16, sample: u16) -> u16 {
     let (new, old, sample) = (u64::from(new), u64::from(old), u64::from(sample));
-    (2 * sample * new + old).checked_div(2 * old).unwrap_or(0)
+    let nearest = (2 * sample * new + old).checked_div(2 * old).unwrap_or(0);
+    u16::try_from(nearest).unwrap_or(0)
 }
+
+/// The new maxval and the old one.
+const MAXVALS: &[(u16, u16)] = &[
+    (7, 255),
+    (100, 255),
+    (255, 7),
+    (1, 65_535),
+    (256, 65_535),
+    (65_534, 65_535),
+    (65_535, 256),
+    (65_535, 65_534),
+    (999, 1000),
+    (1000, 999),
+    (3, 2),
+];
 
 /// Every sample by the formula: in one row it is looked up, and computed in a row without the least
 /// sample.
 #[test]
 fn follows_the_formula(rt: HostRuntime) -> Result<(), Fail> {
-    for (new, old) in [
-        (7, 255),
-        (100, 255),
-        (255, 7),
-        (1, 65_535),
-        (256, 65_535),
-        (65_534, 65_535),
-        (65_535, 256),
-        (65_535, 65_534),
-        (999, 1000),
-        (1000, 999),
-        (3, 2),
-    ] {
+    for (new, old) in MAXVALS {
         for least in [0, 1] {
-            let samples: Vec<u16> = (least..=old).collect(rt.alloc())?;
-            let row = rescaled(rt.alloc(), new, old, samples.as_slice())?;
-            assert_eq!(rt; row.len(), samples.len());
-            for (sample, result) in samples.iter().zip(row.iter()) {
-                let want = nearest(new, old, *sample);
-                assert_eq!(rt; u64::from(*result), want, "at {sample} of {old} to {new}");
-            }
+            let samples: Vec<u16> = (least..=*old).collect(rt.alloc())?;
+            rescales_by_formula(&rt, rt.alloc(), *new, *old, samples.as_slice())?;
         }
     }
     Ok(())
+}
+
+/// The row becomes what the formula says.
+fn rescales_by_formula(
+    rt: &impl Abort,
+    alloc: Global,
+    new: u16,
+    old: u16,
+    samples: &[u16],
+) -> Result<(), Fail> {
+    let mut wants = Vec::new(alloc);
+    for sample in samples {
+        wants.push(nearest(new, old, *sample))?;
+    }
+    let row = rescaled(alloc, new, old, samples)?;
+    is_row(rt, row.as_slice(), wants.as_slice());
+    Ok(())
+}
+
+/// What becomes of each sample up to 255 in an image of its own.
+fn one_by_one(alloc: Global) -> Result<Vec<u16>, Fail> {
+    let mut results = Vec::new(alloc);
+    for sample in 0..256 {
+        let pixel = rescaled(alloc, 100, 255, &[sample])?;
+        results.push(*pixel.get(0).ok_or("no sample")?)?;
+    }
+    Ok(results)
 }
 
 /// An image of many samples is as its samples are in images of one.
 #[test]
 fn looks_up_what_it_computes(rt: HostRuntime) -> Result<(), Fail> {
     let alloc = rt.alloc();
-    let mut one_by_one = Vec::new(alloc);
-    for sample in 0..256 {
-        let pixel = rescaled(alloc, 100, 255, &[sample])?;
-        one_by_one.extend_from_slice(pixel.as_slice())?;
-    }
-    assert_eq!(rt; one_by_one.len(), 256);
+    let results = one_by_one(alloc)?;
     let mut samples = Vec::new(alloc);
+    let mut wants = Vec::new(alloc);
     for x in 0..70_000_u32 {
-        samples.push((x % 256) as u16)?;
+        let sample = (x % 256) as u16;
+        samples.push(sample)?;
+        wants.push(*results.get(sample as usize).ok_or("no result")?)?;
     }
     let row = rescaled(alloc, 100, 255, samples.as_slice())?;
-    assert_eq!(rt; row.len(), 70_000);
-    for (sample, result) in samples.iter().zip(row.iter()) {
-        assert_eq!(rt;
-            one_by_one.get(*sample as usize),
-            Some(result),
-            "at {sample}"
-        );
-    }
+    is_row(&rt, row.as_slice(), wants.as_slice());
     Ok(())
 }
 

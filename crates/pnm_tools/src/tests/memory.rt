@@ -2,6 +2,7 @@
 //! answers `Memory`, and a tool at work answers it for good though memory is there again.
 //! `scripts/refused_growth_of_tools.sh` refuses each allocation of these tests in turn.
 
+use super::copies::picks;
 use super::parts::{Part, WHOLE, channel, is_made_of, message, stays};
 use crate::{CutBox, Filter, FlipWay, Tool, ToolFault, ToolState};
 use pnm_image::{Kind, Message};
@@ -116,23 +117,37 @@ const REST: CutBox = CutBox {
     ..WHOLE
 };
 
+/// What the tool gives is made of this part, if there is one.
+fn is_wanted(rt: &impl Abort, message: &Message, want: Option<&Part<'_>>) {
+    assert!(rt;
+        want.is_some_and(|want| is_made_of(message, *want)),
+        "{message:?} in place of {want:?}"
+    );
+}
+
+/// Memory ran out.
+fn is_memory(rt: &impl Abort, fault: ToolFault) {
+    assert_eq!(rt; fault, ToolFault::Memory);
+}
+
+/// Memory ran out, and the tool answers that for good.
+fn has_run_out(rt: &impl Abort, state: &mut ToolState, fault: ToolFault) {
+    is_memory(rt, fault);
+    stays(rt, state, ToolFault::Memory);
+}
+
 /// Takes what the tool gives, which is made of the parts that are next among these. Whether the
 /// tool goes on.
 fn takes(rt: &impl Abort, state: &mut ToolState, wants: &[Part<'_>], given: &mut usize) -> bool {
     for _ in 0..wants.len() + 1 {
         match state.next() {
             Ok(Some(message)) => {
-                let want = wants.get(*given);
-                assert!(rt;
-                    want.is_some_and(|want| is_made_of(&message, *want)),
-                    "{message:?} in place of {want:?}"
-                );
+                is_wanted(rt, &message, wants.get(*given));
                 *given = given.wrapping_add(1);
             }
             Ok(None) => return true,
             Err(fault) => {
-                assert_eq!(rt; fault, ToolFault::Memory);
-                stays(rt, state, ToolFault::Memory);
+                has_run_out(rt, state, fault);
                 return false;
             }
         }
@@ -147,7 +162,7 @@ fn answers_image(rt: &impl Abort, alloc: Global, tool: &Tool, wants: &[Part<'_>]
     match tool.start(alloc) {
         Ok(mut state) => answers_parts(rt, alloc, &mut state, wants),
         Err(fault) => {
-            assert_eq!(rt; fault, ToolFault::Memory);
+            is_memory(rt, fault);
             false
         }
     }
@@ -167,8 +182,7 @@ fn answers_parts(
             return false;
         };
         if let Err(fault) = state.feed(message) {
-            assert_eq!(rt; fault, ToolFault::Memory, "at {part:?}");
-            stays(rt, state, ToolFault::Memory);
+            has_run_out(rt, state, fault);
             return false;
         }
         if !takes(rt, state, wants, &mut given) {
@@ -271,27 +285,31 @@ fn tiles_with_memory(rt: HostRuntime) {
     assert!(rt; tiles(&rt, rt.alloc()));
 }
 
-/// The tools that hold no list, and the head that each makes of the image's.
-fn heads() -> [(Tool, Part<'static>); 9] {
+/// How many tools and ways hold no list.
+const PLAIN_TOOLS: usize = 9;
+
+/// Each of them, and the head that it makes of the image's.
+fn plain_tool(number: usize) -> (Tool, Part<'static>) {
     let same = Part::Pam(3, 2, 2, 4, "A");
     let wider = Part::Pam(6, 4, 2, 4, "A");
-    [
-        (Tool::Invert, same),
-        (Tool::Cut(REST), Part::Pam(2, 2, 2, 4, "A")),
-        (Tool::Depth(8), Part::Pam(3, 2, 2, 8, "A")),
-        (Tool::Enlarge(2, 2), wider),
-        (Tool::Tile(6, 4), wider),
-        (Tool::Flip(FlipWay::Null), same),
-        (Tool::Flip(FlipWay::LeftRight), same),
-        (Tool::Flip(FlipWay::TopBottom), same),
-        (Tool::Flip(FlipWay::Transpose), Part::Pam(2, 3, 2, 4, "A")),
-    ]
+    match number {
+        0 => (Tool::Invert, same),
+        1 => (Tool::Cut(REST), Part::Pam(2, 2, 2, 4, "A")),
+        2 => (Tool::Depth(8), Part::Pam(3, 2, 2, 8, "A")),
+        3 => (Tool::Enlarge(2, 2), wider),
+        4 => (Tool::Tile(6, 4), wider),
+        5 => (Tool::Flip(FlipWay::Null), same),
+        6 => (Tool::Flip(FlipWay::LeftRight), same),
+        7 => (Tool::Flip(FlipWay::TopBottom), same),
+        _ => (Tool::Flip(FlipWay::Transpose), Part::Pam(2, 3, 2, 4, "A")),
+    }
 }
 
 /// Whether nothing was refused.
 fn gives_heads(rt: &impl Abort, alloc: Global) -> bool {
     let mut refused = false;
-    for (tool, want) in heads() {
+    for number in 0..PLAIN_TOOLS {
+        let (tool, want) = plain_tool(number);
         if !answers_head(rt, alloc, &tool, want) {
             refused = true;
         }
@@ -324,10 +342,7 @@ fn copies_or_runs_out(rt: HostRuntime) {
         answer => answer,
     };
     match answer {
-        Ok(Tool::Channel(planes)) => {
-            assert_eq!(rt; planes.numbers(), [1, 0, 1].as_slice());
-            assert_eq!(rt; planes.tuple_type(), b"B".as_slice());
-        }
-        answer => panic!(rt; "{answer:?} in place of a copy"),
+        Ok(copy) => picks(&rt, &copy, &[1, 0, 1], "B"),
+        Err(fault) => panic!(rt; "{fault:?} in place of a copy"),
     }
 }

@@ -160,14 +160,19 @@ pub(super) fn are_made_of(rt: &impl Abort, given: &[Message], wants: &[Part<'_>]
 
 /// The state answers nothing but this fault, whatever it is asked.
 pub(super) fn stays(rt: &impl Abort, state: &mut ToolState, fault: ToolFault) {
-    for message in [Message::StreamEnd, Message::Stop, Message::ImageEnd] {
-        let answer = state.next();
-        assert!(rt;
-            matches!(answer, Err(other) if other == fault),
-            "at {answer:?}"
-        );
-        assert_eq!(rt; state.feed(message), Err(fault));
-    }
+    refuses_again(rt, state, Message::StreamEnd, fault);
+    refuses_again(rt, state, Message::Stop, fault);
+    refuses_again(rt, state, Message::ImageEnd, fault);
+}
+
+/// The state gives nothing but this fault, and answers this message by it.
+fn refuses_again(rt: &impl Abort, state: &mut ToolState, message: Message, fault: ToolFault) {
+    let answer = state.next();
+    assert!(rt;
+        matches!(answer, Err(other) if other == fault),
+        "at {answer:?}"
+    );
+    assert_eq!(rt; state.feed(message), Err(fault));
 }
 
 /// The tool answers each case as it says.
@@ -261,17 +266,32 @@ pub(super) fn gives_heads(
         return Err(Fail::new("the tool isn't lawful"));
     }
     for (part, want) in cases {
-        let Message::Begin(head) = message(alloc, *part)? else {
-            return Err(Fail::new("the part is no head"));
-        };
-        match (tool.head(alloc, &head), want) {
-            (Ok(result), Ok(want)) => are_made_of(rt, &[Message::Begin(result)], &[*want]),
-            (answer, want) => {
-                assert_eq!(rt; answer.err(), want.err(), "at {part:?} under {tool:?}")
-            }
-        }
+        let head = head_of(alloc, *part)?;
+        is_answered_so(rt, tool.head(alloc, &head), want);
     }
     Ok(())
+}
+
+/// The head that the part is.
+fn head_of(alloc: Global, part: Part<'_>) -> Result<Head, Fail> {
+    match message(alloc, part)? {
+        Message::Begin(head) => Ok(head),
+        _ => Err(Fail::new("the part is no head")),
+    }
+}
+
+/// The answer is the head that is made of this, or this fault.
+fn is_answered_so(
+    rt: &impl Abort,
+    answer: Result<Head, ToolFault>,
+    want: &Result<Part<'_>, ToolFault>,
+) {
+    let is_so = match (answer, want) {
+        (Ok(head), Ok(want)) => is_made_of(&Message::Begin(head), *want),
+        (Err(fault), Err(want)) => fault == *want,
+        _ => false,
+    };
+    assert!(rt; is_so, "not {want:?}");
 }
 
 /// The head rule of the tool refuses each of these heads so.

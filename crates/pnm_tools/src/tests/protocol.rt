@@ -40,21 +40,24 @@ const TILED: &[Part<'static>] = &[Part::Row(&[0, 9, 0]), Part::ImageEnd];
 /// A tool, the head that it gives, and what it gives after that.
 type Example = (Tool, Part<'static>, &'static [Part<'static>]);
 
+/// How many tools there are, with their ways.
+const EXAMPLES: usize = 11;
+
 /// Each tool once, or each way of it.
-fn examples(alloc: Global) -> Result<[Example; 11], Fail> {
-    Ok([
-        (Tool::Invert, HEAD, MIRRORED),
-        (Tool::Cut(WHOLE), HEAD, SAME),
-        (Tool::Depth(5), gray(2, 2, 5), RESCALED),
-        (channel(alloc, &[0], "A")?, Part::Pam(2, 2, 1, 9, "A"), SAME),
-        (Tool::Enlarge(2, 1), gray(4, 2, 9), WIDER),
-        (Tool::Enlarge(1, 2), gray(2, 4, 9), TALLER),
-        (Tool::Flip(FlipWay::Null), HEAD, SAME),
-        (Tool::Flip(FlipWay::LeftRight), HEAD, MIRRORED),
-        (Tool::Flip(FlipWay::TopBottom), HEAD, SAME),
-        (Tool::Flip(FlipWay::Transpose), HEAD, TRANSPOSED),
-        (Tool::Tile(3, 1), gray(3, 1, 9), TILED),
-    ])
+fn example(alloc: Global, number: usize) -> Result<Example, Fail> {
+    Ok(match number {
+        0 => (Tool::Invert, HEAD, MIRRORED),
+        1 => (Tool::Cut(WHOLE), HEAD, SAME),
+        2 => (Tool::Depth(5), gray(2, 2, 5), RESCALED),
+        3 => (channel(alloc, &[0], "A")?, Part::Pam(2, 2, 1, 9, "A"), SAME),
+        4 => (Tool::Enlarge(2, 1), gray(4, 2, 9), WIDER),
+        5 => (Tool::Enlarge(1, 2), gray(2, 4, 9), TALLER),
+        6 => (Tool::Flip(FlipWay::Null), HEAD, SAME),
+        7 => (Tool::Flip(FlipWay::LeftRight), HEAD, MIRRORED),
+        8 => (Tool::Flip(FlipWay::TopBottom), HEAD, SAME),
+        9 => (Tool::Flip(FlipWay::Transpose), HEAD, TRANSPOSED),
+        _ => (Tool::Tile(3, 1), gray(3, 1, 9), TILED),
+    })
 }
 
 /// A head of grays.
@@ -64,7 +67,8 @@ fn gray(width: u32, height: u32, maxval: u32) -> Part<'static> {
 
 /// Each tool goes these steps from its start.
 fn each_goes(rt: &impl Abort, alloc: Global, steps: &[Step<'_>]) -> Result<(), Fail> {
-    for (tool, _, _) in examples(alloc)? {
+    for number in 0..EXAMPLES {
+        let (tool, _, _) = example(alloc, number)?;
         goes(rt, alloc, &tool, steps)?;
     }
     Ok(())
@@ -73,28 +77,39 @@ fn each_goes(rt: &impl Abort, alloc: Global, steps: &[Step<'_>]) -> Result<(), F
 /// The head is given at once, before a row comes, and the rest of the image by its end.
 #[test]
 fn gives_heads_at_once(rt: HostRuntime) -> Result<(), Fail> {
-    let alloc = rt.alloc();
-    for (tool, head, rest) in examples(alloc)? {
-        let image = Step::Answers(&[ROW, ROW, Part::ImageEnd], rest);
-        let steps = [
-            Step::GivesNothing,
-            Step::Takes(HEAD),
-            Step::Gives(head),
-            Step::GivesNothing,
-            image,
-            Step::GivesNothing,
-            Step::Takes(HEAD),
-            Step::Gives(head),
-            Step::GivesNothing,
-            image,
-            Step::GivesNothing,
-            Step::Takes(Part::StreamEnd),
-            Step::Gives(Part::StreamEnd),
-            Step::GivesNothing,
-        ];
-        goes(&rt, alloc, &tool, &steps)?;
+    for number in 0..EXAMPLES {
+        let (tool, head, rest) = example(rt.alloc(), number)?;
+        gives_head_at_once(&rt, rt.alloc(), &tool, head, rest)?;
     }
     Ok(())
+}
+
+/// The tool gives so of two images and the end of the stream.
+fn gives_head_at_once(
+    rt: &impl Abort,
+    alloc: Global,
+    tool: &Tool,
+    head: Part<'static>,
+    rest: &'static [Part<'static>],
+) -> Result<(), Fail> {
+    let image = Step::Answers(&[ROW, ROW, Part::ImageEnd], rest);
+    let steps = [
+        Step::GivesNothing,
+        Step::Takes(HEAD),
+        Step::Gives(head),
+        Step::GivesNothing,
+        image,
+        Step::GivesNothing,
+        Step::Takes(HEAD),
+        Step::Gives(head),
+        Step::GivesNothing,
+        image,
+        Step::GivesNothing,
+        Step::Takes(Part::StreamEnd),
+        Step::Gives(Part::StreamEnd),
+        Step::GivesNothing,
+    ];
+    goes(rt, alloc, tool, &steps)
 }
 
 /// No message is taken until `next` has answered `None`, though all was given.
@@ -102,7 +117,8 @@ fn gives_heads_at_once(rt: HostRuntime) -> Result<(), Fail> {
 fn waits_until_all_is_given(rt: HostRuntime) -> Result<(), Fail> {
     let alloc = rt.alloc();
     each_goes(&rt, alloc, UNASKED)?;
-    for (tool, head, _) in examples(alloc)? {
+    for number in 0..EXAMPLES {
+        let (tool, head, _) = example(alloc, number)?;
         let steps = [
             Step::Takes(HEAD),
             Step::Gives(head),
@@ -124,20 +140,21 @@ fn waits_where_nothing_is_given(rt: HostRuntime) -> Result<(), Fail> {
         top: Some(1),
         ..WHOLE
     };
-    for tool in [
-        Tool::Cut(second_row),
-        Tool::Flip(FlipWay::TopBottom),
-        Tool::Flip(FlipWay::Transpose),
-        Tool::Tile(3, 1),
-    ] {
-        for later in [ROW, Part::Stop] {
-            let steps = [
-                Step::Passes(&[HEAD]),
-                Step::Takes(ROW),
-                Step::Refuses(later),
-            ];
-            goes(&rt, rt.alloc(), &tool, &steps)?;
-        }
+    waits_after_row(&rt, rt.alloc(), &Tool::Cut(second_row))?;
+    waits_after_row(&rt, rt.alloc(), &Tool::Flip(FlipWay::TopBottom))?;
+    waits_after_row(&rt, rt.alloc(), &Tool::Flip(FlipWay::Transpose))?;
+    waits_after_row(&rt, rt.alloc(), &Tool::Tile(3, 1))
+}
+
+/// The tool isn't asked after its first row.
+fn waits_after_row(rt: &impl Abort, alloc: Global, tool: &Tool) -> Result<(), Fail> {
+    for later in [ROW, Part::Stop] {
+        let steps = [
+            Step::Passes(&[HEAD]),
+            Step::Takes(ROW),
+            Step::Refuses(later),
+        ];
+        goes(rt, alloc, tool, &steps)?;
     }
     Ok(())
 }
@@ -301,7 +318,8 @@ fn without_rows(tool: &Tool) -> Option<Part<'static>> {
 #[test]
 fn takes_images_without_rows(rt: HostRuntime) -> Result<(), Fail> {
     let alloc = rt.alloc();
-    for (tool, _, _) in examples(alloc)? {
+    for number in 0..EXAMPLES {
+        let (tool, _, _) = example(alloc, number)?;
         takes_no_rows(&rt, alloc, &tool)?;
     }
     Ok(())

@@ -7,7 +7,7 @@ use std::process::Abort;
 use std::test::Fail;
 
 /// What a tool is fed or asked, and what it answers.
-#[derive(Clone, Copy, Debug)]
+#[derive(Clone, Copy)]
 pub(super) enum Step<'a> {
     /// It takes this part, and isn't asked for its answers.
     Takes(Part<'a>),

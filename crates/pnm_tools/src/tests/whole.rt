@@ -35,24 +35,28 @@ const TILED: &[Part<'static>] = &[
 /// A tool, what it gives for the head, and what it gives after that.
 type Keeper = (Tool, &'static [Part<'static>], &'static [Part<'static>]);
 
-/// Each tool once.
-fn keepers() -> [Keeper; 3] {
-    [
-        (Tool::Flip(FlipWay::TopBottom), &[HEAD], TURNED),
-        (
+/// How many tools keep rows.
+const KEEPERS: usize = 3;
+
+/// Each of them.
+fn keeper(number: usize) -> Keeper {
+    match number {
+        0 => (Tool::Flip(FlipWay::TopBottom), &[HEAD], TURNED),
+        1 => (
             Tool::Flip(FlipWay::Transpose),
             &[Part::Begin(Kind::Gray, 2, 3, 9)],
             TRANSPOSED,
         ),
-        (Tool::Tile(4, 3), &[Part::Begin(Kind::Gray, 4, 3, 9)], TILED),
-    ]
+        _ => (Tool::Tile(4, 3), &[Part::Begin(Kind::Gray, 4, 3, 9)], TILED),
+    }
 }
 
 /// Nothing is given for a row, and the whole result at the end of the image; the next image finds
 /// nothing of it.
 #[test]
 fn gives_all_rows_at_the_end(rt: HostRuntime) -> Result<(), Fail> {
-    for (tool, heads, rest) in keepers() {
+    for number in 0..KEEPERS {
+        let (tool, heads, rest) = keeper(number);
         gives_images(&rt, rt.alloc(), &tool, heads, rest)?;
     }
     Ok(())
@@ -115,7 +119,8 @@ fn gives_repeated_rows_at_once(rt: HostRuntime) -> Result<(), Fail> {
 /// No message is taken before all rows of the result were given, and `None` after them.
 #[test]
 fn waits_until_all_rows_are_given(rt: HostRuntime) -> Result<(), Fail> {
-    for (tool, _, rest) in keepers() {
+    for number in 0..KEEPERS {
+        let (tool, _, rest) = keeper(number);
         for taken in 0..rest.len() + 1 {
             for later in [HEAD, Part::StreamEnd, Part::Stop] {
                 let steps = [
