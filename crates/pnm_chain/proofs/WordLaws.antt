@@ -5,7 +5,7 @@ use Rattle.std.proofs.lemmas.List.Folds.{list_all_more}
 use Rattle.std.proofs.lemmas.List.{drop_more, drop_all, take-append-drop, length-take, length-drop}
 use Rattle.pnm_image.specs.Texts.{is_white, begins_in_word, onto_first, words}
 use Rattle.pnm_image.proofs.Lists.{first_and_rest}
-use Rattle.pnm_image.proofs.Tests.{not_and_parts}
+use Rattle.pnm_image.proofs.BoolLaws.{not_and_parts}
 use Rattle.pnm_image.proofs.Words.{words_by, words-cons, words-nil}
 
 -- ---- white space before the first word

@@ -1,6 +1,7 @@
 -- The text of a chain: which texts spell which tools, and what is wrong with every other text.
 use Rattle.std.specs.Prelude.{◌≡◌, ◌≢◌, ◌≤◌, ◌↔◌, ◌⊎◌, ℕ, suc, Bool, true, false, nat_lt, ◌==◌, if◌then◌else◌, Option, Some, None, List, [], ◌∷◌, length}
 use Rattle.std.specs.List.{slice_split, list_all}
+use Rattle.pnm_image.specs.Limits.{max_tools}
 use Rattle.pnm_image.specs.Texts.{is_white, words}
 use Rattle.pnm_tools.specs.declared.tool.Tool.{Tool}
 use Rattle.pnm_chain.specs.declared.chain_text.ChainFault.{ChainFault}
@@ -34,7 +35,7 @@ SpellTools (text ∷ texts) (tool ∷ tools) = SpellsTool text tool × SpellTool
 
 pub record SpellsChain (text : List ℕ) (tools : List Tool) : Type 0 where
   pub short : length text ≤ 4096
-  pub not_many : length (stage_texts text) ≤ 16
+  pub not_many : length (stage_texts text) ≤ max_tools
   pub spelled : SpellTools (stage_texts text) tools
 
 -- ---- faults
@@ -71,7 +72,7 @@ unfoldable pub chain_fault_of : List ℕ → Option ChainFault
 chain_fault_of text =
     if nat_lt 4096 (length text) then Some (whole TooLong)
     else if list_all is_white text then Some (whole Empty)
-    else if nat_lt 16 (length (stage_texts text)) then Some (whole TooMany)
+    else if nat_lt max_tools (length (stage_texts text)) then Some (whole TooMany)
     else fault_from 1 (stage_texts text)
 
 -- ---- each text is a chain or has a fault
@@ -99,7 +100,7 @@ is_of_stage ExtraArgument = true
 is_of_stage Memory = false
 
 abbrev pub IsPlaced : ChainFault → Type 0
-IsPlaced fault = ((is_of_stage fault.kind ≡ true) × (1 ≤ fault.stage) × (fault.stage ≤ 16)) ⊎ ((is_of_stage fault.kind ≡ false) × (fault.kind ≢ Memory) × (fault.stage ≡ 0))
+IsPlaced fault = ((is_of_stage fault.kind ≡ true) × (1 ≤ fault.stage) × (fault.stage ≤ max_tools)) ⊎ ((is_of_stage fault.kind ≡ false) × (fault.kind ≢ Memory) × (fault.stage ≡ 0))
 
 abbrev pub ChainFaultsArePlaced : Type 0
 ChainFaultsArePlaced = (text : List ℕ) (fault : ChainFault) → chain_fault_of text ≡ Some fault → IsPlaced fault

@@ -9,6 +9,7 @@ use crate::items::split_item;
 use crate::options::ToolName;
 use crate::settings::Settings;
 use crate::word::split_word;
+use pnm_image::limits::MAX_TOOLS;
 use pnm_tools::Tool;
 use std::alloc::{AllocError, AllocFailed, Global};
 use thiserror::Error;
@@ -16,8 +17,8 @@ use thiserror::Error;
 /// The longest text of a chain, in bytes.
 const LONGEST: usize = 4_096;
 
-/// The most tools of a chain.
-const MOST_STAGES: usize = 16;
+/// The most stages of a text, each of which names a tool.
+const MOST_STAGES: usize = MAX_TOOLS;
 
 /// What is wrong with a chain's text. The text of each variant is its name.
 #[derive(Clone, Copy, Debug, PartialEq, Eq, Error)]

@@ -4,6 +4,6 @@ pub mod Lists
 pub mod Places
 pub mod Rows
 pub mod Streams
-pub mod Tests
+pub mod BoolLaws
 pub mod Written
 pub mod Words

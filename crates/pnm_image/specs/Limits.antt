@@ -1,4 +1,4 @@
--- The limits of images, as numbers: own ones, which no page has.
+-- The limits of images, and of what is done with them: own ones, which no page has, but for the maxval's.
 use Rattle.std.specs.Prelude.{ℕ}
 
 -- the greatest width and the greatest height
@@ -24,3 +24,7 @@ max_tuple_type_length = 255
 -- the greatest number of columns or rows that an option of a tool names
 abbrev pub max_extent : ℕ
 max_extent = 16777216
+
+-- the most tools of a chain
+abbrev pub max_tools : ℕ
+max_tools = 16

@@ -1,4 +1,4 @@
-//! The limits of images.
+//! The limits of images, and of what is done with them.
 
 /// The greatest width and the greatest height.
 pub const MAX_SIDE: u32 = 1_000_000;
@@ -17,3 +17,6 @@ pub const MAX_TUPLE_TYPE_LENGTH: usize = 255;
 
 /// The greatest number of columns or rows that an option of a tool names.
 pub const MAX_EXTENT: u32 = 16_777_216;
+
+/// The most tools of a chain.
+pub const MAX_TOOLS: usize = 16;

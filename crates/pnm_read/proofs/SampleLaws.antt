@@ -13,7 +13,7 @@ use Rattle.pnm_image.specs.declared.shape.Kind.{Kind}
 use Rattle.pnm_image.specs.declared.shape.Kind.TheVariants.{Bit, Gray, Color, Pam}
 use Rattle.pnm_read.specs.Texts.{is_apart, begins_apart, ends_by, commented, ends_in_comment, uncommented_from, uncommented, number_in}
 use Rattle.pnm_image.specs.Texts.{is_white, is_digit, decimal_value}
-use Rattle.pnm_image.proofs.Tests.{not_and_parts}
+use Rattle.pnm_image.proofs.BoolLaws.{not_and_parts}
 use Rattle.pnm_read.specs.Rasters.{IsGap, SpellsDecimal, SpellsSample, SpellsPiece, MayFollow}
 use Rattle.pnm_read.specs.Items.{◌>>=◌, piece_from, gap_limit, ends_in_digit, is_complete, decimal_item, decimal_end, is_pixel, pixel_item, pixel_end, pixel_in, plain_pixel, sample_item, plain_decimal, plain_sample}
 use Rattle.pnm_read.proofs.CommentLaws.{uncommented_from-append, ends_by-push}

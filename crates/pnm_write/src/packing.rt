@@ -6,32 +6,6 @@ ghost use Rattle.pnm_write.specs.Rooms.{most_samples, FitIn};
 
 use pnm_image::Packing;
 
-/// The most samples whose bytes fit into 4,096 bytes.
-pub fn most_samples(packing: Packing) -> usize
-    ensures { result ≡ most_samples packing }
-{
-    match packing {
-        Packing::Packed => 32_768,
-        Packing::Narrow => 4096,
-        Packing::Wide => 2048,
-    }
-}
-
-/// Writes the bytes of the samples to the front of the room, and answers how many they are.
-pub fn encode(packing: Packing, samples: &[u16], room: &mut [u8]) -> usize
-    requires room { length room.old ≡ 4096 }
-    requires count { length samples.now ≤ most_samples packing }
-    requires range { FitIn packing samples.now }
-    ensures within { result ≤ length room.new }
-    ensures bytes { take result room.new ≡ bytes_in packing samples.now }
-{
-    match packing {
-        Packing::Packed => pack(samples, room),
-        Packing::Narrow => narrow(samples, room),
-        Packing::Wide => widen(samples, room),
-    }
-}
-
 /// The pixels, eight a byte. Spare bits of the last byte are 0.
 fn pack(samples: &[u16], room: &mut [u8]) -> usize
     requires { length samples.now ≤ 8 * length room.old }
@@ -103,4 +77,30 @@ fn widen(samples: &[u16], room: &mut [u8]) -> usize
         room[2 * i + 1] = (sample % 256) as u8;
     }
     2 * samples.len()
+}
+
+/// The most samples whose bytes fit into 4,096 bytes.
+pub fn most_samples(packing: Packing) -> usize
+    ensures { result ≡ most_samples packing }
+{
+    match packing {
+        Packing::Packed => 32_768,
+        Packing::Narrow => 4096,
+        Packing::Wide => 2048,
+    }
+}
+
+/// Writes the bytes of the samples to the front of the room, and answers how many they are.
+pub fn encode(packing: Packing, samples: &[u16], room: &mut [u8]) -> usize
+    requires room { length room.old ≡ 4096 }
+    requires count { length samples.now ≤ most_samples packing }
+    requires range { FitIn packing samples.now }
+    ensures within { result ≤ length room.new }
+    ensures bytes { take result room.new ≡ bytes_in packing samples.now }
+{
+    match packing {
+        Packing::Packed => pack(samples, room),
+        Packing::Narrow => narrow(samples, room),
+        Packing::Wide => widen(samples, room),
+    }
 }
