@@ -19,7 +19,7 @@ check: toolchain
 
 # the tests alone, built and run as they stand: `make check` proves them too
 test: toolchain
-	for crate in $(CRATES); do (cd crates/$$crate && rt try --test) || exit 1; done
+	for crate in $(CRATES); do (cd crates/$$crate && rt try --test --seconds 600) || exit 1; done
 
 # each allocation of the stored run, of each tool, of a run over three tools, and of the program's words, refused in turn
 refused-growth: toolchain
