@@ -1,21 +1,38 @@
 # pnmpipe: `make` proves and builds, `make check` is the whole gate.
 
 PROGRAM := crates/pnmpipe
-CRATES := pnm_image pnm_read pnm_tools pnm_write pnm_chain pnm_flow pnmpipe
+LIBRARIES := pnm_image pnm_read pnm_tools pnm_write pnm_chain pnm_flow
+CRATES := $(LIBRARIES) pnmpipe
 
-.PHONY: all check test help toolchain refused-growth
+.PHONY: all program check test help toolchain refused-growth $(LIBRARIES)
 
 all: toolchain
+	$(MAKE) --jobs=2 --output-sync=target program
+
+program: pnm_chain pnm_flow
 	mkdir -p bin
 	cd $(PROGRAM) && rt run -- pnminvert < stdin > ../../bin/stored-run
 	cmp bin/stored-run $(PROGRAM)/stdout
 	rm bin/stored-run
 	cp $(PROGRAM)/out/pnmpipe bin/pnmpipe
 
-# a sample of the refused allocations, since each turn builds the program anew
+# each library once those below it stand, two side by side
+pnm_image:
+	cd crates/$@ && rt lib
+
+$(filter-out pnm_image,$(LIBRARIES)):
+	cd crates/$@ && rt lib --jobs 2
+
+pnm_read pnm_tools: pnm_image
+pnm_write: pnm_read
+pnm_chain: pnm_tools
+pnm_flow: pnm_write pnm_tools
+
+# a sample of the refused allocations, since each turn builds the program anew; then one check a processor, each of
+# at most 4 GB
 check: toolchain
 	STEP=10 sh scripts/refused_growth.sh
-	rt ci
+	RT_JOBS=$${RT_JOBS:-$$(nproc)} rt ci
 
 # the tests alone, built and run as they stand: `make check` proves them too
 test: toolchain

@@ -1,5 +1,6 @@
 //! What no clause says: worked examples by the program, printed text, and that calls can succeed.
 
+mod bad_inputs;
 mod command;
 mod examples;
 mod fault_lines;

@@ -158,43 +158,10 @@ fn takes_words(rt: HostRuntime) -> Result<(), Fail> {
     Ok(())
 }
 
-/// An input that is at fault, what is written before the fault, and the line that names it.
-const BAD_INPUTS: &[(&[u8], &[u8], &str)] = &[
-    (b"", b"", "pnmpipe: input: EmptyInput\n"),
-    (b"P5 1 1", b"", "pnmpipe: input: HeaderCut\n"),
-    (
-        b"P5\n2 1\n122\nA",
-        b"P5\n2 1\n122\n",
-        "pnmpipe: input: RasterCut\n",
-    ),
-    (
-        b"P2 1 1 9 5x",
-        b"P5\n1 1\n9\n",
-        "pnmpipe: input: BadSample\n",
-    ),
-    (
-        b"P5\n1 1\n9\n\x05X",
-        b"P5\n1 1\n9\n\x04",
-        "pnmpipe: input: BadMagic\n",
-    ),
-];
-
-/// A run's status is 0, or 1 after a fault, which is printed.
+/// A run that can't write all of its output ends with status 1.
 #[test]
-fn runs(rt: HostRuntime) -> Result<(), Fail> {
+fn ends_at_full_output(rt: HostRuntime) -> Result<(), Fail> {
     let texts = ["pnmpipe", "pnminvert"];
-    for (input, front, printed) in BAD_INPUTS {
-        let answer = answer_to(&rt, texts.as_slice(), *input)?;
-        assert_eq!(rt; answer.status, 1, "at {:?}", input);
-        assert_eq!(rt;
-            answer.errors.as_slice(),
-            printed.as_bytes(),
-            "at {:?}",
-            input
-        );
-        assert_eq!(rt; answer.output.as_slice(), *front, "at {:?}", input);
-    }
-
     // Room for 5 bytes of the output.
     let words = words_of(rt.alloc(), texts.as_slice())?;
     let mut room = [0; 5];
