@@ -1,26 +1,28 @@
 -- What the stages of a chain have given: the results of all images, or those before the first refusal.
-use Rattle.std.proofs.Common.{◌≡◌, ◌⊎◌, inl, inr, ℕ, ◌+◌, List, [], ◌∷◌, ◌++◌, Option, Some, None, Ok, Err, refl, sym, ap, ap₂, subst, ◌∙◌, append-nil}
+use Rattle.std.proofs.Common.{◌≡◌, ◌⊎◌, inl, inr, ℕ, zero, suc, ◌+◌, ◌-◌, ◌<◌, ◌≤◌, true, List, [], ◌∷◌, ◌++◌, length, take, Option, Some, None, Ok, Err, refl, sym, ap, ap₂, subst, ◌∙◌, append-nil, arith}
 use Rattle.std.specs.List.{AllByRecursion}
 use Rattle.pnm_image.specs.declared.message.Message.{Message}
+use Rattle.pnm_image.specs.declared.message.Message.TheVariants.{Begin, Row, ImageEnd, StreamEnd, Stop}
 use Rattle.pnm_image.specs.declared.place.Place.TheVariants.{Between}
 use Rattle.pnm_image.specs.Images.{Image, AreImages, messages_of_stream}
 use Rattle.pnm_image.specs.Messages.{IsMessage}
 use Rattle.pnm_image.specs.Completion.{IsFrontOf, Completes}
 use Rattle.pnm_image.proofs.Streams.{completion, stream_is_messages, stream_is_lawful}
-use Rattle.pnm_image.proofs.Places.{lawful_front}
-use Rattle.pnm_image.proofs.Lists.{all_of_front}
+use Rattle.pnm_image.proofs.Places.{lawful_front, next_may_come}
+use Rattle.pnm_image.proofs.Lists.{all_of_front, each-middle}
 use Rattle.pnm_tools.specs.declared.fault.ToolFault.{ToolFault}
-use Rattle.pnm_tools.specs.declared.fault.ToolFault.TheVariants.{Memory}
+use Rattle.pnm_tools.specs.declared.fault.ToolFault.TheVariants.{OutOfOrder, Memory}
 use Rattle.pnm_tools.specs.declared.tool.Tool.{Tool}
 use Rattle.pnm_tools.specs.Tools.{IsLawfulTool, output_due}
-use Rattle.pnm_tools.specs.Answers.{More, EndsBy, Answers, AnswersInFull, AreResults}
+use Rattle.pnm_tools.specs.Answers.{More, EndsBy, Answers, AnswersInFull, RefusesHead, Judges, AreResults}
 use Rattle.pnm_tools.specs.Chains.{AreLawfulTools, AreResultsInTurn, due_in_turn, results_of, refusal_from, refusal_of}
 use Rattle.pnm_tools.specs.ChainAnswers.{IsSound, AreSound, AreWell, IsFirstFault, IsRefusedNext, HasRefused, HasAnswered, HaveAnswered}
 use Rattle.pnm_tools.proofs.FullAnswers.{full_answer_is_the_stream}
 use Rattle.pnm_tools.proofs.FullLaws.{front_of_front}
+use Rattle.pnm_tools.proofs.HeadFaultLaws.{head_is_refused_by_name}
 use Rattle.pnm_tools.proofs.SoundLaws.{HasRows, EndsUnbroken, sound_ends, unbroken_keeps_all, sound_keeps_all, stream_is_sound, HasSoundImages, sound_images, due_is_sound}
 use Rattle.pnm_tools.proofs.FrontLaws.{nothing_changes, front_by_results}
-use Rattle.pnm_tools.proofs.RefusalLaws.{results_are_images, results_are, same_in_turn, results_in_turn, refusal_by, refused_next}
+use Rattle.pnm_tools.proofs.RefusalLaws.{results_are_images, results_are, same_in_turn, results_in_turn, refusal_by, in_order, refused_next}
 
 -- a front of sound messages, and the messages of images that have rows, are sound
 pub sound_front : (a b : List Message) → AreSound (a ++ b) → AreSound a
@@ -144,6 +146,71 @@ pub refusal_is_first : (tools : List Tool) (faults : List (Option ToolFault)) (i
     → HaveAnswered tools faults (messages_of_stream is) given → IsFirstFault 1 faults number fault
     → (fault ≡ Memory) ⊎ (refusal_of tools is ≡ Some (record { number = number; fault = fault }))
 refusal_is_first tools faults is given number fault lawful images sound have first = first_refusal 1 tools faults is given number fault lawful images have first
+
+-- ---- the first fault
+
+-- no message of images that have rows is out of order for its tool
+begins_in_order : (tool : Tool) (m : Message) → IsSound m → RefusesHead tool m OutOfOrder → ⊥
+begins_in_order tool (Begin head) sound refuses =
+    let some : 0 < head.shape.height = sound in
+    let named = head_is_refused_by_name tool head OutOfOrder refuses in
+    omega (arith, named.1)
+begins_in_order tool (Row row) sound refuses = refuses
+begins_in_order tool ImageEnd sound refuses = refuses
+begins_in_order tool StreamEnd sound refuses = refuses
+begins_in_order tool Stop sound refuses = refuses
+
+-- a stage refuses no message of a sound list as out of order
+stage_in_order : (tool : Tool) (fault : ToolFault) (accepted rest given : List Message) → AreSound (accepted ++ rest) → ((fault ≡ Memory) × EndsBy More given) ⊎ (AnswersInFull tool accepted given × IsRefusedNext tool fault accepted rest) → fault ≡ OutOfOrder → ⊥
+stage_in_order tool fault accepted rest given sound (inl memory) out =
+    let ran_out : fault ≡ Memory = memory.0 in
+    absurd cc
+stage_in_order tool fault accepted [] given sound (inr refused) out = refused.1
+stage_in_order tool fault accepted (m ∷ rest) given sound (inr refused) out =
+    let may = next_may_come Between accepted m rest sound.lawful in
+    let judges : Judges true tool accepted m (Err OutOfOrder) = subst (λ (f : ToolFault). Judges true tool accepted m (Err f)) out refused.1 in
+    begins_in_order tool m (each-middle IsSound accepted m rest sound.sound) (in_order tool m accepted may judges)
+
+first_in_order : (from : ℕ) (tools : List Tool) (faults : List (Option ToolFault)) (received given : List Message) (number : ℕ) (fault : ToolFault) → AreLawfulTools tools → AreSound received → HaveAnswered tools faults received given → IsFirstFault from faults number fault
+    → (fault ≡ OutOfOrder → ⊥) × (from ≤ number) × (number < from + length tools)
+first_in_order from [] [] received given number fault lawful sound have first = absurd first
+first_in_order from [] (other ∷ faults) received given number fault lawful sound have first = absurd have
+first_in_order from (tool ∷ tools) [] received given number fault lawful sound have first = absurd have
+first_in_order from (tool ∷ tools) (None ∷ faults) received given number fault lawful sound have first =
+    let middle : AreSound have.0 = given_are_sound (tool ∷ []) (None ∷ []) received have.0 (lawful.0, tt) sound (have.0, have.1, refl) in
+    let next = first_in_order (from + 1) tools faults have.0 given number fault lawful.1 middle have.2 first in
+    (next.0, omega (arith, next.1), omega (arith, next.2))
+first_in_order from (tool ∷ tools) (Some other ∷ faults) received given number fault lawful sound have first =
+    let has : HasRefused tool other received have.0 = have.1 in
+    let in_place = stage_in_order tool other has.accepted has.rest have.0 (subst AreSound has.parts sound) has.refused in
+    (λ out. in_place (sym first.1 ∙ out), omega (arith, first.0), omega (arith, first.0))
+
+-- the first fault of the stages is never out of order, and is that of one of the tools
+pub first_fault_in_order : (tools : List Tool) (faults : List (Option ToolFault)) (received given : List Message) (number : ℕ) (fault : ToolFault) → AreLawfulTools tools → AreSound received → HaveAnswered tools faults received given → IsFirstFault 1 faults number fault
+    → (fault ≡ OutOfOrder → ⊥) × (1 ≤ number) × (number ≤ length tools)
+first_fault_in_order tools faults received given number fault lawful sound have first =
+    let found = first_in_order 1 tools faults received given number fault lawful sound have first in
+    (found.0, found.1, omega (arith, found.2))
+
+none_before : (from count : ℕ) (tools : List Tool) (faults : List (Option ToolFault)) (is : List Image) (given : List Message) (number : ℕ) (fault : ToolFault) → AreLawfulTools tools → AreImages is → HaveAnswered tools faults (messages_of_stream is) given
+    → IsFirstFault from faults number fault → number ≡ from + count → refusal_from from (take count tools) is ≡ None
+none_before from zero tools faults is given number fault lawful images have first at = refl
+none_before from (suc count) [] faults is given number fault lawful images have first at = refl
+none_before from (suc count) (tool ∷ tools) [] is given number fault lawful images have first at = absurd have
+none_before from (suc count) (tool ∷ tools) (None ∷ faults) is given number fault lawful images have first at =
+    let r = stage_answered tool is have.0 lawful.0 images have.1 in
+    let others = none_before (from + 1) count tools faults r.0 given number fault lawful.1 r.2 (subst (λ (l : List Message). HaveAnswered tools faults l given) r.3 have.2) first (omega arith) in
+    ap (refusal_by from (take count tools)) (results_are tool is r.0 r.1) ∙ others
+none_before from (suc count) (tool ∷ tools) (Some other ∷ faults) is given number fault lawful images have first at = absurd (omega (arith, first.0))
+
+-- no tool before the one with the first fault refuses an image of the stream
+pub none_before_first_fault : (tools : List Tool) (faults : List (Option ToolFault)) (is : List Image) (given : List Message) (number : ℕ) (fault : ToolFault) → AreLawfulTools tools → AreImages is → AreSound (messages_of_stream is)
+    → HaveAnswered tools faults (messages_of_stream is) given → IsFirstFault 1 faults number fault → refusal_of (take (number - 1) tools) is ≡ None
+none_before_first_fault tools faults is given number fault lawful images sound have first =
+    let found = first_fault_in_order tools faults (messages_of_stream is) given number fault lawful sound have first in
+    none_before 1 (number - 1) tools faults is given number fault lawful images have first (omega (arith, found.1))
+
+-- ---- what is due
 
 -- whatever images complete what was received, what was given is a front of the output due for them
 pub given_is_front : (tools : List Tool) (faults : List (Option ToolFault)) (received given : List Message) (is : List Image) → AreLawfulTools tools → AreSound received → HaveAnswered tools faults received given → Completes is received → IsFrontOf given (due_in_turn tools is)

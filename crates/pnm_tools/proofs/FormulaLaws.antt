@@ -22,6 +22,11 @@ length-columns from count depth sample = length_of_equals (λ x. map (λ p. samp
 pub length-row_by : (s : Shape) (sample : ℕ → ℕ → ℕ) → length (row_by s sample) ≡ row_length s
 length-row_by s sample = length-columns 0 s.width s.depth sample
 
+-- an image of a formula has as many samples as its head says
+pub length-image_by : (head : HeadValue) (sample : ℕ → ℕ → ℕ → ℕ) → length (image_by head sample).samples ≡ head.shape.height * row_length head.shape
+length-image_by head sample =
+    length_of_equals (λ y. row_by head.shape (λ x p. sample x y p)) (row_length head.shape) 0 head.shape.height (λ y. length-row_by head.shape (λ x p. sample x y p))
+
 -- rows of one length, one after another, cut apart again
 cut_again : (from count each : ℕ) (row : ℕ → List ℕ) → ((y : ℕ) → length (row y) ≡ each) → cut_rows count each (flat_map row (range_with_len from count)) ≡ map row (range_with_len from count)
 cut_again from zero each row long = refl

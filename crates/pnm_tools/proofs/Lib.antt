@@ -3,6 +3,7 @@ pub mod FormulaLaws
 pub mod AnsweringLaws
 pub mod ImageLaws
 pub mod HeadLaws
+pub mod HeadFaultLaws
 pub mod RowLaws
 pub mod PickLaws
 pub mod CutRowLaws
@@ -32,5 +33,6 @@ pub mod RangeLaws
 pub mod PixelLaws
 pub mod WholeHeadLaws
 pub mod MadeLaws
+pub mod SampleLaws
 pub mod WholeResultLaws
 pub mod TileRowLaws

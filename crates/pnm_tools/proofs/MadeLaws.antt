@@ -7,14 +7,13 @@ use Rattle.std.proofs.lemmas.List.Elements.{All-nil, All-append, All-from_get_or
 use Rattle.std.proofs.lemmas.List.FromFn.{get_or-map-range_with_len, length-map-range_with_len}
 use Rattle.std.proofs.Math.ListN.{get_or-eq_default}
 use Rattle.pnm_image.specs.declared.shape.Shape.{Shape}
-use Rattle.pnm_image.specs.Heads.{HeadValue, IsHead, row_length}
+use Rattle.pnm_image.specs.Heads.{HeadValue, IsHead}
 use Rattle.pnm_image.specs.Images.{Image, IsImage, sample_at}
 use Rattle.pnm_tools.specs.declared.tool.Tool.{Tool}
 use Rattle.pnm_tools.specs.Formulas.{row_by, image_by}
 use Rattle.pnm_tools.specs.Tools.{result_head, result_sample}
-use Rattle.pnm_tools.proofs.FormulaLaws.{length-row_by}
+use Rattle.pnm_tools.proofs.FormulaLaws.{length-image_by}
 use Rattle.pnm_tools.proofs.ImageLaws.{IsBy}
-use Rattle.pnm_tools.proofs.RangeLaws.{length_of_equals}
 
 -- what holds of the samples of each row holds of all samples
 all_rows : (P : ℕ → Type 0) (row : ℕ → List ℕ) (from count : ℕ) → ((y : ℕ) → y < from + count → All P (row y)) → All P (flat_map row (range_with_len from count))
@@ -35,7 +34,7 @@ image_by_is_image head sample sound range =
     let s : Shape = head.shape in
     record {
       head = sound;
-      count = length_of_equals (λ y. row_by s (λ x p. sample x y p)) (row_length s) 0 s.height (λ y. length-row_by s (λ x p. sample x y p));
+      count = length-image_by head sample;
       range = all_rows (λ v. v ≤ s.maxval) (λ y. row_by s (λ x p. sample x y p)) 0 s.height (λ y row.
           all_rows (λ v. v ≤ s.maxval) (λ x. map (λ p. sample x y p) (range_with_len 0 s.depth)) 0 s.width (λ x column.
           all_planes (λ v. v ≤ s.maxval) (λ p. sample x y p) s.depth (λ p plane. range x y p (omega arith) (omega arith) plane)));

@@ -109,7 +109,8 @@ is_refused tool is accepted ImageEnd rest fault e taken refuses = absurd refuses
 is_refused tool is accepted StreamEnd rest fault e taken refuses = absurd refuses
 is_refused tool is accepted Stop rest fault e taken refuses = absurd refuses
 
-in_order : (tool : Tool) (m : Message) (accepted : List Message) → Accepts (place_of Between accepted) m → (MayCome true accepted m → ⊥) ⊎ RefusesHead tool m OutOfOrder → RefusesHead tool m OutOfOrder
+-- a message that may come is out of order only as the head of an image
+pub in_order : (tool : Tool) (m : Message) (accepted : List Message) → Accepts (place_of Between accepted) m → (MayCome true accepted m → ⊥) ⊎ RefusesHead tool m OutOfOrder → RefusesHead tool m OutOfOrder
 in_order tool m accepted may (inl not) = absurd (not (refl, may))
 in_order tool m accepted may (inr refuses) = refuses
 

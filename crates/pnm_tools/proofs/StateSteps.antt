@@ -1,8 +1,5 @@
 -- How a tool at work takes a message.
-use Rattle.std.proofs.Common.{◌≡◌, ◌⊎◌, inl, inr, ℕ, Bool, true, false, not, ◌&&◌, List, [], ◌∷◌, ◌++◌, refl, sym, ap, subst, ◌∙◌, append-nil, Option, Some, None, Result, Ok, Err, nat_lt}
-use Rattle.std.specs.Prelude.{◌==◌, if◌then◌else◌}
-use Rattle.std.specs.List.{list_all}
-use Rattle.pnm_image.specs.Heads.{HeadValue, is_too_large}
+use Rattle.std.proofs.Common.{◌≡◌, ◌⊎◌, inl, inr, ℕ, Bool, true, List, [], ◌∷◌, ◌++◌, refl, sym, ap, subst, ◌∙◌, append-nil, Option, Some, None, Err}
 use Rattle.pnm_image.specs.declared.shape.Shape.{Shape}
 use Rattle.pnm_image.specs.declared.message.Message.{Message}
 use Rattle.pnm_image.specs.declared.message.Message.TheVariants.{Begin, Row, ImageEnd, StreamEnd, Stop}
@@ -10,66 +7,19 @@ use Rattle.pnm_image.specs.declared.place.Place.{Place}
 use Rattle.pnm_image.specs.declared.place.Place.TheVariants.{Between}
 use Rattle.pnm_image.specs.Places.{Accepts, place_after, place_of}
 use Rattle.pnm_image.proofs.Places.{lawful_more, place_of-append}
-use Rattle.pnm_tools.specs.declared.cut.Span.{Span}
 use Rattle.pnm_tools.specs.declared.fault.ToolFault.{ToolFault}
 use Rattle.pnm_tools.specs.declared.fault.ToolFault.TheVariants.{CutOutside, ChannelOutside, TooLarge, OutOfOrder, Memory}
-use Rattle.pnm_tools.specs.declared.flip.FlipWay.{FlipWay}
-use Rattle.pnm_tools.specs.declared.flip.FlipWay.TheVariants.{Null, LeftRight, TopBottom, Transpose}
 use Rattle.pnm_tools.specs.declared.state.Pending.{Pending}
 use Rattle.pnm_tools.specs.declared.state.Pending.TheVariants.{AllGiven, Waiting, Rows, RowsAndEnd, Nothing}
 use Rattle.pnm_tools.specs.declared.tool.Tool.{Tool}
-use Rattle.pnm_tools.specs.declared.tool.Tool.TheVariants.{Invert, Cut, Depth, Channel, Enlarge, Flip, Tile}
 use Rattle.pnm_tools.specs.Answers.{Begins, RefusesHead, Judges}
 use Rattle.pnm_tools.specs.Answering.{answered, rows_after, rows_come}
-use Rattle.pnm_tools.specs.Channel.{picked_head_value}
-use Rattle.pnm_tools.specs.Cut.{head_of_spans, columns_kept, rows_kept}
-use Rattle.pnm_tools.specs.Enlarge.{enlarged_head_value}
-use Rattle.pnm_tools.specs.Flip.{transposed_head_value, flipped_head}
-use Rattle.pnm_tools.specs.Limits.{within_limits}
 use Rattle.pnm_tools.specs.States.{Standing, standing, IsAnswering, IsAt, IsReadyFor, KeepsNone, is_all_given, waiting_in}
 use Rattle.pnm_tools.specs.Steps.{IsTaken, IsRefused}
-use Rattle.pnm_tools.specs.Tile.{tiled_head_value}
-use Rattle.pnm_tools.specs.Tools.{result_head}
 use Rattle.pnm_tools.proofs.AtLaws.{answering_answers}
 use Rattle.pnm_tools.proofs.AnsweringLaws.{answered_from-append, taken_more}
+use Rattle.pnm_tools.proofs.HeadFaultLaws.{head_is_refused_by_name}
 use Rattle.pnm_tools.proofs.ToolLaws.{tool_answers_images}
-
--- no head is refused for want of memory
-abbrev NotMemory : Result HeadValue ToolFault → Type 0
-NotMemory (Ok head) = Unit {0}
-NotMemory (Err CutOutside) = Unit {0}
-NotMemory (Err ChannelOutside) = Unit {0}
-NotMemory (Err TooLarge) = Unit {0}
-NotMemory (Err OutOfOrder) = Unit {0}
-NotMemory (Err Memory) = ⊥
-
-spans_not_memory : (head : HeadValue) (columns rows : Option Span) → NotMemory (head_of_spans head columns rows)
-spans_not_memory head (Some columns) (Some rows) = tt
-spans_not_memory head (Some columns) None = tt
-spans_not_memory head None rows = tt
-
-either_not_memory : (b : Bool) (r s : Result HeadValue ToolFault) → NotMemory r → NotMemory s → NotMemory (if b then r else s)
-either_not_memory true r s p q = p
-either_not_memory false r s p q = q
-
-limits_not_memory : (head : HeadValue) → NotMemory (within_limits head)
-limits_not_memory head = either_not_memory (is_too_large head.shape) (Err TooLarge) (Ok head) tt tt
-
-flip_not_memory : (way : FlipWay) (head : HeadValue) → NotMemory (flipped_head way head)
-flip_not_memory Null head = tt
-flip_not_memory LeftRight head = tt
-flip_not_memory TopBottom head = either_not_memory (head.shape.height == 0) (Err OutOfOrder) (Ok head) tt tt
-flip_not_memory Transpose head = either_not_memory (head.shape.height == 0) (Err OutOfOrder) (within_limits (transposed_head_value head)) tt (limits_not_memory (transposed_head_value head))
-
-head_not_memory : (t : Tool) (head : HeadValue) → NotMemory (result_head t head)
-unfolding result_head
-head_not_memory Invert head = tt
-head_not_memory (Cut box) head = either_not_memory (head.shape.height == 0) (Err OutOfOrder) (head_of_spans head (columns_kept box head.shape) (rows_kept box head.shape)) tt (spans_not_memory head (columns_kept box head.shape) (rows_kept box head.shape))
-head_not_memory (Depth maxval) head = tt
-head_not_memory (Channel planes) head = either_not_memory (list_all (λ number. nat_lt number head.shape.depth) planes.numbers) (within_limits (picked_head_value planes head)) (Err ChannelOutside) (limits_not_memory (picked_head_value planes head)) tt
-head_not_memory (Enlarge across down) head = either_not_memory (not (down == 1) && (head.shape.height == 0)) (Err OutOfOrder) (within_limits (enlarged_head_value across down head)) tt (limits_not_memory (enlarged_head_value across down head))
-head_not_memory (Flip way) head = flip_not_memory way head
-head_not_memory (Tile across down) head = either_not_memory (head.shape.height == 0) (Err OutOfOrder) (within_limits (tiled_head_value across down head)) tt (limits_not_memory (tiled_head_value across down head))
 
 -- the rows that have come, with a message more
 rows_more : (rows : List (List ℕ)) (l : List Message) (m : Message) → rows_come rows (l ++ m ∷ []) ≡ rows_after (rows_come rows l) m
@@ -114,16 +64,8 @@ fed tool_at ready_for due kept old new to m pending fault t l g at taken =
 -- ---- a refusal comes where it should
 
 -- want of memory is no refusal of a head
-no_memory : (r : Result HeadValue ToolFault) → NotMemory r → r ≡ Err Memory → ⊥
-no_memory (Ok head) n e = absurd cc
-no_memory (Err CutOutside) n e = absurd cc
-no_memory (Err ChannelOutside) n e = absurd cc
-no_memory (Err TooLarge) n e = absurd cc
-no_memory (Err OutOfOrder) n e = absurd cc
-no_memory (Err Memory) n e = n
-
 never_memory : (t : Tool) (m : Message) → RefusesHead t m Memory → ⊥
-never_memory t (Begin head) r = no_memory (result_head t head) (head_not_memory t head) r
+never_memory t (Begin head) r = head_is_refused_by_name t head Memory r
 never_memory t (Row row) r = r
 never_memory t ImageEnd r = r
 never_memory t StreamEnd r = r

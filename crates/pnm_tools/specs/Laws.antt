@@ -1,19 +1,46 @@
 -- The laws of tools and chains.
-use Rattle.std.specs.Prelude.{◌≡◌, ◌⊎◌, ◌<◌, ◌≤◌, ℕ, ◌+◌, ◌*◌, List, Option, Some, None, Ok}
+use Rattle.std.specs.Prelude.{◌≡◌, ◌⊎◌, ◌<◌, ◌≤◌, ℕ, ◌+◌, ◌*◌, false, length, List, Option, Some, None, Ok, Err}
 use Rattle.pnm_image.specs.declared.message.Message.{Message}
-use Rattle.pnm_image.specs.Images.{Image, IsImage, AreImages, messages_of_stream}
+use Rattle.pnm_image.specs.Heads.{HeadValue, row_length}
+use Rattle.pnm_image.specs.Images.{Image, IsImage, AreImages, sample_at, messages_of_stream}
 use Rattle.pnm_image.specs.Completion.{IsFrontOf, Completes}
 use Rattle.pnm_tools.specs.declared.fault.ToolFault.{ToolFault}
-use Rattle.pnm_tools.specs.declared.fault.ToolFault.TheVariants.{Memory}
+use Rattle.pnm_tools.specs.declared.cut.CutBox.{CutBox}
+use Rattle.pnm_tools.specs.declared.fault.ToolFault.TheVariants.{CutOutside, ChannelOutside, TooLarge, OutOfOrder, Memory}
 use Rattle.pnm_tools.specs.declared.tool.Tool.{Tool}
+use Rattle.pnm_tools.specs.declared.tool.Tool.TheVariants.{Cut, Channel}
+use Rattle.pnm_tools.specs.Channel.{Picks}
 use Rattle.pnm_tools.specs.Depth.{nearest_sample}
-use Rattle.pnm_tools.specs.Tools.{IsLawfulTool, applied}
+use Rattle.pnm_tools.specs.Tools.{IsLawfulTool, is_row_wise, result_head, result_sample, applied}
 use Rattle.pnm_tools.specs.Chains.{AreLawfulTools, AreResultsInTurn, due_in_turn, refusal_of}
 use Rattle.pnm_tools.specs.ChainAnswers.{AreSound, HaveAnswered, AreWell, IsFirstFault}
+
+-- the faults by which a tool may refuse a head; it is out of order only where it has no rows and the tool isn't row-wise
+abbrev pub IsFaultOfHead : Tool → HeadValue → ToolFault → Type 0
+IsFaultOfHead tool head CutOutside = (box : CutBox) × (tool ≡ Cut box)
+IsFaultOfHead tool head ChannelOutside = (planes : Picks) × (tool ≡ Channel planes)
+IsFaultOfHead tool head TooLarge = Unit {0}
+IsFaultOfHead tool head OutOfOrder = (is_row_wise tool ≡ false) × (head.shape.height ≡ 0)
+IsFaultOfHead tool head Memory = ⊥
+
+-- a head is refused by these faults alone, and one of no rows by each tool that isn't row-wise
+abbrev pub HeadsAreRefusedByName : Type 0
+HeadsAreRefusedByName = (tool : Tool) (head : HeadValue)
+    → ((fault : ToolFault) → result_head tool head ≡ Err fault → IsFaultOfHead tool head fault)
+    × (is_row_wise tool ≡ false → head.shape.height ≡ 0 → result_head tool head ≡ Err OutOfOrder)
 
 -- the result of an image is an image, and has rows where the image has
 abbrev pub ResultsAreImages : Type 0
 ResultsAreImages = (tool : Tool) (i j : Image) → IsLawfulTool tool → IsImage i → applied tool i ≡ Ok j → IsImage j × (0 < i.head.shape.height → 0 < j.head.shape.height)
+
+-- the samples of an image are those of a formula by column, row and plane, and there are no others
+pub record IsByTheFormula (j : Image) (formula : ℕ → ℕ → ℕ → ℕ) : Type 0 where
+  pub count : length j.samples ≡ j.head.shape.height * row_length j.head.shape
+  pub samples : (x y p : ℕ) → x < j.head.shape.width → y < j.head.shape.height → p < j.head.shape.depth → sample_at j x y p ≡ formula x y p
+
+-- the result of an image has the head of its tool's rule and the samples of its tool's formula
+abbrev pub SamplesAreByTheFormula : Type 0
+SamplesAreByTheFormula = (tool : Tool) (i j : Image) → applied tool i ≡ Ok j → (result_head tool i.head ≡ Ok j.head) × IsByTheFormula j (result_sample tool i)
 
 -- a rescaled sample q is the nearest to sample * new / old, halves up
 abbrev pub SamplesAreNearest : Type 0

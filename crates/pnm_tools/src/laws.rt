@@ -2,7 +2,7 @@
 //! function that does nothing.
 
 ghost use Rattle.pnm_tools.specs.Answers.{FullAnswerIsTheStream};
-ghost use Rattle.pnm_tools.specs.Laws.{ResultsAreImages, SamplesAreNearest, StreamsAreAnswered, FirstFaultIsTheRefusal, AnswersAreDue};
+ghost use Rattle.pnm_tools.specs.Laws.{HeadsAreRefusedByName, ResultsAreImages, SamplesAreByTheFormula, SamplesAreNearest, StreamsAreAnswered, FirstFaultIsTheRefusal, AnswersAreDue};
 
 /// A full answer to a stream is the tool's stream: the results of all its images, none of which is
 /// refused.
@@ -10,9 +10,21 @@ pub fn full_answer_is_the_stream()
     ensures { FullAnswerIsTheStream }
 {}
 
+/// A tool refuses a head as cut outside, as a plane outside or as too large, and never for want of
+/// memory; as out of order exactly where the head has no rows and the tool isn't row-wise.
+pub fn heads_are_refused_by_name()
+    ensures { HeadsAreRefusedByName }
+{}
+
 /// The result of an image is an image, and has rows where the image has.
 pub fn results_are_images()
     ensures { ResultsAreImages }
+{}
+
+/// The result of an image has the head of its tool's rule, and in each column, row and plane the sample
+/// of its tool's formula.
+pub fn samples_are_by_the_formula()
+    ensures { SamplesAreByTheFormula }
 {}
 
 /// A rescaled sample is the nearest to the same share of the new maxval, halves up.
