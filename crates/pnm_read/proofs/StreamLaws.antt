@@ -17,7 +17,7 @@ use Rattle.pnm_read.specs.declared.source.State.TheVariants.{Awaits, Ended, Fail
 use Rattle.pnm_read.specs.Inputs.{IsOutsideFault}
 use Rattle.pnm_read.specs.Awaiting.{state_due, state_fault}
 use Rattle.pnm_read.specs.Said.{Said, row_at, end_said, format_at, head_at, rows_said, head_said, format_said, image_said, later_said_in, later_said, said, said_of, fault_of}
-use Rattle.pnm_read.specs.Sources.{reader_of, stopped_by, due, MayGive, SeesEnd, HasGiven}
+use Rattle.pnm_read.specs.Sources.{reader_of, stopped_by, due, MayGive, SeesEnd, MayGiveMore, HasGiven}
 use Rattle.pnm_read.proofs.FaultLaws.{fault_is_of_text}
 use Rattle.pnm_read.proofs.HeaderLaws.{read_header_is_spelled, spelled_head}
 use Rattle.pnm_read.proofs.PlainLaws.{said_from}
@@ -34,6 +34,11 @@ at_end (Some xs) rest e end = cc
 pub rest_may_come : {R : Type 0} (left : R → Option (List ℕ)) (s : Source R) (rest : List ℕ) → SeesEnd left s → left (reader_of s) ≡ Some rest → MayGive s rest
 unfolding SeesEnd MayGive
 rest_may_come left s rest end e ended = at_end (left (reader_of s)) rest e (end ended)
+
+-- while the reader has a byte left, any bytes may come: its end wasn't seen
+pub any_may_come : {R : Type 0} (left : R → Option (List ℕ)) (s : Source R) → SeesEnd left s → MayGiveMore left s
+unfolding SeesEnd MayGive
+any_may_come left s end byte more e rest ended = let none : byte ∷ more ≡ [] = at_end (left (reader_of s)) (byte ∷ more) e (end ended) in absurd cc
 
 -- nothing may come
 pub nothing_may_come : {R : Type 0} (s : Source R) → MayGive s []

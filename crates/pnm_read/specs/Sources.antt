@@ -32,6 +32,10 @@ MayGive s rest = CanCome s.input rest
 unfoldable pub SeesEnd : {R : Type 0} → (R → Option (List ℕ)) → Source R → Type 0
 SeesEnd left s = EndsRightly left s.input
 
+-- while the reader has a byte left, any bytes may come
+abbrev pub MayGiveMore : {R : Type 0} → (R → Option (List ℕ)) → Source R → Type 0
+MayGiveMore left s = (byte : ℕ) (more : List ℕ) → left (reader_of s) ≡ Some (byte ∷ more) → (rest : List ℕ) → MayGive s rest
+
 -- messages, and then what is said
 abbrev pub after_messages : List Message → Said → Said
 after_messages [] s = s

@@ -59,7 +59,7 @@ pub struct Source<R> {
 }
 
 impl<R: BytesIn> Source<R> {
-    ghost use Rattle.pnm_read.specs.Sources.{IsFresh, Tells, MayGive, SeesEnd, stopped_by, has_ended, reader_of};
+    ghost use Rattle.pnm_read.specs.Sources.{IsFresh, Tells, MayGive, SeesEnd, MayGiveMore, stopped_by, has_ended, reader_of};
 
     /// A source over the reader. It reads nothing. The only fault is `Memory`.
     pub fn new(alloc: Global, reader: R) -> Result<Source<R>, InputFault>
@@ -84,6 +84,7 @@ impl<R: BytesIn> Source<R> {
         ensures told { Tells R.left self.old result self.new }
         ensures no_stop { result ≡ Ok (Some Stop) → ⊥ }
         ensures end { SeesEnd R.left self.old → SeesEnd R.left self.new }
+        ensures unread { SeesEnd R.left self.old → MayGiveMore R.left self.new }
 
         // The end and a fault stay.
         ensures ended { result ≡ Ok (Some StreamEnd) → has_ended self.new ≡ true }
