@@ -4,7 +4,7 @@ PROGRAM := crates/pnmpipe
 LIBRARIES := pnm_image pnm_read pnm_tools pnm_write pnm_chain pnm_flow
 CRATES := $(LIBRARIES) pnmpipe
 
-.PHONY: all program check test help toolchain refused-growth $(LIBRARIES)
+.PHONY: all program check test help toolchain controls refused-growth $(LIBRARIES)
 
 all: toolchain
 	$(MAKE) --jobs=2 --output-sync=target program
@@ -38,6 +38,10 @@ check: toolchain
 test: toolchain
 	for crate in $(CRATES); do (cd crates/$$crate && rt try --test --seconds 600) || exit 1; done
 
+# edits that keep the code's meaning, each of the shape of a must-fail edit: they have to prove
+controls: toolchain
+	sh scripts/controls.sh
+
 # each allocation of the stored run, of each tool, of a run over three tools, and of the program's words, refused in turn
 refused-growth: toolchain
 	sh scripts/refused_growth.sh
@@ -52,5 +56,6 @@ help:
 	@echo "make                 proves the crates, builds the program and leaves it as bin/pnmpipe"
 	@echo "make test            the tests alone, without their proofs"
 	@echo "make check           the whole gate: every proof from nothing, the edits that must fail, the tests and the stored run"
+	@echo "make controls        tries the edits that keep the code's meaning, which must prove"
 	@echo "make refused-growth  refuses each allocation of the stored run, of each tool, of a chain of three tools, and of the program's words, in turn"
 	@echo "make help            this list"

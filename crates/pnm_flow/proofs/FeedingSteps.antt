@@ -1,5 +1,5 @@
 -- The messages that have passed from the source to the sink of a run, one after another.
-use Rattle.std.proofs.Common.{◌≡◌, ◌⊎◌, ℕ, ◌+◌, ◌-◌, ◌^◌, ◌≤◌, Bool, List, [], ◌∷◌, ◌++◌, length, Option, Some, None, Result, Ok, Err, refl, sym, ap, subst, ◌∙◌, arith, inl, inr}
+use Rattle.std.proofs.Common.{◌≡◌, ◌⊎◌, ℕ, ◌+◌, ◌-◌, ◌^◌, ◌≤◌, ◌<◌, Bool, List, [], ◌∷◌, ◌++◌, length, Option, Some, None, Result, Ok, Err, refl, sym, ap, subst, ◌∙◌, arith, inl, inr}
 use Rattle.std.specs.Io.KnownBytes.{Consumes}
 use Rattle.std.specs.List.{AllByRecursion}
 use Rattle.std.proofs.lemmas.List.{append-nil, length-append}
@@ -10,8 +10,9 @@ use Rattle.pnm_read.specs.declared.fault.InputFault.{InputFault}
 use Rattle.pnm_read.specs.declared.fault.InputFault.TheVariants.{ReadFailed}
 use Rattle.pnm_read.specs.declared.source.Source.{Source}
 use Rattle.pnm_read.specs.Said.{said_of}
-use Rattle.pnm_read.specs.Sources.{reader_of, stopped_by, MayGive, SeesEnd, HasGiven, Tells, IsFresh as IsUnread}
+use Rattle.pnm_read.specs.Sources.{reader_of, stopped_by, MayGive, MayGiveMore, SeesEnd, HasGiven, Tells, IsFresh as IsUnread}
 use Rattle.pnm_read.proofs.Gathered.{consumes_nothing, consumes_then}
+use Rattle.pnm_read.proofs.Turns.{no_fault}
 use Rattle.pnm_read.proofs.SaidLaws.{said_is_lawful}
 use Rattle.pnm_read.proofs.StreamLaws.{holds_of_said, read_head_has_rows, rest_may_come, nothing_may_come, given_is_front, not_stopped, said_are_messages}
 use Rattle.pnm_tools.specs.declared.fault.ToolFault.{ToolFault}
@@ -21,13 +22,45 @@ use Rattle.pnm_tools.proofs.ChainLaws.{sound_front}
 use Rattle.pnm_flow.specs.declared.downstream.Downstream.{Downstream}
 use Rattle.pnm_flow.specs.declared.serial_stage.SerialStage.{SerialStage}
 use Rattle.pnm_flow.specs.SerialStages.{FeedsThrough}
-use Rattle.pnm_flow.specs.Feeding.{IsSaidOf, HaveTaken, HasFed}
+use Rattle.pnm_flow.specs.Runs.{change, HasMore, IsReadFailure, MayFollow, OutlastsRun}
+use Rattle.pnm_flow.specs.Feeding.{HaveTaken, HasFed}
+
+-- the bytes that may follow those that were read are ones that the source may still be given
+may_give : {R : Type 0} (left : R → Option (List ℕ)) (failures : R → ℕ) (first next : Source R) (result : Result (Unit {0}) InputFault) (rest : List ℕ)
+    → (HasMore (left (reader_of next)) → (rest : List ℕ) → MayGive next rest)
+    → (IsReadFailure result (change left failures (reader_of first) (reader_of next)) → (rest : List ℕ) → MayGive next rest)
+    → MayFollow result (change left failures (reader_of first) (reader_of next)) rest → MayGive next rest
+may_give left failures first next result rest unread failure (inl none) = subst (MayGive next) (sym none) (nothing_may_come next)
+may_give left failures first next result rest unread failure (inr (inl more)) = unread more rest
+may_give left failures first next result rest unread failure (inr (inr failed)) = failure failed rest
+
+-- a byte that is left
+first_left : (left : Option (List ℕ)) → HasMore left → (byte : ℕ) × (more : List ℕ) × (left ≡ Some (byte ∷ more))
+first_left None has = absurd has
+first_left (Some []) has = absurd has
+first_left (Some (byte ∷ more)) has = (byte, more, refl)
+
+-- where a byte is left after a call, any bytes may still come
+abbrev pub IsUnreadAfter : {R : Type 0} → (R → Option (List ℕ)) → Source R → Source R → Type 0
+IsUnreadAfter left source next = SeesEnd left source → MayGiveMore left next
+
+unread_after : {R : Type 0} (left : R → Option (List ℕ)) (source next : Source R) → SeesEnd left source → IsUnreadAfter left source next → HasMore (left (reader_of next)) → (rest : List ℕ) → MayGive next rest
+unread_after left source next end unread has =
+    let found = first_left (left (reader_of next)) has in
+    unread end found.0 found.1 found.2
 
 -- the rest of a text of which a part was read
-rest_of : (old new : Option (List ℕ)) (read text : List ℕ) → Consumes old new read → old ≡ Some text → (rest : List ℕ) × (new ≡ Some rest) × (text ≡ read ++ rest)
+pub rest_of : (old new : Option (List ℕ)) (read text : List ℕ) → Consumes old new read → old ≡ Some text → (rest : List ℕ) × (new ≡ Some rest) × (text ≡ read ++ rest)
 rest_of None new read text c e = absurd cc
 rest_of (Some xs) None read text c e = absurd c
 rest_of (Some xs) (Some ys) read text c e = (ys, refl, cc)
+
+pub read_failure : {A : Type 0} (fault : InputFault) (answer : Result A InputFault) → answer ≡ Err fault → answer ≡ Err ReadFailed → fault ≡ ReadFailed
+read_failure fault answer is e = cc
+
+-- a fault that a source answers
+abbrev pub fault_answer : InputFault → Result (Option Message) InputFault
+fault_answer fault = Err fault
 
 -- what is said of a text, and a front of it, are messages of images that have rows
 said_is_sound : (text : List ℕ) → AllByRecursion IsSound (said_of text)
@@ -48,6 +81,7 @@ pub record Going {R F W : Type 0} (left : R → Option (List ℕ)) (reader_failu
   pub consumed : Consumes (left (reader_of first)) (left (reader_of source)) read
   pub told : HasGiven source read given
   pub end : SeesEnd left source
+  pub unread : HasMore (left (reader_of source)) → (rest : List ℕ) → MayGive source rest
   pub many : length given ≡ count
   pub sound : reader_failures (reader_of source) ≡ reader_failures (reader_of first)
   pub output : HaveTaken at all_given stopped held writer_failures given old new start now
@@ -60,6 +94,7 @@ going_none left reader_failures at all_given stopped held writer_failures source
   consumed = consumes_nothing (left (reader_of source));
   told = unread.nothing_given;
   end = unread.end left;
+  unread = λ more. unread.unread;
   many = refl;
   sound = refl;
   output = record { out = []; stages = λ tools is. is; taken = λ start is. is };
@@ -78,44 +113,47 @@ pub going_more : {R F W : Type 0} (left : R → Option (List ℕ)) (reader_failu
     → (going : Going left reader_failures at all_given stopped held writer_failures first source old now start d count)
     → Tells left source (Ok (Some m)) next
     → (SeesEnd left source → SeesEnd left next)
+    → IsUnreadAfter left source next
     → reader_failures (reader_of next) ≡ reader_failures (reader_of source)
     → FeedsThrough at all_given stopped held writer_failures now m after d new
     → Going left reader_failures at all_given stopped held writer_failures first next old after start new (count + 1)
-going_more left reader_failures at all_given stopped held writer_failures first source next old now after start d new count m going t end sound passes = record {
+going_more left reader_failures at all_given stopped held writer_failures first source next old now after start d new count m going t end unread sound passes = record {
   read = going.read ++ t.more;
   given = going.given ++ m ∷ [];
   consumed = consumes_then (left (reader_of first)) (left (reader_of source)) (left (reader_of next)) going.read t.more going.consumed t.consumed;
   told = t.told going.read going.given going.told;
   end = end going.end;
+  unread = unread_after left source next going.end unread;
   many = let before = going.many in omega (arith, length-append going.given (m ∷ []));
   sound = sound ∙ going.sound;
   output = have_taken_more at all_given stopped held writer_failures going.given m old now after start d new going.output passes;
 }
-
--- what an answer tells of the whole text
-whole_text : {R : Type 0} (left : R → Option (List ℕ)) (first source next : Source R) (result : Result (Option Message) InputFault) (read more text : List ℕ) → Consumes (left (reader_of first)) (left (reader_of source)) read → Consumes (left (reader_of source)) (left (reader_of next)) more
-    → SeesEnd left next → left (reader_of first) ≡ Some text → (rest : List ℕ) × MayGive next rest × (text ≡ (read ++ more) ++ rest)
-whole_text left first source next result read more text c d end is =
-    let rest = rest_of (left (reader_of first)) (left (reader_of next)) (read ++ more) text (consumes_then (left (reader_of first)) (left (reader_of source)) (left (reader_of next)) read more c d) is in
-    (rest.0, rest_may_come left next rest.0 end rest.1, rest.2)
 
 -- the end of the stream
 pub fed_all : {R F W : Type 0} (left : R → Option (List ℕ)) (reader_failures : R → ℕ) (at : F → Tool → List Message → List Message → Type 0) (all_given : F → Bool) (stopped : F → Option ToolFault) (held : W → Option (List ℕ)) (writer_failures : W → ℕ) (first source next : Source R) (old new : List (SerialStage F)) (start now : Downstream W) (count : ℕ)
     → Going left reader_failures at all_given stopped held writer_failures first source old new start now count
     → Tells left source (Ok None) next
     → (SeesEnd left source → SeesEnd left next)
+    → IsUnreadAfter left source next
     → reader_failures (reader_of next) ≡ reader_failures (reader_of source)
     → HasFed left reader_failures at all_given stopped held writer_failures first next (Ok tt) old new start now
-fed_all left reader_failures at all_given stopped held writer_failures first source next old new start now count going t end sound = record {
+fed_all left reader_failures at all_given stopped held writer_failures first source next old new start now count going t end unread sound = record {
+  read = going.read ++ t.more;
+  consumed = consumes_then (left (reader_of first)) (left (reader_of source)) (left (reader_of next)) going.read t.more going.consumed t.consumed;
   given = going.given;
   sound = given_is_sound source going.read going.given going.told;
-  told = λ text is.
-      let whole = whole_text left first source next (Ok None) going.read t.more text going.consumed t.consumed (end going.end) is in
-      subst (λ (l : List ℕ). IsSaidOf l going.given (Ok tt)) (sym whole.2) ((t.told going.read going.given going.told).1 whole.0 whole.1);
-  count = sound ∙ going.sound;
+  told = λ rest may.
+      let still = may_give left reader_failures first next (Ok tt) rest (unread_after left source next going.end unread) (λ failed. absurd (no_fault tt ReadFailed failed.0)) may in
+      (t.told going.read going.given going.told).1 rest still;
+  count = λ not. sound ∙ going.sound;
   read_failed = λ e. absurd cc;
   output = going.output;
 }
+
+-- after a failed read anything may come
+open_in_call : {R : Type 0} (s next : Source R) (read : List ℕ) (given : List Message) → HasGiven s read given → (stopped_by s ≡ Some ReadFailed) ⊎ ((rest : List ℕ) → MayGive next rest) → (rest : List ℕ) → MayGive next rest
+open_in_call s next read given h (inl stopped) = absurd (not_stopped s read given ReadFailed h stopped (inl refl))
+open_in_call s next read given h (inr anything) = anything
 
 -- a source that hadn't stopped failed in the call
 failed_in_call : {R : Type 0} (s : Source R) (read : List ℕ) (given : List Message) (old new first : ℕ) → HasGiven s read given → old ≡ first → (stopped_by s ≡ Some ReadFailed) ⊎ Failed old new → Failed first new
@@ -123,19 +161,25 @@ failed_in_call s read given old new first h e (inl stopped) = absurd (not_stoppe
 failed_in_call s read given old new first h e (inr failed) = subst (λ (k : ℕ). Failed k new) e failed
 
 -- a fault of the input
-pub fed_until : {R F W : Type 0} (left : R → Option (List ℕ)) (reader_failures : R → ℕ) (at : F → Tool → List Message → List Message → Type 0) (all_given : F → Bool) (stopped : F → Option ToolFault) (held : W → Option (List ℕ)) (writer_failures : W → ℕ) (first source next : Source R) (old new : List (SerialStage F)) (start now : Downstream W) (count : ℕ) (fault : InputFault)
-    → Going left reader_failures at all_given stopped held writer_failures first source old new start now count
+pub fed_until : {R F W : Type 0} (left : R → Option (List ℕ)) (reader_failures : R → ℕ) (at : F → Tool → List Message → List Message → Type 0) (all_given : F → Bool) (stopped : F → Option ToolFault) (held : W → Option (List ℕ)) (writer_failures : W → ℕ) (first source next : Source R) (old new : List (SerialStage F)) (start now : Downstream W) (messages : ℕ) (fault : InputFault)
+    → Going left reader_failures at all_given stopped held writer_failures first source old new start now messages
     → Tells left source (Err fault) next
     → (SeesEnd left source → SeesEnd left next)
+    → IsUnreadAfter left source next
+    → (fault ≡ ReadFailed → (stopped_by source ≡ Some ReadFailed) ⊎ ((rest : List ℕ) → MayGive next rest))
     → (fault ≡ ReadFailed → (stopped_by source ≡ Some ReadFailed) ⊎ Failed (reader_failures (reader_of source)) (reader_failures (reader_of next)))
+    → ((fault_answer fault ≡ Err ReadFailed → ⊥) → reader_failures (reader_of next) ≡ reader_failures (reader_of source))
     → HasFed left reader_failures at all_given stopped held writer_failures first next (Err fault) old new start now
-fed_until left reader_failures at all_given stopped held writer_failures first source next old new start now count fault going t end failed = record {
+fed_until left reader_failures at all_given stopped held writer_failures first source next old new start now messages fault going t end unread anything failed count = record {
+  read = going.read ++ t.more;
+  consumed = consumes_then (left (reader_of first)) (left (reader_of source)) (left (reader_of next)) going.read t.more going.consumed t.consumed;
   given = going.given;
   sound = given_is_sound source going.read going.given going.told;
-  told = λ text is.
-      let whole = whole_text left first source next (Err fault) going.read t.more text going.consumed t.consumed (end going.end) is in
-      subst (λ (l : List ℕ). IsSaidOf l going.given (Err fault)) (sym whole.2) (t.told going.read going.given going.told whole.0 whole.1);
-  count = tt;
+  told = λ rest may.
+      let still = may_give left reader_failures first next (Err fault) rest (unread_after left source next going.end unread)
+      (λ is. open_in_call source next going.read going.given going.told (anything (read_failure fault _ refl is.0))) may in
+      t.told going.read going.given going.told rest still;
+  count = λ not. count (λ e. not (ap Err (read_failure fault _ refl e))) ∙ going.sound;
   read_failed = λ e. inl (failed_in_call source going.read going.given (reader_failures (reader_of source)) (reader_failures (reader_of next)) (reader_failures (reader_of first)) going.told going.sound (failed cc));
   output = going.output;
 }
@@ -144,26 +188,36 @@ fed_until left reader_failures at all_given stopped held writer_failures first s
 front_is_shorter : (given whole : List Message) (count : ℕ) → length given ≡ count → IsFrontOf given whole → count ≤ length whole
 front_is_shorter given whole count many front = omega (arith, length-append given front.0, ap (λ (l : List Message). length l) front.1)
 
+-- the reader hasn't failed where its count is the same and as many messages came as a run takes
+not_failed : {old new : ℕ} {Outlasts : Type 0} → new ≡ old → Outlasts → (old < new) ⊎ (Outlasts → ⊥) → ⊥
+not_failed same outlasts (inl rose) = absurd (omega arith)
+not_failed same outlasts (inr fewer) = fewer outlasts
+
 -- as many messages as a run takes
 pub fed_too_many : {R F W : Type 0} (left : R → Option (List ℕ)) (reader_failures : R → ℕ) (at : F → Tool → List Message → List Message → Type 0) (all_given : F → Bool) (stopped : F → Option ToolFault) (held : W → Option (List ℕ)) (writer_failures : W → ℕ) (first source : Source R) (old new : List (SerialStage F)) (start now : Downstream W) (count : ℕ)
     → Going left reader_failures at all_given stopped held writer_failures first source old new start now count → 2 ^ 64 - 1 ≤ count
     → HasFed left reader_failures at all_given stopped held writer_failures first source (Err ReadFailed) old new start now
 fed_too_many left reader_failures at all_given stopped held writer_failures first source old new start now count going enough =
-    let front : (text : List ℕ) → left (reader_of first) ≡ Some text → IsFrontOf going.given (said_of text) = λ text is.
-    let rest = rest_of (left (reader_of first)) (left (reader_of source)) going.read text going.consumed is in
-    subst (λ (l : List ℕ). IsFrontOf going.given (said_of l)) (sym rest.2) (given_is_front source going.read going.given rest.0 going.told (rest_may_come left source rest.0 going.end rest.1)) in
     let of_read : IsFrontOf going.given (said_of going.read) =
     subst (λ (l : List ℕ). IsFrontOf going.given (said_of l)) (append-nil going.read) (given_is_front source going.read going.given [] going.told (nothing_may_come source)) in
+    let outlasts : OutlastsRun (left (reader_of first)) (left (reader_of source)) = record {
+      read = going.read;
+      consumed = going.consumed;
+      many = let long = front_is_shorter going.given (said_of going.read) count going.many of_read in omega arith;
+      of_text = λ text is.
+          let rest = rest_of (left (reader_of first)) (left (reader_of source)) going.read text going.consumed is in
+          let front : IsFrontOf going.given (said_of text) = subst (λ (l : List ℕ). IsFrontOf going.given (said_of l)) (sym rest.2) (given_is_front source going.read going.given rest.0 going.told (rest_may_come left source rest.0 going.end rest.1)) in
+          let long = front_is_shorter going.given (said_of text) count going.many front in omega arith;
+    } in
     record {
+      read = going.read;
+      consumed = going.consumed;
       given = going.given;
       sound = given_is_sound source going.read going.given going.told;
-      told = λ text is. inr (inl refl, front text is);
-      count = tt;
-      read_failed = λ e. inr (record {
-        read = going.read;
-        consumed = going.consumed;
-        many = let long = front_is_shorter going.given (said_of going.read) count going.many of_read in omega arith;
-        of_text = λ text is. let long = front_is_shorter going.given (said_of text) count going.many (front text is) in omega arith;
-      });
+      told = λ rest may.
+          let still = may_give left reader_failures first source (Err ReadFailed) rest going.unread (λ failed. absurd (not_failed going.sound outlasts failed.1)) may in
+          inr (inl refl, given_is_front source going.read going.given rest going.told still);
+      count = λ not. absurd (not refl);
+      read_failed = λ e. inr outlasts;
       output = going.output;
     }

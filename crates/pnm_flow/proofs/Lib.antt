@@ -6,3 +6,4 @@ pub mod FeedingSteps
 pub mod ToolSteps
 pub mod CountLaws
 pub mod RunSteps
+pub mod EndSteps

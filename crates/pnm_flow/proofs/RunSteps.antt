@@ -18,13 +18,12 @@ use Rattle.pnm_read.specs.TextLaws.{IsAtFault}
 use Rattle.pnm_read.proofs.TextLaws.{spelled_text_is_said, said_text_is_spelled, spelled_are_images}
 use Rattle.pnm_read.proofs.StreamLaws.{no_text_fault}
 use Rattle.pnm_tools.specs.declared.fault.ToolFault.{ToolFault}
-use Rattle.pnm_tools.specs.declared.fault.ToolFault.TheVariants.{Memory}
 use Rattle.pnm_tools.specs.declared.tool.Tool.{Tool}
 use Rattle.pnm_tools.specs.declared.work.Work.{Work}
 use Rattle.pnm_tools.specs.States.{Standing, IsToolAt, is_all_given}
 use Rattle.pnm_tools.specs.Chains.{AreLawfulTools, due_in_turn}
 use Rattle.pnm_tools.specs.ChainAnswers.{IsSound, AreSound, HaveAnswered, AreWell, IsFirstFault}
-use Rattle.pnm_tools.proofs.ChainLaws.{given_are_sound, stream_is_answered, refusal_is_first, given_is_front}
+use Rattle.pnm_tools.proofs.ChainLaws.{given_are_sound, stream_is_answered, refusal_is_first, none_before_first_fault, given_is_front}
 use Rattle.pnm_tools.proofs.SoundLaws.{sound_keeps_all}
 use Rattle.pnm_write.specs.declared.fault.SinkFault.{SinkFault}
 use Rattle.pnm_write.specs.declared.fault.SinkFault.TheVariants.{WriteFailed}
@@ -35,11 +34,12 @@ use Rattle.pnm_image.proofs.Written.{front-more}
 use Rattle.pnm_flow.specs.declared.downstream.Downstream.{Downstream}
 use Rattle.pnm_flow.specs.declared.serial_stage.SerialStage.{SerialStage}
 use Rattle.pnm_flow.specs.declared.serial_stage.SerialStage.TheVariants.{AtWork, Refused}
+use Rattle.pnm_flow.specs.declared.fault.RunFault.{RunFault}
 use Rattle.pnm_flow.specs.declared.summary.Summary.{Summary}
 use Rattle.pnm_flow.specs.Counts.{counted, images_in, rows_in}
 use Rattle.pnm_flow.specs.Downstreams.{output_of, AreWritable, AreWritten, AreCutOff, HasTakenWith}
 use Rattle.pnm_flow.specs.Feeding.{IsSaidOf, HasFed}
-use Rattle.pnm_flow.specs.Runs.{EndedWell, IsRefusedBy, IsTaken, IsFrontOfDue, IsAllWritten}
+use Rattle.pnm_flow.specs.Runs.{EndedWell, IsTaken, IsStoppedBy, IsFrontOfDue, FitAnswer, IsAllWritten}
 use Rattle.pnm_flow.specs.SerialStages.{refusals_in, StagesAt}
 use Rattle.pnm_flow.specs.SerialTools.{AreFresh}
 use Rattle.pnm_flow.proofs.ToolSteps.{fresh_at}
@@ -170,22 +170,26 @@ run_front held failures start done tools faults given out d text result ran said
 -- where the whole text was read, all that the tools answered was written, unless the writer failed
 pub run_all : {W : Type 0} (held : W → Option (List ℕ)) (failures : W → ℕ) (start done : W) (tools : List Tool) (faults : List (Option ToolFault)) (given out : List Message) (d : Downstream W) (text : List ℕ)
     → Ran held failures start tools faults given out d → said_of text ≡ given → ((f : SinkFault) → d.output ≡ Err f → done ≡ output_of d) → Keeps (held (output_of d)) (held done) → ¬ Failed (failures start) (failures done)
-    → IsAllWritten text tools (held start) (held done)
-run_all held failures start done tools faults given out d text ran said broken kept sound = record {
+    → (answer : Result Summary RunFault) → FitAnswer answer faults → IsAllWritten text tools answer (held start) (held done)
+run_all held failures start done tools faults given out d text ran said broken kept sound answer fit = record {
   faults = faults;
   given = out;
+  fit = fit;
   answered = subst (λ (l : List Message). HaveAnswered tools faults l out) (sym said) ran.answered;
   written = output_all held failures start done out d d.output (out_is_writable held failures start tools faults given out d ran) ran.taken broken kept sound;
 }
 
 -- the first fault of the stages
 pub run_refused : {W : Type 0} (held : W → Option (List ℕ)) (failures : W → ℕ) (start : W) (tools : List Tool) (faults : List (Option ToolFault)) (given out : List Message) (d : Downstream W) (text : List ℕ) (number : ℕ) (fault : ToolFault)
-    → Ran held failures start tools faults given out d → (said_of text ≡ given) × (fault_of text ≡ None) → IsFirstFault 1 faults number fault → (fault ≡ Memory) ⊎ IsRefusedBy text tools number fault
+    → Ran held failures start tools faults given out d → (said_of text ≡ given) × (fault_of text ≡ None) → IsFirstFault 1 faults number fault → IsStoppedBy text tools number fault
 run_refused held failures start tools faults given out d text number fault ran said first =
     let found = said_text_is_spelled text said.1 in
     let stream : given ≡ messages_of_stream found.0 = sym said.0 ∙ found.2 in
-    elim (refusal_is_first tools faults found.0 out number fault ran.lawful (spelled_are_images text found.0 found.1) (subst AreSound stream ran.sound) (subst (λ (l : List Message). HaveAnswered tools faults l out) stream ran.answered) first) [
-      | inl memory ↦ inl memory
+    let images = spelled_are_images text found.0 found.1 in
+    let sound = subst AreSound stream ran.sound in
+    let answered = subst (λ (l : List Message). HaveAnswered tools faults l out) stream ran.answered in
+    elim (refusal_is_first tools faults found.0 out number fault ran.lawful images sound answered first) [
+      | inl memory ↦ inl (memory, (found.0, found.1, none_before_first_fault tools faults found.0 out number fault ran.lawful images sound answered first))
       | inr refusal ↦ inr (found.0, found.1, refusal)
     ]
 

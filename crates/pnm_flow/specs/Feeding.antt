@@ -1,5 +1,6 @@
 -- What has passed from the source through the stages to the sink of a run.
-use Rattle.std.specs.Prelude.{◌≡◌, ◌⊎◌, ℕ, Bool, List, [], Option, Some, None, Result, Ok, Err, OnOk}
+use Rattle.std.specs.Prelude.{◌≡◌, ◌⊎◌, ℕ, Bool, List, [], ◌++◌, Option, Some, None, Result, Ok, Err}
+use Rattle.std.specs.Io.KnownBytes.{Consumes}
 use Rattle.pnm_image.specs.Devices.{Failed}
 use Rattle.pnm_image.specs.declared.message.Message.{Message}
 use Rattle.pnm_image.specs.Completion.{IsFrontOf}
@@ -15,7 +16,7 @@ use Rattle.pnm_tools.specs.declared.tool.Tool.{Tool}
 use Rattle.pnm_flow.specs.declared.downstream.Downstream.{Downstream}
 use Rattle.pnm_flow.specs.declared.serial_stage.SerialStage.{SerialStage}
 use Rattle.pnm_flow.specs.Downstreams.{HasTaken}
-use Rattle.pnm_flow.specs.Runs.{OutlastsRun}
+use Rattle.pnm_flow.specs.Runs.{change, MayFollow, OutlastsRun}
 use Rattle.pnm_flow.specs.SerialStages.{StagesAt}
 
 -- the messages that were given are all that is said of the text, and then its end or its fault; before a
@@ -31,11 +32,14 @@ pub record HaveTaken {F W : Type 0} (at : F → Tool → List Message → List M
   pub stages : (tools : List Tool) → StagesAt at all_given stopped old tools [] [] → StagesAt at all_given stopped new tools given out
   pub taken : (start : W) → HasTaken held failures start [] before → HasTaken held failures start out after
 
+-- the source has read these bytes and given these messages, which are told of each text that may go on after them
 pub record HasFed {R F W : Type 0} (left : R → Option (List ℕ)) (reader_failures : R → ℕ) (at : F → Tool → List Message → List Message → Type 0) (all_given : F → Bool) (stopped : F → Option ToolFault) (held : W → Option (List ℕ)) (writer_failures : W → ℕ)
     (source source_new : Source R) (result : Result (Unit {0}) InputFault) (old new : List (SerialStage F)) (before after : Downstream W) : Type 0 where
+  pub read : List ℕ
+  pub consumed : Consumes (left (reader_of source)) (left (reader_of source_new)) read
   pub given : List Message
   pub sound : AreSound given
-  pub told : (text : List ℕ) → left (reader_of source) ≡ Some text → IsSaidOf text given result
-  pub count : OnOk result (reader_failures (reader_of source_new) ≡ reader_failures (reader_of source))
+  pub told : (rest : List ℕ) → MayFollow result (change left reader_failures (reader_of source) (reader_of source_new)) rest → IsSaidOf (read ++ rest) given result
+  pub count : (result ≡ Err ReadFailed → ⊥) → reader_failures (reader_of source_new) ≡ reader_failures (reader_of source)
   pub read_failed : result ≡ Err ReadFailed → Failed (reader_failures (reader_of source)) (reader_failures (reader_of source_new)) ⊎ OutlastsRun (left (reader_of source)) (left (reader_of source_new))
   pub output : HaveTaken at all_given stopped held writer_failures given old new before after

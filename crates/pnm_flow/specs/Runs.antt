@@ -1,66 +1,61 @@
--- What a run in one thread reads, writes and answers.
-use Rattle.std.specs.Prelude.{◌≡◌, ℕ, ◌-◌, ◌^◌, ◌≤◌, sum_by, length, List, Option, Some, None, Result, Ok, Err}
+-- What a run in one thread reads, writes and answers. A front of a list is what it begins with.
+use Rattle.std.specs.Prelude.{◌≡◌, ◌≢◌, ◌⊎◌, ℕ, ◌-◌, ◌^◌, ◌≤◌, ◌<◌, sum_by, length, take, List, [], ◌∷◌, ◌++◌, Option, Some, None, Result, Ok, Err, IfOk, OnOk}
 use Rattle.std.specs.Io.KnownBytes.{Appends, Consumes}
 use Rattle.pnm_image.specs.declared.message.Message.{Message}
 use Rattle.pnm_image.specs.Images.{Image}
 use Rattle.pnm_image.specs.Completion.{Completes}
 use Rattle.pnm_read.specs.declared.fault.InputFault.{InputFault}
+use Rattle.pnm_read.specs.declared.fault.InputFault.TheVariants.{ReadFailed, Memory as NoMemoryToRead}
+use Rattle.pnm_read.specs.Inputs.{IsOutsideFault}
 use Rattle.pnm_read.specs.Spelling.{Spells}
 use Rattle.pnm_read.specs.Said.{said_of, fault_of}
+use Rattle.pnm_read.specs.TextLaws.{IsAtFault}
 use Rattle.pnm_tools.specs.declared.fault.ToolFault.{ToolFault}
-use Rattle.pnm_tools.specs.declared.fault.ToolFault.TheVariants.{Memory}
+use Rattle.pnm_tools.specs.declared.fault.ToolFault.TheVariants.{OutOfOrder, Memory}
 use Rattle.pnm_tools.specs.declared.tool.Tool.{Tool}
 use Rattle.pnm_tools.specs.Chains.{AreResultsInTurn, due_in_turn, refusal_of}
-use Rattle.pnm_tools.specs.ChainAnswers.{HaveAnswered}
+use Rattle.pnm_tools.specs.ChainAnswers.{HaveAnswered, AreWell, IsFirstFault}
 use Rattle.pnm_write.specs.declared.fault.SinkFault.{SinkFault}
+use Rattle.pnm_write.specs.declared.fault.SinkFault.TheVariants.{WriteFailed}
 use Rattle.pnm_write.specs.Encoding.{bytes_of, encoding_of}
-use Rattle.pnm_image.specs.Devices.{AppendsFront}
+use Rattle.pnm_image.specs.Devices.{AppendsFront, Failed}
 use Rattle.pnm_flow.specs.declared.fault.RunFault.{RunFault}
 use Rattle.pnm_flow.specs.declared.fault.RunFault.TheVariants.{Input, Tool as OfTool, Output}
 use Rattle.pnm_flow.specs.declared.summary.Summary.{Summary}
 use Rattle.pnm_flow.specs.Counts.{counted}
 
--- the images and the rows of a stream
-abbrev pub summary_of : List Image → Summary
-summary_of images = record { images = counted (length images); rows = counted (sum_by (λ i. i.head.shape.height) images) }
+-- what a reader has left or a writer holds, where that is known, and its failures, before and after a call
+pub record Change : Type 0 where
+  pub old : Option (List ℕ)
+  pub new : Option (List ℕ)
+  pub failures_old : ℕ
+  pub failures_new : ℕ
 
--- a run that ended well: the text spells images, none of which is refused, their results were written, and the summary
--- counts these
-pub record EndedWell (text : List ℕ) (tools : List Tool) (old new : Option (List ℕ)) (summary : Summary) : Type 0 where
-  pub images : List Image
-  pub results : List Image
-  pub spelled : Spells text images
-  pub made : AreResultsInTurn tools images results
-  pub written : Appends old new (encoding_of results)
-  pub counts : summary ≡ summary_of results
+abbrev pub change : {D : Type 0} → (D → Option (List ℕ)) → (D → ℕ) → D → D → Change
+change bytes failures old new = record { old = bytes old; new = bytes new; failures_old = failures old; failures_new = failures new }
 
--- the text is accepted, and a tool is the first that refuses one of the images: which, and why
-abbrev pub IsRefusedBy : List ℕ → List Tool → ℕ → ToolFault → Type 0
-IsRefusedBy text tools number fault = (images : List Image) × Spells text images × (refusal_of tools images ≡ Some (record { number = number; fault = fault }))
+-- ---- the answer
 
--- the text is accepted, and no tool refuses one of the images
-abbrev pub IsTaken : List ℕ → List Tool → Type 0
-IsTaken text tools = (images : List Image) × Spells text images × (refusal_of tools images ≡ None)
+-- the fault of the input comes before that of a tool, and this before the output's
+abbrev pub answer_by : Result (Unit {0}) InputFault → Option (ℕ × ToolFault) → Result Summary SinkFault → Result Summary RunFault
+answer_by (Err fault) refused output = Err (Input fault)
+answer_by (Ok _) (Some found) output = Err (OfTool found.0 found.1)
+answer_by (Ok _) None (Err fault) = Err (Output fault)
+answer_by (Ok _) None (Ok summary) = Ok summary
 
--- what was written is a front of what is due, whatever images complete what is said of the text
-abbrev pub IsFrontOfDue : List ℕ → List Tool → Option (List ℕ) → Option (List ℕ) → Type 0
-IsFrontOfDue text tools old new = (images : List Image) → Completes images (said_of text) → AppendsFront old new (bytes_of (due_in_turn tools images))
+-- the first stage that has refused, by its number, and why; or none has
+abbrev pub IsFirstRefusal : List (Option ToolFault) → Option (ℕ × ToolFault) → Type 0
+IsFirstRefusal faults None = AreWell faults
+IsFirstRefusal faults (Some found) = IsFirstFault 1 faults found.0 found.1
 
--- each tool has answered what the one before it gave for all that is said of the text, in full or until its refusal, and
--- the answers of the last were written
-pub record IsAllWritten (text : List ℕ) (tools : List Tool) (old new : Option (List ℕ)) : Type 0 where
-  pub faults : List (Option ToolFault)
-  pub given : List Message
-  pub answered : HaveAnswered tools faults (said_of text) given
-  pub written : Appends old new (bytes_of given)
+-- how the input ended, by the answer of a run
+abbrev pub input_of : {A : Type 0} → Result A RunFault → Result (Unit {0}) InputFault
+input_of (Ok x) = Ok tt
+input_of (Err (Input fault)) = Err fault
+input_of (Err (OfTool number fault)) = Ok tt
+input_of (Err (Output fault)) = Ok tt
 
--- the reader gave bytes of which at least as many messages are said as a run takes; and so of its whole text
-pub record OutlastsRun (old new : Option (List ℕ)) : Type 0 where
-  pub read : List ℕ
-  pub consumed : Consumes old new read
-  pub many : 2 ^ 64 - 1 ≤ length (said_of read)
-  pub of_text : (text : List ℕ) → old ≡ Some text → 2 ^ 64 - 1 ≤ length (said_of text)
-
+-- where the answer is a fault of the input, of a tool or of the output, this holds of it
 abbrev pub IfInput : {A : Type 0} → Result A RunFault → (InputFault → Type 0) → Type 0
 IfInput (Ok x) P = Unit {0}
 IfInput (Err (Input fault)) P = P fault
@@ -79,9 +74,123 @@ IfOutput (Err (Input fault)) P = Unit {0}
 IfOutput (Err (OfTool number fault)) P = Unit {0}
 IfOutput (Err (Output fault)) P = P fault
 
--- the run has read the whole text, through its end or its fault, with memory for each tool
-abbrev pub HasRead : {A : Type 0} → List ℕ → Result A RunFault → Type 0
-HasRead text (Ok x) = Unit {0}
-HasRead text (Err (Input fault)) = fault_of text ≡ Some fault
-HasRead text (Err (OfTool number fault)) = fault ≡ Memory → ⊥
-HasRead text (Err (Output fault)) = Unit {0}
+-- ---- a run that ended well
+
+-- the images and the rows of a stream
+abbrev pub summary_of : List Image → Summary
+summary_of images = record { images = counted (length images); rows = counted (sum_by (λ i. i.head.shape.height) images) }
+
+-- a run that ended well: the text spells images, none of which is refused, their results were written, and the summary
+-- counts these
+pub record EndedWell (text : List ℕ) (tools : List Tool) (old new : Option (List ℕ)) (summary : Summary) : Type 0 where
+  pub images : List Image
+  pub results : List Image
+  pub spelled : Spells text images
+  pub made : AreResultsInTurn tools images results
+  pub written : Appends old new (encoding_of results)
+  pub counts : summary ≡ summary_of results
+
+-- ---- refusals of images
+
+-- the text is accepted, and a tool is the first that refuses one of the images: which, and why
+abbrev pub IsRefusedBy : List ℕ → List Tool → ℕ → ToolFault → Type 0
+IsRefusedBy text tools number fault = (images : List Image) × Spells text images × (refusal_of tools images ≡ Some (record { number = number; fault = fault }))
+
+-- the text is accepted, and no tool refuses one of the images
+abbrev pub IsTaken : List ℕ → List Tool → Type 0
+IsTaken text tools = (images : List Image) × Spells text images × (refusal_of tools images ≡ None)
+
+-- the text is accepted, and a tool is the first that refuses one of the images; or there was no memory for it, and no
+-- tool before it refuses one
+abbrev pub IsStoppedBy : List ℕ → List Tool → ℕ → ToolFault → Type 0
+IsStoppedBy text tools number fault = ((fault ≡ Memory) × IsTaken text (take (number - 1) tools)) ⊎ IsRefusedBy text tools number fault
+
+-- ---- what was read
+
+-- the reader gave bytes of which at least as many messages are said as a run takes; and so of its whole text. It says
+-- nothing of a reader that doesn't tell its bytes.
+pub record OutlastsRun (old new : Option (List ℕ)) : Type 0 where
+  pub read : List ℕ
+  pub consumed : Consumes old new read
+  pub many : 2 ^ 64 - 1 ≤ length (said_of read)
+  pub of_text : (text : List ℕ) → old ≡ Some text → 2 ^ 64 - 1 ≤ length (said_of text)
+
+-- the reader failed: its count rose, or fewer messages came than a run takes
+abbrev pub IsReadFailure : Result (Unit {0}) InputFault → Change → Type 0
+IsReadFailure input reader = (input ≡ Err ReadFailed) × ((reader.failures_old < reader.failures_new) ⊎ (OutlastsRun reader.old reader.new → ⊥))
+
+-- a byte is left, as far as is known
+abbrev pub HasMore : Option (List ℕ) → Type 0
+HasMore None = ⊥
+HasMore (Some []) = ⊥
+HasMore (Some (byte ∷ more)) = Unit {0}
+
+-- what may come after the bytes that were read: nothing; and anything where a byte is left, or the reader failed
+abbrev pub MayFollow : Result (Unit {0}) InputFault → Change → List ℕ → Type 0
+MayFollow input reader rest = (rest ≡ []) ⊎ HasMore reader.new ⊎ IsReadFailure input reader
+
+-- the answer isn't a fault from outside that broke off the reading of the text
+abbrev pub AnswersText : {A : Type 0} → List ℕ → Result A RunFault → Type 0
+AnswersText text (Ok x) = Unit {0}
+AnswersText text (Err (Input fault)) = fault_of text ≡ Some fault
+AnswersText text (Err (OfTool number fault)) = Unit {0}
+AnswersText text (Err (Output fault)) = Unit {0}
+
+-- ---- what was written
+
+-- what was written is a front of what is due, whatever images complete what is said of the text
+abbrev pub IsFrontOfDue : List ℕ → List Tool → Option (List ℕ) → Option (List ℕ) → Type 0
+IsFrontOfDue text tools old new = (images : List Image) → Completes images (said_of text) → AppendsFront old new (bytes_of (due_in_turn tools images))
+
+-- these bytes were read; and whatever may come after them, what was written is a front of what is due for that text
+pub record IsFrontForEach (tools : List Tool) (input : Result (Unit {0}) InputFault) (reader writer : Change) : Type 0 where
+  pub read : List ℕ
+  pub consumed : Consumes reader.old reader.new read
+  pub front : (rest : List ℕ) → MayFollow input reader rest → IsFrontOfDue (read ++ rest) tools writer.old writer.new
+
+-- the refusals of the tools, as far as the answer tells them: none where no tool's fault is answered, and else which is the
+-- first. At the input's fault any tool, and at a tool's fault any tool behind it, may also have run out of memory, of which
+-- the answer tells nothing.
+abbrev pub FitAnswer : {A : Type 0} → Result A RunFault → List (Option ToolFault) → Type 0
+FitAnswer (Ok x) faults = AreWell faults
+FitAnswer (Err (Input fault)) faults = Unit {0}
+FitAnswer (Err (OfTool number fault)) faults = IsFirstFault 1 faults number fault
+FitAnswer (Err (Output fault)) faults = AreWell faults
+
+-- each tool has answered what the one before it gave for all that is said of the text, in full or until its refusal, and
+-- the answers of the last were written
+pub record IsAllWritten {A : Type 0} (text : List ℕ) (tools : List Tool) (answer : Result A RunFault) (old new : Option (List ℕ)) : Type 0 where
+  pub faults : List (Option ToolFault)
+  pub given : List Message
+  pub fit : FitAnswer answer faults
+  pub answered : HaveAnswered tools faults (said_of text) given
+  pub written : Appends old new (bytes_of given)
+
+-- ---- the run
+
+-- how a run answers, and what it has read and written then; where there is no memory for the list of the tools, the reader
+-- is as it was
+pub record HasRun (tools : List Tool) (answer : Result Summary RunFault) (unread : Type 0) (reader writer : Change) : Type 0 where
+  -- It ends well only where the whole input is accepted, no tool refuses an image, the results of all images are written,
+  -- and no device failed.
+  pub well : (text : List ℕ) → reader.old ≡ Some text → IfOk answer (EndedWell text tools writer.old writer.new)
+  pub no_failure : OnOk answer ((reader.failures_new ≡ reader.failures_old) × (writer.failures_new ≡ writer.failures_old))
+  -- A fault of the input is the first of its text, which then spells nothing; or the reader failed, memory ran out, or as
+  -- many messages came as a run takes. With any other answer the reader hasn't failed, as far as memory let it be read.
+  pub input : (text : List ℕ) → reader.old ≡ Some text → IfInput answer (λ fault. IsOutsideFault fault ⊎ IsAtFault text fault)
+  pub read_failed : IfInput answer (λ fault. fault ≡ ReadFailed → Failed reader.failures_old reader.failures_new ⊎ OutlastsRun reader.old reader.new)
+  pub sound_reader : (answer ≡ Err (Input ReadFailed) → ⊥) → (answer ≡ Err (Input NoMemoryToRead) → ⊥) → reader.failures_new ≡ reader.failures_old
+  -- A tool's fault is answered only where the input has none and no tool before it refuses an image: it is the tool's own
+  -- refusal, or want of memory. Or there was no memory for the list of the tools: it is then of tool 1, and nothing was
+  -- read, whatever the input is. That a message came out of order is never answered.
+  pub tool : IfTool answer (λ number fault. (fault ≢ OutOfOrder) × (1 ≤ number) × (number ≤ length tools))
+  pub refusal : (text : List ℕ) → reader.old ≡ Some text → IfTool answer (λ number fault. ((fault ≡ Memory) × (number ≡ 1) × unread) ⊎ IsStoppedBy text tools number fault)
+  -- The output's fault is answered only where the input and the tools have none.
+  pub output : IfOutput answer (λ fault. (fault ≡ WriteFailed) × Failed writer.failures_old writer.failures_new × (reader.failures_new ≡ reader.failures_old))
+  pub output_last : (text : List ℕ) → reader.old ≡ Some text → IfOutput answer (λ fault. IsTaken text tools)
+  -- However it ends, what is written is a front of the output due, for the reader's own text and for any other that may
+  -- begin with the bytes that were read; or there was no memory to read, and nothing was written. Where the answer is of
+  -- the text, it is all that the tools have answered, unless the writer failed.
+  pub front : (text : List ℕ) → reader.old ≡ Some text → IsFrontOfDue text tools writer.old writer.new
+  pub front_for_each : ((answer ≡ Err (Input NoMemoryToRead)) × (writer.new ≡ writer.old)) ⊎ IsFrontForEach tools (input_of answer) reader writer
+  pub all_written : (text : List ℕ) → reader.old ≡ Some text → AnswersText text answer → ¬ Failed writer.failures_old writer.failures_new → IsAllWritten text tools answer writer.old writer.new

@@ -1,18 +1,13 @@
 //! A run in one thread: read, pass through the tools, write.
 
-ghost use Rattle.std.specs.Prelude.{◌≡◌, ◌⊎◌, List, [], ℕ, Some, None, Err, Ok, IfOk, IfErr, IfSome, IfNone, OnOk};
-ghost use Rattle.pnm_image.specs.Devices.{Failed};
-ghost use Rattle.pnm_read.specs.declared.fault.InputFault.TheVariants.{ReadFailed, Memory};
-ghost use Rattle.pnm_read.specs.Inputs.{IsOutsideFault};
+ghost use Rattle.std.specs.Prelude.{◌≡◌, [], Err, IfOk, IfErr};
+ghost use Rattle.pnm_read.specs.declared.fault.InputFault.TheVariants.{Memory};
 ghost use Rattle.pnm_read.specs.Sources.{reader_of, IsFresh as IsUnread};
-ghost use Rattle.pnm_read.specs.TextLaws.{IsAtFault};
 ghost use Rattle.pnm_tools.specs.declared.fault.ToolFault.TheVariants.{Memory as NoMemory};
 ghost use Rattle.pnm_tools.specs.Chains.{AreLawfulTools, IsChain};
-ghost use Rattle.pnm_tools.specs.ChainAnswers.{AreWell, IsFirstFault};
 ghost use Rattle.pnm_tools.specs.Tools.{IsLawfulTool};
-ghost use Rattle.pnm_write.specs.declared.fault.SinkFault.TheVariants.{WriteFailed};
 ghost use Rattle.pnm_flow.specs.Downstreams.{output_of};
-ghost use Rattle.pnm_flow.specs.Runs.{EndedWell, IsRefusedBy, IsTaken, IsFrontOfDue, IsAllWritten, HasRead, OutlastsRun, IfInput, IfTool, IfOutput};
+ghost use Rattle.pnm_flow.specs.Runs.{answer_by, change, HasRun, IsFirstRefusal};
 ghost use Rattle.pnm_flow.specs.SerialStages.{refusals_in};
 ghost use Rattle.pnm_flow.specs.SerialTools.{ToolAt, AreFresh};
 ghost use Rattle.pnm_flow.specs.Feeding.{HasFed};
@@ -24,6 +19,7 @@ use crate::summary::Summary;
 use pnm_image::{BytesIn, BytesOut};
 use pnm_read::{InputFault, Source};
 use pnm_tools::{Filter, Tool, ToolFault, ToolState};
+use pnm_write::SinkFault;
 use std::alloc::Global;
 
 /// Reads the images of the reader, passes them through the tools and writes what comes out. The
@@ -40,39 +36,8 @@ pub fn run_serial<R: BytesIn, W: BytesOut>(
     tools: &[Tool],
 ) -> Result<Summary, RunFault>
     requires { IsChain tools.now }
-    // It ends well only where the whole input is accepted, no tool refuses an image, and the results of all
-    // images are written.
-    ensures well { (text : List ℕ) → R.left reader.old ≡ Some text
-        → IfOk result (EndedWell text tools.now (W.held writer.old) (W.held writer.new)) }
-    ensures no_failure { OnOk result
-        ((R.failures reader.new ≡ R.failures reader.old) × (W.failures writer.new ≡ W.failures writer.old)) }
-
-    // An input that is accepted is refused only where the reader fails or memory runs out.
-    ensures input { (text : List ℕ) → R.left reader.old ≡ Some text
-        → IfInput result (λ fault. IsOutsideFault fault ⊎ IsAtFault text fault) }
-    ensures read_failed { IfInput result (λ fault. fault ≡ ReadFailed
-        → Failed (R.failures reader.old) (R.failures reader.new)
-        ⊎ OutlastsRun (R.left reader.old) (R.left reader.new)) }
-
-    // A tool's fault is answered only where the input has none, and no tool before it refuses an image.
-    ensures tool { (text : List ℕ) → R.left reader.old ≡ Some text
-        → IfTool result (λ number fault. (fault ≡ NoMemory) ⊎ IsRefusedBy text tools.now number fault) }
-
-    // The output's fault is answered only where the input and the tools have none.
-    ensures output { IfOutput result (λ fault. (fault ≡ WriteFailed)
-        × Failed (W.failures writer.old) (W.failures writer.new)
-        × (R.failures reader.new ≡ R.failures reader.old)) }
-    ensures output_last { (text : List ℕ) → R.left reader.old ≡ Some text
-        → IfOutput result (λ _. IsTaken text tools.now) }
-
-    // However it ends, what is written is a front of the output due. At the end of the input or at its fault
-    // it is all that the tools have answered, unless the writer failed.
-    ensures front { (text : List ℕ) → R.left reader.old ≡ Some text
-        → IsFrontOfDue text tools.now (W.held writer.old) (W.held writer.new) }
-    ensures all_written { (text : List ℕ) → R.left reader.old ≡ Some text
-        → HasRead text result → ¬ Failed (W.failures writer.old) (W.failures writer.new)
-        → IsAllWritten text tools.now (W.held writer.old) (W.held writer.new) }
-
+    ensures ran { HasRun tools.now result (reader.new ≡ reader.old)
+        (change R.left R.failures reader.old reader.new) (change W.held W.failures writer.old writer.new) }
     // Where memory runs out before the first message, the reader is gone with the source.
     ensures same_reader { ¬ (result ≡ Err (RunFault.Input Memory)) → R.same reader.old reader.new }
     ensures same_writer { W.same writer.old writer.new }
@@ -92,7 +57,18 @@ pub fn run_serial<R: BytesIn, W: BytesOut>(
     // No effect at run time. The proof reads from these uses what the two devices hold.
     let _ = &*read;
     let _ = &*written;
-    match (input, first_fault(stages.as_slice()), output) {
+    answer(input, first_fault(stages.as_slice()), output)
+}
+
+/// The answer of a run.
+fn answer(
+    input: Result<(), InputFault>,
+    refused: Option<(usize, ToolFault)>,
+    output: Result<Summary, SinkFault>,
+) -> Result<Summary, RunFault>
+    ensures { result ≡ answer_by input refused output }
+{
+    match (input, refused, output) {
         (Err(fault), _, _) => Err(RunFault::Input(fault)),
         (Ok(()), Some((number, fault)), _) => Err(RunFault::Tool(number, fault)),
         (Ok(()), None, Err(fault)) => Err(RunFault::Output(fault)),
@@ -126,8 +102,7 @@ fn stage_of(alloc: Global, tool: &Tool) -> SerialStage<ToolState>
 
 /// The number and the fault of the first stage that has refused.
 fn first_fault<F: Filter + Drop>(stages: &[SerialStage<F>]) -> Option<(usize, ToolFault)>
-    ensures first { IfSome result (λ found. IsFirstFault 1 (refusals_in stages.now) found.0 found.1) }
-    ensures none { IfNone result (AreWell (refusals_in stages.now)) }
+    ensures { IsFirstRefusal (refusals_in stages.now) result }
 {
     for (index, stage) in stages.iter().enumerate() {
         if let Some(fault) = stage.fault() {

@@ -1,6 +1,6 @@
 -- What the words of the command line say, as `clap` reads them.
 use Rattle.std.specs.Str.Parse.{digits_value, without_leading_plus}
-use Rattle.std.specs.Prelude.{◌≡◌, ◌≢◌, ◌⊎◌, ◌≤◌, ◌∷◌, ℕ, List, [], Option, Some, codes, pos, true}
+use Rattle.std.specs.Prelude.{◌≡◌, ◌≢◌, ◌⊎◌, ◌≤◌, ◌∷◌, ℕ, List, [], Option, Some, Result, Ok, Err, codes, pos, true}
 use Rattle.pnm_tools.specs.declared.tool.Tool.{Tool}
 use Rattle.clap.specs.Words.{App, Rule, Text, IsAmong, fault_of, first_of, matches_of, one_of, new_app, new_rule, with_rule}
 use Rattle.clap.specs.declared.builder.action.ArgAction.TheVariants.{Set}
@@ -8,7 +8,8 @@ use Rattle.clap.specs.declared.builder.value_parser.ValueParser.TheVariants.{Sig
 use Rattle.clap.specs.declared.error.kind.ErrorKind.{ErrorKind}
 use Rattle.clap.specs.declared.error.kind.ErrorKind.TheVariants.{DisplayHelp, OutOfMemory}
 use Rattle.pnm_chain.specs.ChainText.{SpellsChain}
-use Rattle.pnm_flow.specs.Runs.{EndedWell, IsFrontOfDue}
+use Rattle.pnm_flow.specs.Runs.{Change, HasRun}
+use Rattle.pnm_flow.specs.declared.fault.RunFault.{RunFault}
 use Rattle.pnm_flow.specs.declared.summary.Summary.{Summary}
 use Rattle.pnmpipe.specs.declared.command_line.CommandLineFault.{CommandLineFault}
 use Rattle.pnmpipe.specs.declared.command_line.CommandLineFault.TheVariants.{Help, Usage, Memory}
@@ -68,15 +69,21 @@ IsFaultOfWords words (Help text) = AsksForHelp words
 IsFaultOfWords words Usage = IsNoCommandLine words
 IsFaultOfWords words Memory = Unit {0}
 
--- how a run over these tools ended, by its status, the text that the reader gives and what the writer held and holds
-pub record HasRun (tools : List Tool) (status : ℕ) (left held_old held_new : Option (List ℕ)) : Type 0 where
-  pub front : (text : List ℕ) → left ≡ Some text → IsFrontOfDue text tools held_old held_new
-  pub well : status ≡ 0 → (text : List ℕ) → left ≡ Some text → (summary : Summary) × EndedWell text tools held_old held_new summary
+-- the status of a run by its answer
+abbrev pub status_of : Result Summary RunFault → ℕ
+status_of (Ok summary) = 0
+status_of (Err fault) = 1
+
+-- a run over these tools, which gave the status by its answer
+pub record HasRunTools (tools : List Tool) (status : ℕ) (unread : Type 0) (reader writer : Change) : Type 0 where
+  pub answer : Result Summary RunFault
+  pub status_is : status ≡ status_of answer
+  pub ran : HasRun tools answer unread reader writer
 
 -- the words give a chain, it spells tools, and a run over these ended
-pub record HasRunWords (words : List Text) (status : ℕ) (left held_old held_new : Option (List ℕ)) : Type 0 where
+pub record HasRunWords (words : List Text) (status : ℕ) (unread : Type 0) (reader writer : Change) : Type 0 where
   pub chain : Text
   pub tools : List Tool
   pub given : GivesChain words chain
   pub spelled : SpellsChain chain tools
-  pub run : HasRun tools status left held_old held_new
+  pub run : HasRunTools tools status unread reader writer

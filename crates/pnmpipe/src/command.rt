@@ -3,7 +3,8 @@
 ghost use Rattle.std.specs.Prelude.{◌≡◌, ◌≢◌, ◌⊎◌, ◌≤◌, ℕ, List, map, string_bytes};
 ghost use Rattle.std.specs.Io.KnownBytes.{Appends};
 ghost use Rattle.pnm_image.specs.Devices.{AppendsFront};
-ghost use Rattle.pnmpipe.specs.CommandLine.{AsksForHelp, HasRun, HasRunWords};
+ghost use Rattle.pnmpipe.specs.CommandLine.{AsksForHelp, HasRunTools, HasRunWords};
+ghost use Rattle.pnm_flow.specs.Runs.{change};
 ghost use Rattle.pnm_tools.specs.Chains.{IsChain};
 
 use crate::command_line::{CommandLineFault, read_words};
@@ -28,7 +29,8 @@ pub const COMMAND_LINE_FAULT: u8 = 2;
 /// and writes those that come out to `output`. Where the words ask for help, that is written to
 /// `output` and nothing is read. A fault prints one line to `errors`; if that can't be written,
 /// nothing else changes. The status is 0 where all went well or help was asked for, 1 after a fault
-/// of the run, and 2 where the words name no chain, and then nothing is read or written.
+/// of the run, and 2 where the words name no chain or memory ran out before the run, and then nothing is
+/// read or written.
 pub fn command<H: AllocGlobal, R: BytesIn, W: BytesOut, E: Write>(
     rt: &H,
     words: &[String],
@@ -43,7 +45,8 @@ pub fn command<H: AllocGlobal, R: BytesIn, W: BytesOut, E: Write>(
     ensures helped { AsksForHelp (map string_bytes words.now) → result ≡ 0
         → (text : List ℕ) × Appends (W.held output.old) (W.held output.new) text }
     ensures ran { result ≢ 2 → AsksForHelp (map string_bytes words.now)
-        ⊎ HasRunWords (map string_bytes words.now) result (R.left input.old) (W.held output.old) (W.held output.new) }
+        ⊎ HasRunWords (map string_bytes words.now) result (input.new ≡ input.old)
+        (change R.left R.failures input.old input.new) (change W.held W.failures output.old output.new) }
 {
     let line = match read_words(rt.alloc(), words) {
         Ok(line) => line,
@@ -79,7 +82,8 @@ fn run<R: BytesIn, W: BytesOut, E: Write>(
 ) -> u8
     requires { IsChain tools.now }
     ensures status { result ≤ 1 }
-    ensures ran { HasRun tools.now result (R.left input.old) (W.held output.old) (W.held output.new) }
+    ensures ran { HasRunTools tools.now result (input.new ≡ input.old)
+        (change R.left R.failures input.old input.new) (change W.held W.failures output.old output.new) }
 {
     match run_serial(alloc, input, output, tools) {
         Ok(_) => WELL,

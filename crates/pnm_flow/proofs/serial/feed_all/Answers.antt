@@ -16,7 +16,7 @@ pub loop-preserved : goal.loop-preserved
 loop-preserved g c =
     let told = rw c.in-Some.is at c.in_ok-message.ensures.told in (
       going_more g.R.BytesIn.left g.R.BytesIn.failures g.F.Filter.at g.F.Filter.all_given g.F.Filter.stopped g.W.BytesOut.held g.W.BytesOut.failures c.args.source.now c.loop.source c.next.new.self c.args.stages.now c.loop.stages c.feed_through.new.stages c.args.downstream.now c.loop.downstream c.feed_through.new.downstream c.loop.counter c.in-Some.message
-          c.loop.invariant.0 told c.next.ensures.end (c.in_ok-message.ensures.count (no_fault _ ReadFailed)) c.feed_through.ensures.fed,
+          c.loop.invariant.0 told c.next.ensures.end c.next.ensures.unread (c.in_ok-message.ensures.count (no_fault _ ReadFailed)) c.feed_through.ensures.fed,
       g.met.R.BytesIn.same_later _ _ _ c.loop.invariant.1 c.next.ensures.same_device,
       g.met.W.BytesOut.same_later _ _ _ c.loop.invariant.2 c.feed_through.ensures.same_device,
     )
@@ -26,7 +26,7 @@ returns-in-None g c =
     let told = rw c.in-None.is at c.in_ok-message.ensures.told in
     record {
       fed = fed_all g.R.BytesIn.left g.R.BytesIn.failures g.F.Filter.at g.F.Filter.all_given g.F.Filter.stopped g.W.BytesOut.held g.W.BytesOut.failures c.args.source.now c.loop.source c.next.new.self c.args.stages.now c.loop.stages c.args.downstream.now c.loop.downstream c.loop.counter
-          c.loop.invariant.0 told c.next.ensures.end (c.in_ok-message.ensures.count (no_fault _ ReadFailed));
+          c.loop.invariant.0 told c.next.ensures.end c.next.ensures.unread (c.in_ok-message.ensures.count (no_fault _ ReadFailed));
       same_reader = g.met.R.BytesIn.same_later _ _ _ c.loop.invariant.1 c.next.ensures.same_device;
       same_writer = c.loop.invariant.2;
     }
@@ -37,7 +37,7 @@ returns-in_err-message g c =
     rw (p.1, p.2)
     record {
       fed = fed_until g.R.BytesIn.left g.R.BytesIn.failures g.F.Filter.at g.F.Filter.all_given g.F.Filter.stopped g.W.BytesOut.held g.W.BytesOut.failures c.args.source.now c.loop.source c.next.new.self c.args.stages.now c.loop.stages c.args.downstream.now c.loop.downstream c.loop.counter c.in_err-message.field-0.0
-          c.loop.invariant.0 c.in_err-message.ensures.told c.next.ensures.end (λ e. c.in_err-message.ensures.read_failed (ap Err e));
+          c.loop.invariant.0 c.in_err-message.ensures.told c.next.ensures.end c.next.ensures.unread (λ e. c.in_err-message.ensures.not_at_end (ap Err e)) (λ e. c.in_err-message.ensures.read_failed (ap Err e)) c.in_err-message.ensures.count;
       same_reader = g.met.R.BytesIn.same_later _ _ _ c.loop.invariant.1 c.next.ensures.same_device;
       same_writer = c.loop.invariant.2;
     }

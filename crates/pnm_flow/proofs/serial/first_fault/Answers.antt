@@ -5,8 +5,8 @@ use Rattle.pnm_flow.specs.SerialStages.{refusal_in, refusals_in}
 use Rattle.pnm_flow.proofs.FaultSteps.{well_more, first_here}
 use Rattle.pnm_flow.proofs.serial.first_fault.Goals as goal
 
-pub returns-in-Some-clause-first : goal.returns-in-Some-clause-first
-returns-in-Some-clause-first g c =
+pub returns-in-Some : goal.returns-in-Some
+returns-in-Some g c =
     let within : c.loop-index.index < length c.args.stages.now = omega arith in
     let some = get_or-map refusal_in c.args.stages.now c.loop-index.index c.index-stages-index.result (refusal_in c.index-stages-index.result) within ∙ ap refusal_in (sym c.index-stages-index.is) ∙ sym c.fault.ensures ∙ c.in-Some.is in
     subst (λ (n : ℕ). IsFirstFault 1 (refusals_in c.args.stages.now) n c.in-Some.fault) (omega arith)

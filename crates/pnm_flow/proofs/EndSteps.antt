@@ -1,0 +1,264 @@
+-- What a run knows at its end, and what follows of it for its answer.
+use Rattle.std.proofs.Common.{◌≡◌, ◌≢◌, ◌⊎◌, ℕ, ◌≤◌, List, [], ◌++◌, length, Option, None, Some, Result, Ok, Err, IfOk, OnOk, refl, sym, ap, subst, inl, inr, arith, le_refl, map, ◌∷◌}
+use Rattle.std.proofs.lemmas.List.{append-nil, length-append}
+use Rattle.std.specs.Result.{MatchResult}
+use Rattle.std.specs.Io.KnownBytes.{Appends, Consumes, Keeps}
+use Rattle.pnm_image.specs.Devices.{AppendsFront, Failed}
+use Rattle.pnm_image.specs.declared.message.Message.{Message}
+use Rattle.pnm_image.specs.declared.message.Message.TheVariants.{Stop}
+use Rattle.pnm_read.specs.declared.fault.InputFault.{InputFault}
+use Rattle.pnm_read.specs.declared.fault.InputFault.TheVariants.{ReadFailed, Memory as NoMemoryToRead}
+use Rattle.pnm_read.specs.Said.{said_of}
+use Rattle.pnm_read.specs.Inputs.{IsOutsideFault}
+use Rattle.pnm_read.specs.TextLaws.{IsAtFault}
+use Rattle.pnm_tools.specs.declared.fault.ToolFault.{ToolFault}
+use Rattle.pnm_tools.specs.declared.fault.ToolFault.TheVariants.{OutOfOrder, Memory}
+use Rattle.pnm_tools.specs.declared.tool.Tool.{Tool}
+use Rattle.pnm_read.proofs.Turns.{no_fault}
+use Rattle.pnm_read.proofs.Gathered.{consumes_nothing}
+use Rattle.pnm_read.proofs.StreamLaws.{no_text_fault}
+use Rattle.pnm_tools.specs.Tools.{output_due}
+use Rattle.pnm_tools.specs.Chains.{due_in_turn}
+use Rattle.pnm_write.specs.Encoding.{bytes_of}
+use Rattle.pnm_tools.specs.ChainAnswers.{HasRefused, HaveAnswered}
+use Rattle.pnm_write.specs.declared.fault.SinkFault.{SinkFault}
+use Rattle.pnm_write.specs.declared.fault.SinkFault.TheVariants.{WriteFailed}
+use Rattle.pnm_flow.specs.declared.downstream.Downstream.{Downstream}
+use Rattle.pnm_flow.specs.declared.fault.RunFault.TheVariants.{Input, Tool as OfTool}
+use Rattle.pnm_flow.specs.declared.summary.Summary.{Summary}
+use Rattle.pnm_flow.specs.Downstreams.{output_of}
+use Rattle.pnm_flow.specs.Feeding.{IsSaidOf}
+use Rattle.pnm_flow.specs.Runs.{Change, change, HasRun, answer_by, input_of, IsFirstRefusal, IfInput, IfTool, IfOutput, EndedWell, IsTaken, IsStoppedBy, OutlastsRun, HasMore, MayFollow, AnswersText, IsFrontOfDue, IsFrontForEach, FitAnswer, IsAllWritten}
+use Rattle.pnm_flow.proofs.FeedingSteps.{rest_of, read_failure}
+use Rattle.pnm_flow.proofs.RunSteps.{Ran, nothing_front, input_fault, said_before_fault, run_front, run_all, run_refused, run_taken, run_output, run_sound, run_well}
+use Rattle.pnm_tools.proofs.ChainLaws.{first_fault_in_order}
+
+-- what the source gave, what the stages answered, what the sink took, and how each of them ended
+pub record Ended {W : Type 0} (reader : Change) (held : W → Option (List ℕ)) (failures : W → ℕ) (start done : W) (tools : List Tool) (input : Result (Unit {0}) InputFault) (refused : Option (ℕ × ToolFault)) (output : Result Summary SinkFault) : Type 0 where
+  pub faults : List (Option ToolFault)
+  pub given : List Message
+  pub out : List Message
+  pub sink : Downstream W
+  pub read : List ℕ
+  pub consumed : Consumes reader.old reader.new read
+  pub told : (rest : List ℕ) → MayFollow input reader rest → IsSaidOf (read ++ rest) given input
+  pub count : (input ≡ Err ReadFailed → ⊥) → reader.failures_new ≡ reader.failures_old
+  pub read_failed : input ≡ Err ReadFailed → Failed reader.failures_old reader.failures_new ⊎ OutlastsRun reader.old reader.new
+  pub ran : Ran held failures start tools faults given out sink
+  pub first : IsFirstRefusal faults refused
+  pub kept : Keeps (held (output_of sink)) (held done)
+  pub broken : (fault : SinkFault) → sink.output ≡ Err fault → (output ≡ Err fault) × (done ≡ output_of sink)
+  pub well : sink.output ≡ Ok tt → MatchResult output (λ summary. (summary ≡ sink.summary) × (failures done ≡ failures (output_of sink))) (λ fault. (fault ≡ WriteFailed) × Failed (failures (output_of sink)) (failures done))
+
+-- what the reader has left may follow
+rest_follows : (input : Result (Unit {0}) InputFault) (reader : Change) (rest : List ℕ) → reader.new ≡ Some rest → MayFollow input reader rest
+rest_follows input reader [] is = inl refl
+rest_follows input reader (byte ∷ more) is = inr (inl (subst HasMore (sym is) tt))
+
+-- what is told of the reader's own text
+own_text : {W : Type 0} (reader : Change) (held : W → Option (List ℕ)) (failures : W → ℕ) (start done : W) (tools : List Tool) (input : Result (Unit {0}) InputFault) (refused : Option (ℕ × ToolFault)) (output : Result Summary SinkFault) (text : List ℕ)
+    → (ended : Ended reader held failures start done tools input refused output) → reader.old ≡ Some text → IsSaidOf text ended.given input
+own_text reader held failures start done tools input refused output text ended is =
+    let rest = rest_of reader.old reader.new ended.read text ended.consumed is in
+    subst (λ (l : List ℕ). IsSaidOf l ended.given input) (sym rest.2) (ended.told rest.0 (rest_follows input reader rest.0 rest.1))
+
+-- ---- the clauses, by the answer
+
+ended_well : {W : Type 0} (reader : Change) (held : W → Option (List ℕ)) (failures : W → ℕ) (start done : W) (tools : List Tool) (input : Result (Unit {0}) InputFault) (refused : Option (ℕ × ToolFault)) (output : Result Summary SinkFault)
+    → Ended reader held failures start done tools input refused output → (text : List ℕ) → reader.old ≡ Some text → IfOk (answer_by input refused output) (EndedWell text tools (held start) (held done))
+ended_well reader held failures start done tools (Err fault) refused output ended text is = tt
+ended_well reader held failures start done tools (Ok tt) (Some found) output ended text is = tt
+ended_well reader held failures start done tools (Ok tt) None (Err fault) ended text is = tt
+ended_well reader held failures start done tools (Ok tt) None (Ok summary) ended text is =
+    let said = own_text reader held failures start done tools (Ok tt) None (Ok summary) text ended is in
+    let written = run_sound held failures start done tools ended.faults ended.given ended.out ended.sink ended.sink.output (Ok summary) summary ended.ran refl ended.broken ended.well refl in
+    run_well held failures start done tools ended.faults ended.given ended.out ended.sink summary text ended.ran said ended.first written.0 written.1 ended.kept
+
+ended_without_failure : {W : Type 0} (reader : Change) (held : W → Option (List ℕ)) (failures : W → ℕ) (start done : W) (tools : List Tool) (input : Result (Unit {0}) InputFault) (refused : Option (ℕ × ToolFault)) (output : Result Summary SinkFault)
+    → Ended reader held failures start done tools input refused output → OnOk (answer_by input refused output) ((reader.failures_new ≡ reader.failures_old) × (failures done ≡ failures start))
+ended_without_failure reader held failures start done tools (Err fault) refused output ended = tt
+ended_without_failure reader held failures start done tools (Ok tt) (Some found) output ended = tt
+ended_without_failure reader held failures start done tools (Ok tt) None (Err fault) ended = tt
+ended_without_failure reader held failures start done tools (Ok tt) None (Ok summary) ended =
+    let written = run_sound held failures start done tools ended.faults ended.given ended.out ended.sink ended.sink.output (Ok summary) summary ended.ran refl ended.broken ended.well refl in
+    (ended.count (no_fault tt ReadFailed), written.2)
+
+ended_input : {W : Type 0} (reader : Change) (held : W → Option (List ℕ)) (failures : W → ℕ) (start done : W) (tools : List Tool) (input : Result (Unit {0}) InputFault) (refused : Option (ℕ × ToolFault)) (output : Result Summary SinkFault)
+    → Ended reader held failures start done tools input refused output → (text : List ℕ) → reader.old ≡ Some text → IfInput (answer_by input refused output) (λ fault. IsOutsideFault fault ⊎ IsAtFault text fault)
+ended_input reader held failures start done tools (Err fault) refused output ended text is = input_fault text ended.given fault (own_text reader held failures start done tools (Err fault) refused output text ended is)
+ended_input reader held failures start done tools (Ok tt) (Some found) output ended text is = tt
+ended_input reader held failures start done tools (Ok tt) None (Err fault) ended text is = tt
+ended_input reader held failures start done tools (Ok tt) None (Ok summary) ended text is = tt
+
+ended_at_failed_read : {W : Type 0} (reader : Change) (held : W → Option (List ℕ)) (failures : W → ℕ) (start done : W) (tools : List Tool) (input : Result (Unit {0}) InputFault) (refused : Option (ℕ × ToolFault)) (output : Result Summary SinkFault)
+    → Ended reader held failures start done tools input refused output → IfInput (answer_by input refused output) (λ fault. fault ≡ ReadFailed → Failed reader.failures_old reader.failures_new ⊎ OutlastsRun reader.old reader.new)
+ended_at_failed_read reader held failures start done tools (Err fault) refused output ended = λ is. ended.read_failed cc
+ended_at_failed_read reader held failures start done tools (Ok tt) (Some found) output ended = tt
+ended_at_failed_read reader held failures start done tools (Ok tt) None (Err fault) ended = tt
+ended_at_failed_read reader held failures start done tools (Ok tt) None (Ok summary) ended = tt
+
+ended_with_sound_reader : {W : Type 0} (reader : Change) (held : W → Option (List ℕ)) (failures : W → ℕ) (start done : W) (tools : List Tool) (input : Result (Unit {0}) InputFault) (refused : Option (ℕ × ToolFault)) (output : Result Summary SinkFault)
+    → Ended reader held failures start done tools input refused output → (answer_by input refused output ≡ Err (Input ReadFailed) → ⊥) → reader.failures_new ≡ reader.failures_old
+ended_with_sound_reader reader held failures start done tools (Err fault) refused output ended not = ended.count (λ e. not (ap (λ (f : InputFault). Err (Input f)) (read_failure fault _ refl e)))
+ended_with_sound_reader reader held failures start done tools (Ok tt) refused output ended not = ended.count (no_fault tt ReadFailed)
+
+ended_at_tool : {W : Type 0} (reader : Change) (held : W → Option (List ℕ)) (failures : W → ℕ) (start done : W) (tools : List Tool) (input : Result (Unit {0}) InputFault) (refused : Option (ℕ × ToolFault)) (output : Result Summary SinkFault)
+    → Ended reader held failures start done tools input refused output → IfTool (answer_by input refused output) (λ number fault. (fault ≢ OutOfOrder) × (1 ≤ number) × (number ≤ length tools))
+ended_at_tool reader held failures start done tools (Err fault) refused output ended = tt
+ended_at_tool reader held failures start done tools (Ok tt) (Some found) output ended = first_fault_in_order tools ended.faults ended.given ended.out found.0 found.1 ended.ran.lawful ended.ran.sound ended.ran.answered ended.first
+ended_at_tool reader held failures start done tools (Ok tt) None (Err fault) ended = tt
+ended_at_tool reader held failures start done tools (Ok tt) None (Ok summary) ended = tt
+
+ended_by_refusal : {W : Type 0} (reader : Change) (held : W → Option (List ℕ)) (failures : W → ℕ) (start done : W) (tools : List Tool) (input : Result (Unit {0}) InputFault) (refused : Option (ℕ × ToolFault)) (output : Result Summary SinkFault) (NoList : ℕ → ToolFault → Type 0)
+    → Ended reader held failures start done tools input refused output → (text : List ℕ) → reader.old ≡ Some text → IfTool (answer_by input refused output) (λ number fault. NoList number fault ⊎ IsStoppedBy text tools number fault)
+ended_by_refusal reader held failures start done tools (Err fault) refused output NoList ended text is = tt
+ended_by_refusal reader held failures start done tools (Ok tt) (Some found) output NoList ended text is =
+    let said = own_text reader held failures start done tools (Ok tt) (Some found) output text ended is in
+    inr (run_refused held failures start tools ended.faults ended.given ended.out ended.sink text found.0 found.1 ended.ran said ended.first)
+ended_by_refusal reader held failures start done tools (Ok tt) None (Err fault) NoList ended text is = tt
+ended_by_refusal reader held failures start done tools (Ok tt) None (Ok summary) NoList ended text is = tt
+
+ended_at_output : {W : Type 0} (reader : Change) (held : W → Option (List ℕ)) (failures : W → ℕ) (start done : W) (tools : List Tool) (input : Result (Unit {0}) InputFault) (refused : Option (ℕ × ToolFault)) (output : Result Summary SinkFault)
+    → Ended reader held failures start done tools input refused output → IfOutput (answer_by input refused output) (λ fault. (fault ≡ WriteFailed) × Failed (failures start) (failures done) × (reader.failures_new ≡ reader.failures_old))
+ended_at_output reader held failures start done tools (Err fault) refused output ended = tt
+ended_at_output reader held failures start done tools (Ok tt) (Some found) output ended = tt
+ended_at_output reader held failures start done tools (Ok tt) None (Err fault) ended =
+    let failed = run_output held failures start done tools ended.faults ended.given ended.out ended.sink ended.sink.output (Err fault) fault ended.ran refl ended.broken ended.well refl in
+    (failed.0, failed.1, ended.count (no_fault tt ReadFailed))
+ended_at_output reader held failures start done tools (Ok tt) None (Ok summary) ended = tt
+
+ended_at_output_last : {W : Type 0} (reader : Change) (held : W → Option (List ℕ)) (failures : W → ℕ) (start done : W) (tools : List Tool) (input : Result (Unit {0}) InputFault) (refused : Option (ℕ × ToolFault)) (output : Result Summary SinkFault)
+    → Ended reader held failures start done tools input refused output → (text : List ℕ) → reader.old ≡ Some text → IfOutput (answer_by input refused output) (λ fault. IsTaken text tools)
+ended_at_output_last reader held failures start done tools (Err fault) refused output ended text is = tt
+ended_at_output_last reader held failures start done tools (Ok tt) (Some found) output ended text is = tt
+ended_at_output_last reader held failures start done tools (Ok tt) None (Err fault) ended text is =
+    run_taken held failures start tools ended.faults ended.given ended.out ended.sink text ended.ran (own_text reader held failures start done tools (Ok tt) None (Err fault) text ended is) ended.first
+ended_at_output_last reader held failures start done tools (Ok tt) None (Ok summary) ended text is = tt
+
+ended_at_front : {W : Type 0} (reader : Change) (held : W → Option (List ℕ)) (failures : W → ℕ) (start done : W) (tools : List Tool) (input : Result (Unit {0}) InputFault) (refused : Option (ℕ × ToolFault)) (output : Result Summary SinkFault)
+    → Ended reader held failures start done tools input refused output → (text : List ℕ) → reader.old ≡ Some text → IsFrontOfDue text tools (held start) (held done)
+ended_at_front reader held failures start done tools input refused output ended text is =
+    run_front held failures start done tools ended.faults ended.given ended.out ended.sink text input ended.ran (own_text reader held failures start done tools input refused output text ended is) ended.kept
+
+-- how the input ended is told by the answer
+input_is : (input : Result (Unit {0}) InputFault) (refused : Option (ℕ × ToolFault)) (output : Result Summary SinkFault) → input_of (answer_by input refused output) ≡ input
+input_is (Err fault) refused output = refl
+input_is (Ok tt) (Some found) output = refl
+input_is (Ok tt) None (Err fault) = refl
+input_is (Ok tt) None (Ok summary) = refl
+
+ended_at_front_for_each : {W : Type 0} (reader : Change) (held : W → Option (List ℕ)) (failures : W → ℕ) (start done : W) (tools : List Tool) (input : Result (Unit {0}) InputFault) (refused : Option (ℕ × ToolFault)) (output : Result Summary SinkFault)
+    → Ended reader held failures start done tools input refused output → IsFrontForEach tools (input_of (answer_by input refused output)) reader (change held failures start done)
+ended_at_front_for_each reader held failures start done tools input refused output ended =
+    subst (λ (i : Result (Unit {0}) InputFault). IsFrontForEach tools i reader (change held failures start done)) (sym (input_is input refused output)) (record {
+      read = ended.read;
+      consumed = ended.consumed;
+      front = λ rest may. run_front held failures start done tools ended.faults ended.given ended.out ended.sink (ended.read ++ rest) input ended.ran (ended.told rest may) ended.kept;
+    })
+
+-- the refusals of the stages fit the answer
+fit_answer : (faults : List (Option ToolFault)) (input : Result (Unit {0}) InputFault) (refused : Option (ℕ × ToolFault)) (output : Result Summary SinkFault) → IsFirstRefusal faults refused → FitAnswer (answer_by input refused output) faults
+fit_answer faults (Err fault) refused output first = tt
+fit_answer faults (Ok tt) (Some found) output first = first
+fit_answer faults (Ok tt) None (Err fault) first = first
+fit_answer faults (Ok tt) None (Ok summary) first = first
+
+-- the whole text was read
+said_all : (text : List ℕ) (given : List Message) (input : Result (Unit {0}) InputFault) (refused : Option (ℕ × ToolFault)) (output : Result Summary SinkFault) → IsSaidOf text given input → AnswersText text (answer_by input refused output) → said_of text ≡ given
+said_all text given (Err fault) refused output told has = said_before_fault text given fault told has
+said_all text given (Ok tt) refused output told has = told.0
+
+ended_with_all : {W : Type 0} (reader : Change) (held : W → Option (List ℕ)) (failures : W → ℕ) (start done : W) (tools : List Tool) (input : Result (Unit {0}) InputFault) (refused : Option (ℕ × ToolFault)) (output : Result Summary SinkFault)
+    → Ended reader held failures start done tools input refused output → (text : List ℕ) → reader.old ≡ Some text → AnswersText text (answer_by input refused output) → ¬ Failed (failures start) (failures done)
+    → IsAllWritten text tools (answer_by input refused output) (held start) (held done)
+ended_with_all reader held failures start done tools input refused output ended text is has sound =
+    let told = own_text reader held failures start done tools input refused output text ended is in
+    run_all held failures start done tools ended.faults ended.given ended.out ended.sink text ended.ran (said_all text ended.given input refused output told has) (λ fault e. (ended.broken fault e).1) ended.kept sound (answer_by input refused output) (fit_answer ended.faults input refused output ended.first)
+
+pub ended_has_run : {W : Type 0} (reader : Change) (held : W → Option (List ℕ)) (failures : W → ℕ) (start done : W) (tools : List Tool) (input : Result (Unit {0}) InputFault) (refused : Option (ℕ × ToolFault)) (output : Result Summary SinkFault) (unread : Type 0)
+    → Ended reader held failures start done tools input refused output → HasRun tools (answer_by input refused output) unread reader (change held failures start done)
+ended_has_run reader held failures start done tools input refused output unread ended = record {
+  well = ended_well reader held failures start done tools input refused output ended;
+  no_failure = ended_without_failure reader held failures start done tools input refused output ended;
+  input = ended_input reader held failures start done tools input refused output ended;
+  read_failed = ended_at_failed_read reader held failures start done tools input refused output ended;
+  sound_reader = λ no_failure no_memory. ended_with_sound_reader reader held failures start done tools input refused output ended no_failure;
+  tool = ended_at_tool reader held failures start done tools input refused output ended;
+  refusal = ended_by_refusal reader held failures start done tools input refused output (λ number fault. (fault ≡ Memory) × (number ≡ 1) × unread) ended;
+  output = ended_at_output reader held failures start done tools input refused output ended;
+  output_last = ended_at_output_last reader held failures start done tools input refused output ended;
+  front = ended_at_front reader held failures start done tools input refused output ended;
+  front_for_each = inr (ended_at_front_for_each reader held failures start done tools input refused output ended);
+  all_written = ended_with_all reader held failures start done tools input refused output ended;
+}
+
+-- ---- a run for whose list of tools there is no memory
+
+-- a tool for which there is no memory has answered nothing
+not_started : (tool : Tool) (received : List Message) → HasRefused tool Memory received []
+not_started tool received = record {
+  accepted = [];
+  rest = received;
+  parts = refl;
+  taken = tt;
+  answers = record { lawful = tt; front = λ is completes. (output_due tool is, refl); stop = λ front is. absurd (omega (arith, ap length is, length-append front (Stop ∷ []))) };
+  refused = inl (refl, refl);
+}
+
+none_started : (tools : List Tool) → HaveAnswered tools (map (λ tool. Some Memory) tools) [] []
+none_started [] = refl
+none_started (tool ∷ tools) = ([], not_started tool [], none_started tools)
+
+appends_nothing : (held : Option (List ℕ)) → Appends held held []
+appends_nothing None = tt
+appends_nothing (Some bytes) = sym (append-nil bytes)
+
+pub ended_without_list : (text : List ℕ) (tools : List Tool) (held : Option (List ℕ)) → 1 ≤ length tools → IsAllWritten {A = Summary} text tools (Err (OfTool 1 Memory)) held held
+ended_without_list text [] held some = absurd (omega arith)
+ended_without_list text (tool ∷ tools) held some = record {
+  faults = Some Memory ∷ map (λ tool. Some Memory) tools;
+  given = [];
+  fit = (refl, refl);
+  answered = ([], not_started tool (said_of text), none_started tools);
+  written = appends_nothing held;
+}
+
+nothing_written : (writer : Change) → writer.new ≡ writer.old → (bytes : List ℕ) → AppendsFront writer.old writer.new bytes
+nothing_written writer written bytes = subst (λ (held : Option (List ℕ)). AppendsFront writer.old held bytes) (sym written) (nothing_front writer.old bytes)
+
+nothing_read : (reader : Change) → reader.new ≡ reader.old → Consumes reader.old reader.new []
+nothing_read reader read = subst (λ (left : Option (List ℕ)). Consumes reader.old left []) (sym read) (consumes_nothing reader.old)
+
+-- a run that has read and written nothing, since there is no memory for the list
+pub ended_unread : (tools : List Tool) (unread : Type 0) (reader writer : Change) → 1 ≤ length tools → unread → reader.new ≡ reader.old → reader.failures_new ≡ reader.failures_old → writer.new ≡ writer.old → HasRun tools (Err (OfTool 1 Memory)) unread reader writer
+ended_unread tools unread reader writer some untouched read same_count written = record {
+  well = λ text is. tt;
+  no_failure = tt;
+  input = λ text is. tt;
+  read_failed = tt;
+  sound_reader = λ no_failure no_memory. same_count;
+  tool = (λ is. absurd cc, le_refl 1, some);
+  refusal = λ text is. inl (refl, refl, untouched);
+  output = tt;
+  output_last = λ text is. tt;
+  front = λ text is images completes. nothing_written writer written (bytes_of (due_in_turn tools images));
+  front_for_each = inr (record { read = []; consumed = nothing_read reader read; front = λ rest may images completes. nothing_written writer written (bytes_of (due_in_turn tools images)) });
+  all_written = λ text is has sound. subst (λ (held : Option (List ℕ)). IsAllWritten {A = Summary} text tools (Err (OfTool 1 Memory)) writer.old held) (sym written) (ended_without_list text tools writer.old some);
+}
+
+-- a run that has written nothing, since there is no memory to read
+pub ended_without_reading : (tools : List Tool) (unread : Type 0) (reader writer : Change) → writer.new ≡ writer.old → HasRun tools (Err (Input NoMemoryToRead)) unread reader writer
+ended_without_reading tools unread reader writer written = record {
+  well = λ text is. tt;
+  no_failure = tt;
+  input = λ text is. inl (inr refl);
+  read_failed = λ is. absurd cc;
+  sound_reader = λ no_failure no_memory. absurd (no_memory refl);
+  tool = tt;
+  refusal = λ text is. tt;
+  output = tt;
+  output_last = λ text is. tt;
+  front = λ text is images completes. nothing_written writer written (bytes_of (due_in_turn tools images));
+  front_for_each = inl (refl, written);
+  all_written = λ text is has sound. absurd (no_text_fault text NoMemoryToRead has (inr refl));
+}
