@@ -42,3 +42,6 @@ pub mod RawSteps
 pub mod PlainSteps
 pub mod SourceSteps
 pub mod GivenLaws
+pub mod RowTurns
+pub mod FirstRows
+pub mod FaultFronts

@@ -27,11 +27,18 @@ apart_more [] rest f r = r
 apart_more (b ∷ front) rest f r = f
 
 -- where more follows a text, the same may go before both as before the text
-follows_more : (kind : Kind) (front rest : List ℕ) → MayFollow kind front → begins_apart rest ≡ true → MayFollow kind (front ++ rest)
+follows_more : (kind : Kind) (front rest : List ℕ) → MayFollow kind front → MayFollow kind rest → MayFollow kind (front ++ rest)
 follows_more Bit front rest f r = tt
 follows_more Gray front rest f r = apart_more front rest f r
 follows_more Color front rest f r = apart_more front rest f r
 follows_more Pam front rest f r = apart_more front rest f r
+
+-- white space and # may follow a sample of any kind
+pub apart_follows : (kind : Kind) (rest : List ℕ) → begins_apart rest ≡ true → MayFollow kind rest
+apart_follows Bit rest r = tt
+apart_follows Gray rest r = r
+apart_follows Color rest r = r
+apart_follows Pam rest r = r
 
 apart_less : (front rest : List ℕ) → begins_apart (front ++ rest) ≡ true → begins_apart front ≡ true
 apart_less [] rest f = refl
@@ -54,20 +61,20 @@ first_read kind maxval n text first more e f =
     ∙ ap (λ (r : Result (List ℕ × List ℕ) InputFault). r >>= λ y. Ok (first.0 ∷ y.0, y.1)) f
 
 -- so many samples are read, and a text is left that spells the others
-abbrev ReadsSamples : Kind → ℕ → ℕ → List ℕ → List ℕ → List ℕ → Type 0
+abbrev pub ReadsSamples : Kind → ℕ → ℕ → List ℕ → List ℕ → List ℕ → Type 0
 ReadsSamples kind maxval n text samples rest =
     (left : List ℕ) × (in_turn (plain_sample kind maxval) n (text ++ rest) ≡ Ok (take n samples, left ++ rest)) × SpellsPlainSamples kind left (drop n samples)
 
-spelled_samples_are_read : (kind : Kind) (maxval n : ℕ) (text samples rest : List ℕ) → n ≤ length samples → SpellsPlainSamples kind text samples → All (λ sample. sample ≤ maxval) samples → begins_apart rest ≡ true
+pub spelled_samples_are_read : (kind : Kind) (maxval n : ℕ) (text samples rest : List ℕ) → n ≤ length samples → SpellsPlainSamples kind text samples → All (λ sample. sample ≤ maxval) samples → MayFollow kind rest
     → ReadsSamples kind maxval n text samples rest
 unfolding in_turn
-spelled_samples_are_read kind maxval zero text samples rest le s range apart = (text, refl, s)
-spelled_samples_are_read kind maxval (suc n) text [] rest le s range apart = absurd (omega arith)
-spelled_samples_are_read kind maxval (suc n) text (sample ∷ samples) rest le s range apart =
+spelled_samples_are_read kind maxval zero text samples rest le s range follows = (text, refl, s)
+spelled_samples_are_read kind maxval (suc n) text [] rest le s range follows = absurd (omega arith)
+spelled_samples_are_read kind maxval (suc n) text (sample ∷ samples) rest le s range follows =
     let within : n ≤ length samples = omega arith in
-    let more = spelled_samples_are_read kind maxval n s.1 samples rest within s.5 (All-tail (λ x. x ≤ maxval) sample samples range) apart in
+    let more = spelled_samples_are_read kind maxval n s.1 samples rest within s.5 (All-tail (λ x. x ≤ maxval) sample samples range) follows in
     let first : plain_sample kind maxval (s.0 ++ (s.1 ++ rest)) ≡ Ok (sample, s.1 ++ rest) =
-    spelled_piece_is_read kind maxval s.0 (s.1 ++ rest) sample s.3 (follows_more kind s.1 rest s.4 apart) (All-head (λ x. x ≤ maxval) sample samples range) in
+    spelled_piece_is_read kind maxval s.0 (s.1 ++ rest) sample s.3 (follows_more kind s.1 rest s.4 follows) (All-head (λ x. x ≤ maxval) sample samples range) in
     let whole : text ++ rest ≡ s.0 ++ (s.1 ++ rest) = ap (λ (t : List ℕ). t ++ rest) s.2 ∙ append_assoc s.0 s.1 rest in
     let here : plain_sample kind maxval (text ++ rest) ≡ Ok (sample, s.1 ++ rest) = ap (plain_sample kind maxval) whole ∙ first in
     (more.0, first_read kind maxval n (text ++ rest) (sample, s.1 ++ rest) (take n samples, more.0 ++ rest) here more.1, more.2)
@@ -92,18 +99,18 @@ unfolding rows_said end_said
 rows_said-zero later format s text plain = ap (λ (p : Bool). then_said ImageEnd (end_said later p text)) plain
 
 -- a last row that is read, with what may follow it
-last_row_is_read : (s : Shape) (text row rest : List ℕ) → in_turn (plain_sample s.kind s.maxval) (row_length s) text ≡ Ok (row, rest) → begins_apart rest ≡ true → last_plain_row s text ≡ Ok (row, rest)
+pub last_row_is_read : (s : Shape) (text row rest : List ℕ) → in_turn (plain_sample s.kind s.maxval) (row_length s) text ≡ Ok (row, rest) → begins_apart rest ≡ true → last_plain_row s text ≡ Ok (row, rest)
 unfolding last_plain_row plain_row after_last_item
 last_row_is_read s text row rest e apart =
     ap (λ (r : Result (List ℕ × List ℕ) InputFault). r >>= λ x. after_last_item x.1 >>= λ y. Ok (x.0, y)) e ∙ ap (λ (t : Bool). (if t then Ok rest else Err BadSample) >>= λ y. done (row, y)) apart
 
 -- a row that is read
-row_is_read : (s : Shape) (text : List ℕ) (found : List ℕ × List ℕ) → in_turn (plain_sample s.kind s.maxval) (row_length s) text ≡ Ok found → plain_row s text ≡ Ok found
+pub row_is_read : (s : Shape) (text : List ℕ) (found : List ℕ × List ℕ) → in_turn (plain_sample s.kind s.maxval) (row_length s) text ≡ Ok found → plain_row s text ≡ Ok found
 unfolding plain_row
 row_is_read s text found e = e
 
 -- no samples are spelled by nothing
-nothing_left : (kind : Kind) (text samples : List ℕ) → samples ≡ [] → SpellsPlainSamples kind text samples → text ≡ []
+pub nothing_left : (kind : Kind) (text samples : List ℕ) → samples ≡ [] → SpellsPlainSamples kind text samples → text ≡ []
 nothing_left kind text samples e s = subst (SpellsPlainSamples kind text) e s
 
 spelled_rows_are_said : (later : List ℕ → Said) (format : Format) (s : Shape) (rows : ℕ) (text samples rest : List ℕ) → format.is_plain ≡ true → length samples ≡ suc rows * row_length s → SpellsPlainSamples s.kind text samples
@@ -111,7 +118,7 @@ spelled_rows_are_said : (later : List ℕ → Said) (format : Format) (s : Shape
 spelled_rows_are_said later format s zero text samples rest plain count spelled range apart =
     let each : ℕ = row_length s in
     let total : length samples ≡ each = omega (arith, count, suc-mul zero each, zero-mul each) in
-    let r = spelled_samples_are_read s.kind s.maxval each text samples rest (omega arith) spelled range apart in
+    let r = spelled_samples_are_read s.kind s.maxval each text samples rest (omega arith) spelled range (apart_follows s.kind rest apart) in
     let none : drop each samples ≡ [] = nil_from_length (drop each samples) (omega (arith, length-drop each samples)) in
     let left : r.0 ++ rest ≡ rest = ap (λ (t : List ℕ). t ++ rest) (nothing_left s.kind r.0 (drop each samples) none r.2) in
     let row : in_turn (plain_sample s.kind s.maxval) each (text ++ rest) ≡ Ok (take each samples, rest) = r.1 ∙ ap (λ (t : List ℕ). done (take each samples, t)) left in
@@ -120,7 +127,7 @@ spelled_rows_are_said later format s zero text samples rest plain count spelled 
 spelled_rows_are_said later format s (suc rows) text samples rest plain count spelled range apart =
     let each : ℕ = row_length s in
     let total : length samples ≡ suc rows * each + each = count ∙ suc-mul (suc rows) each in
-    let r = spelled_samples_are_read s.kind s.maxval each text samples rest (omega arith) spelled range apart in
+    let r = spelled_samples_are_read s.kind s.maxval each text samples rest (omega arith) spelled range (apart_follows s.kind rest apart) in
     let count_left : length (drop each samples) ≡ suc rows * each = omega (arith, length-drop each samples) in
     let others = spelled_rows_are_said later format s rows r.0 (drop each samples) rest plain count_left r.2 (All-drop (λ sample. sample ≤ s.maxval) each samples range) apart in
     rows_said-suc later format s (suc rows) (text ++ rest) plain ∙ ap (said_from later format s (suc rows)) (row_is_read s (text ++ rest) (take each samples, r.0 ++ rest) r.1)
@@ -145,12 +152,12 @@ SpellsOn kind text [] rest = text ≡ rest
 SpellsOn kind text (sample ∷ samples) rest = (piece : List ℕ) × (left : List ℕ) × (text ≡ piece ++ left) × SpellsPiece kind piece sample × MayFollow kind left × SpellsOn kind left samples rest
 
 -- samples, and samples in the rest
-spells_on_append : (kind : Kind) (text xs middle ys rest : List ℕ) → SpellsOn kind text xs middle → SpellsOn kind middle ys rest → SpellsOn kind text (xs ++ ys) rest
+pub spells_on_append : (kind : Kind) (text xs middle ys rest : List ℕ) → SpellsOn kind text xs middle → SpellsOn kind middle ys rest → SpellsOn kind text (xs ++ ys) rest
 spells_on_append kind text [] middle ys rest s t = subst (λ (u : List ℕ). SpellsOn kind u ys rest) (sym s) t
 spells_on_append kind text (x ∷ xs) middle ys rest s t = (s.0, s.1, s.2, s.3, s.4, spells_on_append kind s.1 xs middle ys rest s.5 t)
 
 -- the front of the text spells the samples alone
-spelled_front : (kind : Kind) (text samples rest : List ℕ) → SpellsOn kind text samples rest → (front : List ℕ) × (text ≡ front ++ rest) × SpellsPlainSamples kind front samples
+pub spelled_front : (kind : Kind) (text samples rest : List ℕ) → SpellsOn kind text samples rest → (front : List ℕ) × (text ≡ front ++ rest) × SpellsPlainSamples kind front samples
 spelled_front kind text [] rest s = ([], s, refl)
 spelled_front kind text (sample ∷ samples) rest s =
     let more = spelled_front kind s.1 samples rest s.5 in
@@ -159,7 +166,7 @@ spelled_front kind text (sample ∷ samples) rest s =
     (s.0 ++ more.0, whole, (s.0, more.0, refl, s.3, follows, more.2))
 
 -- samples that were read, and what they were read of
-record IsRead (kind : Kind) (maxval n : ℕ) (text : List ℕ) (found : List ℕ × List ℕ) : Type 0 where
+pub record IsRead (kind : Kind) (maxval n : ℕ) (text : List ℕ) (found : List ℕ × List ℕ) : Type 0 where
   pub count : length found.0 ≡ n
   pub range : All (IsInRange kind maxval) found.0
   pub spelled : SpellsOn kind text found.0 found.1
@@ -191,11 +198,11 @@ pub row_without_fault : (later : List ℕ → Said) (format : Format) (s : Shape
 row_without_fault later format s more (Ok row) e = (row, refl, e)
 row_without_fault later format s more (Err fault) e = absurd cc
 
-read_row : (s : Shape) (text : List ℕ) (row : List ℕ × List ℕ) → plain_row s text ≡ Ok row → IsRead s.kind s.maxval (row_length s) text row
+pub read_row : (s : Shape) (text : List ℕ) (row : List ℕ × List ℕ) → plain_row s text ≡ Ok row → IsRead s.kind s.maxval (row_length s) text row
 unfolding plain_row
 read_row s text row e = read_samples_are_spelled s.kind s.maxval (row_length s) text row e
 
-read_last_row : (s : Shape) (text : List ℕ) (row : List ℕ × List ℕ) → last_plain_row s text ≡ Ok row → IsRead s.kind s.maxval (row_length s) text row × (begins_apart row.1 ≡ true)
+pub read_last_row : (s : Shape) (text : List ℕ) (row : List ℕ × List ℕ) → last_plain_row s text ≡ Ok row → IsRead s.kind s.maxval (row_length s) text row × (begins_apart row.1 ≡ true)
 unfolding last_plain_row after_last_item
 read_last_row s text row e =
     let a = bind_ok (plain_row s text) (λ x. after_last_item x.1 >>= λ y. Ok (x.0, y)) row e in

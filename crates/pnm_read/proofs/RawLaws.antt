@@ -57,7 +57,7 @@ abbrev turns_done : List (List ℕ) → List ℕ → Turns
 turns_done units rest = Ok (units, rest)
 
 -- a row has one sample a pixel where eight pixels are packed in a byte, and its maxval isn't 0
-record IsPackable (p : Packing) (s : Shape) : Type 0 where
+pub record IsPackable (p : Packing) (s : Shape) : Type 0 where
   pub one : p ≡ Packed → s.depth ≡ 1
   pub maxval_low : 0 < s.maxval
 
@@ -124,7 +124,7 @@ row_read_by Wide s bytes rest h e =
     ∙ ap (λ (l : List ℕ). unit_if (are_within s.maxval samples) l rest) (ap (take (row_length s)) (concat_singles samples) ∙ take_all (row_length s) samples (omega arith))
 
 -- what passed a test is left as it is
-row_if_ok : (t : Bool) (row rest : List ℕ) (found : List ℕ × List ℕ) → unit_if t row rest ≡ Ok found → (t ≡ true) × (found.1 ≡ rest)
+pub row_if_ok : (t : Bool) (row rest : List ℕ) (found : List ℕ × List ℕ) → unit_if t row rest ≡ Ok found → (t ≡ true) × (found.1 ≡ rest)
 row_if_ok true row rest found e = (refl, cc)
 row_if_ok false row rest found e = absurd cc
 
@@ -176,17 +176,17 @@ packable_by Gray depth maxval m tuple_type h e = absurd (not_packed (nat_lt m 25
 packable_by Color depth maxval m tuple_type h e = absurd (not_packed (nat_lt m 256) e)
 packable_by Pam depth maxval m tuple_type h e = absurd (not_packed (nat_lt m 256) e)
 
-abbrev packing_in : Shape → Packing
+abbrev pub packing_in : Shape → Packing
 packing_in s = packing_of s.kind s.maxval
 
-packable : (head : HeadValue) → IsHead head → IsPackable (packing_in head.shape) head.shape
+pub packable : (head : HeadValue) → IsHead head → IsPackable (packing_in head.shape) head.shape
 packable head h = record {
   one = packable_by head.shape.kind head.shape.depth head.shape.maxval head.shape.maxval head.tuple_type h.suits;
   maxval_low = h.limits.maxval_low;
 }
 
 -- the first row of a text that is long enough
-row_read : (s : Shape) (text : List ℕ) → IsPackable (packing_in s) s → bytes_in_row s ≤ length text
+pub row_read : (s : Shape) (text : List ℕ) → IsPackable (packing_in s) s → bytes_in_row s ≤ length text
     → raw_row s text ≡ unit_if (are_within s.maxval (raw_samples s (take (bytes_in_row s) text))) (raw_samples s (take (bytes_in_row s) text)) (drop (bytes_in_row s) text)
 unfolding raw_row
 row_read s text h long =
@@ -194,12 +194,12 @@ row_read s text h long =
     ∙ row_read_by (packing_in s) s (take (bytes_in_row s) text) (drop (bytes_in_row s) text) h (length-take-le (bytes_in_row s) text long)
 
 -- a row that was read is long enough
-row_long : (s : Shape) (text : List ℕ) (found : List ℕ × List ℕ) → raw_row s text ≡ Ok found → bytes_in_row s ≤ length text
+pub row_long : (s : Shape) (text : List ℕ) (found : List ℕ × List ℕ) → raw_row s text ≡ Ok found → bytes_in_row s ≤ length text
 unfolding raw_row
 row_long s text found e = row_length_by (packing_in s) s text found e
 
 -- the rows of samples in the rows of bytes
-abbrev raw_rows : Shape → ℕ → List ℕ → List (List ℕ)
+abbrev pub raw_rows : Shape → ℕ → List ℕ → List (List ℕ)
 raw_rows s count text = map (raw_samples s) (cut_rows count (bytes_in_row s) text)
 
 -- the messages of rows and of the image's end, and then what is said
@@ -207,11 +207,11 @@ abbrev pub rows_then : List (List ℕ) → Said → Said
 rows_then rows s = record { messages = map Row rows ++ ImageEnd ∷ s.messages; fault = s.fault }
 
 -- a row of a raw format is a raw row
-row_at_raw : (format : Format) (s : Shape) (more : ℕ) (text : List ℕ) → format.is_plain ≡ false → row_at format s more text ≡ raw_row s text
+pub row_at_raw : (format : Format) (s : Shape) (more : ℕ) (text : List ℕ) → format.is_plain ≡ false → row_at format s more text ≡ raw_row s text
 row_at_raw format s more text plain = ap (λ (b : Bool). row_by b s more text) plain
 
 -- a row that a longer text begins with
-row_in_front : (s : Shape) (text rest : List ℕ) → IsPackable (packing_in s) s → bytes_in_row s ≤ length text → are_within s.maxval (raw_samples s (take (bytes_in_row s) text)) ≡ true
+pub row_in_front : (s : Shape) (text rest : List ℕ) → IsPackable (packing_in s) s → bytes_in_row s ≤ length text → are_within s.maxval (raw_samples s (take (bytes_in_row s) text)) ≡ true
     → raw_row s (text ++ rest) ≡ unit_if true (raw_samples s (take (bytes_in_row s) text)) (drop (bytes_in_row s) text ++ rest)
 row_in_front s text rest h long within =
     let each : ℕ = bytes_in_row s in
@@ -237,7 +237,7 @@ rows_are_said later format s (suc n) text rest plain h count are =
     ap (said_from later format s n) found ∙ ap (λ (others : Said). then_said (Row row) others) (rows_are_said later format s n (drop each text) rest plain h left are.1)
 
 -- a row that was read is the row that its test passed
-row_if_row : (t : Bool) (row rest : List ℕ) (found : List ℕ × List ℕ) → unit_if t row rest ≡ Ok found → row ≡ found.0
+pub row_if_row : (t : Bool) (row rest : List ℕ) (found : List ℕ × List ℕ) → unit_if t row rest ≡ Ok found → row ≡ found.0
 row_if_row true row rest found e = cc
 row_if_row false row rest found e = absurd cc
 

@@ -17,7 +17,7 @@ use Rattle.pnm_read.proofs.TextLaws.{said_text_is_spelled}
 -- ---- what is said may come in turn
 
 -- a row that was read is a row of the head's shape
-row_is_row : (is_plain : Bool) (head : HeadValue) (more : ℕ) (text : List ℕ) (found : List ℕ × List ℕ) → IsHead head → row_by is_plain head.shape more text ≡ Ok found → IsRowOf head.shape found.0
+pub row_is_row : (is_plain : Bool) (head : HeadValue) (more : ℕ) (text : List ℕ) (found : List ℕ × List ℕ) → IsHead head → row_by is_plain head.shape more text ≡ Ok found → IsRowOf head.shape found.0
 row_is_row false head more text found h e = raw_row_is_row head text found h e
 row_is_row true head zero text found h e = last_plain_row_is_row head text found h e
 row_is_row true head (suc more) text found h e = plain_row_is_row head text found h e

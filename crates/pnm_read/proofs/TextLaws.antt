@@ -27,7 +27,7 @@ abbrev says_images : List Image → Said
 says_images images = record { messages = messages_of_stream images; fault = None }
 
 -- the messages of an image, and then what is said
-abbrev image_then : Image → Said → Said
+abbrev pub image_then : Image → Said → Said
 image_then image s = record { messages = messages_of_image image ++ s.messages; fault = s.fault }
 
 -- after its head come an image's rows and its end
@@ -43,7 +43,7 @@ head_is_said later is_first format image header rest first h =
     ap (format_said later) read.1 ∙ ap (head_said later format) read.2
 
 -- of a text that begins with a raw image its messages are said, and then what follows
-raw_image_is_said : (later : List ℕ → Said) (is_first : Bool) (text rest : List ℕ) (image : Image) → SpellsRawImage text image → image_said later is_first (text ++ rest) ≡ image_then image (later rest)
+pub raw_image_is_said : (later : List ℕ → Said) (is_first : Bool) (text rest : List ℕ) (image : Image) → SpellsRawImage text image → image_said later is_first (text ++ rest) ≡ image_then image (later rest)
 raw_image_is_said later is_first text rest image s =
     let format : Format = s.0 in
     let spelled = s.2 in
@@ -54,7 +54,7 @@ raw_image_is_said later is_first text rest image s =
     ∙ after_head image (later rest)
 
 -- a raw image has some bytes
-raw_image_has_bytes : (text : List ℕ) (image : Image) → SpellsRawImage text image → 0 < length text
+pub raw_image_has_bytes : (text : List ℕ) (image : Image) → SpellsRawImage text image → 0 < length text
 raw_image_has_bytes text image s =
     let spelled = s.2 in
     let some = header_has_bytes spelled.header s.0 image.head spelled.header_is in
@@ -106,21 +106,21 @@ spelled_text_is_said text images s =
 
 -- ---- what is said is spelled
 
--- a raw image that a text begins with, and what follows, which has no fault
-record RawAndRest (later : List ℕ → Said) (text : List ℕ) : Type 0 where
+-- a raw image that a text begins with, and what follows, which has this fault or none
+pub record RawAndRest (later : List ℕ → Said) (text : List ℕ) (fault : Option InputFault) : Type 0 where
   pub image : Image
   pub first : List ℕ
   pub rest : List ℕ
   pub whole : text ≡ first ++ rest
   pub image_is : SpellsRawImage first image
-  pub sound : (later rest).fault ≡ None
+  pub fault_is : (later rest).fault ≡ fault
 
 -- a plain image, and what may follow it
 abbrev IsPlainAlone : List ℕ → Type 0
 IsPlainAlone text = (images : List Image) × SpellsPlainAlone text images
 
 -- a header, and the raster that was read after it
-image_of_parts : (text rest header raster : List ℕ) (format : Format) (head : HeadValue) (image : Image) → text ≡ header ++ raster → SpellsHeader header format head → image.head ≡ head → SpellsRasterBy format.is_plain raster image → SpellsImage text format image
+pub image_of_parts : (text rest header raster : List ℕ) (format : Format) (head : HeadValue) (image : Image) → text ≡ header ++ raster → SpellsHeader header format head → image.head ≡ head → SpellsRasterBy format.is_plain raster image → SpellsImage text format image
 image_of_parts text rest header raster format head image whole h same r = record {
   header = header;
   raster = raster;
@@ -130,7 +130,7 @@ image_of_parts text rest header raster format head image whole h same r = record
 }
 
 raw_raster_is_spelled : (later : List ℕ → Said) (text header after : List ℕ) (format : Format) (head : HeadValue) → format.is_plain ≡ false → text ≡ header ++ after → SpellsHeader header format head
-    → (rows_said later format head.shape head.shape.height after).fault ≡ None → RawAndRest later text
+    → (rows_said later format head.shape head.shape.height after).fault ≡ None → RawAndRest later text None
 raw_raster_is_spelled later text header after format head raw whole h e =
     let facts = spelled_head header format head h in
     let r = said_raw_is_spelled later format head after raw facts.sound e in
@@ -143,7 +143,7 @@ raw_raster_is_spelled later text header after format head raw whole h e =
       rest = r.2;
       whole = whole ∙ ap (λ (t : List ℕ). header ++ t) r.3 ∙ sym (append_assoc header raster r.2);
       image_is = (format, raw, is);
-      sound = r.6;
+      fault_is = r.6;
     }
 
 plain_raster_is_spelled : (later : List ℕ → Said) (text header after : List ℕ) (format : Format) (head : HeadValue) → format.is_plain ≡ true → text ≡ header ++ after → SpellsHeader header format head
@@ -167,7 +167,7 @@ plain_raster_is_spelled later text header after format head plain whole h e =
     )
 
 raster_is_spelled : (is_plain : Bool) (later : List ℕ → Said) (text header after : List ℕ) (format : Format) (head : HeadValue) → format.is_plain ≡ is_plain → text ≡ header ++ after → SpellsHeader header format head
-    → (rows_said later format head.shape head.shape.height after).fault ≡ None → ((format.is_plain ≡ false) × RawAndRest later text) ⊎ ((format.is_plain ≡ true) × IsPlainAlone text)
+    → (rows_said later format head.shape head.shape.height after).fault ≡ None → ((format.is_plain ≡ false) × RawAndRest later text None) ⊎ ((format.is_plain ≡ true) × IsPlainAlone text)
 raster_is_spelled false later text header after format head plain whole h e = inl (plain, raw_raster_is_spelled later text header after format head plain whole h e)
 raster_is_spelled true later text header after format head plain whole h e = inr (plain, plain_raster_is_spelled later text header after format head plain whole h e)
 
@@ -183,7 +183,7 @@ sound_head later format (Err fault) e = absurd cc
 
 -- an image that is said without a fault is spelled: a raw one and a rest, or a plain one
 image_is_spelled : (later : List ℕ → Said) (is_first : Bool) (text : List ℕ) → (image_said later is_first text).fault ≡ None
-    → (x : Format × List ℕ) × (format_at is_first text ≡ Ok x) × (((x.0.is_plain ≡ false) × RawAndRest later text) ⊎ ((x.0.is_plain ≡ true) × IsPlainAlone text))
+    → (x : Format × List ℕ) × (format_at is_first text ≡ Ok x) × (((x.0.is_plain ≡ false) × RawAndRest later text None) ⊎ ((x.0.is_plain ≡ true) × IsPlainAlone text))
 unfolding image_said
 image_is_spelled later is_first text e =
     let found = sound_format later (format_at is_first text) e in
@@ -202,10 +202,10 @@ later_is_spelled (suc most) (b ∷ text) le e =
     let found = image_is_spelled later_said false whole (sym (ap (λ (s : Said). s.fault) (later_said-next whole (omega arith))) ∙ e) in
     elim found.2 [
       | inl r ↦
-          let raw : RawAndRest later_said whole = r.1 in
+          let raw : RawAndRest later_said whole None = r.1 in
           let some = raw_image_has_bytes raw.first raw.image raw.image_is in
           let count : length whole ≡ length raw.first + length raw.rest = ap (λ (t : List ℕ). length t) raw.whole ∙ length-append raw.first raw.rest in
-          let more = later_is_spelled most raw.rest (omega arith) raw.sound in
+          let more = later_is_spelled most raw.rest (omega arith) raw.fault_is in
           (raw.image ∷ more.0, (raw.first, raw.rest, raw.whole, raw.image_is, more.1))
       | inr p ↦ absurd (both_ways found.0.0.is_plain (later_is_raw whole found.0 found.1) p.0)
     ]
@@ -217,8 +217,8 @@ sound_text_is_spelled text e =
     let found = image_is_spelled later_said true text e in
     elim found.2 [
       | inl r ↦
-          let raw : RawAndRest later_said text = r.1 in
-          let more = later_is_spelled (length raw.rest) raw.rest (omega arith) raw.sound in
+          let raw : RawAndRest later_said text None = r.1 in
+          let more = later_is_spelled (length raw.rest) raw.rest (omega arith) raw.fault_is in
           (raw.image ∷ more.0, inl (omega arith, (raw.first, raw.rest, raw.whole, raw.image_is, more.1)))
       | inr p ↦ (p.1.0, inr p.1.1)
     ]

@@ -7,6 +7,7 @@ pub mod Rasters
 pub mod Spelling
 pub mod Items
 pub mod Said
+pub mod BeforeFaults
 pub mod TextLaws
 pub mod Inputs
 pub mod Reads

@@ -8,6 +8,7 @@ use Rattle.pnm_read.specs.declared.fault.InputFault.{InputFault}
 use Rattle.pnm_read.specs.declared.fault.InputFault.TheVariants.{ReadFailed, Memory}
 use Rattle.pnm_read.specs.Spelling.{Spells}
 use Rattle.pnm_read.specs.Said.{said_of, fault_of}
+use Rattle.pnm_read.specs.BeforeFaults.{SpellsUpToFault}
 
 -- of a text that spells images their messages are said, without a fault
 abbrev pub SpelledIsSaid : Type 0
@@ -39,6 +40,13 @@ pub record IsAtFault (text : List ℕ) (fault : InputFault) : Type 0 where
 abbrev pub OneStreamOrOneFault : Type 0
 OneStreamOrOneFault =
     (text : List ℕ) → ((images : List Image) × SpellsOnly text images) ⊎ ((fault : InputFault) × IsAtFault text fault)
+
+-- What is said of a text with a fault is spelled: it is a front that spells the images that ended, and a rest, and what
+-- is said are the messages of these images, and then nothing, or the head of an image whose header the rest begins
+-- with, and its first rows, as many as are spelled there.
+abbrev pub SaidBeforeFaultIsSpelled : Type 0
+SaidBeforeFaultIsSpelled =
+    (text : List ℕ) (fault : InputFault) → fault_of text ≡ Some fault → SpellsUpToFault text (said_of text)
 
 -- what is said of any text may come in turn, also before a fault
 abbrev pub SaidIsLawful : Type 0

@@ -2,7 +2,7 @@
 //! nothing.
 
 ghost use Rattle.pnm_read.specs.Examples.{ExamplesHold};
-ghost use Rattle.pnm_read.specs.TextLaws.{SpelledIsSaid, SaidIsSpelled, SpelledAreImages, OneStreamOrOneFault, SaidIsLawful, SaidAreMessages, EndIsSaidWithoutFault, FaultsAreOfTexts};
+ghost use Rattle.pnm_read.specs.TextLaws.{SpelledIsSaid, SaidIsSpelled, SpelledAreImages, OneStreamOrOneFault, SaidBeforeFaultIsSpelled, SaidIsLawful, SaidAreMessages, EndIsSaidWithoutFault, FaultsAreOfTexts};
 
 /// Of a text that spells images the messages of these images are said, without a fault.
 pub fn spelled_is_said()
@@ -22,6 +22,12 @@ pub fn spelled_are_images()
 /// A text spells exactly one list of images and has no fault, or spells none and has a fault.
 pub fn one_stream_or_one_fault()
     ensures { OneStreamOrOneFault }
+{}
+
+/// What is said of a text before its fault is spelled: the images that ended, by a front of the text;
+/// and then, by the rest, nothing, or the header of an image and its first rows, as many as there are.
+pub fn what_is_said_before_a_fault_is_spelled()
+    ensures { SaidBeforeFaultIsSpelled }
 {}
 
 /// What is said of any text, also before a fault, may come in turn, and each head in it keeps the

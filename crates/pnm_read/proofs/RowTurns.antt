@@ -1,0 +1,87 @@
+-- Rows that are read in turn: what is said of them, and where no more are read.
+use Rattle.std.proofs.Common.{◌≡◌, ℕ, zero, suc, ◌+◌, List, [], ◌∷◌, ◌++◌, length, map, Result, Ok, Err, refl, ap, ap₂, ◌∙◌, append-nil, arith}
+use Rattle.pnm_image.specs.declared.shape.Shape.{Shape}
+use Rattle.pnm_image.specs.declared.message.Message.TheVariants.{Row}
+use Rattle.pnm_image.specs.Heads.{HeadValue, IsHead}
+use Rattle.pnm_image.proofs.Rows.{AreRowsOf}
+use Rattle.pnm_read.specs.declared.fault.InputFault.{InputFault}
+use Rattle.pnm_read.specs.declared.format.Format.{Format}
+use Rattle.pnm_read.specs.Said.{Said, then_said, end_said, row_at, rows_said}
+use Rattle.pnm_read.specs.Sources.{after_messages}
+use Rattle.pnm_read.proofs.GivenLaws.{messages_after, fault_after}
+use Rattle.pnm_read.proofs.PlainLaws.{said_from}
+use Rattle.pnm_read.proofs.SaidLaws.{row_is_row}
+
+-- these rows are read in turn of a text, where n are to come; after them some more are, and a rest is left
+abbrev pub RowsRead : Format → Shape → List (List ℕ) → ℕ → List ℕ → ℕ → List ℕ → Type 0
+RowsRead format s [] n text more rest = (n ≡ more) × (text ≡ rest)
+RowsRead format s (row ∷ rows) zero text more rest = ⊥
+RowsRead format s (row ∷ rows) (suc n) text more rest = (left : List ℕ) × (row_at format s n text ≡ Ok (row, left)) × RowsRead format s rows n left more rest
+
+-- the rows that were read, and those that are still to come, are all
+pub rows_count : (format : Format) (s : Shape) (rows : List (List ℕ)) (n : ℕ) (text : List ℕ) (more : ℕ) (rest : List ℕ) → RowsRead format s rows n text more rest → n ≡ length rows + more
+rows_count format s [] n text more rest read = let none : n ≡ more = read.0 in omega arith
+rows_count format s (row ∷ rows) zero text more rest read = absurd read
+rows_count format s (row ∷ rows) (suc n) text more rest read = omega (arith, rows_count format s rows n read.0 more rest read.2)
+
+-- rows that were read are rows of the head's shape
+pub rows_are_rows : (format : Format) (head : HeadValue) (rows : List (List ℕ)) (n : ℕ) (text : List ℕ) (more : ℕ) (rest : List ℕ) → IsHead head → RowsRead format head.shape rows n text more rest → AreRowsOf head.shape rows
+rows_are_rows format head [] n text more rest h read = tt
+rows_are_rows format head (row ∷ rows) zero text more rest h read = absurd read
+rows_are_rows format head (row ∷ rows) (suc n) text more rest h read = (row_is_row format.is_plain head n text (row, read.0) h read.1, rows_are_rows format head rows n read.0 more rest h read.2)
+
+-- ---- what is said
+
+-- rows that are read are said, and then what is said of the rest
+read_rows_are_said : (later : List ℕ → Said) (format : Format) (s : Shape) (rows : List (List ℕ)) (n : ℕ) (text : List ℕ) (more : ℕ) (rest : List ℕ) → RowsRead format s rows n text more rest
+    → rows_said later format s n text ≡ after_messages (map Row rows) (rows_said later format s more rest)
+unfolding rows_said
+read_rows_are_said later format s [] n text more rest read = ap₂ (λ (k : ℕ) (t : List ℕ). rows_said later format s k t) read.0 read.1
+read_rows_are_said later format s (row ∷ rows) zero text more rest read = absurd read
+read_rows_are_said later format s (row ∷ rows) (suc n) text more rest read =
+    ap (said_from later format s n) read.1 ∙ ap (then_said (Row row)) (read_rows_are_said later format s rows n read.0 more rest read.2)
+
+-- the messages of rows that are read come first
+pub read_rows_come_first : (later : List ℕ → Said) (format : Format) (s : Shape) (rows : List (List ℕ)) (n : ℕ) (text : List ℕ) (more : ℕ) (rest : List ℕ) → RowsRead format s rows n text more rest
+    → (rows_said later format s n text).messages ≡ map Row rows ++ (rows_said later format s more rest).messages
+read_rows_come_first later format s rows n text more rest read =
+    ap (λ (x : Said). x.messages) (read_rows_are_said later format s rows n text more rest read) ∙ messages_after (map Row rows) (rows_said later format s more rest)
+
+-- where the next row is at fault, the messages are those of the rows that were read
+pub stopped_messages : (later : List ℕ → Said) (format : Format) (s : Shape) (rows : List (List ℕ)) (n : ℕ) (text : List ℕ) (more : ℕ) (rest : List ℕ) (fault : InputFault) → RowsRead format s rows n text (suc more) rest
+    → row_at format s more rest ≡ Err fault → (rows_said later format s n text).messages ≡ map Row rows
+unfolding rows_said
+stopped_messages later format s rows n text more rest fault read e =
+    read_rows_come_first later format s rows n text (suc more) rest read ∙ ap (λ (r : Result (List ℕ × List ℕ) InputFault). map Row rows ++ (said_from later format s more r).messages) e ∙ append-nil (map Row rows)
+
+-- where all rows were read, the fault is that of what follows the image
+pub ended_fault : (later : List ℕ → Said) (format : Format) (s : Shape) (rows : List (List ℕ)) (n : ℕ) (text rest : List ℕ) → RowsRead format s rows n text zero rest → (rows_said later format s n text).fault ≡ (end_said later format.is_plain rest).fault
+unfolding rows_said
+ended_fault later format s rows n text rest read =
+    ap (λ (x : Said). x.fault) (read_rows_are_said later format s rows n text zero rest read) ∙ fault_after (map Row rows) (rows_said later format s zero rest)
+
+-- ---- where no more are read
+
+-- no more rows are to come, or the next one is at fault
+abbrev pub Stops : Format → Shape → ℕ → List ℕ → Type 0
+Stops format s zero rest = Unit {0}
+Stops format s (suc more) rest = (fault : InputFault) × (row_at format s more rest ≡ Err fault)
+
+-- the rows of a text that are read
+pub record AllRead (format : Format) (s : Shape) (n : ℕ) (text : List ℕ) : Type 0 where
+  pub rows : List (List ℕ)
+  pub more : ℕ
+  pub rest : List ℕ
+  pub read : RowsRead format s rows n text more rest
+  pub stop : Stops format s more rest
+
+one_more : (format : Format) (s : Shape) (n : ℕ) (text : List ℕ) (r : Result (List ℕ × List ℕ) InputFault) → row_at format s n text ≡ r → ((left : List ℕ) → AllRead format s n left) → AllRead format s (suc n) text
+one_more format s n text (Err fault) e others = record { rows = []; more = suc n; rest = text; read = (refl, refl); stop = (fault, e) }
+one_more format s n text (Ok found) e others =
+    let next : AllRead format s n found.1 = others found.1 in
+    record { rows = found.0 ∷ next.rows; more = next.more; rest = next.rest; read = (found.1, e, next.read); stop = next.stop }
+
+-- of every text some rows are read
+pub all_read : (format : Format) (s : Shape) (n : ℕ) (text : List ℕ) → AllRead format s n text
+all_read format s zero text = record { rows = []; more = zero; rest = text; read = (refl, refl); stop = tt }
+all_read format s (suc n) text = one_more format s n text (row_at format s n text) refl (λ left. all_read format s n left)
