@@ -1,7 +1,7 @@
 -- The first rows of a raster: rows that are read in turn are spelled, and rows that are spelled are read in turn.
-use Rattle.std.proofs.Common.{◌≡◌, ℕ, zero, suc, ◌+◌, ◌*◌, ◌<◌, ◌≤◌, Bool, true, false, List, [], ◌∷◌, ◌++◌, length, take, drop, map, All, Ok, refl, sym, ap, ap₂, subst, ◌∙◌, append_assoc, arith, zero-mul, suc-mul, mul-pos}
+use Rattle.std.proofs.Common.{◌≡◌, ℕ, zero, suc, ◌+◌, ◌*◌, ◌<◌, ◌≤◌, Bool, true, false, List, [], ◌∷◌, ◌++◌, length, take, drop, map, All, Ok, refl, sym, ap, subst, ◌∙◌, arith, zero-mul, suc-mul, mul-pos}
 use Rattle.std.specs.List.{concat}
-use Rattle.std.proofs.lemmas.List.{take_at, drop_at, take-append-drop, length-take-le, length-drop, length-append, length-map, nil_from_length}
+use Rattle.std.proofs.lemmas.List.{length-drop, length-append, length-map, nil_from_length}
 use Rattle.std.proofs.lemmas.List.Elements.{All-nil, All-append, All-drop}
 use Rattle.pnm_image.specs.declared.shape.Shape.{Shape}
 use Rattle.pnm_image.specs.declared.shape.Kind.{Kind}
@@ -12,18 +12,24 @@ use Rattle.pnm_image.specs.Images.{Image, IsImage, cut_rows, rows_of}
 use Rattle.pnm_image.proofs.Rows.{AreRowsOf, image_of, IsImage-image_of, rows_of-image_of, AreRowsOf-rows_of, length-rows_of}
 use Rattle.pnm_read.specs.declared.format.Format.{Format}
 use Rattle.pnm_read.specs.Texts.{begins_apart}
-use Rattle.pnm_read.specs.Rasters.{bytes_in_row, raw_samples, MayFollow, SpellsPlainSamples, SpellsRaw, SpellsPlain}
+use Rattle.pnm_read.specs.Rasters.{MayFollow, SpellsPlainSamples, SpellsRaw, SpellsPlain}
 use Rattle.pnm_read.specs.Spelling.{SpellsRasterBy, SpellsRaster}
 use Rattle.pnm_read.specs.BeforeFaults.{MayFollowRows, BeginsWithRows}
-use Rattle.pnm_read.specs.Said.{Said, in_turn, raw_row, row_by, row_at, rows_said}
+use Rattle.pnm_read.specs.Said.{Said, in_turn, row_by, row_at, rows_said}
 use Rattle.pnm_read.specs.Items.{plain_sample}
 use Rattle.pnm_read.proofs.SampleLaws.{IsInRange}
-use Rattle.pnm_read.proofs.UnitLaws.{are_within, are_within_all, unit_if}
 use Rattle.pnm_read.proofs.PlainLaws.{SpellsOn, IsRead, apart_follows, spelled_samples_are_read, last_row_is_read, row_is_read, nothing_left, spells_on_append, spelled_front, read_row, read_last_row}
-use Rattle.pnm_read.proofs.RawLaws.{IsPackable, packing_in, packable, raw_rows, row_if_ok, row_if_row, row_read, row_long, row_at_raw, row_in_front}
-use Rattle.pnm_read.proofs.RowTurns.{RowsRead, rows_count, rows_are_rows, read_rows_come_first}
+use Rattle.pnm_read.proofs.RawLaws.{packable, raw_rows_have_bytes, raw_rows_are_read}
+use Rattle.pnm_read.proofs.SaidLaws.{row_is_row}
+use Rattle.pnm_read.proofs.RowTurns.{RowsRead, rows_count, read_rows_come_first}
 
 -- ---- images of some rows
+
+-- rows that were read are rows of the head's shape
+pub rows_are_rows : (format : Format) (head : HeadValue) (rows : List (List ℕ)) (n : ℕ) (text : List ℕ) (more : ℕ) (rest : List ℕ) → IsHead head → RowsRead format head.shape rows n text more rest → AreRowsOf head.shape rows
+rows_are_rows format head [] n text more rest h read = tt
+rows_are_rows format head (row ∷ rows) zero text more rest h read = absurd read
+rows_are_rows format head (row ∷ rows) (suc n) text more rest h read = (row_is_row format.is_plain head n text (row, read.0) h read.1, rows_are_rows format head rows n read.0 more rest h read.2)
 
 -- the image of some of a head's rows
 abbrev pub first_of : HeadValue → List (List ℕ) → Image
@@ -64,48 +70,11 @@ pub record RowsSpelled (format : Format) (head : HeadValue) (rows : List (List �
 
 -- ---- raw rows that are read are spelled
 
--- the rows of bytes in which rows of samples are
-record RawBytes (s : Shape) (rows : List (List ℕ)) (text rest : List ℕ) : Type 0 where
-  pub bytes : List ℕ
-  pub whole : text ≡ bytes ++ rest
-  pub count : length bytes ≡ length rows * bytes_in_row s
-  pub rows_are : raw_rows s (length rows) bytes ≡ rows
-
--- a row of bytes before others
-bytes_before : (s : Shape) (row : List ℕ) (rows : List (List ℕ)) (text left rest : List ℕ) → bytes_in_row s ≤ length text → raw_samples s (take (bytes_in_row s) text) ≡ row → left ≡ drop (bytes_in_row s) text
-    → RawBytes s rows left rest → RawBytes s (row ∷ rows) text rest
-bytes_before s row rows text left rest long same after others =
-    let each : ℕ = bytes_in_row s in
-    let first : List ℕ = take each text in
-    let size : length first ≡ each = length-take-le each text long in
-    let front : take each (first ++ others.bytes) ≡ first = take_at first others.bytes each size in
-    let back : drop each (first ++ others.bytes) ≡ others.bytes = drop_at first others.bytes each size in
-    record {
-      bytes = first ++ others.bytes;
-      whole = sym (take-append-drop each text) ∙ ap (λ (l : List ℕ). first ++ l) (sym after ∙ others.whole) ∙ sym (append_assoc first others.bytes rest);
-      count = omega (arith, length-append first others.bytes, size, others.count, suc-mul (length rows) each);
-      rows_are = ap₂ (λ (x : List ℕ) (xs : List (List ℕ)). x ∷ xs) (ap (raw_samples s) front ∙ same) (ap (raw_rows s (length rows)) back ∙ others.rows_are);
-    }
-
-raw_rows_have_bytes : (format : Format) (head : HeadValue) (rows : List (List ℕ)) (n : ℕ) (text : List ℕ) (more : ℕ) (rest : List ℕ) → format.is_plain ≡ false → IsHead head → RowsRead format head.shape rows n text more rest → RawBytes head.shape rows text rest
-raw_rows_have_bytes format head [] n text more rest raw h read = record { bytes = []; whole = read.1; count = sym (zero-mul (bytes_in_row head.shape)); rows_are = refl }
-raw_rows_have_bytes format head (row ∷ rows) zero text more rest raw h read = absurd read
-raw_rows_have_bytes format head (row ∷ rows) (suc n) text more rest raw h read =
-    let s : Shape = head.shape in
-    let each : ℕ = bytes_in_row s in
-    let samples : List ℕ = raw_samples s (take each text) in
-    let found : raw_row s text ≡ Ok (row, read.0) = sym (row_at_raw format s n text raw) ∙ read.1 in
-    let long : each ≤ length text = row_long s text (row, read.0) found in
-    let test : unit_if (are_within s.maxval samples) samples (drop each text) ≡ Ok (row, read.0) = sym (row_read s text (packable head h) long) ∙ found in
-    bytes_before s row rows text read.0 rest long (row_if_row (are_within s.maxval samples) samples (drop each text) (row, read.0) test) (row_if_ok (are_within s.maxval samples) samples (drop each text) (row, read.0) test).1
-    (raw_rows_have_bytes format head rows n read.0 more rest raw h read.2)
-
 raw_rows_are_spelled : (format : Format) (head : HeadValue) (rows : List (List ℕ)) (n : ℕ) (text : List ℕ) (more : ℕ) (rest : List ℕ) → format.is_plain ≡ false → IsHead head → length rows ≤ head.shape.height → RowsRead format head.shape rows n text more rest
     → RowsSpelled format head rows text rest
 raw_rows_are_spelled format head rows n text more rest raw h le read =
-    let are = rows_are_rows format head rows n text more rest h read in
     let r = raw_rows_have_bytes format head rows n text more rest raw h read in
-    let spelled : SpellsRaw r.bytes (first_of head rows) = record { sound = first_is_image head rows h le are; count = r.count; rows = rows_of-first_of head rows are ∙ sym r.rows_are } in
+    let spelled : SpellsRaw r.bytes (first_of head rows) = record { sound = first_is_image head rows h le r.are; count = r.count; rows = rows_of-first_of head rows r.are ∙ sym r.rows_are } in
     record { raster = r.bytes; whole = r.whole; raster_is = subst (λ (p : Bool). SpellsRasterBy p r.bytes (first_of head rows)) (sym raw) spelled }
 
 -- ---- plain rows that are read are spelled
@@ -203,22 +172,6 @@ read_rows_begin format head rows text more rest h read =
     }
 
 -- ---- rows that are spelled are read
-
-raw_rows_are_read : (format : Format) (s : Shape) (rows n : ℕ) (text : List ℕ) (more : ℕ) (rest : List ℕ) → format.is_plain ≡ false → IsPackable (packing_in s) s → n ≡ rows + more → length text ≡ rows * bytes_in_row s → AreRowsOf s (raw_rows s rows text)
-    → RowsRead format s (raw_rows s rows text) n (text ++ rest) more rest
-raw_rows_are_read format s zero n text more rest raw h count size are =
-    let nothing : text ≡ [] = nil_from_length text (size ∙ zero-mul (bytes_in_row s)) in
-    (omega arith, ap (λ (t : List ℕ). t ++ rest) nothing)
-raw_rows_are_read format s (suc rows) zero text more rest raw h count size are = absurd (omega arith)
-raw_rows_are_read format s (suc rows) (suc n) text more rest raw h count size are =
-    let each : ℕ = bytes_in_row s in
-    let total : length text ≡ rows * each + each = size ∙ suc-mul rows each in
-    let within = are_within_all s.maxval (raw_samples s (take each text)) are.0.range in
-    let left : length (drop each text) ≡ rows * each = omega (arith, length-drop each text) in (
-      drop each text ++ rest,
-      row_at_raw format s n (text ++ rest) raw ∙ row_in_front s text rest h (omega arith) within,
-      raw_rows_are_read format s rows n (drop each text) more rest raw h (omega arith) left are.1,
-    )
 
 -- a plain row whose samples are read in turn
 plain_row_by : (s : Shape) (n : ℕ) (text row left : List ℕ) → in_turn (plain_sample s.kind s.maxval) (row_length s) text ≡ Ok (row, left) → (n ≡ 0 → begins_apart left ≡ true) → row_by true s n text ≡ Ok (row, left)

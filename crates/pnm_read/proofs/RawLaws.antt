@@ -1,7 +1,7 @@
 -- Raw rasters: the rows that one spells are said, and what is said without a fault is spelled.
 use Rattle.std.proofs.Common.{◌≡◌, ℕ, zero, suc, ◌+◌, ◌*◌, ◌/◌, ◌<◌, ◌≤◌, Bool, true, false, leb, nat_lt, if◌then◌else◌, List, [], ◌∷◌, ◌++◌, length, get_or, take, drop, map, flat_map, All, None, Result, Ok, refl, sym, ap, append_assoc, ◌∙◌, ap₂, subst, arith, zero-mul, suc-mul}
 use Rattle.std.specs.List.{concat}
-use Rattle.std.proofs.lemmas.List.{take_all, take_at, drop_at, take-append-le, drop-append-le, take-append-drop, length-take, length-take-le, length-drop, length-append, length-map, nil_from_length}
+use Rattle.std.proofs.lemmas.List.{take_all, take_at, drop_at, take-append-le, drop-append-le, take-append-drop, length-take, length-take-le, length-drop, length-append, nil_from_length}
 use Rattle.std.proofs.lemmas.List.Elements.{All-nil, All-append, All-take, All-map}
 use Rattle.pnm_image.specs.declared.shape.Shape.{Shape}
 use Rattle.pnm_image.specs.declared.shape.Kind.{Kind}
@@ -10,7 +10,7 @@ use Rattle.pnm_image.specs.declared.message.Message.TheVariants.{Row, ImageEnd}
 use Rattle.pnm_image.specs.Heads.{HeadValue, IsHead, Suits, row_length}
 use Rattle.pnm_image.specs.Images.{Image, cut_rows, rows_of}
 use Rattle.pnm_image.specs.Places.{IsRowOf}
-use Rattle.pnm_image.proofs.Rows.{AreRowsOf, image_of, IsImage-image_of, rows_of-image_of, AreRowsOf-rows_of, length-cut_rows}
+use Rattle.pnm_image.proofs.Rows.{AreRowsOf, image_of, IsImage-image_of, rows_of-image_of, AreRowsOf-rows_of}
 use Rattle.pnm_read.specs.declared.fault.InputFault.{InputFault}
 use Rattle.pnm_read.specs.declared.format.Format.{Format}
 use Rattle.pnm_image.specs.declared.packing.Packing.{Packing}
@@ -22,7 +22,8 @@ use Rattle.pnm_read.specs.Packings.{unit_bytes}
 use Rattle.pnm_read.specs.Said.{in_turn, units_in_row, units_at, raw_row, row_by, row_at, Said, then_said, end_said, rows_said}
 use Rattle.pnm_read.proofs.PieceLaws.{bind_ok}
 use Rattle.pnm_read.proofs.UnitLaws.{Turns, single, concat_singles, concat_pixels, are_within, are_within_all, all_are_within, unit_if, units_if, packed_units, narrow_units, wide_units}
-use Rattle.pnm_read.proofs.PlainLaws.{said_from, row_without_fault}
+use Rattle.pnm_read.specs.Sources.{after_messages}
+use Rattle.pnm_read.proofs.RowTurns.{RowsRead, rows_count, read_rows_are_said, ended_fault, all_read, no_more_to_come}
 
 -- ---- the bytes of a row
 
@@ -222,20 +223,6 @@ row_in_front s text rest h long within =
     ∙ ap (λ (l : List ℕ). unit_if (are_within s.maxval (raw_samples s (take each text))) (raw_samples s (take each text)) l) back
     ∙ ap (λ (t : Bool). unit_if t (raw_samples s (take each text)) (drop each text ++ rest)) within
 
--- of whole rows the rows are said, the image's end, and what follows
-rows_are_said : (later : List ℕ → Said) (format : Format) (s : Shape) (n : ℕ) (text rest : List ℕ) → format.is_plain ≡ false → IsPackable (packing_in s) s → length text ≡ n * bytes_in_row s → AreRowsOf s (raw_rows s n text)
-    → rows_said later format s n (text ++ rest) ≡ rows_then (raw_rows s n text) (later rest)
-unfolding rows_said end_said
-rows_are_said later format s zero text rest plain h count are = let nothing : text ≡ [] = nil_from_length text (count ∙ zero-mul (bytes_in_row s)) in rw (nothing, plain) refl
-rows_are_said later format s (suc n) text rest plain h count are =
-    let each : ℕ = bytes_in_row s in
-    let total : length text ≡ n * each + each = count ∙ suc-mul n each in
-    let row : List ℕ = raw_samples s (take each text) in
-    let within : are_within s.maxval row ≡ true = are_within_all s.maxval row are.0.range in
-    let found : row_at format s n (text ++ rest) ≡ unit_if true row (drop each text ++ rest) = row_at_raw format s n (text ++ rest) plain ∙ row_in_front s text rest h (omega arith) within in
-    let left : length (drop each text) ≡ n * each = omega (arith, length-drop each text) in
-    ap (said_from later format s n) found ∙ ap (λ (others : Said). then_said (Row row) others) (rows_are_said later format s n (drop each text) rest plain h left are.1)
-
 -- a row that was read is the row that its test passed
 pub row_if_row : (t : Bool) (row rest : List ℕ) (found : List ℕ × List ℕ) → unit_if t row rest ≡ Ok found → row ≡ found.0
 row_if_row true row rest found e = cc
@@ -255,56 +242,60 @@ raw_row_is_row head text found h e =
     } in
     subst (IsRowOf s) (row_if_row (are_within s.maxval row) row (drop each text) found test) is
 
--- whole rows that a text begins with, and what follows them, which has no fault
-record RowsAndRest (later : List ℕ → Said) (s : Shape) (n : ℕ) (text : List ℕ) : Type 0 where
+-- the rows of bytes in which rows of samples are
+pub record RawBytes (s : Shape) (rows : List (List ℕ)) (text rest : List ℕ) : Type 0 where
   pub bytes : List ℕ
-  pub rest : List ℕ
   pub whole : text ≡ bytes ++ rest
-  pub count : length bytes ≡ n * bytes_in_row s
-  pub are : AreRowsOf s (raw_rows s n bytes)
-  pub sound : (later rest).fault ≡ None
+  pub count : length bytes ≡ length rows * bytes_in_row s
+  pub rows_are : raw_rows s (length rows) bytes ≡ rows
+  pub are : AreRowsOf s rows
 
--- a row before whole rows
-row_before : (later : List ℕ → Said) (s : Shape) (n : ℕ) (text : List ℕ) → IsPackable (packing_in s) s → bytes_in_row s ≤ length text → are_within s.maxval (raw_samples s (take (bytes_in_row s) text)) ≡ true
-    → RowsAndRest later s n (drop (bytes_in_row s) text) → RowsAndRest later s (suc n) text
-row_before later s n text h long within r =
+-- a row of bytes before others
+bytes_before : (s : Shape) (row : List ℕ) (rows : List (List ℕ)) (text left rest : List ℕ) → bytes_in_row s ≤ length text → raw_samples s (take (bytes_in_row s) text) ≡ row → left ≡ drop (bytes_in_row s) text → IsRowOf s row
+    → RawBytes s rows left rest → RawBytes s (row ∷ rows) text rest
+bytes_before s row rows text left rest long same after is others =
     let each : ℕ = bytes_in_row s in
     let first : List ℕ = take each text in
     let size : length first ≡ each = length-take-le each text long in
-    let front : take each (first ++ r.bytes) ≡ first = take_at first r.bytes each size in
-    let back : drop each (first ++ r.bytes) ≡ r.bytes = drop_at first r.bytes each size in
-    let row : IsRowOf s (raw_samples s first) = record {
-      count = length-samples_by (packing_in s) s first h size;
-      range = all_are_within s.maxval (raw_samples s first) within;
-    } in
+    let front : take each (first ++ others.bytes) ≡ first = take_at first others.bytes each size in
+    let back : drop each (first ++ others.bytes) ≡ others.bytes = drop_at first others.bytes each size in
     record {
-      bytes = first ++ r.bytes;
-      rest = r.rest;
-      whole = sym (take-append-drop each text) ∙ ap (λ (l : List ℕ). first ++ l) r.whole ∙ sym (append_assoc first r.bytes r.rest);
-      count = omega (arith, length-append first r.bytes, size, r.count, suc-mul n each);
-      are = (subst (λ (l : List ℕ). IsRowOf s (raw_samples s l)) (sym front) row, subst (λ (l : List ℕ). AreRowsOf s (raw_rows s n l)) (sym back) r.are);
-      sound = r.sound;
+      bytes = first ++ others.bytes;
+      whole = sym (take-append-drop each text) ∙ ap (λ (l : List ℕ). first ++ l) (sym after ∙ others.whole) ∙ sym (append_assoc first others.bytes rest);
+      count = omega (arith, length-append first others.bytes, size, others.count, suc-mul (length rows) each);
+      rows_are = ap₂ (λ (x : List ℕ) (xs : List (List ℕ)). x ∷ xs) (ap (raw_samples s) front ∙ same) (ap (raw_rows s (length rows)) back ∙ others.rows_are);
+      are = (is, others.are);
     }
 
--- what is said without a fault is of whole rows
-rows_are_spelled : (later : List ℕ → Said) (format : Format) (s : Shape) (n : ℕ) (text : List ℕ) → format.is_plain ≡ false → IsPackable (packing_in s) s → (rows_said later format s n text).fault ≡ None → RowsAndRest later s n text
-unfolding rows_said end_said
-rows_are_spelled later format s zero text plain h e = record {
-  bytes = [];
-  rest = text;
-  whole = refl;
-  count = sym (zero-mul (bytes_in_row s));
-  are = tt;
-  sound = sym (ap (λ (p : Bool). (end_said later p text).fault) plain) ∙ e;
-}
-rows_are_spelled later format s (suc n) text plain h e =
+pub raw_rows_have_bytes : (format : Format) (head : HeadValue) (rows : List (List ℕ)) (n : ℕ) (text : List ℕ) (more : ℕ) (rest : List ℕ) → format.is_plain ≡ false → IsHead head → RowsRead format head.shape rows n text more rest → RawBytes head.shape rows text rest
+raw_rows_have_bytes format head [] n text more rest raw h read = record { bytes = []; whole = read.1; count = sym (zero-mul (bytes_in_row head.shape)); rows_are = refl; are = tt }
+raw_rows_have_bytes format head (row ∷ rows) zero text more rest raw h read = absurd read
+raw_rows_have_bytes format head (row ∷ rows) (suc n) text more rest raw h read =
+    let s : Shape = head.shape in
     let each : ℕ = bytes_in_row s in
-    let row : List ℕ = raw_samples s (take each text) in
-    let first = row_without_fault later format s n (row_at format s n text) e in
-    let found : raw_row s text ≡ Ok first.0 = sym (row_at_raw format s n text plain) ∙ first.1 in
-    let long : each ≤ length text = row_long s text first.0 found in
-    let parts = row_if_ok (are_within s.maxval row) row (drop each text) first.0 (sym (row_read s text h long) ∙ found) in
-    row_before later s n text h long parts.0 (rows_are_spelled later format s n (drop each text) plain h (ap (λ (t : List ℕ). (rows_said later format s n t).fault) (sym parts.1) ∙ first.2))
+    let samples : List ℕ = raw_samples s (take each text) in
+    let found : raw_row s text ≡ Ok (row, read.0) = sym (row_at_raw format s n text raw) ∙ read.1 in
+    let long : each ≤ length text = row_long s text (row, read.0) found in
+    let test : unit_if (are_within s.maxval samples) samples (drop each text) ≡ Ok (row, read.0) = sym (row_read s text (packable head h) long) ∙ found in
+    bytes_before s row rows text read.0 rest long (row_if_row (are_within s.maxval samples) samples (drop each text) (row, read.0) test) (row_if_ok (are_within s.maxval samples) samples (drop each text) (row, read.0) test).1 (raw_row_is_row head text (row, read.0) h found)
+    (raw_rows_have_bytes format head rows n read.0 more rest raw h read.2)
+
+-- rows that are spelled are read in turn
+pub raw_rows_are_read : (format : Format) (s : Shape) (rows n : ℕ) (text : List ℕ) (more : ℕ) (rest : List ℕ) → format.is_plain ≡ false → IsPackable (packing_in s) s → n ≡ rows + more → length text ≡ rows * bytes_in_row s → AreRowsOf s (raw_rows s rows text)
+    → RowsRead format s (raw_rows s rows text) n (text ++ rest) more rest
+raw_rows_are_read format s zero n text more rest raw h count size are =
+    let nothing : text ≡ [] = nil_from_length text (size ∙ zero-mul (bytes_in_row s)) in
+    (omega arith, ap (λ (t : List ℕ). t ++ rest) nothing)
+raw_rows_are_read format s (suc rows) zero text more rest raw h count size are = absurd (omega arith)
+raw_rows_are_read format s (suc rows) (suc n) text more rest raw h count size are =
+    let each : ℕ = bytes_in_row s in
+    let total : length text ≡ rows * each + each = size ∙ suc-mul rows each in
+    let within = are_within_all s.maxval (raw_samples s (take each text)) are.0.range in
+    let left : length (drop each text) ≡ rows * each = omega (arith, length-drop each text) in (
+      drop each text ++ rest,
+      row_at_raw format s n (text ++ rest) raw ∙ row_in_front s text rest h (omega arith) within,
+      raw_rows_are_read format s rows n (drop each text) more rest raw h (omega arith) left are.1,
+    )
 
 -- a row that was read leaves no more than there was
 pub raw_row_shorter : (s : Shape) (text : List ℕ) (found : List ℕ × List ℕ) → raw_row s text ≡ Ok found → length found.1 ≤ length text
@@ -317,27 +308,42 @@ raw_row_shorter s text found e =
 
 -- ---- images
 
+-- after all rows come the image's end and what follows
+after_rows : (later : List ℕ → Said) (format : Format) (s : Shape) (rows : List (List ℕ)) (rest : List ℕ) → format.is_plain ≡ false → after_messages (map Row rows) (rows_said later format s zero rest) ≡ rows_then rows (later rest)
+unfolding rows_said end_said
+after_rows later format s [] rest raw = ap (λ (p : Bool). then_said ImageEnd (end_said later p rest)) raw
+after_rows later format s (row ∷ rows) rest raw = ap (then_said (Row row)) (after_rows later format s rows rest raw)
+
 -- of a raster that spells an image the rows are said, the image's end, and what follows
 pub spelled_raw_is_said : (later : List ℕ → Said) (format : Format) (raster rest : List ℕ) (image : Image) → format.is_plain ≡ false → SpellsRaw raster image
     → rows_said later format image.head.shape image.head.shape.height (raster ++ rest) ≡ rows_then (rows_of image) (later rest)
-spelled_raw_is_said later format raster rest image plain h =
+spelled_raw_is_said later format raster rest image raw h =
     let s : Shape = image.head.shape in
-    rows_are_said later format s s.height raster rest plain (packable image.head h.sound.head) h.count (subst (AreRowsOf s) h.rows (AreRowsOf-rows_of image h.sound)) ∙ ap (λ (rows : List (List ℕ)). rows_then rows (later rest)) (sym h.rows)
+    let rows : List (List ℕ) = raw_rows s s.height raster in
+    let read = raw_rows_are_read format s s.height s.height raster zero rest raw (packable image.head h.sound.head) (omega arith) h.count (subst (AreRowsOf s) h.rows (AreRowsOf-rows_of image h.sound)) in
+    read_rows_are_said later format s rows s.height (raster ++ rest) zero rest read ∙ after_rows later format s rows rest raw ∙ ap (λ (l : List (List ℕ)). rows_then l (later rest)) (sym h.rows)
+
+-- the fault after all rows of a raw image is that of what follows it
+raw_end_fault : (later : List ℕ → Said) (format : Format) (rest : List ℕ) → format.is_plain ≡ false → (end_said later format.is_plain rest).fault ≡ (later rest).fault
+unfolding end_said
+raw_end_fault later format rest raw = ap (λ (p : Bool). (end_said later p rest).fault) raw
 
 -- a raster whose rows are said without a fault spells an image, and what follows has no fault
 pub said_raw_is_spelled : (later : List ℕ → Said) (format : Format) (head : HeadValue) (text : List ℕ) → format.is_plain ≡ false → IsHead head → (rows_said later format head.shape head.shape.height text).fault ≡ None
     → (image : Image) × (raster : List ℕ) × (rest : List ℕ) × (text ≡ raster ++ rest) × (image.head ≡ head) × SpellsRaw raster image × ((later rest).fault ≡ None)
-said_raw_is_spelled later format head text plain h e =
+said_raw_is_spelled later format head text raw h e =
     let s : Shape = head.shape in
-    let found = rows_are_spelled later format s s.height text plain (packable head h) e in
-    let rows : List (List ℕ) = raw_rows s s.height found.bytes in
-    let count : length rows ≡ s.height = length-map (cut_rows s.height (bytes_in_row s) found.bytes) (raw_samples s) ∙ length-cut_rows s.height (bytes_in_row s) found.bytes in
-    let same : rows_of (image_of head rows) ≡ rows = rows_of-image_of head rows count found.are in (
-      image_of head rows,
+    let r = all_read format s s.height text in
+    let none : r.more ≡ zero = no_more_to_come later format s r.rows s.height text r.more r.rest r.read r.stop e in
+    let read = subst (λ (k : ℕ). RowsRead format s r.rows s.height text k r.rest) none r.read in
+    let found = raw_rows_have_bytes format head r.rows s.height text zero r.rest raw h read in
+    let count : length r.rows ≡ s.height = omega (arith, rows_count format s r.rows s.height text zero r.rest read) in
+    let rows = rows_of-image_of head r.rows count found.are ∙ sym found.rows_are ∙ ap (λ (n : ℕ). raw_rows s n found.bytes) count in (
+      image_of head r.rows,
       found.bytes,
-      found.rest,
+      r.rest,
       found.whole,
       refl,
-      record { sound = IsImage-image_of head rows h count found.are; count = found.count; rows = same },
-      found.sound,
+      record { sound = IsImage-image_of head r.rows h count found.are; count = found.count ∙ ap (λ (n : ℕ). n * bytes_in_row s) count; rows = rows },
+      sym (ended_fault later format s r.rows s.height text r.rest read ∙ raw_end_fault later format r.rest raw) ∙ e,
     )

@@ -1,16 +1,13 @@
 -- Rows that are read in turn: what is said of them, and where no more are read.
-use Rattle.std.proofs.Common.{◌≡◌, ℕ, zero, suc, ◌+◌, List, [], ◌∷◌, ◌++◌, length, map, Result, Ok, Err, refl, ap, ap₂, ◌∙◌, append-nil, arith}
+use Rattle.std.proofs.Common.{◌≡◌, ℕ, zero, suc, ◌+◌, List, [], ◌∷◌, ◌++◌, length, map, Some, None, Result, Ok, Err, refl, sym, ap, ap₂, ◌∙◌, append-nil, arith}
 use Rattle.pnm_image.specs.declared.shape.Shape.{Shape}
 use Rattle.pnm_image.specs.declared.message.Message.TheVariants.{Row}
-use Rattle.pnm_image.specs.Heads.{HeadValue, IsHead}
-use Rattle.pnm_image.proofs.Rows.{AreRowsOf}
 use Rattle.pnm_read.specs.declared.fault.InputFault.{InputFault}
 use Rattle.pnm_read.specs.declared.format.Format.{Format}
 use Rattle.pnm_read.specs.Said.{Said, then_said, end_said, row_at, rows_said}
 use Rattle.pnm_read.specs.Sources.{after_messages}
 use Rattle.pnm_read.proofs.GivenLaws.{messages_after, fault_after}
 use Rattle.pnm_read.proofs.PlainLaws.{said_from}
-use Rattle.pnm_read.proofs.SaidLaws.{row_is_row}
 
 -- these rows are read in turn of a text, where n are to come; after them some more are, and a rest is left
 abbrev pub RowsRead : Format → Shape → List (List ℕ) → ℕ → List ℕ → ℕ → List ℕ → Type 0
@@ -24,16 +21,10 @@ rows_count format s [] n text more rest read = let none : n ≡ more = read.0 in
 rows_count format s (row ∷ rows) zero text more rest read = absurd read
 rows_count format s (row ∷ rows) (suc n) text more rest read = omega (arith, rows_count format s rows n read.0 more rest read.2)
 
--- rows that were read are rows of the head's shape
-pub rows_are_rows : (format : Format) (head : HeadValue) (rows : List (List ℕ)) (n : ℕ) (text : List ℕ) (more : ℕ) (rest : List ℕ) → IsHead head → RowsRead format head.shape rows n text more rest → AreRowsOf head.shape rows
-rows_are_rows format head [] n text more rest h read = tt
-rows_are_rows format head (row ∷ rows) zero text more rest h read = absurd read
-rows_are_rows format head (row ∷ rows) (suc n) text more rest h read = (row_is_row format.is_plain head n text (row, read.0) h read.1, rows_are_rows format head rows n read.0 more rest h read.2)
-
 -- ---- what is said
 
 -- rows that are read are said, and then what is said of the rest
-read_rows_are_said : (later : List ℕ → Said) (format : Format) (s : Shape) (rows : List (List ℕ)) (n : ℕ) (text : List ℕ) (more : ℕ) (rest : List ℕ) → RowsRead format s rows n text more rest
+pub read_rows_are_said : (later : List ℕ → Said) (format : Format) (s : Shape) (rows : List (List ℕ)) (n : ℕ) (text : List ℕ) (more : ℕ) (rest : List ℕ) → RowsRead format s rows n text more rest
     → rows_said later format s n text ≡ after_messages (map Row rows) (rows_said later format s more rest)
 unfolding rows_said
 read_rows_are_said later format s [] n text more rest read = ap₂ (λ (k : ℕ) (t : List ℕ). rows_said later format s k t) read.0 read.1
@@ -85,3 +76,14 @@ one_more format s n text (Ok found) e others =
 pub all_read : (format : Format) (s : Shape) (n : ℕ) (text : List ℕ) → AllRead format s n text
 all_read format s zero text = record { rows = []; more = zero; rest = text; read = (refl, refl); stop = tt }
 all_read format s (suc n) text = one_more format s n text (row_at format s n text) refl (λ left. all_read format s n left)
+
+-- where there is no fault, no more rows are to come
+pub no_more_to_come : (later : List ℕ → Said) (format : Format) (s : Shape) (rows : List (List ℕ)) (n : ℕ) (text : List ℕ) (more : ℕ) (rest : List ℕ) → RowsRead format s rows n text more rest → Stops format s more rest → (rows_said later format s n text).fault ≡ None
+    → more ≡ zero
+unfolding rows_said
+no_more_to_come later format s rows n text zero rest read stop e = refl
+no_more_to_come later format s rows n text (suc more) rest read stop e =
+    let found : None ≡ Some stop.0 =
+    sym e ∙ ap (λ (x : Said). x.fault) (read_rows_are_said later format s rows n text (suc more) rest read) ∙ fault_after (map Row rows) (rows_said later format s (suc more) rest)
+    ∙ ap (λ (r : Result (List ℕ × List ℕ) InputFault). (said_from later format s more r).fault) stop.1 in
+    absurd cc
