@@ -17,7 +17,7 @@ use Rattle.pnm_image.specs.Texts.{is_digit}
 use Rattle.pnm_image.specs.Packings.{packing_of}
 use Rattle.pnm_read.specs.Items.{◌>>=◌, piece_from, raw_item, gap_limit, ends_in_digit, is_complete, decimal_item, decimal_end, is_pixel, pixel_item, pixel_end, pixel_in, plain_pixel, sample_item, plain_decimal, plain_sample, after_last_item}
 use Rattle.pnm_read.specs.Said.{Said, in_turn, units_in_row, units_at, raw_row, plain_row, last_plain_row, row_by, row_at, end_said, rows_said, head_said, format_said, image_said, later_said_in, later_said, format_at, head_at, said, fault_of}
-use Rattle.pnm_read.proofs.PlainLaws.{said_from}
+use Rattle.pnm_read.proofs.RowTurns.{said_from}
 use Rattle.pnm_read.proofs.HeaderFaults.{EndsByText, FailsByText, IsJudgedByText, bind_by_text, when_by_text, piece_by_text, three_by_text, format_by_text, head_by_text}
 
 -- ---- rows

@@ -1,24 +1,21 @@
 -- The first rows of a raster: rows that are read in turn are spelled, and rows that are spelled are read in turn.
-use Rattle.std.proofs.Common.{◌≡◌, ℕ, zero, suc, ◌+◌, ◌*◌, ◌<◌, ◌≤◌, Bool, true, false, List, [], ◌∷◌, ◌++◌, length, take, drop, map, All, Ok, refl, sym, ap, subst, ◌∙◌, arith, zero-mul, suc-mul, mul-pos}
+use Rattle.std.proofs.Common.{◌≡◌, ℕ, zero, suc, ◌+◌, ◌<◌, ◌≤◌, Bool, true, false, List, [], ◌∷◌, ◌++◌, length, map, refl, sym, ap, subst, ◌∙◌, arith, mul-pos}
 use Rattle.std.specs.List.{concat}
-use Rattle.std.proofs.lemmas.List.{length-drop, length-append, length-map, nil_from_length}
-use Rattle.std.proofs.lemmas.List.Elements.{All-nil, All-append, All-drop}
+use Rattle.std.proofs.lemmas.List.{length-append, length-map}
 use Rattle.pnm_image.specs.declared.shape.Shape.{Shape}
 use Rattle.pnm_image.specs.declared.shape.Kind.{Kind}
 use Rattle.pnm_image.specs.declared.message.Message.{Message}
 use Rattle.pnm_image.specs.declared.message.Message.TheVariants.{Row}
 use Rattle.pnm_image.specs.Heads.{HeadValue, IsHead, row_length, with_height}
-use Rattle.pnm_image.specs.Images.{Image, IsImage, cut_rows, rows_of}
+use Rattle.pnm_image.specs.Images.{Image, IsImage, rows_of}
 use Rattle.pnm_image.proofs.Rows.{AreRowsOf, image_of, IsImage-image_of, rows_of-image_of, AreRowsOf-rows_of, length-rows_of}
 use Rattle.pnm_read.specs.declared.format.Format.{Format}
 use Rattle.pnm_read.specs.Texts.{begins_apart}
-use Rattle.pnm_read.specs.Rasters.{MayFollow, SpellsPlainSamples, SpellsRaw, SpellsPlain}
+use Rattle.pnm_read.specs.Rasters.{MayFollow, SpellsRaw, SpellsPlain}
 use Rattle.pnm_read.specs.Spelling.{SpellsRasterBy, SpellsRaster}
 use Rattle.pnm_read.specs.BeforeFaults.{MayFollowRows, BeginsWithRows}
-use Rattle.pnm_read.specs.Said.{Said, in_turn, row_by, row_at, rows_said}
-use Rattle.pnm_read.specs.Items.{plain_sample}
-use Rattle.pnm_read.proofs.SampleLaws.{IsInRange}
-use Rattle.pnm_read.proofs.PlainLaws.{SpellsOn, IsRead, apart_follows, spelled_samples_are_read, last_row_is_read, row_is_read, nothing_left, spells_on_append, spelled_front, read_row, read_last_row}
+use Rattle.pnm_read.specs.Said.{Said, rows_said}
+use Rattle.pnm_read.proofs.PlainLaws.{SpellsOn, apart_follows, plain_rows_in_turn, spelled_front, plain_rows_are_read, last_row_ends}
 use Rattle.pnm_read.proofs.RawLaws.{packable, raw_rows_have_bytes, raw_rows_are_read}
 use Rattle.pnm_read.proofs.SaidLaws.{row_is_row}
 use Rattle.pnm_read.proofs.RowTurns.{RowsRead, rows_count, read_rows_come_first}
@@ -78,38 +75,6 @@ raw_rows_are_spelled format head rows n text more rest raw h le read =
     record { raster = r.bytes; whole = r.whole; raster_is = subst (λ (p : Bool). SpellsRasterBy p r.bytes (first_of head rows)) (sym raw) spelled }
 
 -- ---- plain rows that are read are spelled
-
--- a row of a plain raster is a plain one
-row_at_plain : (format : Format) (s : Shape) (n : ℕ) (text : List ℕ) → format.is_plain ≡ true → row_at format s n text ≡ row_by true s n text
-row_at_plain format s n text plain = ap (λ (b : Bool). row_by b s n text) plain
-
--- a plain row that was read, and what follows the last one
-plain_row_is_read : (s : Shape) (n : ℕ) (text : List ℕ) (found : List ℕ × List ℕ) → row_by true s n text ≡ Ok found → IsRead s.kind s.maxval (row_length s) text found × (n ≡ 0 → begins_apart found.1 ≡ true)
-plain_row_is_read s zero text found e = let r = read_last_row s text found e in (r.0, λ last. r.1)
-plain_row_is_read s (suc n) text found e = (read_row s text found e, λ last. absurd (omega arith))
-
-plain_rows_are_read : (format : Format) (s : Shape) (rows : List (List ℕ)) (n : ℕ) (text : List ℕ) (more : ℕ) (rest : List ℕ) → format.is_plain ≡ true → RowsRead format s rows n text more rest
-    → IsRead s.kind s.maxval (length rows * row_length s) text (concat rows, rest)
-plain_rows_are_read format s [] n text more rest plain read = record { count = sym (zero-mul (row_length s)); range = All-nil (IsInRange s.kind s.maxval); spelled = read.1 }
-plain_rows_are_read format s (row ∷ rows) zero text more rest plain read = absurd read
-plain_rows_are_read format s (row ∷ rows) (suc n) text more rest plain read =
-    let first = (plain_row_is_read s n text (row, read.0) (sym (row_at_plain format s n text plain) ∙ read.1)).0 in
-    let others = plain_rows_are_read format s rows n read.0 more rest plain read.2 in
-    record {
-      count = omega (arith, length-append row (concat rows), first.count, others.count, suc-mul (length rows) (row_length s));
-      range = All-append (IsInRange s.kind s.maxval) row (concat rows) first.range others.range;
-      spelled = spells_on_append s.kind text row read.0 (concat rows) rest first.spelled others.spelled;
-    }
-
--- after the last row of a plain raster the text ends, or white space or # follows
-last_row_ends : (format : Format) (s : Shape) (rows : List (List ℕ)) (n : ℕ) (text : List ℕ) (more : ℕ) (rest : List ℕ) → format.is_plain ≡ true → RowsRead format s rows n text more rest → 0 < length rows → more ≡ 0 → begins_apart rest ≡ true
-last_row_ends format s [] n text more rest plain read some last = absurd (omega arith)
-last_row_ends format s (row ∷ rows) zero text more rest plain read some last = absurd read
-last_row_ends format s (row ∷ []) (suc n) text more rest plain read some last =
-    let first = plain_row_is_read s n text (row, read.0) (sym (row_at_plain format s n text plain) ∙ read.1) in
-    let none : n ≡ more = read.2.0 in
-    sym (ap begins_apart read.2.1) ∙ first.1 (omega arith)
-last_row_ends format s (row ∷ next ∷ rows) (suc n) text more rest plain read some last = last_row_ends format s (next ∷ rows) n read.0 more rest plain read.2 (omega arith) last
 
 -- after samples comes what may follow one
 sample_ends : (kind : Kind) (text samples rest : List ℕ) → SpellsOn kind text samples rest → 0 < length samples → MayFollow kind rest
@@ -172,30 +137,6 @@ read_rows_begin format head rows text more rest h read =
     }
 
 -- ---- rows that are spelled are read
-
--- a plain row whose samples are read in turn
-plain_row_by : (s : Shape) (n : ℕ) (text row left : List ℕ) → in_turn (plain_sample s.kind s.maxval) (row_length s) text ≡ Ok (row, left) → (n ≡ 0 → begins_apart left ≡ true) → row_by true s n text ≡ Ok (row, left)
-plain_row_by s zero text row left e last = last_row_is_read s text row left e (last refl)
-plain_row_by s (suc n) text row left e last = row_is_read s text (row, left) e
-
-plain_rows_in_turn : (format : Format) (s : Shape) (rows n : ℕ) (text samples : List ℕ) (more : ℕ) (rest : List ℕ) → format.is_plain ≡ true → n ≡ rows + more → length samples ≡ rows * row_length s → SpellsPlainSamples s.kind text samples
-    → All (λ sample. sample ≤ s.maxval) samples → (0 < rows → MayFollow s.kind rest) → (0 < rows → more ≡ 0 → begins_apart rest ≡ true) → RowsRead format s (cut_rows rows (row_length s) samples) n (text ++ rest) more rest
-plain_rows_in_turn format s zero n text samples more rest plain count size spelled range follows last =
-    let none : samples ≡ [] = nil_from_length samples (size ∙ zero-mul (row_length s)) in
-    (omega arith, ap (λ (t : List ℕ). t ++ rest) (nothing_left s.kind text samples none spelled))
-plain_rows_in_turn format s (suc rows) zero text samples more rest plain count size spelled range follows last = absurd (omega arith)
-plain_rows_in_turn format s (suc rows) (suc n) text samples more rest plain count size spelled range follows last =
-    let each : ℕ = row_length s in
-    let total : length samples ≡ rows * each + each = size ∙ suc-mul rows each in
-    let r = spelled_samples_are_read s.kind s.maxval each text samples rest (omega arith) spelled range (follows (omega arith)) in
-    let left : length (drop each samples) ≡ rows * each = omega (arith, length-drop each samples) in
-    let ends : n ≡ 0 → begins_apart (r.0 ++ rest) ≡ true = λ z.
-    let none : drop each samples ≡ [] = nil_from_length (drop each samples) (left ∙ ap (λ (k : ℕ). k * each) (let no_more : rows ≡ 0 = omega arith in no_more) ∙ zero-mul each) in
-    ap (λ (t : List ℕ). begins_apart (t ++ rest)) (nothing_left s.kind r.0 (drop each samples) none r.2) ∙ last (omega arith) (omega arith) in (
-      r.0 ++ rest,
-      row_at_plain format s n (text ++ rest) plain ∙ plain_row_by s n (text ++ rest) (take each samples) (r.0 ++ rest) r.1 ends,
-      plain_rows_in_turn format s rows n r.0 (drop each samples) more rest plain (omega arith) left r.2 (All-drop (λ sample. sample ≤ s.maxval) each samples range) (λ some. follows (omega arith)) (λ some none. last (omega arith) none),
-    )
 
 -- what follows rows, as it follows a sample, and the last row
 follows_rows : (kind : Kind) (rows more : ℕ) (rest : List ℕ) → MayFollowRows true kind rows more rest → 0 < rows → MayFollow kind rest

@@ -10,7 +10,7 @@ use Rattle.pnm_read.specs.Formats.{format_of}
 use Rattle.pnm_read.specs.Items.{first_magic_item, second_magic_item}
 use Rattle.pnm_read.specs.Said.{Said, then_said, ends_stream, format_at, head_at, row_by, row_at, end_said, rows_said, head_said, format_said, image_said, later_said_in, later_said}
 use Rattle.pnm_read.proofs.HeaderLaws.{header_shorter}
-use Rattle.pnm_read.proofs.PlainLaws.{said_from}
+use Rattle.pnm_read.proofs.RowTurns.{said_from}
 use Rattle.pnm_read.proofs.RawLaws.{raw_row_shorter}
 use Rattle.pnm_read.proofs.PieceLaws.{bind_ok}
 

@@ -1,6 +1,7 @@
 -- Plain rasters: of what spells an image its rows are said, and what is said without a fault spells an image.
 use Rattle.std.proofs.Common.{◌≡◌, ℕ, zero, suc, ◌+◌, ◌*◌, ◌<◌, ◌≤◌, Bool, true, List, [], ◌∷◌, ◌++◌, length, take, drop, map, All, None, Result, Ok, Err, refl, sym, ap, subst, ◌∙◌, append_assoc, length-append, length-drop, arith, zero-mul, suc-mul}
 use Rattle.std.specs.Prelude.{if◌then◌else◌}
+use Rattle.std.specs.List.{concat}
 use Rattle.std.proofs.lemmas.List.{nil_from_length}
 use Rattle.std.proofs.lemmas.List.Elements.{All-nil, All-cons, All-head, All-tail, All-append, All-drop, All-weaker}
 use Rattle.pnm_image.specs.declared.message.Message.TheVariants.{Row, ImageEnd, StreamEnd}
@@ -16,7 +17,9 @@ use Rattle.pnm_read.specs.declared.format.Format.{Format}
 use Rattle.pnm_read.specs.Texts.{begins_apart}
 use Rattle.pnm_read.specs.Rasters.{SpellsPiece, MayFollow, SpellsPlainSamples, SpellsPlain}
 use Rattle.pnm_read.specs.Items.{◌>>=◌, plain_sample, after_last_item}
-use Rattle.pnm_read.specs.Said.{Said, then_said, says_fault, end_said, in_turn, plain_row, last_plain_row, row_by, rows_said}
+use Rattle.pnm_read.specs.Said.{Said, then_said, end_said, in_turn, plain_row, last_plain_row, row_by, row_at, rows_said}
+use Rattle.pnm_read.specs.Sources.{after_messages}
+use Rattle.pnm_read.proofs.RowTurns.{RowsRead, rows_count, read_rows_are_said, all_read, no_more_to_come}
 use Rattle.pnm_read.proofs.PieceLaws.{bind_ok, done, ok_is, if_ok}
 use Rattle.pnm_read.proofs.SampleLaws.{IsInRange, spelled_piece_is_read, read_piece_is_spelled}
 
@@ -61,11 +64,11 @@ first_read kind maxval n text first more e f =
     ∙ ap (λ (r : Result (List ℕ × List ℕ) InputFault). r >>= λ y. Ok (first.0 ∷ y.0, y.1)) f
 
 -- so many samples are read, and a text is left that spells the others
-abbrev pub ReadsSamples : Kind → ℕ → ℕ → List ℕ → List ℕ → List ℕ → Type 0
+abbrev ReadsSamples : Kind → ℕ → ℕ → List ℕ → List ℕ → List ℕ → Type 0
 ReadsSamples kind maxval n text samples rest =
     (left : List ℕ) × (in_turn (plain_sample kind maxval) n (text ++ rest) ≡ Ok (take n samples, left ++ rest)) × SpellsPlainSamples kind left (drop n samples)
 
-pub spelled_samples_are_read : (kind : Kind) (maxval n : ℕ) (text samples rest : List ℕ) → n ≤ length samples → SpellsPlainSamples kind text samples → All (λ sample. sample ≤ maxval) samples → MayFollow kind rest
+spelled_samples_are_read : (kind : Kind) (maxval n : ℕ) (text samples rest : List ℕ) → n ≤ length samples → SpellsPlainSamples kind text samples → All (λ sample. sample ≤ maxval) samples → MayFollow kind rest
     → ReadsSamples kind maxval n text samples rest
 unfolding in_turn
 spelled_samples_are_read kind maxval zero text samples rest le s range follows = (text, refl, s)
@@ -81,68 +84,68 @@ spelled_samples_are_read kind maxval (suc n) text (sample ∷ samples) rest le s
 
 -- ---- rows that are spelled are said
 
--- what is said from a row on
-abbrev pub said_from : (List ℕ → Said) → Format → Shape → ℕ → Result (List ℕ × List ℕ) InputFault → Said
-said_from later format s more r = elim r [ Err fault ↦ says_fault fault | Ok row ↦ then_said (Row row.0) (rows_said later format s more row.1) ]
-
-rows_said-suc : (later : List ℕ → Said) (format : Format) (s : Shape) (more : ℕ) (text : List ℕ) → format.is_plain ≡ true → rows_said later format s (suc more) text ≡ said_from later format s more (row_by true s more text)
-unfolding rows_said
-rows_said-suc later format s more text plain = ap (λ (p : Bool). said_from later format s more (row_by p s more text)) plain
-
 -- the messages of rows, of the image's end and of the stream's end, without a fault
 abbrev pub rows_and_ends : List (List ℕ) → Said
 rows_and_ends rows = record { messages = map Row rows ++ ImageEnd ∷ StreamEnd ∷ []; fault = None }
 
--- after the last row the ends are said
-rows_said-zero : (later : List ℕ → Said) (format : Format) (s : Shape) (text : List ℕ) → format.is_plain ≡ true → rows_said later format s zero text ≡ rows_and_ends []
-unfolding rows_said end_said
-rows_said-zero later format s text plain = ap (λ (p : Bool). then_said ImageEnd (end_said later p text)) plain
-
 -- a last row that is read, with what may follow it
-pub last_row_is_read : (s : Shape) (text row rest : List ℕ) → in_turn (plain_sample s.kind s.maxval) (row_length s) text ≡ Ok (row, rest) → begins_apart rest ≡ true → last_plain_row s text ≡ Ok (row, rest)
+last_row_is_read : (s : Shape) (text row rest : List ℕ) → in_turn (plain_sample s.kind s.maxval) (row_length s) text ≡ Ok (row, rest) → begins_apart rest ≡ true → last_plain_row s text ≡ Ok (row, rest)
 unfolding last_plain_row plain_row after_last_item
 last_row_is_read s text row rest e apart =
     ap (λ (r : Result (List ℕ × List ℕ) InputFault). r >>= λ x. after_last_item x.1 >>= λ y. Ok (x.0, y)) e ∙ ap (λ (t : Bool). (if t then Ok rest else Err BadSample) >>= λ y. done (row, y)) apart
 
 -- a row that is read
-pub row_is_read : (s : Shape) (text : List ℕ) (found : List ℕ × List ℕ) → in_turn (plain_sample s.kind s.maxval) (row_length s) text ≡ Ok found → plain_row s text ≡ Ok found
+row_is_read : (s : Shape) (text : List ℕ) (found : List ℕ × List ℕ) → in_turn (plain_sample s.kind s.maxval) (row_length s) text ≡ Ok found → plain_row s text ≡ Ok found
 unfolding plain_row
 row_is_read s text found e = e
 
 -- no samples are spelled by nothing
-pub nothing_left : (kind : Kind) (text samples : List ℕ) → samples ≡ [] → SpellsPlainSamples kind text samples → text ≡ []
+nothing_left : (kind : Kind) (text samples : List ℕ) → samples ≡ [] → SpellsPlainSamples kind text samples → text ≡ []
 nothing_left kind text samples e s = subst (SpellsPlainSamples kind text) e s
 
-spelled_rows_are_said : (later : List ℕ → Said) (format : Format) (s : Shape) (rows : ℕ) (text samples rest : List ℕ) → format.is_plain ≡ true → length samples ≡ suc rows * row_length s → SpellsPlainSamples s.kind text samples
-    → All (λ sample. sample ≤ s.maxval) samples → begins_apart rest ≡ true → rows_said later format s (suc rows) (text ++ rest) ≡ rows_and_ends (cut_rows (suc rows) (row_length s) samples)
-spelled_rows_are_said later format s zero text samples rest plain count spelled range apart =
-    let each : ℕ = row_length s in
-    let total : length samples ≡ each = omega (arith, count, suc-mul zero each, zero-mul each) in
-    let r = spelled_samples_are_read s.kind s.maxval each text samples rest (omega arith) spelled range (apart_follows s.kind rest apart) in
-    let none : drop each samples ≡ [] = nil_from_length (drop each samples) (omega (arith, length-drop each samples)) in
-    let left : r.0 ++ rest ≡ rest = ap (λ (t : List ℕ). t ++ rest) (nothing_left s.kind r.0 (drop each samples) none r.2) in
-    let row : in_turn (plain_sample s.kind s.maxval) each (text ++ rest) ≡ Ok (take each samples, rest) = r.1 ∙ ap (λ (t : List ℕ). done (take each samples, t)) left in
-    rows_said-suc later format s zero (text ++ rest) plain ∙ ap (said_from later format s zero) (last_row_is_read s (text ++ rest) (take each samples) rest row apart)
-    ∙ ap (then_said (Row (take each samples))) (rows_said-zero later format s rest plain)
-spelled_rows_are_said later format s (suc rows) text samples rest plain count spelled range apart =
-    let each : ℕ = row_length s in
-    let total : length samples ≡ suc rows * each + each = count ∙ suc-mul (suc rows) each in
-    let r = spelled_samples_are_read s.kind s.maxval each text samples rest (omega arith) spelled range (apart_follows s.kind rest apart) in
-    let count_left : length (drop each samples) ≡ suc rows * each = omega (arith, length-drop each samples) in
-    let others = spelled_rows_are_said later format s rows r.0 (drop each samples) rest plain count_left r.2 (All-drop (λ sample. sample ≤ s.maxval) each samples range) apart in
-    rows_said-suc later format s (suc rows) (text ++ rest) plain ∙ ap (said_from later format s (suc rows)) (row_is_read s (text ++ rest) (take each samples, r.0 ++ rest) r.1)
-    ∙ ap (then_said (Row (take each samples))) others
+-- a row of a plain raster is a plain one
+row_at_plain : (format : Format) (s : Shape) (n : ℕ) (text : List ℕ) → format.is_plain ≡ true → row_at format s n text ≡ row_by true s n text
+row_at_plain format s n text plain = ap (λ (b : Bool). row_by b s n text) plain
 
-rows_by_count : (later : List ℕ → Said) (format : Format) (s : Shape) (rows : ℕ) (text samples rest : List ℕ) → 0 < rows → format.is_plain ≡ true → length samples ≡ rows * row_length s → SpellsPlainSamples s.kind text samples
-    → All (λ sample. sample ≤ s.maxval) samples → begins_apart rest ≡ true → rows_said later format s rows (text ++ rest) ≡ rows_and_ends (cut_rows rows (row_length s) samples)
-rows_by_count later format s zero text samples rest some plain count spelled range apart = absurd (omega arith)
-rows_by_count later format s (suc rows) text samples rest some plain count spelled range apart = spelled_rows_are_said later format s rows text samples rest plain count spelled range apart
+-- a plain row whose samples are read in turn
+plain_row_by : (s : Shape) (n : ℕ) (text row left : List ℕ) → in_turn (plain_sample s.kind s.maxval) (row_length s) text ≡ Ok (row, left) → (n ≡ 0 → begins_apart left ≡ true) → row_by true s n text ≡ Ok (row, left)
+plain_row_by s zero text row left e last = last_row_is_read s text row left e (last refl)
+plain_row_by s (suc n) text row left e last = row_is_read s text (row, left) e
+
+-- rows that are spelled are read in turn
+pub plain_rows_in_turn : (format : Format) (s : Shape) (rows n : ℕ) (text samples : List ℕ) (more : ℕ) (rest : List ℕ) → format.is_plain ≡ true → n ≡ rows + more → length samples ≡ rows * row_length s → SpellsPlainSamples s.kind text samples
+    → All (λ sample. sample ≤ s.maxval) samples → (0 < rows → MayFollow s.kind rest) → (0 < rows → more ≡ 0 → begins_apart rest ≡ true) → RowsRead format s (cut_rows rows (row_length s) samples) n (text ++ rest) more rest
+plain_rows_in_turn format s zero n text samples more rest plain count size spelled range follows last =
+    let none : samples ≡ [] = nil_from_length samples (size ∙ zero-mul (row_length s)) in
+    (omega arith, ap (λ (t : List ℕ). t ++ rest) (nothing_left s.kind text samples none spelled))
+plain_rows_in_turn format s (suc rows) zero text samples more rest plain count size spelled range follows last = absurd (omega arith)
+plain_rows_in_turn format s (suc rows) (suc n) text samples more rest plain count size spelled range follows last =
+    let each : ℕ = row_length s in
+    let total : length samples ≡ rows * each + each = size ∙ suc-mul rows each in
+    let r = spelled_samples_are_read s.kind s.maxval each text samples rest (omega arith) spelled range (follows (omega arith)) in
+    let left : length (drop each samples) ≡ rows * each = omega (arith, length-drop each samples) in
+    let ends : n ≡ 0 → begins_apart (r.0 ++ rest) ≡ true = λ z.
+    let none : drop each samples ≡ [] = nil_from_length (drop each samples) (left ∙ ap (λ (k : ℕ). k * each) (let no_more : rows ≡ 0 = omega arith in no_more) ∙ zero-mul each) in
+    ap (λ (t : List ℕ). begins_apart (t ++ rest)) (nothing_left s.kind r.0 (drop each samples) none r.2) ∙ last (omega arith) (omega arith) in (
+      r.0 ++ rest,
+      row_at_plain format s n (text ++ rest) plain ∙ plain_row_by s n (text ++ rest) (take each samples) (r.0 ++ rest) r.1 ends,
+      plain_rows_in_turn format s rows n r.0 (drop each samples) more rest plain (omega arith) left r.2 (All-drop (λ sample. sample ≤ s.maxval) each samples range) (λ some. follows (omega arith)) (λ some none. last (omega arith) none),
+    )
+
+-- after all rows come the ends
+after_rows : (later : List ℕ → Said) (format : Format) (s : Shape) (rows : List (List ℕ)) (rest : List ℕ) → format.is_plain ≡ true → after_messages (map Row rows) (rows_said later format s zero rest) ≡ rows_and_ends rows
+unfolding rows_said end_said
+after_rows later format s [] rest plain = ap (λ (p : Bool). then_said ImageEnd (end_said later p rest)) plain
+after_rows later format s (row ∷ rows) rest plain = ap (then_said (Row row)) (after_rows later format s rows rest plain)
 
 -- of a raster that spells an image the rows are said, and the ends
 pub spelled_plain_is_said : (later : List ℕ → Said) (format : Format) (raster rest : List ℕ) (image : Image) → format.is_plain ≡ true → image.head.shape.kind ≡ format.kind → 0 < image.head.shape.height → SpellsPlain raster image → begins_apart rest ≡ true
     → rows_said later format image.head.shape image.head.shape.height (raster ++ rest) ≡ record { messages = map Row (rows_of image) ++ ImageEnd ∷ StreamEnd ∷ []; fault = None }
 spelled_plain_is_said later format raster rest image plain kind some s apart =
-    rows_by_count later format image.head.shape image.head.shape.height raster image.samples rest some plain s.sound.count s.samples s.sound.range apart
+    let shape : Shape = image.head.shape in
+    let height : ℕ = shape.height in
+    let read = plain_rows_in_turn format shape height height raster image.samples zero rest plain (omega arith) s.sound.count s.samples s.sound.range (λ _. apart_follows shape.kind rest apart) (λ _ _. apart) in
+    read_rows_are_said later format shape (rows_of image) height (raster ++ rest) zero rest read ∙ after_rows later format shape (rows_of image) rest plain
 
 -- ---- samples that are read are spelled
 
@@ -152,7 +155,7 @@ SpellsOn kind text [] rest = text ≡ rest
 SpellsOn kind text (sample ∷ samples) rest = (piece : List ℕ) × (left : List ℕ) × (text ≡ piece ++ left) × SpellsPiece kind piece sample × MayFollow kind left × SpellsOn kind left samples rest
 
 -- samples, and samples in the rest
-pub spells_on_append : (kind : Kind) (text xs middle ys rest : List ℕ) → SpellsOn kind text xs middle → SpellsOn kind middle ys rest → SpellsOn kind text (xs ++ ys) rest
+spells_on_append : (kind : Kind) (text xs middle ys rest : List ℕ) → SpellsOn kind text xs middle → SpellsOn kind middle ys rest → SpellsOn kind text (xs ++ ys) rest
 spells_on_append kind text [] middle ys rest s t = subst (λ (u : List ℕ). SpellsOn kind u ys rest) (sym s) t
 spells_on_append kind text (x ∷ xs) middle ys rest s t = (s.0, s.1, s.2, s.3, s.4, spells_on_append kind s.1 xs middle ys rest s.5 t)
 
@@ -192,17 +195,11 @@ read_samples_are_spelled kind maxval (suc n) text found e =
 
 -- ---- rows that are said are spelled
 
--- where a row is said without a fault, it was read, and the rest has no fault
-pub row_without_fault : (later : List ℕ → Said) (format : Format) (s : Shape) (more : ℕ) (r : Result (List ℕ × List ℕ) InputFault) → (said_from later format s more r).fault ≡ None
-    → (row : List ℕ × List ℕ) × (r ≡ Ok row) × ((rows_said later format s more row.1).fault ≡ None)
-row_without_fault later format s more (Ok row) e = (row, refl, e)
-row_without_fault later format s more (Err fault) e = absurd cc
-
-pub read_row : (s : Shape) (text : List ℕ) (row : List ℕ × List ℕ) → plain_row s text ≡ Ok row → IsRead s.kind s.maxval (row_length s) text row
+read_row : (s : Shape) (text : List ℕ) (row : List ℕ × List ℕ) → plain_row s text ≡ Ok row → IsRead s.kind s.maxval (row_length s) text row
 unfolding plain_row
 read_row s text row e = read_samples_are_spelled s.kind s.maxval (row_length s) text row e
 
-pub read_last_row : (s : Shape) (text : List ℕ) (row : List ℕ × List ℕ) → last_plain_row s text ≡ Ok row → IsRead s.kind s.maxval (row_length s) text row × (begins_apart row.1 ≡ true)
+read_last_row : (s : Shape) (text : List ℕ) (row : List ℕ × List ℕ) → last_plain_row s text ≡ Ok row → IsRead s.kind s.maxval (row_length s) text row × (begins_apart row.1 ≡ true)
 unfolding last_plain_row after_last_item
 read_last_row s text row e =
     let a = bind_ok (plain_row s text) (λ x. after_last_item x.1 >>= λ y. Ok (x.0, y)) row e in
@@ -211,37 +208,33 @@ read_last_row s text row e =
     let same : a.0 ≡ row = ap (λ (t : List ℕ). (a.0.0, t)) c.1 ∙ ok_is (a.0.0, b.0) row b.2 in
     (subst (IsRead s.kind s.maxval (row_length s) text) same (read_row s text a.0 a.1), subst (λ (f : List ℕ × List ℕ). begins_apart f.1 ≡ true) same c.0)
 
--- rows that were read, and what may follow them
-abbrev AreRead : Shape → ℕ → List ℕ → List ℕ × List ℕ → Type 0
-AreRead s rows text found = IsRead s.kind s.maxval (rows * row_length s) text found × (begins_apart found.1 ≡ true)
+-- a plain row that was read, and what follows the last one
+plain_row_is_read : (s : Shape) (n : ℕ) (text : List ℕ) (found : List ℕ × List ℕ) → row_by true s n text ≡ Ok found → IsRead s.kind s.maxval (row_length s) text found × (n ≡ 0 → begins_apart found.1 ≡ true)
+plain_row_is_read s zero text found e = let r = read_last_row s text found e in (r.0, λ last. r.1)
+plain_row_is_read s (suc n) text found e = (read_row s text found e, λ last. absurd (omega arith))
 
-said_rows_are_read : (later : List ℕ → Said) (format : Format) (s : Shape) (rows : ℕ) (text : List ℕ) → format.is_plain ≡ true → (rows_said later format s (suc rows) text).fault ≡ None → (found : List ℕ × List ℕ) × AreRead s (suc rows) text found
-said_rows_are_read later format s zero text plain e =
-    let each : ℕ = row_length s in
-    let row = row_without_fault later format s zero (row_by true s zero text) (sym (ap (λ (x : Said). x.fault) (rows_said-suc later format s zero text plain)) ∙ e) in
-    let last = read_last_row s text row.0 row.1 in
-    let one : suc zero * each ≡ each = omega (arith, suc-mul zero each, zero-mul each) in
-    (row.0, (record { count = last.0.count ∙ sym one; range = last.0.range; spelled = last.0.spelled }, last.1))
-said_rows_are_read later format s (suc rows) text plain e =
-    let each : ℕ = row_length s in
-    let row = row_without_fault later format s (suc rows) (row_by true s (suc rows) text) (sym (ap (λ (x : Said). x.fault) (rows_said-suc later format s (suc rows) text plain)) ∙ e) in
-    let first = read_row s text row.0 row.1 in
-    let others = said_rows_are_read later format s rows row.0.1 plain row.2 in
-    let count : length (row.0.0 ++ others.0.0) ≡ suc (suc rows) * each = omega (arith, length-append row.0.0 others.0.0, first.count, others.1.0.count, suc-mul (suc rows) each) in (
-      (row.0.0 ++ others.0.0, others.0.1),
-      (
-        record {
-          count = count;
-          range = All-append (IsInRange s.kind s.maxval) row.0.0 others.0.0 first.range others.1.0.range;
-          spelled = spells_on_append s.kind text row.0.0 row.0.1 others.0.0 others.0.1 first.spelled others.1.0.spelled;
-        },
-        others.1.1,
-      ),
-    )
+pub plain_rows_are_read : (format : Format) (s : Shape) (rows : List (List ℕ)) (n : ℕ) (text : List ℕ) (more : ℕ) (rest : List ℕ) → format.is_plain ≡ true → RowsRead format s rows n text more rest
+    → IsRead s.kind s.maxval (length rows * row_length s) text (concat rows, rest)
+plain_rows_are_read format s [] n text more rest plain read = record { count = sym (zero-mul (row_length s)); range = All-nil (IsInRange s.kind s.maxval); spelled = read.1 }
+plain_rows_are_read format s (row ∷ rows) zero text more rest plain read = absurd read
+plain_rows_are_read format s (row ∷ rows) (suc n) text more rest plain read =
+    let first = (plain_row_is_read s n text (row, read.0) (sym (row_at_plain format s n text plain) ∙ read.1)).0 in
+    let others = plain_rows_are_read format s rows n read.0 more rest plain read.2 in
+    record {
+      count = omega (arith, length-append row (concat rows), first.count, others.count, suc-mul (length rows) (row_length s));
+      range = All-append (IsInRange s.kind s.maxval) row (concat rows) first.range others.range;
+      spelled = spells_on_append s.kind text row read.0 (concat rows) rest first.spelled others.spelled;
+    }
 
-read_by_count : (later : List ℕ → Said) (format : Format) (s : Shape) (rows : ℕ) (text : List ℕ) → 0 < rows → format.is_plain ≡ true → (rows_said later format s rows text).fault ≡ None → (found : List ℕ × List ℕ) × AreRead s rows text found
-read_by_count later format s zero text some plain e = absurd (omega arith)
-read_by_count later format s (suc rows) text some plain e = said_rows_are_read later format s rows text plain e
+-- after the last row of a plain raster the text ends, or white space or # follows
+pub last_row_ends : (format : Format) (s : Shape) (rows : List (List ℕ)) (n : ℕ) (text : List ℕ) (more : ℕ) (rest : List ℕ) → format.is_plain ≡ true → RowsRead format s rows n text more rest → 0 < length rows → more ≡ 0 → begins_apart rest ≡ true
+last_row_ends format s [] n text more rest plain read some last = absurd (omega arith)
+last_row_ends format s (row ∷ rows) zero text more rest plain read some last = absurd read
+last_row_ends format s (row ∷ []) (suc n) text more rest plain read some last =
+    let first = plain_row_is_read s n text (row, read.0) (sym (row_at_plain format s n text plain) ∙ read.1) in
+    let none : n ≡ more = read.2.0 in
+    sym (ap begins_apart read.2.1) ∙ first.1 (omega arith)
+last_row_ends format s (row ∷ next ∷ rows) (suc n) text more rest plain read some last = last_row_ends format s (next ∷ rows) n read.0 more rest plain read.2 (omega arith) last
 
 -- a sample in its kind's range is up to the maxval
 range_by : (kind : Kind) (depth maxval : ℕ) (tuple_type : List ℕ) (sample : ℕ) → Suits kind depth maxval tuple_type → IsInRange kind maxval sample → sample ≤ maxval
@@ -272,13 +265,18 @@ pub said_plain_is_spelled : (later : List ℕ → Said) (format : Format) (head 
     × ((rows_said later format head.shape head.shape.height text).messages ≡ map Row (rows_of image) ++ ImageEnd ∷ StreamEnd ∷ [])
 said_plain_is_spelled later format head text plain kind h some e =
     let s : Shape = head.shape in
-    let r = read_by_count later format s s.height text some plain e in
-    let samples : List ℕ = r.0.0 in
-    let rest : List ℕ = r.0.1 in
-    let f = spelled_front s.kind text samples rest r.1.0.spelled in
+    let r = all_read format s s.height text in
+    let none : r.more ≡ zero = no_more_to_come later format s r.rows s.height text r.more r.rest r.read r.stop e in
+    let read = subst (λ (k : ℕ). RowsRead format s r.rows s.height text k r.rest) none r.read in
+    let is = plain_rows_are_read format s r.rows s.height text zero r.rest plain read in
+    let height : length r.rows ≡ s.height = omega (arith, rows_count format s r.rows s.height text zero r.rest read) in
+    let apart = last_row_ends format s r.rows s.height text zero r.rest plain read (omega arith) refl in
+    let samples : List ℕ = concat r.rows in
+    let rest : List ℕ = r.rest in
+    let f = spelled_front s.kind text samples rest is.spelled in
     let range : All (λ sample. sample ≤ s.maxval) samples =
-    All-weaker (IsInRange s.kind s.maxval) (λ sample. sample ≤ s.maxval) (λ sample i. range_by s.kind s.depth s.maxval head.tuple_type sample h.suits i) samples r.1.0.range in
+    All-weaker (IsInRange s.kind s.maxval) (λ sample. sample ≤ s.maxval) (λ sample i. range_by s.kind s.depth s.maxval head.tuple_type sample h.suits i) samples is.range in
     let image : Image = record { head = head; samples = samples } in
-    let spelled : SpellsPlain f.0 image = record { sound = record { head = h; count = r.1.0.count; range = range }; samples = f.2 } in
-    let said = ap (rows_said later format s s.height) f.1 ∙ spelled_plain_is_said later format f.0 rest image plain kind some spelled r.1.1 in
-    (image, f.0, rest, f.1, refl, spelled, r.1.1, ap (λ (x : Said). x.messages) said)
+    let spelled : SpellsPlain f.0 image = record { sound = record { head = h; count = is.count ∙ ap (λ (n : ℕ). n * row_length s) height; range = range }; samples = f.2 } in
+    let said = ap (rows_said later format s s.height) f.1 ∙ spelled_plain_is_said later format f.0 rest image plain kind some spelled apart in
+    (image, f.0, rest, f.1, refl, spelled, apart, ap (λ (x : Said). x.messages) said)

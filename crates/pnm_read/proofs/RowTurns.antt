@@ -4,10 +4,9 @@ use Rattle.pnm_image.specs.declared.shape.Shape.{Shape}
 use Rattle.pnm_image.specs.declared.message.Message.TheVariants.{Row}
 use Rattle.pnm_read.specs.declared.fault.InputFault.{InputFault}
 use Rattle.pnm_read.specs.declared.format.Format.{Format}
-use Rattle.pnm_read.specs.Said.{Said, then_said, end_said, row_at, rows_said}
+use Rattle.pnm_read.specs.Said.{Said, then_said, says_fault, end_said, row_at, rows_said}
 use Rattle.pnm_read.specs.Sources.{after_messages}
 use Rattle.pnm_read.proofs.GivenLaws.{messages_after, fault_after}
-use Rattle.pnm_read.proofs.PlainLaws.{said_from}
 
 -- these rows are read in turn of a text, where n are to come; after them some more are, and a rest is left
 abbrev pub RowsRead : Format → Shape → List (List ℕ) → ℕ → List ℕ → ℕ → List ℕ → Type 0
@@ -22,6 +21,10 @@ rows_count format s (row ∷ rows) zero text more rest read = absurd read
 rows_count format s (row ∷ rows) (suc n) text more rest read = omega (arith, rows_count format s rows n read.0 more rest read.2)
 
 -- ---- what is said
+
+-- what is said from a row on
+abbrev pub said_from : (List ℕ → Said) → Format → Shape → ℕ → Result (List ℕ × List ℕ) InputFault → Said
+said_from later format s more r = elim r [ Err fault ↦ says_fault fault | Ok row ↦ then_said (Row row.0) (rows_said later format s more row.1) ]
 
 -- rows that are read are said, and then what is said of the rest
 pub read_rows_are_said : (later : List ℕ → Said) (format : Format) (s : Shape) (rows : List (List ℕ)) (n : ℕ) (text : List ℕ) (more : ℕ) (rest : List ℕ) → RowsRead format s rows n text more rest

@@ -10,7 +10,8 @@ use Rattle.pnm_read.specs.declared.fault.InputFault.{InputFault}
 use Rattle.pnm_read.specs.declared.format.Format.{Format}
 use Rattle.pnm_read.specs.Said.{Said, row_by, row_at, end_said, format_at, head_at, rows_said, head_said, format_said, image_said, later_said_in, later_said, said, said_of, fault_of}
 use Rattle.pnm_read.proofs.HeaderLaws.{read_header_is_spelled, spelled_head}
-use Rattle.pnm_read.proofs.PlainLaws.{said_from, plain_row_is_row, last_plain_row_is_row}
+use Rattle.pnm_read.proofs.PlainLaws.{plain_row_is_row, last_plain_row_is_row}
+use Rattle.pnm_read.proofs.RowTurns.{said_from}
 use Rattle.pnm_read.proofs.RawLaws.{raw_row_is_row}
 use Rattle.pnm_read.proofs.TextLaws.{said_text_is_spelled}
 

@@ -20,7 +20,7 @@ use Rattle.pnm_read.specs.Said.{Said, row_at, end_said, format_at, head_at, rows
 use Rattle.pnm_read.specs.Sources.{reader_of, stopped_by, due, MayGive, SeesEnd, MayGiveMore, HasGiven}
 use Rattle.pnm_read.proofs.FaultLaws.{fault_is_of_text}
 use Rattle.pnm_read.proofs.HeaderLaws.{read_header_is_spelled, spelled_head}
-use Rattle.pnm_read.proofs.PlainLaws.{said_from}
+use Rattle.pnm_read.proofs.RowTurns.{said_from}
 use Rattle.pnm_read.proofs.SaidLaws.{read_head_is_header}
 use Rattle.pnm_read.proofs.GivenLaws.{messages_after, fault_after}
 
