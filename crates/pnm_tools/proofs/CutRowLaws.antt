@@ -39,19 +39,20 @@ moved xs f m long le =
     ap (λ (k : ℕ). take k (paste xs 0 (drop f xs) n)) on ∙ take-paste xs 0 (drop f xs) n (omega arith) (omega arith) ∙ take_all n (drop f xs) (omega arith)
 
 -- the front is cut off, and what is kept moved there
-pub kept_in_place : (columns : Span) (depth : ℕ) (row front copied new : List ℕ) (count : ℕ) → KeepsWithin columns depth row → front ≡ take ((columns.last + 1) * depth) row → count ≡ length front
+pub kept_in_place : (columns : Span) (depth : ℕ) (row front copied new : List ℕ) (count m : ℕ) → KeepsWithin columns depth row → front ≡ take m row → m ≡ (columns.last + 1) * depth → count ≡ length front
     → copied ≡ copy_within front (columns.first * depth) count 0 → new ≡ take (count - columns.first * depth) copied → new ≡ columns_of_row columns depth row
-kept_in_place columns depth row front copied new count h fronts counted copy end =
+kept_in_place columns depth row front copied new count m h is size counted copy end =
     let f : ℕ = columns.first * depth in
+    let fronts : front ≡ take ((columns.last + 1) * depth) row = is ∙ ap (λ (n : ℕ). take n row) size in
     let within : f ≤ (columns.last + 1) * depth = omega (arith, both_parts columns.first columns.last depth h.0) in
     let long : length front ≡ (columns.last + 1) * depth = ap length fronts ∙ length-take-le ((columns.last + 1) * depth) row h.1 in
     end ∙ ap (take (count - f)) copy ∙ moved front f count (sym counted) (omega arith) ∙ ap (drop f) fronts ∙ rest_is_kept columns depth row h
 
 -- where nothing lies before what is kept
-pub kept_at_front : (columns : Span) (depth : ℕ) (row new : List ℕ) → KeepsWithin columns depth row → new ≡ take ((columns.last + 1) * depth) row → columns.first * depth ≤ 0 → new ≡ columns_of_row columns depth row
-kept_at_front columns depth row new h is none =
+pub kept_at_front : (columns : Span) (depth : ℕ) (row new : List ℕ) (m : ℕ) → KeepsWithin columns depth row → new ≡ take m row → m ≡ (columns.last + 1) * depth → columns.first * depth ≤ 0 → new ≡ columns_of_row columns depth row
+kept_at_front columns depth row new m h is size none =
     let zero_first : 0 ≡ columns.first * depth = omega arith in
-    is ∙ ap (λ (n : ℕ). drop n (take ((columns.last + 1) * depth) row)) zero_first ∙ rest_is_kept columns depth row h
+    is ∙ ap (λ (n : ℕ). take n row) size ∙ ap (λ (n : ℕ). drop n (take ((columns.last + 1) * depth) row)) zero_first ∙ rest_is_kept columns depth row h
 
 -- ---- spans
 

@@ -19,10 +19,12 @@ repeated_more start before now pixel n i was is all =
     ∙ ap (λ (l : List ℕ). start ++ l) (sym (flat_map_one_more (λ _. pixel) 0 n n (omega arith)))
 
 -- one column more
-pub column_more : (across depth : ℕ) (row before now : List ℕ) (x n m : ℕ) → before ≡ flat_map (λ x. repeated across (pixel_of depth row x)) (range_with_len 0 x)
-    → now ≡ before ++ repeated n (take m (drop (x * depth) row)) → n ≡ across → m ≡ depth → now ≡ flat_map (λ x. repeated across (pixel_of depth row x)) (range_with_len 0 (x + 1))
-column_more across depth row before now x n m was is times size =
-    is ∙ ap (λ (k : ℕ). before ++ repeated k (take m (drop (x * depth) row))) times ∙ ap (λ (k : ℕ). before ++ repeated across (take k (drop (x * depth) row))) size
+pub column_more : (across depth : ℕ) (row before now : List ℕ) (x n k m : ℕ) → before ≡ flat_map (λ x. repeated across (pixel_of depth row x)) (range_with_len 0 x)
+    → now ≡ before ++ repeated n (take m (drop k row)) → n ≡ across → k ≡ x * depth → m ≡ depth → now ≡ flat_map (λ x. repeated across (pixel_of depth row x)) (range_with_len 0 (x + 1))
+column_more across depth row before now x n k m was is times at size =
+    is ∙ ap (λ (j : ℕ). before ++ repeated j (take m (drop k row))) times
+    ∙ ap (λ (j : ℕ). before ++ repeated across (take m (drop j row))) at
+    ∙ ap (λ (k : ℕ). before ++ repeated across (take k (drop (x * depth) row))) size
     ∙ ap (λ (l : List ℕ). l ++ repeated across (pixel_of depth row x)) was ∙ sym (flat_map_one_more (λ x. repeated across (pixel_of depth row x)) 0 x x (omega arith))
 
 -- the first columns, each pixel once

@@ -58,9 +58,9 @@ pixel_reversed width depth row x below count =
 
 -- the first pixel of the rest is turned back
 pub pixel_more : (width depth : ℕ) (row : List ℕ) (x m : ℕ) (samples turned : List ℕ) → x < width → length row ≡ width * depth → length samples ≡ length row
-    → samples ≡ last_pixels width depth row x ++ drop (x * depth) (reverse row) → m ≡ depth → turned ≡ reverse (take m (drop (x * depth) samples))
+    → samples ≡ last_pixels width depth row x ++ drop (x * depth) (reverse row) → turned ≡ reverse (take m (drop (x * depth) samples)) → m ≡ depth
     → put_mid (x * depth) m samples turned ≡ last_pixels width depth row (x + 1) ++ drop ((x + 1) * depth) (reverse row)
-pixel_more width depth row x m samples turned below count same is size made =
+pixel_more width depth row x m samples turned below count same is made size =
     let n : ℕ = x * depth in
     let front : List ℕ = last_pixels width depth row x in
     let back : List ℕ = drop n (reverse row) in

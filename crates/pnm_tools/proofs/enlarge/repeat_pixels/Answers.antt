@@ -1,4 +1,4 @@
-use Rattle.std.proofs.Common.{◌≡◌, ◌+◌, ◌-◌, ◌*◌, take, drop, replicate, arith}
+use Rattle.std.proofs.Common.{◌≡◌, replicate, arith}
 use Rattle.std.specs.List.{flat_map}
 use Rattle.std.proofs.lemmas.Result.{IfOk-weaker}
 use Rattle.pnm_tools.specs.Enlarge.{enlarged_row}
@@ -13,13 +13,8 @@ returns-then-shape-eq1-clause-made c =
 
 pub loop-preserved : goal.loop-preserved
 loop-preserved c =
-    let x = c.loop-x.x in
-    let depth = c.args.shape.depth in
-    let pixel = take ((x + 1) * depth - x * depth) (drop (x * depth) c.args.row.now) in
-    repeated_more c.loop-x.enlarged.items c.loop.enlarged.items c.loop-sample.enlarged.items pixel c.loop.counter c.loop-sample.sample-index c.loop.invariant c.loop-sample.invariant c.loop-sample-test.false
+    repeated_more c.loop-x.enlarged.items c.loop.enlarged.items c.loop-sample.enlarged.items _ c.loop.counter c.loop-sample.sample-index c.loop.invariant c.loop-sample.invariant c.loop-sample-test.false
 
 pub loop-x-preserved : goal.loop-x-preserved
 loop-x-preserved c =
-    let x = c.loop-x.x in
-    let depth = c.args.shape.depth in
-    column_more c.args.across depth c.args.row.now c.loop-x.enlarged.items c.loop.enlarged.items x c.loop.counter ((x + 1) * depth - x * depth) c.loop-x.invariant c.loop.invariant (omega arith) (omega arith)
+    column_more c.args.across c.args.shape.depth c.args.row.now c.loop-x.enlarged.items c.loop.enlarged.items c.loop-x.x c.loop.counter _ _ c.loop-x.invariant c.loop.invariant (omega arith) (omega arith) (omega arith)
