@@ -7,7 +7,7 @@ CRATES := $(LIBRARIES) pnmpipe
 .PHONY: all program check test help toolchain controls refused-growth $(LIBRARIES)
 
 all: toolchain
-	$(MAKE) --jobs=2 --output-sync=target program
+	$(MAKE) --jobs=3 --output-sync=target program
 
 program: pnm_chain pnm_flow
 	mkdir -p bin
@@ -16,12 +16,12 @@ program: pnm_chain pnm_flow
 	rm bin/stored-run
 	cp $(PROGRAM)/out/pnmpipe bin/pnmpipe
 
-# each library once those below it stand, two side by side
+# each library once those below it stand, side by side: one job each, since two jobs of one check share little
 pnm_image:
 	cd crates/$@ && rt lib
 
 $(filter-out pnm_image,$(LIBRARIES)):
-	cd crates/$@ && rt lib --jobs 2
+	cd crates/$@ && rt lib --jobs 1
 
 pnm_read pnm_tools: pnm_image
 pnm_write: pnm_read
