@@ -36,7 +36,7 @@ for control in crates/${CRATE:-*}/controls/*.edit; do
     folder=${control%/controls/*}
     [ -e "$folder/must-fail/$(basename "$control")" ] || { echo "$control: no must-fail edit has its name"; failed=$((failed + 1)); }
     applied "$control" "$work/tree/$folder"
-    if (cd "$work/tree/$folder" && rt check) > "$work/log" 2>&1; then
+    if (cd "$work/tree/$folder" && rt check --jobs 1) > "$work/log" 2>&1; then
         echo "$control: proved, as it must be"
     else
         grep -v '^statements\|: proved$' "$work/log" | tail -n 20

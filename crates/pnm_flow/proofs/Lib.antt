@@ -7,3 +7,4 @@ pub mod ToolSteps
 pub mod CountLaws
 pub mod RunSteps
 pub mod EndSteps
+pub mod RefusalExample

@@ -1,16 +1,20 @@
 -- Small texts, the images that are said of them, and the bytes due for these from small chains.
-use Rattle.std.specs.Prelude.{◌≡◌, ℕ, List, [], ◌∷◌, ◌++◌, Some, None, negsuc, codes}
+use Rattle.std.specs.Prelude.{◌≡◌, ℕ, List, [], ◌∷◌, ◌++◌, Some, None, Err, pos, negsuc, codes}
 use Rattle.pnm_image.specs.declared.shape.Kind.{Kind}
 use Rattle.pnm_image.specs.declared.shape.Kind.TheVariants.{Bit, Gray, Color}
 use Rattle.pnm_image.specs.Images.{Image, messages_of_stream}
 use Rattle.pnm_read.specs.Said.{said_of}
 use Rattle.pnm_tools.specs.declared.cut.CutBox.{CutBox}
+use Rattle.pnm_tools.specs.declared.fault.ToolFault.TheVariants.{CutOutside}
 use Rattle.pnm_tools.specs.declared.tool.Tool.{Tool}
 use Rattle.pnm_tools.specs.declared.flip.FlipWay.TheVariants.{LeftRight, TopBottom, Transpose}
 use Rattle.pnm_tools.specs.declared.tool.Tool.TheVariants.{Invert, Cut, Depth, Channel, Enlarge, Flip, Tile}
 use Rattle.pnm_tools.specs.Channel.{picks}
 use Rattle.pnm_tools.specs.Chains.{due_in_turn}
 use Rattle.pnm_write.specs.Encoding.{bytes_of}
+use Rattle.pnm_flow.specs.declared.fault.RunFault.TheVariants.{Tool as OfTool}
+use Rattle.pnm_flow.specs.declared.summary.Summary.{Summary}
+use Rattle.pnm_flow.specs.Runs.{IsAllWritten}
 
 abbrev pub image : Kind → ℕ → ℕ → ℕ → ℕ → List ℕ → Image
 image kind width height depth maxval samples = record { head = record { shape = record { kind = kind; width = width; height = height; depth = depth; maxval = maxval }; tuple_type = [] }; samples = samples }
@@ -39,3 +43,19 @@ pub record ExamplesHold : Type 0 where
   pub top_bottom : IsExample (codes "P6\n1 2\n255\nABCDEF") (Flip TopBottom ∷ []) (image Color 1 2 3 255 (65 ∷ 66 ∷ 67 ∷ 68 ∷ 69 ∷ 70 ∷ []) ∷ []) (codes "P6\n1 2\n255\nDEFABC")
   pub transposed : IsExample (codes "P5\n2 3\n9\n" ++ 1 ∷ 2 ∷ 3 ∷ 4 ∷ 5 ∷ 6 ∷ []) (Flip Transpose ∷ []) (image Gray 2 3 1 9 (1 ∷ 2 ∷ 3 ∷ 4 ∷ 5 ∷ 6 ∷ []) ∷ []) (codes "P5\n3 2\n9\n" ++ 1 ∷ 3 ∷ 5 ∷ 2 ∷ 4 ∷ 6 ∷ [])
   pub tiled : IsExample (codes "P5\n2 2\n9\n" ++ 1 ∷ 2 ∷ 3 ∷ 4 ∷ []) (Tile 3 3 ∷ []) (image Gray 2 2 1 9 (1 ∷ 2 ∷ 3 ∷ 4 ∷ []) ∷ []) (codes "P5\n3 3\n9\n" ++ 1 ∷ 2 ∷ 1 ∷ 3 ∷ 4 ∷ 3 ∷ 1 ∷ 2 ∷ 1 ∷ [])
+
+-- ---- a refused image
+
+-- from the second column on
+abbrev pub from_second : CutBox
+from_second = record { left = Some (pos 1); right = None; top = None; bottom = None; width = None; height = None }
+
+-- an image of two columns, and one of a single column, which has no second one
+abbrev pub wide_then_narrow : List Image
+wide_then_narrow = image Gray 2 1 1 9 (1 ∷ 2 ∷ []) ∷ image Gray 1 1 1 9 (3 ∷ []) ∷ []
+
+-- where these are said and the second is refused, all that was due begins with the result of the first
+abbrev pub ResultBeforeRefusalIsWritten : Type 0
+ResultBeforeRefusalIsWritten = (text old new : List ℕ) → said_of text ≡ messages_of_stream wide_then_narrow
+    → IsAllWritten {A = Summary} text (Cut from_second ∷ []) (Err (OfTool 1 CutOutside)) (Some old) (Some new)
+    → (rest : List ℕ) × (new ≡ old ++ (codes "P5\n1 1\n9\n" ++ 2 ∷ rest))
