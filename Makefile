@@ -3,7 +3,6 @@
 PROGRAM := crates/pnmpipe
 LIBRARIES := pnm_image pnm_read pnm_tools pnm_write pnm_chain pnm_flow
 CRATES := $(LIBRARIES) pnmpipe
-JOBS := 1
 
 .PHONY: all program check test help toolchain controls refused-growth $(LIBRARIES)
 
@@ -17,14 +16,13 @@ program: pnm_chain pnm_flow
 	rm bin/stored-run
 	cp $(PROGRAM)/out/pnmpipe bin/pnmpipe
 
-# each library once those below it stand, side by side, most with one job, since two jobs of a check share little
+# each library once those below it stand, side by side, with one job each, since two jobs of a check share little
 pnm_image:
 	cd crates/$@ && rt lib
 
 $(filter-out pnm_image,$(LIBRARIES)):
-	cd crates/$@ && rt lib --jobs $(JOBS)
+	cd crates/$@ && rt lib --jobs 1
 
-pnm_tools: JOBS := 2
 pnm_read pnm_tools: pnm_image
 pnm_write: pnm_read
 pnm_chain: pnm_tools
