@@ -1,32 +1,19 @@
 # pnmpipe: `make` proves and builds, `make check` is the whole gate.
 
 PROGRAM := crates/pnmpipe
-LIBRARIES := pnm_image pnm_read pnm_tools pnm_write pnm_chain pnm_flow
-CRATES := $(LIBRARIES) pnmpipe
+CRATES := pnm_image pnm_read pnm_tools pnm_write pnm_chain pnm_flow pnmpipe
 
-.PHONY: all program check test help toolchain controls refused-growth $(LIBRARIES)
+.PHONY: all check test help toolchain controls refused-growth
 
+# the lowest crate by all processors, and then those above it side by side; one `rt` for all, since two would wait for each other
 all: toolchain
-	$(MAKE) --jobs=3 --output-sync=target program
-
-program: pnm_chain pnm_flow
 	mkdir -p bin
+	cd crates/pnm_image && rt lib
+	rt all check --jobs $$(nproc)
 	cd $(PROGRAM) && rt run -- pnminvert < stdin > ../../bin/stored-run
 	cmp bin/stored-run $(PROGRAM)/stdout
 	rm bin/stored-run
 	cp $(PROGRAM)/out/pnmpipe bin/pnmpipe
-
-# each library once those below it stand, side by side, with one job each, since two jobs of a check share little
-pnm_image:
-	cd crates/$@ && rt lib
-
-$(filter-out pnm_image,$(LIBRARIES)):
-	cd crates/$@ && rt lib --jobs 1
-
-pnm_read pnm_tools: pnm_image
-pnm_write: pnm_read
-pnm_chain: pnm_tools
-pnm_flow: pnm_write pnm_tools
 
 # a sample of the refused allocations, since each turn builds the program anew; then one check a processor, each of
 # at most 4 GB
