@@ -3,7 +3,7 @@
 # pnmtile and of all head rules meet no refusal; that the others allocate no more often isn't tested. Each
 # has to be answered by name, and a tool at work to stay refused: the tests of src/tests/memory.rt say so.
 set -eu
-cd "$(dirname "$0")/../crates/pnm_tools"
+cd "$(dirname "$0")/../crates/pnm_tools_tests"
 work=$(mktemp -d)
 trap 'rm -rf "$work"' EXIT
 

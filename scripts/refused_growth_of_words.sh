@@ -1,7 +1,7 @@
 #!/bin/sh
 # Refuses each allocation of a chain's text, of a call for help, and of a run, in turn, until none of them
 # meets a refusal. Each has to be answered by name, and what the program wrote to be a front of its whole
-# output: a test of pnm_chain's src/tests/memory.rt and two of pnmpipe's src/tests/words_memory.rt say so,
+# output: a test of pnm_chain_tests' src/tests/memory.rt and two of pnmpipe's src/tests/words_memory.rt say so,
 # and the other three whether one was met. A turn builds the tests anew, so this takes most of an hour.
 # FIRST, by default 1, is the first turn.
 set -eu
@@ -16,7 +16,7 @@ passed() {
 
 n=${FIRST:-1}
 while [ "$n" -le 400 ]; do
-    (cd pnm_chain && rt try --test --fail-alloc "$n" -- "tests::memory::") > "$work/log" 2>&1 || true
+    (cd pnm_chain_tests && rt try --test --fail-alloc "$n" -- "tests::memory::") > "$work/log" 2>&1 || true
     (cd pnmpipe && rt try --test --fail-alloc "$n" -- "tests::words_memory::") >> "$work/log" 2>&1 || true
     for answers in answers_want_of_memory_for_a_chain answers_want_of_memory_for_help answers_want_of_memory_for_a_run; do
         if ! passed "$answers"; then

@@ -11,6 +11,3 @@ mod settings;
 mod word;
 
 pub use chain_text::{ChainFault, ChainKind, parse_chain};
-
-#[cfg(test)]
-mod tests;

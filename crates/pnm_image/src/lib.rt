@@ -23,6 +23,3 @@ pub use packing::Packing;
 pub use place::Place;
 pub use samples::Samples;
 pub use shape::{Kind, Shape};
-
-#[cfg(test)]
-mod tests;

@@ -25,6 +25,3 @@ mod source;
 
 pub use fault::InputFault;
 pub use source::Source;
-
-#[cfg(test)]
-mod tests;

@@ -28,6 +28,3 @@ pub use fault::ToolFault;
 pub use filter::Filter;
 pub use flip::FlipWay;
 pub use tool::{Tool, ToolState};
-
-#[cfg(test)]
-mod tests;

@@ -14,6 +14,3 @@ mod sink;
 
 pub use fault::SinkFault;
 pub use sink::Sink;
-
-#[cfg(test)]
-mod tests;

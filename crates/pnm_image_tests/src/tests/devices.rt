@@ -1,0 +1,246 @@
+//! Devices over memory, and devices of which a call fails.
+
+use super::callers::{
+    ReadFault, flush, read_all, read_through, write_all, write_bytewise, write_through,
+};
+use super::same;
+use pnm_image::{BytesIn, BytesOut, Device, DeviceFailed};
+use std::alloc::Global;
+use std::io;
+use std::io::{ErrorKind, Read, Write};
+use std::process::Abort;
+use std::test::Fail;
+
+/// Says that a call is to fail, once, after so many calls that succeed.
+#[derive(Drop)]
+struct FailsOnce {
+    before: u32,
+    has_failed: bool,
+}
+
+impl FailsOnce {
+    fn after(before: u32) -> FailsOnce {
+        FailsOnce {
+            before,
+            has_failed: false,
+        }
+    }
+
+    fn call(&mut self) -> io::Result<()> {
+        if self.before > 0 {
+            self.before -= 1;
+        } else if !self.has_failed {
+            self.has_failed = true;
+            return Err(io::Error::from(ErrorKind::Interrupted));
+        }
+        Ok(())
+    }
+}
+
+/// Gives up to two bytes a call.
+#[derive(Drop)]
+struct Drips<'a> {
+    rest: &'a [u8],
+    fails: FailsOnce,
+}
+
+impl Read for Drips<'_> {
+    fn read(&mut self, room: &mut [u8]) -> io::Result<usize> {
+        self.fails.call()?;
+        let most = room.len().min(2);
+        self.rest.read(&mut room[..most])
+    }
+}
+
+/// Takes up to two bytes a call.
+#[derive(Drop)]
+struct Sips {
+    held: Vec<u8>,
+    fails: FailsOnce,
+}
+
+impl Write for Sips {
+    fn write(&mut self, bytes: &[u8]) -> io::Result<usize> {
+        self.fails.call()?;
+        let most = bytes.len().min(2);
+        self.held.write(&bytes[..most])
+    }
+
+    fn flush(&mut self) -> io::Result<()> {
+        self.fails.call()
+    }
+}
+
+/// A device over memory gives all its bytes, and then none.
+#[test]
+fn reads_to_the_end(rt: HostRuntime) {
+    let mut reader = Device::new([1, 2, 3, 4].as_slice());
+    let mut room = [9; 3];
+    same(&rt, &reader.read(&mut []), &Ok(0), &"no room");
+    same(&rt, &reader.read(&mut room), &Ok(3), &"the first read");
+    same(&rt, &room, &[1, 2, 3], &"the first read");
+    same(&rt, &reader.read(&mut room), &Ok(1), &"the second read");
+    same(&rt, &room, &[4, 2, 3], &"the second read");
+    same(&rt, &reader.read(&mut room), &Ok(0), &"the last read");
+    same(&rt, &reader.into_inner(), &[].as_slice(), &"the end");
+}
+
+/// Several reads of 64 bytes.
+#[test]
+fn reads_in_several_reads(rt: HostRuntime) -> Result<(), Fail> {
+    let bytes: Vec<u8> = (0..200).collect(rt.alloc())?;
+    let mut text = [255].to_vec(rt.alloc())?;
+    read_all(&mut Device::new(bytes.as_slice()), &mut text)?;
+    let mut want = [255].to_vec(rt.alloc())?;
+    want.extend_from_slice(bytes.as_slice())?;
+    same(&rt, &text.as_slice(), &want.as_slice(), &"the end");
+    Ok(())
+}
+
+/// A device over a vector holds all that was written.
+#[test]
+fn writes_all(rt: HostRuntime) -> Result<(), Fail> {
+    let mut writer = Device::new([1].to_vec(rt.alloc())?);
+    same(&rt, &writer.write(&[2, 3]), &Ok(2), &"two bytes");
+    same(&rt, &writer.write(&[]), &Ok(0), &"no byte");
+    write_all(&mut writer, &[4, 5, 6])?;
+    flush(&mut writer)?;
+    holds_bytes(&rt, &writer.into_inner(), &[1, 2, 3, 4, 5, 6]);
+    Ok(())
+}
+
+/// The vector holds these bytes.
+fn holds_bytes(rt: &impl Abort, held: &Vec<u8>, bytes: &[u8]) {
+    same(rt, &held.as_slice(), &bytes, &"what is held");
+}
+
+/// A device that is lent is the same device.
+#[test]
+fn lends_readers(rt: HostRuntime) -> Result<(), Fail> {
+    let mut reader = Device::new([1, 2, 3].as_slice());
+    let mut room = [0; 1];
+    let mut text = Vec::new(rt.alloc());
+    same(&rt, &(&mut reader).read(&mut room), &Ok(1), &"a byte");
+    read_through(&mut reader, &mut text)?;
+    holds_bytes(&rt, &text, &[2, 3]);
+    same(
+        &rt,
+        &read_all(&mut &mut reader, &mut text),
+        &Ok(()),
+        &"the end",
+    );
+    holds_bytes(&rt, &text, &[2, 3]);
+    Ok(())
+}
+
+#[test]
+fn lends_writers(rt: HostRuntime) -> Result<(), Fail> {
+    let mut writer = Device::new(Vec::new(rt.alloc()));
+    write_through(&mut writer, &[1, 2])?;
+    write_all(&mut &mut writer, &[3])?;
+    write_bytewise(&mut writer, &[4, 5])?;
+    flush(&mut &mut writer)?;
+    holds_bytes(&rt, &writer.into_inner(), &[1, 2, 3, 4, 5]);
+    Ok(())
+}
+
+/// A read that fails takes no byte, and the next read goes on.
+#[test]
+fn goes_on_after_a_failed_read(rt: HostRuntime) -> Result<(), Fail> {
+    for (before, front) in [
+        (0, [].as_slice()),
+        (1, [1, 2].as_slice()),
+        (2, [1, 2, 3, 4].as_slice()),
+        (3, [1, 2, 3, 4, 5].as_slice()),
+    ] {
+        fails_at_a_read(&rt, rt.alloc(), before, front)?;
+    }
+    Ok(())
+}
+
+/// The read after so many fails; the bytes before it are this front.
+fn fails_at_a_read(rt: &impl Abort, alloc: Global, before: u32, front: &[u8]) -> Result<(), Fail> {
+    let bytes = [1, 2, 3, 4, 5];
+    let mut reader = Device::new(Drips {
+        rest: &bytes,
+        fails: FailsOnce::after(before),
+    });
+    let mut text = Vec::new(alloc);
+    let first = read_all(&mut reader, &mut text);
+    same(rt, &first, &Err(ReadFault::Device), &before);
+    holds_bytes(rt, &text, front);
+    read_all(&mut reader, &mut text)?;
+    holds_bytes(rt, &text, &bytes);
+    Ok(())
+}
+
+/// A write that fails takes no byte, and the next goes on.
+#[test]
+fn goes_on_after_a_failed_write(rt: HostRuntime) -> Result<(), Fail> {
+    for (before, front, rest) in [
+        (0, [].as_slice(), [1, 2, 3, 4, 5].as_slice()),
+        (1, [1, 2].as_slice(), [3, 4, 5].as_slice()),
+        (2, [1, 2, 3, 4].as_slice(), [5].as_slice()),
+    ] {
+        fails_at_a_write(&rt, rt.alloc(), before, front, rest)?;
+    }
+    Ok(())
+}
+
+/// A writer of which the call after so many fails.
+fn writer(alloc: Global, before: u32) -> Sips {
+    Sips {
+        held: Vec::new(alloc),
+        fails: FailsOnce::after(before),
+    }
+}
+
+/// The write after so many fails; the bytes before it are this front, and the others this rest.
+fn fails_at_a_write(
+    rt: &impl Abort,
+    alloc: Global,
+    before: u32,
+    front: &[u8],
+    rest: &[u8],
+) -> Result<(), Fail> {
+    let mut sips = writer(alloc, before);
+    let first = write_through(&mut Device::new(&mut sips), &[1, 2, 3, 4, 5]);
+    same(rt, &first, &Err(DeviceFailed), &before);
+    holds_bytes(rt, &sips.held, front);
+    write_through(&mut Device::new(&mut sips), rest)?;
+    holds_bytes(rt, &sips.held, &[1, 2, 3, 4, 5]);
+    Ok(())
+}
+
+/// The same of a flush.
+#[test]
+fn goes_on_after_a_failed_flush(rt: HostRuntime) -> Result<(), Fail> {
+    let mut writer = Device::new(writer(rt.alloc(), 2));
+    write_all(&mut writer, &[1, 2, 3])?;
+    same(&rt, &flush(&mut writer), &Err(DeviceFailed), &"a flush");
+    flush(&mut writer)?;
+    holds_bytes(&rt, &writer.into_inner().held, &[1, 2, 3]);
+    Ok(())
+}
+
+/// A lent device passes a flush on.
+#[test]
+fn lends_flushes(rt: HostRuntime) -> Result<(), Fail> {
+    let mut lent = Device::new(writer(rt.alloc(), 0));
+    same(&rt, &flush(&mut &mut lent), &Err(DeviceFailed), &"a flush");
+    flush(&mut &mut lent)?;
+    Ok(())
+}
+
+/// A writer that takes none of its bytes has failed.
+#[test]
+fn fails_where_no_byte_is_taken(rt: HostRuntime) {
+    let mut room = [0; 3];
+    let mut writer = Device::new(room.as_mut_slice());
+    let answer = write_all(&mut writer, &[1, 2, 3, 4]);
+    same(&rt, &answer, &Err(DeviceFailed), &"four bytes");
+    same(&rt, &writer.write(&[]), &Ok(0), &"no byte");
+    same(&rt, &writer.write(&[5]), &Err(DeviceFailed), &"a byte");
+    same(&rt, &flush(&mut writer), &Ok(()), &"a flush");
+    same(&rt, &room, &[1, 2, 3], &"what is held");
+}

@@ -1,0 +1,494 @@
+//! How often `pamenlarge` repeats pixels and rows.
+
+use super::formulas::{IMAGES, follows_formula};
+use super::parts::{
+    Case, HeadCase, Part, answers, are_made_of, gives_heads, refuses_heads, results,
+};
+use pnm_image::Kind;
+use pnm_tools::{Tool, ToolFault};
+use std::alloc::Global;
+use std::process::Abort;
+use std::test::Fail;
+
+/// Each pixel twice, with all its planes.
+const ACROSS: &[Case<'static>] = &[
+    (
+        &[
+            Part::Begin(Kind::Gray, 3, 2, 9),
+            Part::Row(&[1, 2, 3]),
+            Part::Row(&[4, 5, 6]),
+            Part::ImageEnd,
+        ],
+        &[
+            Part::Begin(Kind::Gray, 6, 2, 9),
+            Part::Row(&[1, 1, 2, 2, 3, 3]),
+            Part::Row(&[4, 4, 5, 5, 6, 6]),
+            Part::ImageEnd,
+        ],
+        None,
+    ),
+    (
+        &[
+            Part::Begin(Kind::Color, 2, 2, 900),
+            Part::Row(&[1, 2, 3, 11, 12, 13]),
+            Part::Row(&[101, 102, 103, 111, 112, 113]),
+            Part::ImageEnd,
+        ],
+        &[
+            Part::Begin(Kind::Color, 4, 2, 900),
+            Part::Row(&[1, 2, 3, 1, 2, 3, 11, 12, 13, 11, 12, 13]),
+            Part::Row(&[101, 102, 103, 101, 102, 103, 111, 112, 113, 111, 112, 113]),
+            Part::ImageEnd,
+        ],
+        None,
+    ),
+    (
+        &[
+            Part::Pam(2, 2, 2, 9, "A B"),
+            Part::Row(&[1, 2, 3, 4]),
+            Part::Row(&[5, 6, 7, 8]),
+            Part::ImageEnd,
+        ],
+        &[
+            Part::Pam(4, 2, 2, 9, "A B"),
+            Part::Row(&[1, 2, 1, 2, 3, 4, 3, 4]),
+            Part::Row(&[5, 6, 5, 6, 7, 8, 7, 8]),
+            Part::ImageEnd,
+        ],
+        None,
+    ),
+    (
+        &[
+            Part::Begin(Kind::Bit, 3, 1, 1),
+            Part::Row(&[1, 0, 1]),
+            Part::ImageEnd,
+        ],
+        &[
+            Part::Begin(Kind::Bit, 6, 1, 1),
+            Part::Row(&[1, 1, 0, 0, 1, 1]),
+            Part::ImageEnd,
+        ],
+        None,
+    ),
+    (
+        &[
+            Part::Begin(Kind::Gray, 1, 1, 9),
+            Part::Row(&[7]),
+            Part::ImageEnd,
+        ],
+        &[
+            Part::Begin(Kind::Gray, 2, 1, 9),
+            Part::Row(&[7, 7]),
+            Part::ImageEnd,
+        ],
+        None,
+    ),
+];
+
+/// Each row three times.
+const DOWN: &[Case<'static>] = &[
+    (
+        &[
+            Part::Begin(Kind::Gray, 3, 2, 9),
+            Part::Row(&[1, 2, 3]),
+            Part::Row(&[4, 5, 6]),
+            Part::ImageEnd,
+        ],
+        &[
+            Part::Begin(Kind::Gray, 3, 6, 9),
+            Part::Row(&[1, 2, 3]),
+            Part::Row(&[1, 2, 3]),
+            Part::Row(&[1, 2, 3]),
+            Part::Row(&[4, 5, 6]),
+            Part::Row(&[4, 5, 6]),
+            Part::Row(&[4, 5, 6]),
+            Part::ImageEnd,
+        ],
+        None,
+    ),
+    (
+        &[
+            Part::Begin(Kind::Color, 1, 1, 9),
+            Part::Row(&[1, 2, 3]),
+            Part::ImageEnd,
+        ],
+        &[
+            Part::Begin(Kind::Color, 1, 3, 9),
+            Part::Row(&[1, 2, 3]),
+            Part::Row(&[1, 2, 3]),
+            Part::Row(&[1, 2, 3]),
+            Part::ImageEnd,
+        ],
+        None,
+    ),
+    (
+        &[
+            Part::Begin(Kind::Gray, 1, 2, 9),
+            Part::Row(&[1]),
+            Part::Row(&[2]),
+            Part::ImageEnd,
+        ],
+        &[
+            Part::Begin(Kind::Gray, 1, 6, 9),
+            Part::Row(&[1]),
+            Part::Row(&[1]),
+            Part::Row(&[1]),
+            Part::Row(&[2]),
+            Part::Row(&[2]),
+            Part::Row(&[2]),
+            Part::ImageEnd,
+        ],
+        None,
+    ),
+];
+
+/// The horizontal factor is the first one.
+const BOTH: &[Case<'static>] = &[
+    (
+        &[
+            Part::Begin(Kind::Gray, 3, 2, 9),
+            Part::Row(&[1, 2, 3]),
+            Part::Row(&[4, 5, 6]),
+            Part::ImageEnd,
+        ],
+        &[
+            Part::Begin(Kind::Gray, 9, 4, 9),
+            Part::Row(&[1, 1, 1, 2, 2, 2, 3, 3, 3]),
+            Part::Row(&[1, 1, 1, 2, 2, 2, 3, 3, 3]),
+            Part::Row(&[4, 4, 4, 5, 5, 5, 6, 6, 6]),
+            Part::Row(&[4, 4, 4, 5, 5, 5, 6, 6, 6]),
+            Part::ImageEnd,
+        ],
+        None,
+    ),
+    (
+        &[
+            Part::Pam(2, 1, 2, 9, ""),
+            Part::Row(&[1, 2, 3, 4]),
+            Part::ImageEnd,
+        ],
+        &[
+            Part::Pam(6, 2, 2, 9, ""),
+            Part::Row(&[1, 2, 1, 2, 1, 2, 3, 4, 3, 4, 3, 4]),
+            Part::Row(&[1, 2, 1, 2, 1, 2, 3, 4, 3, 4, 3, 4]),
+            Part::ImageEnd,
+        ],
+        None,
+    ),
+];
+
+/// Nothing is repeated by 1.
+const SAME: &[Case<'static>] = &[(
+    &[
+        Part::Begin(Kind::Gray, 3, 2, 9),
+        Part::Row(&[1, 2, 3]),
+        Part::Row(&[4, 5, 6]),
+        Part::ImageEnd,
+        Part::Begin(Kind::Color, 1, 1, 9),
+        Part::Row(&[1, 2, 3]),
+        Part::ImageEnd,
+        Part::StreamEnd,
+    ],
+    &[
+        Part::Begin(Kind::Gray, 3, 2, 9),
+        Part::Row(&[1, 2, 3]),
+        Part::Row(&[4, 5, 6]),
+        Part::ImageEnd,
+        Part::Begin(Kind::Color, 1, 1, 9),
+        Part::Row(&[1, 2, 3]),
+        Part::ImageEnd,
+        Part::StreamEnd,
+    ],
+    None,
+)];
+
+#[test]
+fn repeats_pixels_and_rows(rt: HostRuntime) -> Result<(), Fail> {
+    let alloc = rt.alloc();
+    answers(&rt, alloc, Tool::Enlarge(2, 1), ACROSS)?;
+    answers(&rt, alloc, Tool::Enlarge(1, 3), DOWN)?;
+    answers(&rt, alloc, Tool::Enlarge(3, 2), BOTH)?;
+    answers(&rt, alloc, Tool::Enlarge(1, 1), SAME)
+}
+
+/// Column x of the result shows column x / across, and row y shows row y / down.
+#[test]
+fn follows_the_formula(rt: HostRuntime) -> Result<(), Fail> {
+    for across in [1, 2, 3, 7] {
+        for down in [1, 2, 5] {
+            let tool = Tool::Enlarge(across, down);
+            follows_formula(&rt, rt.alloc(), &tool, IMAGES)?;
+        }
+    }
+    Ok(())
+}
+
+/// The sizes alone change.
+const HEADS: &[HeadCase<'static>] = &[
+    (
+        Part::Begin(Kind::Bit, 3, 2, 1),
+        Ok(Part::Begin(Kind::Bit, 9, 4, 1)),
+    ),
+    (
+        Part::Begin(Kind::Gray, 3, 2, 9),
+        Ok(Part::Begin(Kind::Gray, 9, 4, 9)),
+    ),
+    (
+        Part::Begin(Kind::Color, 3, 2, 65_535),
+        Ok(Part::Begin(Kind::Color, 9, 4, 65_535)),
+    ),
+    (
+        Part::Pam(3, 2, 4, 1, "BLACKANDWHITE_ALPHA"),
+        Ok(Part::Pam(9, 4, 4, 1, "BLACKANDWHITE_ALPHA")),
+    ),
+    (
+        Part::Pam(1, 1, 256, 300, ""),
+        Ok(Part::Pam(3, 2, 256, 300, "")),
+    ),
+];
+
+/// A pixel becomes four.
+const DOUBLED: &[HeadCase<'static>] = &[(
+    Part::Begin(Kind::Gray, 1, 1, 9),
+    Ok(Part::Begin(Kind::Gray, 2, 2, 9)),
+)];
+
+#[test]
+fn keeps_all_but_the_sizes(rt: HostRuntime) -> Result<(), Fail> {
+    gives_heads(&rt, rt.alloc(), Tool::Enlarge(3, 2), HEADS)?;
+    gives_heads(&rt, rt.alloc(), Tool::Enlarge(2, 2), DOUBLED)
+}
+
+/// A result may have 1,000,000 columns, as many rows, and 16,777,216 samples a row, which is 256
+/// times 65,536.
+const TWICE: &[HeadCase<'static>] = &[
+    (
+        Part::Begin(Kind::Gray, 500_000, 500_000, 9),
+        Ok(Part::Begin(Kind::Gray, 1_000_000, 1_000_000, 9)),
+    ),
+    (
+        Part::Begin(Kind::Gray, 500_001, 1, 9),
+        Err(ToolFault::TooLarge),
+    ),
+    (
+        Part::Begin(Kind::Gray, 1, 500_001, 9),
+        Err(ToolFault::TooLarge),
+    ),
+    (
+        Part::Pam(32_768, 500_000, 256, 9, "A"),
+        Ok(Part::Pam(65_536, 1_000_000, 256, 9, "A")),
+    ),
+    (Part::Pam(32_769, 1, 256, 9, "A"), Err(ToolFault::TooLarge)),
+];
+
+/// Seventeen planes: 17 times 986,895 is 16,777,215, and 986,898 columns are not too many by
+/// themselves.
+const THRICE: &[HeadCase<'static>] = &[
+    (
+        Part::Pam(328_965, 1, 17, 9, "A"),
+        Ok(Part::Pam(986_895, 1, 17, 9, "A")),
+    ),
+    (Part::Pam(328_966, 1, 17, 9, "A"), Err(ToolFault::TooLarge)),
+    (
+        Part::Begin(Kind::Gray, 328_966, 1, 9),
+        Ok(Part::Begin(Kind::Gray, 986_898, 1, 9)),
+    ),
+    (
+        Part::Begin(Kind::Gray, 333_333, 1_000_000, 9),
+        Ok(Part::Begin(Kind::Gray, 999_999, 1_000_000, 9)),
+    ),
+    (
+        Part::Begin(Kind::Gray, 333_334, 1, 9),
+        Err(ToolFault::TooLarge),
+    ),
+];
+
+/// One column and one row become the most.
+const MILLION: &[HeadCase<'static>] = &[
+    (
+        Part::Begin(Kind::Gray, 1, 1, 9),
+        Ok(Part::Begin(Kind::Gray, 1_000_000, 1_000_000, 9)),
+    ),
+    (
+        Part::Pam(1, 1, 16, 9, "A"),
+        Ok(Part::Pam(1_000_000, 1_000_000, 16, 9, "A")),
+    ),
+    (Part::Pam(1, 1, 17, 9, "A"), Err(ToolFault::TooLarge)),
+    (Part::Begin(Kind::Gray, 2, 1, 9), Err(ToolFault::TooLarge)),
+    (Part::Begin(Kind::Gray, 1, 2, 9), Err(ToolFault::TooLarge)),
+];
+
+const PIXEL: &[Part<'static>] = &[Part::Begin(Kind::Gray, 1, 1, 9)];
+
+#[test]
+fn refuses_large_results(rt: HostRuntime) -> Result<(), Fail> {
+    let alloc = rt.alloc();
+    gives_heads(&rt, alloc, Tool::Enlarge(2, 2), TWICE)?;
+    gives_heads(&rt, alloc, Tool::Enlarge(3, 1), THRICE)?;
+    gives_heads(&rt, alloc, Tool::Enlarge(1_000_000, 1_000_000), MILLION)?;
+    for (across, down) in [(1_000_001, 1), (1, 1_000_001)] {
+        let tool = Tool::Enlarge(across, down);
+        refuses_heads(&rt, alloc, tool, PIXEL, ToolFault::TooLarge)?;
+    }
+    Ok(())
+}
+
+/// The greatest factor: 256 times it is 4,294,967,296, which is 0 in 32 bits, and 257 times it is
+/// the factor again.
+const GREATEST: &[Part<'static>] = &[
+    Part::Begin(Kind::Gray, 1, 1, 9),
+    Part::Begin(Kind::Gray, 256, 256, 9),
+    Part::Begin(Kind::Gray, 257, 257, 9),
+    Part::Begin(Kind::Gray, 1_000_000, 1_000_000, 9),
+    Part::Pam(65_536, 1, 256, 9, "A"),
+];
+
+/// 65,537 times itself is 131,073 in 32 bits.
+const SQUARED: &[HeadCase<'static>] = &[
+    (
+        Part::Begin(Kind::Gray, 65_537, 1, 9),
+        Err(ToolFault::TooLarge),
+    ),
+    (
+        Part::Begin(Kind::Gray, 1, 65_537, 9),
+        Err(ToolFault::TooLarge),
+    ),
+    (
+        Part::Begin(Kind::Gray, 15, 15, 9),
+        Ok(Part::Begin(Kind::Gray, 983_055, 983_055, 9)),
+    ),
+    (Part::Begin(Kind::Gray, 16, 1, 9), Err(ToolFault::TooLarge)),
+];
+
+/// Products that 32 bits don't hold.
+#[test]
+fn refuses_results_beyond_32_bits(rt: HostRuntime) -> Result<(), Fail> {
+    let alloc = rt.alloc();
+    for (across, down) in [(16_777_216, 1), (1, 16_777_216), (16_777_216, 16_777_216)] {
+        let tool = Tool::Enlarge(across, down);
+        refuses_heads(&rt, alloc, tool, GREATEST, ToolFault::TooLarge)?;
+    }
+    gives_heads(&rt, alloc, Tool::Enlarge(65_537, 65_537), SQUARED)
+}
+
+const WITHOUT_ROWS: &[Part<'static>] = &[
+    Part::Begin(Kind::Gray, 3, 0, 9),
+    Part::Pam(1_000_000, 0, 16, 9, "A"),
+    Part::Begin(Kind::Bit, 1, 0, 1),
+];
+
+/// No row is repeated: height 0 stays, and the width is judged.
+const WIDER_WITHOUT_ROWS: &[HeadCase<'static>] = &[
+    (
+        Part::Begin(Kind::Gray, 3, 0, 9),
+        Ok(Part::Begin(Kind::Gray, 6, 0, 9)),
+    ),
+    (
+        Part::Begin(Kind::Color, 500_000, 0, 9),
+        Ok(Part::Begin(Kind::Color, 1_000_000, 0, 9)),
+    ),
+    (
+        Part::Begin(Kind::Color, 500_001, 0, 9),
+        Err(ToolFault::TooLarge),
+    ),
+    (
+        Part::Pam(1_000_000, 0, 16, 9, "A"),
+        Err(ToolFault::TooLarge),
+    ),
+    (
+        Part::Pam(32_768, 0, 256, 9, "A"),
+        Ok(Part::Pam(65_536, 0, 256, 9, "A")),
+    ),
+    (Part::Pam(32_769, 0, 256, 9, "A"), Err(ToolFault::TooLarge)),
+];
+
+/// Where rows are repeated, height 0 is judged before what is too large.
+#[test]
+fn judges_height_0_first(rt: HostRuntime) -> Result<(), Fail> {
+    let alloc = rt.alloc();
+    for (across, down) in [(1, 2), (2, 2), (1, 16_777_216), (16_777_216, 16_777_216)] {
+        let tool = Tool::Enlarge(across, down);
+        refuses_heads(&rt, alloc, tool, WITHOUT_ROWS, ToolFault::OutOfOrder)?;
+    }
+    gives_heads(&rt, alloc, Tool::Enlarge(2, 1), WIDER_WITHOUT_ROWS)
+}
+
+/// An image without rows between two others.
+const ROW_WISE: &[Case<'static>] = &[(
+    &[
+        Part::Begin(Kind::Gray, 2, 1, 9),
+        Part::Row(&[1, 2]),
+        Part::ImageEnd,
+        Part::Pam(3, 0, 2, 9, "A"),
+        Part::ImageEnd,
+        Part::Begin(Kind::Gray, 1, 1, 9),
+        Part::Row(&[3]),
+        Part::ImageEnd,
+        Part::StreamEnd,
+    ],
+    &[
+        Part::Begin(Kind::Gray, 4, 1, 9),
+        Part::Row(&[1, 1, 2, 2]),
+        Part::ImageEnd,
+        Part::Pam(6, 0, 2, 9, "A"),
+        Part::ImageEnd,
+        Part::Begin(Kind::Gray, 2, 1, 9),
+        Part::Row(&[3, 3]),
+        Part::ImageEnd,
+        Part::StreamEnd,
+    ],
+    None,
+)];
+
+/// The same, where rows are repeated.
+const NOT_ROW_WISE: &[Case<'static>] = &[(
+    &[
+        Part::Begin(Kind::Gray, 1, 1, 9),
+        Part::Row(&[4]),
+        Part::ImageEnd,
+        Part::Begin(Kind::Gray, 1, 0, 9),
+    ],
+    &[
+        Part::Begin(Kind::Gray, 2, 2, 9),
+        Part::Row(&[4, 4]),
+        Part::Row(&[4, 4]),
+        Part::ImageEnd,
+    ],
+    Some(ToolFault::OutOfOrder),
+)];
+
+#[test]
+fn takes_images_without_rows(rt: HostRuntime) -> Result<(), Fail> {
+    answers(&rt, rt.alloc(), Tool::Enlarge(2, 1), ROW_WISE)?;
+    answers(&rt, rt.alloc(), Tool::Enlarge(2, 2), NOT_ROW_WISE)
+}
+
+/// The most columns of a plane, and of 16, and the most samples: the row is the pixel again and
+/// again.
+#[test]
+fn fills_the_widest_row(rt: HostRuntime) -> Result<(), Fail> {
+    for (across, depth) in [(1_000_000, 1), (1_000_000, 16), (65_536, 256)] {
+        fills_a_row(&rt, rt.alloc(), across, depth)?;
+    }
+    Ok(())
+}
+
+/// A pixel of so many planes, the samples 0, 1, 2 and so on, becomes so many.
+fn fills_a_row(rt: &impl Abort, alloc: Global, across: u32, depth: u16) -> Result<(), Fail> {
+    let pixel: Vec<u16> = (0..depth).collect(alloc)?;
+    let depth = u32::from(depth);
+    let begin = Part::Pam(1, 1, depth, 255, "A");
+    let parts = [begin, Part::Row(pixel.as_slice()), Part::ImageEnd];
+    let given = results(alloc, &Tool::Enlarge(across, 1), &parts)?;
+    let mut row = Vec::new(alloc);
+    for _ in 0..across {
+        row.extend_from_slice(pixel.as_slice())?;
+    }
+    let wants = [
+        Part::Pam(across, 1, depth, 255, "A"),
+        Part::Row(row.as_slice()),
+        Part::ImageEnd,
+    ];
+    are_made_of(rt, given.as_slice(), &wants);
+    Ok(())
+}

@@ -1,0 +1,181 @@
+//! Writers that take few bytes a call, or of which a call fails.
+
+use super::parts::{COLOR, GRAY, Part, holds, message};
+use pnm_image::Device;
+use pnm_write::{Sink, SinkFault};
+use std::alloc::Global;
+use std::io;
+use std::io::{ErrorKind, Write};
+use std::process::Abort;
+use std::test::Fail;
+
+/// Two images, and their bytes.
+const STREAM: &[Part<'static>] = &[
+    Part::Begin(GRAY, ""),
+    Part::Row(&[2]),
+    Part::ImageEnd,
+    Part::Begin(COLOR, ""),
+    Part::Row(&[3, 4, 5]),
+    Part::ImageEnd,
+    Part::StreamEnd,
+];
+
+const BYTES: &[u8] = b"P5\n1 1\n9\n\x02P6\n1 1\n9\n\x03\x04\x05";
+
+/// Says that a call is to fail, once, after so many calls that succeed. The error is one that std's
+/// own loops take for a call to be made again.
+#[derive(Drop)]
+struct FailsOnce {
+    before: usize,
+    has_failed: bool,
+}
+
+impl FailsOnce {
+    fn after(before: usize) -> FailsOnce {
+        FailsOnce {
+            before,
+            has_failed: false,
+        }
+    }
+
+    fn never() -> FailsOnce {
+        FailsOnce {
+            before: 0,
+            has_failed: true,
+        }
+    }
+
+    fn call(&mut self) -> io::Result<()> {
+        if self.before > 0 {
+            self.before -= 1;
+        } else if !self.has_failed {
+            self.has_failed = true;
+            return Err(io::Error::from(ErrorKind::Interrupted));
+        }
+        Ok(())
+    }
+}
+
+/// Takes so many bytes a call.
+#[derive(Drop)]
+struct Sips {
+    held: Vec<u8>,
+    most: usize,
+    writes: FailsOnce,
+    flushes: FailsOnce,
+    is_flushed: bool,
+}
+
+impl Write for Sips {
+    fn write(&mut self, bytes: &[u8]) -> io::Result<usize> {
+        self.writes.call()?;
+        let most = bytes.len().min(self.most);
+        self.held.write(&bytes[..most])
+    }
+
+    fn flush(&mut self) -> io::Result<()> {
+        self.is_flushed = true;
+        self.flushes.call()
+    }
+}
+
+/// What a sink over the writer answers.
+#[derive(Debug, Drop)]
+struct Said {
+    /// The fault of the first message that is refused.
+    fault: Option<SinkFault>,
+    /// Whether each message after that one is refused as `Broken`.
+    stays: bool,
+    end: Result<(), SinkFault>,
+}
+
+/// A writer that takes so many bytes a call.
+fn writer(alloc: Global, most: usize, writes: FailsOnce, flushes: FailsOnce) -> Sips {
+    Sips {
+        held: Vec::new(alloc),
+        most,
+        writes,
+        flushes,
+        is_flushed: false,
+    }
+}
+
+/// What a sink over the writer answers to these messages, each of which is put whatever came before it.
+fn answers(alloc: Global, sips: &mut Sips, parts: &[Part<'_>]) -> Result<Said, Fail> {
+    let mut sink = Sink::new(Device::new(sips));
+    let mut fault = None;
+    let mut stays = true;
+    for part in parts {
+        let answer = sink.put(&message(alloc, *part)?);
+        if fault.is_some() {
+            stays = stays && answer == Err(SinkFault::Broken);
+        } else {
+            fault = answer.err();
+        }
+    }
+    let (_, end) = sink.finish();
+    Ok(Said { fault, stays, end })
+}
+
+/// The writer holds these bytes.
+fn holds_bytes(rt: &impl Abort, sips: &Sips, bytes: &[u8]) {
+    let held = sips.held.as_slice();
+    holds(rt, held == bytes, &held, &bytes, &"the writer");
+}
+
+/// A write for each byte, of which the one after so many fails, and later ones don't.
+#[test]
+fn answers_a_failed_write(rt: HostRuntime) -> Result<(), Fail> {
+    for before in 0..24 {
+        answers_write_that_fails(&rt, rt.alloc(), before)?;
+    }
+    Ok(())
+}
+
+/// The write after so many fails, if there are more.
+fn answers_write_that_fails(rt: &impl Abort, alloc: Global, before: usize) -> Result<(), Fail> {
+    let mut sips = writer(alloc, 1, FailsOnce::after(before), FailsOnce::never());
+    let said = answers(alloc, &mut sips, STREAM)?;
+    let fails = before < 22;
+    let want = if fails {
+        (Some(SinkFault::WriteFailed), Err(SinkFault::Broken))
+    } else {
+        (None, Ok(()))
+    };
+    let is_so = said.stays && (said.fault, said.end) == want;
+    holds(rt, is_so, &said, &want, &before);
+    holds(
+        rt,
+        sips.is_flushed != fails,
+        &sips.is_flushed,
+        &!fails,
+        &before,
+    );
+    holds_bytes(rt, &sips, &BYTES[..before.min(22)]);
+    Ok(())
+}
+
+/// A flush that fails, after all bytes were written.
+#[test]
+fn answers_a_failed_flush(rt: HostRuntime) -> Result<(), Fail> {
+    let mut sips = writer(rt.alloc(), 4096, FailsOnce::never(), FailsOnce::after(0));
+    let said = answers(rt.alloc(), &mut sips, STREAM)?;
+    let want = (None, Err(SinkFault::WriteFailed));
+    let is_so = (said.fault, said.end) == want;
+    holds(&rt, is_so, &said, &want, &"the flush");
+    holds_bytes(&rt, &sips, BYTES);
+    Ok(())
+}
+
+/// A writer that takes none of its bytes has failed.
+#[test]
+fn answers_a_write_of_no_byte(rt: HostRuntime) -> Result<(), Fail> {
+    let mut sips = writer(rt.alloc(), 0, FailsOnce::never(), FailsOnce::never());
+    let said = answers(rt.alloc(), &mut sips, &STREAM[..1])?;
+    let want = (Some(SinkFault::WriteFailed), Err(SinkFault::Broken));
+    let is_so = (said.fault, said.end) == want;
+    holds(&rt, is_so, &said, &want, &"the first write");
+    holds(&rt, !sips.is_flushed, &sips.is_flushed, &false, &"the end");
+    holds_bytes(&rt, &sips, b"");
+    Ok(())
+}
