@@ -2,7 +2,7 @@
 
 ghost use Rattle.std.specs.Prelude.{◌≡◌, ◌≢◌, ◌⊎◌, ◌≤◌, ℕ, List, map, string_bytes};
 ghost use Rattle.std.specs.Io.KnownBytes.{Appends};
-ghost use Rattle.pnm_image.specs.Devices.{AppendsFront};
+ghost use Rattle.pnm_image.specs.Devices.{AppendsFront, Failed};
 ghost use Rattle.pnmpipe.specs.CommandLine.{AsksForHelp, HasRunTools, HasRunWords};
 ghost use Rattle.pnm_flow.specs.Runs.{change};
 ghost use Rattle.pnm_tools.specs.Chains.{IsChain};
@@ -96,7 +96,9 @@ fn run<R: BytesIn, W: BytesOut, E: Write>(
 
 /// Writes the text. What is left after a failed write is left out.
 fn print_help<W: BytesOut>(output: &mut W, text: &str)
-    ensures { AppendsFront (W.held output.old) (W.held output.new) text.now }
+    ensures front { AppendsFront (W.held output.old) (W.held output.new) text.now }
+    ensures whole { Appends (W.held output.old) (W.held output.new) text.now
+        ⊎ Failed (W.failures output.old) (W.failures output.new) }
 {
     if let Ok(()) = write_all(output, text.as_bytes()) {
         let _ = output.flush();
