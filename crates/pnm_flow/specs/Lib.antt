@@ -5,3 +5,7 @@ pub mod SerialTools
 pub mod Runs
 pub mod Feeding
 pub mod Examples
+pub mod Links
+pub mod Stages
+pub mod StageParts
+pub mod Chains

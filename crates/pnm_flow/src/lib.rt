@@ -1,16 +1,26 @@
 //! Runs: the images of a reader pass through the tools of a chain, and what comes out is written.
 #![tactic(auto)]
 
+mod branches;
+mod chain;
 mod downstream;
+mod ending;
 mod fault;
+mod gate;
 pub mod laws;
+mod link;
+mod patience;
+mod ring;
 mod serial;
 mod serial_stage;
+mod stage;
 mod summary;
 
+pub use chain::{ChainDone, NoStart, run_chain};
 pub use fault::RunFault;
+pub use gate::{Gate, OpenGate};
+pub use link::Link;
+pub use ring::AnyMessage;
 pub use serial::run_serial;
+pub use stage::{StageDone, StageEnd, run_stage};
 pub use summary::Summary;
-
-#[cfg(test)]
-mod tests;

@@ -5,16 +5,15 @@ ghost use Rattle.pnm_read.specs.declared.fault.InputFault.TheVariants.{Memory};
 ghost use Rattle.pnm_read.specs.Sources.{reader_of, IsFresh as IsUnread};
 ghost use Rattle.pnm_tools.specs.declared.fault.ToolFault.TheVariants.{Memory as NoMemory};
 ghost use Rattle.pnm_tools.specs.Chains.{AreLawfulTools, IsChain};
-ghost use Rattle.pnm_tools.specs.Tools.{IsLawfulTool};
 ghost use Rattle.pnm_flow.specs.Downstreams.{output_of};
 ghost use Rattle.pnm_flow.specs.Runs.{answer_by, change, HasRun, IsFirstRefusal};
 ghost use Rattle.pnm_flow.specs.SerialStages.{refusals_in};
-ghost use Rattle.pnm_flow.specs.SerialTools.{ToolAt, AreFresh};
+ghost use Rattle.pnm_flow.specs.SerialTools.{AreFresh};
 ghost use Rattle.pnm_flow.specs.Feeding.{HasFed};
 
 use crate::downstream::Downstream;
 use crate::fault::RunFault;
-use crate::serial_stage::{SerialStage, feed_through};
+use crate::serial_stage::{SerialStage, feed_through, stage_of};
 use crate::summary::Summary;
 use pnm_image::{BytesIn, BytesOut};
 use pnm_read::{InputFault, Source};
@@ -88,16 +87,6 @@ fn stages_of(alloc: Global, tools: &[Tool]) -> Result<Vec<SerialStage<ToolState>
         stages.push(stage_of(alloc, tool))?;
     }
     Ok(stages)
-}
-
-fn stage_of(alloc: Global, tool: &Tool) -> SerialStage<ToolState>
-    requires { IsLawfulTool tool.now }
-    ensures { ToolAt result tool.now [] [] }
-{
-    match tool.start(alloc) {
-        Ok(state) => SerialStage::AtWork(state),
-        Err(fault) => SerialStage::Refused(fault),
-    }
 }
 
 /// The number and the fault of the first stage that has refused.

@@ -4,11 +4,14 @@ ghost use Rattle.std.specs.Prelude.{◌≡◌, ◌<◌, ◌∷◌, ◌++◌, [],
 ghost use Rattle.pnm_image.specs.declared.message.Message.{Message as MessageValue};
 ghost use Rattle.pnm_tools.specs.declared.tool.Tool.{Tool as ToolValue};
 ghost use Rattle.pnm_flow.specs.Downstreams.{output_of};
+ghost use Rattle.pnm_tools.specs.Tools.{IsLawfulTool};
+ghost use Rattle.pnm_flow.specs.SerialTools.{ToolAt};
 ghost use Rattle.pnm_flow.specs.SerialStages.{refusal_in, waiting_at, StageAt, StageBusy, FeedsThrough};
 
 use crate::downstream::Downstream;
 use pnm_image::{BytesOut, Message};
-use pnm_tools::{Filter, ToolFault};
+use pnm_tools::{Filter, Tool, ToolFault, ToolState};
+use std::alloc::Global;
 
 /// A tool of a chain.
 #[derive(Debug, Drop)]
@@ -31,7 +34,7 @@ impl<F: Filter + Drop> SerialStage<F> {
     }
 
     /// Feeds the tool a message. After its refusal the message is dropped.
-    fn feed(&mut self, message: Message)
+    pub fn feed(&mut self, message: Message)
         ensures { (tool : ToolValue) (l g : List MessageValue) → StageAt F.at F.all_given F.stopped self.old tool l g
             → StageBusy F.at F.stopped self.new tool (l ++ message ∷ []) g }
     {
@@ -43,7 +46,7 @@ impl<F: Filter + Drop> SerialStage<F> {
     }
 
     /// The next message that the tool gives, until it has given all, or refused.
-    fn next(&mut self) -> Option<Message>
+    pub fn next(&mut self) -> Option<Message>
         ensures given { IfSome result (λ m. (tool : ToolValue) (l g : List MessageValue)
             → StageBusy F.at F.stopped self.old tool l g
             → StageBusy F.at F.stopped self.new tool l (g ++ m ∷ [])) }
@@ -62,6 +65,17 @@ impl<F: Filter + Drop> SerialStage<F> {
                 None
             }
         }
+    }
+}
+
+/// The tool at work; one for which there is no memory has refused.
+pub fn stage_of(alloc: Global, tool: &Tool) -> SerialStage<ToolState>
+    requires { IsLawfulTool tool.now }
+    ensures { ToolAt result tool.now [] [] }
+{
+    match tool.start(alloc) {
+        Ok(state) => SerialStage::AtWork(state),
+        Err(fault) => SerialStage::Refused(fault),
     }
 }
 

@@ -1,0 +1,254 @@
+-- The stages of a chain: one more, what is left between them, and what the chain has answered.
+use Rattle.std.proofs.Common.{◌≡◌, ◌≢◌, inl, inr, ℕ, suc, ◌+◌, ◌≤◌, ◌<◌, List, [], ◌∷◌, ◌++◌, length, Option, Some, Result, Ok, Err, refl, sym, ap, subst, ◌∙◌, append_assoc, append-nil, arith}
+use Rattle.std.specs.Prelude.{IfOk, IfSome, vec_capacity}
+use Rattle.std.specs.Global.{Global}
+use Rattle.std.specs.List.{AllByRecursion}
+use Rattle.rtrb.specs.declared.producer.Producer.{Producer}
+use Rattle.rtrb.specs.declared.consumer.Consumer.{Consumer}
+use Rattle.rtrb.specs.Ring.{sent, received, known_items}
+use Rattle.pnm_image.specs.declared.message.Message.{Message}
+use Rattle.pnm_image.specs.declared.message.Message.TheVariants.{Stop}
+use Rattle.pnm_image.specs.Limits.{max_tools}
+use Rattle.pnm_image.specs.Images.{Image, rows_of, messages_of_image, messages_of_stream}
+use Rattle.pnm_image.specs.Messages.{without_stop}
+use Rattle.pnm_image.specs.Completion.{IsFrontOf, IsStreamOf}
+use Rattle.pnm_tools.specs.declared.tool.Tool.{Tool}
+use Rattle.pnm_tools.specs.Answers.{Ending, More, Whole, BrokenOff, EndsBy, AreResults}
+use Rattle.pnm_tools.specs.Chains.{AreLawfulTools, AreResultsInTurn, due_in_turn}
+use Rattle.pnm_tools.specs.Tools.{IsLawfulTool, output_due}
+use Rattle.pnm_tools.proofs.FrontLaws.{nothing_changes, front_by_results}
+use Rattle.pnm_tools.proofs.InFullLaws.{ends_after, end_ends_nothing}
+use Rattle.pnm_tools.proofs.FullLaws.{front_of_front}
+use Rattle.pnm_tools.proofs.RefusalLaws.{results_are_images, same_in_turn, results_in_turn}
+use Rattle.pnm_flow.specs.declared.chain.ChainDone.{ChainDone}
+use Rattle.pnm_flow.specs.declared.chain.NoStart.{NoStart}
+use Rattle.pnm_flow.specs.declared.link.Link.{Link}
+use Rattle.pnm_flow.specs.declared.ring.AnyMessage.{AnyMessage}
+use Rattle.pnm_flow.specs.declared.stage.StageEnd.{StageEnd}
+use Rattle.pnm_flow.specs.declared.stage.StageEnd.TheVariants.{Well, Broken, Fault, PeerGone}
+use Rattle.pnm_flow.specs.Links.{IsWhole, IsDrained, IsEnded}
+use Rattle.pnm_flow.specs.Stages.{HasEndedSo, IsFrontOfDue, IsStage, HasRunStage}
+use Rattle.pnm_flow.specs.Chains.{FirstIsThere, AreStages, HasAnsweredStream, HasRunStages, HasRunChain, HasRunBetween}
+use Rattle.pnm_flow.proofs.LinkSteps.{ends_with}
+use Rattle.pnm_flow.proofs.StagedSteps.{front_goes_on}
+use Rattle.pnm_flow.proofs.DueSteps.{front_without_stop}
+
+-- ---- what is left between two stages
+
+-- a list ends in one way
+one_ending : (a b : Ending) (l : List Message) → EndsBy a l → EndsBy b l → a ≡ b
+one_ending a b [] first second = first ∙ sym second
+one_ending a b (m ∷ []) first second = sym first ∙ second
+one_ending a b (m ∷ n ∷ l) first second = one_ending a b (n ∷ l) first.1 second.1
+
+-- nothing follows a list that has ended
+nothing_follows : (l left : List Message) → IsEnded l → IsEnded (l ++ left) → left ≡ []
+nothing_follows l [] ended whole = refl
+nothing_follows l (m ∷ left) (inl first) (inl whole) = let same = one_ending More Whole l (front_goes_on Whole l m left whole) first in absurd cc
+nothing_follows l (m ∷ left) (inl first) (inr whole) = let same = one_ending More Whole l (front_goes_on BrokenOff l m left whole) first in absurd cc
+nothing_follows l (m ∷ left) (inr first) (inl whole) = let same = one_ending More BrokenOff l (front_goes_on Whole l m left whole) first in absurd cc
+nothing_follows l (m ∷ left) (inr first) (inr whole) = let same = one_ending More BrokenOff l (front_goes_on BrokenOff l m left whole) first in absurd cc
+
+stream_ends_whole : (is : List Image) → EndsBy Whole (messages_of_stream is)
+stream_ends_whole [] = refl
+stream_ends_whole (i ∷ is) = ends_after Whole (messages_of_image i) (messages_of_stream is) (refl, end_ends_nothing (rows_of i)) (stream_ends_whole is)
+
+-- what a stage received has ended, and what it sent has, unless it saw a neighbour's end dropped
+received_ended : (tool : Tool) (end : StageEnd) (l g : List Message) → HasEndedSo tool end l g → end ≢ PeerGone → IsEnded l
+received_ended tool Well l g ended there = inl (subst (EndsBy Whole) (sym ended.stream.messages) (stream_ends_whole ended.images))
+received_ended tool Broken l g ended there = inr ended.ends
+received_ended tool (Fault fault) l g ended there = ended.ends
+received_ended tool PeerGone l g ended there = absurd (there refl)
+
+sent_ended : (tool : Tool) (end : StageEnd) (l g : List Message) → HasEndedSo tool end l g → end ≢ PeerGone → IsEnded g
+sent_ended tool Well l g ended there = inl (subst (EndsBy Whole) (sym ended.answer) (stream_ends_whole ended.results))
+sent_ended tool Broken l g ended there = inr (ended.full.ends BrokenOff ended.ends)
+sent_ended tool (Fault fault) l g ended there = inr (subst (EndsBy BrokenOff) (sym ended.answer) (ends_with ended.given Stop ended.unbroken))
+sent_ended tool PeerGone l g ended there = absurd (there refl)
+
+drained_between : (tool next : Tool) (end after : StageEnd) (link : Link) (l g : List Message) → IsStage tool end l (sent link.producer) → IsWhole link → IsStage next after (received link.consumer) g → end ≢ PeerGone → after ≢ PeerGone → IsDrained link
+drained_between tool next end after link l g first whole second there also =
+    nothing_follows (received link.consumer) (known_items link.consumer) (received_ended next after (received link.consumer) g second.ended also) (subst IsEnded whole.in_order (sent_ended tool end l (sent link.producer) first.ended there))
+
+-- ---- one stage more
+
+no_stages : (tools : List Tool) (links : List Link) (took gave : List Message) → AreStages tools [] links took gave → ⊥
+no_stages [] links took gave are = are
+no_stages (t ∷ tools) links took gave are = are
+
+pub add_stage : (tools : List Tool) (ends : List StageEnd) (links : List Link) (tool : Tool) (end : StageEnd) (link : Link) (took gave : List Message)
+    → AreStages tools ends links took (sent link.producer) → IsWhole link → IsStage tool end (received link.consumer) gave → AreStages (tools ++ tool ∷ []) (ends ++ end ∷ []) (links ++ link ∷ []) took gave
+add_stage [] ends links tool end link took gave are whole is = absurd are
+add_stage (t ∷ tools) [] links tool end link took gave are whole is = absurd are
+add_stage (t ∷ []) (e ∷ []) [] tool end link took gave are whole is = (are.2, whole, (λ there also. drained_between t tool e end link took gave are.2 whole is there also), (refl, refl, is))
+add_stage (t ∷ []) (e ∷ e2 ∷ ends) [] tool end link took gave are whole is = let none = are.1 in absurd cc
+add_stage (t ∷ t2 ∷ tools) (e ∷ ends) [] tool end link took gave are whole is = let none = are.0 in absurd cc
+add_stage (t ∷ tools) (e ∷ []) (l ∷ links) tool end link took gave are whole is = absurd (no_stages tools links (received l.consumer) (sent link.producer) are.3)
+add_stage (t ∷ tools) (e ∷ e2 ∷ ends) (l ∷ links) tool end link took gave are whole is =
+    (are.0, are.1, are.2, add_stage tools (e2 ∷ ends) links tool end link (received l.consumer) gave are.3 whole is)
+
+-- ---- how many
+
+pub count : (tools : List Tool) (ends : List StageEnd) (links : List Link) (took gave : List Message) → AreStages tools ends links took gave → (length ends ≡ length tools) × (length links + 1 ≡ length tools)
+count [] ends links took gave are = absurd are
+count (t ∷ tools) [] links took gave are = absurd are
+count (t ∷ []) (e ∷ []) [] took gave are = (refl, refl)
+count (t ∷ []) (e ∷ e2 ∷ ends) [] took gave are = let none = are.1 in absurd cc
+count (t ∷ t2 ∷ tools) (e ∷ ends) [] took gave are = let none = are.0 in absurd cc
+count (t ∷ tools) (e ∷ ends) (l ∷ links) took gave are =
+    let rest = count tools ends links (received l.consumer) gave are.3 in
+    (ap suc rest.0, omega (arith, rest.1))
+
+-- ---- where no stage saw a neighbour's end dropped
+
+first_is_there : (tools : List Tool) (ends : List StageEnd) (links : List Link) (took gave : List Message) → AreStages tools ends links took gave → AllByRecursion (λ end. end ≢ PeerGone) ends → FirstIsThere ends
+first_is_there tools [] links took gave are all = absurd (no_stages tools links took gave are)
+first_is_there tools (e ∷ ends) links took gave are all = all.0
+
+all_drained : (tools : List Tool) (ends : List StageEnd) (links : List Link) (took gave : List Message) → AreStages tools ends links took gave → AllByRecursion (λ end. end ≢ PeerGone) ends → AllByRecursion IsDrained links
+all_drained tools ends [] took gave are all = tt
+all_drained [] ends (l ∷ links) took gave are all = absurd are
+all_drained (t ∷ tools) [] (l ∷ links) took gave are all = absurd are
+all_drained (t ∷ tools) (e ∷ ends) (l ∷ links) took gave are all =
+    (are.2 all.0 (first_is_there tools ends links (received l.consumer) gave are.3 all.1), all_drained tools ends links (received l.consumer) gave are.3 all.1)
+
+-- ---- where all ended well
+
+none_gone : (ends : List StageEnd) → AllByRecursion (λ end. end ≡ Well) ends → AllByRecursion (λ end. end ≢ PeerGone) ends
+none_gone [] all = tt
+none_gone (e ∷ ends) all = ((λ gone. let well = all.0 in absurd cc), none_gone ends all.1)
+
+one_well : (tool : Tool) (l g : List Message) (images results : List Image) → IsStreamOf l images → AreResults tool images results → g ≡ messages_of_stream results → HasAnsweredStream (tool ∷ []) l g
+one_well tool l g images results stream made answer = record { images = images; results = results; stream = stream; made = results_in_turn tool [] images results results made (same_in_turn results); answer = answer }
+
+pub all_well : (tools : List Tool) (ends : List StageEnd) (links : List Link) (took gave : List Message) → AreLawfulTools tools → AreStages tools ends links took gave → AllByRecursion (λ end. end ≡ Well) ends → HasAnsweredStream tools took gave
+all_well [] ends links took gave lawful are all = absurd are
+all_well (t ∷ tools) [] links took gave lawful are all = absurd are
+all_well (t ∷ []) (e ∷ ends) [] took gave lawful are all =
+    let ended = subst (λ (x : StageEnd). HasEndedSo t x took gave) all.0 are.2.ended in
+    one_well t took gave ended.images ended.results ended.stream ended.made ended.answer
+all_well (t ∷ t2 ∷ tools) (e ∷ ends) [] took gave lawful are all = let none = are.0 in absurd cc
+all_well (t ∷ tools) (e ∷ ends) (l ∷ links) took gave lawful are all =
+    let ended = subst (λ (x : StageEnd). HasEndedSo t x took (sent l.producer)) all.0 are.0.ended in
+    let there = none_gone (e ∷ ends) all in
+    let none_left = are.2 there.0 (first_is_there tools ends links (received l.consumer) gave are.3 there.1) in
+    let passed : received l.consumer ≡ messages_of_stream ended.results = sym (append-nil (received l.consumer)) ∙ ap (λ (x : List Message). received l.consumer ++ x) (sym none_left) ∙ sym are.1.in_order ∙ ended.answer in
+    let others = all_well tools ends links (received l.consumer) gave lawful.1 are.3 all.1 in
+    let same : ended.results ≡ others.images = others.stream.only ended.results (results_are_images t ended.images ended.results lawful.0 ended.stream.images ended.made) passed in
+    record {
+      images = ended.images;
+      results = others.results;
+      stream = ended.stream;
+      made = results_in_turn t tools ended.images ended.results others.results ended.made (subst (λ (x : List Image). AreResultsInTurn tools x others.results) (sym same) others.made);
+      answer = others.answer;
+    }
+
+-- ---- however they ended
+
+one_due : (tool : Tool) (l g : List Message) → IsLawfulTool tool → IsFrontOfDue (output_due tool) l g → IsFrontOfDue (due_in_turn (tool ∷ [])) l g
+one_due tool l g lawful due = record {
+  accepted = due.accepted;
+  rest = due.rest;
+  parts = due.parts;
+  lawful = due.lawful;
+  front = λ is completes. front_by_results tool [] is (without_stop g) (without_stop g) lawful completes.images (due.front is completes)
+      (λ js are front. subst (IsFrontOf (without_stop g)) (sym (nothing_changes js)) front);
+}
+
+-- what was accepted of what was received, without a last Stop, is a front of what was sent
+accepted_of_sent : (accepted rest received left sent : List Message) → received ≡ accepted ++ rest → sent ≡ received ++ left → IsFrontOf (without_stop accepted) (without_stop sent)
+accepted_of_sent accepted rest received left sent parts whole =
+    subst (λ (x : List Message). IsFrontOf (without_stop accepted) (without_stop x)) (sym (whole ∙ ap (λ (x : List Message). x ++ left) parts ∙ append_assoc accepted rest left)) (front_without_stop accepted (rest ++ left))
+
+pub all_due : (tools : List Tool) (ends : List StageEnd) (links : List Link) (took gave : List Message) → AreLawfulTools tools → AreStages tools ends links took gave → IsFrontOfDue (due_in_turn tools) took gave
+all_due [] ends links took gave lawful are = absurd are
+all_due (t ∷ tools) [] links took gave lawful are = absurd are
+all_due (t ∷ []) (e ∷ ends) [] took gave lawful are = one_due t took gave lawful.0 are.2.due
+all_due (t ∷ t2 ∷ tools) (e ∷ ends) [] took gave lawful are = let none = are.0 in absurd cc
+all_due (t ∷ tools) (e ∷ ends) (l ∷ links) took gave lawful are =
+    let first = are.0.due in
+    let others = all_due tools ends links (received l.consumer) gave lawful.1 are.3 in
+    record {
+      accepted = first.accepted;
+      rest = first.rest;
+      parts = first.parts;
+      lawful = first.lawful;
+      front = λ is completes. front_by_results t tools is (without_stop others.accepted) (without_stop gave) lawful.0 completes.images
+          (front_of_front (without_stop others.accepted) (without_stop (sent l.producer)) (output_due t is)
+          (accepted_of_sent others.accepted others.rest (received l.consumer) (known_items l.consumer) (sent l.producer) others.parts are.1.in_order) (first.front is completes))
+          (λ js images front. others.front js (record { images = images; front = front }));
+    }
+
+-- ---- the chain
+
+pub chain_has_run : (tools : List Tool) (ends : List StageEnd) (links : List Link) (r r' s s' : List Message) → AreLawfulTools tools → HasRunStages tools ends links r r' s s' → HasRunChain tools ends links r r' s s'
+chain_has_run tools ends links r r' s s' lawful run =
+    let counts = count tools ends links run.took run.gave run.stages in
+    record {
+      took = run.took;
+      gave = run.gave;
+      input = run.input;
+      output = run.output;
+      count = counts.0;
+      between = counts.1;
+      stages = run.stages;
+      drained = all_drained tools ends links run.took run.gave run.stages;
+      well = all_well tools ends links run.took run.gave lawful run.stages;
+      due = all_due tools ends links run.took run.gave lawful run.stages;
+    }
+
+-- a chain of one
+pub one_stage : (tool : Tool) (end : StageEnd) (r r' left s s' : List Message) → HasRunStage tool end r r' left s s' → HasRunStages (tool ∷ []) (end ∷ []) [] r r' s s'
+one_stage tool end r r' left s s' run = record { took = run.took; gave = run.gave; input = run.input; output = run.output; stages = (refl, refl, run.stage) }
+
+-- a chain, and a stage after it, over a ring that had passed nothing before
+stages_after : (tools : List Tool) (ends : List StageEnd) (links : List Link) (tool : Tool) (end : StageEnd) (link : Link) (r r' s s' left p p' c c' : List Message)
+    → p ≡ [] → c ≡ [] → HasRunStages tools ends links r r' p p' → HasRunStage tool end c c' left s s' → IsWhole link → sent link.producer ≡ p' → received link.consumer ≡ c'
+    → HasRunStages (tools ++ tool ∷ []) (ends ++ end ∷ []) (links ++ link ∷ []) r r' s s'
+stages_after tools ends links tool end link r r' s s' left p p' c c' no_p no_c run last whole sends receives =
+    let gave : p' ≡ run.gave = run.output ∙ ap (λ (x : List Message). x ++ run.gave) no_p in
+    let took : c' ≡ last.took = last.input ∙ ap (λ (x : List Message). x ++ last.took) no_c in
+    record {
+      took = run.took;
+      gave = last.gave;
+      input = run.input;
+      output = last.output;
+      stages = add_stage tools ends links tool end link run.took last.gave (subst (AreStages tools ends links run.took) (sym (sends ∙ gave)) run.stages) whole (subst (λ (x : List Message). IsStage tool end x last.gave) (sym (receives ∙ took)) last.stage);
+    }
+
+-- the lists that came of it
+pub stages_joined : (tools all : List Tool) (ends all_ends : List StageEnd) (links all_links : List Link) (tool : Tool) (end : StageEnd) (r r' s s' left p p' c c' : List Message)
+    → p ≡ [] → c ≡ [] → HasRunStages tools ends links r r' p p' → HasRunStage tool end c c' left s s'
+    → all ≡ tools ++ tool ∷ [] → all_ends ≡ ends ++ end ∷ [] → (link : Link) × (all_links ≡ links ++ link ∷ []) × IsWhole link × (sent link.producer ≡ p') × (received link.consumer ≡ c')
+    → HasRunStages all all_ends all_links r r' s s'
+stages_joined tools all ends all_ends links all_links tool end r r' s s' left p p' c c' no_p no_c run last parts end_last link =
+    let joined = stages_after tools ends links tool end link.0 r r' s s' left p p' c c' no_p no_c run last link.2 link.3 link.4 in
+    subst (λ (x : List Tool). HasRunStages x all_ends all_links r r' s s') (sym parts)
+    (subst (λ (x : List StageEnd). HasRunStages (tools ++ tool ∷ []) x all_links r r' s s') (sym end_last)
+    (subst (λ (x : List Link). HasRunStages (tools ++ tool ∷ []) (ends ++ end ∷ []) x r r' s s') (sym link.1) joined))
+
+-- a chain that came back
+pub came_back : (tools : List Tool) (links_room ends_room : ℕ) (input : Consumer Message Global AnyMessage) (output : Producer Message Global AnyMessage) (result : Option ChainDone) (done : ChainDone) → IfSome result (HasRunBetween tools links_room ends_room input output) → result ≡ Some done → HasRunBetween tools links_room ends_room input output done
+came_back tools links_room ends_room input output result done has is = subst (λ (x : Option ChainDone). IfSome x (HasRunBetween tools links_room ends_room input output)) is has
+
+-- there is still room for a link and an end
+pub has_room : (tools : List Tool) (links_room ends_room : ℕ) (input : Consumer Message Global AnyMessage) (output : Producer Message Global AnyMessage) (done : ChainDone) → HasRunBetween tools links_room ends_room input output done → length tools + 1 ≤ max_tools → max_tools ≤ links_room → max_tools ≤ ends_room
+    → (length done.links.items < vec_capacity done.links) × (length done.ends.items < vec_capacity done.ends)
+has_room tools links_room ends_room input output done has few links ends =
+    let counts = count tools done.ends.items done.links.items has.ran.took has.ran.gave has.ran.stages in
+    (omega (arith, counts.1, has.for_links), omega (arith, counts.0, has.for_ends))
+
+lawful_last : (tools : List Tool) (tool : Tool) → AreLawfulTools (tools ++ tool ∷ []) → IsLawfulTool tool × AreLawfulTools tools
+lawful_last [] tool lawful = (lawful.0, tt)
+lawful_last (t ∷ tools) tool lawful =
+    let rest = lawful_last tools tool lawful.1 in
+    (rest.0, (lawful.0, rest.1))
+
+-- the last of lawful tools, and those before it
+pub last_is_lawful : (all tools : List Tool) (tool : Tool) → all ≡ tools ++ tool ∷ [] → AreLawfulTools all → IsLawfulTool tool × AreLawfulTools tools
+last_is_lawful all tools tool parts lawful = lawful_last tools tool (subst AreLawfulTools parts lawful)
+
+pub chain_came_back : (tools : List Tool) (links_room ends_room : ℕ) (input : Consumer Message Global AnyMessage) (output : Producer Message Global AnyMessage) (result : Result ChainDone NoStart) → AreLawfulTools tools → IfOk result (HasRunBetween tools links_room ends_room input output)
+    → IfOk result (λ done. HasRunChain tools done.ends.items done.links.items (received input) (received done.input) (sent output) (sent done.output))
+chain_came_back tools links_room ends_room input output (Ok done) lawful has = chain_has_run tools done.ends.items done.links.items (received input) (received done.input) (sent output) (sent done.output) lawful has.ran
+chain_came_back tools links_room ends_room input output (Err refused) lawful has = tt

@@ -1,0 +1,13 @@
+use Rattle.std.proofs.Common.{◌≡◌, None}
+use Rattle.rtrb.specs.Ring.{sent, received, SameProducer, SameConsumer}
+use Rattle.pnm_tools.specs.Answers.{More}
+use Rattle.pnm_flow.specs.SerialStages.{refusal_in}
+use Rattle.pnm_flow.proofs.StagedSteps.{IsPassing}
+use Rattle.pnm_flow.proofs.stage.pass_all.Given as goal
+
+-- what has passed so far
+abbrev pub invariant-loop : goal.invariant-loop
+invariant-loop g l =
+    SameConsumer l.fn.input l.input × SameProducer l.fn.output l.output
+    × IsPassing g.F.Filter.at g.F.Filter.all_given g.F.Filter.stopped More l.fn.stage l.stage (received l.fn.input) (received l.input) (sent l.fn.output) (sent l.output)
+    × (refusal_in l.stage ≡ None)

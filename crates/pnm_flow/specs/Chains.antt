@@ -1,0 +1,96 @@
+-- What a chain of stages has received and sent once all have ended: each tool in a thread of its own, with a ring between
+-- it and the next.
+use Rattle.std.specs.Prelude.{◌≡◌, ◌≢◌, ◌≤◌, ℕ, ◌+◌, length, List, [], ◌∷◌, ◌++◌}
+use Rattle.std.specs.Prelude.{vec_capacity}
+use Rattle.std.specs.Global.{Global}
+use Rattle.std.specs.List.{AllByRecursion}
+use Rattle.rtrb.specs.declared.producer.Producer.{Producer}
+use Rattle.rtrb.specs.declared.consumer.Consumer.{Consumer}
+use Rattle.rtrb.specs.Ring.{sent, received, SameProducer, SameConsumer}
+use Rattle.pnm_image.specs.declared.message.Message.{Message}
+use Rattle.pnm_image.specs.Limits.{max_tools}
+use Rattle.pnm_image.specs.Images.{Image, messages_of_stream}
+use Rattle.pnm_image.specs.Completion.{IsStreamOf}
+use Rattle.pnm_tools.specs.declared.tool.Tool.{Tool}
+use Rattle.pnm_tools.specs.Chains.{AreResultsInTurn, due_in_turn}
+use Rattle.pnm_flow.specs.declared.chain.ChainDone.{ChainDone}
+use Rattle.pnm_flow.specs.declared.link.Link.{Link}
+use Rattle.pnm_flow.specs.declared.ring.AnyMessage.{AnyMessage}
+use Rattle.pnm_flow.specs.declared.stage.StageEnd.{StageEnd}
+use Rattle.pnm_flow.specs.declared.stage.StageEnd.TheVariants.{Well, PeerGone}
+use Rattle.pnm_flow.specs.Links.{IsWhole, IsDrained}
+use Rattle.pnm_flow.specs.Stages.{IsStage, IsFrontOfDue}
+
+-- the first of these stages saw no neighbour's end dropped
+abbrev pub FirstIsThere : List StageEnd → Type 0
+FirstIsThere [] = ⊥
+FirstIsThere (end ∷ ends) = end ≢ PeerGone
+
+-- each tool has ended so with the messages of its two rings: the first received these, the last sent those, and the ring
+-- between a tool and the next is whole, and drained unless one of the two saw a neighbour's end dropped
+abbrev pub AreStages : List Tool → List StageEnd → List Link → List Message → List Message → Type 0
+AreStages [] ends links took gave = ⊥
+AreStages (tool ∷ tools) [] links took gave = ⊥
+AreStages (tool ∷ tools) (end ∷ ends) [] took gave = (tools ≡ []) × (ends ≡ []) × IsStage tool end took gave
+AreStages (tool ∷ tools) (end ∷ ends) (link ∷ links) took gave =
+    IsStage tool end took (sent link.producer) × IsWhole link × (end ≢ PeerGone → FirstIsThere ends → IsDrained link)
+    × AreStages tools ends links (received link.consumer) gave
+
+-- the stages of a chain, by the messages that its two outer rings had passed before and have passed now
+pub record HasRunStages (tools : List Tool) (ends : List StageEnd) (links : List Link) (received_old received_new sent_old sent_new : List Message) : Type 0 where
+  pub took : List Message
+  pub gave : List Message
+  pub input : received_new ≡ received_old ++ took
+  pub output : sent_new ≡ sent_old ++ gave
+  pub stages : AreStages tools ends links took gave
+
+-- the stream of the chain's results was sent for the stream that was received
+pub record HasAnsweredStream (tools : List Tool) (took gave : List Message) : Type 0 where
+  pub images : List Image
+  pub results : List Image
+  pub stream : IsStreamOf took images
+  pub made : AreResultsInTurn tools images results
+  pub answer : gave ≡ messages_of_stream results
+
+-- a chain has ended so, by the messages that its two outer rings had passed before and have passed now
+pub record HasRunChain (tools : List Tool) (ends : List StageEnd) (links : List Link) (received_old received_new sent_old sent_new : List Message) : Type 0 where
+  pub took : List Message
+  pub gave : List Message
+  pub input : received_new ≡ received_old ++ took
+  pub output : sent_new ≡ sent_old ++ gave
+  -- There is an end for each tool and a link between each two, and each is in its relation.
+  pub count : length ends ≡ length tools
+  pub between : length links + 1 ≡ length tools
+  pub stages : AreStages tools ends links took gave
+  -- Where no stage saw a neighbour's end dropped, nothing is left in a ring.
+  pub drained : AllByRecursion (λ end. end ≢ PeerGone) ends → AllByRecursion IsDrained links
+  -- Where all ended well, the results of all images were sent.
+  pub well : AllByRecursion (λ end. end ≡ Well) ends → HasAnsweredStream tools took gave
+  -- However they ended, what was sent is a front of what is due.
+  pub due : IsFrontOfDue (due_in_turn tools) took gave
+
+-- the stages of a chain between these ring ends, which came back; the lists still have so much room
+pub record HasRunBetween (tools : List Tool) (links_room ends_room : ℕ) (input : Consumer Message Global AnyMessage) (output : Producer Message Global AnyMessage) (done : ChainDone) : Type 0 where
+  pub same_input : SameConsumer input done.input
+  pub same_output : SameProducer output done.output
+  pub ran : HasRunStages tools done.ends.items done.links.items (received input) (received done.input) (sent output) (sent done.output)
+  pub for_links : vec_capacity done.links ≡ links_room
+  pub for_ends : vec_capacity done.ends ≡ ends_room
+
+-- ---- before a chain has started
+
+-- these are the two ring ends, over which nothing has passed since
+abbrev pub IsUntouched : {A P : Type 0} → Consumer Message A P → Producer Message A P → (Consumer Message A P × Producer Message A P) → Type 0
+IsUntouched input output ends =
+    SameConsumer input ends.0 × (received ends.0 ≡ received input) × SameProducer output ends.1 × (sent ends.1 ≡ sent output)
+
+-- two lists without members have room for the links and the ends of as many tools as a chain may have
+pub record HasRoom (links : List Link) (links_room : ℕ) (ends : List StageEnd) (ends_room : ℕ) : Type 0 where
+  pub no_links : links ≡ []
+  pub no_ends : ends ≡ []
+  pub for_links : max_tools ≤ links_room
+  pub for_ends : max_tools ≤ ends_room
+
+-- the messages that a ring may hold, at most
+abbrev pub max_ring_capacity : ℕ
+max_ring_capacity = 1024

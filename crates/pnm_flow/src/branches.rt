@@ -1,0 +1,99 @@
+//! Two branches of work at once: one in a thread of its own, the other in the caller's.
+
+ghost use Rattle.std.specs.Prelude.{◌≡◌, IfSome};
+
+use std::snapshot::Snapshot;
+use std::sync::Wait;
+use std::thread;
+use std::thread::{Promise, Threads};
+
+/// Work that is done once. A thread is started with such a value, since a closure that is a parameter can't be.
+trait Task {
+    type Output;
+
+    ghost can_run: { Self → Type 0 };
+
+    ghost run_gives: { Self → Self.Output → Type 0 };
+
+    fn run(self) -> Self::Output
+        requires { can_run self }
+        ensures { run_gives self result };
+}
+
+/// The promise that a thread gives what its task does.
+#[derive(Drop)]
+struct Gives<S>(Snapshot<S>);
+
+impl<S: Task<Output = A>, A> Promise<A> for Gives<S> {
+    ghost kept_by = { λ p r. S.run_gives p.0.value r };
+}
+
+/// A closure as a task.
+#[derive(Drop)]
+struct Call<F>(F);
+
+impl<A, F: FnOnce() -> A> Task for Call<F> {
+    type Output = A;
+
+    ghost can_run = { λ c. F.pre c.0 };
+
+    ghost run_gives = { λ c r. F.post c.0 r };
+
+    fn run(self) -> A {
+        (self.0)()
+    }
+}
+
+/// Runs the first task in a thread of its own and the second here; none where the thread couldn't be started, and then
+/// the second isn't run.
+fn run_both<
+    R: Threads + Wait + Sync,
+    S: Task<Output = A> + Send + Drop,
+    T: Task<Output = B> + Drop,
+    A: Send + Drop,
+    B: Drop,
+>(rt: &R, first: S, second: T) -> Option<(A, B)>
+    requires { S.can_run first × T.can_run second }
+    ensures { IfSome result (λ r. S.run_gives first r.0 × T.run_gives second r.1) }
+{
+    thread::scope(
+        thread::scope_env(),
+        rt,
+        move |scope| -> Option<(A, B)>
+            requires { S.can_run first × T.can_run second }
+            ensures { IfSome result (λ r. S.run_gives first r.0 × T.run_gives second r.1) }
+        {
+            let started = scope.spawn_with(
+                Gives(Snapshot::of(&first)),
+                move || -> A
+                    requires { S.can_run first }
+                    ensures { S.run_gives first result }
+                { first.run() },
+            );
+            match started {
+                Ok(started) => {
+                    let here = second.run();
+                    Some((started.join(rt), here))
+                }
+                // The refused task goes, and with it what it holds.
+                Err(_) => None,
+            }
+        },
+    )
+}
+
+/// Runs the first closure in a thread of its own and the second here; none where the thread couldn't be started, and then
+/// neither is run.
+pub fn at_once<
+    R: Threads + Wait + Sync,
+    F: FnOnce() -> A + Send + Drop,
+    G: FnOnce() -> B + Send + Drop,
+    A: Send + Drop,
+    B: Send + Drop,
+>(rt: &R, f: F, g: G) -> Option<(A, B)>
+    requires { F.pre f × G.pre g }
+    ensures first { IfSome result (λ r. F.post f r.0) }
+    ensures second { IfSome result (λ r. G.post g r.1) }
+{
+    run_both(rt, Call(f), Call(g))
+}

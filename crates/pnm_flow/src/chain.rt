@@ -1,0 +1,255 @@
+//! A chain: its tools, each in a thread of its own, with a ring between a tool and the next.
+
+ghost use Rattle.std.specs.Prelude.{◌≡◌, ◌≤◌, ◌<◌, ◌+◌, [], ◌∷◌, ◌++◌, length, vec_capacity, IfOk, IfErr, IfSome};
+ghost use Rattle.std.specs.Thread.{IsSync};
+ghost use Rattle.rtrb.specs.Ring.{sent, received, known_items, IsPair, SameProducer, SameConsumer};
+ghost use Rattle.pnm_image.specs.Limits.{max_tools};
+ghost use Rattle.pnm_tools.specs.Chains.{AreLawfulTools, IsChain};
+ghost use Rattle.pnm_tools.specs.Tools.{IsLawfulTool};
+ghost use Rattle.pnm_flow.specs.Links.{IsWhole};
+ghost use Rattle.pnm_flow.specs.Stages.{HasRunStage};
+ghost use Rattle.pnm_flow.specs.Chains.{HasRunBetween, HasRunChain, IsUntouched, HasRoom, max_ring_capacity};
+
+use crate::branches::at_once;
+use crate::gate::Gate;
+use crate::link::Link;
+use crate::patience::Bell;
+use crate::ring::{Input, Output, new_ring};
+use crate::stage::{Bells, StageDone, StageEnd, run_stage_by};
+use pnm_image::limits::MAX_TOOLS;
+use pnm_tools::Tool;
+use std::alloc::Global;
+use std::sync::Wait;
+use std::thread::Threads;
+
+/// A chain that has ended: the ends of its outer rings, the rings between its tools, and how each tool
+/// has ended.
+#[derive(Drop)]
+pub struct ChainDone {
+    /// The end that the first tool received on.
+    pub input: Input,
+    /// The end that the last tool sent on.
+    pub output: Output,
+    /// The rings between a tool and the next, in the order of the tools: one less than there are tools.
+    pub links: Vec<Link>,
+    /// How each tool has ended, in their order.
+    pub ends: Vec<StageEnd>,
+}
+
+/// A chain that wasn't started whole: there was no memory for a ring or a list, or a thread couldn't be
+/// started.
+#[derive(Drop)]
+pub struct NoStart {
+    /// The ends of the outer rings, where no thread was to be started yet; nothing was sent or received
+    /// then. None once a start was tried, and then all threads that were started have ended.
+    pub ends: Option<(Input, Output)>,
+}
+
+/// Passes what comes on `input` through the tools to `output`, each tool a stage in a thread of its own
+/// but the first, which runs in this one. The rings between them hold so many messages each. The gate
+/// is called by each with its number, from 1, and lane 0. So far each tool has one lane.
+///
+/// It returns once all stages have ended, which they do when the end of the stream or Stop has come, or the
+/// input's other end is dropped; that the output's other end is dropped is seen only where its ring is
+/// full. So other threads have to send and take, or all that is to come is in the input, and there is room
+/// for what comes of it.
+pub fn run_chain<R: Threads + Wait + Sync, G: Gate>(
+    rt: &R,
+    alloc: Global,
+    tools: &[Tool],
+    capacity: usize,
+    _lanes: usize,
+    gate: &G,
+    input: Input,
+    output: Output,
+) -> Result<ChainDone, NoStart>
+    requires chain { IsChain tools.now }
+    requires capacity { (1 ≤ capacity) × (capacity ≤ max_ring_capacity) }
+    requires lanes { _lanes ≡ 1 }
+    ensures input { IfOk result (λ done. SameConsumer input done.input) }
+    ensures output { IfOk result (λ done. SameProducer output done.output) }
+    ensures ran { IfOk result (λ done. HasRunChain tools.now done.ends.items done.links.items
+        (received input) (received done.input) (sent output) (sent done.output)) }
+    ensures not_started { IfErr result (λ refused. IfSome refused.ends (IsUntouched input output)) }
+{
+    let Some(room) = Room::new(alloc) else {
+        return Err(not_started(input, output));
+    };
+    let own = Bell::new();
+    let nobody = Bell::of_nobody();
+    let bells = Bells {
+        left: &nobody,
+        own: &own,
+        right: &nobody,
+    };
+    run_stages(rt, alloc, tools, capacity, gate, input, output, room, bells)
+}
+
+/// Room for what a chain gives back, made before any thread is started.
+#[derive(Drop)]
+struct Room {
+    links: Vec<Link>,
+    ends: Vec<StageEnd>,
+}
+
+impl Room {
+    /// Room for as many tools as a chain may have; none where there is no memory.
+    fn new(alloc: Global) -> Option<Room>
+        ensures { IfSome result (λ room. HasRoom room.links.items (vec_capacity room.links) room.ends.items (vec_capacity room.ends)) }
+    {
+        let links = Vec::with_capacity(alloc, MAX_TOOLS).ok()?;
+        let ends = Vec::with_capacity(alloc, MAX_TOOLS).ok()?;
+        Some(Room { links, ends })
+    }
+}
+
+/// The stages of the tools, at least one: the last in a thread of its own, beside those before it. Its
+/// bells are those of the last tool and of the neighbours of all.
+fn run_stages<R: Threads + Wait + Sync, G: Gate>(
+    rt: &R,
+    alloc: Global,
+    tools: &[Tool],
+    capacity: usize,
+    gate: &G,
+    input: Input,
+    output: Output,
+    room: Room,
+    bells: Bells<'_>,
+) -> Result<ChainDone, NoStart>
+    requires shared { IsSync R.row × IsSync G.row }
+    requires tools { AreLawfulTools tools.now × (1 ≤ length tools.now) × (length tools.now ≤ max_tools) }
+    requires room { HasRoom room.links.items (vec_capacity room.links) room.ends.items (vec_capacity room.ends) }
+    ensures ran { IfOk result (HasRunBetween tools.now (vec_capacity room.links) (vec_capacity room.ends) input output) }
+    ensures not_started { IfErr result (λ refused. IfSome refused.ends (IsUntouched input output)) }
+{
+    let (last, others) = last_and_others(tools);
+    if others.is_empty() {
+        return Ok(only(
+            run_stage_by(rt, alloc, last, 1, gate, input, output, bells),
+            room,
+        ));
+    }
+    let Some((producer, consumer)) = new_ring(alloc, capacity) else {
+        return Err(not_started(input, output));
+    };
+    let number = tools.len();
+    // The bell of the tool before the last stands here, below the threads of both its neighbours.
+    let before = Bell::new();
+    let next = &before;
+    let Bells { left, own, right } = bells;
+    let both = at_once(
+        rt,
+        move || -> StageDone
+            requires { IsLawfulTool last.now }
+            ensures { SameConsumer consumer result.input × SameProducer output result.output
+                × HasRunStage last.entry.now result.end (received consumer) (received result.input) (known_items result.input)
+                (sent output) (sent result.output) }
+        {
+            let bells = Bells {
+                left: next,
+                own,
+                right,
+            };
+            run_stage_by(rt, alloc, last, number, gate, consumer, output, bells)
+        },
+        move || -> Option<ChainDone>
+            requires { (IsSync R.row × IsSync G.row)
+                × (AreLawfulTools others.now × (1 ≤ length others.now) × (length others.now ≤ max_tools))
+                × HasRoom room.links.items (vec_capacity room.links) room.ends.items (vec_capacity room.ends) }
+            ensures { IfSome result (HasRunBetween others.entry.now (vec_capacity room.links) (vec_capacity room.ends) input producer) }
+        {
+            let bells = Bells {
+                left,
+                own: next,
+                right: own,
+            };
+            // Where they weren't started, their ring ends go here, before the last tool is waited for.
+            run_stages(
+                rt, alloc, others, capacity, gate, input, producer, room, bells,
+            )
+            .ok()
+        },
+    );
+    let Some((done, chain)) = both else {
+        return Err(NoStart { ends: None });
+    };
+    match chain {
+        Some(chain) => Ok(joined(chain, done)),
+        None => Err(NoStart { ends: None }),
+    }
+}
+
+/// A chain of which nothing has been started: its ring ends come back.
+fn not_started(input: Input, output: Output) -> NoStart
+    ensures { IfSome result.ends (IsUntouched input output) }
+{
+    NoStart {
+        ends: Some((input, output)),
+    }
+}
+
+/// The last of the tools, and those before it.
+fn last_and_others(tools: &[Tool]) -> (&Tool, &[Tool])
+    requires lawful { AreLawfulTools tools.now }
+    requires some { 1 ≤ length tools.now }
+    ensures parts { tools.now ≡ result.1.now ++ result.0.now ∷ [] }
+    ensures one_less { length result.1.now + 1 ≡ length tools.now }
+    ensures lawful { IsLawfulTool result.0.now × AreLawfulTools result.1.now }
+{
+    match tools.split_last() {
+        Some((last, others)) => (last, others),
+        None => unreachable!(),
+    }
+}
+
+/// A chain of one stage.
+fn only(done: StageDone, room: Room) -> ChainDone
+    requires { HasRoom room.links.items (vec_capacity room.links) room.ends.items (vec_capacity room.ends) }
+    ensures ends { (result.input ≡ done.input) × (result.output ≡ done.output) }
+    ensures lists { (result.links.items ≡ []) × (result.ends.items ≡ done.end ∷ []) }
+    ensures room { (vec_capacity result.links ≡ vec_capacity room.links) × (vec_capacity result.ends ≡ vec_capacity room.ends) }
+{
+    let StageDone { input, output, end } = done;
+    let Room { links, mut ends } = room;
+    ends.push_reserved(end);
+    ChainDone {
+        input,
+        output,
+        links,
+        ends,
+    }
+}
+
+/// A chain and the stage after it.
+fn joined(chain: ChainDone, done: StageDone) -> ChainDone
+    requires ring { IsPair chain.output done.input }
+    requires room { (length chain.links.items < vec_capacity chain.links) × (length chain.ends.items < vec_capacity chain.ends) }
+    ensures input { result.input ≡ chain.input }
+    ensures output { result.output ≡ done.output }
+    ensures link { (link : _) × (result.links.items ≡ chain.links.items ++ link ∷ []) × IsWhole link
+        × (sent link.producer ≡ sent chain.output) × (received link.consumer ≡ received done.input) }
+    ensures end { result.ends.items ≡ chain.ends.items ++ done.end ∷ [] }
+    ensures room { (vec_capacity result.links ≡ vec_capacity chain.links) × (vec_capacity result.ends ≡ vec_capacity chain.ends) }
+{
+    let ChainDone {
+        input,
+        output: mut producer,
+        mut links,
+        mut ends,
+    } = chain;
+    let StageDone {
+        input: mut consumer,
+        output,
+        end,
+    } = done;
+    // What is left in the ring is known now.
+    consumer.slots_beside(&mut producer);
+    links.push_reserved(Link { producer, consumer });
+    ends.push_reserved(end);
+    ChainDone {
+        input,
+        output,
+        links,
+        ends,
+    }
+}

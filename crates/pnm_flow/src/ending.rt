@@ -1,0 +1,27 @@
+//! How a message ends a stream.
+
+ghost use Rattle.std.specs.Prelude.{◌≡◌};
+ghost use Rattle.pnm_tools.specs.Answers.{ending_of};
+ghost use Rattle.pnm_flow.specs.Links.{ending_by};
+
+use pnm_image::Message;
+
+/// How a message ends a stream: it doesn't, the stream is whole, or it was broken off.
+#[derive(Clone, Copy, Debug, PartialEq, Eq)]
+pub enum Ending {
+    More,
+    Whole,
+    BrokenOff,
+}
+
+impl Ending {
+    pub fn of(message: &Message) -> Ending
+        ensures { ending_by result ≡ ending_of message.now }
+    {
+        match message {
+            Message::Begin(_) | Message::Row(_) | Message::ImageEnd => Ending::More,
+            Message::StreamEnd => Ending::Whole,
+            Message::Stop => Ending::BrokenOff,
+        }
+    }
+}

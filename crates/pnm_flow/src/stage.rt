@@ -1,0 +1,202 @@
+//! A stage of a chain: a tool in a thread of its own, between two rings.
+
+ghost use Rattle.std.specs.Prelude.{◌≡◌, [], ◌++◌, List};
+ghost use Rattle.rtrb.specs.Ring.{sent, received, known_items, SameProducer, SameConsumer};
+ghost use Rattle.pnm_tools.specs.declared.tool.Tool.{Tool as ToolValue};
+ghost use Rattle.pnm_tools.specs.Tools.{IsLawfulTool};
+ghost use Rattle.pnm_flow.specs.SerialStages.{StageAt};
+ghost use Rattle.pnm_flow.specs.Stages.{HasRunStage};
+ghost use Rattle.pnm_flow.specs.StageParts.{HasSentAnswers, HasDrainedAfter, HasBrokenOffAfter};
+
+use crate::ending::Ending;
+use crate::gate::Gate;
+use crate::patience::Bell;
+use crate::ring::{Input, Output, drain, give, take};
+use crate::serial_stage::{SerialStage, stage_of};
+use pnm_image::Message;
+use pnm_tools::{Filter, Tool, ToolFault};
+use std::alloc::Global;
+use std::sync::Wait;
+
+/// How a stage has ended.
+#[derive(Clone, Copy, Debug, PartialEq, Eq)]
+pub enum StageEnd {
+    /// The end of the stream was taken, and the tool's was sent.
+    Well,
+    /// Stop was taken, and sent.
+    Broken,
+    /// The tool refused so; Stop was sent, and the input was taken and dropped through its end or its
+    /// Stop.
+    Fault(ToolFault),
+    /// The other end of a ring was seen dropped. Where it was the output's, the input was drained
+    /// first; where it was the input's, Stop was sent.
+    PeerGone,
+}
+
+/// The ring ends of a stage that has ended, and how it did.
+#[derive(Drop)]
+pub struct StageDone {
+    /// The end that it received on.
+    pub input: Input,
+    /// The end that it sent on.
+    pub output: Output,
+    /// How it has ended.
+    pub end: StageEnd,
+}
+
+/// The bells of a stage and of its neighbours.
+#[derive(Clone, Copy)]
+pub struct Bells<'a> {
+    pub left: &'a Bell,
+    pub own: &'a Bell,
+    pub right: &'a Bell,
+}
+
+/// Passes what comes on `input` through the tool to `output`, message by message, until the stream
+/// has ended. The gate is called once, with the tool's number and lane 0, before the first message is
+/// taken. Where the input's other end is dropped early, or the output's, the stage ends by `PeerGone`;
+/// else only once the end of the stream or Stop was taken.
+pub fn run_stage<R: Wait, G: Gate>(
+    rt: &R,
+    alloc: Global,
+    tool: &Tool,
+    number: usize,
+    gate: &G,
+    input: Input,
+    output: Output,
+) -> StageDone
+    requires { IsLawfulTool tool.now }
+    ensures input { SameConsumer input result.input }
+    ensures output { SameProducer output result.output }
+    ensures ran { HasRunStage tool.now result.end (received input) (received result.input) (known_items result.input)
+        (sent output) (sent result.output) }
+{
+    let nobody = Bell::of_nobody();
+    let own = Bell::new();
+    let bells = Bells {
+        left: &nobody,
+        own: &own,
+        right: &nobody,
+    };
+    run_stage_by(rt, alloc, tool, number, gate, input, output, bells)
+}
+
+/// The same, beside neighbours that have bells.
+pub fn run_stage_by<R: Wait, G: Gate>(
+    rt: &R,
+    alloc: Global,
+    tool: &Tool,
+    number: usize,
+    gate: &G,
+    input: Input,
+    output: Output,
+    bells: Bells<'_>,
+) -> StageDone
+    requires { IsLawfulTool tool.now }
+    ensures input { SameConsumer input result.input }
+    ensures output { SameProducer output result.output }
+    ensures ran { HasRunStage tool.now result.end (received input) (received result.input) (known_items result.input)
+        (sent output) (sent result.output) }
+{
+    let mut input = input;
+    let mut output = output;
+    gate.arrive(number, 0);
+    let mut stage = stage_of(alloc, tool);
+    let end = pass_all(rt, &mut stage, &mut input, &mut output, bells);
+    StageDone { input, output, end }
+}
+
+/// Passes on all messages through to the end of the stream.
+fn pass_all<R: Wait, F: Filter + Drop>(
+    rt: &R,
+    stage: &mut SerialStage<F>,
+    input: &mut Input,
+    output: &mut Output,
+    bells: Bells<'_>,
+) -> StageEnd
+    ensures input { SameConsumer input.old input.new }
+    ensures output { SameProducer output.old output.new }
+    ensures ran { (tool : ToolValue) → StageAt F.at F.all_given F.stopped stage.old tool [] []
+        → HasRunStage tool result (received input.old) (received input.new) (known_items input.new)
+        (sent output.old) (sent output.new) }
+{
+    if let Some(fault) = stage.fault() {
+        return break_off(rt, fault, Ending::More, input, output, bells);
+    }
+    for _ in rt.forever() {
+        let Some(message) = take(rt, input, bells.own, bells.left) else {
+            give(rt, output, Message::Stop, bells.own, bells.right);
+            return StageEnd::PeerGone;
+        };
+        let ending = Ending::of(&message);
+        stage.feed(message);
+        if !send_answers(rt, stage, output, bells) {
+            drain_after(rt, ending, input, bells);
+            return StageEnd::PeerGone;
+        }
+        if let Some(fault) = stage.fault() {
+            return break_off(rt, fault, ending, input, output, bells);
+        }
+        match ending {
+            Ending::More => {}
+            Ending::Whole => return StageEnd::Well,
+            Ending::BrokenOff => return StageEnd::Broken,
+        }
+    }
+    unreachable!()
+}
+
+/// Sends what the tool gives, until it has given all, or refused; false where the output's other end
+/// was seen dropped before.
+fn send_answers<R: Wait, F: Filter + Drop>(
+    rt: &R,
+    stage: &mut SerialStage<F>,
+    output: &mut Output,
+    bells: Bells<'_>,
+) -> bool
+    ensures output { SameProducer output.old output.new }
+    ensures sent { HasSentAnswers F.at F.all_given F.stopped result stage.old stage.new (sent output.old) (sent output.new) }
+{
+    while let Some(answer) = stage.next() {
+        if !give(rt, output, answer, bells.own, bells.right) {
+            return false;
+        }
+    }
+    true
+}
+
+/// Ends the stage of a tool that refused at a message with this ending: sends Stop, and drops what
+/// comes through to the end of the stream.
+fn break_off<R: Wait>(
+    rt: &R,
+    fault: ToolFault,
+    ending: Ending,
+    input: &mut Input,
+    output: &mut Output,
+    bells: Bells<'_>,
+) -> StageEnd
+    ensures input { SameConsumer input.old input.new }
+    ensures output { SameProducer output.old output.new }
+    ensures broken { HasBrokenOffAfter fault ending result (received input.old) (received input.new) (known_items input.new)
+        (sent output.old) (sent output.new) }
+{
+    let told = give(rt, output, Message::Stop, bells.own, bells.right);
+    let drained = drain_after(rt, ending, input, bells);
+    if told && drained {
+        StageEnd::Fault(fault)
+    } else {
+        StageEnd::PeerGone
+    }
+}
+
+/// After a message with this ending, takes and drops what comes through to the end of the stream;
+/// false where the input's other end was seen dropped before.
+fn drain_after<R: Wait>(rt: &R, ending: Ending, input: &mut Input, bells: Bells<'_>) -> bool
+    ensures input { SameConsumer input.old input.new }
+    ensures drained { HasDrainedAfter ending result (received input.old) (received input.new) (known_items input.new) }
+{
+    match ending {
+        Ending::More => drain(rt, input, bells.own, bells.left),
+        Ending::Whole | Ending::BrokenOff => true,
+    }
+}

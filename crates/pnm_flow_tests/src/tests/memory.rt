@@ -1,0 +1,106 @@
+//! Want of memory. `scripts/refused_growth_of_chains.sh` refuses each allocation of these tests in turn.
+
+use super::chains::{LAST_COLUMN, are_lawful, channel};
+use super::rings::{IMAGE, Part, Unmade, holds, is_made_of, ring, send_all};
+use super::threads::chain;
+use pnm_flow::{OpenGate, RunFault, StageEnd, Summary, run_serial};
+use pnm_image::Device;
+use pnm_read::InputFault;
+use pnm_tools::{FlipWay, Tool, ToolFault};
+use std::alloc::Global;
+use std::process::Abort;
+use std::sync::Wait;
+use std::thread::Threads;
+
+/// A plain image would be one alone, so these are raw; the second has more samples than its maxval.
+const STREAM: &[u8] =
+    b"P5\n2 1\n9\n\x01\x02P6\n2 2\n3\n\x00\x01\x02\x03\x02\x01\x00\x00\x00\x01\x02\x03";
+
+const PICKED: &[u8] =
+    b"P7\nWIDTH 1\nHEIGHT 1\nDEPTH 2\nMAXVAL 255\nTUPLTYPE T\nENDHDR\n\x39\x39P7\nWIDTH 1\nHEIGHT 2\nDEPTH 2\nMAXVAL 255\nTUPLTYPE T\nENDHDR\n\xff\xff\x55\x55";
+
+/// What a run over three tools answers; none where there is no memory for these. Whatever it is, a
+/// front of the whole output is written, and want of memory alone can be at fault.
+fn run_short_of_memory(rt: &impl Abort, alloc: Global) -> Option<Summary> {
+    let Ok(planes) = channel(alloc, &[0, 0], b"T") else {
+        return None;
+    };
+    let tools = [Tool::Depth(255), Tool::Cut(LAST_COLUMN), planes];
+    assert!(rt; are_lawful(&tools));
+    let mut room = [0; 200];
+    let mut writer = Device::new(room.as_mut_slice());
+    let answer = run_serial(alloc, &mut Device::new(STREAM), &mut writer, &tools);
+    let rest = writer.into_inner().len();
+    assert!(rt; rest <= room.len());
+    let written = &room[..room.len() - rest];
+    match answer {
+        Ok(summary) => {
+            assert_eq!(rt; written, PICKED);
+            Some(summary)
+        }
+        Err(RunFault::Input(InputFault::Memory)) | Err(RunFault::Tool(1..=3, ToolFault::Memory)) =>
+            {
+                assert!(rt; PICKED.starts_with(written));
+                None
+            }
+        Err(fault) => {
+            assert!(rt; false, "not {fault:?}");
+            None
+        }
+    }
+}
+
+/// Each growth may be refused.
+#[test]
+fn answers_want_of_memory(rt: HostRuntime) {
+    let _ = run_short_of_memory(&rt, rt.alloc());
+}
+
+/// The same, where none is refused.
+#[test]
+fn ends_well_with_memory(rt: HostRuntime) {
+    let summary = run_short_of_memory(&rt, rt.alloc());
+    assert_eq!(rt; summary, Some(Summary { images: 2, rows: 3 }));
+}
+
+/// Whether all of three tools in threads end well with an image; not where memory ran out. Whatever they
+/// do, the chain ends: with Stop at last, unless it was answered in full; and one that wasn't started leaves its
+/// input as it was.
+fn end_in_threads<R: Threads + Wait + Abort + Sync>(rt: &R, alloc: Global) -> Result<bool, Unmade> {
+    let tools = [Tool::Invert, Tool::Flip(FlipWay::TopBottom), Tool::Invert];
+    let (mut producer, input) = ring(alloc, 8)?;
+    let (output, mut consumer) = ring(alloc, 8)?;
+    send_all(alloc, &mut producer, IMAGE)?;
+    match chain(rt, alloc, &tools, 1, &OpenGate, input, output) {
+        Ok(done) => {
+            let is_well = done.ends.iter().all(|end| *end == StageEnd::Well);
+            let mut is_stopped = false;
+            for _ in 0..8 {
+                if let Ok(message) = consumer.pop() {
+                    is_stopped = is_made_of(&message, Part::Stop);
+                }
+            }
+            assert!(rt; is_stopped != is_well);
+            Ok(is_well)
+        }
+        Err(refused) => {
+            if let Some((mut input, _output)) = refused.ends {
+                holds(rt, &mut input, IMAGE, "nothing was taken");
+            }
+            Ok(false)
+        }
+    }
+}
+
+/// Each growth may be refused.
+#[test]
+fn ends_in_threads_short_of_memory(rt: HostRuntime) {
+    let _ = end_in_threads(&rt, rt.alloc());
+}
+
+/// The same, where none is refused.
+#[test]
+fn ends_well_in_threads_with_memory(rt: HostRuntime) {
+    let is_well = end_in_threads(&rt, rt.alloc()).unwrap_or(false);
+    assert!(rt; is_well);
+}

@@ -1,0 +1,130 @@
+//! Rings of messages, and what they hold.
+
+use pnm_flow::{AnyMessage, StageEnd};
+use pnm_image::{Head, HeadFault, Kind, Message, Samples, Shape};
+use rtrb::{Consumer, Producer, RingBuffer};
+use std::alloc::{AllocError, Global};
+use std::process::Abort;
+
+/// The receiving end of a ring of messages.
+pub type Input = Consumer<Message, Global, AnyMessage>;
+
+/// The sending end of a ring of messages.
+pub type Output = Producer<Message, Global, AnyMessage>;
+
+/// What a message of gray images is made of.
+#[derive(Clone, Copy, Debug)]
+pub enum Part<'a> {
+    /// The width and the height of an image whose maxval is 122.
+    Begin(u32, u32),
+    Row(&'a [u16]),
+    ImageEnd,
+    StreamEnd,
+    Stop,
+}
+
+/// An image of one row, and the end of the stream.
+pub const IMAGE: &[Part<'static>] = &[
+    Part::Begin(2, 1),
+    Part::Row(&[65, 66]),
+    Part::ImageEnd,
+    Part::StreamEnd,
+];
+
+/// A message or a ring wasn't made, or not sent: there is no such head, memory ran out, or the ring is full.
+#[derive(Clone, Copy, Debug)]
+pub struct Unmade;
+
+impl From<AllocError> for Unmade {
+    fn from(_error: AllocError) -> Unmade {
+        Unmade
+    }
+}
+
+impl From<HeadFault> for Unmade {
+    fn from(_fault: HeadFault) -> Unmade {
+        Unmade
+    }
+}
+
+fn shape(width: u32, height: u32) -> Shape {
+    Shape {
+        kind: Kind::Gray,
+        width,
+        height,
+        depth: 1,
+        maxval: 122,
+    }
+}
+
+fn head(alloc: Global, shape: Shape) -> Result<Head, Unmade> {
+    if !Head::suits(shape.kind, shape.depth, shape.maxval, &[]) {
+        return Err(Unmade);
+    }
+    Ok(Head::new(alloc, shape, &[])?)
+}
+
+pub fn message(alloc: Global, part: Part<'_>) -> Result<Message, Unmade> {
+    Ok(match part {
+        Part::Begin(width, height) => Message::Begin(head(alloc, shape(width, height))?),
+        Part::Row(samples) => Message::Row(Samples::new(Vec::from_slice(alloc, samples)?)),
+        Part::ImageEnd => Message::ImageEnd,
+        Part::StreamEnd => Message::StreamEnd,
+        Part::Stop => Message::Stop,
+    })
+}
+
+/// Whether the message is made of this.
+pub fn is_made_of(message: &Message, part: Part<'_>) -> bool {
+    match (message, part) {
+        (Message::Begin(head), Part::Begin(width, height)) => head.shape() == shape(width, height),
+        (Message::Row(row), Part::Row(samples)) => row.as_slice() == samples,
+        (Message::ImageEnd, Part::ImageEnd) => true,
+        (Message::StreamEnd, Part::StreamEnd) => true,
+        (Message::Stop, Part::Stop) => true,
+        _ => false,
+    }
+}
+
+/// A ring for so many messages.
+pub fn ring(alloc: Global, capacity: usize) -> Result<(Output, Input), Unmade> {
+    Ok(RingBuffer::with_protocol::<Global, AnyMessage>(alloc, capacity)?)
+}
+
+/// Sends these, for which there is room.
+pub fn send_all(alloc: Global, output: &mut Output, parts: &[Part<'_>]) -> Result<(), Unmade> {
+    for part in parts {
+        if output.push(message(alloc, *part)?).is_err() {
+            return Err(Unmade);
+        }
+    }
+    Ok(())
+}
+
+/// Takes a message from the ring, which has to be made of this.
+fn takes(rt: &impl Abort, input: &mut Input, part: Part<'_>, what: &str) {
+    let is_right = match input.pop() {
+        Ok(message) => is_made_of(&message, part),
+        Err(_) => false,
+    };
+    assert!(rt; is_right, "{part:?}: {what}");
+}
+
+/// Takes these from the ring, which has to hold them.
+pub fn begins_with(rt: &impl Abort, input: &mut Input, parts: &[Part<'_>], what: &str) {
+    for part in parts {
+        takes(rt, input, *part, what);
+    }
+}
+
+/// The ring holds these, and nothing more.
+pub fn holds(rt: &impl Abort, input: &mut Input, parts: &[Part<'_>], what: &str) {
+    begins_with(rt, input, parts, what);
+    let is_empty = input.pop().is_err();
+    assert!(rt; is_empty, "nothing more: {what}");
+}
+
+/// The stage has ended so.
+pub fn is_end(rt: &impl Abort, end: StageEnd, want: StageEnd, what: &str) {
+    assert_eq!(rt; end, want, "{what}");
+}

@@ -1,0 +1,181 @@
+//! Runs over streams of several images, and over PAM.
+
+use super::agrees;
+use super::devices::{Drips, FailsOnce, Sips};
+use super::run::run;
+use pnm_flow::{RunFault, Summary, run_serial};
+use pnm_image::Device;
+use pnm_read::InputFault;
+use pnm_tools::Tool;
+use pnm_write::SinkFault;
+use std::alloc::Global;
+use std::process::Abort;
+
+/// Two images of different kinds, and both inverted.
+const TWO: &[u8] = b"P5\n2 1\n9\n\x01\x02P6\n1 1\n9\n\x03\x04\x05";
+
+const TWO_INVERTED: &[u8] = b"P5\n2 1\n9\n\x08\x07P6\n1 1\n9\n\x06\x05\x04";
+
+/// Where the first of the two images has ended, and where the header of the second has.
+const FIRST_IMAGE: usize = 11;
+
+const SECOND_HEADER: usize = 20;
+
+/// Images of any kinds follow one another; what follows a plain image is ignored.
+#[test]
+fn inverts_streams(rt: HostRuntime) {
+    for (input, output, images, rows) in [
+        (TWO, TWO_INVERTED, 2, 2),
+        (
+            b"P4\n9 1\n\xff\xffP4\n1 2\n\x00\x80P5\n1 1\n300\n\x00\x01".as_slice(),
+            b"P4\n9 1\n\x00\x00P4\n1 2\n\x80\x00P5\n1 1\n300\n\x01\x2b".as_slice(),
+            3,
+            4,
+        ),
+        (
+            b"P7\nWIDTH 1\nHEIGHT 1\nDEPTH 1\nMAXVAL 5\nENDHDR\n\x05P6 1 1 3\n\x03\x02\x01".as_slice(),
+            b"P7\nWIDTH 1\nHEIGHT 1\nDEPTH 1\nMAXVAL 5\nENDHDR\n\x00P6\n1 1\n3\n\x00\x01\x02".as_slice(),
+            2,
+            2,
+        ),
+        (
+            b"P2 1 1 9 5 P5 1 1 9 5".as_slice(),
+            b"P5\n1 1\n9\n\x04".as_slice(),
+            1,
+            1,
+        ),
+    ] {
+        let (answer, written) = run(rt.alloc(), input);
+        let want = (Ok(Summary { images, rows }), output);
+        agrees(&rt, (answer, written.as_slice()), want, &input);
+    }
+}
+
+/// PAM is inverted in every plane, and keeps its tuple type, which is one text of all its lines.
+#[test]
+fn inverts_pam(rt: HostRuntime) {
+    for (input, output) in [
+        (
+            b"P7\n# c\nTUPLTYPE A\nDEPTH 1\n\nMAXVAL 1\nTUPLTYPE  B \nWIDTH 1\nHEIGHT 1\nENDHDR\n\x01".as_slice(),
+            b"P7\nWIDTH 1\nHEIGHT 1\nDEPTH 1\nMAXVAL 1\nTUPLTYPE A B\nENDHDR\n\x00".as_slice(),
+        ),
+        (
+            b"P7\nMAXVAL 300\nWIDTH 1\nDEPTH 2\nHEIGHT 1\nENDHDR\n\x00\x01\x01\x2c".as_slice(),
+            b"P7\nWIDTH 1\nHEIGHT 1\nDEPTH 2\nMAXVAL 300\nENDHDR\n\x01\x2b\x00\x00".as_slice(),
+        ),
+    ] {
+        let (answer, written) = run(rt.alloc(), input);
+        let want = (Ok(Summary { images: 1, rows: 1 }), output);
+        agrees(&rt, (answer, written.as_slice()), want, &input);
+    }
+}
+
+/// The first fault is answered; the images that were whole before it are written.
+#[test]
+fn answers_faults_in_streams(rt: HostRuntime) {
+    for (input, output, fault) in [
+        (
+            b"P4 1 1\n\x00P1 1 1 0".as_slice(),
+            b"P4\n1 1\n\x80".as_slice(),
+            InputFault::PlainInStream,
+        ),
+        (
+            b"P4 1 1\n\x00\x00".as_slice(),
+            b"P4\n1 1\n\x80".as_slice(),
+            InputFault::BadMagic,
+        ),
+        (
+            b"P7\nMAXVAL 1\nWIDTH 1\nHEIGHT 1\nENDHDR\n\x01".as_slice(),
+            b"".as_slice(),
+            InputFault::MissingField,
+        ),
+        (
+            b"P7\nWIDTH 1\nHEIGHT 1\nWIDTH 1\nENDHDR\n\x01".as_slice(),
+            b"".as_slice(),
+            InputFault::DuplicateField,
+        ),
+        (
+            b"P7\nWIDTH\n".as_slice(),
+            b"".as_slice(),
+            InputFault::BadPamLine,
+        ),
+    ] {
+        let (answer, written) = run(rt.alloc(), input);
+        let want = (Err(RunFault::Input(fault)), output);
+        agrees(&rt, (answer, written.as_slice()), want, &input);
+    }
+}
+
+/// The two images cut at each byte.
+#[test]
+fn answers_where_a_stream_is_cut(rt: HostRuntime) {
+    for count in 0..24 {
+        let (want, output) = match count {
+            0 => (Err(InputFault::EmptyInput), b"".as_slice()),
+            1..=8 => (Err(InputFault::HeaderCut), b"".as_slice()),
+            9 | 10 => (Err(InputFault::RasterCut), b"P5\n2 1\n9\n".as_slice()),
+            11 => (
+                Ok(Summary { images: 1, rows: 1 }),
+                &TWO_INVERTED[..FIRST_IMAGE],
+            ),
+            12..=19 => (Err(InputFault::HeaderCut), &TWO_INVERTED[..FIRST_IMAGE]),
+            20..=22 => (Err(InputFault::RasterCut), &TWO_INVERTED[..SECOND_HEADER]),
+            _ => (Ok(Summary { images: 2, rows: 2 }), TWO_INVERTED),
+        };
+        let (answer, written) = run(rt.alloc(), &TWO[..count]);
+        let want = (want.map_err(RunFault::Input), output);
+        agrees(&rt, (answer, written.as_slice()), want, &count);
+    }
+}
+
+/// What is answered where no device fails.
+const WELL: Result<Summary, RunFault> = Ok(Summary { images: 2, rows: 2 });
+
+/// A reader that fails at each read, and a writer that fails at each write, of a byte each.
+#[test]
+fn answers_failed_devices_of_a_stream(rt: HostRuntime) {
+    for before in 0..25 {
+        answers_a_failed_read(&rt, rt.alloc(), before);
+        answers_a_failed_write(&rt, rt.alloc(), before);
+    }
+}
+
+/// A read for each byte, and one that finds the end; the one after so many fails.
+fn answers_a_failed_read(rt: &impl Abort, alloc: Global, before: usize) {
+    let mut reader = Device::new(Drips {
+        rest: TWO,
+        reads: FailsOnce::after(before),
+    });
+    let mut writer = Device::new(Vec::new(alloc));
+    let answer = run_serial(alloc, &mut reader, &mut writer, &[Tool::Invert]);
+    let want = if before < 24 {
+        (Err(RunFault::Input(InputFault::ReadFailed)), b"".as_slice())
+    } else {
+        (WELL, TWO_INVERTED)
+    };
+    let written = writer.into_inner();
+    agrees(rt, (answer, written.as_slice()), want, &before);
+}
+
+/// A write for each byte; the one after so many fails.
+fn answers_a_failed_write(rt: &impl Abort, alloc: Global, before: usize) {
+    let mut sips = Sips {
+        held: Vec::new(alloc),
+        most: 1,
+        writes: FailsOnce::after(before),
+        flushes: FailsOnce::never(),
+    };
+    let answer = run_serial(
+        alloc,
+        &mut Device::new(TWO),
+        &mut Device::new(&mut sips),
+        &[Tool::Invert],
+    );
+    let want = if before < 23 {
+        Err(RunFault::Output(SinkFault::WriteFailed))
+    } else {
+        WELL
+    };
+    let due = &TWO_INVERTED[..before.min(23)];
+    agrees(rt, (answer, sips.held.as_slice()), (want, due), &before);
+}

@@ -1,0 +1,304 @@
+//! Chains of stages, each in a thread of its own.
+
+use super::chains::{FROM_SECOND, are_lawful};
+use super::rings::{
+    IMAGE, Input, Output, Part, Unmade, begins_with, holds, is_end, is_made_of, message, ring,
+    send_all,
+};
+use pnm_flow::{ChainDone, Gate, NoStart, OpenGate, StageEnd, run_chain};
+use pnm_image::Message;
+use pnm_tools::{Tool, ToolFault};
+use rtrb::PushError;
+use std::alloc::Global;
+use std::cmp::Ordering;
+use std::process::Abort;
+use std::sync::Wait;
+use std::sync::atomic::AtomicU64;
+use std::sync::atomic::Ordering::SeqCst;
+use std::test::Fail;
+use std::thread;
+use std::thread::Threads;
+
+/// More turns of a wait than any wait of a test takes.
+const TURNS: u32 = 10_000_000;
+
+const INVERTED: &[Part<'static>] = &[
+    Part::Begin(2, 1),
+    Part::Row(&[57, 56]),
+    Part::ImageEnd,
+    Part::StreamEnd,
+];
+
+/// An image of two columns, and one of a single column.
+const NARROW: &[Part<'static>] = &[
+    Part::Begin(2, 1),
+    Part::Row(&[65, 66]),
+    Part::ImageEnd,
+    Part::Begin(1, 1),
+    Part::Row(&[7]),
+    Part::ImageEnd,
+    Part::StreamEnd,
+];
+
+/// The chain of these tools, which have to be lawful.
+pub fn chain<R: Threads + Wait + Abort + Sync>(
+    rt: &R,
+    alloc: Global,
+    tools: &[Tool],
+    capacity: usize,
+    gate: &impl Gate,
+    input: Input,
+    output: Output,
+) -> Result<ChainDone, NoStart> {
+    assert!(rt; 1 <= tools.len() && tools.len() <= 16 && are_lawful(tools));
+    assert!(rt; 1 <= capacity && capacity <= 1024);
+    run_chain(rt, alloc, tools, capacity, 1, gate, input, output)
+}
+
+/// So many tools that invert, but for one that cuts, if there is one in this place.
+fn tools_with_cut(alloc: Global, count: usize, place: usize) -> Result<Vec<Tool>, Fail> {
+    let mut tools = Vec::with_capacity(alloc, count)?;
+    for index in 0..count {
+        tools.push(if index == place {
+            Tool::Cut(FROM_SECOND)
+        } else {
+            Tool::Invert
+        })?;
+    }
+    Ok(tools)
+}
+
+/// What came of so many tools over rings of this capacity, which take these messages.
+#[derive(Clone, Copy)]
+struct Run<'a> {
+    count: usize,
+    cut_at: usize,
+    capacity: usize,
+    takes: &'a [Part<'a>],
+}
+
+/// The chain runs to its end: its stages have ended so, up to one and after it, and it has sent these.
+fn ends_so<R: Threads + Wait + Abort + Sync>(
+    rt: &R,
+    alloc: Global,
+    run: &Run<'_>,
+    ends: (StageEnd, StageEnd, StageEnd),
+    sends: &[Part<'_>],
+) -> Result<(), Fail> {
+    let tools = tools_with_cut(alloc, run.count, run.cut_at)?;
+    let (mut producer, input) = ring(alloc, 8)?;
+    let (output, mut consumer) = ring(alloc, 8)?;
+    send_all(alloc, &mut producer, run.takes)?;
+    let done = chain(rt, alloc, &tools, run.capacity, &OpenGate, input, output);
+    let Ok(mut done) = done else {
+        return Err(Fail::new("not started"));
+    };
+    let what = "what the chain took and sent";
+    let counts = done.ends.len() == run.count && done.links.len() == run.count.saturating_sub(1);
+    assert!(rt; counts);
+    for (index, end) in done.ends.iter().enumerate() {
+        let want = match index.cmp(&run.cut_at) {
+            Ordering::Less => ends.0,
+            Ordering::Equal => ends.1,
+            Ordering::Greater => ends.2,
+        };
+        is_end(rt, *end, want, what);
+    }
+    holds(rt, &mut done.input, &[], what);
+    holds(rt, &mut consumer, sends, what);
+    Ok(())
+}
+
+#[test]
+fn passes_a_stream_through_all_tools(rt: HostRuntime) -> Result<(), Fail> {
+    let well = (StageEnd::Well, StageEnd::Well, StageEnd::Well);
+    for (count, capacity) in [(1, 1), (2, 1), (3, 1024), (16, 1), (16, 8)] {
+        let run = Run {
+            count,
+            cut_at: count,
+            capacity,
+            takes: IMAGE,
+        };
+        let sends = if count % 2 == 0 { IMAGE } else { INVERTED };
+        ends_so(&rt, rt.alloc(), &run, well, sends)?;
+    }
+    Ok(())
+}
+
+/// The tools before the one that refuses end well, and those after it are broken off: at its first
+/// message, and at a later one.
+#[test]
+fn breaks_off_after_a_refusal(rt: HostRuntime) -> Result<(), Fail> {
+    let ends = (
+        StageEnd::Well,
+        StageEnd::Fault(ToolFault::CutOutside),
+        StageEnd::Broken,
+    );
+    let one_column = [
+        Part::Begin(1, 1),
+        Part::Row(&[7]),
+        Part::ImageEnd,
+        Part::StreamEnd,
+    ];
+    for (count, cut_at) in [(1, 0), (2, 0), (2, 1), (16, 0), (16, 7), (16, 15)] {
+        let run = Run {
+            count,
+            cut_at,
+            capacity: 1,
+            takes: &one_column,
+        };
+        ends_so(&rt, rt.alloc(), &run, ends, &[Part::Stop])?;
+        let run = Run {
+            takes: NARROW,
+            ..run
+        };
+        let row: &[u16] = if count % 2 == 1 { &[66] } else { &[56] };
+        let sends = [
+            Part::Begin(1, 1),
+            Part::Row(row),
+            Part::ImageEnd,
+            Part::Stop,
+        ];
+        ends_so(&rt, rt.alloc(), &run, ends, &sends)?;
+    }
+    Ok(())
+}
+
+/// The last tool has ended so.
+fn is_last(rt: &impl Abort, done: &ChainDone, want: StageEnd) {
+    match done.ends.last() {
+        Some(end) => is_end(rt, *end, want, "the last tool"),
+        None => panic!(rt; "no end"),
+    }
+}
+
+/// Where an outer ring's other end is gone, all stages end.
+#[test]
+fn ends_where_an_outer_end_is_gone(rt: HostRuntime) -> Result<(), Fail> {
+    let tools = tools_with_cut(rt.alloc(), 16, 16)?;
+    for taken in 0..4 {
+        let (mut producer, input) = ring(rt.alloc(), 8)?;
+        let (output, mut consumer) = ring(rt.alloc(), 8)?;
+        send_all(rt.alloc(), &mut producer, &IMAGE[..taken])?;
+        drop(producer);
+        let done = chain(&rt, rt.alloc(), &tools, 1, &OpenGate, input, output);
+        let Ok(done) = done else {
+            return Err(Fail::new("not started"));
+        };
+        is_last(&rt, &done, StageEnd::Broken);
+        begins_with(&rt, &mut consumer, &IMAGE[..taken], "what came");
+        holds(&rt, &mut consumer, &[Part::Stop], "Stop at last");
+    }
+    let (mut producer, input) = ring(rt.alloc(), 8)?;
+    let (output, consumer) = ring(rt.alloc(), 1)?;
+    drop(consumer);
+    send_all(rt.alloc(), &mut producer, IMAGE)?;
+    let done = chain(&rt, rt.alloc(), &tools, 1, &OpenGate, input, output);
+    let Ok(mut done) = done else {
+        return Err(Fail::new("not started"));
+    };
+    is_last(&rt, &done, StageEnd::PeerGone);
+    holds(&rt, &mut done.input, &[], "all is taken");
+    Ok(())
+}
+
+/// Holds each thread back until that of the other tool has come.
+#[derive(Drop)]
+struct Both {
+    first: AtomicU64,
+    second: AtomicU64,
+    missed: AtomicU64,
+}
+
+impl Gate for Both {
+    fn arrive(&self, stage: usize, _lane: usize) {
+        let (own, other) = if stage == 1 {
+            (&self.first, &self.second)
+        } else {
+            (&self.second, &self.first)
+        };
+        own.fetch_add(1, SeqCst);
+        for _ in 0..TURNS {
+            if other.load(SeqCst) > 0 {
+                return;
+            }
+            thread::yield_now();
+        }
+        self.missed.fetch_add(1, SeqCst);
+    }
+}
+
+/// Each of two tools waits at the gate for the other, and both pass it once.
+#[test]
+fn gives_each_tool_a_thread(rt: HostRuntime) -> Result<(), Fail> {
+    let both = Both {
+        first: AtomicU64::new(0),
+        second: AtomicU64::new(0),
+        missed: AtomicU64::new(0),
+    };
+    let tools = tools_with_cut(rt.alloc(), 2, 2)?;
+    let (mut producer, input) = ring(rt.alloc(), 8)?;
+    let (output, mut consumer) = ring(rt.alloc(), 8)?;
+    send_all(rt.alloc(), &mut producer, IMAGE)?;
+    let done = chain(&rt, rt.alloc(), &tools, 1, &both, input, output);
+    assert!(&rt; done.is_ok());
+    assert_eq!(&rt; both.missed.load(SeqCst), 0);
+    assert_eq!(&rt; (both.first.load(SeqCst), both.second.load(SeqCst)), (1, 1));
+    holds(&rt, &mut consumer, IMAGE, "inverted twice");
+    Ok(())
+}
+
+/// Sends a message, by a counted number of tries.
+fn sends(producer: &mut Output, message: Message) -> bool {
+    let mut message = message;
+    for _ in 0..TURNS {
+        match producer.push(message) {
+            Ok(()) => return true,
+            Err(PushError::Full(back)) => message = back,
+        }
+        thread::yield_now();
+    }
+    false
+}
+
+/// The next message, by a counted number of tries.
+fn takes(consumer: &mut Input) -> Option<Message> {
+    for _ in 0..TURNS {
+        if let Ok(message) = consumer.pop() {
+            return Some(message);
+        }
+        thread::yield_now();
+    }
+    None
+}
+
+/// Sends each message only once what came of the one before was taken; whether all came back.
+fn one_by_one(alloc: Global, producer: &mut Output, consumer: &mut Input) -> Result<bool, Unmade> {
+    for part in IMAGE {
+        if !sends(producer, message(alloc, *part)?) {
+            return Ok(false);
+        }
+        match takes(consumer) {
+            Some(message) if is_made_of(&message, *part) => {}
+            _ => return Ok(false),
+        }
+    }
+    Ok(true)
+}
+
+/// A message passes through two tools before the next one is there, over rings of capacity 1.
+#[test]
+fn passes_each_message_on_at_once(rt: HostRuntime) -> Result<(), Fail> {
+    let tools = tools_with_cut(rt.alloc(), 2, 2)?;
+    let alloc = rt.alloc();
+    let (mut producer, input) = ring(alloc, 1)?;
+    let (output, mut consumer) = ring(alloc, 1)?;
+    let (here, tools) = (&rt, tools.as_slice());
+    let both = thread::join(
+        &rt,
+        move || chain(here, alloc, tools, 1, &OpenGate, input, output).is_ok(),
+        move || one_by_one(alloc, &mut producer, &mut consumer).unwrap_or(false),
+    );
+    assert_eq!(&rt; both, (true, true));
+    Ok(())
+}
