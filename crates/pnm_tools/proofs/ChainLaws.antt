@@ -1,10 +1,10 @@
 -- What the stages of a chain have given: the results of all images, or those before the first refusal.
-use Rattle.std.proofs.Common.{◌≡◌, ◌⊎◌, inl, inr, ℕ, zero, suc, ◌+◌, ◌-◌, ◌<◌, ◌≤◌, true, List, [], ◌∷◌, ◌++◌, length, take, Option, Some, None, Ok, Err, refl, sym, ap, ap₂, subst, ◌∙◌, append-nil, arith}
+use Rattle.std.proofs.Common.{◌≡◌, ◌⊎◌, inl, inr, ℕ, zero, suc, ◌+◌, ◌-◌, ◌<◌, ◌≤◌, true, List, [], ◌∷◌, ◌++◌, length, take, Option, Some, None, Result, Ok, Err, refl, sym, ap, ap₂, subst, ◌∙◌, append-nil, arith}
 use Rattle.std.specs.List.{AllByRecursion}
 use Rattle.pnm_image.specs.declared.message.Message.{Message}
 use Rattle.pnm_image.specs.declared.message.Message.TheVariants.{Begin, Row, ImageEnd, StreamEnd, Stop}
 use Rattle.pnm_image.specs.declared.place.Place.TheVariants.{Between}
-use Rattle.pnm_image.specs.Images.{Image, AreImages, messages_of_stream}
+use Rattle.pnm_image.specs.Images.{Image, IsImage, AreImages, messages_of_image, messages_of_stream}
 use Rattle.pnm_image.specs.Messages.{IsMessage}
 use Rattle.pnm_image.specs.Completion.{IsFrontOf, Completes}
 use Rattle.pnm_image.proofs.Streams.{completion, stream_is_messages, stream_is_lawful}
@@ -13,15 +13,16 @@ use Rattle.pnm_image.proofs.Lists.{all_of_front, each-middle}
 use Rattle.pnm_tools.specs.declared.fault.ToolFault.{ToolFault}
 use Rattle.pnm_tools.specs.declared.fault.ToolFault.TheVariants.{OutOfOrder, Memory}
 use Rattle.pnm_tools.specs.declared.tool.Tool.{Tool}
-use Rattle.pnm_tools.specs.Tools.{IsLawfulTool, output_due}
+use Rattle.pnm_tools.specs.Tools.{IsLawfulTool, applied, output_due}
 use Rattle.pnm_tools.specs.Answers.{More, EndsBy, Answers, AnswersInFull, RefusesHead, Judges, AreResults}
-use Rattle.pnm_tools.specs.Chains.{AreLawfulTools, AreResultsInTurn, due_in_turn, results_of, refusal_from, refusal_of}
+use Rattle.pnm_tools.specs.Chains.{AreLawfulTools, AreResultsInTurn, applied_in_turn, due_in_turn, results_of, refusal_from, refusal_of}
 use Rattle.pnm_tools.specs.ChainAnswers.{IsSound, AreSound, AreWell, IsFirstFault, IsRefusedNext, HasRefused, HasAnswered, HaveAnswered}
 use Rattle.pnm_tools.proofs.FullAnswers.{full_answer_is_the_stream}
 use Rattle.pnm_tools.proofs.FullLaws.{front_of_front}
 use Rattle.pnm_tools.proofs.HeadFaultLaws.{head_is_refused_by_name}
-use Rattle.pnm_tools.proofs.SoundLaws.{HasRows, EndsUnbroken, sound_ends, unbroken_keeps_all, sound_keeps_all, stream_is_sound, HasSoundImages, sound_images, due_is_sound}
+use Rattle.pnm_tools.proofs.SoundLaws.{HasRows, EndsUnbroken, front_after, sound_ends, unbroken_keeps_all, sound_keeps_all, stream_is_sound, HasSoundImages, sound_images, due_is_sound}
 use Rattle.pnm_tools.proofs.FrontLaws.{nothing_changes, front_by_results}
+use Rattle.pnm_tools.proofs.ResultLaws.{result_is_image, result_has_rows}
 use Rattle.pnm_tools.proofs.RefusalLaws.{results_are_images, results_are, same_in_turn, results_in_turn, refusal_by, in_order, refused_next}
 
 -- a front of sound messages, and the messages of images that have rows, are sound
@@ -224,3 +225,49 @@ given_is_front (tool ∷ tools) (fault ∷ faults) received given is lawful soun
     let accepted = front_of_front s.accepted received (messages_of_stream is) (s.rest, s.parts) (received_front received is sound completes) in
     front_by_results tool tools is middle given lawful.0 completes.images (stage_due tool received middle is s completes.images accepted)
     (λ js are front. given_is_front tools faults middle given js lawful.1 next have.2 (completed middle js next are front))
+
+-- ---- what is due is sound
+
+-- a chain's result of an image that has rows is one
+abbrev IsResult : Image → Type 0
+IsResult j = IsImage j × HasRows j
+
+abbrev in_turn_by : List Tool → Result Image ToolFault → Result Image ToolFault
+in_turn_by tools r = elim r [
+  | Ok j ↦ applied_in_turn tools j
+  | Err fault ↦ Err fault
+]
+
+result_by_first : (tool : Tool) (tools : List Tool) (i j : Image) (r : Result Image ToolFault) → IsLawfulTool tool → IsResult i → applied tool i ≡ r → in_turn_by tools r ≡ Ok j → ((k : Image) → IsResult k → applied_in_turn tools k ≡ Ok j → IsResult j) → IsResult j
+result_by_first tool tools i j (Ok k) lawful is made others then = then k (result_is_image tool i k lawful is.0 made, result_has_rows tool i k lawful is.0 is.1 made) others
+result_by_first tool tools i j (Err fault) lawful is made others then = absurd cc
+
+result_in_turn : (tools : List Tool) (i j : Image) → AreLawfulTools tools → IsResult i → applied_in_turn tools i ≡ Ok j → IsResult j
+result_in_turn [] i j lawful is made = let same : i ≡ j = cc in subst IsResult same is
+result_in_turn (tool ∷ tools) i j lawful is made = result_by_first tool tools i j (applied tool i) lawful.0 is refl made (λ k are more. result_in_turn tools k j lawful.1 are more)
+
+abbrev due_by_first : List Tool → List Image → Result Image ToolFault → List Message
+due_by_first tools is r = elim r [
+  | Ok j ↦ messages_of_image j ++ due_in_turn tools is
+  | Err fault ↦ []
+]
+
+due_of_first : (tools : List Tool) (i : Image) (is : List Image) (r : Result Image ToolFault) → AreLawfulTools tools → IsResult i → applied_in_turn tools i ≡ r → HasSoundImages (due_in_turn tools is) → HasSoundImages (due_by_first tools is r)
+due_of_first tools i is (Err fault) lawful image made others = ([], tt, tt, (StreamEnd ∷ [], refl))
+due_of_first tools i is (Ok j) lawful image made others =
+    let result = result_in_turn tools i j lawful image made in
+    (j ∷ others.0, (result.0, others.1), (result.1, others.2), front_after (messages_of_image j) (due_in_turn tools is) (messages_of_stream others.0) others.3)
+
+due_in_turn_is_sound : (tools : List Tool) (is : List Image) → AreLawfulTools tools → AreImages is → AllByRecursion HasRows is → HasSoundImages (due_in_turn tools is)
+unfolding due_in_turn
+due_in_turn_is_sound tools [] lawful are have = ([], tt, tt, ([], refl))
+due_in_turn_is_sound tools (i ∷ is) lawful are have = due_of_first tools i is (applied_in_turn tools i) lawful (are.0, have.0) refl (due_in_turn_is_sound tools is lawful are.1 have.1)
+
+-- so is a front of it, whatever images complete sound messages
+pub front_of_due_is_sound : (tools : List Tool) (received given : List Message) → AreLawfulTools tools → AreSound received → ((is : List Image) → Completes is received → IsFrontOf given (due_in_turn tools is)) → AreSound given
+front_of_due_is_sound tools received given lawful sound due =
+    let found = completion received sound.messages sound.lawful in
+    let front = received_front received found.0 sound (record { images = found.1; front = found.2 }) in
+    let images = sound_images found.0 received front.0 found.1 front.1 sound.sound in
+    let whole = due_in_turn_is_sound tools images.0 lawful images.1 images.2 in
+    front_sound given (whole.0, whole.1, whole.2, front_of_front given (due_in_turn tools images.0) (messages_of_stream whole.0) (due images.0 (completed received images.0 sound images.1 images.3)) whole.3)
