@@ -9,14 +9,15 @@ use std::time::Duration;
 /// The first turns of a wait yield, since a neighbour at work answers soon.
 const YIELDS: u32 = 100;
 
-/// The first sleep where nobody rings, in microseconds. Each later one is twice as long, so often.
-const FIRST_SLEEP: u64 = 16;
+/// The first sleep where nobody rings, in microseconds. Each later one is twice as long, so often: the last ones are short
+/// enough to be woken within 2 milliseconds, and long enough to take less than a hundredth of a processor.
+const FIRST_SLEEP: u64 = 28;
 
 const DOUBLINGS: u32 = 6;
 
 /// A sleep that a neighbour ends by its ring, in milliseconds: it lasts so long only where nothing moves, and bounds what
 /// a ring that was missed would cost.
-const LONG_SLEEP: u64 = 100;
+const LONG_SLEEP: u64 = 400;
 
 /// What wakes the thread of a stage. It fills two cache lines, so that bells side by side don't share one.
 #[derive(Drop)]
