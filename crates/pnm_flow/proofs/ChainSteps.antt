@@ -36,31 +36,31 @@ use Rattle.pnm_flow.proofs.DueSteps.{front_without_stop}
 -- ---- what is left between two stages
 
 -- a list ends in one way
-one_ending : (a b : Ending) (l : List Message) → EndsBy a l → EndsBy b l → a ≡ b
+pub one_ending : (a b : Ending) (l : List Message) → EndsBy a l → EndsBy b l → a ≡ b
 one_ending a b [] first second = first ∙ sym second
 one_ending a b (m ∷ []) first second = sym first ∙ second
 one_ending a b (m ∷ n ∷ l) first second = one_ending a b (n ∷ l) first.1 second.1
 
 -- nothing follows a list that has ended
-nothing_follows : (l left : List Message) → IsEnded l → IsEnded (l ++ left) → left ≡ []
+pub nothing_follows : (l left : List Message) → IsEnded l → IsEnded (l ++ left) → left ≡ []
 nothing_follows l [] ended whole = refl
 nothing_follows l (m ∷ left) (inl first) (inl whole) = let same = one_ending More Whole l (front_goes_on Whole l m left whole) first in absurd cc
 nothing_follows l (m ∷ left) (inl first) (inr whole) = let same = one_ending More Whole l (front_goes_on BrokenOff l m left whole) first in absurd cc
 nothing_follows l (m ∷ left) (inr first) (inl whole) = let same = one_ending More BrokenOff l (front_goes_on Whole l m left whole) first in absurd cc
 nothing_follows l (m ∷ left) (inr first) (inr whole) = let same = one_ending More BrokenOff l (front_goes_on BrokenOff l m left whole) first in absurd cc
 
-stream_ends_whole : (is : List Image) → EndsBy Whole (messages_of_stream is)
+pub stream_ends_whole : (is : List Image) → EndsBy Whole (messages_of_stream is)
 stream_ends_whole [] = refl
 stream_ends_whole (i ∷ is) = ends_after Whole (messages_of_image i) (messages_of_stream is) (refl, end_ends_nothing (rows_of i)) (stream_ends_whole is)
 
 -- what a stage received has ended, and what it sent has, unless it saw a neighbour's end dropped
-received_ended : (tool : Tool) (end : StageEnd) (l g : List Message) → HasEndedSo tool end l g → end ≢ PeerGone → IsEnded l
+pub received_ended : (tool : Tool) (end : StageEnd) (l g : List Message) → HasEndedSo tool end l g → end ≢ PeerGone → IsEnded l
 received_ended tool Well l g ended there = inl (subst (EndsBy Whole) (sym ended.stream.messages) (stream_ends_whole ended.images))
 received_ended tool Broken l g ended there = inr ended.ends
 received_ended tool (Fault fault) l g ended there = ended.ends
 received_ended tool PeerGone l g ended there = absurd (there refl)
 
-sent_ended : (tool : Tool) (end : StageEnd) (l g : List Message) → HasEndedSo tool end l g → end ≢ PeerGone → IsEnded g
+pub sent_ended : (tool : Tool) (end : StageEnd) (l g : List Message) → HasEndedSo tool end l g → end ≢ PeerGone → IsEnded g
 sent_ended tool Well l g ended there = inl (subst (EndsBy Whole) (sym ended.answer) (stream_ends_whole ended.results))
 sent_ended tool Broken l g ended there = inr (ended.full.ends BrokenOff ended.ends)
 sent_ended tool (Fault fault) l g ended there = inr (subst (EndsBy BrokenOff) (sym ended.answer) (ends_with ended.given Stop ended.unbroken))

@@ -28,10 +28,17 @@ use Rattle.pnm_flow.specs.declared.fault.RunFault.TheVariants.{Input, Tool as Of
 use Rattle.pnm_flow.specs.declared.summary.Summary.{Summary}
 use Rattle.pnm_flow.specs.Downstreams.{output_of}
 use Rattle.pnm_flow.specs.Feeding.{IsSaidOf}
-use Rattle.pnm_flow.specs.Runs.{Change, change, HasRun, answer_by, input_of, IsFirstRefusal, IfInput, IfTool, IfOutput, EndedWell, IsTaken, IsStoppedBy, OutlastsRun, HasMore, MayFollow, AnswersText, IsFrontOfDue, IsFrontForEach, FitAnswer, IsAllWritten}
+use Rattle.pnm_flow.specs.Runs.{Change, change, HasRun, HasRunInOneThread, AllIsWritten, IsOfOneThread, answer_by, input_of, IsFirstRefusal, IfInput, IfTool, IfOutput, EndedWell, IsTaken, IsStoppedBy, OutlastsRun, HasMore, MayFollow, AnswersText, IsFrontOfDue, IsFrontForEach, FitAnswer, IsAllWritten}
 use Rattle.pnm_flow.proofs.FeedingSteps.{rest_of, read_failure}
-use Rattle.pnm_flow.proofs.RunSteps.{Ran, nothing_front, input_fault, said_before_fault, run_front, run_all, run_refused, run_taken, run_output, run_sound, run_well}
+use Rattle.pnm_flow.proofs.RunSteps.{Ran, nothing_front, input_fault, said_front, said_before_fault, run_front, run_all, run_refused, run_taken, run_output, run_sound, run_well}
 use Rattle.pnm_tools.proofs.ChainLaws.{first_fault_in_order}
+
+-- what the stages have answered, and the first refusal; where there is one, not all of it need be what came out
+pub record HaveEnded (tools : List Tool) (faults : List (Option ToolFault)) (given out : List Message) (refused : Option (ℕ × ToolFault)) : Type 0 where
+  pub last : List Message
+  pub answered : HaveAnswered tools faults given last
+  pub first : IsFirstRefusal faults refused
+  pub all : refused ≡ None → last ≡ out
 
 -- what the source gave, what the stages answered, what the sink took, and how each of them ended
 pub record Ended {W : Type 0} (reader : Change) (held : W → Option (List ℕ)) (failures : W → ℕ) (start done : W) (tools : List Tool) (input : Result (Unit {0}) InputFault) (refused : Option (ℕ × ToolFault)) (output : Result Summary SinkFault) : Type 0 where
@@ -44,14 +51,14 @@ pub record Ended {W : Type 0} (reader : Change) (held : W → Option (List ℕ))
   pub told : (rest : List ℕ) → MayFollow input reader rest → IsSaidOf (read ++ rest) given input
   pub count : (input ≡ Err ReadFailed → ⊥) → reader.failures_new ≡ reader.failures_old
   pub read_failed : input ≡ Err ReadFailed → Failed reader.failures_old reader.failures_new ⊎ OutlastsRun reader.old reader.new
-  pub ran : Ran held failures start tools faults given out sink
-  pub first : IsFirstRefusal faults refused
+  pub ran : Ran held failures start tools given out sink
+  pub stages : input ≡ Ok tt → HaveEnded tools faults given out refused
   pub kept : Keeps (held (output_of sink)) (held done)
   pub broken : (fault : SinkFault) → sink.output ≡ Err fault → (output ≡ Err fault) × (done ≡ output_of sink)
   pub well : sink.output ≡ Ok tt → MatchResult output (λ summary. (summary ≡ sink.summary) × (failures done ≡ failures (output_of sink))) (λ fault. (fault ≡ WriteFailed) × Failed (failures (output_of sink)) (failures done))
 
 -- what the reader has left may follow
-rest_follows : (input : Result (Unit {0}) InputFault) (reader : Change) (rest : List ℕ) → reader.new ≡ Some rest → MayFollow input reader rest
+pub rest_follows : (input : Result (Unit {0}) InputFault) (reader : Change) (rest : List ℕ) → reader.new ≡ Some rest → MayFollow input reader rest
 rest_follows input reader [] is = inl refl
 rest_follows input reader (byte ∷ more) is = inr (inl (subst HasMore (sym is) tt))
 
@@ -71,8 +78,10 @@ ended_well reader held failures start done tools (Ok tt) (Some found) output end
 ended_well reader held failures start done tools (Ok tt) None (Err fault) ended text is = tt
 ended_well reader held failures start done tools (Ok tt) None (Ok summary) ended text is =
     let said = own_text reader held failures start done tools (Ok tt) None (Ok summary) text ended is in
-    let written = run_sound held failures start done tools ended.faults ended.given ended.out ended.sink ended.sink.output (Ok summary) summary ended.ran refl ended.broken ended.well refl in
-    run_well held failures start done tools ended.faults ended.given ended.out ended.sink summary text ended.ran said ended.first written.0 written.1 ended.kept
+    let written = run_sound held failures start done tools ended.given ended.out ended.sink ended.sink.output (Ok summary) summary ended.ran refl ended.broken ended.well refl in
+    let stages = ended.stages refl in
+    let answered = subst (HaveAnswered tools ended.faults ended.given) (stages.all refl) stages.answered in
+    run_well held failures start done tools ended.faults ended.given ended.out ended.sink summary text ended.ran.lawful answered said stages.first written.0 written.1 ended.kept
 
 ended_without_failure : {W : Type 0} (reader : Change) (held : W → Option (List ℕ)) (failures : W → ℕ) (start done : W) (tools : List Tool) (input : Result (Unit {0}) InputFault) (refused : Option (ℕ × ToolFault)) (output : Result Summary SinkFault)
     → Ended reader held failures start done tools input refused output → OnOk (answer_by input refused output) ((reader.failures_new ≡ reader.failures_old) × (failures done ≡ failures start))
@@ -80,7 +89,7 @@ ended_without_failure reader held failures start done tools (Err fault) refused 
 ended_without_failure reader held failures start done tools (Ok tt) (Some found) output ended = tt
 ended_without_failure reader held failures start done tools (Ok tt) None (Err fault) ended = tt
 ended_without_failure reader held failures start done tools (Ok tt) None (Ok summary) ended =
-    let written = run_sound held failures start done tools ended.faults ended.given ended.out ended.sink ended.sink.output (Ok summary) summary ended.ran refl ended.broken ended.well refl in
+    let written = run_sound held failures start done tools ended.given ended.out ended.sink ended.sink.output (Ok summary) summary ended.ran refl ended.broken ended.well refl in
     (ended.count (no_fault tt ReadFailed), written.2)
 
 ended_input : {W : Type 0} (reader : Change) (held : W → Option (List ℕ)) (failures : W → ℕ) (start done : W) (tools : List Tool) (input : Result (Unit {0}) InputFault) (refused : Option (ℕ × ToolFault)) (output : Result Summary SinkFault)
@@ -105,7 +114,9 @@ ended_with_sound_reader reader held failures start done tools (Ok tt) refused ou
 ended_at_tool : {W : Type 0} (reader : Change) (held : W → Option (List ℕ)) (failures : W → ℕ) (start done : W) (tools : List Tool) (input : Result (Unit {0}) InputFault) (refused : Option (ℕ × ToolFault)) (output : Result Summary SinkFault)
     → Ended reader held failures start done tools input refused output → IfTool (answer_by input refused output) (λ number fault. (fault ≢ OutOfOrder) × (1 ≤ number) × (number ≤ length tools))
 ended_at_tool reader held failures start done tools (Err fault) refused output ended = tt
-ended_at_tool reader held failures start done tools (Ok tt) (Some found) output ended = first_fault_in_order tools ended.faults ended.given ended.out found.0 found.1 ended.ran.lawful ended.ran.sound ended.ran.answered ended.first
+ended_at_tool reader held failures start done tools (Ok tt) (Some found) output ended =
+    let stages = ended.stages refl in
+    first_fault_in_order tools ended.faults ended.given stages.last found.0 found.1 ended.ran.lawful ended.ran.sound stages.answered stages.first
 ended_at_tool reader held failures start done tools (Ok tt) None (Err fault) ended = tt
 ended_at_tool reader held failures start done tools (Ok tt) None (Ok summary) ended = tt
 
@@ -114,7 +125,8 @@ ended_by_refusal : {W : Type 0} (reader : Change) (held : W → Option (List ℕ
 ended_by_refusal reader held failures start done tools (Err fault) refused output NoList ended text is = tt
 ended_by_refusal reader held failures start done tools (Ok tt) (Some found) output NoList ended text is =
     let said = own_text reader held failures start done tools (Ok tt) (Some found) output text ended is in
-    inr (run_refused held failures start tools ended.faults ended.given ended.out ended.sink text found.0 found.1 ended.ran said ended.first)
+    let stages = ended.stages refl in
+    inr (run_refused tools ended.faults ended.given stages.last text found.0 found.1 ended.ran.lawful ended.ran.sound stages.answered said stages.first)
 ended_by_refusal reader held failures start done tools (Ok tt) None (Err fault) NoList ended text is = tt
 ended_by_refusal reader held failures start done tools (Ok tt) None (Ok summary) NoList ended text is = tt
 
@@ -123,7 +135,7 @@ ended_at_output : {W : Type 0} (reader : Change) (held : W → Option (List ℕ)
 ended_at_output reader held failures start done tools (Err fault) refused output ended = tt
 ended_at_output reader held failures start done tools (Ok tt) (Some found) output ended = tt
 ended_at_output reader held failures start done tools (Ok tt) None (Err fault) ended =
-    let failed = run_output held failures start done tools ended.faults ended.given ended.out ended.sink ended.sink.output (Err fault) fault ended.ran refl ended.broken ended.well refl in
+    let failed = run_output held failures start done tools ended.given ended.out ended.sink ended.sink.output (Err fault) fault ended.ran refl ended.broken ended.well refl in
     (failed.0, failed.1, ended.count (no_fault tt ReadFailed))
 ended_at_output reader held failures start done tools (Ok tt) None (Ok summary) ended = tt
 
@@ -132,13 +144,14 @@ ended_at_output_last : {W : Type 0} (reader : Change) (held : W → Option (List
 ended_at_output_last reader held failures start done tools (Err fault) refused output ended text is = tt
 ended_at_output_last reader held failures start done tools (Ok tt) (Some found) output ended text is = tt
 ended_at_output_last reader held failures start done tools (Ok tt) None (Err fault) ended text is =
-    run_taken held failures start tools ended.faults ended.given ended.out ended.sink text ended.ran (own_text reader held failures start done tools (Ok tt) None (Err fault) text ended is) ended.first
+    let stages = ended.stages refl in
+    run_taken tools ended.faults ended.given stages.last text ended.ran.lawful stages.answered (own_text reader held failures start done tools (Ok tt) None (Err fault) text ended is) stages.first
 ended_at_output_last reader held failures start done tools (Ok tt) None (Ok summary) ended text is = tt
 
 ended_at_front : {W : Type 0} (reader : Change) (held : W → Option (List ℕ)) (failures : W → ℕ) (start done : W) (tools : List Tool) (input : Result (Unit {0}) InputFault) (refused : Option (ℕ × ToolFault)) (output : Result Summary SinkFault)
     → Ended reader held failures start done tools input refused output → (text : List ℕ) → reader.old ≡ Some text → IsFrontOfDue text tools (held start) (held done)
 ended_at_front reader held failures start done tools input refused output ended text is =
-    run_front held failures start done tools ended.faults ended.given ended.out ended.sink text input ended.ran (own_text reader held failures start done tools input refused output text ended is) ended.kept
+    run_front held failures start done tools ended.given ended.out ended.sink text ended.ran (said_front text ended.given input (own_text reader held failures start done tools input refused output text ended is)) ended.kept
 
 -- how the input ended is told by the answer
 input_is : (input : Result (Unit {0}) InputFault) (refused : Option (ℕ × ToolFault)) (output : Result Summary SinkFault) → input_of (answer_by input refused output) ≡ input
@@ -153,7 +166,7 @@ ended_at_front_for_each reader held failures start done tools input refused outp
     subst (λ (i : Result (Unit {0}) InputFault). IsFrontForEach tools i reader (change held failures start done)) (sym (input_is input refused output)) (record {
       read = ended.read;
       consumed = ended.consumed;
-      front = λ rest may. run_front held failures start done tools ended.faults ended.given ended.out ended.sink (ended.read ++ rest) input ended.ran (ended.told rest may) ended.kept;
+      front = λ rest may. run_front held failures start done tools ended.given ended.out ended.sink (ended.read ++ rest) ended.ran (said_front (ended.read ++ rest) ended.given input (ended.told rest may)) ended.kept;
     })
 
 -- the refusals of the stages fit the answer
@@ -169,11 +182,11 @@ said_all text given (Err fault) refused output told has = said_before_fault text
 said_all text given (Ok tt) refused output told has = told.0
 
 ended_with_all : {W : Type 0} (reader : Change) (held : W → Option (List ℕ)) (failures : W → ℕ) (start done : W) (tools : List Tool) (input : Result (Unit {0}) InputFault) (refused : Option (ℕ × ToolFault)) (output : Result Summary SinkFault)
-    → Ended reader held failures start done tools input refused output → (text : List ℕ) → reader.old ≡ Some text → AnswersText text (answer_by input refused output) → ¬ Failed (failures start) (failures done)
-    → IsAllWritten text tools (answer_by input refused output) (held start) (held done)
-ended_with_all reader held failures start done tools input refused output ended text is has sound =
+    → (ended : Ended reader held failures start done tools input refused output) → HaveAnswered tools ended.faults ended.given ended.out → IsFirstRefusal ended.faults refused
+    → AllIsWritten tools (answer_by input refused output) reader (change held failures start done)
+ended_with_all reader held failures start done tools input refused output ended answered first text is has sound =
     let told = own_text reader held failures start done tools input refused output text ended is in
-    run_all held failures start done tools ended.faults ended.given ended.out ended.sink text ended.ran (said_all text ended.given input refused output told has) (λ fault e. (ended.broken fault e).1) ended.kept sound (answer_by input refused output) (fit_answer ended.faults input refused output ended.first)
+    run_all held failures start done tools ended.faults ended.given ended.out ended.sink text ended.ran answered (said_all text ended.given input refused output told has) (λ fault e. (ended.broken fault e).1) ended.kept sound (answer_by input refused output) (fit_answer ended.faults input refused output first)
 
 pub ended_has_run : {W : Type 0} (reader : Change) (held : W → Option (List ℕ)) (failures : W → ℕ) (start done : W) (tools : List Tool) (input : Result (Unit {0}) InputFault) (refused : Option (ℕ × ToolFault)) (output : Result Summary SinkFault) (unread : Type 0)
     → Ended reader held failures start done tools input refused output → HasRun tools (answer_by input refused output) unread reader (change held failures start done)
@@ -189,13 +202,28 @@ ended_has_run reader held failures start done tools input refused output unread 
   output_last = ended_at_output_last reader held failures start done tools input refused output ended;
   front = ended_at_front reader held failures start done tools input refused output ended;
   front_for_each = inr (ended_at_front_for_each reader held failures start done tools input refused output ended);
-  all_written = ended_with_all reader held failures start done tools input refused output ended;
+}
+
+-- a run in one thread
+of_one_thread : (input : Result (Unit {0}) InputFault) (refused : Option (ℕ × ToolFault)) (output : Result Summary SinkFault) → IsOfOneThread (answer_by input refused output)
+of_one_thread (Err fault) refused output = tt
+of_one_thread (Ok tt) (Some found) output = tt
+of_one_thread (Ok tt) None (Err fault) = tt
+of_one_thread (Ok tt) None (Ok summary) = tt
+
+pub ended_in_one_thread : {W : Type 0} (reader : Change) (held : W → Option (List ℕ)) (failures : W → ℕ) (start done : W) (tools : List Tool) (input : Result (Unit {0}) InputFault) (refused : Option (ℕ × ToolFault)) (output : Result Summary SinkFault) (unread : Type 0)
+    → (ended : Ended reader held failures start done tools input refused output) → HaveAnswered tools ended.faults ended.given ended.out → IsFirstRefusal ended.faults refused
+    → HasRunInOneThread tools (answer_by input refused output) unread reader (change held failures start done)
+ended_in_one_thread reader held failures start done tools input refused output unread ended answered first = record {
+  run = ended_has_run reader held failures start done tools input refused output unread ended;
+  all_written = ended_with_all reader held failures start done tools input refused output ended answered first;
+  one_thread = of_one_thread input refused output;
 }
 
 -- ---- a run for whose list of tools there is no memory
 
 -- a tool for which there is no memory has answered nothing
-not_started : (tool : Tool) (received : List Message) → HasRefused tool Memory received []
+pub not_started : (tool : Tool) (received : List Message) → HasRefused tool Memory received []
 not_started tool received = record {
   accepted = [];
   rest = received;
@@ -205,7 +233,7 @@ not_started tool received = record {
   refused = inl (refl, refl);
 }
 
-none_started : (tools : List Tool) → HaveAnswered tools (map (λ tool. Some Memory) tools) [] []
+pub none_started : (tools : List Tool) → HaveAnswered tools (map (λ tool. Some Memory) tools) [] []
 none_started [] = refl
 none_started (tool ∷ tools) = ([], not_started tool [], none_started tools)
 
@@ -230,35 +258,41 @@ nothing_read : (reader : Change) → reader.new ≡ reader.old → Consumes read
 nothing_read reader read = subst (λ (left : Option (List ℕ)). Consumes reader.old left []) (sym read) (consumes_nothing reader.old)
 
 -- a run that has read and written nothing, since there is no memory for the list
-pub ended_unread : (tools : List Tool) (unread : Type 0) (reader writer : Change) → 1 ≤ length tools → unread → reader.new ≡ reader.old → reader.failures_new ≡ reader.failures_old → writer.new ≡ writer.old → HasRun tools (Err (OfTool 1 Memory)) unread reader writer
+pub ended_unread : (tools : List Tool) (unread : Type 0) (reader writer : Change) → 1 ≤ length tools → unread → reader.new ≡ reader.old → reader.failures_new ≡ reader.failures_old → writer.new ≡ writer.old → HasRunInOneThread tools (Err (OfTool 1 Memory)) unread reader writer
 ended_unread tools unread reader writer some untouched read same_count written = record {
-  well = λ text is. tt;
-  no_failure = tt;
-  input = λ text is. tt;
-  read_failed = tt;
-  sound_reader = λ no_failure no_memory. same_count;
-  tool = (λ is. absurd cc, le_refl 1, some);
-  refusal = λ text is. inl (refl, refl, untouched);
-  output = tt;
-  output_last = λ text is. tt;
-  front = λ text is images completes. nothing_written writer written (bytes_of (due_in_turn tools images));
-  front_for_each = inr (record { read = []; consumed = nothing_read reader read; front = λ rest may images completes. nothing_written writer written (bytes_of (due_in_turn tools images)) });
+  run = record {
+    well = λ text is. tt;
+    no_failure = tt;
+    input = λ text is. tt;
+    read_failed = tt;
+    sound_reader = λ no_failure no_memory. same_count;
+    tool = (λ is. absurd cc, le_refl 1, some);
+    refusal = λ text is. inl (refl, refl, untouched);
+    output = tt;
+    output_last = λ text is. tt;
+    front = λ text is images completes. nothing_written writer written (bytes_of (due_in_turn tools images));
+    front_for_each = inr (record { read = []; consumed = nothing_read reader read; front = λ rest may images completes. nothing_written writer written (bytes_of (due_in_turn tools images)) });
+  };
   all_written = λ text is has sound. subst (λ (held : Option (List ℕ)). IsAllWritten {A = Summary} text tools (Err (OfTool 1 Memory)) writer.old held) (sym written) (ended_without_list text tools writer.old some);
+  one_thread = tt;
 }
 
 -- a run that has written nothing, since there is no memory to read
-pub ended_without_reading : (tools : List Tool) (unread : Type 0) (reader writer : Change) → writer.new ≡ writer.old → HasRun tools (Err (Input NoMemoryToRead)) unread reader writer
+pub ended_without_reading : (tools : List Tool) (unread : Type 0) (reader writer : Change) → writer.new ≡ writer.old → HasRunInOneThread tools (Err (Input NoMemoryToRead)) unread reader writer
 ended_without_reading tools unread reader writer written = record {
-  well = λ text is. tt;
-  no_failure = tt;
-  input = λ text is. inl (inr refl);
-  read_failed = λ is. absurd cc;
-  sound_reader = λ no_failure no_memory. absurd (no_memory refl);
-  tool = tt;
-  refusal = λ text is. tt;
-  output = tt;
-  output_last = λ text is. tt;
-  front = λ text is images completes. nothing_written writer written (bytes_of (due_in_turn tools images));
-  front_for_each = inl (refl, written);
+  run = record {
+    well = λ text is. tt;
+    no_failure = tt;
+    input = λ text is. inl (inr refl);
+    read_failed = λ is. absurd cc;
+    sound_reader = λ no_failure no_memory. absurd (no_memory refl);
+    tool = tt;
+    refusal = λ text is. tt;
+    output = tt;
+    output_last = λ text is. tt;
+    front = λ text is images completes. nothing_written writer written (bytes_of (due_in_turn tools images));
+    front_for_each = inl (refl, written);
+  };
   all_written = λ text is has sound. absurd (no_text_fault text NoMemoryToRead has (inr refl));
+  one_thread = tt;
 }

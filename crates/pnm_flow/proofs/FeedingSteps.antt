@@ -26,7 +26,7 @@ use Rattle.pnm_flow.specs.Runs.{change, HasMore, IsReadFailure, MayFollow, Outla
 use Rattle.pnm_flow.specs.Feeding.{HaveTaken, HasFed}
 
 -- the bytes that may follow those that were read are ones that the source may still be given
-may_give : {R : Type 0} (left : R → Option (List ℕ)) (failures : R → ℕ) (first next : Source R) (result : Result (Unit {0}) InputFault) (rest : List ℕ)
+pub may_give : {R : Type 0} (left : R → Option (List ℕ)) (failures : R → ℕ) (first next : Source R) (result : Result (Unit {0}) InputFault) (rest : List ℕ)
     → (HasMore (left (reader_of next)) → (rest : List ℕ) → MayGive next rest)
     → (IsReadFailure result (change left failures (reader_of first) (reader_of next)) → (rest : List ℕ) → MayGive next rest)
     → MayFollow result (change left failures (reader_of first) (reader_of next)) rest → MayGive next rest
@@ -44,7 +44,7 @@ first_left (Some (byte ∷ more)) has = (byte, more, refl)
 abbrev pub IsUnreadAfter : {R : Type 0} → (R → Option (List ℕ)) → Source R → Source R → Type 0
 IsUnreadAfter left source next = SeesEnd left source → MayGiveMore left next
 
-unread_after : {R : Type 0} (left : R → Option (List ℕ)) (source next : Source R) → SeesEnd left source → IsUnreadAfter left source next → HasMore (left (reader_of next)) → (rest : List ℕ) → MayGive next rest
+pub unread_after : {R : Type 0} (left : R → Option (List ℕ)) (source next : Source R) → SeesEnd left source → IsUnreadAfter left source next → HasMore (left (reader_of next)) → (rest : List ℕ) → MayGive next rest
 unread_after left source next end unread has =
     let found = first_left (left (reader_of next)) has in
     unread end found.0 found.1 found.2
@@ -69,7 +69,7 @@ said_is_sound text = holds_of_said IsSound (record { head = read_head_has_rows; 
 pub said_are_sound : (text : List ℕ) → AreSound (said_of text)
 said_are_sound text = record { lawful = said_is_lawful text; messages = said_are_messages text; sound = said_is_sound text }
 
-given_is_sound : {R : Type 0} (s : Source R) (read : List ℕ) (given : List Message) → HasGiven s read given → AreSound given
+pub given_is_sound : {R : Type 0} (s : Source R) (read : List ℕ) (given : List Message) → HasGiven s read given → AreSound given
 given_is_sound s read given h =
     let front = given_is_front s read given [] h (nothing_may_come s) in
     sound_front given front.0 (subst AreSound front.1 (said_are_sound (read ++ [])))
@@ -151,12 +151,12 @@ fed_all left reader_failures at all_given stopped held writer_failures first sou
 }
 
 -- after a failed read anything may come
-open_in_call : {R : Type 0} (s next : Source R) (read : List ℕ) (given : List Message) → HasGiven s read given → (stopped_by s ≡ Some ReadFailed) ⊎ ((rest : List ℕ) → MayGive next rest) → (rest : List ℕ) → MayGive next rest
+pub open_in_call : {R : Type 0} (s next : Source R) (read : List ℕ) (given : List Message) → HasGiven s read given → (stopped_by s ≡ Some ReadFailed) ⊎ ((rest : List ℕ) → MayGive next rest) → (rest : List ℕ) → MayGive next rest
 open_in_call s next read given h (inl stopped) = absurd (not_stopped s read given ReadFailed h stopped (inl refl))
 open_in_call s next read given h (inr anything) = anything
 
 -- a source that hadn't stopped failed in the call
-failed_in_call : {R : Type 0} (s : Source R) (read : List ℕ) (given : List Message) (old new first : ℕ) → HasGiven s read given → old ≡ first → (stopped_by s ≡ Some ReadFailed) ⊎ Failed old new → Failed first new
+pub failed_in_call : {R : Type 0} (s : Source R) (read : List ℕ) (given : List Message) (old new first : ℕ) → HasGiven s read given → old ≡ first → (stopped_by s ≡ Some ReadFailed) ⊎ Failed old new → Failed first new
 failed_in_call s read given old new first h e (inl stopped) = absurd (not_stopped s read given ReadFailed h stopped (inl refl))
 failed_in_call s read given old new first h e (inr failed) = subst (λ (k : ℕ). Failed k new) e failed
 

@@ -13,3 +13,8 @@ pub mod SendingSteps
 pub mod DueSteps
 pub mod StagedSteps
 pub mod ChainSteps
+pub mod StageEndLaws
+pub mod ThreadedRunSteps
+pub mod FeederSteps
+pub mod CollectorSteps
+pub mod TurnSteps

@@ -64,7 +64,7 @@ input_fault text given fault is =
     ]
 
 -- what was given is a front of what is said
-said_front : (text : List ℕ) (given : List Message) (result : Result (Unit {0}) InputFault) → IsSaidOf text given result → IsFrontOf given (said_of text)
+pub said_front : (text : List ℕ) (given : List Message) (result : Result (Unit {0}) InputFault) → IsSaidOf text given result → IsFrontOf given (said_of text)
 said_front text given (Ok x) is = ([], is.0 ∙ sym (append-nil given))
 said_front text given (Err fault) is =
     elim is [
@@ -99,7 +99,7 @@ rows_of_sound (ImageEnd ∷ l) s = (tt, rows_of_sound l s.1)
 rows_of_sound (StreamEnd ∷ l) s = (tt, rows_of_sound l s.1)
 rows_of_sound (Stop ∷ l) s = absurd s.0
 
-sound_is_writable : (l : List Message) → AreSound l → AreWritable l
+pub sound_is_writable : (l : List Message) → AreSound l → AreWritable l
 sound_is_writable l s = (s.lawful, rows_of_sound l s.sound)
 
 -- ---- what is written
@@ -121,7 +121,7 @@ output_front : {W : Type 0} (held : W → Option (List ℕ)) (failures : W → �
 output_front held failures start out more d (Ok x) writable is = front_of_more (held start) (held (output_of d)) (bytes_of out) more is.written.bytes
 output_front held failures start out more d (Err fault) writable is = front-more (held start) (held (output_of d)) (bytes_of out) more (is.front writable).1.0
 
-output_all : {W : Type 0} (held : W → Option (List ℕ)) (failures : W → ℕ) (start done : W) (out : List Message) (d : Downstream W) (o : Result (Unit {0}) SinkFault) → AreWritable out → HasTakenWith held failures start out d o
+pub output_all : {W : Type 0} (held : W → Option (List ℕ)) (failures : W → ℕ) (start done : W) (out : List Message) (d : Downstream W) (o : Result (Unit {0}) SinkFault) → AreWritable out → HasTakenWith held failures start out d o
     → ((fault : SinkFault) → o ≡ Err fault → done ≡ output_of d) → Keeps (held (output_of d)) (held done) → ¬ Failed (failures start) (failures done)
     → Appends (held start) (held done) (bytes_of out)
 output_all held failures start done out d (Ok x) writable is broken kept sound = Appends-kept (held start) (held (output_of d)) (held done) (bytes_of out) is.written.bytes kept
@@ -135,15 +135,13 @@ failed_so held failures start out d (Err fault) is = is.failed
 
 -- ---- the run
 
--- What a run knows at its end: what the source gave, what the stages answered, and what the sink took.
-pub record Ran {W : Type 0} (held : W → Option (List ℕ)) (failures : W → ℕ) (start : W) (tools : List Tool) (faults : List (Option ToolFault)) (given out : List Message) (d : Downstream W) : Type 0 where
+-- What a run knows at its end: what the source gave, and what the sink took, a front of what is due.
+pub record Ran {W : Type 0} (held : W → Option (List ℕ)) (failures : W → ℕ) (start : W) (tools : List Tool) (given out : List Message) (d : Downstream W) : Type 0 where
   pub lawful : AreLawfulTools tools
   pub sound : AreSound given
-  pub answered : HaveAnswered tools faults given out
+  pub writable : AreWritable out
+  pub due : (is : List Image) → Completes is given → IsFrontOf out (due_in_turn tools is)
   pub taken : HasTakenWith held failures start out d d.output
-
-out_is_writable : {W : Type 0} (held : W → Option (List ℕ)) (failures : W → ℕ) (start : W) (tools : List Tool) (faults : List (Option ToolFault)) (given out : List Message) (d : Downstream W) → Ran held failures start tools faults given out d → AreWritable out
-out_is_writable held failures start tools faults given out d ran = sound_is_writable out (given_are_sound tools faults given out ran.lawful ran.sound ran.answered)
 
 -- images that complete what is said complete a front of it
 completes_front : (l given : List Message) (is : List Image) → AreSound l → AreSound given → IsFrontOf given l → Completes is l → Completes is given
@@ -156,89 +154,89 @@ completes_front l given is sound given_sound front c = record {
 }
 
 -- however it ends, what was written is a front of what is due
-pub run_front : {W : Type 0} (held : W → Option (List ℕ)) (failures : W → ℕ) (start done : W) (tools : List Tool) (faults : List (Option ToolFault)) (given out : List Message) (d : Downstream W) (text : List ℕ) (result : Result (Unit {0}) InputFault)
-    → Ran held failures start tools faults given out d → IsSaidOf text given result → Keeps (held (output_of d)) (held done) → IsFrontOfDue text tools (held start) (held done)
-run_front held failures start done tools faults given out d text result ran said kept images completes =
-    let c = completes_front (said_of text) given images (said_are_sound text) ran.sound (said_front text given result said) completes in
-    let front = given_is_front tools faults given out images ran.lawful ran.sound ran.answered c in
+pub run_front : {W : Type 0} (held : W → Option (List ℕ)) (failures : W → ℕ) (start done : W) (tools : List Tool) (given out : List Message) (d : Downstream W) (text : List ℕ)
+    → Ran held failures start tools given out d → IsFrontOf given (said_of text) → Keeps (held (output_of d)) (held done) → IsFrontOfDue text tools (held start) (held done)
+run_front held failures start done tools given out d text ran said kept images completes =
+    let c = completes_front (said_of text) given images (said_are_sound text) ran.sound said completes in
+    let front = ran.due images c in
     let more = bytes_of-append out front.0 in
     front-kept (held start) (held (output_of d)) (held done) (bytes_of (due_in_turn tools images))
     (subst (AppendsFront (held start) (held (output_of d))) (sym (ap bytes_of front.1 ∙ more.1))
-    (output_front held failures start out more.0 d d.output (out_is_writable held failures start tools faults given out d ran) ran.taken))
+    (output_front held failures start out more.0 d d.output ran.writable ran.taken))
     kept
 
 -- where the whole text was read, all that the tools answered was written, unless the writer failed
 pub run_all : {W : Type 0} (held : W → Option (List ℕ)) (failures : W → ℕ) (start done : W) (tools : List Tool) (faults : List (Option ToolFault)) (given out : List Message) (d : Downstream W) (text : List ℕ)
-    → Ran held failures start tools faults given out d → said_of text ≡ given → ((f : SinkFault) → d.output ≡ Err f → done ≡ output_of d) → Keeps (held (output_of d)) (held done) → ¬ Failed (failures start) (failures done)
+    → Ran held failures start tools given out d → HaveAnswered tools faults given out → said_of text ≡ given → ((f : SinkFault) → d.output ≡ Err f → done ≡ output_of d) → Keeps (held (output_of d)) (held done) → ¬ Failed (failures start) (failures done)
     → (answer : Result Summary RunFault) → FitAnswer answer faults → IsAllWritten text tools answer (held start) (held done)
-run_all held failures start done tools faults given out d text ran said broken kept sound answer fit = record {
+run_all held failures start done tools faults given out d text ran have said broken kept sound answer fit = record {
   faults = faults;
   given = out;
   fit = fit;
-  answered = subst (λ (l : List Message). HaveAnswered tools faults l out) (sym said) ran.answered;
-  written = output_all held failures start done out d d.output (out_is_writable held failures start tools faults given out d ran) ran.taken broken kept sound;
+  answered = subst (λ (l : List Message). HaveAnswered tools faults l out) (sym said) have;
+  written = output_all held failures start done out d d.output ran.writable ran.taken broken kept sound;
 }
 
 -- the first fault of the stages
-pub run_refused : {W : Type 0} (held : W → Option (List ℕ)) (failures : W → ℕ) (start : W) (tools : List Tool) (faults : List (Option ToolFault)) (given out : List Message) (d : Downstream W) (text : List ℕ) (number : ℕ) (fault : ToolFault)
-    → Ran held failures start tools faults given out d → (said_of text ≡ given) × (fault_of text ≡ None) → IsFirstFault 1 faults number fault → IsStoppedBy text tools number fault
-run_refused held failures start tools faults given out d text number fault ran said first =
+pub run_refused : (tools : List Tool) (faults : List (Option ToolFault)) (given out : List Message) (text : List ℕ) (number : ℕ) (fault : ToolFault)
+    → AreLawfulTools tools → AreSound given → HaveAnswered tools faults given out → (said_of text ≡ given) × (fault_of text ≡ None) → IsFirstFault 1 faults number fault → IsStoppedBy text tools number fault
+run_refused tools faults given out text number fault lawful sound_given have said first =
     let found = said_text_is_spelled text said.1 in
     let stream : given ≡ messages_of_stream found.0 = sym said.0 ∙ found.2 in
     let images = spelled_are_images text found.0 found.1 in
-    let sound = subst AreSound stream ran.sound in
-    let answered = subst (λ (l : List Message). HaveAnswered tools faults l out) stream ran.answered in
-    elim (refusal_is_first tools faults found.0 out number fault ran.lawful images sound answered first) [
-      | inl memory ↦ inl (memory, (found.0, found.1, none_before_first_fault tools faults found.0 out number fault ran.lawful images sound answered first))
+    let sound = subst AreSound stream sound_given in
+    let answered = subst (λ (l : List Message). HaveAnswered tools faults l out) stream have in
+    elim (refusal_is_first tools faults found.0 out number fault lawful images sound answered first) [
+      | inl memory ↦ inl (memory, (found.0, found.1, none_before_first_fault tools faults found.0 out number fault lawful images sound answered first))
       | inr refusal ↦ inr (found.0, found.1, refusal)
     ]
 
 -- no stage has refused
-pub run_taken : {W : Type 0} (held : W → Option (List ℕ)) (failures : W → ℕ) (start : W) (tools : List Tool) (faults : List (Option ToolFault)) (given out : List Message) (d : Downstream W) (text : List ℕ)
-    → Ran held failures start tools faults given out d → (said_of text ≡ given) × (fault_of text ≡ None) → AreWell faults → IsTaken text tools
-run_taken held failures start tools faults given out d text ran said well =
+pub run_taken : (tools : List Tool) (faults : List (Option ToolFault)) (given out : List Message) (text : List ℕ)
+    → AreLawfulTools tools → HaveAnswered tools faults given out → (said_of text ≡ given) × (fault_of text ≡ None) → AreWell faults → IsTaken text tools
+run_taken tools faults given out text lawful have said well =
     let found = said_text_is_spelled text said.1 in
     let stream : given ≡ messages_of_stream found.0 = sym said.0 ∙ found.2 in
-    let answered = stream_is_answered tools faults found.0 out ran.lawful (spelled_are_images text found.0 found.1) well (subst (λ (l : List Message). HaveAnswered tools faults l out) stream ran.answered) in
+    let answered = stream_is_answered tools faults found.0 out lawful (spelled_are_images text found.0 found.1) well (subst (λ (l : List Message). HaveAnswered tools faults l out) stream have) in
     (found.0, found.1, answered.4)
 
 -- the writer failed
-pub run_output : {W : Type 0} (held : W → Option (List ℕ)) (failures : W → ℕ) (start done : W) (tools : List Tool) (faults : List (Option ToolFault)) (given out : List Message) (d : Downstream W) (o : Result (Unit {0}) SinkFault) (answer : Result Summary SinkFault) (fault : SinkFault)
-    → Ran held failures start tools faults given out d → d.output ≡ o
+pub run_output : {W : Type 0} (held : W → Option (List ℕ)) (failures : W → ℕ) (start done : W) (tools : List Tool) (given out : List Message) (d : Downstream W) (o : Result (Unit {0}) SinkFault) (answer : Result Summary SinkFault) (fault : SinkFault)
+    → Ran held failures start tools given out d → d.output ≡ o
     → ((f : SinkFault) → d.output ≡ Err f → (answer ≡ Err f) × (done ≡ output_of d))
     → (d.output ≡ Ok tt → MatchResult answer (λ summary. (summary ≡ d.summary) × (failures done ≡ failures (output_of d))) (λ f. (f ≡ WriteFailed) × Failed (failures (output_of d)) (failures done)))
     → answer ≡ Err fault → (fault ≡ WriteFailed) × Failed (failures start) (failures done)
-run_output held failures start done tools faults given out d (Ok tt) answer fault ran o-is broken well answer-is =
+run_output held failures start done tools given out d (Ok tt) answer fault ran o-is broken well answer-is =
     let written : AreWritten held failures start out d = subst (HasTakenWith held failures start out d) o-is ran.taken in
     let failed = rw answer-is at (well o-is) in
     (failed.0, subst (λ (n : ℕ). Failed n (failures done)) written.count failed.1)
-run_output held failures start done tools faults given out d (Err other) answer fault ran o-is broken well answer-is =
+run_output held failures start done tools given out d (Err other) answer fault ran o-is broken well answer-is =
     let cut : AreCutOff held failures start out d other = subst (HasTakenWith held failures start out d) o-is ran.taken in
     let both = broken other o-is in
     let same : fault ≡ other = cc (both.0, answer-is) in
-    let front = cut.front (out_is_writable held failures start tools faults given out d ran) in
+    let front = cut.front ran.writable in
     (same ∙ front.0, subst (λ (w : _). Failed (failures start) (failures w)) (sym both.1) front.1.1)
 
 -- the writer didn't fail
-pub run_sound : {W : Type 0} (held : W → Option (List ℕ)) (failures : W → ℕ) (start done : W) (tools : List Tool) (faults : List (Option ToolFault)) (given out : List Message) (d : Downstream W) (o : Result (Unit {0}) SinkFault) (answer : Result Summary SinkFault) (summary : Summary)
-    → Ran held failures start tools faults given out d → d.output ≡ o
+pub run_sound : {W : Type 0} (held : W → Option (List ℕ)) (failures : W → ℕ) (start done : W) (tools : List Tool) (given out : List Message) (d : Downstream W) (o : Result (Unit {0}) SinkFault) (answer : Result Summary SinkFault) (summary : Summary)
+    → Ran held failures start tools given out d → d.output ≡ o
     → ((f : SinkFault) → d.output ≡ Err f → (answer ≡ Err f) × (done ≡ output_of d))
     → (d.output ≡ Ok tt → MatchResult answer (λ summary. (summary ≡ d.summary) × (failures done ≡ failures (output_of d))) (λ f. (f ≡ WriteFailed) × Failed (failures (output_of d)) (failures done)))
     → answer ≡ Ok summary → AreWritten held failures start out d × (summary ≡ d.summary) × (failures done ≡ failures start)
-run_sound held failures start done tools faults given out d (Ok tt) answer summary ran o-is broken well answer-is =
+run_sound held failures start done tools given out d (Ok tt) answer summary ran o-is broken well answer-is =
     let written : AreWritten held failures start out d = subst (HasTakenWith held failures start out d) o-is ran.taken in
     let same = rw answer-is at (well o-is) in
     (written, same.0, same.1 ∙ written.count)
-run_sound held failures start done tools faults given out d (Err other) answer summary ran o-is broken well answer-is = absurd (cc ((broken other o-is).0, answer-is))
+run_sound held failures start done tools given out d (Err other) answer summary ran o-is broken well answer-is = absurd (cc ((broken other o-is).0, answer-is))
 
 -- a run that ended well
 pub run_well : {W : Type 0} (held : W → Option (List ℕ)) (failures : W → ℕ) (start done : W) (tools : List Tool) (faults : List (Option ToolFault)) (given out : List Message) (d : Downstream W) (summary : Summary) (text : List ℕ)
-    → Ran held failures start tools faults given out d → (said_of text ≡ given) × (fault_of text ≡ None) → AreWell faults → AreWritten held failures start out d → summary ≡ d.summary → Keeps (held (output_of d)) (held done)
+    → AreLawfulTools tools → HaveAnswered tools faults given out → (said_of text ≡ given) × (fault_of text ≡ None) → AreWell faults → AreWritten held failures start out d → summary ≡ d.summary → Keeps (held (output_of d)) (held done)
     → EndedWell text tools (held start) (held done) summary
-run_well held failures start done tools faults given out d summary text ran said well written same kept =
+run_well held failures start done tools faults given out d summary text lawful have said well written same kept =
     let found = said_text_is_spelled text said.1 in
     let stream : given ≡ messages_of_stream found.0 = sym said.0 ∙ found.2 in
-    let answered = stream_is_answered tools faults found.0 out ran.lawful (spelled_are_images text found.0 found.1) well (subst (λ (l : List Message). HaveAnswered tools faults l out) stream ran.answered) in
+    let answered = stream_is_answered tools faults found.0 out lawful (spelled_are_images text found.0 found.1) well (subst (λ (l : List Message). HaveAnswered tools faults l out) stream have) in
     let results : List Image = answered.0 in
     let counts_images : d.summary.images ≡ counted (length results) = written.images ∙ ap (images_in 0) answered.3 ∙ images_in-stream 0 results ∙ ap counted (zero-add (length results)) in
     let counts_rows : d.summary.rows ≡ counted (sum_by (λ i. i.head.shape.height) results) = written.rows ∙ ap (rows_in 0) answered.3 ∙ rows_in-stream 0 results ∙ ap counted (zero-add _) in
@@ -252,14 +250,25 @@ run_well held failures start done tools faults given out d summary text ran said
       counts = same ∙ ap (λ k. both k d.summary.rows) counts_images ∙ ap (λ k. both (counted (length results)) k) counts_rows;
     }
 
+-- the stages have answered what the source gave
+pub stages_answered : {R W : Type 0} (left : R → Option (List ℕ)) (reader_failures : R → ℕ) (held : W → Option (List ℕ)) (failures : W → ℕ) (source source_new : Source R) (result : Result (Unit {0}) InputFault) (old new : List (SerialStage (Standing Work))) (before after : Downstream W) (tools : List Tool)
+    → AreFresh old tools
+    → (fed : HasFed left reader_failures IsToolAt (λ s. is_all_given s.pending) (λ s. s.fault) held failures source source_new result old new before after)
+    → HaveAnswered tools (refusals_in new) fed.given fed.output.out
+stages_answered left reader_failures held failures source source_new result old new before after tools fresh fed =
+    have_answered IsToolAt (λ s. is_all_given s.pending) (λ s. s.fault) new tools fed.given fed.output.out (fed.output.stages tools (fresh_at old tools fresh))
+
 -- the end of the source's messages
 pub ran_of : {R W : Type 0} (left : R → Option (List ℕ)) (reader_failures : R → ℕ) (held : W → Option (List ℕ)) (failures : W → ℕ) (source source_new : Source R) (result : Result (Unit {0}) InputFault) (old new : List (SerialStage (Standing Work))) (before after : Downstream W) (tools : List Tool)
     → AreLawfulTools tools → AreFresh old tools → HasTakenWith held failures (output_of before) [] before before.output
     → (fed : HasFed left reader_failures IsToolAt (λ s. is_all_given s.pending) (λ s. s.fault) held failures source source_new result old new before after)
-    → Ran held failures (output_of before) tools (refusals_in new) fed.given fed.output.out after
-ran_of left reader_failures held failures source source_new result old new before after tools lawful fresh start fed = record {
-  lawful = lawful;
-  sound = fed.sound;
-  answered = have_answered IsToolAt (λ s. is_all_given s.pending) (λ s. s.fault) new tools fed.given fed.output.out (fed.output.stages tools (fresh_at old tools fresh));
-  taken = fed.output.taken (output_of before) start;
-}
+    → Ran held failures (output_of before) tools fed.given fed.output.out after
+ran_of left reader_failures held failures source source_new result old new before after tools lawful fresh start fed =
+    let have = stages_answered left reader_failures held failures source source_new result old new before after tools fresh fed in
+    record {
+      lawful = lawful;
+      sound = fed.sound;
+      writable = sound_is_writable fed.output.out (given_are_sound tools (refusals_in new) fed.given fed.output.out lawful fed.sound have);
+      due = λ is completes. given_is_front tools (refusals_in new) fed.given fed.output.out is lawful fed.sound have completes;
+      taken = fed.output.taken (output_of before) start;
+    }

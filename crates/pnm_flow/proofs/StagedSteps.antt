@@ -318,7 +318,7 @@ ends_well at all_given stopped e first now r r1 left s s1 tool passing says none
     let whole : EndsBy Whole passing.took = subst (λ (x : Ending). EndsBy x passing.took) (sym says) passing.ends in
     let stream = is_stream_of passing.took passing.messages full.answers.lawful (ends_stream passing.took whole) in
     let answered = full_answer_is_the_stream tool stream.0 passing.gave stream.1.images (subst (λ (x : List Message). AnswersInFull tool x passing.gave) stream.1.messages full) in
-    ended_by tool Well Whole passing.took passing.gave r r1 left s s1 (inl whole) (record { images = stream.0; results = answered.0; stream = stream.1; made = answered.1; answer = answered.2 }) full passing.messages passing.received passing.sent
+    ended_by tool Well Whole passing.took passing.gave r r1 left s s1 (inl whole) (record { images = stream.0; results = answered.0; stream = stream.1; made = answered.1; answer = answered.2; full = full }) full passing.messages passing.received passing.sent
 
 pub ends_broken : {F : Type 0} (at : F → Tool → List Message → List Message → Type 0) (all_given : F → Bool) (stopped : F → Option ToolFault) (e : Ending) (first now : SerialStage F) (r r1 left s s1 : List Message) (tool : Tool)
     → IsPassing at all_given stopped e first now r r1 s s1 → BrokenOff ≡ e → refusal_in now ≡ None → StageAt at all_given stopped first tool [] [] → HasRunStage tool Broken r r1 left s s1

@@ -9,3 +9,7 @@ pub mod Links
 pub mod Stages
 pub mod StageParts
 pub mod Chains
+pub mod ThreadedRuns
+pub mod Feeders
+pub mod Collectors
+pub mod Turns

@@ -20,7 +20,7 @@ use Rattle.pnm_write.specs.declared.fault.SinkFault.TheVariants.{WriteFailed}
 use Rattle.pnm_write.specs.Encoding.{bytes_of, encoding_of}
 use Rattle.pnm_image.specs.Devices.{AppendsFront, Failed}
 use Rattle.pnm_flow.specs.declared.fault.RunFault.{RunFault}
-use Rattle.pnm_flow.specs.declared.fault.RunFault.TheVariants.{Input, Tool as OfTool, Output}
+use Rattle.pnm_flow.specs.declared.fault.RunFault.TheVariants.{NoStart, Input, Tool as OfTool, Output, PeerGone}
 use Rattle.pnm_flow.specs.declared.summary.Summary.{Summary}
 use Rattle.pnm_flow.specs.Counts.{counted}
 
@@ -48,31 +48,48 @@ abbrev pub IsFirstRefusal : List (Option ToolFault) → Option (ℕ × ToolFault
 IsFirstRefusal faults None = AreWell faults
 IsFirstRefusal faults (Some found) = IsFirstFault 1 faults found.0 found.1
 
+-- an answer of a run in one thread: no thread was to be started, and no ring has another end
+abbrev pub IsOfOneThread : {A : Type 0} → Result A RunFault → Type 0
+IsOfOneThread (Ok x) = Unit {0}
+IsOfOneThread (Err NoStart) = ⊥
+IsOfOneThread (Err (Input fault)) = Unit {0}
+IsOfOneThread (Err (OfTool number fault)) = Unit {0}
+IsOfOneThread (Err (Output fault)) = Unit {0}
+IsOfOneThread (Err (PeerGone number)) = ⊥
+
 -- how the input ended, by the answer of a run
 abbrev pub input_of : {A : Type 0} → Result A RunFault → Result (Unit {0}) InputFault
 input_of (Ok x) = Ok tt
+input_of (Err NoStart) = Ok tt
 input_of (Err (Input fault)) = Err fault
 input_of (Err (OfTool number fault)) = Ok tt
 input_of (Err (Output fault)) = Ok tt
+input_of (Err (PeerGone number)) = Ok tt
 
 -- where the answer is a fault of the input, of a tool or of the output, this holds of it
 abbrev pub IfInput : {A : Type 0} → Result A RunFault → (InputFault → Type 0) → Type 0
 IfInput (Ok x) P = Unit {0}
+IfInput (Err NoStart) P = Unit {0}
 IfInput (Err (Input fault)) P = P fault
 IfInput (Err (OfTool number fault)) P = Unit {0}
 IfInput (Err (Output fault)) P = Unit {0}
+IfInput (Err (PeerGone number)) P = Unit {0}
 
 abbrev pub IfTool : {A : Type 0} → Result A RunFault → (ℕ → ToolFault → Type 0) → Type 0
 IfTool (Ok x) P = Unit {0}
+IfTool (Err NoStart) P = Unit {0}
 IfTool (Err (Input fault)) P = Unit {0}
 IfTool (Err (OfTool number fault)) P = P number fault
 IfTool (Err (Output fault)) P = Unit {0}
+IfTool (Err (PeerGone number)) P = Unit {0}
 
 abbrev pub IfOutput : {A : Type 0} → Result A RunFault → (SinkFault → Type 0) → Type 0
 IfOutput (Ok x) P = Unit {0}
+IfOutput (Err NoStart) P = Unit {0}
 IfOutput (Err (Input fault)) P = Unit {0}
 IfOutput (Err (OfTool number fault)) P = Unit {0}
 IfOutput (Err (Output fault)) P = P fault
+IfOutput (Err (PeerGone number)) P = Unit {0}
 
 -- ---- a run that ended well
 
@@ -132,9 +149,11 @@ MayFollow input reader rest = (rest ≡ []) ⊎ HasMore reader.new ⊎ IsReadFai
 -- the answer isn't a fault from outside that broke off the reading of the text
 abbrev pub AnswersText : {A : Type 0} → List ℕ → Result A RunFault → Type 0
 AnswersText text (Ok x) = Unit {0}
+AnswersText text (Err NoStart) = ⊥
 AnswersText text (Err (Input fault)) = fault_of text ≡ Some fault
 AnswersText text (Err (OfTool number fault)) = Unit {0}
 AnswersText text (Err (Output fault)) = Unit {0}
+AnswersText text (Err (PeerGone number)) = ⊥
 
 -- ---- what was written
 
@@ -153,9 +172,11 @@ pub record IsFrontForEach (tools : List Tool) (input : Result (Unit {0}) InputFa
 -- the answer tells nothing.
 abbrev pub FitAnswer : {A : Type 0} → Result A RunFault → List (Option ToolFault) → Type 0
 FitAnswer (Ok x) faults = AreWell faults
+FitAnswer (Err NoStart) faults = Unit {0}
 FitAnswer (Err (Input fault)) faults = Unit {0}
 FitAnswer (Err (OfTool number fault)) faults = IsFirstFault 1 faults number fault
 FitAnswer (Err (Output fault)) faults = AreWell faults
+FitAnswer (Err (PeerGone number)) faults = Unit {0}
 
 -- each tool has answered what the one before it gave for all that is said of the text, in full or until its refusal, and
 -- the answers of the last were written
@@ -166,9 +187,15 @@ pub record IsAllWritten {A : Type 0} (text : List ℕ) (tools : List Tool) (answ
   pub answered : HaveAnswered tools faults (said_of text) given
   pub written : Appends old new (bytes_of given)
 
+-- where the answer is of the text and the writer didn't fail, all was written that the tools of a run in one thread have
+-- answered
+abbrev pub AllIsWritten : {A : Type 0} → List Tool → Result A RunFault → Change → Change → Type 0
+AllIsWritten tools answer reader writer =
+    (text : List ℕ) → reader.old ≡ Some text → AnswersText text answer → ¬ Failed writer.failures_old writer.failures_new → IsAllWritten text tools answer writer.old writer.new
+
 -- ---- the run
 
--- how a run answers, and what it has read and written then; where there is no memory for the list of the tools, the reader
+-- how a run answers, in one thread or over several, and what it has read and written then; where there is no memory for the list of the tools, the reader
 -- is as it was
 pub record HasRun (tools : List Tool) (answer : Result Summary RunFault) (unread : Type 0) (reader writer : Change) : Type 0 where
   -- It ends well only where the whole input is accepted, no tool refuses an image, the results of all images are written,
@@ -189,8 +216,12 @@ pub record HasRun (tools : List Tool) (answer : Result Summary RunFault) (unread
   pub output : IfOutput answer (λ fault. (fault ≡ WriteFailed) × Failed writer.failures_old writer.failures_new × (reader.failures_new ≡ reader.failures_old))
   pub output_last : (text : List ℕ) → reader.old ≡ Some text → IfOutput answer (λ fault. IsTaken text tools)
   -- However it ends, what is written is a front of the output due, for the reader's own text and for any other that may
-  -- begin with the bytes that were read; or there was no memory to read, and nothing was written. Where the answer is of
-  -- the text, it is all that the tools have answered, unless the writer failed.
+  -- begin with the bytes that were read; or there was no memory to read, and nothing was written.
   pub front : (text : List ℕ) → reader.old ≡ Some text → IsFrontOfDue text tools writer.old writer.new
   pub front_for_each : ((answer ≡ Err (Input NoMemoryToRead)) × (writer.new ≡ writer.old)) ⊎ IsFrontForEach tools (input_of answer) reader writer
-  pub all_written : (text : List ℕ) → reader.old ≡ Some text → AnswersText text answer → ¬ Failed writer.failures_old writer.failures_new → IsAllWritten text tools answer writer.old writer.new
+
+-- and in one thread all was written that the tools have answered
+pub record HasRunInOneThread (tools : List Tool) (answer : Result Summary RunFault) (unread : Type 0) (reader writer : Change) : Type 0 where
+  pub run : HasRun tools answer unread reader writer
+  pub all_written : AllIsWritten tools answer reader writer
+  pub one_thread : IsOfOneThread answer

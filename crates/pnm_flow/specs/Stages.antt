@@ -26,6 +26,7 @@ pub record HasEndedWell (tool : Tool) (l g : List Message) : Type 0 where
   pub stream : IsStreamOf l images
   pub made : AreResults tool images results
   pub answer : g ≡ messages_of_stream results
+  pub full : AnswersInFull tool l g
 
 -- the stream was broken off, and so was its full answer
 pub record HasBrokenOff (tool : Tool) (l g : List Message) : Type 0 where

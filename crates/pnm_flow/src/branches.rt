@@ -8,7 +8,7 @@ use std::thread;
 use std::thread::{Promise, Threads};
 
 /// Work that is done once. A thread is started with such a value, since a closure that is a parameter can't be.
-trait Task {
+pub trait Task {
     type Output;
 
     ghost can_run: { Self → Type 0 };
@@ -30,7 +30,7 @@ impl<S: Task<Output = A>, A> Promise<A> for Gives<S> {
 
 /// A closure as a task.
 #[derive(Drop)]
-struct Call<F>(F);
+pub struct Call<F>(pub F);
 
 impl<A, F: FnOnce() -> A> Task for Call<F> {
     type Output = A;
@@ -46,7 +46,7 @@ impl<A, F: FnOnce() -> A> Task for Call<F> {
 
 /// Runs the first task in a thread of its own and the second here; none where the thread couldn't be started, and then
 /// the second isn't run.
-fn run_both<
+pub fn run_both<
     R: Threads + Wait + Sync,
     S: Task<Output = A> + Send + Drop,
     T: Task<Output = B> + Drop,

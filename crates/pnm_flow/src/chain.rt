@@ -72,17 +72,46 @@ pub fn run_chain<R: Threads + Wait + Sync, G: Gate>(
         (received input) (received done.input) (sent output) (sent done.output)) }
     ensures not_started { IfErr result (λ refused. IfSome refused.ends (IsUntouched input output)) }
 {
+    let nobody = Bell::of_nobody();
+    let first = Bell::new();
+    let last = Bell::new();
+    let bells = Bells {
+        left: &nobody,
+        own: &last,
+        right: &nobody,
+    };
+    run_chain_by(
+        rt, alloc, tools, capacity, gate, input, output, bells, &first,
+    )
+}
+
+/// The same, beside neighbours that have bells. The bells are those of the last tool and of the neighbours of all; the
+/// first tool has its own, unless it is the last.
+pub fn run_chain_by<R: Threads + Wait + Sync, G: Gate>(
+    rt: &R,
+    alloc: Global,
+    tools: &[Tool],
+    capacity: usize,
+    gate: &G,
+    input: Input,
+    output: Output,
+    bells: Bells<'_>,
+    first: &Bell,
+) -> Result<ChainDone, NoStart>
+    requires shared { IsSync R.row × IsSync G.row }
+    requires chain { IsChain tools.now }
+    ensures input { IfOk result (λ done. SameConsumer input done.input) }
+    ensures output { IfOk result (λ done. SameProducer output done.output) }
+    ensures ran { IfOk result (λ done. HasRunChain tools.now done.ends.items done.links.items
+        (received input) (received done.input) (sent output) (sent done.output)) }
+    ensures not_started { IfErr result (λ refused. IfSome refused.ends (IsUntouched input output)) }
+{
     let Some(room) = Room::new(alloc) else {
         return Err(not_started(input, output));
     };
-    let own = Bell::new();
-    let nobody = Bell::of_nobody();
-    let bells = Bells {
-        left: &nobody,
-        own: &own,
-        right: &nobody,
-    };
-    run_stages(rt, alloc, tools, capacity, gate, input, output, room, bells)
+    run_stages(
+        rt, alloc, tools, capacity, gate, input, output, room, bells, first,
+    )
 }
 
 /// Room for what a chain gives back, made before any thread is started.
@@ -103,8 +132,7 @@ impl Room {
     }
 }
 
-/// The stages of the tools, at least one: the last in a thread of its own, beside those before it. Its
-/// bells are those of the last tool and of the neighbours of all.
+/// The stages of the tools, at least one: the last in a thread of its own, beside those before it.
 fn run_stages<R: Threads + Wait + Sync, G: Gate>(
     rt: &R,
     alloc: Global,
@@ -115,6 +143,7 @@ fn run_stages<R: Threads + Wait + Sync, G: Gate>(
     output: Output,
     room: Room,
     bells: Bells<'_>,
+    first: &Bell,
 ) -> Result<ChainDone, NoStart>
     requires shared { IsSync R.row × IsSync G.row }
     requires tools { AreLawfulTools tools.now × (1 ≤ length tools.now) × (length tools.now ≤ max_tools) }
@@ -135,7 +164,7 @@ fn run_stages<R: Threads + Wait + Sync, G: Gate>(
     let number = tools.len();
     // The bell of the tool before the last stands here, below the threads of both its neighbours.
     let before = Bell::new();
-    let next = &before;
+    let next = if others.len() == 1 { first } else { &before };
     let Bells { left, own, right } = bells;
     let both = at_once(
         rt,
@@ -163,11 +192,14 @@ fn run_stages<R: Threads + Wait + Sync, G: Gate>(
                 own: next,
                 right: own,
             };
-            // Where they weren't started, their ring ends go here, before the last tool is waited for.
-            run_stages(
-                rt, alloc, others, capacity, gate, input, producer, room, bells,
+            // Where they weren't started, their ring ends go here, before the last tool is waited for, which looks for
+            // that once it is woken.
+            let chain = run_stages(
+                rt, alloc, others, capacity, gate, input, producer, room, bells, first,
             )
-            .ok()
+            .ok();
+            own.ring();
+            chain
         },
     );
     let Some((done, chain)) = both else {

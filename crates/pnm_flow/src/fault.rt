@@ -5,13 +5,19 @@ use pnm_tools::ToolFault;
 use pnm_write::SinkFault;
 
 /// Why a run ended without its whole output: the input's fault, if it has one; or else the fault of
-/// the first tool of the chain that has one; or else the output's.
+/// the first tool of the chain that has one; or else the output's. Over threads also, and before all these, that it
+/// couldn't be started; and, where a tool's fault would be answered, that this tool saw a ring's other end dropped.
 #[derive(Clone, Copy, Debug, PartialEq, Eq)]
 pub enum RunFault {
+    /// There was no memory for a ring or a list, or a thread couldn't be started.
+    NoStart,
     /// The input is at fault.
     Input(InputFault),
     /// The tool of this number, from 1, is at fault.
     Tool(usize, ToolFault),
     /// The output is at fault.
     Output(SinkFault),
+    /// The tool of this number, from 1, saw the other end of one of its rings dropped; 0 and the number after the last
+    /// tool's stand for the caller, who sends to the first tool and takes from the last.
+    PeerGone(usize),
 }

@@ -3,9 +3,11 @@
 
 mod branches;
 mod chain;
+mod collector;
 mod downstream;
 mod ending;
 mod fault;
+mod feeder;
 mod gate;
 pub mod laws;
 mod link;
@@ -15,6 +17,8 @@ mod serial;
 mod serial_stage;
 mod stage;
 mod summary;
+mod threaded;
+mod turns;
 
 pub use chain::{ChainDone, NoStart, run_chain};
 pub use fault::RunFault;
@@ -24,3 +28,4 @@ pub use ring::AnyMessage;
 pub use serial::run_serial;
 pub use stage::{StageDone, StageEnd, run_stage};
 pub use summary::Summary;
+pub use threaded::run;

@@ -6,7 +6,7 @@ ghost use Rattle.pnm_read.specs.Sources.{reader_of, IsFresh as IsUnread};
 ghost use Rattle.pnm_tools.specs.declared.fault.ToolFault.TheVariants.{Memory as NoMemory};
 ghost use Rattle.pnm_tools.specs.Chains.{AreLawfulTools, IsChain};
 ghost use Rattle.pnm_flow.specs.Downstreams.{output_of};
-ghost use Rattle.pnm_flow.specs.Runs.{answer_by, change, HasRun, IsFirstRefusal};
+ghost use Rattle.pnm_flow.specs.Runs.{answer_by, change, HasRunInOneThread, IsFirstRefusal};
 ghost use Rattle.pnm_flow.specs.SerialStages.{refusals_in};
 ghost use Rattle.pnm_flow.specs.SerialTools.{AreFresh};
 ghost use Rattle.pnm_flow.specs.Feeding.{HasFed};
@@ -35,7 +35,7 @@ pub fn run_serial<R: BytesIn, W: BytesOut>(
     tools: &[Tool],
 ) -> Result<Summary, RunFault>
     requires { IsChain tools.now }
-    ensures ran { HasRun tools.now result (reader.new ≡ reader.old)
+    ensures ran { HasRunInOneThread tools.now result (reader.new ≡ reader.old)
         (change R.left R.failures reader.old reader.new) (change W.held W.failures writer.old writer.new) }
     // Where memory runs out before the first message, the reader is gone with the source.
     ensures same_reader { ¬ (result ≡ Err (RunFault.Input Memory)) → R.same reader.old reader.new }

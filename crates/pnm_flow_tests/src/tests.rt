@@ -8,6 +8,7 @@ use std::process::Abort;
 mod blanks;
 mod chains;
 mod devices;
+mod gates;
 mod memory;
 mod order;
 mod rings;

@@ -8,8 +8,10 @@ use Rattle.clap.specs.declared.builder.value_parser.ValueParser.TheVariants.{Sig
 use Rattle.clap.specs.declared.error.kind.ErrorKind.{ErrorKind}
 use Rattle.clap.specs.declared.error.kind.ErrorKind.TheVariants.{DisplayHelp, OutOfMemory}
 use Rattle.pnm_chain.specs.ChainText.{SpellsChain}
-use Rattle.pnm_flow.specs.Runs.{Change, HasRun}
+use Rattle.pnm_flow.specs.Runs.{Change}
+use Rattle.pnm_flow.specs.ThreadedRuns.{HasRunOverThreads}
 use Rattle.pnm_flow.specs.declared.fault.RunFault.{RunFault}
+use Rattle.pnm_flow.specs.declared.fault.RunFault.TheVariants.{NoStart}
 use Rattle.pnm_flow.specs.declared.summary.Summary.{Summary}
 use Rattle.pnmpipe.specs.declared.command_line.CommandLineFault.{CommandLineFault}
 use Rattle.pnmpipe.specs.declared.command_line.CommandLineFault.TheVariants.{Help, Usage, Memory}
@@ -74,16 +76,16 @@ abbrev pub status_of : Result Summary RunFault → ℕ
 status_of (Ok summary) = 0
 status_of (Err fault) = 1
 
--- a run over these tools, which gave the status by its answer
-pub record HasRunTools (tools : List Tool) (status : ℕ) (unread : Type 0) (reader writer : Change) : Type 0 where
+-- a run over these tools, which gave the status by its answer, or couldn't be started
+pub record HasRunTools (tools : List Tool) (status : ℕ) (reader writer : Change) : Type 0 where
   pub answer : Result Summary RunFault
   pub status_is : status ≡ status_of answer
-  pub ran : HasRun tools answer unread reader writer
+  pub ran : (answer ≡ Err NoStart) ⊎ HasRunOverThreads tools answer reader writer
 
 -- the words give a chain, it spells tools, and a run over these ended
-pub record HasRunWords (words : List Text) (status : ℕ) (unread : Type 0) (reader writer : Change) : Type 0 where
+pub record HasRunWords (words : List Text) (status : ℕ) (reader writer : Change) : Type 0 where
   pub chain : Text
   pub tools : List Tool
   pub given : GivesChain words chain
   pub spelled : SpellsChain chain tools
-  pub run : HasRunTools tools status unread reader writer
+  pub run : HasRunTools tools status reader writer

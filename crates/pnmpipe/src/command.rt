@@ -4,17 +4,19 @@ ghost use Rattle.std.specs.Prelude.{◌≡◌, ◌≢◌, ◌⊎◌, ◌≤◌, 
 ghost use Rattle.std.specs.Io.KnownBytes.{Appends};
 ghost use Rattle.pnm_image.specs.Devices.{AppendsFront, Failed};
 ghost use Rattle.pnmpipe.specs.CommandLine.{AsksForHelp, HasRunTools, HasRunWords};
+ghost use Rattle.pnm_flow.specs.Chains.{max_ring_capacity};
 ghost use Rattle.pnm_flow.specs.Runs.{change};
 ghost use Rattle.pnm_tools.specs.Chains.{IsChain};
 
 use crate::command_line::{CommandLineFault, read_words};
 use crate::fault_line::{print_chain_fault, print_run_fault, print_usage, print_want_of_memory};
 use pnm_chain::parse_chain;
-use pnm_flow::run_serial;
+use pnm_flow::{OpenGate, run};
 use pnm_image::{BytesIn, BytesOut, write_all};
 use pnm_tools::Tool;
-use std::alloc::Global;
 use std::io::Write;
+use std::sync::Wait;
+use std::thread::Threads;
 
 /// The status of a run that ended well, and of help.
 const WELL: u8 = 0;
@@ -31,7 +33,7 @@ pub const COMMAND_LINE_FAULT: u8 = 2;
 /// nothing else changes. The status is 0 where all went well or help was asked for, 1 after a fault
 /// of the run, and 2 where the words name no chain or memory ran out before the run, and then nothing is
 /// read or written.
-pub fn command<H: AllocGlobal, R: BytesIn, W: BytesOut, E: Write>(
+pub fn command<H: AllocGlobal + Threads + Wait + Sync, R: BytesIn, W: BytesOut, E: Write>(
     rt: &H,
     words: &[String],
     input: &mut R,
@@ -45,7 +47,7 @@ pub fn command<H: AllocGlobal, R: BytesIn, W: BytesOut, E: Write>(
     ensures helped { AsksForHelp (map string_bytes words.now) → result ≡ 0
         → (text : List ℕ) × Appends (W.held output.old) (W.held output.new) text }
     ensures ran { result ≢ 2 → AsksForHelp (map string_bytes words.now)
-        ⊎ HasRunWords (map string_bytes words.now) result (input.new ≡ input.old)
+        ⊎ HasRunWords (map string_bytes words.now) result
         (change R.left R.failures input.old input.new) (change W.held W.failures output.old output.new) }
 {
     let line = match read_words(rt.alloc(), words) {
@@ -64,7 +66,7 @@ pub fn command<H: AllocGlobal, R: BytesIn, W: BytesOut, E: Write>(
         }
     };
     match parse_chain(rt.alloc(), line.chain) {
-        Ok(tools) => run(rt.alloc(), tools.as_slice(), input, output, errors),
+        Ok(tools) => run_tools(rt, tools.as_slice(), line.ring, input, output, errors),
         Err(fault) => {
             print_chain_fault(errors, fault);
             COMMAND_LINE_FAULT
@@ -72,20 +74,23 @@ pub fn command<H: AllocGlobal, R: BytesIn, W: BytesOut, E: Write>(
     }
 }
 
-/// Runs the tools over the input, and prints the run's fault.
-fn run<R: BytesIn, W: BytesOut, E: Write>(
-    alloc: Global,
+/// Runs the tools over the input, with rings for so many messages between them, and prints the run's fault.
+fn run_tools<H: AllocGlobal + Threads + Wait + Sync, R: BytesIn, W: BytesOut, E: Write>(
+    rt: &H,
     tools: &[Tool],
+    ring: u16,
     input: &mut R,
     output: &mut W,
     errors: &mut E,
 ) -> u8
-    requires { IsChain tools.now }
+    requires chain { IsChain tools.now }
+    requires ring { (1 ≤ ring) × (ring ≤ max_ring_capacity) }
     ensures status { result ≤ 1 }
-    ensures ran { HasRunTools tools.now result (input.new ≡ input.old)
+    ensures ran { HasRunTools tools.now result
         (change R.left R.failures input.old input.new) (change W.held W.failures output.old output.new) }
 {
-    match run_serial(alloc, input, output, tools) {
+    let capacity = usize::from(ring);
+    match run(rt, rt.alloc(), input, output, tools, capacity, 1, &OpenGate) {
         Ok(_) => WELL,
         Err(fault) => {
             print_run_fault(errors, fault);

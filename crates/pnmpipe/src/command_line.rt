@@ -17,7 +17,7 @@ through a chain of tools, and writes raw Netpbm images to standard output.";
 
 const CHAIN_HELP: &str = "1 to 16 tools, parted by |, in one word";
 
-const RING_HELP: &str = "Room between two tools, 1 to 1024; no effect yet";
+const RING_HELP: &str = "Messages between two tools, 1 to 1024";
 
 const AFTER_HELP: &str = "Tools:
   pnminvert

@@ -33,12 +33,16 @@ pub fn print_chain_fault<E: Write>(errors: &mut E, fault: ChainFault) {
 
 /// The line for a run that ended in a fault.
 pub fn print_run_fault<E: Write>(errors: &mut E, fault: RunFault) {
+    let mut digits = Buffer::new();
     let _ = match fault {
+        RunFault::NoStart => writeln!(errors, "pnmpipe: NoStart"),
         RunFault::Input(fault) => writeln!(errors, "pnmpipe: input: {fault}"),
         RunFault::Tool(number, fault) => {
-            let mut digits = Buffer::new();
             writeln!(errors, "pnmpipe: tool {}: {fault}", digits.format(number))
         }
         RunFault::Output(fault) => writeln!(errors, "pnmpipe: output: {fault}"),
+        RunFault::PeerGone(number) => {
+            writeln!(errors, "pnmpipe: tool {}: PeerGone", digits.format(number))
+        }
     };
 }

@@ -1,5 +1,6 @@
 //! Runs over memory.
 
+use super::chains::run_chain;
 use super::{BAD_INPUTS, IMAGE, INVERTED, agrees};
 use pnm_flow::{RunFault, Summary, run_serial};
 use pnm_image::Device;
@@ -7,14 +8,17 @@ use pnm_read::InputFault;
 use pnm_tools::Tool;
 use pnm_write::SinkFault;
 use std::alloc::Global;
+use std::process::Abort;
+use std::sync::Wait;
 use std::test::Fail;
+use std::thread::Threads;
 
-/// What a run over this input answers, and what it writes.
-pub fn run(alloc: Global, input: &[u8]) -> (Result<Summary, RunFault>, Vec<u8>) {
-    let mut reader = Device::new(input);
-    let mut writer = Device::new(Vec::new(alloc));
-    let answer = run_serial(alloc, &mut reader, &mut writer, &[Tool::Invert]);
-    (answer, writer.into_inner())
+/// What a run of `pnminvert` over this input answers, and what it writes.
+pub fn invert<R: AllocGlobal + Threads + Wait + Abort + Sync>(
+    rt: &R,
+    input: &[u8],
+) -> (Result<Summary, RunFault>, Vec<u8>) {
+    run_chain(rt, rt.alloc(), &[Tool::Invert], input)
 }
 
 /// The front, so many blanks, and the back.
@@ -74,7 +78,7 @@ fn inverts(rt: HostRuntime) {
             2,
         ),
     ] {
-        let (answer, written) = run(rt.alloc(), input);
+        let (answer, written) = invert(&rt, input);
         let want = (Ok(Summary { images: 1, rows }), output);
         agrees(&rt, (answer, written.as_slice()), want, &input);
     }
@@ -105,7 +109,7 @@ fn inverts_plain_images(rt: HostRuntime) {
             2,
         ),
     ] {
-        let (answer, written) = run(rt.alloc(), input);
+        let (answer, written) = invert(&rt, input);
         let want = (Ok(Summary { images: 1, rows }), output);
         agrees(&rt, (answer, written.as_slice()), want, &input);
     }
@@ -129,7 +133,7 @@ fn limits_the_header(rt: HostRuntime) -> Result<(), Fail> {
         (65_535, b"".as_slice(), too_long, b"".as_slice()),
     ] {
         let input = padded(rt.alloc(), b"P5", blanks, back)?;
-        let (answer, written) = run(rt.alloc(), input.as_slice());
+        let (answer, written) = invert(&rt, input.as_slice());
         agrees(&rt, (answer, written.as_slice()), (want, output), &blanks);
     }
     Ok(())
@@ -139,7 +143,7 @@ fn limits_the_header(rt: HostRuntime) -> Result<(), Fail> {
 #[test]
 fn answers_the_fault_of_the_input(rt: HostRuntime) {
     for (input, output, fault) in BAD_INPUTS {
-        let (answer, written) = run(rt.alloc(), input);
+        let (answer, written) = invert(&rt, input);
         let want = (Err(RunFault::Input(*fault)), *output);
         agrees(&rt, (answer, written.as_slice()), want, input);
     }
@@ -172,7 +176,7 @@ fn answers_where_the_input_is_cut(rt: HostRuntime) {
             11 | 12 => (Err(InputFault::RasterCut), b"P5\n2 1\n122\n".as_slice()),
             _ => (Ok(Summary { images: 1, rows: 1 }), INVERTED),
         };
-        let (answer, written) = run(rt.alloc(), &IMAGE[..count]);
+        let (answer, written) = invert(&rt, &IMAGE[..count]);
         let want = (want.map_err(RunFault::Input), output);
         agrees(&rt, (answer, written.as_slice()), want, &count);
     }
@@ -188,7 +192,7 @@ fn inverts_wide_rows(rt: HostRuntime) -> Result<(), Fail> {
         input.push(sample)?;
         output.push(250 - sample)?;
     }
-    let (answer, written) = run(rt.alloc(), input.as_slice());
+    let (answer, written) = invert(&rt, input.as_slice());
     assert_eq!(rt; answer, Ok(Summary { images: 1, rows: 2 }));
     assert!(rt; written == output);
     Ok(())

@@ -2,7 +2,7 @@
 
 use super::agrees;
 use super::devices::{Drips, FailsOnce, Sips};
-use super::run::run;
+use super::run::invert;
 use pnm_flow::{RunFault, Summary, run_serial};
 use pnm_image::Device;
 use pnm_read::InputFault;
@@ -45,7 +45,7 @@ fn inverts_streams(rt: HostRuntime) {
             1,
         ),
     ] {
-        let (answer, written) = run(rt.alloc(), input);
+        let (answer, written) = invert(&rt, input);
         let want = (Ok(Summary { images, rows }), output);
         agrees(&rt, (answer, written.as_slice()), want, &input);
     }
@@ -64,7 +64,7 @@ fn inverts_pam(rt: HostRuntime) {
             b"P7\nWIDTH 1\nHEIGHT 1\nDEPTH 2\nMAXVAL 300\nENDHDR\n\x01\x2b\x00\x00".as_slice(),
         ),
     ] {
-        let (answer, written) = run(rt.alloc(), input);
+        let (answer, written) = invert(&rt, input);
         let want = (Ok(Summary { images: 1, rows: 1 }), output);
         agrees(&rt, (answer, written.as_slice()), want, &input);
     }
@@ -100,7 +100,7 @@ fn answers_faults_in_streams(rt: HostRuntime) {
             InputFault::BadPamLine,
         ),
     ] {
-        let (answer, written) = run(rt.alloc(), input);
+        let (answer, written) = invert(&rt, input);
         let want = (Err(RunFault::Input(fault)), output);
         agrees(&rt, (answer, written.as_slice()), want, &input);
     }
@@ -122,7 +122,7 @@ fn answers_where_a_stream_is_cut(rt: HostRuntime) {
             20..=22 => (Err(InputFault::RasterCut), &TWO_INVERTED[..SECOND_HEADER]),
             _ => (Ok(Summary { images: 2, rows: 2 }), TWO_INVERTED),
         };
-        let (answer, written) = run(rt.alloc(), &TWO[..count]);
+        let (answer, written) = invert(&rt, &TWO[..count]);
         let want = (want.map_err(RunFault::Input), output);
         agrees(&rt, (answer, written.as_slice()), want, &count);
     }

@@ -20,7 +20,7 @@ use std::thread;
 use std::thread::Threads;
 
 /// More turns of a wait than any wait of a test takes.
-const TURNS: u32 = 10_000_000;
+pub const TURNS: u32 = 10_000_000;
 
 const INVERTED: &[Part<'static>] = &[
     Part::Begin(2, 1),
@@ -204,10 +204,21 @@ fn ends_where_an_outer_end_is_gone(rt: HostRuntime) -> Result<(), Fail> {
 
 /// Holds each thread back until that of the other tool has come.
 #[derive(Drop)]
-struct Both {
-    first: AtomicU64,
-    second: AtomicU64,
-    missed: AtomicU64,
+pub struct Both {
+    pub first: AtomicU64,
+    pub second: AtomicU64,
+    /// How many waited in vain.
+    pub missed: AtomicU64,
+}
+
+impl Both {
+    pub fn new() -> Both {
+        Both {
+            first: AtomicU64::new(0),
+            second: AtomicU64::new(0),
+            missed: AtomicU64::new(0),
+        }
+    }
 }
 
 impl Gate for Both {
@@ -231,11 +242,7 @@ impl Gate for Both {
 /// Each of two tools waits at the gate for the other, and both pass it once.
 #[test]
 fn gives_each_tool_a_thread(rt: HostRuntime) -> Result<(), Fail> {
-    let both = Both {
-        first: AtomicU64::new(0),
-        second: AtomicU64::new(0),
-        missed: AtomicU64::new(0),
-    };
+    let both = Both::new();
     let tools = tools_with_cut(rt.alloc(), 2, 2)?;
     let (mut producer, input) = ring(rt.alloc(), 8)?;
     let (output, mut consumer) = ring(rt.alloc(), 8)?;

@@ -2,7 +2,9 @@
 
 use super::command::answer_to;
 use std::process::Abort;
+use std::sync::Wait;
 use std::test::Fail;
+use std::thread::Threads;
 
 /// An input that is at fault, what is written before the fault, and the fault's name.
 type BadInput<'a> = (&'a [u8], &'a [u8], &'a str);
@@ -61,7 +63,10 @@ const BAD_INPUTS: &[BadInput<'static>] = &[
 ];
 
 /// A run's status is 1 after a fault, and one line names it.
-fn names_each<H: AllocGlobal + Abort>(rt: &H, cases: &[BadInput<'_>]) -> Result<(), Fail> {
+fn names_each<H: AllocGlobal + Abort + Threads + Wait + Sync>(
+    rt: &H,
+    cases: &[BadInput<'_>],
+) -> Result<(), Fail> {
     for (input, front, name) in cases {
         let printed = format!(in rt.alloc(); "pnmpipe: input: {}\n", name)?;
         let answer = answer_to(rt, ["pnmpipe", "pnminvert"].as_slice(), *input)?;

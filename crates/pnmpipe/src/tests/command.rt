@@ -4,7 +4,9 @@ use super::{IMAGE, INVERTED};
 use crate::command::command;
 use pnm_image::Device;
 use std::alloc::{AllocError, Global};
+use std::sync::Wait;
 use std::test::Fail;
+use std::thread::Threads;
 
 /// The words of a command line.
 pub fn words_of(alloc: Global, texts: &[&str]) -> Result<Vec<String>, AllocError> {
@@ -25,7 +27,7 @@ pub struct Answer<'a> {
 }
 
 /// Calls the program with these words over an input.
-pub fn answer_to<'a, H: AllocGlobal>(
+pub fn answer_to<'a, H: AllocGlobal + Threads + Wait + Sync>(
     rt: &H,
     texts: &[&str],
     input: &'a [u8],

@@ -2,11 +2,13 @@
 
 use super::command::answer_to;
 use std::process::Abort;
+use std::sync::Wait;
 use std::test::Fail;
+use std::thread::Threads;
 
 /// The program answers the status, writes the output, and prints the line.
 fn answers(
-    rt: &(impl Abort + AllocGlobal),
+    rt: &(impl Abort + AllocGlobal + Threads + Wait + Sync),
     chain: &str,
     input: &[u8],
     want: (u8, &[u8], &[u8]),

@@ -56,6 +56,8 @@ fn names_tools(rt: HostRuntime) -> Result<(), Fail> {
             RunFault::Tool(16, ToolFault::Memory),
             "pnmpipe: tool 16: Memory\n",
         ),
+        (RunFault::NoStart, "pnmpipe: NoStart\n"),
+        (RunFault::PeerGone(2), "pnmpipe: tool 2: PeerGone\n"),
         (
             RunFault::Input(InputFault::RasterCut),
             "pnmpipe: input: RasterCut\n",

@@ -15,7 +15,7 @@ Arguments:
   <CHAIN>  1 to 16 tools, parted by |, in one word
 
 Options:
-      --ring <N>  Room between two tools, 1 to 1024; no effect yet [default: 64]
+      --ring <N>  Messages between two tools, 1 to 1024 [default: 64]
   -h, --help      Print help
 
 Tools:

@@ -7,11 +7,17 @@ use super::{IMAGE, INVERTED};
 use crate::command::command;
 use pnm_image::Device;
 use std::process::Abort;
+use std::sync::Wait;
+use std::thread::Threads;
 
 /// The program's status, or none where there is no memory for the words. Whatever it is, want of
 /// memory alone can be at fault, and is printed; and what was written is a front of the whole output,
 /// and all of it where the status is 0.
-fn status<H: Abort + AllocGlobal>(rt: &H, texts: &[&str], whole: &[u8]) -> Option<u8> {
+fn status<H: Abort + AllocGlobal + Threads + Wait + Sync>(
+    rt: &H,
+    texts: &[&str],
+    whole: &[u8],
+) -> Option<u8> {
     let Ok(words) = words_of(rt.alloc(), texts) else {
         return None;
     };
@@ -28,6 +34,7 @@ fn status<H: Abort + AllocGlobal>(rt: &H, texts: &[&str], whole: &[u8]) -> Optio
     let memory = [
         b"pnmpipe: command line: Memory\n".as_slice(),
         b"pnmpipe: chain: Memory\n".as_slice(),
+        b"pnmpipe: NoStart\n".as_slice(),
         b"pnmpipe: tool 1: Memory\n".as_slice(),
         b"pnmpipe: input: Memory\n".as_slice(),
     ];

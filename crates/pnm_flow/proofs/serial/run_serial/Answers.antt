@@ -2,10 +2,10 @@ use Rattle.std.proofs.Common.{rules, ◌≡◌, refl, arith, ◌∙◌}
 use Rattle.std.proofs.lemmas.List.{take_at}
 use Rattle.pnm_read.specs.Sources.{reader_of}
 use Rattle.pnm_flow.specs.Downstreams.{output_of}
-use Rattle.pnm_flow.specs.Runs.{change, IsFirstRefusal}
+use Rattle.pnm_flow.specs.Runs.{change}
 use Rattle.pnm_flow.specs.SerialStages.{refusals_in}
-use Rattle.pnm_flow.proofs.RunSteps.{failed_so, ran_of}
-use Rattle.pnm_flow.proofs.EndSteps.{Ended, ended_has_run, ended_unread, ended_without_reading}
+use Rattle.pnm_flow.proofs.RunSteps.{failed_so, ran_of, stages_answered}
+use Rattle.pnm_flow.proofs.EndSteps.{Ended, HaveEnded, ended_in_one_thread, ended_unread, ended_without_reading}
 use Rattle.pnm_flow.proofs.serial.run_serial.Goals as goal
 
 -- there is no memory for the list of the tools
@@ -39,7 +39,15 @@ returns-clause-ran g c =
     let ran = ran_of (λ r. g.R.BytesIn.left r.now) (λ r. g.R.BytesIn.failures r.now) (λ w. g.W.BytesOut.held w.now) (λ w. g.W.BytesOut.failures w.now)
     c.in-Ok-new.source c.feed_all-input.new.source c.feed_all-input.result c.as_mut_slice.result.now c.feed_all-input.new.stages c.new-downstream.result c.feed_all-input.new.downstream c.args.tools.now c.requires.lawful (rw (← c.as_mut_slice.ensures.value) at c.in-Ok.ensures.fresh) start fed in
     let whole = take_at c.feed_all-input.new.stages _ c.in-Ok.stages.len (omega arith) in
-    let first : IsFirstRefusal (refusals_in c.feed_all-input.new.stages) c.first_fault.result = rw (c.as_slice.ensures.value ∙ whole) at c.first_fault.ensures in
+    let fresh = rw (← c.as_mut_slice.ensures.value) at c.in-Ok.ensures.fresh in
+    let answered = stages_answered (λ r. g.R.BytesIn.left r.now) (λ r. g.R.BytesIn.failures r.now) (λ w. g.W.BytesOut.held w.now) (λ w. g.W.BytesOut.failures w.now)
+    c.in-Ok-new.source c.feed_all-input.new.source c.feed_all-input.result c.as_mut_slice.result.now c.feed_all-input.new.stages c.new-downstream.result c.feed_all-input.new.downstream c.args.tools.now fresh fed in
+    let stages : HaveEnded c.args.tools.now (refusals_in c.feed_all-input.new.stages) fed.given fed.output.out c.first_fault.result = record {
+      last = fed.output.out;
+      answered = answered;
+      first = rw (c.as_slice.ensures.value ∙ whole) at c.first_fault.ensures;
+      all = λ none. refl;
+    } in
     let ended : Ended (change (λ r. g.R.BytesIn.left r.now) (λ r. g.R.BytesIn.failures r.now) (reader_of c.in-Ok-new.source) (reader_of c.feed_all-input.new.source)) (λ w. g.W.BytesOut.held w.now) (λ w. g.W.BytesOut.failures w.now) (output_of c.new-downstream.result) c.finish-written.result.0 c.args.tools.now c.feed_all-input.result c.first_fault.result c.finish-written.result.1 = record {
       faults = refusals_in c.feed_all-input.new.stages;
       given = fed.given;
@@ -51,12 +59,12 @@ returns-clause-ran g c =
       count = fed.count;
       read_failed = fed.read_failed;
       ran = ran;
-      first = first;
+      stages = λ well. stages;
       kept = c.finish-written.ensures.bytes;
       broken = c.finish-written.ensures.broken;
       well = c.finish-written.ensures.well;
     } in
-    let has = ended_has_run (change (λ r. g.R.BytesIn.left r.now) (λ r. g.R.BytesIn.failures r.now) (reader_of c.in-Ok-new.source) (reader_of c.feed_all-input.new.source)) (λ w. g.W.BytesOut.held w.now) (λ w. g.W.BytesOut.failures w.now) (output_of c.new-downstream.result) c.finish-written.result.0 c.args.tools.now
-    c.feed_all-input.result c.first_fault.result c.finish-written.result.1 ((reader_of c.feed_all-input.new.source).now ≡ c.args.reader.now) ended in
+    let has = ended_in_one_thread (change (λ r. g.R.BytesIn.left r.now) (λ r. g.R.BytesIn.failures r.now) (reader_of c.in-Ok-new.source) (reader_of c.feed_all-input.new.source)) (λ w. g.W.BytesOut.held w.now) (λ w. g.W.BytesOut.failures w.now) (output_of c.new-downstream.result) c.finish-written.result.0 c.args.tools.now
+    c.feed_all-input.result c.first_fault.result c.finish-written.result.1 ((reader_of c.feed_all-input.new.source).now ≡ c.args.reader.now) ended answered stages.first in
     let all = rw (c.new-downstream.ensures.writer, c.in-Ok-new.ensures.made.reader_is, ← c.answer.ensures) at has in
     search rules

@@ -1,0 +1,98 @@
+-- What a run over threads answers, reads and writes.
+use Rattle.std.specs.Prelude.{◌≡◌, ◌≤◌, ℕ, ◌+◌, Bool, true, false, length, List, [], ◌∷◌, Option, Some, None, Result, Ok, Err}
+use Rattle.std.specs.Io.KnownBytes.{Appends}
+use Rattle.pnm_image.specs.Devices.{Failed}
+use Rattle.pnm_image.specs.declared.message.Message.{Message}
+use Rattle.pnm_image.specs.Messages.{without_stop}
+use Rattle.pnm_read.specs.declared.fault.InputFault.{InputFault}
+use Rattle.pnm_read.specs.Said.{said_of}
+use Rattle.pnm_tools.specs.declared.tool.Tool.{Tool}
+use Rattle.pnm_write.specs.declared.fault.SinkFault.{SinkFault}
+use Rattle.pnm_write.specs.Encoding.{bytes_of}
+use Rattle.pnm_flow.specs.declared.fault.RunFault.{RunFault}
+use Rattle.pnm_flow.specs.declared.fault.RunFault.TheVariants.{NoStart, Input, Tool as OfTool, Output, PeerGone as Gone}
+use Rattle.pnm_flow.specs.declared.stage.StageEnd.{StageEnd}
+use Rattle.pnm_flow.specs.declared.stage.StageEnd.TheVariants.{Well, Broken, Fault, PeerGone}
+use Rattle.pnm_flow.specs.declared.summary.Summary.{Summary}
+use Rattle.pnm_flow.specs.Runs.{Change, HasRun}
+use Rattle.pnm_flow.specs.Stages.{HasEndedSo}
+
+-- ---- the answer
+
+-- what the end of the stage of this number is answered by
+abbrev pub fault_of_end : ℕ → StageEnd → Option RunFault
+fault_of_end number Well = None
+fault_of_end number Broken = None
+fault_of_end number (Fault fault) = Some (OfTool number fault)
+fault_of_end number PeerGone = Some (Gone number)
+
+-- the first of those of stages, whose numbers begin here
+abbrev pub first_fault_from : ℕ → List StageEnd → Option RunFault
+first_fault_from number [] = None
+first_fault_from number (end ∷ ends) = elim (fault_of_end number end) [
+  | Some fault ↦ Some fault
+  | None ↦ first_fault_from (number + 1) ends
+]
+
+-- The fault of the input comes first, then that the ring before the first tool lost its other end, then the first fault of
+-- the tools, then that the ring behind the last one lost its other end, then the output's.
+abbrev pub answer_over : Option (Result (Unit {0}) InputFault) → Option RunFault → Bool → ℕ → Result Summary SinkFault → Result Summary RunFault
+answer_over None found has_ended behind output = Err (Gone 0)
+answer_over (Some (Err fault)) found has_ended behind output = Err (Input fault)
+answer_over (Some (Ok _)) (Some fault) has_ended behind output = Err fault
+answer_over (Some (Ok _)) None false behind output = Err (Gone behind)
+answer_over (Some (Ok _)) None true behind (Err fault) = Err (Output fault)
+answer_over (Some (Ok _)) None true behind (Ok summary) = Ok summary
+
+-- ---- what was written
+
+-- each tool has ended so for what the one before it sent; where a tool saw a ring's other end dropped, no more is known
+abbrev pub HaveEnded : List Tool → List StageEnd → List Message → List Message → Type 0
+HaveEnded [] [] took gave = gave ≡ took
+HaveEnded [] (end ∷ ends) took gave = ⊥
+HaveEnded (tool ∷ tools) [] took gave = ⊥
+HaveEnded (tool ∷ tools) (end ∷ ends) took gave = (middle : List Message) × HasEndedSo tool end took middle × HaveEnded tools ends middle gave
+
+-- the ends of the tools, as far as the answer tells them
+abbrev pub FitEnds : {A : Type 0} → Result A RunFault → List StageEnd → Type 0
+FitEnds (Ok x) ends = first_fault_from 1 ends ≡ None
+FitEnds (Err NoStart) ends = Unit {0}
+FitEnds (Err (Input fault)) ends = Unit {0}
+FitEnds (Err (OfTool number fault)) ends = first_fault_from 1 ends ≡ Some (OfTool number fault)
+FitEnds (Err (Output fault)) ends = first_fault_from 1 ends ≡ None
+FitEnds (Err (Gone number)) ends = Unit {0}
+
+-- the input has no fault, and no ring's other end was seen dropped where that is answered
+abbrev pub IsOfTools : {A : Type 0} → Result A RunFault → Type 0
+IsOfTools (Ok x) = Unit {0}
+IsOfTools (Err NoStart) = ⊥
+IsOfTools (Err (Input fault)) = ⊥
+IsOfTools (Err (OfTool number fault)) = Unit {0}
+IsOfTools (Err (Output fault)) = Unit {0}
+IsOfTools (Err (Gone number)) = ⊥
+
+-- the tools have ended so for all that is said of the text, and what the last one sent was written
+pub record IsAllSent {A : Type 0} (text : List ℕ) (tools : List Tool) (answer : Result A RunFault) (old new : Option (List ℕ)) : Type 0 where
+  pub ends : List StageEnd
+  pub given : List Message
+  pub fit : FitEnds answer ends
+  pub ended : HaveEnded tools ends (said_of text) given
+  pub written : Appends old new (bytes_of (without_stop given))
+
+-- ---- the run
+
+-- where a ring's other end was seen dropped, this holds of the number of who saw it
+abbrev pub IfGone : {A : Type 0} → Result A RunFault → (ℕ → Type 0) → Type 0
+IfGone (Ok x) P = Unit {0}
+IfGone (Err NoStart) P = Unit {0}
+IfGone (Err (Input fault)) P = Unit {0}
+IfGone (Err (OfTool number fault)) P = Unit {0}
+IfGone (Err (Output fault)) P = Unit {0}
+IfGone (Err (Gone number)) P = P number
+
+-- a run over threads that was started: what holds of one in one thread, and what its stages did. There is no list of tools
+-- for which memory could be missing.
+pub record HasRunOverThreads (tools : List Tool) (answer : Result Summary RunFault) (reader writer : Change) : Type 0 where
+  pub run : HasRun tools answer ⊥ reader writer
+  pub all_written : (text : List ℕ) → reader.old ≡ Some text → IsOfTools answer → ¬ Failed writer.failures_old writer.failures_new → IsAllSent text tools answer writer.old writer.new
+  pub gone : IfGone answer (λ number. number ≤ length tools + 1)

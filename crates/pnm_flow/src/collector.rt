@@ -1,0 +1,112 @@
+//! What stands behind the tools of a run: the ring that their results come from, and what is written of them.
+
+ghost use Rattle.std.specs.Prelude.{◌≡◌, ◌⊎◌, [], ◌∷◌, ◌++◌, List, true, false};
+ghost use Rattle.rtrb.specs.Ring.{received, sent, known_items, IsPair, SameConsumer, ProducerLooked};
+ghost use Rattle.pnm_image.specs.declared.message.Message.{Message as MessageValue};
+ghost use Rattle.pnm_flow.specs.Downstreams.{output_of};
+
+use crate::downstream::Downstream;
+use crate::ending::Ending;
+use crate::patience::Bell;
+use crate::ring::{Input, Output};
+use pnm_image::{BytesOut, Message};
+
+/// The ring that the results of a run come from, and what is written of them.
+#[derive(Drop)]
+pub struct Collector<W> {
+    input: Input,
+    downstream: Downstream<W>,
+    /// The end of the stream, or Stop, was taken.
+    has_ended: bool,
+    /// The ring's other end was seen dropped.
+    is_gone: bool,
+}
+
+impl<W: BytesOut + Drop> Collector<W> {
+    ghost use Rattle.pnm_flow.specs.Collectors.{IsCollecting, HasPut, is_over_by};
+
+    /// A collector that has taken nothing yet.
+    pub fn new(input: Input, writer: W) -> Collector<W>
+        ensures collecting { IsCollecting W.held W.failures writer (received input) result }
+        ensures parts { (result.input ≡ input) × (output_of result.downstream ≡ writer) }
+    {
+        Collector {
+            input,
+            downstream: Downstream::new(writer),
+            has_ended: false,
+            is_gone: false,
+        }
+    }
+
+    /// Whether no more is to be taken: the end of the stream or Stop was, or the ring's other end was seen dropped.
+    pub fn is_over(&self) -> bool
+        ensures { result ≡ is_over_by self.now }
+    {
+        self.has_ended || self.is_gone
+    }
+
+    /// Takes a message, if one is there, and writes it. False where none is, and the ring's other end is still there. The
+    /// bell is that of the other end.
+    pub fn turn(&mut self, other: &Bell) -> bool
+        requires going { is_over_by self.old ≡ false }
+        ensures collecting { (start : W) (before : List MessageValue) → IsCollecting W.held W.failures start before self.old
+            → IsCollecting W.held W.failures start before self.new }
+        ensures ring { SameConsumer self.old.input self.new.input }
+        ensures same_device { W.same (output_of self.old.downstream) (output_of self.new.downstream) }
+    {
+        match self.input.pop() {
+            Ok(message) => {
+                other.ring();
+                self.put(message);
+                true
+            }
+            Err(_) => {
+                self.is_gone = self.input.is_abandoned();
+                self.is_gone
+            }
+        }
+    }
+
+    /// Takes what is left in the ring, both of whose ends are here: what was pushed before the other end was seen dropped.
+    pub fn take_rest(&mut self, sender: &mut Output)
+        requires one_ring { IsPair sender.old self.old.input }
+        ensures collecting { (start : W) (before : List MessageValue) → IsCollecting W.held W.failures start before self.old
+            → IsCollecting W.held W.failures start before self.new }
+        ensures in_order { received self.new.input ++ known_items self.new.input ≡ sent sender.new }
+        ensures rest { (self.new.has_ended ≡ true) ⊎ (known_items self.new.input ≡ []) }
+        ensures ring { SameConsumer self.old.input self.new.input }
+        ensures sender { ProducerLooked sender.old sender.new }
+        ensures same_device { W.same (output_of self.old.downstream) (output_of self.new.downstream) }
+    {
+        self.input.slots_beside(sender);
+        while !self.has_ended && self.input.cached_slots() > 0 {
+            let message = self.input.pop_known();
+            self.put(message);
+        }
+    }
+
+    /// Writes the message, unless it is Stop.
+    fn put(&mut self, message: Message)
+        requires going { self.old.has_ended ≡ false }
+        ensures put { (start : W) (l : List MessageValue) → HasPut W.held W.failures start l self.old
+            → HasPut W.held W.failures start (l ++ message ∷ []) self.new }
+        ensures ring { (self.new.input ≡ self.old.input) × (self.new.is_gone ≡ self.old.is_gone) }
+        ensures same_device { W.same (output_of self.old.downstream) (output_of self.new.downstream) }
+    {
+        match Ending::of(&message) {
+            Ending::More => self.downstream.put(message),
+            Ending::Whole => {
+                self.downstream.put(message);
+                self.has_ended = true;
+            }
+            Ending::BrokenOff => self.has_ended = true,
+        }
+    }
+
+    /// What stands behind the ring, and whether the end of the stream or Stop was taken.
+    pub fn into_parts(self) -> (Downstream<W>, bool)
+        ensures { (result.0 ≡ self.downstream) × (result.1 ≡ self.has_ended) }
+    {
+        (self.downstream, self.has_ended)
+    }
+}

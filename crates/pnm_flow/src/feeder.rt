@@ -1,0 +1,109 @@
+//! What stands before the tools of a run: the source, and the ring that its messages go into.
+
+ghost use Rattle.std.specs.Prelude.{◌≡◌, List, Bool, false, Some, None};
+ghost use Rattle.rtrb.specs.Ring.{sent, SameProducer};
+ghost use Rattle.pnm_image.specs.declared.message.Message.{Message as MessageValue};
+ghost use Rattle.pnm_read.specs.Sources.{reader_of, IsFresh as IsUnread};
+
+use crate::patience::Bell;
+use crate::ring::Output;
+use pnm_image::{BytesIn, Message};
+use pnm_read::{InputFault, Source};
+use rtrb::PushError;
+
+/// The source of a run, and the ring that its messages go into.
+#[derive(Drop)]
+pub struct Feeder<R> {
+    source: Source<R>,
+    output: Output,
+    /// The message that waits for room in the ring.
+    held: Option<Message>,
+    /// How the source has ended, once it has.
+    input: Option<Result<(), InputFault>>,
+    /// The ring's other end was seen dropped.
+    is_gone: bool,
+}
+
+impl<R: BytesIn + Drop> Feeder<R> {
+    ghost use Rattle.pnm_flow.specs.Feeders.{IsFeeding, is_over_by};
+
+    /// A feeder that has sent nothing yet.
+    pub fn new(source: Source<R>, output: Output) -> Feeder<R>
+        requires { IsUnread (reader_of source) source }
+        ensures feeding { IsFeeding R.left R.failures source (sent output) result }
+        ensures parts { (result.source ≡ source) × (result.output ≡ output) }
+    {
+        Feeder {
+            source,
+            output,
+            held: None,
+            input: None,
+            is_gone: false,
+        }
+    }
+
+    /// Whether there is no more to be sent: the end of the stream was, or Stop after a fault of the input; or the ring's
+    /// other end was seen dropped.
+    pub fn is_over(&self) -> bool
+        ensures { result ≡ is_over_by self.now }
+    {
+        self.is_gone || (self.held.is_none() && self.input.is_some())
+    }
+
+    /// Sends the message that waits for room in the ring; or asks the source for one, where none waits. False where there
+    /// is still no room. The bell is that of the ring's other end.
+    pub fn turn(&mut self, other: &Bell) -> bool
+        requires going { is_over_by self.old ≡ false }
+        ensures feeding { (first : Source R) (before : List MessageValue) → IsFeeding R.left R.failures first before self.old
+            → IsFeeding R.left R.failures first before self.new }
+        ensures ring { SameProducer self.old.output self.new.output }
+        ensures same_device { R.same (reader_of self.old.source) (reader_of self.new.source) }
+    {
+        let Some(message) = self.held.take() else {
+            self.ask();
+            return true;
+        };
+        match self.output.push(message) {
+            Ok(()) => {
+                other.ring();
+                true
+            }
+            Err(PushError::Full(back)) => {
+                self.held = Some(back);
+                self.is_gone = self.output.is_abandoned();
+                self.is_gone
+            }
+        }
+    }
+
+    /// Asks the source for the next message. After its fault, Stop is to be sent.
+    fn ask(&mut self)
+        requires going { (self.old.held ≡ None) × (self.old.input ≡ None) }
+        ensures feeding { (first : Source R) (before : List MessageValue) → IsFeeding R.left R.failures first before self.old
+            → IsFeeding R.left R.failures first before self.new }
+        ensures ring { self.new.output ≡ self.old.output }
+        ensures same_device { R.same (reader_of self.old.source) (reader_of self.new.source) }
+    {
+        match self.source.next() {
+            Ok(Some(message)) => self.held = Some(message),
+            Ok(None) => self.input = Some(Ok(())),
+            Err(fault) => {
+                self.held = Some(Message::Stop);
+                self.input = Some(Err(fault));
+            }
+        }
+    }
+
+    /// The reader, the ring's end, and how the source has ended; none where the ring's other end was seen dropped before.
+    pub fn into_parts(self) -> (R, Output, Option<Result<(), InputFault>>)
+        ensures { (result.0 ≡ reader_of self.source) × (result.1 ≡ self.output) × (result.2 ≡ self.input) }
+    {
+        let Feeder {
+            source,
+            output,
+            input,
+            ..
+        } = self;
+        (source.into_reader(), output, input)
+    }
+}

@@ -1,0 +1,229 @@
+//! A run over threads: the caller reads and writes, and each tool works in a thread of its own.
+
+ghost use Rattle.std.specs.Prelude.{◌≡◌, ◌≢◌, ◌⊎◌, ◌≤◌, ◌+◌, [], List, length, Some, Err, IfSome};
+ghost use Rattle.std.specs.Thread.{IsSync};
+ghost use Rattle.rtrb.specs.Ring.{sent, received, IsPair, SameProducer, SameConsumer};
+ghost use Rattle.pnm_image.specs.Limits.{max_tools};
+ghost use Rattle.pnm_read.specs.declared.fault.InputFault.TheVariants.{Memory};
+ghost use Rattle.pnm_read.specs.declared.source.Source.{Source as SourceValue};
+ghost use Rattle.pnm_read.specs.Sources.{reader_of};
+ghost use Rattle.pnm_tools.specs.declared.tool.Tool.{Tool as ToolValue};
+ghost use Rattle.pnm_tools.specs.Chains.{AreLawfulTools, IsChain};
+ghost use Rattle.pnm_flow.specs.declared.fault.RunFault.TheVariants.{NoStart as NotStarted};
+ghost use Rattle.pnm_flow.specs.Chains.{HasRunChain, max_ring_capacity};
+ghost use Rattle.pnm_flow.specs.Collectors.{IsCollecting};
+ghost use Rattle.pnm_flow.specs.Downstreams.{output_of};
+ghost use Rattle.pnm_flow.specs.Feeders.{IsFeeding};
+ghost use Rattle.pnm_flow.specs.Runs.{change};
+ghost use Rattle.pnm_flow.specs.ThreadedRuns.{answer_over, fault_of_end, first_fault_from, HasRunOverThreads};
+ghost use Rattle.pnm_flow.specs.Turns.{HaveTurned};
+
+use crate::branches::{Call, run_both};
+use crate::chain::{ChainDone, run_chain_by};
+use crate::collector::Collector;
+use crate::fault::RunFault;
+use crate::feeder::Feeder;
+use crate::gate::Gate;
+use crate::patience::Bell;
+use crate::ring::{Input, Output, new_ring};
+use crate::stage::{Bells, StageEnd};
+use crate::summary::Summary;
+use crate::turns::Turns;
+use pnm_image::{BytesIn, BytesOut};
+use pnm_read::{InputFault, Source};
+use pnm_tools::Tool;
+use pnm_write::SinkFault;
+use std::alloc::Global;
+use std::sync::Wait;
+use std::thread::Threads;
+
+/// Reads the images of the reader, passes them through the tools and writes what comes out, with the answers and the bytes of
+/// `run_serial`. Each tool works in a thread of its own, which passes the gate with its number, from 1, and lane 0; this
+/// thread reads and writes. The rings between them hold so many messages each. So far each tool has one lane.
+///
+/// `NoStart` is answered where there is no memory for a ring or a list, or a thread can't be started. Where a source waits
+/// for its reader, all that had come from the last tool by then was written before.
+pub fn run<H: Threads + Wait + Sync, R: BytesIn, W: BytesOut, G: Gate>(
+    rt: &H,
+    alloc: Global,
+    reader: &mut R,
+    writer: &mut W,
+    tools: &[Tool],
+    capacity: usize,
+    _lanes: usize,
+    gate: &G,
+) -> Result<Summary, RunFault>
+    requires chain { IsChain tools.now }
+    requires capacity { (1 ≤ capacity) × (capacity ≤ max_ring_capacity) }
+    requires lanes { _lanes ≡ 1 }
+    ensures ran { (result ≡ Err NotStarted) ⊎ HasRunOverThreads tools.now result
+        (change R.left R.failures reader.old reader.new) (change W.held W.failures writer.old writer.new) }
+    // Where no chain came back, what it held didn't either; and where memory runs out before the first message, the reader is
+    // gone with the source.
+    ensures same_reader { result ≢ Err NotStarted → result ≢ Err (RunFault.Input Memory) → R.same reader.old reader.new }
+    ensures same_writer { result ≢ Err NotStarted → W.same writer.old writer.new }
+{
+    let (Some((to_chain, input)), Some((output, from_chain))) = (
+        new_ring(alloc, capacity),
+        new_ring(alloc, capacity),
+    ) else {
+        return Err(RunFault::NoStart);
+    };
+    let source = match Source::new(alloc, &mut *reader) {
+        Ok(source) => source,
+        Err(fault) => return Err(RunFault::Input(fault)),
+    };
+    let feeder = Feeder::new(source, to_chain);
+    let collector = Collector::new(from_chain, &mut *writer);
+    let both = beside_chain(
+        rt, alloc, tools, capacity, gate, input, output, feeder, collector,
+    );
+    let Some((chain, feeder, collector)) = both else {
+        return Err(RunFault::NoStart);
+    };
+    let (read, written, answer) = conclude(chain, feeder, collector);
+    // No effect at run time. The proof reads from these uses what the two devices hold.
+    let _ = &*read;
+    let _ = &*written;
+    answer
+}
+
+/// Runs the chain in a thread of its own, and the caller's turns here; none where the chain couldn't be started.
+fn beside_chain<H: Threads + Wait + Sync, R: BytesIn + Drop, W: BytesOut + Drop, G: Gate>(
+    rt: &H,
+    alloc: Global,
+    tools: &[Tool],
+    capacity: usize,
+    gate: &G,
+    input: Input,
+    output: Output,
+    feeder: Feeder<R>,
+    collector: Collector<W>,
+) -> Option<(ChainDone, Feeder<R>, Collector<W>)>
+    requires shared { IsSync H.row × IsSync G.row }
+    requires chain { IsChain tools.now }
+    ensures input { IfSome result (λ r. SameConsumer input r.0.input) }
+    ensures output { IfSome result (λ r. SameProducer output r.0.output) }
+    ensures ran { IfSome result (λ r. HasRunChain tools.now r.0.ends.items r.0.links.items
+        (received input) (received r.0.input) (sent output) (sent r.0.output)) }
+    ensures turned { IfSome result (λ r. HaveTurned R.left R.failures R.same W.held W.failures W.same feeder collector r.1 r.2) }
+{
+    let own = &Bell::new();
+    let last = &Bell::new();
+    let before_last = Bell::new();
+    let first = if tools.len() == 1 { last } else { &before_last };
+    let turns = Turns {
+        rt,
+        first,
+        own,
+        last,
+        feeder,
+        collector,
+    };
+    let chain = Call(
+        move || -> Option<ChainDone>
+            requires { (IsSync H.row × IsSync G.row) × IsChain tools.now }
+            ensures { IfSome result (λ done. SameConsumer input done.input × SameProducer output done.output
+                × HasRunChain tools.entry.now done.ends.items done.links.items (received input) (received done.input) (sent output) (sent done.output)) }
+        {
+            let bells = Bells {
+                left: own,
+                own: last,
+                right: own,
+            };
+            let done = run_chain_by(
+                rt, alloc, tools, capacity, gate, input, output, bells, first,
+            )
+            .ok();
+            // Where it wasn't started, its ring ends are gone by now.
+            own.ring();
+            done
+        },
+    );
+    let (chain, (feeder, collector)) = run_both(rt, chain, turns)?;
+    Some((chain?, feeder, collector))
+}
+
+/// The two devices once all have ended, and the answer of the run.
+fn conclude<R: BytesIn + Drop, W: BytesOut + Drop>(
+    chain: ChainDone,
+    feeder: Feeder<R>,
+    collector: Collector<W>,
+) -> (R, W, Result<Summary, RunFault>)
+    requires rings { IsPair feeder.output chain.input × IsPair chain.output collector.input }
+    requires ends { length chain.ends.items ≤ max_tools }
+    requires taken { (start : W) × IsCollecting W.held W.failures start [] collector }
+    ensures ran { (first : SourceValue R) (start : W) (tools : List ToolValue) → AreLawfulTools tools
+        → IsFeeding R.left R.failures first [] feeder → IsCollecting W.held W.failures start [] collector
+        → HasRunChain tools chain.ends.items chain.links.items [] (received chain.input) [] (sent chain.output)
+        → HasRunOverThreads tools result.2 (change R.left R.failures (reader_of first) result.0) (change W.held W.failures start result.1) }
+    ensures started { result.2 ≢ Err NotStarted }
+    ensures reader { result.0 ≡ reader_of feeder.source }
+    ensures same_writer { W.same (output_of collector.downstream) result.1 }
+{
+    let ChainDone {
+        mut input,
+        mut output,
+        ends,
+        ..
+    } = chain;
+    let (reader, mut sender, fed) = feeder.into_parts();
+    // What was sent and not received is known now.
+    input.slots_beside(&mut sender);
+    let mut collector = collector;
+    collector.take_rest(&mut output);
+    let (downstream, has_ended) = collector.into_parts();
+    let (writer, written) = downstream.finish();
+    let answer = answer(fed, ends.as_slice(), has_ended, written);
+    (reader, writer, answer)
+}
+
+/// The answer of a run: the first of the faults in their order.
+fn answer(
+    input: Option<Result<(), InputFault>>,
+    ends: &[StageEnd],
+    has_ended: bool,
+    output: Result<Summary, SinkFault>,
+) -> Result<Summary, RunFault>
+    requires { length ends.now ≤ max_tools }
+    ensures { result ≡ answer_over input (first_fault_from 1 ends.now) has_ended (length ends.now + 1) output }
+{
+    match input {
+        None => return Err(RunFault::PeerGone(0)),
+        Some(Err(fault)) => return Err(RunFault::Input(fault)),
+        Some(Ok(())) => {}
+    }
+    if let Some(fault) = first_fault(ends) {
+        return Err(fault);
+    }
+    if !has_ended {
+        return Err(RunFault::PeerGone(ends.len() + 1));
+    }
+    match output {
+        Ok(summary) => Ok(summary),
+        Err(fault) => Err(RunFault::Output(fault)),
+    }
+}
+
+/// The fault of the first stage that has one, or that saw a ring's other end dropped.
+fn first_fault(ends: &[StageEnd]) -> Option<RunFault>
+    ensures { result ≡ first_fault_from 1 ends.now }
+{
+    for (index, end) in ends.iter().enumerate() {
+        if let Some(fault) = fault_of(*end, index + 1) {
+            return Some(fault);
+        }
+    }
+    None
+}
+
+/// What the end of the stage of this number is answered by, if it isn't passed over.
+fn fault_of(end: StageEnd, number: usize) -> Option<RunFault>
+    ensures { result ≡ fault_of_end number end }
+{
+    match end {
+        StageEnd::Well | StageEnd::Broken => None,
+        StageEnd::Fault(fault) => Some(RunFault::Tool(number, fault)),
+        StageEnd::PeerGone => Some(RunFault::PeerGone(number)),
+    }
+}

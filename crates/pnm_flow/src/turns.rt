@@ -1,0 +1,67 @@
+//! What the caller of a run over threads does while the tools work: it writes what it takes, and sends what it reads.
+
+ghost use Rattle.pnm_flow.specs.Turns.{HaveTurned};
+
+use crate::branches::Task;
+use crate::collector::Collector;
+use crate::feeder::Feeder;
+use crate::patience::{Bell, Patience};
+use pnm_image::{BytesIn, BytesOut};
+use std::sync::Wait;
+
+/// The turns of the caller, until all is sent and taken, with the bells of the first tool, its own, and that of the last tool.
+#[derive(Drop)]
+pub struct Turns<'a, H, R, W> {
+    pub rt: &'a H,
+    pub first: &'a Bell,
+    pub own: &'a Bell,
+    pub last: &'a Bell,
+    pub feeder: Feeder<R>,
+    pub collector: Collector<W>,
+}
+
+impl<'a, H: Wait, R: BytesIn + Drop, W: BytesOut + Drop> Task for Turns<'a, H, R, W> {
+    type Output = (Feeder<R>, Collector<W>);
+
+    ghost can_run = { λ t. Unit {0} };
+
+    ghost run_gives = { λ t r. HaveTurned R.left R.failures R.same W.held W.failures W.same t.feeder t.collector r.0 r.1 };
+
+    fn run(self) -> (Feeder<R>, Collector<W>) {
+        let Turns {
+            rt,
+            first,
+            own,
+            last,
+            feeder,
+            collector,
+        } = self;
+        let mut feeder = feeder;
+        let mut collector = collector;
+        let mut patience = Patience::new();
+        for _ in rt.forever() {
+            if feeder.is_over() && collector.is_over() {
+                return (feeder, collector);
+            }
+            if turn(&mut feeder, &mut collector, first, last) {
+                patience = Patience::new();
+            } else {
+                patience.wait(rt, own, first);
+            }
+        }
+        unreachable!()
+    }
+}
+
+/// Takes and writes a message that is there, since to ask the source for one may have to wait for its reader; else sends
+/// the message that waits for room, or asks the source. False where none of these could be done.
+fn turn<R: BytesIn + Drop, W: BytesOut + Drop>(
+    feeder: &mut Feeder<R>,
+    collector: &mut Collector<W>,
+    first: &Bell,
+    last: &Bell,
+) -> bool
+    ensures turned { HaveTurned R.left R.failures R.same W.held W.failures W.same feeder.old collector.old feeder.new collector.new }
+{
+    (!collector.is_over() && collector.turn(last)) || (!feeder.is_over() && feeder.turn(first))
+}

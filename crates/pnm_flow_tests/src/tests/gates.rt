@@ -1,0 +1,140 @@
+//! Runs whose threads are held at their gate.
+
+use super::agrees;
+use super::chains::are_lawful;
+use super::threads::{Both, TURNS};
+use pnm_flow::{Gate, Summary, run};
+use pnm_image::Device;
+use pnm_tools::Tool;
+use std::io::{Read, Write};
+use std::sync::atomic::AtomicU64;
+use std::sync::atomic::Ordering::SeqCst;
+use std::{io, thread};
+
+/// An image of one sample, and what two tools make of it.
+const SAMPLE: &[u8] = b"P5\n1 1\n9\n\x07";
+
+const TOOLS: [Tool; 2] = [Tool::Enlarge(2, 2), Tool::Invert];
+
+const MADE: &[u8] = b"P5\n2 2\n9\n\x02\x02\x02\x02";
+
+/// Each of two tools waits at the gate for the other, so both have a thread.
+#[test]
+fn gives_each_tool_of_a_run_a_thread(rt: HostRuntime) {
+    assert!(&rt; are_lawful(&TOOLS));
+    let both = Both::new();
+    let mut writer = Device::new(Vec::new(rt.alloc()));
+    let mut reader = Device::new(SAMPLE);
+    let answer = run(
+        &rt,
+        rt.alloc(),
+        &mut reader,
+        &mut writer,
+        &TOOLS,
+        1,
+        1,
+        &both,
+    );
+    let want = (Ok(Summary { images: 1, rows: 2 }), MADE);
+    agrees(
+        &rt,
+        (answer, writer.into_inner().as_slice()),
+        want,
+        &"two tools that meet",
+    );
+    assert_eq!(&rt; both.missed.load(SeqCst), 0);
+}
+
+/// What a run has read and written so far, and whether a gate waited in vain for it.
+#[derive(Drop)]
+struct Seen {
+    reads: AtomicU64,
+    writes: AtomicU64,
+    missed: AtomicU64,
+    early: AtomicU64,
+}
+
+/// A reader of these bytes that is seen.
+#[derive(Drop)]
+struct SeenReader<'a>(&'a [u8], &'a Seen);
+
+impl Read for SeenReader<'_> {
+    fn read(&mut self, room: &mut [u8]) -> io::Result<usize> {
+        self.1.reads.fetch_add(1, SeqCst);
+        self.0.read(room)
+    }
+}
+
+/// A writer that is seen.
+#[derive(Drop)]
+struct SeenWriter<'a>(Vec<u8>, &'a Seen);
+
+impl Write for SeenWriter<'_> {
+    fn write(&mut self, bytes: &[u8]) -> io::Result<usize> {
+        self.1.writes.fetch_add(1, SeqCst);
+        self.0.write(bytes)
+    }
+
+    fn flush(&mut self) -> io::Result<()> {
+        Ok(())
+    }
+}
+
+/// Holds the first tool back until something was read, and a while longer, and counts what was written by then.
+#[derive(Drop)]
+struct HoldsFirst<'a>(&'a Seen);
+
+impl Gate for HoldsFirst<'_> {
+    fn arrive(&self, stage: usize, _lane: usize) {
+        if stage != 1 {
+            return;
+        }
+        let seen = self.0;
+        for turn in 0..TURNS {
+            if seen.reads.load(SeqCst) > 0 {
+                break;
+            }
+            if turn + 1 == TURNS {
+                seen.missed.fetch_add(1, SeqCst);
+            }
+            thread::yield_now();
+        }
+        for _ in 0..1_000_000 {
+            thread::yield_now();
+        }
+        seen.early.fetch_add(seen.writes.load(SeqCst), SeqCst);
+    }
+}
+
+/// The input is read while the first tool is held back, and nothing is written without it.
+#[test]
+fn reads_and_writes_beside_the_tools(rt: HostRuntime) {
+    assert!(&rt; are_lawful(&TOOLS));
+    let seen = Seen {
+        reads: AtomicU64::new(0),
+        writes: AtomicU64::new(0),
+        missed: AtomicU64::new(0),
+        early: AtomicU64::new(0),
+    };
+    let mut reader = Device::new(SeenReader(SAMPLE, &seen));
+    let mut writer = Device::new(SeenWriter(Vec::new(rt.alloc()), &seen));
+    let gate = HoldsFirst(&seen);
+    let answer = run(
+        &rt,
+        rt.alloc(),
+        &mut reader,
+        &mut writer,
+        &TOOLS,
+        1,
+        1,
+        &gate,
+    );
+    let want = (Ok(Summary { images: 1, rows: 2 }), MADE);
+    agrees(
+        &rt,
+        (answer, writer.into_inner().0.as_slice()),
+        want,
+        &"a tool that waits",
+    );
+    assert_eq!(&rt; (seen.missed.load(SeqCst), seen.early.load(SeqCst)), (0, 0));
+}
