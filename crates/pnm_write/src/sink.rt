@@ -40,11 +40,12 @@ impl<W: BytesOut> Sink<W> {
     }
 
     /// Writes all bytes of the message: at the beginning of an image its header, and for a row its
-    /// samples, as pbm(5), pgm(5), ppm(5) and pam(5) lay them out. The other messages have none.
+    /// samples, as pbm(5), pgm(5), ppm(5) and pam(5) lay them out. The other messages have none. At
+    /// the end of an image it flushes the writer, so that the image isn't kept back until the next one comes.
     ///
     /// The faults, in order: `Broken` after an earlier fault, and `OutOfOrder` where the message
     /// can't come at this place of the stream, or begins an image of height 0, with nothing
-    /// written; `WriteFailed` where the writer fails, with a front of the bytes written.
+    /// written; `WriteFailed` where the writer or its flush fails, with a front of the bytes written.
     pub fn put(&mut self, message: &Message) -> Result<(), SinkFault>
         ensures written { OnOk result
             (Appends (W.held (writer_of self.old)) (W.held (writer_of self.new)) (bytes_at (next_place self.old) message.now)) }
@@ -138,7 +139,7 @@ fn has_rows(message: &Message) -> bool
     }
 }
 
-/// Writes the bytes of a message that comes at this place.
+/// Writes the bytes of a message that comes at this place, and flushes the writer where an image ends.
 fn write_message<W: BytesOut>(
     writer: &mut W,
     room: &mut Room,
@@ -159,6 +160,7 @@ fn write_message<W: BytesOut>(
             Place::Inside(shape, _) => write_row(writer, room, shape, row.as_slice()),
             Place::Between | Place::After => Ok(()),
         },
-        Message::ImageEnd | Message::StreamEnd | Message::Stop => Ok(()),
+        Message::ImageEnd => writer.flush(),
+        Message::StreamEnd | Message::Stop => Ok(()),
     }
 }

@@ -63,7 +63,7 @@ struct Sips {
     most: usize,
     writes: FailsOnce,
     flushes: FailsOnce,
-    is_flushed: bool,
+    flushed: usize,
 }
 
 impl Write for Sips {
@@ -74,7 +74,7 @@ impl Write for Sips {
     }
 
     fn flush(&mut self) -> io::Result<()> {
-        self.is_flushed = true;
+        self.flushed = self.flushed.saturating_add(1);
         self.flushes.call()
     }
 }
@@ -96,7 +96,7 @@ fn writer(alloc: Global, most: usize, writes: FailsOnce, flushes: FailsOnce) -> 
         most,
         writes,
         flushes,
-        is_flushed: false,
+        flushed: 0,
     }
 }
 
@@ -136,34 +136,51 @@ fn answers_a_failed_write(rt: HostRuntime) -> Result<(), Fail> {
 fn answers_write_that_fails(rt: &impl Abort, alloc: Global, before: usize) -> Result<(), Fail> {
     let mut sips = writer(alloc, 1, FailsOnce::after(before), FailsOnce::never());
     let said = answers(alloc, &mut sips, STREAM)?;
-    let fails = before < 22;
-    let want = if fails {
+    let want = if before < 22 {
         (Some(SinkFault::WriteFailed), Err(SinkFault::Broken))
     } else {
         (None, Ok(()))
     };
     let is_so = said.stays && (said.fault, said.end) == want;
     holds(rt, is_so, &said, &want, &before);
+    // After each image that was whole before the fault; without one, at the end too.
+    let flushed = match before {
+        0..=9 => 0,
+        10..=21 => 1,
+        _ => 3,
+    };
     holds(
         rt,
-        sips.is_flushed != fails,
-        &sips.is_flushed,
-        &!fails,
+        sips.flushed == flushed,
+        &sips.flushed,
+        &flushed,
         &before,
     );
     holds_bytes(rt, &sips, &BYTES[..before.min(22)]);
     Ok(())
 }
 
-/// A flush that fails, after all bytes were written.
+/// A flush after each image, and one at the end, of which the one after so many fails.
 #[test]
 fn answers_a_failed_flush(rt: HostRuntime) -> Result<(), Fail> {
-    let mut sips = writer(rt.alloc(), 4096, FailsOnce::never(), FailsOnce::after(0));
-    let said = answers(rt.alloc(), &mut sips, STREAM)?;
-    let want = (None, Err(SinkFault::WriteFailed));
-    let is_so = (said.fault, said.end) == want;
-    holds(&rt, is_so, &said, &want, &"the flush");
-    holds_bytes(&rt, &sips, BYTES);
+    let broken = (Some(SinkFault::WriteFailed), Err(SinkFault::Broken));
+    for (before, want, bytes) in [
+        (0, broken, &BYTES[..10]),
+        (1, broken, BYTES),
+        (2, (None, Err(SinkFault::WriteFailed)), BYTES),
+        (3, (None, Ok(())), BYTES),
+    ] {
+        let mut sips = writer(
+            rt.alloc(),
+            4096,
+            FailsOnce::never(),
+            FailsOnce::after(before),
+        );
+        let said = answers(rt.alloc(), &mut sips, STREAM)?;
+        let is_so = said.stays && (said.fault, said.end) == want;
+        holds(&rt, is_so, &said, &want, &before);
+        holds_bytes(&rt, &sips, bytes);
+    }
     Ok(())
 }
 
@@ -175,7 +192,7 @@ fn answers_a_write_of_no_byte(rt: HostRuntime) -> Result<(), Fail> {
     let want = (Some(SinkFault::WriteFailed), Err(SinkFault::Broken));
     let is_so = (said.fault, said.end) == want;
     holds(&rt, is_so, &said, &want, &"the first write");
-    holds(&rt, !sips.is_flushed, &sips.is_flushed, &false, &"the end");
+    holds(&rt, sips.flushed == 0, &sips.flushed, &0, &"the end");
     holds_bytes(&rt, &sips, b"");
     Ok(())
 }
