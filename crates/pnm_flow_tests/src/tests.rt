@@ -16,6 +16,7 @@ mod run;
 mod stages;
 mod streams;
 mod threads;
+mod ways;
 
 /// An image of one row, and the image inverted.
 const IMAGE: &[u8] = b"P5\n2 1\n122\nAB";

@@ -3,7 +3,8 @@
 ghost use Rattle.std.specs.Prelude.{IsTrue};
 ghost use Rattle.pnm_tools.specs.Chains.{AreLawfulTools};
 
-use pnm_flow::{OpenGate, RunFault, Summary, run, run_serial};
+use super::ways::{WAYS, Way, run_by};
+use pnm_flow::{RunFault, Summary};
 use pnm_image::Device;
 use pnm_tools::{CutBox, Planes, Tool};
 use std::alloc::{AllocError, Global};
@@ -11,36 +12,33 @@ use std::process::Abort;
 use std::sync::Wait;
 use std::thread::Threads;
 
-/// What a run of these tools over this input answers, and what it writes, in one thread. Over threads it is the same, however
-/// much room the rings have.
+/// What a run of these tools over this input answers, and what it writes. It is the same in each way.
 pub fn run_chain<R: Threads + Wait + Abort + Sync>(
     rt: &R,
     alloc: Global,
     tools: &[Tool],
     input: &[u8],
 ) -> (Result<Summary, RunFault>, Vec<u8>) {
+    let first = run_chain_by(rt, alloc, Way::OneThread, tools, input);
+    for way in WAYS {
+        let again = run_chain_by(rt, alloc, way, tools, input);
+        assert!(rt; again == first, "by {way:?}");
+    }
+    first
+}
+
+/// The same, in this way alone.
+fn run_chain_by<R: Threads + Wait + Abort + Sync>(
+    rt: &R,
+    alloc: Global,
+    way: Way,
+    tools: &[Tool],
+    input: &[u8],
+) -> (Result<Summary, RunFault>, Vec<u8>) {
     assert!(rt; 1 <= tools.len() && tools.len() <= 16 && are_lawful(tools));
     let mut writer = Device::new(Vec::new(alloc));
-    let answer = run_serial(alloc, &mut Device::new(input), &mut writer, tools);
-    let written = writer.into_inner();
-    for capacity in [1, 2, 64, 1_024] {
-        let mut writer = Device::new(Vec::new(alloc));
-        let again = run(
-            rt,
-            alloc,
-            &mut Device::new(input),
-            &mut writer,
-            tools,
-            capacity,
-            1,
-            &OpenGate,
-        );
-        assert!(rt;
-            again == answer && writer.into_inner() == written,
-            "at capacity {capacity}"
-        );
-    }
-    (answer, written)
+    let answer = run_by(rt, alloc, way, &mut Device::new(input), &mut writer, tools);
+    (answer, writer.into_inner())
 }
 
 /// Whether each tool's options are in their ranges.

@@ -3,7 +3,8 @@
 use super::chains::{LAST_COLUMN, are_lawful, channel};
 use super::rings::{IMAGE, Part, Unmade, holds, is_made_of, ring, send_all};
 use super::threads::chain;
-use pnm_flow::{OpenGate, RunFault, StageEnd, Summary, run_serial};
+use super::ways::{Way, run_by};
+use pnm_flow::{OpenGate, RunFault, StageEnd, Summary};
 use pnm_image::Device;
 use pnm_read::InputFault;
 use pnm_tools::{FlipWay, Tool, ToolFault};
@@ -20,8 +21,12 @@ const PICKED: &[u8] =
     b"P7\nWIDTH 1\nHEIGHT 1\nDEPTH 2\nMAXVAL 255\nTUPLTYPE T\nENDHDR\n\x39\x39P7\nWIDTH 1\nHEIGHT 2\nDEPTH 2\nMAXVAL 255\nTUPLTYPE T\nENDHDR\n\xff\xff\x55\x55";
 
 /// What a run over three tools answers; none where there is no memory for these. Whatever it is, a
-/// front of the whole output is written, and want of memory alone can be at fault.
-fn run_short_of_memory(rt: &impl Abort, alloc: Global) -> Option<Summary> {
+/// front of the whole output is written, and want of memory alone can be at fault: for the start of a run over threads too.
+fn run_short_of_memory<H: Threads + Wait + Abort + Sync>(
+    rt: &H,
+    alloc: Global,
+    way: Way,
+) -> Option<Summary> {
     let Ok(planes) = channel(alloc, &[0, 0], b"T") else {
         return None;
     };
@@ -29,7 +34,14 @@ fn run_short_of_memory(rt: &impl Abort, alloc: Global) -> Option<Summary> {
     assert!(rt; are_lawful(&tools));
     let mut room = [0; 200];
     let mut writer = Device::new(room.as_mut_slice());
-    let answer = run_serial(alloc, &mut Device::new(STREAM), &mut writer, &tools);
+    let answer = run_by(
+        rt,
+        alloc,
+        way,
+        &mut Device::new(STREAM),
+        &mut writer,
+        &tools,
+    );
     let rest = writer.into_inner().len();
     assert!(rt; rest <= room.len());
     let written = &room[..room.len() - rest];
@@ -43,6 +55,10 @@ fn run_short_of_memory(rt: &impl Abort, alloc: Global) -> Option<Summary> {
                 assert!(rt; PICKED.starts_with(written));
                 None
             }
+        Err(RunFault::NoStart) => {
+            assert!(rt; matches!(way, Way::Threads(_)) && written.is_empty());
+            None
+        }
         Err(fault) => {
             assert!(rt; false, "not {fault:?}");
             None
@@ -53,13 +69,26 @@ fn run_short_of_memory(rt: &impl Abort, alloc: Global) -> Option<Summary> {
 /// Each growth may be refused.
 #[test]
 fn answers_want_of_memory(rt: HostRuntime) {
-    let _ = run_short_of_memory(&rt, rt.alloc());
+    let _ = run_short_of_memory(&rt, rt.alloc(), Way::OneThread);
+}
+
+/// The same, over threads.
+#[test]
+fn answers_want_of_memory_over_threads(rt: HostRuntime) {
+    let _ = run_short_of_memory(&rt, rt.alloc(), Way::Threads(1));
 }
 
 /// The same, where none is refused.
 #[test]
 fn ends_well_with_memory(rt: HostRuntime) {
-    let summary = run_short_of_memory(&rt, rt.alloc());
+    let summary = run_short_of_memory(&rt, rt.alloc(), Way::OneThread);
+    assert_eq!(rt; summary, Some(Summary { images: 2, rows: 3 }));
+}
+
+/// The same, where none is refused, over threads.
+#[test]
+fn ends_well_over_threads_with_memory(rt: HostRuntime) {
+    let summary = run_short_of_memory(&rt, rt.alloc(), Way::Threads(1));
     assert_eq!(rt; summary, Some(Summary { images: 2, rows: 3 }));
 }
 

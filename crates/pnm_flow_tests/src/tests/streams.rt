@@ -1,23 +1,17 @@
 //! Runs over streams of several images, and over PAM.
 
 use super::agrees;
-use super::devices::{Drips, FailsOnce, Sips};
 use super::run::invert;
-use pnm_flow::{RunFault, Summary, run_serial};
-use pnm_image::Device;
+use pnm_flow::{RunFault, Summary};
 use pnm_read::InputFault;
-use pnm_tools::Tool;
-use pnm_write::SinkFault;
-use std::alloc::Global;
-use std::process::Abort;
 
 /// Two images of different kinds, and both inverted.
-const TWO: &[u8] = b"P5\n2 1\n9\n\x01\x02P6\n1 1\n9\n\x03\x04\x05";
+pub const TWO: &[u8] = b"P5\n2 1\n9\n\x01\x02P6\n1 1\n9\n\x03\x04\x05";
 
-const TWO_INVERTED: &[u8] = b"P5\n2 1\n9\n\x08\x07P6\n1 1\n9\n\x06\x05\x04";
+pub const TWO_INVERTED: &[u8] = b"P5\n2 1\n9\n\x08\x07P6\n1 1\n9\n\x06\x05\x04";
 
 /// Where the first of the two images has ended, and where the header of the second has.
-const FIRST_IMAGE: usize = 11;
+pub const FIRST_IMAGE: usize = 11;
 
 const SECOND_HEADER: usize = 20;
 
@@ -126,56 +120,4 @@ fn answers_where_a_stream_is_cut(rt: HostRuntime) {
         let want = (want.map_err(RunFault::Input), output);
         agrees(&rt, (answer, written.as_slice()), want, &count);
     }
-}
-
-/// What is answered where no device fails.
-const WELL: Result<Summary, RunFault> = Ok(Summary { images: 2, rows: 2 });
-
-/// A reader that fails at each read, and a writer that fails at each write, of a byte each.
-#[test]
-fn answers_failed_devices_of_a_stream(rt: HostRuntime) {
-    for before in 0..25 {
-        answers_a_failed_read(&rt, rt.alloc(), before);
-        answers_a_failed_write(&rt, rt.alloc(), before);
-    }
-}
-
-/// A read for each byte, and one that finds the end; the one after so many fails.
-fn answers_a_failed_read(rt: &impl Abort, alloc: Global, before: usize) {
-    let mut reader = Device::new(Drips {
-        rest: TWO,
-        reads: FailsOnce::after(before),
-    });
-    let mut writer = Device::new(Vec::new(alloc));
-    let answer = run_serial(alloc, &mut reader, &mut writer, &[Tool::Invert]);
-    let want = if before < 24 {
-        (Err(RunFault::Input(InputFault::ReadFailed)), b"".as_slice())
-    } else {
-        (WELL, TWO_INVERTED)
-    };
-    let written = writer.into_inner();
-    agrees(rt, (answer, written.as_slice()), want, &before);
-}
-
-/// A write for each byte; the one after so many fails.
-fn answers_a_failed_write(rt: &impl Abort, alloc: Global, before: usize) {
-    let mut sips = Sips {
-        held: Vec::new(alloc),
-        most: 1,
-        writes: FailsOnce::after(before),
-        flushes: FailsOnce::never(),
-    };
-    let answer = run_serial(
-        alloc,
-        &mut Device::new(TWO),
-        &mut Device::new(&mut sips),
-        &[Tool::Invert],
-    );
-    let want = if before < 23 {
-        Err(RunFault::Output(SinkFault::WriteFailed))
-    } else {
-        WELL
-    };
-    let due = &TWO_INVERTED[..before.min(23)];
-    agrees(rt, (answer, sips.held.as_slice()), (want, due), &before);
 }
