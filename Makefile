@@ -4,7 +4,7 @@ PROGRAM := crates/pnmpipe
 # where the tests stand: a library's in a crate of their own
 TESTED := pnm_image_tests pnm_read_tests pnm_tools_tests pnm_write_tests pnm_chain_tests pnm_flow_tests pnmpipe
 
-.PHONY: all check test help toolchain controls refused-growth
+.PHONY: all check test help toolchain controls refused-growth refused-starts
 
 # the lowest crate by all processors, and then those above it side by side; one `rt` for all, since two would wait for each other
 all: toolchain
@@ -15,6 +15,7 @@ all: toolchain
 	cmp bin/stored-run $(PROGRAM)/stdout
 	rm bin/stored-run
 	cp $(PROGRAM)/out/pnmpipe bin/pnmpipe
+	sh scripts/refused_starts.sh
 
 # a sample of the refused allocations, since each turn builds the program anew; then one check a processor, each of
 # at most 4 GB
@@ -37,6 +38,10 @@ refused-growth: toolchain
 	sh scripts/refused_growth_of_chains.sh
 	sh scripts/refused_growth_of_words.sh
 
+# each start of a thread of a run over sixteen tools, refused in turn
+refused-starts:
+	sh scripts/refused_starts.sh
+
 toolchain:
 	@$(if $(shell command -v rt),:,$(error the command rt of the Rattle toolchain is not on the PATH))
 
@@ -46,4 +51,5 @@ help:
 	@echo "make check           the whole gate: every proof from nothing, the edits that must fail, the tests and the stored run"
 	@echo "make controls        tries the edits that keep the code's meaning, which must prove"
 	@echo "make refused-growth  refuses each allocation of the stored run, of each tool, of a chain of three tools, and of the program's words, in turn"
+	@echo "make refused-starts  refuses each start of a thread in turn, of the program that make has left"
 	@echo "make help            this list"
