@@ -2,14 +2,14 @@
 
 PROGRAM := crates/pnmpipe
 # where the tests stand: a library's in a crate of their own
-TESTED := pnm_image_tests pnm_read_tests pnm_tools_tests pnm_write_tests pnm_chain_tests pnm_flow_tests pnmpipe
+TESTED := pnm_samples_tests pnm_image_tests pnm_read_tests pnm_tools_tests pnm_write_tests pnm_chain_tests pnm_flow_tests pnmpipe
 
-.PHONY: all check test help toolchain controls refused-growth refused-starts
+.PHONY: all bench check test help toolchain controls refused-growth refused-starts
 
 # the lowest crate by all processors, and then those above it side by side; one `rt` for all, since two would wait for each other
 all: toolchain
 	mkdir -p bin
-	cd crates/pnm_image && rt lib
+	cd crates/pnm_samples && rt lib
 	rt all check --jobs $$(nproc)
 	cd $(PROGRAM) && rt run -- pnminvert < stdin > ../../bin/stored-run
 	cmp bin/stored-run $(PROGRAM)/stdout
@@ -26,6 +26,10 @@ check: toolchain
 # the tests alone, built and run as they stand: `make check` proves them too
 test: toolchain
 	for crate in $(TESTED); do (cd crates/$$crate && rt try --test --seconds 600) || exit 1; done
+
+# the program that make has left beside Netpbm's own tools, where these are installed: a table, for a quiet machine
+bench:
+	python3 scripts/bench.py
 
 # edits that keep the code's meaning, each of the shape of a must-fail edit: they have to prove
 controls: toolchain
@@ -49,6 +53,7 @@ help:
 	@echo "make                 proves the crates, builds the program and leaves it as bin/pnmpipe"
 	@echo "make test            the tests alone, without their proofs"
 	@echo "make check           the whole gate: every proof from nothing, the edits that must fail, the tests and the stored run"
+	@echo "make bench           times the program that make has left beside Netpbm's own tools, on large images"
 	@echo "make controls        tries the edits that keep the code's meaning, which must prove"
 	@echo "make refused-growth  refuses each allocation of the stored run, of each tool, of a chain of three tools, and of the program's words, in turn"
 	@echo "make refused-starts  refuses each start of a thread in turn, of the program that make has left"

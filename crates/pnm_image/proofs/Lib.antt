@@ -1,4 +1,3 @@
-pub mod Greatest
 pub mod Heads
 pub mod Lists
 pub mod Places

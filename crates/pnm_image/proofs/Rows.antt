@@ -3,6 +3,7 @@ use Rattle.std.proofs.Common.{◌≡◌, ℕ, zero, suc, ◌*◌, ◌≤◌, Lis
 use Rattle.std.specs.List.{AllByRecursion, concat}
 use Rattle.std.proofs.lemmas.List.{take_at, drop_at, take-append-drop, length-take, length-drop, length-append, nil_from_length}
 use Rattle.std.proofs.lemmas.List.Elements.{All-nil, All-append, All-take, All-drop}
+use Rattle.pnm_samples.proofs.CutLaws.{length-cut_rows}
 use Rattle.pnm_image.specs.declared.shape.Shape.{Shape}
 use Rattle.pnm_image.specs.Heads.{HeadValue, IsHead, row_length}
 use Rattle.pnm_image.specs.Places.{IsRowOf}
@@ -23,11 +24,6 @@ concat-cut_rows zero each samples h = sym (nil_from_length samples (h ∙ zero-m
 concat-cut_rows (suc count) each samples h =
     let rest : length (drop each samples) ≡ count * each = omega (arith, length-drop each samples, suc-mul count each) in
     rw (concat-cut_rows count each (drop each samples) rest) (take-append-drop each samples)
-
--- as many rows are cut as were asked for
-pub length-cut_rows : (count each : ℕ) (samples : List ℕ) → length (cut_rows count each samples) ≡ count
-length-cut_rows zero each samples = refl
-length-cut_rows (suc count) each samples = ap suc (length-cut_rows count each (drop each samples))
 
 -- the rows that are cut from an image's samples are rows of its shape
 pub AreRowsOf-cut_rows : (s : Shape) (count : ℕ) (samples : List ℕ) → length samples ≡ count * row_length s → All (λ sample. sample ≤ s.maxval) samples

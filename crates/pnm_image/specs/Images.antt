@@ -1,6 +1,7 @@
 -- Images as wholes, and the messages that carry them.
-use Rattle.std.specs.Prelude.{◌≡◌, ℕ, zero, suc, ◌+◌, ◌*◌, ◌≤◌, List, [], ◌∷◌, ◌++◌, length, take, drop, map, slice_index, All}
+use Rattle.std.specs.Prelude.{◌≡◌, ℕ, ◌+◌, ◌*◌, ◌≤◌, List, [], ◌∷◌, ◌++◌, length, map, slice_index, All}
 use Rattle.std.specs.List.{AllByRecursion}
+pub use Rattle.pnm_samples.specs.Cuts.{cut_rows}
 use Rattle.pnm_image.specs.declared.message.Message.{Message}
 use Rattle.pnm_image.specs.declared.message.Message.TheVariants.{Begin, Row, ImageEnd, StreamEnd}
 use Rattle.pnm_image.specs.Heads.{HeadValue, IsHead, row_length}
@@ -21,11 +22,6 @@ AreImages is = AllByRecursion IsImage is
 -- the sample of a column, a row and a plane, all counted from 0
 abbrev pub sample_at : Image → ℕ → ℕ → ℕ → ℕ
 sample_at i x y p = slice_index i.samples ((y * i.head.shape.width + x) * i.head.shape.depth + p)
-
--- samples as so many rows of so many samples each
-abbrev pub cut_rows : ℕ → ℕ → List ℕ → List (List ℕ)
-cut_rows zero each samples = []
-cut_rows (suc count) each samples = take each samples ∷ cut_rows count each (drop each samples)
 
 -- the rows of an image, top to bottom
 abbrev pub rows_of : Image → List (List ℕ)

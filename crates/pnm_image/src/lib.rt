@@ -13,7 +13,6 @@ pub mod limits;
 mod message;
 mod packing;
 mod place;
-mod samples;
 mod shape;
 
 pub use device::{BytesIn, BytesOut, Device, DeviceFailed, write_all};
@@ -21,5 +20,6 @@ pub use head::{Head, HeadFault};
 pub use message::Message;
 pub use packing::Packing;
 pub use place::Place;
-pub use samples::Samples;
 pub use shape::{Kind, Shape};
+
+pub use pnm_samples::{Bits, Held, Lent, Samples};

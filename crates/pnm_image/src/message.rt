@@ -1,7 +1,7 @@
 //! The messages of a stream of images.
 
 use crate::head::Head;
-use crate::samples::Samples;
+use pnm_samples::Samples;
 
 /// A part of a stream of images.
 #[derive(Debug, Drop)]

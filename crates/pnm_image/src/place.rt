@@ -1,11 +1,11 @@
 //! The place in a stream, and which message may come there.
 
-ghost use Rattle.std.specs.Prelude.{◌≡◌, ◌≤◌, ◌↔◌, IsTrue, All};
+ghost use Rattle.std.specs.Prelude.{◌≡◌, ◌↔◌, IsTrue};
 ghost use Rattle.pnm_image.specs.Places.{Accepts, IsRowOf, place_after};
 
-use crate::limits::MAX_MAXVAL;
 use crate::message::Message;
 use crate::shape::Shape;
+use pnm_samples::Samples;
 
 /// Where a stream of messages stands.
 #[derive(Clone, Copy, Debug, PartialEq, Eq)]
@@ -35,7 +35,7 @@ impl Place {
         match (self, message) {
             (Place::Between, Message::Begin(_) | Message::StreamEnd | Message::Stop) => true,
             (Place::Inside(shape, y), Message::Row(row)) => {
-                *y < shape.height && is_row_of(shape, row.as_slice())
+                *y < shape.height && is_row_of(shape, row)
             }
             (Place::Inside(shape, y), Message::ImageEnd) => *y == shape.height,
             (Place::Inside(_, _), Message::Stop) => true,
@@ -58,23 +58,9 @@ impl Place {
     }
 }
 
-/// Whether the row has so many samples, none of them above the maxval. No sample is looked at where
-/// none can be above it.
-fn is_row_of(shape: &Shape, row: &[u16]) -> bool
+/// Whether the row has so many samples, none of them above the maxval.
+fn is_row_of(shape: &Shape, row: &Samples) -> bool
     ensures { IsTrue result ↔ IsRowOf shape.now row.now }
 {
-    row.len() as u64 == shape.row_length()
-        && (shape.maxval >= MAX_MAXVAL || u32::from(greatest(row)) <= shape.maxval)
-}
-
-/// The greatest sample, or 0 where there is none. The loop goes over all samples, so that it is
-/// vector code.
-fn greatest(row: &[u16]) -> u16
-    ensures { (most : _) → (result ≤ most) ↔ All (λ sample. sample ≤ most) row.now }
-{
-    let mut greatest = 0;
-    for sample in row {
-        greatest = (*sample).max(greatest);
-    }
-    greatest
+    row.len() as u64 == shape.row_length() && row.are_within(shape.maxval)
 }

@@ -7,8 +7,8 @@ use std::process::Abort;
 mod callers;
 mod devices;
 mod heads;
+mod messages;
 mod places;
-mod samples;
 mod texts;
 
 /// Stops the test where the two aren't the same, and shows them. An assertion that shows its values is dear to

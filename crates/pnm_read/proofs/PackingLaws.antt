@@ -1,5 +1,5 @@
 -- The samples of a raw row, and the bytes that they lie in.
-use Rattle.std.proofs.Common.{◌≡◌, ℕ, ◌+◌, ◌-◌, ◌*◌, ◌≤◌, ◌<◌, ◌↔◌, All, false, List, [], ◌∷◌, ◌++◌, length, get_or, take, drop, Result, Ok, Err, OnOk, is_err, refl, sym, ap, ◌∙◌, subst, arith}
+use Rattle.std.proofs.Common.{◌≡◌, ℕ, ◌+◌, ◌-◌, ◌*◌, ◌≤◌, ◌<◌, ◌↔◌, All, Bool, true, false, IsTrue, List, [], ◌∷◌, ◌++◌, length, get_or, take, drop, Result, Ok, Err, OnOk, is_err, refl, sym, ap, ◌∙◌, subst, arith}
 use Rattle.std.specs.declared.slice.ChunksExact.{ChunksExact}
 use Rattle.std.specs.Slice.Iter.{chunks_exact_steps, chunks_exact_rest, chunks_exact_size}
 use Rattle.std.proofs.lemmas.List.{take_all, drop_at, length-append}
@@ -20,11 +20,16 @@ appended_end old samples new n e count =
     let left : drop n new ≡ samples = ap (drop n) e ∙ drop_at old samples n (sym count) in
     ap (take (length new - n)) left ∙ take_all (length new - n) samples (omega (arith, ap length e, length-append old samples))
 
--- a bound of the end of a list is a bound of what was appended
-pub bound_of_appended : (old samples new : List ℕ) (n greatest : ℕ) → new ≡ old ++ samples → n ≡ length old
-    → ((most : ℕ) → (greatest ≤ most) ↔ All (λ sample. sample ≤ most) (take (length new - n) (drop n new))) → (most : ℕ) → (greatest ≤ most) ↔ All (λ sample. sample ≤ most) samples
-bound_of_appended old samples new n greatest e count known most =
-    subst (λ (l : List ℕ). (greatest ≤ most) ↔ All (λ sample. sample ≤ most) l) (appended_end old samples new n e count) (known most)
+-- what decides whether the end of a list is within a bound decides it of what was appended
+pub within_of_appended : (old samples new : List ℕ) (n most : ℕ) (within : Bool) → new ≡ old ++ samples → n ≡ length old
+    → (IsTrue within ↔ All (λ sample. sample ≤ most) (take (length new - n) (drop n new))) → IsTrue within ↔ All (λ sample. sample ≤ most) samples
+within_of_appended old samples new n most within e count known =
+    subst (λ (l : List ℕ). IsTrue within ↔ All (λ sample. sample ≤ most) l) (appended_end old samples new n e count) known
+
+-- what is refused isn't within the bound
+pub refused_not_within : (samples : List ℕ) (most : ℕ) (within : Bool) → within ≡ false → (IsTrue within ↔ All (λ sample. sample ≤ most) samples) → All (λ sample. sample ≤ most) samples → ⊥
+refused_not_within samples most true refused known all = cc
+refused_not_within samples most false refused known all = let t : IsTrue false = known.1 all in cc
 
 -- ---- pairs of bytes
 

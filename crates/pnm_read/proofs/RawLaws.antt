@@ -63,6 +63,7 @@ pub record IsPackable (p : Packing) (s : Shape) : Type 0 where
   pub maxval_low : 0 < s.maxval
 
 length-pixels : (bytes : List ℕ) → length (flat_map pixels bytes) ≡ length bytes * 8
+unfolding pixels
 length-pixels [] = refl
 length-pixels (b ∷ bytes) = omega (arith, length-pixels bytes, length-append (pixels b) (flat_map pixels bytes), suc-mul (length bytes) 8)
 
@@ -75,6 +76,7 @@ abbrev bits : List ℕ
 bits = 7 ∷ 6 ∷ 5 ∷ 4 ∷ 3 ∷ 2 ∷ 1 ∷ 0 ∷ []
 
 pixels_within : (maxval byte : ℕ) → 0 < maxval → All (λ sample. sample ≤ maxval) (pixels byte)
+unfolding pixels
 pixels_within maxval b low = All-map (λ sample. sample ≤ maxval) (λ bit. pixel_at bit b) bits (λ k d lt. pixel_le maxval (get_or bits k d) b low)
 
 all_pixels_within : (maxval : ℕ) (bytes : List ℕ) → 0 < maxval → All (λ sample. sample ≤ maxval) (flat_map pixels bytes)

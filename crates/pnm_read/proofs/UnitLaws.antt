@@ -8,6 +8,8 @@ use Rattle.pnm_read.specs.declared.fault.InputFault.{InputFault}
 use Rattle.pnm_read.specs.declared.fault.InputFault.TheVariants.{SampleAboveMaxval}
 use Rattle.pnm_image.specs.declared.packing.Packing.{Packing}
 use Rattle.pnm_image.specs.declared.packing.Packing.TheVariants.{Packed, Narrow, Wide}
+use Rattle.pnm_samples.specs.Pixels.{all_pixels}
+use Rattle.std.proofs.lemmas.Grind.{flat_map-append}
 use Rattle.pnm_read.specs.Rasters.{pixels, wide_samples}
 use Rattle.pnm_read.specs.Items.{◌>>=◌, raw_item}
 use Rattle.pnm_read.specs.Said.{in_turn}
@@ -167,3 +169,9 @@ narrow_append_units maxval n bytes old new r count h =
 
 pub wide_append_units : (maxval n : ℕ) (bytes old new : List ℕ) (r : Result (Unit {0}) InputFault) → length bytes ≡ n * 2 → AppendsWide maxval bytes old new r → AppendsUnits Wide maxval n bytes old new r
 wide_append_units maxval n bytes old new r count h = samples_append_units Wide maxval n bytes (wide_samples bytes) old new r (λ rest. wide_units maxval n bytes rest count) h
+
+-- ---- bytes of pixels that are kept as they are
+
+-- bytes that are appended append their pixels
+pub bytes_append_pixels : (bytes old new : List ℕ) → new ≡ old ++ bytes → all_pixels new ≡ all_pixels old ++ flat_map pixels bytes
+bytes_append_pixels bytes old new e = ap all_pixels e ∙ flat_map-append pixels old bytes

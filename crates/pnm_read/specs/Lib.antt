@@ -19,3 +19,4 @@ pub mod Packings
 pub mod Awaiting
 pub mod Sources
 pub mod Examples
+pub mod Units

@@ -1,7 +1,9 @@
 -- How a raster is spelled. From pbm(5), pgm(5), ppm(5) and pam(5), 'The layout', and of the plain formats 'Plain PBM' and
 -- so on. There is no plain PAM: what is said of it under 'plain' means nothing.
-use Rattle.std.specs.Prelude.{◌≡◌, ℕ, ◌+◌, ◌*◌, ◌-◌, ◌^◌, ◌/◌, ◌%◌, ◌<◌, ◌≤◌, true, false, List, [], ◌∷◌, ◌++◌, length, take, map, flat_map}
+use Rattle.std.specs.Prelude.{◌≡◌, ℕ, ◌+◌, ◌*◌, ◌-◌, ◌/◌, ◌<◌, ◌≤◌, true, false, List, [], ◌∷◌, ◌++◌, length, take, map, flat_map}
 use Rattle.std.specs.List.{AllPass}
+pub use Rattle.pnm_samples.specs.Pixels.{pixel_at}
+unfoldable pub use Rattle.pnm_samples.specs.Pixels.{pixels}
 use Rattle.pnm_image.specs.declared.shape.Shape.{Shape}
 use Rattle.pnm_image.specs.declared.shape.Kind.{Kind}
 use Rattle.pnm_image.specs.declared.shape.Kind.TheVariants.{Bit, Gray, Color, Pam}
@@ -21,15 +23,6 @@ bytes_in_row s = elim (packing_of s.kind s.maxval) [
   | Narrow ↦ row_length s
   | Wide ↦ 2 * row_length s
 ]
-
--- the pixel in a bit of a byte, the bit counted from the right; 1 is black, which is sample 0
-abbrev pub pixel_at : ℕ → ℕ → ℕ
-pixel_at bit byte = 1 - byte / 2 ^ bit % 2
-
--- the pixels of a byte, the most significant bit leftmost
-abbrev pub pixels : ℕ → List ℕ
-pixels byte =
-    pixel_at 7 byte ∷ pixel_at 6 byte ∷ pixel_at 5 byte ∷ pixel_at 4 byte ∷ pixel_at 3 byte ∷ pixel_at 2 byte ∷ pixel_at 1 byte ∷ pixel_at 0 byte ∷ []
 
 -- samples of two bytes, the most significant first
 unfoldable pub wide_samples : List ℕ → List ℕ

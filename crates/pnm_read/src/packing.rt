@@ -1,70 +1,114 @@
 //! How the samples of a raw row lie in its bytes.
 
-ghost use Rattle.std.specs.Prelude.{◌≡◌, ◌≤◌, ◌↔◌, ◌*◌, ◌++◌, length, map, ℕ, All, OnOk, IfErr};
-ghost use Rattle.pnm_read.specs.Rasters.{pixel_at, pixels, wide_samples};
+ghost use Rattle.std.specs.Prelude.{◌≡◌, ◌≤◌, ◌↔◌, ◌*◌, [], length, take, ℕ, All, OnOk, IfOk, IsTrue};
 ghost use Rattle.pnm_image.specs.Limits.{max_side};
+ghost use Rattle.pnm_samples.specs.Pixels.{all_pixels};
 ghost use Rattle.pnm_read.specs.Packings.{unit_bytes, AppendsWholeUnits, AppendsPixels, AppendsNarrow, AppendsWide};
 ghost use Rattle.pnm_read.specs.Said.{units_in_row};
 
 use crate::fault::InputFault;
-use pnm_image::{Packing, Shape};
+use pnm_image::{Bits, Held, Packing, Samples, Shape};
+use pnm_samples::{greatest, greatest_byte};
+use std::alloc::{AllocError, Global};
 
-/// The row gets its length first, and the stores of each byte's pixels then grow nothing.
-fn append_pixels(bytes: &[u8], row: &mut Vec<u16>) -> Result<(), InputFault>
-    ensures { AppendsPixels bytes.now row.old.items row.new.items result }
-{
-    let mut at = row.len();
-    let Some(added) = bytes.len().checked_mul(8) else {
-        return Err(InputFault::Memory);
-    };
-    let Some(end) = at.checked_add(added) else {
-        return Err(InputFault::Memory);
-    };
-    if row.resize(end, 0).is_err() {
-        return Err(InputFault::Memory);
-    }
-    for byte in bytes {
-        store_pixels(&mut row[at..at + 8], *byte);
-        at += 8;
-    }
-    Ok(())
+/// The greatest number that a byte can be.
+const GREATEST_BYTE: u32 = 255;
+
+/// The greatest number that a word can be.
+const GREATEST_WORD: u32 = 65_535;
+
+/// The units of a raw row that have come, as wide as the bytes that they lie in. A unit is a
+/// sample, or a byte of eight pixels.
+#[derive(Debug, Drop)]
+pub enum Units {
+    /// Bytes of eight pixels.
+    Packed(Vec<u8>),
+    /// Samples of a byte.
+    Narrow(Vec<u8>),
+    /// Samples of two bytes.
+    Wide(Vec<u16>),
 }
 
-/// Stores the pixels of a byte as samples.
-fn store_pixels(samples: &mut [u16], byte: u8)
-    requires { length samples.old ≡ 8 }
-    ensures { samples.new ≡ pixels byte }
-{
-    samples[0] = pixel_at(7, byte);
-    samples[1] = pixel_at(6, byte);
-    samples[2] = pixel_at(5, byte);
-    samples[3] = pixel_at(4, byte);
-    samples[4] = pixel_at(3, byte);
-    samples[5] = pixel_at(2, byte);
-    samples[6] = pixel_at(1, byte);
-    samples[7] = pixel_at(0, byte);
-}
+impl Units {
+    ghost use Rattle.pnm_read.specs.Units.{packing_in, samples_in, AreWithin};
 
-/// The pixel in a bit of a byte, the bit counted from the right.
-fn pixel_at(bit: u32, byte: u8) -> u16
-    requires { bit ≤ 7 }
-    ensures { result ≡ pixel_at bit byte }
-{
-    u16::from((byte >> bit) & 1 == 0)
-}
-
-fn append_narrow(bytes: &[u8], maxval: u32, row: &mut Vec<u16>) -> Result<(), InputFault>
-    ensures { AppendsNarrow maxval bytes.now row.old.items row.new.items result }
-{
-    if u32::from(greatest_byte(bytes)) > maxval {
-        return Err(InputFault::SampleAboveMaxval);
+    /// No units, with room for so many.
+    ///
+    /// # Errors
+    ///
+    /// Where there is no memory for them.
+    pub fn with_capacity(alloc: Global, packing: Packing, units: usize) -> Result<Units, AllocError>
+        ensures none { IfOk result (λ units. samples_in units ≡ []) }
+        ensures packing { IfOk result (λ units. packing_in units ≡ packing) }
+        ensures within { IfOk result (λ units. (maxval : ℕ) → AreWithin maxval units) }
+    {
+        match packing {
+            Packing::Packed => Ok(Units::Packed(Vec::with_capacity(alloc, units)?)),
+            Packing::Narrow => Ok(Units::Narrow(Vec::with_capacity(alloc, units)?)),
+            Packing::Wide => Ok(Units::Wide(Vec::with_capacity(alloc, units)?)),
+        }
     }
-    match row.extend(bytes.iter().map(|sample| u16::from(*sample))) {
+
+    /// Appends the units that these bytes are.
+    ///
+    /// # Errors
+    ///
+    /// Where a sample is above the maxval, or there is no memory. The units are not to be used then.
+    pub fn append(&mut self, bytes: &[u8], maxval: u32) -> Result<(), InputFault>
+        ensures packing { packing_in self.new ≡ packing_in self.old }
+        ensures appended { AppendsWholeUnits (packing_in self.old) maxval bytes.now (samples_in self.old) (samples_in self.new) result }
+        ensures within { AreWithin maxval self.old → OnOk result (AreWithin maxval self.new) }
+    {
+        match self {
+            Units::Packed(row) => append_packed(bytes, row),
+            Units::Narrow(row) => append_narrow(bytes, maxval, row),
+            Units::Wide(row) => append_wide(bytes, maxval, row),
+        }
+    }
+
+    /// The first so many samples, without a copy. No sample is looked at: none is above the maxval.
+    pub fn into_row(self, count: usize, maxval: u32) -> Samples
+        requires { AreWithin maxval self }
+        ensures { result ≡ take count (samples_in self) }
+    {
+        match self {
+            Units::Packed(bytes) => Samples::from_held(Held::Bits(Bits::new(bytes, count))),
+            Units::Narrow(mut bytes) => {
+                bytes.truncate(count);
+                Samples::within(Held::Bytes(bytes), maxval)
+            }
+            Units::Wide(mut words) => {
+                words.truncate(count);
+                Samples::within(Held::Words(words), maxval)
+            }
+        }
+    }
+}
+
+/// Appends bytes of eight pixels.
+fn append_packed(bytes: &[u8], row: &mut Vec<u8>) -> Result<(), InputFault>
+    ensures { AppendsPixels bytes.now (all_pixels row.old.items) (all_pixels row.new.items) result }
+{
+    match row.extend_from_slice(bytes) {
         Ok(()) => Ok(()),
         Err(_) => Err(InputFault::Memory),
     }
 }
 
+/// Appends samples of a byte.
+fn append_narrow(bytes: &[u8], maxval: u32, row: &mut Vec<u8>) -> Result<(), InputFault>
+    ensures { AppendsNarrow maxval bytes.now row.old.items row.new.items result }
+{
+    if !are_bytes_within(bytes, maxval) {
+        return Err(InputFault::SampleAboveMaxval);
+    }
+    match row.extend_from_slice(bytes) {
+        Ok(()) => Ok(()),
+        Err(_) => Err(InputFault::Memory),
+    }
+}
+
+/// Appends samples of two bytes. The loop over them is vector code.
 fn append_wide(bytes: &[u8], maxval: u32, row: &mut Vec<u16>) -> Result<(), InputFault>
     ensures { AppendsWide maxval bytes.now row.old.items row.new.items result }
 {
@@ -75,49 +119,24 @@ fn append_wide(bytes: &[u8], maxval: u32, row: &mut Vec<u16>) -> Result<(), Inpu
     if row.extend(samples).is_err() {
         return Err(InputFault::Memory);
     }
-    if u32::from(greatest(&row[before..])) > maxval {
+    if !are_words_within(&row[before..], maxval) {
         return Err(InputFault::SampleAboveMaxval);
     }
     Ok(())
 }
 
-/// The greatest byte, or 0 where there is none.
-fn greatest_byte(bytes: &[u8]) -> u8
-    ensures { (most : ℕ) → (result ≤ most) ↔ All (λ sample. sample ≤ most) bytes.now }
+/// Whether no byte is above the maxval. No byte is looked at where none can be.
+fn are_bytes_within(bytes: &[u8], maxval: u32) -> bool
+    ensures { IsTrue result ↔ All (λ sample. sample ≤ maxval) bytes.now }
 {
-    let mut greatest = 0;
-    for byte in bytes {
-        greatest = (*byte).max(greatest);
-    }
-    greatest
+    maxval >= GREATEST_BYTE || u32::from(greatest_byte(bytes)) <= maxval
 }
 
-/// The greatest sample, or 0 where there is none.
-fn greatest(samples: &[u16]) -> u16
-    ensures { (most : ℕ) → (result ≤ most) ↔ All (λ sample. sample ≤ most) samples.now }
+/// Whether no word is above the maxval. No word is looked at where none can be.
+fn are_words_within(words: &[u16], maxval: u32) -> bool
+    ensures { IsTrue result ↔ All (λ sample. sample ≤ maxval) words.now }
 {
-    let mut greatest = 0;
-    for sample in samples {
-        greatest = (*sample).max(greatest);
-    }
-    greatest
-}
-
-/// Appends the samples of so many units, which these bytes are, to a row. The loops over the
-/// bytes are vector code. A row that holds samples above the maxval is never given on.
-pub fn append(
-    packing: Packing,
-    bytes: &[u8],
-    maxval: u32,
-    row: &mut Vec<u16>,
-) -> Result<(), InputFault>
-    ensures { AppendsWholeUnits packing maxval bytes.now row.old.items row.new.items result }
-{
-    match packing {
-        Packing::Packed => append_pixels(bytes, row),
-        Packing::Narrow => append_narrow(bytes, maxval, row),
-        Packing::Wide => append_wide(bytes, maxval, row),
-    }
+    maxval >= GREATEST_WORD || u32::from(greatest(words)) <= maxval
 }
 
 /// The bytes of a unit: a sample, or a byte of eight pixels.
@@ -137,16 +156,6 @@ pub fn units_in_row(packing: Packing, shape: Shape) -> usize
 {
     match packing {
         Packing::Packed => (shape.width as usize).div_ceil(8),
-        Packing::Narrow | Packing::Wide => shape.row_length() as usize,
-    }
-}
-
-/// The samples that the units of a row of this shape hold, with those of spare bits.
-pub fn samples_in_row(packing: Packing, shape: Shape) -> usize
-    requires { shape.width ≤ max_side }
-{
-    match packing {
-        Packing::Packed => (shape.width as usize).div_ceil(8) * 8,
         Packing::Narrow | Packing::Wide => shape.row_length() as usize,
     }
 }

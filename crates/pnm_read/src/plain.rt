@@ -13,7 +13,8 @@ use crate::fault::InputFault;
 use crate::input::Input;
 use crate::pixel::PixelScanner;
 use crate::scan::scan;
-use pnm_image::{BytesIn, Kind, Samples, Shape};
+use pnm_image::{BytesIn, Held, Kind, Samples, Shape};
+use pnm_samples::greatest;
 
 /// The next row, after which so many others are to come.
 pub fn read_row<R: BytesIn>(
@@ -46,7 +47,8 @@ fn read_samples<R: BytesIn>(input: &mut Input<R>, shape: Shape) -> Result<Sample
             return Err(InputFault::Memory);
         }
     }
-    Ok(Samples::new(row))
+    let bound = u32::from(greatest(row.as_slice()));
+    Ok(Samples::within(Held::Words(row), bound))
 }
 
 /// The next sample.

@@ -1,14 +1,15 @@
 //! The rows of a raw raster.
 
-ghost use Rattle.std.specs.Prelude.{◌≡◌, ◌≤◌};
+ghost use Rattle.std.specs.Prelude.{◌≡◌, ◌≤◌, IfOk};
 ghost use Rattle.pnm_image.specs.Limits.{max_side};
 ghost use Rattle.pnm_read.specs.Said.{raw_row};
 ghost use Rattle.pnm_read.specs.Inputs.{Turn, Finds};
 ghost use Rattle.pnm_read.specs.Packings.{FindsUnits};
+ghost use Rattle.pnm_read.specs.Units.{samples_in, AreWithin};
 
 use crate::fault::InputFault;
 use crate::input::Input;
-use crate::packing::{append, samples_in_row, unit_bytes, units_in_row};
+use crate::packing::{Units, unit_bytes, units_in_row};
 use pnm_image::{BytesIn, Packing, Samples, Shape};
 
 /// The next row.
@@ -17,21 +18,20 @@ pub fn read_row<R: BytesIn>(input: &mut Input<R>, shape: Shape) -> Result<Sample
     ensures { Turn R.left R.failures R.same input.old input.new result (Finds (raw_row shape) result) }
 {
     let length = shape.row_length() as usize;
-    let mut row = read_units(input, shape)?;
-    row.truncate(length);
-    Ok(Samples::new(row))
+    let units = read_units(input, shape)?;
+    Ok(units.into_row(length, shape.maxval))
 }
 
-/// The samples of all units of the next row, as they are held, part by part.
-fn read_units<R: BytesIn>(input: &mut Input<R>, shape: Shape) -> Result<Vec<u16>, InputFault>
+/// The units of the next row, as they are held, part by part.
+fn read_units<R: BytesIn>(input: &mut Input<R>, shape: Shape) -> Result<Units, InputFault>
     requires { shape.width ≤ max_side }
-    ensures { Turn R.left R.failures R.same input.old input.new result (FindsUnits (λ row. row.items) shape result) }
+    ensures found { Turn R.left R.failures R.same input.old input.new result (FindsUnits samples_in shape result) }
+    ensures within { IfOk result (λ units. AreWithin shape.maxval units) }
 {
     let packing = Packing::of(shape.kind, shape.maxval);
     let unit = unit_bytes(packing);
     let mut left = units_in_row(packing, shape);
-    let room = samples_in_row(packing, shape);
-    let Ok(mut row) = Vec::with_capacity(input.allocator(), room) else {
+    let Ok(mut row) = Units::with_capacity(input.allocator(), packing, left) else {
         return Err(InputFault::Memory);
     };
     while left > 0 {
@@ -41,7 +41,7 @@ fn read_units<R: BytesIn>(input: &mut Input<R>, shape: Shape) -> Result<Vec<u16>
         if units == 0 {
             return Err(InputFault::RasterCut);
         }
-        append(packing, &bytes[..units * unit], shape.maxval, &mut row)?;
+        row.append(&bytes[..units * unit], shape.maxval)?;
         input.advance(units * unit);
         left -= units;
     }

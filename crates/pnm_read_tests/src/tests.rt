@@ -16,3 +16,4 @@ mod slow;
 mod streams;
 mod sweeps;
 mod texts;
+mod widths;

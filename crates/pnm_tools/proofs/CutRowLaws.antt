@@ -1,10 +1,11 @@
 -- The columns and rows that are kept.
-use Rattle.std.proofs.Common.{◌≡◌, ◌⊎◌, inl, inr, ℕ, ◌+◌, ◌-◌, ◌*◌, ◌≤◌, ◌<◌, ℤ, pos, negsuc, Bool, true, false, nat_le, nat_lt, ◌&&◌, if◌then◌else◌, Option, Some, None, Result, Ok, Err, ◌==◌, List, [], ◌∷◌, mul-le-mul, length, take, drop, refl, sym, ap, ◌∙◌, subst, arith, length-take-le, length-drop}
+use Rattle.std.proofs.Common.{◌≡◌, ◌⊎◌, inl, inr, ℕ, ◌+◌, ◌-◌, ◌*◌, ◌≤◌, ◌<◌, ℤ, pos, negsuc, Bool, true, false, nat_le, nat_lt, ◌&&◌, if◌then◌else◌, Option, Some, None, Result, Ok, Err, ◌==◌, List, [], ◌∷◌, ◌++◌, All, mul-le-mul, length, take, drop, refl, sym, ap, ◌∙◌, subst, arith, length-take-le, length-drop}
 use Rattle.std.specs.List.{copy_within}
 use Rattle.std.proofs.Math.Seq.{paste}
 use Rattle.std.proofs.lemmas.Bool.{leb-true, ltb-true, le-leb, lt-leb, ne_eqb, and_parts, and_right}
 use Rattle.std.proofs.lemmas.List.{drop-take, take_all}
 use Rattle.std.proofs.lemmas.List.Edits.{take-paste}
+use Rattle.std.proofs.lemmas.List.Elements.{All-take, All-drop}
 use Rattle.pnm_image.specs.declared.shape.Shape.{Shape}
 use Rattle.pnm_image.specs.Heads.{HeadValue, IsWithinLimits, row_length, head_value, is_too_large}
 use Rattle.pnm_tools.specs.declared.cut.CutBox.{CutBox}
@@ -26,12 +27,12 @@ both_parts first last depth le =
     ap (λ (n : ℕ). n * depth) e ∙ omega arith
 
 -- what is left of the front behind its first samples
-pub rest_is_kept : (columns : Span) (depth : ℕ) (row : List ℕ) → KeepsWithin columns depth row → drop (columns.first * depth) (take ((columns.last + 1) * depth) row) ≡ columns_of_row columns depth row
+pub rest_is_kept : {X : Type 0} (columns : Span) (depth : ℕ) (row : List X) → KeepsWithin columns depth row → drop (columns.first * depth) (take ((columns.last + 1) * depth) row) ≡ columns_of_row columns depth row
 rest_is_kept columns depth row h =
     ap (λ (n : ℕ). drop (columns.first * depth) (take n row)) (both_parts columns.first columns.last depth h.0) ∙ drop-take (columns.first * depth) (((columns.last + 1) - columns.first) * depth) row
 
 -- the rest of a list, moved to its front
-moved : (xs : List ℕ) (f m : ℕ) → length xs ≡ m → f ≤ m → take (m - f) (copy_within xs f m 0) ≡ drop f xs
+moved : {X : Type 0} (xs : List X) (f m : ℕ) → length xs ≡ m → f ≤ m → take (m - f) (copy_within xs f m 0) ≡ drop f xs
 moved xs f m long le =
     let n : ℕ = m - f in
     let size : length (drop f xs) ≡ n = omega (arith, length-drop f xs) in
@@ -39,7 +40,7 @@ moved xs f m long le =
     ap (λ (k : ℕ). take k (paste xs 0 (drop f xs) n)) on ∙ take-paste xs 0 (drop f xs) n (omega arith) (omega arith) ∙ take_all n (drop f xs) (omega arith)
 
 -- the front is cut off, and what is kept moved there
-pub kept_in_place : (columns : Span) (depth : ℕ) (row front copied new : List ℕ) (count m : ℕ) → KeepsWithin columns depth row → front ≡ take m row → m ≡ (columns.last + 1) * depth → count ≡ length front
+pub kept_in_place : {X : Type 0} (columns : Span) (depth : ℕ) (row front copied new : List X) (count m : ℕ) → KeepsWithin columns depth row → front ≡ take m row → m ≡ (columns.last + 1) * depth → count ≡ length front
     → copied ≡ copy_within front (columns.first * depth) count 0 → new ≡ take (count - columns.first * depth) copied → new ≡ columns_of_row columns depth row
 kept_in_place columns depth row front copied new count m h is size counted copy end =
     let f : ℕ = columns.first * depth in
@@ -49,10 +50,16 @@ kept_in_place columns depth row front copied new count m h is size counted copy 
     end ∙ ap (take (count - f)) copy ∙ moved front f count (sym counted) (omega arith) ∙ ap (drop f) fronts ∙ rest_is_kept columns depth row h
 
 -- where nothing lies before what is kept
-pub kept_at_front : (columns : Span) (depth : ℕ) (row new : List ℕ) (m : ℕ) → KeepsWithin columns depth row → new ≡ take m row → m ≡ (columns.last + 1) * depth → columns.first * depth ≤ 0 → new ≡ columns_of_row columns depth row
+pub kept_at_front : {X : Type 0} (columns : Span) (depth : ℕ) (row new : List X) (m : ℕ) → KeepsWithin columns depth row → new ≡ take m row → m ≡ (columns.last + 1) * depth → columns.first * depth ≤ 0 → new ≡ columns_of_row columns depth row
 kept_at_front columns depth row new m h is size none =
     let zero_first : 0 ≡ columns.first * depth = omega arith in
     is ∙ ap (λ (n : ℕ). take n row) size ∙ ap (λ (n : ℕ). drop n (take ((columns.last + 1) * depth) row)) zero_first ∙ rest_is_kept columns depth row h
+
+-- what is kept of samples within a maxval, appended to none
+pub kept_within : (maxval first count : ℕ) (row before new : List ℕ) → before ≡ [] → new ≡ before ++ take count (drop first row) → All (λ sample. sample ≤ maxval) row → All (λ sample. sample ≤ maxval) new
+kept_within maxval first count row before new none is h =
+    let P : ℕ → Type 0 = λ sample. sample ≤ maxval in
+    subst (All P) (sym (is ∙ ap (λ (l : List ℕ). l ++ take count (drop first row)) none)) (All-take P count (drop first row) (All-drop P first row h))
 
 -- ---- spans
 

@@ -1,7 +1,9 @@
 -- A row whose pixels are repeated.
-use Rattle.std.proofs.Common.{◌≡◌, ℕ, zero, suc, ◌+◌, ◌-◌, ◌*◌, ◌≤◌, ◌<◌, List, [], ◌∷◌, ◌++◌, length, take, drop, get_or, replicate, refl, sym, ap, ◌∙◌, arith}
+use Rattle.std.proofs.Common.{◌≡◌, ℕ, zero, suc, ◌+◌, ◌-◌, ◌*◌, ◌≤◌, ◌<◌, List, [], ◌∷◌, ◌++◌, length, take, drop, get_or, set, replicate, All, refl, sym, ap, subst, ◌∙◌, arith, mul-le-mul}
 use Rattle.std.specs.List.{flat_map, range_with_len}
-use Rattle.std.proofs.lemmas.List.{append_assoc, append-nil, take_all, take_more, drop_more, flat_map_more, replicate_more}
+use Rattle.std.proofs.Math.ListN.{length-set}
+use Rattle.std.proofs.lemmas.List.{append_assoc, append-nil, take_all, take_more, take_more_set, drop_more, length-take, length-drop}
+use Rattle.std.proofs.lemmas.List.Elements.{All-take, All-drop, All-append}
 use Rattle.std.proofs.Math.Seq.{take-add}
 use Rattle.pnm_image.specs.declared.shape.Shape.{Shape}
 use Rattle.pnm_image.specs.Heads.{row_length}
@@ -9,33 +11,174 @@ use Rattle.pnm_tools.specs.declared.tool.Tool.TheVariants.{Enlarge}
 use Rattle.pnm_tools.specs.Enlarge.{enlarged_row, repeated}
 use Rattle.pnm_tools.specs.Pixels.{pixel_of}
 use Rattle.pnm_tools.specs.Tools.{row_answer}
-use Rattle.pnm_tools.proofs.PickLaws.{flat_map_one_more}
+use Rattle.pnm_tools.proofs.RangeLaws.{pieces_in_parts}
 use Rattle.pnm_tools.proofs.RowLaws.{row_of_enlarge}
 
--- once more
-pub repeated_more : (start before now pixel : List ℕ) (n i : ℕ) → before ≡ start ++ repeated n pixel → now ≡ before ++ take i pixel → length pixel ≤ i → now ≡ start ++ repeated (n + 1) pixel
-repeated_more start before now pixel n i was is all =
-    is ∙ ap (λ (l : List ℕ). before ++ l) (take_all i pixel all) ∙ ap (λ (l : List ℕ). l ++ pixel) was ∙ append_assoc start (repeated n pixel) pixel
-    ∙ ap (λ (l : List ℕ). start ++ l) (sym (flat_map_one_more (λ _. pixel) 0 n n (omega arith)))
+-- the first columns, each pixel so many times
+abbrev pub columns_repeated : {X : Type 0} → ℕ → ℕ → List X → ℕ → List X
+columns_repeated across depth row n = flat_map (λ x. repeated across (pixel_of depth row x)) (range_with_len 0 n)
+
+-- one number more
+one_more : {X : Type 0} (f : ℕ → List X) (n : ℕ) → flat_map f (range_with_len 0 (n + 1)) ≡ flat_map f (range_with_len 0 n) ++ f n
+one_more {X = X} f n =
+    let on : 0 + n ≡ n = omega arith in
+    pieces_in_parts f 0 n 1 ∙ ap (λ (k : ℕ). flat_map f (range_with_len 0 n) ++ flat_map f (range_with_len k 1)) on ∙ ap (λ (l : List X). flat_map f (range_with_len 0 n) ++ l) (append-nil (f n))
 
 -- one column more
-pub column_more : (across depth : ℕ) (row before now : List ℕ) (x n k m : ℕ) → before ≡ flat_map (λ x. repeated across (pixel_of depth row x)) (range_with_len 0 x)
-    → now ≡ before ++ repeated n (take m (drop k row)) → n ≡ across → k ≡ x * depth → m ≡ depth → now ≡ flat_map (λ x. repeated across (pixel_of depth row x)) (range_with_len 0 (x + 1))
-column_more across depth row before now x n k m was is times at size =
+one_more_column : {X : Type 0} (across depth : ℕ) (row : List X) (n : ℕ) → columns_repeated across depth row (n + 1) ≡ columns_repeated across depth row n ++ repeated across (pixel_of depth row n)
+one_more_column across depth row n = one_more (λ x. repeated across (pixel_of depth row x)) n
+
+-- ---- stores behind the front of a room
+
+-- one sample more
+stored : {X : Type 0} (room front more : List X) (n next : ℕ) (v : X) → take n room ≡ front ++ more → n < length room → next ≡ n + 1 → take next (set room n v) ≡ front ++ (more ++ v ∷ [])
+stored {X = X} room front more n next v was lt on =
+    ap (λ (k : ℕ). take k (set room n v)) on ∙ take_more_set room n v lt ∙ ap (λ (l : List X). l ++ v ∷ []) was ∙ append_assoc front more (v ∷ [])
+
+-- two samples more
+stored_twice : {X : Type 0} (room front : List X) (n a b : ℕ) (v w : X) → take n room ≡ front → n + 2 ≤ length room → a ≡ n → b ≡ n + 1 → take (n + 2) (set (set room a v) b w) ≡ front ++ (v ∷ w ∷ [])
+stored_twice {X = X} room front n a b v w was fits first second =
+    let one : List X = set room n v in
+    let long : length one ≡ length room = length-set room n v in
+    let two : n + 2 ≡ (n + 1) + 1 = omega arith in
+    ap (λ (k : ℕ). take (n + 2) (set (set room k v) b w)) first ∙ ap (λ (k : ℕ). take (n + 2) (set one k w)) second
+    ∙ stored one front (v ∷ []) (n + 1) (n + 2) w (stored room front [] n (n + 1) v (was ∙ sym (append-nil front)) (omega arith) refl) (omega arith) two
+
+-- ---- pixels of a few samples
+
+-- a pixel of one sample
+pixel_of_one : {X : Type 0} (row : List X) (i : ℕ) (v : X) → i < length row → v ≡ get_or row i v → pixel_of 1 row i ≡ v ∷ []
+pixel_of_one {X = X} row i v lt is =
+    let place : i * 1 ≡ i = omega arith in
+    ap (λ (k : ℕ). take 1 (drop k row)) place ∙ ap (take 1) (drop_more row i v lt) ∙ ap (λ (x : X). x ∷ []) (sym is)
+
+-- a pixel of three samples
+pixel_of_three : {X : Type 0} (row : List X) (x : ℕ) (a b c : X) → 3 * x + 3 ≤ length row → a ≡ get_or row (3 * x) a → b ≡ get_or row (3 * x + 1) b → c ≡ get_or row (3 * x + 2) c → pixel_of 3 row x ≡ a ∷ b ∷ c ∷ []
+pixel_of_three {X = X} row x a b c fits first second third =
+    let n : ℕ = 3 * x in
+    let place : x * 3 ≡ n = omega arith in
+    let next : (n + 1) + 1 ≡ n + 2 = omega arith in
+    ap (λ (k : ℕ). take 3 (drop k row)) place
+    ∙ ap (take 3) (drop_more row n a (omega arith)) ∙ ap (λ (y : X). y ∷ take 2 (drop (n + 1) row)) (sym first)
+    ∙ ap (λ (l : List X). a ∷ take 2 l) (drop_more row (n + 1) b (omega arith)) ∙ ap (λ (y : X). a ∷ y ∷ take 1 (drop ((n + 1) + 1) row)) (sym second)
+    ∙ ap (λ (k : ℕ). a ∷ b ∷ take 1 (drop k row)) next
+    ∙ ap (λ (l : List X). a ∷ b ∷ take 1 l) (drop_more row (n + 2) c (omega arith)) ∙ ap (λ (y : X). a ∷ b ∷ y ∷ []) (sym third)
+
+-- ---- each pixel twice
+
+-- one sample more, twice
+pub doubled_more : {X : Type 0} (row room : List X) (i a b : ℕ) (v : X) → take (2 * i) room ≡ columns_repeated 2 1 row i → i < length row → length room ≡ length row * 2 → a ≡ 2 * i → b ≡ 2 * i + 1 → v ≡ get_or row i v
+    → take (2 * (i + 1)) (set (set room a v) b v) ≡ columns_repeated 2 1 row (i + 1)
+doubled_more {X = X} row room i a b v was lt size first second is =
+    let n : ℕ = 2 * i in
+    let next : 2 * (i + 1) ≡ n + 2 = omega arith in
+    ap (λ (k : ℕ). take k (set (set room a v) b v)) next
+    ∙ stored_twice room (columns_repeated 2 1 row i) n a b v v was (omega arith) first second
+    ∙ ap (λ (l : List X). columns_repeated 2 1 row i ++ (l ++ (l ++ []))) (sym (pixel_of_one row i v lt is))
+    ∙ sym (one_more_column 2 1 row i)
+
+-- one pixel more, twice
+pub colors_more : {X : Type 0} (row room : List X) (x : ℕ) (a b c : X) → take (6 * x) room ≡ columns_repeated 2 3 row x → 3 * x + 3 ≤ length row → length room ≡ length row * 2
+    → a ≡ get_or row (3 * x) a → b ≡ get_or row (3 * x + 1) b → c ≡ get_or row (3 * x + 2) c
+    → take (6 * (x + 1)) (set (set (set (set (set (set room (6 * x) a) (6 * x + 1) b) (6 * x + 2) c) (6 * x + 3) a) (6 * x + 4) b) (6 * x + 5) c) ≡ columns_repeated 2 3 row (x + 1)
+colors_more {X = X} row room x a b c was fits size first second third =
+    let n : ℕ = 6 * x in
+    let front : List X = columns_repeated 2 3 row x in
+    let r₂ : List X = set (set room n a) (n + 1) b in
+    let r₄ : List X = set (set r₂ (n + 2) c) (n + 3) a in
+    let long₂ : length r₂ ≡ length room = length-set (set room n a) (n + 1) b ∙ length-set room n a in
+    let long₄ : length r₄ ≡ length room = length-set (set r₂ (n + 2) c) (n + 3) a ∙ length-set r₂ (n + 2) c ∙ long₂ in
+    let two : take (n + 2) r₂ ≡ front ++ (a ∷ b ∷ []) = stored_twice room front n n (n + 1) a b was (omega arith) refl refl in
+    let four : take ((n + 2) + 2) r₄ ≡ (front ++ (a ∷ b ∷ [])) ++ (c ∷ a ∷ []) = stored_twice r₂ (front ++ (a ∷ b ∷ [])) (n + 2) (n + 2) (n + 3) c a two (omega arith) refl (omega arith) in
+    let six : take (((n + 2) + 2) + 2) (set (set r₄ (n + 4) b) (n + 5) c) ≡ ((front ++ (a ∷ b ∷ [])) ++ (c ∷ a ∷ [])) ++ (b ∷ c ∷ []) =
+    stored_twice r₄ ((front ++ (a ∷ b ∷ [])) ++ (c ∷ a ∷ [])) ((n + 2) + 2) (n + 4) (n + 5) b c four (omega arith) (omega arith) (omega arith) in
+    let next : 6 * (x + 1) ≡ ((n + 2) + 2) + 2 = omega arith in
+    ap (λ (k : ℕ). take k (set (set r₄ (n + 4) b) (n + 5) c)) next ∙ six
+    ∙ append_assoc (front ++ (a ∷ b ∷ [])) (c ∷ a ∷ []) (b ∷ c ∷ []) ∙ append_assoc front (a ∷ b ∷ []) (c ∷ a ∷ b ∷ c ∷ [])
+    ∙ ap (λ (l : List X). front ++ (l ++ (l ++ []))) (sym (pixel_of_three row x a b c fits first second third))
+    ∙ sym (one_more_column 2 3 row x)
+
+-- ---- each pixel so many times
+
+-- one sample more of the pixel
+pub sample_more : {X : Type 0} (front pixel room : List X) (at p : ℕ) (v : X) → take (at + p) room ≡ front ++ take p pixel → at + p < length room → p < length pixel → v ≡ get_or pixel p v
+    → take (at + (p + 1)) (set room (at + p) v) ≡ front ++ take (p + 1) pixel
+sample_more {X = X} front pixel room at p v was lt below is =
+    let next : at + (p + 1) ≡ (at + p) + 1 = omega arith in
+    stored room front (take p pixel) (at + p) (at + (p + 1)) v was lt next
+    ∙ ap (λ (x : X). front ++ (take p pixel ++ x ∷ [])) is ∙ ap (λ (l : List X). front ++ l) (sym (take_more pixel p v below))
+
+-- the pixel once more
+pub pixel_more : {X : Type 0} (start before now pixel : List X) (count : ℕ) → before ≡ start ++ repeated count pixel → now ≡ before ++ pixel → now ≡ start ++ repeated (count + 1) pixel
+pixel_more {X = X} start before now pixel count was is =
+    is ∙ ap (λ (l : List X). l ++ pixel) was ∙ append_assoc start (repeated count pixel) pixel ∙ ap (λ (l : List X). start ++ l) (sym (one_more (λ _. pixel) count))
+
+-- one column more
+pub column_more : {X : Type 0} (across depth : ℕ) (row before now : List X) (x n k m : ℕ) → before ≡ columns_repeated across depth row x
+    → now ≡ before ++ repeated n (take m (drop k row)) → n ≡ across → k ≡ x * depth → m ≡ depth → now ≡ columns_repeated across depth row (x + 1)
+column_more {X = X} across depth row before now x n k m was is times at size =
     is ∙ ap (λ (j : ℕ). before ++ repeated j (take m (drop k row))) times
     ∙ ap (λ (j : ℕ). before ++ repeated across (take m (drop j row))) at
     ∙ ap (λ (k : ℕ). before ++ repeated across (take k (drop (x * depth) row))) size
-    ∙ ap (λ (l : List ℕ). l ++ repeated across (pixel_of depth row x)) was ∙ sym (flat_map_one_more (λ x. repeated across (pixel_of depth row x)) 0 x x (omega arith))
+    ∙ ap (λ (l : List X). l ++ repeated across (pixel_of depth row x)) was ∙ sym (one_more_column across depth row x)
+
+-- there is room for the pixel
+pub place_there : (width across depth x n at start count size : ℕ) → x < width → n < across → at ≡ start + n * depth → start ≡ x * across * depth → count ≡ width * depth → size ≡ count * across → at + depth ≤ size
+place_there width across depth x n at start count size column time is first long all =
+    let times : suc x * across ≤ width * across = mul-le-mul {n₁ = suc x} {m₁ = across} {n₂ = width} {m₂ = across} (omega arith) (omega arith) in
+    let samples : suc (x * across + n) * depth ≤ (width * across) * depth = mul-le-mul {n₁ = suc (x * across + n)} {m₁ = depth} {n₂ = width * across} {m₂ = depth} (omega arith) (omega arith) in
+    omega (arith, ap (λ (k : ℕ). k * across) long)
+
+-- a pixel has all its samples
+pub pixel_there : {X : Type 0} (row : List X) (width depth x k m p : ℕ) → length row ≡ width * depth → x < width → k ≡ x * depth → m ≡ depth → p < depth → p < length (take m (drop k row))
+pixel_there row width depth x k m p long column at size below =
+    let within : suc x * depth ≤ width * depth = mul-le-mul {n₁ = suc x} {m₁ = depth} {n₂ = width} {m₂ = depth} (omega arith) (omega arith) in
+    omega (arith, length-take m (drop k row), length-drop k row)
+
+-- nothing of the pixel yet
+pub none_stored : {X : Type 0} (room pixel : List X) (at : ℕ) → take (at + 0) room ≡ take at room ++ take 0 pixel
+none_stored {X = X} room pixel at =
+    let on : at + 0 ≡ at = omega arith in
+    ap (λ (k : ℕ). take k room) on ∙ sym (append-nil (take at room))
+
+-- all of the pixel
+pub pixel_stored : {X : Type 0} (front room rest : List X) (at p m depth : ℕ) → take (at + p) room ≡ front ++ take p (take m rest) → p ≡ depth → m ≡ depth → take (at + depth) room ≡ front ++ take m rest
+pixel_stored {X = X} front room rest at p m depth is all size =
+    ap (λ (k : ℕ). take (at + k) room) (sym all) ∙ is ∙ ap (λ (l : List X). front ++ l) (take_all p (take m rest) (omega (arith, length-take m rest)))
+
+-- the place behind a column
+pub next_place : (across depth x n at start : ℕ) → at ≡ start + n * depth → start ≡ x * across * depth → n ≡ across → at ≡ (x + 1) * across * depth
+next_place across depth x n at start is first all = omega (arith, ap (λ (k : ℕ). k * depth) all)
+
+-- ---- samples of the result
+
+-- what holds of each sample of the row holds of each of a pixel's copies
+within_copies : (P : ℕ → Type 0) (pixel : List ℕ) (a n : ℕ) → All P pixel → All P (flat_map (λ _. pixel) (range_with_len a n))
+within_copies P pixel a zero h = All-take P 0 pixel h
+within_copies P pixel a (suc n) h = All-append P pixel (flat_map (λ _. pixel) (range_with_len (a + 1) n)) h (within_copies P pixel (a + 1) n h)
+
+within_columns : (P : ℕ → Type 0) (across depth : ℕ) (row : List ℕ) (a n : ℕ) → All P row → All P (flat_map (λ x. repeated across (pixel_of depth row x)) (range_with_len a n))
+within_columns P across depth row a zero h = All-take P 0 row h
+within_columns P across depth row a (suc n) h =
+    All-append P (repeated across (pixel_of depth row a)) (flat_map (λ x. repeated across (pixel_of depth row x)) (range_with_len (a + 1) n))
+    (within_copies P (pixel_of depth row a) 0 across (All-take P depth (drop (a * depth) row) (All-drop P (a * depth) row h))) (within_columns P across depth row (a + 1) n h)
+
+-- the samples of the result are within what those of the row are
+pub enlarged_within : (maxval across : ℕ) (s : Shape) (held row made : List ℕ) → made ≡ enlarged_row across s held → held ≡ row → All (λ sample. sample ≤ maxval) row → All (λ sample. sample ≤ maxval) made
+enlarged_within maxval across s held row made is same h =
+    let P : ℕ → Type 0 = λ sample. sample ≤ maxval in
+    subst (All P) (sym (is ∙ ap (enlarged_row across s) same)) (within_columns P across s.depth row 0 s.width h)
+
+-- ---- the rows that are given
 
 -- the first columns, each pixel once
-columns_once : (depth : ℕ) (row : List ℕ) (n : ℕ) → flat_map (λ x. repeated 1 (pixel_of depth row x)) (range_with_len 0 n) ≡ take (n * depth) row
+columns_once : (depth : ℕ) (row : List ℕ) (n : ℕ) → columns_repeated 1 depth row n ≡ take (n * depth) row
 columns_once depth row zero = let none : 0 ≡ 0 * depth = omega arith in ap (λ (k : ℕ). take k row) none
 columns_once depth row (suc n) =
-    let f : ℕ → List ℕ = λ x. repeated 1 (pixel_of depth row x) in
     let more : suc n ≡ n + 1 = omega arith in
     let size : n * depth + depth ≡ (n + 1) * depth = omega arith in
-    ap (λ (k : ℕ). flat_map f (range_with_len 0 k)) more ∙ flat_map_one_more f 0 n n (omega arith)
-    ∙ ap (λ (l : List ℕ). l ++ f n) (columns_once depth row n) ∙ ap (λ (l : List ℕ). take (n * depth) row ++ l) (append-nil (pixel_of depth row n))
+    ap (columns_repeated 1 depth row) more ∙ one_more_column 1 depth row n
+    ∙ ap (λ (l : List ℕ). l ++ repeated 1 (pixel_of depth row n)) (columns_once depth row n) ∙ ap (λ (l : List ℕ). take (n * depth) row ++ l) (append-nil (pixel_of depth row n))
     ∙ sym (take-add (n * depth) depth row) ∙ ap (λ (k : ℕ). take k row) size ∙ ap (λ (k : ℕ). take (k * depth) row) (sym more)
 
 -- a row whose pixels stand once is the row
@@ -48,34 +191,3 @@ pub rows_due : (across down : ℕ) (s : Shape) (y : ℕ) (row made : List ℕ) �
 rows_due across down s y row made some is =
     let count : down - 1 + 1 ≡ down = omega arith in
     ap (λ (n : ℕ). replicate n made) count ∙ ap (replicate down) is ∙ sym (row_of_enlarge across down s y row)
-
--- a list of one, so many times
-same_repeated : (n v : ℕ) → replicate n v ≡ repeated n (v ∷ [])
-same_repeated zero v = refl
-same_repeated (suc n) v =
-    let more : suc n ≡ n + 1 = omega arith in
-    ap (λ (k : ℕ). replicate k v) more ∙ sym (replicate_more n v) ∙ ap (λ (l : List ℕ). l ++ v ∷ []) (same_repeated n v)
-    ∙ sym (flat_map_one_more (λ _. v ∷ []) 0 n n (omega arith)) ∙ ap (λ (k : ℕ). repeated k (v ∷ [])) (sym more)
-
--- the first samples, where each is a pixel
-samples_repeated : (across : ℕ) (row : List ℕ) (n : ℕ) → n ≤ length row → flat_map (replicate across) (take n row) ≡ flat_map (λ x. repeated across (pixel_of 1 row x)) (range_with_len 0 n)
-samples_repeated across row zero le = refl
-samples_repeated across row (suc n) le =
-    let f : ℕ → List ℕ = λ x. repeated across (pixel_of 1 row x) in
-    let v : ℕ = get_or row n 0 in
-    let more : suc n ≡ n + 1 = omega arith in
-    let here : n < length row = omega arith in
-    let place : n ≡ n * 1 = omega arith in
-    let pixel : v ∷ [] ≡ pixel_of 1 row n = ap (take 1) (sym (drop_more row n 0 here)) ∙ ap (λ (k : ℕ). take 1 (drop k row)) place in
-    ap (λ (k : ℕ). flat_map (replicate across) (take k row)) more ∙ ap (flat_map (replicate across)) (take_more row n 0 here)
-    ∙ sym (flat_map_more (replicate across) [] (take n row) v)
-    ∙ ap (λ (l : List ℕ). l ++ replicate across v) (samples_repeated across row n (omega arith))
-    ∙ ap (λ (l : List ℕ). flat_map f (range_with_len 0 n) ++ l) (same_repeated across v ∙ ap (repeated across) pixel)
-    ∙ sym (flat_map_one_more f 0 n n (omega arith)) ∙ ap (λ (k : ℕ). flat_map f (range_with_len 0 k)) (sym more)
-
--- a row of pixels of one sample
-pub one_plane_repeated : (across : ℕ) (s : Shape) (row made : List ℕ) → s.depth ≡ 1 → length row ≡ row_length s → made ≡ flat_map (replicate across) row → made ≡ enlarged_row across s row
-one_plane_repeated across s row made one count is =
-    let long : length row ≡ s.width = count ∙ ap (λ (k : ℕ). s.width * k) one ∙ omega arith in
-    is ∙ ap (flat_map (replicate across)) (sym (take_all s.width row (omega arith))) ∙ samples_repeated across row s.width (omega arith)
-    ∙ ap (λ (k : ℕ). flat_map (λ x. repeated across (pixel_of k row x)) (range_with_len 0 s.width)) (sym one)

@@ -1,22 +1,28 @@
 -- The rows of a flipped image, and what is still to be given of it.
-use Rattle.std.proofs.Common.{◌≡◌, ℕ, zero, suc, ◌+◌, ◌-◌, ◌*◌, ◌<◌, ◌≤◌, List, [], ◌∷◌, ◌++◌, length, take, drop, reverse, get_or, refl, sym, ap, ◌∙◌, arith, mul-le-mul, length-take-le, length-drop, map, Vec, vec_capacity, Global, subst, append-nil, suc-mul, Bool, true, false, ◌==◌, if◌then◌else◌, Ok, Err, Option, Some, None}
+use Rattle.std.proofs.Common.{◌≡◌, ℕ, zero, suc, ◌+◌, ◌-◌, ◌*◌, ◌<◌, ◌≤◌, List, [], ◌∷◌, ◌++◌, length, take, drop, reverse, get_or, refl, sym, ap, ◌∙◌, arith, mul-le-mul, length-take-le, length-drop, map, Vec, vec_capacity, Global, subst, append-nil, suc-mul, Bool, true, false, ◌==◌, if◌then◌else◌, Ok, Err, Option, Some, None, All, nat_lt}
 use Rattle.std.specs.List.{flat_map, range_with_len}
 use borrow.Rule.Slice.PartMut.{put_mid}
 use Rattle.std.proofs.lemmas.List.{append_assoc, length-append, reverse-append, reverse-reverse, length-reverse, take-append-drop, take_at, drop_at, drop-drop, take_more, drop_more, take_all, length-take, length-map, get_or-map, same_lists, nil_from_length}
 use Rattle.pnm_image.specs.declared.shape.Shape.{Shape}
 use Rattle.pnm_tools.specs.Flip.{mirrored_row, column_of, transposed_head_value}
 use Rattle.pnm_tools.specs.Pixels.{pixel_of}
-use Rattle.pnm_tools.proofs.PickLaws.{flat_map_one_more}
+use Rattle.pnm_tools.proofs.PickLaws.{flat_map_one_more, pieces_within}
 use Rattle.std.proofs.lemmas.List.FromFn.{get_or-map-range_with_len, length-map-range_with_len}
-use Rattle.pnm_tools.specs.Columns.{HaveRoom}
-use Rattle.std.specs.Option.{option_to_list}
-use Rattle.std.proofs.lemmas.Bool.{eqb-true}
-use Rattle.std.proofs.lemmas.List.Elements.{All-nil}
-use Rattle.pnm_image.specs.Heads.{HeadValue, IsWithinLimits, row_length, is_too_large}
+use Rattle.pnm_tools.specs.Columns.{HaveRoom, samples_of}
+use Rattle.std.specs.Option.{option_to_list, IfNone}
+use Rattle.std.proofs.lemmas.Bool.{eqb-true, ltb-true}
+use Rattle.std.proofs.lemmas.List.Elements.{All-nil, All-take, All-drop}
+use Rattle.pnm_image.specs.Heads.{HeadValue, IsHead, Suits, row_length, is_too_large}
+use Rattle.pnm_image.specs.Packings.{packing_of}
+use Rattle.pnm_image.specs.declared.packing.Packing.{Packing}
+use Rattle.pnm_image.specs.declared.packing.Packing.TheVariants.{Narrow, Wide}
+use Rattle.pnm_image.specs.declared.shape.Kind.{Kind}
+use Rattle.pnm_image.specs.declared.shape.Kind.TheVariants.{Bit, Gray, Color, Pam}
 use Rattle.pnm_tools.specs.declared.fault.ToolFault.TheVariants.{OutOfOrder, TooLarge}
 use Rattle.pnm_tools.specs.declared.tool.Tool.TheVariants.{Flip}
 use Rattle.pnm_tools.specs.declared.flip.FlipWay.TheVariants.{Transpose}
 use Rattle.pnm_tools.specs.Answering.{row_list}
+use Rattle.pnm_tools.specs.Kept.{SuitsShape}
 use Rattle.pnm_tools.specs.Keeping.{Transposed, IsTransposing, transposed, transposed_due}
 use Rattle.pnm_tools.specs.Tools.{result_head, row_answer}
 use Rattle.pnm_tools.proofs.HeadLaws.{small_row}
@@ -25,82 +31,101 @@ use Rattle.pnm_tools.proofs.RangeLaws.{map_in_parts}
 -- ---- a row, the last pixel first
 
 -- so many pixels of a row of so many columns and planes, the last one first
-abbrev pub last_pixels : ℕ → ℕ → List ℕ → ℕ → List ℕ
+abbrev pub last_pixels : {X : Type 0} → ℕ → ℕ → List X → ℕ → List X
 last_pixels width depth row count = flat_map (λ x. pixel_of depth row (width - 1 - x)) (range_with_len 0 count)
 
 -- one pixel more
-pub one_pixel_more : (width depth : ℕ) (row : List ℕ) (x : ℕ) → last_pixels width depth row (x + 1) ≡ last_pixels width depth row x ++ pixel_of depth row (width - 1 - x)
+pub one_pixel_more : {X : Type 0} (width depth : ℕ) (row : List X) (x : ℕ) → last_pixels width depth row (x + 1) ≡ last_pixels width depth row x ++ pixel_of depth row (width - 1 - x)
 one_pixel_more width depth row x = flat_map_one_more (λ x. pixel_of depth row (width - 1 - x)) 0 x x (omega arith)
 
 -- the part of a list between two others, from behind
-part_reversed : (a b c : List ℕ) (n m : ℕ) → length c ≡ n → length b ≡ m → reverse (take m (drop n (reverse (a ++ (b ++ c))))) ≡ b
-part_reversed a b c n m long size =
+part_reversed : {X : Type 0} (a b c : List X) (n m : ℕ) → length c ≡ n → length b ≡ m → reverse (take m (drop n (reverse (a ++ (b ++ c))))) ≡ b
+part_reversed {X = X} a b c n m long size =
     let behind : reverse (a ++ (b ++ c)) ≡ reverse c ++ (reverse b ++ reverse a) =
-    reverse-append a (b ++ c) ∙ ap (λ (l : List ℕ). l ++ reverse a) (reverse-append b c) ∙ append_assoc (reverse c) (reverse b) (reverse a) in
-    ap (λ (l : List ℕ). reverse (take m (drop n l))) behind
-    ∙ ap (λ (l : List ℕ). reverse (take m l)) (drop_at (reverse c) (reverse b ++ reverse a) n (length-reverse c ∙ long))
-    ∙ ap (λ (l : List ℕ). reverse l) (take_at (reverse b) (reverse a) m (length-reverse b ∙ size)) ∙ reverse-reverse b
+    reverse-append a (b ++ c) ∙ ap (λ (l : List X). l ++ reverse a) (reverse-append b c) ∙ append_assoc (reverse c) (reverse b) (reverse a) in
+    ap (λ (l : List X). reverse (take m (drop n l))) behind
+    ∙ ap (λ (l : List X). reverse (take m l)) (drop_at (reverse c) (reverse b ++ reverse a) n (length-reverse c ∙ long))
+    ∙ ap (λ (l : List X). reverse l) (take_at (reverse b) (reverse a) m (length-reverse b ∙ size)) ∙ reverse-reverse b
 
 -- the samples of a pixel of the reversed row, reversed again
-pub pixel_reversed : (width depth : ℕ) (row : List ℕ) (x : ℕ) → x < width → length row ≡ width * depth → reverse (take depth (drop (x * depth) (reverse row))) ≡ pixel_of depth row (width - 1 - x)
-pixel_reversed width depth row x below count =
+pub pixel_reversed : {X : Type 0} (width depth : ℕ) (row : List X) (x : ℕ) → x < width → length row ≡ width * depth → reverse (take depth (drop (x * depth) (reverse row))) ≡ pixel_of depth row (width - 1 - x)
+pixel_reversed {X = X} width depth row x below count =
     let n : ℕ = (width - 1 - x) * depth in
     let columns : width ≡ (width - 1 - x) + (1 + x) = omega arith in
     let size : length row ≡ n + (depth + x * depth) = count ∙ ap (λ (k : ℕ). k * depth) columns ∙ omega arith in
-    let a : List ℕ = take n row in
-    let b : List ℕ = take depth (drop n row) in
-    let c : List ℕ = drop depth (drop n row) in
+    let a : List X = take n row in
+    let b : List X = take depth (drop n row) in
+    let c : List X = drop depth (drop n row) in
     let rest : length (drop n row) ≡ depth + x * depth = omega (arith, length-drop n row) in
     let long : length c ≡ x * depth = omega (arith, length-drop depth (drop n row)) in
     let short : length b ≡ depth = length-take-le depth (drop n row) (omega arith) in
-    let whole : row ≡ a ++ (b ++ c) = sym (ap (λ (l : List ℕ). a ++ l) (take-append-drop depth (drop n row)) ∙ take-append-drop n row) in
-    ap (λ (l : List ℕ). reverse (take depth (drop (x * depth) (reverse l)))) whole ∙ part_reversed a b c (x * depth) depth long short
+    let whole : row ≡ a ++ (b ++ c) = sym (ap (λ (l : List X). a ++ l) (take-append-drop depth (drop n row)) ∙ take-append-drop n row) in
+    ap (λ (l : List X). reverse (take depth (drop (x * depth) (reverse l)))) whole ∙ part_reversed a b c (x * depth) depth long short
 
 -- the first pixel of the rest is turned back
-pub pixel_more : (width depth : ℕ) (row : List ℕ) (x m : ℕ) (samples turned : List ℕ) → x < width → length row ≡ width * depth → length samples ≡ length row
+pub pixel_more : {X : Type 0} (width depth : ℕ) (row : List X) (x m : ℕ) (samples turned : List X) → x < width → length row ≡ width * depth → length samples ≡ length row
     → samples ≡ last_pixels width depth row x ++ drop (x * depth) (reverse row) → turned ≡ reverse (take m (drop (x * depth) samples)) → m ≡ depth
     → put_mid (x * depth) m samples turned ≡ last_pixels width depth row (x + 1) ++ drop ((x + 1) * depth) (reverse row)
-pixel_more width depth row x m samples turned below count same is made size =
+pixel_more {X = X} width depth row x m samples turned below count same is made size =
     let n : ℕ = x * depth in
-    let front : List ℕ = last_pixels width depth row x in
-    let back : List ℕ = drop n (reverse row) in
+    let front : List X = last_pixels width depth row x in
+    let back : List X = drop n (reverse row) in
     let fits : n ≤ width * depth = mul-le-mul {n₁ = x} {m₁ = depth} {n₂ = width} {m₂ = depth} (omega arith) (omega arith) in
     let left : length back ≡ length row - n = omega (arith, length-drop n (reverse row), length-reverse row) in
     let long : length front ≡ n = omega (arith, ap length is, length-append front back) in
     let rest : drop n samples ≡ back = ap (drop n) is ∙ drop_at front back n long in
     let pixel : turned ≡ pixel_of depth row (width - 1 - x) =
-    made ∙ ap (λ (l : List ℕ). reverse (take m l)) rest ∙ ap (λ (k : ℕ). reverse (take k back)) size ∙ pixel_reversed width depth row x below count in
+    made ∙ ap (λ (l : List X). reverse (take m l)) rest ∙ ap (λ (k : ℕ). reverse (take k back)) size ∙ pixel_reversed width depth row x below count in
     let behind : drop m (drop n samples) ≡ drop ((x + 1) * depth) (reverse row) =
     ap (drop m) rest ∙ drop-drop m n (reverse row) ∙ ap (λ (k : ℕ). drop k (reverse row)) (omega arith) in
-    ap (λ (l : List ℕ). l ++ (turned ++ drop m (drop n samples))) (ap (take n) is ∙ take_at front back n long)
-    ∙ ap (λ (l : List ℕ). front ++ (l ++ drop m (drop n samples))) pixel
-    ∙ ap (λ (l : List ℕ). front ++ (pixel_of depth row (width - 1 - x) ++ l)) behind
+    ap (λ (l : List X). l ++ (turned ++ drop m (drop n samples))) (ap (take n) is ∙ take_at front back n long)
+    ∙ ap (λ (l : List X). front ++ (l ++ drop m (drop n samples))) pixel
+    ∙ ap (λ (l : List X). front ++ (pixel_of depth row (width - 1 - x) ++ l)) behind
     ∙ sym (append_assoc front (pixel_of depth row (width - 1 - x)) (drop ((x + 1) * depth) (reverse row)))
-    ∙ ap (λ (l : List ℕ). l ++ drop ((x + 1) * depth) (reverse row)) (sym (one_pixel_more width depth row x))
+    ∙ ap (λ (l : List X). l ++ drop ((x + 1) * depth) (reverse row)) (sym (one_pixel_more width depth row x))
 
 -- pixels of one sample
-single_pixels : (width : ℕ) (row : List ℕ) (n : ℕ) → length row ≡ width * 1 → n ≤ width → last_pixels width 1 row n ≡ take n (reverse row)
-single_pixels width row zero count le = refl
-single_pixels width row (suc n) count le =
+single_pixels : {X : Type 0} (width : ℕ) (row : List X) (d : X) (n : ℕ) → length row ≡ width * 1 → n ≤ width → last_pixels width 1 row n ≡ take n (reverse row)
+single_pixels width row d zero count le = refl
+single_pixels {X = X} width row d (suc n) count le =
     let more : suc n ≡ n + 1 = omega arith in
     let here : n < length (reverse row) = omega (arith, length-reverse row) in
-    let at : List ℕ = get_or (reverse row) n 0 ∷ [] in
+    let at : List X = get_or (reverse row) n d ∷ [] in
     let place : n * 1 ≡ n = omega arith in
     let pixel : pixel_of 1 row (width - 1 - n) ≡ at =
     sym (pixel_reversed width 1 row n (omega arith) count) ∙ ap (λ (k : ℕ). reverse (take 1 (drop k (reverse row)))) place
-    ∙ ap (λ (l : List ℕ). reverse (take 1 l)) (drop_more (reverse row) n 0 here) in
+    ∙ ap (λ (l : List X). reverse (take 1 l)) (drop_more (reverse row) n d here) in
     ap (last_pixels width 1 row) more ∙ one_pixel_more width 1 row n
-    ∙ ap (λ (l : List ℕ). l ++ pixel_of 1 row (width - 1 - n)) (single_pixels width row n count (omega arith))
-    ∙ ap (λ (l : List ℕ). take n (reverse row) ++ l) pixel
-    ∙ sym (take_more (reverse row) n 0 here) ∙ ap (λ (k : ℕ). take k (reverse row)) (sym more)
+    ∙ ap (λ (l : List X). l ++ pixel_of 1 row (width - 1 - n)) (single_pixels width row d n count (omega arith))
+    ∙ ap (λ (l : List X). take n (reverse row) ++ l) pixel
+    ∙ sym (take_more (reverse row) n d here) ∙ ap (λ (k : ℕ). take k (reverse row)) (sym more)
 
--- the row of one plane, from behind
-pub one_plane : (s : Shape) (row samples : List ℕ) → 0 < s.depth → s.depth ≤ 1 → length row ≡ s.width * s.depth → samples ≡ reverse row → samples ≡ mirrored_row s row
-one_plane s row samples some one count is =
+-- the row of one plane that has a sample, from behind
+some_pixels : {X : Type 0} (s : Shape) (row samples : List X) (d : X) → 0 < s.depth → s.depth ≤ 1 → length row ≡ s.width * s.depth → samples ≡ reverse row → samples ≡ mirrored_row s row
+some_pixels s row samples d some one count is =
     let depth : s.depth ≡ 1 = omega arith in
     let long : length row ≡ s.width * 1 = count ∙ ap (λ (k : ℕ). s.width * k) depth in
-    is ∙ sym (take_all s.width (reverse row) (omega (arith, length-reverse row))) ∙ sym (single_pixels s.width row s.width long (omega arith))
+    is ∙ sym (take_all s.width (reverse row) (omega (arith, length-reverse row))) ∙ sym (single_pixels s.width row d s.width long (omega arith))
     ∙ ap (λ (k : ℕ). last_pixels s.width k row s.width) (sym depth)
+
+-- the row of one plane, from behind
+pub one_plane : {X : Type 0} (s : Shape) (row samples : List X) → 0 < s.depth → s.depth ≤ 1 → length row ≡ s.width * s.depth → samples ≡ reverse row → samples ≡ mirrored_row s row
+one_plane {X = X} s [] samples some one count is =
+    let none : List X = [] in
+    let depth : s.depth ≡ 1 = omega arith in
+    let wide : s.width * s.depth ≡ s.width = ap (λ (k : ℕ). s.width * k) depth ∙ omega arith in
+    let width : 0 ≡ s.width = omega (arith, count, wide) in
+    is ∙ ap (λ (k : ℕ). last_pixels s.width s.depth none k) width
+one_plane s (x ∷ row) samples some one count is = some_pixels s (x ∷ row) samples x some one count is
+
+-- samples within a maxval stay so in a pixel
+pixel_within : (maxval depth x : ℕ) (row : List ℕ) → All (λ sample. sample ≤ maxval) row → All (λ sample. sample ≤ maxval) (pixel_of depth row x)
+pixel_within maxval depth x row h = All-take (λ sample. sample ≤ maxval) depth (drop (x * depth) row) (All-drop (λ sample. sample ≤ maxval) (x * depth) row h)
+
+-- samples within a maxval stay so in the mirrored row
+pub mirrored_within : (s : Shape) (row new : List ℕ) → new ≡ mirrored_row s row → All (λ sample. sample ≤ s.maxval) row → All (λ sample. sample ≤ s.maxval) new
+mirrored_within s row new is h =
+    subst (All (λ sample. sample ≤ s.maxval)) (sym is) (pieces_within s.maxval (λ x. pixel_of s.depth row (s.width - 1 - x)) 0 s.width (λ x. pixel_within s.maxval s.depth (s.width - 1 - x) row h))
 
 -- a row that is mirrored in place
 pub mirrored_in_place : (s : Shape) (row items lent new : List ℕ) (len : ℕ) → new ≡ mirrored_row s lent → length new ≡ length lent → lent ≡ items → items ≡ row → len ≡ length items → take len (new ++ drop (length new) items) ≡ mirrored_row s row
@@ -111,51 +136,45 @@ mirrored_in_place s row items lent new len made long same given count =
 -- ---- columns that are made side by side
 
 -- the columns of these rows, as many, from the first one on, each with its room
-pub record AreColumns (count first depth room : ℕ) (rows : List (List ℕ)) (columns : List (Vec ℕ Global)) : Type 0 where
+pub record AreColumns {X : Type 0} (count first depth room : ℕ) (rows : List (List X)) (columns : List (Vec X Global)) : Type 0 where
   pub many : length columns ≡ count
-  pub made : (k : ℕ) (d : Vec ℕ Global) → k < count → (get_or columns k d).items ≡ column_of depth rows (first + k)
-  pub enough : (k : ℕ) (d : Vec ℕ Global) → k < count → room ≤ vec_capacity (get_or columns k d)
+  pub made : (k : ℕ) (d : Vec X Global) → k < count → (get_or columns k d).items ≡ column_of depth rows (first + k)
+  pub enough : (k : ℕ) (d : Vec X Global) → k < count → room ≤ vec_capacity (get_or columns k d)
 
 -- a column is as long as its rows give it
-length_of_column : (depth : ℕ) (rows : List (List ℕ)) (x : ℕ) → length (column_of depth rows x) ≤ length rows * depth
+length_of_column : {X : Type 0} (depth : ℕ) (rows : List (List X)) (x : ℕ) → length (column_of depth rows x) ≤ length rows * depth
 length_of_column depth [] x = omega arith
 length_of_column depth (row ∷ rows) x =
     omega (arith, length-append (pixel_of depth row x) (column_of depth rows x), length-take depth (drop (x * depth) row), length_of_column depth rows x, suc-mul (length rows) depth)
 
 -- there is room for a pixel more while rows are left
-pub room_is_left : (count first depth n : ℕ) (rows : List (List ℕ)) (columns : List (Vec ℕ Global)) → n < length rows → AreColumns count first depth (length rows * depth) (take n rows) columns → HaveRoom depth columns
-room_is_left count first depth n rows columns lt h k d below =
-    let v : Vec ℕ Global = get_or columns k d in
+pub room_is_left : {X : Type 0} (count first depth n : ℕ) (rows : List (List X)) (columns : List (Vec X Global)) → n < length rows → AreColumns count first depth (length rows * depth) (take n rows) columns → HaveRoom depth columns
+room_is_left {X = X} count first depth n rows columns lt h k d below =
+    let v : Vec X Global = get_or columns k d in
     let inside : k < count = omega (arith, h.many) in
-    let size : length v.items ≤ length (take n rows) * depth = subst (λ (l : List ℕ). length l ≤ length (take n rows) * depth) (sym (h.made k d inside)) (length_of_column depth (take n rows) (first + k)) in
+    let size : length v.items ≤ length (take n rows) * depth = subst (λ (l : List X). length l ≤ length (take n rows) * depth) (sym (h.made k d inside)) (length_of_column depth (take n rows) (first + k)) in
     let passed : length (take n rows) ≡ n = length-take-le n rows (omega arith) in
     let below : suc n * depth ≤ length rows * depth = mul-le-mul {n₁ = suc n} {m₁ = depth} {n₂ = length rows} {m₂ = depth} (omega arith) (omega arith) in
     omega (arith, size, ap (λ (m : ℕ). m * depth) passed, suc-mul n depth, below, h.enough k d inside, v.ok.0)
 
--- the samples of columns
-abbrev pub samples_of : List (Vec ℕ Global) → List (List ℕ)
-samples_of columns = map (λ (v : Vec ℕ Global). v.items) columns
-
 -- number by number
-columns_by_number : (count first depth room : ℕ) (rows : List (List ℕ)) (columns : List (Vec ℕ Global)) (d : Vec ℕ Global) → AreColumns count first depth room rows columns
+columns_by_number : {X : Type 0} (count first depth room : ℕ) (rows : List (List X)) (columns : List (Vec X Global)) (d : Vec X Global) → AreColumns count first depth room rows columns
     → samples_of columns ≡ map (column_of depth rows) (range_with_len first count)
-columns_by_number count first depth room rows columns d h =
-    same_lists (samples_of columns) (map (column_of depth rows) (range_with_len first count)) (length-map columns (λ (v : Vec ℕ Global). v.items) ∙ h.many ∙ sym (length-map-range_with_len (column_of depth rows) first count))
+columns_by_number {X = X} count first depth room rows columns d h =
+    same_lists (samples_of columns) (map (column_of depth rows) (range_with_len first count)) (length-map columns (λ (v : Vec X Global). v.items) ∙ h.many ∙ sym (length-map-range_with_len (column_of depth rows) first count))
     (λ k e lt.
-    let inside : k < count = omega (arith, length-map columns (λ (v : Vec ℕ Global). v.items), h.many) in
-    get_or-map (λ (v : Vec ℕ Global). v.items) columns k d e (omega (arith, h.many)) ∙ h.made k d inside ∙ sym (get_or-map-range_with_len (column_of depth rows) first count k (first + k) e inside refl))
+    let inside : k < count = omega (arith, length-map columns (λ (v : Vec X Global). v.items), h.many) in
+    get_or-map (λ (v : Vec X Global). v.items) columns k d e (omega (arith, h.many)) ∙ h.made k d inside ∙ sym (get_or-map-range_with_len (column_of depth rows) first count k (first + k) e inside refl))
 
 -- once all rows have passed
-pub columns_made : (count first depth room : ℕ) (rows : List (List ℕ)) (columns : List (Vec ℕ Global)) → AreColumns count first depth room rows columns → samples_of columns ≡ map (column_of depth rows) (range_with_len first count)
+pub columns_made : {X : Type 0} (count first depth room : ℕ) (rows : List (List X)) (columns : List (Vec X Global)) → AreColumns count first depth room rows columns → samples_of columns ≡ map (column_of depth rows) (range_with_len first count)
 columns_made count first depth room rows [] h = ap (λ (n : ℕ). map (column_of depth rows) (range_with_len first n)) h.many
 columns_made count first depth room rows (column ∷ columns) h = columns_by_number count first depth room rows (column ∷ columns) column h
 
--- once all columns have gone over
-pub all_went_over : (count first depth room n : ℕ) (rows band : List (List ℕ)) (made left : List (Vec ℕ Global)) → length rows ≤ n → AreColumns count first depth room (take n rows) made → left ≡ [] → band ++ reverse (samples_of left) ≡ reverse (samples_of made)
-    → band ≡ reverse (map (column_of depth rows) (range_with_len first count))
-all_went_over count first depth room n rows band made left le h none over =
-    sym (append-nil band) ∙ ap (λ (l : List (Vec ℕ Global)). band ++ reverse (samples_of l)) (sym none) ∙ over
-    ∙ ap reverse (columns_made count first depth room (take n rows) made h ∙ ap (λ (l : List (List ℕ)). map (column_of depth l) (range_with_len first count)) (take_all n rows le))
+-- once no row is left
+pub all_made : {X : Type 0} (count first depth room n : ℕ) (rows : List (List X)) (made : List (Vec X Global)) → length rows ≤ n → AreColumns count first depth room (take n rows) made → samples_of made ≡ map (column_of depth rows) (range_with_len first count)
+all_made {X = X} count first depth room n rows made le h =
+    columns_made count first depth room (take n rows) made h ∙ ap (λ (l : List (List X)). map (column_of depth l) (range_with_len first count)) (take_all n rows le)
 
 -- ---- the rows that a transposer has still to give
 
@@ -165,28 +184,43 @@ unfolding row_answer
 row_of_transpose s y row = refl
 
 -- nothing is due before the image has ended
-pub none_made : (depth next columns : ℕ) (rows band : List (List ℕ)) (s : Shape) (y : ℕ) (row : List ℕ) → band ≡ [] → columns ≡ 0 → transposed_due (transposed depth rows band next columns) ≡ row_answer (Flip Transpose) s y row
-none_made depth next columns rows band s y row no_band no_column =
+pub none_made : (depth : ℕ) (packing : Packing) (next columns : ℕ) (rows band : List (List ℕ)) (s : Shape) (y : ℕ) (row : List ℕ) → band ≡ [] → columns ≡ 0 → transposed_due (transposed depth packing rows band next columns) ≡ row_answer (Flip Transpose) s y row
+none_made depth packing next columns rows band s y row no_band no_column =
     let none : columns - next ≡ 0 = omega arith in
-    ap (λ (l : List (List ℕ)). transposed_due (transposed depth rows l next columns)) no_band ∙ ap (λ (n : ℕ). map (column_of depth rows) (range_with_len next n)) none ∙ sym (row_of_transpose s y row)
+    ap (λ (l : List (List ℕ)). transposed_due (transposed depth packing rows l next columns)) no_band ∙ ap (λ (n : ℕ). map (column_of depth rows) (range_with_len next n)) none ∙ sym (row_of_transpose s y row)
 
 -- the band that is made holds the columns that were the next to be made
-pub band_made : (depth next columns count : ℕ) (rows band : List (List ℕ)) → next + count ≤ columns → band ≡ reverse (map (column_of depth rows) (range_with_len next count))
-    → transposed_due (transposed depth rows [] next columns) ≡ transposed_due (transposed depth rows band (next + count) columns)
-band_made depth next columns count rows band within made =
+pub band_made : (depth : ℕ) (packing : Packing) (next columns count : ℕ) (rows band : List (List ℕ)) → next + count ≤ columns → band ≡ reverse (map (column_of depth rows) (range_with_len next count))
+    → transposed_due (transposed depth packing rows [] next columns) ≡ transposed_due (transposed depth packing rows band (next + count) columns)
+band_made depth packing next columns count rows band within made =
     let f : ℕ → List ℕ = column_of depth rows in
     let parts : columns - next ≡ count + (columns - (next + count)) = omega arith in
     ap (λ (n : ℕ). map f (range_with_len next n)) parts ∙ map_in_parts f next count (columns - (next + count))
     ∙ ap (λ (l : List (List ℕ)). l ++ map f (range_with_len (next + count) (columns - (next + count)))) (sym (reverse-reverse (map f (range_with_len next count))) ∙ ap reverse (sym made))
 
 -- the last column of the band is given
-pub last_given : (depth next columns : ℕ) (rows band left : List (List ℕ)) (row : Option (List ℕ)) → band ≡ left ++ option_to_list row
-    → transposed_due (transposed depth rows band next columns) ≡ row_list row ++ transposed_due (transposed depth rows left next columns)
-last_given depth next columns rows band left None parts =
-    ap (λ (l : List (List ℕ)). transposed_due (transposed depth rows l next columns)) (parts ∙ append-nil left)
-last_given depth next columns rows band left (Some row) parts =
-    ap (λ (l : List (List ℕ)). transposed_due (transposed depth rows l next columns)) parts
+pub last_given : (depth : ℕ) (packing : Packing) (next columns : ℕ) (rows band left : List (List ℕ)) (row : Option (List ℕ)) → band ≡ left ++ option_to_list row
+    → transposed_due (transposed depth packing rows band next columns) ≡ row_list row ++ transposed_due (transposed depth packing rows left next columns)
+last_given depth packing next columns rows band left None parts =
+    ap (λ (l : List (List ℕ)). transposed_due (transposed depth packing rows l next columns)) (parts ∙ append-nil left)
+last_given depth packing next columns rows band left (Some row) parts =
+    ap (λ (l : List (List ℕ)). transposed_due (transposed depth packing rows l next columns)) parts
     ∙ ap (λ (l : List (List ℕ)). l ++ map (column_of depth rows) (range_with_len next (columns - next))) (reverse-append left (row ∷ []))
+
+-- where none is given all have been
+pub all_given : (depth : ℕ) (packing : Packing) (next columns : ℕ) (rows band left : List (List ℕ)) (row : Option (List ℕ)) → band ≡ left ++ option_to_list row → (row ≡ None → band ≡ []) → (band ≡ [] → columns ≤ next)
+    → IfNone row (transposed_due (transposed depth packing rows left next columns) ≡ [])
+all_given depth packing next columns rows band left None parts empty ends =
+    let none : band ≡ [] = empty refl in
+    let over : columns - next ≡ 0 = omega (arith, ends none) in
+    ap (λ (l : List (List ℕ)). transposed_due (transposed depth packing rows l next columns)) (sym (append-nil left) ∙ sym parts ∙ none)
+    ∙ ap (λ (n : ℕ). map (column_of depth rows) (range_with_len next n)) over
+all_given depth packing next columns rows band left (Some row) parts empty ends = tt
+
+-- columns that are made are not none
+pub some_made : (depth : ℕ) (rows band : List (List ℕ)) (next count : ℕ) → band ≡ reverse (map (column_of depth rows) (range_with_len next count)) → band ≡ [] → count ≡ 0
+some_made depth rows band next count made none =
+    sym (length-map-range_with_len (column_of depth rows) next count) ∙ sym (length-reverse (map (column_of depth rows) (range_with_len next count))) ∙ ap length (sym made ∙ none)
 
 -- a band that is found empty
 pub no_items : (xs : List (List ℕ)) (n : ℕ) → n ≡ length xs → true ≡ (n == 0) → xs ≡ []
@@ -207,11 +241,27 @@ column_small head made e =
     let x : HeadValue = transposed_head_value head in
     small_row x.shape (not_large (head.shape.height == 0) (is_too_large x.shape) x made e)
 
+-- bytes hold samples up to 255
+narrow_suits : (s : Shape) (b : Bool) → nat_lt s.maxval 256 ≡ b → SuitsShape (if b then Narrow else Wide) s
+narrow_suits s true e = let below : s.maxval < 256 = ltb-true s.maxval 256 e in omega arith
+narrow_suits s false e = tt
+
+suits_packing : (kind : Kind) (s : Shape) (text : List ℕ) → Suits kind s.depth s.maxval text → SuitsShape (packing_of kind s.maxval) s
+suits_packing Bit s text suits = (omega (arith, suits.1), suits.0)
+suits_packing Gray s text suits = narrow_suits s (nat_lt s.maxval 256) refl
+suits_packing Color s text suits = narrow_suits s (nat_lt s.maxval 256) refl
+suits_packing Pam s text suits = narrow_suits s (nat_lt s.maxval 256) refl
+
+-- the rows of an image can be held as its kind and maxval ask
+packing_suits : (s : Shape) (text : List ℕ) → Suits s.kind s.depth s.maxval text → SuitsShape (packing_of s.kind s.maxval) s
+packing_suits s text suits = suits_packing s.kind s text suits
+
 -- a transposer that has begun is ready for the first row
-pub ready_to_transpose : (w : Transposed) (head made : HeadValue) → IsWithinLimits head.shape → result_head (Flip Transpose) head ≡ Ok made → w.rows ≡ [] → w.band ≡ [] → w.next ≡ 0 → w.columns ≡ 0 → IsTransposing w head.shape []
-ready_to_transpose w head made limits e rows band next columns = record {
-  limits = limits;
+pub ready_to_transpose : (w : Transposed) (head made : HeadValue) → IsHead head → result_head (Flip Transpose) head ≡ Ok made → w.packing ≡ packing_of head.shape.kind head.shape.maxval → w.rows ≡ [] → w.band ≡ [] → w.next ≡ 0 → w.columns ≡ 0 → IsTransposing w head.shape []
+ready_to_transpose w head made sound e packing rows band next columns = record {
+  limits = sound.limits;
   column = column_small head made e;
+  packing = subst (λ (p : Packing). SuitsShape p head.shape) (sym packing) (packing_suits head.shape head.tuple_type sound.suits);
   rows = rows;
   lengths = All-nil (λ row. length row ≡ row_length head.shape);
   none_made = (band, next, columns);

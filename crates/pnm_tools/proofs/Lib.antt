@@ -9,6 +9,7 @@ pub mod PickLaws
 pub mod CutRowLaws
 pub mod SizeLaws
 pub mod FlipRowLaws
+pub mod KeptLaws
 pub mod EnlargeRowLaws
 pub mod InvertLaws
 pub mod AtLaws
@@ -17,11 +18,13 @@ pub mod OwedLaws
 pub mod FullLaws
 pub mod CutLaws
 pub mod DepthLaws
+pub mod DepthRowLaws
 pub mod ChannelLaws
 pub mod EnlargeLaws
 pub mod FlipLaws
 pub mod TileLaws
 pub mod ToolLaws
+pub mod ValueLaws
 pub mod ResultLaws
 pub mod SoundLaws
 pub mod FrontLaws
@@ -36,3 +39,4 @@ pub mod MadeLaws
 pub mod SampleLaws
 pub mod WholeResultLaws
 pub mod TileRowLaws
+pub mod RepeatedBitLaws

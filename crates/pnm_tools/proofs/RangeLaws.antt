@@ -108,7 +108,7 @@ each_replicated f n w =
     ∙ pieces_alike (λ y. flat_map (λ _. f y ∷ []) (range_with_len 0 n)) (λ y. replicate n (f y)) 0 w (λ y lt. replicated (f y) 0 n)
 
 -- pieces of one length
-pub length_of_equals : (f : ℕ → List ℕ) (d a n : ℕ) → ((x : ℕ) → length (f x) ≡ d) → length (flat_map f (range_with_len a n)) ≡ n * d
+pub length_of_equals : {A : Type 0} (f : ℕ → List A) (d a n : ℕ) → ((x : ℕ) → length (f x) ≡ d) → length (flat_map f (range_with_len a n)) ≡ n * d
 length_of_equals f d a zero long = sym (zero-mul d)
 length_of_equals f d a (suc n) long =
     omega (arith, length-append (f a) (flat_map f (range_with_len (a + 1) n)), long a, length_of_equals f d (a + 1) n long, suc-mul n d)

@@ -1,8 +1,8 @@
 -- The rows that answer a row, tool by tool.
-use Rattle.std.proofs.Common.{◌≡◌, ℕ, ◌+◌, ◌<◌, ◌≤◌, List, [], ◌∷◌, ◌++◌, map, length, take, drop, get_or, All, refl, sym, ap, subst, ◌∙◌, arith}
+use Rattle.std.proofs.Common.{◌≡◌, ℕ, ◌+◌, ◌<◌, ◌≤◌, List, [], ◌∷◌, ◌++◌, map, length, take, drop, get_or, All, refl, sym, ap, subst, ap₂, ◌∙◌, arith, ◌-◌}
 use Rattle.std.specs.List.{range_with_len}
-use Rattle.std.proofs.lemmas.List.{take_at, length-map, length-take, drop_more, get_or_at}
-use Rattle.std.proofs.lemmas.List.Elements.{All-get_or}
+use Rattle.std.proofs.lemmas.List.{take_at, length-map, length-take, drop_more, get_or_at, map-id}
+use Rattle.std.proofs.lemmas.List.Elements.{All-get_or, All-map}
 use Rattle.std.proofs.lemmas.List.FromFn.{get_or-map-range_with_len, length-map-range_with_len}
 use Rattle.pnm_image.specs.declared.shape.Shape.{Shape}
 use Rattle.pnm_tools.specs.declared.cut.CutBox.{CutBox}
@@ -46,6 +46,26 @@ changed_in_place g row items lent new len made same given count =
     let is : new ≡ map g row = made ∙ ap (map g) (same ∙ given) in
     let size : length new ≡ len = ap length is ∙ length-map row g ∙ sym (ap length given) ∙ sym count in
     take_at new (drop (length new) items) len size ∙ is
+
+map_same : (f g : ℕ → ℕ) (xs : List ℕ) → ((x : ℕ) → f x ≡ g x) → map f xs ≡ map g xs
+map_same f g [] same = refl
+map_same f g (x ∷ xs) same = ap₂ (λ (y : ℕ) (ys : List ℕ). y ∷ ys) (same x) (map_same f g xs same)
+
+-- the values of samples that are their own values, taken from the maxval
+values_taken : (value : ℕ → ℕ) (maxval : ℕ) (lent new : List ℕ) → ((x : ℕ) → value x ≡ x) → map value new ≡ map (λ sample. value maxval - value sample) lent → new ≡ map (λ sample. maxval - sample) lent
+values_taken value maxval lent new own made =
+    sym (map_same value (λ x. x) new own ∙ map-id new) ∙ made ∙ map_same (λ sample. value maxval - value sample) (λ sample. maxval - sample) lent (λ sample. ap₂ (λ (a b : ℕ). a - b) (own maxval) (own sample))
+
+-- a row that is inverted in place
+pub inverted_in_place : (value : ℕ → ℕ) (from maxval : ℕ) (row items lent new : List ℕ) (len : ℕ) → ((x : ℕ) → value x ≡ x) → map value new ≡ map (λ sample. value from - value sample) lent → from ≡ maxval
+    → lent ≡ items → items ≡ row → len ≡ length items → take len (new ++ drop (length new) items) ≡ map (λ sample. maxval - sample) row
+inverted_in_place value from maxval row items lent new len own made most same given count =
+    let taken : new ≡ map (λ sample. maxval - sample) lent = values_taken value from lent new own made ∙ ap (λ (n : ℕ). map (λ sample. n - sample) lent) most in
+    changed_in_place (λ sample. maxval - sample) row items lent new len taken same given count
+
+-- samples that are taken from the maxval are within it
+pub inverted_within : (maxval : ℕ) (row new : List ℕ) → new ≡ map (λ sample. maxval - sample) row → All (λ sample. sample ≤ maxval) new
+inverted_within maxval row new is = subst (All (λ sample. sample ≤ maxval)) (sym is) (All-map (λ sample. sample ≤ maxval) (λ sample. maxval - sample) row (λ k d lt. omega arith))
 
 -- in a loop that changes them the sample that is read is still the row's
 pub sample_read : (f : ℕ → ℕ) (xs ys : List ℕ) (i x : ℕ) → i < length xs → ys ≡ map f (take i xs) ++ drop i xs → get_or ys i x ≡ get_or xs i x

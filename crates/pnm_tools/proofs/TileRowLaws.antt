@@ -8,7 +8,7 @@ use Rattle.pnm_tools.specs.declared.fault.ToolFault.{ToolFault}
 use Rattle.pnm_tools.specs.declared.fault.ToolFault.TheVariants.{OutOfOrder}
 use Rattle.pnm_tools.specs.declared.tool.Tool.TheVariants.{Tile}
 use Rattle.pnm_tools.specs.Limits.{within_limits}
-use Rattle.pnm_tools.specs.Keeping.{Tiled, tiled_due, tiled, HasTiles, IsTiling}
+use Rattle.pnm_tools.specs.Keeping.{Tiled, tiled_due, tiled, HasTiles, AreWithin, IsTiling}
 use Rattle.pnm_tools.specs.Tile.{tiled_head, tiled_head_value, tiled_row, tiled_at_end}
 use Rattle.pnm_tools.proofs.HeadLaws.{small_row}
 use Rattle.pnm_tools.specs.Tools.{result_head, row_answer}
@@ -17,7 +17,7 @@ use Rattle.std.proofs.lemmas.List.{take_at, take_all, length-append, length-take
 use Rattle.std.proofs.Math.Seq.{take-add}
 use Rattle.pnm_tools.specs.Pixels.{pixel_of}
 use Rattle.pnm_tools.proofs.RangeLaws.{pieces_alike_from, pieces_in_parts, length_of_equals, alike_from}
-use Rattle.std.proofs.lemmas.List.Elements.{All-head, All-push, All-rest, All-same, All-take}
+use Rattle.std.proofs.lemmas.List.Elements.{All-head, All-push, All-rest, All-same, All-take, All-drop, All-append}
 use Rattle.pnm_tools.proofs.FormulaLaws.{range_alike}
 
 -- ---- the head, and what is answered before the end
@@ -72,33 +72,33 @@ tiled_has_rows across down head made e (inr some) = omega arith
 -- ---- pixels of a row
 
 -- so many pixels from one on are the samples from its first on
-pub pixels_are_samples : (depth : ℕ) (row : List ℕ) (a n : ℕ) → flat_map (pixel_of depth row) (range_with_len a n) ≡ take (n * depth) (drop (a * depth) row)
+pub pixels_are_samples : {X : Type 0} (depth : ℕ) (row : List X) (a n : ℕ) → flat_map (pixel_of depth row) (range_with_len a n) ≡ take (n * depth) (drop (a * depth) row)
 pixels_are_samples depth row a zero = ap (λ (k : ℕ). take k (drop (a * depth) row)) (sym (zero-mul depth))
-pixels_are_samples depth row a (suc n) =
-    let rest : List ℕ = drop (a * depth) row in
+pixels_are_samples {X = X} depth row a (suc n) =
+    let rest : List X = drop (a * depth) row in
     let each : suc n * depth ≡ depth + n * depth = omega (arith, suc-mul n depth) in
     let more : a + 1 ≡ suc a = omega arith in
     let next : (a + 1) * depth ≡ depth + a * depth = ap (λ (k : ℕ). k * depth) more ∙ omega (arith, suc-mul a depth) in
     let on : depth + a * depth ≡ a * depth + depth = omega arith in
-    ap (λ (l : List ℕ). take depth rest ++ l) (pixels_are_samples depth row (a + 1) n ∙ ap (λ (k : ℕ). take (n * depth) (drop k row)) (next ∙ on) ∙ ap (take (n * depth)) (sym (drop-drop depth (a * depth) row)))
+    ap (λ (l : List X). take depth rest ++ l) (pixels_are_samples depth row (a + 1) n ∙ ap (λ (k : ℕ). take (n * depth) (drop k row)) (next ∙ on) ∙ ap (take (n * depth)) (sym (drop-drop depth (a * depth) row)))
     ∙ sym (take-add depth (n * depth) rest) ∙ ap (λ (k : ℕ). take k rest) (sym each)
 
 -- ---- the row side by side
 
 -- within its width it is a front of the row
-pub tiled_front : (n width depth : ℕ) (row : List ℕ) → n ≤ width → tiled_row n width depth row ≡ take (n * depth) row
+pub tiled_front : {X : Type 0} (n width depth : ℕ) (row : List X) → n ≤ width → tiled_row n width depth row ≡ take (n * depth) row
 tiled_front n width depth row le =
     pieces_alike_from (λ x. pixel_of depth row (x % width)) (pixel_of depth row) 0 0 n (λ i lt. let below : 0 + i < width = omega arith in ap (pixel_of depth row) (mod-eq_of_lt below))
     ∙ pixels_are_samples depth row 0 n ∙ ap (λ (k : ℕ). take (n * depth) (drop k row)) (zero-mul depth)
 
 -- each pixel of a row has all its samples
-pixel_is_whole : (width depth : ℕ) (row : List ℕ) (x : ℕ) → x < width → length row ≡ width * depth → length (pixel_of depth row x) ≡ depth
+pixel_is_whole : {X : Type 0} (width depth : ℕ) (row : List X) (x : ℕ) → x < width → length row ≡ width * depth → length (pixel_of depth row x) ≡ depth
 pixel_is_whole width depth row x lt long =
     let below : suc x * depth ≤ width * depth = mul-le-mul {n₁ = suc x} {m₁ = depth} {n₂ = width} {m₂ = depth} (omega arith) (omega arith) in
     length-take-le depth (drop (x * depth) row) (omega (arith, length-drop (x * depth) row, below, suc-mul x depth))
 
 -- each pixel has all its samples
-pub length_tiled : (n width depth : ℕ) (row : List ℕ) → 0 < width → length row ≡ width * depth → length (tiled_row n width depth row) ≡ n * depth
+pub length_tiled : {X : Type 0} (n width depth : ℕ) (row : List X) → 0 < width → length row ≡ width * depth → length (tiled_row n width depth row) ≡ n * depth
 length_tiled n width depth row some long =
     length_of_equals (λ x. pixel_of depth row (x % width)) depth 0 n (λ x. pixel_is_whole width depth row (x % width) (mod-lt x some) long)
 
@@ -109,18 +109,18 @@ same_column k i width whole =
     ap (λ (n : ℕ). n % width) (sym copies) ∙ add-mul-mod_self_left i width (k / width)
 
 -- behind whole copies the row goes on as it begins
-tiled_more : (k j width depth : ℕ) (row : List ℕ) → k % width ≡ 0 → tiled_row (k + j) width depth row ≡ tiled_row k width depth row ++ tiled_row j width depth row
-tiled_more k j width depth row whole =
-    let f : ℕ → List ℕ = λ x. pixel_of depth row (x % width) in
-    pieces_in_parts f 0 k j ∙ ap (λ (l : List ℕ). tiled_row k width depth row ++ l) (pieces_alike_from f f (0 + k) 0 j (λ i lt.
+tiled_more : {X : Type 0} (k j width depth : ℕ) (row : List X) → k % width ≡ 0 → tiled_row (k + j) width depth row ≡ tiled_row k width depth row ++ tiled_row j width depth row
+tiled_more {X = X} k j width depth row whole =
+    let f : ℕ → List X = λ x. pixel_of depth row (x % width) in
+    pieces_in_parts f 0 k j ∙ ap (λ (l : List X). tiled_row k width depth row ++ l) (pieces_alike_from f f (0 + k) 0 j (λ i lt.
     let at : (0 + k) + i ≡ k + i = omega arith in
     let to : i ≡ 0 + i = omega arith in
     ap (pixel_of depth row) (ap (λ (n : ℕ). n % width) at ∙ same_column k i width whole ∙ ap (λ (n : ℕ). n % width) to)))
 
 -- a front of the front
-tiled_shorter : (k j width depth : ℕ) (row : List ℕ) → 0 < width → length row ≡ width * depth → j ≤ k → take (j * depth) (tiled_row k width depth row) ≡ tiled_row j width depth row
-tiled_shorter k j width depth row some long le =
-    let f : ℕ → List ℕ = λ x. pixel_of depth row (x % width) in
+tiled_shorter : {X : Type 0} (k j width depth : ℕ) (row : List X) → 0 < width → length row ≡ width * depth → j ≤ k → take (j * depth) (tiled_row k width depth row) ≡ tiled_row j width depth row
+tiled_shorter {X = X} k j width depth row some long le =
+    let f : ℕ → List X = λ x. pixel_of depth row (x % width) in
     let parts : k ≡ j + (k - j) = omega arith in
     ap (λ (n : ℕ). take (j * depth) (tiled_row n width depth row)) parts ∙ ap (take (j * depth)) (pieces_in_parts f 0 j (k - j))
     ∙ take_at (tiled_row j width depth row) (flat_map f (range_with_len (0 + j) (k - j))) (j * depth) (length_tiled j width depth row some long)
@@ -128,7 +128,7 @@ tiled_shorter k j width depth row some long le =
 -- ---- what stands of it
 
 -- so many columns stand, all of them or whole copies
-pub record IsTiledFront (across width depth : ℕ) (row items : List ℕ) : Type 0 where
+pub record IsTiledFront {X : Type 0} (across width depth : ℕ) (row items : List X) : Type 0 where
   pub count : ℕ
   pub is : items ≡ tiled_row count width depth row
   pub within : count ≤ across
@@ -147,7 +147,7 @@ min_scaled a b d (inl lt) =
     omega (arith, below, ap (λ (n : ℕ). n * d) least)
 
 -- the front of the row, or all of it, where it is the narrower one
-pub front_begins : (across width depth n : ℕ) (row items : List ℕ) → 0 < width → length row ≡ width * depth → n ≡ min (across * depth) (length row) → items ≡ take n row → IsTiledFront across width depth row items
+pub front_begins : {X : Type 0} (across width depth n : ℕ) (row items : List X) → 0 < width → length row ≡ width * depth → n ≡ min (across * depth) (length row) → items ≡ take n row → IsTiledFront across width depth row items
 front_begins across width depth n row items some long least made = record {
   count = min across width;
   is = made ∙ ap (λ (k : ℕ). take k row) (least ∙ ap (min (across * depth)) long ∙ min_scaled across width depth (cases_lt width across)) ∙ sym (tiled_front (min across width) width depth row (omega arith));
@@ -162,9 +162,9 @@ depth_there across depth n lt (inl none) = absurd (omega (arith, ap (λ (d : ℕ
 depth_there across depth n lt (inr some) = omega arith
 
 -- as many columns again as stand, or as are missing
-pub front_grows : (across width depth more : ℕ) (row items new : List ℕ) → 0 < width → length row ≡ width * depth → IsTiledFront across width depth row items → length items < across * depth
+pub front_grows : {X : Type 0} (across width depth more : ℕ) (row items new : List X) → 0 < width → length row ≡ width * depth → IsTiledFront across width depth row items → length items < across * depth
     → more ≡ min (length items) (across * depth - length items) → new ≡ items ++ take more items → IsTiledFront across width depth row new
-front_grows across width depth more row items new some long front lt least made =
+front_grows {X = X} across width depth more row items new some long front lt least made =
     let k : ℕ = front.count in
     let size : length items ≡ k * depth = ap length front.is ∙ length_tiled k width depth row some long in
     let fewer : k < across = lt_of_mul-lt-mul_right depth {m = k} {n = across} (omega arith) in
@@ -175,15 +175,15 @@ front_grows across width depth more row items new some long front lt least made 
     let samples : more ≡ j * depth = least ∙ ap (λ (n : ℕ). min n (across * depth - n)) size ∙ ap (min (k * depth)) rest ∙ min_scaled k (across - k) depth (cases_lt (across - k) k) in
     record {
       count = k + j;
-      is = made ∙ ap (λ (l : List ℕ). l ++ take more l) front.is ∙ ap (λ (n : ℕ). tiled_row k width depth row ++ take n (tiled_row k width depth row)) samples
-          ∙ ap (λ (l : List ℕ). tiled_row k width depth row ++ l) (tiled_shorter k j width depth row some long (omega arith)) ∙ sym (tiled_more k j width depth row whole);
+      is = made ∙ ap (λ (l : List X). l ++ take more l) front.is ∙ ap (λ (n : ℕ). tiled_row k width depth row ++ take n (tiled_row k width depth row)) samples
+          ∙ ap (λ (l : List X). tiled_row k width depth row ++ l) (tiled_shorter k j width depth row some long (omega arith)) ∙ sym (tiled_more k j width depth row whole);
       within = omega arith;
       whole = λ less. let twice : k + j ≡ k + k = omega arith in ap (λ (n : ℕ). n % width) twice ∙ same_column k k width whole ∙ whole;
       some = λ there. omega arith;
     }
 
 -- there is something to copy
-pub front_stands : (across width depth : ℕ) (row items : List ℕ) → 0 < width → length row ≡ width * depth → IsTiledFront across width depth row items → length items < across * depth → 0 < length items
+pub front_stands : {X : Type 0} (across width depth : ℕ) (row items : List X) → 0 < width → length row ≡ width * depth → IsTiledFront across width depth row items → length items < across * depth → 0 < length items
 front_stands across width depth row items some long front lt =
     let k : ℕ = front.count in
     let size : length items ≡ k * depth = ap length front.is ∙ length_tiled k width depth row some long in
@@ -192,7 +192,7 @@ front_stands across width depth row items some long front lt =
     omega (arith, mul-le-mul_right {m = 1} {n = k} depth there, depth_there across depth (length items) lt (cases_eq depth 0))
 
 -- where all samples stand, all columns do
-pub front_is_all : (across width depth : ℕ) (row items : List ℕ) → 0 < width → length row ≡ width * depth → IsTiledFront across width depth row items → across * depth ≤ length items → items ≡ tiled_row across width depth row
+pub front_is_all : {X : Type 0} (across width depth : ℕ) (row items : List X) → 0 < width → length row ≡ width * depth → IsTiledFront across width depth row items → across * depth ≤ length items → items ≡ tiled_row across width depth row
 front_is_all across width depth row items some long front le =
     let k : ℕ = front.count in
     let size : length items ≡ k * depth = ap length front.is ∙ length_tiled k width depth row some long in
@@ -200,8 +200,47 @@ front_is_all across width depth row items some long front le =
     front.is ∙ sym (tiled_shorter across k width depth row some long front.within) ∙ take_all (k * depth) (tiled_row across width depth row) short
 
 -- less is missing afterwards
-pub longer_front : (more filled : ℕ) (items new : List ℕ) → 0 < length items → length items < filled → more ≡ min (length items) (filled - length items) → new ≡ items ++ take more items → filled - length new < filled - length items
+pub longer_front : {X : Type 0} (more filled : ℕ) (items new : List X) → 0 < length items → length items < filled → more ≡ min (length items) (filled - length items) → new ≡ items ++ take more items → filled - length new < filled - length items
 longer_front more filled items new some lt least made = omega (arith, ap length made, length-append items (take more items), length-take more items)
+
+-- ---- whole rows, and a part of one
+
+-- so many whole rows of an image
+many_rows : (k width : ℕ) → (k * width) % width ≡ 0
+many_rows k width =
+    let copies : 0 + width * k ≡ k * width = omega arith in
+    ap (λ (n : ℕ). n % width) (sym copies) ∙ add-mul-mod_self_left 0 width k ∙ zero-mod width
+
+-- one row more
+pub row_more : (width depth k n : ℕ) (row before now : List ℕ) → length row ≡ width * depth → before ≡ tiled_row (k * width) width depth row → now ≡ before ++ take n (drop 0 row) → n ≡ length row → now ≡ tiled_row ((k + 1) * width) width depth row
+row_more width depth k n row before now long was is all =
+    let next : k * width + width ≡ (k + 1) * width = omega arith in
+    is ∙ ap (λ (l : List ℕ). l ++ take n row) was ∙ ap (λ (m : ℕ). tiled_row (k * width) width depth row ++ take m row) (all ∙ long)
+    ∙ ap (λ (l : List ℕ). tiled_row (k * width) width depth row ++ l) (sym (tiled_front width width depth row (omega arith)))
+    ∙ sym (tiled_more (k * width) width width depth row (many_rows k width)) ∙ ap (λ (m : ℕ). tiled_row m width depth row) next
+
+-- whole rows and a part of one are all columns
+pub rows_and_part : (across width depth k n : ℕ) (row before now : List ℕ) → 0 < width → before ≡ tiled_row (k * width) width depth row → now ≡ before ++ take n (drop 0 row) → k ≡ across / width → n ≡ across % width * depth → now ≡ tiled_row across width depth row
+rows_and_part across width depth k n row before now some was is rows part =
+    let rest : ℕ = across % width in
+    let all : k * width + rest ≡ across = omega (arith, div-add-mod across width, ap (λ (m : ℕ). m * width) rows) in
+    is ∙ ap (λ (l : List ℕ). l ++ take n row) was ∙ ap (λ (m : ℕ). tiled_row (k * width) width depth row ++ take m row) part
+    ∙ ap (λ (l : List ℕ). tiled_row (k * width) width depth row ++ l) (sym (tiled_front rest width depth row (omega (arith, mod-lt across some))))
+    ∙ sym (tiled_more (k * width) rest width depth row (many_rows k width)) ∙ ap (λ (m : ℕ). tiled_row m width depth row) all
+
+-- ---- samples of the result
+
+within_pieces : (P : ℕ → Type 0) (width depth : ℕ) (row : List ℕ) (a n : ℕ) → All P row → All P (flat_map (λ x. pixel_of depth row (x % width)) (range_with_len a n))
+within_pieces P width depth row a zero h = All-take P 0 row h
+within_pieces P width depth row a (suc n) h =
+    All-append P (pixel_of depth row (a % width)) (flat_map (λ x. pixel_of depth row (x % width)) (range_with_len (a + 1) n))
+    (All-take P depth (drop (a % width * depth) row) (All-drop P (a % width * depth) row h)) (within_pieces P width depth row (a + 1) n h)
+
+-- the samples of the result are within what those of the row are
+pub tiled_within : (maxval across width depth : ℕ) (held row made : List ℕ) → made ≡ tiled_row across width depth held → held ≡ row → All (λ sample. sample ≤ maxval) row → All (λ sample. sample ≤ maxval) made
+tiled_within maxval across width depth held row made is same h =
+    let P : ℕ → Type 0 = λ sample. sample ≤ maxval in
+    subst (All P) (sym (is ∙ ap (tiled_row across width depth) same)) (within_pieces P width depth row 0 across h)
 
 -- ---- the rows that are due
 
@@ -233,6 +272,10 @@ tiles_at_end w s come ready count some wanted = record {
   width = ready.limits.width_low;
   filled = ready.filled;
 }
+
+-- those rows are within the maxval
+pub rows_within_at_end : (w : Tiled) (s : Shape) (come : List (List ℕ)) → IsTiling w s come → AreWithin s.maxval w.rows
+rows_within_at_end w s come ready = subst (AreWithin s.maxval) (sym ready.rows) (All-take (λ row. All (λ sample. sample ≤ s.maxval) row) w.height come ready.range)
 
 -- ---- the queue of rows
 
@@ -325,3 +368,12 @@ tiles_left w row rest rows left h queue (inr last) more = record {
   width = h.width;
   filled = h.filled;
 }
+
+-- the rows that are left are still within the maxval
+pub left_within : (maxval left : ℕ) (row : List ℕ) (all rest rows : List (List ℕ)) → AreWithin maxval all → all ≡ row ∷ rest → ((rows ≡ rest ++ row ∷ []) ⊎ ((rows ≡ rest) × (left ≤ length rest))) → AreWithin maxval rows
+left_within maxval left row all rest rows h queue (inl again) =
+    let P : List ℕ → Type 0 = λ r. All (λ sample. sample ≤ maxval) r in
+    All-same P rows (rest ++ row ∷ []) again (All-push P rest row (All-rest P row rest all queue h) (All-head P row rest (All-same P (row ∷ rest) all (sym queue) h)))
+left_within maxval left row all rest rows h queue (inr last) =
+    let P : List ℕ → Type 0 = λ r. All (λ sample. sample ≤ maxval) r in
+    All-same P rows rest last.0 (All-rest P row rest all queue h)

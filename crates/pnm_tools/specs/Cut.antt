@@ -82,7 +82,7 @@ abbrev pub cut_sample : CutBox → Image → ℕ → ℕ → ℕ → ℕ
 cut_sample box i x y p = sample_at i (x + first_of (columns_kept box i.head.shape)) (y + first_of (rows_kept box i.head.shape)) p
 
 -- the columns of a row that are kept
-abbrev pub columns_of_row : Span → ℕ → List ℕ → List ℕ
+abbrev pub columns_of_row : {X : Type 0} → Span → ℕ → List X → List X
 columns_of_row columns depth row = take (span_count columns * depth) (drop (columns.first * depth) row)
 
 -- the rows that answer row y
@@ -95,7 +95,7 @@ abbrev pub cut_rows_of : CutBox → Shape → ℕ → List ℕ → List (List �
 cut_rows_of box s y row = rows_of_spans (columns_kept box s) (rows_kept box s) s.depth y row
 
 -- the columns lie in the row
-abbrev pub KeepsWithin : Span → ℕ → List ℕ → Type 0
+abbrev pub KeepsWithin : {X : Type 0} → Span → ℕ → List X → Type 0
 KeepsWithin columns depth row = (columns.first ≤ columns.last) × ((columns.last + 1) * depth ≤ length row)
 
 abbrev pub cutting : CutBox → Meaning

@@ -21,11 +21,11 @@ abbrev pub enlarged_sample : ℕ → ℕ → Image → ℕ → ℕ → ℕ → �
 enlarged_sample across down i x y p = sample_at i (x / across) (y / down) p
 
 -- so many of a list, one after another
-abbrev pub repeated : ℕ → List ℕ → List ℕ
+abbrev pub repeated : {X : Type 0} → ℕ → List X → List X
 repeated count samples = flat_map (λ _. samples) (range_with_len 0 count)
 
 -- a row of an image of this shape, each pixel repeated
-abbrev pub enlarged_row : ℕ → Shape → List ℕ → List ℕ
+abbrev pub enlarged_row : {X : Type 0} → ℕ → Shape → List X → List X
 enlarged_row across s row = flat_map (λ x. repeated across (pixel_of s.depth row x)) (range_with_len 0 s.width)
 
 -- the rows that answer a row

@@ -30,7 +30,7 @@ flipped_sample TopBottom i x y p = sample_at i x (i.head.shape.height - 1 - y) p
 flipped_sample Transpose i x y p = sample_at i y x p
 
 -- a row of an image of this shape, the last pixel first
-abbrev pub mirrored_row : Shape → List ℕ → List ℕ
+abbrev pub mirrored_row : {X : Type 0} → Shape → List X → List X
 mirrored_row s row = flat_map (λ x. pixel_of s.depth row (s.width - 1 - x)) (range_with_len 0 s.width)
 
 -- the rows that answer a row
@@ -41,7 +41,7 @@ flipped_rows TopBottom s row = []
 flipped_rows Transpose s row = []
 
 -- a column of the rows of an image of so many planes
-abbrev pub column_of : ℕ → List (List ℕ) → ℕ → List ℕ
+abbrev pub column_of : {X : Type 0} → ℕ → List (List X) → ℕ → List X
 column_of depth rows x = flat_map (λ row. pixel_of depth row x) rows
 
 -- the rows that answer the end of an image of this shape and of these rows

@@ -1,16 +1,21 @@
 -- What tools keep while the rows of an image come, and the rows of the result that they still give.
-use Rattle.std.specs.Prelude.{◌≡◌, ◌⊎◌, ℕ, ◌+◌, ◌-◌, ◌*◌, ◌<◌, ◌≤◌, ◌%◌, false, if◌then◌else◌, List, [], ◌++◌, map, length, take, reverse, replicate, slice_index_or, All, Some, None}
+use Rattle.std.specs.Prelude.{◌≡◌, ℕ, ◌+◌, ◌-◌, ◌*◌, ◌<◌, ◌≤◌, ◌%◌, false, if◌then◌else◌, List, [], ◌++◌, map, length, take, reverse, replicate, slice_index_or, All, Some, None}
 use Rattle.std.specs.List.{range_with_len}
 use Rattle.pnm_image.specs.Limits.{max_side, max_depth, max_row_length}
+use Rattle.pnm_image.specs.declared.packing.Packing.{Packing}
+use Rattle.pnm_image.specs.declared.packing.Packing.TheVariants.{Packed}
 use Rattle.pnm_image.specs.declared.shape.Shape.{Shape}
 use Rattle.pnm_image.specs.Heads.{IsWithinLimits, row_length}
 use Rattle.pnm_tools.specs.declared.cut.Cutter.{Cutter}
 use Rattle.pnm_tools.specs.declared.depth.Rescaler.{Rescaler}
+use Rattle.pnm_tools.specs.declared.depth.Table.{Table}
+use Rattle.pnm_tools.specs.declared.depth.Table.TheVariants.{Absent, Bytes, Words}
 use Rattle.pnm_tools.specs.declared.enlarge.Enlarger.{Enlarger}
 use Rattle.pnm_tools.specs.declared.flip.RowReverser.{RowReverser}
 use Rattle.pnm_tools.specs.Cut.{columns_kept, rows_kept}
 use Rattle.pnm_tools.specs.Depth.{nearest_sample}
 use Rattle.pnm_tools.specs.Flip.{column_of}
+use Rattle.pnm_tools.specs.Kept.{SuitsShape}
 use Rattle.pnm_tools.specs.Tile.{tiled_row}
 
 -- ---- pamcut: the columns and the rows that are kept of an image
@@ -21,8 +26,14 @@ pub record HasSpans (w : Cutter) (s : Shape) : Type 0 where
 
 -- ---- pamdepth: a table of the rescaled samples, or none, where each is computed
 
+-- what becomes of each sample from 0 to the old maxval
+abbrev pub IsTable : ℕ → ℕ → Table → Type 0
+IsTable new old Absent = Unit {0}
+IsTable new old (Bytes bytes) = (old ≤ 255) × (bytes.items ≡ map (nearest_sample new old) (range_with_len 0 (old + 1)))
+IsTable new old (Words words) = words.items ≡ map (nearest_sample new old) (range_with_len 0 (old + 1))
+
 abbrev pub HasTable : Rescaler → Shape → Type 0
-HasTable r s = (r.table.items ≡ []) ⊎ (r.table.items ≡ map (nearest_sample r.maxval s.maxval) (range_with_len 0 (s.maxval + 1)))
+HasTable r s = IsTable r.maxval s.maxval r.table
 
 -- ---- pamenlarge: a row that is given more than once
 
@@ -50,28 +61,33 @@ reversed_due w = if w.has_ended then reverse w.rows.items else []
 
 -- ---- pamflip -transpose: all rows, and a band of rows of the result
 
--- the planes and the rows of the image; the band, whose last row is given next; and of all the columns, which become the
+-- the planes of the image, how its rows are held, and the rows; the band, whose last row is given next; and of all the columns, which become the
 -- rows of the result, the first one that isn't in a band yet
 pub record Transposed : Type 0 where
   pub depth : ℕ
+  pub packing : Packing
   pub rows : List (List ℕ)
   pub band : List (List ℕ)
   pub next : ℕ
   pub columns : ℕ
 
-abbrev pub transposed : ℕ → List (List ℕ) → List (List ℕ) → ℕ → ℕ → Transposed
-transposed depth rows band next columns = record { depth = depth; rows = rows; band = band; next = next; columns = columns }
+abbrev pub transposed : ℕ → Packing → List (List ℕ) → List (List ℕ) → ℕ → ℕ → Transposed
+transposed depth packing rows band next columns = record { depth = depth; packing = packing; rows = rows; band = band; next = next; columns = columns }
 
--- each row has a pixel of each column, and a row of the result is within the limits
+-- each row has a pixel of each column, and a row of the result is within the limits; packed rows have one plane, and the next
+-- column is the first of a byte
 pub record HasColumns (w : Transposed) : Type 0 where
   pub columns : All (λ row. w.columns * w.depth ≤ length row) w.rows
   pub each : 0 < w.columns → length w.rows * w.depth ≤ max_row_length
   pub depth : w.depth ≤ max_depth
   pub made : w.next ≤ w.columns
+  pub one_plane : w.packing ≡ Packed → 0 < w.columns → w.depth ≡ 1
+  pub at_byte : w.packing ≡ Packed → w.next < w.columns → w.next % 8 ≡ 0
 
 pub record IsTransposing (w : Transposed) (s : Shape) (come : List (List ℕ)) : Type 0 where
   pub limits : IsWithinLimits s
   pub column : s.height * s.depth ≤ max_row_length
+  pub packing : SuitsShape w.packing s
   pub rows : w.rows ≡ come
   pub lengths : All (λ row. length row ≡ row_length s) come
   pub none_made : (w.band ≡ []) × (w.next ≡ 0) × (w.columns ≡ 0)
@@ -100,12 +116,17 @@ pub record HasTiles (w : Tiled) : Type 0 where
   pub width : 0 < w.image_width
   pub filled : w.width * w.depth ≤ max_row_length
 
+-- no sample of these rows is above the maxval
+abbrev pub AreWithin : ℕ → List (List ℕ) → Type 0
+AreWithin maxval rows = All (λ row. All (λ sample. sample ≤ maxval) row) rows
+
 pub record IsTiling (w : Tiled) (s : Shape) (come : List (List ℕ)) : Type 0 where
   pub limits : IsWithinLimits s
   pub some : 0 < s.height
   pub filled : w.width * s.depth ≤ max_row_length
   pub rows : w.rows ≡ take w.height come
   pub lengths : All (λ row. length row ≡ row_length s) come
+  pub range : AreWithin s.maxval come
   pub none_given : w.left ≡ 0
 
 abbrev pub tiled_due : Tiled → List (List ℕ)

@@ -2,5 +2,5 @@
 use Rattle.std.specs.Prelude.{ℕ, ◌*◌, List, take, drop}
 
 -- the pixel in a column, from 0, of a row of so many planes
-abbrev pub pixel_of : ℕ → List ℕ → ℕ → List ℕ
+abbrev pub pixel_of : {X : Type 0} → ℕ → List X → ℕ → List X
 pixel_of depth row x = take depth (drop (x * depth) row)

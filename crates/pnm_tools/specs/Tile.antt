@@ -22,7 +22,7 @@ abbrev pub tiled_sample : Image → ℕ → ℕ → ℕ → ℕ
 tiled_sample i x y p = sample_at i (x % i.head.shape.width) (y % i.head.shape.height) p
 
 -- a row of so many pixels of so many planes, side by side up to so many columns
-abbrev pub tiled_row : ℕ → ℕ → ℕ → List ℕ → List ℕ
+abbrev pub tiled_row : {X : Type 0} → ℕ → ℕ → ℕ → List X → List X
 tiled_row width image_width depth row = flat_map (λ x. pixel_of depth row (x % image_width)) (range_with_len 0 width)
 
 -- the rows that answer the end of an image of this shape and of these rows

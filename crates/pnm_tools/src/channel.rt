@@ -1,18 +1,19 @@
 //! `pamchannel`: planes of the image, in the order in which they are named, from pamchannel(1).
 
-ghost use Rattle.std.specs.Prelude.{◌≡◌, ◌≤◌, ◌<◌, ◌↔◌, ◌⊎◌, ◌+◌, ◌++◌, All, IsTrue, OnOk, IfOk, IfErr, Ok, Err, length, map, slice_index, []};
+ghost use Rattle.std.specs.Prelude.{◌≡◌, ◌≤◌, ◌<◌, ◌↔◌, ◌⊎◌, ◌+◌, ◌++◌, All, IsTrue, OnOk, IfOk, IfErr, Ok, Err, length, map, slice_index_or, []};
 ghost use Rattle.pnm_image.specs.Limits.{max_depth};
 ghost use Rattle.pnm_image.specs.Heads.{row_length};
+ghost use Rattle.pnm_image.specs.Places.{IsRowOf};
 ghost use Rattle.pnm_tools.specs.declared.fault.ToolFault.TheVariants.{Memory};
 ghost use Rattle.pnm_tools.specs.declared.tool.Tool.TheVariants.{Channel};
-ghost use Rattle.pnm_tools.specs.Channel.{picked_samples};
+ghost use Rattle.pnm_tools.specs.Channel.{picked_or, picked_samples};
 
 use crate::fault::ToolFault;
 use crate::limits::head_within_limits;
 use crate::rows::Rows;
 use pnm_image::limits::MAX_DEPTH;
-use pnm_image::{Head, Kind, Samples, Shape};
-use std::alloc::Global;
+use pnm_image::{Head, Held, Kind, Samples, Shape};
+use std::alloc::{AllocError, Global};
 use std::marker::Model;
 
 /// The most planes that are picked.
@@ -28,38 +29,72 @@ pub struct Planes {
     tuple_type: Vec<u8>,
 }
 
+/// The samples of these planes of a row, held as the row is; bits are widened to words.
+///
+/// # Errors
+///
+/// Where there is no memory for them.
+fn picked(alloc: Global, numbers: &[u16], shape: Shape, row: Samples) -> Result<Samples, AllocError>
+    requires numbers { All (λ number. number < shape.depth) numbers.now }
+    requires row { IsRowOf shape row }
+    requires limits { length numbers.now ≤ max_depth }
+    ensures { IfOk result (λ picked. picked ≡ picked_samples numbers.now shape row) }
+{
+    match row.into_held() {
+        Held::Bits(bits) => {
+            let picked = pick(alloc, numbers, shape, bits.widened(alloc)?.as_slice())?;
+            Ok(Samples::within(Held::Words(picked), shape.maxval))
+        }
+        Held::Bytes(bytes) => {
+            let picked = pick(alloc, numbers, shape, bytes.as_slice())?;
+            Ok(Samples::within(Held::Bytes(picked), shape.maxval))
+        }
+        Held::Words(words) => {
+            let picked = pick(alloc, numbers, shape, words.as_slice())?;
+            Ok(Samples::within(Held::Words(picked), shape.maxval))
+        }
+    }
+}
+
 /// The samples of these planes of a row.
-fn pick(alloc: Global, numbers: &[u16], shape: Shape, row: &[u16]) -> Result<Vec<u16>, ToolFault>
+///
+/// # Errors
+///
+/// Where there is no memory for them.
+fn pick<T: Copy + Default>(
+    alloc: Global,
+    numbers: &[u16],
+    shape: Shape,
+    row: &[T],
+) -> Result<Vec<T>, AllocError>
     requires numbers { All (λ number. number < shape.depth) numbers.now }
     requires row { length row.now ≡ row_length shape }
     requires limits { length numbers.now ≤ max_depth }
-    ensures picked { IfOk result (λ picked. picked.items ≡ picked_samples numbers.now shape row.now) }
-    ensures refused { IfErr result (λ fault. fault ≡ Memory) }
+    ensures { IfOk result (λ picked. (past : T) → picked.items ≡ picked_or past numbers.now shape row.now) }
 {
-    let (width, depth) = (shape.width as usize, shape.depth as usize);
-    let mut picked = Vec::with_capacity(alloc, width * numbers.len())?;
+    let (width, depth, count) = (shape.width as usize, shape.depth as usize, numbers.len());
+    let mut picked = Vec::from_elem(alloc, T::default(), width * count)?;
+    let room = picked.as_mut_slice();
     for x in 0..width {
-        pick_pixel(&mut picked, numbers, row, x * depth)?;
+        pick_pixel(
+            &mut room[x * count..(x + 1) * count],
+            numbers,
+            row,
+            x * depth,
+        );
     }
     Ok(picked)
 }
 
-/// Adds the samples of these planes of the pixel whose samples begin here.
-fn pick_pixel(
-    picked: &mut Vec<u16>,
-    numbers: &[u16],
-    row: &[u16],
-    first: usize,
-) -> Result<(), ToolFault>
-    requires { All (λ number. first + number < length row.now) numbers.now }
-    ensures picked { OnOk result (picked.new.items
-        ≡ picked.old.items ++ map (λ number. slice_index row.now (first + number)) numbers.now) }
-    ensures refused { IfErr result (λ fault. fault ≡ Memory) }
+/// Fills the room with the samples of these planes of the pixel whose samples begin here.
+fn pick_pixel<T: Copy>(room: &mut [T], numbers: &[u16], row: &[T], first: usize)
+    requires room { length room.old ≡ length numbers.now }
+    requires numbers { All (λ number. first + number < length row.now) numbers.now }
+    ensures { (past : T) → room.new ≡ map (λ number. slice_index_or row.now (first + number) past) numbers.now }
 {
-    for number in numbers {
-        picked.push(row[first + *number as usize])?;
+    for at in 0..room.len() {
+        room[at] = row[first + numbers[at] as usize];
     }
-    Ok(())
 }
 
 impl Model for Planes {
@@ -91,8 +126,8 @@ impl Rows for Planes {
         _y: u32,
         row: Samples,
     ) -> Result<Option<Samples>, ToolFault> {
-        let picked = pick(alloc, self.numbers.as_slice(), shape, row.as_slice())?;
-        Ok(Some(Samples::new(picked)))
+        let numbers = self.numbers.as_slice();
+        Ok(Some(picked(alloc, numbers, shape, row)?))
     }
 }
 

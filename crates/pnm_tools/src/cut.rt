@@ -1,6 +1,6 @@
 //! `pamcut`: a rectangle of the image, from pamcut(1).
 
-ghost use Rattle.std.specs.Prelude.{◌≡◌, ◌↔◌, IsTrue, IfSome, []};
+ghost use Rattle.std.specs.Prelude.{◌≡◌, ◌≤◌, ◌↔◌, All, IsTrue, IfSome, IfOk, []};
 ghost use Rattle.pnm_image.specs.Limits.{max_side};
 ghost use Rattle.pnm_tools.specs.Cut.{IsEdge, IsLawfulAxis, KeepsWithin, columns_of_row, span_of, first_kept, last_kept, edge_of};
 ghost use Rattle.pnm_tools.specs.Limits.{IsExtent};
@@ -10,8 +10,8 @@ use crate::fault::ToolFault;
 use crate::limits::{head_within_limits, is_extent};
 use crate::rows::Rows;
 use pnm_image::limits::MAX_EXTENT;
-use pnm_image::{Head, Samples, Shape};
-use std::alloc::Global;
+use pnm_image::{Bits, Head, Held, Samples, Shape};
+use std::alloc::{AllocError, Global};
 
 /// Columns or rows that are kept, from the first to the last.
 #[derive(Clone, Copy, Debug)]
@@ -20,8 +20,38 @@ pub(crate) struct Span {
     last: u32,
 }
 
-/// Keeps these columns of a row of so many samples a pixel.
-fn keep(row: &mut Vec<u16>, columns: Span, depth: usize)
+/// These columns of a row of an image of this shape, held as the row is.
+///
+/// # Errors
+///
+/// Where there is no memory for them.
+fn kept(alloc: Global, columns: Span, shape: Shape, row: Samples) -> Result<Samples, AllocError>
+    requires columns { KeepsWithin columns shape.depth row }
+    requires range { All (λ sample. sample ≤ shape.maxval) row }
+    ensures { IfOk result (λ kept. kept ≡ columns_of_row columns shape.depth row) }
+{
+    let depth = shape.depth as usize;
+    match row.into_held() {
+        Held::Bits(bits) => {
+            let first = columns.first as usize * depth;
+            let count = (columns.last as usize - columns.first as usize + 1) * depth;
+            let mut kept = Bits::empty(alloc);
+            kept.append(&bits, first, count)?;
+            Ok(Samples::within(Held::Bits(kept), shape.maxval))
+        }
+        Held::Bytes(mut bytes) => {
+            keep(&mut bytes, columns, depth);
+            Ok(Samples::within(Held::Bytes(bytes), shape.maxval))
+        }
+        Held::Words(mut words) => {
+            keep(&mut words, columns, depth);
+            Ok(Samples::within(Held::Words(words), shape.maxval))
+        }
+    }
+}
+
+/// Keeps these columns of a row of so many samples a pixel, in place.
+fn keep<T: Copy>(row: &mut Vec<T>, columns: Span, depth: usize)
     requires { KeepsWithin columns depth row.old.items }
     ensures { row.new.items ≡ columns_of_row columns depth row.old.items }
 {
@@ -88,10 +118,10 @@ impl Rows for Cutter {
         head_within_limits(alloc, kept, head.tuple_type())
     }
 
-    /// Moves the columns that are kept to the row's front.
+    /// Moves the columns that are kept to the row's front, but those of bits to bytes of their own.
     fn row(
         &self,
-        _alloc: Global,
+        alloc: Global,
         shape: Shape,
         y: u32,
         row: Samples,
@@ -99,9 +129,8 @@ impl Rows for Cutter {
         if y < self.rows.first || self.rows.last < y {
             return Ok(None);
         }
-        let mut samples = row.into_vec();
-        keep(&mut samples, self.columns, shape.depth as usize);
-        Ok(Some(Samples::new(samples)))
+        let kept = kept(alloc, self.columns, shape, row)?;
+        Ok(Some(kept))
     }
 }
 

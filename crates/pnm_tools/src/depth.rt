@@ -7,22 +7,36 @@ ghost use Rattle.pnm_image.specs.Heads.{IsWithinLimits};
 ghost use Rattle.pnm_tools.specs.declared.fault.ToolFault.TheVariants.{Memory};
 ghost use Rattle.pnm_tools.specs.declared.tool.Tool.TheVariants.{Depth};
 ghost use Rattle.pnm_tools.specs.Depth.{nearest_sample, kind_at, type_at};
+ghost use Rattle.pnm_tools.specs.Keeping.{IsTable};
 ghost use Rattle.pnm_tools.specs.Tools.{Takes, result_head};
 
 use crate::fault::ToolFault;
 use crate::limits::head_within_limits;
 use crate::rows::Rows;
-use pnm_image::{Head, Kind, Samples, Shape};
-use std::alloc::Global;
+use pnm_image::{Head, Held, Kind, Samples, Shape};
+use std::alloc::{AllocError, Global};
+
+/// The greatest sample that is a byte.
+const GREATEST_BYTE: u32 = 255;
 
 /// Gives the rows of images another maxval.
 #[derive(Debug, Drop)]
 pub struct Rescaler {
     /// The new maxval.
     pub(crate) maxval: u32,
-    /// What becomes of each sample from 0 to the image's maxval; empty where the image has too few
-    /// samples to make it worth while.
-    pub(crate) table: Vec<u16>,
+    /// What becomes of the samples of the image.
+    pub(crate) table: Table,
+}
+
+/// What becomes of each sample from 0 to the image's maxval.
+#[derive(Debug, Drop)]
+pub(crate) enum Table {
+    /// No table: the image has too few samples to make it worth while.
+    Absent,
+    /// Both maxvals are at most 255.
+    Bytes(Vec<u8>),
+    /// One of them is greater.
+    Words(Vec<u16>),
 }
 
 /// The sample nearest to the same share of the new maxval, halves up.
@@ -57,6 +71,69 @@ fn rescale_by_table(samples: &mut [u16], table: &[u16], new: u32, old: u32)
     }
 }
 
+/// Takes each byte from the table.
+fn rescale_bytes_by_table(bytes: &mut [u8], table: &[u8], new: u32, old: u32)
+    requires table { table.now ≡ map (nearest_sample new old) (range_with_len 0 (old + 1)) }
+    requires bytes { All (λ sample. sample ≤ old) bytes.old }
+    ensures { bytes.new ≡ map (nearest_sample new old) bytes.old }
+{
+    for byte in bytes.iter_mut() {
+        *byte = table[*byte as usize];
+    }
+}
+
+/// The samples, all within this maxval, as bytes where it is at most 255.
+///
+/// # Errors
+///
+/// Where there is no memory for the bytes.
+fn held_at(alloc: Global, maxval: u32, words: Vec<u16>) -> Result<Samples, AllocError>
+    requires { All (λ sample. sample ≤ maxval) words.items }
+    ensures { IfOk result (λ held. held ≡ words.items) }
+{
+    let samples = Samples::within(Held::Words(words), maxval);
+    if maxval > GREATEST_BYTE {
+        return Ok(samples);
+    }
+    let bytes = samples.into_bytes(alloc)?;
+    Ok(Samples::within(Held::Bytes(bytes), maxval))
+}
+
+impl Rescaler {
+    /// A row of an image of this maxval, with the new one. It is held as bytes where the new maxval
+    /// is at most 255, and else as words.
+    ///
+    /// # Errors
+    ///
+    /// Where there is no memory for samples of another width.
+    fn rescaled(&self, alloc: Global, old: u32, row: Samples) -> Result<Samples, AllocError>
+        requires new { (1 ≤ self.now.maxval) × (self.now.maxval ≤ max_maxval) }
+        requires old { (1 ≤ old) × (old ≤ max_maxval) }
+        requires table { IsTable self.now.maxval old self.now.table }
+        requires range { All (λ sample. sample ≤ old) row }
+        ensures { IfOk result (λ rescaled. rescaled ≡ map (nearest_sample self.now.maxval old) row) }
+    {
+        let new = self.maxval;
+        match &self.table {
+            Table::Absent => {
+                let mut words = row.into_words(alloc)?;
+                rescale(words.as_mut_slice(), new, old);
+                held_at(alloc, new, words)
+            }
+            Table::Bytes(table) => {
+                let mut bytes = row.into_bytes(alloc)?;
+                rescale_bytes_by_table(bytes.as_mut_slice(), table.as_slice(), new, old);
+                Ok(Samples::within(Held::Bytes(bytes), new))
+            }
+            Table::Words(table) => {
+                let mut words = row.into_words(alloc)?;
+                rescale_by_table(words.as_mut_slice(), table.as_slice(), new, old);
+                held_at(alloc, new, words)
+            }
+        }
+    }
+}
+
 impl Rows for Rescaler {
     ghost use Rattle.pnm_tools.specs.Keeping.{HasTable};
 
@@ -72,27 +149,20 @@ impl Rows for Rescaler {
         self.table = if is_worth_a_table(shape) {
             table_of(alloc, self.maxval, shape.maxval)?
         } else {
-            Vec::new(alloc)
+            Table::Absent
         };
         Ok(rescaled)
     }
 
-    /// Changes the row in place.
+    /// Changes the row in place where its samples stay as wide as they are held.
     fn row(
         &self,
-        _alloc: Global,
+        alloc: Global,
         shape: Shape,
         _y: u32,
         row: Samples,
     ) -> Result<Option<Samples>, ToolFault> {
-        let mut samples = row.into_vec();
-        let (new, old) = (self.maxval, shape.maxval);
-        if self.table.is_empty() {
-            rescale(samples.as_mut_slice(), new, old);
-        } else {
-            rescale_by_table(samples.as_mut_slice(), self.table.as_slice(), new, old);
-        }
-        Ok(Some(Samples::new(samples)))
+        Ok(Some(self.rescaled(alloc, shape.maxval, row)?))
     }
 }
 
@@ -112,8 +182,22 @@ pub(crate) fn head_at(alloc: Global, maxval: u32, head: &Head) -> Result<Head, T
     head_within_limits(alloc, rescaled, type_at(maxval, head.tuple_type()))
 }
 
+/// What becomes of each sample from 0 to the old maxval, as bytes where both maxvals are at most 255.
+fn table_of(alloc: Global, new: u32, old: u32) -> Result<Table, ToolFault>
+    requires limits { (1 ≤ new) × (new ≤ max_maxval) × (1 ≤ old) × (old ≤ max_maxval) }
+    ensures made { IfOk result (IsTable new old) }
+    ensures refused { IfErr result (λ fault. fault ≡ Memory) }
+{
+    let words = nearest_samples(alloc, new, old)?;
+    if new <= GREATEST_BYTE && old <= GREATEST_BYTE {
+        Ok(Table::Bytes(Samples::new(words).into_bytes(alloc)?))
+    } else {
+        Ok(Table::Words(words))
+    }
+}
+
 /// What becomes of each sample from 0 to the old maxval.
-fn table_of(alloc: Global, new: u32, old: u32) -> Result<Vec<u16>, ToolFault>
+fn nearest_samples(alloc: Global, new: u32, old: u32) -> Result<Vec<u16>, ToolFault>
     requires limits { (1 ≤ new) × (new ≤ max_maxval) × (1 ≤ old) × (old ≤ max_maxval) }
     ensures made { IfOk result (λ table. table.items ≡ map (nearest_sample new old) (range_with_len 0 (old + 1))) }
     ensures refused { IfErr result (λ fault. fault ≡ Memory) }

@@ -1,9 +1,8 @@
 //! `pamenlarge`: each pixel so many times across and so many times down, from pamenlarge(1).
 
-ghost use Rattle.std.specs.Prelude.{◌≡◌, ◌≤◌, ◌*◌, ◌⊎◌, length, replicate, OnOk, IfOk, IfErr, Ok, Err, None};
-ghost use Rattle.std.specs.List.{flat_map};
-ghost use Rattle.pnm_image.specs.Limits.{max_row_length};
+ghost use Rattle.std.specs.Prelude.{◌≡◌, ◌≤◌, ◌*◌, ◌⊎◌, length, OnOk, IfOk, IfErr, Ok, Err, None};
 ghost use Rattle.pnm_image.specs.Heads.{row_length};
+ghost use Rattle.pnm_image.specs.Places.{IsRowOf};
 ghost use Rattle.pnm_tools.specs.declared.fault.ToolFault.TheVariants.{Memory};
 ghost use Rattle.pnm_tools.specs.declared.tool.Tool.TheVariants.{Enlarge};
 ghost use Rattle.pnm_tools.specs.Answering.{row_list};
@@ -15,7 +14,7 @@ ghost use Rattle.pnm_tools.specs.Tools.{Takes, result_head};
 use crate::fault::ToolFault;
 use crate::limits::head_within_limits;
 use crate::maker::Maker;
-use pnm_image::{Head, Samples, Shape};
+use pnm_image::{Bits, Head, Held, Samples, Shape};
 use std::alloc::Global;
 use std::mem;
 
@@ -29,46 +28,120 @@ pub struct Enlarger {
     more: u32,
 }
 
+/// The row with each pixel repeated so many times, held as it was, but bits as words.
+///
+/// # Errors
+///
+/// `Memory`, where there is none for the row.
+fn enlarged(alloc: Global, across: u32, shape: Shape, row: Samples) -> Result<Samples, ToolFault>
+    requires row { IsRowOf shape row }
+    requires ready { IsEnlarging across shape }
+    ensures made { IfOk result (λ made. made ≡ enlarged_row across shape row) }
+    ensures refused { IfErr result (λ fault. fault ≡ Memory) }
+{
+    match row.into_held() {
+        Held::Bits(bits) if shape.depth == 1 => {
+            let bits = repeat_bits(alloc, across, shape, &bits)?;
+            Ok(Samples::from_held(Held::Bits(bits)))
+        }
+        Held::Bits(bits) => {
+            let unpacked = bits.widened(alloc)?;
+            let words = repeat_pixels(alloc, across, shape, unpacked.as_slice())?;
+            Ok(Samples::within(Held::Words(words), shape.maxval))
+        }
+        Held::Bytes(bytes) => {
+            let bytes = repeat_pixels(alloc, across, shape, bytes.as_slice())?;
+            Ok(Samples::within(Held::Bytes(bytes), shape.maxval))
+        }
+        Held::Words(words) => {
+            let words = repeat_pixels(alloc, across, shape, words.as_slice())?;
+            Ok(Samples::within(Held::Words(words), shape.maxval))
+        }
+    }
+}
+
+/// The row of one plane with each pixel repeated so many times.
+fn repeat_bits(alloc: Global, across: u32, shape: Shape, row: &Bits) -> Result<Bits, ToolFault>
+    requires plane { shape.depth ≡ 1 }
+    requires row { length row.now ≡ row_length shape }
+    ensures made { IfOk result (λ made. made ≡ enlarged_row across shape row.now) }
+    ensures refused { IfErr result (λ fault. fault ≡ Memory) }
+{
+    Ok(row.repeated(alloc, across as usize)?)
+}
+
 /// The row with each pixel repeated so many times.
-fn repeat_pixels(
+fn repeat_pixels<T: Copy>(
     alloc: Global,
     across: u32,
     shape: Shape,
-    row: &[u16],
-) -> Result<Vec<u16>, ToolFault>
+    row: &[T],
+) -> Result<Vec<T>, ToolFault>
     requires row { length row.now ≡ row_length shape }
     requires ready { IsEnlarging across shape }
     ensures made { IfOk result (λ made. made.items ≡ enlarged_row across shape row.now) }
     ensures refused { IfErr result (λ fault. fault ≡ Memory) }
 {
-    if shape.depth == 1 {
-        return repeat_samples(alloc, across, row);
-    }
-    let (width, depth, across) = (shape.width as usize, shape.depth as usize, across as usize);
-    let mut enlarged = Vec::with_capacity(alloc, width * across * depth)?;
-    for x in 0..width {
-        let pixel = &row[x * depth..(x + 1) * depth];
-        for _ in 0..across {
-            for sample in pixel {
-                enlarged.push(*sample)?;
-            }
-        }
+    // The room is there first, and the stores then grow nothing.
+    let mut enlarged = Vec::from_elem(alloc, row[0], row.len() * across as usize)?;
+    let room = enlarged.as_mut_slice();
+    match (across, shape.depth) {
+        (2, 1) => double_samples(shape, row, room),
+        (2, 3) => double_colors(shape, row, room),
+        _ => repeat_each(across, shape, row, room),
     }
     Ok(enlarged)
 }
 
-/// The row with each sample repeated so many times: where a pixel is one sample, that is faster.
-fn repeat_samples(alloc: Global, across: u32, row: &[u16]) -> Result<Vec<u16>, ToolFault>
-    requires { length row.now * across ≤ max_row_length }
-    ensures made { IfOk result (λ made. made.items ≡ flat_map (replicate across) row.now) }
-    ensures refused { IfErr result (λ fault. fault ≡ Memory) }
+/// Fills the room with the row, each pixel twice, where a pixel is one sample.
+fn double_samples<T: Copy>(shape: Shape, row: &[T], room: &mut [T])
+    requires depth { shape.depth ≡ 1 }
+    requires row { length row.now ≡ row_length shape }
+    requires room { length room.old ≡ length row.now * 2 }
+    ensures { room.new ≡ enlarged_row 2 shape row.now }
 {
-    let across = across as usize;
-    let mut enlarged = Vec::with_capacity(alloc, row.len() * across)?;
-    for sample in row {
-        enlarged.resize(enlarged.len() + across, *sample)?;
+    for i in 0..row.len() {
+        let sample = row[i];
+        room[2 * i] = sample;
+        room[2 * i + 1] = sample;
     }
-    Ok(enlarged)
+}
+
+/// Fills the room with the row, each pixel twice, where a pixel is three samples.
+fn double_colors<T: Copy>(shape: Shape, row: &[T], room: &mut [T])
+    requires depth { shape.depth ≡ 3 }
+    requires row { length row.now ≡ row_length shape }
+    requires room { length room.old ≡ length row.now * 2 }
+    ensures { room.new ≡ enlarged_row 2 shape row.now }
+{
+    for x in 0..shape.width as usize {
+        let (red, green, blue) = (row[3 * x], row[3 * x + 1], row[3 * x + 2]);
+        room[6 * x] = red;
+        room[6 * x + 1] = green;
+        room[6 * x + 2] = blue;
+        room[6 * x + 3] = red;
+        room[6 * x + 4] = green;
+        room[6 * x + 5] = blue;
+    }
+}
+
+/// Fills the room with the row, each pixel so many times.
+fn repeat_each<T: Copy>(across: u32, shape: Shape, row: &[T], room: &mut [T])
+    requires row { length row.now ≡ row_length shape }
+    requires room { length room.old ≡ length row.now * across }
+    ensures { room.new ≡ enlarged_row across shape row.now }
+{
+    let (width, depth) = (shape.width as usize, shape.depth as usize);
+    let mut at = 0;
+    for x in 0..width {
+        let pixel = &row[x * depth..(x + 1) * depth];
+        for _ in 0..across {
+            for p in 0..depth {
+                room[at + p] = pixel[p];
+            }
+            at += depth;
+        }
+    }
 }
 
 impl Maker for Enlarger {
@@ -94,7 +167,7 @@ impl Maker for Enlarger {
         let row = if self.across == 1 {
             row
         } else {
-            Samples::new(repeat_pixels(alloc, self.across, shape, row.as_slice())?)
+            enlarged(alloc, self.across, shape, row)?
         };
         self.row = Some(row);
         self.more = self.down - 1;
@@ -113,10 +186,10 @@ impl Maker for Enlarger {
         if self.more == 0 {
             return Ok(Some(row));
         }
-        let copy = Vec::from_slice(alloc, row.as_slice())?;
+        let copy = row.copy(alloc)?;
         self.row = Some(row);
         self.more -= 1;
-        Ok(Some(Samples::new(copy)))
+        Ok(Some(copy))
     }
 
     fn release(&mut self, _alloc: Global) {

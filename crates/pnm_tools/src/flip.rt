@@ -3,6 +3,7 @@
 
 ghost use Rattle.std.specs.Prelude.{◌≡◌, ◌⊎◌, length, false, [], OnOk, IfOk, IfErr, Ok, Err};
 ghost use Rattle.pnm_image.specs.Heads.{IsWithinLimits, row_length};
+ghost use Rattle.pnm_image.specs.Places.{IsRowOf};
 ghost use Rattle.pnm_tools.specs.declared.fault.ToolFault.TheVariants.{Memory};
 ghost use Rattle.pnm_tools.specs.declared.flip.FlipWay.TheVariants.{Null, LeftRight, TopBottom};
 ghost use Rattle.pnm_tools.specs.declared.tool.Tool.TheVariants.{Flip};
@@ -14,8 +15,8 @@ use crate::fault::ToolFault;
 use crate::limits::head_within_limits;
 use crate::maker::Maker;
 use crate::rows::Rows;
-use pnm_image::{Head, Samples, Shape};
-use std::alloc::Global;
+use pnm_image::{Bits, Head, Held, Samples, Shape};
+use std::alloc::{AllocError, Global};
 
 /// How an image is flipped.
 #[derive(Clone, Copy, Debug, PartialEq, Eq)]
@@ -30,8 +31,51 @@ pub enum FlipWay {
     Transpose,
 }
 
+/// The row, the last pixel first, changed in place; bits of several planes are widened to words.
+///
+/// # Errors
+///
+/// Where there is no memory for the words.
+fn mirrored(alloc: Global, shape: Shape, row: Samples) -> Result<Samples, AllocError>
+    requires limits { IsWithinLimits shape }
+    requires row { IsRowOf shape row }
+    ensures { IfOk result (λ mirrored. mirrored ≡ mirrored_row shape row) }
+{
+    match row.into_held() {
+        Held::Bits(bits) if shape.depth == 1 => {
+            let bits = mirrored_bits(shape, bits);
+            Ok(Samples::from_held(Held::Bits(bits)))
+        }
+        Held::Bits(bits) => {
+            let mut words = bits.widened(alloc)?;
+            reverse_pixels(words.as_mut_slice(), shape);
+            Ok(Samples::within(Held::Words(words), shape.maxval))
+        }
+        Held::Bytes(mut bytes) => {
+            reverse_pixels(bytes.as_mut_slice(), shape);
+            Ok(Samples::within(Held::Bytes(bytes), shape.maxval))
+        }
+        Held::Words(mut words) => {
+            reverse_pixels(words.as_mut_slice(), shape);
+            Ok(Samples::within(Held::Words(words), shape.maxval))
+        }
+    }
+}
+
+/// The row of one plane, the last pixel first, changed in place.
+fn mirrored_bits(shape: Shape, bits: Bits) -> Bits
+    requires limits { IsWithinLimits shape }
+    requires plane { shape.depth ≡ 1 }
+    requires row { length bits ≡ row_length shape }
+    ensures { result ≡ mirrored_row shape bits }
+{
+    let mut bits = bits;
+    bits.reverse();
+    bits
+}
+
 /// The last pixel first: all samples change places, and then those of each pixel do again.
-fn reverse_pixels(samples: &mut [u16], shape: Shape)
+fn reverse_pixels<T: Copy>(samples: &mut [T], shape: Shape)
     requires limits { IsWithinLimits shape }
     requires row { length samples.old ≡ row_length shape }
     ensures { samples.new ≡ mirrored_row shape samples.old }
@@ -89,14 +133,12 @@ impl Rows for Mirror {
     /// Changes the row in place.
     fn row(
         &self,
-        _alloc: Global,
+        alloc: Global,
         shape: Shape,
         _y: u32,
         row: Samples,
     ) -> Result<Option<Samples>, ToolFault> {
-        let mut samples = row.into_vec();
-        reverse_pixels(samples.as_mut_slice(), shape);
-        Ok(Some(Samples::new(samples)))
+        Ok(Some(mirrored(alloc, shape, row)?))
     }
 }
 

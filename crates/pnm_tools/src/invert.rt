@@ -1,24 +1,54 @@
 //! `pnminvert`: black becomes white and white black, from pnminvert(1).
 
-ghost use Rattle.std.specs.Prelude.{◌≡◌, ◌≤◌, ◌-◌, All, map, []};
+ghost use Rattle.std.specs.Prelude.{◌≡◌, ◌≤◌, ◌-◌, All, IfOk, map, []};
+ghost use Rattle.pnm_image.specs.Limits.{max_maxval};
 ghost use Rattle.pnm_tools.specs.declared.tool.Tool.TheVariants.{Invert};
 
 use crate::fault::ToolFault;
 use crate::rows::Rows;
-use pnm_image::{Head, Samples, Shape};
-use std::alloc::Global;
+use pnm_image::{Head, Held, Samples, Shape};
+use pnm_samples::Sample;
+use std::alloc::{AllocError, Global};
 
 /// Inverts the rows of images.
 #[derive(Clone, Copy, Debug)]
 pub struct Inverter;
 
+/// The row with each sample taken from the maxval. It is changed in place and held as it was, but as
+/// words where samples up to the maxval can't be held so.
+///
+/// # Errors
+///
+/// Where there is no memory for the words.
+fn inverted(alloc: Global, maxval: u32, row: Samples) -> Result<Samples, AllocError>
+    requires maxval { (1 ≤ maxval) × (maxval ≤ max_maxval) }
+    requires range { All (λ sample. sample ≤ maxval) row }
+    ensures { IfOk result (λ made. made ≡ map (λ sample. maxval - sample) row) }
+{
+    match row.into_held() {
+        Held::Bits(mut bits) if maxval == 1 => {
+            bits.invert();
+            Ok(Samples::within(Held::Bits(bits), maxval))
+        }
+        Held::Bytes(mut bytes) if maxval <= 255 => {
+            invert(bytes.as_mut_slice(), maxval as u8);
+            Ok(Samples::within(Held::Bytes(bytes), maxval))
+        }
+        held => {
+            let mut words = Samples::within(held, maxval).into_words(alloc)?;
+            invert(words.as_mut_slice(), maxval as u16);
+            Ok(Samples::within(Held::Words(words), maxval))
+        }
+    }
+}
+
 /// Takes each sample from the maxval.
-fn invert(samples: &mut [u16], maxval: u16)
-    requires { All (λ sample. sample ≤ maxval) samples.old }
-    ensures { samples.new ≡ map (λ sample. maxval - sample) samples.old }
+fn invert<T: Sample>(samples: &mut [T], maxval: T)
+    requires { All (λ sample. T.value sample ≤ T.value maxval) samples.old }
+    ensures { map T.value samples.new ≡ map (λ sample. T.value maxval - T.value sample) samples.old }
 {
     for sample in samples.iter_mut() {
-        *sample = maxval - *sample;
+        *sample = sample.taken_from(maxval);
     }
 }
 
@@ -41,13 +71,11 @@ impl Rows for Inverter {
     /// Changes the row in place.
     fn row(
         &self,
-        _alloc: Global,
+        alloc: Global,
         shape: Shape,
         _y: u32,
         row: Samples,
     ) -> Result<Option<Samples>, ToolFault> {
-        let mut samples = row.into_vec();
-        invert(samples.as_mut_slice(), shape.maxval as u16);
-        Ok(Some(Samples::new(samples)))
+        Ok(Some(inverted(alloc, shape.maxval, row)?))
     }
 }

@@ -4,6 +4,7 @@
 #![tactic(auto)]
 
 mod at_once;
+mod band;
 mod channel;
 mod cut;
 mod depth;
@@ -12,9 +13,11 @@ mod fault;
 mod filter;
 mod flip;
 mod invert;
+mod kept;
 pub mod laws;
 mod limits;
 mod maker;
+mod row_of;
 mod rows;
 mod state;
 mod tile;

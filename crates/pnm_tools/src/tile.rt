@@ -1,6 +1,6 @@
 //! `pnmtile`: the image side by side, from pnmtile(1).
 
-ghost use Rattle.std.specs.Prelude.{◌≡◌, ◌≤◌, ◌<◌, ◌*◌, ◌⊎◌, length, OnOk, IfOk, IfErr, Ok, Err, []};
+ghost use Rattle.std.specs.Prelude.{◌≡◌, ◌≤◌, ◌<◌, ◌*◌, ◌⊎◌, length, All, OnOk, IfOk, IfErr, Ok, Err, []};
 ghost use Rattle.pnm_image.specs.Limits.{max_row_length};
 ghost use Rattle.pnm_tools.specs.declared.fault.ToolFault.TheVariants.{Memory};
 ghost use Rattle.pnm_tools.specs.declared.tool.Tool.TheVariants.{Tile};
@@ -12,33 +12,116 @@ ghost use Rattle.pnm_tools.specs.Tools.{Takes, result_head};
 use crate::fault::ToolFault;
 use crate::limits::head_within_limits;
 use crate::maker::Maker;
-use pnm_image::{Head, Samples, Shape};
+use pnm_image::{Bits, Head, Held, Kind, Lent, Samples, Shape};
 use std::alloc::Global;
 use std::collections::VecDeque;
 use std::marker::Model;
 
-/// Lays images side by side: keeps the rows that the result shows, and gives each as often as it
-/// takes.
+/// Lays images side by side: keeps the rows that the result shows, as they came, and gives each as
+/// often as it takes.
 #[derive(Debug, Drop)]
 pub struct Tiler {
     width: u32,
     height: u32,
-    image_width: u32,
-    depth: u32,
+    /// That of the image whose rows these are, once it has ended.
+    shape: Shape,
     /// The next one first.
     rows: VecDeque<Samples>,
     /// Rows of the result that are still to be given, 0 until the image has ended.
     left: u32,
 }
 
-/// The row side by side up to so many columns.
-fn tile(
+/// A row of an image of this shape, side by side up to so many columns, held as it is.
+///
+/// # Errors
+///
+/// `Memory`, where there is none for the row.
+fn tile_row(alloc: Global, width: u32, shape: Shape, row: &Samples) -> Result<Samples, ToolFault>
+    requires row { (0 < shape.width) × (length row.now ≡ shape.width * shape.depth) }
+    requires range { All (λ sample. sample ≤ shape.maxval) row.now }
+    requires fits { width * shape.depth ≤ max_row_length }
+    ensures made { IfOk result (λ made. made ≡ tiled_row width shape.width shape.depth row.now) }
+    ensures refused { IfErr result (λ fault. fault ≡ Memory) }
+{
+    match row.lend() {
+        Lent::Bits(bits) => {
+            let bits = tile_bits(alloc, width, shape.width, shape.depth, bits)?;
+            Ok(Samples::within(Held::Bits(bits), shape.maxval))
+        }
+        Lent::Bytes(bytes) => {
+            let bytes = tile(alloc, width, shape.width, shape.depth, bytes)?;
+            Ok(Samples::within(Held::Bytes(bytes), shape.maxval))
+        }
+        Lent::Words(words) => {
+            let words = tile(alloc, width, shape.width, shape.depth, words)?;
+            Ok(Samples::within(Held::Words(words), shape.maxval))
+        }
+    }
+}
+
+/// The same of a row that isn't wanted again.
+///
+/// # Errors
+///
+/// `Memory`, where there is none for the row.
+fn tile_last_row(
+    alloc: Global,
+    width: u32,
+    shape: Shape,
+    row: Samples,
+) -> Result<Samples, ToolFault>
+    requires row { (0 < shape.width) × (length row ≡ shape.width * shape.depth) }
+    requires range { All (λ sample. sample ≤ shape.maxval) row }
+    requires fits { width * shape.depth ≤ max_row_length }
+    ensures made { IfOk result (λ made. made ≡ tiled_row width shape.width shape.depth row) }
+    ensures refused { IfErr result (λ fault. fault ≡ Memory) }
+{
+    match row.into_held() {
+        Held::Bits(bits) => {
+            let bits = tile_bits(alloc, width, shape.width, shape.depth, &bits)?;
+            Ok(Samples::within(Held::Bits(bits), shape.maxval))
+        }
+        Held::Bytes(bytes) => {
+            let bytes = tile_last(alloc, width, shape.width, shape.depth, bytes)?;
+            Ok(Samples::within(Held::Bytes(bytes), shape.maxval))
+        }
+        Held::Words(words) => {
+            let words = tile_last(alloc, width, shape.width, shape.depth, words)?;
+            Ok(Samples::within(Held::Words(words), shape.maxval))
+        }
+    }
+}
+
+/// The row side by side up to so many columns, as bits: whole rows, and a part of one.
+fn tile_bits(
     alloc: Global,
     width: u32,
     image_width: u32,
     depth: u32,
-    row: &[u16],
-) -> Result<Vec<u16>, ToolFault>
+    row: &Bits,
+) -> Result<Bits, ToolFault>
+    requires row { (0 < image_width) × (length row.now ≡ image_width * depth) }
+    requires fits { width * depth ≤ max_row_length }
+    ensures made { IfOk result (λ made. made ≡ tiled_row width image_width depth row.now) }
+    ensures refused { IfErr result (λ fault. fault ≡ Memory) }
+{
+    let mut tiled = Bits::empty(alloc);
+    for _ in 0..width / image_width {
+        tiled.append(row, 0, row.len())?;
+    }
+    let rest = (width % image_width) as usize * depth as usize;
+    tiled.append(row, 0, rest)?;
+    Ok(tiled)
+}
+
+/// The row side by side up to so many columns.
+fn tile<T: Copy>(
+    alloc: Global,
+    width: u32,
+    image_width: u32,
+    depth: u32,
+    row: &[T],
+) -> Result<Vec<T>, ToolFault>
     requires row { (0 < image_width) × (length row.now ≡ image_width * depth) }
     requires fits { width * depth ≤ max_row_length }
     ensures made { IfOk result (λ made. made.items ≡ tiled_row width image_width depth row.now) }
@@ -56,13 +139,13 @@ fn tile(
 }
 
 /// The same of a row that isn't wanted again: where it is wide enough, it is cut off.
-fn tile_last(
+fn tile_last<T: Copy>(
     alloc: Global,
     width: u32,
     image_width: u32,
     depth: u32,
-    mut row: Vec<u16>,
-) -> Result<Vec<u16>, ToolFault>
+    mut row: Vec<T>,
+) -> Result<Vec<T>, ToolFault>
     requires row { (0 < image_width) × (length row.items ≡ image_width * depth) }
     requires fits { width * depth ≤ max_row_length }
     ensures made { IfOk result (λ made. made.items ≡ tiled_row width image_width depth row.items) }
@@ -76,15 +159,15 @@ fn tile_last(
 }
 
 impl Model for Tiler {
-    ghost use Rattle.pnm_tools.specs.Keeping.{Tiled, tiled, HasTiles};
+    ghost use Rattle.pnm_tools.specs.Keeping.{Tiled, tiled, HasTiles, AreWithin};
     ghost use Rattle.std.specs.Prelude.{◌<◌};
 
     ghost Value = { Tiled };
 
-    ghost view = { λ w. tiled w.width w.height w.image_width w.depth w.rows.items w.left };
+    ghost view = { λ w. tiled w.width w.height w.shape.width w.shape.depth w.rows.items w.left };
 
     ghost invariant = { λ w. 0 < w.left
-        → HasTiles (tiled w.width w.height w.image_width w.depth w.rows.items w.left) };
+        → HasTiles (tiled w.width w.height w.shape.width w.shape.depth w.rows.items w.left) × AreWithin w.shape.maxval w.rows.items };
 }
 
 impl Maker for Tiler {
@@ -119,8 +202,7 @@ impl Maker for Tiler {
     }
 
     fn end(&mut self, shape: Shape) {
-        self.image_width = shape.width;
-        self.depth = shape.depth;
+        self.shape = shape;
         self.left = self.height;
     }
 
@@ -135,26 +217,14 @@ impl Maker for Tiler {
         let left = self.left - 1;
         self.left = 0;
         let tiled = if self.rows.len() < left as usize {
-            let tiled = tile(
-                alloc,
-                self.width,
-                self.image_width,
-                self.depth,
-                row.as_slice(),
-            )?;
+            let tiled = tile_row(alloc, self.width, self.shape, &row)?;
             self.rows.push_back(row)?;
             tiled
         } else {
-            tile_last(
-                alloc,
-                self.width,
-                self.image_width,
-                self.depth,
-                row.into_vec(),
-            )?
+            tile_last_row(alloc, self.width, self.shape, row)?
         };
         self.left = left;
-        Ok(Some(Samples::new(tiled)))
+        Ok(Some(tiled))
     }
 
     fn release(&mut self, alloc: Global) {
@@ -173,8 +243,13 @@ impl Tiler {
         Tiler {
             width,
             height,
-            image_width: 0,
-            depth: 0,
+            shape: Shape {
+                kind: Kind::Pam,
+                width: 0,
+                height: 0,
+                depth: 0,
+                maxval: 0,
+            },
             rows: VecDeque::new(alloc),
             left: 0,
         }

@@ -8,7 +8,7 @@ ghost use Rattle.pnm_tools.specs.Tools.{IsLawfulTool, Takes, is_row_wise, result
 use crate::at_once::AtOnce;
 use crate::channel::Planes;
 use crate::cut::{CutBox, Cutter};
-use crate::depth::{Rescaler, head_at};
+use crate::depth::{Rescaler, Table, head_at};
 use crate::enlarge::{Enlarger, enlarged_head};
 use crate::fault::ToolFault;
 use crate::flip::{FlipWay, Mirror, Passer, RowReverser, flipped_head};
@@ -134,7 +134,7 @@ impl Tool {
             Tool::Cut(cut) => Work::Cutting(AtOnce::new(Cutter::new(*cut))),
             Tool::Depth(maxval) => Work::Rescaling(AtOnce::new(Rescaler {
                 maxval: *maxval,
-                table: Vec::new(alloc),
+                table: Table::Absent,
             })),
             Tool::Channel(planes) => Work::Picking(AtOnce::new(planes.copy()?)),
             Tool::Enlarge(across, down) => Work::Enlarging(Enlarger::new(*across, *down)),

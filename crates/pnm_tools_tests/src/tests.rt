@@ -18,3 +18,4 @@ mod streams;
 mod texts;
 mod tile;
 mod whole;
+mod widths;

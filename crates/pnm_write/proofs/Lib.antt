@@ -4,6 +4,5 @@ pub mod DecimalText
 pub mod NumberText
 pub mod PamText
 pub mod HeaderText
-pub mod PixelText
 pub mod RowText
 pub mod ReadAgain

@@ -8,12 +8,12 @@ use Rattle.pnm_image.specs.declared.shape.Kind.TheVariants.{Bit, Gray, Color, Pa
 use Rattle.pnm_image.specs.Heads.{HeadValue, IsHead, Suits, row_length}
 use Rattle.pnm_image.specs.Images.{cut_rows}
 use Rattle.pnm_image.specs.Places.{IsRowOf}
-use Rattle.pnm_image.proofs.Rows.{length-cut_rows}
 use Rattle.pnm_image.specs.declared.packing.Packing.TheVariants.{Packed, Narrow, Wide}
 use Rattle.pnm_read.specs.Rasters.{pixels, wide_samples, raw_samples, bytes_in_row}
 use Rattle.pnm_image.specs.declared.packing.Packing.TheVariants as written
 use Rattle.pnm_write.specs.Encoding.{packed_byte, packed_bytes, wide_bytes, bytes_in, row_bytes}
-use Rattle.pnm_write.proofs.PixelText.{ArePixels, pixels_of_groups}
+use Rattle.pnm_samples.proofs.PackLaws.{length-packed_bytes}
+use Rattle.pnm_samples.proofs.PackedAgain.{ArePixels, pixels_of_groups}
 
 -- so many bytes, of which a reader makes these samples
 abbrev GivesAgain : ℕ → List ℕ → List ℕ → List ℕ → Type 0
@@ -29,9 +29,6 @@ wide_again : (row : List ℕ) → wide_samples (wide_bytes row) ≡ row
 unfolding wide_samples
 wide_again [] = refl
 wide_again (sample ∷ row) = ap₂ (λ (x : ℕ) (l : List ℕ). x ∷ l) (div-add-mod sample 256) (wide_again row)
-
-length-packed_bytes : (row : List ℕ) → length (packed_bytes row) ≡ (length row + 7) / 8
-length-packed_bytes row = length-map (cut_rows ((length row + 7) / 8) 8 row) packed_byte ∙ length-cut_rows ((length row + 7) / 8) 8 row
 
 packed_again : (width : ℕ) (row : List ℕ) → length row ≡ width → ArePixels row → GivesAgain ((width + 7) / 8) (packed_bytes row) (take width (flat_map pixels (packed_bytes row))) row
 packed_again width row count range = (

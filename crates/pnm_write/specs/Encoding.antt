@@ -10,6 +10,7 @@ use Rattle.pnm_image.specs.declared.shape.Kind.TheVariants.{Bit, Gray, Color, Pa
 use Rattle.pnm_image.specs.declared.shape.Shape.{Shape}
 use Rattle.pnm_image.specs.Heads.{HeadValue}
 use Rattle.pnm_image.specs.Images.{Image, cut_rows, rows_of}
+pub use Rattle.pnm_samples.specs.Pixels.{pixel_bits, packed_byte, packed_groups, packed_bytes}
 use Rattle.pnm_image.specs.Packings.{packing_of}
 use Rattle.pnm_image.specs.Places.{place_after}
 use Rattle.pnm_image.specs.declared.packing.Packing.{Packing}
@@ -52,24 +53,6 @@ abbrev pub header_text : HeadValue → List ℕ
 header_text h = kind_text h.shape.kind h.shape h.tuple_type
 
 -- ---- rows
-
--- The number of pixels as bits, the first in the bit of this weight, each next one in the bit to its right.
--- Black, which is sample 0, is 1. Bits without a pixel are 0.
-abbrev pub pixel_bits : ℕ → List ℕ → ℕ
-pixel_bits weight [] = 0
-pixel_bits weight (sample ∷ samples) = weight * (1 - sample) + pixel_bits (weight / 2) samples
-
--- the byte of up to eight pixels, the most significant bit leftmost
-abbrev pub packed_byte : List ℕ → ℕ
-packed_byte pixels = pixel_bits 128 pixels
-
--- so many bytes of eight pixels each
-abbrev pub packed_groups : ℕ → List ℕ → List ℕ
-packed_groups count samples = map packed_byte (cut_rows count 8 samples)
-
--- eight pixels a byte; the last byte may have spare bits
-abbrev pub packed_bytes : List ℕ → List ℕ
-packed_bytes samples = packed_groups ((length samples + 7) / 8) samples
 
 -- two bytes a sample, the most significant first
 abbrev pub wide_bytes : List ℕ → List ℕ

@@ -7,10 +7,65 @@ ghost use Rattle.pnm_image.specs.Devices.{FailsIn};
 
 use crate::packing::most_samples;
 use crate::room::Room;
-use pnm_image::{BytesOut, DeviceFailed, Packing, Shape, write_all};
+use pnm_image::{BytesOut, DeviceFailed, Lent, Packing, Samples, Shape, write_all};
+
+/// The most samples that are copied at a time, a number of whole bytes of pixels.
+const MOST: usize = 2048;
+
+/// Writes the samples of a row of an image of this shape: as they are, where they are as wide as
+/// their bytes.
+pub fn write_samples<W: BytesOut>(
+    writer: &mut W,
+    room: &mut Room,
+    shape: Shape,
+    row: &Samples,
+) -> Result<(), DeviceFailed>
+    requires { All (λ sample. sample ≤ shape.maxval) row.now }
+    ensures written { OnOk result (Appends (W.held writer.old) (W.held writer.new) (row_bytes shape row.now)) }
+    ensures failed { OnErr result
+        (FailsIn (row_bytes shape row.now) (W.held writer.old) (W.held writer.new)
+        (W.failures writer.old) (W.failures writer.new)) }
+    ensures count { OnOk result (W.failures writer.new ≡ W.failures writer.old) }
+    ensures same_device { W.same writer.old writer.new }
+{
+    match (Packing::of(shape.kind, shape.maxval), row.lend()) {
+        (Packing::Packed, Lent::Bits(bits)) => write_all(writer, bits.as_bytes()),
+        (Packing::Narrow, Lent::Bytes(bytes)) => write_all(writer, bytes),
+        (_, Lent::Words(words)) => write_words(writer, room, shape, words),
+        (_, Lent::Bits(_) | Lent::Bytes(_)) => write_others(writer, room, shape, row),
+    }
+}
+
+/// Writes samples that are held otherwise than their bytes, some at a time.
+fn write_others<W: BytesOut>(
+    writer: &mut W,
+    room: &mut Room,
+    shape: Shape,
+    row: &Samples,
+) -> Result<(), DeviceFailed>
+    requires { All (λ sample. sample ≤ shape.maxval) row.now }
+    ensures written { OnOk result (Appends (W.held writer.old) (W.held writer.new) (row_bytes shape row.now)) }
+    ensures failed { OnErr result
+        (FailsIn (row_bytes shape row.now) (W.held writer.old) (W.held writer.new)
+        (W.failures writer.old) (W.failures writer.new)) }
+    ensures count { OnOk result (W.failures writer.new ≡ W.failures writer.old) }
+    ensures same_device { W.same writer.old writer.new }
+{
+    let packing = Packing::of(shape.kind, shape.maxval);
+    let mut words = [0; MOST];
+    let mut start = 0;
+    while start < row.len() {
+        let count = (row.len() - start).min(MOST);
+        row.copy_to(start, &mut words[..count]);
+        room.fill(packing, &words[..count]);
+        write_all(writer, room.as_slice())?;
+        start += count;
+    }
+    Ok(())
+}
 
 /// Writes the samples of a row of an image of this shape, as many at a time as there is room for.
-pub fn write_row<W: BytesOut>(
+fn write_words<W: BytesOut>(
     writer: &mut W,
     room: &mut Room,
     shape: Shape,

@@ -10,7 +10,7 @@ ghost use Rattle.pnm_write.specs.Sinks.{writer_of, next_place, has_failed, HasRo
 use crate::fault::SinkFault;
 use crate::header::write_header;
 use crate::room::Room;
-use crate::row::write_row;
+use crate::row::write_samples;
 use pnm_image::{BytesOut, DeviceFailed, Message, Place};
 
 /// Writes the messages of a stream of images as raw Netpbm images, one after another: PBM, PGM,
@@ -157,7 +157,7 @@ fn write_message<W: BytesOut>(
     match message {
         Message::Begin(head) => write_header(writer, room, head),
         Message::Row(row) => match place {
-            Place::Inside(shape, _) => write_row(writer, room, shape, row.as_slice()),
+            Place::Inside(shape, _) => write_samples(writer, room, shape, row),
             Place::Between | Place::After => Ok(()),
         },
         Message::ImageEnd => writer.flush(),

@@ -78,12 +78,25 @@ pub fn message(alloc: Global, part: Part<'_>) -> Result<Message, Unmade> {
 pub fn is_made_of(message: &Message, part: Part<'_>) -> bool {
     match (message, part) {
         (Message::Begin(head), Part::Begin(width, height)) => head.shape() == shape(width, height),
-        (Message::Row(row), Part::Row(samples)) => row.as_slice() == samples,
+        (Message::Row(row), Part::Row(samples)) => has_samples(row, samples),
         (Message::ImageEnd, Part::ImageEnd) => true,
         (Message::StreamEnd, Part::StreamEnd) => true,
         (Message::Stop, Part::Stop) => true,
         _ => false,
     }
+}
+
+/// Whether the row has these samples.
+fn has_samples(row: &Samples, samples: &[u16]) -> bool {
+    if row.len() != samples.len() {
+        return false;
+    }
+    for (at, sample) in samples.iter().enumerate() {
+        if row.sample(at) != *sample {
+            return false;
+        }
+    }
+    true
 }
 
 /// A ring for so many messages.

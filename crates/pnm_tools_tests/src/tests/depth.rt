@@ -14,7 +14,7 @@ fn rescaled(alloc: Global, new: u16, old: u16, samples: &[u16]) -> Result<Vec<u1
     let parts = [head, Part::Row(samples), Part::ImageEnd];
     let given = results(alloc, &Tool::Depth(u32::from(new)), &parts)?;
     match given.get(1) {
-        Some(Message::Row(row)) => Ok(Vec::from_slice(alloc, row.as_slice())?),
+        Some(Message::Row(row)) => Ok(row.to_words(alloc)?),
         _ => Err(Fail::new("no row")),
     }
 }

@@ -1,8 +1,8 @@
 //! Messages, what they are made of, and what a tool answers to them.
 
-use pnm_image::{Head, HeadFault, Kind, Message, Samples, Shape};
+use pnm_image::{Bits, Head, HeadFault, Held, Kind, Message, Samples, Shape};
 use pnm_tools::{CutBox, Filter, Planes, Tool, ToolFault, ToolState};
-use std::alloc::{AllocError, Global};
+use std::alloc::{AllocError, AllocFailed, Global};
 use std::fmt;
 use std::process::Abort;
 use std::test::Fail;
@@ -38,6 +38,12 @@ pub(super) struct Unmade;
 
 impl From<AllocError> for Unmade {
     fn from(_error: AllocError) -> Unmade {
+        Unmade
+    }
+}
+
+impl<T: Drop> From<AllocFailed<T>> for Unmade {
+    fn from(_error: AllocFailed<T>) -> Unmade {
         Unmade
     }
 }
@@ -123,6 +129,65 @@ pub(super) fn message(alloc: Global, part: Part<'_>) -> Result<Message, Unmade> 
     }
 }
 
+/// The same message, and a row in as few bits as hold its samples.
+fn narrow_message(alloc: Global, part: Part<'_>) -> Result<Message, Unmade> {
+    match part {
+        Part::Row(samples) => Ok(Message::Row(narrow(alloc, samples)?)),
+        part => message(alloc, part),
+    }
+}
+
+/// The samples, each in as few bits as hold all of them: one, 8 or 16.
+pub(super) fn narrow(alloc: Global, samples: &[u16]) -> Result<Samples, Unmade> {
+    let held = if samples.iter().all(|sample| *sample <= 1) {
+        Held::Bits(bits_of(alloc, samples)?)
+    } else if samples.iter().all(|sample| *sample <= 255) {
+        Held::Bytes(bytes_of(alloc, samples)?)
+    } else {
+        Held::Words(Vec::from_slice(alloc, samples)?)
+    };
+    Ok(Samples::from_held(held))
+}
+
+/// The samples as pixels of one bit, 0 as black.
+fn bits_of(alloc: Global, samples: &[u16]) -> Result<Bits, Unmade> {
+    let mut bytes = Vec::new(alloc);
+    for pixels in samples.chunks(8) {
+        let mut byte: u8 = 0;
+        let mut bit: u8 = 128;
+        for sample in pixels {
+            if *sample == 0 {
+                byte |= bit;
+            }
+            bit /= 2;
+        }
+        bytes.push(byte)?;
+    }
+    Ok(Bits::new(bytes, samples.len()))
+}
+
+/// The samples modulo 256.
+fn bytes_of(alloc: Global, samples: &[u16]) -> Result<Vec<u8>, Unmade> {
+    let mut bytes = Vec::new(alloc);
+    for sample in samples {
+        bytes.push((*sample % 256) as u8)?;
+    }
+    Ok(bytes)
+}
+
+/// Whether the row has these samples.
+fn has_samples(row: &Samples, samples: &[u16]) -> bool {
+    if row.len() != samples.len() {
+        return false;
+    }
+    for (at, sample) in samples.iter().enumerate() {
+        if row.sample(at) != *sample {
+            return false;
+        }
+    }
+    true
+}
+
 /// Whether the message is made of this.
 pub(super) fn is_made_of(message: &Message, part: Part<'_>) -> bool {
     match (message, part) {
@@ -133,7 +198,7 @@ pub(super) fn is_made_of(message: &Message, part: Part<'_>) -> bool {
             let shape = pam(width, height, depth, maxval);
             head.shape() == shape && head.tuple_type() == tuple_type.as_bytes()
         }
-        (Message::Row(row), Part::Row(samples)) => row.as_slice() == samples,
+        (Message::Row(row), Part::Row(samples)) => has_samples(row, samples),
         (Message::ImageEnd, Part::ImageEnd) => true,
         (Message::StreamEnd, Part::StreamEnd) => true,
         (Message::Stop, Part::Stop) => true,
@@ -198,7 +263,8 @@ pub(super) fn answers(
     Ok(())
 }
 
-/// The tool answers these messages by those, and the last of them by this fault, if any.
+/// The tool answers these messages by those, and the last of them by this fault, if any, whether rows
+/// are held as words or in as few bits as hold their samples.
 pub(super) fn answers_so(
     rt: &impl Abort,
     alloc: Global,
@@ -207,8 +273,18 @@ pub(super) fn answers_so(
     wants: &[Part<'_>],
     fault: Option<ToolFault>,
 ) -> Result<(), Fail> {
-    let mut state = start(alloc, tool)?;
-    answers_at_work(rt, alloc, tool, &mut state, parts, wants, fault)
+    for is_narrow in [false, true] {
+        let mut state = start(alloc, tool)?;
+        answers_at_work(
+            rt,
+            alloc,
+            tool,
+            &mut state,
+            (parts, wants, fault),
+            is_narrow,
+        )?;
+    }
+    Ok(())
 }
 
 /// The same of the tool at work.
@@ -217,15 +293,19 @@ fn answers_at_work(
     alloc: Global,
     tool: &Tool,
     state: &mut ToolState,
-    parts: &[Part<'_>],
-    wants: &[Part<'_>],
-    fault: Option<ToolFault>,
+    (parts, wants, fault): Case<'_>,
+    is_narrow: bool,
 ) -> Result<(), Fail> {
     let mut given = Vec::new(alloc);
     let mut answer = Ok(());
     for part in parts {
         holds(rt, answer.is_ok(), &answer, part, tool);
-        answer = state.feed(message(alloc, *part)?);
+        let message = if is_narrow {
+            narrow_message(alloc, *part)?
+        } else {
+            message(alloc, *part)?
+        };
+        answer = state.feed(message);
         if answer.is_ok() {
             take_all(state, &mut given)?;
         }

@@ -1,26 +1,21 @@
-use Rattle.std.proofs.Common.{rules, ◌≡◌, ◌≤◌, ◌++◌, ℕ, List, arith, inr, refl, ap, ◌∙◌, map-id}
+use Rattle.std.proofs.Common.{rules, ◌≡◌, ◌++◌, ℕ, List, arith, inr, refl, ap, ◌∙◌, map-id}
 use Rattle.std.proofs.lemmas.Result.{on_ok_weaker}
 use Rattle.std.proofs.lemmas.Iterator.{YieldsList-from_map}
 use Rattle.std.proofs.lemmas.Iterator.Adapters.{items_from_extend}
 use Rattle.pnm_read.specs.Rasters.{wide_samples}
-use Rattle.pnm_read.proofs.PackingLaws.{wide_samples_of_pairs, at_no_error, bound_of_appended}
+use Rattle.pnm_read.proofs.PackingLaws.{wide_samples_of_pairs, at_no_error, within_of_appended, refused_not_within}
 use Rattle.pnm_read.proofs.packing.append_wide.Goals as goal
 
-pub returns-then-from-maxval : goal.returns-then-from-maxval
-returns-then-from-maxval c =
+pub returns-then-not-are_words_within : goal.returns-then-not-are_words_within
+returns-then-not-are_words_within c =
     let ran = items_from_extend c.extend.result c.extend.ensures.ran (YieldsList-from_map _ (λ n. n) (wide_samples_of_pairs c.args.bytes.now _ (cc) (cc)) c.map-samples.ensures.closure (λ x r q k. search rules)) in
     let items : c.extend.new.self.items ≡ c.args.row.now.items ++ wide_samples c.args.bytes.now = at_no_error _ c.extend.result (cc) (on_ok_weaker c.extend.result (λ h. h.0 ∙ ap (λ (l : List ℕ). c.args.row.now.items ++ l) (map-id (wide_samples c.args.bytes.now))) ran) in
-    let bound = bound_of_appended c.args.row.now.items (wide_samples c.args.bytes.now) c.deref.result.now c.len-before.result c.greatest.result (c.deref.ensures.value ∙ items) (omega arith) c.greatest.ensures c.args.maxval in
-    inr (
-      refl,
-      λ all.
-          let le : c.greatest.result ≤ c.args.maxval = bound.1 all in
-          omega arith,
-    )
+    let within = within_of_appended c.args.row.now.items (wide_samples c.args.bytes.now) c.deref.result.now c.len-before.result c.args.maxval c.are_words_within.result (c.deref.ensures.value ∙ items) (omega arith) c.are_words_within.ensures in
+    inr (refl, refused_not_within (wide_samples c.args.bytes.now) c.args.maxval c.are_words_within.result c.if-not-are_words_within.true within)
 
 pub returns : goal.returns
 returns c =
     let ran = items_from_extend c.extend.result c.extend.ensures.ran (YieldsList-from_map _ (λ n. n) (wide_samples_of_pairs c.args.bytes.now _ (cc) (cc)) c.map-samples.ensures.closure (λ x r q k. search rules)) in
     let items : c.extend.new.self.items ≡ c.args.row.now.items ++ wide_samples c.args.bytes.now = at_no_error _ c.extend.result (cc) (on_ok_weaker c.extend.result (λ h. h.0 ∙ ap (λ (l : List ℕ). c.args.row.now.items ++ l) (map-id (wide_samples c.args.bytes.now))) ran) in
-    let bound = bound_of_appended c.args.row.now.items (wide_samples c.args.bytes.now) c.deref.result.now c.len-before.result c.greatest.result (c.deref.ensures.value ∙ items) (omega arith) c.greatest.ensures c.args.maxval in
-    (items, bound.0 (omega arith))
+    let within = within_of_appended c.args.row.now.items (wide_samples c.args.bytes.now) c.deref.result.now c.len-before.result c.args.maxval c.are_words_within.result (c.deref.ensures.value ∙ items) (omega arith) c.are_words_within.ensures in
+    (items, within.0 cc)

@@ -20,5 +20,8 @@ loop-shape-preserved g c =
     let longer : vec_len c.push.new.self ≡ vec_len c.loop-shape.row + 1 = search rules in
     samples_more c.in_ok-sample.sample (c.row_length-length.result - vec_len c.push.new.self) c.push.new.self.items g.met.R.BytesIn.same_later c.loop-shape.invariant (omega arith) (omega arith) (search rules) c.in_ok-sample.ensures
 
+pub within-requires : goal.within-requires
+within-requires g c = rw (c.from-bound.ensures, ← c.as_slice.ensures.value) ((c.greatest.ensures c.greatest.result).0 (omega arith))
+
 pub returns : goal.returns
-returns g c = samples_read c.new.result c.loop-shape.invariant c.row_length-length.ensures (omega arith) c.new.ensures
+returns g c = samples_read c.within.result c.loop-shape.invariant c.row_length-length.ensures (omega arith) c.within.ensures

@@ -1,6 +1,6 @@
-use Rattle.std.proofs.Common.{◌≡◌, ◌+◌, ◌++◌, map, take, slice_index}
+use Rattle.pnm_tools.proofs.PickLaws.{HasPlanesOf}
 use Rattle.pnm_tools.proofs.channel.pick_pixel.Given as goal
 
--- the planes that have passed were added
-abbrev pub invariant-loop-number : goal.invariant-loop-number
-invariant-loop-number l = l.picked.items ≡ l.initial.picked.items ++ map (λ number. slice_index l.row (l.first + number)) (take l.number-index l.numbers)
+-- the planes that have passed were picked
+abbrev pub invariant-loop-at : goal.invariant-loop-at
+invariant-loop-at g l = HasPlanesOf l.numbers l.row l.first l.at l.room

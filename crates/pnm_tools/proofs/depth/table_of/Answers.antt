@@ -1,11 +1,6 @@
-use Rattle.std.proofs.Common.{rules, ◌≡◌, ◌++◌, [], ◌∷◌, List, ℕ, ◌∙◌, ap, sym, arith}
-use Rattle.std.proofs.lemmas.List.FromFn.{map-range_with_len_more}
-use Rattle.pnm_tools.specs.Depth.{nearest_sample}
+use Rattle.std.proofs.Common.{◌∙◌}
+use Rattle.pnm_tools.proofs.DepthRowLaws.{table_within}
 use Rattle.pnm_tools.proofs.depth.table_of.Goals as goal
 
-pub loop-sample-preserved : goal.loop-sample-preserved
-loop-sample-preserved c =
-    let f : ℕ → ℕ = nearest_sample c.args.new c.args.old in
-    let s = c.loop-sample.sample in
-    let pushed : c.push.new.self.items ≡ c.loop-sample.table.items ++ f s ∷ [] = search rules in
-    pushed ∙ ap (λ (l : List ℕ). l ++ f s ∷ []) c.loop-sample.invariant ∙ sym (map-range_with_len_more f 0 s s (omega arith))
+pub into_bytes-requires : goal.into_bytes-requires
+into_bytes-requires c = table_within c.args.new c.args.old 255 c.new.result c.requires.limits.2 c.if-new-le-GREATEST_BYTE.true (c.new.ensures ∙ c.in_ok-words.ensures.made)

@@ -1,11 +1,21 @@
-use Rattle.std.proofs.Common.{◌-◌, ◌<◌, length, get_or, arith}
-use Rattle.std.proofs.lemmas.List.{get_or_default}
-use Rattle.std.proofs.lemmas.List.Edits.{map_over_more}
+use Rattle.std.proofs.Common.{◌≤◌, ◌-◌, refl, sym, subst, arith}
+use Rattle.pnm_tools.proofs.ValueLaws.{unchanged_at, changed_more, changed_all}
 use Rattle.pnm_tools.proofs.invert.invert.Goals as goal
 
+pub loop-sample-init : goal.loop-sample-init
+loop-sample-init g c = record { done = refl; rest = refl }
+
+pub taken_from-requires : goal.taken_from-requires
+taken_from-requires g c =
+    let value = g.T.Sample.value in let i = c.loop-sample.sample-index in let x = c.sample-item.result in
+    subst (λ s. value s ≤ value c.args.maxval) (sym (unchanged_at i c.args.samples.now c.loop-sample.samples x c.loop-sample.invariant.rest)) (c.requires i x c.loop-sample-test.true)
+
 pub loop-sample-preserved : goal.loop-sample-preserved
-loop-sample-preserved c =
-    let s = c.loop-sample.samples in
-    let i = c.loop-sample.sample-index in
-    let here : i < length s = omega arith in
-    map_over_more (λ sample. c.args.maxval - sample) c.args.samples.now s i (get_or s i 0) c.loop-sample-test.true c.loop-sample.invariant (get_or_default s i 0 (get_or s i 0) here)
+loop-sample-preserved g c =
+    let value = g.T.Sample.value in
+    changed_more value (λ sample. value c.args.maxval - value sample) c.loop-sample.sample-index c.args.samples.now c.loop-sample.samples c.taken_from.result c.sample-item.result (omega arith) (omega arith) c.taken_from.ensures c.loop-sample.invariant
+
+pub returns : goal.returns
+returns g c =
+    let value = g.T.Sample.value in
+    changed_all value (λ sample. value c.args.maxval - value sample) c.loop-sample.sample-index c.args.samples.now c.loop-sample.samples (omega arith) (omega arith) c.loop-sample.invariant

@@ -4,7 +4,7 @@ use Rattle.pnm_tools.proofs.tile.tile.Given as goal
 
 -- so many columns stand, all of them or whole copies of the row
 abbrev pub invariant-loop-tiled : goal.invariant-loop-tiled
-invariant-loop-tiled l = IsTiledFront l.fn.width l.fn.image_width l.fn.depth l.fn.row l.tiled.items
+invariant-loop-tiled g l = IsTiledFront l.fn.width l.fn.image_width l.fn.depth l.fn.row l.tiled.items
 
 abbrev pub decreases-loop-tiled : goal.decreases-loop-tiled
-decreases-loop-tiled l = l.filled - length l.tiled.items
+decreases-loop-tiled g l = l.filled - length l.tiled.items

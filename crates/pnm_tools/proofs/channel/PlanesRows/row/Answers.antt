@@ -6,6 +6,6 @@ use Rattle.pnm_tools.proofs.channel.PlanesRows.row.Goals as goal
 pub returns-clause-row : goal.returns-clause-row
 returns-clause-row c =
     let s = c.args.shape in
-    let numbers = c.as_slice.ensures.value ∙ ap (λ (p : Picks). p.numbers) c.self.view_is in
+    let numbers = c.as_slice-numbers.ensures.value ∙ ap (λ (p : Picks). p.numbers) c.self.view_is in
     row_of_channel c.args.self.now s c.args._y c.args.row
-    ∙ ap (λ (l : List ℕ). l ∷ []) (sym (c.new.ensures ∙ c.in_ok-picked.ensures.picked ∙ ap (λ (l : List ℕ). picked_samples l s c.as_slice-2.result.now) numbers ∙ ap (picked_samples c.args.self.now.numbers s) c.as_slice-2.ensures))
+    ∙ ap (λ (l : List ℕ). l ∷ []) (sym (c.in_ok-picked.ensures ∙ ap (λ (l : List ℕ). picked_samples l s c.args.row) numbers))

@@ -14,5 +14,6 @@ returns-clause-ready c =
       filled = c.in_ok-tiled.ensures.limits;
       rows = c.in_ok-self-inside.ensures.items ∙ sym (take_all x.height [] (omega arith));
       lengths = search rules;
+      range = search rules;
       none_given = refl;
     }

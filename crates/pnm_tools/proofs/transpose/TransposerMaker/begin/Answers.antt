@@ -1,4 +1,7 @@
 use Rattle.std.proofs.Common.{ap, ◌∙◌}
+use Rattle.pnm_image.specs.declared.shape.Shape.{Shape}
+use Rattle.pnm_image.specs.Packings.{packing_of}
+use Rattle.pnm_tools.specs.Kept.{kept_rows, kept_packing}
 use Rattle.pnm_tools.specs.Keeping.{Transposed, transposed}
 use Rattle.pnm_tools.proofs.FlipRowLaws.{ready_to_transpose}
 use Rattle.pnm_tools.proofs.transpose.TransposerMaker.begin.Goals as goal
@@ -6,5 +9,7 @@ use Rattle.pnm_tools.proofs.transpose.TransposerMaker.begin.Goals as goal
 pub returns-clause-ready : goal.returns-clause-ready
 returns-clause-ready c =
     let x = c.self.inside in
-    ready_to_transpose (transposed x.depth c.in_ok-self-inside.field-0.items x.band.items x.next x.columns) c.args.head.now c.in_ok-transposed.transposed c.shape.ensures.sound.limits c.in_ok-transposed.ensures.made
-    c.in_ok-self-inside.ensures.items (ap (λ (w : Transposed). w.band) c.self.view_is ∙ c.clear.ensures.rows.1) (ap (λ (w : Transposed). w.next) c.self.view_is ∙ c.clear.ensures.columns.0) (ap (λ (w : Transposed). w.columns) c.self.view_is ∙ c.clear.ensures.columns.1)
+    let rows = c.in_ok-self-inside.field-0 in
+    ready_to_transpose (transposed x.depth (kept_packing rows) (kept_rows rows) x.band.items x.next x.columns) c.args.head.now c.in_ok-transposed.transposed c.shape-shape.ensures.sound c.in_ok-transposed.ensures.made
+    (c.in_ok-self-inside.ensures.packing ∙ c.of-packing.ensures ∙ ap (λ (s : Shape). packing_of s.kind s.maxval) c.shape-shape.ensures.shape)
+    c.in_ok-self-inside.ensures.empty (ap (λ (w : Transposed). w.band) c.self.view_is ∙ c.clear.ensures.rows.1) (ap (λ (w : Transposed). w.next) c.self.view_is ∙ c.clear.ensures.columns.0) (ap (λ (w : Transposed). w.columns) c.self.view_is ∙ c.clear.ensures.columns.1)

@@ -1,6 +1,0 @@
-use Rattle.std.proofs.Common.{◌≤◌, ◌↔◌, ℕ, All, take}
-use Rattle.pnm_image.proofs.place.greatest.Given as goal
-
--- the greatest of the samples that have passed
-abbrev pub invariant-loop-sample : goal.invariant-loop-sample
-invariant-loop-sample l = (most : ℕ) → (l.greatest ≤ most) ↔ All (λ sample. sample ≤ most) (take l.sample-index l.row)

@@ -1,0 +1,25 @@
+//! Messages: one may go to another thread.
+
+use pnm_image::{Message, Samples};
+use std::test::Fail;
+
+/// Hands a value on, as a channel between threads does.
+fn handed_on<T: Send>(value: T) -> T {
+    value
+}
+
+/// Whether the message is a row of one sample, which is this one.
+fn is_row_of(message: &Message, sample: u16) -> bool {
+    match message {
+        Message::Row(row) => row.len() == 1 && row.sample(0) == sample,
+        _ => false,
+    }
+}
+
+#[test]
+fn messages_go_between_threads(rt: HostRuntime) -> Result<(), Fail> {
+    let row = Samples::new(vec![in rt.alloc(); 7]?);
+    let message = handed_on(Message::Row(row));
+    assert!(rt; is_row_of(&message, 7), "the message is another");
+    Ok(())
+}

@@ -1,0 +1,9 @@
+pub mod BlockLaws
+pub mod BoundLaws
+pub mod ColumnLaws
+pub mod CutLaws
+pub mod MirrorLaws
+pub mod PackLaws
+pub mod PackedAgain
+pub mod PixelLaws
+pub mod RepeatLaws

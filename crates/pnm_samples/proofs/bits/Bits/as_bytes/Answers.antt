@@ -1,0 +1,17 @@
+use Rattle.std.proofs.Common.{length, ap, arith, ◌≡◌, ◌∙◌, subst}
+use Rattle.std.proofs.lemmas.Grind.{common_steps}
+use Rattle.pnm_samples.specs.Pixels.{AreBytes}
+use Rattle.pnm_samples.proofs.PixelLaws.{packed_view, length_of_packed}
+use Rattle.pnm_samples.proofs.bits.Bits.as_bytes.Goals as goal
+
+pub returns-clause-bytes : goal.returns-clause-bytes
+returns-clause-bytes c =
+    let same : c.bytes_of.result.now ≡ c.self.inside.bytes.items = grind (arith, common_steps) in
+    let fit : AreBytes c.self.inside.bytes.items = subst AreBytes same c.bytes_of.ensures.fit in
+    same ∙ packed_view c.self.inside.count c.self.inside.bytes.items c.args.self.now c.self.invariant fit c.self.view_is
+
+pub returns-clause-count : goal.returns-clause-count
+returns-clause-count c =
+    let same : c.bytes_of.result.now ≡ c.self.inside.bytes.items = grind (arith, common_steps) in
+    let bytes = c.self.inside.bytes.items in
+    omega (arith, ap length same, c.self.invariant.enough, length_of_packed c.self.inside.count bytes c.self.invariant, ap length c.self.view_is)

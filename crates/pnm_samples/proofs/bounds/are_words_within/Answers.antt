@@ -1,0 +1,13 @@
+use Rattle.std.proofs.Common.{◌≤◌, arith}
+use Rattle.std.proofs.lemmas.Bool.{leb-true, le-leb}
+use Rattle.pnm_samples.proofs.bounds.are_words_within.Goals as goal
+
+pub returns-else-most-ge-GREATEST_WORD : goal.returns-else-most-ge-GREATEST_WORD
+returns-else-most-ge-GREATEST_WORD c = (
+  λ t.
+      let le : c.from.result ≤ c.args.most = leb-true _ _ t in
+      (c.greatest.ensures c.args.most).0 (omega arith),
+  λ all.
+      let le = (c.greatest.ensures c.args.most).1 all in
+      le-leb _ _ (omega arith),
+)

@@ -1,0 +1,5 @@
+pub mod Cuts
+pub mod Pixels
+pub mod Held
+pub mod Blocks
+pub mod Columns

@@ -1,0 +1,332 @@
+//! A row of pixels of one bit, as they lie in a file.
+
+ghost use Rattle.std.specs.Prelude.{◌≡◌, ℕ, ◌+◌, ◌-◌, ◌*◌, ◌/◌, ◌%◌, ◌^◌, ◌<◌, ◌≤◌, List, [], ◌∷◌, ◌++◌, length, take, drop, map, replicate, OnOk, OnErr, IfOk, IsTrue, ◌↔◌, All, slice_index};
+ghost use Rattle.pnm_samples.specs.Pixels.{pixel_at, pixels, all_pixels, ArePacked, AreBytes, packed_bytes};
+
+use std::alloc::{AllocError, Global};
+use std::marker::Model;
+
+mod mirror;
+mod repeat;
+
+/// Pixels of one bit: eight a byte, the most significant bit leftmost, 1 is black, which is sample 0.
+#[derive(Debug, Drop)]
+pub struct Bits {
+    bytes: Vec<u8>,
+    count: usize,
+}
+
+impl Model for Bits {
+    ghost use Rattle.std.specs.Prelude.{List, ℕ, take};
+    ghost use Rattle.pnm_samples.specs.Pixels.{all_pixels, ArePacked};
+
+    ghost Value = { List ℕ };
+
+    ghost view = { λ b. take b.count (all_pixels b.bytes.items) };
+
+    ghost invariant = { λ b. ArePacked b.count b.bytes.items };
+}
+
+impl Bits {
+    /// So many pixels of these bytes, or all, without a copy. Spare bits of the last byte are cleared.
+    pub fn new(bytes: Vec<u8>, count: usize) -> Bits
+        ensures { result ≡ take count (all_pixels bytes.items) }
+    {
+        let mut bytes = bytes;
+        let count = count.min(bytes.len().saturating_mul(8));
+        bytes.truncate(count.div_ceil(8));
+        clear_spare(bytes.as_mut_slice(), count);
+        Bits { bytes, count }
+    }
+
+    /// No pixels.
+    pub fn empty(alloc: Global) -> Bits
+        ensures { result ≡ [] }
+    {
+        Bits {
+            bytes: Vec::new(alloc),
+            count: 0,
+        }
+    }
+
+    /// Equal pixels.
+    pub fn copy(&self, alloc: Global) -> Result<Bits, AllocError>
+        ensures { IfOk result (λ copy. copy ≡ self.now) }
+    {
+        Ok(Bits {
+            bytes: Vec::from_slice(alloc, self.bytes.as_slice())?,
+            count: self.count,
+        })
+    }
+
+    /// How many pixels these are.
+    pub fn len(&self) -> usize
+        ensures { result ≡ length self.now }
+    {
+        self.count
+    }
+
+    /// The bytes of the pixels, with white spare bits.
+    pub fn as_bytes(&self) -> &[u8]
+        ensures bytes { result.now ≡ packed_bytes self.now }
+        ensures count { length result.now ≡ (length self.now + 7) / 8 }
+        ensures pixels { self.now ≡ take (length self.now) (all_pixels result.now) }
+    {
+        bytes_of(self.bytes.as_slice())
+    }
+
+    /// A pixel.
+    pub fn pixel(&self, at: usize) -> u16
+        requires { at < length self.now }
+        ensures { result ≡ slice_index self.now at }
+    {
+        pixel_at((7 - at % 8) as u32, self.bytes[at / 8])
+    }
+
+    /// The greatest number that a pixel can be.
+    pub(crate) fn bound(&self) -> u32
+        ensures white { result ≡ 1 }
+        ensures within { All (λ sample. sample ≤ result) self.now }
+    {
+        let _ = &self.bytes;
+        1
+    }
+
+    /// Whether no pixel is above this number. None is looked at where none can be.
+    pub fn are_within(&self, most: u32) -> bool
+        ensures { IsTrue result ↔ All (λ sample. sample ≤ most) self.now }
+    {
+        let _ = &self.bytes;
+        if most > 0 {
+            return true;
+        }
+        for at in 0..self.len() {
+            if self.pixel(at) > 0 {
+                return false;
+            }
+        }
+        true
+    }
+
+    /// The samples as words.
+    ///
+    /// # Errors
+    ///
+    /// Where there is no memory for them.
+    pub fn widened(&self, alloc: Global) -> Result<Vec<u16>, AllocError>
+        ensures { IfOk result (λ words. words.items ≡ self.now) }
+    {
+        let mut words = all_samples(alloc, self.bytes.as_slice())?;
+        words.truncate(self.count);
+        Ok(words)
+    }
+
+    /// Exchanges black and white, in place.
+    pub fn invert(&mut self)
+        ensures { self.new ≡ map (λ s. 1 - s) self.old }
+    {
+        complement(self.bytes.as_mut_slice());
+        clear_spare(self.bytes.as_mut_slice(), self.count);
+    }
+
+    /// Appends a run of so many pixels of a row, from the start on.
+    pub fn append(&mut self, from: &Bits, start: usize, count: usize) -> Result<(), AllocError>
+        requires { start + count ≤ length from.now }
+        ensures appended { OnOk result (self.new ≡ self.old ++ take count (drop start from.now)) }
+        ensures failed { OnErr result (self.new ≡ self.old) }
+    {
+        let held = self.count;
+        if held >= MOST || from.count >= MOST {
+            return Err(AllocError);
+        }
+        self.bytes.resize((held + count).div_ceil(8), 0)?;
+        place_run(
+            self.bytes.as_mut_slice(),
+            held,
+            from.bytes.as_slice(),
+            start,
+            count,
+        );
+        clear_spare(self.bytes.as_mut_slice(), held + count);
+        self.count = held + count;
+        Ok(())
+    }
+}
+
+/// More pixels than there is memory for.
+const MOST: usize = 4_611_686_018_427_387_904;
+
+/// The bytes, of which it is known then that each one is below 256.
+fn bytes_of(bytes: &[u8]) -> &[u8]
+    ensures same { result.now ≡ bytes.now }
+    ensures fit { AreBytes result.now }
+{
+    bytes
+}
+
+/// The samples of all pixels of bytes. The room is there first, and the stores of each byte's
+/// pixels then grow nothing.
+fn all_samples(alloc: Global, bytes: &[u8]) -> Result<Vec<u16>, AllocError>
+    ensures { IfOk result (λ words. words.items ≡ all_pixels bytes.now) }
+{
+    let Some(count) = bytes.len().checked_mul(8) else {
+        return Err(AllocError);
+    };
+    let mut words = Vec::new(alloc);
+    words.resize(count, 0)?;
+    let mut at = 0;
+    for byte in bytes {
+        store_pixels(&mut words[at..at + 8], *byte);
+        at += 8;
+    }
+    Ok(words)
+}
+
+/// Stores the pixels of a byte as samples.
+#[tactic(auto, unfolding(crate::specs::Pixels::pixels))]
+fn store_pixels(samples: &mut [u16], byte: u8)
+    requires { length samples.old ≡ 8 }
+    ensures { samples.new ≡ pixels byte }
+{
+    samples[0] = pixel_at(7, byte);
+    samples[1] = pixel_at(6, byte);
+    samples[2] = pixel_at(5, byte);
+    samples[3] = pixel_at(4, byte);
+    samples[4] = pixel_at(3, byte);
+    samples[5] = pixel_at(2, byte);
+    samples[6] = pixel_at(1, byte);
+    samples[7] = pixel_at(0, byte);
+}
+
+/// The pixel in a bit of a byte, the bit counted from the right.
+fn pixel_at(bit: u32, byte: u8) -> u16
+    requires { bit < 8 }
+    ensures { result ≡ pixel_at bit byte }
+{
+    u16::from((byte >> bit) & 1 == 0)
+}
+
+/// Exchanges black and white.
+fn complement(bytes: &mut [u8])
+    ensures { all_pixels bytes.new ≡ map (λ s. 1 - s) (all_pixels bytes.old) }
+{
+    for byte in bytes.iter_mut() {
+        *byte = !*byte;
+    }
+}
+
+/// The eight pixels of two bytes that come after so many.
+#[inline]
+fn window(high: u8, low: u8, skipped: u32) -> u8
+    requires { skipped < 8 }
+    ensures { pixels result ≡ drop skipped (pixels high) ++ take skipped (pixels low) }
+{
+    let both = u16::from(high) * 256 + u16::from(low);
+    ((both >> (8 - skipped)) % 256) as u8
+}
+
+/// The byte with all pixels white but the first ones.
+#[inline]
+fn whitened(byte: u8, kept: u32) -> u8
+    requires { kept < 8 }
+    ensures { pixels result ≡ take kept (pixels byte) ++ replicate (8 - kept) 1 }
+{
+    byte & !(0xff >> kept)
+}
+
+/// Makes the pixels white that come after so many.
+fn clear_spare(bytes: &mut [u8], count: usize)
+    requires { length bytes.old ≡ (count + 7) / 8 }
+    ensures kept { take count (all_pixels bytes.new) ≡ take count (all_pixels bytes.old) }
+    ensures spare { ArePacked count bytes.new }
+{
+    let whole = count / 8;
+    if whole < bytes.len() {
+        bytes[whole] = whitened(bytes[whole], (count % 8) as u32);
+    }
+}
+
+/// Fills the room with the pixels of the part that come after so many. The part is a byte longer.
+fn shift_into(room: &mut [u8], part: &[u8], skipped: u32)
+    requires skipped { skipped < 8 }
+    requires part { length part.now ≡ length room.old + 1 }
+    ensures { all_pixels room.new ≡ take (8 * length room.old) (drop skipped (all_pixels part.now)) }
+{
+    for i in 0..room.len() {
+        room[i] = window(part[i], part[i + 1], skipped);
+    }
+}
+
+/// The byte of the pixels that come after so many. Past the end pixels are white.
+#[inline]
+fn byte_after(bytes: &[u8], skipped: usize) -> u8
+    requires { skipped < 8 * length bytes.now }
+    ensures { (n : ℕ) → n ≤ 8 → skipped + n ≤ 8 * length bytes.now → take n (pixels result) ≡ take n (drop skipped (all_pixels bytes.now)) }
+{
+    let at = skipped / 8;
+    let low = if at + 1 < bytes.len() {
+        bytes[at + 1]
+    } else {
+        0
+    };
+    window(bytes[at], low, (skipped % 8) as u32)
+}
+
+/// Fills the room with pixels from the start on.
+fn fill_whole(room: &mut [u8], from: &[u8], start: usize)
+    requires { start + 8 * length room.old ≤ 8 * length from.now }
+    ensures { all_pixels room.new ≡ take (8 * length room.old) (drop start (all_pixels from.now)) }
+{
+    let first = start / 8;
+    if start % 8 == 0 {
+        room.copy_from_slice(&from[first..first + room.len()]);
+    } else {
+        let part = &from[first..first + room.len() + 1];
+        shift_into(room, part, (start % 8) as u32);
+    }
+}
+
+/// Fills the room with a run of so many pixels, from the start on.
+fn fill_run(room: &mut [u8], from: &[u8], start: usize, count: usize)
+    requires room { length room.old ≡ (count + 7) / 8 }
+    requires run { start + count ≤ 8 * length from.now }
+    requires fits { start + count < 2 ^ 64 }
+    ensures { take count (all_pixels room.new) ≡ take count (drop start (all_pixels from.now)) }
+{
+    let whole = count / 8;
+    fill_whole(&mut room[..whole], from, start);
+    if whole < room.len() {
+        room[whole] = byte_after(from, start + 8 * whole);
+    }
+}
+
+/// Places a run of so many pixels, from the start on, after the pixels that are held, the last of
+/// them in a byte that isn't full.
+fn place_within(room: &mut [u8], held: usize, from: &[u8], start: usize, count: usize)
+    requires within { (0 < held % 8) × (0 < count) }
+    requires room { length room.old ≡ (held + count + 7) / 8 }
+    requires run { start + count ≤ 8 * length from.now }
+    requires fits { (start + count < 2 ^ 63) × (held < 2 ^ 63) }
+    ensures { take (held + count) (all_pixels room.new) ≡ take held (all_pixels room.old) ++ take count (drop start (all_pixels from.now)) }
+{
+    let last = held / 8;
+    let free = 8 - held % 8;
+    room[last] = window(room[last] >> free, byte_after(from, start), free as u32);
+    if free < count {
+        fill_run(&mut room[last + 1..], from, start + free, count - free);
+    }
+}
+
+/// Places a run of so many pixels, from the start on, after the pixels that are held.
+fn place_run(room: &mut [u8], held: usize, from: &[u8], start: usize, count: usize)
+    requires room { length room.old ≡ (held + count + 7) / 8 }
+    requires run { start + count ≤ 8 * length from.now }
+    requires fits { (start + count < 2 ^ 63) × (held < 2 ^ 63) }
+    ensures { take (held + count) (all_pixels room.new) ≡ take held (all_pixels room.old) ++ take count (drop start (all_pixels from.now)) }
+{
+    if held % 8 == 0 {
+        fill_run(&mut room[held / 8..], from, start, count);
+    } else if count > 0 {
+        place_within(room, held, from, start, count);
+    }
+}

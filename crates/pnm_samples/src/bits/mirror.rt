@@ -1,0 +1,41 @@
+//! Pixels in the other order.
+
+ghost use Rattle.std.specs.Prelude.{◌≡◌, ℕ, ◌++◌, ◌<◌, List, replicate, reverse};
+ghost use Rattle.pnm_samples.specs.Pixels.{all_pixels};
+
+use super::{Bits, window};
+
+impl Bits {
+    /// Turns the pixels round, the last one first, in place.
+    pub fn reverse(&mut self)
+        ensures { self.new ≡ reverse self.old }
+    {
+        let spare = (8 - self.count % 8) % 8;
+        turn_round(self.bytes.as_mut_slice());
+        move_to_end(self.bytes.as_mut_slice(), spare as u32);
+    }
+}
+
+/// Turns all pixels round, with the spare ones of the last byte.
+fn turn_round(bytes: &mut [u8])
+    ensures { all_pixels bytes.new ≡ reverse (all_pixels bytes.old) }
+{
+    bytes.reverse();
+    for byte in bytes.iter_mut() {
+        *byte = byte.reverse_bits();
+    }
+}
+
+/// Moves so many white pixels from the start to the end.
+fn move_to_end(bytes: &mut [u8], skipped: u32)
+    requires { skipped < 8 }
+    ensures { (rest : List ℕ) → all_pixels bytes.old ≡ replicate skipped 1 ++ rest → all_pixels bytes.new ≡ rest ++ replicate skipped 1 }
+{
+    let count = bytes.len();
+    if count > 0 {
+        for i in 0..count - 1 {
+            bytes[i] = window(bytes[i], bytes[i + 1], skipped);
+        }
+        bytes[count - 1] = window(bytes[count - 1], 0, skipped);
+    }
+}

@@ -1,0 +1,47 @@
+//! The greatest sample of a row.
+
+ghost use Rattle.std.specs.Prelude.{◌≤◌, ◌↔◌, All, IsTrue};
+
+/// The greatest number that a byte can be.
+pub(crate) const GREATEST_BYTE: u32 = 255;
+
+/// The greatest number that a word can be.
+pub(crate) const GREATEST_WORD: u32 = 65_535;
+
+/// The greatest byte, or 0 where there is none. The loop goes over all bytes, so that it is vector
+/// code.
+pub fn greatest_byte(bytes: &[u8]) -> u8
+    ensures { (most : _) → (result ≤ most) ↔ All (λ sample. sample ≤ most) bytes.now }
+{
+    let mut greatest = 0;
+    for byte in bytes {
+        greatest = (*byte).max(greatest);
+    }
+    greatest
+}
+
+/// The greatest sample, or 0 where there is none. The loop goes over all samples, so that it is
+/// vector code.
+pub fn greatest(row: &[u16]) -> u16
+    ensures { (most : _) → (result ≤ most) ↔ All (λ sample. sample ≤ most) row.now }
+{
+    let mut greatest = 0;
+    for sample in row {
+        greatest = (*sample).max(greatest);
+    }
+    greatest
+}
+
+/// Whether no byte is above this number. No byte is looked at where none can be.
+pub(crate) fn are_bytes_within(bytes: &[u8], most: u32) -> bool
+    ensures { IsTrue result ↔ All (λ sample. sample ≤ most) bytes.now }
+{
+    most >= GREATEST_BYTE || u32::from(greatest_byte(bytes)) <= most
+}
+
+/// Whether no word is above this number. No word is looked at where none can be.
+pub(crate) fn are_words_within(words: &[u16], most: u32) -> bool
+    ensures { IsTrue result ↔ All (λ sample. sample ≤ most) words.now }
+{
+    most >= GREATEST_WORD || u32::from(greatest(words)) <= most
+}

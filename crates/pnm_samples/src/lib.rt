@@ -1,0 +1,21 @@
+//! Rows of samples, held as wide as they have to be: packed bits, bytes or words.
+//!
+//! A row is a list of numbers, whatever form it is held in. The samples of PBM are packed eight a
+//! byte, as they lie in a file; those of images up to maxval 255 are bytes, and all others words of
+//! 16 bits.
+#![tactic(auto)]
+
+mod bits;
+mod block;
+mod bounds;
+mod packing;
+mod sample;
+mod samples;
+mod transpose;
+
+pub use bits::Bits;
+pub use bounds::{greatest, greatest_byte};
+pub use packing::pack;
+pub use sample::Sample;
+pub use samples::{Held, Lent, Samples};
+pub use transpose::columns;

@@ -1,0 +1,51 @@
+//! Pixels as bytes.
+
+ghost use Rattle.std.specs.Prelude.{◌≡◌, ◌≤◌, ◌*◌, ◌-◌, length, take};
+ghost use Rattle.pnm_samples.specs.Pixels.{packed_byte, packed_bytes};
+
+/// Writes the bytes of pixels, eight a byte, to the front of the room, and answers how many they
+/// are. Spare bits of the last byte are 0.
+pub fn pack(samples: &[u16], room: &mut [u8]) -> usize
+    requires { length samples.now ≤ 8 * length room.old }
+    ensures within { result ≤ length room.new }
+    ensures bytes { take result room.new ≡ packed_bytes samples.now }
+{
+    let whole = samples.len() / 8;
+    for i in 0..whole {
+        room[i] = packed_byte(&samples[8 * i..8 * i + 8]);
+    }
+    let (_, rest) = samples.split_at(8 * whole);
+    if rest.is_empty() {
+        return whole;
+    }
+    // The spare bits are those of white pixels.
+    let mut last = [1; 8];
+    last[..rest.len()].copy_from_slice(rest);
+    room[whole] = packed_byte(&last);
+    whole + 1
+}
+
+/// The byte of eight pixels.
+#[inline]
+fn packed_byte(pixels: &[u16]) -> u8
+    requires { length pixels.now ≡ 8 }
+    ensures { result ≡ packed_byte pixels.now }
+{
+    128 * black(pixels[0])
+        + 64 * black(pixels[1])
+        + 32 * black(pixels[2])
+        + 16 * black(pixels[3])
+        + 8 * black(pixels[4])
+        + 4 * black(pixels[5])
+        + 2 * black(pixels[6])
+        + black(pixels[7])
+}
+
+/// The bit of a pixel.
+#[inline]
+fn black(sample: u16) -> u8
+    ensures bit { result ≡ 1 - sample }
+    ensures small { result ≤ 1 }
+{
+    u8::from(sample == 0)
+}

@@ -1,0 +1,277 @@
+//! The samples of a row.
+
+ghost use Rattle.std.specs.Prelude.{◌≡◌, ◌≤◌, ◌↔◌, ◌+◌, ◌<◌, All, IfOk, IsTrue, take, drop, length, slice_index};
+ghost use Rattle.pnm_samples.specs.Held.{samples_of, lent_samples};
+
+use crate::bits::Bits;
+use crate::bounds::{GREATEST_BYTE, GREATEST_WORD, are_bytes_within, are_words_within};
+use crate::packing::pack;
+use std::alloc::{AllocError, Global};
+use std::marker::Model;
+
+/// The samples of a row, as wide as they have to be.
+#[derive(Debug, Drop)]
+pub enum Held {
+    /// Each is 0 or 1.
+    Bits(Bits),
+    /// Each is at most 255.
+    Bytes(Vec<u8>),
+    /// Each is at most 65,535.
+    Words(Vec<u16>),
+}
+
+/// The same, lent.
+#[derive(Clone, Copy, Debug)]
+pub enum Lent<'a> {
+    /// Each is 0 or 1.
+    Bits(&'a Bits),
+    /// Each is at most 255.
+    Bytes(&'a [u8]),
+    /// Each is at most 65,535.
+    Words(&'a [u16]),
+}
+
+/// The samples of a row: columns left to right, and in each column the planes in order. It knows a
+/// number that none is above, so that a row is looked at once, and not by each who is handed it.
+#[derive(Debug, Drop)]
+pub struct Samples {
+    held: Held,
+    /// No sample is above it.
+    bound: u32,
+}
+
+impl Model for Samples {
+    ghost use Rattle.std.specs.Prelude.{List, ℕ, ◌≤◌, All};
+    ghost use Rattle.pnm_samples.specs.Held.{samples_of};
+
+    ghost Value = { List ℕ };
+
+    ghost view = { λ s. samples_of s.held };
+
+    ghost invariant = { λ s. All (λ sample. sample ≤ s.bound) (samples_of s.held) };
+}
+
+impl Samples {
+    /// The samples that the vector holds, without a copy.
+    pub fn new(samples: Vec<u16>) -> Samples
+        ensures { result ≡ samples.items }
+    {
+        Samples::from_held(Held::Words(samples))
+    }
+
+    /// The samples that are held, without a copy.
+    pub fn from_held(held: Held) -> Samples
+        ensures { result ≡ samples_of held }
+    {
+        let bound = bound_of(&held);
+        Samples::within(held, bound)
+    }
+
+    /// The samples that are held, none of them above this number, without a copy. A place asks then
+    /// whether the number is within the maxval, and looks at no sample.
+    pub fn within(held: Held, bound: u32) -> Samples
+        requires { All (λ sample. sample ≤ bound) (samples_of held) }
+        ensures { result ≡ samples_of held }
+    {
+        Samples { held, bound }
+    }
+
+    /// How the samples are held, without a copy.
+    pub fn into_held(self) -> Held
+        ensures { samples_of result ≡ self }
+    {
+        self.held
+    }
+
+    /// How the samples are held, lent.
+    pub fn lend(&self) -> Lent<'_>
+        ensures { lent_samples result ≡ self.now }
+    {
+        match &self.held {
+            Held::Bits(bits) => Lent::Bits(bits),
+            Held::Bytes(bytes) => Lent::Bytes(bytes.as_slice()),
+            Held::Words(words) => Lent::Words(words.as_slice()),
+        }
+    }
+
+    /// How many samples these are.
+    pub fn len(&self) -> usize
+        ensures { result ≡ length self.now }
+    {
+        match &self.held {
+            Held::Bits(bits) => bits.len(),
+            Held::Bytes(bytes) => bytes.len(),
+            Held::Words(words) => words.len(),
+        }
+    }
+
+    /// The sample at a place, counted from 0.
+    pub fn sample(&self, at: usize) -> u16
+        requires { at < length self.now }
+        ensures { result ≡ slice_index self.now at }
+    {
+        match &self.held {
+            Held::Bits(bits) => bits.pixel(at),
+            Held::Bytes(bytes) => u16::from(bytes[at]),
+            Held::Words(words) => words[at],
+        }
+    }
+
+    /// Fills the room with samples, from one on.
+    pub fn copy_to(&self, start: usize, room: &mut [u16])
+        requires { start + length room.old ≤ length self.now }
+        ensures { room.new ≡ take (length room.old) (drop start self.now) }
+    {
+        let _ = self.len();
+        for i in 0..room.len() {
+            room[i] = self.sample(start + i);
+        }
+    }
+
+    /// Whether no sample is above this number. No sample is looked at where none can be.
+    pub fn are_within(&self, most: u32) -> bool
+        ensures { IsTrue result ↔ All (λ sample. sample ≤ most) self.now }
+    {
+        if self.bound <= most {
+            return true;
+        }
+        match &self.held {
+            Held::Bits(bits) => bits.are_within(most),
+            Held::Bytes(bytes) => are_bytes_within(bytes.as_slice(), most),
+            Held::Words(words) => are_words_within(words.as_slice(), most),
+        }
+    }
+
+    /// The samples as bits, without a copy where they are held so.
+    ///
+    /// # Errors
+    ///
+    /// Where there is no memory for the bits.
+    pub fn into_bits(self, alloc: Global) -> Result<Bits, AllocError>
+        requires { All (λ sample. sample ≤ 1) self }
+        ensures { IfOk result (λ bits. bits ≡ self) }
+    {
+        match self.held {
+            Held::Bits(bits) => Ok(bits),
+            Held::Bytes(bytes) => packed(alloc, widened(alloc, bytes.as_slice())?.as_slice()),
+            Held::Words(words) => packed(alloc, words.as_slice()),
+        }
+    }
+
+    /// The samples as bytes, without a copy where they are held so.
+    ///
+    /// # Errors
+    ///
+    /// Where there is no memory for the bytes.
+    pub fn into_bytes(self, alloc: Global) -> Result<Vec<u8>, AllocError>
+        requires { All (λ sample. sample ≤ 255) self }
+        ensures { IfOk result (λ bytes. bytes.items ≡ self) }
+    {
+        match self.held {
+            Held::Bits(bits) => narrowed(alloc, bits.widened(alloc)?.as_slice()),
+            Held::Bytes(bytes) => Ok(bytes),
+            Held::Words(words) => narrowed(alloc, words.as_slice()),
+        }
+    }
+
+    /// The samples as words, without a copy where they are held so.
+    ///
+    /// # Errors
+    ///
+    /// Where there is no memory for the words.
+    pub fn into_words(self, alloc: Global) -> Result<Vec<u16>, AllocError>
+        ensures { IfOk result (λ words. words.items ≡ self) }
+    {
+        match self.held {
+            Held::Bits(bits) => bits.widened(alloc),
+            Held::Bytes(bytes) => widened(alloc, bytes.as_slice()),
+            Held::Words(words) => Ok(words),
+        }
+    }
+
+    /// The samples as words, in a vector of its own.
+    ///
+    /// # Errors
+    ///
+    /// Where there is no memory for the words.
+    pub fn to_words(&self, alloc: Global) -> Result<Vec<u16>, AllocError>
+        ensures { IfOk result (λ words. words.items ≡ self.now) }
+    {
+        match &self.held {
+            Held::Bits(bits) => bits.widened(alloc),
+            Held::Bytes(bytes) => widened(alloc, bytes.as_slice()),
+            Held::Words(words) => Vec::from_slice(alloc, words.as_slice()),
+        }
+    }
+
+    /// Equal samples, held alike.
+    ///
+    /// # Errors
+    ///
+    /// Where there is no memory for them.
+    pub fn copy(&self, alloc: Global) -> Result<Samples, AllocError>
+        ensures { IfOk result (λ copy. copy ≡ self.now) }
+    {
+        let held = match &self.held {
+            Held::Bits(bits) => Held::Bits(bits.copy(alloc)?),
+            Held::Bytes(bytes) => Held::Bytes(Vec::from_slice(alloc, bytes.as_slice())?),
+            Held::Words(words) => Held::Words(Vec::from_slice(alloc, words.as_slice())?),
+        };
+        Ok(Samples {
+            held,
+            bound: self.bound,
+        })
+    }
+}
+
+/// The greatest number that a sample can be that is held so.
+fn bound_of(held: &Held) -> u32
+    ensures { All (λ sample. sample ≤ result) (samples_of held.now) }
+{
+    match held {
+        Held::Bits(bits) => bits.bound(),
+        Held::Bytes(bytes) => byte_bound(bytes.as_slice()),
+        Held::Words(words) => word_bound(words.as_slice()),
+    }
+}
+
+fn byte_bound(bytes: &[u8]) -> u32
+    ensures { All (λ sample. sample ≤ result) bytes.now }
+{
+    GREATEST_BYTE
+}
+
+fn word_bound(words: &[u16]) -> u32
+    ensures { All (λ sample. sample ≤ result) words.now }
+{
+    GREATEST_WORD
+}
+
+/// Pixels as bits.
+fn packed(alloc: Global, pixels: &[u16]) -> Result<Bits, AllocError>
+    requires { All (λ sample. sample ≤ 1) pixels.now }
+    ensures { IfOk result (λ bits. bits ≡ pixels.now) }
+{
+    let mut bytes = Vec::from_elem(alloc, 0, pixels.len().div_ceil(8))?;
+    pack(pixels, bytes.as_mut_slice());
+    Ok(Bits::new(bytes, pixels.len()))
+}
+
+/// Words as bytes.
+fn narrowed(alloc: Global, words: &[u16]) -> Result<Vec<u8>, AllocError>
+    requires { All (λ sample. sample ≤ 255) words.now }
+    ensures { IfOk result (λ bytes. bytes.items ≡ words.now) }
+{
+    let mut bytes = Vec::from_elem(alloc, 0, words.len())?;
+    for at in 0..words.len() {
+        bytes[at] = words[at] as u8;
+    }
+    Ok(bytes)
+}
+
+/// Bytes as words.
+fn widened(alloc: Global, bytes: &[u8]) -> Result<Vec<u16>, AllocError>
+    ensures { IfOk result (λ words. words.items ≡ bytes.now) }
+{
+    bytes.iter().map(|byte| u16::from(*byte)).collect(alloc)
+}

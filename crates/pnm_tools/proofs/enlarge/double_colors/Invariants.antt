@@ -1,0 +1,7 @@
+use Rattle.std.proofs.Common.{◌≡◌, ◌*◌, take}
+use Rattle.pnm_tools.proofs.EnlargeRowLaws.{columns_repeated}
+use Rattle.pnm_tools.proofs.enlarge.double_colors.Given as goal
+
+-- the pixels that have passed stand twice
+abbrev pub invariant-loop-x : goal.invariant-loop-x
+invariant-loop-x g l = take (6 * l.x) l.room ≡ columns_repeated 2 3 l.row l.x

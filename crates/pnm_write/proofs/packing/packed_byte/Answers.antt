@@ -1,6 +1,0 @@
-use Rattle.std.proofs.Common.{sym}
-use Rattle.pnm_write.proofs.PackingLaws.{byte_of_eight}
-use Rattle.pnm_write.proofs.packing.packed_byte.Goals as goal
-
-pub returns : goal.returns
-returns c = rw (c.black.ensures.bit, c.black-2.ensures.bit, c.black-3.ensures.bit, c.black-4.ensures.bit, c.black-5.ensures.bit, c.black-6.ensures.bit, c.black-7.ensures.bit, c.black-8.ensures.bit) (sym (byte_of_eight c.args.pixels.now c.requires))
