@@ -20,6 +20,5 @@ pub use head::{Head, HeadFault};
 pub use message::Message;
 pub use packing::Packing;
 pub use place::Place;
-pub use shape::{Kind, Shape};
-
 pub use pnm_samples::{Bits, Held, Lent, Samples};
+pub use shape::{Kind, Shape};
