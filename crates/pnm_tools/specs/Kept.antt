@@ -32,8 +32,8 @@ SuitsShape Wide s = Unit {0}
 -- how many columns are made side by side
 abbrev pub band_length : Packing → ℕ
 band_length Packed = 256
-band_length Narrow = 16
-band_length Wide = 16
+band_length Narrow = 64
+band_length Wide = 64
 
 -- so many columns of packed pixels, the first of which is the first pixel of a byte
 pub record IsBandOfBits (first count depth : ℕ) : Type 0 where
