@@ -80,7 +80,7 @@ impl Bits {
         requires { at < length self.now }
         ensures { result ≡ slice_index self.now at }
     {
-        pixel_at((7 - at % 8) as u32, self.bytes[at / 8])
+        u16::from(pixel_at((7 - at % 8) as u32, self.bytes[at / 8]))
     }
 
     /// The greatest number that a pixel can be.
@@ -116,9 +116,23 @@ impl Bits {
     pub fn widened(&self, alloc: Global) -> Result<Vec<u16>, AllocError>
         ensures { IfOk result (λ words. words.items ≡ self.now) }
     {
-        let mut words = all_samples(alloc, self.bytes.as_slice())?;
-        words.truncate(self.count);
-        Ok(words)
+        self.unpacked(alloc)?
+            .iter()
+            .map(|byte| u16::from(*byte))
+            .collect(alloc)
+    }
+
+    /// The samples, a byte each.
+    ///
+    /// # Errors
+    ///
+    /// Where there is no memory for them.
+    pub fn unpacked(&self, alloc: Global) -> Result<Vec<u8>, AllocError>
+        ensures { IfOk result (λ bytes. bytes.items ≡ self.now) }
+    {
+        let mut bytes = all_samples(alloc, self.bytes.as_slice())?;
+        bytes.truncate(self.count);
+        Ok(bytes)
     }
 
     /// Exchanges black and white, in place.
@@ -166,25 +180,24 @@ fn bytes_of(bytes: &[u8]) -> &[u8]
 
 /// The samples of all pixels of bytes. The room is there first, and the stores of each byte's
 /// pixels then grow nothing.
-fn all_samples(alloc: Global, bytes: &[u8]) -> Result<Vec<u16>, AllocError>
-    ensures { IfOk result (λ words. words.items ≡ all_pixels bytes.now) }
+fn all_samples(alloc: Global, bytes: &[u8]) -> Result<Vec<u8>, AllocError>
+    ensures { IfOk result (λ samples. samples.items ≡ all_pixels bytes.now) }
 {
     let Some(count) = bytes.len().checked_mul(8) else {
         return Err(AllocError);
     };
-    let mut words = Vec::new(alloc);
-    words.resize(count, 0)?;
+    let mut samples = Vec::from_elem(alloc, 0, count)?;
     let mut at = 0;
     for byte in bytes {
-        store_pixels(&mut words[at..at + 8], *byte);
+        store_pixels(&mut samples[at..at + 8], *byte);
         at += 8;
     }
-    Ok(words)
+    Ok(samples)
 }
 
 /// Stores the pixels of a byte as samples.
 #[tactic(auto, unfolding(crate::specs::Pixels::pixels))]
-fn store_pixels(samples: &mut [u16], byte: u8)
+fn store_pixels(samples: &mut [u8], byte: u8)
     requires { length samples.old ≡ 8 }
     ensures { samples.new ≡ pixels byte }
 {
@@ -199,11 +212,11 @@ fn store_pixels(samples: &mut [u16], byte: u8)
 }
 
 /// The pixel in a bit of a byte, the bit counted from the right.
-fn pixel_at(bit: u32, byte: u8) -> u16
+fn pixel_at(bit: u32, byte: u8) -> u8
     requires { bit < 8 }
     ensures { result ≡ pixel_at bit byte }
 {
-    u16::from((byte >> bit) & 1 == 0)
+    u8::from((byte >> bit) & 1 == 0)
 }
 
 /// Exchanges black and white.

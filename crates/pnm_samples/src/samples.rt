@@ -168,7 +168,7 @@ impl Samples {
         ensures { IfOk result (λ bytes. bytes.items ≡ self) }
     {
         match self.held {
-            Held::Bits(bits) => narrowed(alloc, bits.widened(alloc)?.as_slice()),
+            Held::Bits(bits) => bits.unpacked(alloc),
             Held::Bytes(bytes) => Ok(bytes),
             Held::Words(words) => narrowed(alloc, words.as_slice()),
         }

@@ -29,7 +29,7 @@ pub struct Planes {
     tuple_type: Vec<u8>,
 }
 
-/// The samples of these planes of a row, held as the row is; bits are widened to words.
+/// The samples of these planes of a row, held as the row is, but bits as bytes.
 ///
 /// # Errors
 ///
@@ -42,8 +42,9 @@ fn picked(alloc: Global, numbers: &[u16], shape: Shape, row: Samples) -> Result<
 {
     match row.into_held() {
         Held::Bits(bits) => {
-            let picked = pick(alloc, numbers, shape, bits.widened(alloc)?.as_slice())?;
-            Ok(Samples::within(Held::Words(picked), shape.maxval))
+            let unpacked = bits.unpacked(alloc)?;
+            let samples = pick(alloc, numbers, shape, unpacked.as_slice())?;
+            Ok(Samples::within(Held::Bytes(samples), shape.maxval))
         }
         Held::Bytes(bytes) => {
             let picked = pick(alloc, numbers, shape, bytes.as_slice())?;

@@ -28,7 +28,7 @@ pub struct Enlarger {
     more: u32,
 }
 
-/// The row with each pixel repeated so many times, held as it was, but bits as words.
+/// The row with each pixel repeated so many times, held as it was, but bits of several planes as bytes.
 ///
 /// # Errors
 ///
@@ -45,9 +45,9 @@ fn enlarged(alloc: Global, across: u32, shape: Shape, row: Samples) -> Result<Sa
             Ok(Samples::from_held(Held::Bits(bits)))
         }
         Held::Bits(bits) => {
-            let unpacked = bits.widened(alloc)?;
-            let words = repeat_pixels(alloc, across, shape, unpacked.as_slice())?;
-            Ok(Samples::within(Held::Words(words), shape.maxval))
+            let unpacked = bits.unpacked(alloc)?;
+            let bytes = repeat_pixels(alloc, across, shape, unpacked.as_slice())?;
+            Ok(Samples::within(Held::Bytes(bytes), shape.maxval))
         }
         Held::Bytes(bytes) => {
             let bytes = repeat_pixels(alloc, across, shape, bytes.as_slice())?;

@@ -31,11 +31,11 @@ pub enum FlipWay {
     Transpose,
 }
 
-/// The row, the last pixel first, changed in place; bits of several planes are widened to words.
+/// The row, the last pixel first, changed in place; bits of several planes become bytes.
 ///
 /// # Errors
 ///
-/// Where there is no memory for the words.
+/// Where there is no memory for the bytes.
 fn mirrored(alloc: Global, shape: Shape, row: Samples) -> Result<Samples, AllocError>
     requires limits { IsWithinLimits shape }
     requires row { IsRowOf shape row }
@@ -47,9 +47,9 @@ fn mirrored(alloc: Global, shape: Shape, row: Samples) -> Result<Samples, AllocE
             Ok(Samples::from_held(Held::Bits(bits)))
         }
         Held::Bits(bits) => {
-            let mut words = bits.widened(alloc)?;
-            reverse_pixels(words.as_mut_slice(), shape);
-            Ok(Samples::within(Held::Words(words), shape.maxval))
+            let mut unpacked = bits.unpacked(alloc)?;
+            reverse_pixels(unpacked.as_mut_slice(), shape);
+            Ok(Samples::within(Held::Bytes(unpacked), shape.maxval))
         }
         Held::Bytes(mut bytes) => {
             reverse_pixels(bytes.as_mut_slice(), shape);

@@ -5,8 +5,8 @@ use Rattle.pnm_tools.proofs.channel.picked.Goals as goal
 
 pub within-requires : goal.within-requires
 within-requires c =
-    let same = c.as_slice.ensures.value ∙ c.in_ok-widened-in-Bits.ensures ∙ c.in-Bits.ensures in
-    picked_within c.args.numbers.now c.args.shape c.args.row _ (c.in_ok-picked-in-Bits.ensures 0 ∙ ap (picked_samples c.args.numbers.now c.args.shape) same) c.requires.row.range
+    let same = c.as_slice.ensures.value ∙ c.in_ok-unpacked-in-Bits.ensures ∙ c.in-Bits.ensures in
+    picked_within c.args.numbers.now c.args.shape c.args.row _ (c.in_ok-samples-in-Bits.ensures 0 ∙ ap (picked_samples c.args.numbers.now c.args.shape) same) c.requires.row.range
 
 pub within-requires-in-Bytes : goal.within-requires-in-Bytes
 within-requires-in-Bytes c =
@@ -18,10 +18,10 @@ within-requires-in-Words c =
     let same = c.as_slice-in-Words.ensures.value ∙ c.in-Words.ensures in
     picked_within c.args.numbers.now c.args.shape c.args.row _ (c.in_ok-picked-in-Words.ensures 0 ∙ ap (picked_samples c.args.numbers.now c.args.shape) same) c.requires.row.range
 
-pub returns-in_ok-picked-in-Bits : goal.returns-in_ok-picked-in-Bits
-returns-in_ok-picked-in-Bits c =
-    let same = c.as_slice.ensures.value ∙ c.in_ok-widened-in-Bits.ensures ∙ c.in-Bits.ensures in
-    c.within.ensures ∙ c.in_ok-picked-in-Bits.ensures 0 ∙ ap (picked_samples c.args.numbers.now c.args.shape) same
+pub returns-in_ok-samples-in-Bits : goal.returns-in_ok-samples-in-Bits
+returns-in_ok-samples-in-Bits c =
+    let same = c.as_slice.ensures.value ∙ c.in_ok-unpacked-in-Bits.ensures ∙ c.in-Bits.ensures in
+    c.within.ensures ∙ c.in_ok-samples-in-Bits.ensures 0 ∙ ap (picked_samples c.args.numbers.now c.args.shape) same
 
 pub returns-in_ok-picked-in-Bytes : goal.returns-in_ok-picked-in-Bytes
 returns-in_ok-picked-in-Bytes c =

@@ -4,11 +4,11 @@ use Rattle.pnm_tools.proofs.flip.mirrored.Goals as goal
 
 pub within-requires : goal.within-requires
 within-requires c =
-    let words = c.in_ok-words-in-Bits-2.words in
+    let unpacked = c.in_ok-unpacked-in-Bits-2.unpacked in
     let turned = c.reverse_pixels.new.samples in
     let long : length turned ≡ length c.as_mut_slice.result.now = omega arith in
-    let same : words.items ≡ c.args.row = search rules in
-    mirrored_within c.args.shape c.args.row _ (mirrored_in_place c.args.shape c.args.row words.items c.as_mut_slice.result.now turned words.len c.reverse_pixels.ensures long c.as_mut_slice.ensures.value same words.ok.0) c.requires.row.range
+    let same : unpacked.items ≡ c.args.row = search rules in
+    mirrored_within c.args.shape c.args.row _ (mirrored_in_place c.args.shape c.args.row unpacked.items c.as_mut_slice.result.now turned unpacked.len c.reverse_pixels.ensures long c.as_mut_slice.ensures.value same unpacked.ok.0) c.requires.row.range
 
 pub within-requires-in-Bytes : goal.within-requires-in-Bytes
 within-requires-in-Bytes c =
