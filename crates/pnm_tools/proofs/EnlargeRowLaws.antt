@@ -1,17 +1,19 @@
 -- A row whose pixels are repeated.
 use Rattle.std.proofs.Common.{◌≡◌, ℕ, zero, suc, ◌+◌, ◌-◌, ◌*◌, ◌≤◌, ◌<◌, List, [], ◌∷◌, ◌++◌, length, take, drop, get_or, set, replicate, All, refl, sym, ap, subst, ◌∙◌, arith, mul-le-mul}
+use borrow.Rule.Slice.PartMut.{put_mid}
 use Rattle.std.specs.List.{flat_map, range_with_len}
 use Rattle.std.proofs.Math.ListN.{length-set}
-use Rattle.std.proofs.lemmas.List.{append_assoc, append-nil, take_all, take_more, take_more_set, drop_more, length-take, length-drop}
+use Rattle.std.proofs.lemmas.List.{append_assoc, append-nil, take_all, take_more, take_more_set, drop_more, length-take, length-drop, drop-drop, drop-take, take-take}
 use Rattle.std.proofs.lemmas.List.Elements.{All-take, All-drop, All-append}
 use Rattle.std.proofs.Math.Seq.{take-add}
+use Rattle.std.proofs.lemmas.Slice.{take-put_mid}
 use Rattle.pnm_image.specs.declared.shape.Shape.{Shape}
 use Rattle.pnm_image.specs.Heads.{row_length}
 use Rattle.pnm_tools.specs.declared.tool.Tool.TheVariants.{Enlarge}
 use Rattle.pnm_tools.specs.Enlarge.{enlarged_row, repeated}
 use Rattle.pnm_tools.specs.Pixels.{pixel_of}
 use Rattle.pnm_tools.specs.Tools.{row_answer}
-use Rattle.pnm_tools.proofs.RangeLaws.{pieces_in_parts}
+use Rattle.pnm_tools.proofs.RangeLaws.{pieces_in_parts, pieces_alike_from}
 use Rattle.pnm_tools.proofs.RowLaws.{row_of_enlarge}
 
 -- the first columns, each pixel so many times
@@ -97,6 +99,62 @@ colors_more {X = X} row room x a b c was fits size first second third =
     ∙ append_assoc (front ++ (a ∷ b ∷ [])) (c ∷ a ∷ []) (b ∷ c ∷ []) ∙ append_assoc front (a ∷ b ∷ []) (c ∷ a ∷ b ∷ c ∷ [])
     ∙ ap (λ (l : List X). front ++ (l ++ (l ++ []))) (sym (pixel_of_three row x a b c fits first second third))
     ∙ sym (one_more_column 2 3 row x)
+
+-- six stores change no length
+length-six : {X : Type 0} (room : List X) (n₁ n₂ n₃ n₄ n₅ n₆ : ℕ) (v₁ v₂ v₃ v₄ v₅ v₆ : X) → length (set (set (set (set (set (set room n₁ v₁) n₂ v₂) n₃ v₃) n₄ v₄) n₅ v₅) n₆ v₆) ≡ length room
+length-six {X = X} room n₁ n₂ n₃ n₄ n₅ n₆ v₁ v₂ v₃ v₄ v₅ v₆ =
+    let r₁ : List X = set room n₁ v₁ in
+    let r₂ : List X = set r₁ n₂ v₂ in
+    let r₃ : List X = set r₂ n₃ v₃ in
+    let r₄ : List X = set r₃ n₄ v₄ in
+    let r₅ : List X = set r₄ n₅ v₅ in
+    length-set r₅ n₆ v₆ ∙ length-set r₄ n₅ v₅ ∙ length-set r₃ n₄ v₄ ∙ length-set r₂ n₃ v₃ ∙ length-set r₁ n₂ v₂ ∙ length-set room n₁ v₁
+
+-- four pixels, each twice
+pub four_colors : {X : Type 0} (row room : List X) (a b c d e f g h i j k l : X) → length row ≡ 12 → length room ≡ 24
+    → a ≡ get_or row 0 a → b ≡ get_or row 1 b → c ≡ get_or row 2 c → d ≡ get_or row 3 d → e ≡ get_or row 4 e → f ≡ get_or row 5 f
+    → g ≡ get_or row 6 g → h ≡ get_or row 7 h → i ≡ get_or row 8 i → j ≡ get_or row 9 j → k ≡ get_or row 10 k → l ≡ get_or row 11 l
+    → (r₁ r₂ r₃ r₄ : List X) → r₁ ≡ set (set (set (set (set (set room 0 a) 1 b) 2 c) 3 a) 4 b) 5 c → r₂ ≡ set (set (set (set (set (set r₁ 6 d) 7 e) 8 f) 9 d) 10 e) 11 f
+    → r₃ ≡ set (set (set (set (set (set r₂ 12 g) 13 h) 14 i) 15 g) 16 h) 17 i → r₄ ≡ set (set (set (set (set (set r₃ 18 j) 19 k) 20 l) 21 j) 22 k) 23 l
+    → r₄ ≡ columns_repeated 2 3 row 4
+four_colors {X = X} row room a b c d e f g h i j k l twelve long pa pb pc pd pe pf pg ph pi pj pk pl r₁ r₂ r₃ r₄ e₁ e₂ e₃ e₄ =
+    let l₁ : length r₁ ≡ 24 = ap length e₁ ∙ length-six room 0 1 2 3 4 5 a b c a b c ∙ long in
+    let l₂ : length r₂ ≡ 24 = ap length e₂ ∙ length-six r₁ 6 7 8 9 10 11 d e f d e f ∙ l₁ in
+    let l₃ : length r₃ ≡ 24 = ap length e₃ ∙ length-six r₂ 12 13 14 15 16 17 g h i g h i ∙ l₂ in
+    let l₄ : length r₄ ≡ 24 = ap length e₄ ∙ length-six r₃ 18 19 20 21 22 23 j k l j k l ∙ l₃ in
+    let s₁ : take 6 r₁ ≡ columns_repeated 2 3 row 1 = ap (take 6) e₁ ∙ colors_more row room 0 a b c refl (omega arith) (omega arith) pa pb pc in
+    let s₂ : take 12 r₂ ≡ columns_repeated 2 3 row 2 = ap (take 12) e₂ ∙ colors_more row r₁ 1 d e f s₁ (omega arith) (omega arith) pd pe pf in
+    let s₃ : take 18 r₃ ≡ columns_repeated 2 3 row 3 = ap (take 18) e₃ ∙ colors_more row r₂ 2 g h i s₂ (omega arith) (omega arith) pg ph pi in
+    let s₄ : take 24 r₄ ≡ columns_repeated 2 3 row 4 = ap (take 24) e₄ ∙ colors_more row r₃ 3 j k l s₃ (omega arith) (omega arith) pj pk pl in
+    sym (take_all 24 r₄ (omega arith)) ∙ s₄
+
+-- a pixel of four that stand side by side
+pixel_of_four : {X : Type 0} (row : List X) (x m i : ℕ) → m ≡ 12 → i < 4 → pixel_of 3 (take m (drop (12 * x) row)) i ≡ pixel_of 3 row (4 * x + i)
+pixel_of_four {X = X} row x m i twelve below =
+    let back : List X = drop (12 * x) row in
+    let place : i * 3 + 12 * x ≡ (4 * x + i) * 3 = omega arith in
+    let split : 12 ≡ i * 3 + (12 - i * 3) = omega arith in
+    ap (λ (n : ℕ). take 3 (drop (i * 3) (take n back))) (twelve ∙ split)
+    ∙ ap (take 3) (drop-take (i * 3) (12 - i * 3) back)
+    ∙ take-take 3 (12 - i * 3) (drop (i * 3) back) (omega arith)
+    ∙ ap (take 3) (drop-drop (i * 3) (12 * x) row) ∙ ap (λ (n : ℕ). take 3 (drop n row)) (omega (arith, place))
+
+-- four pixels in their part of the row, each twice
+pub four_more : {X : Type 0} (row room part : List X) (x k m : ℕ) → take (6 * (4 * x)) room ≡ columns_repeated 2 3 row (4 * x) → 24 * x + 24 ≤ length room → k ≡ 12 → length part ≡ 24
+    → part ≡ columns_repeated 2 3 (take k (drop (12 * x) row)) 4 → take (6 * (4 * (x + 1))) (put_mid (24 * x) m room part) ≡ columns_repeated 2 3 row (4 * (x + 1))
+four_more {X = X} row room part x k m was fits twelve long is =
+    let f : ℕ → List X = λ n. repeated 2 (pixel_of 3 row n) in
+    let g : ℕ → List X = λ n. repeated 2 (pixel_of 3 (take k (drop (12 * x) row)) n) in
+    let same : (i : ℕ) → i < 4 → g (0 + i) ≡ f (0 + 4 * x + i) = λ i below.
+    let from : 0 + i ≡ i = omega arith in
+    let to : 4 * x + i ≡ 0 + 4 * x + i = omega arith in
+    ap g from ∙ ap (repeated 2) (pixel_of_four row x k i twelve below) ∙ ap f to in
+    let next : 6 * (4 * (x + 1)) ≡ 24 * x + length part = omega arith in
+    let start : 24 * x ≡ 6 * (4 * x) = omega arith in
+    let more : 4 * (x + 1) ≡ 4 * x + 4 = omega arith in
+    ap (λ (n : ℕ). take n (put_mid (24 * x) m room part)) next ∙ take-put_mid (24 * x) m room part (24 * x + length part) refl (omega arith)
+    ∙ ap (λ (l : List X). l ++ part) (ap (λ (n : ℕ). take n room) start ∙ was) ∙ ap (λ (l : List X). columns_repeated 2 3 row (4 * x) ++ l) (is ∙ pieces_alike_from g f 0 (0 + 4 * x) 4 (λ i below. same i below))
+    ∙ sym (ap (columns_repeated 2 3 row) more ∙ pieces_in_parts f 0 (4 * x) 4)
 
 -- ---- each pixel so many times
 

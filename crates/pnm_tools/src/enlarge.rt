@@ -1,12 +1,14 @@
 //! `pamenlarge`: each pixel so many times across and so many times down, from pamenlarge(1).
 
 ghost use Rattle.std.specs.Prelude.{◌≡◌, ◌≤◌, ◌*◌, ◌⊎◌, length, OnOk, IfOk, IfErr, Ok, Err, None};
+ghost use Rattle.std.specs.List.{flat_map, range_with_len};
 ghost use Rattle.pnm_image.specs.Heads.{row_length};
 ghost use Rattle.pnm_image.specs.Places.{IsRowOf};
 ghost use Rattle.pnm_tools.specs.declared.fault.ToolFault.TheVariants.{Memory};
 ghost use Rattle.pnm_tools.specs.declared.tool.Tool.TheVariants.{Enlarge};
 ghost use Rattle.pnm_tools.specs.Answering.{row_list};
-ghost use Rattle.pnm_tools.specs.Enlarge.{enlarged_row};
+ghost use Rattle.pnm_tools.specs.Enlarge.{enlarged_row, repeated};
+ghost use Rattle.pnm_tools.specs.Pixels.{pixel_of};
 ghost use Rattle.pnm_tools.specs.Keeping.{IsEnlarging, enlarged_due};
 ghost use Rattle.pnm_tools.specs.Limits.{IsExtent};
 ghost use Rattle.pnm_tools.specs.Tools.{Takes, result_head};
@@ -114,7 +116,12 @@ fn double_colors<T: Copy>(shape: Shape, row: &[T], room: &mut [T])
     requires room { length room.old ≡ length row.now * 2 }
     ensures { room.new ≡ enlarged_row 2 shape row.now }
 {
-    for x in 0..shape.width as usize {
+    let width = shape.width as usize;
+    let fours = width / 4;
+    for x in 0..fours {
+        double_four_colors(&row[12 * x..12 * x + 12], &mut room[24 * x..24 * x + 24]);
+    }
+    for x in 4 * fours..width {
         let (red, green, blue) = (row[3 * x], row[3 * x + 1], row[3 * x + 2]);
         room[6 * x] = red;
         room[6 * x + 1] = green;
@@ -123,6 +130,43 @@ fn double_colors<T: Copy>(shape: Shape, row: &[T], room: &mut [T])
         room[6 * x + 4] = green;
         room[6 * x + 5] = blue;
     }
+}
+
+/// Stores four pixels of three samples, each twice. All samples are taken first, so that the compiler
+/// moves them side by side.
+fn double_four_colors<T: Copy>(row: &[T], room: &mut [T])
+    requires row { length row.now ≡ 12 }
+    requires room { length room.old ≡ 24 }
+    ensures { room.new ≡ flat_map (λ x. repeated 2 (pixel_of 3 row.now x)) (range_with_len 0 4) }
+{
+    let (a, b, c) = (row[0], row[1], row[2]);
+    let (d, e, f) = (row[3], row[4], row[5]);
+    let (g, h, i) = (row[6], row[7], row[8]);
+    let (j, k, l) = (row[9], row[10], row[11]);
+    room[0] = a;
+    room[1] = b;
+    room[2] = c;
+    room[3] = a;
+    room[4] = b;
+    room[5] = c;
+    room[6] = d;
+    room[7] = e;
+    room[8] = f;
+    room[9] = d;
+    room[10] = e;
+    room[11] = f;
+    room[12] = g;
+    room[13] = h;
+    room[14] = i;
+    room[15] = g;
+    room[16] = h;
+    room[17] = i;
+    room[18] = j;
+    room[19] = k;
+    room[20] = l;
+    room[21] = j;
+    room[22] = k;
+    room[23] = l;
 }
 
 /// Fills the room with the row, each pixel so many times.

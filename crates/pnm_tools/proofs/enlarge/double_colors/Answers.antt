@@ -1,8 +1,21 @@
-use Rattle.std.proofs.Common.{◌≡◌, ◌*◌, ℕ, length, ap, ◌∙◌, arith}
-use Rattle.pnm_tools.proofs.EnlargeRowLaws.{colors_more}
+use Rattle.std.proofs.Common.{◌≡◌, ◌≤◌, ◌+◌, ◌-◌, ◌*◌, ℕ, length, ap, ◌∙◌, arith}
+use borrow.Rule.Slice.PartMut.{same_len_mid, mid_len}
+use Rattle.pnm_tools.proofs.EnlargeRowLaws.{four_more, colors_more}
 use Rattle.pnm_tools.proofs.enlarge.double_colors.Goals as goal
 
 pub loop-x-preserved : goal.loop-x-preserved
 loop-x-preserved g c =
+    let x = c.loop-x.x in
+    let room = c.loop-x.room in
+    let part = c.double_four_colors.new.room in
     let long : length c.args.row.now ≡ c.args.shape.width * 3 = c.requires.row ∙ ap (λ (n : ℕ). c.args.shape.width * n) c.requires.depth in
-    colors_more c.args.row.now c.loop-x.room c.loop-x.x c.index-row-x.result c.index-row-x-in-loop-x.result c.index-row-x-in-loop-x-2.result c.loop-x.invariant (omega arith) (omega arith) c.index-row-x.is c.index-row-x-in-loop-x.is c.index-row-x-in-loop-x-2.is
+    let fits : 24 * x + 24 ≤ length room = omega (arith, c.loop-x.invariant.1) in
+    let same : length part ≡ 24 = omega (arith, c.double_four_colors.auto.room, mid_len (24 * x) (24 * x + 24) room fits) in (
+      four_more c.args.row.now room part x _ _ c.loop-x.invariant.0 fits (omega arith) same c.double_four_colors.ensures,
+      same_len_mid (24 * x) (24 * x + 24 - 24 * x) room part (omega (arith, same, mid_len (24 * x) (24 * x + 24) room fits)) ∙ c.loop-x.invariant.1,
+    )
+
+pub loop-x-2-preserved : goal.loop-x-2-preserved
+loop-x-2-preserved g c =
+    let long : length c.args.row.now ≡ c.args.shape.width * 3 = c.requires.row ∙ ap (λ (n : ℕ). c.args.shape.width * n) c.requires.depth in
+    colors_more c.args.row.now c.loop-x-2.room c.loop-x-2.x c.index-row-x.result c.index-row-x-in-loop-x-2.result c.index-row-x-in-loop-x-2-2.result c.loop-x-2.invariant (omega arith) (omega arith) c.index-row-x.is c.index-row-x-in-loop-x-2.is c.index-row-x-in-loop-x-2-2.is

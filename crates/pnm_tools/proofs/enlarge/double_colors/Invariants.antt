@@ -1,7 +1,11 @@
-use Rattle.std.proofs.Common.{◌≡◌, ◌*◌, take}
+use Rattle.std.proofs.Common.{◌≡◌, ◌*◌, length, take}
 use Rattle.pnm_tools.proofs.EnlargeRowLaws.{columns_repeated}
 use Rattle.pnm_tools.proofs.enlarge.double_colors.Given as goal
 
 -- the pixels that have passed stand twice
 abbrev pub invariant-loop-x : goal.invariant-loop-x
-invariant-loop-x g l = take (6 * l.x) l.room ≡ columns_repeated 2 3 l.row l.x
+invariant-loop-x g l = (take (6 * (4 * l.x)) l.room ≡ columns_repeated 2 3 l.row (4 * l.x)) × (length l.room ≡ length l.initial.room)
+
+-- the last ones too
+abbrev pub invariant-loop-x-2 : goal.invariant-loop-x-2
+invariant-loop-x-2 g l = take (6 * l.x) l.room ≡ columns_repeated 2 3 l.row l.x
