@@ -15,6 +15,7 @@ mod protocol;
 mod rows;
 mod steps;
 mod streams;
+mod sweep;
 mod texts;
 mod tile;
 mod whole;

@@ -58,7 +58,7 @@ impl From<HeadFault> for Unmade {
 pub(super) type Case<'a> = (&'a [Part<'a>], &'a [Part<'a>], Option<ToolFault>);
 
 /// More messages than a tool gives for one.
-const MOST_ANSWERS: usize = 1000;
+const MOST_ANSWERS: usize = 2000;
 
 /// A cut that keeps all.
 pub(super) const WHOLE: CutBox = CutBox {
@@ -145,6 +145,24 @@ pub(super) fn narrow(alloc: Global, samples: &[u16]) -> Result<Samples, Unmade> 
         Held::Bytes(bytes_of(alloc, samples)?)
     } else {
         Held::Words(Vec::from_slice(alloc, samples)?)
+    };
+    Ok(Samples::from_held(held))
+}
+
+/// How wide each sample is held.
+#[derive(Clone, Copy, Debug, PartialEq, Eq)]
+pub(super) enum Width {
+    Bit,
+    Byte,
+    Word,
+}
+
+/// The samples, each so wide.
+pub(super) fn held_so(alloc: Global, samples: Vec<u16>, width: Width) -> Result<Samples, Unmade> {
+    let held = match width {
+        Width::Bit => Held::Bits(bits_of(alloc, samples.as_slice())?),
+        Width::Byte => Held::Bytes(bytes_of(alloc, samples.as_slice())?),
+        Width::Word => Held::Words(samples),
     };
     Ok(Samples::from_held(held))
 }

@@ -1,20 +1,12 @@
 //! How the rows are held that tools give: those of `pnminvert` and `pamcut` as they came, where the
 //! samples of the result can be held so, and those of `pamflip -transpose` as the maxval asks.
 
-use super::parts::{Part, WHOLE, holds, is_made_of, message, narrow, start, take_all};
+use super::parts::{Part, WHOLE, Width, holds, is_made_of, message, narrow, start, take_all};
 use pnm_image::{Kind, Lent, Message, Samples};
 use pnm_tools::{CutBox, Filter, FlipWay, Tool, ToolState};
 use std::alloc::Global;
 use std::process::Abort;
 use std::test::Fail;
-
-/// How wide each sample is held.
-#[derive(Clone, Copy, Debug, PartialEq, Eq)]
-enum Width {
-    Bit,
-    Byte,
-    Word,
-}
 
 /// A maxval, a row that comes in as few bits as hold its samples, and how wide the row is that is given.
 type WidthCase<'a> = (u32, &'a [u16], Width);
