@@ -1,5 +1,5 @@
 pub mod CommentLaws
-pub mod Gathered
+pub mod Consumed
 pub mod PixelSteps
 pub mod Turns
 pub mod PieceLaws
@@ -39,6 +39,8 @@ pub mod FaultLaws
 pub mod StreamLaws
 pub mod PartLaws
 pub mod RawSteps
+pub mod ReadSteps
+pub mod PartSteps
 pub mod PlainSteps
 pub mod SourceSteps
 pub mod GivenLaws

@@ -18,10 +18,9 @@ use Rattle.pnm_image.specs.declared.packing.Packing.TheVariants.{Packed, Narrow,
 use Rattle.pnm_read.specs.Rasters.{bytes_in_row, pixel_at, pixels, wide_samples, raw_samples, SpellsRaw}
 use Rattle.pnm_image.specs.Packings.{packing_of}
 use Rattle.pnm_read.specs.Items.{◌>>=◌, raw_item}
-use Rattle.pnm_read.specs.Packings.{unit_bytes}
 use Rattle.pnm_read.specs.Said.{in_turn, units_in_row, units_at, raw_row, row_by, row_at, Said, then_said, end_said, rows_said}
 use Rattle.pnm_read.proofs.PieceLaws.{bind_ok}
-use Rattle.pnm_read.proofs.UnitLaws.{Turns, single, concat_singles, concat_pixels, are_within, are_within_all, all_are_within, unit_if, units_if, packed_units, narrow_units, wide_units}
+use Rattle.pnm_read.proofs.UnitLaws.{unit_bytes, Turns, single, concat_singles, concat_pixels, are_within, are_within_all, all_are_within, unit_if, units_if, packed_units, narrow_units, wide_units}
 use Rattle.pnm_read.specs.Sources.{after_messages}
 use Rattle.pnm_read.proofs.RowTurns.{RowsRead, rows_count, read_rows_are_said, ended_fault, all_read, no_more_to_come}
 

@@ -8,7 +8,7 @@ use Rattle.pnm_read.specs.declared.input.Input.{Input}
 use Rattle.pnm_read.specs.Items.{piece_from}
 use Rattle.pnm_read.specs.Scans.{FeedsAfter, Feeds, ScansAfter, Scans, JudgesEnd, IfEnds}
 use Rattle.pnm_read.specs.Inputs.{Turn, Fills, held_of, HoldsEnough}
-use Rattle.pnm_read.proofs.Turns.{IsLeft, no_fault, turn_then, turn_ok_so, turn_err_so, turn_seen, turn_advance, nothing_left}
+use Rattle.pnm_read.proofs.Turns.{IsLeft, no_fault, turn_then, turn_ok_so, turn_err_so, turn_taken, turn_seen, turn_advance, nothing_left}
 
 -- the piece of a text goes on as that of what is left of it
 abbrev pub GoesOnAs : {S : Type 0} → (S → List ℕ → ℕ → Judgement) → (S → List ℕ → Option InputFault) → (S → List ℕ → Type 0) → S → S → List ℕ → List ℕ → Type 0
@@ -19,6 +19,16 @@ pub record Scanning {R S : Type 0} (left : R → Option (List ℕ)) (failures : 
   pub same_items : item now ≡ item old
   pub same_end : at_end now ≡ at_end old
   pub turn : Turn {A = Unit {0}} left failures same input_old input (Ok tt) (GoesOnAs item at_end is_after old now)
+
+-- nothing was taken yet
+pub scan_begins : {R S : Type 0} {left : R → Option (List ℕ)} {failures : R → ℕ} {same : R → R → Type 0} {item : S → List ℕ → ℕ → Judgement} {at_end : S → List ℕ → Option InputFault} {is_after : S → List ℕ → Type 0}
+    (input : Input R) (s : S) → ((a : R) → same a a) → Scanning left failures same item at_end is_after input input s s
+scan_begins {item = item} {at_end = at_end} input s at_once = record {
+  same_items = refl;
+  same_end = refl;
+  turn = turn_ok_so {A = Unit {0}} {B = Unit {0}} tt (Ok tt) (no_fault tt ReadFailed) (λ b a e before f. (before, f, ap (piece_from (item s) (at_end s) before) e))
+      (turn_taken {A = Unit {0}} {result = Ok tt} [] at_once (no_fault tt ReadFailed) refl refl refl);
+}
 
 -- reading on failed
 pub scan_unread : {R S : Type 0} {left : R → Option (List ℕ)} {failures : R → ℕ} {same : R → R → Type 0} {item : S → List ℕ → ℕ → Judgement} {at_end : S → List ℕ → Option InputFault} {is_after : S → List ℕ → Type 0} {input_old input mid : Input R} {old now : S}

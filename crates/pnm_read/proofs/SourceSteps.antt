@@ -15,7 +15,7 @@ use Rattle.pnm_read.specs.Said.{Said, said, said_of, fault_of, then_said, says_n
 use Rattle.pnm_read.specs.Inputs.{Turn, IsOutsideFault, held_of}
 use Rattle.pnm_read.specs.Awaiting.{Answers, state_due, state_fault, is_ended}
 use Rattle.pnm_read.specs.Sources.{IsFresh, Tells, AnswerTells, HasGiven, after_messages, due, MayGive, SeesEnd}
-use Rattle.pnm_read.proofs.Gathered.{consumes_nothing}
+use Rattle.pnm_read.proofs.Consumed.{consumes_nothing}
 use Rattle.pnm_read.proofs.GivenLaws.{messages_after, fault_after}
 
 ended_not : {A : Type 0} (ended : Bool) → ended ≡ false → ended ≡ true → A

@@ -7,7 +7,7 @@ use Rattle.pnm_read.specs.declared.fault.InputFault.{InputFault}
 use Rattle.pnm_read.specs.declared.fault.InputFault.TheVariants.{ReadFailed}
 use Rattle.pnm_read.specs.declared.input.Input.{Input}
 use Rattle.pnm_read.specs.Inputs.{Turn, held_of, CanCome}
-use Rattle.pnm_read.proofs.Gathered.{consumes_nothing, consumes_then}
+use Rattle.pnm_read.proofs.Consumed.{consumes_nothing, consumes_then}
 
 -- an answer is no fault
 pub no_fault : {A : Type 0} (x : A) (k : InputFault) → Ok x ≡ Err k → ⊥

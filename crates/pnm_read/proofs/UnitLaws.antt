@@ -8,12 +8,11 @@ use Rattle.pnm_read.specs.declared.fault.InputFault.{InputFault}
 use Rattle.pnm_read.specs.declared.fault.InputFault.TheVariants.{SampleAboveMaxval}
 use Rattle.pnm_image.specs.declared.packing.Packing.{Packing}
 use Rattle.pnm_image.specs.declared.packing.Packing.TheVariants.{Packed, Narrow, Wide}
-use Rattle.pnm_samples.specs.Pixels.{all_pixels}
-use Rattle.std.proofs.lemmas.Grind.{flat_map-append}
 use Rattle.pnm_read.specs.Rasters.{pixels, wide_samples}
 use Rattle.pnm_read.specs.Items.{◌>>=◌, raw_item}
 use Rattle.pnm_read.specs.Said.{in_turn}
-use Rattle.pnm_read.specs.Packings.{AppendsUnits, AppendsPixels, AppendsSamples, AppendsNarrow, AppendsWide}
+use Rattle.pnm_read.specs.Packings.{AppendsWide}
+use Rattle.pnm_read.specs.Units.{samples_of_bytes, AreBytesWithin}
 
 -- items in turn, and what is left
 abbrev pub Turns : Type 0
@@ -21,6 +20,12 @@ Turns = Result (List (List ℕ) × List ℕ) InputFault
 
 abbrev pub fails : InputFault → Turns
 fails fault = Err fault
+
+-- the bytes of a unit
+abbrev pub unit_bytes : Packing → ℕ
+unit_bytes Packed = 1
+unit_bytes Narrow = 1
+unit_bytes Wide = 2
 
 -- the unit of one sample
 abbrev pub single : ℕ → List ℕ
@@ -128,50 +133,38 @@ wide_units maxval (suc n) (b ∷ c ∷ bytes) rest count =
     first_by (raw_item Wide maxval) n (leb (256 * b + c) maxval) (are_within maxval (wide_samples bytes)) (single (256 * b + c)) (map single (wide_samples bytes)) (bytes ++ rest) rest
     (wide_units maxval n bytes rest (omega (arith, zero-add, suc-add, suc-mul n 2)))
 
--- ---- appending of units
-
--- as many units as bytes
-one_byte : (n : ℕ) (bytes : List ℕ) → length bytes ≡ n * 1 → length bytes ≡ n
-one_byte n bytes count = omega (arith, count)
+-- ---- units of a byte each
 
 -- samples that are not all up to the maxval don't pass its test
 not_within : (maxval : ℕ) (samples : List ℕ) (t : Bool) → are_within maxval samples ≡ t → (All (λ sample. sample ≤ maxval) samples → ⊥) → t ≡ false
 not_within maxval samples true e h = absurd (h (all_are_within maxval samples e))
 not_within maxval samples false e h = refl
 
-pub pixels_append_units : (maxval n : ℕ) (bytes old new : List ℕ) (r : Result (Unit {0}) InputFault) → length bytes ≡ n * 1 → AppendsPixels bytes old new r → AppendsUnits Packed maxval n bytes old new r
-pixels_append_units maxval n bytes old new (Ok u) count h = (
-  map pixels bytes,
-  h ∙ ap (λ (l : List ℕ). old ++ l) (sym (concat_pixels bytes)),
-  λ rest. ap (λ (k : ℕ). in_turn (raw_item Packed maxval) k (bytes ++ rest)) (sym (one_byte n bytes count)) ∙ packed_units maxval bytes rest,
+pub bytes_are_units : (p : Packing) (maxval : ℕ) (bytes rest : List ℕ) → (p ≡ Wide → ⊥) → AreBytesWithin p maxval bytes
+    → (units : List (List ℕ)) × (samples_of_bytes p bytes ≡ concat units) × (in_turn (raw_item p maxval) (length bytes) (bytes ++ rest) ≡ Ok (units, rest))
+bytes_are_units Packed maxval bytes rest n h = (map pixels bytes, sym (concat_pixels bytes), packed_units maxval bytes rest)
+bytes_are_units Narrow maxval bytes rest n h =
+    (map single bytes, sym (concat_singles bytes), narrow_units maxval bytes rest ∙ ap (λ (t : Bool). units_if t (map single bytes) rest) (are_within_all maxval bytes h))
+bytes_are_units Wide maxval bytes rest n h = absurd (n refl)
+
+pub bytes_are_at_fault : (p : Packing) (maxval : ℕ) (bytes rest : List ℕ) → (p ≡ Wide → ⊥) → (AreBytesWithin p maxval bytes → ⊥)
+    → in_turn (raw_item p maxval) (length bytes) (bytes ++ rest) ≡ fails SampleAboveMaxval
+bytes_are_at_fault Packed maxval bytes rest n h = absurd (h tt)
+bytes_are_at_fault Narrow maxval bytes rest n h =
+    narrow_units maxval bytes rest ∙ ap (λ (t : Bool). units_if t (map single bytes) rest) (not_within maxval bytes (are_within maxval bytes) refl h)
+bytes_are_at_fault Wide maxval bytes rest n h = absurd (n refl)
+
+-- ---- samples of two bytes
+
+pub words_are_units : (maxval n : ℕ) (bytes old new rest : List ℕ) → length bytes ≡ n * 2 → AppendsWide maxval bytes old new (Ok tt)
+    → (units : List (List ℕ)) × (new ≡ old ++ concat units) × (in_turn (raw_item Wide maxval) n (bytes ++ rest) ≡ Ok (units, rest))
+words_are_units maxval n bytes old new rest count h = (
+  map single (wide_samples bytes),
+  h.0 ∙ ap (λ (l : List ℕ). old ++ l) (sym (concat_singles (wide_samples bytes))),
+  wide_units maxval n bytes rest count ∙ ap (λ (t : Bool). units_if t (map single (wide_samples bytes)) rest) (are_within_all maxval (wide_samples bytes) h.1),
 )
-pixels_append_units maxval n bytes old new (Err fault) count h = inl h
 
--- samples that are read in turn as units of one sample, where they all are up to the maxval, or else a fault
-abbrev ReadsSamples : Packing → ℕ → ℕ → List ℕ → List ℕ → Type 0
-ReadsSamples packing maxval n bytes samples = (rest : List ℕ) → in_turn (raw_item packing maxval) n (bytes ++ rest) ≡ units_if (are_within maxval samples) (map single samples) rest
-
-samples_append_units : (packing : Packing) (maxval n : ℕ) (bytes samples old new : List ℕ) (r : Result (Unit {0}) InputFault) → ReadsSamples packing maxval n bytes samples → AppendsSamples maxval samples old new r
-    → AppendsUnits packing maxval n bytes old new r
-samples_append_units packing maxval n bytes samples old new (Ok u) reads h = (
-  map single samples,
-  h.0 ∙ ap (λ (l : List ℕ). old ++ l) (sym (concat_singles samples)),
-  λ rest. reads rest ∙ ap (λ (t : Bool). units_if t (map single samples) rest) (are_within_all maxval samples h.1),
-)
-samples_append_units packing maxval n bytes samples old new (Err fault) reads (inl h) = inl h
-samples_append_units packing maxval n bytes samples old new (Err fault) reads (inr h) = inr (λ rest.
-    reads rest ∙ ap (λ (t : Bool). units_if t (map single samples) rest) (not_within maxval samples (are_within maxval samples) refl h.1) ∙ ap (λ (f : InputFault). fails f) (sym h.0))
-
-pub narrow_append_units : (maxval n : ℕ) (bytes old new : List ℕ) (r : Result (Unit {0}) InputFault) → length bytes ≡ n * 1 → AppendsNarrow maxval bytes old new r → AppendsUnits Narrow maxval n bytes old new r
-narrow_append_units maxval n bytes old new r count h =
-    samples_append_units Narrow maxval n bytes bytes old new r
-    (λ rest. ap (λ (k : ℕ). in_turn (raw_item Narrow maxval) k (bytes ++ rest)) (sym (one_byte n bytes count)) ∙ narrow_units maxval bytes rest) h
-
-pub wide_append_units : (maxval n : ℕ) (bytes old new : List ℕ) (r : Result (Unit {0}) InputFault) → length bytes ≡ n * 2 → AppendsWide maxval bytes old new r → AppendsUnits Wide maxval n bytes old new r
-wide_append_units maxval n bytes old new r count h = samples_append_units Wide maxval n bytes (wide_samples bytes) old new r (λ rest. wide_units maxval n bytes rest count) h
-
--- ---- bytes of pixels that are kept as they are
-
--- bytes that are appended append their pixels
-pub bytes_append_pixels : (bytes old new : List ℕ) → new ≡ old ++ bytes → all_pixels new ≡ all_pixels old ++ flat_map pixels bytes
-bytes_append_pixels bytes old new e = ap all_pixels e ∙ flat_map-append pixels old bytes
+pub words_are_at_fault : (maxval n : ℕ) (bytes rest : List ℕ) → length bytes ≡ n * 2 → (All (λ sample. sample ≤ maxval) (wide_samples bytes) → ⊥)
+    → in_turn (raw_item Wide maxval) n (bytes ++ rest) ≡ fails SampleAboveMaxval
+words_are_at_fault maxval n bytes rest count h =
+    wide_units maxval n bytes rest count ∙ ap (λ (t : Bool). units_if t (map single (wide_samples bytes)) rest) (not_within maxval (wide_samples bytes) (are_within maxval (wide_samples bytes)) refl h)

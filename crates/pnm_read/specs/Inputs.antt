@@ -1,5 +1,6 @@
 -- What a call reads, and how what it answers hangs together with the text, of which only a part is held.
-use Rattle.std.specs.Prelude.{◌≡◌, ℕ, ◌≤◌, ◌⊎◌, true, false, List, [], ◌∷◌, ◌++◌, drop, length, Option, Some, None, Result, Ok, Err}
+use Rattle.std.specs.Prelude.{◌≡◌, ℕ, ◌≤◌, ◌⊎◌, true, false, List, [], ◌∷◌, ◌++◌, take, length, Option, Some, None, Result, Ok, Err}
+use Rattle.std.specs.List.{slice_range}
 use Rattle.std.specs.Io.KnownBytes.{Consumes, IsAtEnd}
 use Rattle.pnm_image.specs.Devices.{Failed}
 use Rattle.pnm_read.specs.declared.fault.InputFault.{InputFault}
@@ -12,7 +13,7 @@ IsOutsideFault fault = (fault ≡ ReadFailed) ⊎ (fault ≡ Memory)
 
 -- the bytes that are held
 abbrev pub held_of : {R : Type 0} → Input R → List ℕ
-held_of input = drop input.at input.held.items
+held_of input = slice_range input.buffer.items input.at input.end
 
 -- these bytes may still come: none after the end was seen
 abbrev pub CanCome : {R : Type 0} → Input R → List ℕ → Type 0
@@ -42,6 +43,11 @@ pub record Turn {R A : Type 0} (left : R → Option (List ℕ)) (failures : R �
 abbrev pub Fills : Result (Unit {0}) InputFault → List ℕ → List ℕ → Type 0
 Fills (Ok _) before after = before ≡ after
 Fills (Err fault) before after = IsOutsideFault fault
+
+-- so many bytes were taken into the front of a room; none only where the text has none left
+abbrev pub Reads : List ℕ → Result ℕ InputFault → List ℕ → List ℕ → Type 0
+Reads room (Ok count) before after = (before ≡ take count room ++ after) × (count ≤ length room) × (count ≡ 0 → after ≡ [])
+Reads room (Err fault) before after = IsOutsideFault fault
 
 -- the byte that the text begins with, if it has one
 abbrev pub IsByte : Result (Option ℕ) InputFault → List ℕ → List ℕ → Type 0

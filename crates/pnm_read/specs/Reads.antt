@@ -1,14 +1,12 @@
--- What reading to the end gives.
-use Rattle.std.specs.Prelude.{◌≡◌, ◌⊎◌, List, ℕ, ◌++◌, Option, Result, OnOk}
-use Rattle.std.specs.Io.KnownBytes.{Consumes}
+-- What one read of a device gives.
+use Rattle.std.specs.Prelude.{◌≡◌, ℕ, ◌≤◌, List, [], take, length, Option, Result, Ok, Err}
+use Rattle.std.specs.Io.KnownBytes.{Consumes, IsAtEnd}
 use Rattle.pnm_image.specs.Devices.{Failed}
 use Rattle.pnm_read.specs.declared.fault.InputFault.{InputFault}
-use Rattle.pnm_read.specs.declared.fault.InputFault.TheVariants.{ReadFailed, Memory}
+use Rattle.pnm_read.specs.declared.fault.InputFault.TheVariants.{ReadFailed}
 
--- what a reader gave was added to what is held; where the call failed, perhaps a part of it alone
-abbrev pub Gathers : {R E : Type 0} → (R → Option (List ℕ)) → R → R → List ℕ → List ℕ → Result (Unit {0}) E → Type 0
-Gathers left old new held_old held_new result = (read : List ℕ) × Consumes (left old) (left new) read × OnOk result (held_new ≡ held_old ++ read)
-
--- the fault of such a call: a read failed, where readers count their failures so before and after; or memory ran out
-abbrev pub StopsReading : ℕ → ℕ → InputFault → Type 0
-StopsReading failures_old failures_new fault = ((fault ≡ ReadFailed) × Failed failures_old failures_new) ⊎ (fault ≡ Memory)
+-- so many bytes came into the front of the room, none only at the end; or the reader failed, and no byte came
+abbrev pub HasRead : {R : Type 0} → (R → Option (List ℕ)) → (R → ℕ) → (R → R → Type 0) → R → R → List ℕ → Result ℕ InputFault → Type 0
+HasRead left failures same old new room (Ok count) =
+    Consumes (left old) (left new) (take count room) × (count ≤ length room) × (count ≡ 0 → IsAtEnd (left new)) × (failures new ≡ failures old) × same old new
+HasRead left failures same old new room (Err fault) = Consumes (left old) (left new) [] × (fault ≡ ReadFailed) × Failed (failures old) (failures new) × same old new

@@ -2,7 +2,7 @@
 
 ghost use Rattle.std.specs.Prelude.{◌≡◌, ◌<◌, ◌≤◌, ◌-◌, [], not, ◌&&◌};
 ghost use Rattle.pnm_read.specs.declared.judgement.Judgement.TheVariants.{GoesOn, Fails};
-ghost use Rattle.pnm_read.specs.declared.fault.InputFault.TheVariants.{ReadFailed};
+ghost use Rattle.pnm_read.specs.declared.fault.InputFault.TheVariants.{ReadFailed, Memory};
 ghost use Rattle.pnm_image.specs.Texts.{is_digit};
 
 use crate::comments::{commented, is_apart};
@@ -55,6 +55,7 @@ impl DecimalScanner {
         ensures judged { JudgesDecimal self.now byte result }
         ensures short { result ≡ GoesOn → self.now.length < 1048576 }
         ensures of_text { result ≡ Fails ReadFailed → ⊥ }
+        ensures no_memory { result ≡ Fails Memory → ⊥ }
     {
         let is_complete = self.in_number && !is_digit(byte);
         if self.length >= GAP_LIMIT && !is_complete {
@@ -86,6 +87,7 @@ impl DecimalScanner {
 }
 
 impl Scanner for DecimalScanner {
+    ghost use Rattle.std.specs.Prelude.{false};
     ghost use Rattle.pnm_read.specs.Items.{decimal_item, decimal_end};
     ghost use Rattle.pnm_read.specs.Scanners.{IsDecimalAfter, IsDecimalWhole};
 
@@ -98,6 +100,8 @@ impl Scanner for DecimalScanner {
     ghost is_whole = { IsDecimalWhole };
 
     ghost room = { λ s. 1048576 - s.length };
+
+    ghost keeps_bytes = { false };
 
     fn take(&mut self, byte: u8) -> Judgement {
         let judgement = self.judge(byte);

@@ -2,7 +2,7 @@
 
 ghost use Rattle.std.specs.Prelude.{◌≡◌, ◌≤◌, ◌<◌, ◌==◌, ◌-◌, ◌++◌, [], ◌∷◌, List, ℕ, Some, not, ◌&&◌, ◌||◌};
 ghost use Rattle.pnm_read.specs.declared.judgement.Judgement.TheVariants.{GoesOn, Fails};
-ghost use Rattle.pnm_read.specs.declared.fault.InputFault.TheVariants.{ReadFailed};
+ghost use Rattle.pnm_read.specs.declared.fault.InputFault.TheVariants.{ReadFailed, Memory};
 ghost use Rattle.pnm_read.specs.Texts.{is_apart};
 ghost use Rattle.pnm_image.specs.Texts.{is_digit};
 ghost use Rattle.pnm_read.specs.Formats.{shape_of, number_count};
@@ -144,6 +144,7 @@ impl HeaderScanner {
         ensures judged { JudgesHeader self.now byte result }
         ensures short { result ≡ GoesOn → self.now.length < 65534 }
         ensures of_text { result ≡ Fails ReadFailed → ⊥ }
+        ensures no_memory { result ≡ Fails Memory → ⊥ }
     {
         if self.length >= HEADER_LIMIT {
             Judgement::Fails(InputFault::TooLong)
@@ -197,6 +198,7 @@ impl HeaderScanner {
 }
 
 impl Scanner for HeaderScanner {
+    ghost use Rattle.std.specs.Prelude.{false};
     ghost use Rattle.pnm_read.specs.Items.{header_item, header_end};
     ghost use Rattle.pnm_read.specs.Scanners.{IsHeaderAfter, IsHeaderWhole};
 
@@ -209,6 +211,8 @@ impl Scanner for HeaderScanner {
     ghost is_whole = { IsHeaderWhole };
 
     ghost room = { λ s. 65534 - s.length };
+
+    ghost keeps_bytes = { false };
 
     fn take(&mut self, byte: u8) -> Judgement {
         let judgement = self.judge(byte);

@@ -1,48 +1,65 @@
-//! The bytes of a reader, of which a part is held.
+//! The bytes of a reader, of which a buffer's worth is held.
 
-ghost use Rattle.std.specs.Prelude.{◌≡◌, ◌≤◌, ◌⊎◌, ◌++◌, [], true, false, drop, length, List, ℕ, vec_len, OnOk, IfOk, IfErr};
-ghost use Rattle.std.specs.Io.KnownBytes.{Consumes, IsAtEnd};
-ghost use Rattle.pnm_image.specs.Devices.{Failed};
-ghost use Rattle.pnm_read.specs.Reads.{Gathers, StopsReading};
+ghost use Rattle.std.specs.Prelude.{◌≡◌, ◌==◌, ◌≤◌, ◌<◌, ◌⊎◌, [], true, false, drop, take, length, List, ℕ, vec_len, OnOk, IfOk, IfErr, MatchResult};
 ghost use Rattle.pnm_read.specs.declared.fault.InputFault.TheVariants.{ReadFailed, Memory};
+ghost use Rattle.pnm_read.specs.Reads.{HasRead};
 
 use crate::fault::InputFault;
 use pnm_image::BytesIn;
 use std::alloc::Global;
 
-/// The bytes that are read at a time.
-const CHUNK: usize = 4096;
+/// The bytes that a buffer holds.
+const BUFFER_BYTES: usize = 4096;
+
+/// A buffer of 4,096 bytes for what is read of an input.
+#[derive(Debug, Drop)]
+pub struct ReadBuffer {
+    bytes: Vec<u8>,
+    ghost size: { vec_len bytes ≡ 4096 },
+}
+
+impl ReadBuffer {
+    /// A buffer that holds nothing yet. The only fault is `Memory`.
+    pub fn new(alloc: Global) -> Result<ReadBuffer, InputFault>
+        ensures refused { IfErr result (λ fault. fault ≡ Memory) }
+    {
+        match Vec::from_elem(alloc, 0, BUFFER_BYTES) {
+            Ok(bytes) => Ok(ReadBuffer { bytes }),
+            Err(_) => Err(InputFault::Memory),
+        }
+    }
+}
 
 /// A reader, and what was read of it and isn't taken yet.
 #[derive(Debug, Drop)]
 pub struct Input<R> {
     reader: R,
-    held: Vec<u8>,
-    /// So many of the bytes that are held were taken.
+    /// Those from `at` up to `end` are held.
+    buffer: Vec<u8>,
     at: usize,
+    end: usize,
     /// The reader's end was seen.
     ended: bool,
-    ghost within: { at ≤ vec_len held },
+    ghost size: { vec_len buffer ≡ 4096 },
+    ghost order: { at ≤ end },
+    ghost within: { end ≤ 4096 },
 }
 
 impl<R: BytesIn> Input<R> {
-    ghost use Rattle.pnm_read.specs.Inputs.{held_of, Turn, Fills, IsByte, HoldsEnough};
+    ghost use Rattle.pnm_read.specs.Inputs.{held_of, Turn, Fills, Reads, IsByte, HoldsEnough};
 
-    /// Nothing is read. The only fault is `Memory`.
-    pub fn new(alloc: Global, reader: R) -> Result<Input<R>, InputFault>
-    where
-        R: Drop,
-        ensures made { IfOk result (λ input. (input.reader ≡ reader) × (held_of input ≡ []) × (input.ended ≡ false)) }
-        ensures refused { IfErr result (λ fault. fault ≡ Memory) }
+    /// Nothing is read.
+    pub fn new(buffer: ReadBuffer, reader: R) -> Input<R>
+        ensures reader { result.reader ≡ reader }
+        ensures nothing_held { held_of result ≡ [] }
+        ensures not_ended { result.ended ≡ false }
     {
-        match Vec::with_capacity(alloc, CHUNK) {
-            Ok(held) => Ok(Input {
-                reader,
-                held,
-                at: 0,
-                ended: false,
-            }),
-            Err(_) => Err(InputFault::Memory),
+        Input {
+            reader,
+            buffer: buffer.bytes,
+            at: 0,
+            end: 0,
+            ended: false,
         }
     }
 
@@ -54,14 +71,14 @@ impl<R: BytesIn> Input<R> {
     }
 
     pub fn allocator(&self) -> Global {
-        *self.held.allocator()
+        *self.buffer.allocator()
     }
 
     /// The bytes that are held.
     pub fn bytes(&self) -> &[u8]
         ensures { result.now ≡ held_of self.now }
     {
-        &self.held[self.at..]
+        &self.buffer[self.at..self.end]
     }
 
     /// Takes so many of the bytes that are held.
@@ -74,17 +91,80 @@ impl<R: BytesIn> Input<R> {
         self.at += count;
     }
 
-    /// Reads until so many bytes are held, or the input has ended.
+    /// Reads until so many bytes are held, or the input has ended. The only fault is `ReadFailed`.
     pub fn fill(&mut self, wanted: usize) -> Result<(), InputFault>
+        requires { wanted ≤ 4096 }
         ensures turn { Turn R.left R.failures R.same self.old self.new result (Fills result) }
         ensures enough { OnOk result (HoldsEnough wanted self.new) }
+        ensures still { HoldsEnough wanted self.old → self.new ≡ self.old }
+        ensures failed { IfErr result (λ fault. fault ≡ ReadFailed) }
     {
-        if self.ended || self.held.len() - self.at >= wanted {
-            return Ok(());
+        while !self.ended && self.end - self.at < wanted {
+            self.read_more()?;
         }
-        read_to_end(&mut self.reader, &mut self.held)?;
-        self.ended = true;
         Ok(())
+    }
+
+    /// Reads once, behind the bytes that are held. The only fault is `ReadFailed`.
+    fn read_more(&mut self) -> Result<(), InputFault>
+        requires room { length (held_of self.old) < 4096 }
+        requires goes_on { self.old.ended ≡ false }
+        ensures turn { Turn R.left R.failures R.same self.old self.new result (Fills result) }
+        ensures more { OnOk result ((length (held_of self.old) < length (held_of self.new)) ⊎ ((self.new.ended ≡ true) × (held_of self.new ≡ held_of self.old))) }
+        ensures failed { IfErr result (λ fault. fault ≡ ReadFailed) }
+    {
+        self.move_to_front();
+        let room = &mut self.buffer.as_mut_slice()[self.end..];
+        self.end += read_into(&mut self.reader, &mut self.ended, room)?;
+        Ok(())
+    }
+
+    /// Moves the bytes that are held to the front of the buffer.
+    fn move_to_front(&mut self)
+        ensures front { self.new.at ≡ 0 }
+        ensures held { held_of self.new ≡ held_of self.old }
+        ensures reader { self.new.reader ≡ self.old.reader }
+        ensures ended { self.new.ended ≡ self.old.ended }
+    {
+        if self.at > 0 {
+            self.buffer.copy_within(self.at..self.end, 0);
+            self.end -= self.at;
+            self.at = 0;
+        }
+    }
+
+    /// Takes the next bytes into the front of the room, and answers how many came: 0 only at the end of
+    /// the input. They are those that are held, or where none is, those of one read, straight into a
+    /// room of at least as many bytes as the buffer has. The only fault is `ReadFailed`.
+    pub fn read(&mut self, room: &mut [u8]) -> Result<usize, InputFault>
+        requires { 0 < length room.old }
+        ensures turn { Turn R.left R.failures R.same self.old self.new result (Reads room.new result) }
+        ensures bound { IfOk result (λ count. count ≤ length room.new) }
+        ensures failed { IfErr result (λ fault. fault ≡ ReadFailed) }
+    {
+        if self.at == self.end && room.len() >= BUFFER_BYTES {
+            return self.read_past(room);
+        }
+        self.fill(1)?;
+        let bytes = self.bytes();
+        let count = bytes.len().min(room.len());
+        room[..count].copy_from_slice(&bytes[..count]);
+        self.advance(count);
+        Ok(count)
+    }
+
+    /// Reads once into the room, past the buffer, of which nothing is held.
+    fn read_past(&mut self, room: &mut [u8]) -> Result<usize, InputFault>
+        requires held { held_of self.old ≡ [] }
+        requires room { 0 < length room.old }
+        ensures turn { Turn R.left R.failures R.same self.old self.new result (Reads room.new result) }
+        ensures bound { IfOk result (λ count. count ≤ length room.new) }
+        ensures failed { IfErr result (λ fault. fault ≡ ReadFailed) }
+    {
+        if self.ended {
+            return Ok(0);
+        }
+        read_into(&mut self.reader, &mut self.ended, room)
     }
 
     /// The next byte; none at the end of the input.
@@ -103,25 +183,23 @@ impl<R: BytesIn> Input<R> {
     }
 }
 
-/// Reads all bytes that the reader still gives, and adds them to those that are held.
-fn read_to_end<R: BytesIn>(reader: &mut R, held: &mut Vec<u8>) -> Result<(), InputFault>
-    ensures read { Gathers R.left reader.old reader.new held.old.items held.new.items result }
-    ensures grows { length held.old.items ≤ length held.new.items }
-    ensures end { OnOk result (IsAtEnd (R.left reader.new)) }
-    ensures count { (result ≡ Err ReadFailed → ⊥) → R.failures reader.new ≡ R.failures reader.old }
-    ensures failed { IfErr result (StopsReading (R.failures reader.old) (R.failures reader.new)) }
-    ensures same_device { R.same reader.old reader.new }
+/// Reads once into the front of the room, and answers how many bytes came: 0 only at the end, which is
+/// noted then.
+fn read_into<R: BytesIn>(
+    reader: &mut R,
+    ended: &mut bool,
+    room: &mut [u8],
+) -> Result<usize, InputFault>
+    requires room { 0 < length room.old }
+    requires goes_on { ended.old ≡ false }
+    ensures read { HasRead R.left R.failures R.same reader.old reader.new room.new result }
+    ensures end { MatchResult result (λ count. ended.new ≡ (count == 0)) (λ _. ended.new ≡ false) }
 {
-    let mut chunk = [0u8; CHUNK];
-    for _ in 0..u64::MAX {
-        let count = match reader.read(&mut chunk) {
-            Ok(0) => return Ok(()),
-            Ok(count) => count,
-            Err(_) => return Err(InputFault::ReadFailed),
-        };
-        if held.extend_from_slice(&chunk[..count]).is_err() {
-            return Err(InputFault::Memory);
+    match reader.read(room) {
+        Ok(count) => {
+            *ended = count == 0;
+            Ok(count)
         }
+        Err(_) => Err(InputFault::ReadFailed),
     }
-    unreachable!()
 }

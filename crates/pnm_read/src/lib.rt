@@ -24,4 +24,5 @@ mod scan;
 mod source;
 
 pub use fault::InputFault;
+pub use input::ReadBuffer;
 pub use source::Source;

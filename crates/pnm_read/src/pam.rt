@@ -66,6 +66,7 @@ impl PamScanner {
 }
 
 impl Scanner for PamScanner {
+    ghost use Rattle.std.specs.Prelude.{true};
     ghost use Rattle.pnm_read.specs.Items.{pam_item, header_end};
     ghost use Rattle.pnm_read.specs.PamScanners.{IsPamAfter, IsPamWhole};
 
@@ -78,6 +79,8 @@ impl Scanner for PamScanner {
     ghost is_whole = { IsPamWhole };
 
     ghost room = { λ s. 65533 - s.length };
+
+    ghost keeps_bytes = { true };
 
     #[tactic(auto, unfolding(crate::specs::Items::pam_item))]
     fn take(&mut self, byte: u8) -> Judgement {

@@ -2,7 +2,7 @@
 
 ghost use Rattle.std.specs.Prelude.{◌≡◌, ◌<◌, ◌≤◌, ◌-◌, []};
 ghost use Rattle.pnm_read.specs.declared.judgement.Judgement.TheVariants.{GoesOn, Fails};
-ghost use Rattle.pnm_read.specs.declared.fault.InputFault.TheVariants.{ReadFailed};
+ghost use Rattle.pnm_read.specs.declared.fault.InputFault.TheVariants.{ReadFailed, Memory};
 
 use crate::comments::{commented, is_apart};
 use crate::decimal::GAP_LIMIT;
@@ -47,6 +47,7 @@ impl PixelScanner {
         ensures judged { JudgesPixel self.now byte result }
         ensures short { result ≡ GoesOn → self.now.length < 1048576 }
         ensures of_text { result ≡ Fails ReadFailed → ⊥ }
+        ensures no_memory { result ≡ Fails Memory → ⊥ }
     {
         let is_pixel = byte == b'0' || byte == b'1';
         if self.length >= GAP_LIMIT {
@@ -62,6 +63,7 @@ impl PixelScanner {
 }
 
 impl Scanner for PixelScanner {
+    ghost use Rattle.std.specs.Prelude.{false};
     ghost use Rattle.pnm_read.specs.Items.{pixel_item, pixel_end};
     ghost use Rattle.pnm_read.specs.Scanners.{IsPixelAfter, IsPixelWhole};
 
@@ -74,6 +76,8 @@ impl Scanner for PixelScanner {
     ghost is_whole = { IsPixelWhole };
 
     ghost room = { λ s. 1048576 - s.length };
+
+    ghost keeps_bytes = { false };
 
     fn take(&mut self, byte: u8) -> Judgement {
         let judgement = self.judge(byte);

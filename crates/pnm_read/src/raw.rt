@@ -1,15 +1,17 @@
 //! The rows of a raw raster.
 
-ghost use Rattle.std.specs.Prelude.{◌≡◌, ◌≤◌, IfOk};
+ghost use Rattle.std.specs.Prelude.{◌≡◌, ◌≤◌, ◌<◌, [], All, IfOk, OnOk, length, take};
 ghost use Rattle.pnm_image.specs.Limits.{max_side};
+ghost use Rattle.pnm_image.specs.Packings.{packing_of};
+ghost use Rattle.pnm_image.specs.declared.packing.Packing.TheVariants.{Wide};
 ghost use Rattle.pnm_read.specs.Said.{raw_row};
 ghost use Rattle.pnm_read.specs.Inputs.{Turn, Finds};
-ghost use Rattle.pnm_read.specs.Packings.{FindsUnits};
-ghost use Rattle.pnm_read.specs.Units.{samples_in, AreWithin};
+ghost use Rattle.pnm_read.specs.Packings.{FindsUnits, FindsPart};
+ghost use Rattle.pnm_read.specs.Units.{samples_in, AreWithin, samples_of_bytes, AreBytesWithin};
 
 use crate::fault::InputFault;
 use crate::input::Input;
-use crate::packing::{Units, unit_bytes, units_in_row};
+use crate::packing::{Units, append_wide, are_units_within, units_in_row};
 use pnm_image::{BytesIn, Packing, Samples, Shape};
 
 /// The next row.
@@ -22,28 +24,113 @@ pub fn read_row<R: BytesIn>(input: &mut Input<R>, shape: Shape) -> Result<Sample
     Ok(units.into_row(length, shape.maxval))
 }
 
-/// The units of the next row, as they are held, part by part.
+/// The units of the next row.
 fn read_units<R: BytesIn>(input: &mut Input<R>, shape: Shape) -> Result<Units, InputFault>
     requires { shape.width ≤ max_side }
     ensures found { Turn R.left R.failures R.same input.old input.new result (FindsUnits samples_in shape result) }
     ensures within { IfOk result (λ units. AreWithin shape.maxval units) }
 {
-    let packing = Packing::of(shape.kind, shape.maxval);
-    let unit = unit_bytes(packing);
-    let mut left = units_in_row(packing, shape);
-    let Ok(mut row) = Units::with_capacity(input.allocator(), packing, left) else {
+    match Packing::of(shape.kind, shape.maxval) {
+        Packing::Packed => {
+            let bytes = read_bytes(input, shape, Packing::Packed)?;
+            Ok(Units::Packed(bytes))
+        }
+        Packing::Narrow => {
+            let bytes = read_bytes(input, shape, Packing::Narrow)?;
+            Ok(Units::Narrow(bytes))
+        }
+        Packing::Wide => {
+            let words = read_words(input, shape)?;
+            Ok(Units::Wide(words))
+        }
+    }
+}
+
+/// The bytes of the next row, each of them a unit.
+fn read_bytes<R: BytesIn>(
+    input: &mut Input<R>,
+    shape: Shape,
+    packing: Packing,
+) -> Result<Vec<u8>, InputFault>
+    requires width { shape.width ≤ max_side }
+    requires packing { packing ≡ packing_of shape.kind shape.maxval }
+    requires bytes { packing ≡ Wide → ⊥ }
+    ensures found { Turn R.left R.failures R.same input.old input.new result (FindsUnits (λ row. samples_of_bytes packing row.items) shape result) }
+    ensures within { IfOk result (λ row. AreBytesWithin packing shape.maxval row.items) }
+{
+    let count = units_in_row(packing, shape);
+    let Ok(mut row) = Vec::from_elem(input.allocator(), 0, count) else {
+        return Err(InputFault::Memory);
+    };
+    let mut filled = 0;
+    while filled < count {
+        let room = &mut row.as_mut_slice()[filled..];
+        filled += read_part(input, room, packing, shape.maxval)?;
+    }
+    Ok(row)
+}
+
+/// Takes units of a byte that come next into the front of the room, and answers how many.
+fn read_part<R: BytesIn>(
+    input: &mut Input<R>,
+    room: &mut [u8],
+    packing: Packing,
+    maxval: u32,
+) -> Result<usize, InputFault>
+    requires room { 0 < length room.old }
+    requires bytes { packing ≡ Wide → ⊥ }
+    ensures found { Turn R.left R.failures R.same input.old input.new result
+        (FindsPart packing maxval (length room.old) [] (λ count. samples_of_bytes packing (take count room.new)) result) }
+    ensures count { IfOk result (λ count. (0 < count) × (count ≤ length room.new)) }
+    ensures within { IfOk result (λ count. AreBytesWithin packing maxval (take count room.new)) }
+{
+    let count = input.read(room)?;
+    if count == 0 {
+        return Err(InputFault::RasterCut);
+    }
+    if !are_units_within(&room[..count], packing, maxval) {
+        return Err(InputFault::SampleAboveMaxval);
+    }
+    Ok(count)
+}
+
+/// The samples of two bytes of the next row.
+fn read_words<R: BytesIn>(input: &mut Input<R>, shape: Shape) -> Result<Vec<u16>, InputFault>
+    requires width { shape.width ≤ max_side }
+    requires packing { Wide ≡ packing_of shape.kind shape.maxval }
+    ensures found { Turn R.left R.failures R.same input.old input.new result (FindsUnits (λ row. row.items) shape result) }
+    ensures within { IfOk result (λ row. All (λ sample. sample ≤ shape.maxval) row.items) }
+{
+    let mut left = units_in_row(Packing::Wide, shape);
+    let Ok(mut row) = Vec::with_capacity(input.allocator(), left) else {
         return Err(InputFault::Memory);
     };
     while left > 0 {
-        input.fill(unit)?;
-        let bytes = input.bytes();
-        let units = (bytes.len() / unit).min(left);
-        if units == 0 {
-            return Err(InputFault::RasterCut);
-        }
-        row.append(&bytes[..units * unit], shape.maxval)?;
-        input.advance(units * unit);
-        left -= units;
+        left -= append_part(input, left, shape.maxval, &mut row)?;
     }
     Ok(row)
+}
+
+/// Appends samples of two bytes that come next, at most so many, and answers how many. Safe code can't
+/// lend words as bytes to be read into, so these are joined out of the input's buffer.
+fn append_part<R: BytesIn>(
+    input: &mut Input<R>,
+    most: usize,
+    maxval: u32,
+    row: &mut Vec<u16>,
+) -> Result<usize, InputFault>
+    requires { 0 < most }
+    ensures found { Turn R.left R.failures R.same input.old input.new result (FindsPart Wide maxval most row.old.items (λ _. row.new.items) result) }
+    ensures count { IfOk result (λ count. (0 < count) × (count ≤ most)) }
+    ensures within { All (λ sample. sample ≤ maxval) row.old.items → OnOk result (All (λ sample. sample ≤ maxval) row.new.items) }
+{
+    input.fill(2)?;
+    let bytes = input.bytes();
+    let count = (bytes.len() / 2).min(most);
+    if count == 0 {
+        return Err(InputFault::RasterCut);
+    }
+    append_wide(&bytes[..count * 2], maxval, row)?;
+    input.advance(count * 2);
+    Ok(count)
 }

@@ -1,10 +1,10 @@
 //! Pieces of a text that are judged byte by byte: a header, or a sample of a plain raster.
 
-ghost use Rattle.std.specs.Prelude.{◌≡◌, ◌<◌, ◌≤◌, ◌+◌, ℕ, List, Option, IfOk, IfSome, IfNone, Some, Err, length};
+ghost use Rattle.std.specs.Prelude.{◌≡◌, ◌<◌, ◌≤◌, ◌+◌, ℕ, Bool, true, List, Option, IfOk, IfSome, IfNone, Some, Err, length};
 ghost use Rattle.pnm_read.specs.declared.fault.InputFault.{InputFault as Fault};
 ghost use Rattle.pnm_read.specs.declared.judgement.Judgement.{Judgement as Judged};
 ghost use Rattle.pnm_read.specs.declared.judgement.Judgement.TheVariants.{GoesOn, Fails};
-ghost use Rattle.pnm_read.specs.declared.fault.InputFault.TheVariants.{ReadFailed};
+ghost use Rattle.pnm_read.specs.declared.fault.InputFault.TheVariants.{ReadFailed, Memory};
 ghost use Rattle.pnm_read.specs.Scans.{JudgesByte, JudgesEnd, Feeds, Scans};
 ghost use Rattle.pnm_read.specs.Inputs.{Turn};
 
@@ -30,13 +30,17 @@ pub trait Scanner {
     /// The bytes that can still come, at most.
     ghost room: { Self → ℕ };
 
+    /// Whether it keeps bytes that it took, for which memory may run out.
+    ghost keeps_bytes: { Bool };
+
     /// Judges the next byte, and takes it where it belongs to the piece.
     fn take(&mut self, byte: u8) -> Judgement
         ensures judged { JudgesByte (item self.old) (is_after self.old) (is_after self.new) (is_whole self.new) byte result }
         ensures same_items { item self.new ≡ item self.old }
         ensures same_end { at_end self.new ≡ at_end self.old }
         ensures room { result ≡ GoesOn → room self.new < room self.old }
-        ensures of_text { result ≡ Fails ReadFailed → ⊥ };
+        ensures of_text { result ≡ Fails ReadFailed → ⊥ }
+        ensures memory { result ≡ Fails Memory → keeps_bytes ≡ true };
 
     /// The fault, if that is one, of a text that ends here.
     fn end(&self) -> Option<InputFault>

@@ -11,7 +11,7 @@ ghost use Rattle.pnm_read.specs.Awaiting.{awaited_after, row_of, Answers, Steps,
 use crate::fault::InputFault;
 use crate::format::Format;
 use crate::header::{read_format, read_head};
-use crate::input::Input;
+use crate::input::{Input, ReadBuffer};
 use crate::raster::Raster;
 use crate::{plain, raw};
 use pnm_image::{BytesIn, Message, Samples};
@@ -51,7 +51,9 @@ struct Step {
 /// plain image of `P1` to `P3`, as pbm(5), pgm(5), ppm(5) and pam(5) lay them out. A row is a message
 /// of width times depth samples; a black pixel of PBM is sample 0. What follows a plain image is
 /// ignored where it begins with white space or `#`.
-/// The first `next` reads the whole input.
+///
+/// A read is made only where a byte is needed that isn't held, and none after one that gave no byte.
+/// At most 4,096 bytes and a row are held.
 #[derive(Debug, Drop)]
 pub struct Source<R> {
     input: Input<R>,
@@ -61,17 +63,26 @@ pub struct Source<R> {
 impl<R: BytesIn> Source<R> {
     ghost use Rattle.pnm_read.specs.Sources.{IsFresh, Tells, MayGive, SeesEnd, MayGiveMore, stopped_by, has_ended, reader_of};
 
-    /// A source over the reader. It reads nothing. The only fault is `Memory`.
+    /// A source over the reader, with a buffer of its own. It reads nothing. The only fault is
+    /// `Memory`, and then the reader is gone: `with_buffer` keeps it.
     pub fn new(alloc: Global, reader: R) -> Result<Source<R>, InputFault>
     where
         R: Drop,
         ensures made { IfOk result (λ source. IsFresh reader source) }
         ensures refused { IfErr result (λ fault. fault ≡ Memory) }
     {
-        Ok(Source {
-            input: Input::new(alloc, reader)?,
+        let buffer = ReadBuffer::new(alloc)?;
+        Ok(Source::with_buffer(buffer, reader))
+    }
+
+    /// A source over the reader that reads through this buffer. It reads nothing.
+    pub fn with_buffer(buffer: ReadBuffer, reader: R) -> Source<R>
+        ensures { IsFresh reader result }
+    {
+        Source {
+            input: Input::new(buffer, reader),
             state: State::Awaits(Awaited::FirstImage),
-        })
+        }
     }
 
     /// The next message; `None` after the end of the stream, for good.

@@ -33,14 +33,14 @@ pub fn greatest(row: &[u16]) -> u16
 }
 
 /// Whether no byte is above this number. No byte is looked at where none can be.
-pub(crate) fn are_bytes_within(bytes: &[u8], most: u32) -> bool
+pub fn are_bytes_within(bytes: &[u8], most: u32) -> bool
     ensures { IsTrue result ↔ All (λ sample. sample ≤ most) bytes.now }
 {
     most >= GREATEST_BYTE || u32::from(greatest_byte(bytes)) <= most
 }
 
 /// Whether no word is above this number. No word is looked at where none can be.
-pub(crate) fn are_words_within(words: &[u16], most: u32) -> bool
+pub fn are_words_within(words: &[u16], most: u32) -> bool
     ensures { IsTrue result ↔ All (λ sample. sample ≤ most) words.now }
 {
     most >= GREATEST_WORD || u32::from(greatest(words)) <= most

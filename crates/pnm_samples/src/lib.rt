@@ -14,7 +14,7 @@ mod samples;
 mod transpose;
 
 pub use bits::Bits;
-pub use bounds::{greatest, greatest_byte};
+pub use bounds::{are_bytes_within, are_words_within, greatest, greatest_byte};
 pub use packing::pack;
 pub use sample::Sample;
 pub use samples::{Held, Lent, Samples};

@@ -1,8 +1,11 @@
 use Rattle.std.proofs.Common.{rules, ◌≡◌, List, [], ℕ, length, Some, None, Err, sym, ap}
 use Rattle.std.proofs.lemmas.Result.{err_from_is_err_and}
 use Rattle.pnm_read.specs.Inputs.{held_of}
-use Rattle.pnm_read.proofs.ScanSteps.{scan_unread, scan_ends, scan_fails, scan_found, scan_goes_on, none_of_length, end_seen}
+use Rattle.pnm_read.proofs.ScanSteps.{scan_begins, scan_unread, scan_ends, scan_fails, scan_found, scan_goes_on, none_of_length, end_seen}
 use Rattle.pnm_read.proofs.scan.scan.Goals as goal
+
+pub loop-input-init : goal.loop-input-init
+loop-input-init g c = scan_begins c.args.input.now c.args.scanner.now g.met.R.BytesIn.same_at_once
 
 pub returns-in_err-fill : goal.returns-in_err-fill
 returns-in_err-fill g c =
