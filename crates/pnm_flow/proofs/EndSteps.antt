@@ -15,7 +15,7 @@ use Rattle.pnm_tools.specs.declared.fault.ToolFault.{ToolFault}
 use Rattle.pnm_tools.specs.declared.fault.ToolFault.TheVariants.{OutOfOrder, Memory}
 use Rattle.pnm_tools.specs.declared.tool.Tool.{Tool}
 use Rattle.pnm_read.proofs.Turns.{no_fault}
-use Rattle.pnm_read.proofs.Gathered.{consumes_nothing}
+use Rattle.pnm_read.proofs.Consumed.{consumes_nothing}
 use Rattle.pnm_read.proofs.StreamLaws.{no_text_fault}
 use Rattle.pnm_tools.specs.Tools.{output_due}
 use Rattle.pnm_tools.specs.Chains.{due_in_turn}
@@ -195,13 +195,13 @@ ended_has_run reader held failures start done tools input refused output unread 
   no_failure = ended_without_failure reader held failures start done tools input refused output ended;
   input = ended_input reader held failures start done tools input refused output ended;
   read_failed = ended_at_failed_read reader held failures start done tools input refused output ended;
-  sound_reader = λ no_failure no_memory. ended_with_sound_reader reader held failures start done tools input refused output ended no_failure;
+  sound_reader = λ no_failure. ended_with_sound_reader reader held failures start done tools input refused output ended no_failure;
   tool = ended_at_tool reader held failures start done tools input refused output ended;
   refusal = ended_by_refusal reader held failures start done tools input refused output (λ number fault. (fault ≡ Memory) × (number ≡ 1) × unread) ended;
   output = ended_at_output reader held failures start done tools input refused output ended;
   output_last = ended_at_output_last reader held failures start done tools input refused output ended;
   front = ended_at_front reader held failures start done tools input refused output ended;
-  front_for_each = inr (ended_at_front_for_each reader held failures start done tools input refused output ended);
+  front_for_each = ended_at_front_for_each reader held failures start done tools input refused output ended;
 }
 
 -- a run in one thread
@@ -265,33 +265,33 @@ ended_unread tools unread reader writer some untouched read same_count written =
     no_failure = tt;
     input = λ text is. tt;
     read_failed = tt;
-    sound_reader = λ no_failure no_memory. same_count;
+    sound_reader = λ no_failure. same_count;
     tool = (λ is. absurd cc, le_refl 1, some);
     refusal = λ text is. inl (refl, refl, untouched);
     output = tt;
     output_last = λ text is. tt;
     front = λ text is images completes. nothing_written writer written (bytes_of (due_in_turn tools images));
-    front_for_each = inr (record { read = []; consumed = nothing_read reader read; front = λ rest may images completes. nothing_written writer written (bytes_of (due_in_turn tools images)) });
+    front_for_each = record { read = []; consumed = nothing_read reader read; front = λ rest may images completes. nothing_written writer written (bytes_of (due_in_turn tools images)) };
   };
   all_written = λ text is has sound. subst (λ (held : Option (List ℕ)). IsAllWritten {A = Summary} text tools (Err (OfTool 1 Memory)) writer.old held) (sym written) (ended_without_list text tools writer.old some);
   one_thread = tt;
 }
 
 -- a run that has written nothing, since there is no memory to read
-pub ended_without_reading : (tools : List Tool) (unread : Type 0) (reader writer : Change) → writer.new ≡ writer.old → HasRunInOneThread tools (Err (Input NoMemoryToRead)) unread reader writer
-ended_without_reading tools unread reader writer written = record {
+pub ended_without_reading : (tools : List Tool) (unread : Type 0) (reader writer : Change) → reader.new ≡ reader.old → reader.failures_new ≡ reader.failures_old → writer.new ≡ writer.old → HasRunInOneThread tools (Err (Input NoMemoryToRead)) unread reader writer
+ended_without_reading tools unread reader writer read same_count written = record {
   run = record {
     well = λ text is. tt;
     no_failure = tt;
     input = λ text is. inl (inr refl);
     read_failed = λ is. absurd cc;
-    sound_reader = λ no_failure no_memory. absurd (no_memory refl);
+    sound_reader = λ no_failure. same_count;
     tool = tt;
     refusal = λ text is. tt;
     output = tt;
     output_last = λ text is. tt;
     front = λ text is images completes. nothing_written writer written (bytes_of (due_in_turn tools images));
-    front_for_each = inl (refl, written);
+    front_for_each = record { read = []; consumed = nothing_read reader read; front = λ rest may images completes. nothing_written writer written (bytes_of (due_in_turn tools images)) };
   };
   all_written = λ text is has sound. absurd (no_text_fault text NoMemoryToRead has (inr refl));
   one_thread = tt;

@@ -8,7 +8,7 @@ use Rattle.pnm_read.specs.declared.fault.InputFault.{InputFault}
 use Rattle.pnm_read.specs.declared.fault.InputFault.TheVariants.{ReadFailed}
 use Rattle.pnm_read.specs.declared.source.Source.{Source}
 use Rattle.pnm_read.specs.Sources.{reader_of, stopped_by, MayGive, SeesEnd, Tells}
-use Rattle.pnm_read.proofs.Gathered.{consumes_then}
+use Rattle.pnm_read.proofs.Consumed.{consumes_then}
 use Rattle.pnm_read.proofs.Turns.{no_fault}
 use Rattle.pnm_flow.specs.declared.feeder.Feeder.{Feeder}
 use Rattle.pnm_flow.specs.Feeders.{HasAsked, HasAskedAll, HasAskedBy, IsFeeding, closing, waiting}

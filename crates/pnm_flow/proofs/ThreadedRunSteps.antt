@@ -205,7 +205,7 @@ gone_has_run left reader_failures held failures first source start done tools en
         no_failure = tt;
         input = λ text is. tt;
         read_failed = tt;
-        sound_reader = λ no_failure no_memory. said.2;
+        sound_reader = λ no_failure. said.2;
         tool = tt;
         refusal = λ text is. tt;
         output = tt;
@@ -214,7 +214,7 @@ gone_has_run left reader_failures held failures first source start done tools en
             let rest = rest_of reader.old reader.new said.0 text said.1 is in
             let front = subst (λ (l : List ℕ). IsFrontOf over.given (said_of l)) (sym rest.2) (said.3 rest.0 (rest_follows (Ok tt) reader rest.0 rest.1)) in
             run_front held failures start done tools over.given out over.sink text ran front over.kept;
-        front_for_each = inr (record { read = said.0; consumed = said.1; front = λ rest may. run_front held failures start done tools over.given out over.sink (said.0 ++ rest) ran (said.3 rest may) over.kept });
+        front_for_each = record { read = said.0; consumed = said.1; front = λ rest may. run_front held failures start done tools over.given out over.sink (said.0 ++ rest) ran (said.3 rest may) over.kept };
       };
       all_written = λ text is has sound. absurd has;
       gone = within;
@@ -425,5 +425,5 @@ was_started input ends has_ended behind output = started_by input (first_fault_f
 -- ---- before the first message
 
 -- there is no memory to read
-pub unread_has_run : (tools : List Tool) (reader writer : Change) → writer.new ≡ writer.old → HasRunOverThreads tools (Err (Input NoMemoryToRead)) reader writer
-unread_has_run tools reader writer written = record { run = (ended_without_reading tools ⊥ reader writer written).run; all_written = λ text is has sound. absurd has; gone = tt }
+pub unread_has_run : (tools : List Tool) (reader writer : Change) → reader.new ≡ reader.old → reader.failures_new ≡ reader.failures_old → writer.new ≡ writer.old → HasRunOverThreads tools (Err (Input NoMemoryToRead)) reader writer
+unread_has_run tools reader writer read same_count written = record { run = (ended_without_reading tools ⊥ reader writer read same_count written).run; all_written = λ text is has sound. absurd has; gone = tt }

@@ -5,7 +5,7 @@ use Rattle.pnm_image.specs.declared.message.Message.{Message}
 use Rattle.pnm_image.specs.Images.{Image}
 use Rattle.pnm_image.specs.Completion.{Completes}
 use Rattle.pnm_read.specs.declared.fault.InputFault.{InputFault}
-use Rattle.pnm_read.specs.declared.fault.InputFault.TheVariants.{ReadFailed, Memory as NoMemoryToRead}
+use Rattle.pnm_read.specs.declared.fault.InputFault.TheVariants.{ReadFailed}
 use Rattle.pnm_read.specs.Inputs.{IsOutsideFault}
 use Rattle.pnm_read.specs.Spelling.{Spells}
 use Rattle.pnm_read.specs.Said.{said_of, fault_of}
@@ -203,10 +203,10 @@ pub record HasRun (tools : List Tool) (answer : Result Summary RunFault) (unread
   pub well : (text : List ℕ) → reader.old ≡ Some text → IfOk answer (EndedWell text tools writer.old writer.new)
   pub no_failure : OnOk answer ((reader.failures_new ≡ reader.failures_old) × (writer.failures_new ≡ writer.failures_old))
   -- A fault of the input is the first of its text, which then spells nothing; or the reader failed, memory ran out, or as
-  -- many messages came as a run takes. With any other answer the reader hasn't failed, as far as memory let it be read.
+  -- many messages came as a run takes. With any other answer the reader hasn't failed.
   pub input : (text : List ℕ) → reader.old ≡ Some text → IfInput answer (λ fault. IsOutsideFault fault ⊎ IsAtFault text fault)
   pub read_failed : IfInput answer (λ fault. fault ≡ ReadFailed → Failed reader.failures_old reader.failures_new ⊎ OutlastsRun reader.old reader.new)
-  pub sound_reader : (answer ≡ Err (Input ReadFailed) → ⊥) → (answer ≡ Err (Input NoMemoryToRead) → ⊥) → reader.failures_new ≡ reader.failures_old
+  pub sound_reader : (answer ≡ Err (Input ReadFailed) → ⊥) → reader.failures_new ≡ reader.failures_old
   -- A tool's fault is answered only where the input has none and no tool before it refuses an image: it is the tool's own
   -- refusal, or want of memory. Or there was no memory for the list of the tools: it is then of tool 1, and nothing was
   -- read, whatever the input is. That a message came out of order is never answered.
@@ -216,9 +216,9 @@ pub record HasRun (tools : List Tool) (answer : Result Summary RunFault) (unread
   pub output : IfOutput answer (λ fault. (fault ≡ WriteFailed) × Failed writer.failures_old writer.failures_new × (reader.failures_new ≡ reader.failures_old))
   pub output_last : (text : List ℕ) → reader.old ≡ Some text → IfOutput answer (λ fault. IsTaken text tools)
   -- However it ends, what is written is a front of the output due, for the reader's own text and for any other that may
-  -- begin with the bytes that were read; or there was no memory to read, and nothing was written.
+  -- begin with the bytes that were read.
   pub front : (text : List ℕ) → reader.old ≡ Some text → IsFrontOfDue text tools writer.old writer.new
-  pub front_for_each : ((answer ≡ Err (Input NoMemoryToRead)) × (writer.new ≡ writer.old)) ⊎ IsFrontForEach tools (input_of answer) reader writer
+  pub front_for_each : IsFrontForEach tools (input_of answer) reader writer
 
 -- and in one thread all was written that the tools have answered
 pub record HasRunInOneThread (tools : List Tool) (answer : Result Summary RunFault) (unread : Type 0) (reader writer : Change) : Type 0 where

@@ -1,7 +1,6 @@
 //! A run in one thread: read, pass through the tools, write.
 
 ghost use Rattle.std.specs.Prelude.{◌≡◌, [], Err, IfOk, IfErr};
-ghost use Rattle.pnm_read.specs.declared.fault.InputFault.TheVariants.{Memory};
 ghost use Rattle.pnm_read.specs.Sources.{reader_of, IsFresh as IsUnread};
 ghost use Rattle.pnm_tools.specs.declared.fault.ToolFault.TheVariants.{Memory as NoMemory};
 ghost use Rattle.pnm_tools.specs.Chains.{AreLawfulTools, IsChain};
@@ -16,7 +15,7 @@ use crate::fault::RunFault;
 use crate::serial_stage::{SerialStage, feed_through, stage_of};
 use crate::summary::Summary;
 use pnm_image::{BytesIn, BytesOut};
-use pnm_read::{InputFault, Source};
+use pnm_read::{InputFault, ReadBuffer, Source};
 use pnm_tools::{Filter, Tool, ToolFault, ToolState};
 use pnm_write::SinkFault;
 use std::alloc::Global;
@@ -37,18 +36,18 @@ pub fn run_serial<R: BytesIn, W: BytesOut>(
     requires { IsChain tools.now }
     ensures ran { HasRunInOneThread tools.now result (reader.new ≡ reader.old)
         (change R.left R.failures reader.old reader.new) (change W.held W.failures writer.old writer.new) }
-    // Where memory runs out before the first message, the reader is gone with the source.
-    ensures same_reader { ¬ (result ≡ Err (RunFault.Input Memory)) → R.same reader.old reader.new }
+    ensures same_reader { R.same reader.old reader.new }
     ensures same_writer { W.same writer.old writer.new }
 {
     let mut stages = match stages_of(alloc, tools) {
         Ok(stages) => stages,
         Err(fault) => return Err(RunFault::Tool(1, fault)),
     };
-    let mut source = match Source::new(alloc, &mut *reader) {
-        Ok(source) => source,
+    let buffer = match ReadBuffer::new(alloc) {
+        Ok(buffer) => buffer,
         Err(fault) => return Err(RunFault::Input(fault)),
     };
+    let mut source = Source::with_buffer(buffer, &mut *reader);
     let mut downstream = Downstream::new(&mut *writer);
     let input = feed_all(&mut source, stages.as_mut_slice(), &mut downstream);
     let read = source.into_reader();

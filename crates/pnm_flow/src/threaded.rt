@@ -4,7 +4,6 @@ ghost use Rattle.std.specs.Prelude.{◌≡◌, ◌≢◌, ◌⊎◌, ◌≤◌, 
 ghost use Rattle.std.specs.Thread.{IsSync};
 ghost use Rattle.rtrb.specs.Ring.{sent, received, IsPair, SameProducer, SameConsumer};
 ghost use Rattle.pnm_image.specs.Limits.{max_tools};
-ghost use Rattle.pnm_read.specs.declared.fault.InputFault.TheVariants.{Memory};
 ghost use Rattle.pnm_read.specs.declared.source.Source.{Source as SourceValue};
 ghost use Rattle.pnm_read.specs.Sources.{reader_of};
 ghost use Rattle.pnm_tools.specs.declared.tool.Tool.{Tool as ToolValue};
@@ -30,7 +29,7 @@ use crate::stage::{Bells, StageEnd};
 use crate::summary::Summary;
 use crate::turns::Turns;
 use pnm_image::{BytesIn, BytesOut};
-use pnm_read::{InputFault, Source};
+use pnm_read::{InputFault, ReadBuffer, Source};
 use pnm_tools::Tool;
 use pnm_write::SinkFault;
 use std::alloc::Global;
@@ -58,9 +57,8 @@ pub fn run<H: Threads + Wait + Sync, R: BytesIn, W: BytesOut, G: Gate>(
     requires lanes { _lanes ≡ 1 }
     ensures ran { (result ≡ Err NotStarted) ⊎ HasRunOverThreads tools.now result
         (change R.left R.failures reader.old reader.new) (change W.held W.failures writer.old writer.new) }
-    // Where no chain came back, what it held didn't either; and where memory runs out before the first message, the reader is
-    // gone with the source.
-    ensures same_reader { result ≢ Err NotStarted → result ≢ Err (RunFault.Input Memory) → R.same reader.old reader.new }
+    // Where no chain came back, what it held didn't either.
+    ensures same_reader { result ≢ Err NotStarted → R.same reader.old reader.new }
     ensures same_writer { result ≢ Err NotStarted → W.same writer.old writer.new }
 {
     let (Some((to_chain, input)), Some((output, from_chain))) = (
@@ -69,10 +67,11 @@ pub fn run<H: Threads + Wait + Sync, R: BytesIn, W: BytesOut, G: Gate>(
     ) else {
         return Err(RunFault::NoStart);
     };
-    let source = match Source::new(alloc, &mut *reader) {
-        Ok(source) => source,
+    let buffer = match ReadBuffer::new(alloc) {
+        Ok(buffer) => buffer,
         Err(fault) => return Err(RunFault::Input(fault)),
     };
+    let source = Source::with_buffer(buffer, &mut *reader);
     let feeder = Feeder::new(source, to_chain);
     let collector = Collector::new(from_chain, &mut *writer);
     let both = beside_chain(

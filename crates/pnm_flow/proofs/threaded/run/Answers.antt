@@ -1,5 +1,14 @@
-use Rattle.std.proofs.Common.{rules, []}
+use Rattle.std.proofs.Common.{rules, [], inr, refl}
+use Rattle.pnm_flow.specs.Runs.{change}
+use Rattle.pnm_flow.proofs.ThreadedRunSteps.{unread_has_run}
 use Rattle.pnm_flow.proofs.threaded.run.Goals as goal
+
+-- there is no memory to read
+pub returns-in-Err-clause-ran : goal.returns-in-Err-clause-ran
+returns-in-Err-clause-ran g c =
+    let reader = c.args.reader.now in
+    let writer = c.args.writer.now in
+    rw c.in-Err.ensures.refused (inr (unread_has_run c.args.tools.now (change g.R.BytesIn.left g.R.BytesIn.failures reader reader) (change g.W.BytesOut.held g.W.BytesOut.failures writer writer) refl refl refl))
 
 pub conclude-read-requires-clause-taken : goal.conclude-read-requires-clause-taken
 conclude-read-requires-clause-taken g c = (_, c.in-Some.ensures.turned.collecting _ [] (rw c.in-Some-Some.ensures'.unused.1 at c.new-collector.ensures.collecting))
