@@ -54,7 +54,7 @@ fn are_samples(row: &Samples, samples: &[u16]) -> bool {
 
 impl Answer<'_> {
     /// Whether a source that answered so gave this answer.
-    fn is(&self, answer: &Result<Option<Message>, InputFault>) -> bool {
+    pub fn is(&self, answer: &Result<Option<Message>, InputFault>) -> bool {
         match (self, answer) {
             (Answer::Begin(kind, width, height, maxval), Ok(Some(Message::Begin(head)))) => {
                 let shape = Shape {

@@ -2,6 +2,7 @@
 //! of them.
 
 use super::answers::answers;
+use super::readers::Drips;
 use super::slow::Said;
 use pnm_image::Device;
 use pnm_read::Source;
@@ -54,6 +55,16 @@ pub fn agrees(rt: &impl Abort, alloc: Global, text: &[u8]) -> Result<(), Fail> {
     Ok(())
 }
 
+/// The same where each read gives one byte.
+fn agrees_byte_by_byte(rt: &impl Abort, alloc: Global, text: &[u8]) -> Result<(), Fail> {
+    let said = Said::of(alloc, text)?;
+    let wants = said.answers(alloc)?;
+    let drips = Drips::new(alloc, text, 1, 0);
+    let mut source = Source::new(alloc, Device::new(drips))?;
+    answers(rt, &mut source, wants.as_slice(), text);
+    Ok(())
+}
+
 /// The two say the same of the front and the back with each of these bytes between them.
 fn agrees_with_each(
     rt: &impl Abort,
@@ -101,6 +112,7 @@ fn agrees_on_cuts(rt: HostRuntime) -> Result<(), Fail> {
         for text in texts {
             for length in 0..=text.len() {
                 agrees(&rt, rt.alloc(), &text[..length])?;
+                agrees_byte_by_byte(&rt, rt.alloc(), &text[..length])?;
             }
         }
     }
