@@ -41,7 +41,9 @@ pub mod PartLaws
 pub mod RawSteps
 pub mod ReadSteps
 pub mod PartSteps
+pub mod LeadingLaws
 pub mod PlainSteps
+pub mod LeadingSteps
 pub mod SourceSteps
 pub mod GivenLaws
 pub mod RowTurns

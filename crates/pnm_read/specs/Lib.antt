@@ -12,6 +12,7 @@ pub mod TextLaws
 pub mod Inputs
 pub mod Reads
 pub mod Scans
+pub mod Leading
 pub mod Saturation
 pub mod Scanners
 pub mod PamScanners

@@ -13,6 +13,7 @@ mod header;
 mod input;
 mod judgement;
 pub mod laws;
+mod leading;
 mod line;
 mod packing;
 mod pam;

@@ -11,6 +11,7 @@ use crate::comments::is_apart;
 use crate::decimal::DecimalScanner;
 use crate::fault::InputFault;
 use crate::input::Input;
+use crate::leading::take_samples;
 use crate::pixel::PixelScanner;
 use crate::scan::scan;
 use pnm_image::{BytesIn, Held, Kind, Samples, Shape};
@@ -32,7 +33,8 @@ pub fn read_row<R: BytesIn>(
     Ok(row)
 }
 
-/// The samples of the next row.
+/// The samples of the next row: those that the bytes which are held tell by themselves, and the
+/// others by a scanner each.
 fn read_samples<R: BytesIn>(input: &mut Input<R>, shape: Shape) -> Result<Samples, InputFault>
     requires { shape.maxval ≤ max_maxval }
     ensures { Turn R.left R.failures R.same input.old input.new result (Finds (plain_row shape) result) }
@@ -41,7 +43,14 @@ fn read_samples<R: BytesIn>(input: &mut Input<R>, shape: Shape) -> Result<Sample
     let Ok(mut row) = Vec::with_capacity(input.allocator(), length) else {
         return Err(InputFault::Memory);
     };
-    while row.len() < length {
+    loop {
+        let Ok(taken) = take_samples(input.bytes(), shape, length, &mut row) else {
+            return Err(InputFault::Memory);
+        };
+        input.advance(taken);
+        if row.len() >= length {
+            break;
+        }
         let sample = read_sample(input, shape.kind, shape.maxval)?;
         if row.push(sample).is_err() {
             return Err(InputFault::Memory);

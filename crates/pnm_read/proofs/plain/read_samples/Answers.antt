@@ -1,27 +1,41 @@
-use Rattle.std.proofs.Common.{rules, arith, ◌≡◌, ◌-◌, ◌+◌, vec_len}
+use Rattle.std.proofs.Common.{rules, arith, ◌≡◌, ◌≤◌, ◌-◌, ◌+◌, length, vec_len}
 use Rattle.std.proofs.lemmas.Result.{err_from_is_err_and}
-use Rattle.pnm_read.proofs.PlainSteps.{samples_begin, samples_fault, samples_no_memory, samples_more, samples_read}
+use Rattle.pnm_read.proofs.PlainSteps.{samples_fault, samples_no_memory, samples_more, samples_read}
+use Rattle.pnm_read.proofs.LeadingSteps.{samples_taken}
 use Rattle.pnm_read.proofs.plain.read_samples.Goals as goal
-
-pub loop-shape-init : goal.loop-shape-init
-loop-shape-init g c =
-    samples_begin c.args.shape c.row_length-length.result (c.row_length-length.result - vec_len c.in-Ok.row) c.in-Ok.row.items c.args.input.now g.met.R.BytesIn.same_at_once (let none = c.in-Ok.ensures.len in omega arith) c.in-Ok.ensures.items
 
 pub returns-in_err-sample : goal.returns-in_err-sample
 returns-in_err-sample g c =
     let p = err_from_is_err_and c.from_residual.result c.from_residual.ensures.1 in
-    rw (p.1, p.2) (samples_fault c.in_err-sample.field-0.0 g.met.R.BytesIn.same_later c.loop-shape.invariant c.row_length-length.ensures (omega arith) c.in_err-sample.ensures)
+    let most : length c.take_samples.new.row.items ≤ c.row_length-length.result = c.in-Ok-take_samples.ensures.most c.loop-taken.invariant.most in
+    rw (p.1, p.2) (samples_fault c.in_err-sample.field-0.0 g.met.R.BytesIn.same_later
+    (samples_taken c.bytes.result.now c.take_samples.new.row.items c.in-Ok-take_samples.taken (c.row_length-length.result - vec_len c.take_samples.new.row) c.loop-taken.invariant.reading c.bytes.ensures c.in-Ok-take_samples.ensures.taken (omega arith) c.advance.ensures.reader c.advance.ensures.ended c.advance.ensures.held)
+    c.row_length-length.ensures (omega arith) c.in_err-sample.ensures)
 
 pub returns-then-is_err : goal.returns-then-is_err
-returns-then-is_err g c = samples_no_memory c.in_ok-sample.sample g.met.R.BytesIn.same_later c.loop-shape.invariant c.in_ok-sample.ensures
+returns-then-is_err g c =
+    let most : length c.take_samples.new.row.items ≤ c.row_length-length.result = c.in-Ok-take_samples.ensures.most c.loop-taken.invariant.most in
+    samples_no_memory c.in_ok-sample.sample g.met.R.BytesIn.same_later
+    (samples_taken c.bytes.result.now c.take_samples.new.row.items c.in-Ok-take_samples.taken (c.row_length-length.result - vec_len c.take_samples.new.row) c.loop-taken.invariant.reading c.bytes.ensures c.in-Ok-take_samples.ensures.taken (omega arith) c.advance.ensures.reader c.advance.ensures.ended c.advance.ensures.held)
+    c.in_ok-sample.ensures
 
-pub loop-shape-preserved : goal.loop-shape-preserved
-loop-shape-preserved g c =
-    let longer : vec_len c.push.new.self ≡ vec_len c.loop-shape.row + 1 = search rules in
-    samples_more c.in_ok-sample.sample (c.row_length-length.result - vec_len c.push.new.self) c.push.new.self.items g.met.R.BytesIn.same_later c.loop-shape.invariant (omega arith) (omega arith) (search rules) c.in_ok-sample.ensures
+pub loop-taken-preserved : goal.loop-taken-preserved
+loop-taken-preserved g c =
+    let most : length c.take_samples.new.row.items ≤ c.row_length-length.result = c.in-Ok-take_samples.ensures.most c.loop-taken.invariant.most in
+    let longer : vec_len c.push.new.self ≡ vec_len c.take_samples.new.row + 1 = search rules in
+    record {
+      reading = samples_more c.in_ok-sample.sample (c.row_length-length.result - vec_len c.push.new.self) c.push.new.self.items g.met.R.BytesIn.same_later
+          (samples_taken c.bytes.result.now c.take_samples.new.row.items c.in-Ok-take_samples.taken (c.row_length-length.result - vec_len c.take_samples.new.row) c.loop-taken.invariant.reading c.bytes.ensures c.in-Ok-take_samples.ensures.taken (omega arith) c.advance.ensures.reader c.advance.ensures.ended c.advance.ensures.held)
+          (omega arith) (omega arith) (search rules) c.in_ok-sample.ensures;
+      most = omega arith;
+    }
 
 pub within-requires : goal.within-requires
 within-requires g c = rw (c.from-bound.ensures, ← c.as_slice.ensures.value) ((c.greatest.ensures c.greatest.result).0 (omega arith))
 
 pub returns : goal.returns
-returns g c = samples_read c.within.result c.loop-shape.invariant c.row_length-length.ensures (omega arith) c.within.ensures
+returns g c =
+    let most : length c.take_samples.new.row.items ≤ c.row_length-length.result = c.in-Ok-take_samples.ensures.most c.loop-taken.invariant.most in
+    samples_read c.within.result
+    (samples_taken c.bytes.result.now c.take_samples.new.row.items c.in-Ok-take_samples.taken (c.row_length-length.result - vec_len c.take_samples.new.row) c.loop-taken.invariant.reading c.bytes.ensures c.in-Ok-take_samples.ensures.taken (omega arith) c.advance.ensures.reader c.advance.ensures.ended c.advance.ensures.held)
+    c.row_length-length.ensures (omega arith) c.within.ensures
