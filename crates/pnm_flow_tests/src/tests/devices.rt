@@ -116,8 +116,8 @@ fn answers_failed_devices(rt: HostRuntime) {
     }
 }
 
-/// A read for each byte, and one that finds the end; the one after so many fails. It is the answer, and nothing is written:
-/// the whole input is read first.
+/// A read for each byte, and one that finds the end; the one after so many fails. It is the answer, and what was due for the
+/// bytes before it is written.
 fn answers_a_failed_read<H: Threads + Wait + Abort + Sync>(
     rt: &H,
     alloc: Global,
@@ -131,12 +131,25 @@ fn answers_a_failed_read<H: Threads + Wait + Abort + Sync>(
     let mut writer = Device::new(Vec::new(alloc));
     let answer = invert_by(rt, alloc, way, &mut reader, &mut writer);
     let want = if before < 24 {
-        (Err(RunFault::Input(InputFault::ReadFailed)), b"".as_slice())
+        let due = &TWO_INVERTED[..due_after(before).min(TWO_INVERTED.len())];
+        (Err(RunFault::Input(InputFault::ReadFailed)), due)
     } else {
         (WELL, TWO_INVERTED)
     };
     let written = writer.into_inner();
     agrees(rt, (answer, written.as_slice()), want, &(way, before));
+}
+
+/// The bytes that are due once so many bytes of the two images have come: a header once it is whole, and the one row after it
+/// once that is.
+fn due_after(read: usize) -> usize {
+    match read {
+        0..=8 => 0,
+        9 | 10 => 9,
+        11..=19 => 11,
+        20..=22 => 20,
+        _ => 23,
+    }
 }
 
 /// What a run over the writer answers, and what the writer took of it.
