@@ -49,7 +49,7 @@ numbered_rows_answered tool s row y zero = refl
 numbered_rows_answered tool s row y (suc n) = ap (λ (l : List (List ℕ)). row_answer tool s y (row y) ++ l) (numbered_rows_answered tool s row (y + 1) n)
 
 -- the answer to the rows and the end of an image, of which some rows have come
-rows_answered : (tool : Tool) (s : Shape) (y : ℕ) (come rows : List (List ℕ))
+pub rows_answered : (tool : Tool) (s : Shape) (y : ℕ) (come rows : List (List ℕ))
     → answered_from tool (Inside s y) come (map Row rows ++ ImageEnd ∷ []) ≡ map Row (answers_to_rows tool s y rows ++ end_answer tool s (come ++ rows)) ++ ImageEnd ∷ []
 rows_answered tool s y come [] =
     append-nil (map Row (end_answer tool s come) ++ ImageEnd ∷ [])

@@ -40,3 +40,6 @@ pub mod SampleLaws
 pub mod WholeResultLaws
 pub mod TileRowLaws
 pub mod RepeatedBitLaws
+pub mod DealingLaws
+pub mod RowWiseLaws
+pub mod RowStateSteps

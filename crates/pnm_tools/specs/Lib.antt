@@ -20,3 +20,5 @@ pub mod Steps
 pub mod Chains
 pub mod ChainAnswers
 pub mod Laws
+pub mod Dealing
+pub mod RowStates

@@ -2,6 +2,7 @@
 //! function that does nothing.
 
 ghost use Rattle.pnm_tools.specs.Answers.{FullAnswerIsTheStream};
+ghost use Rattle.pnm_tools.specs.Dealing.{RowWiseToolsCommuteWithDealing, DealtExamplesHold};
 ghost use Rattle.pnm_tools.specs.Laws.{HeadsAreRefusedByName, ResultsAreImages, SamplesAreByTheFormula, SamplesAreNearest, StreamsAreAnswered, FirstFaultIsTheRefusal, AnswersAreDue};
 
 /// A full answer to a stream is the tool's stream: the results of all its images, none of which is
@@ -48,4 +49,16 @@ pub fn first_fault_is_the_refusal()
 /// them.
 pub fn answers_are_due()
     ensures { AnswersAreDue }
+{}
+
+/// The tools that are called row-wise are those that commute with dealing: what such a tool makes of the
+/// image that a lane sees is what the lane gets of the result, and it refuses the one where it refuses the other,
+/// by the same fault.
+pub fn row_wise_tools_commute_with_dealing()
+    ensures { RowWiseToolsCommuteWithDealing }
+{}
+
+/// Small images and lists of messages, dealt.
+pub fn dealt_examples_hold()
+    ensures { DealtExamplesHold }
 {}

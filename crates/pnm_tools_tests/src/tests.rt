@@ -8,6 +8,7 @@ mod depth;
 mod enlarge;
 mod flip;
 mod formulas;
+mod lanes;
 mod lawful;
 mod memory;
 mod parts;
