@@ -4,7 +4,7 @@ PROGRAM := crates/pnmpipe
 # where the tests stand: a library's in a crate of their own
 TESTED := pnm_samples_tests pnm_image_tests pnm_read_tests pnm_tools_tests pnm_write_tests pnm_chain_tests pnm_flow_tests pnmpipe
 
-.PHONY: all bench check test help toolchain controls refused-growth refused-starts
+.PHONY: all bench check test help toolchain controls long-stream refused-growth refused-starts
 
 # the lowest crate by all processors, and then those above it side by side; one `rt` for all, since two would wait for each other
 all: toolchain
@@ -31,6 +31,10 @@ test: toolchain
 bench:
 	python3 scripts/bench.py
 
+# a stream of 4 GiB through the program that make has left, in constant memory
+long-stream:
+	sh scripts/long_stream.sh
+
 # edits that keep the code's meaning, each of the shape of a must-fail edit: they have to prove
 controls: toolchain
 	sh scripts/controls.sh
@@ -54,6 +58,7 @@ help:
 	@echo "make test            the tests alone, without their proofs"
 	@echo "make check           the whole gate: every proof from nothing, the edits that must fail, the tests and the stored run"
 	@echo "make bench           times the program that make has left beside Netpbm's own tools, on large images"
+	@echo "make long-stream     passes a stream of 4 GiB through the program that make has left, and wants less than 32 MB of memory"
 	@echo "make controls        tries the edits that keep the code's meaning, which must prove"
 	@echo "make refused-growth  refuses each allocation of the stored run, of each tool, of a chain of three tools, and of the program's words, in turn"
 	@echo "make refused-starts  refuses each start of a thread in turn, of the program that make has left"
