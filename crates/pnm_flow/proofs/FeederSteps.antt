@@ -94,7 +94,7 @@ pub feeds_more : {R : Type 0} (left : R → Option (List ℕ)) (failures : R →
     → IsUnreadAfter left f.source next
     → failures (reader_of next) ≡ failures (reader_of f.source)
     → IsFeeding left failures first before f
-    → IsFeeding left failures first before (record { source = next; output = f.output; held = Some m; input = f.input; is_gone = f.is_gone })
+    → IsFeeding left failures first before (record { source = next; output = f.output; held = Some m; input = f.input; is_gone = f.is_gone; images = f.images })
 feeds_more left failures first before f next m held input t end unread count feeding =
     let asked : HasAsked left failures first next (feeding.given ++ m ∷ []) =
     asked_more left failures first f.source next feeding.given m (asked_of left failures first before f input feeding) t end unread count in
@@ -113,7 +113,7 @@ pub feeds_all : {R : Type 0} (left : R → Option (List ℕ)) (failures : R → 
     → IsUnreadAfter left f.source next
     → failures (reader_of next) ≡ failures (reader_of f.source)
     → IsFeeding left failures first before f
-    → IsFeeding left failures first before (record { source = next; output = f.output; held = f.held; input = Some (Ok tt); is_gone = f.is_gone })
+    → IsFeeding left failures first before (record { source = next; output = f.output; held = f.held; input = Some (Ok tt); is_gone = f.is_gone; images = f.images })
 feeds_all left failures first before f next held input t unread count feeding = record {
   given = feeding.given;
   asked = asked_all left failures first f.source next feeding.given (asked_of left failures first before f input feeding) t unread count;
@@ -130,7 +130,7 @@ pub feeds_until : {R : Type 0} (left : R → Option (List ℕ)) (failures : R �
     → (fault ≡ ReadFailed → (stopped_by f.source ≡ Some ReadFailed) ⊎ Failed (failures (reader_of f.source)) (failures (reader_of next)))
     → ((fault_answer fault ≡ Err ReadFailed → ⊥) → failures (reader_of next) ≡ failures (reader_of f.source))
     → IsFeeding left failures first before f
-    → IsFeeding left failures first before (record { source = next; output = f.output; held = Some Stop; input = Some (Err fault); is_gone = f.is_gone })
+    → IsFeeding left failures first before (record { source = next; output = f.output; held = Some Stop; input = Some (Err fault); is_gone = f.is_gone; images = f.images })
 feeds_until left failures first before f next fault held input t unread anything failed count feeding = record {
   given = feeding.given;
   asked = asked_until left failures first f.source next feeding.given fault (asked_of left failures first before f input feeding) t unread anything failed count;

@@ -6,7 +6,7 @@ ghost use Rattle.pnm_image.specs.declared.message.Message.{Message as MessageVal
 ghost use Rattle.pnm_flow.specs.Downstreams.{output_of};
 
 use crate::downstream::Downstream;
-use crate::ending::Ending;
+use crate::ending::{Ending, ends_image};
 use crate::patience::Bell;
 use crate::ring::{Input, Output};
 use pnm_image::{BytesOut, Message};
@@ -20,6 +20,8 @@ pub struct Collector<W> {
     has_ended: bool,
     /// The ring's other end was seen dropped.
     is_gone: bool,
+    /// The images whose end was taken, up to `u64::MAX`.
+    images: u64,
 }
 
 impl<W: BytesOut + Drop> Collector<W> {
@@ -35,6 +37,7 @@ impl<W: BytesOut + Drop> Collector<W> {
             downstream: Downstream::new(writer),
             has_ended: false,
             is_gone: false,
+            images: 0,
         }
     }
 
@@ -43,6 +46,11 @@ impl<W: BytesOut + Drop> Collector<W> {
         ensures { result ≡ is_over_by self.now }
     {
         self.has_ended || self.is_gone
+    }
+
+    /// The images whose end was taken, up to `u64::MAX`.
+    pub fn images(&self) -> u64 {
+        self.images
     }
 
     /// Takes a message, if one is there, and writes it. False where none is, and the ring's other end is still there. The
@@ -57,6 +65,8 @@ impl<W: BytesOut + Drop> Collector<W> {
         match self.input.pop() {
             Ok(message) => {
                 other.ring();
+                let is_end = ends_image(&message);
+                self.images = self.images.saturating_add(u64::from(is_end));
                 self.put(message);
                 true
             }

@@ -25,3 +25,8 @@ impl Ending {
         }
     }
 }
+
+/// Whether the message ends an image.
+pub fn ends_image(message: &Message) -> bool {
+    matches!(message, Message::ImageEnd)
+}

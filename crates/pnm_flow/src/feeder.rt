@@ -5,6 +5,7 @@ ghost use Rattle.rtrb.specs.Ring.{sent, SameProducer};
 ghost use Rattle.pnm_image.specs.declared.message.Message.{Message as MessageValue};
 ghost use Rattle.pnm_read.specs.Sources.{reader_of, IsFresh as IsUnread};
 
+use crate::ending::ends_image;
 use crate::patience::Bell;
 use crate::ring::Output;
 use pnm_image::{BytesIn, Message};
@@ -22,6 +23,8 @@ pub struct Feeder<R> {
     input: Option<Result<(), InputFault>>,
     /// The ring's other end was seen dropped.
     is_gone: bool,
+    /// The images whose end was sent, up to `u64::MAX`.
+    images: u64,
 }
 
 impl<R: BytesIn + Drop> Feeder<R> {
@@ -39,6 +42,7 @@ impl<R: BytesIn + Drop> Feeder<R> {
             held: None,
             input: None,
             is_gone: false,
+            images: 0,
         }
     }
 
@@ -48,6 +52,11 @@ impl<R: BytesIn + Drop> Feeder<R> {
         ensures { result ≡ is_over_by self.now }
     {
         self.is_gone || (self.held.is_none() && self.input.is_some())
+    }
+
+    /// The images whose end was sent, up to `u64::MAX`.
+    pub fn images(&self) -> u64 {
+        self.images
     }
 
     /// Sends the message that waits for room in the ring; or asks the source for one, where none waits. False where there
@@ -63,8 +72,10 @@ impl<R: BytesIn + Drop> Feeder<R> {
             self.ask();
             return true;
         };
+        let is_end = ends_image(&message);
         match self.output.push(message) {
             Ok(()) => {
+                self.images = self.images.saturating_add(u64::from(is_end));
                 other.ring();
                 true
             }

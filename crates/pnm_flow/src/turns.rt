@@ -1,5 +1,7 @@
 //! What the caller of a run over threads does while the tools work: it writes what it takes, and sends what it reads.
 
+ghost use Rattle.std.specs.Prelude.{◌≡◌, IsTrue, false};
+ghost use Rattle.pnm_flow.specs.Feeders.{is_over_by};
 ghost use Rattle.pnm_flow.specs.Turns.{HaveTurned};
 
 use crate::branches::Task;
@@ -63,5 +65,17 @@ fn turn<R: BytesIn + Drop, W: BytesOut + Drop>(
 ) -> bool
     ensures turned { HaveTurned R.left R.failures R.same W.held W.failures W.same feeder.old collector.old feeder.new collector.new }
 {
-    (!collector.is_over() && collector.turn(last)) || (!feeder.is_over() && feeder.turn(first))
+    (!collector.is_over() && collector.turn(last))
+        || (may_feed(feeder, collector) && feeder.turn(first))
+}
+
+/// Whether there is more to be sent, and not the end of an image whose result is still to be written: to ask the source for
+/// what follows that image may have to wait for its reader.
+fn may_feed<R: BytesIn + Drop, W: BytesOut + Drop>(
+    feeder: &Feeder<R>,
+    collector: &Collector<W>,
+) -> bool
+    ensures { IsTrue result → is_over_by feeder.now ≡ false }
+{
+    !feeder.is_over() && (collector.is_over() || feeder.images() <= collector.images())
 }
