@@ -18,7 +18,7 @@ reading_no_memory r = turn_ok_so {A = Unit {0}} {B = List ℕ} tt (Err Memory) (
 
 -- samples more were taken of the bytes that are held
 pub samples_taken : {R : Type 0} {left : R → Option (List ℕ)} {failures : R → ℕ} {same : R → R → Type 0} {s : Shape} {all more : ℕ} {samples : List ℕ} {old now new : Input R}
-    (bytes row : List ℕ) (taken fewer : ℕ) → ReadingSamples left failures same s all more samples old now → bytes ≡ held_of now → TakesSamples s bytes samples row taken → length row + fewer ≡ length samples + more
+    (bytes row : List ℕ) (taken fewer : ℕ) → ReadingSamples left failures same s all more samples old now → bytes ≡ held_of now → TakesSamples (sample_of s) bytes samples row taken → length row + fewer ≡ length samples + more
     → new.reader ≡ now.reader → new.ended ≡ now.ended → held_of new ≡ drop taken (held_of now) → ReadingSamples left failures same s all fewer row old new
 samples_taken {s = s} {all = all} {more = more} {samples = samples} {now = now} bytes row taken fewer r is_held t count reader ended held =
     let longer : length row ≡ length samples + length t.samples = ap (λ (l : List ℕ). length l) t.appended ∙ length-append samples t.samples in

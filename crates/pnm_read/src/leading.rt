@@ -1,21 +1,21 @@
 //! The samples that bytes of a plain raster begin with, where these bytes alone tell them.
 //!
-//! Comments, long gaps, long numbers, faults, and a number that the bytes end in, are left to the
-//! scanners.
+//! Comments, long numbers, faults, and a number that the bytes end in, are left to the scanners.
 
-ghost use Rattle.std.specs.Prelude.{◌≡◌, ◌≤◌, ◌<◌, ◌-◌, ℕ, length, take, true, IfOk, IfSome};
+ghost use Rattle.std.specs.Prelude.{◌≡◌, ◌≤◌, ◌<◌, ◌-◌, length, take, true, IfOk, IfSome};
 ghost use Rattle.std.specs.List.{AllPass};
-ghost use Rattle.pnm_image.specs.declared.shape.Kind.TheVariants.{Bit};
 ghost use Rattle.pnm_image.specs.Limits.{max_maxval};
 ghost use Rattle.pnm_image.specs.Texts.{is_white, is_digit};
-ghost use Rattle.pnm_read.specs.Leading.{IsNumberFirst, IsTextFirst, IsSampleFirst, TakesSamples};
+ghost use Rattle.pnm_read.specs.Items.{plain_sample, plain_pixel, plain_decimal, gap_limit};
+ghost use Rattle.pnm_read.specs.Leading.{IsNumberFirst, TakesSamples};
 
+use crate::decimal::GAP_LIMIT;
 use pnm_image::characters::{is_digit, is_white};
 use pnm_image::{Kind, Shape};
 use std::alloc::AllocError;
 
-/// The white space before a sample that is looked at, at most.
-const GAP_IN_BYTES: usize = 65_536;
+/// The greatest number of three digits.
+const MOST_OF_THREE: u32 = 999;
 
 /// Appends the samples that these bytes begin with, until the row has so many. Answers how many
 /// bytes they take.
@@ -30,35 +30,63 @@ pub fn take_samples(
     row: &mut Vec<u16>,
 ) -> Result<usize, AllocError>
     requires { shape.maxval ≤ max_maxval }
-    ensures taken { IfOk result (TakesSamples shape bytes.now row.old.items row.new.items) }
+    ensures taken { IfOk result (TakesSamples (plain_sample shape.kind shape.maxval) bytes.now row.old.items row.new.items) }
+    ensures most { IfOk result (λ _. length row.old.items ≤ wanted → length row.new.items ≤ wanted) }
+{
+    // So no gap in them is too long.
+    let bytes = &bytes[..bytes.len().min(GAP_LIMIT)];
+    match shape.kind {
+        Kind::Bit => take_pixels(bytes, wanted, row),
+        Kind::Gray | Kind::Color | Kind::Pam => take_numbers(bytes, shape.maxval, wanted, row),
+    }
+}
+
+/// Appends the pixels as samples. No branch hangs on which of the two a pixel is.
+fn take_pixels(bytes: &[u8], wanted: usize, row: &mut Vec<u16>) -> Result<usize, AllocError>
+    requires { length bytes.now ≤ gap_limit }
+    ensures taken { IfOk result (TakesSamples plain_pixel bytes.now row.old.items row.new.items) }
     ensures most { IfOk result (λ _. length row.old.items ≤ wanted → length row.new.items ≤ wanted) }
 {
     let mut taken = 0;
-    while row.len() < wanted {
-        let found = sample_first(&bytes[taken..], shape.kind, shape.maxval);
-        let Some((sample, count)) = found else {
+    for (at, byte) in bytes.iter().enumerate() {
+        if row.len() >= wanted {
             break;
-        };
-        row.push(sample)?;
-        taken += count;
+        }
+        if b'0' <= *byte && *byte <= b'1' {
+            row.push(u16::from(b'1' - *byte))?;
+            taken = at + 1;
+        } else if !is_white(*byte) {
+            break;
+        }
     }
     Ok(taken)
 }
 
-/// The sample that these bytes begin with, and how many it takes with the gap before it.
-fn sample_first(bytes: &[u8], kind: Kind, maxval: u32) -> Option<(u16, usize)>
-    requires { maxval ≤ max_maxval }
-    ensures { IfSome result (λ found. IsSampleFirst kind maxval bytes.now found.0 found.1) }
+/// Appends the numbers, each of them at most the maxval.
+fn take_numbers(
+    bytes: &[u8],
+    maxval: u32,
+    wanted: usize,
+    row: &mut Vec<u16>,
+) -> Result<usize, AllocError>
+    requires maxval { maxval ≤ max_maxval }
+    requires short { length bytes.now ≤ gap_limit }
+    ensures taken { IfOk result (TakesSamples (plain_decimal maxval) bytes.now row.old.items row.new.items) }
+    ensures most { IfOk result (λ _. length row.old.items ≤ wanted → length row.new.items ≤ wanted) }
 {
-    let skipped = white_first(bytes);
-    if skipped > GAP_IN_BYTES {
-        return None;
+    let mut taken = 0;
+    // The byte after a number is known to be white space.
+    let mut at = 0;
+    while row.len() < wanted {
+        let start = at + white_first(&bytes[at..]);
+        let Some((sample, count)) = sample_first(&bytes[start..], maxval) else {
+            break;
+        };
+        row.push(sample)?;
+        taken = start + count;
+        at = taken + 1;
     }
-    let (sample, count) = text_first(&bytes[skipped..], kind)?;
-    if sample > maxval {
-        return None;
-    }
-    Some((sample as u16, skipped + count))
+    Ok(taken)
 }
 
 /// How many bytes of white space come first.
@@ -74,29 +102,48 @@ fn white_first(bytes: &[u8]) -> usize
     bytes.len()
 }
 
-/// The sample that these bytes begin with, with no gap before it, and how many it takes.
-fn text_first(bytes: &[u8], kind: Kind) -> Option<(u32, usize)>
-    ensures { IfSome result (λ found. IsTextFirst kind bytes.now found.0 found.1) }
+/// The number up to the maxval that comes first, and how many digits it has.
+fn sample_first(bytes: &[u8], maxval: u32) -> Option<(u16, usize)>
+    requires { maxval ≤ max_maxval }
+    ensures number { IfSome result (λ found. IsNumberFirst bytes.now found.0 found.1) }
+    ensures most { IfSome result (λ found. found.0 ≤ maxval) }
 {
-    match kind {
-        Kind::Bit => pixel_first(bytes),
-        Kind::Gray | Kind::Color | Kind::Pam => number_first(bytes),
+    let (number, count) = if maxval <= MOST_OF_THREE {
+        short_number_first(bytes)?
+    } else {
+        number_first(bytes)?
+    };
+    if number > maxval {
+        return None;
     }
+    Some((number as u16, count))
 }
 
-/// The pixel that these bytes begin with, as a sample, and that it takes one of them.
-fn pixel_first(bytes: &[u8]) -> Option<(u32, usize)>
-    ensures { IfSome result (λ found. IsTextFirst Bit bytes.now found.0 found.1) }
+/// The number of at most three digits that comes first, if white space follows, and how many digits
+/// it has. No branch hangs on how many they are, since none could be foretold.
+fn short_number_first(bytes: &[u8]) -> Option<(u32, usize)>
+    ensures { IfSome result (λ found. IsNumberFirst bytes.now found.0 found.1) }
 {
-    match bytes {
-        [b'0', ..] => Some((1, 1)),
-        [b'1', ..] => Some((0, 1)),
-        _ => None,
+    let [a, b, c, d, ..] = bytes else {
+        return None;
+    };
+    if !is_digit(*a) {
+        return None;
     }
+    let two = is_digit(*b);
+    let three = two & is_digit(*c);
+    let more = usize::from(two) + usize::from(three);
+    let after = [*b, *c, *d][more];
+    if !is_white(after) {
+        return None;
+    }
+    let of_one = digit_value(*a);
+    let of_two = of_one * 10 + digit_value(*b);
+    let of_three = of_two * 10 + digit_value(*c);
+    Some(([of_one, of_two, of_three][more], more + 1))
 }
 
-/// The number of at most five digits that these bytes begin with, if white space comes after it, and
-/// how many digits it has. No branch hangs on how many they are, since none could be foretold.
+/// The number of at most five digits that comes first, likewise.
 fn number_first(bytes: &[u8]) -> Option<(u32, usize)>
     ensures { IfSome result (λ found. IsNumberFirst bytes.now found.0 found.1) }
 {

@@ -1,17 +1,15 @@
-use Rattle.std.proofs.Common.{◌≡◌, ◌∷◌, [], ◌++◌, List, ℕ, rules, subst}
-use Rattle.std.proofs.lemmas.List.{take_rest}
-use Rattle.pnm_read.specs.Leading.{IsSampleFirst}
-use Rattle.pnm_read.proofs.LeadingLaws.{takes_none, takes_more}
+use Rattle.std.proofs.Common.{List, ℕ, Result, subst, arith}
+use Rattle.std.specs.Prelude.{IfOk}
+use Rattle.pnm_read.specs.declared.fault.InputFault.{InputFault}
+use Rattle.pnm_read.specs.Items.{plain_pixel, plain_decimal}
+use Rattle.pnm_read.specs.Leading.{TakesSamples}
+use Rattle.pnm_read.proofs.LeadingLaws.{number_by_kind, all_taken}
 use Rattle.pnm_read.proofs.leading.take_samples.Goals as goal
 
-pub loop-shape-init : goal.loop-shape-init
-loop-shape-init c = record { taken = takes_none c.args.shape c.args.bytes.now c.args.row.now.items; most = λ h. h }
+pub returns-in-Bit-clause-taken : goal.returns-in-Bit-clause-taken
+returns-in-Bit-clause-taken c = rw c.in-Bit.is (all_taken plain_pixel c.min.result c.args.bytes.now c.args.row.now.items c.take_pixels.new.row.items c.take_pixels.result (omega arith) c.take_pixels.ensures.taken)
 
-pub loop-shape-preserved : goal.loop-shape-preserved
-loop-shape-preserved c =
-    let longer : c.push.new.self.items ≡ c.loop-shape.row.items ++ c.in-Some.sample ∷ [] = search rules in
-    record {
-      taken = takes_more c.args.shape c.args.bytes.now c.args.row.now.items c.loop-shape.row.items c.push.new.self.items c.loop-shape.taken c.in-Some.sample c.in-Some.count c.loop-shape.invariant.taken
-          (subst (λ (l : List ℕ). IsSampleFirst c.args.shape.kind c.args.shape.maxval l c.in-Some.sample c.in-Some.count) (take_rest c.args.bytes.now c.loop-shape.taken) c.in-Some.ensures) longer;
-      most = λ h. search rules;
-    }
+pub returns-in-Gray-clause-taken : goal.returns-in-Gray-clause-taken
+returns-in-Gray-clause-taken c =
+    subst (λ (item : List ℕ → Result (ℕ × List ℕ) InputFault). IfOk c.take_numbers.result (TakesSamples item c.args.bytes.now c.args.row.now.items c.take_numbers.new.row.items)) (number_by_kind c.args.shape.kind c.args.shape.maxval c.in-Gray.is)
+    (all_taken (plain_decimal c.args.shape.maxval) c.min.result c.args.bytes.now c.args.row.now.items c.take_numbers.new.row.items c.take_numbers.result (omega arith) c.take_numbers.ensures.taken)

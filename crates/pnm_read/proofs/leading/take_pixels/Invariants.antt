@@ -1,0 +1,12 @@
+use Rattle.std.proofs.Common.{◌≤◌, length}
+use Rattle.pnm_read.specs.Items.{plain_pixel}
+use Rattle.pnm_read.specs.Leading.{TakesSamples}
+use Rattle.pnm_read.proofs.LeadingLaws.{IsWhiteFrom}
+use Rattle.pnm_read.proofs.leading.take_pixels.Given as goal
+
+abbrev pub invariant-loop-at : goal.invariant-loop-at
+invariant-loop-at l = record {
+  taken : TakesSamples plain_pixel l.bytes l.initial.row.items l.row.items l.taken;
+  white : IsWhiteFrom l.bytes l.taken l.at;
+  most : length l.initial.row.items ≤ l.wanted → length l.row.items ≤ l.wanted;
+}
