@@ -9,6 +9,7 @@ mod limits;
 mod pam;
 mod pam_faults;
 mod pam_limits;
+mod plain;
 mod rasters;
 mod readers;
 mod rows;

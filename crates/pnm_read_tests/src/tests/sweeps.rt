@@ -55,11 +55,16 @@ pub fn agrees(rt: &impl Abort, alloc: Global, text: &[u8]) -> Result<(), Fail> {
     Ok(())
 }
 
-/// The same where each read gives one byte.
-fn agrees_byte_by_byte(rt: &impl Abort, alloc: Global, text: &[u8]) -> Result<(), Fail> {
+/// The same where each read gives up to so many bytes.
+pub fn agrees_in_drips(
+    rt: &impl Abort,
+    alloc: Global,
+    text: &[u8],
+    most: usize,
+) -> Result<(), Fail> {
     let said = Said::of(alloc, text)?;
     let wants = said.answers(alloc)?;
-    let drips = Drips::new(alloc, text, 1, 0);
+    let drips = Drips::new(alloc, text, most, 0);
     let mut source = Source::new(alloc, Device::new(drips))?;
     answers(rt, &mut source, wants.as_slice(), text);
     Ok(())
@@ -112,7 +117,7 @@ fn agrees_on_cuts(rt: HostRuntime) -> Result<(), Fail> {
         for text in texts {
             for length in 0..=text.len() {
                 agrees(&rt, rt.alloc(), &text[..length])?;
-                agrees_byte_by_byte(&rt, rt.alloc(), &text[..length])?;
+                agrees_in_drips(&rt, rt.alloc(), &text[..length], 1)?;
             }
         }
     }
