@@ -1,9 +1,9 @@
-//! Runs whose threads are held at their gate.
+//! Runs whose threads are held at their gate, and the order in which they read and write.
 
 use super::agrees;
 use super::chains::are_lawful;
 use super::threads::{Both, TURNS};
-use pnm_flow::{Gate, Summary, run};
+use pnm_flow::{Gate, OpenGate, Summary, run};
 use pnm_image::Device;
 use pnm_tools::Tool;
 use std::io::{Read, Write};
@@ -50,8 +50,21 @@ fn gives_each_tool_of_a_run_a_thread(rt: HostRuntime) {
 struct Seen {
     reads: AtomicU64,
     writes: AtomicU64,
+    flushes: AtomicU64,
     missed: AtomicU64,
     early: AtomicU64,
+}
+
+impl Seen {
+    fn new() -> Seen {
+        Seen {
+            reads: AtomicU64::new(0),
+            writes: AtomicU64::new(0),
+            flushes: AtomicU64::new(0),
+            missed: AtomicU64::new(0),
+            early: AtomicU64::new(0),
+        }
+    }
 }
 
 /// A reader of these bytes that is seen.
@@ -76,6 +89,7 @@ impl Write for SeenWriter<'_> {
     }
 
     fn flush(&mut self) -> io::Result<()> {
+        self.1.flushes.fetch_add(1, SeqCst);
         Ok(())
     }
 }
@@ -110,12 +124,7 @@ impl Gate for HoldsFirst<'_> {
 #[test]
 fn reads_and_writes_beside_the_tools(rt: HostRuntime) {
     assert!(&rt; are_lawful(&TOOLS));
-    let seen = Seen {
-        reads: AtomicU64::new(0),
-        writes: AtomicU64::new(0),
-        missed: AtomicU64::new(0),
-        early: AtomicU64::new(0),
-    };
+    let seen = Seen::new();
     let mut reader = Device::new(SeenReader(SAMPLE, &seen));
     let mut writer = Device::new(SeenWriter(Vec::new(rt.alloc()), &seen));
     let gate = HoldsFirst(&seen);
@@ -137,4 +146,60 @@ fn reads_and_writes_beside_the_tools(rt: HostRuntime) {
         &"a tool that waits",
     );
     assert_eq!(&rt; (seen.missed.load(SeqCst), seen.early.load(SeqCst)), (0, 0));
+}
+
+/// Gives the sample's image again and again, one a read, and counts the reads that came before the result of each image
+/// given until then was flushed.
+#[derive(Drop)]
+struct ImageByImage<'a> {
+    more: u64,
+    given: u64,
+    seen: &'a Seen,
+}
+
+impl Read for ImageByImage<'_> {
+    fn read(&mut self, room: &mut [u8]) -> io::Result<usize> {
+        if self.seen.flushes.load(SeqCst) < self.given {
+            self.seen.early.fetch_add(1, SeqCst);
+        }
+        if self.more == 0 {
+            return Ok(0);
+        }
+        self.more -= 1;
+        self.given = self.given.saturating_add(1);
+        let mut image = SAMPLE;
+        image.read(room)
+    }
+}
+
+/// Each image's result is written before the reader is asked for what follows the image: it may have to wait for it.
+#[test]
+fn writes_each_image_before_the_next_is_read(rt: HostRuntime) {
+    assert!(&rt; are_lawful(&TOOLS));
+    for capacity in [1, 2, 64] {
+        let seen = Seen::new();
+        let mut reader = Device::new(ImageByImage {
+            more: 200,
+            given: 0,
+            seen: &seen,
+        });
+        let mut writer = Device::new(SeenWriter(Vec::new(rt.alloc()), &seen));
+        let answer = run(
+            &rt,
+            rt.alloc(),
+            &mut reader,
+            &mut writer,
+            &TOOLS,
+            capacity,
+            1,
+            &OpenGate,
+        );
+        let made = Summary {
+            images: 200,
+            rows: 400,
+        };
+        assert_eq!(&rt; answer, Ok(made));
+        assert_eq!(&rt; writer.into_inner().0.len(), 200 * MADE.len());
+        assert_eq!(&rt; seen.early.load(SeqCst), 0);
+    }
 }
