@@ -161,7 +161,7 @@ impl Maker for RowReverser {
 
     fn begin(&mut self, alloc: Global, head: &Head) -> Result<Head, ToolFault> {
         let reversed = flipped_head(alloc, FlipWay::TopBottom, head)?;
-        self.rows = Vec::with_capacity(alloc, head.shape().height as usize)?;
+        self.rows = Vec::new(alloc);
         self.has_ended = false;
         Ok(reversed)
     }
