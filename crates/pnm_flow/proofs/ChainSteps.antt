@@ -9,49 +9,32 @@ use Rattle.rtrb.specs.Ring.{sent, received, known_items}
 use Rattle.pnm_image.specs.declared.message.Message.{Message}
 use Rattle.pnm_image.specs.declared.message.Message.TheVariants.{Stop}
 use Rattle.pnm_image.specs.Limits.{max_tools}
-use Rattle.pnm_image.specs.Images.{Image, rows_of, messages_of_image, messages_of_stream}
+use Rattle.pnm_image.specs.Images.{Image, messages_of_stream}
 use Rattle.pnm_image.specs.Messages.{without_stop}
 use Rattle.pnm_image.specs.Completion.{IsFrontOf, IsStreamOf}
 use Rattle.pnm_tools.specs.declared.tool.Tool.{Tool}
-use Rattle.pnm_tools.specs.Answers.{Ending, More, Whole, BrokenOff, EndsBy, AreResults}
+use Rattle.pnm_tools.specs.Answers.{Whole, BrokenOff, EndsBy, AreResults}
 use Rattle.pnm_tools.specs.Chains.{AreLawfulTools, AreResultsInTurn, due_in_turn}
 use Rattle.pnm_tools.specs.Tools.{IsLawfulTool, output_due}
 use Rattle.pnm_tools.proofs.FrontLaws.{nothing_changes, front_by_results}
-use Rattle.pnm_tools.proofs.InFullLaws.{ends_after, end_ends_nothing}
 use Rattle.pnm_tools.proofs.FullLaws.{front_of_front}
 use Rattle.pnm_tools.proofs.RefusalLaws.{results_are_images, same_in_turn, results_in_turn}
 use Rattle.pnm_flow.specs.declared.chain.ChainDone.{ChainDone}
 use Rattle.pnm_flow.specs.declared.chain.NoStart.{NoStart}
 use Rattle.pnm_flow.specs.declared.link.Link.{Link}
-use Rattle.pnm_flow.specs.declared.ring.AnyMessage.{AnyMessage}
-use Rattle.pnm_flow.specs.declared.stage.StageEnd.{StageEnd}
-use Rattle.pnm_flow.specs.declared.stage.StageEnd.TheVariants.{Well, Broken, Fault, PeerGone}
-use Rattle.pnm_flow.specs.Links.{IsWhole, IsDrained, IsEnded}
-use Rattle.pnm_flow.specs.Stages.{HasEndedSo, IsFrontOfDue, IsStage, HasRunStage}
+use Rattle.pnm_rings.specs.declared.ring.AnyMessage.{AnyMessage}
+use Rattle.pnm_rings.specs.declared.stage_end.StageEnd.{StageEnd}
+use Rattle.pnm_rings.specs.declared.stage_end.StageEnd.TheVariants.{Well, Broken, Fault, PeerGone}
+use Rattle.pnm_rings.specs.Fronts.{IsFrontOfDue}
+use Rattle.pnm_rings.specs.Rings.{IsEnded}
+use Rattle.pnm_flow.specs.Links.{IsWhole, IsDrained}
+use Rattle.pnm_rings.specs.Stages.{HasEndedSo, IsStage, HasRunStage}
 use Rattle.pnm_flow.specs.Chains.{FirstIsThere, AreStages, HasAnsweredStream, HasRunStages, HasRunChain, HasRunBetween}
-use Rattle.pnm_flow.proofs.LinkSteps.{ends_with}
-use Rattle.pnm_flow.proofs.StagedSteps.{front_goes_on}
-use Rattle.pnm_flow.proofs.DueSteps.{front_without_stop}
+use Rattle.pnm_rings.proofs.RingSteps.{ends_with}
+use Rattle.pnm_rings.proofs.EndingLaws.{nothing_follows, stream_ends_whole}
+use Rattle.pnm_rings.proofs.FrontLaws.{front_without_stop}
 
 -- ---- what is left between two stages
-
--- a list ends in one way
-pub one_ending : (a b : Ending) (l : List Message) → EndsBy a l → EndsBy b l → a ≡ b
-one_ending a b [] first second = first ∙ sym second
-one_ending a b (m ∷ []) first second = sym first ∙ second
-one_ending a b (m ∷ n ∷ l) first second = one_ending a b (n ∷ l) first.1 second.1
-
--- nothing follows a list that has ended
-pub nothing_follows : (l left : List Message) → IsEnded l → IsEnded (l ++ left) → left ≡ []
-nothing_follows l [] ended whole = refl
-nothing_follows l (m ∷ left) (inl first) (inl whole) = let same = one_ending More Whole l (front_goes_on Whole l m left whole) first in absurd cc
-nothing_follows l (m ∷ left) (inl first) (inr whole) = let same = one_ending More Whole l (front_goes_on BrokenOff l m left whole) first in absurd cc
-nothing_follows l (m ∷ left) (inr first) (inl whole) = let same = one_ending More BrokenOff l (front_goes_on Whole l m left whole) first in absurd cc
-nothing_follows l (m ∷ left) (inr first) (inr whole) = let same = one_ending More BrokenOff l (front_goes_on BrokenOff l m left whole) first in absurd cc
-
-pub stream_ends_whole : (is : List Image) → EndsBy Whole (messages_of_stream is)
-stream_ends_whole [] = refl
-stream_ends_whole (i ∷ is) = ends_after Whole (messages_of_image i) (messages_of_stream is) (refl, end_ends_nothing (rows_of i)) (stream_ends_whole is)
 
 -- what a stage received has ended, and what it sent has, unless it saw a neighbour's end dropped
 pub received_ended : (tool : Tool) (end : StageEnd) (l g : List Message) → HasEndedSo tool end l g → end ≢ PeerGone → IsEnded l

@@ -8,8 +8,8 @@ use Rattle.pnm_tools.specs.Answers.{Ending, More, Whole, BrokenOff, ending_of}
 use Rattle.pnm_tools.proofs.SoundLaws.{IsUnbroken, unbroken_keeps_all}
 use Rattle.pnm_flow.specs.declared.collector.Collector.{Collector}
 use Rattle.pnm_flow.specs.Collectors.{EndedBy, HasPut, IsCollecting}
-use Rattle.pnm_flow.proofs.LinkSteps.{ends_as}
-use Rattle.pnm_flow.proofs.DueSteps.{stop_is_cut}
+use Rattle.pnm_rings.proofs.RingSteps.{ends_as}
+use Rattle.pnm_rings.proofs.FrontLaws.{stop_is_cut}
 
 -- ---- whether messages have ended, with one more
 

@@ -8,9 +8,7 @@ pub mod CountLaws
 pub mod RunSteps
 pub mod EndSteps
 pub mod RefusalExample
-pub mod LinkSteps
 pub mod SendingSteps
-pub mod DueSteps
 pub mod StagedSteps
 pub mod ChainSteps
 pub mod StageEndLaws

@@ -9,12 +9,12 @@ use Rattle.pnm_tools.specs.Answers.{Whole, BrokenOff, EndsBy}
 use Rattle.pnm_tools.specs.ChainAnswers.{HaveAnswered, AreWell, IsFirstFault}
 use Rattle.pnm_flow.specs.declared.fault.RunFault.TheVariants.{Tool as OfTool}
 use Rattle.pnm_flow.specs.declared.link.Link.{Link}
-use Rattle.pnm_flow.specs.declared.stage.StageEnd.{StageEnd}
-use Rattle.pnm_flow.specs.declared.stage.StageEnd.TheVariants.{Well, Broken, Fault, PeerGone}
+use Rattle.pnm_rings.specs.declared.stage_end.StageEnd.{StageEnd}
+use Rattle.pnm_rings.specs.declared.stage_end.StageEnd.TheVariants.{Well, Broken, Fault, PeerGone}
 use Rattle.pnm_flow.specs.Chains.{FirstIsThere, AreStages}
-use Rattle.pnm_flow.specs.Stages.{HasEndedWell}
+use Rattle.pnm_rings.specs.Stages.{HasEndedWell}
 use Rattle.pnm_flow.specs.ThreadedRuns.{first_fault_from}
-use Rattle.pnm_flow.proofs.ChainSteps.{one_ending, stream_ends_whole}
+use Rattle.pnm_rings.proofs.EndingLaws.{one_ending, stream_ends_whole}
 use Rattle.pnm_flow.proofs.EndSteps.{not_started, none_started}
 
 -- ---- a stage that ended well

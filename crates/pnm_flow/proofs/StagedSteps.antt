@@ -3,8 +3,8 @@ use Rattle.std.specs.Prelude.{IsTrue, IsFalse}
 use Rattle.std.proofs.Common.{◌≡◌, ◌⊎◌, inl, inr, Bool, true, false, List, [], ◌∷◌, ◌++◌, Option, Some, None, refl, sym, ap, subst, ◌∙◌, append_assoc, append-nil}
 use Rattle.std.specs.List.{AllByRecursion}
 use Rattle.pnm_image.specs.declared.message.Message.{Message}
-use Rattle.pnm_image.specs.declared.message.Message.TheVariants.{Begin, Row, ImageEnd, StreamEnd, Stop}
-use Rattle.pnm_image.specs.Messages.{IsMessage, EndsStream}
+use Rattle.pnm_image.specs.declared.message.Message.TheVariants.{Stop}
+use Rattle.pnm_image.specs.Messages.{IsMessage}
 use Rattle.pnm_image.proofs.Lists.{each-push}
 use Rattle.pnm_image.proofs.Streams.{is_stream_of}
 use Rattle.pnm_tools.specs.declared.fault.ToolFault.{ToolFault}
@@ -13,49 +13,28 @@ use Rattle.pnm_tools.specs.declared.tool.Tool.{Tool}
 use Rattle.pnm_tools.specs.Answers.{Ending, More, Whole, BrokenOff, ending_of, EndsBy, AnswersInFull}
 use Rattle.pnm_tools.specs.ChainAnswers.{HasRefused, IsRefusedNext}
 use Rattle.pnm_tools.proofs.FullAnswers.{full_answer_is_the_stream}
-use Rattle.pnm_flow.specs.declared.ending.Ending.{Ending as Answered}
-use Rattle.pnm_flow.specs.declared.ending.Ending.TheVariants.{More as AnsweredMore, Whole as AnsweredWhole, BrokenOff as AnsweredBrokenOff}
+use Rattle.pnm_rings.specs.declared.ending.Ending.{Ending as Answered}
+use Rattle.pnm_rings.specs.declared.ending.Ending.TheVariants.{More as AnsweredMore, Whole as AnsweredWhole, BrokenOff as AnsweredBrokenOff}
 use Rattle.pnm_flow.specs.declared.serial_stage.SerialStage.{SerialStage}
 use Rattle.pnm_flow.specs.declared.serial_stage.SerialStage.TheVariants.{AtWork, Refused}
-use Rattle.pnm_flow.specs.declared.stage.StageEnd.{StageEnd}
-use Rattle.pnm_flow.specs.declared.stage.StageEnd.TheVariants.{Well, Broken, PeerGone}
-use Rattle.pnm_flow.specs.Links.{ending_by, IsEnded, EndsAtMostOnce}
+use Rattle.pnm_rings.specs.declared.stage_end.StageEnd.{StageEnd}
+use Rattle.pnm_rings.specs.declared.stage_end.StageEnd.TheVariants.{Well, Broken, PeerGone}
+use Rattle.pnm_rings.specs.Rings.{ending_by, IsEnded, EndsAtMostOnce}
 use Rattle.pnm_flow.specs.SerialStages.{StageAt, StageBusy, refusal_in}
-use Rattle.pnm_flow.specs.Stages.{HasEndedSo, IsFrontOfDue, HasRunStage}
+use Rattle.pnm_rings.specs.Fronts.{IsFrontOfDue}
+use Rattle.pnm_rings.specs.Stages.{HasEndedSo, HasRunStage}
 use Rattle.pnm_flow.specs.StageParts.{HasAnsweredPart, HasSentAnswers, HasDrainedAfter, HasBrokenOffAfter}
 use Rattle.pnm_tools.specs.Tools.{output_due}
 use Rattle.pnm_tools.proofs.InFullLaws.{ends_after}
 use Rattle.pnm_tools.proofs.SoundLaws.{both_all}
-use Rattle.pnm_flow.proofs.LinkSteps.{ends_nothing, ends_with}
-use Rattle.pnm_flow.proofs.DueSteps.{due_by_part, due_with_stop, due_goes_on}
+use Rattle.pnm_rings.proofs.RingSteps.{ends_nothing, ends_with}
+use Rattle.pnm_rings.proofs.EndingLaws.{front_goes_on, ends_stream}
+use Rattle.pnm_rings.proofs.FrontLaws.{due_with_stop, due_goes_on}
 
--- ---- how lists end
+-- ---- what is due
 
--- what comes before a message goes on
-pub front_goes_on : (e : Ending) (a : List Message) (m : Message) (b : List Message) → EndsBy e (a ++ m ∷ b) → EndsBy More a
-front_goes_on e [] m b ends = refl
-front_goes_on e (x ∷ []) m b ends = ends.0
-front_goes_on e (x ∷ y ∷ a) m b ends = (ends.0, front_goes_on e (y ∷ a) m b ends.1)
-
--- a whole list ends the stream
-last_is_end : (m : Message) → ending_of m ≡ Whole → EndsStream (m ∷ [])
-last_is_end (Begin head) whole = absurd cc
-last_is_end (Row row) whole = absurd cc
-last_is_end ImageEnd whole = absurd cc
-last_is_end StreamEnd whole = tt
-last_is_end Stop whole = absurd cc
-
-later_end : (m n : Message) (l : List Message) → EndsStream (n ∷ l) → EndsStream (m ∷ n ∷ l)
-later_end (Begin head) n l ends = ends
-later_end (Row row) n l ends = ends
-later_end ImageEnd n l ends = ends
-later_end StreamEnd n l ends = ends
-later_end Stop n l ends = ends
-
-ends_stream : (l : List Message) → EndsBy Whole l → EndsStream l
-ends_stream [] whole = absurd cc
-ends_stream (m ∷ []) whole = last_is_end m whole
-ends_stream (m ∷ n ∷ l) whole = later_end m n l (ends_stream (n ∷ l) whole.1)
+pub due_by_part : (tool : Tool) (l g : List Message) → HasAnsweredPart tool l g → IsFrontOfDue (output_due tool) l g
+due_by_part tool l g part = record { accepted = part.accepted; rest = part.rest; parts = part.parts; lawful = part.answers.lawful; front = part.answers.front }
 
 -- ---- message by message
 

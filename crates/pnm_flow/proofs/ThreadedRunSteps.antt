@@ -31,19 +31,21 @@ use Rattle.pnm_flow.specs.declared.downstream.Downstream.{Downstream}
 use Rattle.pnm_flow.specs.declared.fault.RunFault.{RunFault}
 use Rattle.pnm_flow.specs.declared.fault.RunFault.TheVariants.{NoStart, Input, Tool as OfTool, Output, PeerGone as Gone}
 use Rattle.pnm_flow.specs.declared.link.Link.{Link}
-use Rattle.pnm_flow.specs.declared.stage.StageEnd.{StageEnd}
-use Rattle.pnm_flow.specs.declared.stage.StageEnd.TheVariants.{Well, Broken, Fault, PeerGone}
+use Rattle.pnm_rings.specs.declared.stage_end.StageEnd.{StageEnd}
+use Rattle.pnm_rings.specs.declared.stage_end.StageEnd.TheVariants.{Well, Broken, Fault, PeerGone}
 use Rattle.pnm_flow.specs.declared.summary.Summary.{Summary}
 use Rattle.pnm_flow.specs.Chains.{FirstIsThere, AreStages}
 use Rattle.pnm_flow.specs.Collectors.{EndedBy}
 use Rattle.pnm_flow.specs.Downstreams.{output_of, HasTaken}
 use Rattle.pnm_flow.specs.Feeders.{HasAskedBy, closing}
-use Rattle.pnm_flow.specs.Links.{IsEnded}
+use Rattle.pnm_rings.specs.Rings.{IsEnded}
 use Rattle.pnm_flow.specs.Runs.{Change, change, MayFollow}
-use Rattle.pnm_flow.specs.Stages.{HasEndedSo, IsStage, IsFrontOfDue}
+use Rattle.pnm_rings.specs.Fronts.{IsFrontOfDue}
+use Rattle.pnm_rings.specs.Stages.{HasEndedSo, IsStage}
 use Rattle.pnm_flow.specs.ThreadedRuns.{fault_of_end, first_fault_from, answer_over, HaveEnded, FitEnds, IsAllSent, HasRunOverThreads}
-use Rattle.pnm_flow.proofs.ChainSteps.{nothing_follows, received_ended, sent_ended, stream_ends_whole}
-use Rattle.pnm_flow.proofs.DueSteps.{front_without_stop, stop_is_cut}
+use Rattle.pnm_flow.proofs.ChainSteps.{received_ended, sent_ended}
+use Rattle.pnm_rings.proofs.EndingLaws.{nothing_follows, stream_ends_whole}
+use Rattle.pnm_rings.proofs.FrontLaws.{front_without_stop, stop_is_cut}
 use Rattle.pnm_flow.proofs.EndSteps.{Ended, HaveEnded as StagesAnswered, ended_has_run, ended_without_reading, rest_follows}
 use Rattle.pnm_flow.proofs.FeedingSteps.{given_is_sound, may_give, rest_of}
 use Rattle.pnm_flow.proofs.RunSteps.{Ran, run_front, output_all, sound_is_writable}

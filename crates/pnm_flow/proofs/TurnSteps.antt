@@ -5,7 +5,7 @@ use Rattle.pnm_flow.specs.declared.collector.Collector.{Collector}
 use Rattle.pnm_flow.specs.declared.feeder.Feeder.{Feeder}
 use Rattle.pnm_flow.specs.Downstreams.{output_of}
 use Rattle.pnm_flow.specs.Turns.{HaveTurned}
-use Rattle.pnm_flow.proofs.LinkSteps.{same_input, same_output}
+use Rattle.pnm_rings.proofs.RingSteps.{same_input, same_output}
 
 -- one turn more
 pub turned_more : {R W : Type 0} (left : R → Option (List ℕ)) (reader_failures : R → ℕ) (same_reader : R → R → Type 0) (held : W → Option (List ℕ)) (writer_failures : W → ℕ) (same_writer : W → W → Type 0) (f f1 f2 : Feeder R) (c c1 c2 : Collector W)

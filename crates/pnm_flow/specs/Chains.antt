@@ -15,11 +15,12 @@ use Rattle.pnm_tools.specs.declared.tool.Tool.{Tool}
 use Rattle.pnm_tools.specs.Chains.{AreResultsInTurn, due_in_turn}
 use Rattle.pnm_flow.specs.declared.chain.ChainDone.{ChainDone}
 use Rattle.pnm_flow.specs.declared.link.Link.{Link}
-use Rattle.pnm_flow.specs.declared.ring.AnyMessage.{AnyMessage}
-use Rattle.pnm_flow.specs.declared.stage.StageEnd.{StageEnd}
-use Rattle.pnm_flow.specs.declared.stage.StageEnd.TheVariants.{Well, PeerGone}
+use Rattle.pnm_rings.specs.declared.ring.AnyMessage.{AnyMessage}
+use Rattle.pnm_rings.specs.declared.stage_end.StageEnd.{StageEnd}
+use Rattle.pnm_rings.specs.declared.stage_end.StageEnd.TheVariants.{Well, PeerGone}
 use Rattle.pnm_flow.specs.Links.{IsWhole, IsDrained}
-use Rattle.pnm_flow.specs.Stages.{IsStage, IsFrontOfDue}
+use Rattle.pnm_rings.specs.Fronts.{IsFrontOfDue}
+use Rattle.pnm_rings.specs.Stages.{IsStage}
 
 -- the first of these stages saw no neighbour's end dropped
 abbrev pub FirstIsThere : List StageEnd → Type 0

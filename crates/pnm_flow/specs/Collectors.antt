@@ -6,7 +6,7 @@ use Rattle.pnm_image.specs.Messages.{without_stop}
 use Rattle.pnm_tools.specs.Answers.{More, EndsBy}
 use Rattle.pnm_flow.specs.declared.collector.Collector.{Collector}
 use Rattle.pnm_flow.specs.Downstreams.{HasTaken}
-use Rattle.pnm_flow.specs.Links.{IsEnded}
+use Rattle.pnm_rings.specs.Rings.{IsEnded}
 
 -- whether messages have ended
 abbrev pub EndedBy : Bool → List Message → Type 0

@@ -6,7 +6,6 @@ pub mod Runs
 pub mod Feeding
 pub mod Examples
 pub mod Links
-pub mod Stages
 pub mod StageParts
 pub mod Chains
 pub mod ThreadedRuns

@@ -1,19 +1,7 @@
--- What has passed over rings: the messages that were sent and received, and those that are left.
-use Rattle.std.specs.Prelude.{◌≡◌, ◌⊎◌, Bool, true, false, List, [], ◌++◌}
-use Rattle.std.specs.List.{AllByRecursion}
+-- The ring between two stages, once both have ended: what was sent and received over it, and what is left.
+use Rattle.std.specs.Prelude.{◌≡◌, [], ◌++◌}
 use Rattle.rtrb.specs.Ring.{sent, received, known_items, IsPair}
-use Rattle.pnm_image.specs.declared.message.Message.{Message}
-use Rattle.pnm_image.specs.Messages.{IsMessage}
-use Rattle.pnm_tools.specs.Answers.{Ending, More, Whole, BrokenOff, EndsBy}
-use Rattle.pnm_flow.specs.declared.ending.Ending.{Ending as Answered}
-use Rattle.pnm_flow.specs.declared.ending.Ending.TheVariants.{More as AnsweredMore, Whole as AnsweredWhole, BrokenOff as AnsweredBrokenOff}
 use Rattle.pnm_flow.specs.declared.link.Link.{Link}
-
--- how a message ends a stream, by the answer of a function
-abbrev pub ending_by : Answered → Ending
-ending_by AnsweredMore = More
-ending_by AnsweredWhole = Whole
-ending_by AnsweredBrokenOff = BrokenOff
 
 -- the two ends are those of one ring: what was sent is what was received, and then what is left
 pub record IsWhole (link : Link) : Type 0 where
@@ -23,23 +11,3 @@ pub record IsWhole (link : Link) : Type 0 where
 -- nothing is left
 abbrev pub IsDrained : Link → Type 0
 IsDrained link = known_items link.consumer ≡ []
-
--- the last message ends the stream, whole or broken off, and no other does
-abbrev pub IsEnded : List Message → Type 0
-IsEnded l = EndsBy Whole l ⊎ EndsBy BrokenOff l
-
--- none but the last message ends the stream
-abbrev pub EndsAtMostOnce : List Message → Type 0
-EndsAtMostOnce l = (e : Ending) × EndsBy e l
-
--- a list was extended by these messages
-pub record Extends (old new : List Message) (P : List Message → Type 0) : Type 0 where
-  pub more : List Message
-  pub added : new ≡ old ++ more
-  pub messages : AllByRecursion IsMessage more
-  pub holds : P more
-
--- messages were taken through the end of the stream; or none of those that were taken ends it, and no more are there
-abbrev pub HasDrained : Bool → List Message → List Message → List Message → Type 0
-HasDrained true old new left = Extends old new IsEnded
-HasDrained false old new left = Extends old new (EndsBy More) × (left ≡ [])

@@ -6,10 +6,8 @@ ghost use Rattle.pnm_image.specs.declared.message.Message.{Message as MessageVal
 ghost use Rattle.pnm_flow.specs.Downstreams.{output_of};
 
 use crate::downstream::Downstream;
-use crate::ending::{Ending, ends_image};
-use crate::patience::Bell;
-use crate::ring::{Input, Output};
 use pnm_image::{BytesOut, Message};
+use pnm_rings::{Bell, Ending, Input, Output, ends_image};
 
 /// The ring that the results of a run come from, and what is written of them.
 #[derive(Drop)]

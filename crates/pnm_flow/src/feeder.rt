@@ -5,11 +5,9 @@ ghost use Rattle.rtrb.specs.Ring.{sent, SameProducer};
 ghost use Rattle.pnm_image.specs.declared.message.Message.{Message as MessageValue};
 ghost use Rattle.pnm_read.specs.Sources.{reader_of, IsFresh as IsUnread};
 
-use crate::ending::ends_image;
-use crate::patience::Bell;
-use crate::ring::Output;
 use pnm_image::{BytesIn, Message};
 use pnm_read::{InputFault, Source};
+use pnm_rings::{Bell, Output, ends_image};
 use rtrb::PushError;
 
 /// The source of a run, and the ring that its messages go into.
@@ -59,8 +57,8 @@ impl<R: BytesIn + Drop> Feeder<R> {
         self.images
     }
 
-    /// Sends the message that waits for room in the ring; or asks the source for one, where none waits. False where there
-    /// is still no room. The bell is that of the ring's other end.
+    /// Asks the source for a message, where none waits for room in the ring, and sends it. False where there is no room. The
+    /// bell is that of the ring's other end.
     pub fn turn(&mut self, other: &Bell) -> bool
         requires going { is_over_by self.old ≡ false }
         ensures feeding { (first : Source R) (before : List MessageValue) → IsFeeding R.left R.failures first before self.old
@@ -68,8 +66,20 @@ impl<R: BytesIn + Drop> Feeder<R> {
         ensures ring { SameProducer self.old.output self.new.output }
         ensures same_device { R.same (reader_of self.old.source) (reader_of self.new.source) }
     {
-        let Some(message) = self.held.take() else {
+        if self.held.is_none() {
             self.ask();
+        }
+        self.send(other)
+    }
+
+    /// Sends the message that waits, if any. False where there is no room in the ring.
+    fn send(&mut self, other: &Bell) -> bool
+        ensures feeding { (first : Source R) (before : List MessageValue) → IsFeeding R.left R.failures first before self.old
+            → IsFeeding R.left R.failures first before self.new }
+        ensures ring { SameProducer self.old.output self.new.output }
+        ensures same_device { R.same (reader_of self.old.source) (reader_of self.new.source) }
+    {
+        let Some(message) = self.held.take() else {
             return true;
         };
         let is_end = ends_image(&message);

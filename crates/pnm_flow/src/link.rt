@@ -1,6 +1,6 @@
 //! A ring between two tools of a chain, once both have ended.
 
-use crate::ring::{Input, Output};
+use pnm_rings::{Input, Output};
 
 /// Both ends of the ring between a tool and the next one.
 #[derive(Drop)]

@@ -5,33 +5,16 @@ ghost use Rattle.rtrb.specs.Ring.{sent, received, known_items, SameProducer, Sam
 ghost use Rattle.pnm_tools.specs.declared.tool.Tool.{Tool as ToolValue};
 ghost use Rattle.pnm_tools.specs.Tools.{IsLawfulTool};
 ghost use Rattle.pnm_flow.specs.SerialStages.{StageAt};
-ghost use Rattle.pnm_flow.specs.Stages.{HasRunStage};
+ghost use Rattle.pnm_rings.specs.Stages.{HasRunStage};
 ghost use Rattle.pnm_flow.specs.StageParts.{HasSentAnswers, HasDrainedAfter, HasBrokenOffAfter};
 
-use crate::ending::Ending;
 use crate::gate::Gate;
-use crate::patience::Bell;
-use crate::ring::{Input, Output, drain, give, take};
 use crate::serial_stage::{SerialStage, stage_of};
 use pnm_image::Message;
+use pnm_rings::{Bell, Ending, Input, Output, StageEnd, drain, give, take};
 use pnm_tools::{Filter, Tool, ToolFault};
 use std::alloc::Global;
 use std::sync::Wait;
-
-/// How a stage has ended.
-#[derive(Clone, Copy, Debug, PartialEq, Eq)]
-pub enum StageEnd {
-    /// The end of the stream was taken, and the tool's was sent.
-    Well,
-    /// Stop was taken, and sent.
-    Broken,
-    /// The tool refused so; Stop was sent, and the input was taken and dropped through its end or its
-    /// Stop.
-    Fault(ToolFault),
-    /// The other end of a ring was seen dropped. Where it was the output's, the input was drained
-    /// first; where it was the input's, Stop was sent.
-    PeerGone,
-}
 
 /// The ring ends of a stage that has ended, and how it did.
 #[derive(Drop)]

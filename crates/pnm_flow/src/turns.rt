@@ -7,8 +7,8 @@ ghost use Rattle.pnm_flow.specs.Turns.{HaveTurned};
 use crate::branches::Task;
 use crate::collector::Collector;
 use crate::feeder::Feeder;
-use crate::patience::{Bell, Patience};
 use pnm_image::{BytesIn, BytesOut};
+use pnm_rings::{Bell, Patience};
 use std::sync::Wait;
 
 /// The turns of the caller, until all is sent and taken, with the bells of the first tool, its own, and that of the last tool.

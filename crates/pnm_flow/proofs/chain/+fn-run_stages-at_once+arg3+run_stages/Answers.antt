@@ -2,7 +2,7 @@ use Rattle.std.proofs.Common.{List, sym, ap, subst, ◌∙◌, arith, vec_capaci
 use Rattle.rtrb.specs.Ring.{sent, received, known_items, SameProducer, SameConsumer}
 use Rattle.pnm_image.specs.declared.message.Message.{Message}
 use Rattle.pnm_flow.specs.Chains.{HasRunStages}
-use Rattle.pnm_flow.proofs.LinkSteps.{still_pair}
+use Rattle.pnm_rings.proofs.RingSteps.{still_pair}
 use Rattle.pnm_flow.proofs.ChainSteps.{came_back, has_room, stages_joined}
 use Rattle.pnm_flow.proofs.chain.+fn-run_stages-at_once+arg3+run_stages.Goals as goal
 

@@ -1,5 +1,5 @@
 use Rattle.std.proofs.Common.{sym}
-use Rattle.pnm_flow.proofs.LinkSteps.{still_pair}
+use Rattle.pnm_rings.proofs.RingSteps.{still_pair}
 use Rattle.pnm_flow.proofs.chain.joined.Goals as goal
 
 pub returns-clause-link : goal.returns-clause-link

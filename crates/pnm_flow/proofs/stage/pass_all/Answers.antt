@@ -1,9 +1,9 @@
 use Rattle.std.proofs.Common.{refl, sym, ap, ◌∙◌}
 use Rattle.rtrb.specs.Ring.{sent, received, known_items}
 use Rattle.pnm_tools.specs.Answers.{More, ending_of}
-use Rattle.pnm_flow.specs.declared.ending.Ending.TheVariants.{More as AnsweredMore}
-use Rattle.pnm_flow.specs.Links.{ending_by}
-use Rattle.pnm_flow.proofs.LinkSteps.{same_input, same_output}
+use Rattle.pnm_rings.specs.declared.ending.Ending.TheVariants.{More as AnsweredMore}
+use Rattle.pnm_rings.specs.Rings.{ending_by}
+use Rattle.pnm_rings.proofs.RingSteps.{same_input, same_output}
 use Rattle.pnm_flow.proofs.StagedSteps.{passes_nothing, passes_one, still_going, input_gone, output_gone, breaks_off, ends_well, ends_broken}
 use Rattle.pnm_flow.proofs.stage.pass_all.Goals as goal
 

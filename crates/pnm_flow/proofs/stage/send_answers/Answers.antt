@@ -1,5 +1,5 @@
 use Rattle.rtrb.specs.Ring.{sent}
-use Rattle.pnm_flow.proofs.LinkSteps.{itself_output, same_output}
+use Rattle.pnm_rings.proofs.RingSteps.{itself_output, same_output}
 use Rattle.pnm_flow.proofs.SendingSteps.{sends_nothing_yet, sends_on, loses_answer, sends_all}
 use Rattle.pnm_flow.proofs.stage.send_answers.Goals as goal
 

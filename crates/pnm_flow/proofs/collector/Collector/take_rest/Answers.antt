@@ -1,6 +1,6 @@
 use Rattle.std.proofs.Common.{inr, ◌∷◌, sym, ap, subst, ◌∙◌, arith}
 use Rattle.rtrb.specs.Ring.{sent, received, known_items, SameConsumer}
-use Rattle.pnm_flow.proofs.LinkSteps.{same_input}
+use Rattle.pnm_rings.proofs.RingSteps.{same_input}
 use Rattle.pnm_flow.proofs.CollectorSteps.{collects_one, still_all, none_left}
 use Rattle.pnm_flow.proofs.collector.Collector.take_rest.Goals as goal
 

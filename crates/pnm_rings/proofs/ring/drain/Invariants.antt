@@ -1,7 +1,7 @@
 use Rattle.rtrb.specs.Ring.{received, SameConsumer}
 use Rattle.pnm_tools.specs.Answers.{More, EndsBy}
-use Rattle.pnm_flow.specs.Links.{Extends}
-use Rattle.pnm_flow.proofs.ring.drain.Given as goal
+use Rattle.pnm_rings.specs.Rings.{Extends}
+use Rattle.pnm_rings.proofs.ring.drain.Given as goal
 
 -- what was received hasn't ended
 abbrev pub invariant-loop : goal.invariant-loop

@@ -1,6 +1,6 @@
 use Rattle.std.proofs.Common.{◌≡◌}
 use Rattle.rtrb.specs.Ring.{sent, SameProducer}
-use Rattle.pnm_flow.proofs.ring.give.Given as goal
+use Rattle.pnm_rings.proofs.ring.give.Given as goal
 
 -- nothing was sent
 abbrev pub invariant-loop : goal.invariant-loop

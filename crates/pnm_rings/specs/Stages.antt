@@ -3,19 +3,19 @@ use Rattle.std.specs.Prelude.{◌≡◌, ◌⊎◌, List, [], ◌∷◌, ◌++�
 use Rattle.std.specs.List.{AllByRecursion}
 use Rattle.pnm_image.specs.declared.message.Message.{Message}
 use Rattle.pnm_image.specs.declared.message.Message.TheVariants.{Stop}
-use Rattle.pnm_image.specs.declared.place.Place.TheVariants.{Between}
 use Rattle.pnm_image.specs.Images.{Image, messages_of_stream}
-use Rattle.pnm_image.specs.Messages.{IsMessage, without_stop}
-use Rattle.pnm_image.specs.Places.{Accepts, IsLawful, place_of}
-use Rattle.pnm_image.specs.Completion.{IsFrontOf, Completes, IsStreamOf}
+use Rattle.pnm_image.specs.Messages.{IsMessage}
+use Rattle.pnm_image.specs.Places.{IsLawful}
+use Rattle.pnm_image.specs.Completion.{IsStreamOf}
 use Rattle.pnm_tools.specs.declared.fault.ToolFault.{ToolFault}
 use Rattle.pnm_tools.specs.declared.tool.Tool.{Tool}
 use Rattle.pnm_tools.specs.Answers.{More, BrokenOff, EndsBy, AnswersInFull, AreResults}
 use Rattle.pnm_tools.specs.ChainAnswers.{HasRefused}
 use Rattle.pnm_tools.specs.Tools.{output_due}
-use Rattle.pnm_flow.specs.declared.stage.StageEnd.{StageEnd}
-use Rattle.pnm_flow.specs.declared.stage.StageEnd.TheVariants.{Well, Broken, Fault, PeerGone}
-use Rattle.pnm_flow.specs.Links.{IsEnded, EndsAtMostOnce}
+use Rattle.pnm_rings.specs.declared.stage_end.StageEnd.{StageEnd}
+use Rattle.pnm_rings.specs.declared.stage_end.StageEnd.TheVariants.{Well, Broken, Fault, PeerGone}
+use Rattle.pnm_rings.specs.Fronts.{IsFrontOfDue}
+use Rattle.pnm_rings.specs.Rings.{IsEnded, EndsAtMostOnce}
 
 -- ---- how it ended
 
@@ -51,26 +51,6 @@ HasEndedSo tool (Fault fault) l g = HasFailed tool fault l g
 HasEndedSo tool PeerGone l g = Unit {0}
 
 -- ---- however it ended
-
--- what was sent is a front of what is due for a lawful front of what was received, whatever images complete that
-pub record IsFrontOfDue (due : List Image → List Message) (l g : List Message) : Type 0 where
-  pub accepted : List Message
-  pub rest : List Message
-  pub parts : l ≡ accepted ++ rest
-  pub lawful : IsLawful accepted
-  pub front : (is : List Image) → Completes is accepted → IsFrontOf (without_stop g) (due is)
-
--- the longest front that is lawful
-pub record IsLongestLawfulFront (front l : List Message) : Type 0 where
-  pub rest : List Message
-  pub parts : l ≡ front ++ rest
-  pub lawful : IsLawful front
-  pub longest : (m : Message) (ms : List Message) → rest ≡ m ∷ ms → ¬ Accepts (place_of Between front) m
-
--- so it is for the longest lawful front of what was received: a front of what is due, whatever images complete that
-abbrev pub LongestFrontIsDue : Type 0
-LongestFrontIsDue = (due : List Image → List Message) (l g front : List Message) (is : List Image)
-    → IsFrontOfDue due l g → IsLongestLawfulFront front l → Completes is front → IsFrontOf (without_stop g) (due is)
 
 -- the messages that a stage has received and sent
 pub record IsStage (tool : Tool) (end : StageEnd) (l g : List Message) : Type 0 where

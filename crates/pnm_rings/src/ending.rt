@@ -2,7 +2,7 @@
 
 ghost use Rattle.std.specs.Prelude.{◌≡◌};
 ghost use Rattle.pnm_tools.specs.Answers.{ending_of};
-ghost use Rattle.pnm_flow.specs.Links.{ending_by};
+ghost use Rattle.pnm_rings.specs.Rings.{ending_by};
 
 use pnm_image::Message;
 

@@ -9,13 +9,10 @@ use Rattle.pnm_image.specs.Places.{IsLawful}
 use Rattle.pnm_image.specs.Completion.{IsFrontOf, Completes}
 use Rattle.pnm_image.proofs.Lists.{same_first, same_rest}
 use Rattle.pnm_image.proofs.Places.{next_may_come}
-use Rattle.pnm_tools.specs.declared.tool.Tool.{Tool}
-use Rattle.pnm_tools.specs.Tools.{output_due}
 use Rattle.pnm_tools.specs.Answers.{More, EndsBy}
 use Rattle.pnm_tools.proofs.FullLaws.{front_of_front}
 use Rattle.pnm_tools.proofs.SoundLaws.{unbroken_keeps_all}
-use Rattle.pnm_flow.specs.Stages.{IsLongestLawfulFront, IsFrontOfDue}
-use Rattle.pnm_flow.specs.StageParts.{HasAnsweredPart}
+use Rattle.pnm_rings.specs.Fronts.{IsLongestLawfulFront, IsFrontOfDue}
 
 -- ---- a last Stop
 
@@ -67,9 +64,6 @@ two_fronts (x ∷ a) b (y ∷ c) d same = after_first x y a b c d (same_first x 
 
 -- ---- what is due
 
-pub due_by_part : (tool : Tool) (l g : List Message) → HasAnsweredPart tool l g → IsFrontOfDue (output_due tool) l g
-due_by_part tool l g part = record { accepted = part.accepted; rest = part.rest; parts = part.parts; lawful = part.answers.lawful; front = part.answers.front }
-
 -- Stop was sent after it
 pub due_with_stop : (due : List Image → List Message) (l g : List Message) → EndsBy More g → IsFrontOfDue due l g → IsFrontOfDue due l (g ++ Stop ∷ [])
 due_with_stop due l g more of_due = record {
@@ -96,10 +90,14 @@ accepted_front accepted rest front l lawful longest (inl is) = is
 accepted_front accepted rest front l lawful longest (inr more) =
     absurd (longest.longest more.0 (more.1 ++ rest) more.3 (next_may_come Between front more.0 more.1 (subst IsLawful more.2 lawful)))
 
+-- a lawful front is a front of the longest
+pub lawful_front_of_longest : (accepted rest front l : List Message) → l ≡ accepted ++ rest → IsLawful accepted → IsLongestLawfulFront front l → IsFrontOf accepted front
+lawful_front_of_longest accepted rest front l parts lawful longest =
+    accepted_front accepted rest front l lawful longest (two_fronts accepted rest front longest.rest (sym parts ∙ longest.parts))
+
 -- what is a front of what is due for a lawful front is one for the longest
 pub longest_front_is_due : (due : List Image → List Message) (l g front : List Message) (is : List Image) → IsFrontOfDue due l g → IsLongestLawfulFront front l → Completes is front → IsFrontOf (without_stop g) (due is)
 longest_front_is_due due l g front is of_due longest completes =
-    let fronts = two_fronts of_due.accepted of_due.rest front longest.rest (sym of_due.parts ∙ longest.parts) in
-    let is_front = accepted_front of_due.accepted of_due.rest front l of_due.lawful longest fronts in
+    let is_front = lawful_front_of_longest of_due.accepted of_due.rest front l of_due.parts of_due.lawful longest in
     let cut = subst (λ (x : List Message). IsFrontOf (without_stop of_due.accepted) (without_stop x)) (sym is_front.1) (front_without_stop of_due.accepted is_front.0) in
     of_due.front is (record { images = completes.images; front = front_of_front (without_stop of_due.accepted) (without_stop front) (messages_of_stream is) cut completes.front })

@@ -8,9 +8,9 @@ use Rattle.rtrb.specs.declared.producer.Producer.{Producer}
 use Rattle.rtrb.specs.declared.consumer.Consumer.{Consumer}
 use Rattle.rtrb.specs.Ring.{IsPair, SameProducer, SameConsumer}
 use Rattle.pnm_tools.proofs.InFullLaws.{EndNothing, ends_after}
-use Rattle.pnm_flow.specs.declared.ending.Ending.{Ending as Answered}
-use Rattle.pnm_flow.specs.declared.ending.Ending.TheVariants.{Whole as AnsweredWhole, BrokenOff as AnsweredBrokenOff}
-use Rattle.pnm_flow.specs.Links.{ending_by, Extends, IsEnded}
+use Rattle.pnm_rings.specs.declared.ending.Ending.{Ending as Answered}
+use Rattle.pnm_rings.specs.declared.ending.Ending.TheVariants.{Whole as AnsweredWhole, BrokenOff as AnsweredBrokenOff}
+use Rattle.pnm_rings.specs.Rings.{ending_by, Extends, IsEnded}
 
 -- no message of a list that goes on ends it
 pub ends_nothing : (l : List Message) → EndsBy More l → EndNothing l

@@ -1,6 +1,6 @@
 use Rattle.std.proofs.Common.{◌≡◌}
 use Rattle.rtrb.specs.Ring.{received, SameConsumer}
-use Rattle.pnm_flow.proofs.ring.take.Given as goal
+use Rattle.pnm_rings.proofs.ring.take.Given as goal
 
 -- nothing was received
 abbrev pub invariant-loop : goal.invariant-loop

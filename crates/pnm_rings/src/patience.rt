@@ -2,6 +2,7 @@
 //! them wakes it.
 
 use std::sync::Wait;
+use std::sync::atomic::{AtomicU64, Ordering};
 use std::thread;
 use std::thread::Parker;
 use std::time::Duration;
@@ -19,12 +20,18 @@ const DOUBLINGS: u32 = 6;
 /// a ring that was missed would cost.
 const LONG_SLEEP: u64 = 400;
 
+/// The states of a bell: its thread is at work, or is about to sleep or asleep.
+const AWAKE: u64 = 0;
+
+const ASLEEP: u64 = 1;
+
 /// What wakes the thread of a stage. It fills two cache lines, so that bells side by side don't share one.
 #[derive(Drop)]
 pub struct Bell {
     parker: Parker,
+    state: AtomicU64,
     is_heard: bool,
-    _apart: [u64; 14],
+    _apart: [u64; 13],
 }
 
 impl Bell {
@@ -32,8 +39,9 @@ impl Bell {
     pub fn new() -> Bell {
         Bell {
             parker: Parker::new(),
+            state: AtomicU64::new(AWAKE),
             is_heard: true,
-            _apart: [0; 14],
+            _apart: [0; 13],
         }
     }
 
@@ -41,15 +49,27 @@ impl Bell {
     pub fn of_nobody() -> Bell {
         Bell {
             parker: Parker::new(),
+            state: AtomicU64::new(AWAKE),
             is_heard: false,
-            _apart: [0; 14],
+            _apart: [0; 13],
         }
     }
 
-    /// Ends the sleep of the bell's thread, or its next one where it is awake.
+    /// Ends the sleep of the bell's thread; costs a look where that is awake. What is rung for was done before, so that a
+    /// thread which says that it goes to sleep and looks again sees it.
     pub fn ring(&self) {
-        if self.is_heard {
+        if self.is_heard && self.state.load(Ordering::SeqCst) == ASLEEP {
+            self.state.store(AWAKE, Ordering::SeqCst);
             self.parker.unpark();
+        }
+    }
+
+    /// Says that the thread goes to sleep, and sleeps only where that was said before and nobody rang since: so the thread
+    /// looks once more in between.
+    fn sleep<R: Wait>(&self, rt: &R, time: Duration) {
+        if self.state.swap(ASLEEP, Ordering::SeqCst) == ASLEEP {
+            self.parker.park_timeout(rt, time);
+            self.state.store(AWAKE, Ordering::SeqCst);
         }
     }
 }
@@ -79,6 +99,6 @@ impl Patience {
         } else {
             Duration::from_micros(FIRST_SLEEP << (turn - YIELDS).min(DOUBLINGS))
         };
-        own.parker.park_timeout(rt, time);
+        own.sleep(rt, time);
     }
 }

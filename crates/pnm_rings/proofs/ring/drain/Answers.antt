@@ -1,9 +1,9 @@
 use Rattle.std.proofs.Common.{sym, ap, ◌∙◌}
 use Rattle.rtrb.specs.Ring.{received}
 use Rattle.pnm_tools.specs.Answers.{More}
-use Rattle.pnm_flow.specs.Links.{ending_by}
-use Rattle.pnm_flow.proofs.LinkSteps.{same_input, goes_on, drains_to_end, says_end}
-use Rattle.pnm_flow.proofs.ring.drain.Goals as goal
+use Rattle.pnm_rings.specs.Rings.{ending_by}
+use Rattle.pnm_rings.proofs.RingSteps.{same_input, goes_on, drains_to_end, says_end}
+use Rattle.pnm_rings.proofs.ring.drain.Goals as goal
 
 pub loop-preserved : goal.loop-preserved
 loop-preserved g c = (

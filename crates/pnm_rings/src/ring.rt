@@ -3,7 +3,7 @@
 ghost use Rattle.std.specs.Prelude.{◌≡◌, [], ◌∷◌, ◌++◌, IfSome, IfNone, IsTrue, IsFalse};
 ghost use Rattle.rtrb.specs.Ring.{sent, received, known_items, IsPair, SameProducer, SameConsumer};
 ghost use Rattle.pnm_image.specs.Messages.{IsMessage};
-ghost use Rattle.pnm_flow.specs.Links.{HasDrained};
+ghost use Rattle.pnm_rings.specs.Rings.{HasDrained};
 
 use crate::ending::Ending;
 use crate::patience::{Bell, Patience};

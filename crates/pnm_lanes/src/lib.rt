@@ -1,0 +1,2 @@
+//! Lanes: the rows of each image are dealt to several threads, and the rows that these make are gathered.
+#![tactic(auto)]

@@ -1,0 +1,5 @@
+//! Tests of `pnm_lanes`, in a crate of their own since a crate that has tests is proved twice.
+#![tactic(auto)]
+
+#[cfg(test)]
+mod tests;

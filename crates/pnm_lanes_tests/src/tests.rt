@@ -1,0 +1,1 @@
+//! What no clause says: worked examples, and that calls can succeed.

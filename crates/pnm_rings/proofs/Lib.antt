@@ -1,0 +1,3 @@
+pub mod RingSteps
+pub mod EndingLaws
+pub mod FrontLaws

@@ -1,0 +1,14 @@
+//! Rings of messages between threads: taking, sending and draining, how a thread waits for its neighbours, and how a
+//! stage ends.
+#![tactic(auto)]
+
+mod ending;
+pub mod laws;
+mod patience;
+mod ring;
+mod stage_end;
+
+pub use ending::{Ending, ends_image};
+pub use patience::{Bell, Patience};
+pub use ring::{AnyMessage, Input, Output, drain, give, new_ring, take};
+pub use stage_end::StageEnd;
