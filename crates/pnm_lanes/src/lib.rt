@@ -1,2 +1,6 @@
 //! Lanes: the rows of each image are dealt to several threads, and the rows that these make are gathered.
 #![tactic(auto)]
+
+mod heights;
+
+pub use heights::dealt_height;
