@@ -2,5 +2,7 @@
 #![tactic(auto)]
 
 mod heights;
+mod limits;
 
 pub use heights::dealt_height;
+pub use limits::MAX_LANES;

@@ -1,0 +1,4 @@
+//! The limit of lanes.
+
+/// The most lanes of a tool.
+pub const MAX_LANES: usize = 8;
