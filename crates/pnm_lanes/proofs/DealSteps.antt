@@ -1,0 +1,195 @@
+-- What has been dealt so far, and how the dealing ends.
+use Rattle.std.proofs.Common.{◌≡◌, inl, inr, ℕ, List, [], ◌∷◌, ◌++◌, length, Option, None, Some, refl, sym, ap, subst, ◌∙◌, append_assoc, append-nil}
+use Rattle.std.specs.List.{AllByRecursion}
+use Rattle.rtrb.specs.declared.producer.Producer.{Producer}
+use Rattle.rtrb.specs.Ring.{sent, SameProducer}
+use Rattle.pnm_image.specs.declared.message.Message.{Message}
+use Rattle.pnm_image.specs.declared.message.Message.TheVariants.{Stop}
+use Rattle.pnm_image.specs.declared.place.Place.{Place}
+use Rattle.pnm_image.specs.declared.place.Place.TheVariants.{Between}
+use Rattle.pnm_image.specs.Messages.{IsMessage, without_stop}
+use Rattle.pnm_image.specs.Places.{Accepts, IsLawful, place_after, place_of}
+use Rattle.pnm_image.specs.Completion.{IsFrontOf}
+use Rattle.pnm_image.proofs.Lists.{each-push}
+use Rattle.pnm_image.proofs.Places.{lawful_more, place_of-append}
+use Rattle.pnm_tools.specs.Answers.{Ending, More, Whole, BrokenOff, ending_of, EndsBy}
+use Rattle.pnm_tools.specs.Dealing.{dealt_message, dealt}
+use Rattle.pnm_tools.proofs.FullLaws.{front_of_front}
+use Rattle.pnm_rings.specs.declared.stage_end.StageEnd.{StageEnd}
+use Rattle.pnm_rings.specs.declared.stage_end.StageEnd.TheVariants.{Well, Broken, PeerGone}
+use Rattle.pnm_rings.proofs.RingSteps.{ends_as, same_output, itself_output}
+use Rattle.pnm_rings.proofs.FrontLaws.{stop_is_cut}
+use Rattle.pnm_lanes.specs.Deals.{AtEach, HasSentSo, IsFrontOfDealt, HasLane, HasDealt}
+use Rattle.pnm_lanes.specs.DealParts.{part_at, IsSentPart, HasSentParts}
+use Rattle.pnm_lanes.proofs.EachLaws.{each-map, each-itself, each-then, each-count}
+use Rattle.pnm_lanes.proofs.DealtLaws.{dealt_more, dealt_goes_on, dealt_part_goes_on, itself_front, before_stop_front}
+
+-- ---- what has been dealt
+
+-- a lane was sent all that is dealt to it of these messages
+abbrev pub HasAll : {A P : Type 0} → ℕ → List Message → ℕ → Producer Message A P → Producer Message A P → Type 0
+HasAll lanes took lane old now = SameProducer old now × (sent now ≡ sent old ++ dealt lane lanes took)
+
+-- messages were received that end so, and all of them were dealt
+pub record IsDealing {A P : Type 0} (ending : Ending) (place : Place) (received_old received_now : List Message) (olds nows : List (Producer Message A P)) : Type 0 where
+  pub took : List Message
+  pub input : received_now ≡ received_old ++ took
+  pub messages : AllByRecursion IsMessage took
+  pub lawful : IsLawful took
+  pub ends : EndsBy ending took
+  pub here : place ≡ place_of Between took
+  pub lanes : AtEach (HasAll (length olds) took) olds nows
+
+-- nothing yet
+pub deals_nothing : {A P : Type 0} (l : List Message) (outputs : List (Producer Message A P)) → IsDealing More Between l l outputs outputs
+deals_nothing l outputs = record {
+  took = [];
+  input = sym (append-nil l);
+  messages = tt;
+  lawful = tt;
+  ends = refl;
+  here = refl;
+  lanes = each-itself (HasAll (length outputs) []) 0 outputs (λ n x. (itself_output x, sym (append-nil (sent x))));
+}
+
+-- the parts of the lanes, by the number of lanes at the beginning
+pub parts_of : {A P : Type 0} (place : Place) (m : Message) (olds nows news : List (Producer Message A P)) (took : List Message) (unsent : Option StageEnd) → AtEach (HasAll (length olds) took) olds nows
+    → HasSentParts (part_at (length nows) place m) unsent nows news → HasSentParts (part_at (length olds) place m) unsent nows news
+parts_of place m olds nows news took unsent all parts =
+    subst (λ (n : ℕ). HasSentParts (part_at n place m) unsent nows news) (each-count (HasAll (length olds) took) 0 olds nows all) parts
+
+-- a lane was sent all, and its part of one more
+one_more_lane : {A P : Type 0} (place : Place) (lanes : ℕ) (took : List Message) (m : Message) (unsent : Option StageEnd) → unsent ≡ None → place ≡ place_of Between took → (lane : ℕ) (old now new : Producer Message A P)
+    → HasAll lanes took lane old now → IsSentPart (part_at lanes place m) unsent lane now new → HasAll lanes (took ++ m ∷ []) lane old new
+one_more_lane place lanes took m unsent none here lane old now new all (same, inl is) = (
+  same_output old now new all.0 same,
+  is ∙ ap (λ (x : List Message). x ++ dealt_message lane lanes place m) all.1 ∙ append_assoc (sent old) (dealt lane lanes took) (dealt_message lane lanes place m)
+      ∙ ap (λ (x : List Message). sent old ++ x) (sym (dealt_more lane lanes place took m here)),
+)
+one_more_lane place lanes took m None none here lane old now new all (same, inr lost) = let lost_one = lost.1 in absurd cc
+one_more_lane place lanes took m (Some end) none here lane old now new all (same, inr lost) = absurd cc
+
+-- a message was dealt
+pub deals_on : {A P : Type 0} (ending : Ending) (place : Place) (received_old received_now received_new : List Message) (olds nows news : List (Producer Message A P)) (m : Message) (unsent : Option StageEnd)
+    → IsDealing More place received_old received_now olds nows → received_new ≡ received_now ++ m ∷ [] → IsMessage m → Accepts place m → ending_of m ≡ ending
+    → HasSentParts (part_at (length nows) place m) unsent nows news → unsent ≡ None → IsDealing ending (place_after place m) received_old received_new olds news
+deals_on ending place received_old received_now received_new olds nows news m unsent dealing added is accepts ends sent_parts none =
+    let took = dealing.took in
+    record {
+      took = took ++ m ∷ [];
+      input = added ∙ ap (λ (x : List Message). x ++ m ∷ []) dealing.input ∙ append_assoc received_old took (m ∷ []);
+      messages = each-push IsMessage took m dealing.messages is;
+      lawful = lawful_more Between took m dealing.lawful (subst (λ (p : Place). Accepts p m) dealing.here accepts);
+      ends = ends_as ending took m dealing.ends ends;
+      here = ap (λ (p : Place). place_after p m) dealing.here ∙ sym (place_of-append Between took (m ∷ []));
+      lanes = each-then (HasAll (length olds) took) (IsSentPart (part_at (length olds) place m) unsent) (HasAll (length olds) (took ++ m ∷ [])) 0 olds nows news
+          (one_more_lane place (length olds) took m unsent none dealing.here) dealing.lanes (parts_of place m olds nows news took unsent dealing.lanes sent_parts).lanes;
+    }
+
+-- ---- the end of the stream
+
+-- all was dealt to the lane
+whole_lane : {A P : Type 0} (end : StageEnd) (lanes : ℕ) (took : List Message) → IsLawful took → ((lane : ℕ) → HasSentSo end lane lanes took (dealt lane lanes took)) → (lane : ℕ) (old new : Producer Message A P)
+    → HasAll lanes took lane old new → HasLane end lanes took lane old new
+whole_lane end lanes took lawful so lane old new all = record {
+  ring = all.0;
+  gave = dealt lane lanes took;
+  output = all.1;
+  ended = so lane;
+  front = record { accepted = took; rest = []; parts = sym (append-nil took); lawful = lawful; front = before_stop_front (dealt lane lanes took) };
+}
+
+pub ends_whole : {A P : Type 0} (place : Place) (received_old received_new left : List Message) (olds news : List (Producer Message A P)) → IsDealing Whole place received_old received_new olds news → HasDealt Well received_old received_new left olds news
+ends_whole place received_old received_new left olds news dealing = record {
+  took = dealing.took;
+  input = dealing.input;
+  drained = inl (inl dealing.ends);
+  messages = dealing.messages;
+  once = (Whole, dealing.ends);
+  ended = (dealing.lawful, dealing.ends);
+  lanes = each-map (HasAll (length olds) dealing.took) (HasLane Well (length olds) dealing.took) 0 olds news (whole_lane Well (length olds) dealing.took dealing.lawful (λ lane. refl)) dealing.lanes;
+}
+
+pub ends_broken : {A P : Type 0} (place : Place) (received_old received_new left : List Message) (olds news : List (Producer Message A P)) → IsDealing BrokenOff place received_old received_new olds news → HasDealt Broken received_old received_new left olds news
+ends_broken place received_old received_new left olds news dealing = record {
+  took = dealing.took;
+  input = dealing.input;
+  drained = inl (inr dealing.ends);
+  messages = dealing.messages;
+  once = (BrokenOff, dealing.ends);
+  ended = (dealing.lawful, dealing.ends);
+  lanes = each-map (HasAll (length olds) dealing.took) (HasLane Broken (length olds) dealing.took) 0 olds news (whole_lane Broken (length olds) dealing.took dealing.lawful (λ lane. refl)) dealing.lanes;
+}
+
+-- ---- a lane that is sent Stop
+
+-- a lane was sent a front, which goes on, of what is dealt to it of these messages
+abbrev pub HasFront : {A P : Type 0} → ℕ → List Message → ℕ → Producer Message A P → Producer Message A P → Type 0
+HasFront lanes accepted lane old now = SameProducer old now × ((g : List Message) × (sent now ≡ sent old ++ g) × EndsBy More g × IsFrontOf g (dealt lane lanes accepted))
+
+-- all that is dealt is a front of itself
+pub all_is_front : {A P : Type 0} (lanes : ℕ) (took : List Message) → EndsBy More took → (lane : ℕ) (old now : Producer Message A P) → HasAll lanes took lane old now → HasFront lanes took lane old now
+all_is_front lanes took more lane old now all = (all.0, (dealt lane lanes took, all.1, dealt_goes_on lane lanes took more, itself_front (dealt lane lanes took)))
+
+-- with its part of one more, or without it
+pub part_is_front : {A P : Type 0} (place : Place) (lanes : ℕ) (took : List Message) (m : Message) (unsent : Option StageEnd) → EndsBy More took → ending_of m ≡ More → place ≡ place_of Between took → (lane : ℕ) (old now new : Producer Message A P)
+    → HasAll lanes took lane old now → IsSentPart (part_at lanes place m) unsent lane now new → HasFront lanes (took ++ m ∷ []) lane old new
+part_is_front place lanes took m unsent more goes here lane old now new all (same, inl is) =
+    let more_dealt = dealt_more lane lanes place took m here in (
+      same_output old now new all.0 same,
+      (
+        dealt lane lanes took ++ dealt_message lane lanes place m,
+        is ∙ ap (λ (x : List Message). x ++ dealt_message lane lanes place m) all.1 ∙ append_assoc (sent old) (dealt lane lanes took) (dealt_message lane lanes place m),
+        dealt_part_goes_on lane lanes place took m more goes,
+        ([], more_dealt ∙ sym (append-nil (dealt lane lanes took ++ dealt_message lane lanes place m))),
+      ),
+    )
+part_is_front place lanes took m unsent more goes here lane old now new all (same, inr lost) = (
+  same_output old now new all.0 same,
+  (dealt lane lanes took, lost.0 ∙ all.1, dealt_goes_on lane lanes took more, (dealt_message lane lanes place m, dealt_more lane lanes place took m here)),
+)
+
+-- what was accepted of what was received
+pub record IsAccepted (accepted l : List Message) : Type 0 where
+  pub rest : List Message
+  pub parts : l ≡ accepted ++ rest
+  pub lawful : IsLawful accepted
+
+pub accepted_more : (accepted took more : List Message) → IsAccepted accepted took → IsAccepted accepted (took ++ more)
+accepted_more accepted took more is = record {
+  rest = is.rest ++ more;
+  parts = ap (λ (x : List Message). x ++ more) is.parts ∙ append_assoc accepted is.rest more;
+  lawful = is.lawful;
+}
+
+pub front_of_dealt : (lane lanes : ℕ) (accepted l g : List Message) → IsAccepted accepted l → IsFrontOf (without_stop g) (dealt lane lanes accepted) → IsFrontOfDealt lane lanes l g
+front_of_dealt lane lanes accepted l g is front = record { accepted = accepted; rest = is.rest; parts = is.parts; lawful = is.lawful; front = front }
+
+-- the lane was sent Stop
+stopped_lane : {A P : Type 0} (end : StageEnd) (lanes : ℕ) (accepted l : List Message) → IsAccepted accepted l → ((lane : ℕ) (g : List Message) → EndsBy More g → HasSentSo end lane lanes l (g ++ Stop ∷ [])) → (lane : ℕ) (old now new : Producer Message A P)
+    → HasFront lanes accepted lane old now → SameProducer now new → sent new ≡ sent now ++ Stop ∷ [] → HasLane end lanes l lane old new
+stopped_lane end lanes accepted l is so lane old now new (same_now, (g, output, more, front)) same added = record {
+  ring = same_output old now new same_now same;
+  gave = g ++ Stop ∷ [];
+  output = added ∙ ap (λ (x : List Message). x ++ Stop ∷ []) output ∙ append_assoc (sent old) g (Stop ∷ []);
+  ended = so lane g more;
+  front = front_of_dealt lane lanes accepted l (g ++ Stop ∷ []) is (subst (λ (x : List Message). IsFrontOf x (dealt lane lanes accepted)) (sym (stop_is_cut g)) front);
+}
+
+pub told_lane : {A P : Type 0} (end : StageEnd) (lanes : ℕ) (accepted l : List Message) (untold : Option StageEnd) → untold ≡ None → IsAccepted accepted l → ((lane : ℕ) (g : List Message) → EndsBy More g → HasSentSo end lane lanes l (g ++ Stop ∷ [])) → (lane : ℕ) (old now new : Producer Message A P)
+    → HasFront lanes accepted lane old now → IsSentPart (λ n. Stop ∷ []) untold lane now new → HasLane end lanes l lane old new
+told_lane end lanes accepted l untold none is so lane old now new front (same, inl added) = stopped_lane end lanes accepted l is so lane old now new front same added
+told_lane end lanes accepted l None none is so lane old now new front (same, inr lost) = let lost_one = lost.1 in absurd cc
+told_lane end lanes accepted l (Some e) none is so lane old now new front (same, inr lost) = absurd cc
+
+-- or wasn't, where the other end of a ring was seen dropped
+pub lost_lane : {A P : Type 0} (lanes : ℕ) (accepted l : List Message) (untold : Option StageEnd) → IsAccepted accepted l → (lane : ℕ) (old now new : Producer Message A P)
+    → HasFront lanes accepted lane old now → IsSentPart (λ n. Stop ∷ []) untold lane now new → HasLane PeerGone lanes l lane old new
+lost_lane lanes accepted l untold is lane old now new front (same, inl added) = stopped_lane PeerGone lanes accepted l is (λ n g more. tt) lane old now new front same added
+lost_lane lanes accepted l untold is lane old now new (same_now, (g, output, more, front)) (same, inr lost) = record {
+  ring = same_output old now new same_now same;
+  gave = g;
+  output = lost.0 ∙ output;
+  ended = tt;
+  front = front_of_dealt lane lanes accepted l g is (front_of_front (without_stop g) g (dealt lane lanes accepted) (before_stop_front g) front);
+}

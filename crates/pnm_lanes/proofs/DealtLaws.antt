@@ -1,0 +1,97 @@
+-- Messages that are dealt to a lane: one after another, how they end, and their fronts.
+use Rattle.std.proofs.Common.{◌≡◌, ℕ, Bool, true, false, ◌%◌, List, [], ◌∷◌, ◌++◌, map, refl, sym, ap, subst, ◌∙◌, append_assoc, append-nil}
+use Rattle.std.specs.Prelude.{◌==◌, if◌then◌else◌}
+use Rattle.pnm_image.specs.declared.message.Message.{Message}
+use Rattle.pnm_image.specs.declared.message.Message.TheVariants.{Begin, Row, ImageEnd, StreamEnd, Stop}
+use Rattle.pnm_image.specs.declared.place.Place.{Place}
+use Rattle.pnm_image.specs.declared.place.Place.TheVariants.{Between, Inside, After}
+use Rattle.pnm_image.specs.Messages.{without_stop}
+use Rattle.pnm_image.specs.Places.{place_after, place_of}
+use Rattle.pnm_image.specs.Completion.{IsFrontOf}
+use Rattle.pnm_tools.specs.Answers.{More, ending_of, EndsBy}
+use Rattle.pnm_tools.specs.Dealing.{dealt_message, dealt_from, dealt}
+use Rattle.pnm_tools.proofs.FullLaws.{front_of_front}
+use Rattle.pnm_tools.proofs.InFullLaws.{EndNothing, ends_after}
+use Rattle.pnm_rings.specs.Fronts.{IsLongestLawfulFront}
+use Rattle.pnm_rings.proofs.RingSteps.{ends_nothing}
+use Rattle.pnm_rings.proofs.FrontLaws.{stop_is_cut, front_without_stop, lawful_front_of_longest}
+use Rattle.pnm_lanes.specs.Deals.{IsFrontOfDealt}
+
+-- ---- one after another
+
+pub dealt_from-append : (lane lanes : ℕ) (place : Place) (a b : List Message) → dealt_from lane lanes place (a ++ b) ≡ dealt_from lane lanes place a ++ dealt_from lane lanes (place_of place a) b
+dealt_from-append lane lanes place [] b = refl
+dealt_from-append lane lanes place (m ∷ a) b =
+    ap (λ (l : List Message). dealt_message lane lanes place m ++ l) (dealt_from-append lane lanes (place_after place m) a b)
+    ∙ sym (append_assoc (dealt_message lane lanes place m) (dealt_from lane lanes (place_after place m) a) (dealt_from lane lanes (place_of place (m ∷ a)) b))
+
+-- one message more
+pub dealt_from-push : (lane lanes : ℕ) (place : Place) (l : List Message) (m : Message) → dealt_from lane lanes place (l ++ m ∷ []) ≡ dealt_from lane lanes place l ++ dealt_message lane lanes (place_of place l) m
+dealt_from-push lane lanes place l m =
+    dealt_from-append lane lanes place l (m ∷ [])
+    ∙ ap (λ (x : List Message). dealt_from lane lanes place l ++ x) (append-nil (dealt_message lane lanes (place_of place l) m))
+
+-- at this place
+pub dealt_more : (lane lanes : ℕ) (place : Place) (l : List Message) (m : Message) → place ≡ place_of Between l → dealt lane lanes (l ++ m ∷ []) ≡ dealt lane lanes l ++ dealt_message lane lanes place m
+dealt_more lane lanes place l m here =
+    dealt_from-push lane lanes Between l m ∙ ap (λ (p : Place). dealt lane lanes l ++ dealt_message lane lanes p m) (sym here)
+
+-- ---- ends
+
+row_ends_nothing : (b : Bool) (row : List ℕ) → EndNothing (map Row (if b then row ∷ [] else []))
+row_ends_nothing true row = (refl, tt)
+row_ends_nothing false row = tt
+
+-- a lane's part of a message that ends nothing ends nothing
+pub part_ends_nothing : (lane lanes : ℕ) (place : Place) (m : Message) → ending_of m ≡ More → EndNothing (dealt_message lane lanes place m)
+part_ends_nothing lane lanes place (Begin head) more = (refl, tt)
+part_ends_nothing lane lanes Between (Row row) more = tt
+part_ends_nothing lane lanes (Inside s y) (Row row) more = row_ends_nothing ((y % lanes) == lane) row
+part_ends_nothing lane lanes After (Row row) more = tt
+part_ends_nothing lane lanes place ImageEnd more = (refl, tt)
+part_ends_nothing lane lanes place StreamEnd more = absurd cc
+part_ends_nothing lane lanes place Stop more = absurd cc
+
+both_end_nothing : (a b : List Message) → EndNothing a → EndNothing b → EndNothing (a ++ b)
+both_end_nothing [] b first second = second
+both_end_nothing (m ∷ a) b first second = (first.0, both_end_nothing a b first.1 second)
+
+dealt_ends_nothing : (lane lanes : ℕ) (place : Place) (l : List Message) → EndNothing l → EndNothing (dealt_from lane lanes place l)
+dealt_ends_nothing lane lanes place [] ends = tt
+dealt_ends_nothing lane lanes place (m ∷ l) ends =
+    both_end_nothing (dealt_message lane lanes place m) (dealt_from lane lanes (place_after place m) l) (part_ends_nothing lane lanes place m ends.0) (dealt_ends_nothing lane lanes (place_after place m) l ends.1)
+
+pub nothing_goes_on : (l : List Message) → EndNothing l → EndsBy More l
+nothing_goes_on l ends = subst (EndsBy More) (append-nil l) (ends_after More l [] ends refl)
+
+-- what is dealt of messages that go on goes on
+pub dealt_goes_on : (lane lanes : ℕ) (l : List Message) → EndsBy More l → EndsBy More (dealt lane lanes l)
+dealt_goes_on lane lanes l more = nothing_goes_on (dealt lane lanes l) (dealt_ends_nothing lane lanes Between l (ends_nothing l more))
+
+-- and with the next part, if that ends nothing
+pub dealt_part_goes_on : (lane lanes : ℕ) (place : Place) (l : List Message) (m : Message) → EndsBy More l → ending_of m ≡ More → EndsBy More (dealt lane lanes l ++ dealt_message lane lanes place m)
+dealt_part_goes_on lane lanes place l m more goes =
+    nothing_goes_on (dealt lane lanes l ++ dealt_message lane lanes place m)
+    (both_end_nothing (dealt lane lanes l) (dealt_message lane lanes place m) (dealt_ends_nothing lane lanes Between l (ends_nothing l more)) (part_ends_nothing lane lanes place m goes))
+
+-- ---- fronts
+
+pub itself_front : (l : List Message) → IsFrontOf l l
+itself_front l = ([], sym (append-nil l))
+
+-- what is before a last Stop
+pub before_stop_front : (l : List Message) → IsFrontOf (without_stop l) l
+before_stop_front l = subst (IsFrontOf (without_stop l)) (stop_is_cut l) (front_without_stop l (Stop ∷ []))
+
+-- what is dealt of a front is a front
+pub dealt_front : (lane lanes : ℕ) (a b : List Message) → IsFrontOf a b → IsFrontOf (dealt lane lanes a) (dealt lane lanes b)
+dealt_front lane lanes a b front = (
+  dealt_from lane lanes (place_of Between a) front.0,
+  ap (dealt lane lanes) front.1 ∙ dealt_from-append lane lanes Between a front.0,
+)
+
+-- what is dealt of a lawful front is a front of what is dealt of the longest
+pub longest_front_is_dealt : (lane lanes : ℕ) (l g front : List Message) → IsFrontOfDealt lane lanes l g → IsLongestLawfulFront front l → IsFrontOf (without_stop g) (dealt lane lanes front)
+longest_front_is_dealt lane lanes l g front of_dealt longest =
+    front_of_front (without_stop g) (dealt lane lanes of_dealt.accepted) (dealt lane lanes front) of_dealt.front
+    (dealt_front lane lanes of_dealt.accepted front (lawful_front_of_longest of_dealt.accepted of_dealt.rest front l of_dealt.parts of_dealt.lawful longest))

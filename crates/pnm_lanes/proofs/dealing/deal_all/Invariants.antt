@@ -1,0 +1,12 @@
+use Rattle.std.proofs.Common.{length}
+use Rattle.rtrb.specs.Ring.{received, SameConsumer}
+use Rattle.pnm_tools.specs.Answers.{More}
+use Rattle.pnm_lanes.specs.Limits.{IsLaneCount}
+use Rattle.pnm_lanes.proofs.DealSteps.{IsDealing}
+use Rattle.pnm_lanes.proofs.dealing.deal_all.Given as goal
+
+-- what has been dealt so far
+abbrev pub invariant-loop : goal.invariant-loop
+invariant-loop g l =
+    SameConsumer l.fn.input l.input × IsLaneCount (length l.outputs)
+    × IsDealing More l.place (received l.fn.input) (received l.input) l.fn.outputs l.outputs

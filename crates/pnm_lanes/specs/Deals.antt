@@ -1,0 +1,87 @@
+-- What a thread that deals rows to lanes has received and sent once it has ended.
+use Rattle.std.specs.Prelude.{◌≡◌, ◌⊎◌, ℕ, ◌+◌, List, [], ◌∷◌, ◌++◌, length}
+use Rattle.std.specs.List.{AllByRecursion}
+use Rattle.rtrb.specs.declared.producer.Producer.{Producer}
+use Rattle.rtrb.specs.Ring.{sent, SameProducer}
+use Rattle.pnm_image.specs.declared.message.Message.{Message}
+use Rattle.pnm_image.specs.declared.message.Message.TheVariants.{Stop}
+use Rattle.pnm_image.specs.Messages.{IsMessage, without_stop}
+use Rattle.pnm_image.specs.Places.{IsLawful}
+use Rattle.pnm_image.specs.Completion.{IsFrontOf}
+use Rattle.pnm_tools.specs.declared.fault.ToolFault.TheVariants.{CutOutside, ChannelOutside, TooLarge, OutOfOrder, Memory}
+use Rattle.pnm_tools.specs.Answers.{More, Whole, BrokenOff, EndsBy}
+use Rattle.pnm_tools.specs.Dealing.{dealt}
+use Rattle.pnm_rings.specs.declared.stage_end.StageEnd.{StageEnd}
+use Rattle.pnm_rings.specs.declared.stage_end.StageEnd.TheVariants.{Well, Broken, Fault, PeerGone}
+use Rattle.pnm_rings.specs.Fronts.{IsLongestLawfulFront}
+use Rattle.pnm_rings.specs.Rings.{IsEnded, EndsAtMostOnce}
+
+-- ---- lanes, numbered from 0
+
+-- two lists have as many members, and this holds of each two at one place, and of its number, which is that of the first
+-- two and so on
+abbrev pub AtEachFrom : {A : Type 0} → (ℕ → A → A → Type 0) → ℕ → List A → List A → Type 0
+AtEachFrom P lane [] [] = Unit {0}
+AtEachFrom P lane [] (new ∷ news) = ⊥
+AtEachFrom P lane (old ∷ olds) [] = ⊥
+AtEachFrom P lane (old ∷ olds) (new ∷ news) = P lane old new × AtEachFrom P (lane + 1) olds news
+
+-- this holds of each lane, by its number
+abbrev pub AtEach : {A : Type 0} → (ℕ → A → A → Type 0) → List A → List A → Type 0
+AtEach P olds news = AtEachFrom P 0 olds news
+
+-- ---- how it ended
+
+-- what was received, by the end. Where the other end of a ring was seen dropped, no more is known than however it ended.
+abbrev pub HasReceivedSo : StageEnd → List Message → Type 0
+HasReceivedSo Well l = IsLawful l × EndsBy Whole l
+HasReceivedSo Broken l = IsLawful l × EndsBy BrokenOff l
+HasReceivedSo (Fault CutOutside) l = ⊥
+HasReceivedSo (Fault ChannelOutside) l = ⊥
+HasReceivedSo (Fault TooLarge) l = ⊥
+HasReceivedSo (Fault OutOfOrder) l = IsEnded l × (IsLawful l → ⊥)
+HasReceivedSo (Fault Memory) l = IsEnded l
+HasReceivedSo PeerGone l = Unit {0}
+
+-- and what was sent to a lane: all that is dealt to it; or, after a fault, messages that don't end the stream, and Stop
+abbrev pub HasSentSo : StageEnd → ℕ → ℕ → List Message → List Message → Type 0
+HasSentSo Well lane lanes l g = g ≡ dealt lane lanes l
+HasSentSo Broken lane lanes l g = g ≡ dealt lane lanes l
+HasSentSo (Fault fault) lane lanes l g = (given : List Message) × EndsBy More given × (g ≡ given ++ Stop ∷ [])
+HasSentSo PeerGone lane lanes l g = Unit {0}
+
+-- ---- however it ended
+
+-- what was sent to a lane is a front of what is dealt to it of a lawful front of what was received; a last Stop aside
+pub record IsFrontOfDealt (lane lanes : ℕ) (l g : List Message) : Type 0 where
+  pub accepted : List Message
+  pub rest : List Message
+  pub parts : l ≡ accepted ++ rest
+  pub lawful : IsLawful accepted
+  pub front : IsFrontOf (without_stop g) (dealt lane lanes accepted)
+
+-- what a lane was sent, of so many, where these messages were received
+pub record HasLane {A P : Type 0} (end : StageEnd) (lanes : ℕ) (l : List Message) (lane : ℕ) (old new : Producer Message A P) : Type 0 where
+  pub ring : SameProducer old new
+  pub gave : List Message
+  pub output : sent new ≡ sent old ++ gave
+  pub ended : HasSentSo end lane lanes l gave
+  pub front : IsFrontOfDealt lane lanes l gave
+
+-- the dealing has ended so, by the messages that the input had passed before and has passed now and those that are left in
+-- it, and by the lanes' rings before and now: nothing is left, or the end of the stream was received
+pub record HasDealt {A P : Type 0} (end : StageEnd) (received_old received_new left : List Message) (olds news : List (Producer Message A P)) : Type 0 where
+  pub took : List Message
+  pub input : received_new ≡ received_old ++ took
+  pub drained : IsEnded took ⊎ (left ≡ [])
+  pub messages : AllByRecursion IsMessage took
+  pub once : EndsAtMostOnce took
+  pub ended : HasReceivedSo end took
+  pub lanes : AtEach (HasLane end (length olds) took) olds news
+
+-- ---- laws
+
+-- what was sent to a lane is a front of what is dealt to it of the longest lawful front of what was received
+abbrev pub LongestFrontIsDealt : Type 0
+LongestFrontIsDealt = (lane lanes : ℕ) (l g front : List Message)
+    → IsFrontOfDealt lane lanes l g → IsLongestLawfulFront front l → IsFrontOf (without_stop g) (dealt lane lanes front)

@@ -1,0 +1,277 @@
+//! Dealing: the rows of each image go to lanes in turn, and each lane gets a stream of images of its own.
+
+ghost use Rattle.std.specs.Prelude.{◌≡◌, ◌<◌, ◌≤◌, ◌∷◌, [], length, IfSome};
+ghost use Rattle.rtrb.specs.Ring.{sent, received, known_items, SameProducer, SameConsumer};
+ghost use Rattle.pnm_image.specs.Places.{Accepts};
+ghost use Rattle.pnm_lanes.specs.Limits.{max_lanes, IsLaneCount};
+ghost use Rattle.pnm_lanes.specs.Deals.{HasDealt};
+ghost use Rattle.pnm_lanes.specs.DealParts.{IsRow, part_at, row_part, lane_part, HasSentParts, HasDrainedAfter, HasBrokenOffAfter};
+
+use crate::heights::dealt_height;
+use pnm_image::{Message, Place, Samples};
+use pnm_rings::{Bell, Ending, Input, Output, StageEnd, drain, give, take};
+use pnm_tools::ToolFault;
+use std::alloc::Global;
+use std::sync::Wait;
+
+/// The ring ends of a thread that has dealt, and how it ended.
+#[derive(Drop)]
+pub struct DealDone {
+    /// The end that it received on.
+    pub input: Input,
+    /// The ends that it sent on, one for each lane.
+    pub outputs: Vec<Output>,
+    /// How it has ended.
+    pub end: StageEnd,
+}
+
+/// The bells of a thread that deals and of its neighbours. A lane that `lanes` doesn't reach has no bell.
+#[derive(Clone, Copy)]
+pub struct DealBells<'a> {
+    pub left: &'a Bell,
+    pub own: &'a Bell,
+    pub lanes: &'a [Bell],
+}
+
+/// The same, with a bell for the lanes that have none.
+#[derive(Clone, Copy)]
+struct Neighbours<'a> {
+    bells: DealBells<'a>,
+    nobody: &'a Bell,
+}
+
+impl<'a> Neighbours<'a> {
+    fn lane(&self, lane: usize) -> &'a Bell {
+        match self.bells.lanes.get(lane) {
+            Some(bell) => bell,
+            None => self.nobody,
+        }
+    }
+}
+
+/// Deals what comes on `input` to as many lanes as there are outputs, 1 to 8: each lane gets a head with the number of its
+/// rows as the height, row y goes to the lane y mod the number of lanes, and what ends an image or the stream goes to
+/// each. Rows are moved. The faults are `OutOfOrder`, where a message can't come at its place, and `Memory`: each lane
+/// is sent Stop then, and the input is taken and dropped through its end or its Stop. Where the other end of a ring is
+/// dropped early the end is `PeerGone`: the lanes whose stream hasn't ended are sent Stop, and the input is drained.
+pub fn deal<R: Wait>(rt: &R, alloc: Global, input: Input, outputs: Vec<Output>) -> DealDone
+    requires { IsLaneCount (length outputs.items) }
+    ensures input { SameConsumer input result.input }
+    ensures count { length result.outputs.items ≡ length outputs.items }
+    ensures dealt { HasDealt result.end (received input) (received result.input) (known_items result.input)
+        outputs.items result.outputs.items }
+{
+    let nobody = Bell::of_nobody();
+    let own = Bell::new();
+    let bells = DealBells {
+        left: &nobody,
+        own: &own,
+        lanes: &[],
+    };
+    deal_by(rt, alloc, input, outputs, bells)
+}
+
+/// The same, beside neighbours that have bells.
+pub fn deal_by<R: Wait>(
+    rt: &R,
+    _alloc: Global,
+    input: Input,
+    outputs: Vec<Output>,
+    bells: DealBells<'_>,
+) -> DealDone
+    requires { IsLaneCount (length outputs.items) }
+    ensures input { SameConsumer input result.input }
+    ensures count { length result.outputs.items ≡ length outputs.items }
+    ensures dealt { HasDealt result.end (received input) (received result.input) (known_items result.input)
+        outputs.items result.outputs.items }
+{
+    let nobody = Bell::of_nobody();
+    let neighbours = Neighbours {
+        bells,
+        nobody: &nobody,
+    };
+    let mut input = input;
+    let mut outputs = outputs;
+    let end = deal_all(rt, &mut input, outputs.as_mut_slice(), neighbours);
+    DealDone {
+        input,
+        outputs,
+        end,
+    }
+}
+
+/// Deals all messages through to the end of the stream.
+fn deal_all<R: Wait>(
+    rt: &R,
+    input: &mut Input,
+    outputs: &mut [Output],
+    neighbours: Neighbours<'_>,
+) -> StageEnd
+    requires { IsLaneCount (length outputs.old) }
+    ensures input { SameConsumer input.old input.new }
+    ensures dealt { HasDealt result (received input.old) (received input.new) (known_items input.new)
+        outputs.old outputs.new }
+{
+    let mut place = Place::new();
+    for _ in rt.forever() {
+        let Some(message) = take(rt, input, neighbours.bells.own, neighbours.bells.left) else {
+            send_each(rt, &Message::Stop, outputs, neighbours);
+            return StageEnd::PeerGone;
+        };
+        let ending = Ending::of(&message);
+        if !place.accepts(&message) {
+            drop(message);
+            let end = StageEnd::Fault(ToolFault::OutOfOrder);
+            return break_off(rt, end, ending, input, outputs, neighbours);
+        }
+        let here = place;
+        place.step(&message);
+        if let Some(end) = send_parts(rt, here, message, outputs, neighbours) {
+            match ending {
+                Ending::More => return break_off(rt, end, ending, input, outputs, neighbours),
+                Ending::Whole | Ending::BrokenOff => return StageEnd::PeerGone,
+            }
+        }
+        match ending {
+            Ending::More => {}
+            Ending::Whole => return StageEnd::Well,
+            Ending::BrokenOff => return StageEnd::Broken,
+        }
+    }
+    unreachable!()
+}
+
+/// Sends each lane its part of a message at this place. Where not each can be sent its own, some may have been: the end
+/// then tells why.
+fn send_parts<R: Wait>(
+    rt: &R,
+    place: Place,
+    message: Message,
+    outputs: &mut [Output],
+    neighbours: Neighbours<'_>,
+) -> Option<StageEnd>
+    requires lanes { IsLaneCount (length outputs.old) }
+    requires place { Accepts place message }
+    ensures { HasSentParts (part_at (length outputs.old) place message) result outputs.old outputs.new }
+{
+    match message {
+        Message::Row(row) => {
+            let Place::Inside(_, y) = place else {
+                unreachable!();
+            };
+            send_row(rt, y, row, outputs, neighbours)
+        }
+        Message::Begin(head) => send_each(rt, &Message::Begin(head), outputs, neighbours),
+        Message::ImageEnd => send_each(rt, &Message::ImageEnd, outputs, neighbours),
+        Message::StreamEnd => send_each(rt, &Message::StreamEnd, outputs, neighbours),
+        Message::Stop => send_each(rt, &Message::Stop, outputs, neighbours),
+    }
+}
+
+/// Sends the row with this number to its lane.
+fn send_row<R: Wait>(
+    rt: &R,
+    y: u32,
+    row: Samples,
+    outputs: &mut [Output],
+    neighbours: Neighbours<'_>,
+) -> Option<StageEnd>
+    requires { IsLaneCount (length outputs.old) }
+    ensures { HasSentParts (row_part (length outputs.old) y row) result outputs.old outputs.new }
+{
+    let lane = y as usize % outputs.len();
+    let bell = neighbours.lane(lane);
+    if give(
+        rt,
+        &mut outputs[lane],
+        Message::Row(row),
+        neighbours.bells.own,
+        bell,
+    ) {
+        None
+    } else {
+        Some(StageEnd::PeerGone)
+    }
+}
+
+/// Sends each lane its part of a message that isn't a row, and goes on past a lane whose other end was seen dropped.
+fn send_each<R: Wait>(
+    rt: &R,
+    message: &Message,
+    outputs: &mut [Output],
+    neighbours: Neighbours<'_>,
+) -> Option<StageEnd>
+    requires lanes { IsLaneCount (length outputs.old) }
+    requires message { IsRow message.now → ⊥ }
+    ensures { HasSentParts (lane_part (length outputs.old) message.now) result outputs.old outputs.new }
+{
+    let lanes = outputs.len();
+    let mut unsent = None;
+    for lane in 0..lanes {
+        let Some(part) = part_of(message, lane, lanes) else {
+            return Some(StageEnd::Fault(ToolFault::Memory));
+        };
+        let bell = neighbours.lane(lane);
+        if !give(rt, &mut outputs[lane], part, neighbours.bells.own, bell) {
+            unsent = Some(StageEnd::PeerGone);
+        }
+    }
+    unsent
+}
+
+/// A lane's part of a message that isn't a row: a head with the number of the lane's rows as the height, or the same
+/// message. None where there is no memory for a head.
+fn part_of(message: &Message, lane: usize, lanes: usize) -> Option<Message>
+    requires lane { lane < lanes }
+    requires lanes { lanes ≤ max_lanes }
+    requires message { IsRow message.now → ⊥ }
+    ensures { IfSome result (λ part. lane_part lanes message.now lane ≡ part ∷ []) }
+{
+    match message {
+        Message::Begin(head) => {
+            let height = dealt_height(head.shape().height, lane as u32, lanes as u32);
+            let head = head.copy().ok()?;
+            Some(Message::Begin(head.with_height(height)))
+        }
+        Message::ImageEnd => Some(Message::ImageEnd),
+        Message::StreamEnd => Some(Message::StreamEnd),
+        Message::Stop => Some(Message::Stop),
+        Message::Row(_) => unreachable!(),
+    }
+}
+
+/// Ends the dealing so, after a message with this ending: sends each lane Stop, and drops what comes through to the end of
+/// the stream.
+fn break_off<R: Wait>(
+    rt: &R,
+    end: StageEnd,
+    ending: Ending,
+    input: &mut Input,
+    outputs: &mut [Output],
+    neighbours: Neighbours<'_>,
+) -> StageEnd
+    requires { IsLaneCount (length outputs.old) }
+    ensures input { SameConsumer input.old input.new }
+    ensures broken { HasBrokenOffAfter end ending result (received input.old) (received input.new) (known_items input.new)
+        outputs.old outputs.new }
+{
+    let untold = send_each(rt, &Message::Stop, outputs, neighbours);
+    let drained = drain_after(rt, ending, input, neighbours.bells);
+    if untold.is_none() && drained {
+        end
+    } else {
+        StageEnd::PeerGone
+    }
+}
+
+/// After a message with this ending, takes and drops what comes through to the end of the stream; false where the
+/// input's other end was seen dropped before.
+fn drain_after<R: Wait>(rt: &R, ending: Ending, input: &mut Input, bells: DealBells<'_>) -> bool
+    ensures input { SameConsumer input.old input.new }
+    ensures drained { HasDrainedAfter ending result (received input.old) (received input.new) (known_items input.new) }
+{
+    match ending {
+        Ending::More => drain(rt, input, bells.own, bells.left),
+        Ending::Whole | Ending::BrokenOff => true,
+    }
+}
