@@ -9,7 +9,7 @@ use Rattle.pnm_image.specs.declared.place.Place.{Place}
 use Rattle.pnm_image.specs.declared.place.Place.TheVariants.{Between}
 use Rattle.pnm_image.specs.Messages.{IsMessage, without_stop}
 use Rattle.pnm_image.specs.Places.{Accepts, IsLawful, place_of}
-use Rattle.pnm_image.proofs.Lists.{each-push}
+use Rattle.pnm_image.proofs.Lists.{each-push, same_first}
 use Rattle.pnm_image.proofs.Places.{lawful_more, next_may_come}
 use Rattle.pnm_tools.specs.declared.fault.ToolFault.TheVariants.{OutOfOrder, Memory}
 use Rattle.pnm_tools.specs.Answers.{Ending, More, Whole, BrokenOff, ending_of, EndsBy}
@@ -21,6 +21,7 @@ use Rattle.pnm_rings.specs.declared.ending.Ending.{Ending as Answered}
 use Rattle.pnm_rings.specs.declared.ending.Ending.TheVariants.{More as AnsweredMore, Whole as AnsweredWhole, BrokenOff as AnsweredBrokenOff}
 use Rattle.pnm_rings.specs.declared.stage_end.StageEnd.{StageEnd}
 use Rattle.pnm_rings.specs.declared.stage_end.StageEnd.TheVariants.{Fault, PeerGone}
+use Rattle.pnm_rings.specs.Fronts.{IsLongestLawfulFront}
 use Rattle.pnm_rings.specs.Rings.{ending_by, IsEnded, EndsAtMostOnce}
 use Rattle.pnm_rings.proofs.RingSteps.{ends_nothing, ends_with, same_output}
 use Rattle.pnm_lanes.specs.Deals.{AtEach, HasReceivedSo, HasSentSo, HasLane, HasDealt}
@@ -31,28 +32,37 @@ use Rattle.pnm_lanes.proofs.DealSteps.{HasAll, IsDealing, parts_of, HasFront, al
 
 -- ---- why it was broken off
 
--- an end that says so of all that was received, once that has ended, and of each lane that was sent Stop
-pub record MayEndSo (end : StageEnd) (lanes : ℕ) (took : List Message) : Type 0 where
+-- an end that says so of all that was received, once that has ended, and of each lane that was sent Stop: after a
+-- front of what is dealt to it of what was accepted, or after all of it
+pub record MayEndSo (end : StageEnd) (all : Bool) (lanes : ℕ) (accepted took : List Message) : Type 0 where
   pub input : (more : List Message) → IsEnded (took ++ more) → HasReceivedSo end (took ++ more)
-  pub output : (lane : ℕ) (l g : List Message) → EndsBy More g → HasSentSo end lane lanes l (g ++ Stop ∷ [])
+  pub output : (lane : ℕ) (more g : List Message) → EndsBy More g → (all ≡ true → g ≡ dealt lane lanes accepted) → HasSentSo end lane lanes (took ++ more) (g ++ Stop ∷ [])
 
 -- a message can't come after what was accepted
-out_of_order : (lanes : ℕ) (place : Place) (took : List Message) (m : Message) → place ≡ place_of Between took → (Accepts place m → ⊥) → MayEndSo (Fault OutOfOrder) lanes (took ++ m ∷ [])
-out_of_order lanes place took m here refused = record {
+longest_front : (place : Place) (took : List Message) (m : Message) (more : List Message) → IsLawful took → place ≡ place_of Between took → (Accepts place m → ⊥) → IsLongestLawfulFront took ((took ++ m ∷ []) ++ more)
+longest_front place took m more lawful here refused = record {
+  rest = m ∷ more;
+  parts = append_assoc took (m ∷ []) more;
+  lawful = lawful;
+  longest = λ n ns same accepts. refused (subst (λ (p : Place). Accepts p m) (sym here) (subst (Accepts (place_of Between took)) (sym (same_first m n more ns same)) accepts));
+}
+
+out_of_order : (lanes : ℕ) (place : Place) (took : List Message) (m : Message) → IsLawful took → place ≡ place_of Between took → (Accepts place m → ⊥) → MayEndSo (Fault OutOfOrder) true lanes took (took ++ m ∷ [])
+out_of_order lanes place took m lawful here refused = record {
   input = λ more ended. (
     ended,
-    λ lawful. refused (subst (λ (p : Place). Accepts p m) (sym here)
-        (next_may_come Between took m more (subst IsLawful (append_assoc took (m ∷ []) more) lawful))),
+    λ whole. refused (subst (λ (p : Place). Accepts p m) (sym here)
+        (next_may_come Between took m more (subst IsLawful (append_assoc took (m ∷ []) more) whole))),
   );
-  output = λ lane l g more. (g, more, refl);
+  output = λ lane more g goes_on full. (g, refl, goes_on, (took, longest_front place took m more lawful here refused, full refl));
 }
 
 -- there was no memory, or the other end of a ring was seen dropped
-for_reason : (end : StageEnd) (lanes : ℕ) (took : List Message) → (end ≡ Fault Memory) ⊎ (end ≡ PeerGone) → MayEndSo end lanes took
-for_reason end lanes took (inl memory) =
-    subst (λ (e : StageEnd). MayEndSo e lanes took) (sym memory) (record { input = λ more ended. ended; output = λ lane l g more. (g, more, refl) })
-for_reason end lanes took (inr gone) =
-    subst (λ (e : StageEnd). MayEndSo e lanes took) (sym gone) (record { input = λ more ended. tt; output = λ lane l g more. tt })
+for_reason : (end : StageEnd) (all : Bool) (lanes : ℕ) (accepted took : List Message) → (end ≡ Fault Memory) ⊎ (end ≡ PeerGone) → MayEndSo end all lanes accepted took
+for_reason end all lanes accepted took (inl memory) =
+    subst (λ (e : StageEnd). MayEndSo e all lanes accepted took) (sym memory) (record { input = λ more ended. ended; output = λ lane more g goes_on full. (g, refl, goes_on, tt) })
+for_reason end all lanes accepted took (inr gone) =
+    subst (λ (e : StageEnd). MayEndSo e all lanes accepted took) (sym gone) (record { input = λ more ended. tt; output = λ lane more g goes_on full. tt })
 
 -- ---- what was received before and while the input was drained
 
@@ -60,12 +70,13 @@ for_reason end lanes took (inr gone) =
 pub record IsCut {A P : Type 0} (end : StageEnd) (ending : Ending) (received_old received_now : List Message) (olds nows : List (Producer Message A P)) : Type 0 where
   pub took : List Message
   pub accepted : List Message
+  pub all : Bool
   pub input : received_now ≡ received_old ++ took
   pub messages : AllByRecursion IsMessage took
   pub ends : EndsBy ending took
   pub is : IsAccepted accepted took
-  pub may : MayEndSo end (length olds) took
-  pub lanes : AtEach (HasFront (length olds) accepted) olds nows
+  pub may : MayEndSo end all (length olds) accepted took
+  pub lanes : AtEach (HasFront all (length olds) accepted) olds nows
 
 -- the rest was drained
 pub record IsDrained (drained : Bool) (took received_now received_new left : List Message) : Type 0 where
@@ -134,8 +145,8 @@ ends_so end answer ending untold drained received_old received_now received_new 
       messages = both_all IsMessage cut.took rest.more cut.messages rest.messages;
       once = rest.once;
       ended = cut.may.input rest.more (rest.ended all);
-      lanes = each-then (HasFront (length olds) cut.accepted) (IsSentPart (λ lane. Stop ∷ []) untold) (HasLane end (length olds) took) 0 olds nows news
-          (told_lane end (length olds) cut.accepted took untold none (accepted_more cut.accepted cut.took rest.more cut.is) (λ lane g more. cut.may.output lane took g more)) cut.lanes told;
+      lanes = each-then (HasFront cut.all (length olds) cut.accepted) (IsSentPart (λ lane. Stop ∷ []) untold) (HasLane end (length olds) took) 0 olds nows news
+          (told_lane end cut.all (length olds) cut.accepted took untold none (accepted_more cut.accepted cut.took rest.more cut.is) (λ lane g goes_on full. cut.may.output lane rest.more g goes_on full)) cut.lanes told;
     })
 ends_so end answer ending untold drained received_old received_now received_new left olds nows news cut told rest (inr same) =
     let took = cut.took ++ rest.more in
@@ -146,8 +157,8 @@ ends_so end answer ending untold drained received_old received_now received_new 
       messages = both_all IsMessage cut.took rest.more cut.messages rest.messages;
       once = rest.once;
       ended = tt;
-      lanes = each-then (HasFront (length olds) cut.accepted) (IsSentPart (λ lane. Stop ∷ []) untold) (HasLane PeerGone (length olds) took) 0 olds nows news
-          (lost_lane (length olds) cut.accepted took untold (accepted_more cut.accepted cut.took rest.more cut.is)) cut.lanes told;
+      lanes = each-then (HasFront cut.all (length olds) cut.accepted) (IsSentPart (λ lane. Stop ∷ []) untold) (HasLane PeerGone (length olds) took) 0 olds nows news
+          (lost_lane cut.all (length olds) cut.accepted took untold (accepted_more cut.accepted cut.took rest.more cut.is)) cut.lanes told;
     })
 
 pub breaks_off : {A P : Type 0} (end answer : StageEnd) (ending : Answered) (e : Ending) (received_old received_now received_new left : List Message) (olds nows news : List (Producer Message A P)) (cut : IsCut end e received_old received_now olds nows)
@@ -155,7 +166,7 @@ pub breaks_off : {A P : Type 0} (end answer : StageEnd) (ending : Answered) (e :
 breaks_off end answer ending e received_old received_now received_new left olds nows news cut says broken =
     let same : EndsBy (ending_by ending) cut.took = subst (λ (x : Ending). EndsBy x cut.took) (sym says) cut.ends in
     ends_so end answer ending broken.untold broken.drained received_old received_now received_new left olds nows news
-    (record { took = cut.took; accepted = cut.accepted; input = cut.input; messages = cut.messages; ends = same; is = cut.is; may = cut.may; lanes = cut.lanes })
+    (record { took = cut.took; accepted = cut.accepted; all = cut.all; input = cut.input; messages = cut.messages; ends = same; is = cut.is; may = cut.may; lanes = cut.lanes })
     broken.lanes (is_drained ending broken.drained cut.took received_now received_new left same broken.input) broken.answered
 
 -- ---- where it is broken off
@@ -168,12 +179,13 @@ cut_at place received_old received_now received_new olds nows m dealing added is
     record {
       took = took ++ m ∷ [];
       accepted = took;
+      all = true;
       input = added ∙ ap (λ (x : List Message). x ++ m ∷ []) dealing.input ∙ append_assoc received_old took (m ∷ []);
       messages = each-push IsMessage took m dealing.messages is;
       ends = ends_with took m dealing.ends;
       is = record { rest = m ∷ []; parts = refl; lawful = dealing.lawful };
-      may = out_of_order (length olds) place took m dealing.here refused;
-      lanes = each-map (HasAll (length olds) took) (HasFront (length olds) took) 0 olds nows (all_is_front (length olds) took dealing.ends) dealing.lanes;
+      may = out_of_order (length olds) place took m dealing.lawful dealing.here refused;
+      lanes = each-map (HasAll (length olds) took) (HasFront true (length olds) took) 0 olds nows (all_is_front (length olds) took dealing.ends) dealing.lanes;
     }
 
 -- after a message that not each lane could be sent its part of
@@ -185,12 +197,13 @@ cut_after end place received_old received_now received_new olds nows news m unse
     record {
       took = took ++ m ∷ [];
       accepted = took ++ m ∷ [];
+      all = false;
       input = added ∙ ap (λ (x : List Message). x ++ m ∷ []) dealing.input ∙ append_assoc received_old took (m ∷ []);
       messages = each-push IsMessage took m dealing.messages is;
       ends = ends_with took m dealing.ends;
       is = record { rest = []; parts = sym (append-nil (took ++ m ∷ [])); lawful = lawful_more Between took m dealing.lawful (subst (λ (p : Place). Accepts p m) dealing.here accepts) };
-      may = for_reason end (length olds) (took ++ m ∷ []) reason;
-      lanes = each-then (HasAll (length olds) took) (IsSentPart (part_at (length olds) place m) unsent) (HasFront (length olds) (took ++ m ∷ [])) 0 olds nows news
+      may = for_reason end false (length olds) (took ++ m ∷ []) (took ++ m ∷ []) reason;
+      lanes = each-then (HasAll (length olds) took) (IsSentPart (part_at (length olds) place m) unsent) (HasFront false (length olds) (took ++ m ∷ [])) 0 olds nows news
           (part_is_front place (length olds) took m unsent dealing.ends goes dealing.here) dealing.lanes (parts_of place m olds nows news took unsent dealing.lanes sent_parts).lanes;
     }
 
@@ -255,7 +268,7 @@ input_gone place received_old received_now received_new left olds nows news unto
       messages = dealing.messages;
       once = (More, dealing.ends);
       ended = tt;
-      lanes = each-then (HasFront (length olds) took) (IsSentPart (λ lane. Stop ∷ []) untold) (HasLane PeerGone (length olds) took) 0 olds nows news
-          (lost_lane (length olds) took took untold (record { rest = []; parts = sym (append-nil took); lawful = dealing.lawful }))
-          (each-map (HasAll (length olds) took) (HasFront (length olds) took) 0 olds nows (all_is_front (length olds) took dealing.ends) dealing.lanes) told.lanes;
+      lanes = each-then (HasFront true (length olds) took) (IsSentPart (λ lane. Stop ∷ []) untold) (HasLane PeerGone (length olds) took) 0 olds nows news
+          (lost_lane true (length olds) took took untold (record { rest = []; parts = sym (append-nil took); lawful = dealing.lawful }))
+          (each-map (HasAll (length olds) took) (HasFront true (length olds) took) 0 olds nows (all_is_front (length olds) took dealing.ends) dealing.lanes) told.lanes;
     }

@@ -1,5 +1,5 @@
 -- What has been dealt so far, and how the dealing ends.
-use Rattle.std.proofs.Common.{◌≡◌, inl, inr, ℕ, List, [], ◌∷◌, ◌++◌, length, Option, None, Some, refl, sym, ap, subst, ◌∙◌, append_assoc, append-nil}
+use Rattle.std.proofs.Common.{◌≡◌, inl, inr, ℕ, Bool, true, false, List, [], ◌∷◌, ◌++◌, length, Option, None, Some, refl, sym, ap, subst, ◌∙◌, append_assoc, append-nil}
 use Rattle.std.specs.List.{AllByRecursion}
 use Rattle.rtrb.specs.declared.producer.Producer.{Producer}
 use Rattle.rtrb.specs.Ring.{sent, SameProducer}
@@ -123,17 +123,17 @@ ends_broken place received_old received_new left olds news dealing = record {
 
 -- ---- a lane that is sent Stop
 
--- a lane was sent a front, which goes on, of what is dealt to it of these messages
-abbrev pub HasFront : {A P : Type 0} → ℕ → List Message → ℕ → Producer Message A P → Producer Message A P → Type 0
-HasFront lanes accepted lane old now = SameProducer old now × ((g : List Message) × (sent now ≡ sent old ++ g) × EndsBy More g × IsFrontOf g (dealt lane lanes accepted))
+-- a lane was sent a front, which goes on, of what is dealt to it of these messages, and all of it where that is said
+abbrev pub HasFront : {A P : Type 0} → Bool → ℕ → List Message → ℕ → Producer Message A P → Producer Message A P → Type 0
+HasFront all lanes accepted lane old now = SameProducer old now × ((g : List Message) × (sent now ≡ sent old ++ g) × EndsBy More g × IsFrontOf g (dealt lane lanes accepted) × (all ≡ true → g ≡ dealt lane lanes accepted))
 
 -- all that is dealt is a front of itself
-pub all_is_front : {A P : Type 0} (lanes : ℕ) (took : List Message) → EndsBy More took → (lane : ℕ) (old now : Producer Message A P) → HasAll lanes took lane old now → HasFront lanes took lane old now
-all_is_front lanes took more lane old now all = (all.0, (dealt lane lanes took, all.1, dealt_goes_on lane lanes took more, itself_front (dealt lane lanes took)))
+pub all_is_front : {A P : Type 0} (lanes : ℕ) (took : List Message) → EndsBy More took → (lane : ℕ) (old now : Producer Message A P) → HasAll lanes took lane old now → HasFront true lanes took lane old now
+all_is_front lanes took more lane old now all = (all.0, (dealt lane lanes took, all.1, dealt_goes_on lane lanes took more, itself_front (dealt lane lanes took), λ e. refl))
 
 -- with its part of one more, or without it
 pub part_is_front : {A P : Type 0} (place : Place) (lanes : ℕ) (took : List Message) (m : Message) (unsent : Option StageEnd) → EndsBy More took → ending_of m ≡ More → place ≡ place_of Between took → (lane : ℕ) (old now new : Producer Message A P)
-    → HasAll lanes took lane old now → IsSentPart (part_at lanes place m) unsent lane now new → HasFront lanes (took ++ m ∷ []) lane old new
+    → HasAll lanes took lane old now → IsSentPart (part_at lanes place m) unsent lane now new → HasFront false lanes (took ++ m ∷ []) lane old new
 part_is_front place lanes took m unsent more goes here lane old now new all (same, inl is) =
     let more_dealt = dealt_more lane lanes place took m here in (
       same_output old now new all.0 same,
@@ -142,11 +142,12 @@ part_is_front place lanes took m unsent more goes here lane old now new all (sam
         is ∙ ap (λ (x : List Message). x ++ dealt_message lane lanes place m) all.1 ∙ append_assoc (sent old) (dealt lane lanes took) (dealt_message lane lanes place m),
         dealt_part_goes_on lane lanes place took m more goes,
         ([], more_dealt ∙ sym (append-nil (dealt lane lanes took ++ dealt_message lane lanes place m))),
+        λ e. absurd cc,
       ),
     )
 part_is_front place lanes took m unsent more goes here lane old now new all (same, inr lost) = (
   same_output old now new all.0 same,
-  (dealt lane lanes took, lost.0 ∙ all.1, dealt_goes_on lane lanes took more, (dealt_message lane lanes place m, dealt_more lane lanes place took m here)),
+  (dealt lane lanes took, lost.0 ∙ all.1, dealt_goes_on lane lanes took more, (dealt_message lane lanes place m, dealt_more lane lanes place took m here), λ e. absurd cc),
 )
 
 -- what was accepted of what was received
@@ -166,27 +167,27 @@ pub front_of_dealt : (lane lanes : ℕ) (accepted l g : List Message) → IsAcce
 front_of_dealt lane lanes accepted l g is front = record { accepted = accepted; rest = is.rest; parts = is.parts; lawful = is.lawful; front = front }
 
 -- the lane was sent Stop
-stopped_lane : {A P : Type 0} (end : StageEnd) (lanes : ℕ) (accepted l : List Message) → IsAccepted accepted l → ((lane : ℕ) (g : List Message) → EndsBy More g → HasSentSo end lane lanes l (g ++ Stop ∷ [])) → (lane : ℕ) (old now new : Producer Message A P)
-    → HasFront lanes accepted lane old now → SameProducer now new → sent new ≡ sent now ++ Stop ∷ [] → HasLane end lanes l lane old new
-stopped_lane end lanes accepted l is so lane old now new (same_now, (g, output, more, front)) same added = record {
+stopped_lane : {A P : Type 0} (end : StageEnd) (all : Bool) (lanes : ℕ) (accepted l : List Message) → IsAccepted accepted l → ((lane : ℕ) (g : List Message) → EndsBy More g → (all ≡ true → g ≡ dealt lane lanes accepted) → HasSentSo end lane lanes l (g ++ Stop ∷ [])) → (lane : ℕ) (old now new : Producer Message A P)
+    → HasFront all lanes accepted lane old now → SameProducer now new → sent new ≡ sent now ++ Stop ∷ [] → HasLane end lanes l lane old new
+stopped_lane end all lanes accepted l is so lane old now new (same_now, (g, output, more, front, full)) same added = record {
   ring = same_output old now new same_now same;
   gave = g ++ Stop ∷ [];
   output = added ∙ ap (λ (x : List Message). x ++ Stop ∷ []) output ∙ append_assoc (sent old) g (Stop ∷ []);
-  ended = so lane g more;
+  ended = so lane g more full;
   front = front_of_dealt lane lanes accepted l (g ++ Stop ∷ []) is (subst (λ (x : List Message). IsFrontOf x (dealt lane lanes accepted)) (sym (stop_is_cut g)) front);
 }
 
-pub told_lane : {A P : Type 0} (end : StageEnd) (lanes : ℕ) (accepted l : List Message) (untold : Option StageEnd) → untold ≡ None → IsAccepted accepted l → ((lane : ℕ) (g : List Message) → EndsBy More g → HasSentSo end lane lanes l (g ++ Stop ∷ [])) → (lane : ℕ) (old now new : Producer Message A P)
-    → HasFront lanes accepted lane old now → IsSentPart (λ n. Stop ∷ []) untold lane now new → HasLane end lanes l lane old new
-told_lane end lanes accepted l untold none is so lane old now new front (same, inl added) = stopped_lane end lanes accepted l is so lane old now new front same added
-told_lane end lanes accepted l None none is so lane old now new front (same, inr lost) = let lost_one = lost.1 in absurd cc
-told_lane end lanes accepted l (Some e) none is so lane old now new front (same, inr lost) = absurd cc
+pub told_lane : {A P : Type 0} (end : StageEnd) (all : Bool) (lanes : ℕ) (accepted l : List Message) (untold : Option StageEnd) → untold ≡ None → IsAccepted accepted l → ((lane : ℕ) (g : List Message) → EndsBy More g → (all ≡ true → g ≡ dealt lane lanes accepted) → HasSentSo end lane lanes l (g ++ Stop ∷ [])) → (lane : ℕ) (old now new : Producer Message A P)
+    → HasFront all lanes accepted lane old now → IsSentPart (λ n. Stop ∷ []) untold lane now new → HasLane end lanes l lane old new
+told_lane end all lanes accepted l untold none is so lane old now new front (same, inl added) = stopped_lane end all lanes accepted l is so lane old now new front same added
+told_lane end all lanes accepted l None none is so lane old now new front (same, inr lost) = let lost_one = lost.1 in absurd cc
+told_lane end all lanes accepted l (Some e) none is so lane old now new front (same, inr lost) = absurd cc
 
 -- or wasn't, where the other end of a ring was seen dropped
-pub lost_lane : {A P : Type 0} (lanes : ℕ) (accepted l : List Message) (untold : Option StageEnd) → IsAccepted accepted l → (lane : ℕ) (old now new : Producer Message A P)
-    → HasFront lanes accepted lane old now → IsSentPart (λ n. Stop ∷ []) untold lane now new → HasLane PeerGone lanes l lane old new
-lost_lane lanes accepted l untold is lane old now new front (same, inl added) = stopped_lane PeerGone lanes accepted l is (λ n g more. tt) lane old now new front same added
-lost_lane lanes accepted l untold is lane old now new (same_now, (g, output, more, front)) (same, inr lost) = record {
+pub lost_lane : {A P : Type 0} (all : Bool) (lanes : ℕ) (accepted l : List Message) (untold : Option StageEnd) → IsAccepted accepted l → (lane : ℕ) (old now new : Producer Message A P)
+    → HasFront all lanes accepted lane old now → IsSentPart (λ n. Stop ∷ []) untold lane now new → HasLane PeerGone lanes l lane old new
+lost_lane all lanes accepted l untold is lane old now new front (same, inl added) = stopped_lane PeerGone all lanes accepted l is (λ n g more full. tt) lane old now new front same added
+lost_lane all lanes accepted l untold is lane old now new (same_now, (g, output, more, front, full)) (same, inr lost) = record {
   ring = same_output old now new same_now same;
   gave = g;
   output = lost.0 ∙ output;

@@ -50,8 +50,8 @@ HasDrainedAfter More drained old new left = HasDrained drained old new left
 HasDrainedAfter Whole drained old new left = (drained ≡ true) × (new ≡ old)
 HasDrainedAfter BrokenOff drained old new left = (drained ≡ true) × (new ≡ old)
 
--- dealing was broken off after a message with this ending: each lane was sent Stop and the input was drained; or else the
--- other end of a ring was seen dropped
+-- dealing was broken off after a message with this ending: each lane was sent Stop and the input was drained; or else
+-- the other end of a ring was seen dropped
 pub record HasBrokenOffAfter {A P : Type 0} (end : StageEnd) (ending : Ending) (answer : StageEnd) (received_old received_new left : List Message) (olds news : List (Producer Message A P)) : Type 0 where
   pub untold : Option StageEnd
   pub drained : Bool

@@ -8,6 +8,7 @@ use Rattle.pnm_image.specs.declared.message.Message.TheVariants.{Stop}
 use Rattle.pnm_image.specs.Messages.{IsMessage, without_stop}
 use Rattle.pnm_image.specs.Places.{IsLawful}
 use Rattle.pnm_image.specs.Completion.{IsFrontOf}
+use Rattle.pnm_tools.specs.declared.fault.ToolFault.{ToolFault}
 use Rattle.pnm_tools.specs.declared.fault.ToolFault.TheVariants.{CutOutside, ChannelOutside, TooLarge, OutOfOrder, Memory}
 use Rattle.pnm_tools.specs.Answers.{More, Whole, BrokenOff, EndsBy}
 use Rattle.pnm_tools.specs.Dealing.{dealt}
@@ -18,21 +19,22 @@ use Rattle.pnm_rings.specs.Rings.{IsEnded, EndsAtMostOnce}
 
 -- ---- lanes, numbered from 0
 
--- two lists have as many members, and this holds of each two at one place, and of its number, which is that of the first
--- two and so on
+-- two lists have as many members, and this holds of each two that stand at one place and of the number of that place,
+-- the first having this one
 abbrev pub AtEachFrom : {A : Type 0} → (ℕ → A → A → Type 0) → ℕ → List A → List A → Type 0
 AtEachFrom P lane [] [] = Unit {0}
 AtEachFrom P lane [] (new ∷ news) = ⊥
 AtEachFrom P lane (old ∷ olds) [] = ⊥
 AtEachFrom P lane (old ∷ olds) (new ∷ news) = P lane old new × AtEachFrom P (lane + 1) olds news
 
--- this holds of each lane, by its number
+-- the same where the first has the number 0
 abbrev pub AtEach : {A : Type 0} → (ℕ → A → A → Type 0) → List A → List A → Type 0
 AtEach P olds news = AtEachFrom P 0 olds news
 
 -- ---- how it ended
 
--- what was received, by the end. Where the other end of a ring was seen dropped, no more is known than however it ended.
+-- what was received, by the end. Where the other end of a ring was seen dropped, no more is known than however it
+-- ended.
 abbrev pub HasReceivedSo : StageEnd → List Message → Type 0
 HasReceivedSo Well l = IsLawful l × EndsBy Whole l
 HasReceivedSo Broken l = IsLawful l × EndsBy BrokenOff l
@@ -43,11 +45,22 @@ HasReceivedSo (Fault OutOfOrder) l = IsEnded l × (IsLawful l → ⊥)
 HasReceivedSo (Fault Memory) l = IsEnded l
 HasReceivedSo PeerGone l = Unit {0}
 
+-- all that is dealt of the longest lawful front of what was received: what was sent to a lane before a fault, unless
+-- there was no memory
+abbrev pub IsAllBefore : ToolFault → ℕ → ℕ → List Message → List Message → Type 0
+IsAllBefore CutOutside lane lanes l given = ⊥
+IsAllBefore ChannelOutside lane lanes l given = ⊥
+IsAllBefore TooLarge lane lanes l given = ⊥
+IsAllBefore OutOfOrder lane lanes l given =
+    (front : List Message) × IsLongestLawfulFront front l × (given ≡ dealt lane lanes front)
+IsAllBefore Memory lane lanes l given = Unit {0}
+
 -- and what was sent to a lane: all that is dealt to it; or, after a fault, messages that don't end the stream, and Stop
 abbrev pub HasSentSo : StageEnd → ℕ → ℕ → List Message → List Message → Type 0
 HasSentSo Well lane lanes l g = g ≡ dealt lane lanes l
 HasSentSo Broken lane lanes l g = g ≡ dealt lane lanes l
-HasSentSo (Fault fault) lane lanes l g = (given : List Message) × EndsBy More given × (g ≡ given ++ Stop ∷ [])
+HasSentSo (Fault fault) lane lanes l g =
+    (given : List Message) × (g ≡ given ++ Stop ∷ []) × EndsBy More given × IsAllBefore fault lane lanes l given
 HasSentSo PeerGone lane lanes l g = Unit {0}
 
 -- ---- however it ended
@@ -68,8 +81,8 @@ pub record HasLane {A P : Type 0} (end : StageEnd) (lanes : ℕ) (l : List Messa
   pub ended : HasSentSo end lane lanes l gave
   pub front : IsFrontOfDealt lane lanes l gave
 
--- the dealing has ended so, by the messages that the input had passed before and has passed now and those that are left in
--- it, and by the lanes' rings before and now: nothing is left, or the end of the stream was received
+-- the dealing has ended so, by the messages that the input had passed before and has passed now and those that are
+-- left in it, and by the lanes' rings before and now: nothing is left, or the end of the stream was received
 pub record HasDealt {A P : Type 0} (end : StageEnd) (received_old received_new left : List Message) (olds news : List (Producer Message A P)) : Type 0 where
   pub took : List Message
   pub input : received_new ≡ received_old ++ took

@@ -5,7 +5,8 @@ ghost use Rattle.rtrb.specs.Ring.{sent, received, known_items, SameProducer, Sam
 ghost use Rattle.pnm_image.specs.Places.{Accepts};
 ghost use Rattle.pnm_lanes.specs.Limits.{max_lanes, IsLaneCount};
 ghost use Rattle.pnm_lanes.specs.Deals.{HasDealt};
-ghost use Rattle.pnm_lanes.specs.DealParts.{IsRow, part_at, row_part, lane_part, HasSentParts, HasDrainedAfter, HasBrokenOffAfter};
+ghost use Rattle.pnm_lanes.specs.DealParts.{IsRow, part_at, row_part, lane_part, HasSentParts};
+ghost use Rattle.pnm_lanes.specs.DealParts.{HasDrainedAfter, HasBrokenOffAfter};
 
 use crate::heights::dealt_height;
 use pnm_image::{Message, Place, Samples};
@@ -25,7 +26,8 @@ pub struct DealDone {
     pub end: StageEnd,
 }
 
-/// The bells of a thread that deals and of its neighbours. A lane that `lanes` doesn't reach has no bell.
+/// The bells of a thread that deals and of its neighbours: the thread before it, itself, and the lanes. Lanes that
+/// `lanes` doesn't reach have none.
 #[derive(Clone, Copy)]
 pub struct DealBells<'a> {
     pub left: &'a Bell,
@@ -49,11 +51,14 @@ impl<'a> Neighbours<'a> {
     }
 }
 
-/// Deals what comes on `input` to as many lanes as there are outputs, 1 to 8: each lane gets a head with the number of its
-/// rows as the height, row y goes to the lane y mod the number of lanes, and what ends an image or the stream goes to
-/// each. Rows are moved. The faults are `OutOfOrder`, where a message can't come at its place, and `Memory`: each lane
-/// is sent Stop then, and the input is taken and dropped through its end or its Stop. Where the other end of a ring is
-/// dropped early the end is `PeerGone`: the lanes whose stream hasn't ended are sent Stop, and the input is drained.
+/// Deals what comes on `input` to as many lanes as there are outputs, 1 to 8. Row y of an image goes to lane y mod
+/// the number of lanes, all counted from 0; it is moved. Each lane gets a copy of each head, with the number of the
+/// lane's rows as the height, and each end of an image and of the stream.
+///
+/// The faults are `OutOfOrder`, where a message can't come at its place, and `Memory`, where there is none for the
+/// copy of a head. Each lane is sent Stop then, and the input is taken and dropped through its end or its Stop. Where
+/// the other end of a ring is dropped early, the end is `PeerGone`: each lane whose stream hasn't ended is sent Stop,
+/// and the input is drained.
 pub fn deal<R: Wait>(rt: &R, alloc: Global, input: Input, outputs: Vec<Output>) -> DealDone
     requires { IsLaneCount (length outputs.items) }
     ensures input { SameConsumer input result.input }
@@ -141,8 +146,8 @@ fn deal_all<R: Wait>(
     unreachable!()
 }
 
-/// Sends each lane its part of a message at this place. Where not each can be sent its own, some may have been: the end
-/// then tells why.
+/// Sends each lane its part of a message at this place. Where not each can be sent its own, some may have been, and it
+/// answers how the dealing ends.
 fn send_parts<R: Wait>(
     rt: &R,
     place: Place,
@@ -240,8 +245,8 @@ fn part_of(message: &Message, lane: usize, lanes: usize) -> Option<Message>
     }
 }
 
-/// Ends the dealing so, after a message with this ending: sends each lane Stop, and drops what comes through to the end of
-/// the stream.
+/// Ends the dealing so, after a message with this ending: sends each lane Stop, and drops what comes through to the end
+/// of the stream.
 fn break_off<R: Wait>(
     rt: &R,
     end: StageEnd,
@@ -252,8 +257,8 @@ fn break_off<R: Wait>(
 ) -> StageEnd
     requires { IsLaneCount (length outputs.old) }
     ensures input { SameConsumer input.old input.new }
-    ensures broken { HasBrokenOffAfter end ending result (received input.old) (received input.new) (known_items input.new)
-        outputs.old outputs.new }
+    ensures broken { HasBrokenOffAfter end ending result
+        (received input.old) (received input.new) (known_items input.new) outputs.old outputs.new }
 {
     let untold = send_each(rt, &Message::Stop, outputs, neighbours);
     let drained = drain_after(rt, ending, input, neighbours.bells);
