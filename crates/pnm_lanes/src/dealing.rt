@@ -76,7 +76,8 @@ pub fn deal<R: Wait>(rt: &R, alloc: Global, input: Input, outputs: Vec<Output>) 
     deal_by(rt, alloc, input, outputs, bells)
 }
 
-/// The same, beside neighbours that have bells.
+/// The same, beside neighbours that have bells. A copy of a head is made by the head's own allocator: `_alloc` says that
+/// memory is taken.
 pub fn deal_by<R: Wait>(
     rt: &R,
     _alloc: Global,

@@ -1,1 +1,5 @@
 //! What no clause says: worked examples, and that calls can succeed.
+
+mod deals;
+mod heights;
+mod rings;

@@ -1,0 +1,365 @@
+//! Rows that are dealt to lanes: what each lane is sent, and how the dealing ends.
+
+use super::rings::{Part, Unmade, comes, holds, is_end, ring, send_all, sends};
+use pnm_lanes::{DealDone, deal};
+use pnm_rings::{Input, Output, StageEnd};
+use pnm_tools::ToolFault;
+use std::alloc::Global;
+use std::process::Abort;
+use std::sync::Wait;
+use std::test::Fail;
+use std::thread;
+
+/// An image of two rows, and the end of the stream.
+const TWO_ROWS: &[Part<'static>] = &[
+    Part::Begin(1, 2),
+    Part::Row(&[1]),
+    Part::Row(&[2]),
+    Part::ImageEnd,
+    Part::StreamEnd,
+];
+
+/// An image of three rows, and the end of the stream.
+const THREE_ROWS: &[Part<'static>] = &[
+    Part::Begin(1, 3),
+    Part::Row(&[1]),
+    Part::Row(&[2]),
+    Part::Row(&[3]),
+    Part::ImageEnd,
+    Part::StreamEnd,
+];
+
+const OUT_OF_ORDER: StageEnd = StageEnd::Fault(ToolFault::OutOfOrder);
+
+/// What is dealt, what each lane is sent of it, and how it ends.
+type Case<'a> = (&'a str, &'a [Part<'a>], &'a [&'a [Part<'a>]], StageEnd);
+
+/// Deals to the outputs, of which there have to be 1 to 8.
+fn dealt(rt: &(impl Wait + Abort), alloc: Global, input: Input, outputs: Vec<Output>) -> DealDone {
+    assert!(rt; 1 <= outputs.len() && outputs.len() <= 8);
+    deal(rt, alloc, input, outputs)
+}
+
+/// So many rings of this capacity.
+fn rings(alloc: Global, count: usize, capacity: usize) -> Result<(Vec<Output>, Vec<Input>), Fail> {
+    let mut outputs = Vec::with_capacity(alloc, count)?;
+    let mut inputs = Vec::with_capacity(alloc, count)?;
+    for _ in 0..count {
+        let (output, input) = ring(alloc, capacity)?;
+        outputs.push(output)?;
+        inputs.push(input)?;
+    }
+    Ok((outputs, inputs))
+}
+
+/// Over rings of capacity 8 the dealing ends so, and leaves nothing in its input.
+fn ends_so(rt: &(impl Wait + Abort), alloc: Global, case: Case<'_>) -> Result<(), Fail> {
+    let (what, takes, lanes, end) = case;
+    let (mut producer, input) = ring(alloc, 8)?;
+    let (outputs, mut consumers) = rings(alloc, lanes.len(), 8)?;
+    send_all(alloc, &mut producer, takes)?;
+    let mut done = dealt(rt, alloc, input, outputs);
+    is_end(rt, done.end, end, what);
+    holds(rt, &mut done.input, &[], what);
+    for (consumer, sent) in consumers.iter_mut().zip(lanes) {
+        holds(rt, consumer, sent, what);
+    }
+    Ok(())
+}
+
+#[test]
+fn deals_rows_in_turn(rt: HostRuntime) -> Result<(), Fail> {
+    let cases: [Case<'_>; 4] = [
+        (
+            "more lanes than rows",
+            TWO_ROWS,
+            &[
+                &[
+                    Part::Begin(1, 1),
+                    Part::Row(&[1]),
+                    Part::ImageEnd,
+                    Part::StreamEnd,
+                ],
+                &[
+                    Part::Begin(1, 1),
+                    Part::Row(&[2]),
+                    Part::ImageEnd,
+                    Part::StreamEnd,
+                ],
+                &[Part::Begin(1, 0), Part::ImageEnd, Part::StreamEnd],
+            ],
+            StageEnd::Well,
+        ),
+        (
+            "more rows than lanes",
+            THREE_ROWS,
+            &[
+                &[
+                    Part::Begin(1, 2),
+                    Part::Row(&[1]),
+                    Part::Row(&[3]),
+                    Part::ImageEnd,
+                    Part::StreamEnd,
+                ],
+                &[
+                    Part::Begin(1, 1),
+                    Part::Row(&[2]),
+                    Part::ImageEnd,
+                    Part::StreamEnd,
+                ],
+            ],
+            StageEnd::Well,
+        ),
+        (
+            "two images",
+            &[
+                Part::Begin(1, 1),
+                Part::Row(&[1]),
+                Part::ImageEnd,
+                Part::Begin(2, 1),
+                Part::Row(&[2, 3]),
+                Part::ImageEnd,
+                Part::StreamEnd,
+            ],
+            &[
+                &[
+                    Part::Begin(1, 1),
+                    Part::Row(&[1]),
+                    Part::ImageEnd,
+                    Part::Begin(2, 1),
+                    Part::Row(&[2, 3]),
+                    Part::ImageEnd,
+                    Part::StreamEnd,
+                ],
+                &[
+                    Part::Begin(1, 0),
+                    Part::ImageEnd,
+                    Part::Begin(2, 0),
+                    Part::ImageEnd,
+                    Part::StreamEnd,
+                ],
+            ],
+            StageEnd::Well,
+        ),
+        (
+            "no image",
+            &[Part::StreamEnd],
+            &[&[Part::StreamEnd], &[Part::StreamEnd]],
+            StageEnd::Well,
+        ),
+    ];
+    for case in cases {
+        ends_so(&rt, rt.alloc(), case)?;
+    }
+    Ok(())
+}
+
+#[test]
+fn hands_stop_to_each_lane(rt: HostRuntime) -> Result<(), Fail> {
+    let cases: [Case<'_>; 5] = [
+        (
+            "Stop in an image",
+            &[Part::Begin(1, 3), Part::Row(&[1]), Part::Stop],
+            &[
+                &[Part::Begin(1, 2), Part::Row(&[1]), Part::Stop],
+                &[Part::Begin(1, 1), Part::Stop],
+            ],
+            StageEnd::Broken,
+        ),
+        (
+            "the end of an image first",
+            &[Part::ImageEnd, Part::StreamEnd],
+            &[&[Part::Stop], &[Part::Stop]],
+            OUT_OF_ORDER,
+        ),
+        (
+            "the end of the stream in an image",
+            &[Part::Begin(1, 1), Part::StreamEnd],
+            &[
+                &[Part::Begin(1, 1), Part::Stop],
+                &[Part::Begin(1, 0), Part::Stop],
+            ],
+            OUT_OF_ORDER,
+        ),
+        (
+            "a row too wide, and more after it",
+            &[
+                Part::Begin(1, 2),
+                Part::Row(&[1, 2]),
+                Part::Row(&[2]),
+                Part::ImageEnd,
+                Part::Stop,
+            ],
+            &[
+                &[Part::Begin(1, 1), Part::Stop],
+                &[Part::Begin(1, 1), Part::Stop],
+            ],
+            OUT_OF_ORDER,
+        ),
+        (
+            "a row too many",
+            &[
+                Part::Begin(1, 1),
+                Part::Row(&[1]),
+                Part::Row(&[2]),
+                Part::ImageEnd,
+                Part::StreamEnd,
+            ],
+            &[
+                &[Part::Begin(1, 1), Part::Row(&[1]), Part::Stop],
+                &[Part::Begin(1, 0), Part::Stop],
+            ],
+            OUT_OF_ORDER,
+        ),
+    ];
+    for case in cases {
+        ends_so(&rt, rt.alloc(), case)?;
+    }
+    Ok(())
+}
+
+/// Where nobody takes what the first lane is sent, the last one, or one in the middle, the others are sent Stop.
+#[test]
+fn stops_the_other_lanes_where_one_is_gone(rt: HostRuntime) -> Result<(), Fail> {
+    let cases: [(usize, &[Part<'_>], &[Part<'_>]); 3] = [
+        (
+            0,
+            &[Part::Begin(1, 1), Part::Stop],
+            &[Part::Begin(1, 1), Part::Stop],
+        ),
+        (
+            1,
+            &[Part::Begin(1, 1), Part::Row(&[1]), Part::Stop],
+            &[Part::Begin(1, 1), Part::Stop],
+        ),
+        (
+            2,
+            &[Part::Begin(1, 1), Part::Row(&[1]), Part::Stop],
+            &[Part::Begin(1, 1), Part::Row(&[2]), Part::Stop],
+        ),
+    ];
+    for (gone, before, after) in cases {
+        let (mut producer, input) = ring(rt.alloc(), 8)?;
+        let (mut outputs, mut consumers) = rings(rt.alloc(), 2, 8)?;
+        // This ring has room for the head alone.
+        let (output, consumer) = ring(rt.alloc(), 1)?;
+        drop(consumer);
+        outputs.insert(gone, output)?;
+        send_all(rt.alloc(), &mut producer, THREE_ROWS)?;
+        let mut done = dealt(&rt, rt.alloc(), input, outputs);
+        is_end(&rt, done.end, StageEnd::PeerGone, "nobody takes");
+        holds(&rt, &mut done.input, &[], "drained");
+        for (consumer, sent) in consumers.iter_mut().zip([before, after]) {
+            holds(&rt, consumer, sent, "another lane");
+        }
+    }
+    Ok(())
+}
+
+/// Where nothing more can come, each lane is sent Stop after what came.
+#[test]
+fn stops_the_lanes_where_the_input_is_gone(rt: HostRuntime) -> Result<(), Fail> {
+    let cases: [(usize, &[Part<'_>], &[Part<'_>]); 4] = [
+        (0, &[Part::Stop], &[Part::Stop]),
+        (
+            1,
+            &[Part::Begin(1, 1), Part::Stop],
+            &[Part::Begin(1, 1), Part::Stop],
+        ),
+        (
+            2,
+            &[Part::Begin(1, 1), Part::Row(&[1]), Part::Stop],
+            &[Part::Begin(1, 1), Part::Stop],
+        ),
+        (
+            4,
+            &[
+                Part::Begin(1, 1),
+                Part::Row(&[1]),
+                Part::ImageEnd,
+                Part::Stop,
+            ],
+            &[
+                Part::Begin(1, 1),
+                Part::Row(&[2]),
+                Part::ImageEnd,
+                Part::Stop,
+            ],
+        ),
+    ];
+    for (count, first, second) in cases {
+        let (mut producer, input) = ring(rt.alloc(), 8)?;
+        let (outputs, mut consumers) = rings(rt.alloc(), 2, 8)?;
+        send_all(rt.alloc(), &mut producer, &TWO_ROWS[..count])?;
+        drop(producer);
+        let done = dealt(&rt, rt.alloc(), input, outputs);
+        is_end(&rt, done.end, StageEnd::PeerGone, "nothing can come");
+        for (consumer, sent) in consumers.iter_mut().zip([first, second]) {
+            holds(&rt, consumer, sent, "what came, and Stop");
+        }
+    }
+    Ok(())
+}
+
+/// How many of so many rows go to the lane.
+fn rows_of(height: u32, lane: usize, lanes: usize) -> u32 {
+    let mut count: u32 = 0;
+    for y in 0..height as usize {
+        if lanes != 0 && y % lanes == lane {
+            count = count.saturating_add(1);
+        }
+    }
+    count
+}
+
+/// Whether each lane gets this next.
+fn each_gets(lanes: &mut [Input], part: Part<'_>) -> bool {
+    for lane in lanes.iter_mut() {
+        if !comes(lane, part) {
+            return false;
+        }
+    }
+    true
+}
+
+/// Sends an image of this height, each message only once its parts have come to the lanes.
+fn one_by_one(
+    alloc: Global,
+    producer: &mut Output,
+    lanes: &mut [Input],
+    height: u32,
+) -> Result<bool, Unmade> {
+    let count = lanes.len();
+    let mut is_right = sends(alloc, producer, Part::Begin(1, height))?;
+    for (lane, input) in lanes.iter_mut().enumerate() {
+        is_right = is_right && comes(input, Part::Begin(1, rows_of(height, lane, count)));
+    }
+    for y in 0..height as u16 {
+        is_right = is_right && count != 0 && sends(alloc, producer, Part::Row(&[y]))?;
+        is_right = is_right && comes(&mut lanes[y as usize % count], Part::Row(&[y]));
+    }
+    for part in [Part::ImageEnd, Part::StreamEnd] {
+        is_right = is_right && sends(alloc, producer, part)? && each_gets(lanes, part);
+    }
+    Ok(is_right)
+}
+
+/// 1 to 8 lanes, and heights 0 to 9: each message is dealt before the next one is there, over rings of capacity 1.
+#[test]
+fn deals_each_message_at_once(rt: HostRuntime) -> Result<(), Fail> {
+    let alloc = rt.alloc();
+    for count in 1..9 {
+        for height in 0..10 {
+            let (mut producer, input) = ring(alloc, 1)?;
+            let (outputs, mut lanes) = rings(alloc, count, 1)?;
+            let here = &rt;
+            let both = thread::join(
+                &rt,
+                move || dealt(here, alloc, input, outputs).end == StageEnd::Well,
+                move || one_by_one(alloc, &mut producer, &mut lanes, height).unwrap_or(false),
+            );
+            assert!(&rt; both.0 && both.1, "{count} lanes, height {height}");
+        }
+    }
+    Ok(())
+}
