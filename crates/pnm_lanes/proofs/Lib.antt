@@ -4,3 +4,14 @@ pub mod DealtLaws
 pub mod SendSteps
 pub mod DealSteps
 pub mod BreakSteps
+pub mod HeightSums
+pub mod PartLaws
+pub mod LaneLists
+pub mod TakingSteps
+pub mod TakenParts
+pub mod EachSteps
+pub mod RowSteps
+pub mod DealtParts
+pub mod DrainSteps
+pub mod GatherSteps
+pub mod GatherEnds

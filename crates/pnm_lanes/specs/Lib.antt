@@ -1,3 +1,5 @@
 pub mod Limits
 pub mod Deals
 pub mod DealParts
+pub mod Gathers
+pub mod GatherParts

@@ -1,11 +1,17 @@
 //! Lanes: the rows of each image are dealt to several threads, and the rows that these make are gathered.
 #![tactic(auto)]
 
+mod agreement;
 mod dealing;
+mod drain;
+mod gathering;
 mod heights;
+mod lane;
 pub mod laws;
 mod limits;
+mod next;
 
 pub use dealing::{DealBells, DealDone, deal, deal_by};
+pub use gathering::{GatherBells, GatherDone, gather, gather_by};
 pub use heights::dealt_height;
 pub use limits::MAX_LANES;

@@ -1,0 +1,11 @@
+use Rattle.std.proofs.Common.{◌≡◌, length}
+use Rattle.rtrb.specs.Ring.{received, known_items}
+use Rattle.pnm_lanes.specs.Gathers.{at_lane, AreSameInputs}
+use Rattle.pnm_lanes.specs.GatherParts.{CarriesOn}
+use Rattle.pnm_lanes.proofs.drain.drain_all.Given as goal
+
+-- messages were taken of lanes that hadn't ended
+abbrev pub invariant-loop : goal.invariant-loop
+invariant-loop g l =
+    AreSameInputs l.fn.inputs l.inputs
+    × CarriesOn (length l.fn.inputs) l.fn.states l.states (at_lane received l.fn.inputs) (at_lane received l.inputs) (at_lane known_items l.fn.inputs) (at_lane known_items l.inputs)

@@ -1,0 +1,96 @@
+//! Whether the messages that the lanes give for one message of the whole stream agree, and which message that is.
+
+ghost use Rattle.std.specs.Prelude.{◌≡◌, ◌↔◌, ℕ, ◌≤◌, ◌<◌, length, slice_index, All, IsTrue, IfSome, IfNone, sum};
+ghost use Rattle.pnm_image.specs.Limits.{max_side};
+ghost use Rattle.pnm_tools.specs.Dealing.{dealt_height};
+ghost use Rattle.pnm_image.specs.Heads.{with_height};
+ghost use Rattle.pnm_lanes.specs.GatherParts.{height_in, AreAlike, IsTogether, AreNotTogether, AreDealtHeights};
+
+use crate::heights::dealt_height;
+use crate::limits::MAX_LANES;
+use pnm_image::limits::MAX_SIDE;
+use pnm_image::{Head, Message, Shape};
+
+/// The height of the image that the message begins; 0 where it begins none.
+pub fn height_of(message: &Message) -> u32
+    ensures height { result ≡ height_in message.now }
+    ensures within { result ≤ max_side }
+{
+    match message {
+        Message::Begin(head) => head.shape().height,
+        _ => 0,
+    }
+}
+
+/// Whether the two messages are those of two lanes for one message of the whole stream: heads that may differ in the
+/// height alone, or twice the end of an image or of the stream.
+pub fn are_alike(first: &Message, other: &Message) -> bool
+    ensures { IsTrue result ↔ AreAlike first.now other.now }
+{
+    match (first, other) {
+        (Message::Begin(first), Message::Begin(other)) => are_heads_alike(first, other),
+        (Message::ImageEnd, Message::ImageEnd) | (Message::StreamEnd, Message::StreamEnd) => true,
+        _ => false,
+    }
+}
+
+/// Whether the two heads may differ in the height alone.
+fn are_heads_alike(first: &Head, other: &Head) -> bool
+    ensures { IsTrue result ↔ (other.now ≡ with_height first.now other.now.shape.height) }
+{
+    let height = other.shape().height;
+    other.shape()
+        == Shape {
+            height,
+            ..first.shape()
+        }
+        && other.tuple_type() == first.tuple_type()
+}
+
+/// The height of an image, of which the lanes have these heights; none where there is no such height within the limits.
+pub fn whole_height(heights: &[u32]) -> Option<u32>
+    requires some { 1 ≤ length heights.now }
+    requires few { length heights.now ≤ MAX_LANES }
+    ensures found { IfSome result (λ height. (height ≤ max_side) × AreDealtHeights heights.now height) }
+    ensures none { IfNone result ((height : ℕ) → height ≤ max_side → AreDealtHeights heights.now height → ⊥) }
+{
+    let height = sum_of(heights)?;
+    for (lane, part) in heights.iter().enumerate() {
+        if *part != dealt_height(height, lane as u32, heights.len() as u32) {
+            return None;
+        }
+    }
+    Some(height)
+}
+
+/// The sum of the heights, where it is within the limits.
+fn sum_of(heights: &[u32]) -> Option<u32>
+    requires { length heights.now ≤ MAX_LANES }
+    ensures found { IfSome result (λ height. (height ≤ max_side) × (height ≡ sum heights.now)) }
+    ensures none { IfNone result (max_side < sum heights.now) }
+{
+    let mut sum: u64 = 0;
+    for height in heights {
+        sum += u64::from(*height);
+    }
+    if sum > u64::from(MAX_SIDE) {
+        return None;
+    }
+    Some(sum as u32)
+}
+
+/// The message of the whole stream, for which the lanes have given messages like this one with these heights.
+pub fn together(first: Message, heights: &[u32]) -> Option<Message>
+    requires some { 1 ≤ length heights.now }
+    requires few { length heights.now ≤ MAX_LANES }
+    ensures found { IfSome result (λ m. IsTogether first heights.now m) }
+    ensures none { IfNone result (AreNotTogether first heights.now) }
+{
+    match first {
+        Message::Begin(head) => {
+            let height = whole_height(heights)?;
+            Some(Message::Begin(head.with_height(height)))
+        }
+        other => Some(other),
+    }
+}

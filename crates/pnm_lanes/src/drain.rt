@@ -1,0 +1,129 @@
+//! What is done with lanes whose messages are no longer wanted: they are taken and dropped, from whichever lane has some.
+
+ghost use Rattle.std.specs.Prelude.{◌≡◌, ◌≢◌, ℕ, ◌<◌, ◌≤◌, length, IfSome, IfNone, IsTrue};
+ghost use Rattle.rtrb.specs.Ring.{received, known_items, SameConsumer};
+ghost use Rattle.pnm_image.specs.Messages.{IsMessage};
+ghost use Rattle.pnm_lanes.specs.Gathers.{at_lane, AreSameInputs};
+ghost use Rattle.pnm_lanes.specs.GatherParts.{HasDrainedOne, CarriesOn, HasDrainedAll, AreDone, ending_state};
+
+use crate::lane::{LaneBells, LaneState};
+use pnm_image::Message;
+use pnm_rings::{Bell, Ending, Input, Patience};
+use std::sync::Wait;
+
+/// Takes and drops what comes from the lanes that haven't ended, each through the end of its stream or Stop. It tries them in
+/// turn, and waits for none of them alone. False where a lane's other end was seen dropped before.
+pub fn drain_all<R: Wait>(
+    rt: &R,
+    inputs: &mut [Input],
+    states: &mut [LaneState],
+    bells: LaneBells<'_>,
+) -> bool
+    requires some { 1 ≤ length inputs.old }
+    requires states { length inputs.old ≡ length states.old }
+    ensures inputs { AreSameInputs inputs.old inputs.new }
+    ensures drained { HasDrainedAll (length inputs.old) result states.old states.new (at_lane received inputs.old)
+        (at_lane received inputs.new) (at_lane known_items inputs.old) (at_lane known_items inputs.new) }
+{
+    let mut patience = Patience::new();
+    for _ in rt.forever() {
+        let has_moved = drain_round(inputs, states, bells);
+        if let Some(have_ended) = outcome(states) {
+            return have_ended;
+        }
+        if has_moved {
+            patience = Patience::new();
+        } else {
+            patience.wait(rt, bells.own, bells.of(inputs.len() - 1));
+        }
+    }
+    unreachable!()
+}
+
+/// Tries each lane that hasn't ended once; whether one had a message, or was seen to have lost its other end.
+fn drain_round(inputs: &mut [Input], states: &mut [LaneState], bells: LaneBells<'_>) -> bool
+    requires { length inputs.old ≡ length states.old }
+    ensures inputs { AreSameInputs inputs.old inputs.new }
+    ensures carried { CarriesOn (length inputs.old) states.old states.new (at_lane received inputs.old)
+        (at_lane received inputs.new) (at_lane known_items inputs.old) (at_lane known_items inputs.new) }
+{
+    let mut has_moved = false;
+    for lane in 0..inputs.len() {
+        has_moved = drain_lane(inputs, states, lane, bells) || has_moved;
+    }
+    has_moved
+}
+
+/// Tries a lane once, unless it has ended; whether it had a message, or was seen to have lost its other end.
+fn drain_lane(
+    inputs: &mut [Input],
+    states: &mut [LaneState],
+    lane: usize,
+    bells: LaneBells<'_>,
+) -> bool
+    requires lane { lane < length inputs.old }
+    requires states { length inputs.old ≡ length states.old }
+    ensures inputs { AreSameInputs inputs.old inputs.new }
+    ensures carried { CarriesOn (length inputs.old) states.old states.new (at_lane received inputs.old)
+        (at_lane received inputs.new) (at_lane known_items inputs.old) (at_lane known_items inputs.new) }
+{
+    if states[lane] != LaneState::Open {
+        return false;
+    }
+    match drain_one(&mut inputs[lane], bells.of(lane)) {
+        Some(state) => {
+            states[lane] = state;
+            true
+        }
+        None => false,
+    }
+}
+
+/// Takes and drops the next message, where there is one; the lane's state then, or `Gone` where the ring is empty and its
+/// other end was seen dropped.
+fn drain_one(input: &mut Input, other: &Bell) -> Option<LaneState>
+    ensures ring { SameConsumer input.old input.new }
+    ensures drained { HasDrainedOne result (received input.old) (received input.new) (known_items input.new) }
+{
+    if let Ok(message) = input.pop() {
+        other.ring();
+        return Some(state_after(&message));
+    }
+    if !input.is_abandoned() {
+        return None;
+    }
+    // What was pushed before the end was dropped is still there.
+    match input.pop() {
+        Ok(message) => Some(state_after(&message)),
+        Err(_) => Some(LaneState::Gone),
+    }
+}
+
+/// The state of a lane after its message.
+fn state_after(message: &Message) -> LaneState
+    ensures state { result ≡ ending_state message.now }
+    ensures message { IsMessage message.now }
+{
+    if let Message::Begin(head) = message {
+        let _ = head.shape();
+    }
+    match Ending::of(message) {
+        Ending::More => LaneState::Open,
+        Ending::Whole | Ending::BrokenOff => LaneState::Ended,
+    }
+}
+
+/// Once no lane is open any more: whether all have ended.
+fn outcome(states: &[LaneState]) -> Option<bool>
+    ensures done { IfSome result (λ ended. AreDone ended states.now) }
+{
+    let mut have_ended = true;
+    for state in states {
+        match state {
+            LaneState::Open => return None,
+            LaneState::Ended => {}
+            LaneState::Gone => have_ended = false,
+        }
+    }
+    Some(have_ended)
+}

@@ -1,0 +1,159 @@
+//! Gathering: the messages of lanes put together again, as those of the images whose rows were dealt to the lanes.
+
+ghost use Rattle.std.specs.Prelude.{◌≡◌, ◌≤◌, length};
+ghost use Rattle.rtrb.specs.Ring.{sent, received, known_items, SameProducer};
+ghost use Rattle.pnm_lanes.specs.Limits.{IsLaneCount};
+ghost use Rattle.pnm_lanes.specs.Gathers.{at_lane, AreSameInputs, HasGathered};
+ghost use Rattle.pnm_lanes.specs.GatherParts.{HasBrokenOffAll};
+
+use crate::drain::drain_all;
+use crate::lane::{LaneBells, LaneState};
+use crate::limits::MAX_LANES;
+use crate::next::take_next;
+use pnm_image::{Message, Place};
+use pnm_rings::{Bell, Ending, Input, Output, StageEnd, give};
+use std::sync::Wait;
+
+/// The ring ends of a gatherer that has ended, and how it did.
+#[derive(Drop)]
+pub struct GatherDone {
+    /// The ends that it received on, one for each lane.
+    pub inputs: Vec<Input>,
+    /// The end that it sent on.
+    pub output: Output,
+    /// How it has ended.
+    pub end: StageEnd,
+}
+
+/// The bells of a gatherer and of its neighbours.
+#[derive(Clone, Copy)]
+pub struct GatherBells<'a> {
+    /// Those of the lanes, from the first on; a lane beyond them has none.
+    pub lanes: &'a [Bell],
+    pub own: &'a Bell,
+    pub right: &'a Bell,
+}
+
+/// Puts together what comes on `inputs`, one for each lane, and sends it on `output`: row y comes from lane y mod the number
+/// of lanes, and a head is that of each lane with the height of all. It ends `Well` with the end of the stream, which each
+/// lane gives; `Broken` where a lane gives Stop; and by `Fault(OutOfOrder)` where the lanes don't agree, or a message is
+/// out of place. After these two Stop is sent, and all lanes are drained, tried in turn and none waited for alone. Where
+/// the other end of a ring was seen dropped it ends by `PeerGone`, and has sent Stop, where there is someone to take it, and
+/// drained the lanes. No memory is taken.
+pub fn gather<R: Wait>(rt: &R, inputs: Vec<Input>, output: Output) -> GatherDone
+    requires { IsLaneCount (length inputs.items) }
+    ensures inputs { AreSameInputs inputs.items result.inputs.items }
+    ensures output { SameProducer output result.output }
+    ensures gathered { HasGathered result.end (length inputs.items) (at_lane received inputs.items)
+        (at_lane received result.inputs.items) (at_lane known_items result.inputs.items) (sent output) (sent result.output) }
+{
+    let nobody = Bell::of_nobody();
+    let own = Bell::new();
+    let bells = GatherBells {
+        lanes: &[],
+        own: &own,
+        right: &nobody,
+    };
+    gather_by(rt, inputs, output, bells)
+}
+
+/// The same, beside neighbours that have bells.
+pub fn gather_by<R: Wait>(
+    rt: &R,
+    inputs: Vec<Input>,
+    output: Output,
+    bells: GatherBells<'_>,
+) -> GatherDone
+    requires { IsLaneCount (length inputs.items) }
+    ensures inputs { AreSameInputs inputs.items result.inputs.items }
+    ensures output { SameProducer output result.output }
+    ensures gathered { HasGathered result.end (length inputs.items) (at_lane received inputs.items)
+        (at_lane received result.inputs.items) (at_lane known_items result.inputs.items) (sent output) (sent result.output) }
+{
+    let mut inputs = inputs;
+    let mut output = output;
+    let nobody = Bell::of_nobody();
+    let lane_bells = LaneBells {
+        lanes: bells.lanes,
+        nobody: &nobody,
+        own: bells.own,
+    };
+    let end = gather_all(
+        rt,
+        inputs.as_mut_slice(),
+        &mut output,
+        lane_bells,
+        bells.right,
+    );
+    GatherDone {
+        inputs,
+        output,
+        end,
+    }
+}
+
+/// Puts all messages together, through the end of the stream.
+fn gather_all<R: Wait>(
+    rt: &R,
+    inputs: &mut [Input],
+    output: &mut Output,
+    bells: LaneBells<'_>,
+    right: &Bell,
+) -> StageEnd
+    requires some { 1 ≤ length inputs.old }
+    requires few { length inputs.old ≤ MAX_LANES }
+    ensures inputs { AreSameInputs inputs.old inputs.new }
+    ensures output { SameProducer output.old output.new }
+    ensures gathered { HasGathered result (length inputs.old) (at_lane received inputs.old) (at_lane received inputs.new)
+        (at_lane known_items inputs.new) (sent output.old) (sent output.new) }
+{
+    let mut place = Place::new();
+    for _ in rt.forever() {
+        let mut lanes = [LaneState::Open; MAX_LANES];
+        let states = &mut lanes[..inputs.len()];
+        let message = match take_next(rt, inputs, states, place, bells) {
+            Ok(message) => message,
+            Err(end) => return break_off(rt, end, inputs, states, output, bells, right),
+        };
+        let ending = Ending::of(&message);
+        place.step(&message);
+        if !give(rt, output, message, bells.own, right) {
+            drain_all(rt, inputs, states, bells);
+            return StageEnd::PeerGone;
+        }
+        match ending {
+            Ending::Whole => return StageEnd::Well,
+            // Stop is never the next message.
+            Ending::More | Ending::BrokenOff => {}
+        }
+    }
+    unreachable!()
+}
+
+/// Ends the gatherer so, where there is no next message: sends Stop, and drains the lanes. `PeerGone` where the other end of a
+/// ring was seen dropped before.
+fn break_off<R: Wait>(
+    rt: &R,
+    end: StageEnd,
+    inputs: &mut [Input],
+    states: &mut [LaneState],
+    output: &mut Output,
+    bells: LaneBells<'_>,
+    right: &Bell,
+) -> StageEnd
+    requires some { 1 ≤ length inputs.old }
+    requires states { length inputs.old ≡ length states.old }
+    ensures inputs { AreSameInputs inputs.old inputs.new }
+    ensures output { SameProducer output.old output.new }
+    ensures broken { HasBrokenOffAll end result (length inputs.old) states.old states.new (at_lane received inputs.old)
+        (at_lane received inputs.new) (at_lane known_items inputs.old) (at_lane known_items inputs.new) (sent output.old)
+        (sent output.new) }
+{
+    let told = give(rt, output, Message::Stop, bells.own, right);
+    let drained = drain_all(rt, inputs, states, bells);
+    if told && drained {
+        end
+    } else {
+        StageEnd::PeerGone
+    }
+}

@@ -1,0 +1,72 @@
+//! A lane whose messages are gathered: what is taken of it, and whether it has ended.
+
+ghost use Rattle.std.specs.Prelude.{◌<◌, ◌≤◌, length};
+ghost use Rattle.rtrb.specs.Ring.{received, known_items};
+ghost use Rattle.pnm_lanes.specs.Gathers.{at_lane, AreSameInputs};
+ghost use Rattle.pnm_lanes.specs.GatherParts.{HasTakenFrom};
+
+use pnm_image::Message;
+use pnm_rings::{Bell, Ending, Input, StageEnd, take};
+use std::sync::Wait;
+
+/// What is known of a lane.
+#[derive(Clone, Copy, Debug, PartialEq, Eq)]
+pub enum LaneState {
+    /// It hasn't ended yet.
+    Open,
+    /// The end of its stream, or Stop, was taken.
+    Ended,
+    /// Its other end was seen dropped before, and nothing is left.
+    Gone,
+}
+
+/// The bells that the gatherer sleeps by and rings while it takes.
+#[derive(Clone, Copy)]
+pub struct LaneBells<'a> {
+    /// Those of the lanes, from the first on; the others have none.
+    pub lanes: &'a [Bell],
+    pub nobody: &'a Bell,
+    pub own: &'a Bell,
+}
+
+impl<'a> LaneBells<'a> {
+    /// The bell of a lane.
+    pub fn of(&self, lane: usize) -> &'a Bell {
+        match self.lanes.get(lane) {
+            Some(bell) => bell,
+            None => self.nobody,
+        }
+    }
+}
+
+/// The next message of a lane that hasn't ended. `Broken` where it is Stop; `PeerGone` once the lane's ring is empty and its
+/// other end was seen dropped.
+pub fn take_from<R: Wait>(
+    rt: &R,
+    inputs: &mut [Input],
+    states: &mut [LaneState],
+    lane: usize,
+    bells: LaneBells<'_>,
+) -> Result<Message, StageEnd>
+    requires lane { lane < length inputs.old }
+    requires states { length inputs.old ≤ length states.old }
+    ensures inputs { AreSameInputs inputs.old inputs.new }
+    ensures taken { HasTakenFrom lane result states.old states.new (at_lane received inputs.old)
+        (at_lane received inputs.new) }
+{
+    let Some(message) = take(rt, &mut inputs[lane], bells.own, bells.of(lane)) else {
+        return Err(StageEnd::PeerGone);
+    };
+    let ending = Ending::of(&message);
+    match ending {
+        Ending::More => Ok(message),
+        Ending::Whole => {
+            states[lane] = LaneState::Ended;
+            Ok(message)
+        }
+        Ending::BrokenOff => {
+            states[lane] = LaneState::Ended;
+            Err(StageEnd::Broken)
+        }
+    }
+}

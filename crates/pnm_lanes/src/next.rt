@@ -1,0 +1,100 @@
+//! The next message of the whole stream, taken of the lanes: a row of one lane, or a message of each.
+
+ghost use Rattle.std.specs.Prelude.{◌≡◌, ℕ, ◌<◌, ◌≤◌, length, slice_index_or};
+ghost use Rattle.rtrb.specs.Ring.{received};
+ghost use Rattle.pnm_lanes.specs.Gathers.{at_lane, AreSameInputs};
+ghost use Rattle.pnm_lanes.specs.GatherParts.{AreOpen, AwaitsNoRow, HasTakenNext};
+
+use crate::agreement::{are_alike, height_of, together};
+use crate::lane::{LaneBells, LaneState, take_from};
+use crate::limits::MAX_LANES;
+use pnm_image::{Message, Place, Shape};
+use pnm_rings::{Input, StageEnd};
+use pnm_tools::ToolFault;
+use std::sync::Wait;
+
+/// The lanes don't agree, or a message is out of place.
+const OUT_OF_ORDER: StageEnd = StageEnd::Fault(ToolFault::OutOfOrder);
+
+/// The next message of the whole stream. `Broken` where a lane gives Stop; `Fault` where the lanes don't agree on it, or it
+/// is out of place; `PeerGone` where a lane's other end was seen dropped before.
+pub fn take_next<R: Wait>(
+    rt: &R,
+    inputs: &mut [Input],
+    states: &mut [LaneState],
+    place: Place,
+    bells: LaneBells<'_>,
+) -> Result<Message, StageEnd>
+    requires some { 1 ≤ length inputs.old }
+    requires few { length inputs.old ≤ MAX_LANES }
+    requires states { length inputs.old ≤ length states.old }
+    requires all_open { AreOpen states.old }
+    ensures inputs { AreSameInputs inputs.old inputs.new }
+    ensures taken { HasTakenNext (length inputs.old) place result states.new (at_lane received inputs.old)
+        (at_lane received inputs.new) }
+{
+    match place {
+        Place::Inside(shape, y) if y < shape.height => {
+            take_row(rt, inputs, states, shape, y, bells)
+        }
+        _ => take_of_each(rt, inputs, states, place, bells),
+    }
+}
+
+/// The row of this number, of an image of this shape that has more rows: its lane's next message.
+fn take_row<R: Wait>(
+    rt: &R,
+    inputs: &mut [Input],
+    states: &mut [LaneState],
+    shape: Shape,
+    y: u32,
+    bells: LaneBells<'_>,
+) -> Result<Message, StageEnd>
+    requires some { 1 ≤ length inputs.old }
+    requires states { length inputs.old ≤ length states.old }
+    requires all_open { AreOpen states.old }
+    requires below { y < shape.height }
+    ensures inputs { AreSameInputs inputs.old inputs.new }
+    ensures taken { HasTakenNext (length inputs.old) (Place.Inside shape y) result states.new (at_lane received inputs.old)
+        (at_lane received inputs.new) }
+{
+    let lane = y as usize % inputs.len();
+    let message = take_from(rt, inputs, states, lane, bells)?;
+    if !Place::Inside(shape, y).accepts(&message) {
+        return Err(OUT_OF_ORDER);
+    }
+    Ok(message)
+}
+
+/// The next message at a place where none is a row: one of each lane, put together.
+fn take_of_each<R: Wait>(
+    rt: &R,
+    inputs: &mut [Input],
+    states: &mut [LaneState],
+    place: Place,
+    bells: LaneBells<'_>,
+) -> Result<Message, StageEnd>
+    requires some { 1 ≤ length inputs.old }
+    requires few { length inputs.old ≤ MAX_LANES }
+    requires states { length inputs.old ≤ length states.old }
+    requires all_open { AreOpen states.old }
+    requires no_row { AwaitsNoRow place }
+    ensures inputs { AreSameInputs inputs.old inputs.new }
+    ensures taken { HasTakenNext (length inputs.old) place result states.new (at_lane received inputs.old)
+        (at_lane received inputs.new) }
+{
+    let first = take_from(rt, inputs, states, 0, bells)?;
+    if !place.accepts(&first) {
+        return Err(OUT_OF_ORDER);
+    }
+    let mut heights = [0; MAX_LANES];
+    heights[0] = height_of(&first);
+    for lane in 1..inputs.len() {
+        let message = take_from(rt, inputs, states, lane, bells)?;
+        if !are_alike(&first, &message) {
+            return Err(OUT_OF_ORDER);
+        }
+        heights[lane] = height_of(&message);
+    }
+    together(first, &heights[..inputs.len()]).ok_or(OUT_OF_ORDER)
+}
