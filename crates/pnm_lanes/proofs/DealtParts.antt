@@ -1,5 +1,5 @@
 -- What lanes get of messages that go on, and of the messages of images.
-use Rattle.std.proofs.Common.{◌≡◌, ◌≢◌, ◌⊎◌, inl, inr, ℕ, ◌<◌, ◌==◌, Bool, true, false, List, [], ◌∷◌, ◌++◌, map, refl, sym, ap, subst, ◌∙◌, append_assoc, append-nil, length, length-append, arith}
+use Rattle.std.proofs.Common.{◌≡◌, ◌≢◌, ◌⊎◌, inl, inr, ℕ, ◌==◌, Bool, true, false, List, [], ◌∷◌, ◌++◌, map, refl, sym, ap, ◌∙◌, length, length-append, arith}
 use Rattle.std.specs.Prelude.{if◌then◌else◌, ◌%◌}
 use Rattle.std.specs.List.{AllByRecursion}
 use Rattle.pnm_image.specs.declared.message.Message.{Message}
@@ -11,8 +11,8 @@ use Rattle.pnm_image.proofs.Lists.{same_first, same_rest}
 use Rattle.pnm_image.specs.Images.{Image, AreImages, rows_of, messages_of_stream}
 use Rattle.pnm_image.specs.Messages.{IsMessage, without_stop}
 use Rattle.pnm_image.specs.Places.{IsLawfulFrom, place_after, place_of}
-use Rattle.pnm_tools.specs.Answers.{Ending, More, Whole, BrokenOff, ending_of, EndsBy}
-use Rattle.pnm_tools.specs.Dealing.{dealt_head, dealt_row, dealt_message, dealt_from}
+use Rattle.pnm_tools.specs.Answers.{More, Whole, ending_of, EndsBy}
+use Rattle.pnm_tools.specs.Dealing.{dealt_head, dealt_message, dealt_from}
 use Rattle.pnm_tools.proofs.DealingLaws.{dealt_head_is_head}
 use Rattle.pnm_tools.proofs.InFullLaws.{EndNothing}
 use Rattle.pnm_rings.proofs.RingSteps.{ends_nothing}

@@ -1,6 +1,5 @@
 -- Lanes that are drained, message by message.
-use Rattle.std.proofs.Common.{◌≡◌, ◌≢◌, inl, inr, ℕ, ◌<◌, List, [], ◌∷◌, ◌++◌, length, get_or, set, Option, Some, None, refl, sym, ap, subst, ◌∙◌, append-nil, append_assoc, arith}
-use Rattle.std.specs.List.{AllByRecursion}
+use Rattle.std.proofs.Common.{◌≡◌, ◌≢◌, inl, inr, ℕ, ◌<◌, List, [], ◌++◌, length, get_or, set, Option, Some, None, refl, sym, ap, subst, ◌∙◌, append-nil, append_assoc, arith}
 use Rattle.std.proofs.lemmas.List.{get_or-set_same, get_or-set_other}
 use Rattle.rtrb.specs.declared.consumer.Consumer.{Consumer}
 use Rattle.rtrb.specs.Ring.{received, known_items}
@@ -14,7 +13,7 @@ use Rattle.pnm_rings.proofs.RingSteps.{ends_nothing}
 use Rattle.pnm_lanes.specs.declared.lane.LaneState.{LaneState}
 use Rattle.pnm_lanes.specs.declared.lane.LaneState.TheVariants.{Open, Ended, Gone}
 use Rattle.pnm_lanes.specs.Gathers.{at_lane, AreSameInputs}
-use Rattle.pnm_lanes.specs.GatherParts.{state_at, IsLeftBy, HasDrainedOne, IsLane, AreLanes, CarriesOn}
+use Rattle.pnm_lanes.specs.GatherParts.{state_at, HasDrainedOne, IsLane, CarriesOn}
 use Rattle.pnm_lanes.proofs.DealtParts.{all_of_both}
 use Rattle.pnm_lanes.proofs.LaneLists.{at_lane-get, at_lane-set, at_lane-others, same_inputs, as_many}
 use Rattle.pnm_lanes.proofs.TakenParts.{by_lane}

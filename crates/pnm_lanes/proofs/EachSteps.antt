@@ -1,6 +1,6 @@
 -- A message of each lane, and the message of the whole stream that they are.
 use Rattle.std.proofs.Common.{◌≡◌, ◌≢◌, inl, inr, ℕ, zero, suc, ◌+◌, ◌<◌, ◌≤◌, List, [], ◌∷◌, ◌++◌, length, get_or, set, take, refl, sym, ap, subst, ◌∙◌, arith, le_refl, Err, Option, Some, None}
-use Rattle.std.specs.Prelude.{nat_lt, if◌then◌else◌, Bool, true, false}
+use Rattle.std.specs.Prelude.{nat_lt, if◌then◌else◌}
 use Rattle.std.specs.List.{AllByRecursion}
 use Rattle.std.specs.Option.{IfSome, IfNone, ok_or}
 use Rattle.std.proofs.lemmas.Bool.{cases_eq, cases_lt}
@@ -21,9 +21,9 @@ use Rattle.pnm_rings.specs.declared.stage_end.StageEnd.{StageEnd}
 use Rattle.pnm_rings.specs.declared.stage_end.StageEnd.TheVariants.{Fault}
 use Rattle.pnm_lanes.specs.declared.lane.LaneState.{LaneState}
 use Rattle.pnm_lanes.specs.declared.lane.LaneState.TheVariants.{Open}
-use Rattle.pnm_lanes.specs.GatherParts.{IsOfStream, HasGiven, HasTakenFrom, states_after, state_at, AreOpen, AwaitsNoRow, HasTakenParts, HasTakenWhole, HasTakenNone, HasTakenNext, BeginsNone, IsTogether, AreNotTogether, AreDealtHeights, AreAlike, height_in}
+use Rattle.pnm_lanes.specs.GatherParts.{IsOfStream, HasGiven, HasTakenFrom, state_at, AreOpen, AwaitsNoRow, HasTakenParts, HasTakenWhole, HasTakenNone, HasTakenNext, BeginsNone, IsTogether, AreNotTogether, AreDealtHeights, AreAlike, height_in}
 use Rattle.pnm_lanes.proofs.PartLaws.{begins_so, no_front, same_begin}
-use Rattle.pnm_lanes.proofs.TakenParts.{one_more_of, more_here, more_there, one_of_stream, message_of_stream, state_stays, by_lane, none_taken, taken_more, taken_same, taken_none}
+use Rattle.pnm_lanes.proofs.TakenParts.{one_more_of, more_here, more_there, one_of_stream, message_of_stream, state_stays, none_taken, taken_more, taken_same, taken_none}
 
 -- ---- what a lane gets of a message that is no row
 

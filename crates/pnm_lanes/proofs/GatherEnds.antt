@@ -1,10 +1,10 @@
 -- How a gatherer ends.
-use Rattle.std.proofs.Common.{◌≡◌, ◌≢◌, ◌⊎◌, inl, inr, ℕ, ◌<◌, ◌≤◌, Bool, true, false, List, [], ◌∷◌, ◌++◌, length, drop, refl, sym, ap, subst, ◌∙◌, append_assoc, append-nil}
+use Rattle.std.proofs.Common.{◌≡◌, ◌⊎◌, inl, inr, ℕ, ◌<◌, Bool, true, false, List, [], ◌∷◌, ◌++◌, length, drop, refl, sym, ap, subst, ◌∙◌, append_assoc, append-nil}
 use Rattle.std.specs.List.{AllByRecursion}
 use Rattle.std.proofs.lemmas.Bool.{false≢true}
 use Rattle.std.proofs.lemmas.List.{drop_at}
 use Rattle.pnm_image.specs.declared.message.Message.{Message}
-use Rattle.pnm_image.specs.declared.message.Message.TheVariants.{Begin, Row, ImageEnd, StreamEnd, Stop}
+use Rattle.pnm_image.specs.declared.message.Message.TheVariants.{Stop}
 use Rattle.pnm_image.specs.declared.place.Place.{Place}
 use Rattle.pnm_image.specs.declared.place.Place.TheVariants.{Between}
 use Rattle.pnm_image.specs.Completion.{IsFrontOf}
@@ -13,11 +13,9 @@ use Rattle.pnm_image.specs.Messages.{IsMessage, without_stop}
 use Rattle.pnm_image.specs.Places.{IsLawful, IsLawfulFrom, place_of}
 use Rattle.pnm_image.proofs.Lists.{each-push}
 use Rattle.pnm_image.proofs.Streams.{stream_is_lawful}
-use Rattle.pnm_tools.specs.declared.fault.ToolFault.{ToolFault}
-use Rattle.pnm_tools.specs.Answers.{Ending, More, Whole, BrokenOff, ending_of, EndsBy}
+use Rattle.pnm_tools.specs.Answers.{More, Whole, BrokenOff, ending_of, EndsBy}
 use Rattle.pnm_tools.specs.Dealing.{dealt, dealt_message, dealt_from}
 use Rattle.pnm_tools.proofs.FullLaws.{front_of_front}
-use Rattle.pnm_tools.proofs.SoundLaws.{unbroken_keeps_all}
 use Rattle.pnm_rings.specs.declared.stage_end.StageEnd.{StageEnd}
 use Rattle.pnm_rings.specs.declared.stage_end.StageEnd.TheVariants.{Well, Broken, Fault, PeerGone}
 use Rattle.pnm_rings.specs.Rings.{Extends, IsEnded, EndsAtMostOnce}
@@ -26,8 +24,8 @@ use Rattle.pnm_rings.proofs.FrontLaws.{stop_is_cut, front_without_stop}
 use Rattle.pnm_rings.proofs.RingSteps.{ends_as}
 use Rattle.pnm_lanes.specs.declared.lane.LaneState.{LaneState}
 use Rattle.pnm_lanes.specs.declared.lane.LaneState.TheVariants.{Open, Ended, Gone}
-use Rattle.pnm_lanes.specs.Gathers.{AreDealt, BeginsOrEnds, HasSentAll, HasEndedSo, HasGatheredSo, HasGatheredImages, IsGathered, IsStopped, HasGathered}
-use Rattle.pnm_lanes.specs.GatherParts.{IsOfStream, state_at, HasTakenParts, HasTakenWhole, HasTakenNone, BeginsNone, IsCause, IsLane, AreLanes, CarriesOn, IsDone, HasStopped, HasBrokenOffAll, HasDrainedAll}
+use Rattle.pnm_lanes.specs.Gathers.{AreDealt, BeginsOrEnds, HasSentAll, HasEndedSo, HasGatheredSo, HasGathered}
+use Rattle.pnm_lanes.specs.GatherParts.{IsOfStream, state_at, HasTakenWhole, HasTakenNone, BeginsNone, IsCause, IsLane, AreLanes, CarriesOn, IsDone, HasStopped, HasBrokenOffAll, HasDrainedAll}
 use Rattle.pnm_lanes.proofs.PartLaws.{dealt_from-append, front_cancel, parts_tell_the_whole}
 use Rattle.pnm_lanes.proofs.DealtParts.{all_of_both, all_of_rest, all_messages, stream_keeps_all, lawful_rest, dealt_of_stream, dealt_goes_on, dealt_end, images_of_stream, gets_part, fronts_in_order, last_stays, not_before_stop}
 use Rattle.pnm_lanes.proofs.GatherSteps.{IsGoing, with_one_more, lanes_with_one, lawful_with_one, sent_with_one, lanes_after}

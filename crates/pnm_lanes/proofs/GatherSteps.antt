@@ -1,5 +1,5 @@
 -- Gathering, message by message: what was sent so far is a front of a stream, and each lane has given its part of it.
-use Rattle.std.proofs.Common.{◌≡◌, ◌≢◌, ◌⊎◌, inl, inr, ℕ, ◌<◌, ◌≤◌, List, [], ◌∷◌, ◌++◌, refl, sym, ap, subst, ◌∙◌, append_assoc, append-nil}
+use Rattle.std.proofs.Common.{◌≡◌, ◌⊎◌, inl, inr, ℕ, ◌<◌, List, [], ◌∷◌, ◌++◌, refl, sym, ap, subst, ◌∙◌, append_assoc, append-nil}
 use Rattle.std.specs.List.{AllByRecursion}
 use Rattle.pnm_image.specs.declared.message.Message.{Message}
 use Rattle.pnm_image.specs.declared.message.Message.TheVariants.{Begin, Row, ImageEnd, StreamEnd, Stop}
@@ -9,12 +9,12 @@ use Rattle.pnm_image.specs.Messages.{IsMessage}
 use Rattle.pnm_image.specs.Places.{Accepts, IsLawful, place_after, place_of}
 use Rattle.pnm_image.proofs.Lists.{each-push}
 use Rattle.pnm_image.proofs.Places.{lawful_more, place_of-append}
-use Rattle.pnm_tools.specs.Answers.{Ending, More, Whole, BrokenOff, ending_of, EndsBy}
-use Rattle.pnm_tools.specs.Dealing.{dealt, dealt_message, dealt_from}
+use Rattle.pnm_tools.specs.Answers.{More, BrokenOff, ending_of, EndsBy}
+use Rattle.pnm_tools.specs.Dealing.{dealt, dealt_message}
 use Rattle.pnm_rings.proofs.RingSteps.{ends_as}
 use Rattle.pnm_rings.specs.declared.ending.Ending.{Ending as Answered}
 use Rattle.pnm_rings.specs.declared.ending.Ending.TheVariants.{More as AnsweredMore, BrokenOff as AnsweredBrokenOff}
-use Rattle.pnm_rings.specs.Rings.{ending_by, Extends, IsEnded}
+use Rattle.pnm_rings.specs.Rings.{ending_by}
 use Rattle.pnm_lanes.specs.declared.lane.LaneState.{LaneState}
 use Rattle.pnm_lanes.specs.declared.lane.LaneState.TheVariants.{Open, Ended, Gone}
 use Rattle.pnm_lanes.specs.GatherParts.{IsOfStream, state_at, IsLeftBy, HasTakenParts, HasTakenWhole, IsLane, AreLanes}

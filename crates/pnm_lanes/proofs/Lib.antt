@@ -15,3 +15,13 @@ pub mod DealtParts
 pub mod DrainSteps
 pub mod GatherSteps
 pub mod GatherEnds
+pub mod LaneLaws
+pub mod LaneDue
+pub mod LaneHeads
+pub mod LaneOwed
+pub mod LanesTogether
+pub mod LaneStream
+pub mod LaneStages
+pub mod LaneEnds
+pub mod LaneFaults
+pub mod LaneRuns

@@ -1,5 +1,5 @@
 -- A row of the whole stream, taken of its lane.
-use Rattle.std.proofs.Common.{◌≡◌, ◌≢◌, inl, inr, ℕ, ◌%◌, ◌<◌, ◌≤◌, List, [], ◌∷◌, ◌++◌, length, map, refl, sym, ap, subst, ◌∙◌, arith, Err}
+use Rattle.std.proofs.Common.{◌≡◌, ◌≢◌, ℕ, ◌%◌, ◌<◌, ◌≤◌, List, [], ◌∷◌, ◌++◌, length, map, refl, sym, ap, subst, ◌∙◌, arith, Err}
 use Rattle.std.specs.List.{AllByRecursion}
 use Rattle.std.proofs.lemmas.Bool.Decides.{nat_tests}
 use Rattle.std.proofs.lemmas.Nat.{mod_below}
@@ -14,7 +14,7 @@ use Rattle.pnm_tools.specs.Dealing.{dealt_row, dealt_message, dealt_from}
 use Rattle.pnm_rings.specs.declared.stage_end.StageEnd.{StageEnd}
 use Rattle.pnm_rings.specs.declared.stage_end.StageEnd.TheVariants.{Fault}
 use Rattle.pnm_lanes.specs.declared.lane.LaneState.{LaneState}
-use Rattle.pnm_lanes.specs.GatherParts.{IsOfStream, HasGiven, HasTakenFrom, AreOpen, HasTakenWhole, HasTakenNone, BeginsNone}
+use Rattle.pnm_lanes.specs.GatherParts.{IsOfStream, HasGiven, HasTakenFrom, AreOpen, HasTakenWhole, HasTakenNone}
 use Rattle.pnm_lanes.proofs.PartLaws.{begins_so, no_front, own_message}
 use Rattle.pnm_lanes.proofs.TakenParts.{one_more_of, more_here, more_there, one_of_stream, by_lane, message_of_stream, none_taken, taken_more, taken_same, taken_none}
 

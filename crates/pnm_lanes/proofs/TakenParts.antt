@@ -1,6 +1,6 @@
 -- What was taken of each lane, lane by lane.
-use Rattle.std.proofs.Common.{◌≡◌, ◌≢◌, inl, inr, ℕ, ◌<◌, ◌≤◌, List, [], ◌∷◌, ◌++◌, length, get_or, set, refl, sym, ap, subst, ◌∙◌, append-nil, arith, Err}
-use Rattle.std.specs.Prelude.{◌==◌, if◌then◌else◌, Bool, true, false}
+use Rattle.std.proofs.Common.{◌≡◌, ◌≢◌, inl, inr, ℕ, ◌<◌, ◌≤◌, List, [], ◌∷◌, ◌++◌, length, refl, sym, ap, subst, ◌∙◌, append-nil, arith, Err}
+use Rattle.std.specs.Prelude.{◌==◌, if◌then◌else◌}
 use Rattle.std.specs.List.{AllByRecursion}
 use Rattle.std.proofs.lemmas.Bool.{cases_eq}
 use Rattle.std.proofs.lemmas.Bool.Decides.{nat_tests}
@@ -9,13 +9,12 @@ use Rattle.pnm_image.specs.declared.message.Message.{Message}
 use Rattle.pnm_image.specs.declared.message.Message.TheVariants.{Begin, Row, ImageEnd, StreamEnd, Stop}
 use Rattle.pnm_image.specs.declared.place.Place.{Place}
 use Rattle.pnm_image.specs.Messages.{IsMessage}
-use Rattle.pnm_tools.specs.declared.fault.ToolFault.{ToolFault}
-use Rattle.pnm_tools.specs.Answers.{Ending, More, Whole, BrokenOff, ending_of, EndsBy}
+use Rattle.pnm_tools.specs.Answers.{Ending, More, Whole, BrokenOff, ending_of}
 use Rattle.pnm_rings.specs.declared.stage_end.StageEnd.{StageEnd}
 use Rattle.pnm_rings.specs.declared.stage_end.StageEnd.TheVariants.{Well, Broken, Fault, PeerGone}
 use Rattle.pnm_lanes.specs.declared.lane.LaneState.{LaneState}
-use Rattle.pnm_lanes.specs.declared.lane.LaneState.TheVariants.{Open, Ended, Gone}
-use Rattle.pnm_lanes.specs.GatherParts.{IsOfStream, HasGiven, HasTakenFrom, states_after, state_at, AreOpen, IsLeftBy, HasTakenParts, IsCause, HasTakenNone, HasTakenNext}
+use Rattle.pnm_lanes.specs.declared.lane.LaneState.TheVariants.{Open, Ended}
+use Rattle.pnm_lanes.specs.GatherParts.{IsOfStream, HasGiven, HasTakenFrom, states_after, state_at, AreOpen, IsLeftBy, HasTakenParts, HasTakenNone}
 
 -- ---- one message more of one lane
 

@@ -1,13 +1,13 @@
 -- One message that is taken of a lane.
-use Rattle.std.proofs.Common.{◌≡◌, ◌≢◌, ◌⊎◌, inl, inr, ℕ, zero, suc, ◌<◌, List, [], ◌∷◌, ◌++◌, length, get_or, set, refl, sym, ap, ◌∙◌, arith}
+use Rattle.std.proofs.Common.{◌≡◌, ◌⊎◌, inl, inr, ℕ, zero, suc, ◌<◌, List, [], ◌∷◌, ◌++◌, length, get_or, set, refl, sym, ap, ◌∙◌, arith}
 use Rattle.rtrb.specs.declared.consumer.Consumer.{Consumer}
-use Rattle.rtrb.specs.Ring.{received, known_items, SameConsumer}
+use Rattle.rtrb.specs.Ring.{received}
 use Rattle.pnm_image.specs.declared.message.Message.{Message}
 use Rattle.pnm_image.specs.declared.message.Message.TheVariants.{Begin, Row, ImageEnd, StreamEnd, Stop}
 use Rattle.pnm_image.specs.Messages.{IsMessage}
 use Rattle.pnm_tools.specs.Answers.{Ending, More, Whole, BrokenOff, ending_of}
 use Rattle.pnm_lanes.specs.declared.lane.LaneState.{LaneState}
-use Rattle.pnm_lanes.specs.Gathers.{at_lane, AreSameInputs}
+use Rattle.pnm_lanes.specs.Gathers.{at_lane}
 use Rattle.pnm_lanes.specs.GatherParts.{IsOfStream, HasGiven, states_after}
 use Rattle.pnm_lanes.proofs.LaneLists.{at_lane-get, at_lane-set, at_lane-others}
 

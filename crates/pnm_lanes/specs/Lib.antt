@@ -3,3 +3,5 @@ pub mod Deals
 pub mod DealParts
 pub mod Gathers
 pub mod GatherParts
+pub mod LaneLaws
+pub mod Lanes

@@ -1,9 +1,52 @@
 //! Laws of lanes. Each stands over the definitions alone, as the contract of a function that does nothing.
 
 ghost use Rattle.pnm_lanes.specs.Deals.{LongestFrontIsDealt};
+ghost use Rattle.pnm_lanes.specs.Lanes.{LanesAreAStage};
+ghost use Rattle.pnm_lanes.specs.LaneLaws.{StreamsAreDealt, DueIsDealt, ResultsAreDealt, GatheredIsDue, RefusalsAreDealt, OwedIsDealt};
 
 /// What was sent to a lane is a front of what is dealt to it of the longest lawful front of the messages that were
 /// received.
 pub fn longest_front_is_dealt()
     ensures { LongestFrontIsDealt }
+{}
+
+/// The messages of a stream, dealt to a lane, are those of the images that the lane sees.
+pub fn streams_are_dealt()
+    ensures { StreamsAreDealt }
+{}
+
+/// What is due from a row-wise tool for the images that a lane sees is what the lane gets of what is due for
+/// the images themselves.
+pub fn due_is_dealt()
+    ensures { DueIsDealt }
+{}
+
+/// Where a row-wise tool refuses no image that a lane sees it refuses none, and the results that the lane
+/// makes are what it gets of the results.
+pub fn results_are_dealt()
+    ensures { ResultsAreDealt }
+{}
+
+/// What is gathered from the lanes of a tool is a front of what is due, where it is one of the stream of the results
+/// and ends only as the lanes do.
+pub fn gathered_is_due()
+    ensures { GatheredIsDue }
+{}
+
+/// The first head that a row-wise tool refuses of what a lane gets is dealt from the first head that it refuses,
+/// by the same fault.
+pub fn refusals_are_dealt()
+    ensures { RefusalsAreDealt }
+{}
+
+/// What a row-wise tool owes for the images that a lane sees is what the lane gets of what it owes for the images
+/// themselves.
+pub fn owed_is_dealt()
+    ensures { OwedIsDealt }
+{}
+
+/// A thread that deals rows to lanes, a row-wise tool at work in each lane, and a thread that gathers what they make: what
+/// they have received and sent together is what one stage of the tool may have, by how they have ended.
+pub fn lanes_are_a_stage()
+    ensures { LanesAreAStage }
 {}

@@ -1,4 +1,4 @@
-use Rattle.std.proofs.Common.{ℕ, ◌<◌, length, subst, arith}
+use Rattle.std.proofs.Common.{length, arith}
 use Rattle.rtrb.specs.Ring.{received, known_items}
 use Rattle.pnm_lanes.specs.Gathers.{at_lane}
 use Rattle.pnm_lanes.proofs.LaneLists.{are_themselves}

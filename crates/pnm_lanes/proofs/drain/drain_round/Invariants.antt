@@ -1,4 +1,4 @@
-use Rattle.std.proofs.Common.{◌≡◌, length}
+use Rattle.std.proofs.Common.{length}
 use Rattle.rtrb.specs.Ring.{received, known_items}
 use Rattle.pnm_lanes.specs.Gathers.{at_lane, AreSameInputs}
 use Rattle.pnm_lanes.specs.GatherParts.{CarriesOn}

@@ -1,4 +1,4 @@
-use Rattle.std.proofs.Common.{◌≡◌, ◌<◌, ℕ}
+use Rattle.std.proofs.Common.{◌<◌, ℕ}
 use Rattle.pnm_lanes.specs.GatherParts.{IsDone, state_at}
 use Rattle.pnm_lanes.proofs.drain.outcome.Given as goal
 

@@ -1,4 +1,4 @@
-use Rattle.std.proofs.Common.{◌≡◌, ℕ, length, refl, sym, ap, subst, ◌∙◌}
+use Rattle.std.proofs.Common.{ℕ, length, refl, sym, ap, subst, ◌∙◌}
 use Rattle.rtrb.specs.Ring.{sent, received, known_items}
 use Rattle.pnm_rings.specs.Rings.{ending_by}
 use Rattle.pnm_lanes.specs.Gathers.{at_lane}

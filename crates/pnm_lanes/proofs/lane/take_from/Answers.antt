@@ -1,10 +1,9 @@
-use Rattle.std.proofs.Common.{◌≡◌, inl, inr, List, [], ◌∷◌, ◌++◌, get_or, refl, sym, ap, ◌∙◌}
+use Rattle.std.proofs.Common.{inl, inr, [], ◌∷◌, ◌++◌, get_or, refl, sym, ap, ◌∙◌}
 use Rattle.rtrb.specs.Ring.{received}
 use Rattle.pnm_image.specs.declared.message.Message.{Message}
 use Rattle.pnm_image.specs.declared.message.Message.TheVariants.{Stop}
 use Rattle.pnm_tools.specs.Answers.{More, Whole, BrokenOff}
 use Rattle.pnm_rings.specs.Rings.{ending_by}
-use Rattle.pnm_lanes.specs.declared.lane.LaneState.TheVariants.{Ended}
 use Rattle.pnm_lanes.proofs.LaneLists.{one_changed}
 use Rattle.pnm_lanes.proofs.TakingSteps.{has_given, has_given_none, is_of_stream, stops}
 use Rattle.pnm_lanes.proofs.lane.take_from.Goals as goal

@@ -1,11 +1,11 @@
-use Rattle.std.proofs.Common.{◌≡◌, ℕ, ◌+◌, length, set, refl, sym, subst, ◌∙◌, arith}
+use Rattle.std.proofs.Common.{length, refl, ◌∙◌, arith}
 use Rattle.std.proofs.lemmas.Bool.{false≢true}
 use Rattle.std.proofs.lemmas.List.{length-set}
 use Rattle.std.proofs.lemmas.Result.{err_from_is_err_and}
 use Rattle.rtrb.specs.Ring.{received}
 use Rattle.pnm_lanes.specs.Gathers.{at_lane}
 use Rattle.pnm_lanes.proofs.LaneLists.{same_inputs}
-use Rattle.pnm_lanes.proofs.EachSteps.{IsTakingEach, first_taken, next_taken, first_failed, first_refused, each_failed, each_differs, each_ends}
+use Rattle.pnm_lanes.proofs.EachSteps.{next_taken, first_failed, first_refused, each_failed, each_differs, each_ends}
 use Rattle.pnm_lanes.proofs.next.take_of_each.Goals as goal
 
 pub returns-in_err-first-clause-taken : goal.returns-in_err-first-clause-taken

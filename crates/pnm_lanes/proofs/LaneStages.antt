@@ -1,0 +1,162 @@
+-- A dealer, lanes and a gatherer together are a stage: what is due, and how it ends.
+use Rattle.std.proofs.Common.{◌≡◌, ◌≢◌, inl, inr, ℕ, ◌<◌, true, List, [], ◌∷◌, ◌++◌, refl, sym, ap, subst, ◌∙◌, append-nil}
+use Rattle.pnm_image.specs.declared.message.Message.{Message}
+use Rattle.pnm_image.specs.declared.message.Message.TheVariants.{Begin, Row, ImageEnd, StreamEnd, Stop}
+use Rattle.pnm_image.specs.declared.place.Place.{Place}
+use Rattle.pnm_image.specs.declared.place.Place.TheVariants.{Between}
+use Rattle.pnm_image.specs.Images.{Image, messages_of_stream}
+use Rattle.pnm_image.specs.Messages.{without_stop}
+use Rattle.pnm_image.specs.Places.{Accepts, IsLawful, IsLawfulFrom, place_after}
+use Rattle.pnm_image.specs.Completion.{IsFrontOf, Completes}
+use Rattle.pnm_tools.specs.declared.tool.Tool.{Tool}
+use Rattle.pnm_tools.specs.Answers.{More, Whole, BrokenOff, ending_of, EndsBy}
+use Rattle.pnm_tools.specs.Dealing.{dealt}
+use Rattle.pnm_tools.specs.Tools.{IsLawfulTool, is_row_wise, output_due}
+use Rattle.pnm_tools.proofs.AtLaws.{StopsLast, lawful_stops, keeps_all}
+use Rattle.pnm_tools.proofs.FullLaws.{front_of_front}
+use Rattle.pnm_tools.proofs.SoundLaws.{unbroken_keeps_all}
+use Rattle.pnm_rings.specs.declared.stage_end.StageEnd.{StageEnd}
+use Rattle.pnm_rings.specs.declared.stage_end.StageEnd.TheVariants.{Well, Broken, Fault, PeerGone}
+use Rattle.pnm_rings.specs.Fronts.{IsFrontOfDue}
+use Rattle.pnm_rings.specs.Rings.{IsEnded}
+use Rattle.pnm_rings.specs.Stages.{HasEndedWell, HasEndedSo}
+use Rattle.pnm_rings.proofs.EndingLaws.{one_ending, nothing_follows, stream_ends_whole}
+use Rattle.pnm_rings.proofs.FrontLaws.{front_without_stop, stop_is_cut}
+use Rattle.pnm_rings.proofs.RingSteps.{ends_as}
+use Rattle.pnm_lanes.specs.Gathers.{AreDealt, IsStopped}
+use Rattle.pnm_lanes.specs.LaneLaws.{results_before}
+use Rattle.pnm_lanes.specs.Lanes.{IsFine, HaveRunTogether}
+use Rattle.pnm_lanes.proofs.DealtLaws.{dealt_front}
+use Rattle.pnm_lanes.proofs.LaneDue.{lane_gives_due, lane_gives_results, results_before_are_images, gathered_is_due}
+use Rattle.pnm_lanes.proofs.LanesTogether.{lane_gets, IsCommonFront, common_front}
+
+-- ---- lists that have ended
+
+-- a list that has ended goes no further
+pub all_of_ended : (a b : List Message) → IsFrontOf a b → IsEnded a → IsEnded b → b ≡ a
+all_of_ended a b front first second =
+    front.1 ∙ ap (λ (x : List Message). a ++ x) (nothing_follows a front.0 first (subst IsEnded front.1 second)) ∙ append-nil a
+
+pub not_both : {A : Type 0} (l : List Message) → EndsBy Whole l → EndsBy BrokenOff l → A
+not_both l whole broken = let same = one_ending Whole BrokenOff l whole broken in absurd cc
+
+not_yet : {A : Type 0} (l : List Message) → EndsBy More l → EndsBy Whole l → A
+not_yet l more whole = let same = one_ending More Whole l more whole in absurd cc
+
+-- what stands before the last message of a lawful list goes on
+one_goes_on : (m x : Message) (place : Place) → Accepts place m → Accepts (place_after place m) x → ending_of m ≡ More
+one_goes_on (Begin head) x place may next = refl
+one_goes_on (Row row) x place may next = refl
+one_goes_on ImageEnd x place may next = refl
+one_goes_on StreamEnd x place may next = absurd next
+one_goes_on Stop x place may next = absurd next
+
+before_last : (place : Place) (l : List Message) (m : Message) → IsLawfulFrom place (l ++ m ∷ []) → EndsBy More l
+before_last place [] m lawful = refl
+before_last place (x ∷ []) m lawful = one_goes_on x m place lawful.0 lawful.1.0
+before_last place (x ∷ y ∷ l) m lawful = (one_goes_on x y place lawful.0 lawful.1.0, before_last (place_after place x) (y ∷ l) m lawful.1)
+
+-- a lawful list that is whole without a last Stop has none
+whole_by : (l : List Message) → IsLawful l → StopsLast l → EndsBy Whole (without_stop l) → EndsBy Whole l
+whole_by l lawful (inl on) whole = subst (EndsBy Whole) (keeps_all l on) whole
+whole_by l lawful (inr cut) whole =
+    let front : without_stop l ≡ cut.0 = ap without_stop cut.1 ∙ stop_is_cut cut.0 in
+    not_yet cut.0 (before_last Between cut.0 Stop (subst IsLawful cut.1 lawful)) (subst (EndsBy Whole) front whole)
+
+pub stopped_is_broken : (l : List Message) → IsStopped l → EndsBy BrokenOff l
+stopped_is_broken l is = subst (EndsBy BrokenOff) (sym is.1) (ends_as BrokenOff is.0 Stop is.2 refl)
+
+-- images complete each front of what they complete
+pub completes_front : (is : List Image) (l accepted rest : List Message) → l ≡ accepted ++ rest → Completes is l → Completes is accepted
+completes_front is l accepted rest parts completes = record {
+  images = completes.images;
+  front = front_of_front (without_stop accepted) (without_stop l) (messages_of_stream is)
+      (subst (λ (x : List Message). IsFrontOf (without_stop accepted) (without_stop x)) (sym parts) (front_without_stop accepted rest)) completes.front;
+}
+
+pub cut_front : (a b : List Message) → IsFrontOf a b → IsFrontOf (without_stop a) (without_stop b)
+cut_front a b front = subst (λ (x : List Message). IsFrontOf (without_stop a) (without_stop x)) (sym front.1) (front_without_stop a front.0)
+
+-- ---- one lane
+
+-- what a lane sent was broken off, unless it ended well or saw the other end of a ring dropped
+pub sent_broken : (tool : Tool) (end : StageEnd) (i o : List Message) → HasEndedSo tool end i o → end ≢ PeerGone → end ≢ Well → EndsBy BrokenOff o
+sent_broken tool Well i o ended there other = absurd (other refl)
+sent_broken tool Broken i o ended there other = ended.full.ends BrokenOff ended.ends
+sent_broken tool (Fault fault) i o ended there other = subst (EndsBy BrokenOff) (sym ended.answer) (ends_as BrokenOff ended.given Stop ended.unbroken refl)
+sent_broken tool PeerGone i o ended there other = absurd (there refl)
+
+-- of which a whole stream was gathered
+pub record IsWholeLane (tool : Tool) (end : StageEnd) (i o r : List Message) : Type 0 where
+  pub is_well : end ≡ Well
+  pub well : HasEndedWell tool i o
+  pub all : o ≡ r
+
+-- ended otherwise than well
+not_whole : {A : Type 0} (tool : Tool) (end : StageEnd) (i o r : List Message) → HasEndedSo tool end i o → end ≢ PeerGone → end ≢ Well → IsFrontOf r o → EndsBy Whole r → A
+not_whole tool end i o r ended there other front whole =
+    let broken = sent_broken tool end i o ended there other in
+    not_both o (subst (EndsBy Whole) (sym (all_of_ended r o front (inl whole) (inr broken))) whole) broken
+
+pub whole_lane : (tool : Tool) (end : StageEnd) (i o r : List Message) → HasEndedSo tool end i o → end ≢ PeerGone → IsFrontOf r o → EndsBy Whole r → IsWholeLane tool end i o r
+whole_lane tool Well i o r ended there front whole = record {
+  is_well = refl;
+  well = ended;
+  all = all_of_ended r o front (inl whole) (inl (subst (EndsBy Whole) (sym ended.answer) (stream_ends_whole ended.results)));
+}
+whole_lane tool Broken i o r ended there front whole = not_whole tool Broken i o r ended there (λ same. absurd cc) front whole
+whole_lane tool (Fault fault) i o r ended there front whole = not_whole tool (Fault fault) i o r ended there (λ same. absurd cc) front whole
+whole_lane tool PeerGone i o r ended there front whole = absurd (there refl)
+
+pub fine_is_there : (end : StageEnd) → IsFine end → end ≢ PeerGone
+fine_is_there Well fine = λ same. absurd cc
+fine_is_there Broken fine = λ same. absurd cc
+fine_is_there (Fault fault) fine = absurd fine
+fine_is_there PeerGone fine = absurd fine
+
+-- ---- what is due
+
+-- what all lanes were dealt
+pub together : {tool : Tool} {lanes : ℕ} {dealer : StageEnd} {e : ℕ → StageEnd} {gatherer : StageEnd} {l g : List Message} {d i o r : ℕ → List Message} → HaveRunTogether tool lanes dealer e gatherer l d i o r g → IsCommonFront lanes lanes l d
+together {lanes = lanes} {l = l} {d = d} run = common_front lanes lanes l d run.front
+
+-- what a lane receives of what images complete
+pub lane_receives : {tool : Tool} {lanes : ℕ} {dealer : StageEnd} {e : ℕ → StageEnd} {gatherer : StageEnd} {l g : List Message} {d i o r : ℕ → List Message} (run : HaveRunTogether tool lanes dealer e gatherer l d i o r g)
+    → (is : List Image) → Completes is (together run).accepted → (lane : ℕ) → lane < lanes → IsFrontOf (without_stop (i lane)) (dealt lane lanes (messages_of_stream is))
+lane_receives {lanes = lanes} {d = d} {i = i} run is completes lane below =
+    let common = together run in
+    let gets = lane_gets lane lanes common.accepted (d lane) (i lane) common.lawful (run.stages lane below).once (run.received lane below) (common.sent lane below) in
+    front_of_front (without_stop (i lane)) (dealt lane lanes (without_stop common.accepted)) (dealt lane lanes (messages_of_stream is)) gets
+    (dealt_front lane lanes (without_stop common.accepted) (messages_of_stream is) completes.front)
+
+-- what is gathered from a lane
+lane_is_due : {tool : Tool} {lanes : ℕ} {dealer : StageEnd} {e : ℕ → StageEnd} {gatherer : StageEnd} {l g : List Message} {d i o r : ℕ → List Message} (run : HaveRunTogether tool lanes dealer e gatherer l d i o r g)
+    → IsLawfulTool tool → is_row_wise tool ≡ true → (is : List Image) → Completes is (together run).accepted → (lane : ℕ) → lane < lanes → IsFrontOf (without_stop (r lane)) (dealt lane lanes (output_due tool is))
+lane_is_due {tool = tool} {lanes = lanes} {i = i} {o = o} {r = r} run lawful row_wise is completes lane below =
+    let gave = lane_gives_due tool lane lanes is (i lane) (o lane) lawful row_wise below completes.images (lane_receives run is completes lane below) (run.stages lane below).due in
+    front_of_front (without_stop (r lane)) (without_stop (o lane)) (dealt lane lanes (output_due tool is)) (cut_front (r lane) (o lane) (run.taken lane below)) gave
+
+pub results_dealt : {tool : Tool} {lanes : ℕ} {dealer : StageEnd} {e : ℕ → StageEnd} {gatherer : StageEnd} {l g : List Message} {d i o r : ℕ → List Message} (run : HaveRunTogether tool lanes dealer e gatherer l d i o r g)
+    → IsLawfulTool tool → is_row_wise tool ≡ true → (is : List Image) → Completes is (together run).accepted → AreDealt (results_before tool is) lanes r
+results_dealt {tool = tool} {lanes = lanes} {r = r} run lawful row_wise is completes = record {
+  images = results_before_are_images tool is lawful completes.images;
+  fronts = λ lane below. lane_gives_results tool lane lanes is (without_stop (r lane)) (lane_is_due run lawful row_wise is completes lane below);
+}
+
+-- what was sent is a front of what is due for a lawful front of what was received
+pub together_due : {tool : Tool} {lanes : ℕ} {dealer : StageEnd} {e : ℕ → StageEnd} {gatherer : StageEnd} {l g : List Message} {d i o r : ℕ → List Message} → HaveRunTogether tool lanes dealer e gatherer l d i o r g
+    → 0 < lanes → IsLawfulTool tool → is_row_wise tool ≡ true → IsFrontOfDue (output_due tool) l g
+together_due {tool = tool} {lanes = lanes} {g = g} {r = r} run some lawful row_wise =
+    let common = together run in
+    record {
+      accepted = common.accepted;
+      rest = common.rest;
+      parts = common.parts;
+      lawful = common.lawful;
+      front = λ is completes.
+          let images = run.gathered.images (results_before tool is) (results_dealt run lawful row_wise is completes) in
+          gathered_is_due tool 0 lanes is (without_stop (r 0)) (without_stop g) (lane_is_due run lawful row_wise is completes 0 some) images.front
+          (λ whole.
+          let first = run.gathered.whole (whole_by g run.gathered.lawful (lawful_stops Between g run.gathered.lawful) whole) 0 some in
+          subst (EndsBy Whole) (sym (unbroken_keeps_all Whole (r 0) tt first)) first);
+    }
