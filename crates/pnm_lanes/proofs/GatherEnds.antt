@@ -24,7 +24,7 @@ use Rattle.pnm_rings.proofs.FrontLaws.{stop_is_cut, front_without_stop}
 use Rattle.pnm_rings.proofs.RingSteps.{ends_as}
 use Rattle.pnm_lanes.specs.declared.lane.LaneState.{LaneState}
 use Rattle.pnm_lanes.specs.declared.lane.LaneState.TheVariants.{Open, Ended, Gone}
-use Rattle.pnm_lanes.specs.Gathers.{AreDealt, BeginsOrEnds, HasSentAll, HasEndedSo, HasGatheredSo, HasGathered}
+use Rattle.pnm_lanes.specs.Gathers.{AreDealt, BeginsOrEnds, HasSentAll, HasPassedSo, HasGatheredSo, HasGathered}
 use Rattle.pnm_lanes.specs.GatherParts.{IsOfStream, state_at, HasTakenWhole, HasTakenNone, BeginsNone, IsCause, IsLane, AreLanes, CarriesOn, IsDone, HasStopped, HasBrokenOffAll, HasDrainedAll}
 use Rattle.pnm_lanes.proofs.PartLaws.{dealt_from-append, front_cancel, parts_tell_the_whole}
 use Rattle.pnm_lanes.proofs.DealtParts.{all_of_both, all_of_rest, all_messages, stream_keeps_all, lawful_rest, dealt_of_stream, dealt_goes_on, dealt_end, images_of_stream, gets_part, fronts_in_order, last_stays, not_before_stop}
@@ -168,7 +168,7 @@ without_more lanes place start now sent_start sent_now going = record {
 -- all that is promised, where the lanes are done
 ends_so : (lanes : ℕ) (place : Place) (end : StageEnd) (ended : Bool) (states : List LaneState) (start now new final left taken : ℕ → List Message) (sent_start sent_now sent_new gave : List Message)
     → (going : IsGoing lanes place start now sent_start sent_now) → 0 < lanes → HasLeft lanes going.gave taken (took_of start final) → AreLanes lanes states start final left → ((lane : ℕ) → lane < lanes → IsDone ended (state_at states lane))
-    → sent_new ≡ sent_start ++ gave → IsLastSent going.gave gave → HasEndedSo end lanes (took_of start final) gave → ((is : List Image) → AreDealt is lanes (took_of start final) → HasGatheredSo end is lanes (took_of start final) gave)
+    → sent_new ≡ sent_start ++ gave → IsLastSent going.gave gave → HasPassedSo end lanes (took_of start final) gave → ((is : List Image) → AreDealt is lanes (took_of start final) → HasGatheredSo end is lanes (took_of start final) gave)
     → HasGathered end lanes start final left sent_start sent_new
 ends_so lanes place end ended states start now new final left taken sent_start sent_now sent_new gave going some left_so are done output last so images =
     let all : (lane : ℕ) → lane < lanes → LaneEnded ended (start lane) (final lane) (left lane) = λ lane below. lane_ended ended (state_at states lane) (start lane) (final lane) (left lane) (done lane below) (are lane below) in
@@ -198,7 +198,7 @@ ends_so lanes place end ended states start now new final left taken sent_start s
 -- by the cause
 stopped_so : (cause : StageEnd) (lanes : ℕ) (place : Place) (gave : List Message) (taken took : ℕ → List Message) → 0 < lanes → IsLawful gave → AllByRecursion IsOfStream gave → EndsBy More gave → place ≡ place_of Between gave
     → HasLeft lanes gave taken took → ((lane : ℕ) → lane < lanes → IsEnded (took lane)) → IsCause cause lanes place taken
-    → HasEndedSo cause lanes took (gave ++ Stop ∷ []) × ((is : List Image) → AreDealt is lanes took → HasGatheredSo cause is lanes took (gave ++ Stop ∷ []))
+    → HasPassedSo cause lanes took (gave ++ Stop ∷ []) × ((is : List Image) → AreDealt is lanes took → HasGatheredSo cause is lanes took (gave ++ Stop ∷ []))
 stopped_so Well lanes place gave taken took some lawful stream more at_place left ended is = absurd is
 stopped_so Broken lanes place gave taken took some lawful stream more at_place left ended is =
     let given = stopped_lane lanes is.0 gave taken took is.1 more left is.2 (ended is.0 is.1) in

@@ -39,11 +39,11 @@ IsStopped gave = (given : List Message) × (gave ≡ given ++ Stop ∷ []) × En
 
 -- by its end. Well: a whole stream was sent, and each lane gave its part of it. Broken: each lane has ended, and one of them
 -- by Stop. Fault: each lane has ended. Where the other end of a ring was seen dropped, no more is known than however it ended.
-abbrev pub HasEndedSo : StageEnd → ℕ → (ℕ → List Message) → List Message → Type 0
-HasEndedSo Well lanes took gave = EndsBy Whole gave × ((lane : ℕ) → lane < lanes → took lane ≡ dealt lane lanes gave)
-HasEndedSo Broken lanes took gave = ((lane : ℕ) → lane < lanes → IsEnded (took lane)) × ((lane : ℕ) × (lane < lanes) × EndsBy BrokenOff (took lane)) × IsStopped gave
-HasEndedSo (Fault fault) lanes took gave = (fault ≡ OutOfOrder) × ((lane : ℕ) → lane < lanes → IsEnded (took lane)) × IsStopped gave
-HasEndedSo PeerGone lanes took gave = Unit {0}
+abbrev pub HasPassedSo : StageEnd → ℕ → (ℕ → List Message) → List Message → Type 0
+HasPassedSo Well lanes took gave = EndsBy Whole gave × ((lane : ℕ) → lane < lanes → took lane ≡ dealt lane lanes gave)
+HasPassedSo Broken lanes took gave = ((lane : ℕ) → lane < lanes → IsEnded (took lane)) × ((lane : ℕ) × (lane < lanes) × EndsBy BrokenOff (took lane)) × IsStopped gave
+HasPassedSo (Fault fault) lanes took gave = (fault ≡ OutOfOrder) × ((lane : ℕ) → lane < lanes → IsEnded (took lane)) × IsStopped gave
+HasPassedSo PeerGone lanes took gave = Unit {0}
 
 -- ---- lanes to which the messages of images were dealt
 
@@ -82,7 +82,7 @@ pub record HasGatheredImages (end : StageEnd) (is : List Image) (lanes : ℕ) (t
 -- what was received of the lanes are messages of a program, of which at most the last ends the stream. What was sent is
 -- lawful: each lane gave its part of it, and gave the end of the stream where that was sent.
 pub record IsGathered (end : StageEnd) (lanes : ℕ) (took : ℕ → List Message) (gave : List Message) : Type 0 where
-  pub ended : HasEndedSo end lanes took gave
+  pub ended : HasPassedSo end lanes took gave
   pub messages : (lane : ℕ) → lane < lanes → AllByRecursion IsMessage (took lane)
   pub once : (lane : ℕ) → lane < lanes → EndsAtMostOnce (took lane)
   pub lawful : IsLawful gave
