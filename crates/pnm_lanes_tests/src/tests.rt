@@ -1,5 +1,6 @@
 //! What no clause says: worked examples, and that calls can succeed.
 
 mod deals;
+mod gathers;
 mod heights;
 mod rings;

@@ -244,6 +244,7 @@ fn stops_the_other_lanes_where_one_is_gone(rt: HostRuntime) -> Result<(), Fail> 
         // This ring has room for the head alone.
         let (output, consumer) = ring(rt.alloc(), 1)?;
         drop(consumer);
+        assert!(&rt; gone <= outputs.len());
         outputs.insert(gone, output)?;
         send_all(rt.alloc(), &mut producer, THREE_ROWS)?;
         let mut done = dealt(&rt, rt.alloc(), input, outputs);
@@ -327,14 +328,15 @@ fn one_by_one(
     alloc: Global,
     producer: &mut Output,
     lanes: &mut [Input],
-    height: u32,
+    height: u16,
 ) -> Result<bool, Unmade> {
     let count = lanes.len();
-    let mut is_right = sends(alloc, producer, Part::Begin(1, height))?;
+    let rows = u32::from(height);
+    let mut is_right = sends(alloc, producer, Part::Begin(1, rows))?;
     for (lane, input) in lanes.iter_mut().enumerate() {
-        is_right = is_right && comes(input, Part::Begin(1, rows_of(height, lane, count)));
+        is_right = is_right && comes(input, Part::Begin(1, rows_of(rows, lane, count)));
     }
-    for y in 0..height as u16 {
+    for y in 0..height {
         is_right = is_right && count != 0 && sends(alloc, producer, Part::Row(&[y]))?;
         is_right = is_right && comes(&mut lanes[y as usize % count], Part::Row(&[y]));
     }

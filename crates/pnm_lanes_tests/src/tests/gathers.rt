@@ -1,0 +1,174 @@
+//! Lanes that are gathered: what is sent of what each lane gives, and how the gathering ends.
+
+use super::rings::{Part, holds, is_end, ring, send_all};
+use pnm_lanes::{GatherDone, gather};
+use pnm_rings::{Input, Output, StageEnd};
+use pnm_tools::ToolFault;
+use std::alloc::Global;
+use std::process::Abort;
+use std::sync::Wait;
+use std::test::Fail;
+
+const OUT_OF_ORDER: StageEnd = StageEnd::Fault(ToolFault::OutOfOrder);
+
+/// What each lane gives, what is sent of it, and how it ends.
+type Case<'a> = (&'a str, &'a [&'a [Part<'a>]], &'a [Part<'a>], StageEnd);
+
+/// Gathers from the inputs, of which there have to be 1 to 8.
+fn gathered(rt: &(impl Wait + Abort), inputs: Vec<Input>, output: Output) -> GatherDone {
+    assert!(rt; 1 <= inputs.len() && inputs.len() <= 8);
+    gather(rt, inputs, output)
+}
+
+/// Over rings of capacity 8 the gathering ends so, and leaves nothing in its inputs.
+fn ends_so(rt: &(impl Wait + Abort), alloc: Global, case: Case<'_>) -> Result<(), Fail> {
+    let (what, lanes, sent, end) = case;
+    let mut inputs = Vec::with_capacity(alloc, lanes.len())?;
+    let mut producers = Vec::with_capacity(alloc, lanes.len())?;
+    for parts in lanes {
+        let (mut producer, input) = ring(alloc, 8)?;
+        send_all(alloc, &mut producer, parts)?;
+        producers.push(producer)?;
+        inputs.push(input)?;
+    }
+    let (output, mut consumer) = ring(alloc, 8)?;
+    let mut done = gathered(rt, inputs, output);
+    is_end(rt, done.end, end, what);
+    for input in done.inputs.iter_mut() {
+        holds(rt, input, &[], what);
+    }
+    holds(rt, &mut consumer, sent, what);
+    Ok(())
+}
+
+#[test]
+fn gathers_rows_in_turn(rt: HostRuntime) -> Result<(), Fail> {
+    let cases: [Case<'_>; 2] = [
+        (
+            "more lanes than rows",
+            &[
+                &[
+                    Part::Begin(1, 1),
+                    Part::Row(&[1]),
+                    Part::ImageEnd,
+                    Part::StreamEnd,
+                ],
+                &[
+                    Part::Begin(1, 1),
+                    Part::Row(&[2]),
+                    Part::ImageEnd,
+                    Part::StreamEnd,
+                ],
+                &[Part::Begin(1, 0), Part::ImageEnd, Part::StreamEnd],
+            ],
+            &[
+                Part::Begin(1, 2),
+                Part::Row(&[1]),
+                Part::Row(&[2]),
+                Part::ImageEnd,
+                Part::StreamEnd,
+            ],
+            StageEnd::Well,
+        ),
+        (
+            "no image",
+            &[&[Part::StreamEnd], &[Part::StreamEnd]],
+            &[Part::StreamEnd],
+            StageEnd::Well,
+        ),
+    ];
+    for case in cases {
+        ends_so(&rt, rt.alloc(), case)?;
+    }
+    Ok(())
+}
+
+#[test]
+fn stops_where_a_lane_does(rt: HostRuntime) -> Result<(), Fail> {
+    let cases: [Case<'_>; 4] = [
+        (
+            "the first lane ends first",
+            &[
+                &[Part::Stop],
+                &[Part::Begin(1, 1), Part::Row(&[2]), Part::Stop],
+            ],
+            &[Part::Stop],
+            StageEnd::Broken,
+        ),
+        (
+            "the second lane ends in the image",
+            &[
+                &[Part::Begin(1, 1), Part::Row(&[1]), Part::Stop],
+                &[Part::Begin(1, 1), Part::Stop],
+            ],
+            &[Part::Begin(1, 2), Part::Row(&[1]), Part::Stop],
+            StageEnd::Broken,
+        ),
+        (
+            "heights that aren't dealt",
+            &[
+                &[Part::Begin(1, 1), Part::StreamEnd],
+                &[Part::Begin(1, 2), Part::Row(&[1]), Part::Stop],
+            ],
+            &[Part::Stop],
+            OUT_OF_ORDER,
+        ),
+        (
+            "a row too wide",
+            &[
+                &[Part::Begin(1, 1), Part::Row(&[1, 2]), Part::Stop],
+                &[Part::Begin(1, 0), Part::ImageEnd, Part::Stop],
+            ],
+            &[Part::Begin(1, 1), Part::Stop],
+            OUT_OF_ORDER,
+        ),
+    ];
+    for case in cases {
+        ends_so(&rt, rt.alloc(), case)?;
+    }
+    Ok(())
+}
+
+/// Where nothing more can come of a lane, what came is sent, and Stop.
+#[test]
+fn stops_where_a_lane_is_gone(rt: HostRuntime) -> Result<(), Fail> {
+    let (mut producer, input) = ring(rt.alloc(), 8)?;
+    send_all(rt.alloc(), &mut producer, &[Part::Begin(1, 1)])?;
+    drop(producer);
+    let mut inputs = Vec::with_capacity(rt.alloc(), 1)?;
+    inputs.push(input)?;
+    let (output, mut consumer) = ring(rt.alloc(), 8)?;
+    let done = gathered(&rt, inputs, output);
+    is_end(&rt, done.end, StageEnd::PeerGone, "nothing can come");
+    holds(
+        &rt,
+        &mut consumer,
+        &[Part::Begin(1, 1), Part::Stop],
+        "what came, and Stop",
+    );
+    Ok(())
+}
+
+/// Where nobody takes what is sent, the lanes are drained.
+#[test]
+fn drains_where_nobody_takes(rt: HostRuntime) -> Result<(), Fail> {
+    let (mut producer, input) = ring(rt.alloc(), 8)?;
+    let parts = [
+        Part::Begin(1, 1),
+        Part::Row(&[1]),
+        Part::ImageEnd,
+        Part::StreamEnd,
+    ];
+    send_all(rt.alloc(), &mut producer, &parts)?;
+    let mut inputs = Vec::with_capacity(rt.alloc(), 1)?;
+    inputs.push(input)?;
+    // This ring has room for the head alone.
+    let (output, consumer) = ring(rt.alloc(), 1)?;
+    drop(consumer);
+    let mut done = gathered(&rt, inputs, output);
+    is_end(&rt, done.end, StageEnd::PeerGone, "nobody takes");
+    for input in done.inputs.iter_mut() {
+        holds(&rt, input, &[], "drained");
+    }
+    Ok(())
+}
