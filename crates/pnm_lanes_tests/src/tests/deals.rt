@@ -35,13 +35,22 @@ const OUT_OF_ORDER: StageEnd = StageEnd::Fault(ToolFault::OutOfOrder);
 type Case<'a> = (&'a str, &'a [Part<'a>], &'a [&'a [Part<'a>]], StageEnd);
 
 /// Deals to the outputs, of which there have to be 1 to 8.
-fn dealt(rt: &(impl Wait + Abort), alloc: Global, input: Input, outputs: Vec<Output>) -> DealDone {
+pub fn dealt(
+    rt: &(impl Wait + Abort),
+    alloc: Global,
+    input: Input,
+    outputs: Vec<Output>,
+) -> DealDone {
     assert!(rt; 1 <= outputs.len() && outputs.len() <= 8);
     deal(rt, alloc, input, outputs)
 }
 
 /// So many rings of this capacity.
-fn rings(alloc: Global, count: usize, capacity: usize) -> Result<(Vec<Output>, Vec<Input>), Fail> {
+pub fn rings(
+    alloc: Global,
+    count: usize,
+    capacity: usize,
+) -> Result<(Vec<Output>, Vec<Input>), Fail> {
     let mut outputs = Vec::with_capacity(alloc, count)?;
     let mut inputs = Vec::with_capacity(alloc, count)?;
     for _ in 0..count {

@@ -1,6 +1,7 @@
 //! Lanes that are gathered: what is sent of what each lane gives, and how the gathering ends.
 
-use super::rings::{Part, holds, is_end, ring, send_all};
+use super::deals::{dealt, rings};
+use super::rings::{Part, Unmade, comes, holds, is_end, ring, send_all, sends};
 use pnm_lanes::{GatherDone, gather};
 use pnm_rings::{Input, Output, StageEnd};
 use pnm_tools::ToolFault;
@@ -8,6 +9,7 @@ use std::alloc::Global;
 use std::process::Abort;
 use std::sync::Wait;
 use std::test::Fail;
+use std::thread;
 
 const OUT_OF_ORDER: StageEnd = StageEnd::Fault(ToolFault::OutOfOrder);
 
@@ -169,6 +171,54 @@ fn drains_where_nobody_takes(rt: HostRuntime) -> Result<(), Fail> {
     is_end(&rt, done.end, StageEnd::PeerGone, "nobody takes");
     for input in done.inputs.iter_mut() {
         holds(&rt, input, &[], "drained");
+    }
+    Ok(())
+}
+
+/// Sends an image of this height, each message only once the one before it has come at the other end.
+fn passes(
+    alloc: Global,
+    producer: &mut Output,
+    consumer: &mut Input,
+    height: u16,
+) -> Result<bool, Unmade> {
+    let begin = Part::Begin(1, u32::from(height));
+    let mut is_right = sends(alloc, producer, begin)? && comes(consumer, begin);
+    for y in 0..height {
+        is_right = is_right && sends(alloc, producer, Part::Row(&[y]))?;
+        is_right = is_right && comes(consumer, Part::Row(&[y]));
+    }
+    for part in [Part::ImageEnd, Part::StreamEnd] {
+        is_right = is_right && sends(alloc, producer, part)? && comes(consumer, part);
+    }
+    Ok(is_right)
+}
+
+/// 1 to 8 lanes, and heights 0 to 9: what is dealt is gathered as it was, message by message, over rings of capacity 1.
+#[test]
+fn gathers_what_is_dealt(rt: HostRuntime) -> Result<(), Fail> {
+    let alloc = rt.alloc();
+    for count in 1..9 {
+        for height in 0..10 {
+            let (mut producer, input) = ring(alloc, 1)?;
+            let (outputs, inputs) = rings(alloc, count, 1)?;
+            let (output, mut consumer) = ring(alloc, 1)?;
+            let here = &rt;
+            let both = thread::join(
+                &rt,
+                move || dealt(here, alloc, input, outputs).end == StageEnd::Well,
+                move || {
+                    thread::join(
+                        here,
+                        move || gathered(here, inputs, output).end == StageEnd::Well,
+                        move || passes(alloc, &mut producer, &mut consumer, height).unwrap_or(
+                            false,
+                        ),
+                    )
+                },
+            );
+            assert!(&rt; both.0 && both.1.0 && both.1.1, "{count} lanes, height {height}");
+        }
     }
     Ok(())
 }
