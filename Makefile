@@ -2,7 +2,7 @@
 
 PROGRAM := crates/pnmpipe
 # where the tests stand: a library's in a crate of their own
-TESTED := pnm_samples_tests pnm_image_tests pnm_read_tests pnm_tools_tests pnm_write_tests pnm_chain_tests pnm_flow_tests pnmpipe
+TESTED := pnm_samples_tests pnm_image_tests pnm_read_tests pnm_tools_tests pnm_write_tests pnm_chain_tests pnm_lanes_tests pnm_flow_tests pnmpipe
 
 .PHONY: all bench check test help toolchain controls long-stream refused-growth refused-starts
 
