@@ -9,12 +9,16 @@ use pnm_image::Message;
 /// How a message ends a stream: it doesn't, the stream is whole, or it was broken off.
 #[derive(Clone, Copy, Debug, PartialEq, Eq)]
 pub enum Ending {
+    /// It begins an image, or is a row or an image's end.
     More,
+    /// It is the end of the stream.
     Whole,
+    /// It is Stop.
     BrokenOff,
 }
 
 impl Ending {
+    /// How this message does.
     pub fn of(message: &Message) -> Ending
         ensures { ending_by result ≡ ending_of message.now }
     {
