@@ -20,7 +20,7 @@ use Rattle.pnm_tools.proofs.FrontLaws.{nothing_changes, front_by_results}
 use Rattle.pnm_tools.proofs.FullLaws.{front_of_front}
 use Rattle.pnm_tools.proofs.RefusalLaws.{results_are_images, same_in_turn, results_in_turn}
 use Rattle.pnm_flow.specs.declared.chain.ChainDone.{ChainDone}
-use Rattle.pnm_flow.specs.declared.chain.NoStart.{NoStart}
+use Rattle.pnm_stages.specs.declared.no_start.NoStart.{NoStart}
 use Rattle.pnm_flow.specs.declared.link.Link.{Link}
 use Rattle.pnm_rings.specs.declared.ring.AnyMessage.{AnyMessage}
 use Rattle.pnm_rings.specs.declared.stage_end.StageEnd.{StageEnd}

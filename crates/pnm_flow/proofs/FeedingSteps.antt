@@ -20,8 +20,8 @@ use Rattle.pnm_tools.specs.declared.tool.Tool.{Tool}
 use Rattle.pnm_tools.specs.ChainAnswers.{IsSound, AreSound}
 use Rattle.pnm_tools.proofs.ChainLaws.{sound_front}
 use Rattle.pnm_flow.specs.declared.downstream.Downstream.{Downstream}
-use Rattle.pnm_flow.specs.declared.serial_stage.SerialStage.{SerialStage}
-use Rattle.pnm_flow.specs.SerialStages.{FeedsThrough}
+use Rattle.pnm_stages.specs.declared.serial_stage.SerialStage.{SerialStage}
+use Rattle.pnm_flow.specs.SerialChains.{FeedsThrough}
 use Rattle.pnm_flow.specs.Runs.{change, HasMore, IsReadFailure, MayFollow, OutlastsRun}
 use Rattle.pnm_flow.specs.Feeding.{HaveTaken, HasFed}
 

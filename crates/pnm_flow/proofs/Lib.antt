@@ -1,6 +1,6 @@
 pub mod MessageSteps
 pub mod DownstreamSteps
-pub mod StageSteps
+pub mod PassingSteps
 pub mod FaultSteps
 pub mod FeedingSteps
 pub mod ToolSteps
@@ -8,8 +8,6 @@ pub mod CountLaws
 pub mod RunSteps
 pub mod EndSteps
 pub mod RefusalExample
-pub mod SendingSteps
-pub mod StagedSteps
 pub mod ChainSteps
 pub mod StageEndLaws
 pub mod ThreadedRunSteps

@@ -32,16 +32,15 @@ use Rattle.pnm_write.specs.Sinks.{HasRows, has_failed}
 use Rattle.pnm_write.proofs.MessageLaws.{bytes_of_stream}
 use Rattle.pnm_image.proofs.Written.{front-more}
 use Rattle.pnm_flow.specs.declared.downstream.Downstream.{Downstream}
-use Rattle.pnm_flow.specs.declared.serial_stage.SerialStage.{SerialStage}
-use Rattle.pnm_flow.specs.declared.serial_stage.SerialStage.TheVariants.{AtWork, Refused}
+use Rattle.pnm_stages.specs.declared.serial_stage.SerialStage.{SerialStage}
+use Rattle.pnm_stages.specs.declared.serial_stage.SerialStage.TheVariants.{AtWork, Refused}
 use Rattle.pnm_flow.specs.declared.fault.RunFault.{RunFault}
 use Rattle.pnm_flow.specs.declared.summary.Summary.{Summary}
 use Rattle.pnm_flow.specs.Counts.{counted, images_in, rows_in}
 use Rattle.pnm_flow.specs.Downstreams.{output_of, AreWritable, AreWritten, AreCutOff, HasTakenWith}
 use Rattle.pnm_flow.specs.Feeding.{IsSaidOf, HasFed}
 use Rattle.pnm_flow.specs.Runs.{EndedWell, IsTaken, IsStoppedBy, IsFrontOfDue, FitAnswer, IsAllWritten}
-use Rattle.pnm_flow.specs.SerialStages.{refusals_in, StagesAt}
-use Rattle.pnm_flow.specs.SerialTools.{AreFresh}
+use Rattle.pnm_flow.specs.SerialChains.{refusals_in, StagesAt, AreFresh}
 use Rattle.pnm_flow.proofs.ToolSteps.{fresh_at}
 use Rattle.pnm_flow.proofs.CountLaws.{images_in-stream, rows_in-stream}
 use Rattle.pnm_flow.proofs.MessageSteps.{bytes_of-append}

@@ -2,21 +2,12 @@
 use Rattle.std.proofs.Common.{ℕ, zero, suc, ◌<◌, List, [], ◌∷◌, ◌++◌, length, get_or, refl, arith}
 use Rattle.pnm_tools.specs.declared.tool.Tool.{Tool}
 use Rattle.pnm_tools.specs.declared.work.Work.{Work}
-use Rattle.pnm_tools.specs.Answers.{Answers, AnswersInFull}
 use Rattle.pnm_tools.specs.Chains.{AreLawfulTools}
-use Rattle.pnm_tools.specs.States.{Standing, IsToolAt, IsFresh, is_all_given}
+use Rattle.pnm_tools.specs.States.{Standing}
 use Rattle.pnm_tools.specs.Tools.{IsLawfulTool}
-use Rattle.pnm_tools.proofs.OwedLaws.{nothing_yet}
-use Rattle.pnm_flow.specs.declared.serial_stage.SerialStage.{SerialStage}
-use Rattle.pnm_flow.specs.SerialStages.{IsIdle}
-use Rattle.pnm_flow.specs.SerialTools.{ToolAt, ToolsAt, AreFresh}
-
--- nothing is a full answer to nothing
-nothing_is_full : (tool : Tool) → Answers tool [] [] → AnswersInFull tool [] []
-nothing_is_full tool answers = record { answers = answers; taken = tt; all = λ is c. nothing_yet tool is; ends = λ e ends. ends }
-
-pub fresh_is_idle : (s : Standing Work) (tool : Tool) → IsFresh s tool → IsIdle IsToolAt (λ s. is_all_given s.pending) (λ s. s.fault) s tool [] []
-fresh_is_idle s tool fresh = record { state = fresh.state; told = fresh.told; going = fresh.going; full = nothing_is_full tool fresh.state.answers }
+use Rattle.pnm_stages.specs.declared.serial_stage.SerialStage.{SerialStage}
+use Rattle.pnm_flow.specs.SerialChains.{ToolsAt, AreFresh}
+use Rattle.pnm_stages.specs.SerialStages.{ToolAt}
 
 -- one tool more
 pub fresh_more : (stages : List (SerialStage (Standing Work))) (tools : List Tool) (stage : SerialStage (Standing Work)) (tool : Tool) → AreFresh stages tools → ToolAt stage tool [] [] → AreFresh (stages ++ stage ∷ []) (tools ++ tool ∷ [])

@@ -80,11 +80,6 @@ pub record HasRunBetween (tools : List Tool) (links_room ends_room : ℕ) (input
 
 -- ---- before a chain has started
 
--- these are the two ring ends, over which nothing has passed since
-abbrev pub IsUntouched : {A P : Type 0} → Consumer Message A P → Producer Message A P → (Consumer Message A P × Producer Message A P) → Type 0
-IsUntouched input output ends =
-    SameConsumer input ends.0 × (received ends.0 ≡ received input) × SameProducer output ends.1 × (sent ends.1 ≡ sent output)
-
 -- two lists without members have room for the links and the ends of as many tools as a chain may have
 pub record HasRoom (links : List Link) (links_room : ℕ) (ends : List StageEnd) (ends_room : ℕ) : Type 0 where
   pub no_links : links ≡ []

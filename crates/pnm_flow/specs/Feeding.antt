@@ -14,10 +14,10 @@ use Rattle.pnm_tools.specs.ChainAnswers.{AreSound}
 use Rattle.pnm_tools.specs.declared.fault.ToolFault.{ToolFault}
 use Rattle.pnm_tools.specs.declared.tool.Tool.{Tool}
 use Rattle.pnm_flow.specs.declared.downstream.Downstream.{Downstream}
-use Rattle.pnm_flow.specs.declared.serial_stage.SerialStage.{SerialStage}
+use Rattle.pnm_stages.specs.declared.serial_stage.SerialStage.{SerialStage}
 use Rattle.pnm_flow.specs.Downstreams.{HasTaken}
 use Rattle.pnm_flow.specs.Runs.{change, MayFollow, OutlastsRun}
-use Rattle.pnm_flow.specs.SerialStages.{StagesAt}
+use Rattle.pnm_flow.specs.SerialChains.{StagesAt}
 
 -- the messages that were given are all that is said of the text, and then its end or its fault; before a
 -- fault from outside they are a front of it

@@ -1,12 +1,10 @@
 pub mod Counts
 pub mod Downstreams
-pub mod SerialStages
-pub mod SerialTools
+pub mod SerialChains
 pub mod Runs
 pub mod Feeding
 pub mod Examples
 pub mod Links
-pub mod StageParts
 pub mod Chains
 pub mod ThreadedRuns
 pub mod Feeders

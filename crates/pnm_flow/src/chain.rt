@@ -8,14 +8,13 @@ ghost use Rattle.pnm_tools.specs.Chains.{AreLawfulTools, IsChain};
 ghost use Rattle.pnm_tools.specs.Tools.{IsLawfulTool};
 ghost use Rattle.pnm_flow.specs.Links.{IsWhole};
 ghost use Rattle.pnm_rings.specs.Stages.{HasRunStage};
-ghost use Rattle.pnm_flow.specs.Chains.{HasRunBetween, HasRunChain, IsUntouched, HasRoom, max_ring_capacity};
+ghost use Rattle.pnm_flow.specs.Chains.{HasRunBetween, HasRunChain, HasRoom, max_ring_capacity};
+ghost use Rattle.pnm_stages.specs.Starts.{IsUntouched};
 
-use crate::branches::at_once;
-use crate::gate::Gate;
 use crate::link::Link;
-use crate::stage::{Bells, StageDone, run_stage_by};
 use pnm_image::limits::MAX_TOOLS;
 use pnm_rings::{Bell, Input, Output, StageEnd, new_ring};
+use pnm_stages::{Bells, Gate, NoStart, StageDone, at_once, run_stage_by};
 use pnm_tools::Tool;
 use std::alloc::Global;
 use std::sync::Wait;
@@ -33,15 +32,6 @@ pub struct ChainDone {
     pub links: Vec<Link>,
     /// How each tool has ended, in their order.
     pub ends: Vec<StageEnd>,
-}
-
-/// A chain that wasn't started whole: there was no memory for a ring or a list, or a thread couldn't be
-/// started.
-#[derive(Drop)]
-pub struct NoStart {
-    /// The ends of the outer rings, where no thread was to be started yet; nothing was sent or received
-    /// then. None once a start was tried, and then all threads that were started have ended.
-    pub ends: Option<(Input, Output)>,
 }
 
 /// Passes what comes on `input` through the tools to `output`, each tool a stage in a thread of its own

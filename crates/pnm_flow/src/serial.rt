@@ -6,16 +6,16 @@ ghost use Rattle.pnm_tools.specs.declared.fault.ToolFault.TheVariants.{Memory as
 ghost use Rattle.pnm_tools.specs.Chains.{AreLawfulTools, IsChain};
 ghost use Rattle.pnm_flow.specs.Downstreams.{output_of};
 ghost use Rattle.pnm_flow.specs.Runs.{answer_by, change, HasRunInOneThread, IsFirstRefusal};
-ghost use Rattle.pnm_flow.specs.SerialStages.{refusals_in};
-ghost use Rattle.pnm_flow.specs.SerialTools.{AreFresh};
+ghost use Rattle.pnm_flow.specs.SerialChains.{refusals_in, AreFresh};
 ghost use Rattle.pnm_flow.specs.Feeding.{HasFed};
 
 use crate::downstream::Downstream;
 use crate::fault::RunFault;
-use crate::serial_stage::{SerialStage, feed_through, stage_of};
+use crate::passing::feed_through;
 use crate::summary::Summary;
 use pnm_image::{BytesIn, BytesOut};
 use pnm_read::{InputFault, ReadBuffer, Source};
+use pnm_stages::{SerialStage, stage_of};
 use pnm_tools::{Filter, Tool, ToolFault, ToolState};
 use pnm_write::SinkFault;
 use std::alloc::Global;

@@ -4,11 +4,11 @@ ghost use Rattle.std.specs.Prelude.{◌≡◌, IsTrue, false};
 ghost use Rattle.pnm_flow.specs.Feeders.{is_over_by};
 ghost use Rattle.pnm_flow.specs.Turns.{HaveTurned};
 
-use crate::branches::Task;
 use crate::collector::Collector;
 use crate::feeder::Feeder;
 use pnm_image::{BytesIn, BytesOut};
 use pnm_rings::{Bell, Patience};
+use pnm_stages::Task;
 use std::sync::Wait;
 
 /// The turns of the caller, until all is sent and taken, with the bells of the first tool, its own, and that of the last tool.

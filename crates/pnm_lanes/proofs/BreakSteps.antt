@@ -22,10 +22,10 @@ use Rattle.pnm_rings.specs.declared.ending.Ending.TheVariants.{More as AnsweredM
 use Rattle.pnm_rings.specs.declared.stage_end.StageEnd.{StageEnd}
 use Rattle.pnm_rings.specs.declared.stage_end.StageEnd.TheVariants.{Fault, PeerGone}
 use Rattle.pnm_rings.specs.Fronts.{IsLongestLawfulFront}
-use Rattle.pnm_rings.specs.Rings.{ending_by, IsEnded, EndsAtMostOnce}
+use Rattle.pnm_rings.specs.Rings.{ending_by, IsEnded, EndsAtMostOnce, HasDrainedAfter}
 use Rattle.pnm_rings.proofs.RingSteps.{ends_nothing, ends_with, same_output}
 use Rattle.pnm_lanes.specs.Deals.{AtEach, HasReceivedSo, HasSentSo, HasLane, HasDealt}
-use Rattle.pnm_lanes.specs.DealParts.{part_at, lane_part, IsSentPart, HasSentParts, HasDrainedAfter, HasBrokenOffAfter}
+use Rattle.pnm_lanes.specs.DealParts.{part_at, lane_part, IsSentPart, HasSentParts, HasBrokenOffAfter}
 use Rattle.pnm_lanes.proofs.EachLaws.{each-map, each-then}
 use Rattle.pnm_lanes.proofs.DealtLaws.{dealt_more, before_stop_front}
 use Rattle.pnm_lanes.proofs.DealSteps.{HasAll, IsDealing, parts_of, HasFront, all_is_front, part_is_front, IsAccepted, accepted_more, front_of_dealt, told_lane, lost_lane}

@@ -9,10 +9,9 @@ use Rattle.pnm_image.specs.declared.place.Place.TheVariants.{Between}
 use Rattle.pnm_tools.specs.declared.fault.ToolFault.TheVariants.{Memory}
 use Rattle.pnm_tools.specs.Dealing.{dealt_row, dealt_message}
 use Rattle.pnm_rings.specs.declared.ending.Ending.{Ending}
-use Rattle.pnm_rings.specs.declared.ending.Ending.TheVariants.{More, Whole, BrokenOff}
 use Rattle.pnm_rings.specs.declared.stage_end.StageEnd.{StageEnd}
 use Rattle.pnm_rings.specs.declared.stage_end.StageEnd.TheVariants.{Fault, PeerGone}
-use Rattle.pnm_rings.specs.Rings.{HasDrained}
+use Rattle.pnm_rings.specs.Rings.{HasDrainedAfter}
 use Rattle.pnm_lanes.specs.Deals.{AtEach}
 
 abbrev pub IsRow : Message → Type 0
@@ -43,12 +42,6 @@ IsSentPart part unsent lane old new = SameProducer old new × ((sent new ≡ sen
 pub record HasSentParts {A P : Type 0} (part : ℕ → List Message) (unsent : Option StageEnd) (olds news : List (Producer Message A P)) : Type 0 where
   pub lanes : AtEach (IsSentPart part unsent) olds news
   pub reason : IfSome unsent (λ end. (end ≡ Fault Memory) ⊎ (end ≡ PeerGone))
-
--- after a message that ends the stream nothing is drained
-abbrev pub HasDrainedAfter : Ending → Bool → List Message → List Message → List Message → Type 0
-HasDrainedAfter More drained old new left = HasDrained drained old new left
-HasDrainedAfter Whole drained old new left = (drained ≡ true) × (new ≡ old)
-HasDrainedAfter BrokenOff drained old new left = (drained ≡ true) × (new ≡ old)
 
 -- dealing was broken off after a message with this ending: each lane was sent Stop and the input was drained; or else
 -- the other end of a ring was seen dropped

@@ -6,11 +6,11 @@ ghost use Rattle.pnm_image.specs.Places.{Accepts};
 ghost use Rattle.pnm_lanes.specs.Limits.{max_lanes, IsLaneCount};
 ghost use Rattle.pnm_lanes.specs.Deals.{HasDealt};
 ghost use Rattle.pnm_lanes.specs.DealParts.{IsRow, part_at, row_part, lane_part, HasSentParts};
-ghost use Rattle.pnm_lanes.specs.DealParts.{HasDrainedAfter, HasBrokenOffAfter};
+ghost use Rattle.pnm_lanes.specs.DealParts.{HasBrokenOffAfter};
 
 use crate::heights::dealt_height;
 use pnm_image::{Message, Place, Samples};
-use pnm_rings::{Bell, Ending, Input, Output, StageEnd, drain, give, take};
+use pnm_rings::{Bell, Ending, Input, Output, StageEnd, drain_after, give, take};
 use pnm_tools::ToolFault;
 use std::alloc::Global;
 use std::sync::Wait;
@@ -262,22 +262,11 @@ fn break_off<R: Wait>(
         (received input.old) (received input.new) (known_items input.new) outputs.old outputs.new }
 {
     let untold = send_each(rt, &Message::Stop, outputs, neighbours);
-    let drained = drain_after(rt, ending, input, neighbours.bells);
+    let bells = neighbours.bells;
+    let drained = drain_after(rt, ending, input, bells.own, bells.left);
     if untold.is_none() && drained {
         end
     } else {
         StageEnd::PeerGone
-    }
-}
-
-/// After a message with this ending, takes and drops what comes through to the end of the stream; false where the
-/// input's other end was seen dropped before.
-fn drain_after<R: Wait>(rt: &R, ending: Ending, input: &mut Input, bells: DealBells<'_>) -> bool
-    ensures input { SameConsumer input.old input.new }
-    ensures drained { HasDrainedAfter ending result (received input.old) (received input.new) (known_items input.new) }
-{
-    match ending {
-        Ending::More => drain(rt, input, bells.own, bells.left),
-        Ending::Whole | Ending::BrokenOff => true,
     }
 }

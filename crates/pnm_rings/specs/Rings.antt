@@ -32,3 +32,9 @@ pub record Extends (old new : List Message) (P : List Message → Type 0) : Type
 abbrev pub HasDrained : Bool → List Message → List Message → List Message → Type 0
 HasDrained true old new left = Extends old new IsEnded
 HasDrained false old new left = Extends old new (EndsBy More) × (left ≡ [])
+
+-- the same after a message with this ending: after one that ends the stream nothing is drained
+abbrev pub HasDrainedAfter : Answered → Bool → List Message → List Message → List Message → Type 0
+HasDrainedAfter AnsweredMore drained old new left = HasDrained drained old new left
+HasDrainedAfter AnsweredWhole drained old new left = (drained ≡ true) × (new ≡ old)
+HasDrainedAfter AnsweredBrokenOff drained old new left = (drained ≡ true) × (new ≡ old)

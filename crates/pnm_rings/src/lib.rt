@@ -10,5 +10,5 @@ mod stage_end;
 
 pub use ending::{Ending, ends_image};
 pub use patience::{Bell, Patience};
-pub use ring::{AnyMessage, Input, Output, drain, give, new_ring, take};
+pub use ring::{AnyMessage, Input, Output, drain, drain_after, give, new_ring, take};
 pub use stage_end::StageEnd;

@@ -3,7 +3,7 @@
 ghost use Rattle.std.specs.Prelude.{◌≡◌, [], ◌∷◌, ◌++◌, IfSome, IfNone, IsTrue, IsFalse};
 ghost use Rattle.rtrb.specs.Ring.{sent, received, known_items, IsPair, SameProducer, SameConsumer};
 ghost use Rattle.pnm_image.specs.Messages.{IsMessage};
-ghost use Rattle.pnm_rings.specs.Rings.{HasDrained};
+ghost use Rattle.pnm_rings.specs.Rings.{HasDrained, HasDrainedAfter};
 
 use crate::ending::Ending;
 use crate::patience::{Bell, Patience};
@@ -118,4 +118,22 @@ pub fn drain<R: Wait>(rt: &R, input: &mut Input, own: &Bell, other: &Bell) -> bo
         }
     }
     unreachable!()
+}
+
+/// After a message with this ending, takes and drops what comes through to the end of the stream; false where the other end
+/// was seen dropped before.
+pub fn drain_after<R: Wait>(
+    rt: &R,
+    ending: Ending,
+    input: &mut Input,
+    own: &Bell,
+    other: &Bell,
+) -> bool
+    ensures ring { SameConsumer input.old input.new }
+    ensures drained { HasDrainedAfter ending result (received input.old) (received input.new) (known_items input.new) }
+{
+    match ending {
+        Ending::More => drain(rt, input, own, other),
+        Ending::Whole | Ending::BrokenOff => true,
+    }
 }

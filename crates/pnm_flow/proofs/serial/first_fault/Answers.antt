@@ -1,7 +1,8 @@
 use Rattle.std.proofs.Common.{◌≡◌, ℕ, suc, ◌+◌, take, subst, ◌<◌, length, arith, ◌∙◌, sym, ap}
 use Rattle.std.proofs.lemmas.List.{get_or-map, length-map}
 use Rattle.pnm_tools.specs.ChainAnswers.{AreWell, IsFirstFault}
-use Rattle.pnm_flow.specs.SerialStages.{refusal_in, refusals_in}
+use Rattle.pnm_stages.specs.SerialStages.{refusal_in}
+use Rattle.pnm_flow.specs.SerialChains.{refusals_in}
 use Rattle.pnm_flow.proofs.FaultSteps.{well_more, first_here}
 use Rattle.pnm_flow.proofs.serial.first_fault.Goals as goal
 

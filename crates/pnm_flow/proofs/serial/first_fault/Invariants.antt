@@ -1,6 +1,6 @@
 use Rattle.std.proofs.Common.{take}
 use Rattle.pnm_tools.specs.ChainAnswers.{AreWell}
-use Rattle.pnm_flow.specs.SerialStages.{refusals_in}
+use Rattle.pnm_flow.specs.SerialChains.{refusals_in}
 use Rattle.pnm_flow.proofs.serial.first_fault.Given as goal
 
 -- the stages that were looked at haven't refused

@@ -3,7 +3,7 @@ use Rattle.std.proofs.lemmas.List.{take_at}
 use Rattle.pnm_read.specs.Sources.{reader_of}
 use Rattle.pnm_flow.specs.Downstreams.{output_of}
 use Rattle.pnm_flow.specs.Runs.{change}
-use Rattle.pnm_flow.specs.SerialStages.{refusals_in}
+use Rattle.pnm_flow.specs.SerialChains.{refusals_in}
 use Rattle.pnm_flow.proofs.RunSteps.{failed_so, ran_of, stages_answered}
 use Rattle.pnm_flow.proofs.EndSteps.{Ended, HaveEnded, ended_in_one_thread, ended_unread, ended_without_reading}
 use Rattle.pnm_flow.proofs.serial.run_serial.Goals as goal

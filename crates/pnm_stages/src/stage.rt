@@ -1,17 +1,17 @@
 //! A stage of a chain: a tool in a thread of its own, between two rings.
 
-ghost use Rattle.std.specs.Prelude.{◌≡◌, [], ◌++◌, List};
+ghost use Rattle.std.specs.Prelude.{◌≡◌, [], ◌++◌, List, true};
 ghost use Rattle.rtrb.specs.Ring.{sent, received, known_items, SameProducer, SameConsumer};
 ghost use Rattle.pnm_tools.specs.declared.tool.Tool.{Tool as ToolValue};
-ghost use Rattle.pnm_tools.specs.Tools.{IsLawfulTool};
-ghost use Rattle.pnm_flow.specs.SerialStages.{StageAt};
+ghost use Rattle.pnm_tools.specs.Tools.{IsLawfulTool, is_row_wise};
+ghost use Rattle.pnm_stages.specs.SerialStages.{StageAt};
 ghost use Rattle.pnm_rings.specs.Stages.{HasRunStage};
-ghost use Rattle.pnm_flow.specs.StageParts.{HasSentAnswers, HasDrainedAfter, HasBrokenOffAfter};
+ghost use Rattle.pnm_stages.specs.StageParts.{HasSentAnswers, HasBrokenOffAfter};
 
 use crate::gate::Gate;
-use crate::serial_stage::{SerialStage, stage_of};
+use crate::serial_stage::{SerialStage, row_stage_of, stage_of};
 use pnm_image::Message;
-use pnm_rings::{Bell, Ending, Input, Output, StageEnd, drain, give, take};
+use pnm_rings::{Bell, Ending, Input, Output, StageEnd, drain_after, give, take};
 use pnm_tools::{Filter, Tool, ToolFault};
 use std::alloc::Global;
 use std::sync::Wait;
@@ -89,6 +89,33 @@ pub fn run_stage_by<R: Wait, G: Gate>(
     StageDone { input, output, end }
 }
 
+/// The same for one lane of a row-wise tool, on what the lane sees; the gate is called with this lane.
+pub fn run_lane_by<R: Wait, G: Gate>(
+    rt: &R,
+    alloc: Global,
+    tool: &Tool,
+    number: usize,
+    lane: usize,
+    gate: &G,
+    input: Input,
+    output: Output,
+    bells: Bells<'_>,
+) -> StageDone
+    requires lawful { IsLawfulTool tool.now }
+    requires row_wise { is_row_wise tool.now ≡ true }
+    ensures input { SameConsumer input result.input }
+    ensures output { SameProducer output result.output }
+    ensures ran { HasRunStage tool.now result.end (received input) (received result.input) (known_items result.input)
+        (sent output) (sent result.output) }
+{
+    let mut input = input;
+    let mut output = output;
+    gate.arrive(number, lane);
+    let mut stage = row_stage_of(alloc, tool);
+    let end = pass_all(rt, &mut stage, &mut input, &mut output, bells);
+    StageDone { input, output, end }
+}
+
 /// Passes on all messages through to the end of the stream.
 fn pass_all<R: Wait, F: Filter + Drop>(
     rt: &R,
@@ -114,7 +141,7 @@ fn pass_all<R: Wait, F: Filter + Drop>(
         let ending = Ending::of(&message);
         stage.feed(message);
         if !send_answers(rt, stage, output, bells) {
-            drain_after(rt, ending, input, bells);
+            drain_after(rt, ending, input, bells.own, bells.left);
             return StageEnd::PeerGone;
         }
         if let Some(fault) = stage.fault() {
@@ -164,22 +191,10 @@ fn break_off<R: Wait>(
         (sent output.old) (sent output.new) }
 {
     let told = give(rt, output, Message::Stop, bells.own, bells.right);
-    let drained = drain_after(rt, ending, input, bells);
+    let drained = drain_after(rt, ending, input, bells.own, bells.left);
     if told && drained {
         StageEnd::Fault(fault)
     } else {
         StageEnd::PeerGone
-    }
-}
-
-/// After a message with this ending, takes and drops what comes through to the end of the stream;
-/// false where the input's other end was seen dropped before.
-fn drain_after<R: Wait>(rt: &R, ending: Ending, input: &mut Input, bells: Bells<'_>) -> bool
-    ensures input { SameConsumer input.old input.new }
-    ensures drained { HasDrainedAfter ending result (received input.old) (received input.new) (known_items input.new) }
-{
-    match ending {
-        Ending::More => drain(rt, input, bells.own, bells.left),
-        Ending::Whole | Ending::BrokenOff => true,
     }
 }

@@ -1,7 +1,7 @@
 use Rattle.std.proofs.Common.{length}
 use Rattle.pnm_flow.specs.Downstreams.{output_of}
-use Rattle.pnm_flow.proofs.StageSteps.{Going, first_waiting}
-use Rattle.pnm_flow.proofs.serial_stage.+feed_through.Given as goal
+use Rattle.pnm_flow.proofs.PassingSteps.{Going, first_waiting}
+use Rattle.pnm_flow.proofs.passing.+feed_through.Given as goal
 
 abbrev pub decreases-feed_through : goal.decreases-feed_through
 decreases-feed_through g l = length l.stages.now

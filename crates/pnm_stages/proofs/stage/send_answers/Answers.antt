@@ -1,7 +1,7 @@
 use Rattle.rtrb.specs.Ring.{sent}
 use Rattle.pnm_rings.proofs.RingSteps.{itself_output, same_output}
-use Rattle.pnm_flow.proofs.SendingSteps.{sends_nothing_yet, sends_on, loses_answer, sends_all}
-use Rattle.pnm_flow.proofs.stage.send_answers.Goals as goal
+use Rattle.pnm_stages.proofs.SendingSteps.{sends_nothing_yet, sends_on, loses_answer, sends_all}
+use Rattle.pnm_stages.proofs.stage.send_answers.Goals as goal
 
 pub loop-answer-init : goal.loop-answer-init
 loop-answer-init g c = (itself_output c.args.output.now, sends_nothing_yet g.F.Filter.at g.F.Filter.stopped c.args.stage.now (sent c.args.output.now))

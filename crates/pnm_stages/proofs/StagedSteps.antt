@@ -15,15 +15,15 @@ use Rattle.pnm_tools.specs.ChainAnswers.{HasRefused, IsRefusedNext}
 use Rattle.pnm_tools.proofs.FullAnswers.{full_answer_is_the_stream}
 use Rattle.pnm_rings.specs.declared.ending.Ending.{Ending as Answered}
 use Rattle.pnm_rings.specs.declared.ending.Ending.TheVariants.{More as AnsweredMore, Whole as AnsweredWhole, BrokenOff as AnsweredBrokenOff}
-use Rattle.pnm_flow.specs.declared.serial_stage.SerialStage.{SerialStage}
-use Rattle.pnm_flow.specs.declared.serial_stage.SerialStage.TheVariants.{AtWork, Refused}
+use Rattle.pnm_stages.specs.declared.serial_stage.SerialStage.{SerialStage}
+use Rattle.pnm_stages.specs.declared.serial_stage.SerialStage.TheVariants.{AtWork, Refused}
 use Rattle.pnm_rings.specs.declared.stage_end.StageEnd.{StageEnd}
 use Rattle.pnm_rings.specs.declared.stage_end.StageEnd.TheVariants.{Well, Broken, PeerGone}
-use Rattle.pnm_rings.specs.Rings.{ending_by, IsEnded, EndsAtMostOnce}
-use Rattle.pnm_flow.specs.SerialStages.{StageAt, StageBusy, refusal_in}
+use Rattle.pnm_rings.specs.Rings.{ending_by, IsEnded, EndsAtMostOnce, HasDrainedAfter}
+use Rattle.pnm_stages.specs.SerialStages.{StageAt, StageBusy, refusal_in}
 use Rattle.pnm_rings.specs.Fronts.{IsFrontOfDue}
 use Rattle.pnm_rings.specs.Stages.{HasEndedSo, HasRunStage}
-use Rattle.pnm_flow.specs.StageParts.{HasAnsweredPart, HasSentAnswers, HasDrainedAfter, HasBrokenOffAfter}
+use Rattle.pnm_stages.specs.StageParts.{HasAnsweredPart, HasSentAnswers, HasBrokenOffAfter}
 use Rattle.pnm_tools.specs.Tools.{output_due}
 use Rattle.pnm_tools.proofs.InFullLaws.{ends_after}
 use Rattle.pnm_tools.proofs.SoundLaws.{both_all}

@@ -1,15 +1,17 @@
--- What passes through the stages of a run.
-use Rattle.std.specs.Prelude.{◌≡◌, ℕ, Bool, true, List, [], ◌∷◌, ◌++◌, map, Option, Some, None}
+-- A stage: a tool at work, or one that has refused; what it has received and given.
+use Rattle.std.specs.Prelude.{◌≡◌, ℕ, Bool, true, List, Option, Some, None}
 use Rattle.pnm_image.specs.declared.message.Message.{Message}
 use Rattle.pnm_tools.specs.declared.fault.ToolFault.{ToolFault}
 use Rattle.pnm_tools.specs.declared.tool.Tool.{Tool}
 use Rattle.pnm_tools.specs.Answers.{AnswersInFull}
 use Rattle.pnm_tools.specs.ChainAnswers.{HasRefused}
 use Rattle.pnm_tools.specs.Tools.{AreTaken}
-use Rattle.pnm_flow.specs.declared.downstream.Downstream.{Downstream}
-use Rattle.pnm_flow.specs.declared.serial_stage.SerialStage.{SerialStage}
-use Rattle.pnm_flow.specs.declared.serial_stage.SerialStage.TheVariants.{AtWork, Refused}
-use Rattle.pnm_flow.specs.Downstreams.{HasTaken}
+use Rattle.pnm_tools.specs.declared.row_state.RowState.{RowState}
+use Rattle.pnm_tools.specs.declared.work.Work.{Work}
+use Rattle.pnm_tools.specs.RowStates.{IsRowToolAt}
+use Rattle.pnm_tools.specs.States.{Standing, IsToolAt, is_all_given}
+use Rattle.pnm_stages.specs.declared.serial_stage.SerialStage.{SerialStage}
+use Rattle.pnm_stages.specs.declared.serial_stage.SerialStage.TheVariants.{AtWork, Refused}
 
 abbrev pub refusal_in : {F : Type 0} → SerialStage F → Option ToolFault
 refusal_in (AtWork filter) = None
@@ -43,20 +45,10 @@ abbrev pub waiting_at : {F : Type 0} → (F → ℕ) → SerialStage F → ℕ
 waiting_at waiting (AtWork filter) = waiting filter
 waiting_at waiting (Refused fault) = 0
 
--- what the first of the stages has received and the last has given
-abbrev pub StagesAt : {F : Type 0} → (F → Tool → List Message → List Message → Type 0) → (F → Bool) → (F → Option ToolFault) → List (SerialStage F) → List Tool → List Message → List Message → Type 0
-StagesAt at all_given stopped [] [] received given = given ≡ received
-StagesAt at all_given stopped [] (tool ∷ tools) received given = ⊥
-StagesAt at all_given stopped (stage ∷ stages) [] received given = ⊥
-StagesAt at all_given stopped (stage ∷ stages) (tool ∷ tools) received given = (middle : List Message) × StageAt at all_given stopped stage tool received middle × StagesAt at all_given stopped stages tools middle given
+-- a stage of the state of a tool
+abbrev pub ToolAt : SerialStage (Standing Work) → Tool → List Message → List Message → Type 0
+ToolAt stage tool received given = StageAt IsToolAt (λ s. is_all_given s.pending) (λ s. s.fault) stage tool received given
 
--- a message has passed through the stages, and the sink has taken what came of it
-pub record FeedsThrough {F W : Type 0} (at : F → Tool → List Message → List Message → Type 0) (all_given : F → Bool) (stopped : F → Option ToolFault) (held : W → Option (List ℕ)) (failures : W → ℕ)
-    (old : List (SerialStage F)) (m : Message) (new : List (SerialStage F)) (before after : Downstream W) : Type 0 where
-  pub more : List Message
-  pub stages : (tools : List Tool) (l g : List Message) → StagesAt at all_given stopped old tools l g → StagesAt at all_given stopped new tools (l ++ m ∷ []) (g ++ more)
-  pub taken : (start : W) (messages : List Message) → HasTaken held failures start messages before → HasTaken held failures start (messages ++ more) after
-
--- why each stage refused, if it did
-abbrev pub refusals_in : {F : Type 0} → List (SerialStage F) → List (Option ToolFault)
-refusals_in stages = map refusal_in stages
+-- and of the state of a row-wise tool in a lane
+abbrev pub RowToolAt : SerialStage RowState → Tool → List Message → List Message → Type 0
+RowToolAt stage tool received given = StageAt IsRowToolAt (λ s. is_all_given s.state.pending) (λ s. s.state.fault) stage tool received given

@@ -1,6 +1,6 @@
 use Rattle.std.proofs.Common.{refl, sym, ◌∙◌}
-use Rattle.pnm_flow.proofs.StageSteps.{going_first, going_on, going_done, passes_on}
-use Rattle.pnm_flow.proofs.serial_stage.+feed_through.Goals as goal
+use Rattle.pnm_flow.proofs.PassingSteps.{going_first, going_on, going_done, passes_on}
+use Rattle.pnm_flow.proofs.passing.+feed_through.Goals as goal
 
 pub returns-then-is_empty-clause-fed : goal.returns-then-is_empty-clause-fed
 returns-then-is_empty-clause-fed g t c = passes_on g.F.Filter.at g.F.Filter.all_given g.F.Filter.stopped g.W.BytesOut.held g.W.BytesOut.failures c.args.stages.now c.args.message c.args.downstream.now c.put.new.self (sym c.is_empty.ensures ∙ c.if-is_empty.true) c.put.ensures.taken

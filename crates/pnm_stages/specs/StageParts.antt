@@ -6,12 +6,11 @@ use Rattle.pnm_tools.specs.declared.fault.ToolFault.{ToolFault}
 use Rattle.pnm_tools.specs.declared.tool.Tool.{Tool}
 use Rattle.pnm_tools.specs.Answers.{Answers}
 use Rattle.pnm_rings.specs.declared.ending.Ending.{Ending}
-use Rattle.pnm_rings.specs.declared.ending.Ending.TheVariants.{More, Whole, BrokenOff}
-use Rattle.pnm_flow.specs.declared.serial_stage.SerialStage.{SerialStage}
+use Rattle.pnm_stages.specs.declared.serial_stage.SerialStage.{SerialStage}
 use Rattle.pnm_rings.specs.declared.stage_end.StageEnd.{StageEnd}
 use Rattle.pnm_rings.specs.declared.stage_end.StageEnd.TheVariants.{Fault, PeerGone}
-use Rattle.pnm_rings.specs.Rings.{HasDrained}
-use Rattle.pnm_flow.specs.SerialStages.{StageAt, StageBusy}
+use Rattle.pnm_rings.specs.Rings.{HasDrainedAfter}
+use Rattle.pnm_stages.specs.SerialStages.{StageAt, StageBusy}
 
 -- what was given answers a front of what was received
 pub record HasAnsweredPart (tool : Tool) (received given : List Message) : Type 0 where
@@ -26,12 +25,6 @@ pub record HasSentAnswers {F : Type 0} (at : F → Tool → List Message → Lis
   pub added : sent_new ≡ sent_old ++ more
   pub full : all ≡ true → (tool : Tool) (l g : List Message) → StageBusy at stopped old tool l g → StageAt at all_given stopped new tool l (g ++ more)
   pub part : (tool : Tool) (l g : List Message) → StageBusy at stopped old tool l g → HasAnsweredPart tool l (g ++ more)
-
--- after a message that ends the stream nothing is drained
-abbrev pub HasDrainedAfter : Ending → Bool → List Message → List Message → List Message → Type 0
-HasDrainedAfter More drained old new left = HasDrained drained old new left
-HasDrainedAfter Whole drained old new left = (drained ≡ true) × (new ≡ old)
-HasDrainedAfter BrokenOff drained old new left = (drained ≡ true) × (new ≡ old)
 
 -- a stage was broken off after a message with this ending: Stop was sent and the input was drained; or Stop wasn't sent, or
 -- the input wasn't drained, since the other end of a ring was seen dropped

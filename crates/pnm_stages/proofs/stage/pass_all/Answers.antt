@@ -4,8 +4,8 @@ use Rattle.pnm_tools.specs.Answers.{More, ending_of}
 use Rattle.pnm_rings.specs.declared.ending.Ending.TheVariants.{More as AnsweredMore}
 use Rattle.pnm_rings.specs.Rings.{ending_by}
 use Rattle.pnm_rings.proofs.RingSteps.{same_input, same_output}
-use Rattle.pnm_flow.proofs.StagedSteps.{passes_nothing, passes_one, still_going, input_gone, output_gone, breaks_off, ends_well, ends_broken}
-use Rattle.pnm_flow.proofs.stage.pass_all.Goals as goal
+use Rattle.pnm_stages.proofs.StagedSteps.{passes_nothing, passes_one, still_going, input_gone, output_gone, breaks_off, ends_well, ends_broken}
+use Rattle.pnm_stages.proofs.stage.pass_all.Goals as goal
 
 pub returns-in-Some-clause-ran : goal.returns-in-Some-clause-ran
 returns-in-Some-clause-ran g c tool fresh =

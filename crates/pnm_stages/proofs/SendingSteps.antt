@@ -4,10 +4,10 @@ use Rattle.pnm_image.specs.declared.message.Message.{Message}
 use Rattle.pnm_tools.specs.declared.fault.ToolFault.{ToolFault}
 use Rattle.pnm_tools.specs.declared.tool.Tool.{Tool}
 use Rattle.pnm_tools.specs.Answers.{Answers}
-use Rattle.pnm_flow.specs.declared.serial_stage.SerialStage.{SerialStage}
-use Rattle.pnm_flow.specs.declared.serial_stage.SerialStage.TheVariants.{AtWork, Refused}
-use Rattle.pnm_flow.specs.SerialStages.{StageAt, StageBusy}
-use Rattle.pnm_flow.specs.StageParts.{HasAnsweredPart, HasSentAnswers}
+use Rattle.pnm_stages.specs.declared.serial_stage.SerialStage.{SerialStage}
+use Rattle.pnm_stages.specs.declared.serial_stage.SerialStage.TheVariants.{AtWork, Refused}
+use Rattle.pnm_stages.specs.SerialStages.{StageAt, StageBusy}
+use Rattle.pnm_stages.specs.StageParts.{HasAnsweredPart, HasSentAnswers}
 
 -- what a tool has sent so far of its answers to a message
 pub record IsSending {F : Type 0} (at : F → Tool → List Message → List Message → Type 0) (stopped : F → Option ToolFault) (old now : SerialStage F) (sent_old sent_now : List Message) : Type 0 where

@@ -1,5 +1,5 @@
-use Rattle.pnm_flow.proofs.StageSteps.{feeds}
-use Rattle.pnm_flow.proofs.serial_stage.SerialStage.feed.Goals as goal
+use Rattle.pnm_stages.proofs.StageSteps.{feeds}
+use Rattle.pnm_stages.proofs.serial_stage.SerialStage.feed.Goals as goal
 
 pub returns-in_default-feed : goal.returns-in_default-feed
 returns-in_default-feed g c = λ tool l given stage.

@@ -1,16 +1,13 @@
-//! The tools of a chain at work, each a stage, in one thread.
+//! A tool at work: what it is fed, what it gives, and its refusal.
 
-ghost use Rattle.std.specs.Prelude.{◌≡◌, ◌<◌, ◌∷◌, ◌++◌, [], List, IfSome, IfNone};
+ghost use Rattle.std.specs.Prelude.{◌≡◌, ◌<◌, ◌∷◌, ◌++◌, [], List, true, IfSome, IfNone};
 ghost use Rattle.pnm_image.specs.declared.message.Message.{Message as MessageValue};
 ghost use Rattle.pnm_tools.specs.declared.tool.Tool.{Tool as ToolValue};
-ghost use Rattle.pnm_flow.specs.Downstreams.{output_of};
-ghost use Rattle.pnm_tools.specs.Tools.{IsLawfulTool};
-ghost use Rattle.pnm_flow.specs.SerialTools.{ToolAt};
-ghost use Rattle.pnm_flow.specs.SerialStages.{refusal_in, waiting_at, StageAt, StageBusy, FeedsThrough};
+ghost use Rattle.pnm_tools.specs.Tools.{IsLawfulTool, is_row_wise};
+ghost use Rattle.pnm_stages.specs.SerialStages.{refusal_in, waiting_at, StageAt, StageBusy, ToolAt, RowToolAt};
 
-use crate::downstream::Downstream;
-use pnm_image::{BytesOut, Message};
-use pnm_tools::{Filter, Tool, ToolFault, ToolState};
+use pnm_image::Message;
+use pnm_tools::{Filter, RowState, Tool, ToolFault, ToolState};
 use std::alloc::Global;
 
 /// A tool of a chain.
@@ -79,22 +76,14 @@ pub fn stage_of(alloc: Global, tool: &Tool) -> SerialStage<ToolState>
     }
 }
 
-/// Passes a message through the stages, and writes what the last of them gives.
-pub fn feed_through<F: Filter + Drop, W: BytesOut + Drop>(
-    stages: &mut [SerialStage<F>],
-    message: Message,
-    downstream: &mut Downstream<W>,
-)
-    ensures fed { FeedsThrough F.at F.all_given F.stopped W.held W.failures
-        stages.old message stages.new downstream.old downstream.new }
-    ensures same_device { W.same (output_of downstream.old) (output_of downstream.new) }
+/// The row-wise tool at work on the messages of a lane; one for which there is no memory has refused.
+pub fn row_stage_of(alloc: Global, tool: &Tool) -> SerialStage<RowState>
+    requires lawful { IsLawfulTool tool.now }
+    requires row_wise { is_row_wise tool.now ≡ true }
+    ensures { RowToolAt result tool.now [] [] }
 {
-    if stages.is_empty() {
-        downstream.put(message);
-        return;
-    }
-    stages[0].feed(message);
-    while let Some(answer) = stages[0].next() {
-        feed_through(&mut stages[1..], answer, downstream);
+    match tool.start_rows(alloc) {
+        Ok(state) => SerialStage::AtWork(state),
+        Err(fault) => SerialStage::Refused(fault),
     }
 }

@@ -1,9 +1,9 @@
 use Rattle.std.proofs.Common.{◌≡◌, None}
 use Rattle.rtrb.specs.Ring.{sent, received, SameProducer, SameConsumer}
 use Rattle.pnm_tools.specs.Answers.{More}
-use Rattle.pnm_flow.specs.SerialStages.{refusal_in}
-use Rattle.pnm_flow.proofs.StagedSteps.{IsPassing}
-use Rattle.pnm_flow.proofs.stage.pass_all.Given as goal
+use Rattle.pnm_stages.specs.SerialStages.{refusal_in}
+use Rattle.pnm_stages.proofs.StagedSteps.{IsPassing}
+use Rattle.pnm_stages.proofs.stage.pass_all.Given as goal
 
 -- what has passed so far
 abbrev pub invariant-loop : goal.invariant-loop

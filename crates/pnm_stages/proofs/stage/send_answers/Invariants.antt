@@ -1,7 +1,7 @@
 use Rattle.rtrb.specs.Ring.{sent, SameProducer}
-use Rattle.pnm_flow.specs.SerialStages.{waiting_at}
-use Rattle.pnm_flow.proofs.SendingSteps.{IsSending}
-use Rattle.pnm_flow.proofs.stage.send_answers.Given as goal
+use Rattle.pnm_stages.specs.SerialStages.{waiting_at}
+use Rattle.pnm_stages.proofs.SendingSteps.{IsSending}
+use Rattle.pnm_stages.proofs.stage.send_answers.Given as goal
 
 -- what was sent so far
 abbrev pub invariant-loop-answer : goal.invariant-loop-answer

@@ -1,0 +1,4 @@
+pub mod StageSteps
+pub mod ToolSteps
+pub mod SendingSteps
+pub mod StagedSteps

@@ -1,0 +1,3 @@
+pub mod SerialStages
+pub mod StageParts
+pub mod Starts
