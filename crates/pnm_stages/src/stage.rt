@@ -81,12 +81,8 @@ pub fn run_stage_by<R: Wait, G: Gate>(
     ensures ran { HasRunStage tool.now result.end (received input) (received result.input) (known_items result.input)
         (sent output) (sent result.output) }
 {
-    let mut input = input;
-    let mut output = output;
     gate.arrive(number, 0);
-    let mut stage = stage_of(alloc, tool);
-    let end = pass_all(rt, &mut stage, &mut input, &mut output, bells);
-    StageDone { input, output, end }
+    run_filter(rt, stage_of(alloc, tool), input, output, bells)
 }
 
 /// The same for one lane of a row-wise tool, on what the lane sees; the gate is called with this lane.
@@ -108,10 +104,27 @@ pub fn run_lane_by<R: Wait, G: Gate>(
     ensures ran { HasRunStage tool.now result.end (received input) (received result.input) (known_items result.input)
         (sent output) (sent result.output) }
 {
+    gate.arrive(number, lane);
+    run_filter(rt, row_stage_of(alloc, tool), input, output, bells)
+}
+
+/// Passes what comes on `input` through a tool at work, or one that has refused, to `output`.
+fn run_filter<R: Wait, F: Filter + Drop>(
+    rt: &R,
+    stage: SerialStage<F>,
+    input: Input,
+    output: Output,
+    bells: Bells<'_>,
+) -> StageDone
+    ensures input { SameConsumer input result.input }
+    ensures output { SameProducer output result.output }
+    ensures ran { (tool : ToolValue) → StageAt F.at F.all_given F.stopped stage tool [] []
+        → HasRunStage tool result.end (received input) (received result.input) (known_items result.input)
+        (sent output) (sent result.output) }
+{
+    let mut stage = stage;
     let mut input = input;
     let mut output = output;
-    gate.arrive(number, lane);
-    let mut stage = row_stage_of(alloc, tool);
     let end = pass_all(rt, &mut stage, &mut input, &mut output, bells);
     StageDone { input, output, end }
 }
