@@ -25,3 +25,6 @@ pub mod LaneStages
 pub mod LaneEnds
 pub mod LaneFaults
 pub mod LaneRuns
+pub mod JoinSteps
+pub mod LaneRunSteps
+pub mod LaneNumbers

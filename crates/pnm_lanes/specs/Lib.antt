@@ -5,3 +5,5 @@ pub mod Gathers
 pub mod GatherParts
 pub mod LaneLaws
 pub mod Lanes
+pub mod LaneRings
+pub mod LaneRuns

@@ -1,0 +1,139 @@
+-- The rings of lanes once all have ended: lane by lane from the last on, what has passed over them, and the end of all.
+use Rattle.std.proofs.Common.{◌≡◌, ℕ, suc, ◌+◌, ◌<◌, List, [], ◌∷◌, ◌++◌, length, refl, sym, ap, subst, ◌∙◌, append_assoc, append-nil, arith}
+use Rattle.std.proofs.lemmas.List.{length-append}
+use Rattle.std.specs.Global.{Global}
+use Rattle.rtrb.specs.declared.producer.Producer.{Producer}
+use Rattle.rtrb.specs.declared.consumer.Consumer.{Consumer}
+use Rattle.rtrb.specs.Ring.{sent, received, IsPair}
+use Rattle.pnm_image.specs.declared.message.Message.{Message}
+use Rattle.pnm_image.specs.Completion.{IsFrontOf}
+use Rattle.pnm_rings.specs.declared.ring.AnyMessage.{AnyMessage}
+use Rattle.pnm_rings.specs.declared.stage_end.StageEnd.{StageEnd}
+use Rattle.pnm_stages.specs.declared.stage.StageDone.{StageDone}
+use Rattle.pnm_lanes.specs.declared.lane_rings.LaneEnds.{LaneEnds}
+use Rattle.pnm_lanes.specs.LaneRings.{AreUnused, ArePairs, HavePassed}
+use Rattle.pnm_lanes.specs.LaneRuns.{end_of_both, end_of_lanes}
+
+one_more : {X : Type 0} (xs : List X) (x : X) → length (xs ++ x ∷ []) ≡ suc (length xs)
+one_more xs x = let both = length-append xs (x ∷ []) in omega (arith, both)
+
+-- ---- rings that are made
+
+pub counted_more : {X : Type 0} (xs ys : List X) (x : X) (n : ℕ) → ys ≡ xs ++ x ∷ [] → length xs ≡ n → length ys ≡ n + 1
+counted_more xs ys x n is count = ap length is ∙ one_more xs x ∙ omega (arith, count)
+
+-- rings to and from one lane more
+pub unused_more : (ss : List (Producer Message Global AnyMessage)) (es : List LaneEnds) (rs : List (Consumer Message Global AnyMessage)) (s : Producer Message Global AnyMessage) (e : LaneEnds) (r : Consumer Message Global AnyMessage)
+    → AreUnused ss es rs → IsPair s e.input → IsPair e.output r → sent s ≡ [] → received e.input ≡ [] → sent e.output ≡ [] → received r ≡ [] → AreUnused (ss ++ s ∷ []) (es ++ e ∷ []) (rs ++ r ∷ [])
+unused_more [] [] [] s e r unused to from a b c d = (to, from, (a, b, c, d), tt)
+unused_more [] [] (y ∷ rs) s e r unused to from a b c d = absurd unused
+unused_more [] (x ∷ es) rs s e r unused to from a b c d = absurd unused
+unused_more (z ∷ ss) [] rs s e r unused to from a b c d = absurd unused
+unused_more (z ∷ ss) (x ∷ es) [] s e r unused to from a b c d = absurd unused
+unused_more (z ∷ ss) (x ∷ es) (y ∷ rs) s e r unused to from a b c d = (unused.0, unused.1, unused.2, unused_more ss es rs s e r unused.3 to from a b c d)
+
+-- ---- the last lane
+
+-- as many rings to lanes as from them
+pub as_many_pairs : (ss : List (Producer Message Global AnyMessage)) (ds : List StageDone) (rs : List (Consumer Message Global AnyMessage)) → ArePairs ss ds rs → (length ss ≡ length ds) × (length rs ≡ length ds)
+as_many_pairs [] [] [] pairs = (refl, refl)
+as_many_pairs [] [] (r ∷ rs) pairs = absurd pairs
+as_many_pairs [] (d ∷ ds) rs pairs = absurd pairs
+as_many_pairs (s ∷ ss) [] rs pairs = absurd pairs
+as_many_pairs (s ∷ ss) (d ∷ ds) [] pairs = absurd pairs
+as_many_pairs (s ∷ ss) (d ∷ ds) (r ∷ rs) pairs =
+    let rest = as_many_pairs ss ds rs pairs.2 in
+    (ap suc rest.0, ap suc rest.1)
+
+-- the rings of the last lane, and those of the lanes before it
+pub pairs_last : (ss : List (Producer Message Global AnyMessage)) (ds : List StageDone) (rs : List (Consumer Message Global AnyMessage)) (s : Producer Message Global AnyMessage) (d : StageDone) (r : Consumer Message Global AnyMessage)
+    → ArePairs (ss ++ s ∷ []) (ds ++ d ∷ []) (rs ++ r ∷ []) → ArePairs ss ds rs × IsPair s d.input × IsPair d.output r
+pairs_last [] [] [] s d r pairs = (tt, pairs.0, pairs.1)
+pairs_last [] [] (y ∷ rs) s d r pairs = let many = as_many_pairs (s ∷ []) (d ∷ []) (y ∷ (rs ++ r ∷ [])) pairs in absurd (omega (arith, many.1, one_more rs r))
+pairs_last [] (x ∷ ds) rs s d r pairs = let many = as_many_pairs (s ∷ []) (x ∷ (ds ++ d ∷ [])) (rs ++ r ∷ []) pairs in absurd (omega (arith, many.0, one_more ds d))
+pairs_last (z ∷ ss) [] rs s d r pairs = let many = as_many_pairs (z ∷ (ss ++ s ∷ [])) (d ∷ []) (rs ++ r ∷ []) pairs in absurd (omega (arith, many.0, one_more ss s))
+pairs_last (z ∷ ss) (x ∷ ds) [] s d r pairs = let many = as_many_pairs (z ∷ (ss ++ s ∷ [])) (x ∷ (ds ++ d ∷ [])) (r ∷ []) pairs in absurd (omega (arith, many.1, one_more ds d))
+pairs_last (z ∷ ss) (x ∷ ds) (y ∷ rs) s d r pairs =
+    let rest = pairs_last ss ds rs s d r pairs.2 in
+    ((pairs.0, pairs.1, rest.0), rest.1, rest.2)
+
+-- ---- lane by lane
+
+-- some of the last lanes were looked at: what had passed over their rings, and their end with that of the thread behind them
+pub record IsJoining (all_ss : List (Producer Message Global AnyMessage)) (all_ds : List StageDone) (all_rs : List (Consumer Message Global AnyMessage)) (gatherer : StageEnd)
+    (ss : List (Producer Message Global AnyMessage)) (ds : List StageDone) (rs : List (Consumer Message Global AnyMessage)) (end : StageEnd) : Type 0 where
+  pub to_lanes : List (Producer Message Global AnyMessage)
+  pub lanes : List StageDone
+  pub from_lanes : List (Consumer Message Global AnyMessage)
+  pub parts : (all_ss ≡ ss ++ to_lanes) × (all_ds ≡ ds ++ lanes) × (all_rs ≡ rs ++ from_lanes)
+  pub pairs : ArePairs ss ds rs
+  pub passed : HavePassed to_lanes lanes from_lanes
+  pub end_is : end ≡ end_of_lanes lanes gatherer
+
+pub joins_none : (ss : List (Producer Message Global AnyMessage)) (ds : List StageDone) (rs : List (Consumer Message Global AnyMessage)) (gatherer : StageEnd) → ArePairs ss ds rs → IsJoining ss ds rs gatherer ss ds rs gatherer
+joins_none ss ds rs gatherer pairs = record {
+  to_lanes = [];
+  lanes = [];
+  from_lanes = [];
+  parts = (sym (append-nil ss), sym (append-nil ds), sym (append-nil rs));
+  pairs = pairs;
+  passed = tt;
+  end_is = refl;
+}
+
+-- the last of those that are left is taken
+pub record IsTaken (ss ss' : List (Producer Message Global AnyMessage)) (ds ds' : List StageDone) (rs rs' : List (Consumer Message Global AnyMessage)) (s : Producer Message Global AnyMessage) (d : StageDone) (r : Consumer Message Global AnyMessage) : Type 0 where
+  pub sender : ss ≡ ss' ++ s ∷ []
+  pub lane : ds ≡ ds' ++ d ∷ []
+  pub receiver : rs ≡ rs' ++ r ∷ []
+
+pub taken_pairs : (all_ss : List (Producer Message Global AnyMessage)) (all_ds : List StageDone) (all_rs : List (Consumer Message Global AnyMessage)) (gatherer : StageEnd) (ss ss' : List (Producer Message Global AnyMessage)) (ds ds' : List StageDone) (rs rs' : List (Consumer Message Global AnyMessage)) (end : StageEnd)
+    (s : Producer Message Global AnyMessage) (d : StageDone) (r : Consumer Message Global AnyMessage) → IsJoining all_ss all_ds all_rs gatherer ss ds rs end → IsTaken ss ss' ds ds' rs rs' s d r → ArePairs ss' ds' rs' × IsPair s d.input × IsPair d.output r
+taken_pairs all_ss all_ds all_rs gatherer ss ss' ds ds' rs rs' end s d r joining taken =
+    pairs_last ss' ds' rs' s d r
+    (subst (λ (x : List (Producer Message Global AnyMessage)). ArePairs x (ds' ++ d ∷ []) (rs' ++ r ∷ [])) taken.sender
+    (subst (λ (x : List StageDone). ArePairs ss x (rs' ++ r ∷ [])) taken.lane
+    (subst (ArePairs ss ds) taken.receiver joining.pairs)))
+
+-- and looked at
+pub joins_one : (all_ss : List (Producer Message Global AnyMessage)) (all_ds : List StageDone) (all_rs : List (Consumer Message Global AnyMessage)) (gatherer : StageEnd) (ss ss' : List (Producer Message Global AnyMessage)) (ds ds' : List StageDone) (rs rs' : List (Consumer Message Global AnyMessage)) (end next : StageEnd)
+    (s : Producer Message Global AnyMessage) (d : StageDone) (r : Consumer Message Global AnyMessage) → IsJoining all_ss all_ds all_rs gatherer ss ds rs end → IsTaken ss ss' ds ds' rs rs' s d r
+    → IsFrontOf (received d.input) (sent s) → IsFrontOf (received r) (sent d.output) → next ≡ end_of_both d.end end → IsJoining all_ss all_ds all_rs gatherer ss' ds' rs' next
+joins_one all_ss all_ds all_rs gatherer ss ss' ds ds' rs rs' end next s d r joining taken to from is = record {
+  to_lanes = s ∷ joining.to_lanes;
+  lanes = d ∷ joining.lanes;
+  from_lanes = r ∷ joining.from_lanes;
+  parts = (
+    joining.parts.0 ∙ ap (λ (x : List (Producer Message Global AnyMessage)). x ++ joining.to_lanes) taken.sender ∙ append_assoc ss' (s ∷ []) joining.to_lanes,
+    joining.parts.1 ∙ ap (λ (x : List StageDone). x ++ joining.lanes) taken.lane ∙ append_assoc ds' (d ∷ []) joining.lanes,
+    joining.parts.2 ∙ ap (λ (x : List (Consumer Message Global AnyMessage)). x ++ joining.from_lanes) taken.receiver ∙ append_assoc rs' (r ∷ []) joining.from_lanes,
+  );
+  pairs = (taken_pairs all_ss all_ds all_rs gatherer ss ss' ds ds' rs rs' end s d r joining taken).0;
+  passed = (to, from, joining.passed);
+  end_is = is ∙ ap (end_of_both d.end) joining.end_is;
+}
+
+-- all were looked at
+no_member : {X : Type 0} (xs : List X) → length xs ≡ 0 → xs ≡ []
+no_member [] none = refl
+no_member (x ∷ xs) none = absurd (omega (arith, none))
+
+pub joins_all : (all_ss : List (Producer Message Global AnyMessage)) (all_ds : List StageDone) (all_rs : List (Consumer Message Global AnyMessage)) (gatherer : StageEnd) (ss : List (Producer Message Global AnyMessage)) (ds : List StageDone) (rs : List (Consumer Message Global AnyMessage)) (end : StageEnd)
+    → IsJoining all_ss all_ds all_rs gatherer ss ds rs end → length ds ≡ 0 → HavePassed all_ss all_ds all_rs × (end ≡ end_of_lanes all_ds gatherer)
+joins_all all_ss all_ds all_rs gatherer ss ds rs end joining none =
+    let many = as_many_pairs ss ds rs joining.pairs in
+    let of_ss : all_ss ≡ joining.to_lanes = joining.parts.0 ∙ ap (λ (x : List (Producer Message Global AnyMessage)). x ++ joining.to_lanes) (no_member ss (many.0 ∙ none)) in
+    let of_ds : all_ds ≡ joining.lanes = joining.parts.1 ∙ ap (λ (x : List StageDone). x ++ joining.lanes) (no_member ds none) in
+    let of_rs : all_rs ≡ joining.from_lanes = joining.parts.2 ∙ ap (λ (x : List (Consumer Message Global AnyMessage)). x ++ joining.from_lanes) (no_member rs (many.1 ∙ none)) in (
+      subst (λ (x : List (Producer Message Global AnyMessage)). HavePassed x all_ds all_rs) (sym of_ss)
+          (subst (λ (x : List StageDone). HavePassed joining.to_lanes x all_rs) (sym of_ds)
+          (subst (HavePassed joining.to_lanes joining.lanes) (sym of_rs) joining.passed)),
+      joining.end_is ∙ ap (λ (x : List StageDone). end_of_lanes x gatherer) (sym of_ds),
+    )
+
+-- a lane more has rings
+pub pairs_some : (ss : List (Producer Message Global AnyMessage)) (ds ds' : List StageDone) (d : StageDone) (rs : List (Consumer Message Global AnyMessage)) → ArePairs ss ds rs → ds ≡ ds' ++ d ∷ [] → (0 < length ss) × (0 < length rs)
+pairs_some ss ds ds' d rs pairs is =
+    let many = as_many_pairs ss ds rs pairs in
+    let count : length ds ≡ suc (length ds') = ap length is ∙ one_more ds' d in
+    (omega (arith, many.0, count), omega (arith, many.1, count))

@@ -1,0 +1,38 @@
+-- The threads of lanes, one lane more.
+use Rattle.std.proofs.Common.{◌≡◌, ℕ, List, [], ◌∷◌, ◌++◌, length, suc, Option, Some, refl, sym, ap, subst, ◌∙◌}
+use Rattle.std.specs.Prelude.{IfSome, vec_capacity}
+use Rattle.std.specs.Global.{Vec}
+use Rattle.pnm_tools.specs.declared.tool.Tool.{Tool}
+use Rattle.pnm_stages.specs.declared.stage.StageDone.{StageDone}
+use Rattle.pnm_lanes.specs.declared.joining.LanesDone.{LanesDone}
+use Rattle.pnm_lanes.specs.declared.lane_rings.LaneEnds.{LaneEnds}
+use Rattle.pnm_lanes.specs.declared.lanes.OuterEnds.{OuterEnds}
+use Rattle.pnm_lanes.specs.LaneRuns.{IsLaneRun, AreLanesRun, HaveRun}
+
+lanes_run_more : (tool : Tool) (es : List LaneEnds) (ds : List StageDone) (e : LaneEnds) (d : StageDone) → AreLanesRun tool es ds → IsLaneRun tool e.input e.output d → AreLanesRun tool (es ++ e ∷ []) (ds ++ d ∷ [])
+lanes_run_more tool [] [] e d run one = (one, tt)
+lanes_run_more tool [] (y ∷ ds) e d run one = absurd run
+lanes_run_more tool (x ∷ es) [] e d run one = absurd run
+lanes_run_more tool (x ∷ es) (y ∷ ds) e d run one = (run.0, lanes_run_more tool es ds e d run.1 one)
+
+pub as_many_run : (tool : Tool) (es : List LaneEnds) (ds : List StageDone) → AreLanesRun tool es ds → length ds ≡ length es
+as_many_run tool [] [] run = refl
+as_many_run tool [] (y ∷ ds) run = absurd run
+as_many_run tool (x ∷ es) [] run = absurd run
+as_many_run tool (x ∷ es) (y ∷ ds) run = ap suc (as_many_run tool es ds run.1)
+
+-- the threads that came back
+pub came_back : (tool : Tool) (es : List LaneEnds) (outer : OuterEnds) (room : ℕ) (result : Option LanesDone) (done : LanesDone) → IfSome result (HaveRun tool es outer room) → result ≡ Some done → HaveRun tool es outer room done
+came_back tool es outer room result done run is = subst (λ (x : Option LanesDone). IfSome x (HaveRun tool es outer room)) is run
+
+pub has_run_more : (tool : Tool) (all es : List LaneEnds) (outer : OuterEnds) (room : ℕ) (done : LanesDone) (lanes : Vec StageDone) (e : LaneEnds) (d : StageDone) → HaveRun tool es outer room done → IsLaneRun tool e.input e.output d
+    → all ≡ es ++ e ∷ [] → lanes.items ≡ done.lanes.items ++ d ∷ [] → vec_capacity lanes ≡ vec_capacity done.lanes → HaveRun tool all outer room (record { dealt = done.dealt; lanes = lanes; gathered = done.gathered })
+has_run_more tool all es outer room done lanes e d run one is added same = record {
+  input = run.input;
+  dealt = run.dealt;
+  lanes_run = subst (λ (x : List LaneEnds). AreLanesRun tool x lanes.items) (sym is) (subst (AreLanesRun tool (es ++ e ∷ [])) (sym added) (lanes_run_more tool es done.lanes.items e d run.lanes_run one));
+  inputs = run.inputs;
+  output = run.output;
+  gathered = run.gathered;
+  for_lanes = same ∙ run.for_lanes;
+}

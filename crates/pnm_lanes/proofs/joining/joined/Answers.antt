@@ -1,0 +1,31 @@
+use Rattle.std.proofs.Common.{◌++◌, sym, ap, ◌∙◌, arith}
+use Rattle.rtrb.specs.Ring.{known_items}
+use Rattle.pnm_lanes.proofs.JoinSteps.{joins_none, taken_pairs, joins_one, joins_all}
+use Rattle.pnm_lanes.proofs.joining.joined.Goals as goal
+
+pub loop-lane-init : goal.loop-lane-init
+loop-lane-init c = joins_none c.args.done.dealt.outputs.items c.args.done.lanes.items c.args.done.gathered.inputs.items c.args.done.gathered.end c.requires.rings
+
+pub slots_beside-requires : goal.slots_beside-requires
+slots_beside-requires c =
+    (taken_pairs c.args.done.dealt.outputs.items c.args.done.lanes.items c.args.done.gathered.inputs.items c.args.done.gathered.end c.loop-lane.outputs.items c.pop-in-Some.new.self.items c.loop-lane.lanes.items c.pop.new.self.items
+    c.loop-lane.inputs.items c.pop-in-Some-2.new.self.items c.loop-lane.end c.in-Some-pop.sender c.in-Some.lane c.in-Some-pop-2.receiver c.loop-lane.invariant
+    (record { sender = c.in-Some-pop.ensures.items; lane = c.in-Some.ensures.items; receiver = c.in-Some-pop-2.ensures.items })).1
+
+pub slots_beside-requires-in-Some : goal.slots_beside-requires-in-Some
+slots_beside-requires-in-Some c =
+    (taken_pairs c.args.done.dealt.outputs.items c.args.done.lanes.items c.args.done.gathered.inputs.items c.args.done.gathered.end c.loop-lane.outputs.items c.pop-in-Some.new.self.items c.loop-lane.lanes.items c.pop.new.self.items
+    c.loop-lane.inputs.items c.pop-in-Some-2.new.self.items c.loop-lane.end c.in-Some-pop.sender c.in-Some.lane c.in-Some-pop-2.receiver c.loop-lane.invariant
+    (record { sender = c.in-Some-pop.ensures.items; lane = c.in-Some.ensures.items; receiver = c.in-Some-pop-2.ensures.items })).2
+
+pub loop-lane-preserved : goal.loop-lane-preserved
+loop-lane-preserved c =
+    joins_one c.args.done.dealt.outputs.items c.args.done.lanes.items c.args.done.gathered.inputs.items c.args.done.gathered.end c.loop-lane.outputs.items c.pop-in-Some.new.self.items c.loop-lane.lanes.items c.pop.new.self.items
+    c.loop-lane.inputs.items c.pop-in-Some-2.new.self.items c.loop-lane.end c.end_of_both-end.result c.in-Some-pop.sender c.in-Some.lane c.in-Some-pop-2.receiver c.loop-lane.invariant
+    (record { sender = c.in-Some-pop.ensures.items; lane = c.in-Some.ensures.items; receiver = c.in-Some-pop-2.ensures.items })
+    (known_items c.slots_beside.new.self, sym (ap (λ (x : _). x ++ known_items c.slots_beside.new.self) (sym c.slots_beside.ensures.looked.1) ∙ c.slots_beside.ensures.fifo ∙ c.slots_beside.ensures.producer.1))
+    (known_items c.slots_beside-in-Some.new.self, sym (ap (λ (x : _). x ++ known_items c.slots_beside-in-Some.new.self) (sym c.slots_beside-in-Some.ensures.looked.1) ∙ c.slots_beside-in-Some.ensures.fifo ∙ c.slots_beside-in-Some.ensures.producer.1))
+    c.end_of_both-end.ensures
+
+pub returns-clause-passed : goal.returns-clause-passed
+returns-clause-passed c = (joins_all c.args.done.dealt.outputs.items c.args.done.lanes.items c.args.done.gathered.inputs.items c.args.done.gathered.end c.loop-lane.outputs.items c.loop-lane.lanes.items c.loop-lane.inputs.items c.loop-lane.end c.loop-lane.invariant (let ok = c.loop-lane.lanes.ok in let none = c.in_default.ensures.cases.0 in omega (arith, ok, none))).0

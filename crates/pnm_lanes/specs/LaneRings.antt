@@ -1,0 +1,40 @@
+-- The rings of a tool over several lanes: one to each lane, of which the thread before the lanes has the end to send on, and
+-- one from it, of which the thread behind them has the end to receive on.
+use Rattle.std.specs.Prelude.{◌≡◌, List, [], ◌∷◌}
+use Rattle.std.specs.Global.{Global}
+use Rattle.rtrb.specs.declared.producer.Producer.{Producer}
+use Rattle.rtrb.specs.declared.consumer.Consumer.{Consumer}
+use Rattle.rtrb.specs.Ring.{sent, received, IsPair}
+use Rattle.pnm_image.specs.declared.message.Message.{Message}
+use Rattle.pnm_image.specs.Completion.{IsFrontOf}
+use Rattle.pnm_rings.specs.declared.ring.AnyMessage.{AnyMessage}
+use Rattle.pnm_stages.specs.declared.stage.StageDone.{StageDone}
+use Rattle.pnm_lanes.specs.declared.lane_rings.LaneEnds.{LaneEnds}
+
+-- rings to and from each lane, over which nothing has passed
+abbrev pub AreUnused : List (Producer Message Global AnyMessage) → List LaneEnds → List (Consumer Message Global AnyMessage) → Type 0
+AreUnused [] [] [] = Unit {0}
+AreUnused [] [] (r ∷ rs) = ⊥
+AreUnused [] (e ∷ es) rs = ⊥
+AreUnused (s ∷ ss) [] rs = ⊥
+AreUnused (s ∷ ss) (e ∷ es) [] = ⊥
+AreUnused (s ∷ ss) (e ∷ es) (r ∷ rs) =
+    IsPair s e.input × IsPair e.output r × ((sent s ≡ []) × (received e.input ≡ []) × (sent e.output ≡ []) × (received r ≡ [])) × AreUnused ss es rs
+
+-- the ends of the rings of lanes that have ended
+abbrev pub ArePairs : List (Producer Message Global AnyMessage) → List StageDone → List (Consumer Message Global AnyMessage) → Type 0
+ArePairs [] [] [] = Unit {0}
+ArePairs [] [] (r ∷ rs) = ⊥
+ArePairs [] (d ∷ ds) rs = ⊥
+ArePairs (s ∷ ss) [] rs = ⊥
+ArePairs (s ∷ ss) (d ∷ ds) [] = ⊥
+ArePairs (s ∷ ss) (d ∷ ds) (r ∷ rs) = IsPair s d.input × IsPair d.output r × ArePairs ss ds rs
+
+-- each lane received a front of what was sent to it, and a front of what it sent was received
+abbrev pub HavePassed : List (Producer Message Global AnyMessage) → List StageDone → List (Consumer Message Global AnyMessage) → Type 0
+HavePassed [] [] [] = Unit {0}
+HavePassed [] [] (r ∷ rs) = ⊥
+HavePassed [] (d ∷ ds) rs = ⊥
+HavePassed (s ∷ ss) [] rs = ⊥
+HavePassed (s ∷ ss) (d ∷ ds) [] = ⊥
+HavePassed (s ∷ ss) (d ∷ ds) (r ∷ rs) = IsFrontOf (received d.input) (sent s) × IsFrontOf (received r) (sent d.output) × HavePassed ss ds rs

@@ -1,0 +1,81 @@
+-- What a row-wise tool over several lanes has received and sent once all of its threads have ended.
+use Rattle.std.specs.Prelude.{◌≡◌, ◌⊎◌, ℕ, List, [], ◌∷◌, ◌++◌, length, vec_capacity}
+use Rattle.std.specs.Global.{Global}
+use Rattle.rtrb.specs.declared.producer.Producer.{Producer}
+use Rattle.rtrb.specs.declared.consumer.Consumer.{Consumer}
+use Rattle.rtrb.specs.Ring.{sent, received, known_items, SameProducer, SameConsumer}
+use Rattle.pnm_image.specs.declared.message.Message.{Message}
+use Rattle.pnm_tools.specs.declared.tool.Tool.{Tool}
+use Rattle.pnm_rings.specs.declared.ring.AnyMessage.{AnyMessage}
+use Rattle.pnm_rings.specs.declared.stage_end.StageEnd.{StageEnd}
+use Rattle.pnm_rings.specs.declared.stage_end.StageEnd.TheVariants.{Well, Broken, Fault, PeerGone}
+use Rattle.pnm_rings.specs.Rings.{IsEnded}
+use Rattle.pnm_rings.specs.Stages.{HasRunStage}
+use Rattle.pnm_stages.specs.declared.stage.StageDone.{StageDone}
+use Rattle.pnm_lanes.specs.declared.joining.LanesDone.{LanesDone}
+use Rattle.pnm_lanes.specs.declared.lane_rings.LaneEnds.{LaneEnds}
+use Rattle.pnm_lanes.specs.declared.lanes.OuterEnds.{OuterEnds}
+use Rattle.pnm_lanes.specs.Deals.{HasDealt}
+use Rattle.pnm_lanes.specs.Gathers.{at_lane, AreSameInputs, HasGathered}
+use Rattle.pnm_lanes.specs.Lanes.{IsStageOfLanes}
+use Rattle.pnm_lanes.specs.Limits.{IsLaneCount}
+
+-- ---- the end
+
+-- the end of two threads, of which the first comes before the other: that one of them saw the other end of a ring dropped;
+-- else the first fault; else the other's end
+abbrev pub end_of_both : StageEnd → StageEnd → StageEnd
+end_of_both PeerGone other = PeerGone
+end_of_both (Fault fault) PeerGone = PeerGone
+end_of_both (Fault fault) Well = Fault fault
+end_of_both (Fault fault) Broken = Fault fault
+end_of_both (Fault fault) (Fault later) = Fault fault
+end_of_both Well other = other
+end_of_both Broken other = other
+
+-- the end of lanes, and of the thread behind them
+abbrev pub end_of_lanes : List StageDone → StageEnd → StageEnd
+end_of_lanes [] gatherer = gatherer
+end_of_lanes (lane ∷ lanes) gatherer = end_of_both lane.end (end_of_lanes lanes gatherer)
+
+-- ---- the run
+
+-- a tool over several lanes has ended so, by the messages that its two outer rings had passed before and have passed now, and
+-- those that are left in the first: none, or the end of the stream was received
+pub record HasRunLanes (tool : Tool) (end : StageEnd) (received_old received_new left sent_old sent_new : List Message) : Type 0 where
+  pub took : List Message
+  pub gave : List Message
+  pub input : received_new ≡ received_old ++ took
+  pub output : sent_new ≡ sent_old ++ gave
+  pub drained : IsEnded took ⊎ (left ≡ [])
+  pub stage : IsStageOfLanes tool end took gave
+
+-- ---- its parts
+
+-- a lane has ended
+abbrev pub IsLaneRun : Tool → Consumer Message Global AnyMessage → Producer Message Global AnyMessage → StageDone → Type 0
+IsLaneRun tool input output done =
+    SameConsumer input done.input × SameProducer output done.output
+    × HasRunStage tool done.end (received input) (received done.input) (known_items done.input) (sent output) (sent done.output)
+
+-- each lane has
+abbrev pub AreLanesRun : Tool → List LaneEnds → List StageDone → Type 0
+AreLanesRun tool [] [] = Unit {0}
+AreLanesRun tool [] (done ∷ dones) = ⊥
+AreLanesRun tool (ends ∷ lanes) [] = ⊥
+AreLanesRun tool (ends ∷ lanes) (done ∷ dones) = IsLaneRun tool ends.input ends.output done × AreLanesRun tool lanes dones
+
+-- the dealer, these lanes and the gatherer have ended, each over its ring ends; the list of the lanes still has so much room
+pub record HaveRun (tool : Tool) (lanes : List LaneEnds) (outer : OuterEnds) (room : ℕ) (done : LanesDone) : Type 0 where
+  pub input : SameConsumer outer.input done.dealt.input
+  pub dealt : HasDealt done.dealt.end (received outer.input) (received done.dealt.input) (known_items done.dealt.input) outer.outputs.items done.dealt.outputs.items
+  pub lanes_run : AreLanesRun tool lanes done.lanes.items
+  pub inputs : AreSameInputs outer.inputs.items done.gathered.inputs.items
+  pub output : SameProducer outer.output done.gathered.output
+  pub gathered : HasGathered done.gathered.end (length outer.inputs.items) (at_lane received outer.inputs.items) (at_lane received done.gathered.inputs.items)
+      (at_lane known_items done.gathered.inputs.items) (sent outer.output) (sent done.gathered.output)
+  pub for_lanes : vec_capacity done.lanes ≡ room
+
+-- both threads beside the lanes have as many ring ends, 1 to 8
+abbrev pub AreAround : OuterEnds → Type 0
+AreAround outer = IsLaneCount (length outer.outputs.items) × (length outer.inputs.items ≡ length outer.outputs.items)

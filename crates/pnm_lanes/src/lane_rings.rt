@@ -1,0 +1,62 @@
+//! The rings of a tool over several lanes: one to each lane and one from it.
+
+ghost use Rattle.std.specs.Prelude.{◌≡◌, length, IfSome};
+ghost use Rattle.pnm_lanes.specs.LaneRings.{AreUnused};
+
+use pnm_rings::{Bell, Input, Output, new_ring};
+use std::alloc::Global;
+
+/// The ring ends of a lane.
+#[derive(Drop)]
+pub struct LaneEnds {
+    /// The end that it receives on.
+    pub input: Input,
+    /// The end that it sends on.
+    pub output: Output,
+}
+
+/// The ends of the rings of several lanes, in the order of the lanes.
+#[derive(Drop)]
+pub struct LaneRings {
+    /// Those that the thread before the lanes sends on.
+    pub outputs: Vec<Output>,
+    /// Those of the lanes.
+    pub lanes: Vec<LaneEnds>,
+    /// Those that the thread behind the lanes receives on.
+    pub inputs: Vec<Input>,
+}
+
+impl LaneRings {
+    /// Rings for so many messages each; none where there is no memory.
+    pub fn new(alloc: Global, lanes: usize, capacity: usize) -> Option<LaneRings>
+        ensures unused { IfSome result (λ rings. AreUnused rings.outputs.items rings.lanes.items rings.inputs.items) }
+        ensures count { IfSome result (λ rings. length rings.lanes.items ≡ lanes) }
+    {
+        let mut outputs = Vec::with_capacity(alloc, lanes).ok()?;
+        let mut ends = Vec::with_capacity(alloc, lanes).ok()?;
+        let mut inputs = Vec::with_capacity(alloc, lanes).ok()?;
+        for _ in 0..lanes {
+            let (sender, input) = new_ring(alloc, capacity)?;
+            let (output, receiver) = new_ring(alloc, capacity)?;
+            outputs.push_reserved(sender);
+            ends.push_reserved(LaneEnds { input, output });
+            inputs.push_reserved(receiver);
+        }
+        Some(LaneRings {
+            outputs,
+            lanes: ends,
+            inputs,
+        })
+    }
+}
+
+/// A bell for each lane; none where there is no memory.
+pub fn lane_bells(alloc: Global, lanes: usize) -> Option<Vec<Bell>>
+    ensures { IfSome result (λ bells. length bells.items ≡ lanes) }
+{
+    let mut bells = Vec::with_capacity(alloc, lanes).ok()?;
+    for _ in 0..lanes {
+        bells.push_reserved(Bell::new());
+    }
+    Some(bells)
+}
