@@ -8,6 +8,7 @@ pub mod CountLaws
 pub mod RunSteps
 pub mod EndSteps
 pub mod RefusalExample
+pub mod LaneRefusals
 pub mod ChainSteps
 pub mod StageEndLaws
 pub mod ThreadedRunSteps
