@@ -1,19 +1,18 @@
 -- The stages of a chain: one more, what is left between them, and what the chain has answered.
-use Rattle.std.proofs.Common.{◌≡◌, ◌≢◌, inl, inr, ℕ, suc, ◌+◌, ◌≤◌, ◌<◌, List, [], ◌∷◌, ◌++◌, length, Option, Some, Result, Ok, Err, refl, sym, ap, subst, ◌∙◌, append_assoc, append-nil, arith}
+use Rattle.std.proofs.Common.{◌≡◌, ◌≢◌, ℕ, suc, ◌+◌, ◌≤◌, ◌<◌, List, [], ◌∷◌, ◌++◌, length, Option, Some, Result, Ok, Err, refl, sym, ap, subst, ◌∙◌, append_assoc, append-nil, arith}
 use Rattle.std.specs.Prelude.{IfOk, IfSome, vec_capacity}
 use Rattle.std.specs.Global.{Global}
 use Rattle.std.specs.List.{AllByRecursion}
 use Rattle.rtrb.specs.declared.producer.Producer.{Producer}
 use Rattle.rtrb.specs.declared.consumer.Consumer.{Consumer}
-use Rattle.rtrb.specs.Ring.{sent, received, known_items}
+use Rattle.rtrb.specs.Ring.{sent, received, known_items, SameProducer, SameConsumer}
 use Rattle.pnm_image.specs.declared.message.Message.{Message}
-use Rattle.pnm_image.specs.declared.message.Message.TheVariants.{Stop}
 use Rattle.pnm_image.specs.Limits.{max_tools}
 use Rattle.pnm_image.specs.Images.{Image, messages_of_stream}
 use Rattle.pnm_image.specs.Messages.{without_stop}
 use Rattle.pnm_image.specs.Completion.{IsFrontOf, IsStreamOf}
 use Rattle.pnm_tools.specs.declared.tool.Tool.{Tool}
-use Rattle.pnm_tools.specs.Answers.{Whole, BrokenOff, EndsBy, AreResults}
+use Rattle.pnm_tools.specs.Answers.{AreResults}
 use Rattle.pnm_tools.specs.Chains.{AreLawfulTools, AreResultsInTurn, due_in_turn}
 use Rattle.pnm_tools.specs.Tools.{IsLawfulTool, output_due}
 use Rattle.pnm_tools.proofs.FrontLaws.{nothing_changes, front_by_results}
@@ -21,79 +20,69 @@ use Rattle.pnm_tools.proofs.FullLaws.{front_of_front}
 use Rattle.pnm_tools.proofs.RefusalLaws.{results_are_images, same_in_turn, results_in_turn}
 use Rattle.pnm_flow.specs.declared.chain.ChainDone.{ChainDone}
 use Rattle.pnm_stages.specs.declared.no_start.NoStart.{NoStart}
+use Rattle.pnm_stages.specs.declared.stage.StageDone.{StageDone}
 use Rattle.pnm_flow.specs.declared.link.Link.{Link}
 use Rattle.pnm_rings.specs.declared.ring.AnyMessage.{AnyMessage}
 use Rattle.pnm_rings.specs.declared.stage_end.StageEnd.{StageEnd}
-use Rattle.pnm_rings.specs.declared.stage_end.StageEnd.TheVariants.{Well, Broken, Fault, PeerGone}
+use Rattle.pnm_rings.specs.declared.stage_end.StageEnd.TheVariants.{Well, PeerGone}
 use Rattle.pnm_rings.specs.Fronts.{IsFrontOfDue}
 use Rattle.pnm_rings.specs.Rings.{IsEnded}
 use Rattle.pnm_flow.specs.Links.{IsWhole, IsDrained}
-use Rattle.pnm_rings.specs.Stages.{HasEndedSo, IsStage, HasRunStage}
-use Rattle.pnm_flow.specs.Chains.{FirstIsThere, AreStages, HasAnsweredStream, HasRunStages, HasRunChain, HasRunBetween}
-use Rattle.pnm_rings.proofs.RingSteps.{ends_with}
-use Rattle.pnm_rings.proofs.EndingLaws.{nothing_follows, stream_ends_whole}
+use Rattle.pnm_flow.specs.Chains.{IsStageOver, HasRunTool, FirstIsThere, AreStages, HasAnsweredStream, HasRunStages, HasRunChain, HasRunBetween}
+use Rattle.pnm_flow.specs.ThreadedRuns.{HasEndedOver}
+use Rattle.pnm_rings.proofs.EndingLaws.{nothing_follows}
 use Rattle.pnm_rings.proofs.FrontLaws.{front_without_stop}
+use Rattle.pnm_flow.proofs.ToolOverLaws.{stage_ended, ended_well, received_ended, sent_ended, stage_due}
 
 -- ---- what is left between two stages
 
--- what a stage received has ended, and what it sent has, unless it saw a neighbour's end dropped
-pub received_ended : (tool : Tool) (end : StageEnd) (l g : List Message) → HasEndedSo tool end l g → end ≢ PeerGone → IsEnded l
-received_ended tool Well l g ended there = inl (subst (EndsBy Whole) (sym ended.stream.messages) (stream_ends_whole ended.images))
-received_ended tool Broken l g ended there = inr ended.ends
-received_ended tool (Fault fault) l g ended there = ended.ends
-received_ended tool PeerGone l g ended there = absurd (there refl)
-
-pub sent_ended : (tool : Tool) (end : StageEnd) (l g : List Message) → HasEndedSo tool end l g → end ≢ PeerGone → IsEnded g
-sent_ended tool Well l g ended there = inl (subst (EndsBy Whole) (sym ended.answer) (stream_ends_whole ended.results))
-sent_ended tool Broken l g ended there = inr (ended.full.ends BrokenOff ended.ends)
-sent_ended tool (Fault fault) l g ended there = inr (subst (EndsBy BrokenOff) (sym ended.answer) (ends_with ended.given Stop ended.unbroken))
-sent_ended tool PeerGone l g ended there = absurd (there refl)
-
-drained_between : (tool next : Tool) (end after : StageEnd) (link : Link) (l g : List Message) → IsStage tool end l (sent link.producer) → IsWhole link → IsStage next after (received link.consumer) g → end ≢ PeerGone → after ≢ PeerGone → IsDrained link
-drained_between tool next end after link l g first whole second there also =
-    nothing_follows (received link.consumer) (known_items link.consumer) (received_ended next after (received link.consumer) g second.ended also) (subst IsEnded whole.in_order (sent_ended tool end l (sent link.producer) first.ended there))
+drained_between : (lanes : ℕ) (tool next : Tool) (end after : StageEnd) (link : Link) (l g : List Message) → IsStageOver lanes tool end l (sent link.producer) → IsWhole link → IsStageOver lanes next after (received link.consumer) g → end ≢ PeerGone → after ≢ PeerGone
+    → IsDrained link
+drained_between lanes tool next end after link l g first whole second there also =
+    nothing_follows (received link.consumer) (known_items link.consumer) (received_ended lanes next after (received link.consumer) g (stage_ended lanes next after (received link.consumer) g second) also)
+    (subst IsEnded whole.in_order (sent_ended lanes tool end l (sent link.producer) (stage_ended lanes tool end l (sent link.producer) first) there))
 
 -- ---- one stage more
 
-no_stages : (tools : List Tool) (links : List Link) (took gave : List Message) → AreStages tools [] links took gave → ⊥
-no_stages [] links took gave are = are
-no_stages (t ∷ tools) links took gave are = are
+no_stages : (lanes : ℕ) (tools : List Tool) (links : List Link) (took gave : List Message) → AreStages lanes tools [] links took gave → ⊥
+no_stages lanes [] links took gave are = are
+no_stages lanes (t ∷ tools) links took gave are = are
 
-pub add_stage : (tools : List Tool) (ends : List StageEnd) (links : List Link) (tool : Tool) (end : StageEnd) (link : Link) (took gave : List Message)
-    → AreStages tools ends links took (sent link.producer) → IsWhole link → IsStage tool end (received link.consumer) gave → AreStages (tools ++ tool ∷ []) (ends ++ end ∷ []) (links ++ link ∷ []) took gave
-add_stage [] ends links tool end link took gave are whole is = absurd are
-add_stage (t ∷ tools) [] links tool end link took gave are whole is = absurd are
-add_stage (t ∷ []) (e ∷ []) [] tool end link took gave are whole is = (are.2, whole, (λ there also. drained_between t tool e end link took gave are.2 whole is there also), (refl, refl, is))
-add_stage (t ∷ []) (e ∷ e2 ∷ ends) [] tool end link took gave are whole is = let none = are.1 in absurd cc
-add_stage (t ∷ t2 ∷ tools) (e ∷ ends) [] tool end link took gave are whole is = let none = are.0 in absurd cc
-add_stage (t ∷ tools) (e ∷ []) (l ∷ links) tool end link took gave are whole is = absurd (no_stages tools links (received l.consumer) (sent link.producer) are.3)
-add_stage (t ∷ tools) (e ∷ e2 ∷ ends) (l ∷ links) tool end link took gave are whole is =
-    (are.0, are.1, are.2, add_stage tools (e2 ∷ ends) links tool end link (received l.consumer) gave are.3 whole is)
+pub add_stage : (lanes : ℕ) (tools : List Tool) (ends : List StageEnd) (links : List Link) (tool : Tool) (end : StageEnd) (link : Link) (took gave : List Message)
+    → AreStages lanes tools ends links took (sent link.producer) → IsWhole link → IsStageOver lanes tool end (received link.consumer) gave → AreStages lanes (tools ++ tool ∷ []) (ends ++ end ∷ []) (links ++ link ∷ []) took gave
+add_stage lanes [] ends links tool end link took gave are whole is = absurd are
+add_stage lanes (t ∷ tools) [] links tool end link took gave are whole is = absurd are
+add_stage lanes (t ∷ []) (e ∷ []) [] tool end link took gave are whole is = (are.2, whole, (λ there also. drained_between lanes t tool e end link took gave are.2 whole is there also), (refl, refl, is))
+add_stage lanes (t ∷ []) (e ∷ e2 ∷ ends) [] tool end link took gave are whole is = let none = are.1 in absurd cc
+add_stage lanes (t ∷ t2 ∷ tools) (e ∷ ends) [] tool end link took gave are whole is = let none = are.0 in absurd cc
+add_stage lanes (t ∷ tools) (e ∷ []) (l ∷ links) tool end link took gave are whole is = absurd (no_stages lanes tools links (received l.consumer) (sent link.producer) are.3)
+add_stage lanes (t ∷ tools) (e ∷ e2 ∷ ends) (l ∷ links) tool end link took gave are whole is =
+    (are.0, are.1, are.2, add_stage lanes tools (e2 ∷ ends) links tool end link (received l.consumer) gave are.3 whole is)
 
 -- ---- how many
 
-pub count : (tools : List Tool) (ends : List StageEnd) (links : List Link) (took gave : List Message) → AreStages tools ends links took gave → (length ends ≡ length tools) × (length links + 1 ≡ length tools)
-count [] ends links took gave are = absurd are
-count (t ∷ tools) [] links took gave are = absurd are
-count (t ∷ []) (e ∷ []) [] took gave are = (refl, refl)
-count (t ∷ []) (e ∷ e2 ∷ ends) [] took gave are = let none = are.1 in absurd cc
-count (t ∷ t2 ∷ tools) (e ∷ ends) [] took gave are = let none = are.0 in absurd cc
-count (t ∷ tools) (e ∷ ends) (l ∷ links) took gave are =
-    let rest = count tools ends links (received l.consumer) gave are.3 in
+pub count : (lanes : ℕ) (tools : List Tool) (ends : List StageEnd) (links : List Link) (took gave : List Message) → AreStages lanes tools ends links took gave → (length ends ≡ length tools) × (length links + 1 ≡ length tools)
+count lanes [] ends links took gave are = absurd are
+count lanes (t ∷ tools) [] links took gave are = absurd are
+count lanes (t ∷ []) (e ∷ []) [] took gave are = (refl, refl)
+count lanes (t ∷ []) (e ∷ e2 ∷ ends) [] took gave are = let none = are.1 in absurd cc
+count lanes (t ∷ t2 ∷ tools) (e ∷ ends) [] took gave are = let none = are.0 in absurd cc
+count lanes (t ∷ tools) (e ∷ ends) (l ∷ links) took gave are =
+    let rest = count lanes tools ends links (received l.consumer) gave are.3 in
     (ap suc rest.0, omega (arith, rest.1))
 
 -- ---- where no stage saw a neighbour's end dropped
 
-first_is_there : (tools : List Tool) (ends : List StageEnd) (links : List Link) (took gave : List Message) → AreStages tools ends links took gave → AllByRecursion (λ end. end ≢ PeerGone) ends → FirstIsThere ends
-first_is_there tools [] links took gave are all = absurd (no_stages tools links took gave are)
-first_is_there tools (e ∷ ends) links took gave are all = all.0
+first_is_there : (lanes : ℕ) (tools : List Tool) (ends : List StageEnd) (links : List Link) (took gave : List Message) → AreStages lanes tools ends links took gave → AllByRecursion (λ end. end ≢ PeerGone) ends → FirstIsThere ends
+first_is_there lanes tools [] links took gave are all = absurd (no_stages lanes tools links took gave are)
+first_is_there lanes tools (e ∷ ends) links took gave are all = all.0
 
-all_drained : (tools : List Tool) (ends : List StageEnd) (links : List Link) (took gave : List Message) → AreStages tools ends links took gave → AllByRecursion (λ end. end ≢ PeerGone) ends → AllByRecursion IsDrained links
-all_drained tools ends [] took gave are all = tt
-all_drained [] ends (l ∷ links) took gave are all = absurd are
-all_drained (t ∷ tools) [] (l ∷ links) took gave are all = absurd are
-all_drained (t ∷ tools) (e ∷ ends) (l ∷ links) took gave are all =
-    (are.2 all.0 (first_is_there tools ends links (received l.consumer) gave are.3 all.1), all_drained tools ends links (received l.consumer) gave are.3 all.1)
+all_drained : (lanes : ℕ) (tools : List Tool) (ends : List StageEnd) (links : List Link) (took gave : List Message) → AreStages lanes tools ends links took gave → AllByRecursion (λ end. end ≢ PeerGone) ends → AllByRecursion IsDrained links
+all_drained lanes tools ends [] took gave are all = tt
+all_drained lanes [] ends (l ∷ links) took gave are all = absurd are
+all_drained lanes (t ∷ tools) [] (l ∷ links) took gave are all = absurd are
+all_drained lanes (t ∷ tools) (e ∷ ends) (l ∷ links) took gave are all =
+    (are.2 all.0 (first_is_there lanes tools ends links (received l.consumer) gave are.3 all.1), all_drained lanes tools ends links (received l.consumer) gave are.3 all.1)
 
 -- ---- where all ended well
 
@@ -104,19 +93,19 @@ none_gone (e ∷ ends) all = ((λ gone. let well = all.0 in absurd cc), none_gon
 one_well : (tool : Tool) (l g : List Message) (images results : List Image) → IsStreamOf l images → AreResults tool images results → g ≡ messages_of_stream results → HasAnsweredStream (tool ∷ []) l g
 one_well tool l g images results stream made answer = record { images = images; results = results; stream = stream; made = results_in_turn tool [] images results results made (same_in_turn results); answer = answer }
 
-pub all_well : (tools : List Tool) (ends : List StageEnd) (links : List Link) (took gave : List Message) → AreLawfulTools tools → AreStages tools ends links took gave → AllByRecursion (λ end. end ≡ Well) ends → HasAnsweredStream tools took gave
-all_well [] ends links took gave lawful are all = absurd are
-all_well (t ∷ tools) [] links took gave lawful are all = absurd are
-all_well (t ∷ []) (e ∷ ends) [] took gave lawful are all =
-    let ended = subst (λ (x : StageEnd). HasEndedSo t x took gave) all.0 are.2.ended in
+pub all_well : (lanes : ℕ) (tools : List Tool) (ends : List StageEnd) (links : List Link) (took gave : List Message) → AreLawfulTools tools → AreStages lanes tools ends links took gave → AllByRecursion (λ end. end ≡ Well) ends → HasAnsweredStream tools took gave
+all_well lanes [] ends links took gave lawful are all = absurd are
+all_well lanes (t ∷ tools) [] links took gave lawful are all = absurd are
+all_well lanes (t ∷ []) (e ∷ ends) [] took gave lawful are all =
+    let ended = ended_well lanes t took gave (subst (λ (x : StageEnd). HasEndedOver lanes t x took gave) all.0 (stage_ended lanes t e took gave are.2)) in
     one_well t took gave ended.images ended.results ended.stream ended.made ended.answer
-all_well (t ∷ t2 ∷ tools) (e ∷ ends) [] took gave lawful are all = let none = are.0 in absurd cc
-all_well (t ∷ tools) (e ∷ ends) (l ∷ links) took gave lawful are all =
-    let ended = subst (λ (x : StageEnd). HasEndedSo t x took (sent l.producer)) all.0 are.0.ended in
+all_well lanes (t ∷ t2 ∷ tools) (e ∷ ends) [] took gave lawful are all = let none = are.0 in absurd cc
+all_well lanes (t ∷ tools) (e ∷ ends) (l ∷ links) took gave lawful are all =
+    let ended = ended_well lanes t took (sent l.producer) (subst (λ (x : StageEnd). HasEndedOver lanes t x took (sent l.producer)) all.0 (stage_ended lanes t e took (sent l.producer) are.0)) in
     let there = none_gone (e ∷ ends) all in
-    let none_left = are.2 there.0 (first_is_there tools ends links (received l.consumer) gave are.3 there.1) in
+    let none_left = are.2 there.0 (first_is_there lanes tools ends links (received l.consumer) gave are.3 there.1) in
     let passed : received l.consumer ≡ messages_of_stream ended.results = sym (append-nil (received l.consumer)) ∙ ap (λ (x : List Message). received l.consumer ++ x) (sym none_left) ∙ sym are.1.in_order ∙ ended.answer in
-    let others = all_well tools ends links (received l.consumer) gave lawful.1 are.3 all.1 in
+    let others = all_well lanes tools ends links (received l.consumer) gave lawful.1 are.3 all.1 in
     let same : ended.results ≡ others.images = others.stream.only ended.results (results_are_images t ended.images ended.results lawful.0 ended.stream.images ended.made) passed in
     record {
       images = ended.images;
@@ -143,14 +132,14 @@ accepted_of_sent : (accepted rest received left sent : List Message) → receive
 accepted_of_sent accepted rest received left sent parts whole =
     subst (λ (x : List Message). IsFrontOf (without_stop accepted) (without_stop x)) (sym (whole ∙ ap (λ (x : List Message). x ++ left) parts ∙ append_assoc accepted rest left)) (front_without_stop accepted (rest ++ left))
 
-pub all_due : (tools : List Tool) (ends : List StageEnd) (links : List Link) (took gave : List Message) → AreLawfulTools tools → AreStages tools ends links took gave → IsFrontOfDue (due_in_turn tools) took gave
-all_due [] ends links took gave lawful are = absurd are
-all_due (t ∷ tools) [] links took gave lawful are = absurd are
-all_due (t ∷ []) (e ∷ ends) [] took gave lawful are = one_due t took gave lawful.0 are.2.due
-all_due (t ∷ t2 ∷ tools) (e ∷ ends) [] took gave lawful are = let none = are.0 in absurd cc
-all_due (t ∷ tools) (e ∷ ends) (l ∷ links) took gave lawful are =
-    let first = are.0.due in
-    let others = all_due tools ends links (received l.consumer) gave lawful.1 are.3 in
+pub all_due : (lanes : ℕ) (tools : List Tool) (ends : List StageEnd) (links : List Link) (took gave : List Message) → AreLawfulTools tools → AreStages lanes tools ends links took gave → IsFrontOfDue (due_in_turn tools) took gave
+all_due lanes [] ends links took gave lawful are = absurd are
+all_due lanes (t ∷ tools) [] links took gave lawful are = absurd are
+all_due lanes (t ∷ []) (e ∷ ends) [] took gave lawful are = one_due t took gave lawful.0 (stage_due lanes t e took gave are.2)
+all_due lanes (t ∷ t2 ∷ tools) (e ∷ ends) [] took gave lawful are = let none = are.0 in absurd cc
+all_due lanes (t ∷ tools) (e ∷ ends) (l ∷ links) took gave lawful are =
+    let first = stage_due lanes t e took (sent l.producer) are.0 in
+    let others = all_due lanes tools ends links (received l.consumer) gave lawful.1 are.3 in
     record {
       accepted = first.accepted;
       rest = first.rest;
@@ -164,9 +153,9 @@ all_due (t ∷ tools) (e ∷ ends) (l ∷ links) took gave lawful are =
 
 -- ---- the chain
 
-pub chain_has_run : (tools : List Tool) (ends : List StageEnd) (links : List Link) (r r' s s' : List Message) → AreLawfulTools tools → HasRunStages tools ends links r r' s s' → HasRunChain tools ends links r r' s s'
-chain_has_run tools ends links r r' s s' lawful run =
-    let counts = count tools ends links run.took run.gave run.stages in
+pub chain_has_run : (lanes : ℕ) (tools : List Tool) (ends : List StageEnd) (links : List Link) (r r' s s' : List Message) → AreLawfulTools tools → HasRunStages lanes tools ends links r r' s s' → HasRunChain lanes tools ends links r r' s s'
+chain_has_run lanes tools ends links r r' s s' lawful run =
+    let counts = count lanes tools ends links run.took run.gave run.stages in
     record {
       took = run.took;
       gave = run.gave;
@@ -175,20 +164,20 @@ chain_has_run tools ends links r r' s s' lawful run =
       count = counts.0;
       between = counts.1;
       stages = run.stages;
-      drained = all_drained tools ends links run.took run.gave run.stages;
-      well = all_well tools ends links run.took run.gave lawful run.stages;
-      due = all_due tools ends links run.took run.gave lawful run.stages;
+      drained = all_drained lanes tools ends links run.took run.gave run.stages;
+      well = all_well lanes tools ends links run.took run.gave lawful run.stages;
+      due = all_due lanes tools ends links run.took run.gave lawful run.stages;
     }
 
 -- a chain of one
-pub one_stage : (tool : Tool) (end : StageEnd) (r r' left s s' : List Message) → HasRunStage tool end r r' left s s' → HasRunStages (tool ∷ []) (end ∷ []) [] r r' s s'
-one_stage tool end r r' left s s' run = record { took = run.took; gave = run.gave; input = run.input; output = run.output; stages = (refl, refl, run.stage) }
+pub one_stage : (lanes : ℕ) (tool : Tool) (end : StageEnd) (r r' left s s' : List Message) → HasRunTool lanes tool end r r' left s s' → HasRunStages lanes (tool ∷ []) (end ∷ []) [] r r' s s'
+one_stage lanes tool end r r' left s s' run = record { took = run.took; gave = run.gave; input = run.input; output = run.output; stages = (refl, refl, run.stage) }
 
 -- a chain, and a stage after it, over a ring that had passed nothing before
-stages_after : (tools : List Tool) (ends : List StageEnd) (links : List Link) (tool : Tool) (end : StageEnd) (link : Link) (r r' s s' left p p' c c' : List Message)
-    → p ≡ [] → c ≡ [] → HasRunStages tools ends links r r' p p' → HasRunStage tool end c c' left s s' → IsWhole link → sent link.producer ≡ p' → received link.consumer ≡ c'
-    → HasRunStages (tools ++ tool ∷ []) (ends ++ end ∷ []) (links ++ link ∷ []) r r' s s'
-stages_after tools ends links tool end link r r' s s' left p p' c c' no_p no_c run last whole sends receives =
+stages_after : (lanes : ℕ) (tools : List Tool) (ends : List StageEnd) (links : List Link) (tool : Tool) (end : StageEnd) (link : Link) (r r' s s' left p p' c c' : List Message)
+    → p ≡ [] → c ≡ [] → HasRunStages lanes tools ends links r r' p p' → HasRunTool lanes tool end c c' left s s' → IsWhole link → sent link.producer ≡ p' → received link.consumer ≡ c'
+    → HasRunStages lanes (tools ++ tool ∷ []) (ends ++ end ∷ []) (links ++ link ∷ []) r r' s s'
+stages_after lanes tools ends links tool end link r r' s s' left p p' c c' no_p no_c run last whole sends receives =
     let gave : p' ≡ run.gave = run.output ∙ ap (λ (x : List Message). x ++ run.gave) no_p in
     let took : c' ≡ last.took = last.input ∙ ap (λ (x : List Message). x ++ last.took) no_c in
     record {
@@ -196,29 +185,39 @@ stages_after tools ends links tool end link r r' s s' left p p' c c' no_p no_c r
       gave = last.gave;
       input = run.input;
       output = last.output;
-      stages = add_stage tools ends links tool end link run.took last.gave (subst (AreStages tools ends links run.took) (sym (sends ∙ gave)) run.stages) whole (subst (λ (x : List Message). IsStage tool end x last.gave) (sym (receives ∙ took)) last.stage);
+      stages = add_stage lanes tools ends links tool end link run.took last.gave (subst (AreStages lanes tools ends links run.took) (sym (sends ∙ gave)) run.stages) whole (subst (λ (x : List Message). IsStageOver lanes tool end x last.gave) (sym (receives ∙ took)) last.stage);
     }
 
 -- the lists that came of it
-pub stages_joined : (tools all : List Tool) (ends all_ends : List StageEnd) (links all_links : List Link) (tool : Tool) (end : StageEnd) (r r' s s' left p p' c c' : List Message)
-    → p ≡ [] → c ≡ [] → HasRunStages tools ends links r r' p p' → HasRunStage tool end c c' left s s'
+pub stages_joined : (lanes : ℕ) (tools all : List Tool) (ends all_ends : List StageEnd) (links all_links : List Link) (tool : Tool) (end : StageEnd) (r r' s s' left p p' c c' : List Message)
+    → p ≡ [] → c ≡ [] → HasRunStages lanes tools ends links r r' p p' → HasRunTool lanes tool end c c' left s s'
     → all ≡ tools ++ tool ∷ [] → all_ends ≡ ends ++ end ∷ [] → (link : Link) × (all_links ≡ links ++ link ∷ []) × IsWhole link × (sent link.producer ≡ p') × (received link.consumer ≡ c')
-    → HasRunStages all all_ends all_links r r' s s'
-stages_joined tools all ends all_ends links all_links tool end r r' s s' left p p' c c' no_p no_c run last parts end_last link =
-    let joined = stages_after tools ends links tool end link.0 r r' s s' left p p' c c' no_p no_c run last link.2 link.3 link.4 in
-    subst (λ (x : List Tool). HasRunStages x all_ends all_links r r' s s') (sym parts)
-    (subst (λ (x : List StageEnd). HasRunStages (tools ++ tool ∷ []) x all_links r r' s s') (sym end_last)
-    (subst (λ (x : List Link). HasRunStages (tools ++ tool ∷ []) (ends ++ end ∷ []) x r r' s s') (sym link.1) joined))
+    → HasRunStages lanes all all_ends all_links r r' s s'
+stages_joined lanes tools all ends all_ends links all_links tool end r r' s s' left p p' c c' no_p no_c run last parts end_last link =
+    let joined = stages_after lanes tools ends links tool end link.0 r r' s s' left p p' c c' no_p no_c run last link.2 link.3 link.4 in
+    subst (λ (x : List Tool). HasRunStages lanes x all_ends all_links r r' s s') (sym parts)
+    (subst (λ (x : List StageEnd). HasRunStages lanes (tools ++ tool ∷ []) x all_links r r' s s') (sym end_last)
+    (subst (λ (x : List Link). HasRunStages lanes (tools ++ tool ∷ []) (ends ++ end ∷ []) x r r' s s') (sym link.1) joined))
 
 -- a chain that came back
-pub came_back : (tools : List Tool) (links_room ends_room : ℕ) (input : Consumer Message Global AnyMessage) (output : Producer Message Global AnyMessage) (result : Option ChainDone) (done : ChainDone) → IfSome result (HasRunBetween tools links_room ends_room input output) → result ≡ Some done → HasRunBetween tools links_room ends_room input output done
-came_back tools links_room ends_room input output result done has is = subst (λ (x : Option ChainDone). IfSome x (HasRunBetween tools links_room ends_room input output)) is has
+pub came_back : (lanes : ℕ) (tools : List Tool) (links_room ends_room : ℕ) (input : Consumer Message Global AnyMessage) (output : Producer Message Global AnyMessage) (result : Option ChainDone) (done : ChainDone) → IfSome result (HasRunBetween lanes tools links_room ends_room input output) → result ≡ Some done → HasRunBetween lanes tools links_room ends_room input output done
+came_back lanes tools links_room ends_room input output result done has is = subst (λ (x : Option ChainDone). IfSome x (HasRunBetween lanes tools links_room ends_room input output)) is has
+
+-- what a tool of a chain has passed between these ring ends, which came back
+abbrev pub HasRunToolBetween : ℕ → Tool → Consumer Message Global AnyMessage → Producer Message Global AnyMessage → StageDone → Type 0
+HasRunToolBetween lanes tool input output done =
+    SameConsumer input done.input × SameProducer output done.output × HasRunTool lanes tool done.end (received input) (received done.input) (known_items done.input) (sent output) (sent done.output)
+
+-- a tool that came back
+pub tool_came_back : (lanes : ℕ) (tool : Tool) (input : Consumer Message Global AnyMessage) (output : Producer Message Global AnyMessage) (result : Option StageDone) (done : StageDone) → IfSome result (HasRunToolBetween lanes tool input output) → result ≡ Some done
+    → HasRunToolBetween lanes tool input output done
+tool_came_back lanes tool input output result done has is = subst (λ (x : Option StageDone). IfSome x (HasRunToolBetween lanes tool input output)) is has
 
 -- there is still room for a link and an end
-pub has_room : (tools : List Tool) (links_room ends_room : ℕ) (input : Consumer Message Global AnyMessage) (output : Producer Message Global AnyMessage) (done : ChainDone) → HasRunBetween tools links_room ends_room input output done → length tools + 1 ≤ max_tools → max_tools ≤ links_room → max_tools ≤ ends_room
+pub has_room : (lanes : ℕ) (tools : List Tool) (links_room ends_room : ℕ) (input : Consumer Message Global AnyMessage) (output : Producer Message Global AnyMessage) (done : ChainDone) → HasRunBetween lanes tools links_room ends_room input output done → length tools + 1 ≤ max_tools → max_tools ≤ links_room → max_tools ≤ ends_room
     → (length done.links.items < vec_capacity done.links) × (length done.ends.items < vec_capacity done.ends)
-has_room tools links_room ends_room input output done has few links ends =
-    let counts = count tools done.ends.items done.links.items has.ran.took has.ran.gave has.ran.stages in
+has_room lanes tools links_room ends_room input output done has few links ends =
+    let counts = count lanes tools done.ends.items done.links.items has.ran.took has.ran.gave has.ran.stages in
     (omega (arith, counts.1, has.for_links), omega (arith, counts.0, has.for_ends))
 
 lawful_last : (tools : List Tool) (tool : Tool) → AreLawfulTools (tools ++ tool ∷ []) → IsLawfulTool tool × AreLawfulTools tools
@@ -231,7 +230,7 @@ lawful_last (t ∷ tools) tool lawful =
 pub last_is_lawful : (all tools : List Tool) (tool : Tool) → all ≡ tools ++ tool ∷ [] → AreLawfulTools all → IsLawfulTool tool × AreLawfulTools tools
 last_is_lawful all tools tool parts lawful = lawful_last tools tool (subst AreLawfulTools parts lawful)
 
-pub chain_came_back : (tools : List Tool) (links_room ends_room : ℕ) (input : Consumer Message Global AnyMessage) (output : Producer Message Global AnyMessage) (result : Result ChainDone NoStart) → AreLawfulTools tools → IfOk result (HasRunBetween tools links_room ends_room input output)
-    → IfOk result (λ done. HasRunChain tools done.ends.items done.links.items (received input) (received done.input) (sent output) (sent done.output))
-chain_came_back tools links_room ends_room input output (Ok done) lawful has = chain_has_run tools done.ends.items done.links.items (received input) (received done.input) (sent output) (sent done.output) lawful has.ran
-chain_came_back tools links_room ends_room input output (Err refused) lawful has = tt
+pub chain_came_back : (lanes : ℕ) (tools : List Tool) (links_room ends_room : ℕ) (input : Consumer Message Global AnyMessage) (output : Producer Message Global AnyMessage) (result : Result ChainDone NoStart) → AreLawfulTools tools → IfOk result (HasRunBetween lanes tools links_room ends_room input output)
+    → IfOk result (λ done. HasRunChain lanes tools done.ends.items done.links.items (received input) (received done.input) (sent output) (sent done.output))
+chain_came_back lanes tools links_room ends_room input output (Ok done) lawful has = chain_has_run lanes tools done.ends.items done.links.items (received input) (received done.input) (sent output) (sent done.output) lawful has.ran
+chain_came_back lanes tools links_room ends_room input output (Err refused) lawful has = tt

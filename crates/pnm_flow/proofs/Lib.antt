@@ -9,6 +9,7 @@ pub mod RunSteps
 pub mod EndSteps
 pub mod RefusalExample
 pub mod LaneRefusals
+pub mod ToolOverLaws
 pub mod ChainSteps
 pub mod StageEndLaws
 pub mod ThreadedRunSteps

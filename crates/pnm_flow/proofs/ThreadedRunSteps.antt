@@ -34,16 +34,15 @@ use Rattle.pnm_flow.specs.declared.link.Link.{Link}
 use Rattle.pnm_rings.specs.declared.stage_end.StageEnd.{StageEnd}
 use Rattle.pnm_rings.specs.declared.stage_end.StageEnd.TheVariants.{Well, Broken, Fault, PeerGone}
 use Rattle.pnm_flow.specs.declared.summary.Summary.{Summary}
-use Rattle.pnm_flow.specs.Chains.{FirstIsThere, AreStages}
+use Rattle.pnm_flow.specs.Chains.{IsStageOver, FirstIsThere, AreStages}
 use Rattle.pnm_flow.specs.Collectors.{EndedBy}
 use Rattle.pnm_flow.specs.Downstreams.{output_of, HasTaken}
 use Rattle.pnm_flow.specs.Feeders.{HasAskedBy, closing}
 use Rattle.pnm_rings.specs.Rings.{IsEnded}
 use Rattle.pnm_flow.specs.Runs.{Change, change, MayFollow}
 use Rattle.pnm_rings.specs.Fronts.{IsFrontOfDue}
-use Rattle.pnm_rings.specs.Stages.{HasEndedSo, IsStage}
-use Rattle.pnm_flow.specs.ThreadedRuns.{fault_of_end, first_fault_from, answer_over, HaveEnded, FitEnds, IsAllSent, HasRunOverThreads}
-use Rattle.pnm_flow.proofs.ChainSteps.{received_ended, sent_ended}
+use Rattle.pnm_flow.specs.ThreadedRuns.{fault_of_end, first_fault_from, answer_over, HasEndedOver, HaveEnded, FitEnds, IsAllSent, HasRunOverThreads}
+use Rattle.pnm_flow.proofs.ToolOverLaws.{stage_ended, received_ended, sent_ended}
 use Rattle.pnm_rings.proofs.EndingLaws.{nothing_follows, stream_ends_whole}
 use Rattle.pnm_rings.proofs.FrontLaws.{front_without_stop, stop_is_cut}
 use Rattle.pnm_flow.proofs.EndSteps.{Ended, HaveEnded as StagesAnswered, ended_has_run, ended_without_reading, rest_follows}
@@ -62,64 +61,64 @@ whole_list : (all l left : List Message) → all ≡ l ++ left → left ≡ [] �
 whole_list all l left parts none = parts ∙ ap (λ (x : List Message). l ++ x) none ∙ append-nil l
 
 -- a stage that received a part has ended so for all of it, unless it saw an end dropped
-ended_for : (tool : Tool) (end : StageEnd) (all took left gave : List Message) → IsStage tool end took gave → all ≡ took ++ left → IsEnded all ⊎ (left ≡ []) → end ≢ PeerGone → HasEndedSo tool end all gave
-ended_for tool end all took left gave is parts whole there =
-    let none = left_nothing took left (subst (λ (x : List Message). IsEnded x ⊎ (left ≡ [])) parts whole) (received_ended tool end took gave is.ended there) in
-    subst (λ (x : List Message). HasEndedSo tool end x gave) (sym (whole_list all took left parts none)) is.ended
+ended_for : (lanes : ℕ) (tool : Tool) (end : StageEnd) (all took left gave : List Message) → IsStageOver lanes tool end took gave → all ≡ took ++ left → IsEnded all ⊎ (left ≡ []) → end ≢ PeerGone → HasEndedOver lanes tool end all gave
+ended_for lanes tool end all took left gave is parts whole there =
+    let none = left_nothing took left (subst (λ (x : List Message). IsEnded x ⊎ (left ≡ [])) parts whole) (received_ended lanes tool end took gave (stage_ended lanes tool end took gave is) there) in
+    subst (λ (x : List Message). HasEndedOver lanes tool end x gave) (sym (whole_list all took left parts none)) (stage_ended lanes tool end took gave is)
 
 -- the last stage sent all that was taken of it
-last_ended : (tool : Tool) (end : StageEnd) (all took left gave got rest : List Message) → IsStage tool end took gave → all ≡ took ++ left → IsEnded all ⊎ (left ≡ []) → gave ≡ got ++ rest → IsEnded got ⊎ (rest ≡ []) → end ≢ PeerGone → HasEndedSo tool end all got
-last_ended tool end all took left gave got rest is parts whole came (inl ended) there =
-    let none = nothing_follows got rest ended (subst IsEnded came (sent_ended tool end took gave is.ended there)) in
-    subst (HasEndedSo tool end all) (whole_list gave got rest came none) (ended_for tool end all took left gave is parts whole there)
-last_ended tool end all took left gave got rest is parts whole came (inr none) there =
-    subst (HasEndedSo tool end all) (whole_list gave got rest came none) (ended_for tool end all took left gave is parts whole there)
+last_ended : (lanes : ℕ) (tool : Tool) (end : StageEnd) (all took left gave got rest : List Message) → IsStageOver lanes tool end took gave → all ≡ took ++ left → IsEnded all ⊎ (left ≡ []) → gave ≡ got ++ rest → IsEnded got ⊎ (rest ≡ []) → end ≢ PeerGone → HasEndedOver lanes tool end all got
+last_ended lanes tool end all took left gave got rest is parts whole came (inl ended) there =
+    let none = nothing_follows got rest ended (subst IsEnded came (sent_ended lanes tool end took gave (stage_ended lanes tool end took gave is) there)) in
+    subst (HasEndedOver lanes tool end all) (whole_list gave got rest came none) (ended_for lanes tool end all took left gave is parts whole there)
+last_ended lanes tool end all took left gave got rest is parts whole came (inr none) there =
+    subst (HasEndedOver lanes tool end all) (whole_list gave got rest came none) (ended_for lanes tool end all took left gave is parts whole there)
 
-one_ended : (tool : Tool) (end : StageEnd) (all took left gave got rest : List Message) → IsStage tool end took gave → all ≡ took ++ left → IsEnded all ⊎ (left ≡ []) → gave ≡ got ++ rest → IsEnded got ⊎ (rest ≡ []) → HasEndedSo tool end all got
-one_ended tool Well all took left gave got rest is parts whole came ends = last_ended tool Well all took left gave got rest is parts whole came ends (λ gone. absurd cc)
-one_ended tool Broken all took left gave got rest is parts whole came ends = last_ended tool Broken all took left gave got rest is parts whole came ends (λ gone. absurd cc)
-one_ended tool (Fault fault) all took left gave got rest is parts whole came ends = last_ended tool (Fault fault) all took left gave got rest is parts whole came ends (λ gone. absurd cc)
-one_ended tool PeerGone all took left gave got rest is parts whole came ends = tt
+one_ended : (lanes : ℕ) (tool : Tool) (end : StageEnd) (all took left gave got rest : List Message) → IsStageOver lanes tool end took gave → all ≡ took ++ left → IsEnded all ⊎ (left ≡ []) → gave ≡ got ++ rest → IsEnded got ⊎ (rest ≡ []) → HasEndedOver lanes tool end all got
+one_ended lanes tool Well all took left gave got rest is parts whole came ends = last_ended lanes tool Well all took left gave got rest is parts whole came ends (λ gone. absurd cc)
+one_ended lanes tool Broken all took left gave got rest is parts whole came ends = last_ended lanes tool Broken all took left gave got rest is parts whole came ends (λ gone. absurd cc)
+one_ended lanes tool (Fault fault) all took left gave got rest is parts whole came ends = last_ended lanes tool (Fault fault) all took left gave got rest is parts whole came ends (λ gone. absurd cc)
+one_ended lanes tool PeerGone all took left gave got rest is parts whole came ends = stage_ended lanes tool PeerGone took gave is
 
 -- what a stage sent, as its neighbour may have received it: all, unless the stage saw an end dropped
-record SentOn (tool : Tool) (end : StageEnd) (all : List Message) (link : Link) : Type 0 where
+record SentOn (lanes : ℕ) (tool : Tool) (end : StageEnd) (all : List Message) (link : Link) : Type 0 where
   middle : List Message
   left : List Message
-  ended : HasEndedSo tool end all middle
+  ended : HasEndedOver lanes tool end all middle
   parts : middle ≡ received link.consumer ++ left
   whole : IsEnded middle ⊎ (left ≡ [])
 
-sent_all_on : (tool : Tool) (end : StageEnd) (all took left : List Message) (link : Link) → IsStage tool end took (sent link.producer) → sent link.producer ≡ received link.consumer ++ known_items link.consumer → all ≡ took ++ left → IsEnded all ⊎ (left ≡ []) → end ≢ PeerGone → SentOn tool end all link
-sent_all_on tool end all took left link is in_order parts whole there = record {
+sent_all_on : (lanes : ℕ) (tool : Tool) (end : StageEnd) (all took left : List Message) (link : Link) → IsStageOver lanes tool end took (sent link.producer) → sent link.producer ≡ received link.consumer ++ known_items link.consumer → all ≡ took ++ left → IsEnded all ⊎ (left ≡ []) → end ≢ PeerGone → SentOn lanes tool end all link
+sent_all_on lanes tool end all took left link is in_order parts whole there = record {
   middle = sent link.producer;
   left = known_items link.consumer;
-  ended = ended_for tool end all took left (sent link.producer) is parts whole there;
+  ended = ended_for lanes tool end all took left (sent link.producer) is parts whole there;
   parts = in_order;
-  whole = inl (sent_ended tool end took (sent link.producer) is.ended there);
+  whole = inl (sent_ended lanes tool end took (sent link.producer) (stage_ended lanes tool end took (sent link.producer) is) there);
 }
 
-sent_on : (tool : Tool) (end : StageEnd) (all took left : List Message) (link : Link) → IsStage tool end took (sent link.producer) → sent link.producer ≡ received link.consumer ++ known_items link.consumer → all ≡ took ++ left → IsEnded all ⊎ (left ≡ []) → SentOn tool end all link
-sent_on tool Well all took left link is in_order parts whole = sent_all_on tool Well all took left link is in_order parts whole (λ gone. absurd cc)
-sent_on tool Broken all took left link is in_order parts whole = sent_all_on tool Broken all took left link is in_order parts whole (λ gone. absurd cc)
-sent_on tool (Fault fault) all took left link is in_order parts whole = sent_all_on tool (Fault fault) all took left link is in_order parts whole (λ gone. absurd cc)
-sent_on tool PeerGone all took left link is in_order parts whole = record { middle = received link.consumer; left = []; ended = tt; parts = sym (append-nil (received link.consumer)); whole = inr refl }
+sent_on : (lanes : ℕ) (tool : Tool) (end : StageEnd) (all took left : List Message) (link : Link) → IsStageOver lanes tool end took (sent link.producer) → sent link.producer ≡ received link.consumer ++ known_items link.consumer → all ≡ took ++ left → IsEnded all ⊎ (left ≡ []) → SentOn lanes tool end all link
+sent_on lanes tool Well all took left link is in_order parts whole = sent_all_on lanes tool Well all took left link is in_order parts whole (λ gone. absurd cc)
+sent_on lanes tool Broken all took left link is in_order parts whole = sent_all_on lanes tool Broken all took left link is in_order parts whole (λ gone. absurd cc)
+sent_on lanes tool (Fault fault) all took left link is in_order parts whole = sent_all_on lanes tool (Fault fault) all took left link is in_order parts whole (λ gone. absurd cc)
+sent_on lanes tool PeerGone all took left link is in_order parts whole = record { middle = received link.consumer; left = []; ended = stage_ended lanes tool PeerGone took (sent link.producer) is; parts = sym (append-nil (received link.consumer)); whole = inr refl }
 
-have_ended : (tools : List Tool) (ends : List StageEnd) (links : List Link) (all took left gave got rest : List Message) → AreStages tools ends links took gave → all ≡ took ++ left → IsEnded all ⊎ (left ≡ []) → gave ≡ got ++ rest → IsEnded got ⊎ (rest ≡ []) → HaveEnded tools ends all got
-have_ended [] ends links all took left gave got rest are parts whole came ended = absurd are
-have_ended (t ∷ tools) [] links all took left gave got rest are parts whole came ended = absurd are
-have_ended (t ∷ []) (e ∷ []) [] all took left gave got rest are parts whole came ended = (got, one_ended t e all took left gave got rest are.2 parts whole came ended, refl)
-have_ended (t ∷ []) (e ∷ e2 ∷ ends) [] all took left gave got rest are parts whole came ended = let none = are.1 in absurd cc
-have_ended (t ∷ t2 ∷ tools) (e ∷ ends) [] all took left gave got rest are parts whole came ended = let none = are.0 in absurd cc
-have_ended (t ∷ tools) (e ∷ ends) (l ∷ links) all took left gave got rest are parts whole came ended =
-    let on = sent_on t e all took left l are.0 are.1.in_order parts whole in
-    (on.middle, on.ended, have_ended tools ends links on.middle (received l.consumer) on.left gave got rest are.3 on.parts on.whole came ended)
+have_ended : (lanes : ℕ) (tools : List Tool) (ends : List StageEnd) (links : List Link) (all took left gave got rest : List Message) → AreStages lanes tools ends links took gave → all ≡ took ++ left → IsEnded all ⊎ (left ≡ []) → gave ≡ got ++ rest → IsEnded got ⊎ (rest ≡ []) → HaveEnded lanes tools ends all got
+have_ended lanes [] ends links all took left gave got rest are parts whole came ended = absurd are
+have_ended lanes (t ∷ tools) [] links all took left gave got rest are parts whole came ended = absurd are
+have_ended lanes (t ∷ []) (e ∷ []) [] all took left gave got rest are parts whole came ended = (got, one_ended lanes t e all took left gave got rest are.2 parts whole came ended, refl)
+have_ended lanes (t ∷ []) (e ∷ e2 ∷ ends) [] all took left gave got rest are parts whole came ended = let none = are.1 in absurd cc
+have_ended lanes (t ∷ t2 ∷ tools) (e ∷ ends) [] all took left gave got rest are parts whole came ended = let none = are.0 in absurd cc
+have_ended lanes (t ∷ tools) (e ∷ ends) (l ∷ links) all took left gave got rest are parts whole came ended =
+    let on = sent_on lanes t e all took left l are.0 are.1.in_order parts whole in
+    (on.middle, on.ended, have_ended lanes tools ends links on.middle (received l.consumer) on.left gave got rest are.3 on.parts on.whole came ended)
 
 -- ---- the run
 
 -- What is known once all have ended: what the source gave and how it ended, how much of it the first tool received, how
 -- the tools ended, how much of what the last one sent was taken, and what the sink took of it.
 pub record Over {R W : Type 0} (left : R → Option (List ℕ)) (reader_failures : R → ℕ) (held : W → Option (List ℕ)) (failures : W → ℕ) (first source : Source R) (start done : W)
-    (tools : List Tool) (ends : List StageEnd) (input : Option (Result (Unit {0}) InputFault)) (has_ended : Bool) (output : Result Summary SinkFault) : Type 0 where
+    (lanes : ℕ) (tools : List Tool) (ends : List StageEnd) (input : Option (Result (Unit {0}) InputFault)) (has_ended : Bool) (output : Result Summary SinkFault) : Type 0 where
   pub lawful : AreLawfulTools tools
   pub given : List Message
   pub asked : HasAskedBy left reader_failures first source given input
@@ -132,7 +131,7 @@ pub record Over {R W : Type 0} (left : R → Option (List ℕ)) (reader_failures
   pub received : fed ≡ took ++ untaken
   pub links : List Link
   pub gave : List Message
-  pub stages : AreStages tools ends links took gave
+  pub stages : AreStages lanes tools ends links took gave
   pub due : IsFrontOfDue (due_in_turn tools) took gave
   pub got : List Message
   pub rest : List Message
@@ -164,9 +163,9 @@ accepted_completed given closed accepted a b c fed took is sound cut passed rece
     let of_given = subst (λ (x : List Message). IsFrontOf x (messages_of_stream is)) (sound_keeps_all given sound.sound) completes.front in
     record { images = completes.images; front = front_of_front (without_stop accepted) given (messages_of_stream is) front of_given }
 
-ran_over : {R W : Type 0} (left : R → Option (List ℕ)) (reader_failures : R → ℕ) (held : W → Option (List ℕ)) (failures : W → ℕ) (first source : Source R) (start done : W) (tools : List Tool) (ends : List StageEnd) (input : Option (Result (Unit {0}) InputFault)) (has_ended : Bool) (output : Result Summary SinkFault)
-    → (over : Over left reader_failures held failures first source start done tools ends input has_ended output) → Ran held failures start tools over.given (without_stop over.got) over.sink
-ran_over left reader_failures held failures first source start done tools ends input has_ended output over =
+ran_over : {R W : Type 0} (left : R → Option (List ℕ)) (reader_failures : R → ℕ) (held : W → Option (List ℕ)) (failures : W → ℕ) (first source : Source R) (start done : W) (lanes : ℕ) (tools : List Tool) (ends : List StageEnd) (input : Option (Result (Unit {0}) InputFault)) (has_ended : Bool) (output : Result Summary SinkFault)
+    → (over : Over left reader_failures held failures first source start done lanes tools ends input has_ended output) → Ran held failures start tools over.given (without_stop over.got) over.sink
+ran_over left reader_failures held failures first source start done lanes tools ends input has_ended output over =
     let sound = given_sound left reader_failures first source over.given input over.asked in
     let front = subst (λ (x : List Message). IsFrontOf (without_stop over.got) (without_stop x)) (sym over.came) (front_without_stop over.got over.rest) in
     let due : (is : List Image) → Completes is over.given → IsFrontOf (without_stop over.got) (due_in_turn tools is) = λ is completes.
@@ -193,13 +192,13 @@ said_by left failures first source given (Some (Err fault)) (inl none) asked = a
 said_by left failures first source given (Some (Err fault)) (inr well) asked = absurd cc
 
 -- a run in which a ring's other end was seen dropped
-gone_has_run : {R W : Type 0} (left : R → Option (List ℕ)) (reader_failures : R → ℕ) (held : W → Option (List ℕ)) (failures : W → ℕ) (first source : Source R) (start done : W) (tools : List Tool) (ends : List StageEnd) (input : Option (Result (Unit {0}) InputFault)) (has_ended : Bool) (output : Result Summary SinkFault) (number : ℕ)
-    → (over : Over left reader_failures held failures first source start done tools ends input has_ended output) → (input ≡ None) ⊎ (input ≡ Some (Ok tt)) → number ≤ length tools + 1
-    → HasRunOverThreads tools (Err (Gone number)) (change left reader_failures (reader_of first) (reader_of source)) (change held failures start done)
-gone_has_run left reader_failures held failures first source start done tools ends input has_ended output number over well within =
+gone_has_run : {R W : Type 0} (left : R → Option (List ℕ)) (reader_failures : R → ℕ) (held : W → Option (List ℕ)) (failures : W → ℕ) (first source : Source R) (start done : W) (lanes : ℕ) (tools : List Tool) (ends : List StageEnd) (input : Option (Result (Unit {0}) InputFault)) (has_ended : Bool) (output : Result Summary SinkFault) (number : ℕ)
+    → (over : Over left reader_failures held failures first source start done lanes tools ends input has_ended output) → (input ≡ None) ⊎ (input ≡ Some (Ok tt)) → number ≤ length tools + 1
+    → HasRunOverThreads lanes tools (Err (Gone number)) (change left reader_failures (reader_of first) (reader_of source)) (change held failures start done)
+gone_has_run left reader_failures held failures first source start done lanes tools ends input has_ended output number over well within =
     let reader = change left reader_failures (reader_of first) (reader_of source) in
     let said = said_by left reader_failures first source over.given input well over.asked in
-    let ran = ran_over left reader_failures held failures first source start done tools ends input has_ended output over in
+    let ran = ran_over left reader_failures held failures first source start done lanes tools ends input has_ended output over in
     let out = without_stop over.got in
     record {
       run = record {
@@ -224,11 +223,11 @@ gone_has_run left reader_failures held failures first source start done tools en
 
 -- ---- the other answers
 
-ended_over : {R W : Type 0} (left : R → Option (List ℕ)) (reader_failures : R → ℕ) (held : W → Option (List ℕ)) (failures : W → ℕ) (first source : Source R) (start done : W) (tools : List Tool) (ends : List StageEnd) (result : Result (Unit {0}) InputFault) (has_ended : Bool) (output : Result Summary SinkFault)
+ended_over : {R W : Type 0} (left : R → Option (List ℕ)) (reader_failures : R → ℕ) (held : W → Option (List ℕ)) (failures : W → ℕ) (first source : Source R) (start done : W) (lanes : ℕ) (tools : List Tool) (ends : List StageEnd) (result : Result (Unit {0}) InputFault) (has_ended : Bool) (output : Result Summary SinkFault)
     (refused : Option (ℕ × ToolFault)) (faults : List (Option ToolFault))
-    → (over : Over left reader_failures held failures first source start done tools ends (Some result) has_ended output) → (result ≡ Ok tt → StagesAnswered tools faults over.given (without_stop over.got) refused)
+    → (over : Over left reader_failures held failures first source start done lanes tools ends (Some result) has_ended output) → (result ≡ Ok tt → StagesAnswered tools faults over.given (without_stop over.got) refused)
     → Ended (change left reader_failures (reader_of first) (reader_of source)) held failures start done tools result refused output
-ended_over left reader_failures held failures first source start done tools ends result has_ended output refused faults over stages = record {
+ended_over left reader_failures held failures first source start done lanes tools ends result has_ended output refused faults over stages = record {
   faults = faults;
   given = over.given;
   out = without_stop over.got;
@@ -238,7 +237,7 @@ ended_over left reader_failures held failures first source start done tools ends
   told = over.asked.told;
   count = over.asked.count;
   read_failed = λ failed. inl (over.asked.read_failed failed);
-  ran = ran_over left reader_failures held failures first source start done tools ends (Some result) has_ended output over;
+  ran = ran_over left reader_failures held failures first source start done lanes tools ends (Some result) has_ended output over;
   stages = stages;
   kept = over.kept;
   broken = over.broken;
@@ -246,11 +245,11 @@ ended_over left reader_failures held failures first source start done tools ends
 }
 
 -- the first stage has received a list that has ended
-first_received : (tools : List Tool) (ends : List StageEnd) (links : List Link) (took gave : List Message) → AreStages tools ends links took gave → FirstIsThere ends → IsEnded took
-first_received [] ends links took gave are there = absurd are
-first_received (t ∷ tools) [] links took gave are there = absurd are
-first_received (t ∷ tools) (e ∷ ends) [] took gave are there = received_ended t e took gave are.2.ended there
-first_received (t ∷ tools) (e ∷ ends) (l ∷ links) took gave are there = received_ended t e took (sent l.producer) are.0.ended there
+first_received : (lanes : ℕ) (tools : List Tool) (ends : List StageEnd) (links : List Link) (took gave : List Message) → AreStages lanes tools ends links took gave → FirstIsThere ends → IsEnded took
+first_received lanes [] ends links took gave are there = absurd are
+first_received lanes (t ∷ tools) [] links took gave are there = absurd are
+first_received lanes (t ∷ tools) (e ∷ ends) [] took gave are there = received_ended lanes t e took gave (stage_ended lanes t e took gave are.2) there
+first_received lanes (t ∷ tools) (e ∷ ends) (l ∷ links) took gave are there = received_ended lanes t e took (sent l.producer) (stage_ended lanes t e took (sent l.producer) are.0) there
 
 -- the source gave a whole stream
 given_whole : {R : Type 0} (left : R → Option (List ℕ)) (failures : R → ℕ) (first source : Source R) (given : List Message) → HasAskedBy left failures first source given (Some (Ok tt)) → EndsBy Whole given
@@ -260,23 +259,23 @@ given_whole left failures first source given asked =
     subst (EndsBy Whole) (sym found.2 ∙ said.0) (stream_ends_whole found.0)
 
 -- and the first tool received it all
-took_all : {R W : Type 0} (left : R → Option (List ℕ)) (reader_failures : R → ℕ) (held : W → Option (List ℕ)) (failures : W → ℕ) (first source : Source R) (start done : W) (tools : List Tool) (ends : List StageEnd) (has_ended : Bool) (output : Result Summary SinkFault)
-    → (over : Over left reader_failures held failures first source start done tools ends (Some (Ok tt)) has_ended output) → FirstIsThere ends → (EndsBy Whole over.given) × (over.took ≡ over.given)
-took_all left reader_failures held failures first source start done tools ends has_ended output over there =
+took_all : {R W : Type 0} (left : R → Option (List ℕ)) (reader_failures : R → ℕ) (held : W → Option (List ℕ)) (failures : W → ℕ) (first source : Source R) (start done : W) (lanes : ℕ) (tools : List Tool) (ends : List StageEnd) (has_ended : Bool) (output : Result Summary SinkFault)
+    → (over : Over left reader_failures held failures first source start done lanes tools ends (Some (Ok tt)) has_ended output) → FirstIsThere ends → (EndsBy Whole over.given) × (over.took ≡ over.given)
+took_all left reader_failures held failures first source start done lanes tools ends has_ended output over there =
     let whole = given_whole left reader_failures first source over.given over.asked in
     let all : over.fed ≡ over.given = sym (append-nil over.fed) ∙ ap (λ (x : List Message). over.fed ++ x) (sym (over.none_waits refl)) ∙ over.passed ∙ append-nil over.given in
-    let ended = first_received tools ends over.links over.took over.gave over.stages there in
+    let ended = first_received lanes tools ends over.links over.took over.gave over.stages there in
     let none = nothing_follows over.took over.untaken ended (subst IsEnded (sym all ∙ over.received) (inl whole)) in
     (whole, sym (whole_list over.fed over.took over.untaken over.received none) ∙ all)
 
 -- no stage is at fault, and the end of the stream was taken
-well_stages : {R W : Type 0} (left : R → Option (List ℕ)) (reader_failures : R → ℕ) (held : W → Option (List ℕ)) (failures : W → ℕ) (first source : Source R) (start done : W) (tools : List Tool) (ends : List StageEnd) (output : Result Summary SinkFault)
-    → (over : Over left reader_failures held failures first source start done tools ends (Some (Ok tt)) true output) → first_fault_from 1 ends ≡ None
+well_stages : {R W : Type 0} (left : R → Option (List ℕ)) (reader_failures : R → ℕ) (held : W → Option (List ℕ)) (failures : W → ℕ) (first source : Source R) (start done : W) (lanes : ℕ) (tools : List Tool) (ends : List StageEnd) (output : Result Summary SinkFault)
+    → (over : Over left reader_failures held failures first source start done lanes tools ends (Some (Ok tt)) true output) → first_fault_from 1 ends ≡ None
     → (faults : List (Option ToolFault)) × StagesAnswered tools faults over.given (without_stop over.got) None
-well_stages left reader_failures held failures first source start done tools ends output over none =
-    let there = next_is_well 1 tools ends over.links over.took over.gave over.stages none in
-    let took = took_all left reader_failures held failures first source start done tools ends true output over there in
-    let answered = all_answered 1 tools ends over.links over.given over.gave (subst (λ (x : List Message). AreStages tools ends over.links x over.gave) took.1 over.stages) took.0 none in
+well_stages left reader_failures held failures first source start done lanes tools ends output over none =
+    let there = next_is_well lanes 1 tools ends over.links over.took over.gave over.stages none in
+    let took = took_all left reader_failures held failures first source start done lanes tools ends true output over there in
+    let answered = all_answered lanes 1 tools ends over.links over.given over.gave (subst (λ (x : List Message). AreStages lanes tools ends over.links x over.gave) took.1 over.stages) took.0 none in
     let nothing = nothing_follows over.got over.rest over.ended (subst IsEnded over.came (inl answered.ends)) in
     let all = whole_list over.gave over.got over.rest over.came nothing in (
       answered.faults,
@@ -289,13 +288,13 @@ well_stages left reader_failures held failures first source start done tools end
     )
 
 -- a tool is at fault
-refused_stages : {R W : Type 0} (left : R → Option (List ℕ)) (reader_failures : R → ℕ) (held : W → Option (List ℕ)) (failures : W → ℕ) (first source : Source R) (start done : W) (tools : List Tool) (ends : List StageEnd) (has_ended : Bool) (output : Result Summary SinkFault) (number : ℕ) (fault : ToolFault)
-    → (over : Over left reader_failures held failures first source start done tools ends (Some (Ok tt)) has_ended output) → first_fault_from 1 ends ≡ Some (OfTool number fault)
+refused_stages : {R W : Type 0} (left : R → Option (List ℕ)) (reader_failures : R → ℕ) (held : W → Option (List ℕ)) (failures : W → ℕ) (first source : Source R) (start done : W) (lanes : ℕ) (tools : List Tool) (ends : List StageEnd) (has_ended : Bool) (output : Result Summary SinkFault) (number : ℕ) (fault : ToolFault)
+    → (over : Over left reader_failures held failures first source start done lanes tools ends (Some (Ok tt)) has_ended output) → first_fault_from 1 ends ≡ Some (OfTool number fault)
     → (faults : List (Option ToolFault)) × StagesAnswered tools faults over.given (without_stop over.got) (Some (number, fault))
-refused_stages left reader_failures held failures first source start done tools ends has_ended output number fault over is =
-    let there = next_is_there 1 number fault tools ends over.links over.took over.gave over.stages is in
-    let took = took_all left reader_failures held failures first source start done tools ends has_ended output over there in
-    let answered = answered_until 1 tools ends over.links over.given over.gave number fault (subst (λ (x : List Message). AreStages tools ends over.links x over.gave) took.1 over.stages) took.0 is in
+refused_stages left reader_failures held failures first source start done lanes tools ends has_ended output number fault over is =
+    let there = next_is_there lanes 1 number fault tools ends over.links over.took over.gave over.stages is in
+    let took = took_all left reader_failures held failures first source start done lanes tools ends has_ended output over there in
+    let answered = answered_until lanes 1 tools ends over.links over.given over.gave number fault over.lawful (given_sound left reader_failures first source over.given (Some (Ok tt)) over.asked).lawful (subst (λ (x : List Message). AreStages lanes tools ends over.links x over.gave) took.1 over.stages) took.0 is in
     (answered.faults, record { last = answered.last; answered = answered.answered; first = answered.first; all = λ none. absurd cc })
 
 -- what was taken has ended, or it is all
@@ -305,22 +304,22 @@ got_ended rest false got ended (inl is) = absurd cc
 got_ended rest false got ended (inr none) = inr none
 
 -- all that was sent was written, unless the writer failed
-all_sent : {R W : Type 0} (left : R → Option (List ℕ)) (reader_failures : R → ℕ) (held : W → Option (List ℕ)) (failures : W → ℕ) (first source : Source R) (start done : W) (tools : List Tool) (ends : List StageEnd) (has_ended : Bool) (output : Result Summary SinkFault) (answer : Result Summary RunFault)
-    → Over left reader_failures held failures first source start done tools ends (Some (Ok tt)) has_ended output → FitEnds answer ends
-    → (text : List ℕ) → left (reader_of first) ≡ Some text → ¬ Failed (failures start) (failures done) → IsAllSent text tools answer (held start) (held done)
-all_sent left reader_failures held failures first source start done tools ends has_ended output answer over fit text is sound =
+all_sent : {R W : Type 0} (left : R → Option (List ℕ)) (reader_failures : R → ℕ) (held : W → Option (List ℕ)) (failures : W → ℕ) (first source : Source R) (start done : W) (lanes : ℕ) (tools : List Tool) (ends : List StageEnd) (has_ended : Bool) (output : Result Summary SinkFault) (answer : Result Summary RunFault)
+    → Over left reader_failures held failures first source start done lanes tools ends (Some (Ok tt)) has_ended output → FitEnds answer ends
+    → (text : List ℕ) → left (reader_of first) ≡ Some text → ¬ Failed (failures start) (failures done) → IsAllSent text lanes tools answer (held start) (held done)
+all_sent left reader_failures held failures first source start done lanes tools ends has_ended output answer over fit text is sound =
     let reader = change left reader_failures (reader_of first) (reader_of source) in
     let rest = rest_of reader.old reader.new over.asked.read text over.asked.consumed is in
     let said = over.asked.told rest.0 (rest_follows (Ok tt) reader rest.0 rest.1) in
     let text_is : said_of text ≡ over.given = ap said_of rest.2 ∙ said.0 in
     let whole = given_whole left reader_failures first source over.given over.asked in
     let fed : over.given ≡ over.took ++ over.untaken = sym (append-nil over.given) ∙ sym over.passed ∙ ap (λ (x : List Message). over.fed ++ x) (over.none_waits refl) ∙ append-nil over.fed ∙ over.received in
-    let ran = ran_over left reader_failures held failures first source start done tools ends (Some (Ok tt)) has_ended output over in
+    let ran = ran_over left reader_failures held failures first source start done lanes tools ends (Some (Ok tt)) has_ended output over in
     record {
       ends = ends;
       given = over.got;
       fit = fit;
-      ended = subst (λ (x : List Message). HaveEnded tools ends x over.got) (sym text_is) (have_ended tools ends over.links over.given over.took over.untaken over.gave over.got over.rest over.stages fed (inl (inl whole)) over.came (got_ended over.rest has_ended over.got over.ended over.all));
+      ended = subst (λ (x : List Message). HaveEnded lanes tools ends x over.got) (sym text_is) (have_ended lanes tools ends over.links over.given over.took over.untaken over.gave over.got over.rest over.stages fed (inl (inl whole)) over.came (got_ended over.rest has_ended over.got over.ended over.all));
       written = output_all held failures start done (without_stop over.got) over.sink over.sink.output ran.writable ran.taken (λ fault e. (over.broken fault e).1) over.kept sound;
     }
 
@@ -349,47 +348,47 @@ of_stage from (Broken ∷ ends) fault is = of_stage (from + 1) ends fault is
 of_stage from (Fault other ∷ ends) fault is = let same : OfTool from other ≡ fault = cc in subst IsOfStage same tt
 of_stage from (PeerGone ∷ ends) fault is = let same : Gone from ≡ fault = cc in subst IsOfStage same tt
 
-pub over_has_run : {R W : Type 0} (left : R → Option (List ℕ)) (reader_failures : R → ℕ) (held : W → Option (List ℕ)) (failures : W → ℕ) (first source : Source R) (start done : W) (tools : List Tool) (ends : List StageEnd) (input : Option (Result (Unit {0}) InputFault)) (found : Option RunFault) (has_ended : Bool) (output : Result Summary SinkFault)
-    → Over left reader_failures held failures first source start done tools ends input has_ended output → length ends ≡ length tools → first_fault_from 1 ends ≡ found
-    → HasRunOverThreads tools (answer_over input found has_ended (length ends + 1) output) (change left reader_failures (reader_of first) (reader_of source)) (change held failures start done)
-over_has_run left reader_failures held failures first source start done tools ends None found has_ended output over many is =
-    gone_has_run left reader_failures held failures first source start done tools ends None has_ended output 0 over (inl refl) (omega arith)
-over_has_run left reader_failures held failures first source start done tools ends (Some (Err fault)) found has_ended output over many is =
-    let ended = ended_over left reader_failures held failures first source start done tools ends (Err fault) has_ended output None [] over (λ well. absurd cc) in
+pub over_has_run : {R W : Type 0} (left : R → Option (List ℕ)) (reader_failures : R → ℕ) (held : W → Option (List ℕ)) (failures : W → ℕ) (first source : Source R) (start done : W) (lanes : ℕ) (tools : List Tool) (ends : List StageEnd) (input : Option (Result (Unit {0}) InputFault)) (found : Option RunFault) (has_ended : Bool) (output : Result Summary SinkFault)
+    → Over left reader_failures held failures first source start done lanes tools ends input has_ended output → length ends ≡ length tools → first_fault_from 1 ends ≡ found
+    → HasRunOverThreads lanes tools (answer_over input found has_ended (length ends + 1) output) (change left reader_failures (reader_of first) (reader_of source)) (change held failures start done)
+over_has_run left reader_failures held failures first source start done lanes tools ends None found has_ended output over many is =
+    gone_has_run left reader_failures held failures first source start done lanes tools ends None has_ended output 0 over (inl refl) (omega arith)
+over_has_run left reader_failures held failures first source start done lanes tools ends (Some (Err fault)) found has_ended output over many is =
+    let ended = ended_over left reader_failures held failures first source start done lanes tools ends (Err fault) has_ended output None [] over (λ well. absurd cc) in
     record {
       run = ended_has_run (change left reader_failures (reader_of first) (reader_of source)) held failures start done tools (Err fault) None output ⊥ ended;
       all_written = λ text has no sound. absurd no;
       gone = tt;
     }
-over_has_run left reader_failures held failures first source start done tools ends (Some (Ok tt)) (Some NoStart) has_ended output over many is = absurd (of_stage 1 ends NoStart is)
-over_has_run left reader_failures held failures first source start done tools ends (Some (Ok tt)) (Some (Input fault)) has_ended output over many is = absurd (of_stage 1 ends (Input fault) is)
-over_has_run left reader_failures held failures first source start done tools ends (Some (Ok tt)) (Some (Output fault)) has_ended output over many is = absurd (of_stage 1 ends (Output fault) is)
-over_has_run left reader_failures held failures first source start done tools ends (Some (Ok tt)) (Some (OfTool number fault)) has_ended output over many is =
-    let stages = refused_stages left reader_failures held failures first source start done tools ends has_ended output number fault over is in
-    let ended = ended_over left reader_failures held failures first source start done tools ends (Ok tt) has_ended output (Some (number, fault)) stages.0 over (λ well. stages.1) in
+over_has_run left reader_failures held failures first source start done lanes tools ends (Some (Ok tt)) (Some NoStart) has_ended output over many is = absurd (of_stage 1 ends NoStart is)
+over_has_run left reader_failures held failures first source start done lanes tools ends (Some (Ok tt)) (Some (Input fault)) has_ended output over many is = absurd (of_stage 1 ends (Input fault) is)
+over_has_run left reader_failures held failures first source start done lanes tools ends (Some (Ok tt)) (Some (Output fault)) has_ended output over many is = absurd (of_stage 1 ends (Output fault) is)
+over_has_run left reader_failures held failures first source start done lanes tools ends (Some (Ok tt)) (Some (OfTool number fault)) has_ended output over many is =
+    let stages = refused_stages left reader_failures held failures first source start done lanes tools ends has_ended output number fault over is in
+    let ended = ended_over left reader_failures held failures first source start done lanes tools ends (Ok tt) has_ended output (Some (number, fault)) stages.0 over (λ well. stages.1) in
     record {
       run = ended_has_run (change left reader_failures (reader_of first) (reader_of source)) held failures start done tools (Ok tt) (Some (number, fault)) output ⊥ ended;
-      all_written = λ text has tools_are sound. all_sent left reader_failures held failures first source start done tools ends has_ended output (Err (OfTool number fault)) over is text has sound;
+      all_written = λ text has tools_are sound. all_sent left reader_failures held failures first source start done lanes tools ends has_ended output (Err (OfTool number fault)) over is text has sound;
       gone = tt;
     }
-over_has_run left reader_failures held failures first source start done tools ends (Some (Ok tt)) (Some (Gone number)) has_ended output over many is =
-    gone_has_run left reader_failures held failures first source start done tools ends (Some (Ok tt)) has_ended output number over (inr refl) (let within = gone_within 1 number ends is in omega (arith, many))
-over_has_run left reader_failures held failures first source start done tools ends (Some (Ok tt)) None false output over many is =
-    gone_has_run left reader_failures held failures first source start done tools ends (Some (Ok tt)) false output (length ends + 1) over (inr refl) (omega (arith, many))
-over_has_run left reader_failures held failures first source start done tools ends (Some (Ok tt)) None true (Err fault) over many is =
-    let stages = well_stages left reader_failures held failures first source start done tools ends (Err fault) over is in
-    let ended = ended_over left reader_failures held failures first source start done tools ends (Ok tt) true (Err fault) None stages.0 over (λ well. stages.1) in
+over_has_run left reader_failures held failures first source start done lanes tools ends (Some (Ok tt)) (Some (Gone number)) has_ended output over many is =
+    gone_has_run left reader_failures held failures first source start done lanes tools ends (Some (Ok tt)) has_ended output number over (inr refl) (let within = gone_within 1 number ends is in omega (arith, many))
+over_has_run left reader_failures held failures first source start done lanes tools ends (Some (Ok tt)) None false output over many is =
+    gone_has_run left reader_failures held failures first source start done lanes tools ends (Some (Ok tt)) false output (length ends + 1) over (inr refl) (omega (arith, many))
+over_has_run left reader_failures held failures first source start done lanes tools ends (Some (Ok tt)) None true (Err fault) over many is =
+    let stages = well_stages left reader_failures held failures first source start done lanes tools ends (Err fault) over is in
+    let ended = ended_over left reader_failures held failures first source start done lanes tools ends (Ok tt) true (Err fault) None stages.0 over (λ well. stages.1) in
     record {
       run = ended_has_run (change left reader_failures (reader_of first) (reader_of source)) held failures start done tools (Ok tt) None (Err fault) ⊥ ended;
-      all_written = λ text has tools_are sound. all_sent left reader_failures held failures first source start done tools ends true (Err fault) (Err (Output fault)) over is text has sound;
+      all_written = λ text has tools_are sound. all_sent left reader_failures held failures first source start done lanes tools ends true (Err fault) (Err (Output fault)) over is text has sound;
       gone = tt;
     }
-over_has_run left reader_failures held failures first source start done tools ends (Some (Ok tt)) None true (Ok summary) over many is =
-    let stages = well_stages left reader_failures held failures first source start done tools ends (Ok summary) over is in
-    let ended = ended_over left reader_failures held failures first source start done tools ends (Ok tt) true (Ok summary) None stages.0 over (λ well. stages.1) in
+over_has_run left reader_failures held failures first source start done lanes tools ends (Some (Ok tt)) None true (Ok summary) over many is =
+    let stages = well_stages left reader_failures held failures first source start done lanes tools ends (Ok summary) over is in
+    let ended = ended_over left reader_failures held failures first source start done lanes tools ends (Ok tt) true (Ok summary) None stages.0 over (λ well. stages.1) in
     record {
       run = ended_has_run (change left reader_failures (reader_of first) (reader_of source)) held failures start done tools (Ok tt) None (Ok summary) ⊥ ended;
-      all_written = λ text has tools_are sound. all_sent left reader_failures held failures first source start done tools ends true (Ok summary) (Ok summary) over is text has sound;
+      all_written = λ text has tools_are sound. all_sent left reader_failures held failures first source start done lanes tools ends true (Ok summary) (Ok summary) over is text has sound;
       gone = tt;
     }
 
@@ -427,5 +426,5 @@ was_started input ends has_ended behind output = started_by input (first_fault_f
 -- ---- before the first message
 
 -- there is no memory to read
-pub unread_has_run : (tools : List Tool) (reader writer : Change) → reader.new ≡ reader.old → reader.failures_new ≡ reader.failures_old → writer.new ≡ writer.old → HasRunOverThreads tools (Err (Input NoMemoryToRead)) reader writer
-unread_has_run tools reader writer read same_count written = record { run = (ended_without_reading tools ⊥ reader writer read same_count written).run; all_written = λ text is has sound. absurd has; gone = tt }
+pub unread_has_run : (lanes : ℕ) (tools : List Tool) (reader writer : Change) → reader.new ≡ reader.old → reader.failures_new ≡ reader.failures_old → writer.new ≡ writer.old → HasRunOverThreads lanes tools (Err (Input NoMemoryToRead)) reader writer
+unread_has_run lanes tools reader writer read same_count written = record { run = (ended_without_reading tools ⊥ reader writer read same_count written).run; all_written = λ text is has sound. absurd has; gone = tt }

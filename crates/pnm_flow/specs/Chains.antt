@@ -1,6 +1,6 @@
--- What a chain of stages has received and sent once all have ended: each tool in a thread of its own, with a ring between
--- it and the next.
-use Rattle.std.specs.Prelude.{◌≡◌, ◌≢◌, ◌≤◌, ℕ, ◌+◌, length, List, [], ◌∷◌, ◌++◌}
+-- What a chain of tools has received and sent once all have ended: each in a thread of its own, or over lanes, with a ring
+-- between it and the next.
+use Rattle.std.specs.Prelude.{◌≡◌, ◌≢◌, ◌⊎◌, ◌<◌, ◌≤◌, ℕ, ◌+◌, true, length, List, [], ◌∷◌, ◌++◌}
 use Rattle.std.specs.Prelude.{vec_capacity}
 use Rattle.std.specs.Global.{Global}
 use Rattle.std.specs.List.{AllByRecursion}
@@ -13,6 +13,7 @@ use Rattle.pnm_image.specs.Images.{Image, messages_of_stream}
 use Rattle.pnm_image.specs.Completion.{IsStreamOf}
 use Rattle.pnm_tools.specs.declared.tool.Tool.{Tool}
 use Rattle.pnm_tools.specs.Chains.{AreResultsInTurn, due_in_turn}
+use Rattle.pnm_tools.specs.Tools.{is_row_wise}
 use Rattle.pnm_flow.specs.declared.chain.ChainDone.{ChainDone}
 use Rattle.pnm_flow.specs.declared.link.Link.{Link}
 use Rattle.pnm_rings.specs.declared.ring.AnyMessage.{AnyMessage}
@@ -20,7 +21,35 @@ use Rattle.pnm_rings.specs.declared.stage_end.StageEnd.{StageEnd}
 use Rattle.pnm_rings.specs.declared.stage_end.StageEnd.TheVariants.{Well, PeerGone}
 use Rattle.pnm_flow.specs.Links.{IsWhole, IsDrained}
 use Rattle.pnm_rings.specs.Fronts.{IsFrontOfDue}
+use Rattle.pnm_rings.specs.Rings.{IsEnded}
 use Rattle.pnm_rings.specs.Stages.{IsStage}
+use Rattle.pnm_lanes.specs.Lanes.{IsStageOfLanes}
+
+-- ---- one tool
+
+-- the tool runs over several lanes
+abbrev pub RunsInLanes : ℕ → Tool → Type 0
+RunsInLanes lanes tool = (1 < lanes) × (is_row_wise tool ≡ true)
+
+-- one thing where it does, and another where it doesn't
+abbrev pub ByLanes : ℕ → Tool → Type 0 → Type 0 → Type 0
+ByLanes lanes tool Several One = (RunsInLanes lanes tool × Several) ⊎ ((RunsInLanes lanes tool → ⊥) × One)
+
+-- what a tool of a chain has received and sent, by its end
+abbrev pub IsStageOver : ℕ → Tool → StageEnd → List Message → List Message → Type 0
+IsStageOver lanes tool end l g = ByLanes lanes tool (IsStageOfLanes tool end l g) (IsStage tool end l g)
+
+-- a tool of a chain has ended so, by the messages that its two rings had passed before and have passed now, and those that
+-- are left in the first: none, or the end of the stream was received
+pub record HasRunTool (lanes : ℕ) (tool : Tool) (end : StageEnd) (received_old received_new left sent_old sent_new : List Message) : Type 0 where
+  pub took : List Message
+  pub gave : List Message
+  pub input : received_new ≡ received_old ++ took
+  pub output : sent_new ≡ sent_old ++ gave
+  pub drained : IsEnded took ⊎ (left ≡ [])
+  pub stage : IsStageOver lanes tool end took gave
+
+-- ---- all of them
 
 -- the first of these stages saw no neighbour's end dropped
 abbrev pub FirstIsThere : List StageEnd → Type 0
@@ -29,21 +58,21 @@ FirstIsThere (end ∷ ends) = end ≢ PeerGone
 
 -- each tool has ended so with the messages of its two rings: the first received these, the last sent those, and the ring
 -- between a tool and the next is whole, and drained unless one of the two saw a neighbour's end dropped
-abbrev pub AreStages : List Tool → List StageEnd → List Link → List Message → List Message → Type 0
-AreStages [] ends links took gave = ⊥
-AreStages (tool ∷ tools) [] links took gave = ⊥
-AreStages (tool ∷ tools) (end ∷ ends) [] took gave = (tools ≡ []) × (ends ≡ []) × IsStage tool end took gave
-AreStages (tool ∷ tools) (end ∷ ends) (link ∷ links) took gave =
-    IsStage tool end took (sent link.producer) × IsWhole link × (end ≢ PeerGone → FirstIsThere ends → IsDrained link)
-    × AreStages tools ends links (received link.consumer) gave
+abbrev pub AreStages : ℕ → List Tool → List StageEnd → List Link → List Message → List Message → Type 0
+AreStages lanes [] ends links took gave = ⊥
+AreStages lanes (tool ∷ tools) [] links took gave = ⊥
+AreStages lanes (tool ∷ tools) (end ∷ ends) [] took gave = (tools ≡ []) × (ends ≡ []) × IsStageOver lanes tool end took gave
+AreStages lanes (tool ∷ tools) (end ∷ ends) (link ∷ links) took gave =
+    IsStageOver lanes tool end took (sent link.producer) × IsWhole link × (end ≢ PeerGone → FirstIsThere ends → IsDrained link)
+    × AreStages lanes tools ends links (received link.consumer) gave
 
 -- the stages of a chain, by the messages that its two outer rings had passed before and have passed now
-pub record HasRunStages (tools : List Tool) (ends : List StageEnd) (links : List Link) (received_old received_new sent_old sent_new : List Message) : Type 0 where
+pub record HasRunStages (lanes : ℕ) (tools : List Tool) (ends : List StageEnd) (links : List Link) (received_old received_new sent_old sent_new : List Message) : Type 0 where
   pub took : List Message
   pub gave : List Message
   pub input : received_new ≡ received_old ++ took
   pub output : sent_new ≡ sent_old ++ gave
-  pub stages : AreStages tools ends links took gave
+  pub stages : AreStages lanes tools ends links took gave
 
 -- the stream of the chain's results was sent for the stream that was received
 pub record HasAnsweredStream (tools : List Tool) (took gave : List Message) : Type 0 where
@@ -54,7 +83,7 @@ pub record HasAnsweredStream (tools : List Tool) (took gave : List Message) : Ty
   pub answer : gave ≡ messages_of_stream results
 
 -- a chain has ended so, by the messages that its two outer rings had passed before and have passed now
-pub record HasRunChain (tools : List Tool) (ends : List StageEnd) (links : List Link) (received_old received_new sent_old sent_new : List Message) : Type 0 where
+pub record HasRunChain (lanes : ℕ) (tools : List Tool) (ends : List StageEnd) (links : List Link) (received_old received_new sent_old sent_new : List Message) : Type 0 where
   pub took : List Message
   pub gave : List Message
   pub input : received_new ≡ received_old ++ took
@@ -62,7 +91,7 @@ pub record HasRunChain (tools : List Tool) (ends : List StageEnd) (links : List 
   -- There is an end for each tool and a link between each two, and each is in its relation.
   pub count : length ends ≡ length tools
   pub between : length links + 1 ≡ length tools
-  pub stages : AreStages tools ends links took gave
+  pub stages : AreStages lanes tools ends links took gave
   -- Where no stage saw a neighbour's end dropped, nothing is left in a ring.
   pub drained : AllByRecursion (λ end. end ≢ PeerGone) ends → AllByRecursion IsDrained links
   -- Where all ended well, the results of all images were sent.
@@ -71,10 +100,10 @@ pub record HasRunChain (tools : List Tool) (ends : List StageEnd) (links : List 
   pub due : IsFrontOfDue (due_in_turn tools) took gave
 
 -- the stages of a chain between these ring ends, which came back; the lists still have so much room
-pub record HasRunBetween (tools : List Tool) (links_room ends_room : ℕ) (input : Consumer Message Global AnyMessage) (output : Producer Message Global AnyMessage) (done : ChainDone) : Type 0 where
+pub record HasRunBetween (lanes : ℕ) (tools : List Tool) (links_room ends_room : ℕ) (input : Consumer Message Global AnyMessage) (output : Producer Message Global AnyMessage) (done : ChainDone) : Type 0 where
   pub same_input : SameConsumer input done.input
   pub same_output : SameProducer output done.output
-  pub ran : HasRunStages tools done.ends.items done.links.items (received input) (received done.input) (sent output) (sent done.output)
+  pub ran : HasRunStages lanes tools done.ends.items done.links.items (received input) (received done.input) (sent output) (sent done.output)
   pub for_links : vec_capacity done.links ≡ links_room
   pub for_ends : vec_capacity done.ends ≡ ends_room
 

@@ -16,6 +16,8 @@ use Rattle.pnm_rings.specs.declared.stage_end.StageEnd.TheVariants.{Well, Broken
 use Rattle.pnm_flow.specs.declared.summary.Summary.{Summary}
 use Rattle.pnm_flow.specs.Runs.{Change, HasRun}
 use Rattle.pnm_rings.specs.Stages.{HasEndedSo}
+use Rattle.pnm_lanes.specs.Lanes.{HaveLanesEndedSo}
+use Rattle.pnm_flow.specs.Chains.{ByLanes}
 
 -- ---- the answer
 
@@ -46,12 +48,16 @@ answer_over (Some (Ok _)) None true behind (Ok summary) = Ok summary
 
 -- ---- what was written
 
+-- a tool has ended so
+abbrev pub HasEndedOver : ℕ → Tool → StageEnd → List Message → List Message → Type 0
+HasEndedOver lanes tool end l g = ByLanes lanes tool (HaveLanesEndedSo tool end l g) (HasEndedSo tool end l g)
+
 -- each tool has ended so for what the one before it sent; where a tool saw a ring's other end dropped, no more is known
-abbrev pub HaveEnded : List Tool → List StageEnd → List Message → List Message → Type 0
-HaveEnded [] [] took gave = gave ≡ took
-HaveEnded [] (end ∷ ends) took gave = ⊥
-HaveEnded (tool ∷ tools) [] took gave = ⊥
-HaveEnded (tool ∷ tools) (end ∷ ends) took gave = (middle : List Message) × HasEndedSo tool end took middle × HaveEnded tools ends middle gave
+abbrev pub HaveEnded : ℕ → List Tool → List StageEnd → List Message → List Message → Type 0
+HaveEnded lanes [] [] took gave = gave ≡ took
+HaveEnded lanes [] (end ∷ ends) took gave = ⊥
+HaveEnded lanes (tool ∷ tools) [] took gave = ⊥
+HaveEnded lanes (tool ∷ tools) (end ∷ ends) took gave = (middle : List Message) × HasEndedOver lanes tool end took middle × HaveEnded lanes tools ends middle gave
 
 -- the ends of the tools, as far as the answer tells them
 abbrev pub FitEnds : {A : Type 0} → Result A RunFault → List StageEnd → Type 0
@@ -72,11 +78,11 @@ IsOfTools (Err (Output fault)) = Unit {0}
 IsOfTools (Err (Gone number)) = ⊥
 
 -- the tools have ended so for all that is said of the text, and what the last one sent was written
-pub record IsAllSent {A : Type 0} (text : List ℕ) (tools : List Tool) (answer : Result A RunFault) (old new : Option (List ℕ)) : Type 0 where
+pub record IsAllSent {A : Type 0} (text : List ℕ) (lanes : ℕ) (tools : List Tool) (answer : Result A RunFault) (old new : Option (List ℕ)) : Type 0 where
   pub ends : List StageEnd
   pub given : List Message
   pub fit : FitEnds answer ends
-  pub ended : HaveEnded tools ends (said_of text) given
+  pub ended : HaveEnded lanes tools ends (said_of text) given
   pub written : Appends old new (bytes_of (without_stop given))
 
 -- ---- the run
@@ -92,7 +98,7 @@ IfGone (Err (Gone number)) P = P number
 
 -- a run over threads that was started: what holds of one in one thread, and what its stages did. There is no list of tools
 -- for which memory could be missing.
-pub record HasRunOverThreads (tools : List Tool) (answer : Result Summary RunFault) (reader writer : Change) : Type 0 where
+pub record HasRunOverThreads (lanes : ℕ) (tools : List Tool) (answer : Result Summary RunFault) (reader writer : Change) : Type 0 where
   pub run : HasRun tools answer ⊥ reader writer
-  pub all_written : (text : List ℕ) → reader.old ≡ Some text → IsOfTools answer → ¬ Failed writer.failures_old writer.failures_new → IsAllSent text tools answer writer.old writer.new
+  pub all_written : (text : List ℕ) → reader.old ≡ Some text → IsOfTools answer → ¬ Failed writer.failures_old writer.failures_new → IsAllSent text lanes tools answer writer.old writer.new
   pub gone : IfGone answer (λ number. number ≤ length tools + 1)

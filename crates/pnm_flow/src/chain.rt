@@ -7,14 +7,14 @@ ghost use Rattle.pnm_image.specs.Limits.{max_tools};
 ghost use Rattle.pnm_tools.specs.Chains.{AreLawfulTools, IsChain};
 ghost use Rattle.pnm_tools.specs.Tools.{IsLawfulTool};
 ghost use Rattle.pnm_flow.specs.Links.{IsWhole};
-ghost use Rattle.pnm_rings.specs.Stages.{HasRunStage};
-ghost use Rattle.pnm_flow.specs.Chains.{HasRunBetween, HasRunChain, HasRoom, max_ring_capacity};
+ghost use Rattle.pnm_flow.specs.Chains.{HasRunTool, HasRunBetween, HasRunChain, HasRoom, max_ring_capacity};
 ghost use Rattle.pnm_stages.specs.Starts.{IsUntouched};
 
 use crate::link::Link;
+use crate::tool_run::{ToolBells, bell_of_tool, bell_of_tools, run_between, run_tool_by};
 use pnm_image::limits::MAX_TOOLS;
 use pnm_rings::{Bell, Input, Output, StageEnd, new_ring};
-use pnm_stages::{Bells, Gate, NoStart, StageDone, at_once, run_stage_by};
+use pnm_stages::{Gate, NoStart, StageDone, at_once};
 use pnm_tools::Tool;
 use std::alloc::Global;
 use std::sync::Wait;
@@ -47,51 +47,53 @@ pub fn run_chain<R: Threads + Wait + Sync, G: Gate>(
     alloc: Global,
     tools: &[Tool],
     capacity: usize,
-    _lanes: usize,
+    lanes: usize,
     gate: &G,
     input: Input,
     output: Output,
 ) -> Result<ChainDone, NoStart>
     requires chain { IsChain tools.now }
     requires capacity { (1 ≤ capacity) × (capacity ≤ max_ring_capacity) }
-    requires lanes { _lanes ≡ 1 }
+    requires lanes { lanes ≡ 1 }
     ensures input { IfOk result (λ done. SameConsumer input done.input) }
     ensures output { IfOk result (λ done. SameProducer output done.output) }
-    ensures ran { IfOk result (λ done. HasRunChain tools.now done.ends.items done.links.items
+    ensures ran { IfOk result (λ done. HasRunChain lanes tools.now done.ends.items done.links.items
         (received input) (received done.input) (sent output) (sent done.output)) }
     ensures not_started { IfErr result (λ refused. IfSome refused.ends (IsUntouched input output)) }
 {
     let nobody = Bell::of_nobody();
     let first = Bell::new();
     let last = Bell::new();
-    let bells = Bells {
+    let bells = ToolBells {
         left: &nobody,
-        own: &last,
+        receiver: bell_of_tools(tools, lanes, &last, &first),
+        sender: &last,
         right: &nobody,
     };
     run_chain_by(
-        rt, alloc, tools, capacity, gate, input, output, bells, &first,
+        rt, alloc, tools, capacity, lanes, gate, input, output, bells,
     )
 }
 
-/// The same, beside neighbours that have bells. The bells are those of the last tool and of the neighbours of all; the
-/// first tool has its own, unless it is the last.
+/// The same, beside neighbours that have bells. Where one thread receives for the first tool and sends for the last, both
+/// have one bell.
 pub fn run_chain_by<R: Threads + Wait + Sync, G: Gate>(
     rt: &R,
     alloc: Global,
     tools: &[Tool],
     capacity: usize,
+    lanes: usize,
     gate: &G,
     input: Input,
     output: Output,
-    bells: Bells<'_>,
-    first: &Bell,
+    bells: ToolBells<'_>,
 ) -> Result<ChainDone, NoStart>
     requires shared { IsSync R.row × IsSync G.row }
     requires chain { IsChain tools.now }
+    requires lanes { lanes ≡ 1 }
     ensures input { IfOk result (λ done. SameConsumer input done.input) }
     ensures output { IfOk result (λ done. SameProducer output done.output) }
-    ensures ran { IfOk result (λ done. HasRunChain tools.now done.ends.items done.links.items
+    ensures ran { IfOk result (λ done. HasRunChain lanes tools.now done.ends.items done.links.items
         (received input) (received done.input) (sent output) (sent done.output)) }
     ensures not_started { IfErr result (λ refused. IfSome refused.ends (IsUntouched input output)) }
 {
@@ -99,7 +101,7 @@ pub fn run_chain_by<R: Threads + Wait + Sync, G: Gate>(
         return Err(not_started(input, output));
     };
     run_stages(
-        rt, alloc, tools, capacity, gate, input, output, room, bells, first,
+        rt, alloc, tools, capacity, lanes, gate, input, output, room, bells,
     )
 }
 
@@ -121,77 +123,94 @@ impl Room {
     }
 }
 
-/// The stages of the tools, at least one: the last in a thread of its own, beside those before it.
+/// The tools, at least one: the last in a thread of its own, beside those before it.
 fn run_stages<R: Threads + Wait + Sync, G: Gate>(
     rt: &R,
     alloc: Global,
     tools: &[Tool],
     capacity: usize,
+    lanes: usize,
     gate: &G,
     input: Input,
     output: Output,
     room: Room,
-    bells: Bells<'_>,
-    first: &Bell,
+    bells: ToolBells<'_>,
 ) -> Result<ChainDone, NoStart>
     requires shared { IsSync R.row × IsSync G.row }
     requires tools { AreLawfulTools tools.now × (1 ≤ length tools.now) × (length tools.now ≤ max_tools) }
+    requires lanes { lanes ≡ 1 }
     requires room { HasRoom room.links.items (vec_capacity room.links) room.ends.items (vec_capacity room.ends) }
-    ensures ran { IfOk result (HasRunBetween tools.now (vec_capacity room.links) (vec_capacity room.ends) input output) }
+    ensures ran { IfOk result (HasRunBetween lanes tools.now (vec_capacity room.links) (vec_capacity room.ends) input output) }
     ensures not_started { IfErr result (λ refused. IfSome refused.ends (IsUntouched input output)) }
 {
     let (last, others) = last_and_others(tools);
     if others.is_empty() {
-        return Ok(only(
-            run_stage_by(rt, alloc, last, 1, gate, input, output, bells),
-            room,
-        ));
+        let done = run_tool_by(
+            rt, alloc, last, 1, lanes, capacity, gate, input, output, bells,
+        );
+        return match done {
+            Ok(done) => Ok(only(done, room)),
+            Err(refused) => Err(refused),
+        };
     }
     let Some((producer, consumer)) = new_ring(alloc, capacity) else {
         return Err(not_started(input, output));
     };
     let number = tools.len();
-    // The bell of the tool before the last stands here, below the threads of both its neighbours.
-    let before = Bell::new();
-    let next = if others.len() == 1 { first } else { &before };
-    let Bells { left, own, right } = bells;
+    let ToolBells {
+        left,
+        receiver: first,
+        sender: end,
+        right,
+    } = bells;
+    // The bells of the two threads between which the ring stands are here, below both.
+    let (sends, receives) = (Bell::new(), Bell::new());
+    let sender = bell_of_tools(others, lanes, first, &sends);
+    let receiver = bell_of_tool(last, lanes, end, &receives);
     let both = at_once(
         rt,
-        move || -> StageDone
-            requires { IsLawfulTool last.now }
-            ensures { SameConsumer consumer result.input × SameProducer output result.output
-                × HasRunStage last.entry.now result.end (received consumer) (received result.input) (known_items result.input)
-                (sent output) (sent result.output) }
+        move || -> Option<StageDone>
+            requires { (IsSync R.row × IsSync G.row) × IsLawfulTool last.now × (lanes ≡ 1) }
+            ensures { IfSome result (λ done. SameConsumer consumer done.input × SameProducer output done.output
+                × HasRunTool lanes last.entry.now done.end (received consumer) (received done.input) (known_items done.input)
+                (sent output) (sent done.output)) }
         {
-            let bells = Bells {
-                left: next,
-                own,
+            let bells = ToolBells {
+                left: sender,
+                receiver,
+                sender: end,
                 right,
             };
-            run_stage_by(rt, alloc, last, number, gate, consumer, output, bells)
+            run_between(
+                rt, alloc, last, number, lanes, capacity, gate, consumer, output, bells,
+            )
         },
         move || -> Option<ChainDone>
             requires { (IsSync R.row × IsSync G.row)
-                × (AreLawfulTools others.now × (1 ≤ length others.now) × (length others.now ≤ max_tools))
+                × (AreLawfulTools others.now × (1 ≤ length others.now) × (length others.now ≤ max_tools)) × (lanes ≡ 1)
                 × HasRoom room.links.items (vec_capacity room.links) room.ends.items (vec_capacity room.ends) }
-            ensures { IfSome result (HasRunBetween others.entry.now (vec_capacity room.links) (vec_capacity room.ends) input producer) }
+            ensures { IfSome result (HasRunBetween lanes others.entry.now (vec_capacity room.links) (vec_capacity room.ends) input producer) }
         {
-            let bells = Bells {
+            let bells = ToolBells {
                 left,
-                own: next,
-                right: own,
+                receiver: first,
+                sender,
+                right: receiver,
             };
             // Where they weren't started, their ring ends go here, before the last tool is waited for, which looks for
             // that once it is woken.
             let chain = run_stages(
-                rt, alloc, others, capacity, gate, input, producer, room, bells, first,
+                rt, alloc, others, capacity, lanes, gate, input, producer, room, bells,
             )
             .ok();
-            own.ring();
+            receiver.ring();
             chain
         },
     );
     let Some((done, chain)) = both else {
+        return Err(NoStart { ends: None });
+    };
+    let Some(done) = done else {
         return Err(NoStart { ends: None });
     };
     match chain {

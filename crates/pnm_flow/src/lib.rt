@@ -12,6 +12,7 @@ mod passing;
 mod serial;
 mod summary;
 mod threaded;
+mod tool_run;
 mod turns;
 
 pub use chain::{ChainDone, run_chain};

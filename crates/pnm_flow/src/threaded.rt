@@ -1,6 +1,6 @@
 //! A run over threads: the caller reads and writes, and each tool works in a thread of its own.
 
-ghost use Rattle.std.specs.Prelude.{◌≡◌, ◌≢◌, ◌⊎◌, ◌≤◌, ◌+◌, [], List, length, Some, Err, IfSome};
+ghost use Rattle.std.specs.Prelude.{◌≡◌, ◌≢◌, ◌⊎◌, ◌≤◌, ◌+◌, ℕ, [], List, length, Some, Err, IfSome};
 ghost use Rattle.std.specs.Thread.{IsSync};
 ghost use Rattle.rtrb.specs.Ring.{sent, received, IsPair, SameProducer, SameConsumer};
 ghost use Rattle.pnm_image.specs.Limits.{max_tools};
@@ -22,11 +22,12 @@ use crate::collector::Collector;
 use crate::fault::RunFault;
 use crate::feeder::Feeder;
 use crate::summary::Summary;
+use crate::tool_run::{ToolBells, bell_of_tools};
 use crate::turns::Turns;
 use pnm_image::{BytesIn, BytesOut};
 use pnm_read::{InputFault, ReadBuffer, Source};
 use pnm_rings::{Bell, Input, Output, StageEnd, new_ring};
-use pnm_stages::{Bells, Call, Gate, run_both};
+use pnm_stages::{Call, Gate, run_both};
 use pnm_tools::Tool;
 use pnm_write::SinkFault;
 use std::alloc::Global;
@@ -46,13 +47,13 @@ pub fn run<H: Threads + Wait + Sync, R: BytesIn, W: BytesOut, G: Gate>(
     writer: &mut W,
     tools: &[Tool],
     capacity: usize,
-    _lanes: usize,
+    lanes: usize,
     gate: &G,
 ) -> Result<Summary, RunFault>
     requires chain { IsChain tools.now }
     requires capacity { (1 ≤ capacity) × (capacity ≤ max_ring_capacity) }
-    requires lanes { _lanes ≡ 1 }
-    ensures ran { (result ≡ Err NotStarted) ⊎ HasRunOverThreads tools.now result
+    requires lanes { lanes ≡ 1 }
+    ensures ran { (result ≡ Err NotStarted) ⊎ HasRunOverThreads lanes tools.now result
         (change R.left R.failures reader.old reader.new) (change W.held W.failures writer.old writer.new) }
     // Where no chain came back, what it held didn't either.
     ensures same_reader { result ≢ Err NotStarted → R.same reader.old reader.new }
@@ -72,7 +73,7 @@ pub fn run<H: Threads + Wait + Sync, R: BytesIn, W: BytesOut, G: Gate>(
     let feeder = Feeder::new(source, to_chain);
     let collector = Collector::new(from_chain, &mut *writer);
     let both = beside_chain(
-        rt, alloc, tools, capacity, gate, input, output, feeder, collector,
+        rt, alloc, tools, capacity, lanes, gate, input, output, feeder, collector,
     );
     let Some((chain, feeder, collector)) = both else {
         return Err(RunFault::NoStart);
@@ -90,6 +91,7 @@ fn beside_chain<H: Threads + Wait + Sync, R: BytesIn + Drop, W: BytesOut + Drop,
     alloc: Global,
     tools: &[Tool],
     capacity: usize,
+    lanes: usize,
     gate: &G,
     input: Input,
     output: Output,
@@ -98,16 +100,17 @@ fn beside_chain<H: Threads + Wait + Sync, R: BytesIn + Drop, W: BytesOut + Drop,
 ) -> Option<(ChainDone, Feeder<R>, Collector<W>)>
     requires shared { IsSync H.row × IsSync G.row }
     requires chain { IsChain tools.now }
+    requires lanes { lanes ≡ 1 }
     ensures input { IfSome result (λ r. SameConsumer input r.0.input) }
     ensures output { IfSome result (λ r. SameProducer output r.0.output) }
-    ensures ran { IfSome result (λ r. HasRunChain tools.now r.0.ends.items r.0.links.items
+    ensures ran { IfSome result (λ r. HasRunChain lanes tools.now r.0.ends.items r.0.links.items
         (received input) (received r.0.input) (sent output) (sent r.0.output)) }
     ensures turned { IfSome result (λ r. HaveTurned R.left R.failures R.same W.held W.failures W.same feeder collector r.1 r.2) }
 {
     let own = &Bell::new();
     let last = &Bell::new();
     let before_last = Bell::new();
-    let first = if tools.len() == 1 { last } else { &before_last };
+    let first = bell_of_tools(tools, lanes, last, &before_last);
     let turns = Turns {
         rt,
         first,
@@ -118,17 +121,18 @@ fn beside_chain<H: Threads + Wait + Sync, R: BytesIn + Drop, W: BytesOut + Drop,
     };
     let chain = Call(
         move || -> Option<ChainDone>
-            requires { (IsSync H.row × IsSync G.row) × IsChain tools.now }
+            requires { (IsSync H.row × IsSync G.row) × IsChain tools.now × (lanes ≡ 1) }
             ensures { IfSome result (λ done. SameConsumer input done.input × SameProducer output done.output
-                × HasRunChain tools.entry.now done.ends.items done.links.items (received input) (received done.input) (sent output) (sent done.output)) }
+                × HasRunChain lanes tools.entry.now done.ends.items done.links.items (received input) (received done.input) (sent output) (sent done.output)) }
         {
-            let bells = Bells {
+            let bells = ToolBells {
                 left: own,
-                own: last,
+                receiver: first,
+                sender: last,
                 right: own,
             };
             let done = run_chain_by(
-                rt, alloc, tools, capacity, gate, input, output, bells, first,
+                rt, alloc, tools, capacity, lanes, gate, input, output, bells,
             )
             .ok();
             // Where it wasn't started, its ring ends are gone by now.
@@ -149,10 +153,10 @@ fn conclude<R: BytesIn + Drop, W: BytesOut + Drop>(
     requires rings { IsPair feeder.output chain.input × IsPair chain.output collector.input }
     requires ends { length chain.ends.items ≤ max_tools }
     requires taken { (start : W) × IsCollecting W.held W.failures start [] collector }
-    ensures ran { (first : SourceValue R) (start : W) (tools : List ToolValue) → AreLawfulTools tools
+    ensures ran { (first : SourceValue R) (start : W) (lanes : ℕ) (tools : List ToolValue) → AreLawfulTools tools
         → IsFeeding R.left R.failures first [] feeder → IsCollecting W.held W.failures start [] collector
-        → HasRunChain tools chain.ends.items chain.links.items [] (received chain.input) [] (sent chain.output)
-        → HasRunOverThreads tools result.2 (change R.left R.failures (reader_of first) result.0) (change W.held W.failures start result.1) }
+        → HasRunChain lanes tools chain.ends.items chain.links.items [] (received chain.input) [] (sent chain.output)
+        → HasRunOverThreads lanes tools result.2 (change R.left R.failures (reader_of first) result.0) (change W.held W.failures start result.1) }
     ensures started { result.2 ≢ Err NotStarted }
     ensures reader { result.0 ≡ reader_of feeder.source }
     ensures same_writer { W.same (output_of collector.downstream) result.1 }

@@ -80,7 +80,7 @@ status_of (Err fault) = 1
 pub record HasRunTools (tools : List Tool) (status : ℕ) (reader writer : Change) : Type 0 where
   pub answer : Result Summary RunFault
   pub status_is : status ≡ status_of answer
-  pub ran : (answer ≡ Err NoStart) ⊎ HasRunOverThreads tools answer reader writer
+  pub ran : (answer ≡ Err NoStart) ⊎ HasRunOverThreads 1 tools answer reader writer
 
 -- the words give a chain, it spells tools, and a run over these ended
 pub record HasRunWords (words : List Text) (status : ℕ) (reader writer : Change) : Type 0 where

@@ -8,7 +8,7 @@ pub returns-in-Err-clause-ran : goal.returns-in-Err-clause-ran
 returns-in-Err-clause-ran g c =
     let reader = c.args.reader.now in
     let writer = c.args.writer.now in
-    rw c.in-Err.ensures.refused (inr (unread_has_run c.args.tools.now (change g.R.BytesIn.left g.R.BytesIn.failures reader reader) (change g.W.BytesOut.held g.W.BytesOut.failures writer writer) refl refl refl))
+    rw c.in-Err.ensures.refused (inr (unread_has_run c.args.lanes c.args.tools.now (change g.R.BytesIn.left g.R.BytesIn.failures reader reader) (change g.W.BytesOut.held g.W.BytesOut.failures writer writer) refl refl refl))
 
 pub conclude-read-requires-clause-taken : goal.conclude-read-requires-clause-taken
 conclude-read-requires-clause-taken g c = (_, c.in-Some.ensures.turned.collecting _ [] (rw c.in-Some-Some.ensures'.unused.1 at c.new-collector.ensures.collecting))

@@ -1,0 +1,78 @@
+-- What holds of a tool of a chain however many lanes it runs over.
+use Rattle.std.proofs.Common.{◌≢◌, inl, inr, ℕ, List, refl, sym, subst}
+use Rattle.pnm_image.specs.declared.message.Message.{Message}
+use Rattle.pnm_image.specs.declared.message.Message.TheVariants.{Stop}
+use Rattle.pnm_image.specs.Places.{IsLawful}
+use Rattle.pnm_image.proofs.Streams.{stream_is_lawful}
+use Rattle.pnm_tools.specs.declared.fault.ToolFault.{ToolFault}
+use Rattle.pnm_tools.specs.declared.tool.Tool.{Tool}
+use Rattle.pnm_tools.specs.Answers.{Whole, BrokenOff, EndsBy}
+use Rattle.pnm_tools.specs.ChainAnswers.{HasRefused}
+use Rattle.pnm_tools.specs.Tools.{IsLawfulTool, output_due}
+use Rattle.pnm_tools.proofs.RefusalLaws.{results_are_images}
+use Rattle.pnm_rings.specs.declared.stage_end.StageEnd.{StageEnd}
+use Rattle.pnm_rings.specs.declared.stage_end.StageEnd.TheVariants.{Well, Broken, Fault, PeerGone}
+use Rattle.pnm_rings.specs.Fronts.{IsFrontOfDue}
+use Rattle.pnm_rings.specs.Rings.{IsEnded}
+use Rattle.pnm_rings.specs.Stages.{HasEndedWell, HasBrokenOff, HasRunStage}
+use Rattle.pnm_rings.proofs.EndingLaws.{stream_ends_whole}
+use Rattle.pnm_rings.proofs.RingSteps.{ends_with}
+use Rattle.pnm_flow.specs.Chains.{RunsInLanes, IsStageOver, HasRunTool}
+use Rattle.pnm_flow.specs.ThreadedRuns.{HasEndedOver}
+use Rattle.pnm_flow.proofs.LaneRefusals.{refused_in_lanes}
+
+-- ---- its end
+
+pub stage_ended : (lanes : ℕ) (tool : Tool) (end : StageEnd) (l g : List Message) → IsStageOver lanes tool end l g → HasEndedOver lanes tool end l g
+stage_ended lanes tool end l g (inl several) = inl (several.0, several.1.ended)
+stage_ended lanes tool end l g (inr one) = inr (one.0, one.1.ended)
+
+pub ended_well : (lanes : ℕ) (tool : Tool) (l g : List Message) → HasEndedOver lanes tool Well l g → HasEndedWell tool l g
+ended_well lanes tool l g (inl several) = several.1
+ended_well lanes tool l g (inr one) = one.1
+
+pub ended_broken : (lanes : ℕ) (tool : Tool) (l g : List Message) → HasEndedOver lanes tool Broken l g → HasBrokenOff tool l g
+ended_broken lanes tool l g (inl several) = several.1
+ended_broken lanes tool l g (inr one) = one.1
+
+-- what was refused, if the messages are in order
+pub ended_refused : (lanes : ℕ) (tool : Tool) (fault : ToolFault) (l g : List Message) → IsLawfulTool tool → IsLawful l → HasEndedOver lanes tool (Fault fault) l g → (given : List Message) × HasRefused tool fault l given
+ended_refused lanes tool fault l g of_range lawful (inl several) = refused_in_lanes tool fault l of_range lawful several.1.of_input
+ended_refused lanes tool fault l g of_range lawful (inr one) = (one.1.given, one.1.refused)
+
+-- what was received has ended, and what was sent has, unless a neighbour's end was seen dropped
+failed_received : (lanes : ℕ) (tool : Tool) (fault : ToolFault) (l g : List Message) → HasEndedOver lanes tool (Fault fault) l g → IsEnded l
+failed_received lanes tool fault l g (inl several) = several.1.ends
+failed_received lanes tool fault l g (inr one) = one.1.ends
+
+pub received_ended : (lanes : ℕ) (tool : Tool) (end : StageEnd) (l g : List Message) → HasEndedOver lanes tool end l g → end ≢ PeerGone → IsEnded l
+received_ended lanes tool Well l g ended there = let well = ended_well lanes tool l g ended in inl (subst (EndsBy Whole) (sym well.stream.messages) (stream_ends_whole well.images))
+received_ended lanes tool Broken l g ended there = inr (ended_broken lanes tool l g ended).ends
+received_ended lanes tool (Fault fault) l g ended there = failed_received lanes tool fault l g ended
+received_ended lanes tool PeerGone l g ended there = absurd (there refl)
+
+failed_sent : (lanes : ℕ) (tool : Tool) (fault : ToolFault) (l g : List Message) → HasEndedOver lanes tool (Fault fault) l g → EndsBy BrokenOff g
+failed_sent lanes tool fault l g (inl several) = let stopped = several.1.answer in subst (EndsBy BrokenOff) (sym stopped.1) (ends_with stopped.0 Stop stopped.2)
+failed_sent lanes tool fault l g (inr one) = subst (EndsBy BrokenOff) (sym one.1.answer) (ends_with one.1.given Stop one.1.unbroken)
+
+pub sent_ended : (lanes : ℕ) (tool : Tool) (end : StageEnd) (l g : List Message) → HasEndedOver lanes tool end l g → end ≢ PeerGone → IsEnded g
+sent_ended lanes tool Well l g ended there = let well = ended_well lanes tool l g ended in inl (subst (EndsBy Whole) (sym well.answer) (stream_ends_whole well.results))
+sent_ended lanes tool Broken l g ended there = let broken = ended_broken lanes tool l g ended in inr (broken.full.ends BrokenOff broken.ends)
+sent_ended lanes tool (Fault fault) l g ended there = inr (failed_sent lanes tool fault l g ended)
+sent_ended lanes tool PeerGone l g ended there = absurd (there refl)
+
+-- what a tool sent that ended well is in order
+pub sent_in_order : (tool : Tool) (l g : List Message) → IsLawfulTool tool → HasEndedWell tool l g → IsLawful g
+sent_in_order tool l g of_range ended =
+    subst IsLawful (sym ended.answer) (stream_is_lawful ended.results (results_are_images tool ended.images ended.results of_range ended.stream.images ended.made))
+
+-- ---- however it ended
+
+pub stage_due : (lanes : ℕ) (tool : Tool) (end : StageEnd) (l g : List Message) → IsStageOver lanes tool end l g → IsFrontOfDue (output_due tool) l g
+stage_due lanes tool end l g (inl several) = several.1.due
+stage_due lanes tool end l g (inr one) = one.1.due
+
+-- ---- over one lane
+
+pub has_run_alone : (lanes : ℕ) (tool : Tool) (end : StageEnd) (r r' left s s' : List Message) → (RunsInLanes lanes tool → ⊥) → HasRunStage tool end r r' left s s' → HasRunTool lanes tool end r r' left s s'
+has_run_alone lanes tool end r r' left s s' alone run = record { took = run.took; gave = run.gave; input = run.input; output = run.output; drained = run.drained; stage = inr (alone, run.stage) }
