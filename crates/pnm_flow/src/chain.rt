@@ -157,16 +157,10 @@ fn run_stages<R: Threads + Wait + Sync, G: Gate>(
         return Err(not_started(input, output));
     };
     let number = tools.len();
-    let ToolBells {
-        left,
-        receiver: first,
-        sender: end,
-        right,
-    } = bells;
     // The bells of the two threads between which the ring stands are here, below both.
     let (sends, receives) = (Bell::new(), Bell::new());
-    let sender = bell_of_tools(others, lanes, first, &sends);
-    let receiver = bell_of_tool(last, lanes, end, &receives);
+    let sender = bell_of_tools(others, lanes, bells.receiver, &sends);
+    let receiver = bell_of_tool(last, lanes, bells.sender, &receives);
     let both = at_once(
         rt,
         move || -> Option<StageDone>
@@ -178,8 +172,7 @@ fn run_stages<R: Threads + Wait + Sync, G: Gate>(
             let bells = ToolBells {
                 left: sender,
                 receiver,
-                sender: end,
-                right,
+                ..bells
             };
             run_between(
                 rt, alloc, last, number, lanes, capacity, gate, consumer, output, bells,
@@ -192,10 +185,9 @@ fn run_stages<R: Threads + Wait + Sync, G: Gate>(
             ensures { IfSome result (HasRunBetween lanes others.entry.now (vec_capacity room.links) (vec_capacity room.ends) input producer) }
         {
             let bells = ToolBells {
-                left,
-                receiver: first,
                 sender,
                 right: receiver,
+                ..bells
             };
             // Where they weren't started, their ring ends go here, before the last tool is waited for, which looks for
             // that once it is woken.
