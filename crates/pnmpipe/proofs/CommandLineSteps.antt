@@ -1,12 +1,16 @@
 -- What a parse of the words by the program's command gives.
-use Rattle.std.proofs.Common.{◌≡◌, ◌∙◌, ◌<◌, ◌≤◌, ℕ, zero, suc, true, false, List, [], ◌∷◌, length, map, codes, Option, Some, is_some, inl, inr, refl, sym, ap, subst, arith, slice_index}
-use Rattle.std.specs.Prelude.{Result, pos}
+use Rattle.std.proofs.Common.{◌≡◌, ◌∙◌, ◌<◌, ◌≤◌, ℕ, zero, suc, true, false, not, List, [], ◌∷◌, length, map, codes, Option, Some, is_some, inl, inr, refl, sym, ap, subst, arith, slice_index}
+use Rattle.std.specs.Prelude.{◌^◌, Result, Ok, pos}
 use Rattle.std.specs.List.{list_all, slice_index_or}
 use Rattle.std.specs.Str.{bytes_eq}
-use Rattle.clap.specs.Words.{IsSignedIn, App, items_of, one_text, without_minus, Rule, Shape, Text, FailsBy, HasKind, HasMatchesOf, IsAmong, IsParsedFrom, IsPlain, app_of, args_of, fault_of, first_of, first_value, found_of, is_simple, is_simple_and_free, kind_of, one_of, rule_of, shape_of}
+use Rattle.std.specs.Str.Parse.{ParsesUnsigned}
+use Rattle.std.proofs.lemmas.Bool.{not-true}
+use Rattle.std.proofs.lemmas.List.{get_or-map, length-map}
+use Rattle.clap.specs.Words.{IsSignedIn, ReadsOne, App, items_of, one_text, without_minus, Rule, Shape, Text, FailsBy, HasKind, HasMatchesOf, IsAmong, IsParsedFrom, IsPlain, app_of, args_of, fault_of, first_of, first_value, found_of, is_simple, is_simple_and_free, kind_of, one_of, rule_of, shape_of}
 use Rattle.std.specs.Borrow.{Bor}
-use Rattle.clap.specs.Walk.{texts}
+use Rattle.clap.specs.Walk.{is_empty, is_simple_arg, texts}
 use Rattle.clap.specs.Facts.{least_values, unwrap_or_range}
+use Rattle.clap.specs.Built.{IsAuto}
 use Rattle.clap.specs.Faults.{has_free_rules}
 use Rattle.clap.specs.Simple.{IsSimple, is_ready, is_ready_leaf}
 use Rattle.clap.specs.declared.builder.arg.Arg.{Arg}
@@ -19,13 +23,13 @@ use Rattle.clap.specs.declared.error.kind.ErrorKind.{ErrorKind}
 use Rattle.clap.specs.declared.error.kind.ErrorKind.TheVariants.{DisplayHelp, OutOfMemory}
 use Rattle.clap.specs.declared.parser.matches.ArgMatches.{ArgMatches}
 use Rattle.clap.proofs.CallerLemmas.{required_has_value}
+use Rattle.clap.proofs.CallerReads.{signed_reads}
 use Rattle.clap.proofs.FaultLemmas.{free_args}
 use Rattle.clap.proofs.OnLiterals.{clap_on_literals}
 use Rattle.clap.proofs.SimpleLemmas.{plain_fields, ready_simple, simple_groups, HasPlainFields}
-use Rattle.clap.proofs.WalkLemmas.{first_value-rows, one_text-rows}
-use Rattle.pnm_image.proofs.Lists.{same_first, same_rest}
+use Rattle.clap.proofs.WalkLemmas.{both, first_value-rows, one_text-rows}
 use Rattle.pnmpipe.proofs.DefaultReads.{default_reads}
-use Rattle.pnmpipe.specs.CommandLine.{program, chain_rule, ring_rule, FitsKind, GivesChain, IsFaultOfWords, ring_of}
+use Rattle.pnmpipe.specs.CommandLine.{program, chain_rule, lanes_rule, number_of, number_rule, ring_rule, FitsKind, GivesChain, GivesLanes, GivesNumber, GivesRing, IsFaultOfWords}
 use Rattle.pnmpipe.specs.declared.command_line.CommandLineFault.{CommandLineFault}
 use Rattle.pnmpipe.specs.declared.command_line.CommandLineFault.TheVariants.{Help, Usage, Memory}
 
@@ -53,57 +57,110 @@ fault_fits words e Usage (inl memory) fits = absurd (fits.1 memory)
 fault_fits words e Usage (inr among) fits = (kind_of e, fits.0, among)
 fault_fits words e Memory has fits = tt
 
+-- an argument with a simple rule is its command's own
+simple_is_local : (a : Arg) → is_simple_arg a ≡ true → a.global ≡ false
+simple_is_local a all =
+    let ifs = both (is_empty a.overrides.items) _ all in
+    let groups = both (is_empty a.default_vals_ifs.items) _ ifs.1 in
+    let delimiter = both (is_empty a.groups.items) _ groups.1 in
+    let terminator = both (not (is_some a.val_delim)) _ delimiter.1 in
+    let hyphens = both (not (is_some a.terminator)) _ terminator.1 in
+    let negatives = both (not a.allow_hyphen_values) _ hyphens.1 in
+    let equals = both (not a.allow_negative_numbers) _ negatives.1 in
+    let last = both (not a.require_equals) _ equals.1 in
+    let global = both (not a.last) _ last.1 in
+    not-true a.global global.1
+
+pub local_by_rule : (a : Arg) (r : Rule) → rule_of a ≡ r → r.is_simple ≡ true → a.global ≡ false
+local_by_rule a r same simple = simple_is_local a (ap (λ (x : Rule). x.is_simple) same ∙ simple)
+
+-- the command reads like the program's, and its parse of the words succeeded so
+pub record HasRead (c : Command) (words : List Text) (m : ArgMatches) : Type 0 where
+  pub same : app_of c ≡ program
+  pub parsed : IsParsedFrom c m
+  pub has : HasMatchesOf (app_of c) words m
+
 -- the first value of CHAIN is the chain that the words give
-pub chain_given : (a : App) (words : List Text) (m : ArgMatches) (chain : Text) → a ≡ program → fault_of program words ≡ [] → HasMatchesOf a words m
+pub chain_given : (c : Command) (words : List Text) (m : ArgMatches) (chain : Text) → HasRead c words m → fault_of program words ≡ []
     → first_value (found_of m) (codes "CHAIN") ≡ Some chain → GivesChain words chain
-chain_given a words m chain same taken has first = record {
+chain_given c words m chain read taken first = record {
   taken = taken;
   given =
-      let rows = (subst (λ (x : App). HasMatchesOf x words m) same has) program_is_simple in
+      let rows = (subst (λ (x : App). HasMatchesOf x words m) read.same read.has) program_is_simple in
       ap (first_of (codes "CHAIN")) (sym rows.0) ∙ (sym (first_value-rows (found_of m) (codes "CHAIN")) ∙ first);
 }
 
--- and the text that `--ring` is read from is that of the words
-pub ring_given : (a : App) (words : List Text) (m : ArgMatches) (text : Text) → a ≡ program → HasMatchesOf a words m
-    → one_text (found_of m) (codes "ring") ≡ Some text → ring_of words ≡ Some text
-ring_given a words m text same has read =
-    let rows = (subst (λ (x : App). HasMatchesOf x words m) same has) program_is_simple in
-    ap (one_of (codes "ring")) (sym rows.0) ∙ (sym (one_text-rows (found_of m) (codes "ring")) ∙ read)
+-- and the text that an option is read from is that of the words
+text_given : (c : Command) (words : List Text) (m : ArgMatches) (name text : Text) → HasRead c words m → one_text (found_of m) name ≡ Some text
+    → number_of name words ≡ Some text
+text_given c words m name text read is =
+    let rows = (subst (λ (x : App). HasMatchesOf x words m) read.same read.has) program_is_simple in
+    ap (one_of name) (sym rows.0) ∙ (sym (one_text-rows (found_of m) name) ∙ is)
 
--- two members, and what a function gives for them
-pub record HasTwo {A B : Type 0} (f : A → B) (xs : List A) (y z : B) : Type 0 where
-  pub first : A
-  pub second : A
-  pub list : xs ≡ first ∷ second ∷ []
-  pub first_is : f first ≡ y
-  pub second_is : f second ≡ z
+-- the rules of the program's arguments in turn, and their ids
+abbrev rules : List Rule
+rules = ring_rule ∷ lanes_rule ∷ chain_rule ∷ []
 
-two_of : {A B : Type 0} (f : A → B) (xs : List A) (y z : B) → map f xs ≡ y ∷ z ∷ [] → HasTwo f xs y z
-two_of f [] y z e = cc
-two_of f (a ∷ []) y z e =
-    let bad : [] ≡ z ∷ [] = same_rest (f a) y [] (z ∷ []) e in
+abbrev id_of : ℕ → Text
+id_of k = (slice_index_or rules k chain_rule).id
+
+-- no two have one id
+distinct : (j k : ℕ) → j < 3 → k < 3 → bytes_eq (id_of j) (id_of k) ≡ true → j ≡ k
+distinct zero zero j3 k3 same = refl
+distinct zero (suc zero) j3 k3 same =
+    let bad : false ≡ true = same in
     cc
-two_of f (a ∷ b ∷ []) y z e = record {
-  first = a;
-  second = b;
-  list = refl;
-  first_is = same_first (f a) y (f b ∷ []) (z ∷ []) e;
-  second_is = same_first (f b) z [] [] (same_rest (f a) y (f b ∷ []) (z ∷ []) e);
+distinct zero (suc (suc zero)) j3 k3 same =
+    let bad : false ≡ true = same in
+    cc
+distinct (suc zero) zero j3 k3 same =
+    let bad : false ≡ true = same in
+    cc
+distinct (suc zero) (suc zero) j3 k3 same = refl
+distinct (suc zero) (suc (suc zero)) j3 k3 same =
+    let bad : false ≡ true = same in
+    cc
+distinct (suc (suc zero)) zero j3 k3 same =
+    let bad : false ≡ true = same in
+    cc
+distinct (suc (suc zero)) (suc zero) j3 k3 same =
+    let bad : false ≡ true = same in
+    cc
+distinct (suc (suc zero)) (suc (suc zero)) j3 k3 same = refl
+distinct (suc (suc (suc j))) k j3 k3 same = absurd (omega arith)
+distinct j (suc (suc (suc k))) j3 k3 same = absurd (omega arith)
+
+-- and none is empty or that of a flag that building adds, by its first letter
+record IsNamed (id : Text) : Type 0 where
+  pub some : id ≡ [] → ⊥
+  pub no_help : id ≡ codes "help" → ⊥
+  pub no_version : id ≡ codes "version" → ⊥
+
+other_start : (t u : Text) (x y : ℕ) → slice_index t 0 ≡ x → slice_index u 0 ≡ y → (x ≡ y → ⊥) → t ≡ u → ⊥
+other_start t u x y tx uy other same = other (sym tx ∙ (ap (λ (w : Text). slice_index w 0) same ∙ uy))
+
+named_by_start : (t : Text) (x : ℕ) → slice_index t 0 ≡ x → (x ≡ 0 → ⊥) → (x ≡ 104 → ⊥) → (x ≡ 118 → ⊥) → IsNamed t
+named_by_start t x start none h v = record {
+  some = other_start t [] x 0 start refl none;
+  no_help = other_start t (codes "help") x 104 start refl h;
+  no_version = other_start t (codes "version") x 118 start refl v;
 }
-two_of f (a ∷ b ∷ x ∷ xs) y z e =
-    let bad : f b ∷ f x ∷ map f xs ≡ z ∷ [] = same_rest (f a) y (f b ∷ f x ∷ map f xs) (z ∷ []) e in
-    let worse : f x ∷ map f xs ≡ [] = same_rest (f b) z (f x ∷ map f xs) [] bad in
-    cc
+
+named : (k : ℕ) → k < 3 → IsNamed (id_of k)
+named zero k3 = named_by_start (codes "ring") 114 refl (λ e. absurd (omega arith)) (λ e. absurd (omega arith)) (λ e. absurd (omega arith))
+named (suc zero) k3 = named_by_start (codes "lanes") 108 refl (λ e. absurd (omega arith)) (λ e. absurd (omega arith)) (λ e. absurd (omega arith))
+named (suc (suc zero)) k3 = named_by_start (codes "CHAIN") 67 refl (λ e. absurd (omega arith)) (λ e. absurd (omega arith)) (λ e. absurd (omega arith))
+named (suc (suc (suc k))) k3 = absurd (omega arith)
 
 -- what a command is that reads like the program's
-pub record IsProgram (c : Command) : Type 0 where
+record IsProgram (c : Command) : Type 0 where
   pub plain : IsPlain c
   pub globals : (out-Command c).has_globals ≡ false
   pub negates : (out-Command c).subcommand_negates_reqs ≡ false
   pub simple : IsSimple c
-  pub two : HasTwo rule_of (args_of c) ring_rule chain_rule
+  pub rules_are : map rule_of (args_of c) ≡ rules
 
-pub is_program : (c : Command) → app_of c ≡ program → IsProgram c
+is_program : (c : Command) → app_of c ≡ program → IsProgram c
 unfolding clap_on_literals
 is_program c same =
     let shape : shape_of c ≡ program.top = ap (λ (a : App). a.top) same in
@@ -116,90 +173,128 @@ is_program c same =
       globals = fields.globals;
       negates = ap (λ (s : Shape). s.subcommand_negates_reqs) shape;
       simple = simple;
-      two = two_of rule_of (args_of c) ring_rule chain_rule (ap (λ (s : Shape). s.rules) shape);
+      rules_are = ap (λ (s : Shape). s.rules) shape;
     }
 
--- only the second argument is called CHAIN, and only the first `ring`
-chain_is_second : (xs : List Arg) → HasTwo rule_of xs ring_rule chain_rule → (j : ℕ) (e : Arg) → j < length xs → bytes_eq (slice_index_or xs j e).id.now (codes "CHAIN") ≡ true → j ≡ 1
-chain_is_second xs two zero e low same =
-    let id : (slice_index_or xs 0 e).id.now ≡ codes "ring" = ap (λ (ys : List Arg). (slice_index_or ys 0 e).id.now) two.list ∙ ap (λ (r : Rule). r.id) two.first_is in
-    let bad : false ≡ true = subst (λ (t : Text). bytes_eq t (codes "CHAIN") ≡ true) id same in
-    cc
-chain_is_second xs two (suc zero) e low same = refl
-chain_is_second xs two (suc (suc j)) e low same =
-    let count : length xs ≡ 2 = ap length two.list in
-    absurd (omega arith)
+-- its argument of a place: the rule, and that no other has its id
+record IsArgAt (c : Command) (k : ℕ) (d : Arg) : Type 0 where
+  pub low : k < length (args_of c)
+  pub rule : rule_of (slice_index_or (args_of c) k d) ≡ slice_index_or rules k chain_rule
+  pub id : (slice_index_or (args_of c) k d).id.now ≡ id_of k
+  pub only : (j : ℕ) (e : Arg) → j < length (args_of c) → bytes_eq (slice_index_or (args_of c) j e).id.now (slice_index_or (args_of c) k d).id.now ≡ true → j ≡ k
+  pub some : (slice_index_or (args_of c) k d).id.now ≡ [] → ⊥
+  pub own : IsAuto (slice_index_or (args_of c) k d) → ⊥
 
-ring_is_first : (xs : List Arg) → HasTwo rule_of xs ring_rule chain_rule → (j : ℕ) (e : Arg) → j < length xs → bytes_eq (slice_index_or xs j e).id.now (codes "ring") ≡ true → j ≡ 0
-ring_is_first xs two zero e low same = refl
-ring_is_first xs two (suc zero) e low same =
-    let id : (slice_index_or xs 1 e).id.now ≡ codes "CHAIN" = ap (λ (ys : List Arg). (slice_index_or ys 1 e).id.now) two.list ∙ ap (λ (r : Rule). r.id) two.second_is in
-    let bad : false ≡ true = subst (λ (t : Text). bytes_eq t (codes "ring") ≡ true) id same in
-    cc
-ring_is_first xs two (suc (suc j)) e low same =
-    let count : length xs ≡ 2 = ap length two.list in
-    absurd (omega arith)
+count_of : (c : Command) → IsProgram c → length (args_of c) ≡ 3
+count_of c p = sym (length-map (args_of c) rule_of) ∙ ap length p.rules_are
 
--- a text that begins with `C` or `r` is no flag that building adds
-other_start : (t u : Text) (x y : ℕ) → slice_index t 0 ≡ x → slice_index u 0 ≡ y → (x ≡ y → ⊥) → t ≡ u → ⊥
-other_start t u x y tx uy other same = other (sym tx ∙ (ap (λ (w : Text). slice_index w 0) same ∙ uy))
+rule_at : (c : Command) → IsProgram c → (k : ℕ) (d : Arg) → k < 3 → rule_of (slice_index_or (args_of c) k d) ≡ slice_index_or rules k chain_rule
+rule_at c p k d k3 =
+    let count = count_of c p in
+    sym (get_or-map rule_of (args_of c) k d chain_rule (omega arith)) ∙ ap (λ (rs : List Rule). slice_index_or rs k chain_rule) p.rules_are
+
+arg_at : (c : Command) → IsProgram c → (k : ℕ) (d : Arg) → k < 3 → IsArgAt c k d
+arg_at c p k d k3 =
+    let count = count_of c p in
+    let id : (slice_index_or (args_of c) k d).id.now ≡ id_of k = ap (λ (r : Rule). r.id) (rule_at c p k d k3) in
+    let names = named k k3 in
+    record {
+      low = omega arith;
+      rule = rule_at c p k d k3;
+      id = id;
+      only = λ j e lt found.
+          let j3 : j < 3 = omega arith in
+          let other : (slice_index_or (args_of c) j e).id.now ≡ id_of j = ap (λ (r : Rule). r.id) (rule_at c p j e j3) in
+          distinct j k j3 k3 (subst (λ (t : Text). bytes_eq t (id_of k) ≡ true) other (subst (λ (t : Text). bytes_eq (slice_index_or (args_of c) j e).id.now t ≡ true) id found));
+      some = λ empty. names.some (sym id ∙ empty);
+      own = λ auto. elim auto [
+        | inl h ↦ names.no_help (sym id ∙ h)
+        | inr h ↦ names.no_version (sym id ∙ h)
+      ];
+    }
+
+first_arg : (xs : List Arg) → 0 < length xs → Arg
+first_arg [] some = absurd (omega arith)
+first_arg (x ∷ xs) some = x
+
+any_arg : (c : Command) → IsProgram c → Arg
+any_arg c p =
+    let count = count_of c p in
+    first_arg (args_of c) (omega arith)
+
+-- a rule with no range of counts wants one value
+least_one : (a : Arg) (r : Rule) → rule_of a ≡ r → unwrap_or_range r.range ≡ unwrap_or_range chain_rule.range → 1 ≤ least_values a
+least_one a r is range =
+    let same : unwrap_or_range a.num_vals ≡ unwrap_or_range chain_rule.range = ap (λ (x : Rule). unwrap_or_range x.range) is ∙ range in
+    subst (λ (v : ValueRange). 1 ≤ v.start_inclusive) (sym same) (omega arith)
 
 -- a parse that succeeds gives CHAIN a value
-pub has_chain : (c : Command) (m : ArgMatches) → app_of c ≡ program → IsParsedFrom c m → is_some (first_value (found_of m) (codes "CHAIN")) ≡ true
-has_chain c m same parsed =
-    let p = is_program c same in
-    let d : Arg = p.two.first in
-    let low : 1 < length (args_of c) = subst (λ (xs : List Arg). 1 < length xs) (sym p.two.list) (omega arith) in
-    let is : rule_of (slice_index_or (args_of c) 1 d) ≡ chain_rule = ap (λ (xs : List Arg). rule_of (slice_index_or xs 1 d)) p.two.list ∙ p.two.second_is in
-    let id : (slice_index_or (args_of c) 1 d).id.now ≡ codes "CHAIN" = ap (λ (r : Rule). r.id) is in
-    let least : 1 ≤ least_values (slice_index_or (args_of c) 1 d) =
-    subst (λ (o : Option ValueRange). 1 ≤ (unwrap_or_range o).start_inclusive) (sym (ap (λ (r : Rule). r.range) is)) (omega arith) in
-    let start : slice_index (slice_index_or (args_of c) 1 d).id.now 0 ≡ 67 = ap (λ (t : Text). slice_index t 0) id in
-    let has = required_has_value c m parsed p.plain p.globals p.negates 1 d low (ap (λ (r : Rule). r.required) is) (ap (λ (r : Rule). r.action) is)
-    (p.simple.args 1 d low).delimiter least
-    (λ j e lt found. chain_is_second (args_of c) p.two j e lt (subst (λ (t : Text). bytes_eq (slice_index_or (args_of c) j e).id.now t ≡ true) id found))
-    (λ empty. other_start _ [] 67 0 start refl (λ e. absurd (omega arith)) empty)
-    (λ auto. elim auto [
-      | inl h ↦ other_start _ (codes "help") 67 104 start refl (λ e. absurd (omega arith)) h
-      | inr h ↦ other_start _ (codes "version") 67 118 start refl (λ e. absurd (omega arith)) h
-    ]) in
-    subst (λ (t : Text). is_some (first_value (found_of m) t) ≡ true) id has
+pub has_chain : (c : Command) (words : List Text) (m : ArgMatches) → HasRead c words m → is_some (first_value (found_of m) (codes "CHAIN")) ≡ true
+has_chain c words m read =
+    let p = is_program c read.same in
+    let d = any_arg c p in
+    let at = arg_at c p 2 d (omega arith) in
+    let has = required_has_value c m read.parsed p.plain p.globals p.negates 2 d at.low (ap (λ (r : Rule). r.required) at.rule) (ap (λ (r : Rule). r.action) at.rule)
+    (p.simple.args 2 d at.low).delimiter (least_one (slice_index_or (args_of c) 2 d) chain_rule at.rule refl) at.only at.some at.own in
+    subst (λ (t : Text). is_some (first_value (found_of m) t) ≡ true) at.id has
 
--- a parse that succeeds gives `--ring` a number from 1 to 1,024
-pub ring_read : (c : Command) (m : ArgMatches) → app_of c ≡ program → IsParsedFrom c m
-    → (t : Text) × (one_text (found_of m) (codes "ring") ≡ Some (without_minus t)) × IsSignedIn (pos 1) (pos 1024) t
-ring_read c m same parsed =
-    let p = is_program c same in
-    let d : Arg = p.two.first in
-    let low : 0 < length (args_of c) = subst (λ (xs : List Arg). 0 < length xs) (sym p.two.list) (omega arith) in
-    let is : rule_of (slice_index_or (args_of c) 0 d) ≡ ring_rule = ap (λ (xs : List Arg). rule_of (slice_index_or xs 0 d)) p.two.list ∙ p.two.first_is in
-    let id : (slice_index_or (args_of c) 0 d).id.now ≡ codes "ring" = ap (λ (r : Rule). r.id) is in
-    let defaults : texts (items_of (slice_index_or (args_of c) 0 d).default_vals) ≡ codes "64" ∷ [] = ap (λ (r : Rule). r.defaults) is in
-    let start : slice_index (slice_index_or (args_of c) 0 d).id.now 0 ≡ 114 = ap (λ (t : Text). slice_index t 0) id in
-    let reads = default_reads c m 0 d (codes "ring") (Signed (pos 1) (pos 1024)) (record {
-      from = parsed;
+-- a parse that succeeds gives an option of a number a text of its range
+number_text : (c : Command) (words : List Text) (m : ArgMatches) → HasRead c words m → (k : ℕ) (name default : Text) (high : ℕ) → k < 3
+    → slice_index_or rules k chain_rule ≡ number_rule name default high
+    → (t : Text) × (one_text (found_of m) name ≡ Some (without_minus t)) × IsSignedIn (pos 1) (pos high) t
+number_text c words m read k name default high k3 is_number =
+    let p = is_program c read.same in
+    let d = any_arg c p in
+    let at = arg_at c p k d k3 in
+    let is : rule_of (slice_index_or (args_of c) k d) ≡ number_rule name default high = at.rule ∙ is_number in
+    let id : (slice_index_or (args_of c) k d).id.now ≡ name = ap (λ (r : Rule). r.id) is in
+    let defaults : texts (items_of (slice_index_or (args_of c) k d).default_vals) ≡ default ∷ [] = ap (λ (r : Rule). r.defaults) is in
+    default_reads c m k d name (Signed (pos 1) (pos high)) (record {
+      from = read.parsed;
       plain = p.plain;
       globals = p.globals;
-      one = record {
-        low = low;
-        id_is = id;
-        only = λ j e lt found. ring_is_first (args_of c) p.two j e lt (subst (λ (t : Text). bytes_eq (slice_index_or (args_of c) j e).id.now t ≡ true) id found);
-        named = λ empty. let bad : slice_index (codes "ring") 0 ≡ slice_index [] 0 = ap (λ (t : Text). slice_index t 0) empty in absurd (omega arith);
-        own = λ auto. elim auto [
-          | inl h ↦ other_start _ (codes "help") 114 104 start refl (λ e. absurd (omega arith)) h
-          | inr h ↦ other_start _ (codes "version") 114 118 start refl (λ e. absurd (omega arith)) h
-        ];
-      };
+      one = record { low = at.low; id_is = id; only = at.only; named = λ empty. at.some (id ∙ empty); own = at.own };
       takes = record {
         set = ap (λ (r : Rule). r.action) is;
-        delimiter = (p.simple.args 0 d low).delimiter;
-        least = subst (λ (o : Option ValueRange). 1 ≤ (unwrap_or_range o).start_inclusive) (sym (ap (λ (r : Rule). r.range) is)) (omega arith);
+        delimiter = (p.simple.args k d at.low).delimiter;
+        least = least_one (slice_index_or (args_of c) k d) (number_rule name default high) is refl;
         parser = ap (λ (r : Rule). r.parser) is;
       };
     })
-    ((p.simple.args 0 d low).default_ifs, texts_some (items_of (slice_index_or (args_of c) 0 d).default_vals) defaults) in
-    reads
+    ((p.simple.args k d at.low).default_ifs, texts_some default (items_of (slice_index_or (args_of c) k d).default_vals) defaults)
   where
-    texts_some : (xs : List (Bor Text)) → texts xs ≡ codes "64" ∷ [] → 0 < length xs
-    texts_some [] e = cc
-    texts_some (x ∷ xs) e = omega arith
+    texts_some : (t : Text) (xs : List (Bor Text)) → texts xs ≡ t ∷ [] → 0 < length xs
+    texts_some t [] e = cc
+    texts_some t (x ∷ xs) e = omega arith
+
+-- what was read of it is a number, and the words give the option that
+number_given : (E : Type 0) (G : List ℕ → Result ℕ E → Type 0) (bits : ℕ) (c : Command) (words : List Text) (m : ArgMatches) (r : Option ℕ) → HasRead c words m
+    → ((u : List ℕ) (x : Result ℕ E) → G u x → ParsesUnsigned bits 10 u x) → (k : ℕ) (name default : Text) (high : ℕ) → k < 3 → high < 2 ^ bits
+    → slice_index_or rules k chain_rule ≡ number_rule name default high → ((t : Text) → one_text (found_of m) name ≡ Some t → ReadsOne G t r)
+    → (n : ℕ) × (r ≡ Some n) × GivesNumber name high words n
+number_given E G bits c words m r read only k name default high k3 fits is_number reads =
+    let text = number_text c words m read k name default high k3 is_number in
+    let one : ReadsOne G (without_minus text.0) r = reads (without_minus text.0) text.1 in
+    let got = signed_reads E G bits 1 high text.0 r one only fits text.2 in
+    let parsed : G (without_minus text.0) (Ok got.0) = subst (ReadsOne G (without_minus text.0)) got.1 one in (
+      got.0,
+      got.1,
+      record {
+        least = got.2;
+        most = got.3;
+        text = without_minus text.0;
+        given = text_given c words m name (without_minus text.0) read text.1;
+        spelled = (only (without_minus text.0) (Ok got.0) parsed).1;
+      },
+    )
+
+-- so of `--ring`, and of `--lanes`
+pub ring_given : (E : Type 0) (G : List ℕ → Result ℕ E → Type 0) (c : Command) (words : List Text) (m : ArgMatches) (r : Option ℕ) → HasRead c words m
+    → ((u : List ℕ) (x : Result ℕ E) → G u x → ParsesUnsigned 16 10 u x) → ((t : Text) → one_text (found_of m) (codes "ring") ≡ Some t → ReadsOne G t r)
+    → (n : ℕ) × (r ≡ Some n) × GivesRing words n
+ring_given E G c words m r read only = number_given E G 16 c words m r read only 0 (codes "ring") (codes "64") 1024 (omega arith) (omega arith) refl
+
+pub lanes_given : (E : Type 0) (G : List ℕ → Result ℕ E → Type 0) (c : Command) (words : List Text) (m : ArgMatches) (r : Option ℕ) → HasRead c words m
+    → ((u : List ℕ) (x : Result ℕ E) → G u x → ParsesUnsigned 8 10 u x) → ((t : Text) → one_text (found_of m) (codes "lanes") ≡ Some t → ReadsOne G t r)
+    → (n : ℕ) × (r ≡ Some n) × GivesLanes words n
+lanes_given E G c words m r read only = number_given E G 8 c words m r read only 1 (codes "lanes") (codes "1") 8 (omega arith) (omega arith) refl

@@ -16,15 +16,23 @@ use Rattle.pnm_flow.specs.declared.summary.Summary.{Summary}
 use Rattle.pnmpipe.specs.declared.command_line.CommandLineFault.{CommandLineFault}
 use Rattle.pnmpipe.specs.declared.command_line.CommandLineFault.TheVariants.{Help, Usage, Memory}
 
--- `--ring N`: 1 to 1,024, where it isn't given 64
-abbrev pub ring_rule : Rule
-ring_rule = record (new_rule (codes "ring")) {
-  long = Some (codes "ring");
+-- an option `--NAME` that takes a number from 1 to this one, where it isn't given that of this text
+abbrev pub number_rule : Text → Text → ℕ → Rule
+number_rule name default high = record (new_rule name) {
+  long = Some name;
   value_names = 1;
   action = Some Set;
-  defaults = codes "64" ∷ [];
-  parser = Some (Signed (pos 1) (pos 1024));
+  defaults = default ∷ [];
+  parser = Some (Signed (pos 1) (pos high));
 }
+
+-- `--ring N`: 1 to 1,024, where it isn't given 64
+abbrev pub ring_rule : Rule
+ring_rule = number_rule (codes "ring") (codes "64") 1024
+
+-- `--lanes K`: 1 to 8, where it isn't given 1
+abbrev pub lanes_rule : Rule
+lanes_rule = number_rule (codes "lanes") (codes "1") 8
 
 -- one text, which has to be given
 abbrev pub chain_rule : Rule
@@ -32,24 +40,38 @@ chain_rule = record (new_rule (codes "CHAIN")) { action = Some Set; required = t
 
 -- the command that the words are read by; `clap` adds `--help` and `-h` to it
 abbrev pub program : App
-program = with_rule (with_rule (new_app (codes "pnmpipe")) ring_rule) chain_rule
+program = with_rule (with_rule (with_rule (new_app (codes "pnmpipe")) ring_rule) lanes_rule) chain_rule
 
 -- the words, of which the first is the program's name, are a command line, and this is its CHAIN
 pub record GivesChain (words : List Text) (chain : Text) : Type 0 where
   pub taken : fault_of program words ≡ []
   pub given : first_of (codes "CHAIN") (matches_of program words) ≡ Some chain
 
--- the text that the number of `--ring` is read from
-abbrev pub ring_of : List Text → Option Text
-ring_of words = one_of (codes "ring") (matches_of program words)
+-- the text that the number of the option of this name is read from
+abbrev pub number_of : Text → List Text → Option Text
+number_of name words = one_of name (matches_of program words)
 
--- the words give `--ring` this number
-pub record GivesRing (words : List Text) (ring : ℕ) : Type 0 where
-  pub least : 1 ≤ ring
-  pub most : ring ≤ 1024
+-- the words give the option of this name this number, which is 1 or more and no higher than that
+pub record GivesNumber (name : Text) (high : ℕ) (words : List Text) (number : ℕ) : Type 0 where
+  pub least : 1 ≤ number
+  pub most : number ≤ high
   pub text : Text
-  pub given : ring_of words ≡ Some text
-  pub spelled : ring ≡ digits_value 10 (without_leading_plus text)
+  pub given : number_of name words ≡ Some text
+  pub spelled : number ≡ digits_value 10 (without_leading_plus text)
+
+-- the text of `--ring`, and its number
+abbrev pub ring_of : List Text → Option Text
+ring_of = number_of (codes "ring")
+
+abbrev pub GivesRing : List Text → ℕ → Type 0
+GivesRing = GivesNumber (codes "ring") 1024
+
+-- the text of `--lanes`, and its number
+abbrev pub lanes_of : List Text → Option Text
+lanes_of = number_of (codes "lanes")
+
+abbrev pub GivesLanes : List Text → ℕ → Type 0
+GivesLanes = GivesNumber (codes "lanes") 8
 
 -- the first thing that isn't read on past is a call for help
 abbrev pub AsksForHelp : List Text → Type 0
@@ -82,10 +104,12 @@ pub record HasRunTools (tools : List Tool) (status : ℕ) (reader writer : Chang
   pub status_is : status ≡ status_of answer
   pub ran : (answer ≡ Err NoStart) ⊎ HasRunOverThreads 1 tools answer reader writer
 
--- the words give a chain, it spells tools, and a run over these ended
+-- the words give a chain and a number of lanes, the chain spells tools, and a run over these ended
 pub record HasRunWords (words : List Text) (status : ℕ) (reader writer : Change) : Type 0 where
   pub chain : Text
   pub tools : List Tool
+  pub lanes : ℕ
   pub given : GivesChain words chain
+  pub lanes_given : GivesLanes words lanes
   pub spelled : SpellsChain chain tools
   pub run : HasRunTools tools status reader writer

@@ -2,7 +2,7 @@
 use Rattle.std.specs.Prelude.{◌≡◌, ◌∷◌, List, [], Some, codes}
 use Rattle.clap.specs.Words.{Kinds, Text, fault_of}
 use Rattle.clap.specs.declared.error.kind.ErrorKind.TheVariants.{ArgumentConflict, DisplayHelp, InvalidValue, MissingRequiredArgument, UnknownArgument, ValueValidation}
-use Rattle.pnmpipe.specs.CommandLine.{GivesChain, program, ring_of}
+use Rattle.pnmpipe.specs.CommandLine.{GivesChain, lanes_of, program, ring_of}
 
 -- `-` is code 45
 abbrev pub BeginsWithDash : Text → Type 0
@@ -13,6 +13,11 @@ pub record GivesBoth (words : List Text) (text number : Text) : Type 0 where
   pub chain : GivesChain (codes "pnmpipe" ∷ words) text
   pub ring : ring_of (codes "pnmpipe" ∷ words) ≡ Some number
 
+-- and `--lanes` that one
+pub record GivesAll (words : List Text) (text messages threads : Text) : Type 0 where
+  pub both : GivesBoth words text messages
+  pub lanes : lanes_of (codes "pnmpipe" ∷ words) ≡ Some threads
+
 -- these words after the program's name fail so
 abbrev pub FailBy : List Text → Kinds → Type 0
 FailBy words kinds = fault_of program (codes "pnmpipe" ∷ words) ≡ kinds
@@ -20,10 +25,12 @@ FailBy words kinds = fault_of program (codes "pnmpipe" ∷ words) ≡ kinds
 pub record CommandLinesHold : Type 0 where
   -- one word after the program's name is the chain, unless it begins with a dash
   pub alone : (name chain : Text) → (BeginsWithDash chain → ⊥) → GivesChain (name ∷ chain ∷ []) chain
-  pub ring_left_out : GivesBoth (codes "pnminvert" ∷ []) (codes "pnminvert") (codes "64")
+  pub both_left_out : GivesAll (codes "pnminvert" ∷ []) (codes "pnminvert") (codes "64") (codes "1")
   pub ring_before : GivesBoth (codes "--ring" ∷ codes "1" ∷ codes "pnminvert" ∷ []) (codes "pnminvert") (codes "1")
   pub ring_after : GivesBoth (codes "pnminvert" ∷ codes "--ring" ∷ codes "1024" ∷ []) (codes "pnminvert") (codes "1024")
   pub ring_attached : GivesBoth (codes "--ring=7" ∷ codes "pnminvert" ∷ []) (codes "pnminvert") (codes "7")
+  pub lanes_before : GivesAll (codes "--lanes" ∷ codes "8" ∷ codes "pnminvert" ∷ []) (codes "pnminvert") (codes "64") (codes "8")
+  pub ring_and_lanes : GivesAll (codes "--ring" ∷ codes "2" ∷ codes "pnminvert" ∷ codes "--lanes=3" ∷ []) (codes "pnminvert") (codes "2") (codes "3")
   pub after_dashes : GivesBoth (codes "--" ∷ codes "--help" ∷ []) (codes "--help") (codes "64")
   pub empty_chain : GivesBoth ([] ∷ []) [] (codes "64")
   pub no_chain : FailBy [] (MissingRequiredArgument ∷ [])
@@ -35,9 +42,13 @@ pub record CommandLinesHold : Type 0 where
   pub ring_negative : FailBy (codes "--ring" ∷ codes "-1" ∷ codes "a" ∷ []) (UnknownArgument ∷ [])
   pub ring_alone : FailBy (codes "a" ∷ codes "--ring" ∷ []) (InvalidValue ∷ [])
   pub ring_twice : FailBy (codes "--ring" ∷ codes "1" ∷ codes "--ring" ∷ codes "1" ∷ codes "a" ∷ []) (ArgumentConflict ∷ [])
-  pub unknown : FailBy (codes "--lanes" ∷ codes "2" ∷ codes "a" ∷ []) (UnknownArgument ∷ [])
+  pub lanes_zero : FailBy (codes "--lanes" ∷ codes "0" ∷ codes "a" ∷ []) (ValueValidation ∷ [])
+  pub lanes_large : FailBy (codes "--lanes" ∷ codes "9" ∷ codes "a" ∷ []) (ValueValidation ∷ [])
+  pub lanes_letter : FailBy (codes "--lanes" ∷ codes "x" ∷ codes "a" ∷ []) (ValueValidation ∷ [])
+  pub lanes_twice : FailBy (codes "--lanes" ∷ codes "1" ∷ codes "--lanes" ∷ codes "1" ∷ codes "a" ∷ []) (ArgumentConflict ∷ [])
+  pub unknown : FailBy (codes "--plain" ∷ codes "2" ∷ codes "a" ∷ []) (UnknownArgument ∷ [])
   pub help : FailBy (codes "--help" ∷ []) (DisplayHelp ∷ [])
   pub short_help : FailBy (codes "a" ∷ codes "-h" ∷ []) (DisplayHelp ∷ [])
-  pub help_before_fault : FailBy (codes "--help" ∷ codes "--lanes" ∷ []) (DisplayHelp ∷ [])
-  pub fault_before_help : FailBy (codes "--lanes" ∷ codes "--help" ∷ []) (UnknownArgument ∷ [])
+  pub help_before_fault : FailBy (codes "--help" ∷ codes "--plain" ∷ []) (DisplayHelp ∷ [])
+  pub fault_before_help : FailBy (codes "--plain" ∷ codes "--help" ∷ []) (UnknownArgument ∷ [])
   pub bad_ring_before_help : FailBy (codes "--ring" ∷ codes "0" ∷ codes "--help" ∷ []) (ValueValidation ∷ [])

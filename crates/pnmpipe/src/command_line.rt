@@ -1,8 +1,8 @@
 //! The words of the command line, and the help text.
 
 ghost use Rattle.std.specs.Prelude.{◌≡◌, IfOk, IfErr, map, string_bytes};
-ghost use Rattle.clap.specs.Words.{app_of, kind_of};
-ghost use Rattle.pnmpipe.specs.CommandLine.{program, FitsKind, GivesChain, GivesRing, IsFaultOfWords};
+ghost use Rattle.clap.specs.Words.{app_of, kind_of, rule_of};
+ghost use Rattle.pnmpipe.specs.CommandLine.{lanes_rule, program, ring_rule, FitsKind, GivesChain, GivesLanes, GivesRing, IsFaultOfWords};
 ghost use Rattle.pnmpipe.specs.declared.command_line.CommandLineFault.TheVariants.{Memory};
 
 use clap::error::ErrorKind;
@@ -10,7 +10,7 @@ use clap::{Arg, ArgAction, Command, value_parser};
 use std::alloc::{AllocError, Global};
 
 /// How the program is called.
-pub const USAGE: &str = "pnmpipe [--ring N] CHAIN";
+pub const USAGE: &str = "pnmpipe [--ring N] [--lanes K] CHAIN";
 
 const ABOUT: &str = "Reads a stream of PBM, PGM, PPM or PAM images from standard input, passes it
 through a chain of tools, and writes raw Netpbm images to standard output.";
@@ -18,6 +18,8 @@ through a chain of tools, and writes raw Netpbm images to standard output.";
 const CHAIN_HELP: &str = "1 to 16 tools, parted by |, in one word";
 
 const RING_HELP: &str = "Messages between two tools, 1 to 1024";
+
+const LANES_HELP: &str = "Threads of each row-wise tool, 1 to 8";
 
 const AFTER_HELP: &str = "Tools:
   pnminvert
@@ -29,7 +31,6 @@ const AFTER_HELP: &str = "Tools:
   pnmtile WIDTH HEIGHT
 
 Status: 0 all went well, 1 the input, a tool or the output failed, 2 wrong words
-
 Example: pnmpipe 'pamcut -width 640 | pamflip -lr' < a.ppm > b.ppm";
 
 /// What the words name.
@@ -39,6 +40,8 @@ pub struct CommandLine<'a> {
     pub chain: &'a str,
     /// How many messages a ring holds.
     pub ring: u16,
+    /// How many threads each row-wise tool works in.
+    pub lanes: u8,
 }
 
 /// Why words name no run.
@@ -67,6 +70,7 @@ pub fn read_words<'a>(
 ) -> Result<CommandLine<'a>, CommandLineFault>
     ensures given { IfOk result (λ line. GivesChain (map string_bytes words.entry.now) line.chain.now) }
     ensures ring { IfOk result (λ line. GivesRing (map string_bytes words.entry.now) line.ring) }
+    ensures lanes { IfOk result (λ line. GivesLanes (map string_bytes words.entry.now) line.lanes) }
     ensures refused { IfErr result (IsFaultOfWords (map string_bytes words.entry.now)) }
 {
     let matches = match program(alloc)?.try_get_matches_from(words) {
@@ -76,6 +80,7 @@ pub fn read_words<'a>(
     Ok(CommandLine {
         chain: matches.get_str("CHAIN").unwrap(),
         ring: matches.get_one::<u16>("ring").unwrap(),
+        lanes: matches.get_one::<u8>("lanes").unwrap(),
     })
 }
 
@@ -83,13 +88,6 @@ pub fn read_words<'a>(
 fn program<'a>(alloc: Global) -> Result<Command<'a>, AllocError>
     ensures { IfOk result (λ command. app_of command ≡ program) }
 {
-    let ring = Arg::new(alloc, "ring")
-        .long("ring")
-        .value_name("N")
-        .action(ArgAction::Set)
-        .value_parser(value_parser!(u16).range(1..=1024))
-        .default_value("64")
-        .help(RING_HELP);
     let chain = Arg::new(alloc, "CHAIN")
         .required(true)
         .action(ArgAction::Set)
@@ -98,8 +96,35 @@ fn program<'a>(alloc: Global) -> Result<Command<'a>, AllocError>
         .about(ABOUT)
         .override_usage(USAGE)
         .after_help(AFTER_HELP)
-        .arg(ring)?
+        .arg(ring_option(alloc))?
+        .arg(lanes_option(alloc))?
         .arg(chain)
+}
+
+/// The option `--ring`.
+fn ring_option<'a>(alloc: Global) -> Arg<'a>
+    ensures { rule_of result ≡ ring_rule }
+{
+    Arg::new(alloc, "ring")
+        .long("ring")
+        .value_name("N")
+        .action(ArgAction::Set)
+        .value_parser(value_parser!(u16).range(1..=1024))
+        .default_value("64")
+        .help(RING_HELP)
+}
+
+/// The option `--lanes`.
+fn lanes_option<'a>(alloc: Global) -> Arg<'a>
+    ensures { rule_of result ≡ lanes_rule }
+{
+    Arg::new(alloc, "lanes")
+        .long("lanes")
+        .value_name("K")
+        .action(ArgAction::Set)
+        .value_parser(value_parser!(u8).range(1..=8))
+        .default_value("1")
+        .help(LANES_HELP)
 }
 
 /// What is at fault where `clap` gives this error.

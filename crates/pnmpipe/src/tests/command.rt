@@ -1,9 +1,10 @@
 //! The program: its status and what it prints.
 
-use super::{IMAGE, INVERTED};
+use super::{IMAGE, INVERTED, USAGE_LINE};
 use crate::command::command;
 use pnm_image::Device;
 use std::alloc::{AllocError, Global};
+use std::process::Abort;
 use std::sync::Wait;
 use std::test::Fail;
 use std::thread::Threads;
@@ -48,17 +49,16 @@ pub fn answer_to<'a, H: AllocGlobal + Threads + Wait + Sync>(
 /// Words that name no run: the status is 2, and nothing is read or written.
 #[test]
 fn refuses_words(rt: HostRuntime) -> Result<(), Fail> {
-    let usage = "pnmpipe: usage: pnmpipe [--ring N] CHAIN\n";
     let unknown = "pnmpipe: chain: stage 1: UnknownTool\n";
     for (texts, printed) in [
-        ([].as_slice(), usage),
-        (["pnmpipe"].as_slice(), usage),
-        (["pnmpipe", "pnminvert", "pnminvert"].as_slice(), usage),
-        (["pnmpipe", "--ring", "7"].as_slice(), usage),
-        (["pnmpipe", "--lanes", "2", "pnminvert"].as_slice(), usage),
-        (["pnmpipe", "--plain", "pnminvert"].as_slice(), usage),
-        (["pnmpipe", "--version"].as_slice(), usage),
-        (["pnmpipe", "-V"].as_slice(), usage),
+        ([].as_slice(), USAGE_LINE),
+        (["pnmpipe"].as_slice(), USAGE_LINE),
+        (["pnmpipe", "pnminvert", "pnminvert"].as_slice(), USAGE_LINE),
+        (["pnmpipe", "--ring", "7"].as_slice(), USAGE_LINE),
+        (["pnmpipe", "--lanes", "7"].as_slice(), USAGE_LINE),
+        (["pnmpipe", "--plain", "pnminvert"].as_slice(), USAGE_LINE),
+        (["pnmpipe", "--version"].as_slice(), USAGE_LINE),
+        (["pnmpipe", "-V"].as_slice(), USAGE_LINE),
         (["pnmpipe", "pnmscale"].as_slice(), unknown),
         (["pnmpipe", "--ring", "7", "pnmscale"].as_slice(), unknown),
         (["pnmpipe", ""].as_slice(), "pnmpipe: chain: Empty\n"),
@@ -84,10 +84,29 @@ fn refuses_words(rt: HostRuntime) -> Result<(), Fail> {
     Ok(())
 }
 
+/// Words that are no command line: the status is 2, the usage line is printed, and nothing is read or written.
+fn refuses_each<H: Abort + AllocGlobal + Threads + Wait + Sync>(
+    rt: &H,
+    cases: &[&[&str]],
+) -> Result<(), Fail> {
+    for texts in cases {
+        let answer = answer_to(rt, texts, IMAGE)?;
+        assert_eq!(rt; answer.status, 2, "at {texts:?}");
+        assert_eq!(rt;
+            answer.errors.as_slice(),
+            USAGE_LINE.as_bytes(),
+            "at {texts:?}"
+        );
+        assert_eq!(rt; answer.left, IMAGE, "at {texts:?}");
+        assert!(rt; answer.output.is_empty(), "at {texts:?}");
+    }
+    Ok(())
+}
+
 /// `--ring` takes a number from 1 to 1,024, and its other values are refused.
 #[test]
 fn refuses_rings(rt: HostRuntime) -> Result<(), Fail> {
-    for texts in [
+    let cases = [
         ["pnmpipe", "--ring", "0", "pnminvert"].as_slice(),
         ["pnmpipe", "--ring", "1025", "pnminvert"].as_slice(),
         ["pnmpipe", "--ring", "65537", "pnminvert"].as_slice(),
@@ -108,21 +127,32 @@ fn refuses_rings(rt: HostRuntime) -> Result<(), Fail> {
         ["pnmpipe", "--rin", "7", "pnminvert"].as_slice(),
         ["pnmpipe", "--RING", "7", "pnminvert"].as_slice(),
         ["pnmpipe", "-ring", "7", "pnminvert"].as_slice(),
-    ] {
-        let answer = answer_to(&rt, texts, IMAGE)?;
-        assert_eq!(rt; answer.status, 2, "at {texts:?}");
-        assert_eq!(rt;
-            answer.errors.as_slice(),
-            b"pnmpipe: usage: pnmpipe [--ring N] CHAIN\n".as_slice(),
-            "at {texts:?}"
-        );
-        assert_eq!(rt; answer.left, IMAGE, "at {texts:?}");
-        assert!(rt; answer.output.is_empty(), "at {texts:?}");
-    }
-    Ok(())
+    ];
+    refuses_each(&rt, cases.as_slice())
 }
 
-/// What `clap` takes for one chain with or without `--ring`.
+/// `--lanes` takes a number from 1 to 8, and its other values are refused.
+#[test]
+fn refuses_lanes(rt: HostRuntime) -> Result<(), Fail> {
+    let cases = [
+        ["pnmpipe", "--lanes", "0", "pnminvert"].as_slice(),
+        ["pnmpipe", "--lanes", "9", "pnminvert"].as_slice(),
+        // 257 is 1 in 8 bits.
+        ["pnmpipe", "--lanes", "257", "pnminvert"].as_slice(),
+        ["pnmpipe", "--lanes", "x", "pnminvert"].as_slice(),
+        ["pnmpipe", "--lanes=", "pnminvert"].as_slice(),
+        ["pnmpipe", "--lanes=-1", "pnminvert"].as_slice(),
+        ["pnmpipe", "pnminvert", "--lanes"].as_slice(),
+        ["pnmpipe", "--lanes", "3", "--lanes", "3", "pnminvert"].as_slice(),
+        ["pnmpipe", "--lanes", "pnminvert"].as_slice(),
+        ["pnmpipe", "--lane", "3", "pnminvert"].as_slice(),
+        // Each option takes its own range.
+        ["pnmpipe", "--ring", "8", "--lanes", "64", "pnminvert"].as_slice(),
+    ];
+    refuses_each(&rt, cases.as_slice())
+}
+
+/// What `clap` takes for one chain with or without `--ring` and `--lanes`.
 #[test]
 fn takes_words(rt: HostRuntime) -> Result<(), Fail> {
     for texts in [
@@ -140,6 +170,10 @@ fn takes_words(rt: HostRuntime) -> Result<(), Fail> {
         // It takes options after CHAIN too.
         ["pnmpipe", "pnminvert", "--ring", "7"].as_slice(),
         ["pnmpipe", "pnminvert", "--ring=7"].as_slice(),
+        ["pnmpipe", "--lanes", "1", "pnminvert"].as_slice(),
+        ["pnmpipe", "--lanes", "3", "pnminvert"].as_slice(),
+        ["pnmpipe", "pnminvert", "--lanes=8"].as_slice(),
+        ["pnmpipe", "--lanes", "2", "pnminvert", "--ring", "1024"].as_slice(),
         // After `--` no word is an option; it may also come after CHAIN.
         ["pnmpipe", "--", "pnminvert"].as_slice(),
         ["pnmpipe", "--ring", "7", "--", "pnminvert"].as_slice(),

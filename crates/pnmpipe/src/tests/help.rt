@@ -1,7 +1,7 @@
 //! The help text.
 
 use super::command::{answer_to, words_of};
-use super::{IMAGE, INVERTED};
+use super::{IMAGE, INVERTED, USAGE_LINE};
 use crate::command::command;
 use pnm_image::Device;
 use std::test::Fail;
@@ -9,14 +9,15 @@ use std::test::Fail;
 pub const HELP: &str = "Reads a stream of PBM, PGM, PPM or PAM images from standard input, passes it
 through a chain of tools, and writes raw Netpbm images to standard output.
 
-Usage: pnmpipe [--ring N] CHAIN
+Usage: pnmpipe [--ring N] [--lanes K] CHAIN
 
 Arguments:
   <CHAIN>  1 to 16 tools, parted by |, in one word
 
 Options:
-      --ring <N>  Messages between two tools, 1 to 1024 [default: 64]
-  -h, --help      Print help
+      --ring <N>   Messages between two tools, 1 to 1024 [default: 64]
+      --lanes <K>  Threads of each row-wise tool, 1 to 8 [default: 1]
+  -h, --help       Print help
 
 Tools:
   pnminvert
@@ -28,7 +29,6 @@ Tools:
   pnmtile WIDTH HEIGHT
 
 Status: 0 all went well, 1 the input, a tool or the output failed, 2 wrong words
-
 Example: pnmpipe 'pamcut -width 640 | pamflip -lr' < a.ppm > b.ppm
 ";
 
@@ -44,7 +44,8 @@ fn helps(rt: HostRuntime) -> Result<(), Fail> {
         ["pnmpipe", "--help", "pnmscale"].as_slice(),
         // `clap` reads the words in turn, and help comes before the faults after it.
         ["pnmpipe", "--help", "--ring", "0"].as_slice(),
-        ["pnmpipe", "-h", "--lanes"].as_slice(),
+        ["pnmpipe", "--help", "--lanes", "9"].as_slice(),
+        ["pnmpipe", "-h", "--plain"].as_slice(),
         ["pnmpipe", "--help", "a", "b"].as_slice(),
         // `-hx` is `-h` and `-x`.
         ["pnmpipe", "-hx"].as_slice(),
@@ -61,14 +62,15 @@ fn helps(rt: HostRuntime) -> Result<(), Fail> {
 /// A fault before the call for help comes first, and so does a value of an option, or `--`.
 #[test]
 fn refuses_before_help(rt: HostRuntime) -> Result<(), Fail> {
-    let usage = "pnmpipe: usage: pnmpipe [--ring N] CHAIN\n";
     for (texts, printed) in [
-        (["pnmpipe", "--lanes", "--help"].as_slice(), usage),
-        (["pnmpipe", "--ring", "0", "--help"].as_slice(), usage),
-        (["pnmpipe", "--ring", "--help"].as_slice(), usage),
-        (["pnmpipe", "a", "b", "--help"].as_slice(), usage),
-        (["pnmpipe", "--help=x"].as_slice(), usage),
-        (["pnmpipe", "--hel"].as_slice(), usage),
+        (["pnmpipe", "--plain", "--help"].as_slice(), USAGE_LINE),
+        (["pnmpipe", "--ring", "0", "--help"].as_slice(), USAGE_LINE),
+        (["pnmpipe", "--ring", "--help"].as_slice(), USAGE_LINE),
+        (["pnmpipe", "--lanes", "9", "--help"].as_slice(), USAGE_LINE),
+        (["pnmpipe", "--lanes", "--help"].as_slice(), USAGE_LINE),
+        (["pnmpipe", "a", "b", "--help"].as_slice(), USAGE_LINE),
+        (["pnmpipe", "--help=x"].as_slice(), USAGE_LINE),
+        (["pnmpipe", "--hel"].as_slice(), USAGE_LINE),
         (
             ["pnmpipe", "--", "-h"].as_slice(),
             "pnmpipe: chain: stage 1: UnknownTool\n",

@@ -17,10 +17,12 @@ computed : CommandLinesHold
 unfolding clap_on_literals
 computed = record {
   alone = alone;
-  ring_left_out = record { chain = record { taken = refl; given = refl }; ring = refl };
+  both_left_out = record { both = record { chain = record { taken = refl; given = refl }; ring = refl }; lanes = refl };
   ring_before = record { chain = record { taken = refl; given = refl }; ring = refl };
   ring_after = record { chain = record { taken = refl; given = refl }; ring = refl };
   ring_attached = record { chain = record { taken = refl; given = refl }; ring = refl };
+  lanes_before = record { both = record { chain = record { taken = refl; given = refl }; ring = refl }; lanes = refl };
+  ring_and_lanes = record { both = record { chain = record { taken = refl; given = refl }; ring = refl }; lanes = refl };
   after_dashes = record { chain = record { taken = refl; given = refl }; ring = refl };
   empty_chain = record { chain = record { taken = refl; given = refl }; ring = refl };
   no_chain = refl;
@@ -32,6 +34,10 @@ computed = record {
   ring_negative = refl;
   ring_alone = refl;
   ring_twice = refl;
+  lanes_zero = refl;
+  lanes_large = refl;
+  lanes_letter = refl;
+  lanes_twice = refl;
   unknown = refl;
   help = refl;
   short_help = refl;
