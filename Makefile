@@ -4,7 +4,7 @@ PROGRAM := crates/pnmpipe
 # where the tests stand: a library's in a crate of their own
 TESTED := pnm_samples_tests pnm_image_tests pnm_read_tests pnm_tools_tests pnm_write_tests pnm_chain_tests pnm_lanes_tests pnm_flow_tests pnmpipe
 
-.PHONY: all bench check test help toolchain controls long-stream refused-growth refused-starts
+.PHONY: all bench check test help toolchain controls lanes long-stream refused-growth refused-starts
 
 # the lowest crate by all processors, and then those above it side by side; one `rt` for all, since two would wait for each other
 all: toolchain
@@ -30,6 +30,10 @@ test: toolchain
 # the program that make has left beside Netpbm's own tools, where these are installed: a table, for a quiet machine
 bench:
 	python3 scripts/bench.py
+
+# the program that make has left with 1, 2, 4 and 8 lanes: a table, for a quiet machine
+lanes:
+	python3 scripts/lanes.py
 
 # a stream of 4 GiB through the program that make has left, in constant memory
 long-stream:
@@ -58,6 +62,7 @@ help:
 	@echo "make test            the tests alone, without their proofs"
 	@echo "make check           the whole gate: every proof from nothing, the edits that must fail, the tests and the stored run"
 	@echo "make bench           times the program that make has left beside Netpbm's own tools, on large images"
+	@echo "make lanes           times the program that make has left with 1, 2, 4 and 8 lanes"
 	@echo "make long-stream     passes a stream of 4 GiB through the program that make has left, and wants less than 32 MB of memory"
 	@echo "make controls        tries the edits that keep the code's meaning, which must prove"
 	@echo "make refused-growth  refuses each allocation of the stored run, of each tool, of a chain of three tools, and of the program's words, in turn"

@@ -1,0 +1,128 @@
+#!/usr/bin/env python3
+"""Times bin/pnmpipe at 1, 2, 4 and 8 lanes: file to memory, the best and the median run, the bytes compared.
+
+A line for each image and tool: the wall seconds, best / median, with each number of lanes, and the median with one lane
+over the least of these medians. The images have rows of 64 samples, of which each is little work for a thread, and of 18,000. The runs
+with different numbers of lanes take turns, one process at a time. Where such an image is large, `pamdepth` takes its
+samples from a table; it divides for each where an image has no more samples than its maxval, as those of `small16` do.
+Needs some 400 MB of memory for files, in /dev/shm or --folder.
+"""
+
+import argparse
+import os
+import random
+import statistics
+import subprocess
+import sys
+import tempfile
+
+from bench import timed
+
+
+def gray(width, height, maxval):
+    return b"P5\n%d %d\n%d\n" % (width, height, maxval)
+
+
+def colors(width, height):
+    return b"P7\nWIDTH %d\nHEIGHT %d\nDEPTH 4\nMAXVAL 255\nTUPLTYPE RGB_ALPHA\nENDHDR\n" % (width, height)
+
+
+# the name, the header of each image, the bytes of its raster, and how many there are: an image has at most 1,000,000 rows
+IMAGES = {
+    "narrow": (gray(64, 781250, 255), 64 * 781250, 2),
+    "wide": (gray(18000, 5556, 255), 18000 * 5556, 1),
+    "small16": (gray(64, 1023, 65535), 64 * 1023 * 2, 764),
+    "narrow colors": (colors(16, 781250), 64 * 781250, 2),
+    "wide colors": (colors(4500, 5556), 18000 * 5556, 1),
+}
+
+CASES = [
+    ("narrow", "pamdepth 1000"),
+    ("wide", "pamdepth 1000"),
+    ("small16", "pamdepth 1000"),
+    ("narrow", "pnminvert"),
+    ("wide", "pnminvert"),
+    ("narrow colors", "pamchannel 0"),
+    ("wide colors", "pamchannel 0"),
+]
+
+LANES = [1, 2, 4, 8]
+
+
+def write_images(path, name):
+    """Writes the stream of this name, some bytes at a time."""
+    header, count, images = IMAGES[name]
+    numbers = random.Random(1)
+    with open(path, "wb") as file:
+        for _ in range(images):
+            file.write(header)
+            for start in range(0, count, 1 << 20):
+                file.write(numbers.randbytes(min(1 << 20, count - start)))
+
+
+def require_lanes(program):
+    """Ends where the program isn't there, or has no option `--lanes`."""
+    try:
+        text = subprocess.run([program, "--help"], stdout=subprocess.PIPE, check=False).stdout
+    except OSError as error:
+        sys.exit(f"{program} can't be run ({error.strerror}): `make` builds it")
+    if b"--lanes" not in text:
+        sys.exit(f"{program} has no option --lanes, so there is nothing to time: build one that has it")
+
+
+def measured(program, chain, source, folder, runs):
+    """The wall seconds of the runs by their number of lanes, in turn, or None where a run failed or wrote other bytes."""
+    first, made = os.path.join(folder, "first"), os.path.join(folder, "made")
+    seconds = {lanes: [] for lanes in LANES}
+    for run in range(runs):
+        for lanes in LANES:
+            target = first if run == 0 and lanes == LANES[0] else made
+            result = timed([program, "--lanes", str(lanes), chain], source, target)
+            same = result and (target == first or subprocess.run(["cmp", "-s", first, made]).returncode == 0)
+            if not same:
+                seconds[lanes] = None
+            elif seconds[lanes] is not None:
+                seconds[lanes].append(result[0])
+    return seconds
+
+
+def shown(seconds):
+    return "FAILED OR OTHER BYTES" if seconds is None else "%.3f / %.3f" % (min(seconds), statistics.median(seconds))
+
+
+def gain_of(seconds):
+    if None in seconds.values():
+        return "-"
+    medians = {lanes: statistics.median(each) for lanes, each in seconds.items()}
+    return "%.2f" % (medians[LANES[0]] / min(medians.values()))
+
+
+def main():
+    parser = argparse.ArgumentParser(description=__doc__.split("\n")[0])
+    parser.add_argument("--program", default="bin/pnmpipe")
+    parser.add_argument("--image", action="append", choices=list(IMAGES))
+    parser.add_argument("--runs", type=int, default=5)
+    parser.add_argument("--folder", default="/dev/shm" if os.path.isdir("/dev/shm") else None)
+    args = parser.parse_args()
+    require_lanes(args.program)
+    failed = 0
+    print("| image | tool | " + " | ".join(f"{lanes} lanes" if lanes > 1 else "1 lane" for lanes in LANES) + " | gain |")
+    print("|---" * (len(LANES) + 3) + "|")
+    with tempfile.TemporaryDirectory(dir=args.folder) as folder:
+        source, written = os.path.join(folder, "source"), None
+        for name, chain in CASES:
+            if args.image and name not in args.image:
+                continue
+            if name != written:
+                write_images(source, name)
+                written = name
+            seconds = measured(args.program, chain, source, folder, args.runs)
+            failed += sum(each is None for each in seconds.values())
+            cells = [shown(each) for each in seconds.values()]
+            print("| %s | `%s` | %s | %s |" % (name, chain, " | ".join(cells), gain_of(seconds)), flush=True)
+    if failed:
+        sys.exit(f"{failed} numbers of lanes failed or gave other bytes than the first run")
+
+
+if __name__ == "__main__":
+    main()
