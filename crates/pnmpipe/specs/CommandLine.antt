@@ -98,11 +98,11 @@ abbrev pub status_of : Result Summary RunFault → ℕ
 status_of (Ok summary) = 0
 status_of (Err fault) = 1
 
--- a run over these tools, which gave the status by its answer, or couldn't be started
-pub record HasRunTools (tools : List Tool) (status : ℕ) (reader writer : Change) : Type 0 where
+-- a run over these tools, of which each row-wise one has so many lanes, which gave the status by its answer, or couldn't be started
+pub record HasRunTools (lanes : ℕ) (tools : List Tool) (status : ℕ) (reader writer : Change) : Type 0 where
   pub answer : Result Summary RunFault
   pub status_is : status ≡ status_of answer
-  pub ran : (answer ≡ Err NoStart) ⊎ HasRunOverThreads 1 tools answer reader writer
+  pub ran : (answer ≡ Err NoStart) ⊎ HasRunOverThreads lanes tools answer reader writer
 
 -- the words give a chain and a number of lanes, the chain spells tools, and a run over these ended
 pub record HasRunWords (words : List Text) (status : ℕ) (reader writer : Change) : Type 0 where
@@ -112,4 +112,4 @@ pub record HasRunWords (words : List Text) (status : ℕ) (reader writer : Chang
   pub given : GivesChain words chain
   pub lanes_given : GivesLanes words lanes
   pub spelled : SpellsChain chain tools
-  pub run : HasRunTools tools status reader writer
+  pub run : HasRunTools lanes tools status reader writer

@@ -6,6 +6,7 @@ ghost use Rattle.pnm_image.specs.Devices.{AppendsFront, Failed};
 ghost use Rattle.pnmpipe.specs.CommandLine.{AsksForHelp, HasRunTools, HasRunWords};
 ghost use Rattle.pnm_flow.specs.Chains.{max_ring_capacity};
 ghost use Rattle.pnm_flow.specs.Runs.{change};
+ghost use Rattle.pnm_lanes.specs.Limits.{IsLaneCount};
 ghost use Rattle.pnm_tools.specs.Chains.{IsChain};
 
 use crate::command_line::{CommandLineFault, read_words};
@@ -66,7 +67,15 @@ pub fn command<H: AllocGlobal + Threads + Wait + Sync, R: BytesIn, W: BytesOut, 
         }
     };
     match parse_chain(rt.alloc(), line.chain) {
-        Ok(tools) => run_tools(rt, tools.as_slice(), line.ring, input, output, errors),
+        Ok(tools) => run_tools(
+            rt,
+            tools.as_slice(),
+            line.ring,
+            line.lanes,
+            input,
+            output,
+            errors,
+        ),
         Err(fault) => {
             print_chain_fault(errors, fault);
             COMMAND_LINE_FAULT
@@ -74,23 +83,36 @@ pub fn command<H: AllocGlobal + Threads + Wait + Sync, R: BytesIn, W: BytesOut, 
     }
 }
 
-/// Runs the tools over the input, with rings for so many messages between them, and prints the run's fault.
+/// Runs the tools over the input, with rings for so many messages between them and each row-wise one over so many lanes,
+/// and prints the run's fault.
 fn run_tools<H: AllocGlobal + Threads + Wait + Sync, R: BytesIn, W: BytesOut, E: Write>(
     rt: &H,
     tools: &[Tool],
     ring: u16,
+    lanes: u8,
     input: &mut R,
     output: &mut W,
     errors: &mut E,
 ) -> u8
     requires chain { IsChain tools.now }
     requires ring { (1 ≤ ring) × (ring ≤ max_ring_capacity) }
+    requires lanes { IsLaneCount lanes }
     ensures status { result ≤ 1 }
-    ensures ran { HasRunTools tools.now result
+    ensures ran { HasRunTools lanes tools.now result
         (change R.left R.failures input.old input.new) (change W.held W.failures output.old output.new) }
 {
     let capacity = usize::from(ring);
-    match run(rt, rt.alloc(), input, output, tools, capacity, 1, &OpenGate) {
+    let lanes = usize::from(lanes);
+    match run(
+        rt,
+        rt.alloc(),
+        input,
+        output,
+        tools,
+        capacity,
+        lanes,
+        &OpenGate,
+    ) {
         Ok(_) => WELL,
         Err(fault) => {
             print_run_fault(errors, fault);
