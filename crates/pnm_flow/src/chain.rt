@@ -1,4 +1,4 @@
-//! A chain: its tools, each in a thread of its own, with a ring between a tool and the next.
+//! A chain: its tools, each in a thread of its own or over lanes in several, with a ring between a tool and the next.
 
 ghost use Rattle.std.specs.Prelude.{◌≡◌, ◌≤◌, ◌<◌, ◌+◌, [], ◌∷◌, ◌++◌, length, vec_capacity, IfOk, IfErr, IfSome};
 ghost use Rattle.std.specs.Thread.{IsSync};
@@ -9,6 +9,7 @@ ghost use Rattle.pnm_tools.specs.Tools.{IsLawfulTool};
 ghost use Rattle.pnm_flow.specs.Links.{IsWhole};
 ghost use Rattle.pnm_flow.specs.Chains.{HasRunTool, HasRunBetween, HasRunChain, HasRoom, max_ring_capacity};
 ghost use Rattle.pnm_stages.specs.Starts.{IsUntouched};
+ghost use Rattle.pnm_lanes.specs.Limits.{IsLaneCount};
 
 use crate::link::Link;
 use crate::tool_run::{ToolBells, bell_of_tool, bell_of_tools, run_between, run_tool_by};
@@ -35,10 +36,13 @@ pub struct ChainDone {
 }
 
 /// Passes what comes on `input` through the tools to `output`, each tool a stage in a thread of its own
-/// but the first, which runs in this one. The rings between them hold so many messages each. The gate
-/// is called by each with its number, from 1, and lane 0. So far each tool has one lane.
+/// but the first, which runs in this one. Where there are several lanes, 8 at most, a row-wise tool works
+/// over so many in its place: it has a thread for each lane and one that deals the rows to them, and
+/// gathers what they make in the thread that the stage would have. All rings hold so many messages each.
+/// The gate is called by each stage with its tool's number, from 1, and lane 0, and by each lane with that
+/// number and its own, from 0.
 ///
-/// It returns once all stages have ended, which they do when the end of the stream or Stop has come, or the
+/// It returns once all tools have ended, which they do when the end of the stream or Stop has come, or the
 /// input's other end is dropped; that the output's other end is dropped is seen only where its ring is
 /// full. So other threads have to send and take, or all that is to come is in the input, and there is room
 /// for what comes of it.
@@ -54,7 +58,7 @@ pub fn run_chain<R: Threads + Wait + Sync, G: Gate>(
 ) -> Result<ChainDone, NoStart>
     requires chain { IsChain tools.now }
     requires capacity { (1 ≤ capacity) × (capacity ≤ max_ring_capacity) }
-    requires lanes { lanes ≡ 1 }
+    requires lanes { IsLaneCount lanes }
     ensures input { IfOk result (λ done. SameConsumer input done.input) }
     ensures output { IfOk result (λ done. SameProducer output done.output) }
     ensures ran { IfOk result (λ done. HasRunChain lanes tools.now done.ends.items done.links.items
@@ -90,7 +94,7 @@ pub fn run_chain_by<R: Threads + Wait + Sync, G: Gate>(
 ) -> Result<ChainDone, NoStart>
     requires shared { IsSync R.row × IsSync G.row }
     requires chain { IsChain tools.now }
-    requires lanes { lanes ≡ 1 }
+    requires lanes { IsLaneCount lanes }
     ensures input { IfOk result (λ done. SameConsumer input done.input) }
     ensures output { IfOk result (λ done. SameProducer output done.output) }
     ensures ran { IfOk result (λ done. HasRunChain lanes tools.now done.ends.items done.links.items
@@ -138,7 +142,7 @@ fn run_stages<R: Threads + Wait + Sync, G: Gate>(
 ) -> Result<ChainDone, NoStart>
     requires shared { IsSync R.row × IsSync G.row }
     requires tools { AreLawfulTools tools.now × (1 ≤ length tools.now) × (length tools.now ≤ max_tools) }
-    requires lanes { lanes ≡ 1 }
+    requires lanes { IsLaneCount lanes }
     requires room { HasRoom room.links.items (vec_capacity room.links) room.ends.items (vec_capacity room.ends) }
     ensures ran { IfOk result (HasRunBetween lanes tools.now (vec_capacity room.links) (vec_capacity room.ends) input output) }
     ensures not_started { IfErr result (λ refused. IfSome refused.ends (IsUntouched input output)) }
@@ -164,7 +168,7 @@ fn run_stages<R: Threads + Wait + Sync, G: Gate>(
     let both = at_once(
         rt,
         move || -> Option<StageDone>
-            requires { (IsSync R.row × IsSync G.row) × IsLawfulTool last.now × (lanes ≡ 1) }
+            requires { (IsSync R.row × IsSync G.row) × IsLawfulTool last.now × IsLaneCount lanes }
             ensures { IfSome result (λ done. SameConsumer consumer done.input × SameProducer output done.output
                 × HasRunTool lanes last.entry.now done.end (received consumer) (received done.input) (known_items done.input)
                 (sent output) (sent done.output)) }
@@ -180,7 +184,7 @@ fn run_stages<R: Threads + Wait + Sync, G: Gate>(
         },
         move || -> Option<ChainDone>
             requires { (IsSync R.row × IsSync G.row)
-                × (AreLawfulTools others.now × (1 ≤ length others.now) × (length others.now ≤ max_tools)) × (lanes ≡ 1)
+                × (AreLawfulTools others.now × (1 ≤ length others.now) × (length others.now ≤ max_tools)) × IsLaneCount lanes
                 × HasRoom room.links.items (vec_capacity room.links) room.ends.items (vec_capacity room.ends) }
             ensures { IfSome result (HasRunBetween lanes others.entry.now (vec_capacity room.links) (vec_capacity room.ends) input producer) }
         {

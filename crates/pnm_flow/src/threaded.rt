@@ -1,4 +1,4 @@
-//! A run over threads: the caller reads and writes, and each tool works in a thread of its own.
+//! A run over threads: the caller reads and writes, and each tool works in a thread of its own, or over lanes in several.
 
 ghost use Rattle.std.specs.Prelude.{◌≡◌, ◌≢◌, ◌⊎◌, ◌≤◌, ◌+◌, ℕ, [], List, length, Some, Err, IfSome};
 ghost use Rattle.std.specs.Thread.{IsSync};
@@ -8,6 +8,7 @@ ghost use Rattle.pnm_read.specs.declared.source.Source.{Source as SourceValue};
 ghost use Rattle.pnm_read.specs.Sources.{reader_of};
 ghost use Rattle.pnm_tools.specs.declared.tool.Tool.{Tool as ToolValue};
 ghost use Rattle.pnm_tools.specs.Chains.{AreLawfulTools, IsChain};
+ghost use Rattle.pnm_lanes.specs.Limits.{IsLaneCount};
 ghost use Rattle.pnm_flow.specs.declared.fault.RunFault.TheVariants.{NoStart as NotStarted};
 ghost use Rattle.pnm_flow.specs.Chains.{HasRunChain, max_ring_capacity};
 ghost use Rattle.pnm_flow.specs.Collectors.{IsCollecting};
@@ -35,8 +36,10 @@ use std::sync::Wait;
 use std::thread::Threads;
 
 /// Reads the images of the reader, passes them through the tools and writes what comes out, with the answers and the bytes of
-/// `run_serial`. Each tool works in a thread of its own, which passes the gate with its number, from 1, and lane 0; this
-/// thread reads and writes. The rings between them hold so many messages each. So far each tool has one lane.
+/// `run_serial`. This thread reads and writes, and each tool works in a thread of its own, which passes the gate with its
+/// number, from 1, and lane 0. Where there are several lanes, 8 at most, each row-wise tool has a thread for each of them,
+/// which passes the gate with the tool's number and its lane, from 0, and two more that deal the rows and gather them. All
+/// rings hold so many messages each.
 ///
 /// `NoStart` is answered where there is no memory for a ring or a list, or a thread can't be started. Where a source waits
 /// for its reader, all that had come from the last tool by then was written before.
@@ -52,7 +55,7 @@ pub fn run<H: Threads + Wait + Sync, R: BytesIn, W: BytesOut, G: Gate>(
 ) -> Result<Summary, RunFault>
     requires chain { IsChain tools.now }
     requires capacity { (1 ≤ capacity) × (capacity ≤ max_ring_capacity) }
-    requires lanes { lanes ≡ 1 }
+    requires lanes { IsLaneCount lanes }
     ensures ran { (result ≡ Err NotStarted) ⊎ HasRunOverThreads lanes tools.now result
         (change R.left R.failures reader.old reader.new) (change W.held W.failures writer.old writer.new) }
     // Where no chain came back, what it held didn't either.
@@ -100,7 +103,7 @@ fn beside_chain<H: Threads + Wait + Sync, R: BytesIn + Drop, W: BytesOut + Drop,
 ) -> Option<(ChainDone, Feeder<R>, Collector<W>)>
     requires shared { IsSync H.row × IsSync G.row }
     requires chain { IsChain tools.now }
-    requires lanes { lanes ≡ 1 }
+    requires lanes { IsLaneCount lanes }
     ensures input { IfSome result (λ r. SameConsumer input r.0.input) }
     ensures output { IfSome result (λ r. SameProducer output r.0.output) }
     ensures ran { IfSome result (λ r. HasRunChain lanes tools.now r.0.ends.items r.0.links.items
@@ -121,7 +124,7 @@ fn beside_chain<H: Threads + Wait + Sync, R: BytesIn + Drop, W: BytesOut + Drop,
     };
     let chain = Call(
         move || -> Option<ChainDone>
-            requires { (IsSync H.row × IsSync G.row) × IsChain tools.now × (lanes ≡ 1) }
+            requires { (IsSync H.row × IsSync G.row) × IsChain tools.now × IsLaneCount lanes }
             ensures { IfSome result (λ done. SameConsumer input done.input × SameProducer output done.output
                 × HasRunChain lanes tools.entry.now done.ends.items done.links.items (received input) (received done.input) (sent output) (sent done.output)) }
         {

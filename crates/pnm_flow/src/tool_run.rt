@@ -5,8 +5,10 @@ ghost use Rattle.std.specs.Thread.{IsSync};
 ghost use Rattle.rtrb.specs.Ring.{sent, received, known_items, SameProducer, SameConsumer};
 ghost use Rattle.pnm_tools.specs.Tools.{IsLawfulTool};
 ghost use Rattle.pnm_stages.specs.Starts.{IsUntouched};
+ghost use Rattle.pnm_lanes.specs.Limits.{IsLaneCount};
 ghost use Rattle.pnm_flow.specs.Chains.{RunsInLanes, HasRunTool};
 
+use pnm_lanes::{OuterBells, run_lanes_by};
 use pnm_rings::{Bell, Input, Output};
 use pnm_stages::{Bells, Gate, NoStart, StageDone, run_stage_by};
 use pnm_tools::Tool;
@@ -62,7 +64,7 @@ pub fn run_tool_by<R: Threads + Wait + Sync, G: Gate>(
     tool: &Tool,
     number: usize,
     lanes: usize,
-    _capacity: usize,
+    capacity: usize,
     gate: &G,
     input: Input,
     output: Output,
@@ -70,18 +72,32 @@ pub fn run_tool_by<R: Threads + Wait + Sync, G: Gate>(
 ) -> Result<StageDone, NoStart>
     requires shared { IsSync R.row × IsSync G.row }
     requires lawful { IsLawfulTool tool.now }
-    requires lanes { lanes ≡ 1 }
+    requires lanes { IsLaneCount lanes }
     ensures input { IfOk result (λ done. SameConsumer input done.input) }
     ensures output { IfOk result (λ done. SameProducer output done.output) }
     ensures ran { IfOk result (λ done. HasRunTool lanes tool.now done.end (received input) (received done.input)
         (known_items done.input) (sent output) (sent done.output)) }
     ensures not_started { IfErr result (λ refused. IfSome refused.ends (IsUntouched input output)) }
 {
-    let bells = Bells {
-        left: bells.left,
-        own: bells.sender,
-        right: bells.right,
-    };
+    let ToolBells {
+        left,
+        receiver,
+        sender,
+        right,
+    } = bells;
+    if runs_in_lanes(tool, lanes) {
+        let bells = OuterBells {
+            left,
+            dealer: receiver,
+            gatherer: sender,
+            right,
+        };
+        return run_lanes_by(
+            rt, alloc, tool, number, lanes, capacity, gate, input, output, bells,
+        );
+    }
+    let own = sender;
+    let bells = Bells { left, own, right };
     Ok(run_stage_by(rt, alloc, tool, number, gate, input, output, bells))
 }
 
@@ -101,7 +117,7 @@ pub fn run_between<R: Threads + Wait + Sync, G: Gate>(
 ) -> Option<StageDone>
     requires shared { IsSync R.row × IsSync G.row }
     requires lawful { IsLawfulTool tool.now }
-    requires lanes { lanes ≡ 1 }
+    requires lanes { IsLaneCount lanes }
     ensures input { IfSome result (λ done. SameConsumer input done.input) }
     ensures output { IfSome result (λ done. SameProducer output done.output) }
     ensures ran { IfSome result (λ done. HasRunTool lanes tool.now done.end (received input) (received done.input)
