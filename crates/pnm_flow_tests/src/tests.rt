@@ -9,6 +9,7 @@ mod blanks;
 mod chains;
 mod devices;
 mod gates;
+mod lanes;
 mod memory;
 mod order;
 mod rings;

@@ -28,7 +28,7 @@ pub fn run_chain<R: Threads + Wait + Abort + Sync>(
 }
 
 /// The same, in this way alone.
-fn run_chain_by<R: Threads + Wait + Abort + Sync>(
+pub fn run_chain_by<R: Threads + Wait + Abort + Sync>(
     rt: &R,
     alloc: Global,
     way: Way,

@@ -2,13 +2,18 @@
 
 use super::agrees;
 use super::chains::are_lawful;
-use super::threads::{Both, TURNS};
+use super::lanes::{TWO_ROWS, TWO_ROWS_INVERTED};
+use super::threads::{Both, BothLanes, TURNS};
 use pnm_flow::{Gate, OpenGate, Summary, run};
 use pnm_image::Device;
 use pnm_tools::Tool;
+use std::alloc::Global;
 use std::io::{Read, Write};
+use std::process::Abort;
+use std::sync::Wait;
 use std::sync::atomic::AtomicU64;
 use std::sync::atomic::Ordering::SeqCst;
+use std::thread::Threads;
 use std::{io, thread};
 
 /// An image of one sample, and what two tools make of it.
@@ -18,31 +23,44 @@ const TOOLS: [Tool; 2] = [Tool::Enlarge(2, 2), Tool::Invert];
 
 const MADE: &[u8] = b"P5\n2 2\n9\n\x02\x02\x02\x02";
 
+/// Tools over so many lanes, an input, and the image of two rows that they make of it.
+type HeldRun<'a> = (&'a [Tool], usize, &'a [u8], &'a [u8]);
+
+/// The run passes the gate, and makes the image.
+fn meets<R: Threads + Wait + Abort + Sync>(
+    rt: &R,
+    alloc: Global,
+    held: HeldRun<'_>,
+    gate: &impl Gate,
+) {
+    let (tools, lanes, input, made) = held;
+    assert!(rt; 1 <= tools.len() && tools.len() <= 16 && are_lawful(tools));
+    assert!(rt; 1 <= lanes && lanes <= 8);
+    let mut writer = Device::new(Vec::new(alloc));
+    let mut reader = Device::new(input);
+    let answer = run(rt, alloc, &mut reader, &mut writer, tools, 1, lanes, gate);
+    let want = (Ok(Summary { images: 1, rows: 2 }), made);
+    let written = writer.into_inner();
+    agrees(rt, (answer, written.as_slice()), want, &lanes);
+}
+
 /// Each of two tools waits at the gate for the other, so both have a thread.
 #[test]
 fn gives_each_tool_of_a_run_a_thread(rt: HostRuntime) {
-    assert!(&rt; are_lawful(&TOOLS));
     let both = Both::new();
-    let mut writer = Device::new(Vec::new(rt.alloc()));
-    let mut reader = Device::new(SAMPLE);
-    let answer = run(
-        &rt,
-        rt.alloc(),
-        &mut reader,
-        &mut writer,
-        &TOOLS,
-        1,
-        1,
-        &both,
-    );
-    let want = (Ok(Summary { images: 1, rows: 2 }), MADE);
-    agrees(
-        &rt,
-        (answer, writer.into_inner().as_slice()),
-        want,
-        &"two tools that meet",
-    );
+    meets(&rt, rt.alloc(), (&TOOLS, 1, SAMPLE, MADE), &both);
     assert_eq!(&rt; both.missed.load(SeqCst), 0);
+}
+
+/// So does each of two lanes of a tool, and both pass it once.
+#[test]
+fn gives_each_lane_of_a_run_a_thread(rt: HostRuntime) {
+    let lanes = BothLanes(Both::new());
+    let held: HeldRun<'_> = (&[Tool::Invert], 2, TWO_ROWS, TWO_ROWS_INVERTED);
+    meets(&rt, rt.alloc(), held, &lanes);
+    let both = &lanes.0;
+    assert_eq!(&rt; both.missed.load(SeqCst), 0);
+    assert_eq!(&rt; (both.first.load(SeqCst), both.second.load(SeqCst)), (1, 1));
 }
 
 /// What a run has read and written so far, and whether a gate waited in vain for it.
@@ -94,13 +112,14 @@ impl Write for SeenWriter<'_> {
     }
 }
 
-/// Holds the first tool back until something was read, and a while longer, and counts what was written by then.
+/// Holds the first tool back, or the first lane of it alone, until something was read, and a while longer, and counts what
+/// was written by then.
 #[derive(Drop)]
 struct HoldsFirst<'a>(&'a Seen);
 
 impl Gate for HoldsFirst<'_> {
-    fn arrive(&self, stage: usize, _lane: usize) {
-        if stage != 1 {
+    fn arrive(&self, stage: usize, lane: usize) {
+        if stage != 1 || lane != 0 {
             return;
         }
         let seen = self.0;
@@ -120,32 +139,31 @@ impl Gate for HoldsFirst<'_> {
     }
 }
 
-/// The input is read while the first tool is held back, and nothing is written without it.
+/// The input is read while the gate holds the first tool back, or the first lane of it, and nothing is written without it.
+fn reads_and_writes<R: Threads + Wait + Abort + Sync>(rt: &R, alloc: Global, held: HeldRun<'_>) {
+    let (tools, lanes, input, made) = held;
+    assert!(rt; 1 <= tools.len() && tools.len() <= 16 && are_lawful(tools));
+    assert!(rt; 1 <= lanes && lanes <= 8);
+    let seen = Seen::new();
+    let mut reader = Device::new(SeenReader(input, &seen));
+    let mut writer = Device::new(SeenWriter(Vec::new(alloc), &seen));
+    let gate = HoldsFirst(&seen);
+    let answer = run(rt, alloc, &mut reader, &mut writer, tools, 1, lanes, &gate);
+    let want = (Ok(Summary { images: 1, rows: 2 }), made);
+    let written = writer.into_inner().0;
+    agrees(rt, (answer, written.as_slice()), want, &lanes);
+    assert_eq!(rt; (seen.missed.load(SeqCst), seen.early.load(SeqCst)), (0, 0));
+}
+
 #[test]
 fn reads_and_writes_beside_the_tools(rt: HostRuntime) {
-    assert!(&rt; are_lawful(&TOOLS));
-    let seen = Seen::new();
-    let mut reader = Device::new(SeenReader(SAMPLE, &seen));
-    let mut writer = Device::new(SeenWriter(Vec::new(rt.alloc()), &seen));
-    let gate = HoldsFirst(&seen);
-    let answer = run(
-        &rt,
-        rt.alloc(),
-        &mut reader,
-        &mut writer,
-        &TOOLS,
-        1,
-        1,
-        &gate,
-    );
-    let want = (Ok(Summary { images: 1, rows: 2 }), MADE);
-    agrees(
-        &rt,
-        (answer, writer.into_inner().0.as_slice()),
-        want,
-        &"a tool that waits",
-    );
-    assert_eq!(&rt; (seen.missed.load(SeqCst), seen.early.load(SeqCst)), (0, 0));
+    reads_and_writes(&rt, rt.alloc(), (&TOOLS, 1, SAMPLE, MADE));
+}
+
+#[test]
+fn reads_and_writes_beside_the_lanes(rt: HostRuntime) {
+    let held: HeldRun<'_> = (&[Tool::Invert], 2, TWO_ROWS, TWO_ROWS_INVERTED);
+    reads_and_writes(&rt, rt.alloc(), held);
 }
 
 /// Gives the sample's image again and again, one a read, and counts the reads that came before the result of each image
@@ -176,7 +194,7 @@ impl Read for ImageByImage<'_> {
 #[test]
 fn writes_each_image_before_the_next_is_read(rt: HostRuntime) {
     assert!(&rt; are_lawful(&TOOLS));
-    for capacity in [1, 2, 64] {
+    for (capacity, lanes) in [(1, 1), (2, 1), (64, 1), (1, 2)] {
         let seen = Seen::new();
         let mut reader = Device::new(ImageByImage {
             more: 200,
@@ -191,7 +209,7 @@ fn writes_each_image_before_the_next_is_read(rt: HostRuntime) {
             &mut writer,
             &TOOLS,
             capacity,
-            1,
+            lanes,
             &OpenGate,
         );
         let made = Summary {

@@ -56,7 +56,7 @@ fn run_short_of_memory<H: Threads + Wait + Abort + Sync>(
                 None
             }
         Err(RunFault::NoStart) => {
-            assert!(rt; matches!(way, Way::Threads(_)) && written.is_empty());
+            assert!(rt; matches!(way, Way::Threads(..)) && written.is_empty());
             None
         }
         Err(fault) => {
@@ -75,7 +75,7 @@ fn answers_want_of_memory(rt: HostRuntime) {
 /// The same, over threads.
 #[test]
 fn answers_want_of_memory_over_threads(rt: HostRuntime) {
-    let _ = run_short_of_memory(&rt, rt.alloc(), Way::Threads(1));
+    let _ = run_short_of_memory(&rt, rt.alloc(), Way::Threads(1, 1));
 }
 
 /// The same, where none is refused.
@@ -88,7 +88,7 @@ fn ends_well_with_memory(rt: HostRuntime) {
 /// The same, where none is refused, over threads.
 #[test]
 fn ends_well_over_threads_with_memory(rt: HostRuntime) {
-    let summary = run_short_of_memory(&rt, rt.alloc(), Way::Threads(1));
+    let summary = run_short_of_memory(&rt, rt.alloc(), Way::Threads(1, 1));
     assert_eq!(rt; summary, Some(Summary { images: 2, rows: 3 }));
 }
 
@@ -100,7 +100,7 @@ fn end_in_threads<R: Threads + Wait + Abort + Sync>(rt: &R, alloc: Global) -> Re
     let (mut producer, input) = ring(alloc, 8)?;
     let (output, mut consumer) = ring(alloc, 8)?;
     send_all(alloc, &mut producer, IMAGE)?;
-    match chain(rt, alloc, &tools, 1, &OpenGate, input, output) {
+    match chain(rt, alloc, &tools, 1, 1, &OpenGate, input, output) {
         Ok(done) => {
             let is_well = done.ends.iter().all(|end| *end == StageEnd::Well);
             let mut is_stopped = false;

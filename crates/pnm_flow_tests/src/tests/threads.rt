@@ -46,13 +46,14 @@ pub fn chain<R: Threads + Wait + Abort + Sync>(
     alloc: Global,
     tools: &[Tool],
     capacity: usize,
+    lanes: usize,
     gate: &impl Gate,
     input: Input,
     output: Output,
 ) -> Result<ChainDone, NoStart> {
     assert!(rt; 1 <= tools.len() && tools.len() <= 16 && are_lawful(tools));
-    assert!(rt; 1 <= capacity && capacity <= 1024);
-    run_chain(rt, alloc, tools, capacity, 1, gate, input, output)
+    assert!(rt; 1 <= capacity && capacity <= 1024 && 1 <= lanes && lanes <= 8);
+    run_chain(rt, alloc, tools, capacity, lanes, gate, input, output)
 }
 
 /// So many tools that invert, but for one that cuts, if there is one in this place.
@@ -89,7 +90,7 @@ fn ends_so<R: Threads + Wait + Abort + Sync>(
     let (mut producer, input) = ring(alloc, 8)?;
     let (output, mut consumer) = ring(alloc, 8)?;
     send_all(alloc, &mut producer, run.takes)?;
-    let done = chain(rt, alloc, &tools, run.capacity, &OpenGate, input, output);
+    let done = chain(rt, alloc, &tools, run.capacity, 1, &OpenGate, input, output);
     let Ok(mut done) = done else {
         return Err(Fail::new("not started"));
     };
@@ -181,7 +182,7 @@ fn ends_where_an_outer_end_is_gone(rt: HostRuntime) -> Result<(), Fail> {
         let (output, mut consumer) = ring(rt.alloc(), 8)?;
         send_all(rt.alloc(), &mut producer, &IMAGE[..taken])?;
         drop(producer);
-        let done = chain(&rt, rt.alloc(), &tools, 1, &OpenGate, input, output);
+        let done = chain(&rt, rt.alloc(), &tools, 1, 1, &OpenGate, input, output);
         let Ok(done) = done else {
             return Err(Fail::new("not started"));
         };
@@ -193,7 +194,7 @@ fn ends_where_an_outer_end_is_gone(rt: HostRuntime) -> Result<(), Fail> {
     let (output, consumer) = ring(rt.alloc(), 1)?;
     drop(consumer);
     send_all(rt.alloc(), &mut producer, IMAGE)?;
-    let done = chain(&rt, rt.alloc(), &tools, 1, &OpenGate, input, output);
+    let done = chain(&rt, rt.alloc(), &tools, 1, 1, &OpenGate, input, output);
     let Ok(mut done) = done else {
         return Err(Fail::new("not started"));
     };
@@ -202,7 +203,7 @@ fn ends_where_an_outer_end_is_gone(rt: HostRuntime) -> Result<(), Fail> {
     Ok(())
 }
 
-/// Holds each thread back until that of the other tool has come.
+/// Holds each of two threads back until the other has come.
 #[derive(Drop)]
 pub struct Both {
     pub first: AtomicU64,
@@ -219,11 +220,10 @@ impl Both {
             missed: AtomicU64::new(0),
         }
     }
-}
 
-impl Gate for Both {
-    fn arrive(&self, stage: usize, _lane: usize) {
-        let (own, other) = if stage == 1 {
+    /// One of the two has come.
+    fn meet(&self, is_first: bool) {
+        let (own, other) = if is_first {
             (&self.first, &self.second)
         } else {
             (&self.second, &self.first)
@@ -239,6 +239,23 @@ impl Gate for Both {
     }
 }
 
+/// The two threads are those of two tools.
+impl Gate for Both {
+    fn arrive(&self, stage: usize, _lane: usize) {
+        self.meet(stage == 1);
+    }
+}
+
+/// The same, of two lanes of one tool.
+#[derive(Drop)]
+pub struct BothLanes(pub Both);
+
+impl Gate for BothLanes {
+    fn arrive(&self, _stage: usize, lane: usize) {
+        self.0.meet(lane == 0);
+    }
+}
+
 /// Each of two tools waits at the gate for the other, and both pass it once.
 #[test]
 fn gives_each_tool_a_thread(rt: HostRuntime) -> Result<(), Fail> {
@@ -247,7 +264,7 @@ fn gives_each_tool_a_thread(rt: HostRuntime) -> Result<(), Fail> {
     let (mut producer, input) = ring(rt.alloc(), 8)?;
     let (output, mut consumer) = ring(rt.alloc(), 8)?;
     send_all(rt.alloc(), &mut producer, IMAGE)?;
-    let done = chain(&rt, rt.alloc(), &tools, 1, &both, input, output);
+    let done = chain(&rt, rt.alloc(), &tools, 1, 1, &both, input, output);
     assert!(&rt; done.is_ok());
     assert_eq!(&rt; both.missed.load(SeqCst), 0);
     assert_eq!(&rt; (both.first.load(SeqCst), both.second.load(SeqCst)), (1, 1));
@@ -293,19 +310,21 @@ fn one_by_one(alloc: Global, producer: &mut Output, consumer: &mut Input) -> Res
     Ok(true)
 }
 
-/// A message passes through two tools before the next one is there, over rings of capacity 1.
+/// A message passes through two tools before the next one is there, over rings of capacity 1, and over two lanes too.
 #[test]
 fn passes_each_message_on_at_once(rt: HostRuntime) -> Result<(), Fail> {
     let tools = tools_with_cut(rt.alloc(), 2, 2)?;
     let alloc = rt.alloc();
-    let (mut producer, input) = ring(alloc, 1)?;
-    let (output, mut consumer) = ring(alloc, 1)?;
-    let (here, tools) = (&rt, tools.as_slice());
-    let both = thread::join(
-        &rt,
-        move || chain(here, alloc, tools, 1, &OpenGate, input, output).is_ok(),
-        move || one_by_one(alloc, &mut producer, &mut consumer).unwrap_or(false),
-    );
-    assert_eq!(&rt; both, (true, true));
+    for lanes in [1, 2] {
+        let (mut producer, input) = ring(alloc, 1)?;
+        let (output, mut consumer) = ring(alloc, 1)?;
+        let (here, tools) = (&rt, tools.as_slice());
+        let both = thread::join(
+            &rt,
+            move || chain(here, alloc, tools, 1, lanes, &OpenGate, input, output).is_ok(),
+            move || one_by_one(alloc, &mut producer, &mut consumer).unwrap_or(false),
+        );
+        assert_eq!(&rt; both, (true, true));
+    }
     Ok(())
 }

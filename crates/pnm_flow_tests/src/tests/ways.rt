@@ -1,4 +1,4 @@
-//! The ways to run a chain: in one thread, or with a thread for each tool.
+//! The ways to run a chain: in one thread, or with a thread for each tool or for each of its lanes.
 
 ghost use Rattle.pnm_tools.specs.Chains.{IsChain};
 
@@ -10,20 +10,23 @@ use std::process::Abort;
 use std::sync::Wait;
 use std::thread::Threads;
 
-/// In one thread; or with a thread for each tool, and rings for so many messages.
+/// In one thread; or over threads, with rings for so many messages and so many lanes for each row-wise tool.
 #[derive(Clone, Copy, Debug)]
 pub enum Way {
     OneThread,
-    Threads(usize),
+    Threads(usize, usize),
 }
 
-/// In one thread, and over rings of the least room, of two messages, of as many as by default, and of the most room.
-pub const WAYS: [Way; 5] = [
+/// In one thread, and over rings of the least room, of two messages, of as many as by default, and of the most room; and
+/// over three lanes.
+pub const WAYS: [Way; 7] = [
     Way::OneThread,
-    Way::Threads(1),
-    Way::Threads(2),
-    Way::Threads(64),
-    Way::Threads(1_024),
+    Way::Threads(1, 1),
+    Way::Threads(2, 1),
+    Way::Threads(64, 1),
+    Way::Threads(1_024, 1),
+    Way::Threads(1, 3),
+    Way::Threads(64, 3),
 ];
 
 /// The run of these tools, in this way.
@@ -39,9 +42,9 @@ pub fn run_by<H: Threads + Wait + Abort + Sync, R: BytesIn, W: BytesOut>(
 {
     match way {
         Way::OneThread => run_serial(alloc, reader, writer, tools),
-        Way::Threads(capacity) => {
-            assert!(rt; 1 <= capacity && capacity <= 1_024);
-            run(rt, alloc, reader, writer, tools, capacity, 1, &OpenGate)
+        Way::Threads(capacity, lanes) => {
+            assert!(rt; 1 <= capacity && capacity <= 1_024 && 1 <= lanes && lanes <= 8);
+            run(rt, alloc, reader, writer, tools, capacity, lanes, &OpenGate)
         }
     }
 }
