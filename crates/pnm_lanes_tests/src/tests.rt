@@ -4,3 +4,4 @@ mod deals;
 mod gathers;
 mod heights;
 mod rings;
+mod runs;

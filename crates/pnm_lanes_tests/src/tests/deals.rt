@@ -11,7 +11,7 @@ use std::test::Fail;
 use std::thread;
 
 /// An image of two rows, and the end of the stream.
-const TWO_ROWS: &[Part<'static>] = &[
+pub const TWO_ROWS: &[Part<'static>] = &[
     Part::Begin(1, 2),
     Part::Row(&[1]),
     Part::Row(&[2]),

@@ -1,0 +1,34 @@
+//! A tool over lanes, between two rings.
+
+use super::deals::TWO_ROWS;
+use super::rings::{Part, holds, is_end, ring, send_all};
+use pnm_lanes::run_lanes;
+use pnm_rings::StageEnd;
+use pnm_stages::OpenGate;
+use pnm_tools::Tool;
+use std::test::Fail;
+
+const INVERTED: &[Part<'static>] = &[
+    Part::Begin(1, 2),
+    Part::Row(&[8]),
+    Part::Row(&[7]),
+    Part::ImageEnd,
+    Part::StreamEnd,
+];
+
+/// More lanes than rows, and all messages are there before: what comes of them is in their order.
+#[test]
+fn inverts_over_three_lanes(rt: HostRuntime) -> Result<(), Fail> {
+    let alloc = rt.alloc();
+    let (mut producer, input) = ring(alloc, 8)?;
+    let (output, mut consumer) = ring(alloc, 8)?;
+    send_all(alloc, &mut producer, TWO_ROWS)?;
+    let done = run_lanes(&rt, alloc, &Tool::Invert, 1, 3, 8, &OpenGate, input, output);
+    let Ok(mut done) = done else {
+        return Err(Fail::new("not started"));
+    };
+    is_end(&rt, done.end, StageEnd::Well, "an image of two rows");
+    holds(&rt, &mut done.input, &[], "nothing is left");
+    holds(&rt, &mut consumer, INVERTED, "its rows inverted");
+    Ok(())
+}
