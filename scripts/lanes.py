@@ -4,7 +4,8 @@
 A line for each image and tool: the wall seconds, best / median, with each number of lanes, and the median with one lane
 over the least of these medians. The images have rows of 64 samples, of which each is little work for a thread, and of 18,000. The runs
 with different numbers of lanes take turns, one process at a time. Where such an image is large, `pamdepth` takes its
-samples from a table; it divides for each where an image has no more samples than its maxval, as those of `small16` do.
+samples from a table; it divides for each where an image has no more samples than its maxval, as those of `small16` and
+`flat16` do, of which the second has three rows.
 Needs some 400 MB of memory for files, in /dev/shm or --folder.
 """
 
@@ -32,6 +33,7 @@ IMAGES = {
     "narrow": (gray(64, 781250, 255), 64 * 781250, 2),
     "wide": (gray(18000, 5556, 255), 18000 * 5556, 1),
     "small16": (gray(64, 1023, 65535), 64 * 1023 * 2, 764),
+    "flat16": (gray(18000, 3, 65535), 18000 * 3 * 2, 926),
     "narrow colors": (colors(16, 781250), 64 * 781250, 2),
     "wide colors": (colors(4500, 5556), 18000 * 5556, 1),
 }
@@ -40,6 +42,7 @@ CASES = [
     ("narrow", "pamdepth 1000"),
     ("wide", "pamdepth 1000"),
     ("small16", "pamdepth 1000"),
+    ("flat16", "pamdepth 1000"),
     ("narrow", "pnminvert"),
     ("wide", "pnminvert"),
     ("narrow colors", "pamchannel 0"),
