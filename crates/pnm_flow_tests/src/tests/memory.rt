@@ -78,6 +78,12 @@ fn answers_want_of_memory_over_threads(rt: HostRuntime) {
     let _ = run_short_of_memory(&rt, rt.alloc(), Way::Threads(1, 1));
 }
 
+/// The same, over two lanes.
+#[test]
+fn answers_want_of_memory_over_lanes(rt: HostRuntime) {
+    let _ = run_short_of_memory(&rt, rt.alloc(), Way::Threads(1, 2));
+}
+
 /// The same, where none is refused.
 #[test]
 fn ends_well_with_memory(rt: HostRuntime) {
@@ -89,6 +95,13 @@ fn ends_well_with_memory(rt: HostRuntime) {
 #[test]
 fn ends_well_over_threads_with_memory(rt: HostRuntime) {
     let summary = run_short_of_memory(&rt, rt.alloc(), Way::Threads(1, 1));
+    assert_eq!(rt; summary, Some(Summary { images: 2, rows: 3 }));
+}
+
+/// The same, where none is refused, over two lanes.
+#[test]
+fn ends_well_over_lanes_with_memory(rt: HostRuntime) {
+    let summary = run_short_of_memory(&rt, rt.alloc(), Way::Threads(1, 2));
     assert_eq!(rt; summary, Some(Summary { images: 2, rows: 3 }));
 }
 
