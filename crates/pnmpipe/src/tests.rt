@@ -5,8 +5,6 @@ mod command;
 mod examples;
 mod fault_lines;
 mod help;
-mod refusals;
-mod runs;
 mod words_memory;
 
 /// An image of one row, and the image inverted.

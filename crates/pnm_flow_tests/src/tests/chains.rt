@@ -4,6 +4,7 @@ ghost use Rattle.std.specs.Prelude.{IsTrue};
 ghost use Rattle.pnm_tools.specs.Chains.{AreLawfulTools};
 
 use super::ways::{WAYS, Way, run_by};
+use pnm_chain::parse_chain;
 use pnm_flow::{RunFault, Summary};
 use pnm_image::Device;
 use pnm_tools::{CutBox, Planes, Tool};
@@ -27,7 +28,18 @@ pub fn run_chain<R: Threads + Wait + Abort + Sync>(
     first
 }
 
-/// The same, in this way alone.
+/// The same of the tools that the text spells.
+pub fn run_text<R: Threads + Wait + Abort + Sync>(
+    rt: &R,
+    alloc: Global,
+    chain: &str,
+    input: &[u8],
+) -> (Result<Summary, RunFault>, Vec<u8>) {
+    let tools = parse_chain(alloc, chain).expect(rt, "the text of a chain");
+    run_chain(rt, alloc, tools.as_slice(), input)
+}
+
+/// What a run of the tools answers in this way alone, and what it writes.
 pub fn run_chain_by<R: Threads + Wait + Abort + Sync>(
     rt: &R,
     alloc: Global,

@@ -17,16 +17,15 @@ pub enum Way {
     Threads(usize, usize),
 }
 
-/// In one thread, and over rings of the least room, of two messages, of as many as by default, and of the most room; and
-/// over three lanes.
+/// In one thread, and over rings of the least room, of two messages and of the most room, with one lane and with three.
 pub const WAYS: [Way; 7] = [
     Way::OneThread,
     Way::Threads(1, 1),
     Way::Threads(2, 1),
-    Way::Threads(64, 1),
     Way::Threads(1_024, 1),
     Way::Threads(1, 3),
-    Way::Threads(64, 3),
+    Way::Threads(2, 3),
+    Way::Threads(1_024, 3),
 ];
 
 /// The run of these tools, in this way.

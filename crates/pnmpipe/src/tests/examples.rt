@@ -6,18 +6,21 @@ use std::sync::Wait;
 use std::test::Fail;
 use std::thread::Threads;
 
-/// The program answers the status, writes the output, and prints the line.
+/// The program answers the status, writes the output, and prints the line, with one lane and with three.
 fn answers(
     rt: &(impl Abort + AllocGlobal + Threads + Wait + Sync),
     chain: &str,
     input: &[u8],
     want: (u8, &[u8], &[u8]),
 ) -> Result<(), Fail> {
-    let answer = answer_to(rt, ["pnmpipe", chain].as_slice(), input)?;
     let (status, output, errors) = want;
-    assert_eq!(rt; answer.status, status, "at {chain}");
-    assert_eq!(rt; answer.output.as_slice(), output, "at {chain}");
-    assert_eq!(rt; answer.errors.as_slice(), errors, "at {chain}");
+    for lanes in ["1", "3"] {
+        let words = ["pnmpipe", "--lanes", lanes, chain];
+        let answer = answer_to(rt, words.as_slice(), input)?;
+        assert_eq!(rt; answer.status, status, "at {words:?}");
+        assert_eq!(rt; answer.output.as_slice(), output, "at {words:?}");
+        assert_eq!(rt; answer.errors.as_slice(), errors, "at {words:?}");
+    }
     Ok(())
 }
 

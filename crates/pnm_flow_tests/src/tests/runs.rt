@@ -1,38 +1,26 @@
-//! Runs in one thread over chains that their texts name. What comes of the longer ones was computed by the
-//! formulas of the manual pages, apart from the program.
+//! Runs over chains that their texts name. What comes of the longer ones was computed by the formulas of the
+//! manual pages, apart from the program.
 
-use pnm_chain::parse_chain;
-use pnm_flow::{RunFault, Summary, run_serial};
-use pnm_image::Device;
+use super::agrees;
+use super::chains::run_text;
+use pnm_flow::Summary;
 use std::alloc::Global;
 use std::process::Abort;
-
-/// What a run of the chain that the text names over this input answers, and what it writes.
-pub fn run_chain(
-    rt: &impl Abort,
-    alloc: Global,
-    chain: &str,
-    input: &[u8],
-) -> (Result<Summary, RunFault>, Vec<u8>) {
-    let tools = parse_chain(alloc, chain).expect(rt, "the text of a chain");
-    let mut reader = Device::new(input);
-    let mut writer = Device::new(Vec::new(alloc));
-    let answer = run_serial(alloc, &mut reader, &mut writer, tools.as_slice());
-    (answer, writer.into_inner())
-}
+use std::sync::Wait;
+use std::thread::Threads;
 
 /// A chain, an input that it runs over well, the images and rows of the output, and the output.
 type Run<'a> = (&'a str, &'a [u8], u64, u64, &'a [u8]);
 
-fn runs(rt: &impl Abort, alloc: Global, cases: &[Run<'_>]) {
+fn runs<R: Threads + Wait + Abort + Sync>(rt: &R, alloc: Global, cases: &[Run<'_>]) {
     for (chain, input, images, rows, output) in cases {
-        let (answer, written) = run_chain(rt, alloc, chain, input);
+        let (answer, written) = run_text(rt, alloc, chain, input);
         let summary = Summary {
             images: *images,
             rows: *rows,
         };
-        assert_eq!(rt; answer, Ok(summary), "at {chain}, {input:?}");
-        assert_eq!(rt; written.as_slice(), *output, "at {chain}, {input:?}");
+        let want = (Ok(summary), *output);
+        agrees(rt, (answer, written.as_slice()), want, &(chain, input));
     }
 }
 

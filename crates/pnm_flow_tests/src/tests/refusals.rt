@@ -1,22 +1,24 @@
-//! Runs in one thread that end in a fault of the input or of a tool: which fault is answered, and what is
-//! written before it.
+//! Runs that end in a fault of the input or of a tool: which fault is answered, and what is written before it.
 
-use super::runs::run_chain;
+use super::agrees;
+use super::chains::run_text;
 use pnm_flow::{RunFault, Summary};
 use pnm_read::InputFault;
 use pnm_tools::ToolFault;
 use std::alloc::Global;
 use std::process::Abort;
+use std::sync::Wait;
 use std::test::Fail;
+use std::thread::Threads;
 
 /// A chain, an input, what is answered and what is written.
 type Refused<'a> = (&'a str, &'a [u8], RunFault, &'a [u8]);
 
-fn refuses(rt: &impl Abort, alloc: Global, cases: &[Refused<'_>]) {
+fn refuses<R: Threads + Wait + Abort + Sync>(rt: &R, alloc: Global, cases: &[Refused<'_>]) {
     for (chain, input, fault, output) in cases {
-        let (answer, written) = run_chain(rt, alloc, chain, input);
-        assert_eq!(rt; answer, Err(*fault), "at {chain}, {input:?}");
-        assert_eq!(rt; written.as_slice(), *output, "at {chain}, {input:?}");
+        let (answer, written) = run_text(rt, alloc, chain, input);
+        let want = (Err(*fault), *output);
+        agrees(rt, (answer, written.as_slice()), want, &(chain, input));
     }
 }
 
@@ -201,10 +203,10 @@ fn runs_on_the_widest_image(rt: HostRuntime) -> Result<(), Fail> {
         input.push(0)?;
         inverted.push(1)?;
     }
-    let (answer, written) = run_chain(&rt, rt.alloc(), "pnminvert", input.as_slice());
+    let (answer, written) = run_text(&rt, rt.alloc(), "pnminvert", input.as_slice());
     assert_eq!(rt; answer, Ok(Summary { images: 1, rows: 1 }));
     assert!(rt; written == inverted);
-    let (answer, written) = run_chain(&rt, rt.alloc(), "pamenlarge -xscale 2", input.as_slice());
+    let (answer, written) = run_text(&rt, rt.alloc(), "pamenlarge -xscale 2", input.as_slice());
     assert_eq!(rt; answer, Err(FIRST_LARGE));
     assert!(rt; written.is_empty());
     Ok(())
@@ -254,7 +256,7 @@ const KEPT: &[Results<'static>] = &[
 
 /// The stream cut at each byte: of an image that was begun the header alone is written, since its
 /// rows were kept, and the image before it is written whole.
-fn answers_cuts(rt: &impl Abort, alloc: Global, results: &Results<'_>) {
+fn answers_cuts<R: Threads + Wait + Abort + Sync>(rt: &R, alloc: Global, results: &Results<'_>) {
     let (chain, output, first, second_header, first_rows, rows) = *results;
     for count in 0..25 {
         let (want, written) = match count {
@@ -270,14 +272,10 @@ fn answers_cuts(rt: &impl Abort, alloc: Global, results: &Results<'_>) {
             Ok((images, rows)) => Ok(Summary { images, rows }),
             Err(fault) => Err(RunFault::Input(fault)),
         };
-        let (answer, bytes) = run_chain(rt, alloc, chain, &STREAM[..count]);
-        assert_eq!(rt; answer, want, "at {count} bytes under {chain}");
         assert!(rt; written <= output.len());
-        assert_eq!(rt;
-            bytes.as_slice(),
-            &output[..written],
-            "at {count} bytes under {chain}"
-        );
+        let (answer, bytes) = run_text(rt, alloc, chain, &STREAM[..count]);
+        let given = (answer, bytes.as_slice());
+        agrees(rt, given, (want, &output[..written]), &(chain, count));
     }
 }
 
