@@ -28,7 +28,9 @@ use Rattle.pnm_flow.specs.declared.fault.RunFault.TheVariants.{Input, Tool as Of
 use Rattle.pnm_flow.specs.declared.summary.Summary.{Summary}
 use Rattle.pnm_flow.specs.Downstreams.{output_of}
 use Rattle.pnm_flow.specs.Feeding.{IsSaidOf}
-use Rattle.pnm_flow.specs.Runs.{Change, change, HasRun, HasRunInOneThread, AllIsWritten, IsOfOneThread, answer_by, input_of, IsFirstRefusal, IfInput, IfTool, IfOutput, EndedWell, IsTaken, IsStoppedBy, OutlastsRun, HasMore, MayFollow, AnswersText, IsFrontOfDue, IsFrontForEach, FitAnswer, IsAllWritten}
+use Rattle.pnm_flow.specs.Runs.{Change, change, HasRun, HasRunInOneThread, AllIsWritten, IsOfOneThread, answer_by, input_of, IsFirstRefusal, IfInput, IfTool, IfOutput, EndedWell, IsStoppedBy, OutlastsRun, HasMore, MayFollow, AnswersText, IsFrontOfDue, IsFrontForEach, FitAnswer, IsAllWritten}
+use Rattle.pnm_flow.specs.Verdicts.{IsTaken}
+use Rattle.pnm_flow.proofs.VerdictLaws.{verdict_follows}
 use Rattle.pnm_flow.proofs.FeedingSteps.{rest_of, read_failure}
 use Rattle.pnm_flow.proofs.RunSteps.{Ran, nothing_front, input_fault, said_front, said_before_fault, run_front, run_all, run_refused, run_taken, run_output, run_sound, run_well}
 use Rattle.pnm_tools.proofs.ChainLaws.{first_fault_in_order}
@@ -200,6 +202,10 @@ ended_has_run reader held failures start done tools input refused output unread 
   refusal = ended_by_refusal reader held failures start done tools input refused output (λ number fault. (fault ≡ Memory) × (number ≡ 1) × unread) ended;
   output = ended_at_output reader held failures start done tools input refused output ended;
   output_last = ended_at_output_last reader held failures start done tools input refused output ended;
+  verdict = λ text is.
+      verdict_follows text tools (answer_by input refused output) unread reader (change held failures start done)
+      (ended_well reader held failures start done tools input refused output ended text is) (ended_input reader held failures start done tools input refused output ended text is)
+      (ended_by_refusal reader held failures start done tools input refused output (λ number fault. (fault ≡ Memory) × (number ≡ 1) × unread) ended text is) (ended_at_output reader held failures start done tools input refused output ended);
   front = ended_at_front reader held failures start done tools input refused output ended;
   front_for_each = ended_at_front_for_each reader held failures start done tools input refused output ended;
 }
@@ -270,6 +276,7 @@ ended_unread tools unread reader writer some untouched read same_count written =
     refusal = λ text is. inl (refl, refl, untouched);
     output = tt;
     output_last = λ text is. tt;
+    verdict = λ text is. inl refl;
     front = λ text is images completes. nothing_written writer written (bytes_of (due_in_turn tools images));
     front_for_each = record { read = []; consumed = nothing_read reader read; front = λ rest may images completes. nothing_written writer written (bytes_of (due_in_turn tools images)) };
   };
@@ -290,6 +297,7 @@ ended_without_reading tools unread reader writer read same_count written = recor
     refusal = λ text is. tt;
     output = tt;
     output_last = λ text is. tt;
+    verdict = λ text is. inl (inr refl);
     front = λ text is images completes. nothing_written writer written (bytes_of (due_in_turn tools images));
     front_for_each = record { read = []; consumed = nothing_read reader read; front = λ rest may images completes. nothing_written writer written (bytes_of (due_in_turn tools images)) };
   };

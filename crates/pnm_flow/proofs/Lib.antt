@@ -5,6 +5,8 @@ pub mod FaultSteps
 pub mod FeedingSteps
 pub mod ToolSteps
 pub mod CountLaws
+pub mod VerdictLaws
+pub mod VerdictFaults
 pub mod RunSteps
 pub mod EndSteps
 pub mod RefusalExample

@@ -39,7 +39,8 @@ use Rattle.pnm_flow.specs.declared.summary.Summary.{Summary}
 use Rattle.pnm_flow.specs.Counts.{counted, images_in, rows_in}
 use Rattle.pnm_flow.specs.Downstreams.{output_of, AreWritable, AreWritten, AreCutOff, HasTakenWith}
 use Rattle.pnm_flow.specs.Feeding.{IsSaidOf, HasFed}
-use Rattle.pnm_flow.specs.Runs.{EndedWell, IsTaken, IsStoppedBy, IsFrontOfDue, FitAnswer, IsAllWritten}
+use Rattle.pnm_flow.specs.Runs.{EndedWell, IsStoppedBy, IsFrontOfDue, FitAnswer, IsAllWritten}
+use Rattle.pnm_flow.specs.Verdicts.{IsTaken}
 use Rattle.pnm_flow.specs.SerialChains.{refusals_in, StagesAt, AreFresh}
 use Rattle.pnm_flow.proofs.ToolSteps.{fresh_at}
 use Rattle.pnm_flow.proofs.CountLaws.{images_in-stream, rows_in-stream}

@@ -211,6 +211,7 @@ gone_has_run left reader_failures held failures first source start done lanes to
         refusal = λ text is. tt;
         output = tt;
         output_last = λ text is. tt;
+        verdict = λ text is. inl tt;
         front = λ text is.
             let rest = rest_of reader.old reader.new said.0 text said.1 is in
             let front = subst (λ (l : List ℕ). IsFrontOf over.given (said_of l)) (sym rest.2) (said.3 rest.0 (rest_follows (Ok tt) reader rest.0 rest.1)) in

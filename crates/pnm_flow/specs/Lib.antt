@@ -1,7 +1,9 @@
 pub mod Counts
 pub mod Downstreams
 pub mod SerialChains
+pub mod Verdicts
 pub mod Runs
+pub mod RunLaws
 pub mod Feeding
 pub mod Examples
 pub mod Links

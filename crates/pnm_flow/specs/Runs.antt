@@ -13,7 +13,7 @@ use Rattle.pnm_read.specs.TextLaws.{IsAtFault}
 use Rattle.pnm_tools.specs.declared.fault.ToolFault.{ToolFault}
 use Rattle.pnm_tools.specs.declared.fault.ToolFault.TheVariants.{OutOfOrder, Memory}
 use Rattle.pnm_tools.specs.declared.tool.Tool.{Tool}
-use Rattle.pnm_tools.specs.Chains.{AreResultsInTurn, due_in_turn, refusal_of}
+use Rattle.pnm_tools.specs.Chains.{AreResultsInTurn, due_in_turn}
 use Rattle.pnm_tools.specs.ChainAnswers.{HaveAnswered, AreWell, IsFirstFault}
 use Rattle.pnm_write.specs.declared.fault.SinkFault.{SinkFault}
 use Rattle.pnm_write.specs.declared.fault.SinkFault.TheVariants.{WriteFailed}
@@ -23,6 +23,7 @@ use Rattle.pnm_flow.specs.declared.fault.RunFault.{RunFault}
 use Rattle.pnm_flow.specs.declared.fault.RunFault.TheVariants.{NoStart, Input, Tool as OfTool, Output, PeerGone}
 use Rattle.pnm_flow.specs.declared.summary.Summary.{Summary}
 use Rattle.pnm_flow.specs.Counts.{counted}
+use Rattle.pnm_flow.specs.Verdicts.{IsRefusedBy, IsTaken, AnswersVerdict}
 
 -- what a reader has left or a writer holds, where that is known, and its failures, before and after a call
 pub record Change : Type 0 where
@@ -107,15 +108,7 @@ pub record EndedWell (text : List ℕ) (tools : List Tool) (old new : Option (Li
   pub written : Appends old new (encoding_of results)
   pub counts : summary ≡ summary_of results
 
--- ---- refusals of images
-
--- the text is accepted, and a tool is the first that refuses one of the images: which, and why
-abbrev pub IsRefusedBy : List ℕ → List Tool → ℕ → ToolFault → Type 0
-IsRefusedBy text tools number fault = (images : List Image) × Spells text images × (refusal_of tools images ≡ Some (record { number = number; fault = fault }))
-
--- the text is accepted, and no tool refuses one of the images
-abbrev pub IsTaken : List ℕ → List Tool → Type 0
-IsTaken text tools = (images : List Image) × Spells text images × (refusal_of tools images ≡ None)
+-- ---- refusals, and want of memory
 
 -- the text is accepted, and a tool is the first that refuses one of the images; or there was no memory for it, and no
 -- tool before it refuses one
@@ -215,6 +208,8 @@ pub record HasRun (tools : List Tool) (answer : Result Summary RunFault) (unread
   -- The output's fault is answered only where the input and the tools have none.
   pub output : IfOutput answer (λ fault. (fault ≡ WriteFailed) × Failed writer.failures_old writer.failures_new × (reader.failures_new ≡ reader.failures_old))
   pub output_last : (text : List ℕ) → reader.old ≡ Some text → IfOutput answer (λ fault. IsTaken text tools)
+  -- So each answer is the verdict, unless it is from outside.
+  pub verdict : (text : List ℕ) → reader.old ≡ Some text → AnswersVerdict text tools answer
   -- However it ends, what is written is a front of the output due, for the reader's own text and for any other that may
   -- begin with the bytes that were read.
   pub front : (text : List ℕ) → reader.old ≡ Some text → IsFrontOfDue text tools writer.old writer.new
