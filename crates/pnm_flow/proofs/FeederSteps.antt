@@ -49,6 +49,7 @@ asked_all left failures first source next given asked t unread count = record {
       (t.told asked.read given asked.told).1 rest still;
   count = λ not. count ∙ asked.count;
   read_failed = λ e. absurd cc;
+  after_failed_read = λ e. absurd cc;
 }
 
 -- a fault of the input
@@ -70,6 +71,7 @@ asked_until left failures first source next given fault asked t unread anything 
       t.told asked.read given asked.told rest still;
   count = λ not. count (λ e. not (ap Err (read_failure fault _ refl e))) ∙ asked.count;
   read_failed = λ e. failed_in_call source asked.read given (failures (reader_of source)) (failures (reader_of next)) (failures (reader_of first)) asked.told asked.count (failed cc);
+  after_failed_read = λ e rest. t.told asked.read given asked.told rest (open_in_call source next asked.read given asked.told (anything (read_failure fault _ refl e)) rest);
 }
 
 -- ---- the feeder

@@ -41,13 +41,13 @@ use Rattle.pnm_flow.specs.Feeders.{HasAskedBy, closing}
 use Rattle.pnm_rings.specs.Rings.{IsEnded}
 use Rattle.pnm_flow.specs.Runs.{Change, change, MayFollow}
 use Rattle.pnm_rings.specs.Fronts.{IsFrontOfDue}
-use Rattle.pnm_flow.specs.ThreadedRuns.{fault_of_end, first_fault_from, answer_over, HasEndedOver, HaveEnded, FitEnds, IsAllSent, HasRunOverThreads}
+use Rattle.pnm_flow.specs.ThreadedRuns.{fault_of_end, first_fault_from, answer_over, HasEndedOver, HaveEnded, FitEnds, IsAllSent, IsFrontWhatever, HasRunOverThreads}
 use Rattle.pnm_flow.proofs.ToolOverLaws.{stage_ended, received_ended, sent_ended}
 use Rattle.pnm_rings.proofs.EndingLaws.{nothing_follows, stream_ends_whole}
 use Rattle.pnm_rings.proofs.FrontLaws.{front_without_stop, stop_is_cut}
 use Rattle.pnm_flow.proofs.EndSteps.{Ended, HaveEnded as StagesAnswered, ended_has_run, ended_without_reading, rest_follows}
 use Rattle.pnm_flow.proofs.FeedingSteps.{given_is_sound, may_give, rest_of}
-use Rattle.pnm_flow.proofs.RunSteps.{Ran, run_front, output_all, sound_is_writable}
+use Rattle.pnm_flow.proofs.RunSteps.{Ran, said_front, run_front, output_all, sound_is_writable}
 use Rattle.pnm_flow.proofs.StageEndLaws.{all_answered, answered_until, next_is_well, next_is_there}
 
 -- ---- what each tool has ended for
@@ -219,6 +219,7 @@ gone_has_run left reader_failures held failures first source start done lanes to
         front_for_each = record { read = said.0; consumed = said.1; front = λ rest may. run_front held failures start done tools over.given out over.sink (said.0 ++ rest) ran (said.3 rest may) over.kept };
       };
       all_written = λ text is has sound. absurd has;
+      read_failed = tt;
       gone = within;
     }
 
@@ -349,6 +350,19 @@ of_stage from (Broken ∷ ends) fault is = of_stage (from + 1) ends fault is
 of_stage from (Fault other ∷ ends) fault is = let same : OfTool from other ≡ fault = cc in subst IsOfStage same tt
 of_stage from (PeerGone ∷ ends) fault is = let same : Gone from ≡ fault = cc in subst IsOfStage same tt
 
+-- after a failed read anything may come
+front_whatever : {R W : Type 0} (left : R → Option (List ℕ)) (reader_failures : R → ℕ) (held : W → Option (List ℕ)) (failures : W → ℕ) (first source : Source R) (start done : W) (lanes : ℕ) (tools : List Tool) (ends : List StageEnd) (fault : InputFault) (has_ended : Bool) (output : Result Summary SinkFault)
+    → Over left reader_failures held failures first source start done lanes tools ends (Some (Err fault)) has_ended output → fault ≡ ReadFailed → IsFrontWhatever tools (change left reader_failures (reader_of first) (reader_of source)) (change held failures start done)
+front_whatever left reader_failures held failures first source start done lanes tools ends fault has_ended output over is =
+    let ran = ran_over left reader_failures held failures first source start done lanes tools ends (Some (Err fault)) has_ended output over in
+    record {
+      read = over.asked.read;
+      consumed = over.asked.consumed;
+      front = λ rest.
+          let text = over.asked.read ++ rest in
+          run_front held failures start done tools over.given (without_stop over.got) over.sink text ran (said_front text over.given (Err fault) (over.asked.after_failed_read (ap Err is) rest)) over.kept;
+    }
+
 pub over_has_run : {R W : Type 0} (left : R → Option (List ℕ)) (reader_failures : R → ℕ) (held : W → Option (List ℕ)) (failures : W → ℕ) (first source : Source R) (start done : W) (lanes : ℕ) (tools : List Tool) (ends : List StageEnd) (input : Option (Result (Unit {0}) InputFault)) (found : Option RunFault) (has_ended : Bool) (output : Result Summary SinkFault)
     → Over left reader_failures held failures first source start done lanes tools ends input has_ended output → length ends ≡ length tools → first_fault_from 1 ends ≡ found
     → HasRunOverThreads lanes tools (answer_over input found has_ended (length ends + 1) output) (change left reader_failures (reader_of first) (reader_of source)) (change held failures start done)
@@ -359,6 +373,7 @@ over_has_run left reader_failures held failures first source start done lanes to
     record {
       run = ended_has_run (change left reader_failures (reader_of first) (reader_of source)) held failures start done tools (Err fault) None output ⊥ ended;
       all_written = λ text has no sound. absurd no;
+      read_failed = λ is. (over.asked.read_failed (ap Err is), front_whatever left reader_failures held failures first source start done lanes tools ends fault has_ended output over is);
       gone = tt;
     }
 over_has_run left reader_failures held failures first source start done lanes tools ends (Some (Ok tt)) (Some NoStart) has_ended output over many is = absurd (of_stage 1 ends NoStart is)
@@ -369,6 +384,7 @@ over_has_run left reader_failures held failures first source start done lanes to
     let ended = ended_over left reader_failures held failures first source start done lanes tools ends (Ok tt) has_ended output (Some (number, fault)) stages.0 over (λ well. stages.1) in
     record {
       run = ended_has_run (change left reader_failures (reader_of first) (reader_of source)) held failures start done tools (Ok tt) (Some (number, fault)) output ⊥ ended;
+      read_failed = tt;
       all_written = λ text has tools_are sound. all_sent left reader_failures held failures first source start done lanes tools ends has_ended output (Err (OfTool number fault)) over is text has sound;
       gone = tt;
     }
@@ -381,6 +397,7 @@ over_has_run left reader_failures held failures first source start done lanes to
     let ended = ended_over left reader_failures held failures first source start done lanes tools ends (Ok tt) true (Err fault) None stages.0 over (λ well. stages.1) in
     record {
       run = ended_has_run (change left reader_failures (reader_of first) (reader_of source)) held failures start done tools (Ok tt) None (Err fault) ⊥ ended;
+      read_failed = tt;
       all_written = λ text has tools_are sound. all_sent left reader_failures held failures first source start done lanes tools ends true (Err fault) (Err (Output fault)) over is text has sound;
       gone = tt;
     }
@@ -389,6 +406,7 @@ over_has_run left reader_failures held failures first source start done lanes to
     let ended = ended_over left reader_failures held failures first source start done lanes tools ends (Ok tt) true (Ok summary) None stages.0 over (λ well. stages.1) in
     record {
       run = ended_has_run (change left reader_failures (reader_of first) (reader_of source)) held failures start done tools (Ok tt) None (Ok summary) ⊥ ended;
+      read_failed = tt;
       all_written = λ text has tools_are sound. all_sent left reader_failures held failures first source start done lanes tools ends true (Ok summary) (Ok summary) over is text has sound;
       gone = tt;
     }
@@ -428,4 +446,4 @@ was_started input ends has_ended behind output = started_by input (first_fault_f
 
 -- there is no memory to read
 pub unread_has_run : (lanes : ℕ) (tools : List Tool) (reader writer : Change) → reader.new ≡ reader.old → reader.failures_new ≡ reader.failures_old → writer.new ≡ writer.old → HasRunOverThreads lanes tools (Err (Input NoMemoryToRead)) reader writer
-unread_has_run lanes tools reader writer read same_count written = record { run = (ended_without_reading tools ⊥ reader writer read same_count written).run; all_written = λ text is has sound. absurd has; gone = tt }
+unread_has_run lanes tools reader writer read same_count written = record { run = (ended_without_reading tools ⊥ reader writer read same_count written).run; all_written = λ text is has sound. absurd has; read_failed = λ is. absurd cc; gone = tt }

@@ -31,6 +31,7 @@ pub record HasAskedAll {R : Type 0} (left : R → Option (List ℕ)) (failures :
   pub told : (rest : List ℕ) → MayFollow result (change left failures (reader_of first) (reader_of source)) rest → IsSaidOf (read ++ rest) given result
   pub count : (result ≡ Err ReadFailed → ⊥) → failures (reader_of source) ≡ failures (reader_of first)
   pub read_failed : result ≡ Err ReadFailed → Failed (failures (reader_of first)) (failures (reader_of source))
+  pub after_failed_read : result ≡ Err ReadFailed → (rest : List ℕ) → IsSaidOf (read ++ rest) given result
 
 abbrev pub HasAskedBy : {R : Type 0} → (R → Option (List ℕ)) → (R → ℕ) → Source R → Source R → List Message → Option (Result (Unit {0}) InputFault) → Type 0
 HasAskedBy left failures first source given None = HasAsked left failures first source given

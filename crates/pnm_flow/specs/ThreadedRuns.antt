@@ -1,10 +1,11 @@
 -- What a run over threads answers, reads and writes.
-use Rattle.std.specs.Prelude.{◌≡◌, ◌≤◌, ℕ, ◌+◌, Bool, true, false, length, List, [], ◌∷◌, Option, Some, None, Result, Ok, Err}
-use Rattle.std.specs.Io.KnownBytes.{Appends}
+use Rattle.std.specs.Prelude.{◌≡◌, ◌≤◌, ℕ, ◌+◌, Bool, true, false, length, List, [], ◌∷◌, ◌++◌, Option, Some, None, Result, Ok, Err}
+use Rattle.std.specs.Io.KnownBytes.{Appends, Consumes}
 use Rattle.pnm_image.specs.Devices.{Failed}
 use Rattle.pnm_image.specs.declared.message.Message.{Message}
 use Rattle.pnm_image.specs.Messages.{without_stop}
 use Rattle.pnm_read.specs.declared.fault.InputFault.{InputFault}
+use Rattle.pnm_read.specs.declared.fault.InputFault.TheVariants.{ReadFailed}
 use Rattle.pnm_read.specs.Said.{said_of}
 use Rattle.pnm_tools.specs.declared.tool.Tool.{Tool}
 use Rattle.pnm_write.specs.declared.fault.SinkFault.{SinkFault}
@@ -14,7 +15,7 @@ use Rattle.pnm_flow.specs.declared.fault.RunFault.TheVariants.{NoStart, Input, T
 use Rattle.pnm_rings.specs.declared.stage_end.StageEnd.{StageEnd}
 use Rattle.pnm_rings.specs.declared.stage_end.StageEnd.TheVariants.{Well, Broken, Fault, PeerGone}
 use Rattle.pnm_flow.specs.declared.summary.Summary.{Summary}
-use Rattle.pnm_flow.specs.Runs.{Change, HasRun}
+use Rattle.pnm_flow.specs.Runs.{Change, IfInput, IsFrontOfDue, HasRun}
 use Rattle.pnm_rings.specs.Stages.{HasEndedSo}
 use Rattle.pnm_lanes.specs.Lanes.{HaveLanesEndedSo}
 use Rattle.pnm_flow.specs.Chains.{ByLanes}
@@ -96,9 +97,17 @@ IfGone (Err (OfTool number fault)) P = Unit {0}
 IfGone (Err (Output fault)) P = Unit {0}
 IfGone (Err (Gone number)) P = P number
 
+-- these bytes were read; and whatever comes after them, what was written is a front of what is due for that text
+pub record IsFrontWhatever (tools : List Tool) (reader writer : Change) : Type 0 where
+  pub read : List ℕ
+  pub consumed : Consumes reader.old reader.new read
+  pub front : (rest : List ℕ) → IsFrontOfDue (read ++ rest) tools writer.old writer.new
+
 -- a run over threads that was started: what holds of one in one thread, and what its stages did. There is no list of tools
--- for which memory could be missing.
+-- for which memory could be missing, and no number of messages ends it: where a failed read is answered the reader failed,
+-- and anything may come after the bytes that were read.
 pub record HasRunOverThreads (lanes : ℕ) (tools : List Tool) (answer : Result Summary RunFault) (reader writer : Change) : Type 0 where
   pub run : HasRun tools answer ⊥ reader writer
   pub all_written : (text : List ℕ) → reader.old ≡ Some text → IsOfTools answer → ¬ Failed writer.failures_old writer.failures_new → IsAllSent text lanes tools answer writer.old writer.new
+  pub read_failed : IfInput answer (λ fault. fault ≡ ReadFailed → Failed reader.failures_old reader.failures_new × IsFrontWhatever tools reader writer)
   pub gone : IfGone answer (λ number. number ≤ length tools + 1)
