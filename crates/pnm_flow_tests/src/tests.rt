@@ -7,6 +7,7 @@ use std::process::Abort;
 
 mod blanks;
 mod chains;
+mod cuts;
 mod devices;
 mod gates;
 mod lanes;
@@ -96,8 +97,45 @@ const BAD_INPUTS: &[BadInput<'static>] = &[
         b"P5\n1 2\n300\n\x00\x00",
         InputFault::SampleAboveMaxval,
     ),
-    // Plain samples.
+    // The sizes are judged before the maxval, and whether one is 0 before all of them.
+    (b"P5 0 16777217 0\n", b"", InputFault::ZeroSize),
+    (b"P5 16777217 1 0\n", b"", InputFault::TooLarge),
+    // Lines of PAM.
+    (b"P7 \n", b"", InputFault::BadPamLine),
+    (b"P7\nFOO 1\n", b"", InputFault::BadPamLine),
+    (b"P7\nWIDTH x\n", b"", InputFault::BadNumber),
+    (b"P7\nWIDTH 1", b"", InputFault::HeaderCut),
+    (b"P7\nENDHDR\n", b"", InputFault::MissingField),
+    (
+        b"P7\nWIDTH 1\nHEIGHT 1\nDEPTH 0\nMAXVAL 0\nENDHDR\n",
+        b"",
+        InputFault::ZeroSize,
+    ),
+    (
+        b"P7\nWIDTH 1\nHEIGHT 1\nDEPTH 257\nMAXVAL 0\nENDHDR\n",
+        b"",
+        InputFault::TooLarge,
+    ),
+    (
+        b"P7\nWIDTH 1\nHEIGHT 1\nDEPTH 1\nMAXVAL 0\nENDHDR\n",
+        b"",
+        InputFault::BadMaxval,
+    ),
+    // Plain samples. What follows one is judged before its value.
     (b"P2 1 1 9 5x", b"P5\n1 1\n9\n", InputFault::BadSample),
+    (b"P2 1 1 9 10x", b"P5\n1 1\n9\n", InputFault::BadSample),
+    (
+        b"P2 1 1 9 10 ",
+        b"P5\n1 1\n9\n",
+        InputFault::SampleAboveMaxval,
+    ),
+    (
+        b"P2 1 1 9 10#",
+        b"P5\n1 1\n9\n",
+        InputFault::SampleAboveMaxval,
+    ),
+    (b"P1 1 1 1x", b"P4\n1 1\n", InputFault::BadSample),
+    (b"P1 1 1 2", b"P4\n1 1\n", InputFault::BadSample),
     (
         b"P2 1 2 9 5 10 ",
         b"P5\n1 2\n9\n\x04",

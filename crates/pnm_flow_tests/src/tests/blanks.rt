@@ -35,7 +35,7 @@ const BLANKS: &[BlankCase<'static>] = &[
 #[test]
 fn passes_over_blanks(rt: HostRuntime) -> Result<(), Fail> {
     for (front, blanks, back, want, output) in BLANKS {
-        let input = padded(rt.alloc(), front, *blanks, back)?;
+        let input = padded(rt.alloc(), front, b' ', *blanks, back)?;
         let tools = [Tool::Flip(FlipWay::Null)];
         let (answer, written) = run_chain(&rt, rt.alloc(), &tools, input.as_slice());
         agrees(&rt, (answer, written.as_slice()), (*want, *output), &blanks);

@@ -1,5 +1,6 @@
 //! Devices of which a call fails.
 
+use super::chains::{LAST_COLUMN, are_lawful};
 use super::streams::{FIRST_IMAGE, TWO, TWO_INVERTED};
 use super::ways::{WAYS, Way, run_by};
 use super::{IMAGE, INVERTED, Outcome, agrees};
@@ -91,8 +92,33 @@ const WELL: Result<Summary, RunFault> = Ok(Summary { images: 2, rows: 2 });
 
 const FAILED: Result<Summary, RunFault> = Err(RunFault::Output(SinkFault::WriteFailed));
 
+/// Tools, what they make of the two images, and where in that the first result ends, and the header of the second.
+#[derive(Drop)]
+struct Made<'a> {
+    tools: &'a [Tool],
+    whole: &'a [u8],
+    first: usize,
+    second_header: usize,
+}
+
+/// What `pamcut -right -1 -width 1` makes of them.
+const TWO_CUT: &[u8] = b"P5\n1 1\n9\n\x02P6\n1 1\n9\n\x03\x04\x05";
+
+/// The run of these tools over these devices.
+fn make_by<H: Threads + Wait + Abort + Sync, R: BytesIn, W: BytesOut>(
+    rt: &H,
+    alloc: Global,
+    way: Way,
+    reader: &mut R,
+    writer: &mut W,
+    tools: &[Tool],
+) -> Result<Summary, RunFault> {
+    assert!(rt; 1 <= tools.len() && tools.len() <= 16 && are_lawful(tools));
+    run_by(rt, alloc, way, reader, writer, tools)
+}
+
 /// The run of `pnminvert` over these devices.
-fn invert_by<H: Threads + Wait + Abort + Sync, R: BytesIn, W: BytesOut>(
+pub fn invert_by<H: Threads + Wait + Abort + Sync, R: BytesIn, W: BytesOut>(
     rt: &H,
     alloc: Global,
     way: Way,
@@ -102,16 +128,32 @@ fn invert_by<H: Threads + Wait + Abort + Sync, R: BytesIn, W: BytesOut>(
     run_by(rt, alloc, way, reader, writer, &[Tool::Invert])
 }
 
-/// A reader that fails at each read, a writer that fails at each write, of a byte each, and one that fails at each flush.
+/// A reader that fails at each read, a writer that fails at each write, of a byte each, and one that fails at each flush,
+/// around a tool that is row-wise and one that isn't.
 #[test]
 fn answers_failed_devices(rt: HostRuntime) {
-    for way in WAYS {
-        for before in 0..25 {
-            answers_a_failed_read(&rt, rt.alloc(), way, before);
-            answers_a_failed_write(&rt, rt.alloc(), way, before);
-        }
-        for before in 0..4 {
-            answers_a_failed_flush(&rt, rt.alloc(), way, before);
+    for made in [
+        Made {
+            tools: &[Tool::Invert],
+            whole: TWO_INVERTED,
+            first: FIRST_IMAGE,
+            second_header: 20,
+        },
+        Made {
+            tools: &[Tool::Cut(LAST_COLUMN)],
+            whole: TWO_CUT,
+            first: 10,
+            second_header: 19,
+        },
+    ] {
+        for way in WAYS {
+            for before in 0..25 {
+                answers_a_failed_read(&rt, rt.alloc(), way, &made, before);
+                answers_a_failed_write(&rt, rt.alloc(), way, &made, before);
+            }
+            for before in 0..4 {
+                answers_a_failed_flush(&rt, rt.alloc(), way, &made, before);
+            }
         }
     }
 }
@@ -122,6 +164,7 @@ fn answers_a_failed_read<H: Threads + Wait + Abort + Sync>(
     rt: &H,
     alloc: Global,
     way: Way,
+    made: &Made<'_>,
     before: usize,
 ) {
     let mut reader = Device::new(Drips {
@@ -129,26 +172,27 @@ fn answers_a_failed_read<H: Threads + Wait + Abort + Sync>(
         reads: FailsOnce::after(before),
     });
     let mut writer = Device::new(Vec::new(alloc));
-    let answer = invert_by(rt, alloc, way, &mut reader, &mut writer);
+    let answer = make_by(rt, alloc, way, &mut reader, &mut writer, made.tools);
+    let size = due_after(made, before).min(made.whole.len());
     let want = if before < 24 {
-        let due = &TWO_INVERTED[..due_after(before).min(TWO_INVERTED.len())];
-        (Err(RunFault::Input(InputFault::ReadFailed)), due)
+        Err(RunFault::Input(InputFault::ReadFailed))
     } else {
-        (WELL, TWO_INVERTED)
+        WELL
     };
     let written = writer.into_inner();
-    agrees(rt, (answer, written.as_slice()), want, &(way, before));
+    let given = (answer, written.as_slice());
+    agrees(rt, given, (want, &made.whole[..size]), &(way, before));
 }
 
 /// The bytes that are due once so many bytes of the two images have come: a header once it is whole, and the one row after it
 /// once that is.
-fn due_after(read: usize) -> usize {
+fn due_after(made: &Made<'_>, read: usize) -> usize {
     match read {
         0..=8 => 0,
         9 | 10 => 9,
-        11..=19 => 11,
-        20..=22 => 20,
-        _ => 23,
+        11..=19 => made.first,
+        20..=22 => made.second_header,
+        _ => made.whole.len(),
     }
 }
 
@@ -157,20 +201,17 @@ fn writes<H: Threads + Wait + Abort + Sync>(
     rt: &H,
     alloc: Global,
     way: Way,
+    tools: &[Tool],
     input: &[u8],
     sips: Sips,
     want: Outcome<'_>,
-    before: usize,
 ) {
+    let most = sips.most;
     let mut sips = sips;
-    let answer = invert_by(
-        rt,
-        alloc,
-        way,
-        &mut Device::new(input),
-        &mut Device::new(&mut sips),
-    );
-    agrees(rt, (answer, sips.held.as_slice()), want, &(way, before));
+    let mut reader = Device::new(input);
+    let mut writer = Device::new(&mut sips);
+    let answer = make_by(rt, alloc, way, &mut reader, &mut writer, tools);
+    agrees(rt, (answer, sips.held.as_slice()), want, &(way, most));
 }
 
 /// A write for each byte; the one after so many fails, and later ones don't. The bytes before it are written.
@@ -178,6 +219,7 @@ fn answers_a_failed_write<H: Threads + Wait + Abort + Sync>(
     rt: &H,
     alloc: Global,
     way: Way,
+    made: &Made<'_>,
     before: usize,
 ) {
     let sips = Sips {
@@ -186,12 +228,12 @@ fn answers_a_failed_write<H: Threads + Wait + Abort + Sync>(
         writes: FailsOnce::after(before),
         flushes: FailsOnce::never(),
     };
-    let want = if before < TWO_INVERTED.len() {
-        (FAILED, &TWO_INVERTED[..before.min(23)])
+    let want = if before < made.whole.len() {
+        (FAILED, &made.whole[..before])
     } else {
-        (WELL, TWO_INVERTED)
+        (WELL, made.whole)
     };
-    writes(rt, alloc, way, TWO, sips, want, before);
+    writes(rt, alloc, way, made.tools, TWO, sips, want);
 }
 
 /// A flush after each image, and one at the end; the one after so many fails, and later ones don't.
@@ -199,6 +241,7 @@ fn answers_a_failed_flush<H: Threads + Wait + Abort + Sync>(
     rt: &H,
     alloc: Global,
     way: Way,
+    made: &Made<'_>,
     before: usize,
 ) {
     let sips = Sips {
@@ -207,12 +250,13 @@ fn answers_a_failed_flush<H: Threads + Wait + Abort + Sync>(
         writes: FailsOnce::never(),
         flushes: FailsOnce::after(before),
     };
+    let first = made.first.min(made.whole.len());
     let want = match before {
-        0 => (FAILED, &TWO_INVERTED[..FIRST_IMAGE]),
-        1 | 2 => (FAILED, TWO_INVERTED),
-        _ => (WELL, TWO_INVERTED),
+        0 => (FAILED, &made.whole[..first]),
+        1 | 2 => (FAILED, made.whole),
+        _ => (WELL, made.whole),
     };
-    writes(rt, alloc, way, TWO, sips, want, before);
+    writes(rt, alloc, way, made.tools, TWO, sips, want);
 }
 
 /// An input that is cut, its fault, and what is written of it.
@@ -239,13 +283,13 @@ fn answers_the_input_before_the_output(rt: HostRuntime) {
                 writes: fails(writes_before),
                 flushes: fails(flushes_before),
             };
-            writes(&rt, rt.alloc(), way, input, sips, want, most);
+            writes(&rt, rt.alloc(), way, &[Tool::Invert], input, sips, want);
         }
     }
 }
 
 /// A call that fails after so many, if one does.
-fn fails(before: Option<usize>) -> FailsOnce {
+pub fn fails(before: Option<usize>) -> FailsOnce {
     match before {
         Some(before) => FailsOnce::after(before),
         None => FailsOnce::never(),

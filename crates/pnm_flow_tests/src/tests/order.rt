@@ -1,72 +1,138 @@
-//! Which fault of a run over a chain is answered, and what is written before it.
+//! Which fault is answered where several come: the input's before the tools', and theirs before the output's.
 
-use super::agrees;
-use super::chains::{FROM_SECOND, LAST_COLUMN, are_lawful, run_chain};
-use super::devices::{FailsOnce, Sips};
-use pnm_flow::{RunFault, Summary, run_serial};
+use super::chains::{FROM_SECOND, LAST_COLUMN, are_lawful};
+use super::devices::{Drips, FailsOnce, Sips, fails};
+use super::streams::TWO;
+use super::ways::{WAYS, Way, run_by};
+use super::{IMAGE, agrees};
+use pnm_flow::RunFault;
 use pnm_image::Device;
 use pnm_read::InputFault;
 use pnm_tools::{Tool, ToolFault};
 use pnm_write::SinkFault;
+use std::alloc::Global;
+use std::process::Abort;
+use std::sync::Wait;
+use std::thread::Threads;
 
-/// Two images, of which the first alone has a second column.
+/// A run of which reads or writes fail: after how many reads one does, what is answered, what is due before that, and how
+/// many writes are tried.
+#[derive(Drop)]
+struct Order<'a> {
+    tools: &'a [Tool],
+    input: &'a [u8],
+    reads: Option<usize>,
+    fault: RunFault,
+    due: &'a [u8],
+    writes: usize,
+}
+
+/// Two images, of which the first alone has a second column, and two that have one.
 const NARROW: &[u8] = b"P5\n2 1\n9\n\x01\x02P5\n1 1\n9\n\x03";
 
-/// A fault of a tool is answered before a failed write, which alone is the output's fault.
-#[test]
-fn answers_a_failed_write_last(rt: HostRuntime) {
-    let failed = RunFault::Output(SinkFault::WriteFailed);
-    let outside = RunFault::Tool(2, ToolFault::CutOutside);
-    let output = b"P5\n1 1\n9\n\x07P5\n1 1\n9\n\x04".as_slice();
-    let tools = [Tool::Invert, Tool::Cut(FROM_SECOND)];
-    assert!(rt; are_lawful(&tools));
-    for (input, want, most) in [
-        (
-            b"P5\n2 1\n9\n\x01\x02P5\n2 1\n9\n\x04\x05".as_slice(),
-            failed,
-            20,
-        ),
-        (NARROW, outside, 10),
-    ] {
-        for before in 0..most {
-            let mut sips = Sips {
-                held: Vec::new(rt.alloc()),
-                most: 1,
-                writes: FailsOnce::after(before),
-                flushes: FailsOnce::never(),
-            };
-            let answer = run_serial(
-                rt.alloc(),
-                &mut Device::new(input),
-                &mut Device::new(&mut sips),
-                &tools,
-            );
-            let (given, due) = (sips.held.as_slice(), &output[..before]);
-            agrees(&rt, (answer, given), (Err(want), due), &(before, input));
+const WIDE: &[u8] = b"P5\n2 1\n9\n\x01\x02P5\n2 1\n9\n\x04\x05";
+
+const WRITE_FAILED: RunFault = RunFault::Output(SinkFault::WriteFailed);
+
+const READ_FAILED: RunFault = RunFault::Input(InputFault::ReadFailed);
+
+const RASTER_CUT: RunFault = RunFault::Input(InputFault::RasterCut);
+
+const FIRST_OUTSIDE: RunFault = RunFault::Tool(1, ToolFault::CutOutside);
+
+const SECOND_OUTSIDE: RunFault = RunFault::Tool(2, ToolFault::CutOutside);
+
+/// A write of a byte fails, the first one, the second one and so on, and later ones don't: what was due before it is written.
+fn answers_in_order<R: Threads + Wait + Abort + Sync>(rt: &R, alloc: Global, order: &Order<'_>) {
+    for way in WAYS {
+        for before in 0..order.writes {
+            answers_so(rt, alloc, way, before, order);
         }
     }
 }
 
-/// A stream cut at each byte, behind two tools: what was read before the cut is written, whole images
-/// and the rows and the header of the one that was begun.
+/// The same in this way, where the write after so many fails.
+fn answers_so<R: Threads + Wait + Abort + Sync>(
+    rt: &R,
+    alloc: Global,
+    way: Way,
+    before: usize,
+    order: &Order<'_>,
+) {
+    let (tools, due) = (order.tools, order.due);
+    assert!(rt; 1 <= tools.len() && tools.len() <= 16 && are_lawful(tools));
+    assert!(rt; before <= due.len());
+    let mut reader = Device::new(Drips {
+        rest: order.input,
+        reads: fails(order.reads),
+    });
+    let mut sips = Sips {
+        held: Vec::new(alloc),
+        most: 1,
+        writes: FailsOnce::after(before),
+        flushes: FailsOnce::never(),
+    };
+    let mut writer = Device::new(&mut sips);
+    let answer = run_by(rt, alloc, way, &mut reader, &mut writer, tools);
+    let given = (answer, sips.held.as_slice());
+    let want = (Err(order.fault), &due[..before]);
+    agrees(rt, given, want, &(way, before));
+}
+
+/// The last writes of those that fail beside another fault don't come any more.
 #[test]
-fn writes_all_that_was_read(rt: HostRuntime) {
-    let stream = b"P5\n2 2\n9\n\x01\x02\x03\x04P6\n1 1\n9\n\x03\x04\x05".as_slice();
-    let output = b"P5\n1 2\n9\n\x07\x05P6\n1 1\n9\n\x06\x05\x04".as_slice();
-    let tools = [Tool::Invert, Tool::Cut(LAST_COLUMN)];
-    for count in 0..26 {
-        let (want, written) = match count {
-            0 => (Err(InputFault::EmptyInput), 0),
-            1..=8 => (Err(InputFault::HeaderCut), 0),
-            9 | 10 => (Err(InputFault::RasterCut), 9),
-            11 | 12 => (Err(InputFault::RasterCut), 10),
-            13 => (Ok(Summary { images: 1, rows: 2 }), 11),
-            14..=21 => (Err(InputFault::HeaderCut), 11),
-            22..=24 => (Err(InputFault::RasterCut), 20),
-            _ => (Ok(Summary { images: 2, rows: 3 }), 23),
-        };
-        let (answer, bytes) = run_chain(&rt, rt.alloc(), &tools, &stream[..count]);
-        let want = (want.map_err(RunFault::Input), &output[..written]);
-        agrees(&rt, (answer, bytes.as_slice()), want, &count);
+fn answers_a_failed_write_last(rt: HostRuntime) {
+    for order in [
+        Order {
+            tools: &[Tool::Invert, Tool::Cut(FROM_SECOND)],
+            input: WIDE,
+            reads: None,
+            fault: WRITE_FAILED,
+            due: b"P5\n1 1\n9\n\x07P5\n1 1\n9\n\x04",
+            writes: 20,
+        },
+        Order {
+            tools: &[Tool::Invert, Tool::Cut(FROM_SECOND)],
+            input: NARROW,
+            reads: None,
+            fault: SECOND_OUTSIDE,
+            due: b"P5\n1 1\n9\n\x07",
+            writes: 11,
+        },
+        Order {
+            tools: &[Tool::Cut(FROM_SECOND)],
+            input: NARROW,
+            reads: None,
+            fault: FIRST_OUTSIDE,
+            due: b"P5\n1 1\n9\n\x02",
+            writes: 11,
+        },
+        Order {
+            tools: &[Tool::Cut(LAST_COLUMN)],
+            input: &TWO[..22],
+            reads: None,
+            fault: RASTER_CUT,
+            due: b"P5\n1 1\n9\n\x02P6\n1 1\n9\n",
+            writes: 20,
+        },
+        // A read fails where the first image has ended, or inside a row.
+        Order {
+            tools: &[Tool::Cut(LAST_COLUMN)],
+            input: TWO,
+            reads: Some(11),
+            fault: READ_FAILED,
+            due: b"P5\n1 1\n9\n\x02",
+            writes: 11,
+        },
+        Order {
+            tools: &[Tool::Invert],
+            input: IMAGE,
+            reads: Some(12),
+            fault: READ_FAILED,
+            due: b"P5\n2 1\n122\n",
+            writes: 12,
+        },
+    ] {
+        answers_in_order(&rt, rt.alloc(), &order);
     }
 }

@@ -1,8 +1,10 @@
 //! Runs over memory.
 
 use super::chains::run_chain;
+use super::devices::invert_by;
+use super::ways::WAYS;
 use super::{BAD_INPUTS, IMAGE, INVERTED, agrees};
-use pnm_flow::{RunFault, Summary, run_serial};
+use pnm_flow::{RunFault, Summary};
 use pnm_image::Device;
 use pnm_read::InputFault;
 use pnm_tools::Tool;
@@ -21,11 +23,17 @@ pub fn invert<R: AllocGlobal + Threads + Wait + Abort + Sync>(
     run_chain(rt, rt.alloc(), &[Tool::Invert], input)
 }
 
-/// The front, so many blanks, and the back.
-pub fn padded(alloc: Global, front: &[u8], blanks: usize, back: &[u8]) -> Result<Vec<u8>, Fail> {
+/// The front, this byte so many times, and the back.
+pub fn padded(
+    alloc: Global,
+    front: &[u8],
+    byte: u8,
+    count: usize,
+    back: &[u8],
+) -> Result<Vec<u8>, Fail> {
     let mut text = Vec::from_slice(alloc, front)?;
-    for _ in 0..blanks {
-        text.push(b' ')?;
+    for _ in 0..count {
+        text.push(byte)?;
     }
     text.extend_from_slice(back)?;
     Ok(text)
@@ -115,26 +123,32 @@ fn inverts_plain_images(rt: HostRuntime) {
     }
 }
 
-/// A header may have 65,536 bytes.
+/// A header may have 65,536 bytes, and a tuple type 255.
 #[test]
 fn limits_the_header(rt: HostRuntime) -> Result<(), Fail> {
     let whole = Ok(Summary { images: 1, rows: 1 });
     let too_long = Err(RunFault::Input(InputFault::TooLong));
     let cut = Err(RunFault::Input(InputFault::HeaderCut));
-    for (blanks, back, want, output) in [
+    let image = b"1 1 9\n\x05".as_slice();
+    let nothing = b"".as_slice();
+    for (front, byte, count, back, want, output) in [
         (
+            b"P5".as_slice(),
+            b' ',
             65_528,
-            b"1 1 9\n\x05".as_slice(),
+            image,
             whole,
             b"P5\n1 1\n9\n\x04".as_slice(),
         ),
-        (65_529, b"1 1 9\n\x05".as_slice(), too_long, b"".as_slice()),
-        (65_534, b"".as_slice(), cut, b"".as_slice()),
-        (65_535, b"".as_slice(), too_long, b"".as_slice()),
+        (b"P5", b' ', 65_529, image, too_long, nothing),
+        (b"P5", b' ', 65_534, nothing, cut, nothing),
+        (b"P5", b' ', 65_535, nothing, too_long, nothing),
+        (b"P7\nTUPLTYPE ", b'A', 256, b"\n", too_long, nothing),
+        (b"P7\nTUPLTYPE ", b'A', 255, b"\n", cut, nothing),
     ] {
-        let input = padded(rt.alloc(), b"P5", blanks, back)?;
+        let input = padded(rt.alloc(), front, byte, count, back)?;
         let (answer, written) = invert(&rt, input.as_slice());
-        agrees(&rt, (answer, written.as_slice()), (want, output), &blanks);
+        agrees(&rt, (answer, written.as_slice()), (want, output), &count);
     }
     Ok(())
 }
@@ -152,33 +166,19 @@ fn answers_the_fault_of_the_input(rt: HostRuntime) {
 /// What is written before the writer has no room left.
 #[test]
 fn answers_a_full_writer(rt: HostRuntime) {
-    for (size, output) in [
-        (0, b"".as_slice()),
-        (10, b"P5\n2 1\n122".as_slice()),
-        (12, b"P5\n2 1\n122\n9".as_slice()),
-    ] {
-        let mut room = [0; 12];
-        let mut writer = Device::new(&mut room[..size]);
-        let mut reader = Device::new(IMAGE);
-        let answer = run_serial(rt.alloc(), &mut reader, &mut writer, &[Tool::Invert]);
-        let want = Err(RunFault::Output(SinkFault::WriteFailed));
-        agrees(&rt, (answer, &room[..size]), (want, output), &size);
-    }
-}
-
-/// The input cut at each byte.
-#[test]
-fn answers_where_the_input_is_cut(rt: HostRuntime) {
-    for count in 0..14 {
-        let (want, output) = match count {
-            0 => (Err(InputFault::EmptyInput), b"".as_slice()),
-            1..=10 => (Err(InputFault::HeaderCut), b"".as_slice()),
-            11 | 12 => (Err(InputFault::RasterCut), b"P5\n2 1\n122\n".as_slice()),
-            _ => (Ok(Summary { images: 1, rows: 1 }), INVERTED),
-        };
-        let (answer, written) = invert(&rt, &IMAGE[..count]);
-        let want = (want.map_err(RunFault::Input), output);
-        agrees(&rt, (answer, written.as_slice()), want, &count);
+    for way in WAYS {
+        for (size, output) in [
+            (0, b"".as_slice()),
+            (10, b"P5\n2 1\n122".as_slice()),
+            (12, b"P5\n2 1\n122\n9".as_slice()),
+        ] {
+            let mut room = [0; 12];
+            let mut writer = Device::new(&mut room[..size]);
+            let mut reader = Device::new(IMAGE);
+            let answer = invert_by(&rt, rt.alloc(), way, &mut reader, &mut writer);
+            let want = Err(RunFault::Output(SinkFault::WriteFailed));
+            agrees(&rt, (answer, &room[..size]), (want, output), &(way, size));
+        }
     }
 }
 

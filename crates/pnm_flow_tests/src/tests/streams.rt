@@ -10,10 +10,8 @@ pub const TWO: &[u8] = b"P5\n2 1\n9\n\x01\x02P6\n1 1\n9\n\x03\x04\x05";
 
 pub const TWO_INVERTED: &[u8] = b"P5\n2 1\n9\n\x08\x07P6\n1 1\n9\n\x06\x05\x04";
 
-/// Where the first of the two images has ended, and where the header of the second has.
+/// Where the first of the two images has ended.
 pub const FIRST_IMAGE: usize = 11;
-
-const SECOND_HEADER: usize = 20;
 
 /// Images of any kinds follow one another; what follows a plain image is ignored.
 #[test]
@@ -97,27 +95,5 @@ fn answers_faults_in_streams(rt: HostRuntime) {
         let (answer, written) = invert(&rt, input);
         let want = (Err(RunFault::Input(fault)), output);
         agrees(&rt, (answer, written.as_slice()), want, &input);
-    }
-}
-
-/// The two images cut at each byte.
-#[test]
-fn answers_where_a_stream_is_cut(rt: HostRuntime) {
-    for count in 0..24 {
-        let (want, output) = match count {
-            0 => (Err(InputFault::EmptyInput), b"".as_slice()),
-            1..=8 => (Err(InputFault::HeaderCut), b"".as_slice()),
-            9 | 10 => (Err(InputFault::RasterCut), b"P5\n2 1\n9\n".as_slice()),
-            11 => (
-                Ok(Summary { images: 1, rows: 1 }),
-                &TWO_INVERTED[..FIRST_IMAGE],
-            ),
-            12..=19 => (Err(InputFault::HeaderCut), &TWO_INVERTED[..FIRST_IMAGE]),
-            20..=22 => (Err(InputFault::RasterCut), &TWO_INVERTED[..SECOND_HEADER]),
-            _ => (Ok(Summary { images: 2, rows: 2 }), TWO_INVERTED),
-        };
-        let (answer, written) = invert(&rt, &TWO[..count]);
-        let want = (want.map_err(RunFault::Input), output);
-        agrees(&rt, (answer, written.as_slice()), want, &count);
     }
 }
