@@ -4,7 +4,10 @@ PROGRAM := crates/pnmpipe
 # where the tests stand: a library's in a crate of their own
 TESTED := pnm_samples_tests pnm_image_tests pnm_read_tests pnm_tools_tests pnm_write_tests pnm_chain_tests pnm_lanes_tests pnm_flow_tests pnmpipe
 
-.PHONY: all bench check test help toolchain controls lanes long-stream refused-growth refused-starts
+.PHONY: all bench check test help toolchain controls lanes long-stream refused
+
+# crates whose tests of want of memory are refused each allocation
+REFUSED := pnm_tools_tests pnm_chain_tests pnm_flow_tests pnmpipe
 
 # the lowest crate by all processors, and then those above it side by side; one `rt` for all, since two would wait for each other
 all: toolchain
@@ -15,13 +18,17 @@ all: toolchain
 	cmp bin/stored-run $(PROGRAM)/stdout
 	rm bin/stored-run
 	cp $(PROGRAM)/out/pnmpipe bin/pnmpipe
-	sh scripts/refused_starts.sh
+	python3 scripts/refused.py start
 
-# a sample of the refused allocations, since each turn builds the program anew; then one check a processor, each of
-# at most 4 GB
+# one check a processor, each of at most 4 GB; then each allocation and each start of a thread is refused in turn, of the
+# program and the tests that the gate has left. The gate's own last line comes last
 check: toolchain
-	STEP=10 sh scripts/refused_growth.sh
-	RT_JOBS=$${RT_JOBS:-$$(nproc)} rt ci
+	mkdir -p bin
+	rm -f bin/gate-failed
+	(RT_JOBS=$${RT_JOBS:-$$(nproc)} rt ci || touch bin/gate-failed) | tee bin/gate
+	test ! -e bin/gate-failed
+	python3 scripts/refused.py growth start tests --program $(PROGRAM)/out/pnmpipe
+	tail -n 1 bin/gate
 
 # the tests alone, built and run as they stand: `make check` proves them too
 test: toolchain
@@ -43,16 +50,10 @@ long-stream:
 controls: toolchain
 	sh scripts/controls.sh
 
-# each allocation of the stored run, of each tool, of a run over three tools, and of the program's words, refused in turn
-refused-growth: toolchain
-	sh scripts/refused_growth.sh
-	sh scripts/refused_growth_of_tools.sh
-	sh scripts/refused_growth_of_chains.sh
-	sh scripts/refused_growth_of_words.sh
-
-# each start of a thread of a run over sixteen tools, refused in turn
-refused-starts:
-	sh scripts/refused_starts.sh
+# each allocation and each start of a thread refused in turn, of the program that make has left and of tests
+refused: toolchain
+	for crate in $(REFUSED); do (cd crates/$$crate && rt test) || exit 1; done
+	python3 scripts/refused.py growth start tests
 
 toolchain:
 	@$(if $(shell command -v rt),:,$(error the command rt of the Rattle toolchain is not on the PATH))
@@ -60,11 +61,10 @@ toolchain:
 help:
 	@echo "make                 proves the crates, builds the program and leaves it as bin/pnmpipe"
 	@echo "make test            the tests alone, without their proofs"
-	@echo "make check           the whole gate: every proof from nothing, the edits that must fail, the tests and the stored run"
+	@echo "make check           the whole gate: every proof from nothing, the edits that must fail, the tests, the stored runs, and refused allocations"
 	@echo "make bench           times the program that make has left beside Netpbm's own tools, on large images"
 	@echo "make lanes           times the program that make has left with 1, 2, 4 and 8 lanes"
 	@echo "make long-stream     passes a stream of 4 GiB through the program that make has left, and wants less than 32 MB of memory"
 	@echo "make controls        tries the edits that keep the code's meaning, which must prove"
-	@echo "make refused-growth  refuses each allocation of the stored run, of each tool, of a chain of three tools, and of the program's words, in turn"
-	@echo "make refused-starts  refuses each start of a thread in turn, of the program that make has left"
+	@echo "make refused         refuses each allocation and each start of a thread in turn, of the program that make has left and of tests"
 	@echo "make help            this list"

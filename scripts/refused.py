@@ -1,0 +1,406 @@
+#!/usr/bin/env python3
+"""Refuses each allocation, and each start of a thread, of stored commands in turn, until a run meets no refusal.
+
+`scripts/refused.c`, compiled here and loaded before the program, refuses the Nth one that the program itself asks for; N
+goes upward from 1, once with that one alone refused and once with all after it too. A run that met a refusal has to say
+so by the line that fits and to have written a front of the whole output: nothing where the status is 2 or a thread
+couldn't be started. It has to end in time, and with no thread left. Tests of crates are refused each allocation too,
+since they reach what no command does. Where there is no C compiler, the stored run alone is refused, by the toolchain, which
+builds the program anew for each turn, and starts of threads by the room that the process may take.
+"""
+
+import argparse
+import collections
+import concurrent.futures
+import os
+import re
+import resource
+import shlex
+import shutil
+import subprocess
+import sys
+import tempfile
+import textwrap
+import typing
+
+SCRIPTS = os.path.dirname(os.path.abspath(__file__))
+ROOT = os.path.dirname(SCRIPTS)
+PROGRAM = os.path.join(ROOT, "crates/pnmpipe")
+
+MEMORY = re.compile(r"pnmpipe: (command line: Memory|chain: Memory|NoStart|input: Memory|tool [0-9]+: Memory)\n")
+
+# crates whose tests are refused, where their names have this word
+TESTED = ["pnm_tools_tests", "pnm_chain_tests", "pnm_flow_tests", "pnmpipe"]
+OF_MEMORY = "memory::"
+
+# no command makes more allocations than this
+MOST = 2000
+
+
+class Command(typing.NamedTuple):
+    """A call of the program, what it writes and prints where nothing is refused, and how many threads it starts at least."""
+
+    words: list
+    given: bytes
+    whole: bytes
+    starts: int
+    line: str = ""
+    # std's `collect` asks for all the room at first and, where that alone is refused, again for less
+    asks_again: bool = False
+
+
+class Answer(typing.NamedTuple):
+    """How a run ended, what it wrote and printed, and what the loaded code told: refusals, and at the end threads that are left."""
+
+    status: int
+    written: bytes
+    printed: str
+    refusals: int
+    left: typing.Optional[int]
+
+
+class Fault(Exception):
+    """A refusal that isn't answered as it has to be."""
+
+
+def bits(*rows):
+    """A raw PBM image of at most 8 columns, its rows in the characters of a plain one."""
+    raster = bytes(int(row.ljust(8, "0"), 2) for row in rows)
+    return b"P4\n%d %d\n" % (len(rows[0]), len(rows)) + raster
+
+
+def raster_of(maxval, rows):
+    return b"".join(sample.to_bytes(1 if maxval < 256 else 2, "big") for row in rows for sample in row)
+
+
+def gray(maxval, *rows):
+    return b"P5\n%d %d\n%d\n" % (len(rows[0]), len(rows), maxval) + raster_of(maxval, rows)
+
+
+def pam(maxval, depth, tuple_type, *rows):
+    """A PAM image, each row given as all its samples."""
+    typed = b"TUPLTYPE %s\n" % tuple_type if tuple_type else b""
+    numbers = (len(rows[0]) // depth, len(rows), depth, maxval)
+    return b"P7\nWIDTH %d\nHEIGHT %d\nDEPTH %d\nMAXVAL %d\n" % numbers + typed + b"ENDHDR\n" + raster_of(maxval, rows)
+
+
+# an image of each form in which rows are held: bits, bytes and words
+STREAM = bits("11", "01") + gray(9, [1, 2], [3, 4]) + gray(300, [1, 2], [3, 300])
+
+# the tools that are row-wise, with what each makes of the stream
+ROW_WISE = [
+    ("pnminvert", bits("00", "10") + gray(9, [8, 7], [6, 5]) + gray(300, [299, 298], [297, 0])),
+    ("pamdepth 18", gray(18, [0, 0], [18, 0]) + gray(18, [2, 4], [6, 8]) + gray(18, [0, 0], [0, 18])),
+    (
+        "pamchannel 0 0 -tupletype T",
+        pam(1, 2, b"T", [0, 0, 0, 0], [1, 1, 0, 0])
+        + pam(9, 2, b"T", [1, 1, 2, 2], [3, 3, 4, 4])
+        + pam(300, 2, b"T", [1, 1, 2, 2], [3, 3, 300, 300]),
+    ),
+    ("pamenlarge -xscale 2", bits("1111", "0011") + gray(9, [1, 1, 2, 2], [3, 3, 4, 4]) + gray(300, [1, 1, 2, 2], [3, 3, 300, 300])),
+    ("pamflip -null", STREAM),
+    ("pamflip -lr", bits("11", "10") + gray(9, [2, 1], [4, 3]) + gray(300, [2, 1], [300, 3])),
+]
+
+# the others
+WHOLE = [
+    ("pamcut -left 1", bits("1", "1") + gray(9, [2], [4]) + gray(300, [2], [300])),
+    ("pamcut -top 1 -height 1", bits("01") + gray(9, [3, 4]) + gray(300, [3, 300])),
+    (
+        "pamenlarge 2",
+        bits("1111", "1111", "0011", "0011")
+        + gray(9, [1, 1, 2, 2], [1, 1, 2, 2], [3, 3, 4, 4], [3, 3, 4, 4])
+        + gray(300, [1, 1, 2, 2], [1, 1, 2, 2], [3, 3, 300, 300], [3, 3, 300, 300]),
+    ),
+    ("pamenlarge -yscale 2", bits("11", "11", "01", "01") + gray(9, [1, 2], [1, 2], [3, 4], [3, 4]) + gray(300, [1, 2], [1, 2], [3, 300], [3, 300])),
+    ("pamflip -tb", bits("01", "11") + gray(9, [3, 4], [1, 2]) + gray(300, [3, 300], [1, 2])),
+    ("pamflip -xy", bits("10", "11") + gray(9, [1, 3], [2, 4]) + gray(300, [1, 3], [2, 300])),
+    ("pnmtile 3 3", bits("111", "010", "111") + gray(9, [1, 2, 1], [3, 4, 3], [1, 2, 1]) + gray(300, [1, 2, 1], [3, 300, 3], [1, 2, 1])),
+]
+
+LANES = [1, 2, 8]
+
+TYPED = b"P7\n# c\nTUPLTYPE A\nDEPTH 1\n\nMAXVAL 1\nTUPLTYPE  B \nWIDTH 1\nHEIGHT 1\nENDHDR\n\x01"
+
+
+def threads_of(row_wise, others, lanes):
+    """How many threads a chain starts: one for each tool, and over lanes two more than these for each row-wise one."""
+    return others + row_wise * (1 if lanes == 1 else lanes + 2)
+
+
+def commands_over(lanes):
+    """The commands that stand at each number of lanes."""
+
+    def command(chain, given, whole, row_wise, others, ring=1, line=""):
+        words = ["--ring", str(ring), "--lanes", str(lanes), chain]
+        collects = chain.startswith("pamdepth")
+        return Command(words, given, whole, threads_of(row_wise, others, lanes), line, collects)
+
+    yield from (command(chain, STREAM, whole, 1, 0) for chain, whole in ROW_WISE)
+    yield from (command(chain, STREAM, whole, 0, 1) for chain, whole in WHOLE)
+    yield command("pamenlarge 2 | pnminvert", gray(9, [7]), gray(9, [2, 2], [2, 2]), 1, 1)
+    yield command("pamflip -xy", gray(9, [1, 2], [3, 4], [5, 6]), gray(9, [1, 3, 5], [2, 4, 6]), 0, 1)
+    yield command("pamflip -null", TYPED, pam(1, 1, b"A B", [1]), 1, 0)
+    yield command("pnminvert", gray(9, [1], [2]), gray(9, [8], [7]), 1, 0, ring=64)
+    picked = pam(255, 2, b"RGB", [30, 10])
+    yield command("pamchannel 2 0 -tupletype RGB", b"P3 1 1 255 10 20 30", picked, 1, 0)
+    yield command("pamchannel 2 0 -tupletype RGB | pamflip -tb | pnminvert", b"P3 1 1 255 10 20 30", pam(255, 2, b"RGB", [225, 245]), 2, 1)
+    yield command(" | ".join(["pnminvert"] * 16), STREAM, STREAM, 16, 0)
+    # an input that is cut, after whose fault no tool's want of memory is answered, and one that the second tool refuses
+    cut = bits("11", "10") + gray(9, [2, 1], [4, 3]) + gray(300, [2, 1], [0, 0])[:-4]
+    yield command("pamflip -lr | pamflip -lr | pamflip -lr", STREAM[:-1], cut, 3, 0, line="pnmpipe: input: RasterCut\n")
+    yield command("pnminvert | pamcut -left 2 | pnminvert", STREAM, b"", 2, 1, line="pnmpipe: tool 2: CutOutside\n")
+
+
+def stored_run():
+    """The run that is stored beside the program."""
+    with open(os.path.join(PROGRAM, "stdin"), "rb") as given, open(os.path.join(PROGRAM, "stdout"), "rb") as whole:
+        return Command(["pnminvert"], given.read(), whole.read(), 1)
+
+
+def commands(program):
+    """All commands."""
+    yield stored_run()
+    # tests of the program say what the text of help is
+    text = subprocess.run([program, "--help"], stdin=subprocess.DEVNULL, stdout=subprocess.PIPE, check=True).stdout
+    yield Command(["--help"], b"", text, 0)
+    for lanes in LANES:
+        yield from commands_over(lanes)
+
+
+def run(words, given, seconds, loaded, variables):
+    """Runs these words with the code loaded before them."""
+    told, teller = os.pipe()
+    try:
+        environment = dict(os.environ, LD_PRELOAD=loaded, REFUSED_REPORT=str(teller), **variables)
+        try:
+            ran = subprocess.run(words, input=given, capture_output=True, timeout=seconds, env=environment, pass_fds=[teller])
+        except subprocess.TimeoutExpired:
+            raise Fault(f"it hasn't ended after {seconds} seconds") from None
+        os.close(teller)
+        teller = None
+        with os.fdopen(told, "r", closefd=False) as report:
+            lines = report.read().split("\n")
+    finally:
+        os.close(told)
+        if teller is not None:
+            os.close(teller)
+    left = next((int(line.split()[1]) for line in lines if line.startswith("left ")), None)
+    return Answer(ran.returncode, ran.stdout, ran.stderr.decode(errors="replace"), lines.count("refused"), left)
+
+
+def place_of(line):
+    """The place of a run's fault in the order in which the first is answered; want of memory before a run comes first."""
+    number = re.match(r"pnmpipe: tool ([0-9]+):", line)
+    if number:
+        return 2 + int(number[1])
+    return 2 if line.startswith("pnmpipe: input:") else 1
+
+
+def judge(command, answer, is_for_good=False):
+    """Wants the answer to fit the command, whether or not something was refused."""
+    if answer.left != 0:
+        raise Fault(f"threads are left: {answer.left}; status {answer.status}, {answer.printed!r}")
+    if not command.whole.startswith(answer.written):
+        raise Fault(f"what is written is no front of the output: {answer.written!r}")
+    is_whole = (answer.status, answer.written, answer.printed) == (1 if command.line else 0, command.whole, command.line)
+    if not answer.refusals:
+        if not is_whole:
+            raise Fault(f"nothing is refused, and status {answer.status}, {answer.printed!r}, {answer.written!r}")
+        return
+    if is_whole and command.asks_again and not is_for_good:
+        return
+    if command.line and answer.printed == command.line and answer.status == 1:
+        return
+    if not MEMORY.fullmatch(answer.printed):
+        raise Fault(f"no line that names want of memory: status {answer.status}, {answer.printed!r}")
+    is_before_run = "command line" in answer.printed or "chain" in answer.printed
+    if answer.status != (2 if is_before_run else 1):
+        raise Fault(f"status {answer.status} with {answer.printed!r}")
+    if answer.written and (is_before_run or "NoStart" in answer.printed):
+        raise Fault(f"{answer.written!r} was written at {answer.printed!r}")
+    if command.line and place_of(answer.printed) > place_of(command.line):
+        raise Fault(f"{answer.printed!r} before {command.line!r}")
+
+
+def refuse_each(kind, is_for_good, run_once):
+    """Refuses the first, the second and so on, until a run meets no refusal. Gives the answers that met one."""
+    met = []
+    for number in range(1, MOST):
+        variables = {f"REFUSED_{kind}": str(number)}
+        if is_for_good:
+            variables["REFUSED_FOR_GOOD"] = "1"
+        try:
+            answer = run_once(variables)
+        except Fault as fault:
+            raise Fault(f"{kind.lower()} {number}{' and all after it' if is_for_good else ''}: {fault}") from None
+        if not answer.refusals:
+            return met
+        met.append(answer)
+    raise Fault(f"{kind.lower()}: no run without a refusal")
+
+
+def refuse_command(program, command, kinds, seconds, loaded):
+    """Refuses all of these kinds of a command. Gives how many of each were met, and how often each line was printed."""
+
+    def run_once(variables):
+        answer = run([program, *command.words], command.given, seconds, loaded, variables)
+        judge(command, answer, "REFUSED_FOR_GOOD" in variables)
+        return answer
+
+    counts, lines = [], collections.Counter()
+    for kind in kinds:
+        least = 1 if kind == "GROWTH" else command.starts
+        for is_for_good in (False, True):
+            met = refuse_each(kind, is_for_good, run_once)
+            if len(met) < least:
+                raise Fault(f"{kind.lower()}: only {len(met)} were refused, of {least} at least")
+            counts.append((kind, len(met)))
+            lines.update(shown(answer) for answer in met)
+    return counts, lines
+
+
+def shown(answer):
+    return re.sub("tool [0-9]+:", "tool K:", answer.printed.strip()) or "no line, the output is whole"
+
+
+def refuse_test(program, name, seconds, loaded):
+    """Refuses each allocation of a test, alone, since tests want memory to be there again. One whose name says that there is
+    memory needs to pass only where none is refused."""
+    needs_memory = name.endswith("_with_memory")
+
+    def run_once(variables):
+        answer = run([program, name], b"", seconds, loaded, variables)
+        is_passed = answer.status == 0 and b"test result: ok" in answer.written and answer.left == 0
+        if not is_passed and not (needs_memory and answer.refusals):
+            raise Fault(f"status {answer.status}, {answer.left} threads are left: {answer.printed}")
+        return answer
+
+    met = len(refuse_each("GROWTH", False, run_once))
+    if not met:
+        raise Fault("nothing was refused")
+    return [("GROWTH", met)], collections.Counter({"passed": met})
+
+
+def tests():
+    """The program of each crate's tests, as `rt test` leaves it, and the names of those that are to be refused."""
+    for crate in TESTED:
+        program = os.path.join(ROOT, "crates", crate, "out", f"{crate}_tests")
+        if not os.path.exists(program):
+            sys.exit(f"refused: there is no {program}: run rt test in crates/{crate}")
+        listed = subprocess.run([program, "--list"], capture_output=True, text=True, check=True).stdout
+        for line in listed.split("\n"):
+            name = line.removesuffix(": test")
+            if name != line and OF_MEMORY in name:
+                yield program, crate, name
+
+
+def compiled(folder):
+    """The code to be loaded; none where there is no C compiler."""
+    words = shlex.split(os.environ.get("CC") or "cc")
+    if not shutil.which(words[0]):
+        return None
+    loaded = os.path.join(folder, "refused.so")
+    source = os.path.join(SCRIPTS, "refused.c")
+    subprocess.run([*words, "-O2", "-shared", "-fPIC", "-o", loaded, source], check=True)
+    return loaded
+
+
+def refuse_all(args, loaded):
+    """Refuses what was asked for, as much at a time as there are processors. Gives how many faults there were."""
+    kinds = [kind for kind in ("GROWTH", "START") if kind.lower() in args.what]
+    jobs = {}
+    totals, lines, faults = collections.Counter(), collections.Counter(), 0
+    with concurrent.futures.ThreadPoolExecutor(args.jobs) as pool:
+        for command in commands(args.program) if kinds else ():
+            job = pool.submit(refuse_command, args.program, command, kinds, args.seconds, loaded)
+            jobs[job] = textwrap.shorten(shlex.join(command.words), 90, placeholder=" ..")
+        for program, crate, name in tests() if "tests" in args.what else ():
+            jobs[pool.submit(refuse_test, program, name, args.seconds, loaded)] = f"{crate} {name}"
+        for job, name in jobs.items():
+            try:
+                counts, met = job.result()
+            except Fault as fault:
+                faults += 1
+                print(f"refused: {name}: {fault}", file=sys.stderr)
+                continue
+            print(f"refused: {name}: " + ", ".join(f"{kind.lower()} {count}" for kind, count in counts))
+            for kind, count in counts:
+                totals[kind] += count
+            lines.update(met)
+    for line, count in sorted(lines.items()):
+        print(f"refused: {count} times: {line}")
+    met = ", ".join(f"{count} of {kind.lower()}" for kind, count in totals.items())
+    print(f"refused: {met or 'nothing'} refused in turn; {len(jobs) - faults} passed, {faults} failed")
+    return faults if any(totals.values()) else 1
+
+
+def refuse_by_builds(step, seconds):
+    """Refuses each step-th allocation of the stored run by the toolchain, which builds the program for each turn."""
+    command = stored_run()
+    for number in range(1, MOST, step):
+        words = ["rt", "try", "--fail-alloc", str(number), "--", *command.words]
+        ran = subprocess.run(words, input=command.given, capture_output=True, cwd=PROGRAM, timeout=seconds)
+        said = MEMORY.search(ran.stderr.decode(errors="replace"))
+        refusals = 1 if ran.returncode else 0
+        judge(command, Answer(ran.returncode, ran.stdout, said[0] if said else "", refusals, 0))
+        if not refusals:
+            print(f"refused: allocations 1 to {number - 1} of the stored run by steps of {step}, each answered by name")
+            return 0 if number > 1 else 1
+    raise Fault("no run without a refusal")
+
+
+def refuse_by_room(program, seconds):
+    """Refuses starts of threads by the room that the process may take: that of one stack more each turn."""
+    stack = 64 << 20
+    for command in (stored_run(), *(it for it in commands_over(1) if it.starts == 16)):
+        refused = 0
+        for room in range(stack, 64 * stack, stack):
+
+            def narrow():
+                resource.setrlimit(resource.RLIMIT_STACK, (stack, stack))
+                resource.setrlimit(resource.RLIMIT_AS, (room, room))
+
+            ran = subprocess.run([program, *command.words], input=command.given, capture_output=True, timeout=seconds, preexec_fn=narrow)
+            if ran.returncode == 0 or (ran.returncode == 1 and ran.stderr):
+                judge(command, Answer(ran.returncode, ran.stdout, ran.stderr.decode(), 1 if ran.returncode else 0, 0))
+            if ran.returncode == 0:
+                break
+            refused += ran.stderr == b"pnmpipe: NoStart\n"
+        else:
+            raise Fault(f"{shlex.join(command.words)}: no run could be started")
+        if refused < command.starts:
+            raise Fault(f"{shlex.join(command.words)}: only {refused} runs were refused")
+        print(f"refused: {refused} runs that may start more threads each, answered by name")
+    return 0
+
+
+def main():
+    parser = argparse.ArgumentParser(description=__doc__.split("\n")[0])
+    parser.add_argument("what", nargs="*", metavar="WHAT", help="growth, start or tests; by default growth and start")
+    parser.add_argument("--program", default=os.path.join(ROOT, "bin/pnmpipe"))
+    parser.add_argument("--seconds", type=float, default=20, help="how long a run may take")
+    parser.add_argument("--jobs", type=int, default=os.cpu_count())
+    parser.add_argument("--step", type=int, default=10, help="with no C compiler, how many allocations further each turn goes")
+    args = parser.parse_args()
+    if set(args.what) - {"growth", "start", "tests"}:
+        parser.error("WHAT is growth, start or tests")
+    args.what = args.what or ["growth", "start"]
+    args.program = os.path.abspath(args.program)
+    if set(args.what) != {"tests"} and not os.path.exists(args.program):
+        sys.exit(f"refused: there is no {args.program}: make builds it")
+    with tempfile.TemporaryDirectory() as folder:
+        loaded = compiled(folder)
+        if loaded:
+            sys.exit(1 if refuse_all(args, loaded) else 0)
+    print("refused: there is no C compiler, so the toolchain refuses allocations of the stored run, and tests are left out")
+    try:
+        faults = refuse_by_builds(args.step, 600) if "growth" in args.what else 0
+        faults += refuse_by_room(args.program, args.seconds) if "start" in args.what else 0
+    except Fault as fault:
+        sys.exit(f"refused: {fault}")
+    sys.exit(1 if faults else 0)
+
+
+if __name__ == "__main__":
+    main()
