@@ -4,10 +4,13 @@ PROGRAM := crates/pnmpipe
 # where the tests stand: a library's in a crate of their own
 TESTED := pnm_samples_tests pnm_image_tests pnm_read_tests pnm_tools_tests pnm_write_tests pnm_chain_tests pnm_lanes_tests pnm_flow_tests pnmpipe
 
-.PHONY: all bench check test help toolchain controls lanes long-stream refused
+.PHONY: all bench check test help toolchain controls lanes long-stream refused soak
 
 # crates whose tests of want of memory are refused each allocation
 REFUSED := pnm_tools_tests pnm_chain_tests pnm_flow_tests pnmpipe
+
+# how long `make soak` starts runs
+SECONDS ?= 60
 
 # the lowest crate by all processors, and then those above it side by side; one `rt` for all, since two would wait for each other
 all: toolchain
@@ -55,6 +58,11 @@ refused: toolchain
 	for crate in $(REFUSED); do (cd crates/$$crate && rt test) || exit 1; done
 	python3 scripts/refused.py growth start tests
 
+# random chains over random streams, in one thread and over threads between slow devices
+soak: toolchain
+	cd crates/pnm_soak && rt run -- 4 2 7 pnminvert < stdin > /dev/null
+	python3 scripts/soak.py --seconds $(SECONDS)
+
 toolchain:
 	@$(if $(shell command -v rt),:,$(error the command rt of the Rattle toolchain is not on the PATH))
 
@@ -67,4 +75,5 @@ help:
 	@echo "make long-stream     passes a stream of 4 GiB through the program that make has left, and wants less than 32 MB of memory"
 	@echo "make controls        tries the edits that keep the code's meaning, which must prove"
 	@echo "make refused         refuses each allocation and each start of a thread in turn, of the program that make has left and of tests"
+	@echo "make soak SECONDS=n  runs random chains over random streams for n seconds, in one thread and over threads"
 	@echo "make help            this list"
