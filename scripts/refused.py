@@ -265,8 +265,8 @@ def shown(answer):
 
 
 def refuse_test(program, name, seconds, loaded):
-    """Refuses each allocation of a test, alone, since tests want memory to be there again. One whose name says that there is
-    memory needs to pass only where none is refused."""
+    """Refuses each allocation of a test, and each start of a thread, alone, since tests want memory to be there again. One
+    whose name says that there is memory needs to pass only where nothing is refused."""
     needs_memory = name.endswith("_with_memory")
 
     def run_once(variables):
@@ -276,10 +276,10 @@ def refuse_test(program, name, seconds, loaded):
             raise Fault(f"status {answer.status}, {answer.left} threads are left: {answer.printed}")
         return answer
 
-    met = len(refuse_each("GROWTH", False, run_once))
-    if not met:
-        raise Fault("nothing was refused")
-    return [("GROWTH", met)], collections.Counter({"passed": met})
+    counts = [(kind, len(refuse_each(kind, False, run_once))) for kind in ("GROWTH", "START")]
+    if not counts[0][1]:
+        raise Fault("no allocation was refused")
+    return counts, collections.Counter({"answered as the test wants": sum(count for _, count in counts)})
 
 
 def tests():
