@@ -20,8 +20,12 @@ const STREAM: &[u8] =
 const PICKED: &[u8] =
     b"P7\nWIDTH 1\nHEIGHT 1\nDEPTH 2\nMAXVAL 255\nTUPLTYPE T\nENDHDR\n\x39\x39P7\nWIDTH 1\nHEIGHT 2\nDEPTH 2\nMAXVAL 255\nTUPLTYPE T\nENDHDR\n\xff\xff\x55\x55";
 
-/// What a run over three tools answers; none where there is no memory for these. Whatever it is, a
-/// front of the whole output is written, and want of memory alone can be at fault: for the start of a run over threads too.
+/// An image of one sample, and what `pamenlarge 2 | pnminvert` makes of it.
+const SAMPLE: &[u8] = b"P5\n1 1\n9\n\x07";
+
+const DOUBLED: &[u8] = b"P5\n2 2\n9\n\x02\x02\x02\x02";
+
+/// What a run over three tools answers; none where there is no memory for these.
 fn run_short_of_memory<H: Threads + Wait + Abort + Sync>(
     rt: &H,
     alloc: Global,
@@ -31,28 +35,34 @@ fn run_short_of_memory<H: Threads + Wait + Abort + Sync>(
         return None;
     };
     let tools = [Tool::Depth(255), Tool::Cut(LAST_COLUMN), planes];
-    assert!(rt; are_lawful(&tools));
+    make_short_of_memory(rt, alloc, way, &tools, STREAM, PICKED)
+}
+
+/// What a run over these tools answers. Whatever it is, a front of the whole output is written, and want of memory alone can
+/// be at fault: for the start of a run over threads too.
+fn make_short_of_memory<H: Threads + Wait + Abort + Sync>(
+    rt: &H,
+    alloc: Global,
+    way: Way,
+    tools: &[Tool],
+    input: &[u8],
+    whole: &[u8],
+) -> Option<Summary> {
+    assert!(rt; 1 <= tools.len() && tools.len() <= 16 && are_lawful(tools));
     let mut room = [0; 200];
     let mut writer = Device::new(room.as_mut_slice());
-    let answer = run_by(
-        rt,
-        alloc,
-        way,
-        &mut Device::new(STREAM),
-        &mut writer,
-        &tools,
-    );
+    let answer = run_by(rt, alloc, way, &mut Device::new(input), &mut writer, tools);
     let rest = writer.into_inner().len();
     assert!(rt; rest <= room.len());
     let written = &room[..room.len() - rest];
     match answer {
         Ok(summary) => {
-            assert_eq!(rt; written, PICKED);
+            assert_eq!(rt; written, whole);
             Some(summary)
         }
         Err(RunFault::Input(InputFault::Memory)) | Err(RunFault::Tool(1..=3, ToolFault::Memory)) =>
             {
-                assert!(rt; PICKED.starts_with(written));
+                assert!(rt; whole.starts_with(written));
                 None
             }
         Err(RunFault::NoStart) => {
@@ -105,15 +115,33 @@ fn ends_well_over_lanes_with_memory(rt: HostRuntime) {
     assert_eq!(rt; summary, Some(Summary { images: 2, rows: 3 }));
 }
 
-/// Whether all of three tools in threads end well with an image; not where memory ran out. Whatever they
+/// Each growth of a run over two tools in one thread may be refused.
+#[test]
+fn doubles_in_one_thread_or_runs_out(rt: HostRuntime) {
+    let tools = [Tool::Enlarge(2, 2), Tool::Invert];
+    let _ = make_short_of_memory(&rt, rt.alloc(), Way::OneThread, &tools, SAMPLE, DOUBLED);
+}
+
+/// The same, where none is refused.
+#[test]
+fn doubles_in_one_thread_with_memory(rt: HostRuntime) {
+    let tools = [Tool::Enlarge(2, 2), Tool::Invert];
+    let summary = make_short_of_memory(&rt, rt.alloc(), Way::OneThread, &tools, SAMPLE, DOUBLED);
+    assert_eq!(rt; summary, Some(Summary { images: 1, rows: 2 }));
+}
+
+/// Whether all of these tools in threads end well with an image; not where memory ran out. Whatever they
 /// do, the chain ends: with Stop at last, unless it was answered in full; and one that wasn't started leaves its
 /// input as it was.
-fn end_in_threads<R: Threads + Wait + Abort + Sync>(rt: &R, alloc: Global) -> Result<bool, Unmade> {
-    let tools = [Tool::Invert, Tool::Flip(FlipWay::TopBottom), Tool::Invert];
+fn end_in_threads<R: Threads + Wait + Abort + Sync>(
+    rt: &R,
+    alloc: Global,
+    tools: &[Tool],
+) -> Result<bool, Unmade> {
     let (mut producer, input) = ring(alloc, 8)?;
     let (output, mut consumer) = ring(alloc, 8)?;
     send_all(alloc, &mut producer, IMAGE)?;
-    match chain(rt, alloc, &tools, 1, 1, &OpenGate, input, output) {
+    match chain(rt, alloc, tools, 1, 1, &OpenGate, input, output) {
         Ok(done) => {
             let is_well = done.ends.iter().all(|end| *end == StageEnd::Well);
             let mut is_stopped = false;
@@ -134,15 +162,20 @@ fn end_in_threads<R: Threads + Wait + Abort + Sync>(rt: &R, alloc: Global) -> Re
     }
 }
 
-/// Each growth may be refused.
+/// Each growth of three tools, and of one, may be refused.
 #[test]
 fn ends_in_threads_short_of_memory(rt: HostRuntime) {
-    let _ = end_in_threads(&rt, rt.alloc());
+    let tools = [Tool::Invert, Tool::Flip(FlipWay::TopBottom), Tool::Invert];
+    let _ = end_in_threads(&rt, rt.alloc(), &tools);
+    let _ = end_in_threads(&rt, rt.alloc(), &[Tool::Invert]);
 }
 
 /// The same, where none is refused.
 #[test]
 fn ends_well_in_threads_with_memory(rt: HostRuntime) {
-    let is_well = end_in_threads(&rt, rt.alloc()).unwrap_or(false);
+    let tools = [Tool::Invert, Tool::Flip(FlipWay::TopBottom), Tool::Invert];
+    let is_well = end_in_threads(&rt, rt.alloc(), &tools).unwrap_or(false);
+    assert!(rt; is_well);
+    let is_well = end_in_threads(&rt, rt.alloc(), &[Tool::Invert]).unwrap_or(false);
     assert!(rt; is_well);
 }
