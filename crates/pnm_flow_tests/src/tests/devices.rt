@@ -7,85 +7,15 @@ use super::{IMAGE, INVERTED, Outcome, agrees};
 use pnm_flow::{RunFault, Summary};
 use pnm_image::{BytesIn, BytesOut, Device};
 use pnm_read::InputFault;
+use pnm_test_devices::{Drips, FailsOnce, Sips};
 use pnm_tools::Tool;
 use pnm_write::SinkFault;
 use std::alloc::Global;
-use std::io;
-use std::io::{BufWriter, ErrorKind, Read, Write};
+use std::io::BufWriter;
 use std::process::Abort;
 use std::sync::Wait;
 use std::test::Fail;
 use std::thread::Threads;
-
-/// Says that a call is to fail, once, after so many calls that succeed. The error is one that std's
-/// own loops take for a call to be made again.
-#[derive(Drop)]
-pub struct FailsOnce {
-    before: usize,
-    has_failed: bool,
-}
-
-impl FailsOnce {
-    pub fn after(before: usize) -> FailsOnce {
-        FailsOnce {
-            before,
-            has_failed: false,
-        }
-    }
-
-    pub fn never() -> FailsOnce {
-        FailsOnce {
-            before: 0,
-            has_failed: true,
-        }
-    }
-
-    fn call(&mut self) -> io::Result<()> {
-        if self.before > 0 {
-            self.before -= 1;
-        } else if !self.has_failed {
-            self.has_failed = true;
-            return Err(io::Error::from(ErrorKind::Interrupted));
-        }
-        Ok(())
-    }
-}
-
-/// Gives a byte a call.
-#[derive(Drop)]
-pub struct Drips<'a> {
-    pub rest: &'a [u8],
-    pub reads: FailsOnce,
-}
-
-impl Read for Drips<'_> {
-    fn read(&mut self, room: &mut [u8]) -> io::Result<usize> {
-        self.reads.call()?;
-        let most = room.len().min(1);
-        self.rest.read(&mut room[..most])
-    }
-}
-
-/// Takes so many bytes a call.
-#[derive(Drop)]
-pub struct Sips {
-    pub held: Vec<u8>,
-    pub most: usize,
-    pub writes: FailsOnce,
-    pub flushes: FailsOnce,
-}
-
-impl Write for Sips {
-    fn write(&mut self, bytes: &[u8]) -> io::Result<usize> {
-        self.writes.call()?;
-        let most = bytes.len().min(self.most);
-        self.held.write(&bytes[..most])
-    }
-
-    fn flush(&mut self) -> io::Result<()> {
-        self.flushes.call()
-    }
-}
 
 /// What is answered where no device fails.
 const WELL: Result<Summary, RunFault> = Ok(Summary { images: 2, rows: 2 });
@@ -167,10 +97,7 @@ fn answers_a_failed_read<H: Threads + Wait + Abort + Sync>(
     made: &Made<'_>,
     before: usize,
 ) {
-    let mut reader = Device::new(Drips {
-        rest: TWO,
-        reads: FailsOnce::after(before),
-    });
+    let mut reader = Device::new(Drips::new(TWO, 1, FailsOnce::after(before)));
     let mut writer = Device::new(Vec::new(alloc));
     let answer = make_by(rt, alloc, way, &mut reader, &mut writer, made.tools);
     let size = due_after(made, before).min(made.whole.len());
@@ -206,12 +133,11 @@ fn writes<H: Threads + Wait + Abort + Sync>(
     sips: Sips,
     want: Outcome<'_>,
 ) {
-    let most = sips.most;
     let mut sips = sips;
     let mut reader = Device::new(input);
     let mut writer = Device::new(&mut sips);
     let answer = make_by(rt, alloc, way, &mut reader, &mut writer, tools);
-    agrees(rt, (answer, sips.held.as_slice()), want, &(way, most));
+    agrees(rt, (answer, sips.held()), want, &(way, sips.flushed()));
 }
 
 /// A write for each byte; the one after so many fails, and later ones don't. The bytes before it are written.
@@ -222,12 +148,7 @@ fn answers_a_failed_write<H: Threads + Wait + Abort + Sync>(
     made: &Made<'_>,
     before: usize,
 ) {
-    let sips = Sips {
-        held: Vec::new(alloc),
-        most: 1,
-        writes: FailsOnce::after(before),
-        flushes: FailsOnce::never(),
-    };
+    let sips = Sips::new(alloc, 1, FailsOnce::after(before), FailsOnce::never());
     let want = if before < made.whole.len() {
         (FAILED, &made.whole[..before])
     } else {
@@ -244,12 +165,7 @@ fn answers_a_failed_flush<H: Threads + Wait + Abort + Sync>(
     made: &Made<'_>,
     before: usize,
 ) {
-    let sips = Sips {
-        held: Vec::new(alloc),
-        most: 4096,
-        writes: FailsOnce::never(),
-        flushes: FailsOnce::after(before),
-    };
+    let sips = Sips::new(alloc, 4096, FailsOnce::never(), FailsOnce::after(before));
     let first = made.first.min(made.whole.len());
     let want = match before {
         0 => (FAILED, &made.whole[..first]),
@@ -277,12 +193,12 @@ fn answers_the_input_before_the_output(rt: HostRuntime) {
             (CUT, 0, None, None, (CUT_FAULT, b"".as_slice())),
             (TWO, 0, None, None, (FAILED, b"".as_slice())),
         ] {
-            let sips = Sips {
-                held: Vec::new(rt.alloc()),
+            let sips = Sips::new(
+                rt.alloc(),
                 most,
-                writes: fails(writes_before),
-                flushes: fails(flushes_before),
-            };
+                fails(writes_before),
+                fails(flushes_before),
+            );
             writes(&rt, rt.alloc(), way, &[Tool::Invert], input, sips, want);
         }
     }

@@ -1,13 +1,14 @@
 //! Which fault is answered where several come: the input's before the tools', and theirs before the output's.
 
 use super::chains::{FROM_SECOND, LAST_COLUMN, are_lawful};
-use super::devices::{Drips, FailsOnce, Sips, fails};
+use super::devices::fails;
 use super::streams::TWO;
 use super::ways::{WAYS, Way, run_by};
 use super::{IMAGE, agrees};
 use pnm_flow::RunFault;
 use pnm_image::Device;
 use pnm_read::InputFault;
+use pnm_test_devices::{Drips, FailsOnce, Sips};
 use pnm_tools::{Tool, ToolFault};
 use pnm_write::SinkFault;
 use std::alloc::Global;
@@ -62,19 +63,11 @@ fn answers_so<R: Threads + Wait + Abort + Sync>(
     let (tools, due) = (order.tools, order.due);
     assert!(rt; 1 <= tools.len() && tools.len() <= 16 && are_lawful(tools));
     assert!(rt; before <= due.len());
-    let mut reader = Device::new(Drips {
-        rest: order.input,
-        reads: fails(order.reads),
-    });
-    let mut sips = Sips {
-        held: Vec::new(alloc),
-        most: 1,
-        writes: FailsOnce::after(before),
-        flushes: FailsOnce::never(),
-    };
+    let mut reader = Device::new(Drips::new(order.input, 1, fails(order.reads)));
+    let mut sips = Sips::new(alloc, 1, FailsOnce::after(before), FailsOnce::never());
     let mut writer = Device::new(&mut sips);
     let answer = run_by(rt, alloc, way, &mut reader, &mut writer, tools);
-    let given = (answer, sips.held.as_slice());
+    let given = (answer, sips.held());
     let want = (Err(order.fault), &due[..before]);
     agrees(rt, given, want, &(way, before));
 }

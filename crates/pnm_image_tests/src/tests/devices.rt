@@ -5,71 +5,10 @@ use super::callers::{
 };
 use super::same;
 use pnm_image::{BytesIn, BytesOut, Device, DeviceFailed};
+use pnm_test_devices::{Drips, FailsOnce, Sips};
 use std::alloc::Global;
-use std::io;
-use std::io::{ErrorKind, Read, Write};
 use std::process::Abort;
 use std::test::Fail;
-
-/// Says that a call is to fail, once, after so many calls that succeed.
-#[derive(Drop)]
-struct FailsOnce {
-    before: u32,
-    has_failed: bool,
-}
-
-impl FailsOnce {
-    fn after(before: u32) -> FailsOnce {
-        FailsOnce {
-            before,
-            has_failed: false,
-        }
-    }
-
-    fn call(&mut self) -> io::Result<()> {
-        if self.before > 0 {
-            self.before -= 1;
-        } else if !self.has_failed {
-            self.has_failed = true;
-            return Err(io::Error::from(ErrorKind::Interrupted));
-        }
-        Ok(())
-    }
-}
-
-/// Gives up to two bytes a call.
-#[derive(Drop)]
-struct Drips<'a> {
-    rest: &'a [u8],
-    fails: FailsOnce,
-}
-
-impl Read for Drips<'_> {
-    fn read(&mut self, room: &mut [u8]) -> io::Result<usize> {
-        self.fails.call()?;
-        let most = room.len().min(2);
-        self.rest.read(&mut room[..most])
-    }
-}
-
-/// Takes up to two bytes a call.
-#[derive(Drop)]
-struct Sips {
-    held: Vec<u8>,
-    fails: FailsOnce,
-}
-
-impl Write for Sips {
-    fn write(&mut self, bytes: &[u8]) -> io::Result<usize> {
-        self.fails.call()?;
-        let most = bytes.len().min(2);
-        self.held.write(&bytes[..most])
-    }
-
-    fn flush(&mut self) -> io::Result<()> {
-        self.fails.call()
-    }
-}
 
 /// A device over memory gives all its bytes, and then none.
 #[test]
@@ -105,13 +44,13 @@ fn writes_all(rt: HostRuntime) -> Result<(), Fail> {
     same(&rt, &writer.write(&[]), &Ok(0), &"no byte");
     write_all(&mut writer, &[4, 5, 6])?;
     flush(&mut writer)?;
-    holds_bytes(&rt, &writer.into_inner(), &[1, 2, 3, 4, 5, 6]);
+    holds_bytes(&rt, writer.into_inner().as_slice(), &[1, 2, 3, 4, 5, 6]);
     Ok(())
 }
 
-/// The vector holds these bytes.
-fn holds_bytes(rt: &impl Abort, held: &Vec<u8>, bytes: &[u8]) {
-    same(rt, &held.as_slice(), &bytes, &"what is held");
+/// What is held are these bytes.
+fn holds_bytes(rt: &impl Abort, held: &[u8], bytes: &[u8]) {
+    same(rt, &held, &bytes, &"what is held");
 }
 
 /// A device that is lent is the same device.
@@ -122,14 +61,14 @@ fn lends_readers(rt: HostRuntime) -> Result<(), Fail> {
     let mut text = Vec::new(rt.alloc());
     same(&rt, &(&mut reader).read(&mut room), &Ok(1), &"a byte");
     read_through(&mut reader, &mut text)?;
-    holds_bytes(&rt, &text, &[2, 3]);
+    holds_bytes(&rt, text.as_slice(), &[2, 3]);
     same(
         &rt,
         &read_all(&mut &mut reader, &mut text),
         &Ok(()),
         &"the end",
     );
-    holds_bytes(&rt, &text, &[2, 3]);
+    holds_bytes(&rt, text.as_slice(), &[2, 3]);
     Ok(())
 }
 
@@ -140,7 +79,7 @@ fn lends_writers(rt: HostRuntime) -> Result<(), Fail> {
     write_all(&mut &mut writer, &[3])?;
     write_bytewise(&mut writer, &[4, 5])?;
     flush(&mut &mut writer)?;
-    holds_bytes(&rt, &writer.into_inner(), &[1, 2, 3, 4, 5]);
+    holds_bytes(&rt, writer.into_inner().as_slice(), &[1, 2, 3, 4, 5]);
     Ok(())
 }
 
@@ -159,18 +98,20 @@ fn goes_on_after_a_failed_read(rt: HostRuntime) -> Result<(), Fail> {
 }
 
 /// The read after so many fails; the bytes before it are this front.
-fn fails_at_a_read(rt: &impl Abort, alloc: Global, before: u32, front: &[u8]) -> Result<(), Fail> {
+fn fails_at_a_read(
+    rt: &impl Abort,
+    alloc: Global,
+    before: usize,
+    front: &[u8],
+) -> Result<(), Fail> {
     let bytes = [1, 2, 3, 4, 5];
-    let mut reader = Device::new(Drips {
-        rest: &bytes,
-        fails: FailsOnce::after(before),
-    });
+    let mut reader = Device::new(Drips::new(&bytes, 2, FailsOnce::after(before)));
     let mut text = Vec::new(alloc);
     let first = read_all(&mut reader, &mut text);
     same(rt, &first, &Err(ReadFault::Device), &before);
-    holds_bytes(rt, &text, front);
+    holds_bytes(rt, text.as_slice(), front);
     read_all(&mut reader, &mut text)?;
-    holds_bytes(rt, &text, &bytes);
+    holds_bytes(rt, text.as_slice(), &bytes);
     Ok(())
 }
 
@@ -187,46 +128,40 @@ fn goes_on_after_a_failed_write(rt: HostRuntime) -> Result<(), Fail> {
     Ok(())
 }
 
-/// A writer of which the call after so many fails.
-fn writer(alloc: Global, before: u32) -> Sips {
-    Sips {
-        held: Vec::new(alloc),
-        fails: FailsOnce::after(before),
-    }
-}
-
 /// The write after so many fails; the bytes before it are this front, and the others this rest.
 fn fails_at_a_write(
     rt: &impl Abort,
     alloc: Global,
-    before: u32,
+    before: usize,
     front: &[u8],
     rest: &[u8],
 ) -> Result<(), Fail> {
-    let mut sips = writer(alloc, before);
+    let mut sips = Sips::new(alloc, 2, FailsOnce::after(before), FailsOnce::never());
     let first = write_through(&mut Device::new(&mut sips), &[1, 2, 3, 4, 5]);
     same(rt, &first, &Err(DeviceFailed), &before);
-    holds_bytes(rt, &sips.held, front);
+    holds_bytes(rt, sips.held(), front);
     write_through(&mut Device::new(&mut sips), rest)?;
-    holds_bytes(rt, &sips.held, &[1, 2, 3, 4, 5]);
+    holds_bytes(rt, sips.held(), &[1, 2, 3, 4, 5]);
     Ok(())
 }
 
 /// The same of a flush.
 #[test]
 fn goes_on_after_a_failed_flush(rt: HostRuntime) -> Result<(), Fail> {
-    let mut writer = Device::new(writer(rt.alloc(), 2));
+    let sips = Sips::new(rt.alloc(), 2, FailsOnce::never(), FailsOnce::after(0));
+    let mut writer = Device::new(sips);
     write_all(&mut writer, &[1, 2, 3])?;
     same(&rt, &flush(&mut writer), &Err(DeviceFailed), &"a flush");
     flush(&mut writer)?;
-    holds_bytes(&rt, &writer.into_inner().held, &[1, 2, 3]);
+    holds_bytes(&rt, writer.into_inner().held(), &[1, 2, 3]);
     Ok(())
 }
 
 /// A lent device passes a flush on.
 #[test]
 fn lends_flushes(rt: HostRuntime) -> Result<(), Fail> {
-    let mut lent = Device::new(writer(rt.alloc(), 0));
+    let sips = Sips::new(rt.alloc(), 2, FailsOnce::never(), FailsOnce::after(0));
+    let mut lent = Device::new(sips);
     same(&rt, &flush(&mut &mut lent), &Err(DeviceFailed), &"a flush");
     flush(&mut &mut lent)?;
     Ok(())

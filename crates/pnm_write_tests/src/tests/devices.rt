@@ -2,10 +2,9 @@
 
 use super::parts::{COLOR, GRAY, Part, holds, message};
 use pnm_image::Device;
+use pnm_test_devices::{FailsOnce, Sips};
 use pnm_write::{Sink, SinkFault};
 use std::alloc::Global;
-use std::io;
-use std::io::{ErrorKind, Write};
 use std::process::Abort;
 use std::test::Fail;
 
@@ -22,63 +21,6 @@ const STREAM: &[Part<'static>] = &[
 
 const BYTES: &[u8] = b"P5\n1 1\n9\n\x02P6\n1 1\n9\n\x03\x04\x05";
 
-/// Says that a call is to fail, once, after so many calls that succeed. The error is one that std's
-/// own loops take for a call to be made again.
-#[derive(Drop)]
-struct FailsOnce {
-    before: usize,
-    has_failed: bool,
-}
-
-impl FailsOnce {
-    fn after(before: usize) -> FailsOnce {
-        FailsOnce {
-            before,
-            has_failed: false,
-        }
-    }
-
-    fn never() -> FailsOnce {
-        FailsOnce {
-            before: 0,
-            has_failed: true,
-        }
-    }
-
-    fn call(&mut self) -> io::Result<()> {
-        if self.before > 0 {
-            self.before -= 1;
-        } else if !self.has_failed {
-            self.has_failed = true;
-            return Err(io::Error::from(ErrorKind::Interrupted));
-        }
-        Ok(())
-    }
-}
-
-/// Takes so many bytes a call.
-#[derive(Drop)]
-struct Sips {
-    held: Vec<u8>,
-    most: usize,
-    writes: FailsOnce,
-    flushes: FailsOnce,
-    flushed: usize,
-}
-
-impl Write for Sips {
-    fn write(&mut self, bytes: &[u8]) -> io::Result<usize> {
-        self.writes.call()?;
-        let most = bytes.len().min(self.most);
-        self.held.write(&bytes[..most])
-    }
-
-    fn flush(&mut self) -> io::Result<()> {
-        self.flushed = self.flushed.saturating_add(1);
-        self.flushes.call()
-    }
-}
-
 /// What a sink over the writer answers.
 #[derive(Debug, Drop)]
 struct Said {
@@ -87,17 +29,6 @@ struct Said {
     /// Whether each message after that one is refused as `Broken`.
     stays: bool,
     end: Result<(), SinkFault>,
-}
-
-/// A writer that takes so many bytes a call.
-fn writer(alloc: Global, most: usize, writes: FailsOnce, flushes: FailsOnce) -> Sips {
-    Sips {
-        held: Vec::new(alloc),
-        most,
-        writes,
-        flushes,
-        flushed: 0,
-    }
 }
 
 /// What a sink over the writer answers to these messages, each of which is put whatever came before it.
@@ -119,7 +50,7 @@ fn answers(alloc: Global, sips: &mut Sips, parts: &[Part<'_>]) -> Result<Said, F
 
 /// The writer holds these bytes.
 fn holds_bytes(rt: &impl Abort, sips: &Sips, bytes: &[u8]) {
-    let held = sips.held.as_slice();
+    let held = sips.held();
     holds(rt, held == bytes, &held, &bytes, &"the writer");
 }
 
@@ -134,7 +65,7 @@ fn answers_a_failed_write(rt: HostRuntime) -> Result<(), Fail> {
 
 /// The write after so many fails, if there are more.
 fn answers_write_that_fails(rt: &impl Abort, alloc: Global, before: usize) -> Result<(), Fail> {
-    let mut sips = writer(alloc, 1, FailsOnce::after(before), FailsOnce::never());
+    let mut sips = Sips::new(alloc, 1, FailsOnce::after(before), FailsOnce::never());
     let said = answers(alloc, &mut sips, STREAM)?;
     let want = if before < 22 {
         (Some(SinkFault::WriteFailed), Err(SinkFault::Broken))
@@ -151,8 +82,8 @@ fn answers_write_that_fails(rt: &impl Abort, alloc: Global, before: usize) -> Re
     };
     holds(
         rt,
-        sips.flushed == flushed,
-        &sips.flushed,
+        sips.flushed() == flushed,
+        &sips.flushed(),
         &flushed,
         &before,
     );
@@ -170,7 +101,7 @@ fn answers_a_failed_flush(rt: HostRuntime) -> Result<(), Fail> {
         (2, (None, Err(SinkFault::WriteFailed)), BYTES),
         (3, (None, Ok(())), BYTES),
     ] {
-        let mut sips = writer(
+        let mut sips = Sips::new(
             rt.alloc(),
             4096,
             FailsOnce::never(),
@@ -187,12 +118,12 @@ fn answers_a_failed_flush(rt: HostRuntime) -> Result<(), Fail> {
 /// A writer that takes none of its bytes has failed.
 #[test]
 fn answers_a_write_of_no_byte(rt: HostRuntime) -> Result<(), Fail> {
-    let mut sips = writer(rt.alloc(), 0, FailsOnce::never(), FailsOnce::never());
+    let mut sips = Sips::new(rt.alloc(), 0, FailsOnce::never(), FailsOnce::never());
     let said = answers(rt.alloc(), &mut sips, &STREAM[..1])?;
     let want = (Some(SinkFault::WriteFailed), Err(SinkFault::Broken));
     let is_so = (said.fault, said.end) == want;
     holds(&rt, is_so, &said, &want, &"the first write");
-    holds(&rt, sips.flushed == 0, &sips.flushed, &0, &"the end");
+    holds(&rt, sips.flushed() == 0, &sips.flushed(), &0, &"the end");
     holds_bytes(&rt, &sips, b"");
     Ok(())
 }
