@@ -1,4 +1,4 @@
-//! Want of memory for a chain's text. `scripts/refused.py --tests` refuses each allocation of these
+//! Want of memory for a chain's text. `scripts/refused.py tests` refuses each allocation of these
 //! tests in turn.
 
 use pnm_chain::{ChainFault, ChainKind, parse_chain};

@@ -1,4 +1,4 @@
-//! Want of memory. `scripts/refused.py --tests` refuses each allocation of these tests in turn.
+//! Want of memory. `scripts/refused.py tests` refuses each allocation of these tests in turn.
 
 use super::chains::{LAST_COLUMN, are_lawful, channel};
 use super::rings::{IMAGE, Part, Unmade, holds, is_made_of, ring, send_all};

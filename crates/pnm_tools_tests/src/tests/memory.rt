@@ -1,6 +1,6 @@
 //! Want of memory. With ample memory each call succeeds; where an allocation is refused, the call
 //! answers `Memory`, and a tool at work answers it for good though memory is there again.
-//! `scripts/refused.py --tests` refuses each allocation of these tests in turn.
+//! `scripts/refused.py tests` refuses each allocation of these tests in turn.
 
 use super::copies::picks;
 use super::parts::{Part, WHOLE, channel, holds, is_made_of, message, stays};

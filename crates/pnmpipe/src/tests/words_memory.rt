@@ -1,4 +1,4 @@
-//! Want of memory in the program. `scripts/refused.py --tests` refuses each allocation of these
+//! Want of memory in the program. `scripts/refused.py tests` refuses each allocation of these
 //! tests in turn.
 
 use super::command::words_of;
