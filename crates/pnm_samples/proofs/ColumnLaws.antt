@@ -5,7 +5,7 @@ use Rattle.std.proofs.lemmas.List.{ext_get_or, get_or-drop, get_or-take, get_or_
 use Rattle.std.proofs.lemmas.List.Elements.{All-get_or}
 use Rattle.pnm_samples.specs.Pixels.{pixel_at, pixels, all_pixels}
 use Rattle.pnm_samples.specs.Blocks.{column_of_bit, columns_of}
-use Rattle.pnm_samples.specs.Columns.{column_at, HoldsPixels, HoldsEight, HoldsColumns}
+use Rattle.pnm_samples.specs.Columns.{column_at, HoldsPixels, HoldsSide, HoldsColumns}
 use Rattle.pnm_samples.proofs.PixelLaws.{length-pixels, get_or-pixels, drop-all_pixels, length-all_pixels}
 use Rattle.pnm_samples.proofs.BlockLaws.{pixels_of_column}
 
@@ -21,6 +21,15 @@ pixel_of_bytes bytes n r inside lt =
 pub byte_holds : (row bytes : List ℕ) (byte : ℕ) → byte < length bytes → row ≡ take (length row) (all_pixels bytes) → HoldsPixels byte row (get_or bytes byte 0)
 byte_holds row bytes byte inside is k lt within =
     sym (pixel_of_bytes bytes byte k inside lt) ∙ sym (get_or-take (length row) (all_pixels bytes) (8 * byte + k) 0 within) ∙ ap (λ (l : List ℕ). get_or l (8 * byte + k) 0) (sym is)
+
+-- what the bytes of a row from one on hold, or none where it has no such byte
+pub side_holds : (row bytes : List ℕ) (byte from : ℕ) → length bytes ≡ (length row + 7) / 8 → row ≡ take (length row) (all_pixels bytes) → (byte < length bytes → from ≡ byte) → HoldsSide byte row (take (length bytes - from) (drop from bytes))
+side_holds row bytes byte from count is start n k lt within =
+    let inside : byte + n < length bytes = omega (arith, count) in
+    let here : from ≡ byte = start (omega arith) in
+    let place : from + n ≡ byte + n = omega arith in
+    ap (pixel_at (7 - k)) (get_or-take (length bytes - from) (drop from bytes) n 0 (omega arith) ∙ get_or-drop from bytes n 0 ∙ ap (λ (i : ℕ). get_or bytes i 0) place)
+    ∙ byte_holds row bytes (byte + n) inside is k lt within
 
 -- the byte of one of eight columns
 column_of_eight : (rs : List ℕ) (k : ℕ) → k < 8 → get_or (columns_of rs) k 0 ≡ column_of_bit rs (7 - k)
@@ -39,6 +48,13 @@ pixel_of_eight : (rs : List ℕ) (i k : ℕ) → length rs ≡ 8 → i < 8 → k
 pixel_of_eight rs i k eight li lk =
     ap (pixel_at (7 - i)) (column_of_eight rs k lk) ∙ sym (get_or-pixels (column_of_bit rs (7 - k)) i li)
     ∙ ap (λ (l : List ℕ). get_or l i 0) (pixels_of_column rs (7 - k) eight) ∙ get_or-map (λ r. pixel_at (7 - k) r) rs i 0 0 (omega arith)
+
+-- eight bytes hold the columns of eight rows, from this one on, that lie in a byte of each of them; the first row has the highest
+-- bit
+abbrev pub HoldsEight : ℕ → ℕ → List (List ℕ) → List ℕ → Type 0
+HoldsEight first byte rows held =
+    (i k : ℕ) → i < 8 → k < 8 → first + i < length rows → 8 * byte + k < length (get_or rows (first + i) [])
+    → pixel_at (7 - i) (get_or held k 0) ≡ get_or (get_or rows (first + i) []) (8 * byte + k) 0
 
 -- the columns of eight bytes, each of which holds pixels of its row
 pub eight_held : (rows : List (List ℕ)) (first byte : ℕ) (rs : List ℕ) → length rs ≡ 8 → ((i : ℕ) → i < 8 → first + i < length rows → HoldsPixels byte (get_or rows (first + i) []) (get_or rs i 0)) → HoldsEight first byte rows (columns_of rs)

@@ -10,12 +10,9 @@ column_at rows x = map (λ row. get_or row x 0) rows
 abbrev pub HoldsPixels : ℕ → List ℕ → ℕ → Type 0
 HoldsPixels byte row held = (k : ℕ) → k < 8 → 8 * byte + k < length row → pixel_at (7 - k) held ≡ get_or row (8 * byte + k) 0
 
--- eight bytes hold the columns of eight rows, from this one on, that lie in a byte of each of them; the first row has the highest
--- bit
-abbrev pub HoldsEight : ℕ → ℕ → List (List ℕ) → List ℕ → Type 0
-HoldsEight first byte rows held =
-    (i k : ℕ) → i < 8 → k < 8 → first + i < length rows → 8 * byte + k < length (get_or rows (first + i) [])
-    → pixel_at (7 - i) (get_or held k 0) ≡ get_or (get_or rows (first + i) []) (8 * byte + k) 0
+-- bytes hold the pixels of a row from the byte of this number on, as many as there are
+abbrev pub HoldsSide : ℕ → List ℕ → List ℕ → Type 0
+HoldsSide byte row side = (n : ℕ) → HoldsPixels (byte + n) row (get_or side n 0)
 
 -- bytes hold 256 columns of rows, the first in this byte of each row: of each eight rows a byte of each column
 pub record HoldsColumns (byte : ℕ) (rows : List (List ℕ)) (bytes : List ℕ) : Type 0 where

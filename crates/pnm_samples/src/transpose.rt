@@ -2,7 +2,8 @@
 
 ghost use Rattle.std.specs.Prelude.{◌≡◌, ◌≤◌, ◌<◌, ◌+◌, ◌*◌, ◌/◌, ◌^◌, ℕ, All, IfOk, get_or, length, map, []};
 ghost use Rattle.std.specs.List.{range_with_len};
-ghost use Rattle.pnm_samples.specs.Columns.{column_at, HoldsPixels, HoldsEight, HoldsColumns};
+ghost use Rattle.pnm_samples.specs.Blocks.{columns_of};
+ghost use Rattle.pnm_samples.specs.Columns.{column_at, HoldsSide, HoldsColumns};
 
 use crate::bits::Bits;
 use crate::block::columns_of;
@@ -46,42 +47,62 @@ fn column_bytes(alloc: Global, rows: &[Bits], byte: usize) -> Result<Vec<u8>, Al
     let groups = rows.len().div_ceil(8);
     let mut bytes = Vec::with_capacity(alloc, 256 * groups)?;
     for group in 0..groups {
+        let first = 8 * group;
+        // The rows are looked up once a group, not once a byte.
+        let sides = [
+            side(rows, first, byte),
+            side(rows, first + 1, byte),
+            side(rows, first + 2, byte),
+            side(rows, first + 3, byte),
+            side(rows, first + 4, byte),
+            side(rows, first + 5, byte),
+            side(rows, first + 6, byte),
+            side(rows, first + 7, byte),
+        ];
         for beside in 0..SIDE_BY_SIDE {
-            bytes.extend_from_slice(&eight_columns(rows, 8 * group, byte + beside))?;
+            bytes.extend_from_slice(&eight_columns(&sides, beside))?;
         }
     }
     Ok(bytes)
 }
 
-/// The columns of eight rows, from this one on, that lie in a byte of each of them.
+/// The columns of eight rows that lie in a byte of each of them, of which these are the bytes.
 #[inline]
-fn eight_columns(rows: &[Bits], first: usize, byte: usize) -> [u8; 8]
-    requires fits { first < 2 ^ 60 }
-    ensures columns { HoldsEight first byte rows.now result }
+fn eight_columns(sides: &[&[u8]], beside: usize) -> [u8; 8]
+    requires { length sides.now ≡ 8 }
+    ensures columns { result ≡ columns_of (map (λ side. get_or side.now beside 0) sides.now) }
     ensures count { length result ≡ 8 }
 {
     columns_of(&[
-        byte_of(rows, first, byte),
-        byte_of(rows, first + 1, byte),
-        byte_of(rows, first + 2, byte),
-        byte_of(rows, first + 3, byte),
-        byte_of(rows, first + 4, byte),
-        byte_of(rows, first + 5, byte),
-        byte_of(rows, first + 6, byte),
-        byte_of(rows, first + 7, byte),
+        byte_of(sides[0], beside),
+        byte_of(sides[1], beside),
+        byte_of(sides[2], beside),
+        byte_of(sides[3], beside),
+        byte_of(sides[4], beside),
+        byte_of(sides[5], beside),
+        byte_of(sides[6], beside),
+        byte_of(sides[7], beside),
     ])
+}
+
+/// The bytes of a row from this one on, none where there is no such row.
+#[inline]
+fn side(rows: &[Bits], at: usize, byte: usize) -> &[u8]
+    ensures { at < length rows.now → HoldsSide byte (get_or rows.now at []) result.now }
+{
+    if at >= rows.len() {
+        return &[];
+    }
+    let bytes = rows[at].as_bytes();
+    &bytes[byte.min(bytes.len())..]
 }
 
 /// A byte of a row, or one of white pixels where there is none.
 #[inline]
-fn byte_of(rows: &[Bits], at: usize, byte: usize) -> u8
-    ensures { at < length rows.now → HoldsPixels byte (get_or rows.now at []) result }
+fn byte_of(side: &[u8], beside: usize) -> u8
+    ensures { result ≡ get_or side.now beside 0 }
 {
-    if at >= rows.len() {
-        return 0;
-    }
-    let bytes = rows[at].as_bytes();
-    if byte < bytes.len() { bytes[byte] } else { 0 }
+    if beside < side.len() { side[beside] } else { 0 }
 }
 
 /// The bytes of one of 256 columns.
