@@ -5,7 +5,7 @@ use Rattle.std.proofs.lemmas.List.{ext_get_or, get_or-drop, get_or-take, get_or_
 use Rattle.std.proofs.lemmas.List.Elements.{All-get_or}
 use Rattle.pnm_samples.specs.Pixels.{pixel_at, pixels, all_pixels}
 use Rattle.pnm_samples.specs.Blocks.{column_of_bit, columns_of}
-use Rattle.pnm_samples.specs.Columns.{column_at, HoldsPixels, HoldsSide, HoldsColumns}
+use Rattle.pnm_samples.specs.Columns.{column_at, HoldsPixels, HoldsFrom, HoldsColumns}
 use Rattle.pnm_samples.proofs.PixelLaws.{length-pixels, get_or-pixels, drop-all_pixels, length-all_pixels}
 use Rattle.pnm_samples.proofs.BlockLaws.{pixels_of_column}
 
@@ -23,8 +23,8 @@ byte_holds row bytes byte inside is k lt within =
     sym (pixel_of_bytes bytes byte k inside lt) ∙ sym (get_or-take (length row) (all_pixels bytes) (8 * byte + k) 0 within) ∙ ap (λ (l : List ℕ). get_or l (8 * byte + k) 0) (sym is)
 
 -- what the bytes of a row from one on hold, or none where it has no such byte
-pub side_holds : (row bytes : List ℕ) (byte from : ℕ) → length bytes ≡ (length row + 7) / 8 → row ≡ take (length row) (all_pixels bytes) → (byte < length bytes → from ≡ byte) → HoldsSide byte row (take (length bytes - from) (drop from bytes))
-side_holds row bytes byte from count is start n k lt within =
+pub bytes_from_hold : (row bytes : List ℕ) (byte from : ℕ) → length bytes ≡ (length row + 7) / 8 → row ≡ take (length row) (all_pixels bytes) → (byte < length bytes → from ≡ byte) → HoldsFrom byte row (take (length bytes - from) (drop from bytes))
+bytes_from_hold row bytes byte from count is start n k lt within =
     let inside : byte + n < length bytes = omega (arith, count) in
     let here : from ≡ byte = start (omega arith) in
     let place : from + n ≡ byte + n = omega arith in

@@ -5,5 +5,6 @@ pub mod CutLaws
 pub mod MirrorLaws
 pub mod PackLaws
 pub mod PackedAgain
+pub mod PackedBytes
 pub mod PixelLaws
 pub mod RepeatLaws

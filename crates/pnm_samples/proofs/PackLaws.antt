@@ -4,7 +4,7 @@ use Rattle.std.proofs.lemmas.List.{length-map, take_all, take_more_set, take-tak
 use Rattle.pnm_samples.specs.Cuts.{cut_rows}
 use Rattle.pnm_samples.specs.Pixels.{packed_byte, packed_groups, packed_bytes}
 use Rattle.pnm_samples.proofs.CutLaws.{length-cut_rows}
-use Rattle.pnm_samples.proofs.PixelLaws.{bits_before_white}
+use Rattle.pnm_samples.proofs.PackedBytes.{bits_before_white}
 
 -- ---- eight pixels
 

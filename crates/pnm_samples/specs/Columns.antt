@@ -11,8 +11,8 @@ abbrev pub HoldsPixels : ℕ → List ℕ → ℕ → Type 0
 HoldsPixels byte row held = (k : ℕ) → k < 8 → 8 * byte + k < length row → pixel_at (7 - k) held ≡ get_or row (8 * byte + k) 0
 
 -- bytes hold the pixels of a row from the byte of this number on, as many as there are
-abbrev pub HoldsSide : ℕ → List ℕ → List ℕ → Type 0
-HoldsSide byte row side = (n : ℕ) → HoldsPixels (byte + n) row (get_or side n 0)
+abbrev pub HoldsFrom : ℕ → List ℕ → List ℕ → Type 0
+HoldsFrom byte row bytes = (n : ℕ) → HoldsPixels (byte + n) row (get_or bytes n 0)
 
 -- bytes hold 256 columns of rows, the first in this byte of each row: of each eight rows a byte of each column
 pub record HoldsColumns (byte : ℕ) (rows : List (List ℕ)) (bytes : List ℕ) : Type 0 where

@@ -3,6 +3,7 @@
 ghost use Rattle.std.specs.Prelude.{◌≡◌, ℕ, ◌+◌, ◌-◌, ◌*◌, ◌/◌, ◌%◌, ◌^◌, ◌<◌, ◌≤◌, List, [], ◌∷◌, ◌++◌, length, take, drop, map, replicate, OnOk, OnErr, IfOk, IsTrue, ◌↔◌, All, slice_index};
 ghost use Rattle.pnm_samples.specs.Pixels.{pixel_at, pixels, all_pixels, ArePacked, AreBytes, packed_bytes};
 
+use crate::widths::widened;
 use std::alloc::{AllocError, Global};
 use std::marker::Model;
 
@@ -116,10 +117,7 @@ impl Bits {
     pub fn widened(&self, alloc: Global) -> Result<Vec<u16>, AllocError>
         ensures { IfOk result (λ words. words.items ≡ self.now) }
     {
-        self.unpacked(alloc)?
-            .iter()
-            .map(|byte| u16::from(*byte))
-            .collect(alloc)
+        widened(alloc, self.unpacked(alloc)?.as_slice())
     }
 
     /// The samples, a byte each.

@@ -12,6 +12,7 @@ mod packing;
 mod sample;
 mod samples;
 mod transpose;
+mod widths;
 
 pub use bits::Bits;
 pub use bounds::{are_bytes_within, are_words_within, greatest, greatest_byte};

@@ -6,6 +6,7 @@ ghost use Rattle.pnm_samples.specs.Held.{samples_of, lent_samples};
 use crate::bits::Bits;
 use crate::bounds::{GREATEST_BYTE, GREATEST_WORD, are_bytes_within, are_words_within};
 use crate::packing::pack;
+use crate::widths::{narrowed, widened};
 use std::alloc::{AllocError, Global};
 use std::marker::Model;
 
@@ -255,23 +256,4 @@ fn packed(alloc: Global, pixels: &[u16]) -> Result<Bits, AllocError>
     let mut bytes = Vec::from_elem(alloc, 0, pixels.len().div_ceil(8))?;
     pack(pixels, bytes.as_mut_slice());
     Ok(Bits::new(bytes, pixels.len()))
-}
-
-/// Words as bytes.
-fn narrowed(alloc: Global, words: &[u16]) -> Result<Vec<u8>, AllocError>
-    requires { All (λ sample. sample ≤ 255) words.now }
-    ensures { IfOk result (λ bytes. bytes.items ≡ words.now) }
-{
-    let mut bytes = Vec::from_elem(alloc, 0, words.len())?;
-    for at in 0..words.len() {
-        bytes[at] = words[at] as u8;
-    }
-    Ok(bytes)
-}
-
-/// Bytes as words.
-fn widened(alloc: Global, bytes: &[u8]) -> Result<Vec<u16>, AllocError>
-    ensures { IfOk result (λ words. words.items ≡ bytes.now) }
-{
-    bytes.iter().map(|byte| u16::from(*byte)).collect(alloc)
 }

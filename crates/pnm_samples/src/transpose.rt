@@ -3,7 +3,7 @@
 ghost use Rattle.std.specs.Prelude.{◌≡◌, ◌≤◌, ◌<◌, ◌+◌, ◌*◌, ◌/◌, ◌^◌, ℕ, All, IfOk, get_or, length, map, []};
 ghost use Rattle.std.specs.List.{range_with_len};
 ghost use Rattle.pnm_samples.specs.Blocks.{columns_of};
-ghost use Rattle.pnm_samples.specs.Columns.{column_at, HoldsSide, HoldsColumns};
+ghost use Rattle.pnm_samples.specs.Columns.{column_at, HoldsFrom, HoldsColumns};
 
 use crate::bits::Bits;
 use crate::block::columns_of;
@@ -49,18 +49,18 @@ fn column_bytes(alloc: Global, rows: &[Bits], byte: usize) -> Result<Vec<u8>, Al
     for group in 0..groups {
         let first = 8 * group;
         // The rows are looked up once a group, not once a byte.
-        let sides = [
-            side(rows, first, byte),
-            side(rows, first + 1, byte),
-            side(rows, first + 2, byte),
-            side(rows, first + 3, byte),
-            side(rows, first + 4, byte),
-            side(rows, first + 5, byte),
-            side(rows, first + 6, byte),
-            side(rows, first + 7, byte),
+        let eight = [
+            bytes_from(rows, first, byte),
+            bytes_from(rows, first + 1, byte),
+            bytes_from(rows, first + 2, byte),
+            bytes_from(rows, first + 3, byte),
+            bytes_from(rows, first + 4, byte),
+            bytes_from(rows, first + 5, byte),
+            bytes_from(rows, first + 6, byte),
+            bytes_from(rows, first + 7, byte),
         ];
         for beside in 0..SIDE_BY_SIDE {
-            bytes.extend_from_slice(&eight_columns(&sides, beside))?;
+            bytes.extend_from_slice(&eight_columns(&eight, beside))?;
         }
     }
     Ok(bytes)
@@ -68,27 +68,27 @@ fn column_bytes(alloc: Global, rows: &[Bits], byte: usize) -> Result<Vec<u8>, Al
 
 /// The columns of eight rows that lie in a byte of each of them, of which these are the bytes.
 #[inline]
-fn eight_columns(sides: &[&[u8]], beside: usize) -> [u8; 8]
-    requires { length sides.now ≡ 8 }
-    ensures columns { result ≡ columns_of (map (λ side. get_or side.now beside 0) sides.now) }
+fn eight_columns(rows: &[&[u8]], beside: usize) -> [u8; 8]
+    requires { length rows.now ≡ 8 }
+    ensures columns { result ≡ columns_of (map (λ row. get_or row.now beside 0) rows.now) }
     ensures count { length result ≡ 8 }
 {
     columns_of(&[
-        byte_of(sides[0], beside),
-        byte_of(sides[1], beside),
-        byte_of(sides[2], beside),
-        byte_of(sides[3], beside),
-        byte_of(sides[4], beside),
-        byte_of(sides[5], beside),
-        byte_of(sides[6], beside),
-        byte_of(sides[7], beside),
+        byte_of(rows[0], beside),
+        byte_of(rows[1], beside),
+        byte_of(rows[2], beside),
+        byte_of(rows[3], beside),
+        byte_of(rows[4], beside),
+        byte_of(rows[5], beside),
+        byte_of(rows[6], beside),
+        byte_of(rows[7], beside),
     ])
 }
 
 /// The bytes of a row from this one on, none where there is no such row.
 #[inline]
-fn side(rows: &[Bits], at: usize, byte: usize) -> &[u8]
-    ensures { at < length rows.now → HoldsSide byte (get_or rows.now at []) result.now }
+fn bytes_from(rows: &[Bits], at: usize, byte: usize) -> &[u8]
+    ensures { at < length rows.now → HoldsFrom byte (get_or rows.now at []) result.now }
 {
     if at >= rows.len() {
         return &[];
@@ -99,10 +99,10 @@ fn side(rows: &[Bits], at: usize, byte: usize) -> &[u8]
 
 /// A byte of a row, or one of white pixels where there is none.
 #[inline]
-fn byte_of(side: &[u8], beside: usize) -> u8
-    ensures { result ≡ get_or side.now beside 0 }
+fn byte_of(row: &[u8], beside: usize) -> u8
+    ensures { result ≡ get_or row.now beside 0 }
 {
-    if beside < side.len() { side[beside] } else { 0 }
+    if beside < row.len() { row[beside] } else { 0 }
 }
 
 /// The bytes of one of 256 columns.

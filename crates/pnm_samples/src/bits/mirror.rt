@@ -31,6 +31,9 @@ fn move_to_end(bytes: &mut [u8], skipped: u32)
     requires { skipped < 8 }
     ensures { (rest : List ℕ) → all_pixels bytes.old ≡ replicate skipped 1 ++ rest → all_pixels bytes.new ≡ rest ++ replicate skipped 1 }
 {
+    if skipped == 0 {
+        return;
+    }
     let count = bytes.len();
     if count > 0 {
         for i in 0..count - 1 {

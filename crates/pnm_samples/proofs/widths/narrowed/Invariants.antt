@@ -1,5 +1,5 @@
 use Rattle.std.proofs.Common.{◌≡◌, take, length}
-use Rattle.pnm_samples.proofs.samples.narrowed.Given as goal
+use Rattle.pnm_samples.proofs.widths.narrowed.Given as goal
 
 -- the words that have passed
 abbrev pub invariant-loop-at : goal.invariant-loop-at
