@@ -9,13 +9,16 @@ TESTED := pnm_samples_tests pnm_image_tests pnm_read_tests pnm_tools_tests pnm_w
 # crates whose tests of want of memory are refused each allocation
 REFUSED := pnm_tools_tests pnm_chain_tests pnm_flow_tests pnmpipe
 
+# the crates that most others stand on, those below first
+BELOW := pnm_samples pnm_image pnm_tools pnm_rings pnm_stages pnm_lanes pnm_read pnm_write pnm_flow pnm_chain
+
 # how long `make soak` starts runs
 SECONDS ?= 60
 
-# the lowest crate by all processors, and then those above it side by side; one `rt` for all, since two would wait for each other
+# the crates that others stand on one after the other, each by all processors, since side by side each gets one; then the rest
 all: toolchain
 	mkdir -p bin
-	cd crates/pnm_samples && rt lib
+	for crate in $(BELOW); do (cd crates/$$crate && rt lib) || exit 1; done
 	rt all check --jobs $$(nproc)
 	cd $(PROGRAM) && rt run -- pnminvert < stdin > ../../bin/stored-run
 	cmp bin/stored-run $(PROGRAM)/stdout
@@ -24,13 +27,14 @@ all: toolchain
 	python3 scripts/refused.py start
 
 # one check a processor, each of at most 4 GB; then each allocation and each start of a thread is refused in turn, of the
-# program and the tests that the gate has left. The gate's own last line comes last
+# program and the tests that the gate has left, and the program's input is silent. The gate's own last line comes last
 check: toolchain
 	mkdir -p bin
 	rm -f bin/gate-failed
 	(RT_JOBS=$${RT_JOBS:-$$(nproc)} rt ci || touch bin/gate-failed) | tee bin/gate
 	test ! -e bin/gate-failed
 	python3 scripts/refused.py growth start tests --program $(PROGRAM)/out/pnmpipe
+	python3 scripts/idle.py --program $(PROGRAM)/out/pnmpipe
 	tail -n 1 bin/gate
 
 # the tests alone, built and run as they stand: `make check` proves them too
@@ -69,7 +73,7 @@ toolchain:
 help:
 	@echo "make                 proves the crates, builds the program and leaves it as bin/pnmpipe"
 	@echo "make test            the tests alone, without their proofs"
-	@echo "make check           the whole gate: every proof from nothing, the edits that must fail, the tests, the stored runs, and refused allocations"
+	@echo "make check           the whole gate: every proof, the edits that must fail, the tests, the stored runs, refused allocations and silent inputs"
 	@echo "make bench           times the program that make has left beside Netpbm's own tools, on large images"
 	@echo "make lanes           times the program that make has left with 1, 2, 4 and 8 lanes"
 	@echo "make long-stream     passes a stream of 4 GiB through the program that make has left, and wants less than 32 MB of memory"

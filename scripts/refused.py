@@ -45,8 +45,6 @@ class Command(typing.NamedTuple):
     whole: bytes
     starts: int
     line: str = ""
-    # std's `collect` asks for all the room at first and, where that alone is refused, again for less
-    asks_again: bool = False
 
 
 class Answer(typing.NamedTuple):
@@ -133,8 +131,7 @@ def commands_over(lanes):
 
     def command(chain, given, whole, row_wise, others, ring=1, line=""):
         words = ["--ring", str(ring), "--lanes", str(lanes), chain]
-        collects = chain.startswith("pamdepth")
-        return Command(words, given, whole, threads_of(row_wise, others, lanes), line, collects)
+        return Command(words, given, whole, threads_of(row_wise, others, lanes), line)
 
     yield from (command(chain, STREAM, whole, 1, 0) for chain, whole in ROW_WISE)
     yield from (command(chain, STREAM, whole, 0, 1) for chain, whole in WHOLE)
@@ -197,7 +194,7 @@ def place_of(line):
     return 2 if line.startswith("pnmpipe: input:") else 1
 
 
-def judge(command, answer, is_for_good=False):
+def judge(command, answer):
     """Wants the answer to fit the command, whether or not something was refused."""
     if answer.left != 0:
         raise Fault(f"threads are left: {answer.left}; status {answer.status}, {answer.printed!r}")
@@ -207,8 +204,6 @@ def judge(command, answer, is_for_good=False):
     if not answer.refusals:
         if not is_whole:
             raise Fault(f"nothing is refused, and status {answer.status}, {answer.printed!r}, {answer.written!r}")
-        return
-    if is_whole and command.asks_again and not is_for_good:
         return
     if command.line and answer.printed == command.line and answer.status == 1:
         return
@@ -245,7 +240,7 @@ def refuse_command(program, command, kinds, seconds, loaded):
 
     def run_once(variables):
         answer = run([program, *command.words], command.given, seconds, loaded, variables)
-        judge(command, answer, "REFUSED_FOR_GOOD" in variables)
+        judge(command, answer)
         return answer
 
     counts, lines = [], collections.Counter()
@@ -261,7 +256,7 @@ def refuse_command(program, command, kinds, seconds, loaded):
 
 
 def shown(answer):
-    return re.sub("tool [0-9]+:", "tool K:", answer.printed.strip()) or "no line, the output is whole"
+    return re.sub("tool [0-9]+:", "tool K:", answer.printed.strip())
 
 
 def refuse_test(program, name, seconds, loaded):
