@@ -53,8 +53,14 @@ written_front : (old a b : Option (List ℕ)) (bytes rest : List ℕ) → Writte
 written_front old a b bytes rest w p = subst (AppendsFront old b) (sym w.parts) (then_front old a b w.front rest w.appended p)
 
 -- a call that failed is a failure since any moment from which there was none
-fails : (old a b : ℕ) → a ≡ old → b ≡ min (a + 1) (2 ^ 64 - 1) → Failed old b
-fails old a b p e = elim (cases_lt old (2 ^ 64 - 1)) [ inl lt ↦ inl (omega arith) | inr le ↦ inr (omega arith) ]
+pub fails : (old a b : ℕ) → a ≡ old → b ≡ min (a + 1) (2 ^ 64 - 1) → Failed old b
+fails old a b p e = (elim (cases_lt old (2 ^ 64 - 1)) [ inl lt ↦ inl (omega arith) | inr le ↦ inr (omega arith) ], omega arith)
+
+-- after a failure, another one is a failure since then
+pub fails_again : (start old new : ℕ) → Failed start old → Failed old new → Failed start new
+fails_again start old new (inl less, most) (inl more, above) = (inl (omega arith), above)
+fails_again start old new (inr full, most) (inl more, above) = absurd (omega arith)
+fails_again start old new since (inr full, above) = (inr full, above)
 
 -- a writer that has written a part of some bytes, and had no failure
 pub record Sending {W : Type 0} (held : W → Option (List ℕ)) (failures : W → ℕ) (same : W → W → Type 0) (old now : W) (bytes rest : List ℕ) : Type 0 where

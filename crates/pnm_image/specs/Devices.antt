@@ -1,5 +1,5 @@
 -- What a device says of its calls: how many of them failed, and which bytes it gave or took.
-use Rattle.std.specs.Prelude.{◌≡◌, ℕ, ◌+◌, ◌-◌, ◌^◌, ◌<◌, min, ◌⊎◌, List, take, Option, Result, MatchResult}
+use Rattle.std.specs.Prelude.{◌≡◌, ℕ, ◌+◌, ◌-◌, ◌^◌, ◌<◌, ◌≤◌, min, ◌⊎◌, List, take, Option, Result, MatchResult}
 use Rattle.std.specs.Io.KnownBytes.{Appends}
 use Rattle.pnm_image.specs.declared.device.Device.{Device}
 
@@ -7,9 +7,9 @@ use Rattle.pnm_image.specs.declared.device.Device.{Device}
 abbrev pub CountsFailure : {T E : Type 0} → ℕ → ℕ → Result T E → Type 0
 CountsFailure old new r = MatchResult r (λ _. new ≡ old) (λ _. new ≡ min (old + 1) (2 ^ 64 - 1))
 
--- the device failed in what took its count from old to new
+-- the device failed in what took its count from old to new: no count goes beyond the greatest u64
 abbrev pub Failed : ℕ → ℕ → Type 0
-Failed old new = (old < new) ⊎ (new ≡ 2 ^ 64 - 1)
+Failed old new = ((old < new) ⊎ (new ≡ 2 ^ 64 - 1)) × (new ≤ 2 ^ 64 - 1)
 
 -- the reader or writer of a device
 abbrev pub device_inner : {D : Type 0} → Device D → D
