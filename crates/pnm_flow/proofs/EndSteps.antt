@@ -1,7 +1,6 @@
 -- What a run knows at its end, and what follows of it for its answer.
 use Rattle.std.proofs.Common.{◌≡◌, ◌≢◌, ◌⊎◌, ℕ, ◌≤◌, List, [], ◌++◌, length, Option, None, Some, Result, Ok, Err, IfOk, OnOk, refl, sym, ap, subst, inl, inr, arith, le_refl, map, ◌∷◌}
 use Rattle.std.proofs.lemmas.List.{append-nil, length-append}
-use Rattle.std.specs.Result.{MatchResult}
 use Rattle.std.specs.Io.KnownBytes.{Appends, Consumes, Keeps}
 use Rattle.pnm_image.specs.Devices.{AppendsFront, Failed}
 use Rattle.pnm_image.specs.declared.message.Message.{Message}
@@ -26,7 +25,7 @@ use Rattle.pnm_write.specs.declared.fault.SinkFault.TheVariants.{WriteFailed}
 use Rattle.pnm_flow.specs.declared.downstream.Downstream.{Downstream}
 use Rattle.pnm_flow.specs.declared.fault.RunFault.TheVariants.{Input, Tool as OfTool}
 use Rattle.pnm_flow.specs.declared.summary.Summary.{Summary}
-use Rattle.pnm_flow.specs.Downstreams.{output_of}
+use Rattle.pnm_flow.specs.Downstreams.{output_of, AnswersFlushes}
 use Rattle.pnm_flow.specs.Feeding.{IsSaidOf}
 use Rattle.pnm_flow.specs.Runs.{Change, change, HasRun, HasRunInOneThread, AllIsWritten, IsOfOneThread, answer_by, input_of, IsFirstRefusal, IfInput, IfTool, IfOutput, EndedWell, IsStoppedBy, OutlastsRun, HasMore, MayFollow, AnswersText, IsFrontOfDue, IsFrontForEach, FitAnswer, IsAllWritten}
 use Rattle.pnm_flow.specs.Verdicts.{IsTaken}
@@ -57,7 +56,7 @@ pub record Ended {W : Type 0} (reader : Change) (held : W → Option (List ℕ))
   pub stages : input ≡ Ok tt → HaveEnded tools faults given out refused
   pub kept : Keeps (held (output_of sink)) (held done)
   pub broken : (fault : SinkFault) → sink.output ≡ Err fault → (output ≡ Err fault) × (done ≡ output_of sink)
-  pub well : sink.output ≡ Ok tt → MatchResult output (λ summary. (summary ≡ sink.summary) × (failures done ≡ failures (output_of sink))) (λ fault. (fault ≡ WriteFailed) × Failed (failures (output_of sink)) (failures done))
+  pub well : sink.output ≡ Ok tt → AnswersFlushes failures sink done output
 
 -- what the reader has left may follow
 pub rest_follows : (input : Result (Unit {0}) InputFault) (reader : Change) (rest : List ℕ) → reader.new ≡ Some rest → MayFollow input reader rest

@@ -1,6 +1,6 @@
 -- What a run has read and written when all messages have passed.
 use Rattle.std.proofs.Common.{◌≡◌, ◌⊎◌, ℕ, Bool, List, [], ◌∷◌, ◌++◌, take, length, sum_by, zero-add, Option, None, Some, Result, Ok, Err, refl, sym, ap, subst, ◌∙◌, inl, inr, append_assoc}
-use Rattle.std.specs.Result.{MatchResult, is_err}
+use Rattle.std.specs.Result.{is_err}
 use Rattle.std.specs.List.{AllByRecursion}
 use Rattle.std.specs.Io.KnownBytes.{Appends, Keeps}
 use Rattle.std.proofs.lemmas.List.{append-nil, take_at}
@@ -37,7 +37,7 @@ use Rattle.pnm_stages.specs.declared.serial_stage.SerialStage.TheVariants.{AtWor
 use Rattle.pnm_flow.specs.declared.fault.RunFault.{RunFault}
 use Rattle.pnm_flow.specs.declared.summary.Summary.{Summary}
 use Rattle.pnm_flow.specs.Counts.{counted, images_in, rows_in}
-use Rattle.pnm_flow.specs.Downstreams.{output_of, AreWritable, AreWritten, AreCutOff, HasTakenWith}
+use Rattle.pnm_flow.specs.Downstreams.{output_of, AreWritable, AreWritten, AreCutOff, HasTakenWith, AnswersFlushes}
 use Rattle.pnm_flow.specs.Feeding.{IsSaidOf, HasFed}
 use Rattle.pnm_flow.specs.Runs.{EndedWell, IsStoppedBy, IsFrontOfDue, FitAnswer, IsAllWritten}
 use Rattle.pnm_flow.specs.Verdicts.{IsTaken}
@@ -204,12 +204,11 @@ run_taken tools faults given out text lawful have said well =
 pub run_output : {W : Type 0} (held : W → Option (List ℕ)) (failures : W → ℕ) (start done : W) (tools : List Tool) (given out : List Message) (d : Downstream W) (o : Result (Unit {0}) SinkFault) (answer : Result Summary SinkFault) (fault : SinkFault)
     → Ran held failures start tools given out d → d.output ≡ o
     → ((f : SinkFault) → d.output ≡ Err f → (answer ≡ Err f) × (done ≡ output_of d))
-    → (d.output ≡ Ok tt → MatchResult answer (λ summary. (summary ≡ d.summary) × (failures done ≡ failures (output_of d))) (λ f. (f ≡ WriteFailed) × Failed (failures (output_of d)) (failures done)))
+    → (d.output ≡ Ok tt → AnswersFlushes failures d done answer)
     → answer ≡ Err fault → (fault ≡ WriteFailed) × Failed (failures start) (failures done)
 run_output held failures start done tools given out d (Ok tt) answer fault ran o-is broken well answer-is =
     let written : AreWritten held failures start out d = subst (HasTakenWith held failures start out d) o-is ran.taken in
-    let failed = rw answer-is at (well o-is) in
-    (failed.0, subst (λ (n : ℕ). Failed n (failures done)) written.count failed.1)
+    rw answer-is at (well o-is (failures start) written.count)
 run_output held failures start done tools given out d (Err other) answer fault ran o-is broken well answer-is =
     let cut : AreCutOff held failures start out d other = subst (HasTakenWith held failures start out d) o-is ran.taken in
     let both = broken other o-is in
@@ -221,12 +220,12 @@ run_output held failures start done tools given out d (Err other) answer fault r
 pub run_sound : {W : Type 0} (held : W → Option (List ℕ)) (failures : W → ℕ) (start done : W) (tools : List Tool) (given out : List Message) (d : Downstream W) (o : Result (Unit {0}) SinkFault) (answer : Result Summary SinkFault) (summary : Summary)
     → Ran held failures start tools given out d → d.output ≡ o
     → ((f : SinkFault) → d.output ≡ Err f → (answer ≡ Err f) × (done ≡ output_of d))
-    → (d.output ≡ Ok tt → MatchResult answer (λ summary. (summary ≡ d.summary) × (failures done ≡ failures (output_of d))) (λ f. (f ≡ WriteFailed) × Failed (failures (output_of d)) (failures done)))
+    → (d.output ≡ Ok tt → AnswersFlushes failures d done answer)
     → answer ≡ Ok summary → AreWritten held failures start out d × (summary ≡ d.summary) × (failures done ≡ failures start)
 run_sound held failures start done tools given out d (Ok tt) answer summary ran o-is broken well answer-is =
     let written : AreWritten held failures start out d = subst (HasTakenWith held failures start out d) o-is ran.taken in
-    let same = rw answer-is at (well o-is) in
-    (written, same.0, same.1 ∙ written.count)
+    let same = rw answer-is at (well o-is (failures start) written.count) in
+    (written, same.0, same.1)
 run_sound held failures start done tools given out d (Err other) answer summary ran o-is broken well answer-is = absurd (cc ((broken other o-is).0, answer-is))
 
 -- a run that ended well

@@ -1,7 +1,6 @@
 -- What a run over threads knows once all have ended, and what follows of it for its answer.
 use Rattle.std.proofs.Common.{◌≡◌, ◌≢◌, ◌⊎◌, inl, inr, ℕ, suc, drop, get_or, ◌+◌, ◌≤◌, ◌<◌, Bool, true, false, List, [], ◌∷◌, ◌++◌, length, Option, Some, None, Result, Ok, Err, refl, sym, ap, subst, ◌∙◌, append_assoc, append-nil, arith}
 use Rattle.std.proofs.Math.Seq.{drop-cons}
-use Rattle.std.specs.Result.{MatchResult}
 use Rattle.std.specs.Io.KnownBytes.{Consumes, Keeps}
 use Rattle.rtrb.specs.Ring.{sent, received, known_items}
 use Rattle.pnm_image.specs.Devices.{Failed}
@@ -26,7 +25,6 @@ use Rattle.pnm_tools.proofs.ChainLaws.{front_of_due_is_sound}
 use Rattle.pnm_tools.proofs.FullLaws.{front_of_front}
 use Rattle.pnm_tools.proofs.SoundLaws.{sound_keeps_all, unbroken_keeps_all}
 use Rattle.pnm_write.specs.declared.fault.SinkFault.{SinkFault}
-use Rattle.pnm_write.specs.declared.fault.SinkFault.TheVariants.{WriteFailed}
 use Rattle.pnm_flow.specs.declared.downstream.Downstream.{Downstream}
 use Rattle.pnm_flow.specs.declared.fault.RunFault.{RunFault}
 use Rattle.pnm_flow.specs.declared.fault.RunFault.TheVariants.{NoStart, Input, Tool as OfTool, Output, PeerGone as Gone}
@@ -36,7 +34,7 @@ use Rattle.pnm_rings.specs.declared.stage_end.StageEnd.TheVariants.{Well, Broken
 use Rattle.pnm_flow.specs.declared.summary.Summary.{Summary}
 use Rattle.pnm_flow.specs.Chains.{IsStageOver, FirstIsThere, AreStages}
 use Rattle.pnm_flow.specs.Collectors.{EndedBy}
-use Rattle.pnm_flow.specs.Downstreams.{output_of, HasTaken}
+use Rattle.pnm_flow.specs.Downstreams.{output_of, HasTaken, AnswersFlushes}
 use Rattle.pnm_flow.specs.Feeders.{HasAskedBy, closing}
 use Rattle.pnm_rings.specs.Rings.{IsEnded}
 use Rattle.pnm_flow.specs.Runs.{Change, change, MayFollow}
@@ -142,7 +140,7 @@ pub record Over {R W : Type 0} (left : R → Option (List ℕ)) (reader_failures
   pub taken : HasTaken held failures start (without_stop got) sink
   pub kept : Keeps (held (output_of sink)) (held done)
   pub broken : (fault : SinkFault) → sink.output ≡ Err fault → (output ≡ Err fault) × (done ≡ output_of sink)
-  pub well : sink.output ≡ Ok tt → MatchResult output (λ summary. (summary ≡ sink.summary) × (failures done ≡ failures (output_of sink))) (λ fault. (fault ≡ WriteFailed) × Failed (failures (output_of sink)) (failures done))
+  pub well : sink.output ≡ Ok tt → AnswersFlushes failures sink done output
 
 given_sound : {R : Type 0} (left : R → Option (List ℕ)) (failures : R → ℕ) (first source : Source R) (given : List Message) (input : Option (Result (Unit {0}) InputFault)) → HasAskedBy left failures first source given input → AreSound given
 given_sound left failures first source given None asked = given_is_sound source asked.read given asked.told

@@ -1,14 +1,15 @@
 -- What the sink of a run has taken.
-use Rattle.std.specs.Prelude.{◌≡◌, ℕ, true, false, List, Option, Result, Ok, Err}
+use Rattle.std.specs.Prelude.{◌≡◌, ℕ, Bool, true, false, List, Option, Result, MatchResult, Ok, Err}
 use Rattle.std.specs.List.{AllByRecursion}
 use Rattle.pnm_image.specs.declared.message.Message.{Message}
 use Rattle.pnm_image.specs.Places.{IsLawful}
 use Rattle.pnm_write.specs.declared.fault.SinkFault.{SinkFault}
 use Rattle.pnm_write.specs.declared.fault.SinkFault.TheVariants.{WriteFailed}
 use Rattle.pnm_write.specs.Encoding.{bytes_of}
-use Rattle.pnm_image.specs.Devices.{FailsIn}
+use Rattle.pnm_image.specs.Devices.{Failed, FailsIn}
 use Rattle.pnm_write.specs.Sinks.{writer_of, has_failed, HasRows, HasWritten}
 use Rattle.pnm_flow.specs.declared.downstream.Downstream.{Downstream}
+use Rattle.pnm_flow.specs.declared.summary.Summary.{Summary}
 use Rattle.pnm_flow.specs.Counts.{images_in, rows_in}
 
 -- the writer behind the sink
@@ -19,10 +20,15 @@ output_of d = writer_of d.sink
 abbrev pub AreWritable : List Message → Type 0
 AreWritable messages = IsLawful messages × AllByRecursion HasRows messages
 
--- the messages were written and counted
+-- the writer failed since the count of the start where a flush has failed, and else didn't
+abbrev pub CountsFlushes : Bool → ℕ → ℕ → Type 0
+CountsFlushes false start now = now ≡ start
+CountsFlushes true start now = Failed start now
+
+-- the messages were written and counted; flushes may have failed
 pub record AreWritten {W : Type 0} (held : W → Option (List ℕ)) (failures : W → ℕ) (start : W) (messages : List Message) (d : Downstream W) : Type 0 where
   pub written : HasWritten held (held start) d.sink messages
-  pub count : failures (output_of d) ≡ failures start
+  pub count : CountsFlushes d.flush_failed (failures start) (failures (output_of d))
   pub sound : has_failed d.sink ≡ false
   pub images : d.summary.images ≡ images_in 0 messages
   pub rows : d.summary.rows ≡ rows_in 0 messages
@@ -39,3 +45,8 @@ HasTakenWith held failures start messages d (Err fault) = AreCutOff held failure
 -- since the start the sink was passed these messages
 abbrev pub HasTaken : {W : Type 0} → (W → Option (List ℕ)) → (W → ℕ) → W → List Message → Downstream W → Type 0
 HasTaken held failures start messages d = HasTakenWith held failures start messages d d.output
+
+-- what is answered after the last flush, where no message was cut off: how much was written, if no flush has failed
+abbrev pub AnswersFlushes : {W : Type 0} → (W → ℕ) → Downstream W → W → Result Summary SinkFault → Type 0
+AnswersFlushes failures d done answer =
+    (start : ℕ) → CountsFlushes d.flush_failed start (failures (output_of d)) → MatchResult answer (λ summary. (summary ≡ d.summary) × (failures done ≡ start)) (λ fault. (fault ≡ WriteFailed) × Failed start (failures done))

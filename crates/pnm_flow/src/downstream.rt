@@ -1,16 +1,15 @@
 //! What stands behind the tools of a run: the sink, and the count of what it wrote.
 
-ghost use Rattle.std.specs.Prelude.{◌≡◌, [], ◌∷◌, ◌++◌, List, Ok, Err, MatchResult};
+ghost use Rattle.std.specs.Prelude.{◌≡◌, [], ◌∷◌, ◌++◌, List, Ok, Err};
 ghost use Rattle.std.specs.Result.{is_err};
 ghost use Rattle.std.specs.Io.KnownBytes.{Keeps};
-ghost use Rattle.pnm_image.specs.Devices.{Failed};
 ghost use Rattle.pnm_image.specs.declared.message.Message.{Message as MessageValue};
 ghost use Rattle.pnm_write.specs.declared.fault.SinkFault.{SinkFault as Fault};
-ghost use Rattle.pnm_write.specs.declared.fault.SinkFault.TheVariants.{WriteFailed};
 ghost use Rattle.pnm_write.specs.Sinks.{has_failed};
 
 use crate::summary::Summary;
 use pnm_image::{BytesOut, Message};
+use pnm_rings::ends_image;
 use pnm_write::{Sink, SinkFault};
 
 /// The sink, and what came of it so far.
@@ -19,10 +18,12 @@ pub struct Downstream<W> {
     sink: Sink<W>,
     summary: Summary,
     output: Result<(), SinkFault>,
+    /// A flush at an image's end has failed.
+    flush_failed: bool,
 }
 
 impl<W: BytesOut + Drop> Downstream<W> {
-    ghost use Rattle.pnm_flow.specs.Downstreams.{output_of, HasTaken};
+    ghost use Rattle.pnm_flow.specs.Downstreams.{output_of, AreWritten, HasTaken, AnswersFlushes};
 
     /// The sink before the first message.
     pub fn new(writer: W) -> Downstream<W>
@@ -33,10 +34,12 @@ impl<W: BytesOut + Drop> Downstream<W> {
             sink: Sink::new(writer),
             summary: Summary { images: 0, rows: 0 },
             output: Ok(()),
+            flush_failed: false,
         }
     }
 
-    /// Writes the message, unless there was a fault of the output before.
+    /// Writes the message, unless there was a fault of the output before, and flushes the writer at an image's end, so
+    /// that the image isn't kept back until the next one comes.
     pub fn put(&mut self, message: Message)
         ensures taken { (start : W) (messages : List MessageValue)
             → HasTaken W.held W.failures start messages self.old
@@ -47,29 +50,47 @@ impl<W: BytesOut + Drop> Downstream<W> {
             self.output = self.sink.put(&message);
             if self.output.is_ok() {
                 self.summary.count(&message);
+                self.pass_on(&message);
             }
         }
     }
 
-    /// Flushes the writer, unless there was a fault of the output before.
+    /// Flushes the writer at an image's end. Where that fails more is written, and `finish` answers so.
+    fn pass_on(&mut self, message: &Message)
+        ensures written { (start : W) (messages : List MessageValue)
+            → AreWritten W.held W.failures start messages self.old
+            → AreWritten W.held W.failures start messages self.new }
+        ensures output { self.new.output ≡ self.old.output }
+        ensures same_device { W.same (output_of self.old) (output_of self.new) }
+    {
+        if ends_image(message) {
+            match self.sink.flush() {
+                Ok(()) => {}
+                Err(_) => self.flush_failed = true,
+            }
+        }
+    }
+
+    /// Flushes the writer, unless there was a fault of the output before, which is then answered. Else a flush that
+    /// fails is, and so is one that has failed at an image's end.
     pub fn finish(self) -> (W, Result<Summary, SinkFault>)
         requires { has_failed self.sink ≡ is_err self.output }
         ensures bytes { Keeps (W.held (output_of self)) (W.held result.0) }
         ensures broken { (fault : Fault) → self.output ≡ Err fault
             → (result.1 ≡ Err fault) × (result.0 ≡ output_of self) }
-        ensures well { self.output ≡ Ok tt → MatchResult result.1
-            (λ summary. (summary ≡ self.summary) × (W.failures result.0 ≡ W.failures (output_of self)))
-            (λ fault. (fault ≡ WriteFailed) × Failed (W.failures (output_of self)) (W.failures result.0)) }
+        ensures well { self.output ≡ Ok tt → AnswersFlushes W.failures self result.0 result.1 }
         ensures same_device { W.same (output_of self) result.0 }
     {
         let Downstream {
             sink,
             summary,
             output,
+            flush_failed,
         } = self;
         let (writer, flushed) = sink.finish();
         match output.and(flushed) {
-            Ok(()) => (writer, Ok(summary)),
+            Ok(()) if !flush_failed => (writer, Ok(summary)),
+            Ok(()) => (writer, Err(SinkFault::WriteFailed)),
             Err(fault) => (writer, Err(fault)),
         }
     }

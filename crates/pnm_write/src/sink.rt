@@ -40,12 +40,12 @@ impl<W: BytesOut> Sink<W> {
     }
 
     /// Writes all bytes of the message: at the beginning of an image its header, and for a row its
-    /// samples, as pbm(5), pgm(5), ppm(5) and pam(5) lay them out. The other messages have none. At
-    /// the end of an image it flushes the writer, so that the image isn't kept back until the next one comes.
+    /// samples, as pbm(5), pgm(5), ppm(5) and pam(5) lay them out. The other messages have none. What the
+    /// writer keeps back of them is passed on by `flush`, which it doesn't call.
     ///
     /// The faults, in order: `Broken` after an earlier fault, and `OutOfOrder` where the message
     /// can't come at this place of the stream, or begins an image of height 0, with nothing
-    /// written; `WriteFailed` where the writer or its flush fails, with a front of the bytes written.
+    /// written; `WriteFailed` where the writer fails, with a front of the bytes written.
     pub fn put(&mut self, message: &Message) -> Result<(), SinkFault>
         ensures written { OnOk result
             (Appends (W.held (writer_of self.old)) (W.held (writer_of self.new)) (bytes_at (next_place self.old) message.now)) }
@@ -79,9 +79,35 @@ impl<W: BytesOut> Sink<W> {
         written
     }
 
-    /// Flushes the writer, unless there was a fault before, and gives it back. The faults are
-    /// `Broken` after an earlier fault, and `WriteFailed` where the flush fails. That there is none
-    /// doesn't say that the stream was ended.
+    /// Flushes the writer, so that it passes on what it still keeps back, unless there was a fault before. The
+    /// faults are `Broken` after an earlier one, and `WriteFailed` where the flush fails. That one isn't a fault
+    /// of the sink: more may be put, and another flush may go well.
+    pub fn flush(&mut self) -> Result<(), SinkFault>
+        ensures bytes { Keeps (W.held (writer_of self.old)) (W.held (writer_of self.new)) }
+        ensures place { next_place self.new ≡ next_place self.old }
+        ensures sound { has_failed self.new ≡ has_failed self.old }
+        ensures put { (messages : List _) → HasPut self.old messages → HasPut self.new messages }
+        ensures written { (start : _) (messages : List _) → HasWritten W.held start self.old messages
+            → HasWritten W.held start self.new messages }
+        ensures broken { has_failed self.old ≡ true → (result ≡ Err SinkFault.Broken) × (self.new ≡ self.old) }
+        ensures flush { has_failed self.old ≡ false → MatchResult result
+            (λ _. W.failures (writer_of self.new) ≡ W.failures (writer_of self.old))
+            (λ fault. (fault ≡ SinkFault.WriteFailed)
+            × Failed (W.failures (writer_of self.old)) (W.failures (writer_of self.new))) }
+        ensures same_device { W.same (writer_of self.old) (writer_of self.new) }
+    {
+        if self.has_failed {
+            Err(SinkFault::Broken)
+        } else {
+            match self.writer.flush() {
+                Ok(()) => Ok(()),
+                Err(_) => Err(SinkFault::WriteFailed),
+            }
+        }
+    }
+
+    /// Flushes the writer as `flush` does, and gives it back. That there is no fault doesn't say that the
+    /// stream was ended.
     pub fn finish(self) -> (W, Result<(), SinkFault>)
         ensures bytes { Keeps (W.held (writer_of self)) (W.held result.0) }
         ensures broken { has_failed self ≡ true
@@ -91,19 +117,9 @@ impl<W: BytesOut> Sink<W> {
             (λ fault. (fault ≡ SinkFault.WriteFailed) × Failed (W.failures (writer_of self)) (W.failures result.0)) }
         ensures same_device { W.same (writer_of self) result.0 }
     {
-        let Sink {
-            mut writer,
-            place: _,
-            has_failed,
-            room: _,
-        } = self;
-        if has_failed {
-            return (writer, Err(SinkFault::Broken));
-        }
-        match writer.flush() {
-            Ok(()) => (writer, Ok(())),
-            Err(_) => (writer, Err(SinkFault::WriteFailed)),
-        }
+        let mut sink = self;
+        let flushed = sink.flush();
+        (sink.writer, flushed)
     }
 
     fn write(&mut self, message: &Message) -> Result<(), SinkFault>
@@ -139,7 +155,7 @@ fn has_rows(message: &Message) -> bool
     }
 }
 
-/// Writes the bytes of a message that comes at this place, and flushes the writer where an image ends.
+/// Writes the bytes of a message that comes at this place.
 fn write_message<W: BytesOut>(
     writer: &mut W,
     room: &mut Room,
@@ -160,7 +176,6 @@ fn write_message<W: BytesOut>(
             Place::Inside(shape, _) => write_samples(writer, room, shape, row),
             Place::Between | Place::After => Ok(()),
         },
-        Message::ImageEnd => writer.flush(),
-        Message::StreamEnd | Message::Stop => Ok(()),
+        Message::ImageEnd | Message::StreamEnd | Message::Stop => Ok(()),
     }
 }
