@@ -114,3 +114,33 @@ impl Write for Sips {
         self.flushes.call()
     }
 }
+
+/// A writer that takes all bytes, and each of whose flushes fails.
+#[derive(Drop)]
+pub struct NeverFlushes {
+    held: Vec<u8>,
+}
+
+impl NeverFlushes {
+    /// Holds nothing yet.
+    pub fn new(alloc: Global) -> NeverFlushes {
+        NeverFlushes {
+            held: Vec::new(alloc),
+        }
+    }
+
+    /// The bytes that were taken.
+    pub fn held(&self) -> &[u8] {
+        self.held.as_slice()
+    }
+}
+
+impl Write for NeverFlushes {
+    fn write(&mut self, bytes: &[u8]) -> io::Result<usize> {
+        self.held.write(bytes)
+    }
+
+    fn flush(&mut self) -> io::Result<()> {
+        Err(io::Error::from(ErrorKind::Interrupted))
+    }
+}

@@ -7,7 +7,7 @@ use super::{IMAGE, INVERTED, Outcome, agrees};
 use pnm_flow::{RunFault, Summary};
 use pnm_image::{BytesIn, BytesOut, Device};
 use pnm_read::InputFault;
-use pnm_test_devices::{Drips, FailsOnce, Sips};
+use pnm_test_devices::{Drips, FailsOnce, NeverFlushes, Sips};
 use pnm_tools::Tool;
 use pnm_write::SinkFault;
 use std::alloc::Global;
@@ -84,6 +84,7 @@ fn answers_failed_devices(rt: HostRuntime) {
             for before in 0..4 {
                 answers_a_failed_flush(&rt, rt.alloc(), way, &made, before);
             }
+            answers_failed_flushes(&rt, rt.alloc(), way, &made);
         }
     }
 }
@@ -157,7 +158,7 @@ fn answers_a_failed_write<H: Threads + Wait + Abort + Sync>(
     writes(rt, alloc, way, made.tools, TWO, sips, want);
 }
 
-/// A flush after each image, and one at the end; the one after so many fails, and later ones don't.
+/// A flush after each image, and one at the end; the one after so many fails, and later ones don't. All is written.
 fn answers_a_failed_flush<H: Threads + Wait + Abort + Sync>(
     rt: &H,
     alloc: Global,
@@ -166,13 +167,32 @@ fn answers_a_failed_flush<H: Threads + Wait + Abort + Sync>(
     before: usize,
 ) {
     let sips = Sips::new(alloc, 4096, FailsOnce::never(), FailsOnce::after(before));
-    let first = made.first.min(made.whole.len());
-    let want = match before {
-        0 => (FAILED, &made.whole[..first]),
-        1 | 2 => (FAILED, made.whole),
-        _ => (WELL, made.whole),
-    };
-    writes(rt, alloc, way, made.tools, TWO, sips, want);
+    let answer = if before < 3 { FAILED } else { WELL };
+    writes(rt, alloc, way, made.tools, TWO, sips, (answer, made.whole));
+}
+
+/// Each flush fails, and all is written.
+fn answers_failed_flushes<H: Threads + Wait + Abort + Sync>(
+    rt: &H,
+    alloc: Global,
+    way: Way,
+    made: &Made<'_>,
+) {
+    let mut reader = Device::new(TWO);
+    let mut writer = Device::new(NeverFlushes::new(alloc));
+    let answer = make_by(rt, alloc, way, &mut reader, &mut writer, made.tools);
+    let given = writer.into_inner();
+    agrees(rt, (answer, given.held()), (FAILED, made.whole), &way);
+}
+
+/// The flush after the first image fails, and then a write of the second one. The bytes before that are written.
+#[test]
+fn answers_a_failed_write_after_a_failed_flush(rt: HostRuntime) {
+    for way in WAYS {
+        let sips = Sips::new(rt.alloc(), 1, FailsOnce::after(15), FailsOnce::after(0));
+        let want = (FAILED, &TWO_INVERTED[..15]);
+        writes(&rt, rt.alloc(), way, &[Tool::Invert], TWO, sips, want);
+    }
 }
 
 /// An input that is cut, its fault, and what is written of it.

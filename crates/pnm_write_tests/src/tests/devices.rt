@@ -28,14 +28,18 @@ struct Said {
     fault: Option<SinkFault>,
     /// Whether each message after that one is refused as `Broken`.
     stays: bool,
+    /// The first fault of a flush after an image.
+    flush: Option<SinkFault>,
     end: Result<(), SinkFault>,
 }
 
-/// What a sink over the writer answers to these messages, each of which is put whatever came before it.
+/// What a sink over the writer answers to these messages, each of which is put whatever came before it, and flushed where it
+/// ends an image.
 fn answers(alloc: Global, sips: &mut Sips, parts: &[Part<'_>]) -> Result<Said, Fail> {
     let mut sink = Sink::new(Device::new(sips));
     let mut fault = None;
     let mut stays = true;
+    let mut flush = None;
     for part in parts {
         let answer = sink.put(&message(alloc, *part)?);
         if fault.is_some() {
@@ -43,9 +47,17 @@ fn answers(alloc: Global, sips: &mut Sips, parts: &[Part<'_>]) -> Result<Said, F
         } else {
             fault = answer.err();
         }
+        if matches!(part, Part::ImageEnd) {
+            flush = flush.or(sink.flush().err());
+        }
     }
     let (_, end) = sink.finish();
-    Ok(Said { fault, stays, end })
+    Ok(Said {
+        fault,
+        stays,
+        flush,
+        end,
+    })
 }
 
 /// The writer holds these bytes.
@@ -67,12 +79,13 @@ fn answers_a_failed_write(rt: HostRuntime) -> Result<(), Fail> {
 fn answers_write_that_fails(rt: &impl Abort, alloc: Global, before: usize) -> Result<(), Fail> {
     let mut sips = Sips::new(alloc, 1, FailsOnce::after(before), FailsOnce::never());
     let said = answers(alloc, &mut sips, STREAM)?;
+    let broken = SinkFault::Broken;
     let want = if before < 22 {
-        (Some(SinkFault::WriteFailed), Err(SinkFault::Broken))
+        (Some(SinkFault::WriteFailed), Some(broken), Err(broken))
     } else {
-        (None, Ok(()))
+        (None, None, Ok(()))
     };
-    let is_so = said.stays && (said.fault, said.end) == want;
+    let is_so = said.stays && (said.fault, said.flush, said.end) == want;
     holds(rt, is_so, &said, &want, &before);
     // After each image that was whole before the fault; without one, at the end too.
     let flushed = match before {
@@ -91,15 +104,15 @@ fn answers_write_that_fails(rt: &impl Abort, alloc: Global, before: usize) -> Re
     Ok(())
 }
 
-/// A flush after each image, and one at the end, of which the one after so many fails.
+/// A flush after each image, and one at the end, of which the one after so many fails. All is written.
 #[test]
 fn answers_a_failed_flush(rt: HostRuntime) -> Result<(), Fail> {
-    let broken = (Some(SinkFault::WriteFailed), Err(SinkFault::Broken));
-    for (before, want, bytes) in [
-        (0, broken, &BYTES[..10]),
-        (1, broken, BYTES),
-        (2, (None, Err(SinkFault::WriteFailed)), BYTES),
-        (3, (None, Ok(())), BYTES),
+    let failed = SinkFault::WriteFailed;
+    for (before, want) in [
+        (0, (None, Some(failed), Ok(()))),
+        (1, (None, Some(failed), Ok(()))),
+        (2, (None, None, Err(failed))),
+        (3, (None, None, Ok(()))),
     ] {
         let mut sips = Sips::new(
             rt.alloc(),
@@ -108,9 +121,9 @@ fn answers_a_failed_flush(rt: HostRuntime) -> Result<(), Fail> {
             FailsOnce::after(before),
         );
         let said = answers(rt.alloc(), &mut sips, STREAM)?;
-        let is_so = said.stays && (said.fault, said.end) == want;
+        let is_so = (said.fault, said.flush, said.end) == want;
         holds(&rt, is_so, &said, &want, &before);
-        holds_bytes(&rt, &sips, bytes);
+        holds_bytes(&rt, &sips, BYTES);
     }
     Ok(())
 }
