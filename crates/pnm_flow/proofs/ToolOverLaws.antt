@@ -14,10 +14,10 @@ use Rattle.pnm_rings.specs.declared.stage_end.StageEnd.{StageEnd}
 use Rattle.pnm_rings.specs.declared.stage_end.StageEnd.TheVariants.{Well, Broken, Fault, PeerGone}
 use Rattle.pnm_rings.specs.Fronts.{IsFrontOfDue}
 use Rattle.pnm_rings.specs.Rings.{IsEnded}
-use Rattle.pnm_rings.specs.Stages.{HasEndedWell, HasBrokenOff, HasRunStage}
+use Rattle.pnm_rings.specs.Stages.{HasEndedWell, HasBrokenOff}
 use Rattle.pnm_rings.proofs.EndingLaws.{stream_ends_whole}
 use Rattle.pnm_rings.proofs.RingSteps.{ends_with}
-use Rattle.pnm_flow.specs.Chains.{RunsInLanes, IsStageOver, HasRunTool}
+use Rattle.pnm_flow.specs.Chains.{IsStageOver}
 use Rattle.pnm_flow.specs.ThreadedRuns.{HasEndedOver}
 use Rattle.pnm_flow.proofs.LaneRefusals.{refused_in_lanes}
 
@@ -71,8 +71,3 @@ sent_in_order tool l g of_range ended =
 pub stage_due : (lanes : ℕ) (tool : Tool) (end : StageEnd) (l g : List Message) → IsStageOver lanes tool end l g → IsFrontOfDue (output_due tool) l g
 stage_due lanes tool end l g (inl several) = several.1.due
 stage_due lanes tool end l g (inr one) = one.1.due
-
--- ---- over one lane
-
-pub has_run_alone : (lanes : ℕ) (tool : Tool) (end : StageEnd) (r r' left s s' : List Message) → (RunsInLanes lanes tool → ⊥) → HasRunStage tool end r r' left s s' → HasRunTool lanes tool end r r' left s s'
-has_run_alone lanes tool end r r' left s s' alone run = record { took = run.took; gave = run.gave; input = run.input; output = run.output; drained = run.drained; stage = inr (alone, run.stage) }

@@ -1,4 +1,4 @@
--- What a run in one thread reads, writes and answers. A front of a list is what it begins with.
+-- What a run reads, writes and answers, in one thread or over several. A front of a list is what it begins with.
 use Rattle.std.specs.Prelude.{◌≡◌, ◌≢◌, ◌⊎◌, ℕ, ◌-◌, ◌^◌, ◌≤◌, ◌<◌, sum_by, length, take, List, [], ◌∷◌, ◌++◌, Option, Some, None, Result, Ok, Err, IfOk, OnOk}
 use Rattle.std.specs.Io.KnownBytes.{Appends, Consumes}
 use Rattle.pnm_image.specs.declared.message.Message.{Message}

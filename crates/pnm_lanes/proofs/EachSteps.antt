@@ -1,5 +1,5 @@
 -- A message of each lane, and the message of the whole stream that they are.
-use Rattle.std.proofs.Common.{◌≡◌, ◌≢◌, inl, inr, ℕ, zero, suc, ◌+◌, ◌<◌, ◌≤◌, List, [], ◌∷◌, ◌++◌, length, get_or, set, take, refl, sym, ap, subst, ◌∙◌, arith, le_refl, Err, Option, Some, None}
+use Rattle.std.proofs.Common.{◌≡◌, ◌≢◌, inl, inr, ℕ, ◌+◌, ◌<◌, ◌≤◌, List, [], ◌∷◌, ◌++◌, length, get_or, set, take, refl, sym, ap, subst, ◌∙◌, arith, le_refl, Err, Option, Some, None}
 use Rattle.std.specs.Prelude.{nat_lt, if◌then◌else◌}
 use Rattle.std.specs.List.{AllByRecursion}
 use Rattle.std.specs.Option.{IfSome, IfNone, ok_or}
@@ -185,10 +185,6 @@ pub record IsTakingEach (lanes : ℕ) (place : Place) (first : Message) (heights
 like_first : (m : Message) (heights : List ℕ) → get_or heights 0 0 ≡ height_in m → like m (get_or heights 0 0) ≡ m
 like_first m heights same = ap (like m) same ∙ like_itself m
 
-first_until : (first : Message) (heights : List ℕ) (other : ℕ) → get_or heights 0 0 ≡ height_in first → one_more_of 0 first (λ lane. []) other ≡ until 1 first heights other
-first_until first heights zero same = ap (λ (m : Message). m ∷ []) (sym (like_first first heights same))
-first_until first heights (suc other) same = more_there 0 first (λ lane. []) (suc other) (λ e. absurd cc) ∙ sym (until_from 1 first heights (suc other) (omega arith))
-
 other_until : (lane : ℕ) (first : Message) (heights new : List ℕ) (other : ℕ) → other ≢ lane → get_or new other 0 ≡ get_or heights other 0 → until lane first heights other ≡ until (lane + 1) first new other
 other_until lane first heights new other differ same = grind (arith, nat_tests, ap (λ (h : ℕ). like first h ∷ []) same)
 
@@ -211,20 +207,6 @@ until_of_stream lane first heights is within other = elim (cases_lt other lane) 
 ]
 
 -- ---- what was taken so far
-
-pub first_taken : (lanes : ℕ) (place : Place) (first : Message) (heights : List ℕ) (states_old states_new : List LaneState) (old new : ℕ → List Message) → 1 ≤ lanes → lanes ≤ length states_old → AreOpen states_old → Accepts place first
-    → IsOfStream first × HasGiven 0 first states_old states_new old new → get_or heights 0 0 ≡ height_in first → ((other : ℕ) → get_or heights other 0 ≤ max_side)
-    → IsTakingEach lanes place first heights 1 states_new old new
-first_taken lanes place first heights states_old states_new old new some enough opens may from height within = record {
-  parts = taken_same lanes states_new old new (one_more_of 0 first (λ lane. [])) (until 1 first heights) (λ lane below. first_until first heights lane height)
-      (taken_more lanes 0 states_old states_new old old new (λ lane. []) first (omega arith) (opens 0 (omega arith)) refl (message_of_stream first from.0) (none_taken lanes states_old old enough opens) (omega arith) from.1);
-  others = λ other reached below. ap (λ (s : List LaneState). state_at s other) from.1.states ∙ state_stays states_old 0 other (ending_of first) (λ e. absurd (omega (arith, e))) ∙ opens other (omega arith);
-  may = may;
-  is = from.0;
-  height = height;
-  within = within;
-  some = omega arith;
-}
 
 set_within : (heights : List ℕ) (lane height other : ℕ) → ((l : ℕ) → get_or heights l 0 ≤ max_side) → height ≤ max_side → lane < length heights → get_or (set heights lane height) other 0 ≤ max_side
 set_within heights lane height other within here below = elim (cases_eq other lane) [

@@ -1,5 +1,5 @@
 -- The rings of lanes once all have ended: lane by lane from the last on, what has passed over them, and the end of all.
-use Rattle.std.proofs.Common.{◌≡◌, ℕ, suc, ◌+◌, ◌<◌, List, [], ◌∷◌, ◌++◌, length, refl, sym, ap, subst, ◌∙◌, append_assoc, append-nil, arith}
+use Rattle.std.proofs.Common.{◌≡◌, ℕ, suc, ◌+◌, List, [], ◌∷◌, ◌++◌, length, refl, sym, ap, subst, ◌∙◌, append_assoc, append-nil, arith}
 use Rattle.std.proofs.lemmas.List.{length-append}
 use Rattle.std.specs.Global.{Global}
 use Rattle.rtrb.specs.declared.producer.Producer.{Producer}
@@ -130,10 +130,3 @@ joins_all all_ss all_ds all_rs gatherer ss ds rs end joining none =
           (subst (HavePassed joining.to_lanes joining.lanes) (sym of_rs) joining.passed)),
       joining.end_is ∙ ap (λ (x : List StageDone). end_of_lanes x gatherer) (sym of_ds),
     )
-
--- a lane more has rings
-pub pairs_some : (ss : List (Producer Message Global AnyMessage)) (ds ds' : List StageDone) (d : StageDone) (rs : List (Consumer Message Global AnyMessage)) → ArePairs ss ds rs → ds ≡ ds' ++ d ∷ [] → (0 < length ss) × (0 < length rs)
-pairs_some ss ds ds' d rs pairs is =
-    let many = as_many_pairs ss ds rs pairs in
-    let count : length ds ≡ suc (length ds') = ap length is ∙ one_more ds' d in
-    (omega (arith, many.0, count), omega (arith, many.1, count))

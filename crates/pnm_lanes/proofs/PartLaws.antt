@@ -81,9 +81,6 @@ same_heads lanes head other some parts =
     let height = same_height lanes head.shape.height other.shape.height some (λ lane below. ap (λ (h : HeadValue). h.shape.height) (dealt lane below)) in
     ap Begin (same_head head other (dealt_height 0 lanes head.shape.height) (dealt_height 0 lanes other.shape.height) (dealt 0 some) height)
 
-same_rows : (row other : List ℕ) (a b : List Message) → IsFrontOf (Row row ∷ a) (Row other ∷ b) → Row row ≡ Row other
-same_rows row other a b front = begins_so (Row row) (Row other) a b front
-
 -- what the lanes have got and get of two lists
 abbrev AreFronts : ℕ → Place → Message → Message → (ℕ → List Message) → (ℕ → List Message) → Type 0
 AreFronts lanes place m n x y = (lane : ℕ) → lane < lanes → IsFrontOf (dealt_message lane lanes place m ++ x lane) (dealt_message lane lanes place n ++ y lane)

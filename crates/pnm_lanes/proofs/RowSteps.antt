@@ -1,7 +1,6 @@
 -- A row of the whole stream, taken of its lane.
-use Rattle.std.proofs.Common.{◌≡◌, ◌≢◌, ℕ, ◌%◌, ◌<◌, ◌≤◌, List, [], ◌∷◌, ◌++◌, length, map, refl, sym, ap, subst, ◌∙◌, arith, Err}
+use Rattle.std.proofs.Common.{ℕ, ◌%◌, ◌<◌, ◌≤◌, List, [], ◌∷◌, ◌++◌, length, refl, sym, subst, arith, Err}
 use Rattle.std.specs.List.{AllByRecursion}
-use Rattle.std.proofs.lemmas.Bool.Decides.{nat_tests}
 use Rattle.std.proofs.lemmas.Nat.{mod_below}
 use Rattle.pnm_image.specs.declared.message.Message.{Message}
 use Rattle.pnm_image.specs.declared.message.Message.TheVariants.{Begin, Row, ImageEnd, StreamEnd, Stop}
@@ -10,39 +9,13 @@ use Rattle.pnm_image.specs.declared.shape.Shape.{Shape}
 use Rattle.pnm_image.specs.Completion.{IsFrontOf}
 use Rattle.pnm_image.specs.Places.{Accepts, IsLawfulFrom, place_after}
 use Rattle.pnm_tools.specs.declared.fault.ToolFault.TheVariants.{OutOfOrder}
-use Rattle.pnm_tools.specs.Dealing.{dealt_row, dealt_message, dealt_from}
+use Rattle.pnm_tools.specs.Dealing.{dealt_from}
 use Rattle.pnm_rings.specs.declared.stage_end.StageEnd.{StageEnd}
 use Rattle.pnm_rings.specs.declared.stage_end.StageEnd.TheVariants.{Fault}
 use Rattle.pnm_lanes.specs.declared.lane.LaneState.{LaneState}
-use Rattle.pnm_lanes.specs.GatherParts.{IsOfStream, HasGiven, HasTakenFrom, AreOpen, HasTakenWhole, HasTakenNone}
+use Rattle.pnm_lanes.specs.GatherParts.{IsOfStream, HasGiven, HasTakenFrom, AreOpen, HasTakenNone}
 use Rattle.pnm_lanes.proofs.PartLaws.{begins_so, no_front, own_message}
-use Rattle.pnm_lanes.proofs.TakenParts.{one_more_of, more_here, more_there, one_of_stream, by_lane, message_of_stream, none_taken, taken_more, taken_same, taken_none}
-
--- a lane gets none of the other lanes' rows
-other_row : (lane lanes y : ℕ) (row : List ℕ) → lane ≢ y % lanes → dealt_row lane lanes y row ≡ []
-other_row lane lanes y row differ = let other : y % lanes ≢ lane = λ e. differ (sym e) in grind (arith, nat_tests)
-
--- the message is all that the lanes get of it
-row_parts : (lanes y : ℕ) (s : Shape) (m : Message) (lane : ℕ) → y < s.height → Accepts (Inside s y) m → IsOfStream m → one_more_of (y % lanes) m (λ l. []) lane ≡ dealt_message lane lanes (Inside s y) m
-row_parts lanes y s (Begin head) lane below may is = absurd may
-row_parts lanes y s (Row row) lane below may is = by_lane (λ (l : ℕ). one_more_of (y % lanes) (Row row) (λ o. []) l ≡ dealt_message l lanes (Inside s y) (Row row)) (y % lanes) lane
-    (more_here (y % lanes) (Row row) (λ o. []) ∙ sym (own_message lanes y s row))
-    (λ differ. more_there (y % lanes) (Row row) (λ o. []) lane differ ∙ sym (ap (map Row) (other_row lane lanes y row differ)))
-row_parts lanes y s ImageEnd lane below may is = absurd (omega (arith, may))
-row_parts lanes y s StreamEnd lane below may is = absurd may
-row_parts lanes y s Stop lane below may is = absurd is
-
-pub row_taken : (lanes y : ℕ) (s : Shape) (m : Message) (states_old states_new : List LaneState) (old new : ℕ → List Message) → 1 ≤ lanes → lanes ≤ length states_old → AreOpen states_old → y < s.height → Accepts (Inside s y) m
-    → IsOfStream m × HasGiven (y % lanes) m states_old states_new old new → HasTakenWhole lanes (Inside s y) m states_new old new
-row_taken lanes y s m states_old states_new old new some enough opens below may from =
-    let lane : ℕ = y % lanes in
-    let within : lane < lanes = mod_below y lanes some in
-    record {
-      may = may;
-      is = from.0;
-      parts = taken_same lanes states_new old new (one_more_of lane m (λ l. [])) (λ l. dealt_message l lanes (Inside s y) m) (λ l b. row_parts lanes y s m l below may from.0)
-          (taken_more lanes lane states_old states_new old old new (λ l. []) m (omega arith) (opens lane (omega arith)) refl (message_of_stream m from.0) (none_taken lanes states_old old enough opens) within from.1);
-    }
+use Rattle.pnm_lanes.proofs.TakenParts.{one_more_of, more_here, one_of_stream, message_of_stream, none_taken, taken_more, taken_none}
 
 -- the next message of a stream is a row, too
 row_comes : (lanes y : ℕ) (s : Shape) (m : Message) (rest : List Message) → y < s.height → IsLawfulFrom (Inside s y) rest → AllByRecursion IsOfStream rest → IsFrontOf (m ∷ []) (dealt_from (y % lanes) lanes (Inside s y) rest) → Accepts (Inside s y) m

@@ -26,12 +26,14 @@ pub struct DealDone {
     pub end: StageEnd,
 }
 
-/// The bells of a thread that deals and of its neighbours: the thread before it, itself, and the lanes. Lanes that
-/// `lanes` doesn't reach have none.
+/// The bells of a thread that deals and of its neighbours.
 #[derive(Clone, Copy)]
 pub struct DealBells<'a> {
+    /// That of the thread before it.
     pub left: &'a Bell,
+    /// Its own.
     pub own: &'a Bell,
+    /// Those of the lanes, from the first on; a lane beyond them has none.
     pub lanes: &'a [Bell],
 }
 

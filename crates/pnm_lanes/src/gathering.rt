@@ -30,7 +30,9 @@ pub struct GatherDone {
 pub struct GatherBells<'a> {
     /// Those of the lanes, from the first on; a lane beyond them has none.
     pub lanes: &'a [Bell],
+    /// Its own.
     pub own: &'a Bell,
+    /// That of the thread that receives from it.
     pub right: &'a Bell,
 }
 

@@ -1,5 +1,5 @@
 -- What a ring has passed, message by message.
-use Rattle.std.proofs.Common.{◌≡◌, ◌⊎◌, inl, inr, List, [], ◌∷◌, ◌++◌, refl, sym, ap, subst, ◌∙◌, append_assoc, append-nil}
+use Rattle.std.proofs.Common.{◌≡◌, ◌⊎◌, inl, inr, List, [], ◌∷◌, ◌++◌, refl, sym, ap, subst, ◌∙◌, append_assoc}
 use Rattle.pnm_image.specs.declared.message.Message.{Message}
 use Rattle.pnm_image.specs.Messages.{IsMessage}
 use Rattle.pnm_image.proofs.Lists.{each-push}
@@ -25,10 +25,6 @@ ends_with l m more = ends_after (ending_of m) l (m ∷ []) (ends_nothing l more)
 pub ends_as : (e : Ending) (l : List Message) (m : Message) → EndsBy More l → ending_of m ≡ e → EndsBy e (l ++ m ∷ [])
 ends_as e l m more same = subst (λ (x : Ending). EndsBy x (l ++ m ∷ [])) same (ends_with l m more)
 
--- nothing was added
-pub extends_by_nothing : (l : List Message) → Extends l l (EndsBy More)
-extends_by_nothing l = record { more = []; added = sym (append-nil l); messages = tt; holds = refl }
-
 -- a message was added
 extends_by_one : (P : List Message → Type 0) (l now new : List Message) (m : Message) (extends : Extends l now (EndsBy More)) → new ≡ now ++ m ∷ [] → IsMessage m → P (extends.more ++ m ∷ []) → Extends l new P
 extends_by_one P l now new m extends added is holds = record {
@@ -44,10 +40,6 @@ goes_on e l now new m extends added is same = extends_by_one (EndsBy e) l now ne
 pub drains_to_end : (l now new : List Message) (m : Message) → Extends l now (EndsBy More) → new ≡ now ++ m ∷ [] → IsMessage m → (ending_of m ≡ Whole) ⊎ (ending_of m ≡ BrokenOff) → Extends l new IsEnded
 drains_to_end l now new m extends added is (inl whole) = extends_by_one IsEnded l now new m extends added is (inl (ends_as Whole extends.more m extends.holds whole))
 drains_to_end l now new m extends added is (inr broken) = extends_by_one IsEnded l now new m extends added is (inr (ends_as BrokenOff extends.more m extends.holds broken))
-
--- no message was left
-pub drains_nothing_more : (l now new left : List Message) → Extends l now (EndsBy More) → (new ≡ now) × (left ≡ []) → Extends l new (EndsBy More) × (left ≡ [])
-drains_nothing_more l now new left extends same = (record { more = extends.more; added = same.0 ∙ extends.added; messages = extends.messages; holds = extends.holds }, same.1)
 
 -- by how a message ends the stream, as a function answers it
 pub says_end : (a : Answered) (m : Message) → ending_by a ≡ ending_of m → (a ≡ AnsweredWhole) ⊎ (a ≡ AnsweredBrokenOff) → (ending_of m ≡ Whole) ⊎ (ending_of m ≡ BrokenOff)

@@ -66,9 +66,6 @@ pub record HoldsGroups (byte : ℕ) (rows : List (List ℕ)) (groups beside : �
   pub pixels :
       (r k : ℕ) → 256 * (r / 8) + k < 256 * groups + 8 * beside → r < length rows → k < 256 → 8 * byte + k < length (get_or rows r []) → pixel_at (7 - r % 8) (get_or bytes (256 * (r / 8) + k) 0) ≡ get_or (get_or rows r []) (8 * byte + k) 0
 
-pub no_groups : (byte : ℕ) (rows : List (List ℕ)) (bytes : List ℕ) → bytes ≡ [] → HoldsGroups byte rows 0 0 bytes
-no_groups byte rows bytes e = record { count = ap length e; pixels = λ r k below lt lk within. absurd (omega arith) }
-
 -- a group of which all bytes have passed
 pub next_group : (byte : ℕ) (rows : List (List ℕ)) (g n : ℕ) (bytes : List ℕ) → n ≡ 32 → HoldsGroups byte rows g n bytes → HoldsGroups byte rows (g + 1) 0 bytes
 next_group byte rows g n bytes all known = record { count = omega (arith, known.count); pixels = λ r k below lt lk within. known.pixels r k (omega arith) lt lk within }
@@ -93,9 +90,6 @@ eight_more byte rows g n bytes new eight few known e size held = record {
         ∙ here lt within
   ];
 }
-
-pub all_groups : (byte : ℕ) (rows : List (List ℕ)) (g : ℕ) (bytes : List ℕ) → HoldsGroups byte rows g 0 bytes → g ≡ (length rows + 7) / 8 → HoldsColumns byte rows bytes
-all_groups byte rows g bytes known e = record { count = known.count ∙ omega arith; pixels = λ r k lt lk within. known.pixels r k (omega arith) lt lk within }
 
 -- what each of eight bytes holds, the first of them at n
 pub eight_hold : (P : ℕ → ℕ → Type 0) (n a b c d e f g h : ℕ) → P n a → P (n + 1) b → P (n + 2) c → P (n + 3) d → P (n + 4) e → P (n + 5) f → P (n + 6) g → P (n + 7) h → (i : ℕ) → i < 8 → P (n + i) (get_or (a ∷ b ∷ c ∷ d ∷ e ∷ f ∷ g ∷ h ∷ []) i 0)

@@ -5,7 +5,7 @@ use Rattle.std.specs.Int.{bit_at, w8}
 use Rattle.std.proofs.lemmas.Nat.{shr-shr, shr_split}
 use Rattle.std.proofs.lemmas.Nat.Bits.{bit_at_not, bit_at-lt, bit_at_and, bit_at_cat_low, bit_at_cat_high, bit_at_mask_inside, bit_at_mask_below}
 use Rattle.std.proofs.lemmas.Bool.{cases_lt}
-use Rattle.std.proofs.lemmas.List.{map-append, append-nil, take_all, drop_all, ext_get_or, length-drop, length-take, length-replicate, get_or_append_left, get_or-append_right, get_or-drop, get_or-take, get_or-replicate, set_split, set-get_or, take_at, drop_at, length-set, drop-drop, drop-append-le, take-append-le, drop_more, take_more, take_more_set, drop-take, take-take, length-take-le, take-append-drop, append_assoc, take-map, get_or_default, take_min}
+use Rattle.std.proofs.lemmas.List.{map-append, append-nil, take_all, drop_all, ext_get_or, length-drop, length-take, length-replicate, get_or_append_left, get_or-append_right, get_or-drop, get_or-take, get_or-replicate, set_split, set-get_or, take_at, drop_at, length-set, drop-drop, drop-append-le, take-append-le, drop_more, take_more_set, drop-take, take-take, length-take-le, take-append-drop, append_assoc, take-map, get_or_default, take_min}
 use borrow.Rule.Slice.PartMut.{put_mid}
 use Rattle.std.proofs.lemmas.Grind.{flat_map-append}
 use Rattle.std.proofs.Math.Seq.{take-append-add, drop-append-add}
@@ -420,20 +420,6 @@ appended_view held start count other bytes grown placed cleared from value run k
     let front : take held (all_pixels grown) ≡ value = ap (λ (l : List ℕ). take held (all_pixels l)) more ∙ ap (take held) (all_pixels-append bytes rest) ∙ take-append-le held (all_pixels bytes) (all_pixels rest) (omega (arith, length-all_pixels bytes)) ∙ is in
     kept ∙ known ∙ ap₂ (λ (a b : List ℕ). a ++ b) front (run_of_row from run start count other within of)
 
--- ---- pixels one by one
-
--- one pixel more
-pub pixel_added : (old new before : List ℕ) (b i sample : ℕ) → i < 8 → old ≡ before ++ take i (pixels b) → sample ≡ pixel_at (7 - i) b → new ≡ old ++ sample ∷ [] → new ≡ before ++ take (i + 1) (pixels b)
-pixel_added old new before b i sample lt known e added =
-    added ∙ ap₂ (λ (l : List ℕ) (s : ℕ). l ++ s ∷ []) known (e ∙ sym (get_or-pixels b i lt)) ∙ append_assoc before (take i (pixels b)) (get_or (pixels b) i 0 ∷ [])
-    ∙ ap (λ (l : List ℕ). before ++ l) (sym (take_more (pixels b) i 0 (omega (arith, length-pixels b))))
-
--- all pixels of one byte more
-pub byte_added : (items words : List ℕ) (i b n : ℕ) → i < length items → 8 ≤ n → b ≡ get_or items i 0 → words ≡ all_pixels (take i items) ++ take n (pixels b) → words ≡ all_pixels (take (i + 1) items)
-byte_added items words i b n lt all is known =
-    known ∙ ap (λ (l : List ℕ). all_pixels (take i items) ++ l) (take_all n (pixels b) (omega (arith, length-pixels b)) ∙ ap pixels is)
-    ∙ sym (all_pixels-push (take i items) (get_or items i 0)) ∙ ap all_pixels (sym (take_more items i 0 lt))
-
 -- ---- a pixel of a row
 
 pub pixel_of_row : (count at : ℕ) (bytes value : List ℕ) → at < count → ArePacked count bytes → take count (all_pixels bytes) ≡ value → get_or value at 0 ≡ pixel_at (7 - at % 8) (get_or bytes (at / 8) 0)
@@ -460,12 +446,3 @@ front_of_bytes bytes cleared count kept m e enough known =
     let size : min count (8 * length bytes) ≡ min count (length (all_pixels bytes)) = ap (min count) (sym (length-all_pixels bytes)) in
     known ∙ ap (take kept) (sym (take-all_pixels m bytes)) ∙ take-take kept (8 * m) (all_pixels bytes) enough
     ∙ ap (λ (k : ℕ). take k (all_pixels bytes)) (e ∙ size) ∙ take_min count (all_pixels bytes)
-
--- the first pixel of a byte
-pub black_pixel : (bytes : List ℕ) (sample : ℕ) → bytes ≡ 128 ∷ [] → sample ≡ 0 → take 1 (all_pixels bytes) ≡ sample ∷ []
-unfolding pixels
-black_pixel bytes sample e black = ap (λ (l : List ℕ). take 1 (all_pixels l)) e ∙ ap (λ (s : ℕ). s ∷ []) (sym black)
-
-pub white_pixel : (bytes : List ℕ) (sample : ℕ) → bytes ≡ 0 ∷ [] → sample ≡ 1 → take 1 (all_pixels bytes) ≡ sample ∷ []
-unfolding pixels
-white_pixel bytes sample e white = ap (λ (l : List ℕ). take 1 (all_pixels l)) e ∙ ap (λ (s : ℕ). s ∷ []) (sym white)

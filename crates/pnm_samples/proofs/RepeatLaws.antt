@@ -1,15 +1,14 @@
 -- Pixels that stand several times.
-use Rattle.std.proofs.Common.{◌≡◌, ℕ, zero, suc, ◌+◌, ◌*◌, ◌/◌, ◌%◌, ◌<◌, true, List, [], ◌∷◌, ◌++◌, length, get_or, set, take, replicate, refl, sym, ap, ap₂, ◌∙◌, arith}
+use Rattle.std.proofs.Common.{◌≡◌, ℕ, zero, suc, ◌+◌, ◌*◌, ◌/◌, ◌%◌, ◌<◌, true, List, [], ◌∷◌, ◌++◌, length, get_or, take, replicate, refl, sym, ap, ap₂, ◌∙◌, arith}
 use Rattle.std.specs.Prelude.{bit_and, bit_or}
 use Rattle.std.specs.Int.{w16, to_be_bytes}
 use Rattle.std.specs.List.{flat_map}
 use Rattle.std.proofs.lemmas.Bool.{agree_below_at}
 use Rattle.std.proofs.lemmas.Grind.{flat_map-append}
-use Rattle.std.proofs.lemmas.List.{append-nil, append_assoc, take_more, take_more_set, take-replicate, take_all, length-replicate, length-set, replicate-append-replicate}
+use Rattle.std.proofs.lemmas.List.{append-nil, take_more, take-replicate, take_all, length-replicate, replicate-append-replicate}
 use Rattle.std.proofs.Math.Seq.{take-append-add}
 use Rattle.pnm_samples.specs.Pixels.{pixels, all_pixels}
 use Rattle.pnm_samples.proofs.MirrorLaws.{same_list, same_from_test}
-use Rattle.pnm_samples.proofs.PixelLaws.{all_pixels-append, all_pixels-push}
 
 -- each so many times
 abbrev pub repeated : ℕ → List ℕ → List ℕ
@@ -30,19 +29,6 @@ pub doubled_pixels : (b : ℕ) → b < 256 → all_pixels (to_be_bytes w16 (spre
 unfolding pixels
 doubled_pixels b lt =
     same_from_test (all_pixels (to_be_bytes w16 (spread b))) (repeated 2 (pixels b)) (agree_below_at (λ n. same_list (all_pixels (to_be_bytes w16 (spread n))) (repeated 2 (pixels n))) (λ _. true) 256 b refl lt)
-
--- one byte more
-pub doubled_step : (room bytes : List ℕ) (i high low : ℕ) → length room ≡ 2 * length bytes → i < length bytes → all_pixels (take (2 * i) room) ≡ repeated 2 (all_pixels (take i bytes)) → all_pixels (high ∷ low ∷ []) ≡ repeated 2 (pixels (get_or bytes i 0))
-    → all_pixels (take (2 * (i + 1)) (set (set room (2 * i) high) (2 * i + 1) low)) ≡ repeated 2 (all_pixels (take (i + 1) bytes))
-doubled_step room bytes i high low size lt known two =
-    let places : 2 * (i + 1) ≡ 2 * i + 1 + 1 = omega arith in
-    let second : 2 * i + 1 < length (set room (2 * i) high) = omega (arith, length-set room (2 * i) high) in
-    let stored : take (2 * (i + 1)) (set (set room (2 * i) high) (2 * i + 1) low) ≡ take (2 * i) room ++ (high ∷ low ∷ []) =
-    ap (λ (m : ℕ). take m (set (set room (2 * i) high) (2 * i + 1) low)) places ∙ take_more_set (set room (2 * i) high) (2 * i + 1) low second
-    ∙ ap (λ (l : List ℕ). l ++ low ∷ []) (take_more_set room (2 * i) high (omega arith)) ∙ append_assoc (take (2 * i) room) (high ∷ []) (low ∷ []) in
-    ap all_pixels stored ∙ all_pixels-append (take (2 * i) room) (high ∷ low ∷ []) ∙ ap₂ (λ (a b : List ℕ). a ++ b) known two
-    ∙ sym (flat_map-append (λ s. replicate 2 s) (all_pixels (take i bytes)) (pixels (get_or bytes i 0)))
-    ∙ ap (repeated 2) (sym (all_pixels-push (take i bytes) (get_or bytes i 0)) ∙ ap all_pixels (sym (take_more bytes i 0 lt)))
 
 -- so many of them, each twice
 take_doubled : (k : ℕ) (xs : List ℕ) → take (k * 2) (repeated 2 xs) ≡ repeated 2 (take k xs)

@@ -51,6 +51,10 @@ impl Bits {
     }
 
     /// Equal pixels.
+    ///
+    /// # Errors
+    ///
+    /// Where there is no memory for them.
     pub fn copy(&self, alloc: Global) -> Result<Bits, AllocError>
         ensures { IfOk result (λ copy. copy ≡ self.now) }
     {
@@ -142,6 +146,10 @@ impl Bits {
     }
 
     /// Appends a run of so many pixels of a row, from the start on.
+    ///
+    /// # Errors
+    ///
+    /// Where there is no memory for them, or one of the two has 2^62 pixels or more. Then nothing is changed.
     pub fn append(&mut self, from: &Bits, start: usize, count: usize) -> Result<(), AllocError>
         requires { start + count ≤ length from.now }
         ensures appended { OnOk result (self.new ≡ self.old ++ take count (drop start from.now)) }

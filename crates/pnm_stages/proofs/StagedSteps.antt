@@ -83,14 +83,6 @@ part_at : {F : Type 0} (at : F → Tool → List Message → List Message → Ty
 part_at at all_given stopped (AtWork filter) tool l g idle = record { accepted = l; rest = []; parts = sym (append-nil l); answers = idle.full.answers }
 part_at at all_given stopped (Refused fault) tool l g has = record { accepted = has.accepted; rest = has.rest; parts = has.parts; answers = has.answers }
 
-part_goes_on : (tool : Tool) (l g more : List Message) → HasAnsweredPart tool l g → HasAnsweredPart tool (l ++ more) g
-part_goes_on tool l g more part = record {
-  accepted = part.accepted;
-  rest = part.rest ++ more;
-  parts = ap (λ (x : List Message). x ++ more) part.parts ∙ append_assoc part.accepted part.rest more;
-  answers = part.answers;
-}
-
 -- the input is gone, and Stop was sent if the output wasn't
 pub input_gone : {F : Type 0} (at : F → Tool → List Message → List Message → Type 0) (all_given : F → Bool) (stopped : F → Option ToolFault) (first now : SerialStage F) (told : Bool) (r r1 r2 left s s1 s2 : List Message) (tool : Tool)
     → IsPassing at all_given stopped More first now r r1 s s1 → (r2 ≡ r1) × (left ≡ []) → (IsTrue told → s2 ≡ s1 ++ Stop ∷ []) → (IsFalse told → s2 ≡ s1) → refusal_in now ≡ None

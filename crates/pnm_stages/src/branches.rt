@@ -9,12 +9,16 @@ use std::thread::{Promise, Threads};
 
 /// Work that is done once. A thread is started with such a value, since a closure that is a parameter can't be.
 pub trait Task {
+    /// What it gives.
     type Output;
 
+    /// When it may be done.
     ghost can_run: { Self → Type 0 };
 
+    /// What is known of what it gives.
     ghost run_gives: { Self → Self.Output → Type 0 };
 
+    /// Does the work.
     fn run(self) -> Self::Output
         requires { can_run self }
         ensures { run_gives self result };

@@ -30,8 +30,11 @@ pub struct StageDone {
 /// The bells of a stage and of its neighbours.
 #[derive(Clone, Copy)]
 pub struct Bells<'a> {
+    /// That of the thread that sends to the stage.
     pub left: &'a Bell,
+    /// Its own.
     pub own: &'a Bell,
+    /// That of the thread that receives from it.
     pub right: &'a Bell,
 }
 

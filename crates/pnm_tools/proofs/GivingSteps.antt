@@ -1,5 +1,5 @@
 -- How a tool at work gives what waits.
-use Rattle.std.proofs.Common.{◌≡◌, inl, inr, ℕ, ◌<◌, true, false, List, [], ◌∷◌, ◌++◌, map, length, refl, sym, ap, subst, ◌∙◌, append_assoc, arith, Option, Some, None}
+use Rattle.std.proofs.Common.{◌≡◌, inl, inr, ℕ, true, List, [], ◌∷◌, ◌++◌, map, refl, sym, ap, subst, ◌∙◌, append_assoc, Option, Some, None}
 use Rattle.std.specs.Prelude.{IfSome, IfNone}
 use Rattle.std.proofs.lemmas.List.{same_from_push}
 use Rattle.pnm_image.specs.declared.shape.Shape.{Shape}
@@ -82,10 +82,6 @@ gave_all tool_at ready_for due kept old new after fault t l g at gives =
       answering_in_full t l g (tool_answers_images t at.options) all,
     )
 
--- the messages that wait get fewer
-fewer_wait : (before rest : List Message) (m : Message) → before ≡ m ∷ rest → length rest < length before
-fewer_wait before rest m e = omega (arith, ap length e)
-
 -- ---- Stop alone
 
 -- what is broken off ends in Stop, and so does its answer
@@ -142,11 +138,6 @@ pub full_by : {W : Type 0} (tool_at : W → Tool) (ready_for : W → Shape → L
     → IfNone given ((is_all_given after ≡ true) × ((t : Tool) (l g : List Message) → IsAt tool_at ready_for due kept old t l g → IsAt tool_at ready_for due kept (standing new old.place after fault) t l g × AnswersInFull t l g))
 full_by tool_at ready_for due kept old new after fault None gives = (ap is_all_given gives.told, λ t l g at. gave_all tool_at ready_for due kept old new after fault t l g at gives)
 full_by tool_at ready_for due kept old new after fault (Some m) gives = tt
-
-pub fewer_by : {W : Type 0} (tool_at : W → Tool) (ready_for : W → Shape → List (List ℕ) → Type 0) (due kept : W → List (List ℕ)) (old : W) (before : Pending) (new : W) (after : Pending) (given : Option Message) → IsGiven tool_at ready_for due kept old before new after given
-    → IfSome given (λ m. (length (waiting_in after (due new)) < length (waiting_in before (due old))) × (is_all_given before ≡ false) × (is_all_given after ≡ false))
-fewer_by tool_at ready_for due kept old before new after None gives = tt
-fewer_by tool_at ready_for due kept old before new after (Some m) gives = (fewer_wait (waiting_in before (due old)) (waiting_in after (due new)) m gives.waits, gives.told.0, gives.told.1)
 
 -- ---- want of memory
 

@@ -23,11 +23,6 @@ rows_end_nothing : (rows : List (List ℕ)) → EndNothing (map Row rows)
 rows_end_nothing [] = tt
 rows_end_nothing (row ∷ rows) = (refl, rows_end_nothing rows)
 
-nothing_is_more : (a : List Message) → EndNothing a → EndsBy More a
-nothing_is_more [] h = refl
-nothing_is_more (m ∷ []) h = h.0
-nothing_is_more (m ∷ n ∷ a) h = (h.0, nothing_is_more (n ∷ a) h.1)
-
 pub ends_after : (e : Ending) (a b : List Message) → EndNothing a → EndsBy e b → EndsBy e (a ++ b)
 ends_after e [] b h ends = ends
 ends_after e (m ∷ []) [] h ends = h.0 ∙ sym ends

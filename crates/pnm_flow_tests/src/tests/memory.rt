@@ -1,8 +1,8 @@
 //! Want of memory. `scripts/refused.py tests` refuses each allocation of these tests in turn.
 
 use super::chains::{LAST_COLUMN, are_lawful, channel};
-use super::rings::{IMAGE, Part, Unmade, holds, is_made_of, ring, send_all};
-use super::threads::chain;
+use super::rings::{IMAGE, Input, Part, Unmade, holds, is_made_of, ring, send_all};
+use super::threads::{INVERTED, chain};
 use super::ways::{Way, run_by};
 use pnm_flow::{OpenGate, RunFault, StageEnd, Summary};
 use pnm_image::Device;
@@ -130,13 +130,31 @@ fn doubles_in_one_thread_with_memory(rt: HostRuntime) {
     assert_eq!(rt; summary, Some(Summary { images: 1, rows: 2 }));
 }
 
-/// Whether all of these tools in threads end well with an image; not where memory ran out. Whatever they
-/// do, the chain ends: with Stop at last, unless it was answered in full; and one that wasn't started leaves its
-/// input as it was.
+/// Whether Stop is the last that the ring holds. Before it there is a front of these, and after it nothing.
+fn ends_by_stop(rt: &impl Abort, input: &mut Input, whole: &[Part<'_>]) -> bool {
+    for part in whole {
+        let Ok(message) = input.pop() else {
+            return false;
+        };
+        if is_made_of(&message, Part::Stop) {
+            holds(rt, input, &[], "nothing after Stop");
+            return true;
+        }
+        let is_next = is_made_of(&message, *part);
+        assert!(rt; is_next, "{part:?}: a front of the answer");
+    }
+    holds(rt, input, &[], "nothing after the answer");
+    false
+}
+
+/// Whether all of these tools in threads end well with an image; not where memory ran out. Whatever they do, a front of the
+/// whole answer is sent, and the chain ends: with Stop at last, unless it was answered in full. One that wasn't started and
+/// gives back the ends of its rings leaves these as they were.
 fn end_in_threads<R: Threads + Wait + Abort + Sync>(
     rt: &R,
     alloc: Global,
     tools: &[Tool],
+    whole: &[Part<'_>],
 ) -> Result<bool, Unmade> {
     let (mut producer, input) = ring(alloc, 8)?;
     let (output, mut consumer) = ring(alloc, 8)?;
@@ -144,38 +162,37 @@ fn end_in_threads<R: Threads + Wait + Abort + Sync>(
     match chain(rt, alloc, tools, 1, 1, &OpenGate, input, output) {
         Ok(done) => {
             let is_well = done.ends.iter().all(|end| *end == StageEnd::Well);
-            let mut is_stopped = false;
-            for _ in 0..8 {
-                if let Ok(message) = consumer.pop() {
-                    is_stopped = is_made_of(&message, Part::Stop);
-                }
-            }
+            let is_stopped = ends_by_stop(rt, &mut consumer, whole);
             assert!(rt; is_stopped != is_well);
             Ok(is_well)
         }
         Err(refused) => {
             if let Some((mut input, _output)) = refused.ends {
                 holds(rt, &mut input, IMAGE, "nothing was taken");
+                holds(rt, &mut consumer, &[], "nothing was sent");
+            } else {
+                let _ = ends_by_stop(rt, &mut consumer, whole);
             }
             Ok(false)
         }
     }
 }
 
+/// Three tools, which make the image anew.
+const THREE: [Tool; 3] = [Tool::Invert, Tool::Flip(FlipWay::TopBottom), Tool::Invert];
+
 /// Each growth of three tools, and of one, may be refused.
 #[test]
 fn ends_in_threads_short_of_memory(rt: HostRuntime) {
-    let tools = [Tool::Invert, Tool::Flip(FlipWay::TopBottom), Tool::Invert];
-    let _ = end_in_threads(&rt, rt.alloc(), &tools);
-    let _ = end_in_threads(&rt, rt.alloc(), &[Tool::Invert]);
+    let _ = end_in_threads(&rt, rt.alloc(), &THREE, IMAGE);
+    let _ = end_in_threads(&rt, rt.alloc(), &[Tool::Invert], INVERTED);
 }
 
 /// The same, where none is refused.
 #[test]
 fn ends_well_in_threads_with_memory(rt: HostRuntime) {
-    let tools = [Tool::Invert, Tool::Flip(FlipWay::TopBottom), Tool::Invert];
-    let is_well = end_in_threads(&rt, rt.alloc(), &tools).unwrap_or(false);
+    let is_well = end_in_threads(&rt, rt.alloc(), &THREE, IMAGE).unwrap_or(false);
     assert!(rt; is_well);
-    let is_well = end_in_threads(&rt, rt.alloc(), &[Tool::Invert]).unwrap_or(false);
+    let is_well = end_in_threads(&rt, rt.alloc(), &[Tool::Invert], INVERTED).unwrap_or(false);
     assert!(rt; is_well);
 }

@@ -22,7 +22,8 @@ use std::thread::Threads;
 /// More turns of a wait than any wait of a test takes.
 pub const TURNS: u32 = 10_000_000;
 
-const INVERTED: &[Part<'static>] = &[
+/// What `pnminvert` makes of the image.
+pub const INVERTED: &[Part<'static>] = &[
     Part::Begin(2, 1),
     Part::Row(&[57, 56]),
     Part::ImageEnd,
@@ -296,35 +297,69 @@ fn takes(consumer: &mut Input) -> Option<Message> {
     None
 }
 
-/// Sends each message only once what came of the one before was taken; whether all came back.
-fn one_by_one(alloc: Global, producer: &mut Output, consumer: &mut Input) -> Result<bool, Unmade> {
-    for part in IMAGE {
+/// A message, and what comes of it.
+type Step<'a> = (Part<'a>, &'a [Part<'a>]);
+
+/// What comes of an image in `pnminvert | pnminvert`.
+const TWICE: &[Step<'static>] = &[
+    (Part::Begin(2, 1), &[Part::Begin(2, 1)]),
+    (Part::Row(&[65, 66]), &[Part::Row(&[65, 66])]),
+    (Part::ImageEnd, &[Part::ImageEnd]),
+    (Part::StreamEnd, &[Part::StreamEnd]),
+];
+
+/// What comes of it in `pamenlarge 2 | pnminvert`.
+const DOUBLED: &[Step<'static>] = &[
+    (Part::Begin(2, 1), &[Part::Begin(4, 2)]),
+    (
+        Part::Row(&[65, 66]),
+        &[Part::Row(&[57, 57, 56, 56]), Part::Row(&[57, 57, 56, 56])],
+    ),
+    (Part::ImageEnd, &[Part::ImageEnd]),
+    (Part::StreamEnd, &[Part::StreamEnd]),
+];
+
+/// Sends each message only once all that comes of the one before was taken; whether it all came.
+fn one_by_one(
+    alloc: Global,
+    producer: &mut Output,
+    consumer: &mut Input,
+    steps: &[Step<'_>],
+) -> Result<bool, Unmade> {
+    for (part, answers) in steps {
         if !sends(producer, message(alloc, *part)?) {
             return Ok(false);
         }
-        match takes(consumer) {
-            Some(message) if is_made_of(&message, *part) => {}
-            _ => return Ok(false),
+        for answer in *answers {
+            match takes(consumer) {
+                Some(message) if is_made_of(&message, *answer) => {}
+                _ => return Ok(false),
+            }
         }
     }
     Ok(true)
 }
 
-/// A message passes through two tools before the next one is there, over rings of capacity 1, and over two lanes too.
+/// What comes of each message passes through two tools before the next one is there, over rings of capacity 1, and over two
+/// lanes too.
 #[test]
 fn passes_each_message_on_at_once(rt: HostRuntime) -> Result<(), Fail> {
-    let tools = tools_with_cut(rt.alloc(), 2, 2)?;
     let alloc = rt.alloc();
-    for lanes in [1, 2] {
-        let (mut producer, input) = ring(alloc, 1)?;
-        let (output, mut consumer) = ring(alloc, 1)?;
-        let (here, tools) = (&rt, tools.as_slice());
-        let both = thread::join(
-            &rt,
-            move || chain(here, alloc, tools, 1, lanes, &OpenGate, input, output).is_ok(),
-            move || one_by_one(alloc, &mut producer, &mut consumer).unwrap_or(false),
-        );
-        assert_eq!(&rt; both, (true, true));
+    for (first, steps) in [(Tool::Invert, TWICE), (Tool::Enlarge(2, 2), DOUBLED)] {
+        let tools = [first, Tool::Invert];
+        for lanes in [1, 2] {
+            let (mut producer, input) = ring(alloc, 1)?;
+            let (output, mut consumer) = ring(alloc, 1)?;
+            let (here, tools) = (&rt, tools.as_slice());
+            let both = thread::join(
+                &rt,
+                move || chain(here, alloc, tools, 1, lanes, &OpenGate, input, output).is_ok(),
+                move || {
+                    one_by_one(alloc, &mut producer, &mut consumer, steps).unwrap_or(false)
+                },
+            );
+            assert_eq!(&rt; both, (true, true), "{lanes} lanes");
+        }
     }
     Ok(())
 }
