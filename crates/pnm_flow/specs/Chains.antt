@@ -115,7 +115,3 @@ pub record HasRoom (links : List Link) (links_room : ℕ) (ends : List StageEnd)
   pub no_ends : ends ≡ []
   pub for_links : max_tools ≤ links_room
   pub for_ends : max_tools ≤ ends_room
-
--- the messages that a ring may hold, at most
-abbrev pub max_ring_capacity : ℕ
-max_ring_capacity = 1024

@@ -7,7 +7,8 @@ ghost use Rattle.pnm_image.specs.Limits.{max_tools};
 ghost use Rattle.pnm_tools.specs.Chains.{AreLawfulTools, IsChain};
 ghost use Rattle.pnm_tools.specs.Tools.{IsLawfulTool};
 ghost use Rattle.pnm_flow.specs.Links.{IsWhole};
-ghost use Rattle.pnm_flow.specs.Chains.{HasRunTool, HasRunBetween, HasRunChain, HasRoom, max_ring_capacity};
+ghost use Rattle.pnm_flow.specs.Chains.{HasRunTool, HasRunBetween, HasRunChain, HasRoom};
+ghost use Rattle.pnm_rings.specs.Limits.{IsRingCapacity};
 ghost use Rattle.pnm_stages.specs.Starts.{IsUntouched};
 ghost use Rattle.pnm_lanes.specs.Limits.{IsLaneCount};
 
@@ -38,7 +39,7 @@ pub struct ChainDone {
 /// Passes what comes on `input` through the tools to `output`, each tool a stage in a thread of its own
 /// but the first, which runs in this one. Where there are several lanes, 8 at most, a row-wise tool works
 /// over so many in its place: it has a thread for each lane and one that deals the rows to them, and
-/// gathers what they make in the thread that the stage would have. All rings hold so many messages each.
+/// gathers what they make in the thread that the stage would have. All rings hold so many messages each, 1 to 1,024.
 /// The gate is called by each stage with its tool's number, from 1, and lane 0, and by each lane with that
 /// number and its own, from 0.
 ///
@@ -57,7 +58,7 @@ pub fn run_chain<R: Threads + Wait + Sync, G: Gate>(
     output: Output,
 ) -> Result<ChainDone, NoStart>
     requires chain { IsChain tools.now }
-    requires capacity { (1 ≤ capacity) × (capacity ≤ max_ring_capacity) }
+    requires capacity { IsRingCapacity capacity }
     requires lanes { IsLaneCount lanes }
     ensures input { IfOk result (λ done. SameConsumer input done.input) }
     ensures output { IfOk result (λ done. SameProducer output done.output) }
@@ -94,6 +95,7 @@ pub fn run_chain_by<R: Threads + Wait + Sync, G: Gate>(
 ) -> Result<ChainDone, NoStart>
     requires shared { IsSync R.row × IsSync G.row }
     requires chain { IsChain tools.now }
+    requires capacity { IsRingCapacity capacity }
     requires lanes { IsLaneCount lanes }
     ensures input { IfOk result (λ done. SameConsumer input done.input) }
     ensures output { IfOk result (λ done. SameProducer output done.output) }
@@ -142,6 +144,7 @@ fn run_stages<R: Threads + Wait + Sync, G: Gate>(
 ) -> Result<ChainDone, NoStart>
     requires shared { IsSync R.row × IsSync G.row }
     requires tools { AreLawfulTools tools.now × (1 ≤ length tools.now) × (length tools.now ≤ max_tools) }
+    requires capacity { IsRingCapacity capacity }
     requires lanes { IsLaneCount lanes }
     requires room { HasRoom room.links.items (vec_capacity room.links) room.ends.items (vec_capacity room.ends) }
     ensures ran { IfOk result (HasRunBetween lanes tools.now (vec_capacity room.links) (vec_capacity room.ends) input output) }
@@ -168,7 +171,7 @@ fn run_stages<R: Threads + Wait + Sync, G: Gate>(
     let both = at_once(
         rt,
         move || -> Option<StageDone>
-            requires { (IsSync R.row × IsSync G.row) × IsLawfulTool last.now × IsLaneCount lanes }
+            requires { (IsSync R.row × IsSync G.row) × IsLawfulTool last.now × IsLaneCount lanes × IsRingCapacity capacity }
             ensures { IfSome result (λ done. SameConsumer consumer done.input × SameProducer output done.output
                 × HasRunTool lanes last.entry.now done.end (received consumer) (received done.input) (known_items done.input)
                 (sent output) (sent done.output)) }
@@ -185,7 +188,7 @@ fn run_stages<R: Threads + Wait + Sync, G: Gate>(
         move || -> Option<ChainDone>
             requires { (IsSync R.row × IsSync G.row)
                 × (AreLawfulTools others.now × (1 ≤ length others.now) × (length others.now ≤ max_tools)) × IsLaneCount lanes
-                × HasRoom room.links.items (vec_capacity room.links) room.ends.items (vec_capacity room.ends) }
+                × IsRingCapacity capacity × HasRoom room.links.items (vec_capacity room.links) room.ends.items (vec_capacity room.ends) }
             ensures { IfSome result (HasRunBetween lanes others.entry.now (vec_capacity room.links) (vec_capacity room.ends) input producer) }
         {
             let bells = ToolBells {

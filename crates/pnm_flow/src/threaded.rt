@@ -9,8 +9,9 @@ ghost use Rattle.pnm_read.specs.Sources.{reader_of};
 ghost use Rattle.pnm_tools.specs.declared.tool.Tool.{Tool as ToolValue};
 ghost use Rattle.pnm_tools.specs.Chains.{AreLawfulTools, IsChain};
 ghost use Rattle.pnm_lanes.specs.Limits.{IsLaneCount};
+ghost use Rattle.pnm_rings.specs.Limits.{IsRingCapacity};
 ghost use Rattle.pnm_flow.specs.declared.fault.RunFault.TheVariants.{NoStart as NotStarted};
-ghost use Rattle.pnm_flow.specs.Chains.{HasRunChain, max_ring_capacity};
+ghost use Rattle.pnm_flow.specs.Chains.{HasRunChain};
 ghost use Rattle.pnm_flow.specs.Collectors.{IsCollecting};
 ghost use Rattle.pnm_flow.specs.Downstreams.{output_of};
 ghost use Rattle.pnm_flow.specs.Feeders.{IsFeeding};
@@ -39,7 +40,7 @@ use std::thread::Threads;
 /// `run_serial`. This thread reads and writes, and each tool works in a thread of its own, which passes the gate with its
 /// number, from 1, and lane 0. Where there are several lanes, 8 at most, each row-wise tool has a thread for each of them,
 /// which passes the gate with the tool's number and its lane, from 0, and two more that deal the rows and gather them. All
-/// rings hold so many messages each.
+/// rings hold so many messages each, 1 to 1,024.
 ///
 /// `NoStart` is answered where there is no memory for a ring or a list, or a thread can't be started. Where a source waits
 /// for its reader, all that had come from the last tool by then was written before.
@@ -54,7 +55,7 @@ pub fn run<H: Threads + Wait + Sync, R: BytesIn, W: BytesOut, G: Gate>(
     gate: &G,
 ) -> Result<Summary, RunFault>
     requires chain { IsChain tools.now }
-    requires capacity { (1 ≤ capacity) × (capacity ≤ max_ring_capacity) }
+    requires capacity { IsRingCapacity capacity }
     requires lanes { IsLaneCount lanes }
     ensures ran { (result ≡ Err NotStarted) ⊎ HasRunOverThreads lanes tools.now result
         (change R.left R.failures reader.old reader.new) (change W.held W.failures writer.old writer.new) }
@@ -103,6 +104,7 @@ fn beside_chain<H: Threads + Wait + Sync, R: BytesIn + Drop, W: BytesOut + Drop,
 ) -> Option<(ChainDone, Feeder<R>, Collector<W>)>
     requires shared { IsSync H.row × IsSync G.row }
     requires chain { IsChain tools.now }
+    requires capacity { IsRingCapacity capacity }
     requires lanes { IsLaneCount lanes }
     ensures input { IfSome result (λ r. SameConsumer input r.0.input) }
     ensures output { IfSome result (λ r. SameProducer output r.0.output) }
@@ -124,7 +126,7 @@ fn beside_chain<H: Threads + Wait + Sync, R: BytesIn + Drop, W: BytesOut + Drop,
     };
     let chain = Call(
         move || -> Option<ChainDone>
-            requires { (IsSync H.row × IsSync G.row) × IsChain tools.now × IsLaneCount lanes }
+            requires { (IsSync H.row × IsSync G.row) × IsChain tools.now × IsLaneCount lanes × IsRingCapacity capacity }
             ensures { IfSome result (λ done. SameConsumer input done.input × SameProducer output done.output
                 × HasRunChain lanes tools.entry.now done.ends.items done.links.items (received input) (received done.input) (sent output) (sent done.output)) }
         {

@@ -4,6 +4,7 @@ ghost use Rattle.std.specs.Prelude.{◌≡◌, ◌↔◌, IsTrue, IfOk, IfErr, I
 ghost use Rattle.std.specs.Thread.{IsSync};
 ghost use Rattle.rtrb.specs.Ring.{sent, received, known_items, SameProducer, SameConsumer};
 ghost use Rattle.pnm_tools.specs.Tools.{IsLawfulTool};
+ghost use Rattle.pnm_rings.specs.Limits.{IsRingCapacity};
 ghost use Rattle.pnm_stages.specs.Starts.{IsUntouched};
 ghost use Rattle.pnm_lanes.specs.Limits.{IsLaneCount};
 ghost use Rattle.pnm_flow.specs.Chains.{RunsInLanes, HasRunTool};
@@ -73,6 +74,7 @@ pub fn run_tool_by<R: Threads + Wait + Sync, G: Gate>(
     requires shared { IsSync R.row × IsSync G.row }
     requires lawful { IsLawfulTool tool.now }
     requires lanes { IsLaneCount lanes }
+    requires capacity { IsRingCapacity capacity }
     ensures input { IfOk result (λ done. SameConsumer input done.input) }
     ensures output { IfOk result (λ done. SameProducer output done.output) }
     ensures ran { IfOk result (λ done. HasRunTool lanes tool.now done.end (received input) (received done.input)
@@ -118,6 +120,7 @@ pub fn run_between<R: Threads + Wait + Sync, G: Gate>(
     requires shared { IsSync R.row × IsSync G.row }
     requires lawful { IsLawfulTool tool.now }
     requires lanes { IsLaneCount lanes }
+    requires capacity { IsRingCapacity capacity }
     ensures input { IfSome result (λ done. SameConsumer input done.input) }
     ensures output { IfSome result (λ done. SameProducer output done.output) }
     ensures ran { IfSome result (λ done. HasRunTool lanes tool.now done.end (received input) (received done.input)

@@ -5,6 +5,7 @@ ghost use Rattle.std.specs.Prelude.{◌≡◌, ◌≤◌, [], true, length, vec_
 ghost use Rattle.std.specs.Thread.{IsSync};
 ghost use Rattle.rtrb.specs.Ring.{sent, received, known_items, SameProducer, SameConsumer};
 ghost use Rattle.pnm_tools.specs.Tools.{IsLawfulTool, is_row_wise};
+ghost use Rattle.pnm_rings.specs.Limits.{IsRingCapacity};
 ghost use Rattle.pnm_stages.specs.Starts.{IsUntouched};
 ghost use Rattle.pnm_lanes.specs.Deals.{HasDealt};
 ghost use Rattle.pnm_lanes.specs.Gathers.{at_lane, AreSameInputs, HasGathered};
@@ -57,8 +58,8 @@ pub struct OuterEnds {
 
 /// Passes what comes on `input` through a row-wise tool to `output`, over 1 to 8 lanes: a thread deals the rows, row y to
 /// lane y mod their number; in a thread of its own each lane does the tool's work on the images that it sees; and this
-/// thread gathers the rows. The rings to and from the lanes hold so many messages each. Each lane calls the gate with the
-/// tool's number and its own, from 0, before it takes its first message; the threads that deal and gather don't.
+/// thread gathers the rows. The rings to and from the lanes hold so many messages each, 1 to 1,024. Each lane calls the gate
+/// with the tool's number and its own, from 0, before it takes its first message; the threads that deal and gather don't.
 ///
 /// It ends as `run_stage` does, with the same messages in the same order. `PeerGone` is its end where it is that of one of its
 /// threads; else the first fault of the thread that deals, of the lanes in their order and of the one that gathers.
@@ -77,6 +78,7 @@ pub fn run_lanes<R: Threads + Wait + Sync, G: Gate>(
     requires lawful { IsLawfulTool tool.now }
     requires row_wise { is_row_wise tool.now ≡ true }
     requires lanes { IsLaneCount lanes }
+    requires capacity { IsRingCapacity capacity }
     ensures input { IfOk result (λ done. SameConsumer input done.input) }
     ensures output { IfOk result (λ done. SameProducer output done.output) }
     ensures ran { IfOk result (λ done. HasRunLanes tool.now done.end (received input) (received done.input) (known_items done.input)
@@ -114,6 +116,7 @@ pub fn run_lanes_by<R: Threads + Wait + Sync, G: Gate>(
     requires lawful { IsLawfulTool tool.now }
     requires row_wise { is_row_wise tool.now ≡ true }
     requires lanes { IsLaneCount lanes }
+    requires capacity { IsRingCapacity capacity }
     ensures input { IfOk result (λ done. SameConsumer input done.input) }
     ensures output { IfOk result (λ done. SameProducer output done.output) }
     ensures ran { IfOk result (λ done. HasRunLanes tool.now done.end (received input) (received done.input) (known_items done.input)

@@ -1,3 +1,4 @@
 pub mod Rings
 pub mod Fronts
 pub mod Stages
+pub mod Limits

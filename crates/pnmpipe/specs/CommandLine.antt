@@ -8,6 +8,7 @@ use Rattle.clap.specs.declared.builder.value_parser.ValueParser.TheVariants.{Sig
 use Rattle.clap.specs.declared.error.kind.ErrorKind.{ErrorKind}
 use Rattle.clap.specs.declared.error.kind.ErrorKind.TheVariants.{DisplayHelp, OutOfMemory}
 use Rattle.pnm_chain.specs.ChainText.{SpellsChain}
+use Rattle.pnm_rings.specs.Limits.{max_ring_capacity}
 use Rattle.pnm_flow.specs.Runs.{Change}
 use Rattle.pnm_flow.specs.ThreadedRuns.{HasRunOverThreads}
 use Rattle.pnm_flow.specs.declared.fault.RunFault.{RunFault}
@@ -26,9 +27,9 @@ number_rule name default high = record (new_rule name) {
   parser = Some (Signed (pos 1) (pos high));
 }
 
--- `--ring N`: 1 to 1,024, where it isn't given 64
+-- `--ring N`: what a ring may hold, where it isn't given 64
 abbrev pub ring_rule : Rule
-ring_rule = number_rule (codes "ring") (codes "64") 1024
+ring_rule = number_rule (codes "ring") (codes "64") max_ring_capacity
 
 -- `--lanes K`: 1 to 8, where it isn't given 1
 abbrev pub lanes_rule : Rule
@@ -64,7 +65,7 @@ abbrev pub ring_of : List Text → Option Text
 ring_of = number_of (codes "ring")
 
 abbrev pub GivesRing : List Text → ℕ → Type 0
-GivesRing = GivesNumber (codes "ring") 1024
+GivesRing = GivesNumber (codes "ring") max_ring_capacity
 
 -- the text of `--lanes`, and its number
 abbrev pub lanes_of : List Text → Option Text

@@ -4,9 +4,9 @@ ghost use Rattle.std.specs.Prelude.{◌≡◌, ◌≢◌, ◌⊎◌, ◌≤◌, 
 ghost use Rattle.std.specs.Io.KnownBytes.{Appends};
 ghost use Rattle.pnm_image.specs.Devices.{AppendsFront, Failed};
 ghost use Rattle.pnmpipe.specs.CommandLine.{AsksForHelp, HasRunTools, HasRunWords};
-ghost use Rattle.pnm_flow.specs.Chains.{max_ring_capacity};
 ghost use Rattle.pnm_flow.specs.Runs.{change};
 ghost use Rattle.pnm_lanes.specs.Limits.{IsLaneCount};
+ghost use Rattle.pnm_rings.specs.Limits.{IsRingCapacity};
 ghost use Rattle.pnm_tools.specs.Chains.{IsChain};
 
 use crate::command_line::{CommandLineFault, read_words};
@@ -95,7 +95,7 @@ fn run_tools<H: AllocGlobal + Threads + Wait + Sync, R: BytesIn, W: BytesOut, E:
     errors: &mut E,
 ) -> u8
     requires chain { IsChain tools.now }
-    requires ring { (1 ≤ ring) × (ring ≤ max_ring_capacity) }
+    requires ring { IsRingCapacity ring }
     requires lanes { IsLaneCount lanes }
     ensures status { result ≤ 1 }
     ensures ran { HasRunTools lanes tools.now result

@@ -7,6 +7,7 @@ ghost use Rattle.pnmpipe.specs.declared.command_line.CommandLineFault.TheVariant
 
 use clap::error::ErrorKind;
 use clap::{Arg, ArgAction, Command, value_parser};
+use pnm_flow::MAX_RING_CAPACITY;
 use std::alloc::{AllocError, Global};
 
 /// How the program is called.
@@ -109,7 +110,7 @@ fn ring_option<'a>(alloc: Global) -> Arg<'a>
         .long("ring")
         .value_name("N")
         .action(ArgAction::Set)
-        .value_parser(value_parser!(u16).range(1..=1024))
+        .value_parser(value_parser!(u16).range(1..=MAX_RING_CAPACITY as i64))
         .default_value("64")
         .help(RING_HELP)
 }
