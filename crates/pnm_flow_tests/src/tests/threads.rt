@@ -354,9 +354,7 @@ fn passes_each_message_on_at_once(rt: HostRuntime) -> Result<(), Fail> {
             let both = thread::join(
                 &rt,
                 move || chain(here, alloc, tools, 1, lanes, &OpenGate, input, output).is_ok(),
-                move || {
-                    one_by_one(alloc, &mut producer, &mut consumer, steps).unwrap_or(false)
-                },
+                move || { one_by_one(alloc, &mut producer, &mut consumer, steps).unwrap_or(false) },
             );
             assert_eq!(&rt; both, (true, true), "{lanes} lanes");
         }
