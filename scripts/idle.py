@@ -20,11 +20,11 @@ CHAINS = [
     ["--lanes", "3", "--ring", "1", "pnminvert | pamflip -lr"],
 ]
 
-# the first two images of a stream, the second one cut in its first row, and what is due of each by an even number of inversions
+# an image, and the beginning of another one, which the silence cuts in its first row
 WHOLE = b"P5\n2 1\n9\n\x01\x02"
 BEGUN = b"P5\n2 2\n9\n\x03"
 
-# what is held back, and how many whole images are due then
+# what comes before the silence, and how many whole images are due by then
 SILENCES = [("before the first byte", b"", 0), ("after an image", WHOLE, 1), ("inside an image", WHOLE + BEGUN, 1)]
 
 # how much of the silence may be spent, and how long a start may take
