@@ -1,8 +1,9 @@
 pub mod Limits
+pub mod Formats
 pub mod Texts
 pub mod Devices
 pub mod Heads
-pub mod Packings
+pub mod SampleWidths
 pub mod Messages
 pub mod Places
 pub mod Images

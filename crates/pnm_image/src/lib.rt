@@ -7,18 +7,20 @@
 
 pub mod characters;
 mod device;
+mod format;
 mod head;
 pub mod laws;
 pub mod limits;
 mod message;
-mod packing;
 mod place;
+mod sample_width;
 mod shape;
 
 pub use device::{BytesIn, BytesOut, Device, DeviceFailed, write_all};
+pub use format::{Form, Format};
 pub use head::{Head, HeadFault};
 pub use message::Message;
-pub use packing::Packing;
 pub use place::Place;
-pub use pnm_samples::{Bits, Held, Lent, Samples};
+pub use pnm_samples::{Bits, SampleSlice, SampleVec, Samples};
+pub use sample_width::SampleWidth;
 pub use shape::{Kind, Shape};

@@ -1,4 +1,5 @@
 -- The steps of a source, by what it awaits.
+use Rattle.pnm_image.specs.Formats.{is_plain_form}
 use Rattle.std.proofs.Common.{◌≡◌, ◌⊎◌, ℕ, suc, ◌+◌, ◌-◌, ◌<◌, ◌≤◌, Bool, true, false, List, [], ◌∷◌, length, Option, ◌==◌, sym, Result, Ok, Err, inl, inr, refl, ap, subst, ◌∙◌, arith}
 use Rattle.std.proofs.lemmas.Bool.{cases_lt}
 use Rattle.std.proofs.lemmas.Bool.Decides.{nat_tests}
@@ -7,7 +8,7 @@ use Rattle.pnm_image.specs.declared.message.Message.TheVariants.{Begin, Row, Ima
 use Rattle.pnm_image.specs.Heads.{HeadValue}
 use Rattle.pnm_read.specs.declared.fault.InputFault.{InputFault}
 use Rattle.pnm_read.specs.declared.fault.InputFault.TheVariants.{ReadFailed}
-use Rattle.pnm_read.specs.declared.format.Format.{Format}
+use Rattle.pnm_image.specs.declared.format.Format.{Format}
 use Rattle.pnm_read.specs.declared.input.Input.{Input}
 use Rattle.pnm_read.specs.declared.raster.Raster.{Raster}
 use Rattle.pnm_read.specs.declared.source.Awaited.TheVariants.{FirstImage, RowOrEnd, ImageOrEnd, End}
@@ -57,12 +58,12 @@ end_due true text = refl
 end_due false text = refl
 
 -- the image has ended
-pub image_ends : (raster : Raster) (step : Step) (b a : List ℕ) → raster.y ≡ raster.shape.height → step.message ≡ ImageEnd → step.state ≡ Awaits (awaited_after raster.format.is_plain) → b ≡ a → Steps (RowOrEnd raster) (Ok step) b a
+pub image_ends : (raster : Raster) (step : Step) (b a : List ℕ) → raster.y ≡ raster.shape.height → step.message ≡ ImageEnd → step.state ≡ Awaits (awaited_after (is_plain_form raster.format.form)) → b ≡ a → Steps (RowOrEnd raster) (Ok step) b a
 unfolding rows_said
 image_ends raster step b a e sm ss same =
     let none : raster.shape.height - raster.y ≡ 0 = omega arith in
-    let said : due_at (RowOrEnd raster) b ≡ then_said ImageEnd (end_said later_said raster.format.is_plain a) = rw (none, same) refl in
-    rw (sm, ss) (said ∙ ap (then_said ImageEnd) (end_due raster.format.is_plain a), tt)
+    let said : due_at (RowOrEnd raster) b ≡ then_said ImageEnd (end_said later_said (is_plain_form raster.format.form) a) = rw (none, same) refl in
+    rw (sm, ss) (said ∙ ap (then_said ImageEnd) (end_due (is_plain_form raster.format.form) a), tt)
 
 -- what is said from a row on
 abbrev row_said : Format → Shape → ℕ → Result (List ℕ × List ℕ) InputFault → Said

@@ -1,4 +1,5 @@
 -- What is said of a text before its fault is spelled: the images that ended, and the first rows of one that began.
+use Rattle.pnm_image.specs.Formats.{is_plain_form}
 use Rattle.std.proofs.Common.{◌≡◌, ◌⊎◌, ℕ, zero, suc, ◌+◌, ◌≤◌, Bool, true, false, List, [], ◌∷◌, ◌++◌, length, map, flat_map, Some, None, Result, Ok, Err, inl, inr, refl, sym, ap, subst, ◌∙◌, append_assoc, arith}
 use Rattle.std.proofs.lemmas.List.{length-append}
 use Rattle.std.proofs.lemmas.Bool.{both_ways}
@@ -8,7 +9,7 @@ use Rattle.pnm_image.specs.declared.message.Message.TheVariants.{Begin, Row}
 use Rattle.pnm_image.specs.Heads.{HeadValue, with_height}
 use Rattle.pnm_image.specs.Images.{Image, messages_of_image}
 use Rattle.pnm_read.specs.declared.fault.InputFault.{InputFault}
-use Rattle.pnm_read.specs.declared.format.Format.{Format}
+use Rattle.pnm_image.specs.declared.format.Format.{Format}
 use Rattle.pnm_read.specs.Headers.{SpellsHeader}
 use Rattle.pnm_read.specs.Spelling.{SpellsRawImages}
 use Rattle.pnm_read.specs.Said.{Said, format_at, head_at, row_at, end_said, rows_said, head_said, format_said, image_said, later_said, said, said_of, fault_of}
@@ -57,7 +58,7 @@ row_stops later is_first text header after format head rows more rest fault may 
     }
 
 -- all rows of a raw image were read
-raw_image_ends : (later : List ℕ → Said) (text header after : List ℕ) (format : Format) (head : HeadValue) (rows : List (List ℕ)) (rest : List ℕ) (fault : InputFault) → format.is_plain ≡ false → text ≡ header ++ after → SpellsHeader header format head
+raw_image_ends : (later : List ℕ → Said) (text header after : List ℕ) (format : Format) (head : HeadValue) (rows : List (List ℕ)) (rest : List ℕ) (fault : InputFault) → is_plain_form format.form ≡ false → text ≡ header ++ after → SpellsHeader header format head
     → RowsRead format head.shape rows head.shape.height after zero rest → (later rest).fault ≡ Some fault → RawAndRest later text (Some fault)
 raw_image_ends later text header after format head rows rest fault raw whole h read e =
     let s : Shape = head.shape in
@@ -76,7 +77,7 @@ raw_image_ends later text header after format head rows rest fault raw whole h r
     }
 
 -- after a plain image there is no fault
-image_ends : (is_plain : Bool) (later : List ℕ → Said) (text header after : List ℕ) (format : Format) (head : HeadValue) (rows : List (List ℕ)) (rest : List ℕ) (fault : InputFault) → format.is_plain ≡ is_plain → text ≡ header ++ after → SpellsHeader header format head
+image_ends : (is_plain : Bool) (later : List ℕ → Said) (text header after : List ℕ) (format : Format) (head : HeadValue) (rows : List (List ℕ)) (rest : List ℕ) (fault : InputFault) → is_plain_form format.form ≡ is_plain → text ≡ header ++ after → SpellsHeader header format head
     → RowsRead format head.shape rows head.shape.height after zero rest → (end_said later is_plain rest).fault ≡ Some fault → RawAndRest later text (Some fault)
 unfolding end_said
 image_ends false later text header after format head rows rest fault raw whole h read e = raw_image_ends later text header after format head rows rest fault raw whole h read e
@@ -85,7 +86,7 @@ image_ends true later text header after format head rows rest fault plain whole 
 raster_stops_at : (more : ℕ) (later : List ℕ → Said) (is_first : Bool) (text header after : List ℕ) (format : Format) (head : HeadValue) (rows : List (List ℕ)) (rest : List ℕ) (fault : InputFault) → MayBegin is_first format → text ≡ header ++ after → SpellsHeader header format head
     → (rows_said later format head.shape head.shape.height after).fault ≡ Some fault → RowsRead format head.shape rows head.shape.height after more rest → Stops format head.shape more rest → Stopped later is_first text (from_head later format head after) fault
 raster_stops_at zero later is_first text header after format head rows rest fault may whole h e read stop =
-    inr (image_ends format.is_plain later text header after format head rows rest fault refl whole h read (sym (ended_fault later format head.shape rows head.shape.height after rest read) ∙ e))
+    inr (image_ends (is_plain_form format.form) later text header after format head rows rest fault refl whole h read (sym (ended_fault later format head.shape rows head.shape.height after rest read) ∙ e))
 raster_stops_at (suc more) later is_first text header after format head rows rest fault may whole h e read stop = inl (inl (row_stops later is_first text header after format head rows more rest stop.0 may whole h read stop.1))
 
 raster_stops : (later : List ℕ → Said) (is_first : Bool) (text header after : List ℕ) (format : Format) (head : HeadValue) (fault : InputFault) → MayBegin is_first format → text ≡ header ++ after → SpellsHeader header format head
@@ -97,7 +98,7 @@ raster_stops later is_first text header after format head fault may whole h e =
 -- a format that is read may begin there
 read_may_begin : (is_first : Bool) (text : List ℕ) (found : Format × List ℕ) → format_at is_first text ≡ Ok found → MayBegin is_first found.0
 read_may_begin true text found e plain = refl
-read_may_begin false text found e plain = absurd (both_ways found.0.is_plain (later_is_raw text found e) plain)
+read_may_begin false text found e plain = absurd (both_ways (is_plain_form found.0.form) (later_is_raw text found e) plain)
 
 -- a header that a text begins with is read
 header_is_read : (is_first : Bool) (text header rest : List ℕ) (format : Format) (head : HeadValue) → MayBegin is_first format → text ≡ header ++ rest → SpellsHeader header format head

@@ -1,4 +1,5 @@
 -- What a text's fault can be: neither a failed read nor want of memory.
+use Rattle.pnm_image.specs.Formats.{is_plain_form}
 use Rattle.std.proofs.Common.{◌≡◌, ℕ, zero, suc, ◌*◌, ◌+◌, Bool, true, false, not, ◌&&◌, ◌||◌, if◌then◌else◌, List, [], ◌∷◌, length, take, Some, None, Result, Ok, Err, subst}
 use Rattle.std.specs.Prelude.{nat_le}
 use Rattle.std.specs.List.{concat}
@@ -8,13 +9,13 @@ use Rattle.pnm_image.specs.declared.shape.Kind.TheVariants.{Bit, Gray, Color, Pa
 use Rattle.pnm_image.specs.Heads.{HeadValue, row_length}
 use Rattle.pnm_read.specs.declared.fault.InputFault.{InputFault}
 use Rattle.pnm_read.specs.declared.fault.InputFault.TheVariants.{TooLong, RasterCut, SampleAboveMaxval, BadSample, ReadFailed, Memory}
-use Rattle.pnm_read.specs.declared.format.Format.{Format}
+use Rattle.pnm_image.specs.declared.format.Format.{Format}
 use Rattle.pnm_read.specs.declared.judgement.Judgement.TheVariants.{EndsWith, EndsBefore}
-use Rattle.pnm_image.specs.declared.packing.Packing.{Packing}
-use Rattle.pnm_image.specs.declared.packing.Packing.TheVariants.{Packed, Narrow, Wide}
+use Rattle.pnm_image.specs.declared.sample_width.SampleWidth.{SampleWidth}
+use Rattle.pnm_image.specs.declared.sample_width.SampleWidth.TheVariants.{Bits, Bytes, Words}
 use Rattle.pnm_read.specs.Texts.{is_apart, begins_apart, ends_in_comment, number_in}
 use Rattle.pnm_image.specs.Texts.{is_digit}
-use Rattle.pnm_image.specs.Packings.{packing_of}
+use Rattle.pnm_image.specs.SampleWidths.{sample_width_of}
 use Rattle.pnm_read.specs.Items.{◌>>=◌, piece_from, raw_item, gap_limit, ends_in_digit, is_complete, decimal_item, decimal_end, is_pixel, pixel_item, pixel_end, pixel_in, plain_pixel, sample_item, plain_decimal, plain_sample, after_last_item}
 use Rattle.pnm_read.specs.Said.{Said, in_turn, units_in_row, units_at, raw_row, plain_row, last_plain_row, row_by, row_at, end_said, rows_said, head_said, format_said, image_said, later_said_in, later_said, format_at, head_at, said, fault_of}
 use Rattle.pnm_read.proofs.RowTurns.{said_from}
@@ -30,21 +31,21 @@ turns_by_text item (suc n) text each =
     bind_by_text (item text) (λ first. in_turn item n first.1 >>= λ more. Ok (first.0 ∷ more.0, more.1)) (each text)
     (λ first. bind_by_text (in_turn item n first.1) (λ more. Ok (first.0 ∷ more.0, more.1)) (turns_by_text item n first.1 each) (λ more. tt))
 
-raw_item_by_text : (packing : Packing) (maxval : ℕ) (text : List ℕ) → FailsByText (raw_item packing maxval text)
+raw_item_by_text : (sample_width : SampleWidth) (maxval : ℕ) (text : List ℕ) → FailsByText (raw_item sample_width maxval text)
 unfolding raw_item
-raw_item_by_text Packed maxval [] = tt
-raw_item_by_text Narrow maxval [] = tt
-raw_item_by_text Wide maxval [] = tt
-raw_item_by_text Packed maxval (b ∷ text) = tt
-raw_item_by_text Narrow maxval (b ∷ text) = when_by_text (nat_le b maxval) (b ∷ [], text) SampleAboveMaxval tt
-raw_item_by_text Wide maxval (b ∷ []) = tt
-raw_item_by_text Wide maxval (b ∷ c ∷ text) = when_by_text (nat_le (256 * b + c) maxval) ((256 * b + c) ∷ [], text) SampleAboveMaxval tt
+raw_item_by_text Bits maxval [] = tt
+raw_item_by_text Bytes maxval [] = tt
+raw_item_by_text Words maxval [] = tt
+raw_item_by_text Bits maxval (b ∷ text) = tt
+raw_item_by_text Bytes maxval (b ∷ text) = when_by_text (nat_le b maxval) (b ∷ [], text) SampleAboveMaxval tt
+raw_item_by_text Words maxval (b ∷ []) = tt
+raw_item_by_text Words maxval (b ∷ c ∷ text) = when_by_text (nat_le (256 * b + c) maxval) ((256 * b + c) ∷ [], text) SampleAboveMaxval tt
 
 raw_row_by_text : (s : Shape) (text : List ℕ) → FailsByText (raw_row s text)
 unfolding raw_row
 raw_row_by_text s text =
-    let packing : Packing = packing_of s.kind s.maxval in
-    bind_by_text (units_at s text) (λ units. Ok (take (row_length s) (concat units.0), units.1)) (turns_by_text (raw_item packing s.maxval) (units_in_row packing s) text (raw_item_by_text packing s.maxval)) (λ units. tt)
+    let sample_width : SampleWidth = sample_width_of s.kind s.maxval in
+    bind_by_text (units_at s text) (λ units. Ok (take (row_length s) (concat units.0), units.1)) (turns_by_text (raw_item sample_width s.maxval) (units_in_row sample_width s) text (raw_item_by_text sample_width s.maxval)) (λ units. tt)
 
 decimal_byte_by_text : (before : List ℕ) (b : ℕ) → IsJudgedByText (decimal_item before b)
 unfolding decimal_item
@@ -111,8 +112,8 @@ from_row_by_text later format s more (Err fault) h others = h
 
 rows_by_text : (later : List ℕ → Said) (format : Format) (s : Shape) (more : ℕ) (text : List ℕ) → EndsSo later → EndsByText (rows_said later format s more text).fault
 unfolding rows_said
-rows_by_text later format s zero text so = end_by_text later format.is_plain text so
-rows_by_text later format s (suc more) text so = from_row_by_text later format s more (row_at format s more text) (row_by_text format.is_plain s more text) (λ rest. rows_by_text later format s more rest so)
+rows_by_text later format s zero text so = end_by_text later (is_plain_form format.form) text so
+rows_by_text later format s (suc more) text so = from_row_by_text later format s more (row_at format s more text) (row_by_text (is_plain_form format.form) s more text) (λ rest. rows_by_text later format s more rest so)
 
 head_said_by_text : (later : List ℕ → Said) (format : Format) (found : Result (HeadValue × List ℕ) InputFault) → EndsSo later → FailsByText found → EndsByText (head_said later format found).fault
 head_said_by_text later format (Ok x) so h = rows_by_text later format x.0.shape x.0.shape.height x.1 so

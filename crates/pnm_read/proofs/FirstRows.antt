@@ -1,4 +1,5 @@
 -- The first rows of a raster: rows that are read in turn are spelled, and rows that are spelled are read in turn.
+use Rattle.pnm_image.specs.Formats.{is_plain_form}
 use Rattle.std.proofs.Common.{◌≡◌, ℕ, zero, suc, ◌+◌, ◌<◌, ◌≤◌, Bool, true, false, List, [], ◌∷◌, ◌++◌, length, map, refl, sym, ap, subst, ◌∙◌, arith, mul-pos}
 use Rattle.std.specs.List.{concat}
 use Rattle.std.proofs.lemmas.List.{length-append, length-map}
@@ -9,7 +10,7 @@ use Rattle.pnm_image.specs.declared.message.Message.TheVariants.{Row}
 use Rattle.pnm_image.specs.Heads.{HeadValue, IsHead, row_length, with_height}
 use Rattle.pnm_image.specs.Images.{Image, IsImage, rows_of}
 use Rattle.pnm_image.proofs.Rows.{AreRowsOf, image_of, IsImage-image_of, rows_of-image_of, AreRowsOf-rows_of, length-rows_of}
-use Rattle.pnm_read.specs.declared.format.Format.{Format}
+use Rattle.pnm_image.specs.declared.format.Format.{Format}
 use Rattle.pnm_read.specs.Texts.{begins_apart}
 use Rattle.pnm_read.specs.Rasters.{MayFollow, SpellsRaw, SpellsPlain}
 use Rattle.pnm_read.specs.Spelling.{SpellsRasterBy, SpellsRaster}
@@ -26,7 +27,7 @@ use Rattle.pnm_read.proofs.RowTurns.{RowsRead, rows_count, read_rows_come_first}
 pub rows_are_rows : (format : Format) (head : HeadValue) (rows : List (List ℕ)) (n : ℕ) (text : List ℕ) (more : ℕ) (rest : List ℕ) → IsHead head → RowsRead format head.shape rows n text more rest → AreRowsOf head.shape rows
 rows_are_rows format head [] n text more rest h read = tt
 rows_are_rows format head (row ∷ rows) zero text more rest h read = absurd read
-rows_are_rows format head (row ∷ rows) (suc n) text more rest h read = (row_is_row format.is_plain head n text (row, read.0) h read.1, rows_are_rows format head rows n read.0 more rest h read.2)
+rows_are_rows format head (row ∷ rows) (suc n) text more rest h read = (row_is_row (is_plain_form format.form) head n text (row, read.0) h read.1, rows_are_rows format head rows n read.0 more rest h read.2)
 
 -- the image of some of a head's rows
 abbrev pub first_of : HeadValue → List (List ℕ) → Image
@@ -67,7 +68,7 @@ pub record RowsSpelled (format : Format) (head : HeadValue) (rows : List (List �
 
 -- ---- raw rows that are read are spelled
 
-raw_rows_are_spelled : (format : Format) (head : HeadValue) (rows : List (List ℕ)) (n : ℕ) (text : List ℕ) (more : ℕ) (rest : List ℕ) → format.is_plain ≡ false → IsHead head → length rows ≤ head.shape.height → RowsRead format head.shape rows n text more rest
+raw_rows_are_spelled : (format : Format) (head : HeadValue) (rows : List (List ℕ)) (n : ℕ) (text : List ℕ) (more : ℕ) (rest : List ℕ) → is_plain_form format.form ≡ false → IsHead head → length rows ≤ head.shape.height → RowsRead format head.shape rows n text more rest
     → RowsSpelled format head rows text rest
 raw_rows_are_spelled format head rows n text more rest raw h le read =
     let r = raw_rows_have_bytes format head rows n text more rest raw h read in
@@ -87,7 +88,7 @@ may_follow_rows kind zero more rest follows last = tt
 may_follow_rows kind (suc rows) zero rest follows last = last (omega arith) refl
 may_follow_rows kind (suc rows) (suc more) rest follows last = follows (omega arith)
 
-plain_rows_end : (format : Format) (head : HeadValue) (rows : List (List ℕ)) (n : ℕ) (text : List ℕ) (more : ℕ) (rest : List ℕ) → format.is_plain ≡ true → IsHead head → RowsRead format head.shape rows n text more rest
+plain_rows_end : (format : Format) (head : HeadValue) (rows : List (List ℕ)) (n : ℕ) (text : List ℕ) (more : ℕ) (rest : List ℕ) → is_plain_form format.form ≡ true → IsHead head → RowsRead format head.shape rows n text more rest
     → MayFollowRows true head.shape.kind (length rows) more rest
 plain_rows_end format head rows n text more rest plain h read =
     let s : Shape = head.shape in
@@ -97,7 +98,7 @@ plain_rows_end format head rows n text more rest plain h read =
     (λ some. sample_ends s.kind text (concat rows) rest r.spelled (let samples = mul-pos {m = length rows} {n = row_length s} some each in omega (arith, r.count, samples)))
     (λ some last. last_row_ends format s rows n text more rest plain read some last)
 
-plain_rows_are_spelled : (format : Format) (head : HeadValue) (rows : List (List ℕ)) (n : ℕ) (text : List ℕ) (more : ℕ) (rest : List ℕ) → format.is_plain ≡ true → IsHead head → length rows ≤ head.shape.height → RowsRead format head.shape rows n text more rest
+plain_rows_are_spelled : (format : Format) (head : HeadValue) (rows : List (List ℕ)) (n : ℕ) (text : List ℕ) (more : ℕ) (rest : List ℕ) → is_plain_form format.form ≡ true → IsHead head → length rows ≤ head.shape.height → RowsRead format head.shape rows n text more rest
     → RowsSpelled format head rows text rest
 plain_rows_are_spelled format head rows n text more rest plain h le read =
     let are = rows_are_rows format head rows n text more rest h read in
@@ -107,7 +108,7 @@ plain_rows_are_spelled format head rows n text more rest plain h le read =
 
 -- ---- rows that are read are the first of a raster
 
-rows_spelled_by : (is_plain : Bool) (format : Format) (head : HeadValue) (rows : List (List ℕ)) (n : ℕ) (text : List ℕ) (more : ℕ) (rest : List ℕ) → format.is_plain ≡ is_plain → IsHead head → length rows ≤ head.shape.height
+rows_spelled_by : (is_plain : Bool) (format : Format) (head : HeadValue) (rows : List (List ℕ)) (n : ℕ) (text : List ℕ) (more : ℕ) (rest : List ℕ) → is_plain_form format.form ≡ is_plain → IsHead head → length rows ≤ head.shape.height
     → RowsRead format head.shape rows n text more rest → RowsSpelled format head rows text rest
 rows_spelled_by false format head rows n text more rest e h le read = raw_rows_are_spelled format head rows n text more rest e h le read
 rows_spelled_by true format head rows n text more rest e h le read = plain_rows_are_spelled format head rows n text more rest e h le read
@@ -115,9 +116,9 @@ rows_spelled_by true format head rows n text more rest e h le read = plain_rows_
 pub read_rows_are_spelled : (format : Format) (head : HeadValue) (rows : List (List ℕ)) (text : List ℕ) (more : ℕ) (rest : List ℕ) → IsHead head → RowsRead format head.shape rows head.shape.height text more rest → RowsSpelled format head rows text rest
 read_rows_are_spelled format head rows text more rest h read =
     let s : Shape = head.shape in
-    rows_spelled_by format.is_plain format head rows s.height text more rest refl h (omega (arith, rows_count format s rows s.height text more rest read)) read
+    rows_spelled_by (is_plain_form format.form) format head rows s.height text more rest refl h (omega (arith, rows_count format s rows s.height text more rest read)) read
 
-rows_end_by : (is_plain : Bool) (format : Format) (head : HeadValue) (rows : List (List ℕ)) (n : ℕ) (text : List ℕ) (more : ℕ) (rest : List ℕ) → format.is_plain ≡ is_plain → IsHead head → RowsRead format head.shape rows n text more rest
+rows_end_by : (is_plain : Bool) (format : Format) (head : HeadValue) (rows : List (List ℕ)) (n : ℕ) (text : List ℕ) (more : ℕ) (rest : List ℕ) → is_plain_form format.form ≡ is_plain → IsHead head → RowsRead format head.shape rows n text more rest
     → MayFollowRows is_plain head.shape.kind (length rows) more rest
 rows_end_by false format head rows n text more rest e h read = tt
 rows_end_by true format head rows n text more rest e h read = plain_rows_end format head rows n text more rest e h read
@@ -133,7 +134,7 @@ read_rows_begin format head rows text more rest h read =
       whole = r.whole;
       raster_is = r.raster_is;
       head_is = ap (with_height head) (rows_count format s rows s.height text more rest read);
-      follows = rows_end_by format.is_plain format head rows s.height text more rest refl h read;
+      follows = rows_end_by (is_plain_form format.form) format head rows s.height text more rest refl h read;
     }
 
 -- ---- rows that are spelled are read
@@ -153,7 +154,7 @@ ends_rows kind (suc rows) (suc more) rest f some last = absurd (omega arith)
 abbrev taller : Image → ℕ → HeadValue
 taller image more = with_height image.head (image.head.shape.height + more)
 
-spelled_rows_by : (is_plain : Bool) (format : Format) (first : Image) (raster : List ℕ) (more : ℕ) (rest : List ℕ) → format.is_plain ≡ is_plain → SpellsRasterBy is_plain raster first → IsHead (taller first more)
+spelled_rows_by : (is_plain : Bool) (format : Format) (first : Image) (raster : List ℕ) (more : ℕ) (rest : List ℕ) → is_plain_form format.form ≡ is_plain → SpellsRasterBy is_plain raster first → IsHead (taller first more)
     → MayFollowRows is_plain first.head.shape.kind first.head.shape.height more rest → RowsRead format (taller first more).shape (rows_of first) (taller first more).shape.height (raster ++ rest) more rest
 spelled_rows_by false format first raster more rest raw spelled h follows =
     let rows : ℕ = first.head.shape.height in
@@ -169,8 +170,8 @@ spelled_rows_by true format first raster more rest plain spelled h follows =
 -- the first rows of a raster are read in turn
 rows_that_begin : (format : Format) (head : HeadValue) (first : Image) (text : List ℕ) (b : BeginsWithRows text format head first) → IsHead head → RowsRead format head.shape (rows_of first) head.shape.height text b.more b.rest
 rows_that_begin format head first text b h =
-    let Reads : HeadValue → Type 0 = λ x. IsHead x → MayFollowRows format.is_plain x.shape.kind first.head.shape.height b.more b.rest → RowsRead format x.shape (rows_of first) x.shape.height (b.raster ++ b.rest) b.more b.rest in
-    let read = subst Reads (sym b.head_is) (λ is follows. spelled_rows_by format.is_plain format first b.raster b.more b.rest refl b.raster_is is follows) h b.follows in
+    let Reads : HeadValue → Type 0 = λ x. IsHead x → MayFollowRows (is_plain_form format.form) x.shape.kind first.head.shape.height b.more b.rest → RowsRead format x.shape (rows_of first) x.shape.height (b.raster ++ b.rest) b.more b.rest in
+    let read = subst Reads (sym b.head_is) (λ is follows. spelled_rows_by (is_plain_form format.form) format first b.raster b.more b.rest refl b.raster_is is follows) h b.follows in
     subst (λ (t : List ℕ). RowsRead format head.shape (rows_of first) head.shape.height t b.more b.rest) (sym b.whole) read
 
 -- no more rows begin a text than are said of it

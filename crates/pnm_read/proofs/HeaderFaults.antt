@@ -10,7 +10,7 @@ use Rattle.pnm_image.specs.declared.shape.Shape.{Shape}
 use Rattle.pnm_image.specs.Heads.{HeadValue, head_value, row_length, shape_fault}
 use Rattle.pnm_read.specs.declared.fault.InputFault.{InputFault}
 use Rattle.pnm_read.specs.declared.fault.InputFault.TheVariants.{BadMagic, TooLong, BadNumber, BadPamLine, DuplicateField, MissingField, PlainInStream, ReadFailed, Memory}
-use Rattle.pnm_read.specs.declared.format.Format.{Format}
+use Rattle.pnm_image.specs.declared.format.Format.{Format}
 use Rattle.pnm_read.specs.declared.judgement.Judgement.{Judgement}
 use Rattle.pnm_read.specs.declared.judgement.Judgement.TheVariants.{GoesOn, EndsWith, EndsBefore, Fails}
 use Rattle.pnm_read.specs.declared.line.Field.{Field}
@@ -18,7 +18,8 @@ use Rattle.pnm_read.specs.declared.line.LineKind.{LineKind}
 use Rattle.pnm_read.specs.declared.line.LineKind.TheVariants.{Nothing, Number, TupleType, End, Unknown}
 use Rattle.pnm_read.specs.Texts.{numbers_in}
 use Rattle.pnm_image.specs.Texts.{is_digit}
-use Rattle.pnm_read.specs.Formats.{format_of, number_count, shape_of}
+use Rattle.pnm_image.specs.Formats.{format_of, is_plain_form}
+use Rattle.pnm_read.specs.Formats.{number_count, shape_of}
 use Rattle.pnm_read.specs.PamLines.{ended_lines, last_line, second_token, line_kind, field_values, tuple_type_in}
 use Rattle.pnm_read.specs.Items.{◌>>=◌, piece_from, first_magic_item, second_magic_item, header_limit, is_bad_in_header, is_delimiter, header_item, header_end, fault_of_head, numbers_item, line_feed_item, pam_limit, number_item, tuple_type_item, line_item, pam_item, is_incomplete, shape_in, lines_item}
 use Rattle.pnm_read.specs.Said.{format_at, pnm_head_at, pam_head_at, head_by, head_at}
@@ -115,13 +116,13 @@ refused_by_text false format text = tt
 -- the format that a magic names, if it names one
 abbrev magic_named : Bool → Option Format → List ℕ → Result (Format × List ℕ) InputFault
 magic_named is_first found text = elim found [
-  | Some format ↦ if format.is_plain && not is_first then Err PlainInStream else Ok (format, text)
+  | Some format ↦ if is_plain_form format.form && not is_first then Err PlainInStream else Ok (format, text)
   | None ↦ Err BadMagic
 ]
 
 named_by_text : (is_first : Bool) (found : Option Format) (text : List ℕ) → FailsByText (magic_named is_first found text)
 named_by_text is_first None text = tt
-named_by_text is_first (Some format) text = refused_by_text (format.is_plain && not is_first) format text
+named_by_text is_first (Some format) text = refused_by_text (is_plain_form format.form && not is_first) format text
 
 second_magic_by_text : (is_first : Bool) (text : List ℕ) → FailsByText (second_magic_item is_first text)
 unfolding second_magic_item

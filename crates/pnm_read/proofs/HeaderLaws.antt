@@ -11,12 +11,13 @@ use Rattle.pnm_image.specs.declared.shape.Kind.TheVariants.{Bit, Gray, Color, Pa
 use Rattle.pnm_image.specs.Heads.{HeadValue, IsHead, IsTupleType, Suits, head_value, shape_fault}
 use Rattle.pnm_read.specs.declared.fault.InputFault.{InputFault}
 use Rattle.pnm_read.specs.declared.fault.InputFault.TheVariants.{BadMagic, TooLong, BadNumber, PlainInStream}
-use Rattle.pnm_read.specs.declared.format.Format.{Format}
+use Rattle.pnm_image.specs.declared.format.Format.{Format}
 use Rattle.pnm_read.specs.declared.judgement.Judgement.{Judgement}
 use Rattle.pnm_read.specs.declared.judgement.Judgement.TheVariants.{GoesOn, EndsWith, EndsBefore, Fails}
 use Rattle.pnm_read.specs.Texts.{is_apart, begins_apart, ends_in_comment, uncommented, uncommented_from, ends_in_word, numbers_in}
 use Rattle.pnm_image.specs.Texts.{is_white, is_digit, words}
-use Rattle.pnm_read.specs.Formats.{plain, raw, format_of, number_count, planes, shape_of, header_numbers}
+use Rattle.pnm_image.specs.Formats.{plain, raw, format_of, is_plain_form}
+use Rattle.pnm_read.specs.Formats.{number_count, planes, shape_of, header_numbers}
 use Rattle.pnm_read.specs.Headers.{SpellsPnmHeader, SpellsHeaderBy, SpellsHeader}
 use Rattle.pnm_read.specs.Items.{◌>>=◌, piece_from, first_magic_item, second_magic_item, header_limit, is_bad_in_header, is_delimiter, header_item, header_end, numbers_item}
 use Rattle.pnm_read.specs.Said.{format_at, pnm_head_at, head_by, head_at}
@@ -288,7 +289,7 @@ record SecondMagic (text : List ℕ) (format : Format) (after : List ℕ) : Type
 -- the format that a magic names; a plain one names none after another image
 abbrev pub second_magic : Bool → Option Format → List ℕ → Result (Format × List ℕ) InputFault
 second_magic is_first found text = elim found [
-  | Some format ↦ if format.is_plain && not is_first then Err PlainInStream else Ok (format, text)
+  | Some format ↦ if is_plain_form format.form && not is_first then Err PlainInStream else Ok (format, text)
   | None ↦ Err BadMagic
 ]
 
@@ -299,7 +300,7 @@ not_refused_by false found expected e = ok_is found expected e
 second_magic_by : (is_first : Bool) (found : Option Format) (b : ℕ) (text : List ℕ) (format : Format) (after : List ℕ) → format_of b ≡ found → second_magic is_first found text ≡ Ok (format, after) → SecondMagic (b ∷ text) format after
 second_magic_by is_first None b text format after h e = absurd cc
 second_magic_by is_first (Some f) b text format after h e =
-    let parts : (f, text) ≡ (format, after) = not_refused_by (f.is_plain && not is_first) (f, text) (format, after) e in
+    let parts : (f, text) ≡ (format, after) = not_refused_by (is_plain_form f.form && not is_first) (f, text) (format, after) e in
     record { digit = b; text_is = ap (λ (p : Format × List ℕ). b ∷ p.1) parts; format_is = h ∙ ap (λ (p : Format × List ℕ). Some p.0) parts }
 
 second_magic_is_spelled : (is_first : Bool) (text : List ℕ) (format : Format) (after : List ℕ) → second_magic_item is_first text ≡ Ok (format, after) → SecondMagic text format after

@@ -5,8 +5,8 @@ use Rattle.pnm_image.specs.declared.message.Message.TheVariants.{Begin, Row, Ima
 use Rattle.pnm_image.specs.Heads.{HeadValue}
 use Rattle.pnm_read.specs.declared.fault.InputFault.{InputFault}
 use Rattle.pnm_read.specs.declared.fault.InputFault.TheVariants.{BadMagic, PlainInStream}
-use Rattle.pnm_read.specs.declared.format.Format.{Format}
-use Rattle.pnm_read.specs.Formats.{format_of}
+use Rattle.pnm_image.specs.declared.format.Format.{Format}
+use Rattle.pnm_image.specs.Formats.{format_of, is_plain_form}
 use Rattle.pnm_read.specs.Items.{first_magic_item, second_magic_item}
 use Rattle.pnm_read.specs.Said.{Said, then_said, ends_stream, format_at, head_at, row_by, row_at, end_said, rows_said, head_said, format_said, image_said, later_said_in, later_said}
 use Rattle.pnm_read.proofs.HeaderLaws.{header_shorter}
@@ -16,27 +16,27 @@ use Rattle.pnm_read.proofs.PieceLaws.{bind_ok}
 
 -- ---- a later image is raw
 
-raw_if : (plain : Bool) (format : Format) (text : List ℕ) (found : Format × List ℕ) → format.is_plain ≡ plain → (if plain && not false then Err PlainInStream else Ok (format, text)) ≡ Ok found → found.0.is_plain ≡ false
+raw_if : (plain : Bool) (format : Format) (text : List ℕ) (found : Format × List ℕ) → is_plain_form format.form ≡ plain → (if plain && not false then Err PlainInStream else Ok (format, text)) ≡ Ok found → is_plain_form found.0.form ≡ false
 raw_if true format text found e h = absurd cc
-raw_if false format text found e h = let same : (format, text) ≡ found = cc in sym (ap (λ (f : Format × List ℕ). f.0.is_plain) same) ∙ e
+raw_if false format text found e h = let same : (format, text) ≡ found = cc in sym (ap (λ (f : Format × List ℕ). (is_plain_form f.0.form)) same) ∙ e
 
 -- the format of a later image
 abbrev later_named : Option Format → List ℕ → Result (Format × List ℕ) InputFault
 later_named named text = elim named [
-  | Some format ↦ if format.is_plain && not false then Err PlainInStream else Ok (format, text)
+  | Some format ↦ if is_plain_form format.form && not false then Err PlainInStream else Ok (format, text)
   | None ↦ Err BadMagic
 ]
 
-raw_named : (named : Option Format) (text : List ℕ) (found : Format × List ℕ) → later_named named text ≡ Ok found → found.0.is_plain ≡ false
-raw_named (Some format) text found e = raw_if format.is_plain format text found refl e
+raw_named : (named : Option Format) (text : List ℕ) (found : Format × List ℕ) → later_named named text ≡ Ok found → is_plain_form found.0.form ≡ false
+raw_named (Some format) text found e = raw_if (is_plain_form format.form) format text found refl e
 raw_named None text found e = absurd cc
 
-second_is_raw : (text : List ℕ) (found : Format × List ℕ) → second_magic_item false text ≡ Ok found → found.0.is_plain ≡ false
+second_is_raw : (text : List ℕ) (found : Format × List ℕ) → second_magic_item false text ≡ Ok found → is_plain_form found.0.form ≡ false
 unfolding second_magic_item
 second_is_raw [] found e = absurd cc
 second_is_raw (b ∷ text) found e = raw_named (format_of b) text found e
 
-pub later_is_raw : (text : List ℕ) (found : Format × List ℕ) → format_at false text ≡ Ok found → found.0.is_plain ≡ false
+pub later_is_raw : (text : List ℕ) (found : Format × List ℕ) → format_at false text ≡ Ok found → is_plain_form found.0.form ≡ false
 unfolding format_at
 later_is_raw text found e = let first = bind_ok (first_magic_item text) (second_magic_item false) found e in second_is_raw first.0 found first.2
 
@@ -57,27 +57,27 @@ from_same f g format s more (Err fault) same = refl
 from_same f g format s more (Ok found) same = ap (then_said (Row found.0)) (same found refl)
 
 -- of a plain raster it is the same anyway
-plain_same : (f g : List ℕ → Said) (format : Format) (s : Shape) (n : ℕ) (text : List ℕ) → format.is_plain ≡ true → rows_said f format s n text ≡ rows_said g format s n text
+plain_same : (f g : List ℕ → Said) (format : Format) (s : Shape) (n : ℕ) (text : List ℕ) → is_plain_form format.form ≡ true → rows_said f format s n text ≡ rows_said g format s n text
 unfolding rows_said end_said
 plain_same f g format s zero text plain = rw plain refl
 plain_same f g format s (suc n) text plain = from_same f g format s n (row_at format s n text) (λ found e. plain_same f g format s n found.1 plain)
 
-raw_at : (format : Format) (s : Shape) (more : ℕ) (text : List ℕ) (found : List ℕ × List ℕ) → format.is_plain ≡ false → row_at format s more text ≡ Ok found → length found.1 ≤ length text
+raw_at : (format : Format) (s : Shape) (more : ℕ) (text : List ℕ) (found : List ℕ × List ℕ) → is_plain_form format.form ≡ false → row_at format s more text ≡ Ok found → length found.1 ≤ length text
 raw_at format s more text found raw e = raw_row_shorter s text found (sym (ap (λ (b : Bool). row_by b s more text) raw) ∙ e)
 
-raw_same : (f g : List ℕ → Said) (format : Format) (s : Shape) (n : ℕ) (text : List ℕ) → format.is_plain ≡ false → SameUpTo (length text) f g → rows_said f format s n text ≡ rows_said g format s n text
+raw_same : (f g : List ℕ → Said) (format : Format) (s : Shape) (n : ℕ) (text : List ℕ) → is_plain_form format.form ≡ false → SameUpTo (length text) f g → rows_said f format s n text ≡ rows_said g format s n text
 unfolding rows_said
-raw_same f g format s zero text raw same = ap (then_said ImageEnd) (end_same f g format.is_plain text same)
+raw_same f g format s zero text raw same = ap (then_said ImageEnd) (end_same f g (is_plain_form format.form) text same)
 raw_same f g format s (suc n) text raw same =
     from_same f g format s n (row_at format s n text) (λ found e. let shorter = raw_at format s n text found raw e in raw_same f g format s n found.1 raw (λ t le. same t (omega arith)))
 
-rows_same : (plain : Bool) (f g : List ℕ → Said) (format : Format) (s : Shape) (n : ℕ) (text : List ℕ) → format.is_plain ≡ plain → SameUpTo (length text) f g → rows_said f format s n text ≡ rows_said g format s n text
+rows_same : (plain : Bool) (f g : List ℕ → Said) (format : Format) (s : Shape) (n : ℕ) (text : List ℕ) → is_plain_form format.form ≡ plain → SameUpTo (length text) f g → rows_said f format s n text ≡ rows_said g format s n text
 rows_same true f g format s n text e same = plain_same f g format s n text e
 rows_same false f g format s n text e same = raw_same f g format s n text e same
 
 head_same : (f g : List ℕ → Said) (format : Format) (r : Result (HeadValue × List ℕ) InputFault) → ((found : HeadValue × List ℕ) → r ≡ Ok found → SameUpTo (length found.1) f g) → head_said f format r ≡ head_said g format r
 head_same f g format (Err fault) same = refl
-head_same f g format (Ok found) same = ap (then_said (Begin found.0)) (rows_same format.is_plain f g format found.0.shape found.0.shape.height found.1 refl (same found refl))
+head_same f g format (Ok found) same = ap (then_said (Begin found.0)) (rows_same (is_plain_form format.form) f g format found.0.shape found.0.shape.height found.1 refl (same found refl))
 
 format_same : (f g : List ℕ → Said) (is_first : Bool) (text : List ℕ) (most : ℕ) (r : Result (Format × List ℕ) InputFault) → format_at is_first text ≡ r → length text ≤ suc most → SameUpTo most f g → format_said f r ≡ format_said g r
 format_same f g is_first text most (Err fault) e long same = refl

@@ -15,7 +15,7 @@ pub mod PamHeads
 pub mod PamLaws
 pub mod HeaderLaws
 pub mod SpelledHeaders
-pub mod PackingLaws
+pub mod RawPartLaws
 pub mod DecimalSteps
 pub mod HeaderSteps
 pub mod MagicSteps

@@ -3,8 +3,8 @@ use Rattle.std.proofs.Common.{◌≡◌, inl, ℕ, Bool, true, false, not, ◌&&
 use Rattle.std.proofs.lemmas.Bool.{ne_eqb}
 use Rattle.pnm_read.specs.declared.fault.InputFault.{InputFault}
 use Rattle.pnm_read.specs.declared.fault.InputFault.TheVariants.{EmptyInput, BadMagic, HeaderCut, PlainInStream, ReadFailed}
-use Rattle.pnm_read.specs.declared.format.Format.{Format}
-use Rattle.pnm_read.specs.Formats.{format_of}
+use Rattle.pnm_image.specs.declared.format.Format.{Format}
+use Rattle.pnm_image.specs.Formats.{format_of, is_plain_form}
 use Rattle.pnm_read.specs.Magics.{format_allowed, format_named}
 use Rattle.pnm_read.specs.Items.{first_magic_item, second_magic_item}
 use Rattle.pnm_read.specs.Said.{format_at}
@@ -38,7 +38,7 @@ magic_cut is_first text rest e f = ap (format_at is_first) (e ∙ ap (λ (l : Li
 -- the second byte
 abbrev second_as : Bool → List ℕ → Option Format → Result (Format × List ℕ) InputFault
 second_as is_first after found = elim found [
-  | Some format ↦ if format.is_plain && not is_first then Err PlainInStream else Ok (format, after)
+  | Some format ↦ if is_plain_form format.form && not is_first then Err PlainInStream else Ok (format, after)
   | None ↦ Err BadMagic
 ]
 
@@ -59,7 +59,7 @@ allowed_found true is_first format text after e = inl e
 allowed_found false is_first format text after e = e
 
 format_found : (is_first : Bool) (found : Option Format) (text after : List ℕ) → format_at is_first text ≡ second_as is_first after found → Finds (format_at is_first) (format_allowed is_first found) text after
-format_found is_first (Some format) text after e = allowed_found (format.is_plain && not is_first) is_first format text after e
+format_found is_first (Some format) text after e = allowed_found (is_plain_form format.form && not is_first) is_first format text after e
 format_found is_first None text after e = inl e
 
 pub magic_found : (is_first : Bool) (result : Result Format InputFault) (text rest after : List ℕ) (b : ℕ) → result ≡ format_named is_first b → text ≡ 80 ∷ rest → rest ≡ b ∷ after
@@ -72,7 +72,7 @@ allowed_of_text true format e = cc
 allowed_of_text false format e = cc
 
 named_of_text : (is_first : Bool) (found : Option Format) → format_allowed is_first found ≡ Err ReadFailed → ⊥
-named_of_text is_first (Some format) e = allowed_of_text (format.is_plain && not is_first) format e
+named_of_text is_first (Some format) e = allowed_of_text (is_plain_form format.form && not is_first) format e
 named_of_text is_first None e = cc
 
 pub magic_of_text : (is_first : Bool) (result : Result Format InputFault) (b : ℕ) → result ≡ format_named is_first b → result ≡ Err ReadFailed → ⊥

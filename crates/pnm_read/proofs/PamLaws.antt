@@ -7,13 +7,13 @@ use Rattle.std.proofs.lemmas.List.Elements.{All-head, All-tail}
 use Rattle.pnm_image.specs.declared.shape.Kind.{Kind}
 use Rattle.pnm_image.specs.Heads.{HeadValue, IsTupleType, Suits}
 use Rattle.pnm_read.specs.declared.fault.InputFault.TheVariants.{TooLong, BadPamLine}
-use Rattle.pnm_read.specs.declared.format.Format.{Format}
+use Rattle.pnm_image.specs.declared.format.Format.{Format}
 use Rattle.pnm_read.specs.declared.judgement.Judgement.{Judgement}
 use Rattle.pnm_read.specs.declared.judgement.Judgement.TheVariants.{GoesOn, EndsWith, EndsBefore, Fails}
 use Rattle.pnm_read.specs.declared.line.Field.{Field}
 use Rattle.pnm_read.specs.declared.line.Field.TheVariants.{Width, Height, Depth, Maxval}
 use Rattle.pnm_read.specs.declared.line.LineKind.TheVariants.{End}
-use Rattle.pnm_read.specs.Formats.{format_of}
+use Rattle.pnm_image.specs.Formats.{format_of}
 use Rattle.pnm_read.specs.PamLines.{ended_after, ended_lines, last_after, last_line, line_kind, field_values, tuple_type_in}
 use Rattle.pnm_read.specs.Headers.{IsOneLine, IsPamLine, SpellsPamHeader}
 use Rattle.pnm_read.specs.Items.{◌>>=◌, piece_from, header_end, line_feed_item, pam_limit, line_item, pam_item, lines_item}

@@ -6,8 +6,8 @@ use Rattle.std.proofs.lemmas.List.Elements.{All-nil, All-append}
 use Rattle.std.proofs.lemmas.Grind.{flat_map-append}
 use Rattle.std.proofs.Math.Seq.{take-append-add}
 use Rattle.pnm_samples.specs.Pixels.{pixels, all_pixels}
-use Rattle.pnm_image.specs.declared.packing.Packing.{Packing}
-use Rattle.pnm_image.specs.declared.packing.Packing.TheVariants.{Packed, Narrow, Wide}
+use Rattle.pnm_image.specs.declared.sample_width.SampleWidth.{SampleWidth}
+use Rattle.pnm_image.specs.declared.sample_width.SampleWidth.TheVariants.{Bits, Bytes, Words}
 use Rattle.pnm_read.specs.declared.fault.InputFault.{InputFault}
 use Rattle.pnm_read.specs.declared.fault.InputFault.TheVariants.{ReadFailed, RasterCut, SampleAboveMaxval, Memory}
 use Rattle.pnm_read.specs.declared.input.Input.{Input}
@@ -15,7 +15,7 @@ use Rattle.pnm_read.specs.Rasters.{wide_samples}
 use Rattle.pnm_read.specs.Items.{raw_item}
 use Rattle.pnm_read.specs.Said.{in_turn}
 use Rattle.pnm_read.specs.Inputs.{Turn, Fills, Reads, held_of, CanCome, HoldsEnough}
-use Rattle.pnm_read.specs.Packings.{AppendsWide, FindsPart}
+use Rattle.pnm_read.specs.RawParts.{AppendsWide, FindsPart}
 use Rattle.pnm_read.specs.Units.{samples_of_bytes, AreBytesWithin}
 use Rattle.pnm_read.proofs.UnitLaws.{unit_bytes, bytes_are_units, bytes_are_at_fault, words_are_units, words_are_at_fault}
 use Rattle.pnm_read.proofs.RawSteps.{cut_at_first}
@@ -24,26 +24,26 @@ use Rattle.pnm_read.proofs.Turns.{no_fault, IsLeft, turn_ok_so, turn_err_so, tur
 -- ---- bytes that are units
 
 -- no bytes have no samples, and none of them is above the maxval
-pub no_bytes : (p : Packing) → samples_of_bytes p [] ≡ []
-no_bytes Packed = refl
-no_bytes Narrow = refl
-no_bytes Wide = refl
+pub no_bytes : (p : SampleWidth) → samples_of_bytes p [] ≡ []
+no_bytes Bits = refl
+no_bytes Bytes = refl
+no_bytes Words = refl
 
-pub no_bytes_within : (p : Packing) (maxval : ℕ) → AreBytesWithin p maxval []
-no_bytes_within Packed maxval = tt
-no_bytes_within Narrow maxval = All-nil (λ sample. sample ≤ maxval)
-no_bytes_within Wide maxval = All-nil (λ sample. sample ≤ maxval)
+pub no_bytes_within : (p : SampleWidth) (maxval : ℕ) → AreBytesWithin p maxval []
+no_bytes_within Bits maxval = tt
+no_bytes_within Bytes maxval = All-nil (λ sample. sample ≤ maxval)
+no_bytes_within Words maxval = All-nil (λ sample. sample ≤ maxval)
 
 -- bytes after others
-pub samples_of_both : (p : Packing) (bytes more : List ℕ) → samples_of_bytes p (bytes ++ more) ≡ samples_of_bytes p bytes ++ samples_of_bytes p more
-samples_of_both Packed bytes more = flat_map-append pixels bytes more
-samples_of_both Narrow bytes more = refl
-samples_of_both Wide bytes more = refl
+pub samples_of_both : (p : SampleWidth) (bytes more : List ℕ) → samples_of_bytes p (bytes ++ more) ≡ samples_of_bytes p bytes ++ samples_of_bytes p more
+samples_of_both Bits bytes more = flat_map-append pixels bytes more
+samples_of_both Bytes bytes more = refl
+samples_of_both Words bytes more = refl
 
-pub both_within : (p : Packing) (maxval : ℕ) (bytes more : List ℕ) → AreBytesWithin p maxval bytes → AreBytesWithin p maxval more → AreBytesWithin p maxval (bytes ++ more)
-both_within Packed maxval bytes more h k = tt
-both_within Narrow maxval bytes more h k = All-append (λ sample. sample ≤ maxval) bytes more h k
-both_within Wide maxval bytes more h k = All-append (λ sample. sample ≤ maxval) bytes more h k
+pub both_within : (p : SampleWidth) (maxval : ℕ) (bytes more : List ℕ) → AreBytesWithin p maxval bytes → AreBytesWithin p maxval more → AreBytesWithin p maxval (bytes ++ more)
+both_within Bits maxval bytes more h k = tt
+both_within Bytes maxval bytes more h k = All-append (λ sample. sample ≤ maxval) bytes more h k
+both_within Words maxval bytes more h k = All-append (λ sample. sample ≤ maxval) bytes more h k
 
 -- the front of a row after a part of it was read
 pub front_grown : (bytes room post : List ℕ) (filled count : ℕ) → filled ≤ length bytes → count ≤ length room
@@ -53,12 +53,12 @@ front_grown bytes room post filled count within few =
     ap (λ (n : ℕ). take (n + count) (take filled bytes ++ (room ++ post))) (sym front) ∙ take-append-add (take filled bytes) (room ++ post) count ∙ ap (λ (l : List ℕ). take filled bytes ++ l) (take-append-le count room post few)
 
 -- a unit has some bytes
-some_bytes : (p : Packing) → 0 < unit_bytes p
-some_bytes Packed = omega arith
-some_bytes Narrow = omega arith
-some_bytes Wide = omega arith
+some_bytes : (p : SampleWidth) → 0 < unit_bytes p
+some_bytes Bits = omega arith
+some_bytes Bytes = omega arith
+some_bytes Words = omega arith
 
-pub bytes_cut : {R : Type 0} {left : R → Option (List ℕ)} {failures : R → ℕ} {same : R → R → Type 0} {old new : Input R} (p : Packing) (maxval most count : ℕ) (room part : List ℕ) (samples : ℕ → List ℕ)
+pub bytes_cut : {R : Type 0} {left : R → Option (List ℕ)} {failures : R → ℕ} {same : R → R → Type 0} {old new : Input R} (p : SampleWidth) (maxval most count : ℕ) (room part : List ℕ) (samples : ℕ → List ℕ)
     → Turn {A = ℕ} left failures same old new (Ok count) (Reads room (Ok count)) → count ≡ 0 → 0 < most
     → Turn {A = ℕ} left failures same old new (Err RasterCut) (FindsPart p maxval most part samples (Err RasterCut))
 bytes_cut p maxval most count room part samples t none some =
@@ -68,8 +68,8 @@ bytes_cut p maxval most count room part samples t none some =
     inl (1, omega arith, cut_at_first p maxval b (omega (arith, some_bytes p, ap (λ (l : List ℕ). length l) empty))))
     t
 
-pub bytes_above : {R : Type 0} {left : R → Option (List ℕ)} {failures : R → ℕ} {same : R → R → Type 0} {old new : Input R} (p : Packing) (maxval most count : ℕ) (room part : List ℕ) (samples : ℕ → List ℕ)
-    → Turn {A = ℕ} left failures same old new (Ok count) (Reads room (Ok count)) → length room ≡ most → (p ≡ Wide → ⊥) → (AreBytesWithin p maxval (take count room) → ⊥)
+pub bytes_above : {R : Type 0} {left : R → Option (List ℕ)} {failures : R → ℕ} {same : R → R → Type 0} {old new : Input R} (p : SampleWidth) (maxval most count : ℕ) (room part : List ℕ) (samples : ℕ → List ℕ)
+    → Turn {A = ℕ} left failures same old new (Ok count) (Reads room (Ok count)) → length room ≡ most → (p ≡ Words → ⊥) → (AreBytesWithin p maxval (take count room) → ⊥)
     → Turn {A = ℕ} left failures same old new (Err SampleAboveMaxval) (FindsPart p maxval most part samples (Err SampleAboveMaxval))
 bytes_above p maxval most count room part samples t size n above =
     turn_ok_so {A = ℕ} {B = ℕ} count (Err SampleAboveMaxval) (λ e. absurd cc) (λ b a o.
@@ -78,8 +78,8 @@ bytes_above p maxval most count room part samples t size n above =
     inl (count, fits, ap (in_turn (raw_item p maxval) count) o.0 ∙ ap (λ (k : ℕ). in_turn (raw_item p maxval) k (take count room ++ a)) (sym front) ∙ bytes_are_at_fault p maxval (take count room) a n above))
     t
 
-pub bytes_read : {R : Type 0} {left : R → Option (List ℕ)} {failures : R → ℕ} {same : R → R → Type 0} {old new : Input R} (p : Packing) (maxval most count : ℕ) (room : List ℕ) (samples : ℕ → List ℕ)
-    → Turn {A = ℕ} left failures same old new (Ok count) (Reads room (Ok count)) → length room ≡ most → (p ≡ Wide → ⊥) → AreBytesWithin p maxval (take count room) → samples count ≡ samples_of_bytes p (take count room)
+pub bytes_read : {R : Type 0} {left : R → Option (List ℕ)} {failures : R → ℕ} {same : R → R → Type 0} {old new : Input R} (p : SampleWidth) (maxval most count : ℕ) (room : List ℕ) (samples : ℕ → List ℕ)
+    → Turn {A = ℕ} left failures same old new (Ok count) (Reads room (Ok count)) → length room ≡ most → (p ≡ Words → ⊥) → AreBytesWithin p maxval (take count room) → samples count ≡ samples_of_bytes p (take count room)
     → Turn {A = ℕ} left failures same old new (Ok count) (FindsPart p maxval most [] samples (Ok count))
 bytes_read p maxval most count room samples t size n within are =
     turn_ok_so {A = ℕ} {B = ℕ} count (Ok count) (no_fault count ReadFailed) (λ b a o.
@@ -101,11 +101,11 @@ short_left input text (inr ended) lt l = omega (arith, length-append (held_of in
 
 pub words_cut : {R : Type 0} {left : R → Option (List ℕ)} {failures : R → ℕ} {same : R → R → Type 0} {old mid : Input R} (maxval most : ℕ) (bytes part : List ℕ) (samples : ℕ → List ℕ)
     → Turn {A = Unit {0}} left failures same old mid (Ok tt) (Fills (Ok tt)) → HoldsEnough 2 mid → bytes ≡ held_of mid → min (length bytes / 2) most ≡ 0 → 0 < most
-    → Turn {A = ℕ} left failures same old mid (Err RasterCut) (FindsPart Wide maxval most part samples (Err RasterCut))
+    → Turn {A = ℕ} left failures same old mid (Err RasterCut) (FindsPart Words maxval most part samples (Err RasterCut))
 words_cut {mid = mid} maxval most bytes part samples t enough is_held none some =
     let lt : length (held_of mid) < 2 = omega (arith, ap (λ (l : List ℕ). length l) is_held) in
     turn_ok_so {A = Unit {0}} {B = ℕ} tt (Err RasterCut) (λ e. absurd cc)
-    (λ b a o. inl (1, omega arith, cut_at_first Wide maxval b (subst (λ (l : List ℕ). length l < 2) (sym o.0) (short_left mid a enough lt o.1)))) (turn_seen t)
+    (λ b a o. inl (1, omega arith, cut_at_first Words maxval b (subst (λ (l : List ℕ). length l < 2) (sym o.0) (short_left mid a enough lt o.1)))) (turn_seen t)
 
 -- the first bytes of what is left
 parts_left : {R : Type 0} (count : ℕ) (input : Input R) (text rest : List ℕ) → text ≡ held_of input ++ rest → text ≡ take count (held_of input) ++ (drop count (held_of input) ++ rest)
@@ -113,19 +113,19 @@ parts_left count input text rest e = e ∙ ap (λ (l : List ℕ). l ++ rest) (sy
 
 pub words_fail : {R : Type 0} {left : R → Option (List ℕ)} {failures : R → ℕ} {same : R → R → Type 0} {old mid : Input R} (maxval most n : ℕ) (k : InputFault) (row grown part : List ℕ) (samples : ℕ → List ℕ)
     → Turn {A = Unit {0}} left failures same old mid (Ok tt) (Fills (Ok tt)) → n ≤ most → n * 2 ≤ length (held_of mid) → AppendsWide maxval (take (n * 2) (held_of mid)) row grown (Err k)
-    → Turn {A = ℕ} left failures same old mid (Err k) (FindsPart Wide maxval most part samples (Err k))
+    → Turn {A = ℕ} left failures same old mid (Err k) (FindsPart Words maxval most part samples (Err k))
 words_fail maxval most n k row grown part samples t le fits (inl memory) =
     turn_ok_so {A = Unit {0}} {B = ℕ} tt (Err k) (λ e. absurd (let read : k ≡ ReadFailed = cc in let other : ReadFailed ≡ Memory = sym read ∙ memory in cc)) (λ b a o. inr (inr memory)) t
 words_fail {mid = mid} maxval most n k row grown part samples t le fits (inr above) =
     turn_ok_so {A = Unit {0}} {B = ℕ} tt (Err k) (λ e. absurd (let read : k ≡ ReadFailed = cc in let other : ReadFailed ≡ SampleAboveMaxval = sym read ∙ above.0 in cc)) (λ b a o.
     let count : length (take (n * 2) (held_of mid)) ≡ n * 2 = length-take-le (n * 2) (held_of mid) fits in
-    inl (n, le, ap (in_turn (raw_item Wide maxval) n) (parts_left (n * 2) mid b o.1.0 (o.0 ∙ o.1.2)) ∙ words_are_at_fault maxval n (take (n * 2) (held_of mid)) (drop (n * 2) (held_of mid) ++ o.1.0) count above.1 ∙ ap (λ (f : InputFault). Err f) (sym above.0)))
+    inl (n, le, ap (in_turn (raw_item Words maxval) n) (parts_left (n * 2) mid b o.1.0 (o.0 ∙ o.1.2)) ∙ words_are_at_fault maxval n (take (n * 2) (held_of mid)) (drop (n * 2) (held_of mid) ++ o.1.0) count above.1 ∙ ap (λ (f : InputFault). Err f) (sym above.0)))
     (turn_seen t)
 
 pub words_read : {R : Type 0} {left : R → Option (List ℕ)} {failures : R → ℕ} {same : R → R → Type 0} {old mid new : Input R} (maxval most n : ℕ) (row grown : List ℕ)
     → Turn {A = Unit {0}} left failures same old mid (Ok tt) (Fills (Ok tt)) → n ≤ most → n * 2 ≤ length (held_of mid) → AppendsWide maxval (take (n * 2) (held_of mid)) row grown (Ok tt)
     → new.reader ≡ mid.reader → new.ended ≡ mid.ended → held_of new ≡ drop (n * 2) (held_of mid)
-    → Turn {A = ℕ} left failures same old new (Ok n) (FindsPart Wide maxval most row (λ _. grown) (Ok n))
+    → Turn {A = ℕ} left failures same old new (Ok n) (FindsPart Words maxval most row (λ _. grown) (Ok n))
 words_read {mid = mid} maxval most n row grown t le fits appends reader ended held =
     let count : length (take (n * 2) (held_of mid)) ≡ n * 2 = length-take-le (n * 2) (held_of mid) fits in
     turn_advance {A = Unit {0}} {B = ℕ} tt (Ok n) (n * 2) (no_fault n ReadFailed) reader ended held (λ b rest c o.
@@ -133,6 +133,6 @@ words_read {mid = mid} maxval most n row grown t le fits appends reader ended he
       units.0,
       units.1,
       le,
-      ap (in_turn (raw_item Wide maxval) n) (parts_left (n * 2) mid b rest o) ∙ units.2,
+      ap (in_turn (raw_item Words maxval) n) (parts_left (n * 2) mid b rest o) ∙ units.2,
     ))
     t

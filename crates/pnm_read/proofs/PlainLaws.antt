@@ -1,4 +1,5 @@
 -- Plain rasters: of what spells an image its rows are said, and what is said without a fault spells an image.
+use Rattle.pnm_image.specs.Formats.{is_plain_form}
 use Rattle.std.proofs.Common.{◌≡◌, ℕ, zero, suc, ◌+◌, ◌*◌, ◌<◌, ◌≤◌, Bool, true, List, [], ◌∷◌, ◌++◌, length, take, drop, map, All, None, Result, Ok, Err, refl, sym, ap, subst, ◌∙◌, append_assoc, length-append, length-drop, arith, zero-mul, suc-mul}
 use Rattle.std.specs.Prelude.{if◌then◌else◌}
 use Rattle.std.specs.List.{concat}
@@ -13,7 +14,7 @@ use Rattle.pnm_image.specs.Images.{Image, cut_rows, rows_of}
 use Rattle.pnm_image.specs.Places.{IsRowOf}
 use Rattle.pnm_read.specs.declared.fault.InputFault.{InputFault}
 use Rattle.pnm_read.specs.declared.fault.InputFault.TheVariants.{BadSample}
-use Rattle.pnm_read.specs.declared.format.Format.{Format}
+use Rattle.pnm_image.specs.declared.format.Format.{Format}
 use Rattle.pnm_read.specs.Texts.{begins_apart}
 use Rattle.pnm_read.specs.Rasters.{SpellsPiece, MayFollow, SpellsPlainSamples, SpellsPlain}
 use Rattle.pnm_read.specs.Items.{◌>>=◌, plain_sample, after_last_item}
@@ -104,7 +105,7 @@ nothing_left : (kind : Kind) (text samples : List ℕ) → samples ≡ [] → Sp
 nothing_left kind text samples e s = subst (SpellsPlainSamples kind text) e s
 
 -- a row of a plain raster is a plain one
-row_at_plain : (format : Format) (s : Shape) (n : ℕ) (text : List ℕ) → format.is_plain ≡ true → row_at format s n text ≡ row_by true s n text
+row_at_plain : (format : Format) (s : Shape) (n : ℕ) (text : List ℕ) → is_plain_form format.form ≡ true → row_at format s n text ≡ row_by true s n text
 row_at_plain format s n text plain = ap (λ (b : Bool). row_by b s n text) plain
 
 -- a plain row whose samples are read in turn
@@ -113,7 +114,7 @@ plain_row_by s zero text row left e last = last_row_is_read s text row left e (l
 plain_row_by s (suc n) text row left e last = row_is_read s text (row, left) e
 
 -- rows that are spelled are read in turn
-pub plain_rows_in_turn : (format : Format) (s : Shape) (rows n : ℕ) (text samples : List ℕ) (more : ℕ) (rest : List ℕ) → format.is_plain ≡ true → n ≡ rows + more → length samples ≡ rows * row_length s → SpellsPlainSamples s.kind text samples
+pub plain_rows_in_turn : (format : Format) (s : Shape) (rows n : ℕ) (text samples : List ℕ) (more : ℕ) (rest : List ℕ) → is_plain_form format.form ≡ true → n ≡ rows + more → length samples ≡ rows * row_length s → SpellsPlainSamples s.kind text samples
     → All (λ sample. sample ≤ s.maxval) samples → (0 < rows → MayFollow s.kind rest) → (0 < rows → more ≡ 0 → begins_apart rest ≡ true) → RowsRead format s (cut_rows rows (row_length s) samples) n (text ++ rest) more rest
 plain_rows_in_turn format s zero n text samples more rest plain count size spelled range follows last =
     let none : samples ≡ [] = nil_from_length samples (size ∙ zero-mul (row_length s)) in
@@ -133,13 +134,13 @@ plain_rows_in_turn format s (suc rows) (suc n) text samples more rest plain coun
     )
 
 -- after all rows come the ends
-after_rows : (later : List ℕ → Said) (format : Format) (s : Shape) (rows : List (List ℕ)) (rest : List ℕ) → format.is_plain ≡ true → after_messages (map Row rows) (rows_said later format s zero rest) ≡ rows_and_ends rows
+after_rows : (later : List ℕ → Said) (format : Format) (s : Shape) (rows : List (List ℕ)) (rest : List ℕ) → is_plain_form format.form ≡ true → after_messages (map Row rows) (rows_said later format s zero rest) ≡ rows_and_ends rows
 unfolding rows_said end_said
 after_rows later format s [] rest plain = ap (λ (p : Bool). then_said ImageEnd (end_said later p rest)) plain
 after_rows later format s (row ∷ rows) rest plain = ap (then_said (Row row)) (after_rows later format s rows rest plain)
 
 -- of a raster that spells an image the rows are said, and the ends
-pub spelled_plain_is_said : (later : List ℕ → Said) (format : Format) (raster rest : List ℕ) (image : Image) → format.is_plain ≡ true → image.head.shape.kind ≡ format.kind → 0 < image.head.shape.height → SpellsPlain raster image → begins_apart rest ≡ true
+pub spelled_plain_is_said : (later : List ℕ → Said) (format : Format) (raster rest : List ℕ) (image : Image) → is_plain_form format.form ≡ true → image.head.shape.kind ≡ format.kind → 0 < image.head.shape.height → SpellsPlain raster image → begins_apart rest ≡ true
     → rows_said later format image.head.shape image.head.shape.height (raster ++ rest) ≡ record { messages = map Row (rows_of image) ++ ImageEnd ∷ StreamEnd ∷ []; fault = None }
 spelled_plain_is_said later format raster rest image plain kind some s apart =
     let shape : Shape = image.head.shape in
@@ -213,7 +214,7 @@ plain_row_is_read : (s : Shape) (n : ℕ) (text : List ℕ) (found : List ℕ ×
 plain_row_is_read s zero text found e = let r = read_last_row s text found e in (r.0, λ last. r.1)
 plain_row_is_read s (suc n) text found e = (read_row s text found e, λ last. absurd (omega arith))
 
-pub plain_rows_are_read : (format : Format) (s : Shape) (rows : List (List ℕ)) (n : ℕ) (text : List ℕ) (more : ℕ) (rest : List ℕ) → format.is_plain ≡ true → RowsRead format s rows n text more rest
+pub plain_rows_are_read : (format : Format) (s : Shape) (rows : List (List ℕ)) (n : ℕ) (text : List ℕ) (more : ℕ) (rest : List ℕ) → is_plain_form format.form ≡ true → RowsRead format s rows n text more rest
     → IsRead s.kind s.maxval (length rows * row_length s) text (concat rows, rest)
 plain_rows_are_read format s [] n text more rest plain read = record { count = sym (zero-mul (row_length s)); range = All-nil (IsInRange s.kind s.maxval); spelled = read.1 }
 plain_rows_are_read format s (row ∷ rows) zero text more rest plain read = absurd read
@@ -227,7 +228,7 @@ plain_rows_are_read format s (row ∷ rows) (suc n) text more rest plain read =
     }
 
 -- after the last row of a plain raster the text ends, or white space or # follows
-pub last_row_ends : (format : Format) (s : Shape) (rows : List (List ℕ)) (n : ℕ) (text : List ℕ) (more : ℕ) (rest : List ℕ) → format.is_plain ≡ true → RowsRead format s rows n text more rest → 0 < length rows → more ≡ 0 → begins_apart rest ≡ true
+pub last_row_ends : (format : Format) (s : Shape) (rows : List (List ℕ)) (n : ℕ) (text : List ℕ) (more : ℕ) (rest : List ℕ) → is_plain_form format.form ≡ true → RowsRead format s rows n text more rest → 0 < length rows → more ≡ 0 → begins_apart rest ≡ true
 last_row_ends format s [] n text more rest plain read some last = absurd (omega arith)
 last_row_ends format s (row ∷ rows) zero text more rest plain read some last = absurd read
 last_row_ends format s (row ∷ []) (suc n) text more rest plain read some last =
@@ -260,7 +261,7 @@ pub last_plain_row_is_row : (head : HeadValue) (text : List ℕ) (row : List ℕ
 last_plain_row_is_row head text row h e = samples_are_row head text row h (read_last_row head.shape text row e).0
 
 -- a raster whose rows are said without a fault spells the image of these rows, and what may follow it
-pub said_plain_is_spelled : (later : List ℕ → Said) (format : Format) (head : HeadValue) (text : List ℕ) → format.is_plain ≡ true → head.shape.kind ≡ format.kind → IsHead head → 0 < head.shape.height → (rows_said later format head.shape head.shape.height text).fault ≡ None
+pub said_plain_is_spelled : (later : List ℕ → Said) (format : Format) (head : HeadValue) (text : List ℕ) → is_plain_form format.form ≡ true → head.shape.kind ≡ format.kind → IsHead head → 0 < head.shape.height → (rows_said later format head.shape head.shape.height text).fault ≡ None
     → (image : Image) × (raster : List ℕ) × (rest : List ℕ) × (text ≡ raster ++ rest) × (image.head ≡ head) × SpellsPlain raster image × (begins_apart rest ≡ true)
     × ((rows_said later format head.shape head.shape.height text).messages ≡ map Row (rows_of image) ++ ImageEnd ∷ StreamEnd ∷ [])
 said_plain_is_spelled later format head text plain kind h some e =

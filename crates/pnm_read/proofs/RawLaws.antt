@@ -1,4 +1,5 @@
 -- Raw rasters: the rows that one spells are said, and what is said without a fault is spelled.
+use Rattle.pnm_image.specs.Formats.{is_plain_form}
 use Rattle.std.proofs.Common.{◌≡◌, ℕ, zero, suc, ◌+◌, ◌*◌, ◌/◌, ◌<◌, ◌≤◌, Bool, true, false, leb, nat_lt, if◌then◌else◌, List, [], ◌∷◌, ◌++◌, length, get_or, take, drop, map, flat_map, All, None, Result, Ok, refl, sym, ap, append_assoc, ◌∙◌, ap₂, subst, arith, zero-mul, suc-mul}
 use Rattle.std.specs.List.{concat}
 use Rattle.std.proofs.lemmas.List.{take_all, take_at, drop_at, take-append-le, drop-append-le, take-append-drop, length-take, length-take-le, length-drop, length-append, nil_from_length}
@@ -12,11 +13,11 @@ use Rattle.pnm_image.specs.Images.{Image, cut_rows, rows_of}
 use Rattle.pnm_image.specs.Places.{IsRowOf}
 use Rattle.pnm_image.proofs.Rows.{AreRowsOf, image_of, IsImage-image_of, rows_of-image_of, AreRowsOf-rows_of}
 use Rattle.pnm_read.specs.declared.fault.InputFault.{InputFault}
-use Rattle.pnm_read.specs.declared.format.Format.{Format}
-use Rattle.pnm_image.specs.declared.packing.Packing.{Packing}
-use Rattle.pnm_image.specs.declared.packing.Packing.TheVariants.{Packed, Narrow, Wide}
+use Rattle.pnm_image.specs.declared.format.Format.{Format}
+use Rattle.pnm_image.specs.declared.sample_width.SampleWidth.{SampleWidth}
+use Rattle.pnm_image.specs.declared.sample_width.SampleWidth.TheVariants.{Bits, Bytes, Words}
 use Rattle.pnm_read.specs.Rasters.{bytes_in_row, pixel_at, pixels, wide_samples, raw_samples, SpellsRaw}
-use Rattle.pnm_image.specs.Packings.{packing_of}
+use Rattle.pnm_image.specs.SampleWidths.{sample_width_of}
 use Rattle.pnm_read.specs.Items.{◌>>=◌, raw_item}
 use Rattle.pnm_read.specs.Said.{in_turn, units_in_row, units_at, raw_row, row_by, row_at, Said, then_said, end_said, rows_said}
 use Rattle.pnm_read.proofs.PieceLaws.{bind_ok}
@@ -30,24 +31,24 @@ use Rattle.pnm_read.proofs.RowTurns.{RowsRead, rows_count, read_rows_are_said, e
 abbrev pub Read : Type 0
 Read = Result (List ℕ × List ℕ) InputFault
 
--- the bytes of a row, by the packing
-abbrev bytes_by : Packing → Shape → ℕ
+-- the bytes of a row, by the width of its samples
+abbrev bytes_by : SampleWidth → Shape → ℕ
 bytes_by p s = elim p [
-  | Packed ↦ (s.width + 7) / 8
-  | Narrow ↦ row_length s
-  | Wide ↦ 2 * row_length s
+  | Bits ↦ (s.width + 7) / 8
+  | Bytes ↦ row_length s
+  | Words ↦ 2 * row_length s
 ]
 
--- the samples in the bytes of a row, by the packing
-abbrev samples_by : Packing → Shape → List ℕ → List ℕ
+-- the samples in the bytes of a row, by the width of its samples
+abbrev samples_by : SampleWidth → Shape → List ℕ → List ℕ
 samples_by p s bytes = elim p [
-  | Packed ↦ take s.width (flat_map pixels bytes)
-  | Narrow ↦ bytes
-  | Wide ↦ wide_samples bytes
+  | Bits ↦ take s.width (flat_map pixels bytes)
+  | Bytes ↦ bytes
+  | Words ↦ wide_samples bytes
 ]
 
--- a raw row, by the packing
-abbrev row_in : Packing → Shape → List ℕ → Read
+-- a raw row, by the width of its samples
+abbrev row_in : SampleWidth → Shape → List ℕ → Read
 row_in p s text = in_turn (raw_item p s.maxval) (units_in_row p s) text >>= λ units. Ok (take (row_length s) (concat units.0), units.1)
 
 abbrev row_done : List ℕ → List ℕ → Read
@@ -57,8 +58,8 @@ abbrev turns_done : List (List ℕ) → List ℕ → Turns
 turns_done units rest = Ok (units, rest)
 
 -- a row has one sample a pixel where eight pixels are packed in a byte, and its maxval isn't 0
-pub record IsPackable (p : Packing) (s : Shape) : Type 0 where
-  pub one : p ≡ Packed → s.depth ≡ 1
+pub record IsPackable (p : SampleWidth) (s : Shape) : Type 0 where
+  pub one : p ≡ Bits → s.depth ≡ 1
   pub maxval_low : 0 < s.maxval
 
 length-pixels : (bytes : List ℕ) → length (flat_map pixels bytes) ≡ length bytes * 8
@@ -91,34 +92,34 @@ length-wide_samples (suc n) (b ∷ []) e = absurd (omega arith)
 length-wide_samples (suc n) (b ∷ c ∷ bytes) e = ap suc (length-wide_samples n bytes (omega arith))
 
 -- so many bytes hold a whole row of samples
-length-samples_by : (p : Packing) (s : Shape) (bytes : List ℕ) → IsPackable p s → length bytes ≡ bytes_by p s → length (samples_by p s bytes) ≡ row_length s
-length-samples_by Packed s bytes h e =
+length-samples_by : (p : SampleWidth) (s : Shape) (bytes : List ℕ) → IsPackable p s → length bytes ≡ bytes_by p s → length (samples_by p s bytes) ≡ row_length s
+length-samples_by Bits s bytes h e =
     let one : s.depth ≡ 1 = h.one refl in
     omega (arith, length-take s.width (flat_map pixels bytes), length-pixels bytes, ap (λ (d : ℕ). s.width * d) one)
-length-samples_by Narrow s bytes h e = e
-length-samples_by Wide s bytes h e = length-wide_samples (row_length s) bytes e
+length-samples_by Bytes s bytes h e = e
+length-samples_by Words s bytes h e = length-wide_samples (row_length s) bytes e
 
 -- what units in turn give as a row
 after_units : (n : ℕ) (within : Bool) (units : List (List ℕ)) (rest : List ℕ) (r : Turns) → r ≡ units_if within units rest → (r >>= λ found. row_done (take n (concat found.0)) found.1) ≡ unit_if within (take n (concat units)) rest
 after_units n true units rest r e = rw e refl
 after_units n false units rest r e = rw e refl
 
--- what the first so many bytes of a text give, by the packing
-row_read_by : (p : Packing) (s : Shape) (bytes rest : List ℕ) → IsPackable p s → length bytes ≡ bytes_by p s → row_in p s (bytes ++ rest) ≡ unit_if (are_within s.maxval (samples_by p s bytes)) (samples_by p s bytes) rest
-row_read_by Packed s bytes rest h e =
-    let units : in_turn (raw_item Packed s.maxval) ((s.width + 7) / 8) (bytes ++ rest) ≡ units_if true (map pixels bytes) rest =
-    ap (λ (n : ℕ). in_turn (raw_item Packed s.maxval) n (bytes ++ rest)) (sym e) ∙ packed_units s.maxval bytes rest in
+-- what the first so many bytes of a text give, by the width of its samples
+row_read_by : (p : SampleWidth) (s : Shape) (bytes rest : List ℕ) → IsPackable p s → length bytes ≡ bytes_by p s → row_in p s (bytes ++ rest) ≡ unit_if (are_within s.maxval (samples_by p s bytes)) (samples_by p s bytes) rest
+row_read_by Bits s bytes rest h e =
+    let units : in_turn (raw_item Bits s.maxval) ((s.width + 7) / 8) (bytes ++ rest) ≡ units_if true (map pixels bytes) rest =
+    ap (λ (n : ℕ). in_turn (raw_item Bits s.maxval) n (bytes ++ rest)) (sym e) ∙ packed_units s.maxval bytes rest in
     let within : are_within s.maxval (take s.width (flat_map pixels bytes)) ≡ true =
     are_within_all s.maxval (take s.width (flat_map pixels bytes)) (All-take (λ sample. sample ≤ s.maxval) s.width (flat_map pixels bytes) (all_pixels_within s.maxval bytes h.maxval_low)) in
     let long : row_length s ≡ s.width = omega (arith, ap (λ (d : ℕ). s.width * d) (h.one refl)) in
     after_units (row_length s) true (map pixels bytes) rest _ units
     ∙ ap₂ (λ (n : ℕ) (l : List ℕ). row_done (take n l) rest) long (concat_pixels bytes)
     ∙ ap (λ (t : Bool). unit_if t (take s.width (flat_map pixels bytes)) rest) (sym within)
-row_read_by Narrow s bytes rest h e =
-    let units = ap (λ (n : ℕ). in_turn (raw_item Narrow s.maxval) n (bytes ++ rest)) (sym e) ∙ narrow_units s.maxval bytes rest in
+row_read_by Bytes s bytes rest h e =
+    let units = ap (λ (n : ℕ). in_turn (raw_item Bytes s.maxval) n (bytes ++ rest)) (sym e) ∙ narrow_units s.maxval bytes rest in
     after_units (row_length s) (are_within s.maxval bytes) (map single bytes) rest _ units
     ∙ ap (λ (l : List ℕ). unit_if (are_within s.maxval bytes) l rest) (ap (take (row_length s)) (concat_singles bytes) ∙ take_all (row_length s) bytes (omega arith))
-row_read_by Wide s bytes rest h e =
+row_read_by Words s bytes rest h e =
     let units = wide_units s.maxval (row_length s) bytes rest (omega arith) in
     let samples : List ℕ = wide_samples bytes in
     let count : length samples ≡ row_length s = length-wide_samples (row_length s) bytes e in
@@ -131,18 +132,18 @@ row_if_ok true row rest found e = (refl, cc)
 row_if_ok false row rest found e = absurd cc
 
 -- a unit that was read has its bytes
-unit_length : (p : Packing) (maxval : ℕ) (text : List ℕ) (found : List ℕ × List ℕ) → raw_item p maxval text ≡ Ok found → length text ≡ unit_bytes p + length found.1
+unit_length : (p : SampleWidth) (maxval : ℕ) (text : List ℕ) (found : List ℕ × List ℕ) → raw_item p maxval text ≡ Ok found → length text ≡ unit_bytes p + length found.1
 unfolding raw_item
-unit_length Packed maxval [] found e = absurd cc
-unit_length Packed maxval (b ∷ text) found e = let left : text ≡ found.1 = cc in omega (arith, ap length left)
-unit_length Narrow maxval [] found e = absurd cc
-unit_length Narrow maxval (b ∷ text) found e = let left = sym (row_if_ok (leb b maxval) (single b) text found e).1 in omega (arith, ap length left)
-unit_length Wide maxval [] found e = absurd cc
-unit_length Wide maxval (b ∷ []) found e = absurd cc
-unit_length Wide maxval (b ∷ c ∷ text) found e = let left = sym (row_if_ok (leb (256 * b + c) maxval) (single (256 * b + c)) text found e).1 in omega (arith, ap length left)
+unit_length Bits maxval [] found e = absurd cc
+unit_length Bits maxval (b ∷ text) found e = let left : text ≡ found.1 = cc in omega (arith, ap length left)
+unit_length Bytes maxval [] found e = absurd cc
+unit_length Bytes maxval (b ∷ text) found e = let left = sym (row_if_ok (leb b maxval) (single b) text found e).1 in omega (arith, ap length left)
+unit_length Words maxval [] found e = absurd cc
+unit_length Words maxval (b ∷ []) found e = absurd cc
+unit_length Words maxval (b ∷ c ∷ text) found e = let left = sym (row_if_ok (leb (256 * b + c) maxval) (single (256 * b + c)) text found e).1 in omega (arith, ap length left)
 
 -- units that were read in turn have their bytes
-units_length : (p : Packing) (maxval n : ℕ) (text : List ℕ) (found : List (List ℕ) × List ℕ) → in_turn (raw_item p maxval) n text ≡ Ok found → length text ≡ n * unit_bytes p + length found.1
+units_length : (p : SampleWidth) (maxval n : ℕ) (text : List ℕ) (found : List (List ℕ) × List ℕ) → in_turn (raw_item p maxval) n text ≡ Ok found → length text ≡ n * unit_bytes p + length found.1
 unfolding in_turn
 units_length p maxval zero text found e = let left : text ≡ found.1 = cc in omega (arith, ap length left, zero-mul (unit_bytes p))
 units_length p maxval (suc n) text found e =
@@ -152,13 +153,13 @@ units_length p maxval (suc n) text found e =
     omega (arith, unit_length p maxval text first.0 first.1, units_length p maxval n first.0.1 others.0 others.1, ap length left, suc-mul n (unit_bytes p))
 
 -- the bytes of the units of a row are the row's
-bytes_of_units : (p : Packing) (s : Shape) → units_in_row p s * unit_bytes p ≡ bytes_by p s
-bytes_of_units Packed s = omega arith
-bytes_of_units Narrow s = omega arith
-bytes_of_units Wide s = omega arith
+bytes_of_units : (p : SampleWidth) (s : Shape) → units_in_row p s * unit_bytes p ≡ bytes_by p s
+bytes_of_units Bits s = omega arith
+bytes_of_units Bytes s = omega arith
+bytes_of_units Words s = omega arith
 
 -- a row that was read has its bytes
-row_length_by : (p : Packing) (s : Shape) (text : List ℕ) (found : List ℕ × List ℕ) → row_in p s text ≡ Ok found → bytes_by p s ≤ length text
+row_length_by : (p : SampleWidth) (s : Shape) (text : List ℕ) (found : List ℕ × List ℕ) → row_in p s text ≡ Ok found → bytes_by p s ≤ length text
 row_length_by p s text found e =
     let units = bind_ok (in_turn (raw_item p s.maxval) (units_in_row p s) text) (λ units. row_done (take (row_length s) (concat units.0)) units.1) found e in
     let count = units_length p s.maxval (units_in_row p s) text units.0 units.1 in
@@ -166,39 +167,39 @@ row_length_by p s text found e =
 
 -- ---- rows
 
--- a number of bytes a sample is no packing of pixels
-not_packed : (t : Bool) → (if t then Narrow else Wide) ≡ Packed → ⊥
+-- a number of bytes a sample is no byte of pixels
+not_packed : (t : Bool) → (if t then Bytes else Words) ≡ Bits → ⊥
 not_packed true e = cc
 not_packed false e = cc
 
 -- what a header says of its shape's rows
-packable_by : (kind : Kind) (depth maxval m : ℕ) (tuple_type : List ℕ) → Suits kind depth maxval tuple_type → packing_of kind m ≡ Packed → depth ≡ 1
+packable_by : (kind : Kind) (depth maxval m : ℕ) (tuple_type : List ℕ) → Suits kind depth maxval tuple_type → sample_width_of kind m ≡ Bits → depth ≡ 1
 packable_by Bit depth maxval m tuple_type h e = h.0
 packable_by Gray depth maxval m tuple_type h e = absurd (not_packed (nat_lt m 256) e)
 packable_by Color depth maxval m tuple_type h e = absurd (not_packed (nat_lt m 256) e)
 packable_by Pam depth maxval m tuple_type h e = absurd (not_packed (nat_lt m 256) e)
 
-abbrev pub packing_in : Shape → Packing
-packing_in s = packing_of s.kind s.maxval
+abbrev pub sample_width_in : Shape → SampleWidth
+sample_width_in s = sample_width_of s.kind s.maxval
 
-pub packable : (head : HeadValue) → IsHead head → IsPackable (packing_in head.shape) head.shape
+pub packable : (head : HeadValue) → IsHead head → IsPackable (sample_width_in head.shape) head.shape
 packable head h = record {
   one = packable_by head.shape.kind head.shape.depth head.shape.maxval head.shape.maxval head.tuple_type h.suits;
   maxval_low = h.limits.maxval_low;
 }
 
 -- the first row of a text that is long enough
-pub row_read : (s : Shape) (text : List ℕ) → IsPackable (packing_in s) s → bytes_in_row s ≤ length text
+pub row_read : (s : Shape) (text : List ℕ) → IsPackable (sample_width_in s) s → bytes_in_row s ≤ length text
     → raw_row s text ≡ unit_if (are_within s.maxval (raw_samples s (take (bytes_in_row s) text))) (raw_samples s (take (bytes_in_row s) text)) (drop (bytes_in_row s) text)
 unfolding raw_row
 row_read s text h long =
-    ap (row_in (packing_in s) s) (sym (take-append-drop (bytes_in_row s) text))
-    ∙ row_read_by (packing_in s) s (take (bytes_in_row s) text) (drop (bytes_in_row s) text) h (length-take-le (bytes_in_row s) text long)
+    ap (row_in (sample_width_in s) s) (sym (take-append-drop (bytes_in_row s) text))
+    ∙ row_read_by (sample_width_in s) s (take (bytes_in_row s) text) (drop (bytes_in_row s) text) h (length-take-le (bytes_in_row s) text long)
 
 -- a row that was read is long enough
 pub row_long : (s : Shape) (text : List ℕ) (found : List ℕ × List ℕ) → raw_row s text ≡ Ok found → bytes_in_row s ≤ length text
 unfolding raw_row
-row_long s text found e = row_length_by (packing_in s) s text found e
+row_long s text found e = row_length_by (sample_width_in s) s text found e
 
 -- the rows of samples in the rows of bytes
 abbrev pub raw_rows : Shape → ℕ → List ℕ → List (List ℕ)
@@ -209,11 +210,11 @@ abbrev pub rows_then : List (List ℕ) → Said → Said
 rows_then rows s = record { messages = map Row rows ++ ImageEnd ∷ s.messages; fault = s.fault }
 
 -- a row of a raw format is a raw row
-pub row_at_raw : (format : Format) (s : Shape) (more : ℕ) (text : List ℕ) → format.is_plain ≡ false → row_at format s more text ≡ raw_row s text
+pub row_at_raw : (format : Format) (s : Shape) (more : ℕ) (text : List ℕ) → is_plain_form format.form ≡ false → row_at format s more text ≡ raw_row s text
 row_at_raw format s more text plain = ap (λ (b : Bool). row_by b s more text) plain
 
 -- a row that a longer text begins with
-pub row_in_front : (s : Shape) (text rest : List ℕ) → IsPackable (packing_in s) s → bytes_in_row s ≤ length text → are_within s.maxval (raw_samples s (take (bytes_in_row s) text)) ≡ true
+pub row_in_front : (s : Shape) (text rest : List ℕ) → IsPackable (sample_width_in s) s → bytes_in_row s ≤ length text → are_within s.maxval (raw_samples s (take (bytes_in_row s) text)) ≡ true
     → raw_row s (text ++ rest) ≡ unit_if true (raw_samples s (take (bytes_in_row s) text)) (drop (bytes_in_row s) text ++ rest)
 row_in_front s text rest h long within =
     let each : ℕ = bytes_in_row s in
@@ -238,7 +239,7 @@ raw_row_is_row head text found h e =
     let long : each ≤ length text = row_long s text found e in
     let test : unit_if (are_within s.maxval row) row (drop each text) ≡ Ok found = sym (row_read s text (packable head h) long) ∙ e in
     let is : IsRowOf s row = record {
-      count = length-samples_by (packing_in s) s (take each text) (packable head h) (length-take-le each text long);
+      count = length-samples_by (sample_width_in s) s (take each text) (packable head h) (length-take-le each text long);
       range = all_are_within s.maxval row (row_if_ok (are_within s.maxval row) row (drop each text) found test).0;
     } in
     subst (IsRowOf s) (row_if_row (are_within s.maxval row) row (drop each text) found test) is
@@ -268,7 +269,7 @@ bytes_before s row rows text left rest long same after is others =
       are = (is, others.are);
     }
 
-pub raw_rows_have_bytes : (format : Format) (head : HeadValue) (rows : List (List ℕ)) (n : ℕ) (text : List ℕ) (more : ℕ) (rest : List ℕ) → format.is_plain ≡ false → IsHead head → RowsRead format head.shape rows n text more rest → RawBytes head.shape rows text rest
+pub raw_rows_have_bytes : (format : Format) (head : HeadValue) (rows : List (List ℕ)) (n : ℕ) (text : List ℕ) (more : ℕ) (rest : List ℕ) → is_plain_form format.form ≡ false → IsHead head → RowsRead format head.shape rows n text more rest → RawBytes head.shape rows text rest
 raw_rows_have_bytes format head [] n text more rest raw h read = record { bytes = []; whole = read.1; count = sym (zero-mul (bytes_in_row head.shape)); rows_are = refl; are = tt }
 raw_rows_have_bytes format head (row ∷ rows) zero text more rest raw h read = absurd read
 raw_rows_have_bytes format head (row ∷ rows) (suc n) text more rest raw h read =
@@ -282,7 +283,7 @@ raw_rows_have_bytes format head (row ∷ rows) (suc n) text more rest raw h read
     (raw_rows_have_bytes format head rows n read.0 more rest raw h read.2)
 
 -- rows that are spelled are read in turn
-pub raw_rows_are_read : (format : Format) (s : Shape) (rows n : ℕ) (text : List ℕ) (more : ℕ) (rest : List ℕ) → format.is_plain ≡ false → IsPackable (packing_in s) s → n ≡ rows + more → length text ≡ rows * bytes_in_row s → AreRowsOf s (raw_rows s rows text)
+pub raw_rows_are_read : (format : Format) (s : Shape) (rows n : ℕ) (text : List ℕ) (more : ℕ) (rest : List ℕ) → is_plain_form format.form ≡ false → IsPackable (sample_width_in s) s → n ≡ rows + more → length text ≡ rows * bytes_in_row s → AreRowsOf s (raw_rows s rows text)
     → RowsRead format s (raw_rows s rows text) n (text ++ rest) more rest
 raw_rows_are_read format s zero n text more rest raw h count size are =
     let nothing : text ≡ [] = nil_from_length text (size ∙ zero-mul (bytes_in_row s)) in
@@ -303,20 +304,20 @@ pub raw_row_shorter : (s : Shape) (text : List ℕ) (found : List ℕ × List �
 unfolding raw_row
 raw_row_shorter s text found e =
     let units = bind_ok (units_at s text) (λ units. row_done (take (row_length s) (concat units.0)) units.1) found e in
-    let count = units_length (packing_in s) s.maxval (units_in_row (packing_in s) s) text units.0 units.1 in
+    let count = units_length (sample_width_in s) s.maxval (units_in_row (sample_width_in s) s) text units.0 units.1 in
     let left : units.0.1 ≡ found.1 = cc in
     omega (arith, count, ap length left)
 
 -- ---- images
 
 -- after all rows come the image's end and what follows
-after_rows : (later : List ℕ → Said) (format : Format) (s : Shape) (rows : List (List ℕ)) (rest : List ℕ) → format.is_plain ≡ false → after_messages (map Row rows) (rows_said later format s zero rest) ≡ rows_then rows (later rest)
+after_rows : (later : List ℕ → Said) (format : Format) (s : Shape) (rows : List (List ℕ)) (rest : List ℕ) → is_plain_form format.form ≡ false → after_messages (map Row rows) (rows_said later format s zero rest) ≡ rows_then rows (later rest)
 unfolding rows_said end_said
 after_rows later format s [] rest raw = ap (λ (p : Bool). then_said ImageEnd (end_said later p rest)) raw
 after_rows later format s (row ∷ rows) rest raw = ap (then_said (Row row)) (after_rows later format s rows rest raw)
 
 -- of a raster that spells an image the rows are said, the image's end, and what follows
-pub spelled_raw_is_said : (later : List ℕ → Said) (format : Format) (raster rest : List ℕ) (image : Image) → format.is_plain ≡ false → SpellsRaw raster image
+pub spelled_raw_is_said : (later : List ℕ → Said) (format : Format) (raster rest : List ℕ) (image : Image) → is_plain_form format.form ≡ false → SpellsRaw raster image
     → rows_said later format image.head.shape image.head.shape.height (raster ++ rest) ≡ rows_then (rows_of image) (later rest)
 spelled_raw_is_said later format raster rest image raw h =
     let s : Shape = image.head.shape in
@@ -325,12 +326,12 @@ spelled_raw_is_said later format raster rest image raw h =
     read_rows_are_said later format s rows s.height (raster ++ rest) zero rest read ∙ after_rows later format s rows rest raw ∙ ap (λ (l : List (List ℕ)). rows_then l (later rest)) (sym h.rows)
 
 -- the fault after all rows of a raw image is that of what follows it
-raw_end_fault : (later : List ℕ → Said) (format : Format) (rest : List ℕ) → format.is_plain ≡ false → (end_said later format.is_plain rest).fault ≡ (later rest).fault
+raw_end_fault : (later : List ℕ → Said) (format : Format) (rest : List ℕ) → is_plain_form format.form ≡ false → (end_said later (is_plain_form format.form) rest).fault ≡ (later rest).fault
 unfolding end_said
 raw_end_fault later format rest raw = ap (λ (p : Bool). (end_said later p rest).fault) raw
 
 -- a raster whose rows are said without a fault spells an image, and what follows has no fault
-pub said_raw_is_spelled : (later : List ℕ → Said) (format : Format) (head : HeadValue) (text : List ℕ) → format.is_plain ≡ false → IsHead head → (rows_said later format head.shape head.shape.height text).fault ≡ None
+pub said_raw_is_spelled : (later : List ℕ → Said) (format : Format) (head : HeadValue) (text : List ℕ) → is_plain_form format.form ≡ false → IsHead head → (rows_said later format head.shape head.shape.height text).fault ≡ None
     → (image : Image) × (raster : List ℕ) × (rest : List ℕ) × (text ≡ raster ++ rest) × (image.head ≡ head) × SpellsRaw raster image × ((later rest).fault ≡ None)
 said_raw_is_spelled later format head text raw h e =
     let s : Shape = head.shape in

@@ -8,12 +8,12 @@ use Rattle.pnm_image.specs.Heads.{row_length}
 use Rattle.pnm_read.specs.declared.fault.InputFault.{InputFault}
 use Rattle.pnm_read.specs.declared.fault.InputFault.TheVariants.{ReadFailed, Memory, RasterCut}
 use Rattle.pnm_read.specs.declared.input.Input.{Input}
-use Rattle.pnm_image.specs.declared.packing.Packing.{Packing}
-use Rattle.pnm_image.specs.declared.packing.Packing.TheVariants.{Packed, Narrow, Wide}
-use Rattle.pnm_image.specs.Packings.{packing_of}
+use Rattle.pnm_image.specs.declared.sample_width.SampleWidth.{SampleWidth}
+use Rattle.pnm_image.specs.declared.sample_width.SampleWidth.TheVariants.{Bits, Bytes, Words}
+use Rattle.pnm_image.specs.SampleWidths.{sample_width_of}
 use Rattle.pnm_read.specs.Items.{◌>>=◌, raw_item}
 use Rattle.pnm_read.specs.Said.{in_turn, units_in_row, units_at, raw_row}
-use Rattle.pnm_read.specs.Packings.{FindsUnits, FindsPart}
+use Rattle.pnm_read.specs.RawParts.{FindsUnits, FindsPart}
 use Rattle.pnm_read.specs.Inputs.{Turn, Finds, IsOutsideFault}
 use Rattle.pnm_read.proofs.UnitLaws.{unit_bytes, unit_if, turned, and_turns}
 use Rattle.pnm_read.proofs.PartLaws.{all_are_left, part_fails, part_is_read, none_are_left, one_fails}
@@ -22,17 +22,17 @@ use Rattle.pnm_read.proofs.Turns.{no_fault, turn_then, turn_ok_so, turn_err_so, 
 -- ---- units of a text
 
 -- a text of fewer bytes than a unit has
-cut_unit : (p : Packing) (maxval : ℕ) (text : List ℕ) → length text < unit_bytes p → raw_item p maxval text ≡ Err RasterCut
+cut_unit : (p : SampleWidth) (maxval : ℕ) (text : List ℕ) → length text < unit_bytes p → raw_item p maxval text ≡ Err RasterCut
 unfolding raw_item
-cut_unit Packed maxval [] lt = refl
-cut_unit Packed maxval (b ∷ text) lt = absurd (omega arith)
-cut_unit Narrow maxval [] lt = refl
-cut_unit Narrow maxval (b ∷ text) lt = absurd (omega arith)
-cut_unit Wide maxval [] lt = refl
-cut_unit Wide maxval (b ∷ []) lt = refl
-cut_unit Wide maxval (b ∷ c ∷ text) lt = absurd (omega arith)
+cut_unit Bits maxval [] lt = refl
+cut_unit Bits maxval (b ∷ text) lt = absurd (omega arith)
+cut_unit Bytes maxval [] lt = refl
+cut_unit Bytes maxval (b ∷ text) lt = absurd (omega arith)
+cut_unit Words maxval [] lt = refl
+cut_unit Words maxval (b ∷ []) lt = refl
+cut_unit Words maxval (b ∷ c ∷ text) lt = absurd (omega arith)
 
-pub cut_at_first : (p : Packing) (maxval : ℕ) (text : List ℕ) → length text < unit_bytes p → in_turn (raw_item p maxval) 1 text ≡ Err RasterCut
+pub cut_at_first : (p : SampleWidth) (maxval : ℕ) (text : List ℕ) → length text < unit_bytes p → in_turn (raw_item p maxval) 1 text ≡ Err RasterCut
 cut_at_first p maxval text lt = one_fails (raw_item p maxval) text RasterCut (cut_unit p maxval text lt)
 
 -- no unit's fault is that of a reader
@@ -40,15 +40,15 @@ unit_if_found : (t : Bool) (unit rest : List ℕ) → unit_if t unit rest ≡ Er
 unit_if_found true unit rest e = cc
 unit_if_found false unit rest e = cc
 
-unit_found : (p : Packing) (maxval : ℕ) (text : List ℕ) → raw_item p maxval text ≡ Err ReadFailed → ⊥
+unit_found : (p : SampleWidth) (maxval : ℕ) (text : List ℕ) → raw_item p maxval text ≡ Err ReadFailed → ⊥
 unfolding raw_item
-unit_found Packed maxval [] e = cc
-unit_found Packed maxval (b ∷ text) e = cc
-unit_found Narrow maxval [] e = cc
-unit_found Narrow maxval (b ∷ text) e = unit_if_found (leb b maxval) (b ∷ []) text e
-unit_found Wide maxval [] e = cc
-unit_found Wide maxval (b ∷ []) e = cc
-unit_found Wide maxval (b ∷ c ∷ text) e = unit_if_found (leb (256 * b + c) maxval) ((256 * b + c) ∷ []) text e
+unit_found Bits maxval [] e = cc
+unit_found Bits maxval (b ∷ text) e = cc
+unit_found Bytes maxval [] e = cc
+unit_found Bytes maxval (b ∷ text) e = unit_if_found (leb b maxval) (b ∷ []) text e
+unit_found Words maxval [] e = cc
+unit_found Words maxval (b ∷ []) e = cc
+unit_found Words maxval (b ∷ c ∷ text) e = unit_if_found (leb (256 * b + c) maxval) ((256 * b + c) ∷ []) text e
 
 others_found : (first : List ℕ) (r : Result (List (List ℕ) × List ℕ) InputFault) → (r ≡ Err ReadFailed → ⊥) → (r >>= λ more. turned (first ∷ more.0) more.1) ≡ Err ReadFailed → ⊥
 others_found first (Ok x) h e = cc
@@ -59,26 +59,26 @@ first_found : (item : List ℕ → Result (List ℕ × List ℕ) InputFault) (n 
 first_found item n (Ok x) h others e = others_found x.0 (in_turn item n x.1) (others x.1) e
 first_found item n (Err k) h others e = h cc
 
-units_found : (p : Packing) (maxval n : ℕ) (text : List ℕ) → in_turn (raw_item p maxval) n text ≡ Err ReadFailed → ⊥
+units_found : (p : SampleWidth) (maxval n : ℕ) (text : List ℕ) → in_turn (raw_item p maxval) n text ≡ Err ReadFailed → ⊥
 unfolding in_turn
 units_found p maxval zero text e = cc
 units_found p maxval (suc n) text e = first_found (raw_item p maxval) n (raw_item p maxval text) (unit_found p maxval text) (units_found p maxval n) e
 
--- the units of a row, by its packing and how many they are
-units_as : (s : Shape) (p : Packing) (all : ℕ) (text : List ℕ) → p ≡ packing_of s.kind s.maxval → all ≡ units_in_row p s → units_at s text ≡ in_turn (raw_item p s.maxval) all text
-units_as s p all text is_packing is_all = sym (ap₂ (λ (q : Packing) (n : ℕ). in_turn (raw_item q s.maxval) n text) is_packing (is_all ∙ ap (λ (q : Packing). units_in_row q s) is_packing))
+-- the units of a row, by the width of its samples and how many they are
+units_as : (s : Shape) (p : SampleWidth) (all : ℕ) (text : List ℕ) → p ≡ sample_width_of s.kind s.maxval → all ≡ units_in_row p s → units_at s text ≡ in_turn (raw_item p s.maxval) all text
+units_as s p all text is_width is_all = sym (ap₂ (λ (q : SampleWidth) (n : ℕ). in_turn (raw_item q s.maxval) n text) is_width (is_all ∙ ap (λ (q : SampleWidth). units_in_row q s) is_width))
 
 -- ---- steps
 
 -- These are the samples of the units that were read, and so many units are left.
-abbrev pub UnitsFrom : Packing → ℕ → ℕ → ℕ → List ℕ → List ℕ → List ℕ → Type 0
+abbrev pub UnitsFrom : SampleWidth → ℕ → ℕ → ℕ → List ℕ → List ℕ → List ℕ → Type 0
 UnitsFrom p maxval all more samples text left =
     (units : List (List ℕ)) × (samples ≡ concat units) × (in_turn (raw_item p maxval) all text ≡ and_turns (raw_item p maxval) more units left)
 
-pub record ReadingUnits {R : Type 0} (left : R → Option (List ℕ)) (failures : R → ℕ) (same : R → R → Type 0) (p : Packing) (maxval all more : ℕ) (samples : List ℕ) (old now : Input R) : Type 0 where
+pub record ReadingUnits {R : Type 0} (left : R → Option (List ℕ)) (failures : R → ℕ) (same : R → R → Type 0) (p : SampleWidth) (maxval all more : ℕ) (samples : List ℕ) (old now : Input R) : Type 0 where
   pub turn : Turn {A = Unit {0}} left failures same old now (Ok tt) (UnitsFrom p maxval all more samples)
 
-pub units_begin : {R : Type 0} {left : R → Option (List ℕ)} {failures : R → ℕ} {same : R → R → Type 0} (p : Packing) (maxval all : ℕ) (samples : List ℕ) (input : Input R) → ((a : R) → same a a) → samples ≡ []
+pub units_begin : {R : Type 0} {left : R → Option (List ℕ)} {failures : R → ℕ} {same : R → R → Type 0} (p : SampleWidth) (maxval all : ℕ) (samples : List ℕ) (input : Input R) → ((a : R) → same a a) → samples ≡ []
     → ReadingUnits left failures same p maxval all all samples input input
 units_begin {left = left} {failures = failures} {same = same} p maxval all samples input at_once none = record {
   turn = turn_ok_so {A = Unit {0}} {B = Unit {0}} tt (Ok tt) (no_fault tt ReadFailed)
@@ -87,7 +87,7 @@ units_begin {left = left} {failures = failures} {same = same} p maxval all sampl
 }
 
 -- a part of the units that are left was read
-pub part_read : {R : Type 0} {left : R → Option (List ℕ)} {failures : R → ℕ} {same : R → R → Type 0} {p : Packing} {maxval all more : ℕ} {samples : List ℕ} {old now mid : Input R}
+pub part_read : {R : Type 0} {left : R → Option (List ℕ)} {failures : R → ℕ} {same : R → R → Type 0} {p : SampleWidth} {maxval all more : ℕ} {samples : List ℕ} {old now mid : Input R}
     (most : ℕ) (part : List ℕ) (new : ℕ → List ℕ) (count : ℕ) (others : List ℕ) → ((a b c : R) → same a b → same b c → same a c) → ReadingUnits left failures same p maxval all more samples old now → Turn {A = ℕ} left failures same now mid (Ok count) (FindsPart p maxval most part new (Ok count))
     → most ≤ more → ((units : List (List ℕ)) → new count ≡ part ++ concat units → others ≡ samples ++ concat units)
     → ReadingUnits left failures same p maxval all (more - count) others old mid
@@ -102,28 +102,28 @@ part_read {p = p} {maxval = maxval} {all = all} {more = more} {samples = samples
 }
 
 -- no unit's fault in a part is that of a reader
-part_fault_so : (p : Packing) (maxval all more most : ℕ) (samples part : List ℕ) (new : ℕ → List ℕ) (s : Shape) (k : InputFault) → p ≡ packing_of s.kind s.maxval → all ≡ units_in_row p s → maxval ≡ s.maxval → most ≤ more
+part_fault_so : (p : SampleWidth) (maxval all more most : ℕ) (samples part : List ℕ) (new : ℕ → List ℕ) (s : Shape) (k : InputFault) → p ≡ sample_width_of s.kind s.maxval → all ≡ units_in_row p s → maxval ≡ s.maxval → most ≤ more
     → (b m a : List ℕ) → UnitsFrom p maxval all more samples b m → FindsPart p maxval most part new (Err k) m a → (units_at s b ≡ Err k) ⊎ IsOutsideFault k
-part_fault_so p maxval all more most samples part new s k is_packing is_all is_maxval le b m a from (inl found) =
+part_fault_so p maxval all more most samples part new s k is_width is_all is_maxval le b m a from (inl found) =
     let fits : found.0 ≤ more = omega (arith, found.1, le) in
-    inl (units_as s p all b is_packing is_all ∙ ap (λ (n : ℕ). in_turn (raw_item p n) all b) (sym is_maxval) ∙ part_fails (raw_item p maxval) all more found.0 from.0 b m k fits found.2 from.2)
-part_fault_so p maxval all more most samples part new s k is_packing is_all is_maxval le b m a from (inr outside) = inr outside
+    inl (units_as s p all b is_width is_all ∙ ap (λ (n : ℕ). in_turn (raw_item p n) all b) (sym is_maxval) ∙ part_fails (raw_item p maxval) all more found.0 from.0 b m k fits found.2 from.2)
+part_fault_so p maxval all more most samples part new s k is_width is_all is_maxval le b m a from (inr outside) = inr outside
 
-pub part_fault : {R B : Type 0} {left : R → Option (List ℕ)} {failures : R → ℕ} {same : R → R → Type 0} {p : Packing} {all more : ℕ} {samples : List ℕ} {old now mid : Input R}
+pub part_fault : {R B : Type 0} {left : R → Option (List ℕ)} {failures : R → ℕ} {same : R → R → Type 0} {p : SampleWidth} {all more : ℕ} {samples : List ℕ} {old now mid : Input R}
     (most : ℕ) (part : List ℕ) (new : ℕ → List ℕ) (view : B → List ℕ) (s : Shape) (k : InputFault) → ((a b c : R) → same a b → same b c → same a c) → ReadingUnits left failures same p s.maxval all more samples old now → Turn {A = ℕ} left failures same now mid (Err k) (FindsPart p s.maxval most part new (Err k))
-    → p ≡ packing_of s.kind s.maxval → all ≡ units_in_row p s → most ≤ more
+    → p ≡ sample_width_of s.kind s.maxval → all ≡ units_in_row p s → most ≤ more
     → Turn {A = B} left failures same old mid (Err k) (FindsUnits view s (Err k))
-part_fault {B = B} {p = p} {all = all} {more = more} {samples = samples} most part new view s k later r t is_packing is_all le =
-    turn_err_so {A = ℕ} {B = B} k (λ b a o. part_fault_so p s.maxval all more most samples part new s k is_packing is_all refl le b o.0 a o.1 o.2) (turn_then {A = Unit {0}} {B = ℕ} tt later r.turn t)
+part_fault {B = B} {p = p} {all = all} {more = more} {samples = samples} most part new view s k later r t is_width is_all le =
+    turn_err_so {A = ℕ} {B = B} k (λ b a o. part_fault_so p s.maxval all more most samples part new s k is_width is_all refl le b o.0 a o.1 o.2) (turn_then {A = Unit {0}} {B = ℕ} tt later r.turn t)
 
 -- all units were read
-pub units_read : {R B : Type 0} {left : R → Option (List ℕ)} {failures : R → ℕ} {same : R → R → Type 0} {p : Packing} {all more : ℕ} {samples : List ℕ} {old now : Input R}
-    (view : B → List ℕ) (s : Shape) (row : B) → ReadingUnits left failures same p s.maxval all more samples old now → p ≡ packing_of s.kind s.maxval → all ≡ units_in_row p s → more ≤ 0 → view row ≡ samples
+pub units_read : {R B : Type 0} {left : R → Option (List ℕ)} {failures : R → ℕ} {same : R → R → Type 0} {p : SampleWidth} {all more : ℕ} {samples : List ℕ} {old now : Input R}
+    (view : B → List ℕ) (s : Shape) (row : B) → ReadingUnits left failures same p s.maxval all more samples old now → p ≡ sample_width_of s.kind s.maxval → all ≡ units_in_row p s → more ≤ 0 → view row ≡ samples
     → Turn {A = B} left failures same old now (Ok row) (FindsUnits view s (Ok row))
-units_read {B = B} {p = p} {all = all} {more = more} view s row r is_packing is_all done is_row =
+units_read {B = B} {p = p} {all = all} {more = more} view s row r is_width is_all done is_row =
     turn_ok_so {A = Unit {0}} {B = B} tt (Ok row) (no_fault row ReadFailed) (λ b a o.
     let none : more ≡ 0 = omega arith in
-    (o.0, units_as s p all b is_packing is_all ∙ o.2 ∙ ap (λ (m : ℕ). and_turns (raw_item p s.maxval) m o.0 a) none ∙ none_are_left (raw_item p s.maxval) o.0 a, is_row ∙ o.1))
+    (o.0, units_as s p all b is_width is_all ∙ o.2 ∙ ap (λ (m : ℕ). and_turns (raw_item p s.maxval) m o.0 a) none ∙ none_are_left (raw_item p s.maxval) o.0 a, is_row ∙ o.1))
     r.turn
 
 -- ---- a row of units

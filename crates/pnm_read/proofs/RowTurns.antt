@@ -1,9 +1,10 @@
 -- Rows that are read in turn: what is said of them, and where no more are read.
+use Rattle.pnm_image.specs.Formats.{is_plain_form}
 use Rattle.std.proofs.Common.{◌≡◌, ℕ, zero, suc, ◌+◌, List, [], ◌∷◌, ◌++◌, length, map, Some, None, Result, Ok, Err, refl, sym, ap, ap₂, ◌∙◌, append-nil, arith}
 use Rattle.pnm_image.specs.declared.shape.Shape.{Shape}
 use Rattle.pnm_image.specs.declared.message.Message.TheVariants.{Row}
 use Rattle.pnm_read.specs.declared.fault.InputFault.{InputFault}
-use Rattle.pnm_read.specs.declared.format.Format.{Format}
+use Rattle.pnm_image.specs.declared.format.Format.{Format}
 use Rattle.pnm_read.specs.Said.{Said, then_said, says_fault, end_said, row_at, rows_said}
 use Rattle.pnm_read.specs.Sources.{after_messages}
 use Rattle.pnm_read.proofs.GivenLaws.{messages_after, fault_after}
@@ -49,7 +50,7 @@ stopped_messages later format s rows n text more rest fault read e =
     read_rows_come_first later format s rows n text (suc more) rest read ∙ ap (λ (r : Result (List ℕ × List ℕ) InputFault). map Row rows ++ (said_from later format s more r).messages) e ∙ append-nil (map Row rows)
 
 -- where all rows were read, the fault is that of what follows the image
-pub ended_fault : (later : List ℕ → Said) (format : Format) (s : Shape) (rows : List (List ℕ)) (n : ℕ) (text rest : List ℕ) → RowsRead format s rows n text zero rest → (rows_said later format s n text).fault ≡ (end_said later format.is_plain rest).fault
+pub ended_fault : (later : List ℕ → Said) (format : Format) (s : Shape) (rows : List (List ℕ)) (n : ℕ) (text rest : List ℕ) → RowsRead format s rows n text zero rest → (rows_said later format s n text).fault ≡ (end_said later (is_plain_form format.form) rest).fault
 unfolding rows_said
 ended_fault later format s rows n text rest read =
     ap (λ (x : Said). x.fault) (read_rows_are_said later format s rows n text zero rest read) ∙ fault_after (map Row rows) (rows_said later format s zero rest)

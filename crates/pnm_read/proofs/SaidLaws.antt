@@ -1,4 +1,5 @@
 -- What is said of a text may come in turn, and its end is said exactly where no fault is.
+use Rattle.pnm_image.specs.Formats.{is_plain_form}
 use Rattle.std.proofs.Common.{◌≡◌, ◌↔◌, ℕ, zero, suc, ◌+◌, Bool, true, false, List, [], ◌∷◌, length, None, Result, Ok, Err, refl, sym, subst, arith}
 use Rattle.pnm_image.specs.declared.shape.Shape.{Shape}
 use Rattle.pnm_image.specs.declared.place.Place.TheVariants.{Inside}
@@ -7,7 +8,7 @@ use Rattle.pnm_image.specs.Messages.{EndsStream}
 use Rattle.pnm_image.specs.Places.{IsRowOf, IsLawfulFrom, IsLawful}
 use Rattle.pnm_image.proofs.Streams.{stream_ends}
 use Rattle.pnm_read.specs.declared.fault.InputFault.{InputFault}
-use Rattle.pnm_read.specs.declared.format.Format.{Format}
+use Rattle.pnm_image.specs.declared.format.Format.{Format}
 use Rattle.pnm_read.specs.Said.{Said, row_by, row_at, end_said, format_at, head_at, rows_said, head_said, format_said, image_said, later_said_in, later_said, said, said_of, fault_of}
 use Rattle.pnm_read.proofs.HeaderLaws.{read_header_is_spelled, spelled_head}
 use Rattle.pnm_read.proofs.PlainLaws.{plain_row_is_row, last_plain_row_is_row}
@@ -41,9 +42,9 @@ row_is_lawful later format s more y (Ok found) count row others = ((omega arith,
 
 rows_are_lawful : (later : List ℕ → Said) (format : Format) (head : HeadValue) (more y : ℕ) (text : List ℕ) → AreLawful later → IsHead head → more + y ≡ head.shape.height → IsLawfulFrom (Inside head.shape y) (rows_said later format head.shape more text).messages
 unfolding rows_said
-rows_are_lawful later format head zero y text are h count = (omega arith, end_is_lawful later format.is_plain text are)
+rows_are_lawful later format head zero y text are h count = (omega arith, end_is_lawful later (is_plain_form format.form) text are)
 rows_are_lawful later format head (suc more) y text are h count =
-    row_is_lawful later format head.shape more y (row_at format head.shape more text) count (λ found e. row_is_row format.is_plain head more text found h e)
+    row_is_lawful later format head.shape more y (row_at format head.shape more text) count (λ found e. row_is_row (is_plain_form format.form) head more text found h e)
     (λ rest. rows_are_lawful later format head more (y + 1) rest are h (omega arith))
 
 -- an image's messages may come where its head keeps the rules of heads
@@ -99,7 +100,7 @@ sound_row later format s more (Ok found) others ends = others found.1 ends
 
 sound_rows : (later : List ℕ → Said) (format : Format) (s : Shape) (more : ℕ) (text : List ℕ) → EndIsSound later → EndsStream (rows_said later format s more text).messages → (rows_said later format s more text).fault ≡ None
 unfolding rows_said
-sound_rows later format s zero text sound ends = sound_end later format.is_plain text sound ends
+sound_rows later format s zero text sound ends = sound_end later (is_plain_form format.form) text sound ends
 sound_rows later format s (suc more) text sound ends = sound_row later format s more (row_at format s more text) (λ rest e. sound_rows later format s more rest sound e) ends
 
 sound_head : (later : List ℕ → Said) (format : Format) (r : Result (HeadValue × List ℕ) InputFault) → EndIsSound later → EndsStream (head_said later format r).messages → (head_said later format r).fault ≡ None

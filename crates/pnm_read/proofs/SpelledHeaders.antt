@@ -10,12 +10,13 @@ use Rattle.pnm_image.specs.declared.shape.Kind.TheVariants.{Bit, Gray, Color, Pa
 use Rattle.pnm_image.specs.declared.head.HeadFault.{HeadFault}
 use Rattle.pnm_image.specs.Heads.{HeadValue, IsHead, Suits, head_value, shape_fault}
 use Rattle.pnm_read.specs.declared.fault.InputFault.TheVariants.{PlainInStream}
-use Rattle.pnm_read.specs.declared.format.Format.{Format}
+use Rattle.pnm_image.specs.declared.format.Format.{Format}
 use Rattle.pnm_read.specs.declared.judgement.Judgement.{Judgement}
 use Rattle.pnm_read.specs.declared.judgement.Judgement.TheVariants.{GoesOn, EndsWith}
 use Rattle.pnm_read.specs.Texts.{is_apart, begins_apart, ends_in_comment, uncommented, ends_in_word, numbers_in}
 use Rattle.pnm_image.specs.Texts.{is_white, is_digit}
-use Rattle.pnm_read.specs.Formats.{format_of, number_count, shape_of, header_numbers}
+use Rattle.pnm_image.specs.Formats.{format_of, is_plain_form}
+use Rattle.pnm_read.specs.Formats.{number_count, shape_of, header_numbers}
 use Rattle.pnm_read.specs.Headers.{SpellsPnmHeader, SpellsPamHeader, SpellsHeaderBy, SpellsHeader}
 use Rattle.pnm_read.specs.Items.{piece_from, first_magic_item, second_magic_item, header_limit, is_bad_in_header, is_delimiter, header_item, header_end, numbers_item}
 use Rattle.pnm_read.specs.Said.{format_at, pnm_head_at, head_by, head_at}
@@ -154,10 +155,10 @@ not_refused true first h = rw (h refl) refl
 not_refused false first h = refl
 
 -- the magic is read
-spelled_magic_is_read : (digit : ℕ) (after : List ℕ) (format : Format) (is_first : Bool) → (format.is_plain ≡ true → is_first ≡ true) → format_of digit ≡ Some format → format_at is_first (80 ∷ digit ∷ after) ≡ Ok (format, after)
+spelled_magic_is_read : (digit : ℕ) (after : List ℕ) (format : Format) (is_first : Bool) → (is_plain_form format.form ≡ true → is_first ≡ true) → format_of digit ≡ Some format → format_at is_first (80 ∷ digit ∷ after) ≡ Ok (format, after)
 unfolding format_at first_magic_item second_magic_item
 spelled_magic_is_read digit after format is_first first e =
-    ap (λ (f : Option Format). second_magic is_first f after) e ∙ ap (λ (refused : Bool). if refused then Err PlainInStream else Ok (format, after)) (not_refused format.is_plain is_first first)
+    ap (λ (f : Option Format). second_magic is_first f after) e ∙ ap (λ (refused : Bool). if refused then Err PlainInStream else Ok (format, after)) (not_refused (is_plain_form format.form) is_first first)
 
 -- the head is read
 spelled_pnm_head_is_read : (text : List ℕ) (format : Format) (head : HeadValue) (s : SpellsPnmHeader text format head) (rest : List ℕ) → is_named format.kind ≡ true → pnm_head_at format.kind (s.body ++ s.delimiter ∷ rest) ≡ Ok (head, rest)
@@ -174,7 +175,7 @@ abbrev HeaderIsRead : Kind → Bool → List ℕ → Format → HeadValue → Li
 HeaderIsRead kind is_first text format head rest = (after : List ℕ) × (format_at is_first text ≡ Ok (format, after)) × (head_by kind after ≡ Ok (head, rest))
 
 -- a header of PBM, PGM or PPM that is spelled is read
-spelled_pnm_is_read : (text rest : List ℕ) (format : Format) (head : HeadValue) (is_first : Bool) → (format.is_plain ≡ true → is_first ≡ true) → is_named format.kind ≡ true → SpellsPnmHeader text format head
+spelled_pnm_is_read : (text rest : List ℕ) (format : Format) (head : HeadValue) (is_first : Bool) → (is_plain_form format.form ≡ true → is_first ≡ true) → is_named format.kind ≡ true → SpellsPnmHeader text format head
     → (after : List ℕ) × (format_at is_first (text ++ rest) ≡ Ok (format, after)) × (pnm_head_at format.kind after ≡ Ok (head, rest))
 spelled_pnm_is_read text rest format head is_first first named s =
     let whole : text ++ rest ≡ 80 ∷ s.digit ∷ (s.body ++ s.delimiter ∷ rest) = ap (λ (t : List ℕ). t ++ rest) s.whole ∙ ap (λ (t : List ℕ). 80 ∷ s.digit ∷ t) (append_assoc s.body (s.delimiter ∷ []) rest) in (
@@ -184,14 +185,14 @@ spelled_pnm_is_read text rest format head is_first first named s =
     )
 
 -- a header of PAM that is spelled is read
-spelled_pam_is_read : (text rest : List ℕ) (format : Format) (head : HeadValue) (is_first : Bool) → (format.is_plain ≡ true → is_first ≡ true) → SpellsPamHeader text format head
+spelled_pam_is_read : (text rest : List ℕ) (format : Format) (head : HeadValue) (is_first : Bool) → (is_plain_form format.form ≡ true → is_first ≡ true) → SpellsPamHeader text format head
     → HeaderIsRead Pam is_first (text ++ rest) format head rest
 spelled_pam_is_read text rest format head is_first first s =
     let found = spelled_pam_is_head text rest format head s in
     (found.0, ap (format_at is_first) found.1 ∙ spelled_magic_is_read 55 found.0 format is_first first s.format_is, found.2)
 
 -- a header of a kind that is spelled is read
-spelled_by : (kind : Kind) (text rest : List ℕ) (format : Format) (head : HeadValue) (is_first : Bool) → format.kind ≡ kind → (format.is_plain ≡ true → is_first ≡ true) → SpellsHeaderBy kind text format head
+spelled_by : (kind : Kind) (text rest : List ℕ) (format : Format) (head : HeadValue) (is_first : Bool) → format.kind ≡ kind → (is_plain_form format.form ≡ true → is_first ≡ true) → SpellsHeaderBy kind text format head
     → HeaderIsRead kind is_first (text ++ rest) format head rest
 spelled_by Bit text rest format head is_first k first s =
     let found = spelled_pnm_is_read text rest format head is_first first (ap is_named k) s in
@@ -205,6 +206,6 @@ spelled_by Color text rest format head is_first k first s =
 spelled_by Pam text rest format head is_first k first s = spelled_pam_is_read text rest format head is_first first s
 
 -- a header that is spelled is read; a plain one as the first of a text
-pub spelled_header_is_read : (text rest : List ℕ) (format : Format) (head : HeadValue) (is_first : Bool) → (format.is_plain ≡ true → is_first ≡ true) → SpellsHeader text format head
+pub spelled_header_is_read : (text rest : List ℕ) (format : Format) (head : HeadValue) (is_first : Bool) → (is_plain_form format.form ≡ true → is_first ≡ true) → SpellsHeader text format head
     → (after : List ℕ) × (format_at is_first (text ++ rest) ≡ Ok (format, after)) × (head_at format after ≡ Ok (head, rest))
 spelled_header_is_read text rest format head is_first first s = spelled_by format.kind text rest format head is_first refl first s

@@ -1,5 +1,6 @@
 -- What a run over a source rests on: what a reader still has may come, the messages that a source gave are a front of
 -- what is said, each image that begins in it has rows, and each head in it keeps the rules of heads.
+use Rattle.pnm_image.specs.Formats.{is_plain_form}
 use Rattle.std.proofs.Common.{◌≡◌, ℕ, zero, suc, ◌<◌, Bool, true, false, List, [], ◌∷◌, ◌++◌, length, Option, Some, None, Result, Ok, Err, inl, inr, refl, ap, ◌∙◌}
 use Rattle.std.specs.List.{AllByRecursion}
 use Rattle.std.specs.Io.KnownBytes.{IsAtEnd}
@@ -10,7 +11,7 @@ use Rattle.pnm_image.specs.Completion.{IsFrontOf}
 use Rattle.pnm_image.specs.Messages.{IsMessage}
 use Rattle.pnm_image.specs.declared.shape.Shape.{Shape}
 use Rattle.pnm_read.specs.declared.fault.InputFault.{InputFault}
-use Rattle.pnm_read.specs.declared.format.Format.{Format}
+use Rattle.pnm_image.specs.declared.format.Format.{Format}
 use Rattle.pnm_read.specs.declared.source.Source.{Source}
 use Rattle.pnm_read.specs.declared.source.State.{State}
 use Rattle.pnm_read.specs.declared.source.State.TheVariants.{Awaits, Ended, Failed}
@@ -93,7 +94,7 @@ holds_of_row Claim h later format s more (Ok found) others = (h.row found.0, oth
 
 holds_of_rows : (Claim : Message → Type 0) (h : HoldsOfRead Claim) (later : List ℕ → Said) (format : Format) (s : Shape) (more : ℕ) (text : List ℕ) → HoldsOf Claim later → AllByRecursion Claim (rows_said later format s more text).messages
 unfolding rows_said
-holds_of_rows Claim h later format s zero text holds = (h.image_end, holds_of_end Claim h later format.is_plain text holds)
+holds_of_rows Claim h later format s zero text holds = (h.image_end, holds_of_end Claim h later (is_plain_form format.form) text holds)
 holds_of_rows Claim h later format s (suc more) text holds = holds_of_row Claim h later format s more (row_at format s more text) (λ rest. holds_of_rows Claim h later format s more rest holds)
 
 holds_of_head : (Claim : Message → Type 0) (h : HoldsOfRead Claim) (later : List ℕ → Said) (format : Format) (r : Result (HeadValue × List ℕ) InputFault) → HoldsOf Claim later → ((found : HeadValue × List ℕ) → r ≡ Ok found → Claim (Begin found.0))

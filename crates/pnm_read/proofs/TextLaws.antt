@@ -1,4 +1,5 @@
 -- What a text spells is what is said of it, and it spells one list of images or has a fault.
+use Rattle.pnm_image.specs.Formats.{is_plain_form}
 use Rattle.std.proofs.Common.{◌≡◌, ◌⊎◌, ℕ, zero, suc, ◌+◌, ◌<◌, ◌≤◌, Bool, true, false, List, [], ◌∷◌, ◌++◌, length, map, Option, Some, None, Result, Ok, Err, inl, inr, refl, sym, ap, subst, ◌∙◌, append_assoc, arith}
 use Rattle.std.proofs.lemmas.List.{length-append}
 use Rattle.std.proofs.lemmas.Bool.{both_ways}
@@ -8,7 +9,7 @@ use Rattle.pnm_image.specs.Heads.{HeadValue}
 use Rattle.pnm_image.specs.Images.{Image, IsImage, AreImages, rows_of, messages_of_image, messages_of_stream}
 use Rattle.pnm_image.proofs.Streams.{is_stream_of, stream_is_messages, stream_is_lawful, stream_ends}
 use Rattle.pnm_read.specs.declared.fault.InputFault.{InputFault}
-use Rattle.pnm_read.specs.declared.format.Format.{Format}
+use Rattle.pnm_image.specs.declared.format.Format.{Format}
 use Rattle.pnm_read.specs.Headers.{SpellsHeader}
 use Rattle.pnm_read.specs.Rasters.{SpellsRaw, SpellsPlain}
 use Rattle.pnm_read.specs.Spelling.{SpellsRasterBy, SpellsImage, SpellsRawImage, SpellsRawImages, SpellsPlainAlone, Spells}
@@ -35,7 +36,7 @@ after_head : (image : Image) (s : Said) → then_said (Begin image.head) (rows_t
 after_head image s = ap (λ (l : List Message). record { messages = Begin image.head ∷ l; fault = s.fault }) (sym (append_assoc (map Row (rows_of image)) (ImageEnd ∷ []) s.messages))
 
 -- of a text that begins with the header of an image, its head is said, and then the rows
-head_is_said : (later : List ℕ → Said) (is_first : Bool) (format : Format) (image : Image) (header rest : List ℕ) → (format.is_plain ≡ true → is_first ≡ true) → SpellsHeader header format image.head
+head_is_said : (later : List ℕ → Said) (is_first : Bool) (format : Format) (image : Image) (header rest : List ℕ) → (is_plain_form format.form ≡ true → is_first ≡ true) → SpellsHeader header format image.head
     → image_said later is_first (header ++ rest) ≡ then_said (Begin image.head) (rows_said later format image.head.shape image.head.shape.height rest)
 unfolding image_said
 head_is_said later is_first format image header rest first h =
@@ -49,7 +50,7 @@ raw_image_is_said later is_first text rest image s =
     let spelled = s.2 in
     let raster : SpellsRaw spelled.raster image = subst (λ (p : Bool). SpellsRasterBy p spelled.raster image) s.1 spelled.raster_is in
     ap (image_said later is_first) (ap (λ (t : List ℕ). t ++ rest) spelled.whole ∙ append_assoc spelled.header spelled.raster rest)
-    ∙ head_is_said later is_first format image spelled.header (spelled.raster ++ rest) (λ plain. absurd (both_ways format.is_plain s.1 plain)) spelled.header_is
+    ∙ head_is_said later is_first format image spelled.header (spelled.raster ++ rest) (λ plain. absurd (both_ways (is_plain_form format.form) s.1 plain)) spelled.header_is
     ∙ ap (then_said (Begin image.head)) (spelled_raw_is_said later format spelled.raster rest image s.1 raster)
     ∙ after_head image (later rest)
 
@@ -120,7 +121,7 @@ abbrev IsPlainAlone : List ℕ → Type 0
 IsPlainAlone text = (images : List Image) × SpellsPlainAlone text images
 
 -- a header, and the raster that was read after it
-pub image_of_parts : (text rest header raster : List ℕ) (format : Format) (head : HeadValue) (image : Image) → text ≡ header ++ raster → SpellsHeader header format head → image.head ≡ head → SpellsRasterBy format.is_plain raster image → SpellsImage text format image
+pub image_of_parts : (text rest header raster : List ℕ) (format : Format) (head : HeadValue) (image : Image) → text ≡ header ++ raster → SpellsHeader header format head → image.head ≡ head → SpellsRasterBy (is_plain_form format.form) raster image → SpellsImage text format image
 image_of_parts text rest header raster format head image whole h same r = record {
   header = header;
   raster = raster;
@@ -129,7 +130,7 @@ image_of_parts text rest header raster format head image whole h same r = record
   raster_is = r;
 }
 
-raw_raster_is_spelled : (later : List ℕ → Said) (text header after : List ℕ) (format : Format) (head : HeadValue) → format.is_plain ≡ false → text ≡ header ++ after → SpellsHeader header format head
+raw_raster_is_spelled : (later : List ℕ → Said) (text header after : List ℕ) (format : Format) (head : HeadValue) → is_plain_form format.form ≡ false → text ≡ header ++ after → SpellsHeader header format head
     → (rows_said later format head.shape head.shape.height after).fault ≡ None → RawAndRest later text None
 raw_raster_is_spelled later text header after format head raw whole h e =
     let facts = spelled_head header format head h in
@@ -146,7 +147,7 @@ raw_raster_is_spelled later text header after format head raw whole h e =
       fault_is = r.6;
     }
 
-plain_raster_is_spelled : (later : List ℕ → Said) (text header after : List ℕ) (format : Format) (head : HeadValue) → format.is_plain ≡ true → text ≡ header ++ after → SpellsHeader header format head
+plain_raster_is_spelled : (later : List ℕ → Said) (text header after : List ℕ) (format : Format) (head : HeadValue) → is_plain_form format.form ≡ true → text ≡ header ++ after → SpellsHeader header format head
     → (rows_said later format head.shape head.shape.height after).fault ≡ None → IsPlainAlone text
 plain_raster_is_spelled later text header after format head plain whole h e =
     let facts = spelled_head header format head h in
@@ -166,8 +167,8 @@ plain_raster_is_spelled later text header after format head plain whole h e =
       },
     )
 
-raster_is_spelled : (is_plain : Bool) (later : List ℕ → Said) (text header after : List ℕ) (format : Format) (head : HeadValue) → format.is_plain ≡ is_plain → text ≡ header ++ after → SpellsHeader header format head
-    → (rows_said later format head.shape head.shape.height after).fault ≡ None → ((format.is_plain ≡ false) × RawAndRest later text None) ⊎ ((format.is_plain ≡ true) × IsPlainAlone text)
+raster_is_spelled : (is_plain : Bool) (later : List ℕ → Said) (text header after : List ℕ) (format : Format) (head : HeadValue) → is_plain_form format.form ≡ is_plain → text ≡ header ++ after → SpellsHeader header format head
+    → (rows_said later format head.shape head.shape.height after).fault ≡ None → ((is_plain_form format.form ≡ false) × RawAndRest later text None) ⊎ ((is_plain_form format.form ≡ true) × IsPlainAlone text)
 raster_is_spelled false later text header after format head plain whole h e = inl (plain, raw_raster_is_spelled later text header after format head plain whole h e)
 raster_is_spelled true later text header after format head plain whole h e = inr (plain, plain_raster_is_spelled later text header after format head plain whole h e)
 
@@ -183,7 +184,7 @@ sound_head later format (Err fault) e = absurd cc
 
 -- an image that is said without a fault is spelled: a raw one and a rest, or a plain one
 image_is_spelled : (later : List ℕ → Said) (is_first : Bool) (text : List ℕ) → (image_said later is_first text).fault ≡ None
-    → (x : Format × List ℕ) × (format_at is_first text ≡ Ok x) × (((x.0.is_plain ≡ false) × RawAndRest later text None) ⊎ ((x.0.is_plain ≡ true) × IsPlainAlone text))
+    → (x : Format × List ℕ) × (format_at is_first text ≡ Ok x) × (((is_plain_form x.0.form ≡ false) × RawAndRest later text None) ⊎ ((is_plain_form x.0.form ≡ true) × IsPlainAlone text))
 unfolding image_said
 image_is_spelled later is_first text e =
     let found = sound_format later (format_at is_first text) e in
@@ -191,7 +192,7 @@ image_is_spelled later is_first text e =
     let after : List ℕ = found.0.1 in
     let read = sound_head later format (head_at format after) found.2 in
     let header = read_header_is_spelled is_first text after read.0.1 format read.0.0 found.1 read.1 in
-    (found.0, found.1, raster_is_spelled format.is_plain later text header.0 read.0.1 format read.0.0 refl header.1 header.2 read.2)
+    (found.0, found.1, raster_is_spelled (is_plain_form format.form) later text header.0 read.0.1 format read.0.0 refl header.1 header.2 read.2)
 
 -- what is said after a raw image without a fault are raw images
 later_is_spelled : (most : ℕ) (text : List ℕ) → length text ≤ most → (later_said text).fault ≡ None → (images : List Image) × SpellsRawImages text images
@@ -207,7 +208,7 @@ later_is_spelled (suc most) (b ∷ text) le e =
           let count : length whole ≡ length raw.first + length raw.rest = ap (λ (t : List ℕ). length t) raw.whole ∙ length-append raw.first raw.rest in
           let more = later_is_spelled most raw.rest (omega arith) raw.fault_is in
           (raw.image ∷ more.0, (raw.first, raw.rest, raw.whole, raw.image_is, more.1))
-      | inr p ↦ absurd (both_ways found.0.0.is_plain (later_is_raw whole found.0 found.1) p.0)
+      | inr p ↦ absurd (both_ways (is_plain_form found.0.0.form) (later_is_raw whole found.0 found.1) p.0)
     ]
 
 -- a text without a fault spells images
@@ -237,7 +238,7 @@ raster_is_of_image true raster image s = s.sound
 raster_is_of_image false raster image s = s.sound
 
 spelled_is_image : (text : List ℕ) (format : Format) (image : Image) → SpellsImage text format image → IsImage image
-spelled_is_image text format image s = raster_is_of_image format.is_plain s.raster image s.raster_is
+spelled_is_image text format image s = raster_is_of_image (is_plain_form format.form) s.raster image s.raster_is
 
 raw_are_images : (text : List ℕ) (images : List Image) → SpellsRawImages text images → AreImages images
 raw_are_images text [] s = tt

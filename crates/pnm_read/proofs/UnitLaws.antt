@@ -6,12 +6,12 @@ use Rattle.std.proofs.lemmas.List.Elements.{All-weaker}
 use Rattle.std.proofs.lemmas.List.Sums.{AllPass-from_list_all, list_all-from_AllPass}
 use Rattle.pnm_read.specs.declared.fault.InputFault.{InputFault}
 use Rattle.pnm_read.specs.declared.fault.InputFault.TheVariants.{SampleAboveMaxval}
-use Rattle.pnm_image.specs.declared.packing.Packing.{Packing}
-use Rattle.pnm_image.specs.declared.packing.Packing.TheVariants.{Packed, Narrow, Wide}
+use Rattle.pnm_image.specs.declared.sample_width.SampleWidth.{SampleWidth}
+use Rattle.pnm_image.specs.declared.sample_width.SampleWidth.TheVariants.{Bits, Bytes, Words}
 use Rattle.pnm_read.specs.Rasters.{pixels, wide_samples}
 use Rattle.pnm_read.specs.Items.{◌>>=◌, raw_item}
 use Rattle.pnm_read.specs.Said.{in_turn}
-use Rattle.pnm_read.specs.Packings.{AppendsWide}
+use Rattle.pnm_read.specs.RawParts.{AppendsWide}
 use Rattle.pnm_read.specs.Units.{samples_of_bytes, AreBytesWithin}
 
 -- items in turn, and what is left
@@ -22,10 +22,10 @@ abbrev pub fails : InputFault → Turns
 fails fault = Err fault
 
 -- the bytes of a unit
-abbrev pub unit_bytes : Packing → ℕ
-unit_bytes Packed = 1
-unit_bytes Narrow = 1
-unit_bytes Wide = 2
+abbrev pub unit_bytes : SampleWidth → ℕ
+unit_bytes Bits = 1
+unit_bytes Bytes = 1
+unit_bytes Words = 2
 
 -- the unit of one sample
 abbrev pub single : ℕ → List ℕ
@@ -111,26 +111,26 @@ first_by item n true within unit units more rest e = rw e (after_first within un
 first_by item n false within unit units more rest e = refl
 
 -- a byte of eight pixels each
-pub packed_units : (maxval : ℕ) (bytes rest : List ℕ) → in_turn (raw_item Packed maxval) (length bytes) (bytes ++ rest) ≡ Ok (map pixels bytes, rest)
+pub packed_units : (maxval : ℕ) (bytes rest : List ℕ) → in_turn (raw_item Bits maxval) (length bytes) (bytes ++ rest) ≡ Ok (map pixels bytes, rest)
 unfolding in_turn raw_item
 packed_units maxval [] rest = refl
 packed_units maxval (b ∷ bytes) rest = rw (packed_units maxval bytes rest) refl
 
 -- a byte a sample
-pub narrow_units : (maxval : ℕ) (bytes rest : List ℕ) → in_turn (raw_item Narrow maxval) (length bytes) (bytes ++ rest) ≡ units_if (are_within maxval bytes) (map single bytes) rest
+pub narrow_units : (maxval : ℕ) (bytes rest : List ℕ) → in_turn (raw_item Bytes maxval) (length bytes) (bytes ++ rest) ≡ units_if (are_within maxval bytes) (map single bytes) rest
 unfolding in_turn raw_item
 narrow_units maxval [] rest = refl
-narrow_units maxval (b ∷ bytes) rest = first_by (raw_item Narrow maxval) (length bytes) (leb b maxval) (are_within maxval bytes) (single b) (map single bytes) (bytes ++ rest) rest (narrow_units maxval bytes rest)
+narrow_units maxval (b ∷ bytes) rest = first_by (raw_item Bytes maxval) (length bytes) (leb b maxval) (are_within maxval bytes) (single b) (map single bytes) (bytes ++ rest) rest (narrow_units maxval bytes rest)
 
 -- two bytes a sample
-pub wide_units : (maxval n : ℕ) (bytes rest : List ℕ) → length bytes ≡ n * 2 → in_turn (raw_item Wide maxval) n (bytes ++ rest) ≡ units_if (are_within maxval (wide_samples bytes)) (map single (wide_samples bytes)) rest
+pub wide_units : (maxval n : ℕ) (bytes rest : List ℕ) → length bytes ≡ n * 2 → in_turn (raw_item Words maxval) n (bytes ++ rest) ≡ units_if (are_within maxval (wide_samples bytes)) (map single (wide_samples bytes)) rest
 unfolding in_turn raw_item wide_samples
 wide_units maxval zero [] rest count = refl
 wide_units maxval zero (b ∷ bytes) rest count = absurd (omega arith)
 wide_units maxval (suc n) [] rest count = absurd (omega (arith, zero-add, suc-add, suc-mul n 2))
 wide_units maxval (suc n) (b ∷ []) rest count = absurd (omega (arith, zero-add, suc-add, suc-mul n 2))
 wide_units maxval (suc n) (b ∷ c ∷ bytes) rest count =
-    first_by (raw_item Wide maxval) n (leb (256 * b + c) maxval) (are_within maxval (wide_samples bytes)) (single (256 * b + c)) (map single (wide_samples bytes)) (bytes ++ rest) rest
+    first_by (raw_item Words maxval) n (leb (256 * b + c) maxval) (are_within maxval (wide_samples bytes)) (single (256 * b + c)) (map single (wide_samples bytes)) (bytes ++ rest) rest
     (wide_units maxval n bytes rest (omega (arith, zero-add, suc-add, suc-mul n 2)))
 
 -- ---- units of a byte each
@@ -140,24 +140,24 @@ not_within : (maxval : ℕ) (samples : List ℕ) (t : Bool) → are_within maxva
 not_within maxval samples true e h = absurd (h (all_are_within maxval samples e))
 not_within maxval samples false e h = refl
 
-pub bytes_are_units : (p : Packing) (maxval : ℕ) (bytes rest : List ℕ) → (p ≡ Wide → ⊥) → AreBytesWithin p maxval bytes
+pub bytes_are_units : (p : SampleWidth) (maxval : ℕ) (bytes rest : List ℕ) → (p ≡ Words → ⊥) → AreBytesWithin p maxval bytes
     → (units : List (List ℕ)) × (samples_of_bytes p bytes ≡ concat units) × (in_turn (raw_item p maxval) (length bytes) (bytes ++ rest) ≡ Ok (units, rest))
-bytes_are_units Packed maxval bytes rest n h = (map pixels bytes, sym (concat_pixels bytes), packed_units maxval bytes rest)
-bytes_are_units Narrow maxval bytes rest n h =
+bytes_are_units Bits maxval bytes rest n h = (map pixels bytes, sym (concat_pixels bytes), packed_units maxval bytes rest)
+bytes_are_units Bytes maxval bytes rest n h =
     (map single bytes, sym (concat_singles bytes), narrow_units maxval bytes rest ∙ ap (λ (t : Bool). units_if t (map single bytes) rest) (are_within_all maxval bytes h))
-bytes_are_units Wide maxval bytes rest n h = absurd (n refl)
+bytes_are_units Words maxval bytes rest n h = absurd (n refl)
 
-pub bytes_are_at_fault : (p : Packing) (maxval : ℕ) (bytes rest : List ℕ) → (p ≡ Wide → ⊥) → (AreBytesWithin p maxval bytes → ⊥)
+pub bytes_are_at_fault : (p : SampleWidth) (maxval : ℕ) (bytes rest : List ℕ) → (p ≡ Words → ⊥) → (AreBytesWithin p maxval bytes → ⊥)
     → in_turn (raw_item p maxval) (length bytes) (bytes ++ rest) ≡ fails SampleAboveMaxval
-bytes_are_at_fault Packed maxval bytes rest n h = absurd (h tt)
-bytes_are_at_fault Narrow maxval bytes rest n h =
+bytes_are_at_fault Bits maxval bytes rest n h = absurd (h tt)
+bytes_are_at_fault Bytes maxval bytes rest n h =
     narrow_units maxval bytes rest ∙ ap (λ (t : Bool). units_if t (map single bytes) rest) (not_within maxval bytes (are_within maxval bytes) refl h)
-bytes_are_at_fault Wide maxval bytes rest n h = absurd (n refl)
+bytes_are_at_fault Words maxval bytes rest n h = absurd (n refl)
 
 -- ---- samples of two bytes
 
 pub words_are_units : (maxval n : ℕ) (bytes old new rest : List ℕ) → length bytes ≡ n * 2 → AppendsWide maxval bytes old new (Ok tt)
-    → (units : List (List ℕ)) × (new ≡ old ++ concat units) × (in_turn (raw_item Wide maxval) n (bytes ++ rest) ≡ Ok (units, rest))
+    → (units : List (List ℕ)) × (new ≡ old ++ concat units) × (in_turn (raw_item Words maxval) n (bytes ++ rest) ≡ Ok (units, rest))
 words_are_units maxval n bytes old new rest count h = (
   map single (wide_samples bytes),
   h.0 ∙ ap (λ (l : List ℕ). old ++ l) (sym (concat_singles (wide_samples bytes))),
@@ -165,6 +165,6 @@ words_are_units maxval n bytes old new rest count h = (
 )
 
 pub words_are_at_fault : (maxval n : ℕ) (bytes rest : List ℕ) → length bytes ≡ n * 2 → (All (λ sample. sample ≤ maxval) (wide_samples bytes) → ⊥)
-    → in_turn (raw_item Wide maxval) n (bytes ++ rest) ≡ fails SampleAboveMaxval
+    → in_turn (raw_item Words maxval) n (bytes ++ rest) ≡ fails SampleAboveMaxval
 words_are_at_fault maxval n bytes rest count h =
     wide_units maxval n bytes rest count ∙ ap (λ (t : Bool). units_if t (map single (wide_samples bytes)) rest) (not_within maxval (wide_samples bytes) (are_within maxval (wide_samples bytes)) refl h)

@@ -1,13 +1,14 @@
 -- What a text spells before its fault: the images that ended, which are raw, and of the image that begins after them, if
 -- one does, the header and the first rows. That image doesn't end: the text lacks a row of it, or has after a row what may
 -- not follow one.
+use Rattle.pnm_image.specs.Formats.{is_plain_form}
 use Rattle.std.specs.Prelude.{◌≡◌, ◌⊎◌, ℕ, zero, suc, ◌+◌, ◌<◌, ◌≤◌, Bool, true, false, List, [], ◌∷◌, ◌++◌, map, flat_map}
 use Rattle.pnm_image.specs.declared.shape.Kind.{Kind}
 use Rattle.pnm_image.specs.declared.message.Message.{Message}
 use Rattle.pnm_image.specs.declared.message.Message.TheVariants.{Begin, Row}
 use Rattle.pnm_image.specs.Heads.{HeadValue, with_height}
 use Rattle.pnm_image.specs.Images.{Image, rows_of, messages_of_image}
-use Rattle.pnm_read.specs.declared.format.Format.{Format}
+use Rattle.pnm_image.specs.declared.format.Format.{Format}
 use Rattle.pnm_read.specs.Texts.{begins_apart}
 use Rattle.pnm_read.specs.Headers.{SpellsHeader}
 use Rattle.pnm_read.specs.Rasters.{MayFollow}
@@ -33,7 +34,7 @@ pub record BeginsWithRows (text : List ℕ) (format : Format) (head : HeadValue)
   pub whole : text ≡ raster ++ rest
   pub raster_is : SpellsRaster format raster first
   pub head_is : head ≡ with_height first.head (first.head.shape.height + more)
-  pub follows : MayFollowRows format.is_plain head.shape.kind first.head.shape.height more rest
+  pub follows : MayFollowRows (is_plain_form format.form) head.shape.kind first.head.shape.height more rest
 
 -- ---- an image that doesn't end
 
@@ -49,7 +50,7 @@ pub record BeginsImage (text : List ℕ) (format : Format) (head : HeadValue) (f
 
 -- an image of this format may begin: a plain one as the first of a text alone
 abbrev pub MayBegin : Bool → Format → Type 0
-MayBegin is_first format = format.is_plain ≡ true → is_first ≡ true
+MayBegin is_first format = is_plain_form format.form ≡ true → is_first ≡ true
 
 -- an image begins, and its head and its first rows are said
 pub record SaysFirstRows (is_first : Bool) (text : List ℕ) (messages : List Message) : Type 0 where

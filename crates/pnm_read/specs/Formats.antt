@@ -1,27 +1,8 @@
--- The seven formats, from pbm(5), pgm(5), ppm(5) and pam(5), and what the numbers of a PNM header make.
-use Rattle.std.specs.Prelude.{ℕ, true, false, ◌==◌, if◌then◌else◌, List, [], ◌∷◌, Option, Some, None, slice_index}
+-- What the numbers of a PNM header make. From pbm(5), pgm(5) and ppm(5).
+use Rattle.std.specs.Prelude.{ℕ, List, [], ◌∷◌, slice_index}
 use Rattle.pnm_image.specs.declared.shape.Shape.{Shape}
 use Rattle.pnm_image.specs.declared.shape.Kind.{Kind}
 use Rattle.pnm_image.specs.declared.shape.Kind.TheVariants.{Bit, Gray, Color, Pam}
-use Rattle.pnm_read.specs.declared.format.Format.{Format}
-
-abbrev pub plain : Kind → Option Format
-plain kind = Some (record { kind = kind; is_plain = true })
-
-abbrev pub raw : Kind → Option Format
-raw kind = Some (record { kind = kind; is_plain = false })
-
--- the format that the second byte of a magic names: 1 to 7
-abbrev pub format_of : ℕ → Option Format
-format_of b =
-    if b == 49 then plain Bit
-    else if b == 50 then plain Gray
-    else if b == 51 then plain Color
-    else if b == 52 then raw Bit
-    else if b == 53 then raw Gray
-    else if b == 54 then raw Color
-    else if b == 55 then raw Pam
-    else None
 
 -- how many numbers a PNM header has: the width, the height and, except for PBM, the maxval. PAM has another
 -- header: what this and the following definitions say of it means nothing.

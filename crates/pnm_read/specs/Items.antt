@@ -11,17 +11,18 @@ use Rattle.pnm_image.specs.declared.head.HeadFault.TheVariants as heads
 use Rattle.pnm_image.specs.Heads.{HeadValue, head_value, shape_fault}
 use Rattle.pnm_read.specs.declared.fault.InputFault.{InputFault}
 use Rattle.pnm_read.specs.declared.fault.InputFault.TheVariants.{EmptyInput, BadMagic, HeaderCut, TooLong, BadNumber, ZeroSize, TooLarge, BadMaxval, BadPamLine, DuplicateField, MissingField, RasterCut, SampleAboveMaxval, BadSample, PlainInStream, Memory}
-use Rattle.pnm_read.specs.declared.format.Format.{Format}
+use Rattle.pnm_image.specs.declared.format.Format.{Format}
 use Rattle.pnm_read.specs.declared.line.Field.{Field}
 use Rattle.pnm_read.specs.declared.line.Field.TheVariants.{Width, Height, Depth, Maxval}
 use Rattle.pnm_read.specs.declared.line.LineKind.TheVariants.{Nothing, Number, TupleType, End, Unknown}
-use Rattle.pnm_image.specs.declared.packing.Packing.{Packing}
-use Rattle.pnm_image.specs.declared.packing.Packing.TheVariants.{Packed, Narrow, Wide}
+use Rattle.pnm_image.specs.declared.sample_width.SampleWidth.{SampleWidth}
+use Rattle.pnm_image.specs.declared.sample_width.SampleWidth.TheVariants.{Bits, Bytes, Words}
 use Rattle.pnm_read.specs.declared.judgement.Judgement.{Judgement}
 use Rattle.pnm_read.specs.declared.judgement.Judgement.TheVariants.{GoesOn, EndsWith, EndsBefore, Fails}
 use Rattle.pnm_read.specs.Texts.{is_apart, begins_apart, ends_by, ends_in_comment, number_in, numbers_in}
 use Rattle.pnm_image.specs.Texts.{is_white, is_digit}
-use Rattle.pnm_read.specs.Formats.{format_of, shape_of}
+use Rattle.pnm_image.specs.Formats.{format_of, is_plain_form}
+use Rattle.pnm_read.specs.Formats.{shape_of}
 use Rattle.pnm_read.specs.PamLines.{ended_lines, last_line, second_token, line_kind, field_values, tuple_type_in}
 use Rattle.pnm_read.specs.Rasters.{pixels}
 
@@ -52,7 +53,7 @@ piece_from item at_end before (b ∷ text) = elim (item before b) [
 unfoldable pub second_magic_item : Bool → List ℕ → Result (Format × List ℕ) InputFault
 second_magic_item is_first [] = Err HeaderCut
 second_magic_item is_first (b ∷ text) = elim (format_of b) [
-  | Some format ↦ if format.is_plain && not is_first then Err PlainInStream else Ok (format, text)
+  | Some format ↦ if is_plain_form format.form && not is_first then Err PlainInStream else Ok (format, text)
   | None ↦ Err BadMagic
 ]
 
@@ -170,12 +171,12 @@ lines_item lines =
 -- ---- raw rasters
 
 -- a sample after its last byte, or a byte of eight pixels
-unfoldable pub raw_item : Packing → ℕ → List ℕ → Result (List ℕ × List ℕ) InputFault
-raw_item packing maxval [] = Err RasterCut
-raw_item Packed maxval (b ∷ text) = Ok (pixels b, text)
-raw_item Narrow maxval (b ∷ text) = if nat_le b maxval then Ok (b ∷ [], text) else Err SampleAboveMaxval
-raw_item Wide maxval (b ∷ []) = Err RasterCut
-raw_item Wide maxval (b ∷ c ∷ text) = if nat_le (256 * b + c) maxval then Ok ((256 * b + c) ∷ [], text) else Err SampleAboveMaxval
+unfoldable pub raw_item : SampleWidth → ℕ → List ℕ → Result (List ℕ × List ℕ) InputFault
+raw_item sample_width maxval [] = Err RasterCut
+raw_item Bits maxval (b ∷ text) = Ok (pixels b, text)
+raw_item Bytes maxval (b ∷ text) = if nat_le b maxval then Ok (b ∷ [], text) else Err SampleAboveMaxval
+raw_item Words maxval (b ∷ []) = Err RasterCut
+raw_item Words maxval (b ∷ c ∷ text) = if nat_le (256 * b + c) maxval then Ok ((256 * b + c) ∷ [], text) else Err SampleAboveMaxval
 
 -- ---- plain rasters
 

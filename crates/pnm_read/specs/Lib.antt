@@ -16,7 +16,7 @@ pub mod Leading
 pub mod Saturation
 pub mod Scanners
 pub mod PamScanners
-pub mod Packings
+pub mod RawParts
 pub mod Awaiting
 pub mod Sources
 pub mod Examples

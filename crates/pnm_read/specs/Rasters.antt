@@ -8,9 +8,9 @@ use Rattle.pnm_image.specs.declared.shape.Shape.{Shape}
 use Rattle.pnm_image.specs.declared.shape.Kind.{Kind}
 use Rattle.pnm_image.specs.declared.shape.Kind.TheVariants.{Bit, Gray, Color, Pam}
 use Rattle.pnm_image.specs.Heads.{row_length}
-use Rattle.pnm_image.specs.Packings.{packing_of}
+use Rattle.pnm_image.specs.SampleWidths.{sample_width_of}
 use Rattle.pnm_image.specs.Images.{Image, IsImage, cut_rows, rows_of}
-use Rattle.pnm_image.specs.declared.packing.Packing.TheVariants.{Packed, Narrow, Wide}
+use Rattle.pnm_image.specs.declared.sample_width.SampleWidth.TheVariants.{Bits, Bytes, Words}
 use Rattle.pnm_read.specs.Texts.{begins_apart, ends_in_comment, uncommented}
 use Rattle.pnm_image.specs.Texts.{is_white, is_digit, decimal_value}
 
@@ -18,10 +18,10 @@ use Rattle.pnm_image.specs.Texts.{is_white, is_digit, decimal_value}
 
 -- the bytes of a raw row
 abbrev pub bytes_in_row : Shape → ℕ
-bytes_in_row s = elim (packing_of s.kind s.maxval) [
-  | Packed ↦ (s.width + 7) / 8
-  | Narrow ↦ row_length s
-  | Wide ↦ 2 * row_length s
+bytes_in_row s = elim (sample_width_of s.kind s.maxval) [
+  | Bits ↦ (s.width + 7) / 8
+  | Bytes ↦ row_length s
+  | Words ↦ 2 * row_length s
 ]
 
 -- samples of two bytes, the most significant first
@@ -32,10 +32,10 @@ wide_samples (high ∷ low ∷ bytes) = (256 * high + low) ∷ wide_samples byte
 
 -- the samples in the bytes of a raw row; spare bits of the last byte of PBM mean nothing
 abbrev pub raw_samples : Shape → List ℕ → List ℕ
-raw_samples s bytes = elim (packing_of s.kind s.maxval) [
-  | Packed ↦ take s.width (flat_map pixels bytes)
-  | Narrow ↦ bytes
-  | Wide ↦ wide_samples bytes
+raw_samples s bytes = elim (sample_width_of s.kind s.maxval) [
+  | Bits ↦ take s.width (flat_map pixels bytes)
+  | Bytes ↦ bytes
+  | Words ↦ wide_samples bytes
 ]
 
 -- the rows of bytes, top to bottom, with nothing between or after them

@@ -1,5 +1,6 @@
 -- What is said of a text: the messages of its images, and then the end or the first fault. The fault is that
 -- of the first item that has one.
+use Rattle.pnm_image.specs.Formats.{is_plain_form}
 use Rattle.std.specs.Prelude.{ℕ, zero, suc, ◌+◌, ◌/◌, Bool, true, false, List, [], ◌∷◌, length, take, Option, Some, None, Result, Ok, Err}
 use Rattle.std.specs.List.{concat}
 use Rattle.pnm_image.specs.declared.shape.Kind.{Kind}
@@ -9,12 +10,12 @@ use Rattle.pnm_image.specs.declared.message.Message.{Message}
 use Rattle.pnm_image.specs.declared.message.Message.TheVariants.{Begin, Row, ImageEnd, StreamEnd}
 use Rattle.pnm_image.specs.Heads.{HeadValue, row_length}
 use Rattle.pnm_read.specs.declared.fault.InputFault.{InputFault}
-use Rattle.pnm_read.specs.declared.format.Format.{Format}
-use Rattle.pnm_image.specs.declared.packing.Packing.{Packing}
-use Rattle.pnm_image.specs.declared.packing.Packing.TheVariants.{Packed, Narrow, Wide}
+use Rattle.pnm_image.specs.declared.format.Format.{Format}
+use Rattle.pnm_image.specs.declared.sample_width.SampleWidth.{SampleWidth}
+use Rattle.pnm_image.specs.declared.sample_width.SampleWidth.TheVariants.{Bits, Bytes, Words}
 use Rattle.pnm_read.specs.Texts.{numbers_in}
 use Rattle.pnm_read.specs.Formats.{number_count}
-use Rattle.pnm_image.specs.Packings.{packing_of}
+use Rattle.pnm_image.specs.SampleWidths.{sample_width_of}
 use Rattle.pnm_read.specs.PamLines.{ended_lines}
 use Rattle.pnm_read.specs.Items.{◌>>=◌, piece_from, first_magic_item, second_magic_item, header_item, header_end, numbers_item, line_feed_item, pam_item, lines_item, raw_item, plain_sample, after_last_item}
 
@@ -57,13 +58,13 @@ head_at format text = head_by format.kind text
 -- ---- rows
 
 -- the items of a raw row: its samples, or its bytes of eight pixels
-abbrev pub units_in_row : Packing → Shape → ℕ
-units_in_row Packed s = (s.width + 7) / 8
-units_in_row Narrow s = row_length s
-units_in_row Wide s = row_length s
+abbrev pub units_in_row : SampleWidth → Shape → ℕ
+units_in_row Bits s = (s.width + 7) / 8
+units_in_row Bytes s = row_length s
+units_in_row Words s = row_length s
 
 abbrev pub units_at : Shape → List ℕ → Result (List (List ℕ) × List ℕ) InputFault
-units_at s text = in_turn (raw_item (packing_of s.kind s.maxval) s.maxval) (units_in_row (packing_of s.kind s.maxval) s) text
+units_at s text = in_turn (raw_item (sample_width_of s.kind s.maxval) s.maxval) (units_in_row (sample_width_of s.kind s.maxval) s) text
 
 -- a raw row; spare bits of the last byte of PBM mean nothing
 unfoldable pub raw_row : Shape → List ℕ → Result (List ℕ × List ℕ) InputFault
@@ -89,7 +90,7 @@ row_by true s zero text = last_plain_row s text
 row_by true s (suc more) text = plain_row s text
 
 abbrev pub row_at : Format → Shape → ℕ → List ℕ → Result (List ℕ × List ℕ) InputFault
-row_at format s more text = row_by format.is_plain s more text
+row_at format s more text = row_by (is_plain_form format.form) s more text
 
 -- ---- messages, and how they end
 
@@ -117,7 +118,7 @@ end_said later false text = later text
 
 -- so many rows, the end of the image, and what comes after a raw image
 unfoldable pub rows_said : (List ℕ → Said) → Format → Shape → ℕ → List ℕ → Said
-rows_said later format s zero text = then_said ImageEnd (end_said later format.is_plain text)
+rows_said later format s zero text = then_said ImageEnd (end_said later (is_plain_form format.form) text)
 rows_said later format s (suc more) text = elim (row_at format s more text) [
   | Err fault ↦ says_fault fault
   | Ok row ↦ then_said (Row row.0) (rows_said later format s more row.1)

@@ -1,7 +1,8 @@
 -- What a text spells: raw images, or one plain image.
+use Rattle.pnm_image.specs.Formats.{is_plain_form}
 use Rattle.std.specs.Prelude.{◌≡◌, ◌⊎◌, ℕ, ◌<◌, Bool, true, false, List, [], ◌∷◌, ◌++◌, length}
 use Rattle.pnm_image.specs.Images.{Image}
-use Rattle.pnm_read.specs.declared.format.Format.{Format}
+use Rattle.pnm_image.specs.declared.format.Format.{Format}
 use Rattle.pnm_read.specs.Texts.{begins_apart}
 use Rattle.pnm_read.specs.Headers.{SpellsHeader}
 use Rattle.pnm_read.specs.Rasters.{SpellsRaw, SpellsPlain}
@@ -11,7 +12,7 @@ SpellsRasterBy true text image = SpellsPlain text image
 SpellsRasterBy false text image = SpellsRaw text image
 
 abbrev pub SpellsRaster : Format → List ℕ → Image → Type 0
-SpellsRaster format text image = SpellsRasterBy format.is_plain text image
+SpellsRaster format text image = SpellsRasterBy (is_plain_form format.form) text image
 
 -- the text is the header and the raster of one image
 pub record SpellsImage (text : List ℕ) (format : Format) (image : Image) : Type 0 where
@@ -23,10 +24,10 @@ pub record SpellsImage (text : List ℕ) (format : Format) (image : Image) : Typ
 
 -- an image whose samples are written as bytes, or as text
 abbrev pub SpellsRawImage : List ℕ → Image → Type 0
-SpellsRawImage text image = (format : Format) × (format.is_plain ≡ false) × SpellsImage text format image
+SpellsRawImage text image = (format : Format) × (is_plain_form format.form ≡ false) × SpellsImage text format image
 
 abbrev pub SpellsPlainImage : List ℕ → Image → Type 0
-SpellsPlainImage text image = (format : Format) × (format.is_plain ≡ true) × SpellsImage text format image
+SpellsPlainImage text image = (format : Format) × (is_plain_form format.form ≡ true) × SpellsImage text format image
 
 -- raw images in turn, of any kinds, with nothing before, between or after them
 abbrev pub SpellsRawImages : List ℕ → List Image → Type 0

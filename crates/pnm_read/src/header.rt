@@ -5,7 +5,7 @@ ghost use Rattle.pnm_read.specs.declared.judgement.Judgement.TheVariants.{GoesOn
 ghost use Rattle.pnm_read.specs.declared.fault.InputFault.TheVariants.{ReadFailed, Memory};
 ghost use Rattle.pnm_read.specs.Texts.{is_apart};
 ghost use Rattle.pnm_image.specs.Texts.{is_digit};
-ghost use Rattle.pnm_read.specs.Formats.{shape_of, number_count};
+ghost use Rattle.pnm_read.specs.Formats.{shape_of, number_count, planes};
 ghost use Rattle.pnm_read.specs.Items.{fault_of_head, numbers_item};
 ghost use Rattle.pnm_read.specs.Said.{format_at, pnm_head_at, head_at};
 ghost use Rattle.pnm_read.specs.Inputs.{Turn, Finds};
@@ -14,13 +14,12 @@ ghost use Rattle.pnm_read.specs.Saturation.{IsNumbers, GivesInMemory};
 
 use crate::comments::{commented, is_apart};
 use crate::fault::InputFault;
-use crate::format::{Format, number_count, planes};
 use crate::input::Input;
 use crate::judgement::Judgement;
 use crate::pam;
 use crate::scan::{Scanner, scan};
 use pnm_image::characters::{is_digit, is_white};
-use pnm_image::{BytesIn, Head, HeadFault, Kind, Shape};
+use pnm_image::{BytesIn, Format, Head, HeadFault, Kind, Shape};
 use std::alloc::Global;
 
 /// The bytes of a header after its magic, at most: 65,536 with the magic.
@@ -48,7 +47,7 @@ fn format_named(byte: u8, is_first: bool) -> Result<Format, InputFault>
     let Some(format) = Format::of(byte) else {
         return Err(InputFault::BadMagic);
     };
-    if format.is_plain && !is_first {
+    if format.is_plain() && !is_first {
         return Err(InputFault::PlainInStream);
     }
     Ok(format)
@@ -224,5 +223,25 @@ impl Scanner for HeaderScanner {
 
     fn end(&self) -> Option<InputFault> {
         Some(InputFault::HeaderCut)
+    }
+}
+
+/// How many numbers a PNM header has: the width, the height and, except for PBM, the maxval.
+pub fn number_count(kind: Kind) -> usize
+    ensures { result ≡ number_count kind }
+{
+    match kind {
+        Kind::Bit => 2,
+        Kind::Gray | Kind::Color | Kind::Pam => 3,
+    }
+}
+
+/// The planes of an image of PBM, PGM or PPM.
+pub fn planes(kind: Kind) -> u32
+    ensures { result ≡ planes kind }
+{
+    match kind {
+        Kind::Color => 3,
+        Kind::Bit | Kind::Gray | Kind::Pam => 1,
     }
 }

@@ -14,7 +14,7 @@ use crate::input::Input;
 use crate::leading::take_samples;
 use crate::pixel::PixelScanner;
 use crate::scan::scan;
-use pnm_image::{BytesIn, Held, Kind, Samples, Shape};
+use pnm_image::{BytesIn, Kind, SampleVec, Samples, Shape};
 use pnm_samples::greatest;
 
 /// The next row, after which so many others are to come.
@@ -57,7 +57,7 @@ fn read_samples<R: BytesIn>(input: &mut Input<R>, shape: Shape) -> Result<Sample
         }
     }
     let bound = u32::from(greatest(row.as_slice()));
-    Ok(Samples::within(Held::Words(row), bound))
+    Ok(Samples::within(SampleVec::Words(row), bound))
 }
 
 /// The next sample.

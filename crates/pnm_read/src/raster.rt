@@ -3,8 +3,7 @@
 ghost use Rattle.std.specs.Prelude.{◌≡◌, ◌≤◌, ◌<◌, ◌+◌};
 ghost use Rattle.pnm_image.specs.Limits.{max_maxval, max_side};
 
-use crate::format::Format;
-use pnm_image::Shape;
+use pnm_image::{Format, Shape};
 
 /// A raster of which so many rows have passed.
 #[derive(Clone, Copy, Debug)]

@@ -2,17 +2,17 @@
 
 ghost use Rattle.std.specs.Prelude.{◌≡◌, ◌≤◌, ◌<◌, [], All, IfOk, OnOk, length, take};
 ghost use Rattle.pnm_image.specs.Limits.{max_side};
-ghost use Rattle.pnm_image.specs.Packings.{packing_of};
-ghost use Rattle.pnm_image.specs.declared.packing.Packing.TheVariants.{Wide};
+ghost use Rattle.pnm_image.specs.SampleWidths.{sample_width_of};
+ghost use Rattle.pnm_image.specs.declared.sample_width.SampleWidth.TheVariants.{Words};
 ghost use Rattle.pnm_read.specs.Said.{raw_row};
 ghost use Rattle.pnm_read.specs.Inputs.{Turn, Finds};
-ghost use Rattle.pnm_read.specs.Packings.{FindsUnits, FindsPart};
+ghost use Rattle.pnm_read.specs.RawParts.{FindsUnits, FindsPart};
 ghost use Rattle.pnm_read.specs.Units.{samples_in, AreWithin, samples_of_bytes, AreBytesWithin};
 
 use crate::fault::InputFault;
 use crate::input::Input;
-use crate::packing::{Units, append_wide, are_units_within, units_in_row};
-use pnm_image::{BytesIn, Packing, Samples, Shape};
+use crate::units::{Units, append_wide, are_units_within, units_in_row};
+use pnm_image::{BytesIn, SampleWidth, Samples, Shape};
 
 /// The next row.
 pub fn read_row<R: BytesIn>(input: &mut Input<R>, shape: Shape) -> Result<Samples, InputFault>
@@ -30,18 +30,18 @@ fn read_units<R: BytesIn>(input: &mut Input<R>, shape: Shape) -> Result<Units, I
     ensures found { Turn R.left R.failures R.same input.old input.new result (FindsUnits samples_in shape result) }
     ensures within { IfOk result (λ units. AreWithin shape.maxval units) }
 {
-    match Packing::of(shape.kind, shape.maxval) {
-        Packing::Packed => {
-            let bytes = read_bytes(input, shape, Packing::Packed)?;
-            Ok(Units::Packed(bytes))
+    match SampleWidth::of(shape.kind, shape.maxval) {
+        SampleWidth::Bits => {
+            let bytes = read_bytes(input, shape, SampleWidth::Bits)?;
+            Ok(Units::Bits(bytes))
         }
-        Packing::Narrow => {
-            let bytes = read_bytes(input, shape, Packing::Narrow)?;
-            Ok(Units::Narrow(bytes))
+        SampleWidth::Bytes => {
+            let bytes = read_bytes(input, shape, SampleWidth::Bytes)?;
+            Ok(Units::Bytes(bytes))
         }
-        Packing::Wide => {
+        SampleWidth::Words => {
             let words = read_words(input, shape)?;
-            Ok(Units::Wide(words))
+            Ok(Units::Words(words))
         }
     }
 }
@@ -50,22 +50,22 @@ fn read_units<R: BytesIn>(input: &mut Input<R>, shape: Shape) -> Result<Units, I
 fn read_bytes<R: BytesIn>(
     input: &mut Input<R>,
     shape: Shape,
-    packing: Packing,
+    sample_width: SampleWidth,
 ) -> Result<Vec<u8>, InputFault>
     requires width { shape.width ≤ max_side }
-    requires packing { packing ≡ packing_of shape.kind shape.maxval }
-    requires bytes { packing ≡ Wide → ⊥ }
-    ensures found { Turn R.left R.failures R.same input.old input.new result (FindsUnits (λ row. samples_of_bytes packing row.items) shape result) }
-    ensures within { IfOk result (λ row. AreBytesWithin packing shape.maxval row.items) }
+    requires sample_width { sample_width ≡ sample_width_of shape.kind shape.maxval }
+    requires bytes { sample_width ≡ Words → ⊥ }
+    ensures found { Turn R.left R.failures R.same input.old input.new result (FindsUnits (λ row. samples_of_bytes sample_width row.items) shape result) }
+    ensures within { IfOk result (λ row. AreBytesWithin sample_width shape.maxval row.items) }
 {
-    let count = units_in_row(packing, shape);
+    let count = units_in_row(sample_width, shape);
     let Ok(mut row) = Vec::from_elem(input.allocator(), 0, count) else {
         return Err(InputFault::Memory);
     };
     let mut filled = 0;
     while filled < count {
         let room = &mut row.as_mut_slice()[filled..];
-        filled += read_part(input, room, packing, shape.maxval)?;
+        filled += read_part(input, room, sample_width, shape.maxval)?;
     }
     Ok(row)
 }
@@ -74,21 +74,21 @@ fn read_bytes<R: BytesIn>(
 fn read_part<R: BytesIn>(
     input: &mut Input<R>,
     room: &mut [u8],
-    packing: Packing,
+    sample_width: SampleWidth,
     maxval: u32,
 ) -> Result<usize, InputFault>
     requires room { 0 < length room.old }
-    requires bytes { packing ≡ Wide → ⊥ }
+    requires bytes { sample_width ≡ Words → ⊥ }
     ensures found { Turn R.left R.failures R.same input.old input.new result
-        (FindsPart packing maxval (length room.old) [] (λ count. samples_of_bytes packing (take count room.new)) result) }
+        (FindsPart sample_width maxval (length room.old) [] (λ count. samples_of_bytes sample_width (take count room.new)) result) }
     ensures count { IfOk result (λ count. (0 < count) × (count ≤ length room.new)) }
-    ensures within { IfOk result (λ count. AreBytesWithin packing maxval (take count room.new)) }
+    ensures within { IfOk result (λ count. AreBytesWithin sample_width maxval (take count room.new)) }
 {
     let count = input.read(room)?;
     if count == 0 {
         return Err(InputFault::RasterCut);
     }
-    if !are_units_within(&room[..count], packing, maxval) {
+    if !are_units_within(&room[..count], sample_width, maxval) {
         return Err(InputFault::SampleAboveMaxval);
     }
     Ok(count)
@@ -97,11 +97,11 @@ fn read_part<R: BytesIn>(
 /// The samples of two bytes of the next row.
 fn read_words<R: BytesIn>(input: &mut Input<R>, shape: Shape) -> Result<Vec<u16>, InputFault>
     requires width { shape.width ≤ max_side }
-    requires packing { Wide ≡ packing_of shape.kind shape.maxval }
+    requires sample_width { Words ≡ sample_width_of shape.kind shape.maxval }
     ensures found { Turn R.left R.failures R.same input.old input.new result (FindsUnits (λ row. row.items) shape result) }
     ensures within { IfOk result (λ row. All (λ sample. sample ≤ shape.maxval) row.items) }
 {
-    let mut left = units_in_row(Packing::Wide, shape);
+    let mut left = units_in_row(SampleWidth::Words, shape);
     let Ok(mut row) = Vec::with_capacity(input.allocator(), left) else {
         return Err(InputFault::Memory);
     };
@@ -120,7 +120,7 @@ fn append_part<R: BytesIn>(
     row: &mut Vec<u16>,
 ) -> Result<usize, InputFault>
     requires { 0 < most }
-    ensures found { Turn R.left R.failures R.same input.old input.new result (FindsPart Wide maxval most row.old.items (λ _. row.new.items) result) }
+    ensures found { Turn R.left R.failures R.same input.old input.new result (FindsPart Words maxval most row.old.items (λ _. row.new.items) result) }
     ensures count { IfOk result (λ count. (0 < count) × (count ≤ most)) }
     ensures within { All (λ sample. sample ≤ maxval) row.old.items → OnOk result (All (λ sample. sample ≤ maxval) row.new.items) }
 {

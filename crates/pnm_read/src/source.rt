@@ -2,6 +2,7 @@
 
 ghost use Rattle.std.specs.Prelude.{◌≡◌, List, ℕ, ◌≤◌, ◌<◌, ◌-◌, ◌⊎◌, true, false, Some, None, Ok, Err, OnOk, IfOk, IfErr};
 ghost use Rattle.pnm_image.specs.Devices.{Failed};
+ghost use Rattle.pnm_image.specs.Formats.{is_plain_form};
 ghost use Rattle.pnm_image.specs.declared.message.Message.TheVariants.{StreamEnd, Stop};
 ghost use Rattle.pnm_read.specs.declared.fault.InputFault.{InputFault as Fault};
 ghost use Rattle.pnm_read.specs.declared.fault.InputFault.TheVariants.{ReadFailed, Memory};
@@ -9,12 +10,11 @@ ghost use Rattle.pnm_read.specs.Inputs.{Turn, Finds};
 ghost use Rattle.pnm_read.specs.Awaiting.{awaited_after, row_of, Answers, Steps, Begins, SeesText};
 
 use crate::fault::InputFault;
-use crate::format::Format;
 use crate::header::{read_format, read_head};
 use crate::input::{Input, ReadBuffer};
 use crate::raster::Raster;
 use crate::{plain, raw};
-use pnm_image::{BytesIn, Message, Samples};
+use pnm_image::{BytesIn, Format, Message, Samples};
 use std::alloc::Global;
 
 /// What a source awaits of its input.
@@ -185,9 +185,9 @@ fn next_row<R: BytesIn>(input: &mut Input<R>, raster: Raster) -> Result<Step, In
 
 /// What is awaited after an image of this format.
 fn after_image(format: Format) -> Awaited
-    ensures { result ≡ awaited_after format.is_plain }
+    ensures { result ≡ awaited_after (is_plain_form format.form) }
 {
-    if format.is_plain {
+    if format.is_plain() {
         Awaited::End
     } else {
         Awaited::ImageOrEnd
@@ -199,7 +199,7 @@ fn read_row<R: BytesIn>(input: &mut Input<R>, raster: Raster) -> Result<Samples,
     requires { raster.y < raster.shape.height }
     ensures { Turn R.left R.failures R.same input.old input.new result (Finds (row_of raster) result) }
 {
-    if raster.format.is_plain {
+    if raster.format.is_plain() {
         plain::read_row(input, raster.shape, raster.shape.height - raster.y - 1)
     } else {
         raw::read_row(input, raster.shape)

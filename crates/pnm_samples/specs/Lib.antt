@@ -1,5 +1,5 @@
 pub mod Cuts
 pub mod Pixels
-pub mod Held
+pub mod SampleVecs
 pub mod Blocks
 pub mod Columns

@@ -18,5 +18,5 @@ pub use bits::Bits;
 pub use bounds::{are_bytes_within, are_words_within, greatest, greatest_byte};
 pub use packing::pack;
 pub use sample::Sample;
-pub use samples::{Held, Lent, Samples};
+pub use samples::{SampleSlice, SampleVec, Samples};
 pub use transpose::columns;

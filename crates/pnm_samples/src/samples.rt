@@ -1,7 +1,7 @@
 //! The samples of a row.
 
 ghost use Rattle.std.specs.Prelude.{◌≡◌, ◌≤◌, ◌↔◌, ◌+◌, ◌<◌, All, IfOk, IsTrue, take, drop, length, slice_index};
-ghost use Rattle.pnm_samples.specs.Held.{samples_of, lent_samples};
+ghost use Rattle.pnm_samples.specs.SampleVecs.{samples_of, slice_samples};
 
 use crate::bits::Bits;
 use crate::bounds::{GREATEST_BYTE, GREATEST_WORD, are_bytes_within, are_words_within};
@@ -12,7 +12,7 @@ use std::marker::Model;
 
 /// The samples of a row, as wide as they have to be.
 #[derive(Debug, Drop)]
-pub enum Held {
+pub enum SampleVec {
     /// Each is 0 or 1.
     Bits(Bits),
     /// Each is at most 255.
@@ -23,7 +23,7 @@ pub enum Held {
 
 /// The same, lent.
 #[derive(Clone, Copy, Debug)]
-pub enum Lent<'a> {
+pub enum SampleSlice<'a> {
     /// Each is 0 or 1.
     Bits(&'a Bits),
     /// Each is at most 255.
@@ -36,14 +36,14 @@ pub enum Lent<'a> {
 /// number that none is above, so that a row is looked at once, and not by each who is handed it.
 #[derive(Debug, Drop)]
 pub struct Samples {
-    held: Held,
+    held: SampleVec,
     /// No sample is above it.
     bound: u32,
 }
 
 impl Model for Samples {
     ghost use Rattle.std.specs.Prelude.{List, ℕ, ◌≤◌, All};
-    ghost use Rattle.pnm_samples.specs.Held.{samples_of};
+    ghost use Rattle.pnm_samples.specs.SampleVecs.{samples_of};
 
     ghost Value = { List ℕ };
 
@@ -57,11 +57,11 @@ impl Samples {
     pub fn new(samples: Vec<u16>) -> Samples
         ensures { result ≡ samples.items }
     {
-        Samples::from_held(Held::Words(samples))
+        Samples::from_vec(SampleVec::Words(samples))
     }
 
     /// The samples that are held, without a copy.
-    pub fn from_held(held: Held) -> Samples
+    pub fn from_vec(held: SampleVec) -> Samples
         ensures { result ≡ samples_of held }
     {
         let bound = bound_of(&held);
@@ -70,7 +70,7 @@ impl Samples {
 
     /// The samples that are held, none of them above this number, without a copy. A place asks then
     /// whether the number is within the maxval, and looks at no sample.
-    pub fn within(held: Held, bound: u32) -> Samples
+    pub fn within(held: SampleVec, bound: u32) -> Samples
         requires { All (λ sample. sample ≤ bound) (samples_of held) }
         ensures { result ≡ samples_of held }
     {
@@ -78,20 +78,20 @@ impl Samples {
     }
 
     /// How the samples are held, without a copy.
-    pub fn into_held(self) -> Held
+    pub fn into_vec(self) -> SampleVec
         ensures { samples_of result ≡ self }
     {
         self.held
     }
 
     /// How the samples are held, lent.
-    pub fn lend(&self) -> Lent<'_>
-        ensures { lent_samples result ≡ self.now }
+    pub fn as_slice(&self) -> SampleSlice<'_>
+        ensures { slice_samples result ≡ self.now }
     {
         match &self.held {
-            Held::Bits(bits) => Lent::Bits(bits),
-            Held::Bytes(bytes) => Lent::Bytes(bytes.as_slice()),
-            Held::Words(words) => Lent::Words(words.as_slice()),
+            SampleVec::Bits(bits) => SampleSlice::Bits(bits),
+            SampleVec::Bytes(bytes) => SampleSlice::Bytes(bytes.as_slice()),
+            SampleVec::Words(words) => SampleSlice::Words(words.as_slice()),
         }
     }
 
@@ -100,9 +100,9 @@ impl Samples {
         ensures { result ≡ length self.now }
     {
         match &self.held {
-            Held::Bits(bits) => bits.len(),
-            Held::Bytes(bytes) => bytes.len(),
-            Held::Words(words) => words.len(),
+            SampleVec::Bits(bits) => bits.len(),
+            SampleVec::Bytes(bytes) => bytes.len(),
+            SampleVec::Words(words) => words.len(),
         }
     }
 
@@ -112,9 +112,9 @@ impl Samples {
         ensures { result ≡ slice_index self.now at }
     {
         match &self.held {
-            Held::Bits(bits) => bits.pixel(at),
-            Held::Bytes(bytes) => u16::from(bytes[at]),
-            Held::Words(words) => words[at],
+            SampleVec::Bits(bits) => bits.pixel(at),
+            SampleVec::Bytes(bytes) => u16::from(bytes[at]),
+            SampleVec::Words(words) => words[at],
         }
     }
 
@@ -137,9 +137,9 @@ impl Samples {
             return true;
         }
         match &self.held {
-            Held::Bits(bits) => bits.are_within(most),
-            Held::Bytes(bytes) => are_bytes_within(bytes.as_slice(), most),
-            Held::Words(words) => are_words_within(words.as_slice(), most),
+            SampleVec::Bits(bits) => bits.are_within(most),
+            SampleVec::Bytes(bytes) => are_bytes_within(bytes.as_slice(), most),
+            SampleVec::Words(words) => are_words_within(words.as_slice(), most),
         }
     }
 
@@ -153,9 +153,9 @@ impl Samples {
         ensures { IfOk result (λ bits. bits ≡ self) }
     {
         match self.held {
-            Held::Bits(bits) => Ok(bits),
-            Held::Bytes(bytes) => packed(alloc, widened(alloc, bytes.as_slice())?.as_slice()),
-            Held::Words(words) => packed(alloc, words.as_slice()),
+            SampleVec::Bits(bits) => Ok(bits),
+            SampleVec::Bytes(bytes) => packed(alloc, widened(alloc, bytes.as_slice())?.as_slice()),
+            SampleVec::Words(words) => packed(alloc, words.as_slice()),
         }
     }
 
@@ -169,9 +169,9 @@ impl Samples {
         ensures { IfOk result (λ bytes. bytes.items ≡ self) }
     {
         match self.held {
-            Held::Bits(bits) => bits.unpacked(alloc),
-            Held::Bytes(bytes) => Ok(bytes),
-            Held::Words(words) => narrowed(alloc, words.as_slice()),
+            SampleVec::Bits(bits) => bits.unpacked(alloc),
+            SampleVec::Bytes(bytes) => Ok(bytes),
+            SampleVec::Words(words) => narrowed(alloc, words.as_slice()),
         }
     }
 
@@ -184,9 +184,9 @@ impl Samples {
         ensures { IfOk result (λ words. words.items ≡ self) }
     {
         match self.held {
-            Held::Bits(bits) => bits.widened(alloc),
-            Held::Bytes(bytes) => widened(alloc, bytes.as_slice()),
-            Held::Words(words) => Ok(words),
+            SampleVec::Bits(bits) => bits.widened(alloc),
+            SampleVec::Bytes(bytes) => widened(alloc, bytes.as_slice()),
+            SampleVec::Words(words) => Ok(words),
         }
     }
 
@@ -199,9 +199,9 @@ impl Samples {
         ensures { IfOk result (λ words. words.items ≡ self.now) }
     {
         match &self.held {
-            Held::Bits(bits) => bits.widened(alloc),
-            Held::Bytes(bytes) => widened(alloc, bytes.as_slice()),
-            Held::Words(words) => Vec::from_slice(alloc, words.as_slice()),
+            SampleVec::Bits(bits) => bits.widened(alloc),
+            SampleVec::Bytes(bytes) => widened(alloc, bytes.as_slice()),
+            SampleVec::Words(words) => Vec::from_slice(alloc, words.as_slice()),
         }
     }
 
@@ -214,9 +214,9 @@ impl Samples {
         ensures { IfOk result (λ copy. copy ≡ self.now) }
     {
         let held = match &self.held {
-            Held::Bits(bits) => Held::Bits(bits.copy(alloc)?),
-            Held::Bytes(bytes) => Held::Bytes(Vec::from_slice(alloc, bytes.as_slice())?),
-            Held::Words(words) => Held::Words(Vec::from_slice(alloc, words.as_slice())?),
+            SampleVec::Bits(bits) => SampleVec::Bits(bits.copy(alloc)?),
+            SampleVec::Bytes(bytes) => SampleVec::Bytes(Vec::from_slice(alloc, bytes.as_slice())?),
+            SampleVec::Words(words) => SampleVec::Words(Vec::from_slice(alloc, words.as_slice())?),
         };
         Ok(Samples {
             held,
@@ -226,13 +226,13 @@ impl Samples {
 }
 
 /// The greatest number that a sample can be that is held so.
-fn bound_of(held: &Held) -> u32
+fn bound_of(held: &SampleVec) -> u32
     ensures { All (λ sample. sample ≤ result) (samples_of held.now) }
 {
     match held {
-        Held::Bits(bits) => bits.bound(),
-        Held::Bytes(bytes) => byte_bound(bytes.as_slice()),
-        Held::Words(words) => word_bound(words.as_slice()),
+        SampleVec::Bits(bits) => bits.bound(),
+        SampleVec::Bytes(bytes) => byte_bound(bytes.as_slice()),
+        SampleVec::Words(words) => word_bound(words.as_slice()),
     }
 }
 

@@ -13,9 +13,9 @@ use Rattle.std.specs.Option.{option_to_list, IfNone}
 use Rattle.std.proofs.lemmas.Bool.{eqb-true, ltb-true}
 use Rattle.std.proofs.lemmas.List.Elements.{All-nil, All-take, All-drop}
 use Rattle.pnm_image.specs.Heads.{HeadValue, IsHead, Suits, row_length, is_too_large}
-use Rattle.pnm_image.specs.Packings.{packing_of}
-use Rattle.pnm_image.specs.declared.packing.Packing.{Packing}
-use Rattle.pnm_image.specs.declared.packing.Packing.TheVariants.{Narrow, Wide}
+use Rattle.pnm_image.specs.SampleWidths.{sample_width_of}
+use Rattle.pnm_image.specs.declared.sample_width.SampleWidth.{SampleWidth}
+use Rattle.pnm_image.specs.declared.sample_width.SampleWidth.TheVariants.{Bytes, Words}
 use Rattle.pnm_image.specs.declared.shape.Kind.{Kind}
 use Rattle.pnm_image.specs.declared.shape.Kind.TheVariants.{Bit, Gray, Color, Pam}
 use Rattle.pnm_tools.specs.declared.fault.ToolFault.TheVariants.{OutOfOrder, TooLarge}
@@ -184,38 +184,38 @@ unfolding row_answer
 row_of_transpose s y row = refl
 
 -- nothing is due before the image has ended
-pub none_made : (depth : ℕ) (packing : Packing) (next columns : ℕ) (rows band : List (List ℕ)) (s : Shape) (y : ℕ) (row : List ℕ) → band ≡ [] → columns ≡ 0 → transposed_due (transposed depth packing rows band next columns) ≡ row_answer (Flip Transpose) s y row
-none_made depth packing next columns rows band s y row no_band no_column =
+pub none_made : (depth : ℕ) (sample_width : SampleWidth) (next columns : ℕ) (rows band : List (List ℕ)) (s : Shape) (y : ℕ) (row : List ℕ) → band ≡ [] → columns ≡ 0 → transposed_due (transposed depth sample_width rows band next columns) ≡ row_answer (Flip Transpose) s y row
+none_made depth sample_width next columns rows band s y row no_band no_column =
     let none : columns - next ≡ 0 = omega arith in
-    ap (λ (l : List (List ℕ)). transposed_due (transposed depth packing rows l next columns)) no_band ∙ ap (λ (n : ℕ). map (column_of depth rows) (range_with_len next n)) none ∙ sym (row_of_transpose s y row)
+    ap (λ (l : List (List ℕ)). transposed_due (transposed depth sample_width rows l next columns)) no_band ∙ ap (λ (n : ℕ). map (column_of depth rows) (range_with_len next n)) none ∙ sym (row_of_transpose s y row)
 
 -- the band that is made holds the columns that were the next to be made
-pub band_made : (depth : ℕ) (packing : Packing) (next columns count : ℕ) (rows band : List (List ℕ)) → next + count ≤ columns → band ≡ reverse (map (column_of depth rows) (range_with_len next count))
-    → transposed_due (transposed depth packing rows [] next columns) ≡ transposed_due (transposed depth packing rows band (next + count) columns)
-band_made depth packing next columns count rows band within made =
+pub band_made : (depth : ℕ) (sample_width : SampleWidth) (next columns count : ℕ) (rows band : List (List ℕ)) → next + count ≤ columns → band ≡ reverse (map (column_of depth rows) (range_with_len next count))
+    → transposed_due (transposed depth sample_width rows [] next columns) ≡ transposed_due (transposed depth sample_width rows band (next + count) columns)
+band_made depth sample_width next columns count rows band within made =
     let f : ℕ → List ℕ = column_of depth rows in
     let parts : columns - next ≡ count + (columns - (next + count)) = omega arith in
     ap (λ (n : ℕ). map f (range_with_len next n)) parts ∙ map_in_parts f next count (columns - (next + count))
     ∙ ap (λ (l : List (List ℕ)). l ++ map f (range_with_len (next + count) (columns - (next + count)))) (sym (reverse-reverse (map f (range_with_len next count))) ∙ ap reverse (sym made))
 
 -- the last column of the band is given
-pub last_given : (depth : ℕ) (packing : Packing) (next columns : ℕ) (rows band left : List (List ℕ)) (row : Option (List ℕ)) → band ≡ left ++ option_to_list row
-    → transposed_due (transposed depth packing rows band next columns) ≡ row_list row ++ transposed_due (transposed depth packing rows left next columns)
-last_given depth packing next columns rows band left None parts =
-    ap (λ (l : List (List ℕ)). transposed_due (transposed depth packing rows l next columns)) (parts ∙ append-nil left)
-last_given depth packing next columns rows band left (Some row) parts =
-    ap (λ (l : List (List ℕ)). transposed_due (transposed depth packing rows l next columns)) parts
+pub last_given : (depth : ℕ) (sample_width : SampleWidth) (next columns : ℕ) (rows band left : List (List ℕ)) (row : Option (List ℕ)) → band ≡ left ++ option_to_list row
+    → transposed_due (transposed depth sample_width rows band next columns) ≡ row_list row ++ transposed_due (transposed depth sample_width rows left next columns)
+last_given depth sample_width next columns rows band left None parts =
+    ap (λ (l : List (List ℕ)). transposed_due (transposed depth sample_width rows l next columns)) (parts ∙ append-nil left)
+last_given depth sample_width next columns rows band left (Some row) parts =
+    ap (λ (l : List (List ℕ)). transposed_due (transposed depth sample_width rows l next columns)) parts
     ∙ ap (λ (l : List (List ℕ)). l ++ map (column_of depth rows) (range_with_len next (columns - next))) (reverse-append left (row ∷ []))
 
 -- where none is given all have been
-pub all_given : (depth : ℕ) (packing : Packing) (next columns : ℕ) (rows band left : List (List ℕ)) (row : Option (List ℕ)) → band ≡ left ++ option_to_list row → (row ≡ None → band ≡ []) → (band ≡ [] → columns ≤ next)
-    → IfNone row (transposed_due (transposed depth packing rows left next columns) ≡ [])
-all_given depth packing next columns rows band left None parts empty ends =
+pub all_given : (depth : ℕ) (sample_width : SampleWidth) (next columns : ℕ) (rows band left : List (List ℕ)) (row : Option (List ℕ)) → band ≡ left ++ option_to_list row → (row ≡ None → band ≡ []) → (band ≡ [] → columns ≤ next)
+    → IfNone row (transposed_due (transposed depth sample_width rows left next columns) ≡ [])
+all_given depth sample_width next columns rows band left None parts empty ends =
     let none : band ≡ [] = empty refl in
     let over : columns - next ≡ 0 = omega (arith, ends none) in
-    ap (λ (l : List (List ℕ)). transposed_due (transposed depth packing rows l next columns)) (sym (append-nil left) ∙ sym parts ∙ none)
+    ap (λ (l : List (List ℕ)). transposed_due (transposed depth sample_width rows l next columns)) (sym (append-nil left) ∙ sym parts ∙ none)
     ∙ ap (λ (n : ℕ). map (column_of depth rows) (range_with_len next n)) over
-all_given depth packing next columns rows band left (Some row) parts empty ends = tt
+all_given depth sample_width next columns rows band left (Some row) parts empty ends = tt
 
 -- columns that are made are not none
 pub some_made : (depth : ℕ) (rows band : List (List ℕ)) (next count : ℕ) → band ≡ reverse (map (column_of depth rows) (range_with_len next count)) → band ≡ [] → count ≡ 0
@@ -242,26 +242,26 @@ column_small head made e =
     small_row x.shape (not_large (head.shape.height == 0) (is_too_large x.shape) x made e)
 
 -- bytes hold samples up to 255
-narrow_suits : (s : Shape) (b : Bool) → nat_lt s.maxval 256 ≡ b → SuitsShape (if b then Narrow else Wide) s
+narrow_suits : (s : Shape) (b : Bool) → nat_lt s.maxval 256 ≡ b → SuitsShape (if b then Bytes else Words) s
 narrow_suits s true e = let below : s.maxval < 256 = ltb-true s.maxval 256 e in omega arith
 narrow_suits s false e = tt
 
-suits_packing : (kind : Kind) (s : Shape) (text : List ℕ) → Suits kind s.depth s.maxval text → SuitsShape (packing_of kind s.maxval) s
-suits_packing Bit s text suits = (omega (arith, suits.1), suits.0)
-suits_packing Gray s text suits = narrow_suits s (nat_lt s.maxval 256) refl
-suits_packing Color s text suits = narrow_suits s (nat_lt s.maxval 256) refl
-suits_packing Pam s text suits = narrow_suits s (nat_lt s.maxval 256) refl
+kind_suits : (kind : Kind) (s : Shape) (text : List ℕ) → Suits kind s.depth s.maxval text → SuitsShape (sample_width_of kind s.maxval) s
+kind_suits Bit s text suits = (omega (arith, suits.1), suits.0)
+kind_suits Gray s text suits = narrow_suits s (nat_lt s.maxval 256) refl
+kind_suits Color s text suits = narrow_suits s (nat_lt s.maxval 256) refl
+kind_suits Pam s text suits = narrow_suits s (nat_lt s.maxval 256) refl
 
 -- the rows of an image can be held as its kind and maxval ask
-packing_suits : (s : Shape) (text : List ℕ) → Suits s.kind s.depth s.maxval text → SuitsShape (packing_of s.kind s.maxval) s
-packing_suits s text suits = suits_packing s.kind s text suits
+width_suits : (s : Shape) (text : List ℕ) → Suits s.kind s.depth s.maxval text → SuitsShape (sample_width_of s.kind s.maxval) s
+width_suits s text suits = kind_suits s.kind s text suits
 
 -- a transposer that has begun is ready for the first row
-pub ready_to_transpose : (w : Transposed) (head made : HeadValue) → IsHead head → result_head (Flip Transpose) head ≡ Ok made → w.packing ≡ packing_of head.shape.kind head.shape.maxval → w.rows ≡ [] → w.band ≡ [] → w.next ≡ 0 → w.columns ≡ 0 → IsTransposing w head.shape []
-ready_to_transpose w head made sound e packing rows band next columns = record {
+pub ready_to_transpose : (w : Transposed) (head made : HeadValue) → IsHead head → result_head (Flip Transpose) head ≡ Ok made → w.sample_width ≡ sample_width_of head.shape.kind head.shape.maxval → w.rows ≡ [] → w.band ≡ [] → w.next ≡ 0 → w.columns ≡ 0 → IsTransposing w head.shape []
+ready_to_transpose w head made sound e sample_width rows band next columns = record {
   limits = sound.limits;
   column = column_small head made e;
-  packing = subst (λ (p : Packing). SuitsShape p head.shape) (sym packing) (packing_suits head.shape head.tuple_type sound.suits);
+  sample_width = subst (λ (p : SampleWidth). SuitsShape p head.shape) (sym sample_width) (width_suits head.shape head.tuple_type sound.suits);
   rows = rows;
   lengths = All-nil (λ row. length row ≡ row_length head.shape);
   none_made = (band, next, columns);

@@ -2,8 +2,8 @@
 use Rattle.std.specs.Prelude.{◌≡◌, ℕ, ◌+◌, ◌-◌, ◌*◌, ◌<◌, ◌≤◌, ◌%◌, false, if◌then◌else◌, List, [], ◌++◌, map, length, take, reverse, replicate, slice_index_or, All, Some, None}
 use Rattle.std.specs.List.{range_with_len}
 use Rattle.pnm_image.specs.Limits.{max_side, max_depth, max_row_length}
-use Rattle.pnm_image.specs.declared.packing.Packing.{Packing}
-use Rattle.pnm_image.specs.declared.packing.Packing.TheVariants.{Packed}
+use Rattle.pnm_image.specs.declared.sample_width.SampleWidth.{SampleWidth}
+use Rattle.pnm_image.specs.declared.sample_width.SampleWidth.TheVariants.{Bits as OfBits}
 use Rattle.pnm_image.specs.declared.shape.Shape.{Shape}
 use Rattle.pnm_image.specs.Heads.{IsWithinLimits, row_length}
 use Rattle.pnm_tools.specs.declared.cut.Cutter.{Cutter}
@@ -65,14 +65,14 @@ reversed_due w = if w.has_ended then reverse w.rows.items else []
 -- rows of the result, the first one that isn't in a band yet
 pub record Transposed : Type 0 where
   pub depth : ℕ
-  pub packing : Packing
+  pub sample_width : SampleWidth
   pub rows : List (List ℕ)
   pub band : List (List ℕ)
   pub next : ℕ
   pub columns : ℕ
 
-abbrev pub transposed : ℕ → Packing → List (List ℕ) → List (List ℕ) → ℕ → ℕ → Transposed
-transposed depth packing rows band next columns = record { depth = depth; packing = packing; rows = rows; band = band; next = next; columns = columns }
+abbrev pub transposed : ℕ → SampleWidth → List (List ℕ) → List (List ℕ) → ℕ → ℕ → Transposed
+transposed depth sample_width rows band next columns = record { depth = depth; sample_width = sample_width; rows = rows; band = band; next = next; columns = columns }
 
 -- each row has a pixel of each column, and a row of the result is within the limits; packed rows have one plane, and the next
 -- column is the first of a byte
@@ -81,13 +81,13 @@ pub record HasColumns (w : Transposed) : Type 0 where
   pub each : 0 < w.columns → length w.rows * w.depth ≤ max_row_length
   pub depth : w.depth ≤ max_depth
   pub made : w.next ≤ w.columns
-  pub one_plane : w.packing ≡ Packed → 0 < w.columns → w.depth ≡ 1
-  pub at_byte : w.packing ≡ Packed → w.next < w.columns → w.next % 8 ≡ 0
+  pub one_plane : w.sample_width ≡ OfBits → 0 < w.columns → w.depth ≡ 1
+  pub at_byte : w.sample_width ≡ OfBits → w.next < w.columns → w.next % 8 ≡ 0
 
 pub record IsTransposing (w : Transposed) (s : Shape) (come : List (List ℕ)) : Type 0 where
   pub limits : IsWithinLimits s
   pub column : s.height * s.depth ≤ max_row_length
-  pub packing : SuitsShape w.packing s
+  pub sample_width : SuitsShape w.sample_width s
   pub rows : w.rows ≡ come
   pub lengths : All (λ row. length row ≡ row_length s) come
   pub none_made : (w.band ≡ []) × (w.next ≡ 0) × (w.columns ≡ 0)

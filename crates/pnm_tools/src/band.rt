@@ -9,7 +9,7 @@ ghost use Rattle.pnm_tools.specs.Flip.{column_of};
 
 use crate::fault::ToolFault;
 use crate::row_of::RowOf;
-use pnm_image::{Bits, Held, Samples};
+use pnm_image::{Bits, SampleVec, Samples};
 use std::alloc::Global;
 
 /// A column of an image, which becomes a row of the result.
@@ -26,7 +26,7 @@ impl Column for Bits {
     ghost samples = { λ bits. bits };
 
     fn into_samples(self) -> Samples {
-        Samples::from_held(Held::Bits(self))
+        Samples::from_vec(SampleVec::Bits(self))
     }
 }
 
@@ -34,7 +34,7 @@ impl Column for Vec<u8> {
     ghost samples = { λ bytes. bytes.items };
 
     fn into_samples(self) -> Samples {
-        Samples::from_held(Held::Bytes(self))
+        Samples::from_vec(SampleVec::Bytes(self))
     }
 }
 
@@ -42,7 +42,7 @@ impl Column for Vec<u16> {
     ghost samples = { λ words. words.items };
 
     fn into_samples(self) -> Samples {
-        Samples::from_held(Held::Words(self))
+        Samples::from_vec(SampleVec::Words(self))
     }
 }
 

@@ -12,7 +12,7 @@ use crate::fault::ToolFault;
 use crate::limits::head_within_limits;
 use crate::rows::Rows;
 use pnm_image::limits::MAX_DEPTH;
-use pnm_image::{Head, Held, Kind, Samples, Shape};
+use pnm_image::{Head, Kind, SampleVec, Samples, Shape};
 use std::alloc::{AllocError, Global};
 use std::marker::Model;
 
@@ -40,19 +40,19 @@ fn picked(alloc: Global, numbers: &[u16], shape: Shape, row: Samples) -> Result<
     requires limits { length numbers.now ≤ max_depth }
     ensures { IfOk result (λ picked. picked ≡ picked_samples numbers.now shape row) }
 {
-    match row.into_held() {
-        Held::Bits(bits) => {
+    match row.into_vec() {
+        SampleVec::Bits(bits) => {
             let unpacked = bits.unpacked(alloc)?;
             let samples = pick(alloc, numbers, shape, unpacked.as_slice())?;
-            Ok(Samples::within(Held::Bytes(samples), shape.maxval))
+            Ok(Samples::within(SampleVec::Bytes(samples), shape.maxval))
         }
-        Held::Bytes(bytes) => {
+        SampleVec::Bytes(bytes) => {
             let picked = pick(alloc, numbers, shape, bytes.as_slice())?;
-            Ok(Samples::within(Held::Bytes(picked), shape.maxval))
+            Ok(Samples::within(SampleVec::Bytes(picked), shape.maxval))
         }
-        Held::Words(words) => {
+        SampleVec::Words(words) => {
             let picked = pick(alloc, numbers, shape, words.as_slice())?;
-            Ok(Samples::within(Held::Words(picked), shape.maxval))
+            Ok(Samples::within(SampleVec::Words(picked), shape.maxval))
         }
     }
 }

@@ -10,7 +10,7 @@ use crate::fault::ToolFault;
 use crate::limits::{head_within_limits, is_extent};
 use crate::rows::Rows;
 use pnm_image::limits::MAX_EXTENT;
-use pnm_image::{Bits, Head, Held, Samples, Shape};
+use pnm_image::{Bits, Head, SampleVec, Samples, Shape};
 use std::alloc::{AllocError, Global};
 
 /// Columns or rows that are kept, from the first to the last.
@@ -31,21 +31,21 @@ fn kept(alloc: Global, columns: Span, shape: Shape, row: Samples) -> Result<Samp
     ensures { IfOk result (λ kept. kept ≡ columns_of_row columns shape.depth row) }
 {
     let depth = shape.depth as usize;
-    match row.into_held() {
-        Held::Bits(bits) => {
+    match row.into_vec() {
+        SampleVec::Bits(bits) => {
             let first = columns.first as usize * depth;
             let count = (columns.last as usize - columns.first as usize + 1) * depth;
             let mut kept = Bits::empty(alloc);
             kept.append(&bits, first, count)?;
-            Ok(Samples::within(Held::Bits(kept), shape.maxval))
+            Ok(Samples::within(SampleVec::Bits(kept), shape.maxval))
         }
-        Held::Bytes(mut bytes) => {
+        SampleVec::Bytes(mut bytes) => {
             keep(&mut bytes, columns, depth);
-            Ok(Samples::within(Held::Bytes(bytes), shape.maxval))
+            Ok(Samples::within(SampleVec::Bytes(bytes), shape.maxval))
         }
-        Held::Words(mut words) => {
+        SampleVec::Words(mut words) => {
             keep(&mut words, columns, depth);
-            Ok(Samples::within(Held::Words(words), shape.maxval))
+            Ok(Samples::within(SampleVec::Words(words), shape.maxval))
         }
     }
 }

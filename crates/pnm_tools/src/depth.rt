@@ -13,7 +13,7 @@ ghost use Rattle.pnm_tools.specs.Tools.{Takes, result_head};
 use crate::fault::ToolFault;
 use crate::limits::head_within_limits;
 use crate::rows::Rows;
-use pnm_image::{Head, Held, Kind, Samples, Shape};
+use pnm_image::{Head, Kind, SampleVec, Samples, Shape};
 use std::alloc::{AllocError, Global};
 
 /// The greatest sample that is a byte.
@@ -91,12 +91,12 @@ fn held_at(alloc: Global, maxval: u32, words: Vec<u16>) -> Result<Samples, Alloc
     requires { All (λ sample. sample ≤ maxval) words.items }
     ensures { IfOk result (λ held. held ≡ words.items) }
 {
-    let samples = Samples::within(Held::Words(words), maxval);
+    let samples = Samples::within(SampleVec::Words(words), maxval);
     if maxval > GREATEST_BYTE {
         return Ok(samples);
     }
     let bytes = samples.into_bytes(alloc)?;
-    Ok(Samples::within(Held::Bytes(bytes), maxval))
+    Ok(Samples::within(SampleVec::Bytes(bytes), maxval))
 }
 
 impl Rescaler {
@@ -123,7 +123,7 @@ impl Rescaler {
             Table::Bytes(table) => {
                 let mut bytes = row.into_bytes(alloc)?;
                 rescale_bytes_by_table(bytes.as_mut_slice(), table.as_slice(), new, old);
-                Ok(Samples::within(Held::Bytes(bytes), new))
+                Ok(Samples::within(SampleVec::Bytes(bytes), new))
             }
             Table::Words(table) => {
                 let mut words = row.into_words(alloc)?;

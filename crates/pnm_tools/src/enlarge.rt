@@ -16,7 +16,7 @@ ghost use Rattle.pnm_tools.specs.Tools.{Takes, result_head};
 use crate::fault::ToolFault;
 use crate::limits::head_within_limits;
 use crate::maker::Maker;
-use pnm_image::{Bits, Head, Held, Samples, Shape};
+use pnm_image::{Bits, Head, SampleVec, Samples, Shape};
 use std::alloc::Global;
 use std::mem;
 
@@ -41,23 +41,23 @@ fn enlarged(alloc: Global, across: u32, shape: Shape, row: Samples) -> Result<Sa
     ensures made { IfOk result (λ made. made ≡ enlarged_row across shape row) }
     ensures refused { IfErr result (λ fault. fault ≡ Memory) }
 {
-    match row.into_held() {
-        Held::Bits(bits) if shape.depth == 1 => {
+    match row.into_vec() {
+        SampleVec::Bits(bits) if shape.depth == 1 => {
             let bits = repeat_bits(alloc, across, shape, &bits)?;
-            Ok(Samples::from_held(Held::Bits(bits)))
+            Ok(Samples::from_vec(SampleVec::Bits(bits)))
         }
-        Held::Bits(bits) => {
+        SampleVec::Bits(bits) => {
             let unpacked = bits.unpacked(alloc)?;
             let bytes = repeat_pixels(alloc, across, shape, unpacked.as_slice())?;
-            Ok(Samples::within(Held::Bytes(bytes), shape.maxval))
+            Ok(Samples::within(SampleVec::Bytes(bytes), shape.maxval))
         }
-        Held::Bytes(bytes) => {
+        SampleVec::Bytes(bytes) => {
             let bytes = repeat_pixels(alloc, across, shape, bytes.as_slice())?;
-            Ok(Samples::within(Held::Bytes(bytes), shape.maxval))
+            Ok(Samples::within(SampleVec::Bytes(bytes), shape.maxval))
         }
-        Held::Words(words) => {
+        SampleVec::Words(words) => {
             let words = repeat_pixels(alloc, across, shape, words.as_slice())?;
-            Ok(Samples::within(Held::Words(words), shape.maxval))
+            Ok(Samples::within(SampleVec::Words(words), shape.maxval))
         }
     }
 }

@@ -15,7 +15,7 @@ use crate::fault::ToolFault;
 use crate::limits::head_within_limits;
 use crate::maker::Maker;
 use crate::rows::Rows;
-use pnm_image::{Bits, Head, Held, Samples, Shape};
+use pnm_image::{Bits, Head, SampleVec, Samples, Shape};
 use std::alloc::{AllocError, Global};
 
 /// How an image is flipped.
@@ -41,23 +41,23 @@ fn mirrored(alloc: Global, shape: Shape, row: Samples) -> Result<Samples, AllocE
     requires row { IsRowOf shape row }
     ensures { IfOk result (λ mirrored. mirrored ≡ mirrored_row shape row) }
 {
-    match row.into_held() {
-        Held::Bits(bits) if shape.depth == 1 => {
+    match row.into_vec() {
+        SampleVec::Bits(bits) if shape.depth == 1 => {
             let bits = mirrored_bits(shape, bits);
-            Ok(Samples::from_held(Held::Bits(bits)))
+            Ok(Samples::from_vec(SampleVec::Bits(bits)))
         }
-        Held::Bits(bits) => {
+        SampleVec::Bits(bits) => {
             let mut unpacked = bits.unpacked(alloc)?;
             reverse_pixels(unpacked.as_mut_slice(), shape);
-            Ok(Samples::within(Held::Bytes(unpacked), shape.maxval))
+            Ok(Samples::within(SampleVec::Bytes(unpacked), shape.maxval))
         }
-        Held::Bytes(mut bytes) => {
+        SampleVec::Bytes(mut bytes) => {
             reverse_pixels(bytes.as_mut_slice(), shape);
-            Ok(Samples::within(Held::Bytes(bytes), shape.maxval))
+            Ok(Samples::within(SampleVec::Bytes(bytes), shape.maxval))
         }
-        Held::Words(mut words) => {
+        SampleVec::Words(mut words) => {
             reverse_pixels(words.as_mut_slice(), shape);
-            Ok(Samples::within(Held::Words(words), shape.maxval))
+            Ok(Samples::within(SampleVec::Words(words), shape.maxval))
         }
     }
 }

@@ -6,7 +6,7 @@ ghost use Rattle.pnm_tools.specs.declared.tool.Tool.TheVariants.{Invert};
 
 use crate::fault::ToolFault;
 use crate::rows::Rows;
-use pnm_image::{Head, Held, Samples, Shape};
+use pnm_image::{Head, SampleVec, Samples, Shape};
 use pnm_samples::Sample;
 use std::alloc::{AllocError, Global};
 
@@ -25,19 +25,19 @@ fn inverted(alloc: Global, maxval: u32, row: Samples) -> Result<Samples, AllocEr
     requires range { All (λ sample. sample ≤ maxval) row }
     ensures { IfOk result (λ made. made ≡ map (λ sample. maxval - sample) row) }
 {
-    match row.into_held() {
-        Held::Bits(mut bits) if maxval == 1 => {
+    match row.into_vec() {
+        SampleVec::Bits(mut bits) if maxval == 1 => {
             bits.invert();
-            Ok(Samples::within(Held::Bits(bits), maxval))
+            Ok(Samples::within(SampleVec::Bits(bits), maxval))
         }
-        Held::Bytes(mut bytes) if maxval <= 255 => {
+        SampleVec::Bytes(mut bytes) if maxval <= 255 => {
             invert(bytes.as_mut_slice(), maxval as u8);
-            Ok(Samples::within(Held::Bytes(bytes), maxval))
+            Ok(Samples::within(SampleVec::Bytes(bytes), maxval))
         }
         held => {
             let mut words = Samples::within(held, maxval).into_words(alloc)?;
             invert(words.as_mut_slice(), maxval as u16);
-            Ok(Samples::within(Held::Words(words), maxval))
+            Ok(Samples::within(SampleVec::Words(words), maxval))
         }
     }
 }

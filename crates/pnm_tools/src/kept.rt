@@ -3,15 +3,15 @@
 ghost use Rattle.std.specs.Prelude.{◌≡◌, ◌≤◌, ◌<◌, ◌+◌, ◌*◌, ◌++◌, ◌∷◌, [], All, OnOk, OnErr, IfOk, IfErr, length, map, reverse};
 ghost use Rattle.std.specs.List.{range_with_len};
 ghost use Rattle.pnm_image.specs.Limits.{max_depth, max_row_length};
-ghost use Rattle.pnm_image.specs.declared.packing.Packing.TheVariants.{Packed};
+ghost use Rattle.pnm_image.specs.declared.sample_width.SampleWidth.TheVariants.{Bits};
 ghost use Rattle.pnm_tools.specs.declared.fault.ToolFault.TheVariants.{Memory};
 ghost use Rattle.pnm_tools.specs.Flip.{column_of};
-ghost use Rattle.pnm_tools.specs.Kept.{kept_rows, kept_packing, FitsPacking, IsBandOfBits, band_length};
+ghost use Rattle.pnm_tools.specs.Kept.{kept_rows, kept_width, FitsWidth, IsBandOfBits, band_length};
 
 use crate::band::{columns_of, last_first};
 use crate::fault::ToolFault;
 use crate::row_of::RowOf;
-use pnm_image::{Bits, Packing, Samples};
+use pnm_image::{Bits, SampleWidth, Samples};
 use std::alloc::Global;
 
 /// How many columns are made side by side. One at a time would fetch each row of the image from
@@ -41,22 +41,26 @@ impl Kept {
     }
 
     /// No rows, and room for so many that are held so. The only fault is `Memory`.
-    pub fn with_capacity(alloc: Global, packing: Packing, count: usize) -> Result<Kept, ToolFault>
+    pub fn with_capacity(
+        alloc: Global,
+        sample_width: SampleWidth,
+        count: usize,
+    ) -> Result<Kept, ToolFault>
         ensures empty { IfOk result (λ kept. kept_rows kept ≡ []) }
-        ensures packing { IfOk result (λ kept. kept_packing kept ≡ packing) }
+        ensures sample_width { IfOk result (λ kept. kept_width kept ≡ sample_width) }
         ensures refused { IfErr result (λ fault. fault ≡ Memory) }
     {
-        Ok(match packing {
-            Packing::Packed => Kept::Bits(Vec::with_capacity(alloc, count)?),
-            Packing::Narrow => Kept::Bytes(Vec::with_capacity(alloc, count)?),
-            Packing::Wide => Kept::Words(Vec::with_capacity(alloc, count)?),
+        Ok(match sample_width {
+            SampleWidth::Bits => Kept::Bits(Vec::with_capacity(alloc, count)?),
+            SampleWidth::Bytes => Kept::Bytes(Vec::with_capacity(alloc, count)?),
+            SampleWidth::Words => Kept::Words(Vec::with_capacity(alloc, count)?),
         })
     }
 
     /// Adds a row at the end, without a copy where it is held so. The only fault is `Memory`.
     pub fn push(&mut self, alloc: Global, row: Samples) -> Result<(), ToolFault>
-        requires { FitsPacking (kept_packing self.old) row }
-        ensures packing { kept_packing self.new ≡ kept_packing self.old }
+        requires { FitsWidth (kept_width self.old) row }
+        ensures sample_width { kept_width self.new ≡ kept_width self.old }
         ensures added { OnOk result (kept_rows self.new ≡ kept_rows self.old ++ row ∷ []) }
         ensures unchanged { OnErr result (kept_rows self.new ≡ kept_rows self.old) }
         ensures refused { IfErr result (λ fault. fault ≡ Memory) }
@@ -71,7 +75,7 @@ impl Kept {
 
     /// How many columns are made side by side.
     pub fn band_length(&self) -> u32
-        ensures length { result ≡ band_length (kept_packing self.now) }
+        ensures length { result ≡ band_length (kept_width self.now) }
         ensures some { 0 < result }
     {
         match self {
@@ -92,7 +96,7 @@ impl Kept {
         requires rows { All (λ row. (first + count) * depth ≤ length row) (kept_rows self.now) }
         requires sizes { (length (kept_rows self.now) * depth ≤ max_row_length) × (depth ≤ max_depth)
             × (first + count ≤ 4294967295) }
-        requires bits { kept_packing self.now ≡ Packed → IsBandOfBits first count depth }
+        requires bits { kept_width self.now ≡ Bits → IsBandOfBits first count depth }
         ensures made { IfOk result (λ band. band.items
             ≡ reverse (map (column_of depth (kept_rows self.now)) (range_with_len first count))) }
         ensures refused { IfErr result (λ fault. fault ≡ Memory) }

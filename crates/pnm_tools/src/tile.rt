@@ -12,7 +12,7 @@ ghost use Rattle.pnm_tools.specs.Tools.{Takes, result_head};
 use crate::fault::ToolFault;
 use crate::limits::head_within_limits;
 use crate::maker::Maker;
-use pnm_image::{Bits, Head, Held, Kind, Lent, Samples, Shape};
+use pnm_image::{Bits, Head, Kind, SampleSlice, SampleVec, Samples, Shape};
 use std::alloc::Global;
 use std::collections::VecDeque;
 use std::marker::Model;
@@ -43,18 +43,18 @@ fn tile_row(alloc: Global, width: u32, shape: Shape, row: &Samples) -> Result<Sa
     ensures made { IfOk result (λ made. made ≡ tiled_row width shape.width shape.depth row.now) }
     ensures refused { IfErr result (λ fault. fault ≡ Memory) }
 {
-    match row.lend() {
-        Lent::Bits(bits) => {
+    match row.as_slice() {
+        SampleSlice::Bits(bits) => {
             let bits = tile_bits(alloc, width, shape.width, shape.depth, bits)?;
-            Ok(Samples::within(Held::Bits(bits), shape.maxval))
+            Ok(Samples::within(SampleVec::Bits(bits), shape.maxval))
         }
-        Lent::Bytes(bytes) => {
+        SampleSlice::Bytes(bytes) => {
             let bytes = tile(alloc, width, shape.width, shape.depth, bytes)?;
-            Ok(Samples::within(Held::Bytes(bytes), shape.maxval))
+            Ok(Samples::within(SampleVec::Bytes(bytes), shape.maxval))
         }
-        Lent::Words(words) => {
+        SampleSlice::Words(words) => {
             let words = tile(alloc, width, shape.width, shape.depth, words)?;
-            Ok(Samples::within(Held::Words(words), shape.maxval))
+            Ok(Samples::within(SampleVec::Words(words), shape.maxval))
         }
     }
 }
@@ -76,18 +76,18 @@ fn tile_last_row(
     ensures made { IfOk result (λ made. made ≡ tiled_row width shape.width shape.depth row) }
     ensures refused { IfErr result (λ fault. fault ≡ Memory) }
 {
-    match row.into_held() {
-        Held::Bits(bits) => {
+    match row.into_vec() {
+        SampleVec::Bits(bits) => {
             let bits = tile_bits(alloc, width, shape.width, shape.depth, &bits)?;
-            Ok(Samples::within(Held::Bits(bits), shape.maxval))
+            Ok(Samples::within(SampleVec::Bits(bits), shape.maxval))
         }
-        Held::Bytes(bytes) => {
+        SampleVec::Bytes(bytes) => {
             let bytes = tile_last(alloc, width, shape.width, shape.depth, bytes)?;
-            Ok(Samples::within(Held::Bytes(bytes), shape.maxval))
+            Ok(Samples::within(SampleVec::Bytes(bytes), shape.maxval))
         }
-        Held::Words(words) => {
+        SampleVec::Words(words) => {
             let words = tile_last(alloc, width, shape.width, shape.depth, words)?;
-            Ok(Samples::within(Held::Words(words), shape.maxval))
+            Ok(Samples::within(SampleVec::Words(words), shape.maxval))
         }
     }
 }

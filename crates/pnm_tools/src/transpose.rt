@@ -9,7 +9,7 @@ use crate::fault::ToolFault;
 use crate::flip::{FlipWay, flipped_head};
 use crate::kept::Kept;
 use crate::maker::Maker;
-use pnm_image::{Head, Packing, Samples, Shape};
+use pnm_image::{Head, SampleWidth, Samples, Shape};
 use std::alloc::Global;
 use std::marker::Model;
 
@@ -28,13 +28,13 @@ pub struct Transposer {
 
 impl Model for Transposer {
     ghost use Rattle.pnm_tools.specs.Keeping.{Transposed, transposed, HasColumns};
-    ghost use Rattle.pnm_tools.specs.Kept.{kept_rows, kept_packing};
+    ghost use Rattle.pnm_tools.specs.Kept.{kept_rows, kept_width};
 
     ghost Value = { Transposed };
 
-    ghost view = { λ w. transposed w.depth (kept_packing w.rows) (kept_rows w.rows) w.band.items w.next w.columns };
+    ghost view = { λ w. transposed w.depth (kept_width w.rows) (kept_rows w.rows) w.band.items w.next w.columns };
 
-    ghost invariant = { λ w. HasColumns (transposed w.depth (kept_packing w.rows) (kept_rows w.rows) w.band.items w.next w.columns) };
+    ghost invariant = { λ w. HasColumns (transposed w.depth (kept_width w.rows) (kept_rows w.rows) w.band.items w.next w.columns) };
 }
 
 impl Maker for Transposer {
@@ -49,9 +49,9 @@ impl Maker for Transposer {
     fn begin(&mut self, alloc: Global, head: &Head) -> Result<Head, ToolFault> {
         let transposed = flipped_head(alloc, FlipWay::Transpose, head)?;
         let shape = head.shape();
-        let packing = Packing::of(shape.kind, shape.maxval);
+        let sample_width = SampleWidth::of(shape.kind, shape.maxval);
         self.clear(alloc);
-        self.rows = Kept::with_capacity(alloc, packing, shape.height as usize)?;
+        self.rows = Kept::with_capacity(alloc, sample_width, shape.height as usize)?;
         Ok(transposed)
     }
 

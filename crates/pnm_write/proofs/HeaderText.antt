@@ -5,10 +5,11 @@ use Rattle.pnm_image.specs.declared.shape.Shape.{Shape}
 use Rattle.pnm_image.specs.declared.shape.Kind.{Kind}
 use Rattle.pnm_image.specs.declared.shape.Kind.TheVariants.{Bit, Gray, Color, Pam}
 use Rattle.pnm_image.specs.Heads.{HeadValue, IsHead, IsWithinLimits}
-use Rattle.pnm_read.specs.declared.format.Format.{Format}
+use Rattle.pnm_image.specs.declared.format.Format.{Format}
 use Rattle.pnm_read.specs.Texts.{begins_apart, ends_in_word}
 use Rattle.pnm_image.specs.Texts.{is_white, is_digit}
-use Rattle.pnm_read.specs.Formats.{format_of, header_numbers}
+use Rattle.pnm_image.specs.Formats.{format_of}
+use Rattle.pnm_read.specs.Formats.{header_numbers}
 use Rattle.pnm_read.specs.Headers.{SpellsPnmHeader, SpellsHeaderBy, SpellsHeader}
 use Rattle.pnm_read.specs.Rasters.{SpellsDecimal}
 use Rattle.pnm_write.specs.Encoding.{kind_text, header_text}
@@ -101,7 +102,7 @@ head_by kind width height depth maxval tuple_type = record { shape = shape_by ki
 
 -- the raw format of a kind
 abbrev pub raw_format : Kind → Format
-raw_format kind = record { kind = kind; is_plain = false }
+raw_format kind = record { kind = kind; form = Raw }
 
 header_by : (kind : Kind) (width height depth maxval : ℕ) (tuple_type : List ℕ) → IsHead (head_by kind width height depth maxval tuple_type) → 0 < height
     → SpellsHeaderBy kind (kind_text kind (shape_by kind width height depth maxval) tuple_type) (raw_format kind) (head_by kind width height depth maxval tuple_type)

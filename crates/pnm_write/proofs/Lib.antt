@@ -1,5 +1,5 @@
 pub mod MessageLaws
-pub mod PackingLaws
+pub mod RawLaws
 pub mod DecimalText
 pub mod NumberText
 pub mod PamText

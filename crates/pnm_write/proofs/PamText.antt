@@ -8,7 +8,7 @@ use Rattle.pnm_image.specs.declared.shape.Shape.{Shape}
 use Rattle.pnm_image.specs.declared.shape.Kind.TheVariants.{Pam}
 use Rattle.pnm_image.specs.Heads.{HeadValue, IsHead, IsTupleType}
 use Rattle.pnm_image.specs.Texts.{is_digit, decimal_value}
-use Rattle.pnm_read.specs.declared.format.Format.{Format}
+use Rattle.pnm_image.specs.declared.format.Format.{Format}
 use Rattle.pnm_read.specs.declared.line.Field.{Field}
 use Rattle.pnm_read.specs.declared.line.Field.TheVariants.{Width, Height, Depth, Maxval}
 use Rattle.pnm_read.specs.declared.line.LineKind.{LineKind}
@@ -184,7 +184,7 @@ longer_by_magic text h = omega arith
 pub pam_text_spells : (width height depth maxval : ℕ) (tuple_type : List ℕ)
     → (let s : Shape = record { kind = Pam; width = width; height = height; depth = depth; maxval = maxval } in
     let head : HeadValue = record { shape = s; tuple_type = tuple_type } in
-    let format : Format = record { kind = Pam; is_plain = false } in
+    let format : Format = record { kind = Pam; form = Raw } in
     IsHead head → 0 < height → SpellsPamHeader (pam_text s tuple_type) format head)
 pam_text_spells width height depth maxval tuple_type sound rows =
     let limits = sound.limits in

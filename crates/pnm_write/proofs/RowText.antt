@@ -8,9 +8,9 @@ use Rattle.pnm_image.specs.declared.shape.Kind.TheVariants.{Bit, Gray, Color, Pa
 use Rattle.pnm_image.specs.Heads.{HeadValue, IsHead, Suits, row_length}
 use Rattle.pnm_image.specs.Images.{cut_rows}
 use Rattle.pnm_image.specs.Places.{IsRowOf}
-use Rattle.pnm_image.specs.declared.packing.Packing.TheVariants.{Packed, Narrow, Wide}
+use Rattle.pnm_image.specs.declared.sample_width.SampleWidth.TheVariants.{Bits, Bytes, Words}
 use Rattle.pnm_read.specs.Rasters.{pixels, wide_samples, raw_samples, bytes_in_row}
-use Rattle.pnm_image.specs.declared.packing.Packing.TheVariants as written
+use Rattle.pnm_image.specs.declared.sample_width.SampleWidth.TheVariants as written
 use Rattle.pnm_write.specs.Encoding.{packed_byte, packed_bytes, wide_bytes, bytes_in, row_bytes}
 use Rattle.pnm_samples.proofs.PackLaws.{length-packed_bytes}
 use Rattle.pnm_samples.proofs.PackedAgain.{ArePixels, pixels_of_groups}
@@ -19,7 +19,7 @@ use Rattle.pnm_samples.proofs.PackedAgain.{ArePixels, pixels_of_groups}
 abbrev GivesAgain : ℕ → List ℕ → List ℕ → List ℕ → Type 0
 GivesAgain count bytes samples row = (length bytes ≡ count) × (samples ≡ row)
 
--- ---- by the packing
+-- ---- by the width of its samples
 
 length-wide_bytes : (row : List ℕ) → length (wide_bytes row) ≡ 2 * length row
 length-wide_bytes [] = refl
@@ -38,11 +38,11 @@ packed_again width row count range = (
 
 -- a byte or two a sample, by whether the maxval fits a byte
 numbers_again : (narrow : Bool) (s : Shape) (row : List ℕ) → length row ≡ row_length s
-    → (let bytes : List ℕ = bytes_in (if narrow then written.Narrow else written.Wide) row in
+    → (let bytes : List ℕ = bytes_in (if narrow then written.Bytes else written.Words) row in
     GivesAgain
-    (elim (if narrow then Narrow else Wide) [ Packed ↦ (s.width + 7) / 8 | Narrow ↦ row_length s | Wide ↦ 2 * row_length s ])
+    (elim (if narrow then Bytes else Words) [ Bits ↦ (s.width + 7) / 8 | Bytes ↦ row_length s | Words ↦ 2 * row_length s ])
     bytes
-    (elim (if narrow then Narrow else Wide) [ Packed ↦ take s.width (flat_map pixels bytes) | Narrow ↦ bytes | Wide ↦ wide_samples bytes ])
+    (elim (if narrow then Bytes else Words) [ Bits ↦ take s.width (flat_map pixels bytes) | Bytes ↦ bytes | Words ↦ wide_samples bytes ])
     row)
 numbers_again true s row count = (count, refl)
 numbers_again false s row count = (length-wide_bytes row ∙ ap (λ (n : ℕ). 2 * n) count, wide_again row)

@@ -7,7 +7,7 @@
 mod fault;
 mod header;
 pub mod laws;
-mod packing;
+mod raw;
 mod room;
 mod row;
 mod sink;

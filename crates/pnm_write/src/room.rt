@@ -4,8 +4,8 @@ ghost use Rattle.std.specs.Prelude.{◌≡◌, ◌+◌, ◌≤◌, [], ◌++◌,
 ghost use Rattle.pnm_write.specs.Encoding.{bytes_in};
 ghost use Rattle.pnm_write.specs.Rooms.{most_samples, FitIn};
 
-use crate::packing::encode;
-use pnm_image::Packing;
+use crate::raw::encode;
+use pnm_image::SampleWidth;
 use std::marker::Model;
 
 /// The most bytes that are held.
@@ -65,11 +65,11 @@ impl Room {
     }
 
     /// Holds the bytes of these samples, in place of what it held.
-    pub fn fill(&mut self, packing: Packing, samples: &[u16])
-        requires count { length samples.now ≤ most_samples packing }
-        requires range { FitIn packing samples.now }
-        ensures { self.new ≡ bytes_in packing samples.now }
+    pub fn fill(&mut self, sample_width: SampleWidth, samples: &[u16])
+        requires count { length samples.now ≤ most_samples sample_width }
+        requires range { FitIn sample_width samples.now }
+        ensures { self.new ≡ bytes_in sample_width samples.now }
     {
-        self.length = encode(packing, samples, &mut self.bytes);
+        self.length = encode(sample_width, samples, &mut self.bytes);
     }
 }

@@ -5,9 +5,9 @@ ghost use Rattle.std.specs.Io.KnownBytes.{Appends};
 ghost use Rattle.pnm_write.specs.Encoding.{row_bytes};
 ghost use Rattle.pnm_image.specs.Devices.{FailsIn};
 
-use crate::packing::most_samples;
+use crate::raw::most_samples;
 use crate::room::Room;
-use pnm_image::{BytesOut, DeviceFailed, Lent, Packing, Samples, Shape, write_all};
+use pnm_image::{BytesOut, DeviceFailed, SampleSlice, SampleWidth, Samples, Shape, write_all};
 
 /// The most samples that are copied at a time, a number of whole bytes of pixels.
 const MOST: usize = 2048;
@@ -28,11 +28,11 @@ pub fn write_samples<W: BytesOut>(
     ensures count { OnOk result (W.failures writer.new ≡ W.failures writer.old) }
     ensures same_device { W.same writer.old writer.new }
 {
-    match (Packing::of(shape.kind, shape.maxval), row.lend()) {
-        (Packing::Packed, Lent::Bits(bits)) => write_all(writer, bits.as_bytes()),
-        (Packing::Narrow, Lent::Bytes(bytes)) => write_all(writer, bytes),
-        (_, Lent::Words(words)) => write_words(writer, room, shape, words),
-        (_, Lent::Bits(_) | Lent::Bytes(_)) => write_others(writer, room, shape, row),
+    match (SampleWidth::of(shape.kind, shape.maxval), row.as_slice()) {
+        (SampleWidth::Bits, SampleSlice::Bits(bits)) => write_all(writer, bits.as_bytes()),
+        (SampleWidth::Bytes, SampleSlice::Bytes(bytes)) => write_all(writer, bytes),
+        (_, SampleSlice::Words(words)) => write_words(writer, room, shape, words),
+        (_, SampleSlice::Bits(_) | SampleSlice::Bytes(_)) => write_others(writer, room, shape, row),
     }
 }
 
@@ -51,13 +51,13 @@ fn write_others<W: BytesOut>(
     ensures count { OnOk result (W.failures writer.new ≡ W.failures writer.old) }
     ensures same_device { W.same writer.old writer.new }
 {
-    let packing = Packing::of(shape.kind, shape.maxval);
+    let sample_width = SampleWidth::of(shape.kind, shape.maxval);
     let mut words = [0; MOST];
     let mut start = 0;
     while start < row.len() {
         let count = (row.len() - start).min(MOST);
         row.copy_to(start, &mut words[..count]);
-        room.fill(packing, &words[..count]);
+        room.fill(sample_width, &words[..count]);
         write_all(writer, room.as_slice())?;
         start += count;
     }
@@ -79,13 +79,13 @@ fn write_words<W: BytesOut>(
     ensures count { OnOk result (W.failures writer.new ≡ W.failures writer.old) }
     ensures same_device { W.same writer.old writer.new }
 {
-    let packing = Packing::of(shape.kind, shape.maxval);
-    let most = most_samples(packing);
+    let sample_width = SampleWidth::of(shape.kind, shape.maxval);
+    let most = most_samples(sample_width);
     let mut rest = samples;
     while !rest.is_empty() {
         let count = rest.len().min(most);
         let (part, after) = rest.split_at(count);
-        room.fill(packing, part);
+        room.fill(sample_width, part);
         write_all(writer, room.as_slice())?;
         rest = after;
     }

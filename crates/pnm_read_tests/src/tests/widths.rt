@@ -1,7 +1,7 @@
 //! How the rows are held that a source gives: as they lie in the input, and as words where it is
 //! plain.
 
-use pnm_image::{Device, Lent, Message};
+use pnm_image::{Device, SampleSlice, Message};
 use pnm_read::Source;
 use std::alloc::Global;
 use std::process::Abort;
@@ -23,10 +23,10 @@ fn bits_held(alloc: Global, input: &[u8]) -> Result<u32, Fail> {
     let mut source = Source::new(alloc, Device::new(input))?;
     let _ = source.next()?;
     match source.next()? {
-        Some(Message::Row(row)) => Ok(match row.lend() {
-            Lent::Bits(_) => 1,
-            Lent::Bytes(_) => 8,
-            Lent::Words(_) => 16,
+        Some(Message::Row(row)) => Ok(match row.as_slice() {
+            SampleSlice::Bits(_) => 1,
+            SampleSlice::Bytes(_) => 8,
+            SampleSlice::Words(_) => 16,
         }),
         _ => Err(Fail::new("no row")),
     }

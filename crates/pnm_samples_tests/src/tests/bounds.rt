@@ -1,7 +1,7 @@
 //! The greatest sample, and whether rows are within a number.
 
 use super::same;
-use pnm_samples::{Bits, Held, Sample, Samples, greatest, greatest_byte};
+use pnm_samples::{Bits, SampleVec, Sample, Samples, greatest, greatest_byte};
 use std::process::Abort;
 use std::test::Fail;
 
@@ -48,7 +48,7 @@ fn bytes_are_within(rt: HostRuntime) -> Result<(), Fail> {
     for most in [0, 1, 2, 199, 254, 255] {
         for bytes in [[most, 0, 0], [0, most, 0], [0, 0, most]] {
             same(&rt, &greatest_byte(&bytes), &most, &bytes);
-            let row = Samples::from_held(Held::Bytes(Vec::from_slice(rt.alloc(), &bytes)?));
+            let row = Samples::from_vec(SampleVec::Bytes(Vec::from_slice(rt.alloc(), &bytes)?));
             ends_at(&rt, &row, u32::from(most));
             ends_at(&rt, &row.copy(rt.alloc())?, u32::from(most));
         }
@@ -62,7 +62,7 @@ fn bytes_are_within(rt: HostRuntime) -> Result<(), Fail> {
 fn bits_are_within(rt: HostRuntime) -> Result<(), Fail> {
     for count in 0..20 {
         let black = Vec::from_slice(rt.alloc(), &[0xff; 3])?;
-        let row = Samples::from_held(Held::Bits(Bits::new(black, count)));
+        let row = Samples::from_vec(SampleVec::Bits(Bits::new(black, count)));
         ends_at(&rt, &row, 0);
         for (at, bytes) in [
             (0, [0x7f, 0xff, 0xff]),
@@ -71,7 +71,7 @@ fn bits_are_within(rt: HostRuntime) -> Result<(), Fail> {
             (18, [0xff, 0xff, 0xdf]),
         ] {
             let bits = Bits::new(Vec::from_slice(rt.alloc(), &bytes)?, count);
-            let row = Samples::from_held(Held::Bits(bits));
+            let row = Samples::from_vec(SampleVec::Bits(bits));
             ends_at(&rt, &row, u32::from(at < count));
         }
     }
@@ -82,9 +82,9 @@ fn bits_are_within(rt: HostRuntime) -> Result<(), Fail> {
 #[test]
 fn rows_with_a_bound_are_within(rt: HostRuntime) -> Result<(), Fail> {
     for bound in [9, 10, 255, 1000, u32::MAX] {
-        let bytes = Samples::within(Held::Bytes(Vec::from_slice(rt.alloc(), &[3, 9, 0])?), bound);
+        let bytes = Samples::within(SampleVec::Bytes(Vec::from_slice(rt.alloc(), &[3, 9, 0])?), bound);
         ends_at(&rt, &bytes, 9);
-        let words = Samples::within(Held::Words(Vec::from_slice(rt.alloc(), &[3, 9, 0])?), bound);
+        let words = Samples::within(SampleVec::Words(Vec::from_slice(rt.alloc(), &[3, 9, 0])?), bound);
         ends_at(&rt, &words, 9);
     }
     Ok(())

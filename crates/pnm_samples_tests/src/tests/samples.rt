@@ -1,7 +1,7 @@
 //! Rows in each of the three forms.
 
 use super::{made_up, packed, row_of, same};
-use pnm_samples::{Bits, Held, Lent, Samples};
+use pnm_samples::{Bits, SampleVec, SampleSlice, Samples};
 use std::alloc::{AllocError, Global};
 use std::test::Fail;
 
@@ -23,18 +23,18 @@ fn sample_at(form: Form, at: usize) -> u16 {
 }
 
 /// So many samples in a form.
-fn made(alloc: Global, form: Form, count: usize) -> Result<Held, AllocError> {
+fn made(alloc: Global, form: Form, count: usize) -> Result<SampleVec, AllocError> {
     Ok(match form {
         Form::Bits => {
             let bytes = packed(alloc, row_of(alloc, 3, count)?.as_slice(), true)?;
-            Held::Bits(Bits::new(bytes, count))
+            SampleVec::Bits(Bits::new(bytes, count))
         }
-        Form::Bytes => Held::Bytes(
+        Form::Bytes => SampleVec::Bytes(
             (0..count)
                 .map(|at| (at.wrapping_mul(37) % 256) as u8)
                 .collect(alloc)?,
         ),
-        Form::Words => Held::Words(
+        Form::Words => SampleVec::Words(
             (0..count)
                 .map(|at| sample_at(Form::Words, at))
                 .collect(alloc)?,
@@ -44,10 +44,10 @@ fn made(alloc: Global, form: Form, count: usize) -> Result<Held, AllocError> {
 
 /// The form of a row that is lent, and how many samples it has.
 fn lent_as(row: &Samples) -> (Form, usize) {
-    match row.lend() {
-        Lent::Bits(bits) => (Form::Bits, bits.len()),
-        Lent::Bytes(bytes) => (Form::Bytes, bytes.len()),
-        Lent::Words(words) => (Form::Words, words.len()),
+    match row.as_slice() {
+        SampleSlice::Bits(bits) => (Form::Bits, bits.len()),
+        SampleSlice::Bytes(bytes) => (Form::Bytes, bytes.len()),
+        SampleSlice::Words(words) => (Form::Words, words.len()),
     }
 }
 
@@ -57,7 +57,7 @@ fn gives_back_samples(rt: HostRuntime) -> Result<(), Fail> {
     for form in [Form::Bits, Form::Bytes, Form::Words] {
         for count in 0..20 {
             let place = (form, count);
-            let row = Samples::from_held(made(rt.alloc(), form, count)?);
+            let row = Samples::from_vec(made(rt.alloc(), form, count)?);
             let want: Vec<u16> = (0..count)
                 .map(|at| sample_at(form, at))
                 .collect(rt.alloc())?;
@@ -70,7 +70,7 @@ fn gives_back_samples(rt: HostRuntime) -> Result<(), Fail> {
             let copy = row.copy(rt.alloc())?;
             same(&rt, &lent_as(&copy), &(form, count), &place);
             same(&rt, &copy.into_words(rt.alloc())?, &want, &place);
-            let held = Samples::from_held(row.into_held());
+            let held = Samples::from_vec(row.into_vec());
             same(&rt, &held.into_words(rt.alloc())?, &want, &place);
         }
     }
@@ -81,7 +81,7 @@ fn gives_back_samples(rt: HostRuntime) -> Result<(), Fail> {
 #[test]
 fn copies_parts(rt: HostRuntime) -> Result<(), Fail> {
     for form in [Form::Bits, Form::Bytes, Form::Words] {
-        let row = Samples::from_held(made(rt.alloc(), form, 20)?);
+        let row = Samples::from_vec(made(rt.alloc(), form, 20)?);
         for start in 0..21_usize {
             for count in 0..21 - start {
                 let mut room = vec![in rt.alloc(); 7; count]?;

@@ -1,6 +1,6 @@
 //! Messages, what they are made of, and what a tool answers to them.
 
-use pnm_image::{Bits, Head, HeadFault, Held, Kind, Message, Samples, Shape};
+use pnm_image::{Bits, Head, HeadFault, SampleVec, Kind, Message, Samples, Shape};
 use pnm_tools::{CutBox, Filter, Planes, Tool, ToolFault, ToolState};
 use std::alloc::{AllocError, AllocFailed, Global};
 use std::fmt;
@@ -140,13 +140,13 @@ fn narrow_message(alloc: Global, part: Part<'_>) -> Result<Message, Unmade> {
 /// The samples, each in as few bits as hold all of them: one, 8 or 16.
 pub(super) fn narrow(alloc: Global, samples: &[u16]) -> Result<Samples, Unmade> {
     let held = if samples.iter().all(|sample| *sample <= 1) {
-        Held::Bits(bits_of(alloc, samples)?)
+        SampleVec::Bits(bits_of(alloc, samples)?)
     } else if samples.iter().all(|sample| *sample <= 255) {
-        Held::Bytes(bytes_of(alloc, samples)?)
+        SampleVec::Bytes(bytes_of(alloc, samples)?)
     } else {
-        Held::Words(Vec::from_slice(alloc, samples)?)
+        SampleVec::Words(Vec::from_slice(alloc, samples)?)
     };
-    Ok(Samples::from_held(held))
+    Ok(Samples::from_vec(held))
 }
 
 /// How wide each sample is held.
@@ -160,11 +160,11 @@ pub(super) enum Width {
 /// The samples, each so wide.
 pub(super) fn held_so(alloc: Global, samples: Vec<u16>, width: Width) -> Result<Samples, Unmade> {
     let held = match width {
-        Width::Bit => Held::Bits(bits_of(alloc, samples.as_slice())?),
-        Width::Byte => Held::Bytes(bytes_of(alloc, samples.as_slice())?),
-        Width::Word => Held::Words(samples),
+        Width::Bit => SampleVec::Bits(bits_of(alloc, samples.as_slice())?),
+        Width::Byte => SampleVec::Bytes(bytes_of(alloc, samples.as_slice())?),
+        Width::Word => SampleVec::Words(samples),
     };
-    Ok(Samples::from_held(held))
+    Ok(Samples::from_vec(held))
 }
 
 /// The samples as pixels of one bit, 0 as black.

@@ -2,7 +2,7 @@
 //! samples of the result can be held so, and those of `pamflip -transpose` as the maxval asks.
 
 use super::parts::{Part, WHOLE, Width, holds, message, narrow, start, take_all};
-use pnm_image::{Kind, Lent, Message, Samples};
+use pnm_image::{Kind, SampleSlice, Message, Samples};
 use pnm_tools::{CutBox, Filter, FlipWay, Tool};
 use std::alloc::Global;
 use std::process::Abort;
@@ -39,10 +39,10 @@ const TRANSPOSED: &[WidthCase<'static>] = &[
 ];
 
 fn width_of(row: &Samples) -> Width {
-    match row.lend() {
-        Lent::Bits(_) => Width::Bit,
-        Lent::Bytes(_) => Width::Byte,
-        Lent::Words(_) => Width::Word,
+    match row.as_slice() {
+        SampleSlice::Bits(_) => Width::Bit,
+        SampleSlice::Bytes(_) => Width::Byte,
+        SampleSlice::Words(_) => Width::Word,
     }
 }
 

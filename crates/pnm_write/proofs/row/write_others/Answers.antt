@@ -1,14 +1,14 @@
 use Rattle.std.proofs.Common.{◌≡◌, ◌≤◌, ◌<◌, ◌∙◌, ◌++◌, ◌+◌, ◌-◌, min, List, ℕ, length, take, drop, ap, sym, subst, arith}
 use Rattle.std.proofs.lemmas.List.{length-drop, length-take, length-append, take_at, drop-drop}
-use Rattle.pnm_image.specs.declared.packing.Packing.{Packing}
+use Rattle.pnm_image.specs.declared.sample_width.SampleWidth.{SampleWidth}
 use Rattle.pnm_write.specs.Encoding.{bytes_in}
 use Rattle.pnm_image.specs.Devices.{FailsIn}
-use Rattle.pnm_write.proofs.PackingLaws.{few_parts}
+use Rattle.pnm_write.proofs.RawLaws.{few_parts}
 use Rattle.pnm_image.proofs.Written.{at_any_error, sending_part, sending_part_failed}
 use Rattle.pnm_write.proofs.row.write_others.Goals as goal
 
 -- the bytes that are left are those of the part that is written now, and those after it
-copied_and_rest : (p : Packing) (start n : ℕ) (row copied words written : List ℕ) → n ≡ min (length row - start) 2048 → length copied ≡ n → copied ≡ take n (drop start row) → written ≡ bytes_in p (take n (copied ++ drop n words))
+copied_and_rest : (p : SampleWidth) (start n : ℕ) (row copied words written : List ℕ) → n ≡ min (length row - start) 2048 → length copied ≡ n → copied ≡ take n (drop start row) → written ≡ bytes_in p (take n (copied ++ drop n words))
     → bytes_in p (drop start row) ≡ written ++ bytes_in p (drop (start + n) row)
 copied_and_rest p start n row copied words written e size same w =
     let count : n ≡ min (length (drop start row)) 2048 = omega (arith, length-drop start row) in
@@ -27,10 +27,10 @@ returns-in_err-write_all-clause-failed g c =
     let room : length (take n words) ≡ n = omega (arith, length-take n words) in
     let same : c.copy_to.new.room ≡ take n (drop start row) = c.copy_to.ensures ∙ ap (λ (k : ℕ). take k (drop start row)) room in
     let size : length c.copy_to.new.room ≡ n = ap length same ∙ omega (arith, length-take n (drop start row), length-drop start row) in
-    let split = copied_and_rest c.of-packing.result start n row c.copy_to.new.room words c.as_slice.result.now count size same (c.as_slice.ensures ∙ c.fill.ensures) in
-    let failed = sending_part_failed g.W.BytesOut.held g.W.BytesOut.failures g.W.BytesOut.same c.args.writer.now c.loop-start.writer c.write_all.new.writer (bytes_in c.of-packing.result row) (bytes_in c.of-packing.result (drop start row)) c.as_slice.result.now (bytes_in c.of-packing.result (drop (start + n) row)) split c.loop-start.invariant.0 c.in_err-write_all.ensures.failed in
+    let split = copied_and_rest c.of-sample_width.result start n row c.copy_to.new.room words c.as_slice.result.now count size same (c.as_slice.ensures ∙ c.fill.ensures) in
+    let failed = sending_part_failed g.W.BytesOut.held g.W.BytesOut.failures g.W.BytesOut.same c.args.writer.now c.loop-start.writer c.write_all.new.writer (bytes_in c.of-sample_width.result row) (bytes_in c.of-sample_width.result (drop start row)) c.as_slice.result.now (bytes_in c.of-sample_width.result (drop (start + n) row)) split c.loop-start.invariant.0 c.in_err-write_all.ensures.failed in
     at_any_error c.from_residual.result
-    (subst (λ (p : Packing). FailsIn (bytes_in p row) (g.W.BytesOut.held c.args.writer.now) (g.W.BytesOut.held c.write_all.new.writer) (g.W.BytesOut.failures c.args.writer.now) (g.W.BytesOut.failures c.write_all.new.writer)) c.of-packing.ensures failed)
+    (subst (λ (p : SampleWidth). FailsIn (bytes_in p row) (g.W.BytesOut.held c.args.writer.now) (g.W.BytesOut.held c.write_all.new.writer) (g.W.BytesOut.failures c.args.writer.now) (g.W.BytesOut.failures c.write_all.new.writer)) c.of-sample_width.ensures failed)
 
 pub loop-start-preserved : goal.loop-start-preserved
 loop-start-preserved g c =
@@ -42,8 +42,8 @@ loop-start-preserved g c =
     let room : length (take n words) ≡ n = omega (arith, length-take n words) in
     let same : c.copy_to.new.room ≡ take n (drop start row) = c.copy_to.ensures ∙ ap (λ (k : ℕ). take k (drop start row)) room in
     let size : length c.copy_to.new.room ≡ n = ap length same ∙ omega (arith, length-take n (drop start row), length-drop start row) in
-    let split = copied_and_rest c.of-packing.result start n row c.copy_to.new.room words c.as_slice.result.now count size same (c.as_slice.ensures ∙ c.fill.ensures) in (
-      sending_part g.W.BytesOut.held g.W.BytesOut.failures g.W.BytesOut.same c.args.writer.now c.loop-start.writer c.write_all.new.writer (bytes_in c.of-packing.result row) (bytes_in c.of-packing.result (drop start row)) c.as_slice.result.now (bytes_in c.of-packing.result (drop (start + n) row)) split c.loop-start.invariant.0 c.in_ok-write_all.ensures.written c.in_ok-write_all.ensures.count
+    let split = copied_and_rest c.of-sample_width.result start n row c.copy_to.new.room words c.as_slice.result.now count size same (c.as_slice.ensures ∙ c.fill.ensures) in (
+      sending_part g.W.BytesOut.held g.W.BytesOut.failures g.W.BytesOut.same c.args.writer.now c.loop-start.writer c.write_all.new.writer (bytes_in c.of-sample_width.result row) (bytes_in c.of-sample_width.result (drop start row)) c.as_slice.result.now (bytes_in c.of-sample_width.result (drop (start + n) row)) split c.loop-start.invariant.0 c.in_ok-write_all.ensures.written c.in_ok-write_all.ensures.count
           (g.met.W.BytesOut.same_later _ _ _ c.loop-start.invariant.0.same_device c.in_ok-write_all.ensures.same_device),
       omega arith,
       omega (arith, length-append c.copy_to.new.room (drop n words), length-drop n words, size),

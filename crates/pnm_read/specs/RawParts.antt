@@ -4,7 +4,7 @@ use Rattle.std.specs.List.{concat}
 use Rattle.pnm_image.specs.declared.shape.Shape.{Shape}
 use Rattle.pnm_read.specs.declared.fault.InputFault.{InputFault}
 use Rattle.pnm_read.specs.declared.fault.InputFault.TheVariants.{SampleAboveMaxval, Memory}
-use Rattle.pnm_image.specs.declared.packing.Packing.{Packing}
+use Rattle.pnm_image.specs.declared.sample_width.SampleWidth.{SampleWidth}
 use Rattle.pnm_read.specs.Rasters.{wide_samples}
 use Rattle.pnm_read.specs.Items.{raw_item}
 use Rattle.pnm_read.specs.Said.{in_turn, units_at}
@@ -19,11 +19,11 @@ abbrev pub AppendsWide : ℕ → List ℕ → List ℕ → List ℕ → Result (
 AppendsWide maxval bytes old new result = AppendsSamples maxval (wide_samples bytes) old new result
 
 -- At most so many units came next in the text, and their samples after the old ones; or one of so many is at fault.
-abbrev pub FindsPart : Packing → ℕ → ℕ → List ℕ → (ℕ → List ℕ) → Result ℕ InputFault → List ℕ → List ℕ → Type 0
-FindsPart packing maxval most old new (Ok count) before after =
-    (units : List (List ℕ)) × (new count ≡ old ++ concat units) × (count ≤ most) × (in_turn (raw_item packing maxval) count before ≡ Ok (units, after))
-FindsPart packing maxval most old new (Err fault) before after =
-    ((n : ℕ) × (n ≤ most) × (in_turn (raw_item packing maxval) n before ≡ Err fault)) ⊎ IsOutsideFault fault
+abbrev pub FindsPart : SampleWidth → ℕ → ℕ → List ℕ → (ℕ → List ℕ) → Result ℕ InputFault → List ℕ → List ℕ → Type 0
+FindsPart sample_width maxval most old new (Ok count) before after =
+    (units : List (List ℕ)) × (new count ≡ old ++ concat units) × (count ≤ most) × (in_turn (raw_item sample_width maxval) count before ≡ Ok (units, after))
+FindsPart sample_width maxval most old new (Err fault) before after =
+    ((n : ℕ) × (n ≤ most) × (in_turn (raw_item sample_width maxval) n before ≡ Err fault)) ⊎ IsOutsideFault fault
 
 -- the units of the row that the text begins with, and their samples, with those of spare bits
 abbrev pub FindsUnits : {R : Type 0} → (R → List ℕ) → Shape → Result R InputFault → List ℕ → List ℕ → Type 0

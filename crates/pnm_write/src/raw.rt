@@ -4,7 +4,7 @@ ghost use Rattle.std.specs.Prelude.{◌≡◌, ◌≤◌, ◌*◌, ◌-◌, All,
 ghost use Rattle.pnm_write.specs.Encoding.{wide_bytes, bytes_in};
 ghost use Rattle.pnm_write.specs.Rooms.{most_samples, FitIn};
 
-use pnm_image::Packing;
+use pnm_image::SampleWidth;
 use pnm_samples::pack;
 
 /// The samples, a byte each.
@@ -35,27 +35,27 @@ fn widen(samples: &[u16], room: &mut [u8]) -> usize
 }
 
 /// The most samples whose bytes fit into 4,096 bytes.
-pub fn most_samples(packing: Packing) -> usize
-    ensures { result ≡ most_samples packing }
+pub fn most_samples(sample_width: SampleWidth) -> usize
+    ensures { result ≡ most_samples sample_width }
 {
-    match packing {
-        Packing::Packed => 32_768,
-        Packing::Narrow => 4096,
-        Packing::Wide => 2048,
+    match sample_width {
+        SampleWidth::Bits => 32_768,
+        SampleWidth::Bytes => 4096,
+        SampleWidth::Words => 2048,
     }
 }
 
 /// Writes the bytes of the samples to the front of the room, and answers how many they are.
-pub fn encode(packing: Packing, samples: &[u16], room: &mut [u8]) -> usize
+pub fn encode(sample_width: SampleWidth, samples: &[u16], room: &mut [u8]) -> usize
     requires room { length room.old ≡ 4096 }
-    requires count { length samples.now ≤ most_samples packing }
-    requires range { FitIn packing samples.now }
+    requires count { length samples.now ≤ most_samples sample_width }
+    requires range { FitIn sample_width samples.now }
     ensures within { result ≤ length room.new }
-    ensures bytes { take result room.new ≡ bytes_in packing samples.now }
+    ensures bytes { take result room.new ≡ bytes_in sample_width samples.now }
 {
-    match packing {
-        Packing::Packed => pack(samples, room),
-        Packing::Narrow => narrow(samples, room),
-        Packing::Wide => widen(samples, room),
+    match sample_width {
+        SampleWidth::Bits => pack(samples, room),
+        SampleWidth::Bytes => narrow(samples, room),
+        SampleWidth::Words => widen(samples, room),
     }
 }

@@ -1,5 +1,5 @@
 use Rattle.std.proofs.Common.{◌≡◌, take}
-use Rattle.pnm_write.proofs.packing.narrow.Given as goal
+use Rattle.pnm_write.proofs.raw.narrow.Given as goal
 
 -- the samples that have passed are bytes
 abbrev pub invariant-loop-i : goal.invariant-loop-i

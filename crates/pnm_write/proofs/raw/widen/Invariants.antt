@@ -1,6 +1,6 @@
 use Rattle.std.proofs.Common.{◌≡◌, ◌*◌, take}
 use Rattle.pnm_write.specs.Encoding.{wide_bytes}
-use Rattle.pnm_write.proofs.packing.widen.Given as goal
+use Rattle.pnm_write.proofs.raw.widen.Given as goal
 
 -- the bytes of the samples that have passed
 abbrev pub invariant-loop-i : goal.invariant-loop-i

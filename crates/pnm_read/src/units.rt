@@ -2,12 +2,12 @@
 
 ghost use Rattle.std.specs.Prelude.{◌≡◌, ◌≤◌, ◌↔◌, take, IsTrue};
 ghost use Rattle.pnm_image.specs.Limits.{max_side};
-ghost use Rattle.pnm_read.specs.Packings.{AppendsWide};
+ghost use Rattle.pnm_read.specs.RawParts.{AppendsWide};
 ghost use Rattle.pnm_read.specs.Units.{AreBytesWithin};
 ghost use Rattle.pnm_read.specs.Said.{units_in_row};
 
 use crate::fault::InputFault;
-use pnm_image::{Bits, Held, Packing, Samples, Shape};
+use pnm_image::{Bits, SampleVec, SampleWidth, Samples, Shape};
 use pnm_samples::{are_bytes_within, are_words_within};
 
 /// The units of a raw row, as wide as the bytes that they lie in. A unit is a
@@ -15,11 +15,11 @@ use pnm_samples::{are_bytes_within, are_words_within};
 #[derive(Debug, Drop)]
 pub enum Units {
     /// Bytes of eight pixels.
-    Packed(Vec<u8>),
+    Bits(Vec<u8>),
     /// Samples of a byte.
-    Narrow(Vec<u8>),
+    Bytes(Vec<u8>),
     /// Samples of two bytes.
-    Wide(Vec<u16>),
+    Words(Vec<u16>),
 }
 
 impl Units {
@@ -31,14 +31,14 @@ impl Units {
         ensures { result ≡ take count (samples_in self) }
     {
         match self {
-            Units::Packed(bytes) => Samples::from_held(Held::Bits(Bits::new(bytes, count))),
-            Units::Narrow(mut bytes) => {
+            Units::Bits(bytes) => Samples::from_vec(SampleVec::Bits(Bits::new(bytes, count))),
+            Units::Bytes(mut bytes) => {
                 bytes.truncate(count);
-                Samples::within(Held::Bytes(bytes), maxval)
+                Samples::within(SampleVec::Bytes(bytes), maxval)
             }
-            Units::Wide(mut words) => {
+            Units::Words(mut words) => {
                 words.truncate(count);
-                Samples::within(Held::Words(words), maxval)
+                Samples::within(SampleVec::Words(words), maxval)
             }
         }
     }
@@ -62,22 +62,22 @@ pub fn append_wide(bytes: &[u8], maxval: u32, row: &mut Vec<u16>) -> Result<(), 
 }
 
 /// Whether none of these units of a byte is a sample above the maxval. A byte of eight pixels is none.
-pub fn are_units_within(bytes: &[u8], packing: Packing, maxval: u32) -> bool
-    ensures { IsTrue result ↔ AreBytesWithin packing maxval bytes.now }
+pub fn are_units_within(bytes: &[u8], sample_width: SampleWidth, maxval: u32) -> bool
+    ensures { IsTrue result ↔ AreBytesWithin sample_width maxval bytes.now }
 {
-    match packing {
-        Packing::Packed => true,
-        Packing::Narrow | Packing::Wide => are_bytes_within(bytes, maxval),
+    match sample_width {
+        SampleWidth::Bits => true,
+        SampleWidth::Bytes | SampleWidth::Words => are_bytes_within(bytes, maxval),
     }
 }
 
 /// The units in a row of this shape.
-pub fn units_in_row(packing: Packing, shape: Shape) -> usize
+pub fn units_in_row(sample_width: SampleWidth, shape: Shape) -> usize
     requires { shape.width ≤ max_side }
-    ensures { result ≡ units_in_row packing shape }
+    ensures { result ≡ units_in_row sample_width shape }
 {
-    match packing {
-        Packing::Packed => (shape.width as usize).div_ceil(8),
-        Packing::Narrow | Packing::Wide => shape.row_length() as usize,
+    match sample_width {
+        SampleWidth::Bits => (shape.width as usize).div_ceil(8),
+        SampleWidth::Bytes | SampleWidth::Words => shape.row_length() as usize,
     }
 }

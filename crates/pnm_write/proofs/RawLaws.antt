@@ -5,8 +5,8 @@ use Rattle.std.proofs.lemmas.Bool.{cases_lt}
 use Rattle.std.proofs.lemmas.Grind.{flat_map-append}
 use Rattle.std.proofs.lemmas.List.{append-nil, take_all, drop_all, take_more, take_more_set, take-append-drop, take-take, drop-take, drop-drop, length-take, length-drop}
 use Rattle.std.proofs.lemmas.List.Elements.{All-drop}
-use Rattle.pnm_image.specs.declared.packing.Packing.{Packing}
-use Rattle.pnm_image.specs.declared.packing.Packing.TheVariants.{Packed, Narrow, Wide}
+use Rattle.pnm_image.specs.declared.sample_width.SampleWidth.{SampleWidth}
+use Rattle.pnm_image.specs.declared.sample_width.SampleWidth.TheVariants.{Bits, Bytes, Words}
 use Rattle.pnm_write.specs.Encoding.{pixel_bits, packed_byte, packed_groups, packed_bytes, wide_bytes, bytes_in}
 use Rattle.pnm_samples.proofs.PackLaws.{packed_parts}
 use Rattle.pnm_write.specs.Rooms.{most_samples, FitIn}
@@ -34,35 +34,35 @@ wide_more xs room i high low known below enough h l =
 -- ---- parts of a row
 
 -- all samples in one part
-one_part : (p : Packing) (n : ℕ) (xs : List ℕ) → length xs ≤ n → bytes_in p xs ≡ bytes_in p (take n xs) ++ bytes_in p (drop n xs)
+one_part : (p : SampleWidth) (n : ℕ) (xs : List ℕ) → length xs ≤ n → bytes_in p xs ≡ bytes_in p (take n xs) ++ bytes_in p (drop n xs)
 one_part p n xs all =
-    let none : bytes_in p [] ≡ [] = elim p as (λ q. bytes_in q [] ≡ []) [ Packed ↦ refl | Narrow ↦ refl | Wide ↦ refl ] in
+    let none : bytes_in p [] ≡ [] = elim p as (λ q. bytes_in q [] ≡ []) [ Bits ↦ refl | Bytes ↦ refl | Words ↦ refl ] in
     sym (append-nil (bytes_in p xs)) ∙ ap₂ (λ (a b : List ℕ). a ++ b) (ap (bytes_in p) (sym (take_all n xs all))) (sym none ∙ ap (bytes_in p) (sym (drop_all n xs all)))
 
 -- the bytes of a part, and those of the rest
-pub parts : (p : Packing) (n : ℕ) (xs : List ℕ) → n ≡ min (length xs) (most_samples p) → bytes_in p xs ≡ bytes_in p (take n xs) ++ bytes_in p (drop n xs)
-parts Packed n xs e = elim (cases_lt (length xs) 32768) [
-  | inl few ↦ one_part Packed n xs (omega arith)
+pub parts : (p : SampleWidth) (n : ℕ) (xs : List ℕ) → n ≡ min (length xs) (most_samples p) → bytes_in p xs ≡ bytes_in p (take n xs) ++ bytes_in p (drop n xs)
+parts Bits n xs e = elim (cases_lt (length xs) 32768) [
+  | inl few ↦ one_part Bits n xs (omega arith)
   | inr many ↦
       let most : 8 * 4096 ≡ n = omega arith in
       packed_parts 4096 xs (omega arith) ∙ ap (λ (m : ℕ). packed_bytes (take m xs) ++ packed_bytes (drop m xs)) most
 ]
-parts Narrow n xs e = sym (take-append-drop n xs)
-parts Wide n xs e = ap wide_bytes (sym (take-append-drop n xs)) ∙ flat_map-append (λ (s : ℕ). s / 256 ∷ s % 256 ∷ []) (take n xs) (drop n xs)
+parts Bytes n xs e = sym (take-append-drop n xs)
+parts Words n xs e = ap wide_bytes (sym (take-append-drop n xs)) ∙ flat_map-append (λ (s : ℕ). s / 256 ∷ s % 256 ∷ []) (take n xs) (drop n xs)
 
 -- the samples of the rest fit their bytes too
-pub fit_rest : (p : Packing) (n : ℕ) (xs : List ℕ) → FitIn p xs → FitIn p (drop n xs)
-fit_rest Packed n xs fit = tt
-fit_rest Narrow n xs fit = All-drop (λ sample. sample ≤ 255) n xs fit
-fit_rest Wide n xs fit = tt
+pub fit_rest : (p : SampleWidth) (n : ℕ) (xs : List ℕ) → FitIn p xs → FitIn p (drop n xs)
+fit_rest Bits n xs fit = tt
+fit_rest Bytes n xs fit = All-drop (λ sample. sample ≤ 255) n xs fit
+fit_rest Words n xs fit = tt
 
 -- the bytes of a part of fewer samples, and those of the rest
-pub few_parts : (p : Packing) (n : ℕ) (xs : List ℕ) → n ≡ min (length xs) 2048 → bytes_in p xs ≡ bytes_in p (take n xs) ++ bytes_in p (drop n xs)
-few_parts Packed n xs e = elim (cases_lt (length xs) 2048) [
-  | inl few ↦ one_part Packed n xs (omega arith)
+pub few_parts : (p : SampleWidth) (n : ℕ) (xs : List ℕ) → n ≡ min (length xs) 2048 → bytes_in p xs ≡ bytes_in p (take n xs) ++ bytes_in p (drop n xs)
+few_parts Bits n xs e = elim (cases_lt (length xs) 2048) [
+  | inl few ↦ one_part Bits n xs (omega arith)
   | inr many ↦
       let most : 8 * 256 ≡ n = omega arith in
       packed_parts 256 xs (omega arith) ∙ ap (λ (m : ℕ). packed_bytes (take m xs) ++ packed_bytes (drop m xs)) most
 ]
-few_parts Narrow n xs e = sym (take-append-drop n xs)
-few_parts Wide n xs e = ap wide_bytes (sym (take-append-drop n xs)) ∙ flat_map-append (λ (s : ℕ). s / 256 ∷ s % 256 ∷ []) (take n xs) (drop n xs)
+few_parts Bytes n xs e = sym (take-append-drop n xs)
+few_parts Words n xs e = ap wide_bytes (sym (take-append-drop n xs)) ∙ flat_map-append (λ (s : ℕ). s / 256 ∷ s % 256 ∷ []) (take n xs) (drop n xs)

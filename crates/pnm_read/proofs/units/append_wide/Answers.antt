@@ -3,8 +3,8 @@ use Rattle.std.proofs.lemmas.Result.{on_ok_weaker}
 use Rattle.std.proofs.lemmas.Iterator.{YieldsList-from_map}
 use Rattle.std.proofs.lemmas.Iterator.Adapters.{items_from_extend}
 use Rattle.pnm_read.specs.Rasters.{wide_samples}
-use Rattle.pnm_read.proofs.PackingLaws.{wide_samples_of_pairs, at_no_error, within_of_appended, refused_not_within}
-use Rattle.pnm_read.proofs.packing.append_wide.Goals as goal
+use Rattle.pnm_read.proofs.RawPartLaws.{wide_samples_of_pairs, at_no_error, within_of_appended, refused_not_within}
+use Rattle.pnm_read.proofs.units.append_wide.Goals as goal
 
 pub returns-then-not-are_words_within : goal.returns-then-not-are_words_within
 returns-then-not-are_words_within c =

@@ -1,0 +1,16 @@
+-- The samples that a row holds.
+use Rattle.std.specs.Prelude.{ℕ, List}
+use Rattle.pnm_samples.specs.declared.samples.SampleVec.{SampleVec}
+use Rattle.pnm_samples.specs.declared.samples.SampleVec.TheVariants.{Bits, Bytes, Words}
+use Rattle.pnm_samples.specs.declared.samples.SampleSlice.{SampleSlice}
+use Rattle.pnm_samples.specs.declared.samples.SampleSlice.TheVariants.{Bits as SliceBits, Bytes as SliceBytes, Words as SliceWords}
+
+abbrev pub samples_of : SampleVec → List ℕ
+samples_of (Bits bits) = bits
+samples_of (Bytes bytes) = bytes.items
+samples_of (Words words) = words.items
+
+abbrev pub slice_samples : SampleSlice → List ℕ
+slice_samples (SliceBits bits) = bits.now
+slice_samples (SliceBytes bytes) = bytes.now
+slice_samples (SliceWords words) = words.now
