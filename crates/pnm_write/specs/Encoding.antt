@@ -1,4 +1,5 @@
--- The bytes of images and of messages. From pbm(5), pgm(5), ppm(5) and pam(5), 'The layout' of the raw formats.
+-- The bytes of images and of messages in either form. From pbm(5), pgm(5), ppm(5) and pam(5), 'The layout'. There is no
+-- plain PAM: what is said of one means nothing.
 use Rattle.std.specs.Prelude.{ℕ, ◌+◌, ◌*◌, ◌-◌, ◌/◌, ◌%◌, List, [], ◌∷◌, ◌++◌, length, map, codes, decimal}
 use Rattle.std.specs.List.{flat_map}
 use Rattle.pnm_image.specs.declared.message.Message.{Message}
@@ -8,13 +9,18 @@ use Rattle.pnm_image.specs.declared.place.Place.TheVariants.{Between, Inside, Af
 use Rattle.pnm_image.specs.declared.shape.Kind.{Kind}
 use Rattle.pnm_image.specs.declared.shape.Kind.TheVariants.{Bit, Gray, Color, Pam}
 use Rattle.pnm_image.specs.declared.shape.Shape.{Shape}
+use Rattle.pnm_image.specs.declared.format.Form.{Form}
+use Rattle.pnm_image.specs.declared.format.Form.TheVariants.{Raw, Plain}
+use Rattle.pnm_image.specs.Formats.{magic_of}
 use Rattle.pnm_image.specs.Heads.{HeadValue}
 use Rattle.pnm_image.specs.Images.{Image, cut_rows, rows_of}
 pub use Rattle.pnm_samples.specs.Pixels.{pixel_bits, packed_byte, packed_groups, packed_bytes}
-use Rattle.pnm_image.specs.Packings.{packing_of}
+use Rattle.pnm_image.specs.SampleWidths.{sample_width_of}
 use Rattle.pnm_image.specs.Places.{place_after}
-use Rattle.pnm_image.specs.declared.packing.Packing.{Packing}
-use Rattle.pnm_image.specs.declared.packing.Packing.TheVariants.{Packed, Narrow, Wide}
+use Rattle.pnm_write.specs.PlainRows.{plain_row_text}
+use Rattle.pnm_write.specs.Forms.{taken_by}
+use Rattle.pnm_image.specs.declared.sample_width.SampleWidth.{SampleWidth}
+use Rattle.pnm_image.specs.declared.sample_width.SampleWidth.TheVariants.{Bits, Bytes, Words}
 
 -- ---- headers: numbers are decimal, without leading zeros
 
@@ -42,15 +48,19 @@ pam_text s tuple_type =
     ++ tuple_type_line tuple_type
     ++ codes "ENDHDR\n"
 
--- the header of an image of this kind
-abbrev pub kind_text : Kind → Shape → List ℕ → List ℕ
-kind_text Bit s tuple_type = codes "P4\n" ++ size_line s
-kind_text Gray s tuple_type = codes "P5\n" ++ size_line s ++ maxval_line s
-kind_text Color s tuple_type = codes "P6\n" ++ size_line s ++ maxval_line s
-kind_text Pam s tuple_type = pam_text s tuple_type
+-- the line of the magic
+abbrev pub magic_line : Kind → Form → List ℕ
+magic_line kind form = magic_of kind form ++ codes "\n"
 
-abbrev pub header_text : HeadValue → List ℕ
-header_text h = kind_text h.shape.kind h.shape h.tuple_type
+-- the header of an image of this kind
+abbrev pub kind_text : Form → Kind → Shape → List ℕ → List ℕ
+kind_text form Bit s tuple_type = magic_line Bit form ++ size_line s
+kind_text form Gray s tuple_type = magic_line Gray form ++ size_line s ++ maxval_line s
+kind_text form Color s tuple_type = magic_line Color form ++ size_line s ++ maxval_line s
+kind_text form Pam s tuple_type = pam_text s tuple_type
+
+abbrev pub header_text : Form → HeadValue → List ℕ
+header_text form h = kind_text form h.shape.kind h.shape h.tuple_type
 
 -- ---- rows
 
@@ -58,40 +68,45 @@ header_text h = kind_text h.shape.kind h.shape h.tuple_type
 abbrev pub wide_bytes : List ℕ → List ℕ
 wide_bytes samples = flat_map (λ sample. sample / 256 ∷ sample % 256 ∷ []) samples
 
-abbrev pub bytes_in : Packing → List ℕ → List ℕ
-bytes_in Packed samples = packed_bytes samples
-bytes_in Narrow samples = samples
-bytes_in Wide samples = wide_bytes samples
+abbrev pub bytes_in : SampleWidth → List ℕ → List ℕ
+bytes_in Bits samples = packed_bytes samples
+bytes_in Bytes samples = samples
+bytes_in Words samples = wide_bytes samples
 
 -- the bytes of a row of an image of this shape
-abbrev pub row_bytes : Shape → List ℕ → List ℕ
-row_bytes s samples = bytes_in (packing_of s.kind s.maxval) samples
+abbrev pub row_bytes : Form → Shape → List ℕ → List ℕ
+row_bytes Raw s samples = bytes_in (sample_width_of s.kind s.maxval) samples
+row_bytes Plain s samples = plain_row_text s.kind samples
 
 -- ---- images and messages
 
 -- the header, and the bytes of each row, top to bottom
-abbrev pub image_bytes : Image → List ℕ
-image_bytes i = header_text i.head ++ flat_map (row_bytes i.head.shape) (rows_of i)
+abbrev pub image_bytes : Form → Image → List ℕ
+image_bytes form i = header_text form i.head ++ flat_map (row_bytes form i.head.shape) (rows_of i)
 
 -- the images one after another
-abbrev pub encoding_of : List Image → List ℕ
-encoding_of images = flat_map image_bytes images
+abbrev pub encoding_of : Form → List Image → List ℕ
+encoding_of form images = flat_map (image_bytes form) images
 
 -- the bytes of a message that comes at this place: the header of an image, or a row of the image
-abbrev pub bytes_at : Place → Message → List ℕ
-bytes_at place (Begin head) = header_text head
-bytes_at Between (Row row) = []
-bytes_at (Inside s y) (Row row) = row_bytes s row
-bytes_at After (Row row) = []
-bytes_at place ImageEnd = []
-bytes_at place StreamEnd = []
-bytes_at place Stop = []
+abbrev pub bytes_at : Form → Place → Message → List ℕ
+bytes_at form place (Begin head) = header_text form head
+bytes_at form Between (Row row) = []
+bytes_at form (Inside s y) (Row row) = row_bytes form s row
+bytes_at form After (Row row) = []
+bytes_at form place ImageEnd = []
+bytes_at form place StreamEnd = []
+bytes_at form place Stop = []
 
 -- the bytes of messages that come from this place on
-abbrev pub bytes_from : Place → List Message → List ℕ
-bytes_from place [] = []
-bytes_from place (m ∷ ms) = bytes_at place m ++ bytes_from (place_after place m) ms
+abbrev pub bytes_from : Form → Place → List Message → List ℕ
+bytes_from form place [] = []
+bytes_from form place (m ∷ ms) = bytes_at form place m ++ bytes_from form (place_after place m) ms
 
 -- the bytes of the messages of a stream
-abbrev pub bytes_of : List Message → List ℕ
-bytes_of messages = bytes_from Between messages
+abbrev pub bytes_of : Form → List Message → List ℕ
+bytes_of form messages = bytes_from form Between messages
+
+-- the bytes that are written of the messages of a stream: those before the first that the form refuses
+abbrev pub written_of : Form → List Message → List ℕ
+written_of form messages = bytes_of form (taken_by form messages)

@@ -1,3 +1,5 @@
+pub mod PlainRows
+pub mod Forms
 pub mod Encoding
 pub mod Rooms
 pub mod Sinks

@@ -1,16 +1,18 @@
 -- Which messages were put into a sink, and which messages it refuses.
-use Rattle.std.specs.Prelude.{◌≡◌, ℕ, ◌<◌, Bool, false, List, Option}
+use Rattle.std.specs.Prelude.{◌≡◌, ℕ, ◌<◌, Bool, false, List, Option, Some, None}
 use Rattle.std.specs.List.{AllByRecursion}
 use Rattle.std.specs.Io.KnownBytes.{Appends, Keeps}
+use Rattle.pnm_image.specs.declared.format.Form.{Form}
 use Rattle.pnm_image.specs.declared.message.Message.{Message}
 use Rattle.pnm_image.specs.declared.message.Message.TheVariants.{Begin, Row, ImageEnd, StreamEnd, Stop}
 use Rattle.pnm_image.specs.declared.place.Place.{Place}
 use Rattle.pnm_image.specs.declared.place.Place.TheVariants.{Between}
 use Rattle.pnm_image.specs.Places.{Accepts, IsLawful, place_of}
 use Rattle.pnm_write.specs.declared.fault.SinkFault.{SinkFault}
-use Rattle.pnm_write.specs.declared.fault.SinkFault.TheVariants.{WriteFailed, OutOfOrder, Broken}
+use Rattle.pnm_write.specs.declared.fault.SinkFault.TheVariants.{WriteFailed, OutOfOrder, Broken, SecondPlain, PlainPam}
 use Rattle.pnm_write.specs.declared.sink.Sink.{Sink}
 use Rattle.pnm_write.specs.Encoding.{bytes_at, bytes_of}
+use Rattle.pnm_write.specs.Forms.{has_begun_by, form_fault, form_fault_of}
 use Rattle.pnm_image.specs.Devices.{FailsIn}
 
 abbrev pub writer_of : {W : Type 0} → Sink W → W
@@ -32,24 +34,40 @@ HasRows ImageEnd = Unit {0}
 HasRows StreamEnd = Unit {0}
 HasRows Stop = Unit {0}
 
--- a sink takes the message at this place
-abbrev pub Takes : Place → Message → Type 0
-Takes place m = Accepts place m × HasRows m
+-- the form in which the sink writes
+abbrev pub form_of : {W : Type 0} → Sink W → Form
+form_of sink = sink.form
+
+-- an image has begun
+abbrev pub has_begun : {W : Type 0} → Sink W → Bool
+has_begun sink = sink.has_begun
+
+-- the message may come at this place of the stream, and begins no image of height 0
+abbrev pub IsInOrder : Place → Message → Type 0
+IsInOrder place m = Accepts place m × HasRows m
+
+-- a sink takes the message at this place, where an image has begun or not
+abbrev pub Takes : Form → Bool → Place → Message → Type 0
+Takes form begun place m = IsInOrder place m × (form_fault form begun m ≡ None)
 
 -- these are the messages that were put into the sink without a fault
 pub record HasPut {W : Type 0} (sink : Sink W) (messages : List Message) : Type 0 where
   pub lawful : IsLawful messages
   pub rows : AllByRecursion HasRows messages
+  pub form : form_fault_of (form_of sink) messages ≡ None
+  pub begun : has_failed sink ≡ false → has_begun sink ≡ has_begun_by false messages
   pub place : has_failed sink ≡ false → next_place sink ≡ place_of Between messages
 
 -- these are the messages that were put, and what the writer held before them has grown by their bytes
 pub record HasWritten {W : Type 0} (held : W → Option (List ℕ)) (start : Option (List ℕ)) (sink : Sink W) (messages : List Message) : Type 0 where
   pub put : HasPut sink messages
-  pub bytes : Appends start (held (writer_of sink)) (bytes_of messages)
+  pub bytes : Appends start (held (writer_of sink)) (bytes_of (form_of sink) messages)
 
--- Why a message isn't written, where there was no fault before: it isn't taken at this place, and nothing is
--- written; or the writer failed.
-abbrev pub Refuses : Place → Message → SinkFault → Option (List ℕ) → Option (List ℕ) → ℕ → ℕ → Type 0
-Refuses place m OutOfOrder old new failures_old failures_new = (Takes place m → ⊥) × Keeps old new
-Refuses place m WriteFailed old new failures_old failures_new = Takes place m × FailsIn (bytes_at place m) old new failures_old failures_new
-Refuses place m Broken old new failures_old failures_new = ⊥
+-- Why a message isn't written, where there was no fault before: it doesn't come in order; the form refuses it; or the
+-- writer failed. But for the last nothing is written.
+abbrev pub Refuses : Form → Bool → Place → Message → SinkFault → Option (List ℕ) → Option (List ℕ) → ℕ → ℕ → Type 0
+Refuses form begun place m OutOfOrder old new failures_old failures_new = (IsInOrder place m → ⊥) × Keeps old new
+Refuses form begun place m SecondPlain old new failures_old failures_new = IsInOrder place m × (form_fault form begun m ≡ Some SecondPlain) × Keeps old new
+Refuses form begun place m PlainPam old new failures_old failures_new = IsInOrder place m × (form_fault form begun m ≡ Some PlainPam) × Keeps old new
+Refuses form begun place m WriteFailed old new failures_old failures_new = Takes form begun place m × FailsIn (bytes_at form place m) old new failures_old failures_new
+Refuses form begun place m Broken old new failures_old failures_new = ⊥
