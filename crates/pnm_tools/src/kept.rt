@@ -3,7 +3,7 @@
 ghost use Rattle.std.specs.Prelude.{◌≡◌, ◌≤◌, ◌<◌, ◌+◌, ◌*◌, ◌++◌, ◌∷◌, [], All, OnOk, OnErr, IfOk, IfErr, length, map, reverse};
 ghost use Rattle.std.specs.List.{range_with_len};
 ghost use Rattle.pnm_image.specs.Limits.{max_depth, max_row_length};
-ghost use Rattle.pnm_image.specs.declared.sample_width.SampleWidth.TheVariants.{Bits};
+ghost use Rattle.pnm_image.specs.declared.sample_width.SampleWidth.TheVariants.{Bits as OfBits};
 ghost use Rattle.pnm_tools.specs.declared.fault.ToolFault.TheVariants.{Memory};
 ghost use Rattle.pnm_tools.specs.Flip.{column_of};
 ghost use Rattle.pnm_tools.specs.Kept.{kept_rows, kept_width, FitsWidth, IsBandOfBits, band_length};
@@ -96,7 +96,7 @@ impl Kept {
         requires rows { All (λ row. (first + count) * depth ≤ length row) (kept_rows self.now) }
         requires sizes { (length (kept_rows self.now) * depth ≤ max_row_length) × (depth ≤ max_depth)
             × (first + count ≤ 4294967295) }
-        requires bits { kept_width self.now ≡ Bits → IsBandOfBits first count depth }
+        requires bits { kept_width self.now ≡ OfBits → IsBandOfBits first count depth }
         ensures made { IfOk result (λ band. band.items
             ≡ reverse (map (column_of depth (kept_rows self.now)) (range_with_len first count))) }
         ensures refused { IfErr result (λ fault. fault ≡ Memory) }
