@@ -1,8 +1,4 @@
+pub mod FormLaws
 pub mod MessageLaws
+pub mod PlainLaws
 pub mod RawLaws
-pub mod DecimalText
-pub mod NumberText
-pub mod PamText
-pub mod HeaderText
-pub mod RowText
-pub mod ReadAgain

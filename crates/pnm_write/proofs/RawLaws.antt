@@ -1,13 +1,13 @@
 -- The bytes of samples: step by step, and part by part.
-use Rattle.std.proofs.Common.{◌≡◌, ℕ, zero, suc, ◌+◌, ◌-◌, ◌*◌, ◌/◌, ◌%◌, ◌<◌, ◌≤◌, min, List, [], ◌∷◌, ◌++◌, length, get_or, set, take, drop, replicate, refl, sym, ap, ap₂, ◌∙◌, append_assoc, arith, inl, inr}
+use Rattle.std.proofs.Common.{◌≡◌, ℕ, ◌+◌, ◌*◌, ◌/◌, ◌%◌, ◌<◌, ◌≤◌, min, List, [], ◌∷◌, ◌++◌, length, get_or, set, take, drop, refl, sym, ap, ap₂, ◌∙◌, append_assoc, arith, inl, inr}
 use Rattle.std.proofs.Math.ListN.{length-set}
 use Rattle.std.proofs.lemmas.Bool.{cases_lt}
 use Rattle.std.proofs.lemmas.Grind.{flat_map-append}
-use Rattle.std.proofs.lemmas.List.{append-nil, take_all, drop_all, take_more, take_more_set, take-append-drop, take-take, drop-take, drop-drop, length-take, length-drop}
+use Rattle.std.proofs.lemmas.List.{append-nil, take_all, drop_all, take_more, take_more_set, take-append-drop}
 use Rattle.std.proofs.lemmas.List.Elements.{All-drop}
 use Rattle.pnm_image.specs.declared.sample_width.SampleWidth.{SampleWidth}
 use Rattle.pnm_image.specs.declared.sample_width.SampleWidth.TheVariants.{Bits, Bytes, Words}
-use Rattle.pnm_write.specs.Encoding.{pixel_bits, packed_byte, packed_groups, packed_bytes, wide_bytes, bytes_in}
+use Rattle.pnm_write.specs.Encoding.{packed_bytes, wide_bytes, bytes_in}
 use Rattle.pnm_samples.proofs.PackLaws.{packed_parts}
 use Rattle.pnm_write.specs.Rooms.{most_samples, FitIn}
 

@@ -1,6 +1,6 @@
 -- The bytes of images and of messages in either form. From pbm(5), pgm(5), ppm(5) and pam(5), 'The layout'. There is no
 -- plain PAM: what is said of one means nothing.
-use Rattle.std.specs.Prelude.{ℕ, ◌+◌, ◌*◌, ◌-◌, ◌/◌, ◌%◌, List, [], ◌∷◌, ◌++◌, length, map, codes, decimal}
+use Rattle.std.specs.Prelude.{ℕ, ◌/◌, ◌%◌, List, [], ◌∷◌, ◌++◌, codes, decimal}
 use Rattle.std.specs.List.{flat_map}
 use Rattle.pnm_image.specs.declared.message.Message.{Message}
 use Rattle.pnm_image.specs.declared.message.Message.TheVariants.{Begin, Row, ImageEnd, StreamEnd, Stop}
@@ -13,7 +13,7 @@ use Rattle.pnm_image.specs.declared.format.Form.{Form}
 use Rattle.pnm_image.specs.declared.format.Form.TheVariants.{Raw, Plain}
 use Rattle.pnm_image.specs.Formats.{magic_of}
 use Rattle.pnm_image.specs.Heads.{HeadValue}
-use Rattle.pnm_image.specs.Images.{Image, cut_rows, rows_of}
+use Rattle.pnm_image.specs.Images.{Image, rows_of}
 pub use Rattle.pnm_samples.specs.Pixels.{pixel_bits, packed_byte, packed_groups, packed_bytes}
 use Rattle.pnm_image.specs.SampleWidths.{sample_width_of}
 use Rattle.pnm_image.specs.Places.{place_after}

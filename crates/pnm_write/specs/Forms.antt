@@ -1,5 +1,5 @@
 -- What a form has no place for: a plain file holds one image, which isn't PAM. From pbm(5), pgm(5) and ppm(5).
-use Rattle.std.specs.Prelude.{◌≡◌, ◌⊎◌, Bool, true, false, List, [], ◌∷◌, ◌++◌, Option, Some, None}
+use Rattle.std.specs.Prelude.{Bool, true, false, List, [], ◌∷◌, Option, Some, None}
 use Rattle.pnm_image.specs.declared.format.Form.{Form}
 use Rattle.pnm_image.specs.declared.format.Form.TheVariants.{Raw, Plain}
 use Rattle.pnm_image.specs.declared.message.Message.{Message}

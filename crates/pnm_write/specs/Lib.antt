@@ -1,4 +1,5 @@
 pub mod PlainRows
+pub mod PlainParts
 pub mod Forms
 pub mod Encoding
 pub mod Rooms

@@ -2,7 +2,7 @@
 -- which end in LF, with white space between the samples. That a row begins a new line, that there is one blank between
 -- samples, also between pixels, and that a line holds as many samples as it can, are own.
 use Rattle.std.specs.Prelude.{◌≡◌, ℕ, ◌+◌, ◌-◌, ◌<◌, ◌≤◌, nat_le, if◌then◌else◌, List, [], ◌∷◌, ◌++◌, length, map, flat_map, decimal}
-use Rattle.std.specs.List.{concat, AllByRecursion}
+use Rattle.std.specs.List.{AllByRecursion}
 use Rattle.pnm_image.specs.declared.shape.Kind.{Kind}
 use Rattle.pnm_image.specs.declared.shape.Kind.TheVariants.{Bit, Gray, Color, Pam}
 
@@ -51,7 +51,7 @@ pub record IsLine (line : List (List ℕ)) : Type 0 where
 
 -- these are the lines of the words: all of them in order, each line as long as it can be
 pub record AreLinesOf (words : List (List ℕ)) (lines : List (List (List ℕ))) : Type 0 where
-  pub in_order : concat lines ≡ words
+  pub in_order : flat_map (λ line. line) lines ≡ words
   pub each : AllByRecursion IsLine lines
   pub filled : AreFilled lines
 

@@ -1,5 +1,5 @@
 -- Which messages were put into a sink, and which messages it refuses.
-use Rattle.std.specs.Prelude.{◌≡◌, ℕ, ◌<◌, Bool, false, List, Option, Some, None}
+use Rattle.std.specs.Prelude.{◌≡◌, ℕ, ◌<◌, Bool, true, false, List, Option, Some, None}
 use Rattle.std.specs.List.{AllByRecursion}
 use Rattle.std.specs.Io.KnownBytes.{Appends, Keeps}
 use Rattle.pnm_image.specs.declared.format.Form.{Form}
@@ -62,6 +62,15 @@ pub record HasPut {W : Type 0} (sink : Sink W) (messages : List Message) : Type 
 pub record HasWritten {W : Type 0} (held : W → Option (List ℕ)) (start : Option (List ℕ)) (sink : Sink W) (messages : List Message) : Type 0 where
   pub put : HasPut sink messages
   pub bytes : Appends start (held (writer_of sink)) (bytes_of (form_of sink) messages)
+
+-- why a sink refuses a message, whatever its writer does: there was a fault before; the message doesn't come in order; or
+-- the form refuses it
+abbrev pub IsRefused : {W : Type 0} → Sink W → Message → SinkFault → Type 0
+IsRefused sink m Broken = has_failed sink ≡ true
+IsRefused sink m OutOfOrder = (has_failed sink ≡ false) × (IsInOrder (next_place sink) m → ⊥)
+IsRefused sink m SecondPlain = (has_failed sink ≡ false) × IsInOrder (next_place sink) m × (form_fault (form_of sink) (has_begun sink) m ≡ Some SecondPlain)
+IsRefused sink m PlainPam = (has_failed sink ≡ false) × IsInOrder (next_place sink) m × (form_fault (form_of sink) (has_begun sink) m ≡ Some PlainPam)
+IsRefused sink m WriteFailed = ⊥
 
 -- Why a message isn't written, where there was no fault before: it doesn't come in order; the form refuses it; or the
 -- writer failed. But for the last nothing is written.

@@ -15,4 +15,12 @@ pub enum SinkFault {
     /// There was a fault before. Nothing was written.
     #[error("Broken")]
     Broken,
+    /// In plain form, the message begins a second image, and a plain file holds one. Nothing was
+    /// written.
+    #[error("SecondPlain")]
+    SecondPlain,
+    /// In plain form, the message begins a PAM image, and there is no plain PAM. Nothing was
+    /// written.
+    #[error("PlainPam")]
+    PlainPam,
 }

@@ -3,60 +3,69 @@
 ghost use Rattle.std.specs.Prelude.{◌≡◌, ◌+◌, ◌≤◌, ◌++◌, length, codes, decimal, OnOk, OnErr};
 ghost use Rattle.pnm_image.specs.Limits.{max_tuple_type_length};
 ghost use Rattle.std.specs.Io.KnownBytes.{Appends};
-ghost use Rattle.pnm_write.specs.Encoding.{size_line, tuple_type_line, pam_text, header_text};
+ghost use Rattle.pnm_write.specs.Encoding.{magic_line, size_line, tuple_type_line, pam_text, header_text};
 ghost use Rattle.pnm_image.specs.Devices.{FailsIn};
 
 use crate::room::Room;
 use itoa::Buffer;
-use pnm_image::{BytesOut, DeviceFailed, Head, Kind, Shape, write_all};
+use pnm_image::{BytesOut, DeviceFailed, Form, Format, Head, Kind, Shape, write_all};
 
 /// Writes the header of an image with this head.
 pub fn write_header<W: BytesOut>(
     writer: &mut W,
     room: &mut Room,
+    form: Form,
     head: &Head,
 ) -> Result<(), DeviceFailed>
-    ensures written { OnOk result (Appends (W.held writer.old) (W.held writer.new) (header_text head.now)) }
+    ensures written { OnOk result (Appends (W.held writer.old) (W.held writer.new) (header_text form head.now)) }
     ensures failed { OnErr result
-        (FailsIn (header_text head.now) (W.held writer.old) (W.held writer.new) (W.failures writer.old) (W.failures writer.new)) }
+        (FailsIn (header_text form head.now) (W.held writer.old) (W.held writer.new) (W.failures writer.old) (W.failures writer.new)) }
     ensures count { OnOk result (W.failures writer.new ≡ W.failures writer.old) }
     ensures same_device { W.same writer.old writer.new }
 {
     room.clear();
-    push_header(room, head);
+    push_header(room, form, head);
     write_all(writer, room.as_slice())
 }
 
-fn push_header(room: &mut Room, head: &Head)
+fn push_header(room: &mut Room, form: Form, head: &Head)
     requires { length room.old ≡ 0 }
-    ensures { room.new ≡ room.old ++ header_text head.now }
+    ensures { room.new ≡ room.old ++ header_text form head.now }
 {
     let shape = head.shape();
+    push_magic(
+        room,
+        Format {
+            kind: shape.kind,
+            form,
+        },
+    );
     match shape.kind {
-        Kind::Bit => {
-            room.push(b"P4\n");
-            push_size(room, shape);
-        }
-        Kind::Gray => {
-            room.push(b"P5\n");
+        Kind::Bit => push_size(room, shape),
+        Kind::Gray | Kind::Color => {
             push_size(room, shape);
             push_number(room, shape.maxval, b"\n");
         }
-        Kind::Color => {
-            room.push(b"P6\n");
-            push_size(room, shape);
-            push_number(room, shape.maxval, b"\n");
-        }
-        Kind::Pam => push_pam(room, shape, head.tuple_type()),
+        Kind::Pam => push_fields(room, shape, head.tuple_type()),
     }
 }
 
-fn push_pam(room: &mut Room, shape: Shape, tuple_type: &[u8])
-    requires room { length room.old ≡ 0 }
-    requires short { length tuple_type.now ≤ max_tuple_type_length }
-    ensures { room.new ≡ room.old ++ pam_text shape tuple_type.now }
+/// The line of the magic.
+fn push_magic(room: &mut Room, format: Format)
+    requires { length room.old ≡ 0 }
+    ensures line { room.new ≡ room.old ++ magic_line format.kind format.form }
+    ensures count { length room.new ≡ 3 }
 {
-    room.push(b"P7\n");
+    room.push(format.magic());
+    room.push(b"\n");
+}
+
+/// The lines of a PAM header after that of its magic.
+fn push_fields(room: &mut Room, shape: Shape, tuple_type: &[u8])
+    requires magic { room.old ≡ codes "P7\n" }
+    requires short { length tuple_type.now ≤ max_tuple_type_length }
+    ensures { room.new ≡ pam_text shape tuple_type.now }
+{
     push_field(room, b"WIDTH ", shape.width);
     push_field(room, b"HEIGHT ", shape.height);
     push_field(room, b"DEPTH ", shape.depth);

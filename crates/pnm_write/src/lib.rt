@@ -1,4 +1,4 @@
-//! Messages as the bytes of raw Netpbm images.
+//! Messages as the bytes of Netpbm images, in raw or in plain form.
 //!
 //! `Sink` takes the messages of a stream of images in turn, and writes each at once: the header of
 //! an image, and its rows. The formats are those of pbm(5), pgm(5), ppm(5) and pam(5).
@@ -7,10 +7,12 @@
 mod fault;
 mod header;
 pub mod laws;
+mod plain;
 mod raw;
 mod room;
 mod row;
 mod sink;
 
 pub use fault::SinkFault;
+pub use pnm_image::Form;
 pub use sink::Sink;

@@ -5,25 +5,49 @@ ghost use Rattle.std.specs.Io.KnownBytes.{Appends};
 ghost use Rattle.pnm_write.specs.Encoding.{row_bytes};
 ghost use Rattle.pnm_image.specs.Devices.{FailsIn};
 
+use crate::plain::write_lines;
 use crate::raw::most_samples;
 use crate::room::Room;
-use pnm_image::{BytesOut, DeviceFailed, SampleSlice, SampleWidth, Samples, Shape, write_all};
+use pnm_image::{
+    BytesOut, DeviceFailed, Form, SampleSlice, SampleWidth, Samples, Shape, write_all,
+};
 
 /// The most samples that are copied at a time, a number of whole bytes of pixels.
 const MOST: usize = 2048;
 
-/// Writes the samples of a row of an image of this shape: as they are, where they are as wide as
-/// their bytes.
+/// Writes the samples of a row of an image of this shape.
 pub fn write_samples<W: BytesOut>(
+    writer: &mut W,
+    room: &mut Room,
+    form: Form,
+    shape: Shape,
+    row: &Samples,
+) -> Result<(), DeviceFailed>
+    requires { All (λ sample. sample ≤ shape.maxval) row.now }
+    ensures written { OnOk result (Appends (W.held writer.old) (W.held writer.new) (row_bytes form shape row.now)) }
+    ensures failed { OnErr result
+        (FailsIn (row_bytes form shape row.now) (W.held writer.old) (W.held writer.new)
+        (W.failures writer.old) (W.failures writer.new)) }
+    ensures count { OnOk result (W.failures writer.new ≡ W.failures writer.old) }
+    ensures same_device { W.same writer.old writer.new }
+{
+    match form {
+        Form::Raw => write_raw(writer, room, shape, row),
+        Form::Plain => write_lines(writer, room, shape, row),
+    }
+}
+
+/// Writes the samples of a raw row: as they are, where they are as wide as their bytes.
+fn write_raw<W: BytesOut>(
     writer: &mut W,
     room: &mut Room,
     shape: Shape,
     row: &Samples,
 ) -> Result<(), DeviceFailed>
     requires { All (λ sample. sample ≤ shape.maxval) row.now }
-    ensures written { OnOk result (Appends (W.held writer.old) (W.held writer.new) (row_bytes shape row.now)) }
+    ensures written { OnOk result (Appends (W.held writer.old) (W.held writer.new) (row_bytes Form.Raw shape row.now)) }
     ensures failed { OnErr result
-        (FailsIn (row_bytes shape row.now) (W.held writer.old) (W.held writer.new)
+        (FailsIn (row_bytes Form.Raw shape row.now) (W.held writer.old) (W.held writer.new)
         (W.failures writer.old) (W.failures writer.new)) }
     ensures count { OnOk result (W.failures writer.new ≡ W.failures writer.old) }
     ensures same_device { W.same writer.old writer.new }
@@ -44,9 +68,9 @@ fn write_others<W: BytesOut>(
     row: &Samples,
 ) -> Result<(), DeviceFailed>
     requires { All (λ sample. sample ≤ shape.maxval) row.now }
-    ensures written { OnOk result (Appends (W.held writer.old) (W.held writer.new) (row_bytes shape row.now)) }
+    ensures written { OnOk result (Appends (W.held writer.old) (W.held writer.new) (row_bytes Form.Raw shape row.now)) }
     ensures failed { OnErr result
-        (FailsIn (row_bytes shape row.now) (W.held writer.old) (W.held writer.new)
+        (FailsIn (row_bytes Form.Raw shape row.now) (W.held writer.old) (W.held writer.new)
         (W.failures writer.old) (W.failures writer.new)) }
     ensures count { OnOk result (W.failures writer.new ≡ W.failures writer.old) }
     ensures same_device { W.same writer.old writer.new }
@@ -64,7 +88,7 @@ fn write_others<W: BytesOut>(
     Ok(())
 }
 
-/// Writes the samples of a row of an image of this shape, as many at a time as there is room for.
+/// Writes the samples of a raw row, as many at a time as there is room for.
 fn write_words<W: BytesOut>(
     writer: &mut W,
     room: &mut Room,
@@ -72,9 +96,9 @@ fn write_words<W: BytesOut>(
     samples: &[u16],
 ) -> Result<(), DeviceFailed>
     requires { All (λ sample. sample ≤ shape.maxval) samples.now }
-    ensures written { OnOk result (Appends (W.held writer.old) (W.held writer.new) (row_bytes shape samples.now)) }
+    ensures written { OnOk result (Appends (W.held writer.old) (W.held writer.new) (row_bytes Form.Raw shape samples.now)) }
     ensures failed { OnErr result
-        (FailsIn (row_bytes shape samples.now) (W.held writer.old) (W.held writer.new)
+        (FailsIn (row_bytes Form.Raw shape samples.now) (W.held writer.old) (W.held writer.new)
         (W.failures writer.old) (W.failures writer.new)) }
     ensures count { OnOk result (W.failures writer.new ≡ W.failures writer.old) }
     ensures same_device { W.same writer.old writer.new }

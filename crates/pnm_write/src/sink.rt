@@ -1,32 +1,38 @@
 //! The sink: messages to bytes.
 
-ghost use Rattle.std.specs.Prelude.{◌≡◌, ◌↔◌, List, [], ◌∷◌, ◌++◌, IsTrue, MatchResult, IfErr, OnOk, OnErr, Err, true, false};
+ghost use Rattle.std.specs.Prelude.{◌≡◌, ◌↔◌, List, [], ◌∷◌, ◌++◌, IsTrue, IsSome, MatchResult, MatchOption, IfErr, OnOk, OnErr, Err, true, false};
 ghost use Rattle.std.specs.Io.KnownBytes.{Appends, Keeps};
 ghost use Rattle.pnm_image.specs.Devices.{Failed, FailsIn};
 ghost use Rattle.pnm_image.specs.Places.{Accepts, place_after};
 ghost use Rattle.pnm_write.specs.Encoding.{bytes_at};
-ghost use Rattle.pnm_write.specs.Sinks.{writer_of, next_place, has_failed, HasRows, Takes, HasPut, HasWritten, Refuses};
+ghost use Rattle.pnm_write.specs.Forms.{form_fault, has_begun_after};
+ghost use Rattle.pnm_write.specs.Sinks.{writer_of, form_of, has_begun, next_place, has_failed, HasRows, Takes, IsRefused, HasPut, HasWritten, Refuses};
 
 use crate::fault::SinkFault;
 use crate::header::write_header;
 use crate::room::Room;
 use crate::row::write_samples;
-use pnm_image::{BytesOut, DeviceFailed, Message, Place};
+use pnm_image::{BytesOut, DeviceFailed, Form, Kind, Message, Place};
 
-/// Writes the messages of a stream of images as raw Netpbm images, one after another: PBM, PGM,
-/// PPM and PAM, by the kind of each image. It takes no memory.
+/// Writes the messages of a stream of images as Netpbm images of one form: PBM, PGM, PPM and PAM, by
+/// the kind of each image. In raw form any number of images come one after another; in plain form
+/// there is one, which isn't PAM. It takes no memory.
 #[derive(Drop)]
 pub struct Sink<W> {
     writer: W,
     place: Place,
+    form: Form,
+    /// An image has begun.
+    has_begun: bool,
     has_failed: bool,
     room: Room,
 }
 
 impl<W: BytesOut> Sink<W> {
     /// A sink over the writer, before the first message. Nothing is written.
-    pub fn new(writer: W) -> Sink<W>
+    pub fn new(writer: W, form: Form) -> Sink<W>
         ensures writer { writer_of result ≡ writer }
+        ensures form { form_of result ≡ form }
         ensures sound { has_failed result ≡ false }
         ensures none { HasPut result [] }
         ensures unwritten { HasWritten W.held (W.held writer) result [] }
@@ -34,6 +40,8 @@ impl<W: BytesOut> Sink<W> {
         Sink {
             writer,
             place: Place::new(),
+            form,
+            has_begun: false,
             has_failed: false,
             room: Room::new(),
         }
@@ -43,15 +51,21 @@ impl<W: BytesOut> Sink<W> {
     /// samples, as pbm(5), pgm(5), ppm(5) and pam(5) lay them out. The other messages have none. What the
     /// writer keeps back of them is passed on by `flush`, which it doesn't call.
     ///
-    /// The faults, in order: `Broken` after an earlier fault, and `OutOfOrder` where the message
-    /// can't come at this place of the stream, or begins an image of height 0, with nothing
-    /// written; `WriteFailed` where the writer fails, with a front of the bytes written.
+    /// In plain form each row begins a line, a line has at most 70 bytes before its LF, and as many
+    /// samples as it can hold, with one blank between each two.
+    ///
+    /// The faults, in order: `Broken` after an earlier fault; `OutOfOrder` where the message can't
+    /// come at this place of the stream, or begins an image of height 0; in plain form `SecondPlain`
+    /// where the message begins a second image, and `PlainPam` where it begins a PAM image;
+    /// `WriteFailed` where the writer fails, with a front of the bytes written. At the others nothing
+    /// is written.
     pub fn put(&mut self, message: &Message) -> Result<(), SinkFault>
         ensures written { OnOk result
-            (Appends (W.held (writer_of self.old)) (W.held (writer_of self.new)) (bytes_at (next_place self.old) message.now)) }
+            (Appends (W.held (writer_of self.old)) (W.held (writer_of self.new)) (bytes_at (form_of self.old) (next_place self.old) message.now)) }
         ensures taken { OnOk result
-            (Takes (next_place self.old) message.now × (W.failures (writer_of self.new) ≡ W.failures (writer_of self.old))) }
+            (Takes (form_of self.old) (has_begun self.old) (next_place self.old) message.now × (W.failures (writer_of self.new) ≡ W.failures (writer_of self.old))) }
         ensures sound { OnOk result ((has_failed self.old ≡ false) × (has_failed self.new ≡ false)) }
+        ensures form { form_of self.new ≡ form_of self.old }
 
         // The messages that were put are one more, or the same after a fault.
         ensures more { OnOk result
@@ -66,14 +80,11 @@ impl<W: BytesOut> Sink<W> {
         ensures stays { OnErr result (has_failed self.new ≡ true) }
         ensures broken { has_failed self.old ≡ true → (result ≡ Err SinkFault.Broken) × (self.new ≡ self.old) }
         ensures refused { has_failed self.old ≡ false
-            → IfErr result (λ fault. Refuses (next_place self.old) message.now fault
+            → IfErr result (λ fault. Refuses (form_of self.old) (has_begun self.old) (next_place self.old) message.now fault
             (W.held (writer_of self.old)) (W.held (writer_of self.new))
             (W.failures (writer_of self.old)) (W.failures (writer_of self.new))) }
         ensures same_device { W.same (writer_of self.old) (writer_of self.new) }
     {
-        if self.has_failed {
-            return Err(SinkFault::Broken);
-        }
         let written = self.write(message);
         self.has_failed = written.is_err();
         written
@@ -85,6 +96,8 @@ impl<W: BytesOut> Sink<W> {
     pub fn flush(&mut self) -> Result<(), SinkFault>
         ensures bytes { Keeps (W.held (writer_of self.old)) (W.held (writer_of self.new)) }
         ensures place { next_place self.new ≡ next_place self.old }
+        ensures form { form_of self.new ≡ form_of self.old }
+        ensures begun { has_begun self.new ≡ has_begun self.old }
         ensures sound { has_failed self.new ≡ has_failed self.old }
         ensures put { (messages : List _) → HasPut self.old messages → HasPut self.new messages }
         ensures written { (start : _) (messages : List _) → HasWritten W.held start self.old messages
@@ -122,25 +135,55 @@ impl<W: BytesOut> Sink<W> {
         (sink.writer, flushed)
     }
 
+    /// Why the message isn't written, whatever the writer does.
+    fn refusal(&self, message: &Message) -> Option<SinkFault>
+        ensures { MatchOption result
+            ((has_failed self.now ≡ false)
+            × Takes (form_of self.now) (has_begun self.now) (next_place self.now) message.now)
+            (IsRefused self.now message.now) }
+    {
+        if self.has_failed {
+            Some(SinkFault::Broken)
+        } else if !self.place.accepts(message) || !has_rows(message) {
+            Some(SinkFault::OutOfOrder)
+        } else {
+            form_fault(self.form, self.has_begun, message)
+        }
+    }
+
     fn write(&mut self, message: &Message) -> Result<(), SinkFault>
         ensures written { OnOk result
-            (Appends (W.held (writer_of self.old)) (W.held (writer_of self.new)) (bytes_at (next_place self.old) message.now)) }
+            (Appends (W.held (writer_of self.old)) (W.held (writer_of self.new)) (bytes_at (form_of self.old) (next_place self.old) message.now)) }
         ensures taken { OnOk result
-            (Takes (next_place self.old) message.now × (next_place self.new ≡ place_after (next_place self.old) message.now)) }
-        ensures refused { IfErr result (λ fault. Refuses (next_place self.old) message.now fault
+            (Takes (form_of self.old) (has_begun self.old) (next_place self.old) message.now × (has_failed self.old ≡ false)
+            × (next_place self.new ≡ place_after (next_place self.old) message.now)
+            × (has_begun self.new ≡ has_begun_after (has_begun self.old) message.now)) }
+        ensures broken { has_failed self.old ≡ true → (result ≡ Err SinkFault.Broken) × (self.new ≡ self.old) }
+        ensures refused { has_failed self.old ≡ false
+            → IfErr result (λ fault. Refuses (form_of self.old) (has_begun self.old) (next_place self.old) message.now fault
             (W.held (writer_of self.old)) (W.held (writer_of self.new))
             (W.failures (writer_of self.old)) (W.failures (writer_of self.new))) }
+        ensures form { form_of self.new ≡ form_of self.old }
         ensures sound { has_failed self.new ≡ has_failed self.old }
         ensures count { OnOk result (W.failures (writer_of self.new) ≡ W.failures (writer_of self.old)) }
         ensures same_device { W.same (writer_of self.old) (writer_of self.new) }
     {
-        if !self.place.accepts(message) || !has_rows(message) {
-            return Err(SinkFault::OutOfOrder);
+        if let Some(fault) = self.refusal(message) {
+            return Err(fault);
         }
-        if write_message(&mut self.writer, &mut self.room, self.place, message).is_err() {
+        if write_message(
+            &mut self.writer,
+            &mut self.room,
+            self.form,
+            self.place,
+            message,
+        )
+        .is_err()
+        {
             return Err(SinkFault::WriteFailed);
         }
         self.place.step(message);
+        self.has_begun = has_begun_after(self.has_begun, message);
         Ok(())
     }
 }
@@ -155,25 +198,49 @@ fn has_rows(message: &Message) -> bool
     }
 }
 
+/// Whether an image has begun after the message, where one had begun before it or not.
+fn has_begun_after(has_begun: bool, message: &Message) -> bool
+    ensures { result ≡ has_begun_after has_begun message.now }
+{
+    match message {
+        Message::Begin(_) => true,
+        Message::Row(_) | Message::ImageEnd | Message::StreamEnd | Message::Stop => has_begun,
+    }
+}
+
+/// Why the form refuses the message, where an image had begun before it or not.
+fn form_fault(form: Form, has_begun: bool, message: &Message) -> Option<SinkFault>
+    ensures { result ≡ form_fault form has_begun message.now }
+{
+    match (form, message) {
+        (Form::Plain, Message::Begin(_)) if has_begun => Some(SinkFault::SecondPlain),
+        (Form::Plain, Message::Begin(head)) if head.shape().kind == Kind::Pam => Some(
+            SinkFault::PlainPam,
+        ),
+        _ => None,
+    }
+}
+
 /// Writes the bytes of a message that comes at this place.
 fn write_message<W: BytesOut>(
     writer: &mut W,
     room: &mut Room,
+    form: Form,
     place: Place,
     message: &Message,
 ) -> Result<(), DeviceFailed>
     requires { Accepts place message.now }
-    ensures written { OnOk result (Appends (W.held writer.old) (W.held writer.new) (bytes_at place message.now)) }
+    ensures written { OnOk result (Appends (W.held writer.old) (W.held writer.new) (bytes_at form place message.now)) }
     ensures failed { OnErr result
-        (FailsIn (bytes_at place message.now) (W.held writer.old) (W.held writer.new)
+        (FailsIn (bytes_at form place message.now) (W.held writer.old) (W.held writer.new)
         (W.failures writer.old) (W.failures writer.new)) }
     ensures count { OnOk result (W.failures writer.new ≡ W.failures writer.old) }
     ensures same_device { W.same writer.old writer.new }
 {
     match message {
-        Message::Begin(head) => write_header(writer, room, head),
+        Message::Begin(head) => write_header(writer, room, form, head),
         Message::Row(row) => match place {
-            Place::Inside(shape, _) => write_samples(writer, room, shape, row),
+            Place::Inside(shape, _) => write_samples(writer, room, form, shape, row),
             Place::Between | Place::After => Ok(()),
         },
         Message::ImageEnd | Message::StreamEnd | Message::Stop => Ok(()),

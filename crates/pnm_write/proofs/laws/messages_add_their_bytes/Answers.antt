@@ -3,4 +3,4 @@ use Rattle.pnm_write.proofs.MessageLaws.{bytes_of_more}
 use Rattle.pnm_write.proofs.laws.messages_add_their_bytes.Goals as goal
 
 pub returns : goal.returns
-returns c = bytes_of_more Between
+returns c = λ form. bytes_of_more form Between

@@ -1,4 +1,4 @@
-use Rattle.std.proofs.Common.{◌≡◌, ◌≤◌, ◌<◌, ◌∙◌, ◌++◌, ◌+◌, ◌-◌, min, List, ℕ, length, take, drop, ap, sym, subst, arith}
+use Rattle.std.proofs.Common.{◌≡◌, ◌∙◌, ◌++◌, ◌+◌, ◌-◌, min, List, ℕ, length, take, drop, ap, sym, subst, arith}
 use Rattle.std.proofs.lemmas.List.{length-drop, length-take, length-append, take_at, drop-drop}
 use Rattle.pnm_image.specs.declared.sample_width.SampleWidth.{SampleWidth}
 use Rattle.pnm_write.specs.Encoding.{bytes_in}

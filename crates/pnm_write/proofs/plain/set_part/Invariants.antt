@@ -1,0 +1,12 @@
+use Rattle.std.proofs.Common.{◌≡◌, ◌*◌, ◌≤◌, length, take}
+use Rattle.pnm_write.specs.PlainParts.{text_of_part, column_after_part, sample_texts}
+use Rattle.pnm_write.proofs.plain.set_part.Given as goal
+
+-- the text of the samples that have passed
+abbrev pub invariant-loop-sample : goal.invariant-loop-sample
+invariant-loop-sample l = record {
+  text : l.room ≡ text_of_part l.column (sample_texts l.kind (take l.sample-index l.samples));
+  count : length l.room ≤ 6 * l.sample-index;
+  column : l.at ≡ column_after_part l.column (sample_texts l.kind (take l.sample-index l.samples));
+  line : l.at ≤ 70;
+}
