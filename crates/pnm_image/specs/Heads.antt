@@ -1,5 +1,6 @@
 -- Heads: the kind, the sizes and the maxval of an image, and the tuple type of a PAM image.
 use Rattle.std.specs.Prelude.{◌≡◌, ◌≢◌, ℕ, ◌*◌, ◌-◌, ◌<◌, ◌≤◌, Bool, false, List, [], length, slice_index, All, Option, Some, None, nat_lt, ◌==◌, ◌||◌, if◌then◌else◌}
+use Rattle.pnm_image.specs.Characters.{line_feed}
 use Rattle.pnm_image.specs.Limits.{max_side, max_depth, max_row_length, max_maxval, max_tuple_type_length}
 use Rattle.pnm_image.specs.Texts.{is_blank}
 use Rattle.pnm_image.specs.declared.shape.Kind.{Kind}
@@ -28,7 +29,7 @@ with_height h height = record h { shape = record h.shape { height = height } }
 -- the text of TUPLTYPE lines, from pam(5): one line, without white space at its ends
 pub record IsTupleType (text : List ℕ) : Type 0 where
   pub short : length text ≤ max_tuple_type_length
-  pub one_line : All (λ b. b ≢ 10) text
+  pub one_line : All (λ b. b ≢ line_feed) text
   pub first : 0 < length text → is_blank (slice_index text 0) ≡ false
   pub last : 0 < length text → is_blank (slice_index text (length text - 1)) ≡ false
 

@@ -1,4 +1,5 @@
 pub mod Limits
+pub mod Characters
 pub mod Formats
 pub mod Texts
 pub mod Devices

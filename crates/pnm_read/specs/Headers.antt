@@ -1,6 +1,7 @@
 -- How a header is spelled. From pbm(5), pgm(5), ppm(5) and pam(5), 'The layout'.
 use Rattle.std.specs.Prelude.{◌≡◌, ℕ, ◌<◌, ◌≤◌, true, false, not, ◌==◌, ◌||◌, List, [], ◌∷◌, ◌++◌, length, flat_map, Some, codes}
 use Rattle.std.specs.List.{AllPass, AllByRecursion}
+use Rattle.pnm_image.specs.Characters.{line_feed, digit_seven, letter_p}
 use Rattle.pnm_image.specs.declared.shape.Kind.{Kind}
 use Rattle.pnm_image.specs.declared.shape.Kind.TheVariants.{Bit, Gray, Color, Pam}
 use Rattle.pnm_image.specs.Heads.{HeadValue, IsHead}
@@ -21,7 +22,7 @@ pub record SpellsPnmHeader (text : List ℕ) (format : Format) (head : HeadValue
   pub digit : ℕ
   pub body : List ℕ
   pub delimiter : ℕ
-  pub whole : text ≡ 80 ∷ digit ∷ (body ++ delimiter ∷ [])
+  pub whole : text ≡ letter_p ∷ digit ∷ (body ++ delimiter ∷ [])
   pub short : length text ≤ 65536
   pub format_is : format_of digit ≡ Some format
   pub begins : begins_apart body ≡ true
@@ -45,20 +46,20 @@ MaySay End line = ⊥
 MaySay Unknown line = ⊥
 
 abbrev pub IsOneLine : List ℕ → Type 0
-IsOneLine line = AllPass (λ b. not (b == 10)) line
+IsOneLine line = AllPass (λ b. not (b == line_feed)) line
 
 pub record IsPamLine (line : List ℕ) : Type 0 where
   pub one_line : IsOneLine line
   pub says : MaySay (line_kind line) line
 
--- The magic (55 is its 7) and a LF, lines and their LFs, and the line ENDHDR and its LF. Among the lines is exactly one of each
+-- The magic and a LF, lines and their LFs, and the line ENDHDR and its LF. Among the lines is exactly one of each
 -- number; the tuple type is what the TUPLTYPE lines have, in order.
 pub record SpellsPamHeader (text : List ℕ) (format : Format) (head : HeadValue) : Type 0 where
   pub lines : List (List ℕ)
   pub last : List ℕ
-  pub whole : text ≡ codes "P7\n" ++ (flat_map (λ line. line ++ 10 ∷ []) lines ++ (last ++ 10 ∷ []))
+  pub whole : text ≡ codes "P7\n" ++ (flat_map (λ line. line ++ line_feed ∷ []) lines ++ (last ++ line_feed ∷ []))
   pub short : length text ≤ 65536
-  pub format_is : format_of 55 ≡ Some format
+  pub format_is : format_of digit_seven ≡ Some format
   pub lines_are : AllByRecursion IsPamLine lines
   pub last_one_line : IsOneLine last
   pub last_ends : line_kind last ≡ End

@@ -3,6 +3,7 @@
 -- PAM after its LF), of a plain raster those since the last digit of the sample before.
 use Rattle.std.specs.Prelude.{ℕ, Bool, not, ◌==◌, nat_le, nat_lt, ◌*◌, ◌+◌, ◌&&◌, ◌||◌, if◌then◌else◌, List, [], ◌∷◌, ◌++◌, length, slice_index, Option, Some, None, Result, Ok, Err}
 use Rattle.std.specs.List.{list_all}
+use Rattle.pnm_image.specs.Characters.{line_feed, digit_zero, digit_one, letter_p}
 use Rattle.pnm_image.specs.declared.shape.Shape.{Shape}
 use Rattle.pnm_image.specs.declared.shape.Kind.{Kind}
 use Rattle.pnm_image.specs.declared.shape.Kind.TheVariants.{Bit, Gray, Color, Pam}
@@ -60,7 +61,7 @@ second_magic_item is_first (b ∷ text) = elim (format_of b) [
 -- the start of an image, and the first byte of its magic; after a raw image it isn't asked for where no byte is left
 unfoldable pub first_magic_item : List ℕ → Result (List ℕ) InputFault
 first_magic_item [] = Err EmptyInput
-first_magic_item (b ∷ text) = if b == 80 then Ok text else Err BadMagic
+first_magic_item (b ∷ text) = if b == letter_p then Ok text else Err BadMagic
 
 -- ---- the header of PBM, PGM and PPM
 
@@ -107,7 +108,7 @@ numbers_item kind numbers = elim (shape_fault (shape_of kind numbers)) [
 -- the byte after the magic
 unfoldable pub line_feed_item : List ℕ → Result (List ℕ) InputFault
 line_feed_item [] = Err HeaderCut
-line_feed_item (b ∷ text) = if b == 10 then Ok text else Err BadPamLine
+line_feed_item (b ∷ text) = if b == line_feed then Ok text else Err BadPamLine
 
 -- the bytes of a header after the magic and its LF, at most
 abbrev pub pam_limit : ℕ
@@ -139,7 +140,7 @@ line_item lines line = elim (line_kind line) [
 unfoldable pub pam_item : List ℕ → ℕ → Judgement
 pam_item before b =
     if nat_le pam_limit (length before) then Fails TooLong
-    else if b == 10 then line_item (ended_lines before) (last_line before)
+    else if b == line_feed then line_item (ended_lines before) (last_line before)
     else GoesOn
 
 -- none of the lines has the number
@@ -204,7 +205,7 @@ abbrev pub decimal_end : List ℕ → Option InputFault
 decimal_end before = if ends_in_digit before then None else Some RasterCut
 
 abbrev pub is_pixel : ℕ → Bool
-is_pixel b = (b == 48) || (b == 49)
+is_pixel b = (b == digit_zero) || (b == digit_one)
 
 -- a pixel, or a byte of the gap before it
 unfoldable pub pixel_item : List ℕ → ℕ → Judgement
@@ -219,7 +220,7 @@ pixel_end before = Some RasterCut
 
 -- the sample that a pixel's character spells; 1 is black, which is sample 0
 abbrev pub pixel_in : List ℕ → ℕ
-pixel_in piece = if ends_by (λ b. b == 49) piece then 0 else 1
+pixel_in piece = if ends_by (λ b. b == digit_one) piece then 0 else 1
 
 -- a pixel
 unfoldable pub plain_pixel : List ℕ → Result (ℕ × List ℕ) InputFault

@@ -1,6 +1,7 @@
 -- What the scanners of headers and of plain samples hold after the bytes of a piece.
 use Rattle.std.specs.Prelude.{◌≡◌, ℕ, ◌+◌, ◌-◌, ◌<◌, ◌≤◌, Bool, true, false, not, ◌==◌, ◌&&◌, ◌||◌, if◌then◌else◌, List, [], ◌∷◌, length, map, drop, slice_index}
 use Rattle.std.specs.List.{AllPass}
+use Rattle.pnm_image.specs.Characters.{digit_zero}
 use Rattle.pnm_read.specs.declared.judgement.Judgement.{Judgement}
 use Rattle.pnm_read.specs.declared.header.HeaderScanner.{HeaderScanner}
 use Rattle.pnm_read.specs.declared.decimal.DecimalScanner.{DecimalScanner}
@@ -68,7 +69,7 @@ pub record PushesHeader (old : HeaderScanner) (byte : ℕ) (new : HeaderScanner)
   pub comment : new.in_comment ≡ commented old.in_comment byte
   pub word : new.in_number ≡ (if is_numeral old.in_comment byte then true else if not old.in_comment && is_white byte then false else old.in_number)
   pub found : new.found ≡ (if is_numeral old.in_comment byte && not old.in_number then old.found + 1 else old.found)
-  pub numbers : new.numbers ≡ (if is_numeral old.in_comment byte then pushed old.in_number old.numbers (byte - 48) else old.numbers)
+  pub numbers : new.numbers ≡ (if is_numeral old.in_comment byte then pushed old.in_number old.numbers (byte - digit_zero) else old.numbers)
 
 -- ---- numbers of a plain raster
 
@@ -88,7 +89,7 @@ pub record PushesDecimal (old : DecimalScanner) (byte : ℕ) (new : DecimalScann
   pub length_is : new.length ≡ old.length + 1
   pub comment : new.in_comment ≡ commented old.in_comment byte
   pub digit : new.in_number ≡ is_numeral old.in_comment byte
-  pub value : new.value ≡ (if is_numeral old.in_comment byte then with_digit old.value (byte - 48) else old.value)
+  pub value : new.value ≡ (if is_numeral old.in_comment byte then with_digit old.value (byte - digit_zero) else old.value)
 
 -- ---- pixels of a plain raster
 

@@ -4,6 +4,7 @@
 
 ghost use Rattle.std.specs.Prelude.{◌≡◌, ◌≤◌, ◌<◌, ◌-◌, length, take, true, IfOk, IfSome};
 ghost use Rattle.std.specs.List.{AllPass};
+ghost use Rattle.pnm_image.specs.Characters.{digit_zero};
 ghost use Rattle.pnm_image.specs.Limits.{max_maxval};
 ghost use Rattle.pnm_image.specs.Texts.{is_white, is_digit};
 ghost use Rattle.pnm_read.specs.Items.{plain_sample, plain_pixel, plain_decimal, gap_limit};
@@ -174,7 +175,7 @@ fn number_first(bytes: &[u8]) -> Option<(u32, usize)>
 /// What a digit stands for; what is answered for another byte means nothing.
 fn digit_value(byte: u8) -> u32
     ensures within { result < 256 }
-    ensures value { is_digit byte ≡ true → result ≡ byte - 48 }
+    ensures value { is_digit byte ≡ true → result ≡ byte - digit_zero }
 {
     u32::from(byte.wrapping_sub(b'0'))
 }
