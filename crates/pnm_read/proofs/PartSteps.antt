@@ -1,25 +1,23 @@
 -- How a part of a raw row is read.
-use Rattle.std.proofs.Common.{◌≡◌, ℕ, ◌+◌, ◌-◌, ◌*◌, ◌/◌, ◌<◌, ◌≤◌, min, List, [], ◌++◌, length, take, drop, flat_map, All, Option, Result, Ok, Err, ◌⊎◌, inl, inr, refl, sym, ap, ap₂, subst, ◌∙◌, arith, append_assoc}
-use Rattle.std.specs.List.{concat}
+use Rattle.std.proofs.Common.{◌≡◌, ℕ, ◌+◌, ◌*◌, ◌/◌, ◌<◌, ◌≤◌, min, List, [], ◌++◌, length, take, drop, Option, Ok, Err, inl, inr, refl, sym, ap, ap₂, subst, ◌∙◌, arith, append_assoc}
 use Rattle.std.proofs.lemmas.List.{length-append, length-take-le, take-append-le, take-append-drop}
 use Rattle.std.proofs.lemmas.List.Elements.{All-nil, All-append}
 use Rattle.std.proofs.lemmas.Grind.{flat_map-append}
 use Rattle.std.proofs.Math.Seq.{take-append-add}
-use Rattle.pnm_samples.specs.Pixels.{pixels, all_pixels}
+use Rattle.pnm_samples.specs.Pixels.{pixels}
 use Rattle.pnm_image.specs.declared.sample_width.SampleWidth.{SampleWidth}
 use Rattle.pnm_image.specs.declared.sample_width.SampleWidth.TheVariants.{Bits, Bytes, Words}
 use Rattle.pnm_read.specs.declared.fault.InputFault.{InputFault}
 use Rattle.pnm_read.specs.declared.fault.InputFault.TheVariants.{ReadFailed, RasterCut, SampleAboveMaxval, Memory}
 use Rattle.pnm_read.specs.declared.input.Input.{Input}
-use Rattle.pnm_read.specs.Rasters.{wide_samples}
 use Rattle.pnm_read.specs.Items.{raw_item}
 use Rattle.pnm_read.specs.Said.{in_turn}
-use Rattle.pnm_read.specs.Inputs.{Turn, Fills, Reads, held_of, CanCome, HoldsEnough}
+use Rattle.pnm_read.specs.Inputs.{Turn, Fills, Reads, held_of, HoldsEnough}
 use Rattle.pnm_read.specs.RawParts.{AppendsWide, FindsPart}
 use Rattle.pnm_read.specs.Units.{samples_of_bytes, AreBytesWithin}
 use Rattle.pnm_read.proofs.UnitLaws.{unit_bytes, bytes_are_units, bytes_are_at_fault, words_are_units, words_are_at_fault}
 use Rattle.pnm_read.proofs.RawSteps.{cut_at_first}
-use Rattle.pnm_read.proofs.Turns.{no_fault, IsLeft, turn_ok_so, turn_err_so, turn_seen, turn_advance}
+use Rattle.pnm_read.proofs.Turns.{no_fault, IsLeft, turn_ok_so, turn_seen, turn_advance}
 
 -- ---- bytes that are units
 

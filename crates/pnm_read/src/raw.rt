@@ -7,41 +7,35 @@ ghost use Rattle.pnm_image.specs.declared.sample_width.SampleWidth.TheVariants.{
 ghost use Rattle.pnm_read.specs.Said.{raw_row};
 ghost use Rattle.pnm_read.specs.Inputs.{Turn, Finds};
 ghost use Rattle.pnm_read.specs.RawParts.{FindsUnits, FindsPart};
-ghost use Rattle.pnm_read.specs.Units.{samples_in, AreWithin, samples_of_bytes, AreBytesWithin};
+ghost use Rattle.pnm_read.specs.Units.{samples_of_bytes, AreBytesWithin};
 
 use crate::fault::InputFault;
 use crate::input::Input;
-use crate::units::{Units, append_wide, are_units_within, units_in_row};
-use pnm_image::{BytesIn, SampleWidth, Samples, Shape};
+use crate::units::{append_wide, are_units_within, units_in_row};
+use pnm_image::{Bits, BytesIn, SampleVec, SampleWidth, Samples, Shape};
 
-/// The next row.
+/// The next row, held as it was read, without a copy. No sample is looked at again: none is above the
+/// maxval.
 pub fn read_row<R: BytesIn>(input: &mut Input<R>, shape: Shape) -> Result<Samples, InputFault>
     requires { shape.width ≤ max_side }
     ensures { Turn R.left R.failures R.same input.old input.new result (Finds (raw_row shape) result) }
 {
     let length = shape.row_length() as usize;
-    let units = read_units(input, shape)?;
-    Ok(units.into_row(length, shape.maxval))
-}
-
-/// The units of the next row.
-fn read_units<R: BytesIn>(input: &mut Input<R>, shape: Shape) -> Result<Units, InputFault>
-    requires { shape.width ≤ max_side }
-    ensures found { Turn R.left R.failures R.same input.old input.new result (FindsUnits samples_in shape result) }
-    ensures within { IfOk result (λ units. AreWithin shape.maxval units) }
-{
     match SampleWidth::of(shape.kind, shape.maxval) {
         SampleWidth::Bits => {
             let bytes = read_bytes(input, shape, SampleWidth::Bits)?;
-            Ok(Units::Bits(bytes))
+            let bits = Bits::new(bytes, length);
+            Ok(Samples::from_vec(SampleVec::Bits(bits)))
         }
         SampleWidth::Bytes => {
-            let bytes = read_bytes(input, shape, SampleWidth::Bytes)?;
-            Ok(Units::Bytes(bytes))
+            let mut bytes = read_bytes(input, shape, SampleWidth::Bytes)?;
+            bytes.truncate(length);
+            Ok(Samples::within(SampleVec::Bytes(bytes), shape.maxval))
         }
         SampleWidth::Words => {
-            let words = read_words(input, shape)?;
-            Ok(Units::Words(words))
+            let mut words = read_words(input, shape)?;
+            words.truncate(length);
+            Ok(Samples::within(SampleVec::Words(words), shape.maxval))
         }
     }
 }

@@ -1,48 +1,15 @@
-//! How the samples of a raw row lie in its bytes.
+//! The units of a raw row, as wide as the bytes that they lie in. A unit is a sample, or a byte of eight
+//! pixels.
 
-ghost use Rattle.std.specs.Prelude.{◌≡◌, ◌≤◌, ◌↔◌, take, IsTrue};
+ghost use Rattle.std.specs.Prelude.{◌≡◌, ◌≤◌, ◌↔◌, IsTrue};
 ghost use Rattle.pnm_image.specs.Limits.{max_side};
 ghost use Rattle.pnm_read.specs.RawParts.{AppendsWide};
 ghost use Rattle.pnm_read.specs.Units.{AreBytesWithin};
 ghost use Rattle.pnm_read.specs.Said.{units_in_row};
 
 use crate::fault::InputFault;
-use pnm_image::{Bits, SampleVec, SampleWidth, Samples, Shape};
+use pnm_image::{SampleWidth, Shape};
 use pnm_samples::{are_bytes_within, are_words_within};
-
-/// The units of a raw row, as wide as the bytes that they lie in. A unit is a
-/// sample, or a byte of eight pixels.
-#[derive(Debug, Drop)]
-pub enum Units {
-    /// Bytes of eight pixels.
-    Bits(Vec<u8>),
-    /// Samples of a byte.
-    Bytes(Vec<u8>),
-    /// Samples of two bytes.
-    Words(Vec<u16>),
-}
-
-impl Units {
-    ghost use Rattle.pnm_read.specs.Units.{samples_in, AreWithin};
-
-    /// The first so many samples, without a copy. No sample is looked at: none is above the maxval.
-    pub fn into_row(self, count: usize, maxval: u32) -> Samples
-        requires { AreWithin maxval self }
-        ensures { result ≡ take count (samples_in self) }
-    {
-        match self {
-            Units::Bits(bytes) => Samples::from_vec(SampleVec::Bits(Bits::new(bytes, count))),
-            Units::Bytes(mut bytes) => {
-                bytes.truncate(count);
-                Samples::within(SampleVec::Bytes(bytes), maxval)
-            }
-            Units::Words(mut words) => {
-                words.truncate(count);
-                Samples::within(SampleVec::Words(words), maxval)
-            }
-        }
-    }
-}
 
 /// Appends samples of two bytes. The loop over them is vector code.
 pub fn append_wide(bytes: &[u8], maxval: u32, row: &mut Vec<u16>) -> Result<(), InputFault>

@@ -1,4 +1,4 @@
-use Rattle.std.proofs.Common.{◌≡◌, ◌≤◌, ◌*◌, length, take, ap, sym, arith, ◌∙◌}
+use Rattle.std.proofs.Common.{◌≤◌, ◌*◌, length, sym, arith, ◌∙◌}
 use Rattle.std.proofs.lemmas.Result.{err_from_is_err_and}
 use Rattle.pnm_read.specs.Inputs.{held_of}
 use Rattle.pnm_read.proofs.PartSteps.{words_cut, words_fail, words_read}

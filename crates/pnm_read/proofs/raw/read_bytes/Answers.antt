@@ -1,14 +1,13 @@
-use Rattle.std.proofs.Common.{[], ◌≡◌, ◌-◌, ◌+◌, ◌≤◌, ℕ, List, ◌++◌, length, take, drop, refl, ap, sym, subst, rules, arith, ◌∙◌}
+use Rattle.std.proofs.Common.{[], ◌≡◌, ◌-◌, ◌+◌, ℕ, List, ◌++◌, length, take, ap, sym, arith, ◌∙◌}
 use borrow.Rule.Slice.PartMut.{post_of}
-use Rattle.std.specs.List.{concat}
 use Rattle.std.specs.Vec.{with_items}
 use Rattle.std.proofs.lemmas.Grind.{common_steps}
 use Rattle.std.proofs.lemmas.List.{take_all}
 use Rattle.std.proofs.lemmas.Result.{err_from_is_err_and}
-use Rattle.pnm_read.specs.Units.{samples_of_bytes, AreBytesWithin}
+use Rattle.pnm_read.specs.Units.{samples_of_bytes}
 use Rattle.pnm_read.proofs.ReadSteps.{range_length}
 use Rattle.pnm_read.proofs.PartSteps.{no_bytes, no_bytes_within, samples_of_both, both_within, front_grown}
-use Rattle.pnm_read.proofs.RawSteps.{ReadingUnits, units_begin, part_read, part_fault, units_read}
+use Rattle.pnm_read.proofs.RawSteps.{units_begin, part_read, part_fault, units_read}
 use Rattle.pnm_read.proofs.raw.read_bytes.Goals as goal
 
 pub loop-filled-init : goal.loop-filled-init

@@ -1,5 +1,4 @@
-use Rattle.std.proofs.Common.{ℕ, List, ◌++◌, refl, ap, sym, arith, ◌∙◌}
-use Rattle.std.specs.List.{concat}
+use Rattle.std.proofs.Common.{refl, arith}
 use Rattle.std.proofs.lemmas.Result.{err_from_is_err_and}
 use Rattle.pnm_read.proofs.RawSteps.{part_read, part_fault, units_read}
 use Rattle.pnm_read.proofs.raw.read_words.Goals as goal

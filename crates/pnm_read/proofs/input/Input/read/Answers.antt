@@ -1,4 +1,4 @@
-use Rattle.std.proofs.Common.{◌≡◌, take, length, rules, arith}
+use Rattle.std.proofs.Common.{◌≡◌, take, length, rules}
 use Rattle.pnm_read.proofs.ReadSteps.{turn_copied}
 use Rattle.pnm_read.proofs.input.Input.read.Goals as goal
 
