@@ -22,7 +22,7 @@ use Rattle.pnm_tools.specs.declared.fault.ToolFault.TheVariants.{OutOfOrder, Too
 use Rattle.pnm_tools.specs.declared.tool.Tool.TheVariants.{Flip}
 use Rattle.pnm_tools.specs.declared.flip.FlipWay.TheVariants.{Transpose}
 use Rattle.pnm_tools.specs.Answering.{row_list}
-use Rattle.pnm_tools.specs.Kept.{SuitsShape}
+use Rattle.pnm_tools.specs.SampleRows.{SuitsShape}
 use Rattle.pnm_tools.specs.Keeping.{Transposed, IsTransposing, transposed, transposed_due}
 use Rattle.pnm_tools.specs.Tools.{result_head, row_answer}
 use Rattle.pnm_tools.proofs.HeadLaws.{small_row}

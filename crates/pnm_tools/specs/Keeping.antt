@@ -15,7 +15,7 @@ use Rattle.pnm_tools.specs.declared.flip.RowReverser.{RowReverser}
 use Rattle.pnm_tools.specs.Cut.{columns_kept, rows_kept}
 use Rattle.pnm_tools.specs.Depth.{nearest_sample}
 use Rattle.pnm_tools.specs.Flip.{column_of}
-use Rattle.pnm_tools.specs.Kept.{SuitsShape}
+use Rattle.pnm_tools.specs.SampleRows.{SuitsShape}
 use Rattle.pnm_tools.specs.Tile.{tiled_row}
 
 -- ---- pamcut: the columns and the rows that are kept of an image

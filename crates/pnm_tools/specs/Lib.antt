@@ -13,7 +13,7 @@ pub mod Tools
 pub mod Answers
 pub mod Answering
 pub mod Columns
-pub mod Kept
+pub mod SampleRows
 pub mod Keeping
 pub mod States
 pub mod Steps

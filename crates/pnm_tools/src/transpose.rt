@@ -7,8 +7,8 @@ ghost use Rattle.pnm_tools.specs.Keeping.{IsTransposing, transposed_due};
 
 use crate::fault::ToolFault;
 use crate::flip::{FlipWay, flipped_head};
-use crate::kept::Kept;
 use crate::maker::Maker;
+use crate::sample_rows::SampleRows;
 use pnm_image::{Head, SampleWidth, Samples, Shape};
 use std::alloc::Global;
 use std::marker::Model;
@@ -17,7 +17,7 @@ use std::marker::Model;
 #[derive(Debug, Drop)]
 pub struct Transposer {
     depth: u32,
-    rows: Kept,
+    rows: SampleRows,
     /// Columns that are made, the next one last.
     band: Vec<Samples>,
     /// The first column that isn't made yet.
@@ -28,13 +28,13 @@ pub struct Transposer {
 
 impl Model for Transposer {
     ghost use Rattle.pnm_tools.specs.Keeping.{Transposed, transposed, HasColumns};
-    ghost use Rattle.pnm_tools.specs.Kept.{kept_rows, kept_width};
+    ghost use Rattle.pnm_tools.specs.SampleRows.{row_lists, rows_width};
 
     ghost Value = { Transposed };
 
-    ghost view = { λ w. transposed w.depth (kept_width w.rows) (kept_rows w.rows) w.band.items w.next w.columns };
+    ghost view = { λ w. transposed w.depth (rows_width w.rows) (row_lists w.rows) w.band.items w.next w.columns };
 
-    ghost invariant = { λ w. HasColumns (transposed w.depth (kept_width w.rows) (kept_rows w.rows) w.band.items w.next w.columns) };
+    ghost invariant = { λ w. HasColumns (transposed w.depth (rows_width w.rows) (row_lists w.rows) w.band.items w.next w.columns) };
 }
 
 impl Maker for Transposer {
@@ -51,7 +51,7 @@ impl Maker for Transposer {
         let shape = head.shape();
         let sample_width = SampleWidth::of(shape.kind, shape.maxval);
         self.clear(alloc);
-        self.rows = Kept::with_capacity(alloc, sample_width, shape.height as usize)?;
+        self.rows = SampleRows::with_capacity(alloc, sample_width, shape.height as usize)?;
         Ok(transposed)
     }
 
@@ -93,7 +93,7 @@ impl Transposer {
     {
         Transposer {
             depth: 0,
-            rows: Kept::new(alloc),
+            rows: SampleRows::new(alloc),
             band: Vec::new(alloc),
             next: 0,
             columns: 0,
@@ -107,7 +107,7 @@ impl Transposer {
     {
         self.columns = 0;
         self.next = 0;
-        self.rows = Kept::new(alloc);
+        self.rows = SampleRows::new(alloc);
         self.band = Vec::new(alloc);
     }
 }

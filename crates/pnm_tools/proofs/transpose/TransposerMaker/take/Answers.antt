@@ -1,6 +1,6 @@
 use Rattle.std.proofs.Common.{ap, ◌∙◌}
 use Rattle.std.proofs.lemmas.Result.{on_ok_weaker}
-use Rattle.pnm_tools.specs.Kept.{kept_rows, kept_width}
+use Rattle.pnm_tools.specs.SampleRows.{row_lists, rows_width}
 use Rattle.pnm_tools.specs.Keeping.{Transposed}
 use Rattle.pnm_tools.proofs.FlipRowLaws.{none_made}
 use Rattle.pnm_tools.proofs.transpose.TransposerMaker.take.Goals as goal
@@ -9,5 +9,5 @@ pub returns-clause-due : goal.returns-clause-due
 returns-clause-due c =
     let x = c.self.inside in
     let none = c.requires.ready.2.none_made in
-    let due = none_made x.depth (kept_width c.push.new.self) x.next x.columns (kept_rows c.push.new.self) x.band.items c.args._shape c.args._y c.args.row (ap (λ (w : Transposed). w.band) c.self.view_is ∙ none.0) (ap (λ (w : Transposed). w.columns) c.self.view_is ∙ none.2) in
+    let due = none_made x.depth (rows_width c.push.new.self) x.next x.columns (row_lists c.push.new.self) x.band.items c.args._shape c.args._y c.args.row (ap (λ (w : Transposed). w.band) c.self.view_is ∙ none.0) (ap (λ (w : Transposed). w.columns) c.self.view_is ∙ none.2) in
     on_ok_weaker c.push.result (λ _. due) c.push.ensures.added

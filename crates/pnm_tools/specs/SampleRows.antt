@@ -1,23 +1,24 @@
--- The rows that a transposer keeps.
+-- Rows of one width of samples, and which columns of them are made side by side.
 use Rattle.std.specs.Prelude.{◌≡◌, ℕ, ◌%◌, ◌<◌, ◌≤◌, List, All}
 use Rattle.pnm_image.specs.declared.sample_width.SampleWidth.{SampleWidth}
 use Rattle.pnm_image.specs.declared.sample_width.SampleWidth.TheVariants.{Bits as OfBits, Bytes as OfBytes, Words as OfWords}
 use Rattle.pnm_image.specs.declared.shape.Shape.{Shape}
-use Rattle.pnm_tools.specs.declared.kept.Kept.{Kept}
-use Rattle.pnm_tools.specs.declared.kept.Kept.TheVariants.{Bits, Bytes, Words}
+use Rattle.pnm_tools.specs.declared.sample_rows.SampleRows.{SampleRows}
+use Rattle.pnm_tools.specs.declared.sample_rows.SampleRows.TheVariants.{Bits, Bytes, Words}
 
-abbrev pub kept_rows : Kept → List (List ℕ)
-kept_rows (Bits rows) = rows.items
-kept_rows (Bytes rows) = rows.items
-kept_rows (Words rows) = rows.items
+-- the samples of each
+abbrev pub row_lists : SampleRows → List (List ℕ)
+row_lists (Bits rows) = rows.items
+row_lists (Bytes rows) = rows.items
+row_lists (Words rows) = rows.items
 
--- how each row is held
-abbrev pub kept_width : Kept → SampleWidth
-kept_width (Bits rows) = OfBits
-kept_width (Bytes rows) = OfBytes
-kept_width (Words rows) = OfWords
+-- how wide they are held
+abbrev pub rows_width : SampleRows → SampleWidth
+rows_width (Bits rows) = OfBits
+rows_width (Bytes rows) = OfBytes
+rows_width (Words rows) = OfWords
 
--- a row can be held so
+-- a row can be held so wide
 abbrev pub FitsWidth : SampleWidth → List ℕ → Type 0
 FitsWidth OfBits row = All (λ sample. sample ≤ 1) row
 FitsWidth OfBytes row = All (λ sample. sample ≤ 255) row

@@ -1,13 +1,13 @@
 use Rattle.std.proofs.Common.{◌≡◌, ℕ, List, IfOk, ap, sym, subst, ◌∙◌}
-use Rattle.pnm_tools.specs.Kept.{kept_rows, kept_width}
-use Rattle.pnm_tools.proofs.KeptLaws.{band_of_byte}
-use Rattle.pnm_tools.proofs.kept.Kept.band.Goals as goal
+use Rattle.pnm_tools.specs.SampleRows.{row_lists, rows_width}
+use Rattle.pnm_tools.proofs.BitColumnLaws.{band_of_byte}
+use Rattle.pnm_tools.proofs.sample_rows.SampleRows.band.Goals as goal
 
 pub returns-in_ok-columns-in-Bits-clause-made : goal.returns-in_ok-columns-in-Bits-clause-made
 returns-in_ok-columns-in-Bits-clause-made c =
-    let kept : List (List ℕ) = kept_rows c.args.self.now in
-    let within = c.requires.bits (ap kept_width c.in-Bits.is) in
-    let same = c.as_slice.ensures.value ∙ sym (ap kept_rows c.in-Bits.is) in
+    let kept : List (List ℕ) = row_lists c.args.self.now in
+    let within = c.requires.bits (ap rows_width c.in-Bits.is) in
+    let same = c.as_slice.ensures.value ∙ sym (ap row_lists c.in-Bits.is) in
     subst (λ (columns : List (List ℕ)). IfOk c.last_first.result (λ band. band.items ≡ columns))
     (band_of_byte c.args.first c.args.count c.args.depth c.as_slice.result.now kept c.in_ok-columns-in-Bits.columns.items within c.requires.rows same c.in_ok-columns-in-Bits.ensures)
     c.last_first.ensures.made

@@ -1,12 +1,11 @@
-//! The rows that a transposer keeps, as wide as their image needs.
+//! Rows whose samples are all of one width, which a transposer keeps.
 
 ghost use Rattle.std.specs.Prelude.{◌≡◌, ◌≤◌, ◌<◌, ◌+◌, ◌*◌, ◌++◌, ◌∷◌, [], All, OnOk, OnErr, IfOk, IfErr, length, map, reverse};
 ghost use Rattle.std.specs.List.{range_with_len};
 ghost use Rattle.pnm_image.specs.Limits.{max_depth, max_row_length};
-ghost use Rattle.pnm_image.specs.declared.sample_width.SampleWidth.TheVariants.{Bits as OfBits};
 ghost use Rattle.pnm_tools.specs.declared.fault.ToolFault.TheVariants.{Memory};
 ghost use Rattle.pnm_tools.specs.Flip.{column_of};
-ghost use Rattle.pnm_tools.specs.Kept.{kept_rows, kept_width, FitsWidth, IsBandOfBits, band_length};
+ghost use Rattle.pnm_tools.specs.SampleRows.{row_lists, rows_width, FitsWidth, IsBandOfBits, band_length};
 
 use crate::band::{columns_of, last_first};
 use crate::fault::ToolFault;
@@ -21,9 +20,9 @@ const BAND: u32 = 64;
 /// The same where a byte holds eight columns of a row, as many as lie in 32 bytes.
 const BAND_OF_BITS: u32 = 256;
 
-/// The rows of an image, top to bottom, all held alike.
+/// The rows of an image, top to bottom, all of one width of samples.
 #[derive(Debug, Drop)]
-pub(crate) enum Kept {
+pub(crate) enum SampleRows {
     /// Each sample is 0 or 1.
     Bits(Vec<Bits>),
     /// Each sample is at most 255.
@@ -32,55 +31,55 @@ pub(crate) enum Kept {
     Words(Vec<RowOf<u16>>),
 }
 
-impl Kept {
+impl SampleRows {
     /// No rows.
-    pub fn new(alloc: Global) -> Kept
-        ensures { kept_rows result ≡ [] }
+    pub fn new(alloc: Global) -> SampleRows
+        ensures { row_lists result ≡ [] }
     {
-        Kept::Words(Vec::new(alloc))
+        SampleRows::Words(Vec::new(alloc))
     }
 
-    /// No rows, and room for so many that are held so. The only fault is `Memory`.
+    /// No rows, and room for so many of this width. The only fault is `Memory`.
     pub fn with_capacity(
         alloc: Global,
         sample_width: SampleWidth,
         count: usize,
-    ) -> Result<Kept, ToolFault>
-        ensures empty { IfOk result (λ kept. kept_rows kept ≡ []) }
-        ensures sample_width { IfOk result (λ kept. kept_width kept ≡ sample_width) }
+    ) -> Result<SampleRows, ToolFault>
+        ensures empty { IfOk result (λ rows. row_lists rows ≡ []) }
+        ensures sample_width { IfOk result (λ rows. rows_width rows ≡ sample_width) }
         ensures refused { IfErr result (λ fault. fault ≡ Memory) }
     {
         Ok(match sample_width {
-            SampleWidth::Bits => Kept::Bits(Vec::with_capacity(alloc, count)?),
-            SampleWidth::Bytes => Kept::Bytes(Vec::with_capacity(alloc, count)?),
-            SampleWidth::Words => Kept::Words(Vec::with_capacity(alloc, count)?),
+            SampleWidth::Bits => SampleRows::Bits(Vec::with_capacity(alloc, count)?),
+            SampleWidth::Bytes => SampleRows::Bytes(Vec::with_capacity(alloc, count)?),
+            SampleWidth::Words => SampleRows::Words(Vec::with_capacity(alloc, count)?),
         })
     }
 
     /// Adds a row at the end, without a copy where it is held so. The only fault is `Memory`.
     pub fn push(&mut self, alloc: Global, row: Samples) -> Result<(), ToolFault>
-        requires { FitsWidth (kept_width self.old) row }
-        ensures sample_width { kept_width self.new ≡ kept_width self.old }
-        ensures added { OnOk result (kept_rows self.new ≡ kept_rows self.old ++ row ∷ []) }
-        ensures unchanged { OnErr result (kept_rows self.new ≡ kept_rows self.old) }
+        requires { FitsWidth (rows_width self.old) row }
+        ensures sample_width { rows_width self.new ≡ rows_width self.old }
+        ensures added { OnOk result (row_lists self.new ≡ row_lists self.old ++ row ∷ []) }
+        ensures unchanged { OnErr result (row_lists self.new ≡ row_lists self.old) }
         ensures refused { IfErr result (λ fault. fault ≡ Memory) }
     {
         match self {
-            Kept::Bits(rows) => rows.push(row.into_bits(alloc)?)?,
-            Kept::Bytes(rows) => rows.push(RowOf::new(row.into_bytes(alloc)?))?,
-            Kept::Words(rows) => rows.push(RowOf::new(row.into_words(alloc)?))?,
+            SampleRows::Bits(rows) => rows.push(row.into_bits(alloc)?)?,
+            SampleRows::Bytes(rows) => rows.push(RowOf::new(row.into_bytes(alloc)?))?,
+            SampleRows::Words(rows) => rows.push(RowOf::new(row.into_words(alloc)?))?,
         }
         Ok(())
     }
 
     /// How many columns are made side by side.
     pub fn band_length(&self) -> u32
-        ensures length { result ≡ band_length (kept_width self.now) }
+        ensures length { result ≡ band_length (rows_width self.now) }
         ensures some { 0 < result }
     {
         match self {
-            Kept::Bits(_) => BAND_OF_BITS,
-            Kept::Bytes(_) | Kept::Words(_) => BAND,
+            SampleRows::Bits(_) => BAND_OF_BITS,
+            SampleRows::Bytes(_) | SampleRows::Words(_) => BAND,
         }
     }
 
@@ -93,24 +92,24 @@ impl Kept {
         count: usize,
         depth: usize,
     ) -> Result<Vec<Samples>, ToolFault>
-        requires rows { All (λ row. (first + count) * depth ≤ length row) (kept_rows self.now) }
-        requires sizes { (length (kept_rows self.now) * depth ≤ max_row_length) × (depth ≤ max_depth)
+        requires rows { All (λ row. (first + count) * depth ≤ length row) (row_lists self.now) }
+        requires sizes { (length (row_lists self.now) * depth ≤ max_row_length) × (depth ≤ max_depth)
             × (first + count ≤ 4294967295) }
-        requires bits { kept_width self.now ≡ OfBits → IsBandOfBits first count depth }
+        requires bits { rows_width self.now ≡ SampleWidth.Bits → IsBandOfBits first count depth }
         ensures made { IfOk result (λ band. band.items
-            ≡ reverse (map (column_of depth (kept_rows self.now)) (range_with_len first count))) }
+            ≡ reverse (map (column_of depth (row_lists self.now)) (range_with_len first count))) }
         ensures refused { IfErr result (λ fault. fault ≡ Memory) }
     {
         match self {
-            Kept::Bits(rows) => {
+            SampleRows::Bits(rows) => {
                 let columns = pnm_samples::columns(alloc, rows.as_slice(), first / 8, count)?;
                 last_first(alloc, columns)
             }
-            Kept::Bytes(rows) => {
+            SampleRows::Bytes(rows) => {
                 let columns = columns_of(alloc, rows.as_slice(), first, count, depth)?;
                 last_first(alloc, columns)
             }
-            Kept::Words(rows) => {
+            SampleRows::Words(rows) => {
                 let columns = columns_of(alloc, rows.as_slice(), first, count, depth)?;
                 last_first(alloc, columns)
             }
