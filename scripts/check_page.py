@@ -1,0 +1,130 @@
+#!/usr/bin/env python3
+"""Wants the manual page, the documents and the completion to say what the sources do.
+
+The page's SYNOPSIS is the usage line of the program, and the page names each fault that the crates name. Each edit that
+docs/PROMISES.md names stands in a crate's must-fail, each link of the README and of docs leads to a file, and lines
+there wrap at 100 columns but for tables. Options and tools of the completion stand in the page, and the other way round.
+Where mandoc is installed, it has to find nothing in the pages.
+"""
+
+import glob
+import os
+import re
+import shutil
+import subprocess
+import sys
+
+ROOT = os.path.dirname(os.path.dirname(os.path.abspath(__file__)))
+
+# what mandoc says of pages of other packages that aren't installed
+ELSEWHERE = "referenced manual not found"
+
+
+def read(path):
+    with open(os.path.join(ROOT, path), encoding="utf-8") as file:
+        return file.read()
+
+
+def sources():
+    return [path for path in glob.glob(os.path.join(ROOT, "crates/*/src/**/*.rt"), recursive=True) if "_tests/" not in path]
+
+
+def synopsis(page):
+    """The words of the section SYNOPSIS, as they are printed."""
+    words = []
+    for line in page.split(".Sh SYNOPSIS\n")[1].split(".Sh ")[0].split("\n"):
+        line = re.sub(r"\bFl (\S+)", r"-\1", line).replace(" Ar ", " ")
+        if line.startswith(".Op "):
+            words.append(f"[{line[4:]}]")
+        elif line.startswith((".Nm ", ".Ar ")):
+            words.append(line[4:])
+    return " ".join(words)
+
+
+def usage():
+    found = re.findall(r'USAGE: &str = "([^"]*)"', read("crates/pnmpipe/src/command_line.rt"))
+    return found[0] if found else "no usage line"
+
+
+def fault_names():
+    """Each name that a fault is printed by: those of thiserror, and those that fault_line.rt has in its own texts."""
+    names = set()
+    for path in sources():
+        names.update(re.findall(r'#\[error\("(\w+)"\)\]', read(path)))
+    own = re.findall(r'"pnmpipe: [^"]*?(\w+)"', read("crates/pnmpipe/src/fault_line.rt"))
+    return names | set(own)
+
+
+def faults_of_page():
+    page = read("man/pnmpipe.1")
+    found = []
+    if synopsis(page) != usage():
+        found.append(f"man/pnmpipe.1 has the synopsis {synopsis(page)!r}, the program {usage()!r}")
+    if f"pnmpipe: usage: {usage()}" not in page:
+        found.append("man/pnmpipe.1 has another usage line among its diagnostics")
+    told = page.split(".Sh DIAGNOSTICS\n")[1]
+    for name in sorted(fault_names()):
+        if not re.search(rf"^\.It .*\b{name}\b", told, re.M):
+            found.append(f"man/pnmpipe.1 has no row for {name}")
+    return found
+
+
+def faults_of_completion():
+    page, completion = read("man/pnmpipe.1"), read("completions/pnmpipe.bash")
+    tools = page.split(".Sh TOOLS\n")[1].split(".Sh ")[0].replace("\\\n", "")
+    found = []
+    for tool in re.findall(r"^\.It Ic (\w+)", tools, re.M):
+        told = set()
+        for line in re.findall(rf"^\.It Ic {tool}\b(.*)", tools, re.M):
+            told.update(re.findall(r"Fl (\w+)", line))
+        line = re.search(rf"^ *{tool}\) words='([^']*)'", completion, re.M)
+        given = set(re.findall(r"-(\w+)", line.group(1))) if line else None
+        if given != told:
+            found.append(f"completions/pnmpipe.bash gives {tool} the options {given}, the page {told}")
+    options = set(re.findall(r"\.It Fl -(\w+)", page.split(".Sh OPTIONS\n")[1].split(".Sh ")[0]))
+    if not all(f"--{option}" in completion for option in options):
+        found.append("completions/pnmpipe.bash lacks an option of the page")
+    return found
+
+
+def faults_of_documents():
+    edits = {os.path.basename(path)[:-5] for path in glob.glob(os.path.join(ROOT, "crates/*/must-fail/*.edit"))}
+    found = []
+    for block in re.findall(r"^- Edits: ((?:.+\n)(?:  .+\n)*)", read("docs/PROMISES.md"), re.M):
+        for name in re.findall(r"`(\w+)`", block):
+            if name not in edits:
+                found.append(f"docs/PROMISES.md names the edit {name}, which no crate has")
+    for path in ["README.md"] + ["docs/" + name for name in ("PROMISES.md", "PERFORMANCE.md", "NETPBM.md", "RECIPES.md")]:
+        text = read(path)
+        for number, line in enumerate(text.split("\n"), 1):
+            if len(line) > 100 and not line.startswith("|"):
+                found.append(f"{path}:{number} has {len(line)} columns")
+        for link in re.findall(r"\]\(([^)#:]+)(?:#[^)]*)?\)", text):
+            if not os.path.exists(os.path.join(ROOT, os.path.dirname(path), link)):
+                found.append(f"{path} leads to {link}, which isn't there")
+    size = len(read("README.md").encode())
+    if size > 8192:
+        found.append(f"README.md has {size} bytes, more than 8,192")
+    return found
+
+
+def faults_of_lint():
+    if shutil.which("mandoc") is None:
+        print("check_page: mandoc isn't installed, so the pages' form isn't looked at")
+        return []
+    pages = sorted(glob.glob(os.path.join(ROOT, "man/*.1")))
+    lint = subprocess.run(["mandoc", "-Tlint", "-Wall", *pages], capture_output=True, text=True, check=False)
+    return [line for line in (lint.stdout + lint.stderr).splitlines() if ELSEWHERE not in line]
+
+
+def main():
+    found = faults_of_page() + faults_of_completion() + faults_of_documents() + faults_of_lint()
+    for line in found:
+        print(f"check_page: {line}")
+    if found:
+        sys.exit(1)
+    print("check_page: the pages, the documents and the completion fit the sources")
+
+
+if __name__ == "__main__":
+    main()
