@@ -7,6 +7,10 @@ Netpbm tool, and the program's wall time over Netpbm's. Needs some 1.5 GB of mem
 With --floor, also those of a program in C (cc builds it) that reads 4,096 bytes at a time and writes 64 KiB at a time as many
 bytes as the tool makes, from a block of the whole image for tools that keep one, and does nothing else. Beside other work,
 `chrt -f 10` before this script's name gives figures that can be compared.
+
+After the tools come those whose result is plain text: the program with --plain beside the Netpbm tool with -plain. Their
+lines differ, so what both have written is read again, by the program and by Netpbm, and the four raw images are compared.
+The program in C that --floor names there writes the same text from a table of the texts of all samples.
 """
 
 import argparse
@@ -79,6 +83,87 @@ int main(int count, char **words) {
 }
 """
 
+# The tools whose result is written as plain text too, and the images that this is done with.
+PLAIN_TOOLS = ["pnminvert"]
+PLAIN_IMAGES = ["scan", "color", "gray16"]
+
+# Writes the inverted image of standard input as plain text. The arguments: the digit of the magic, width, height and maxval.
+PLAIN_FLOOR = r"""
+#include <stdio.h>
+#include <stdlib.h>
+#include <string.h>
+#include <unistd.h>
+
+enum { ROOM = 65536, LINE = 70 };
+
+static unsigned char in[65536], out[ROOM + 64], texts[65536][8];
+static size_t held, taken, filled;
+
+static void flush(void) {
+    for (size_t done = 0; done < filled;) {
+        ssize_t count = write(1, out + done, filled - done);
+        if (count <= 0) exit(1);
+        done += count;
+    }
+    filled = 0;
+}
+
+static unsigned next(void) {
+    if (taken == held) {
+        ssize_t count = read(0, in, sizeof in);
+        if (count <= 0) exit(1);
+        held = count;
+        taken = 0;
+    }
+    return in[taken++];
+}
+
+int main(int count, char **words) {
+    int kind = atoi(words[1]), maxval = atoi(words[4]);
+    long width = atol(words[2]), height = atol(words[3]), samples = width * (kind == 6 ? 3 : 1);
+    for (int lines = kind == 4 ? 2 : 3; lines > 0;) lines -= next() == '\n';
+    for (int sample = 0; sample <= maxval; sample++) {
+        char text[16];
+        int length = sprintf(text, " %d", kind == 4 ? 1 - sample : sample);
+        memcpy(texts[sample], text, 7);
+        texts[sample][7] = length;
+    }
+    filled = sprintf((char *)out, "P%d\n%ld %ld\n", kind - 3, width, height);
+    if (kind != 4) filled += sprintf((char *)out + filled, "%d\n", maxval);
+    for (long y = 0; y < height; y++) {
+        int column = 0;
+        unsigned byte = 0;
+        for (long x = 0; x < samples; x++) {
+            int sample;
+            if (kind == 4) {
+                if (x % 8 == 0) byte = next();
+                sample = byte >> (7 - x % 8) & 1;
+            } else if (maxval < 256) {
+                sample = maxval - next();
+            } else {
+                sample = next() * 256;
+                sample = maxval - sample - next();
+            }
+            int length = texts[sample][7];
+            memcpy(out + filled, texts[sample], 8);
+            if (x == 0) {
+                memcpy(out + filled, texts[sample] + 1, 7);
+                column = --length;
+            } else if (column + length > LINE) {
+                out[filled] = '\n';
+                column = length - 1;
+            } else {
+                column += length;
+            }
+            filled += length;
+            if (filled > ROOM) flush();
+        }
+        out[filled++] = '\n';
+    }
+    flush();
+}
+"""
+
 # What the options and names of tools have that keep an image.
 KEEPING = ("-tb", "-xy", "pnmtile")
 
@@ -124,18 +209,96 @@ def shown(result):
     return "failed" if result is None else "%.3f / %.3f / %.0f" % result
 
 
-def floor_built(folder):
-    program = os.path.join(folder, "floor")
-    subprocess.run(["cc", "-O2", "-x", "c", "-o", program, "-"], input=FLOOR, text=True, check=True)
+def floor_built(folder, text):
+    """A program in C, built of its text."""
+    program = tempfile.mkdtemp(dir=folder) + "/floor"
+    subprocess.run(["cc", "-O2", "-x", "c", "-o", program, "-"], input=text, text=True, check=True)
     return program
 
 
-def median_of_floor(program, tool, source, target, runs):
-    """The floor's medians for a tool that has made `target` of `source`."""
-    size = os.path.getsize(source)
-    times = max(1, round(os.path.getsize(target) / size))
-    kept = size if any(word in tool.split() for word in KEEPING) else 0
-    return median_of([program, str(times), str(kept)], source, target + "-floor", runs)
+def samples_read(program, text, folder):
+    """The file of what a program that reads and writes images makes of a text."""
+    made = tempfile.mkstemp(dir=folder)[1]
+    with open(text, "rb") as stdin, open(made, "wb") as stdout:
+        subprocess.run(program, stdin=stdin, stdout=stdout, check=True)
+    return made
+
+
+def same_samples(reader, one, other, folder):
+    """Whether two plain texts have the same samples, as this program and Netpbm read them."""
+    readings = [[reader, "pamflip -null"], ["pnmtopnm"]]
+    files = [samples_read(words, text, folder) for words in readings for text in (one, other)]
+    same = all(same_bytes(files[0], file) for file in files[1:])
+    for file in files:
+        os.remove(file)
+    return same
+
+
+def same_bytes(one, other):
+    return subprocess.run(["cmp", "-s", one, other]).returncode == 0
+
+
+class Table:
+    """The lines of the table: each program's figures for a tool and an image, beside Netpbm's and the floor's."""
+
+    def __init__(self, args, folder):
+        self.args = args
+        self.programs = [("pnmpipe", args.program)] + [tuple(pair.split("=", 1)) for pair in args.beside]
+        self.folder = folder
+        self.differing = 0
+        names = [name for name, _ in self.programs] + ["floor"] * args.floor
+        print("| image | tool | " + " | ".join(names) + " | Netpbm | over Netpbm |")
+        print("|---" * (len(names) + 4) + "|")
+
+    def line(self, image, tool, path, words, peer_words, same, floor_words):
+        """A line; `same` compares two results, `floor_words` gives the floor's words for the peer's result."""
+        wanted, made = (os.path.join(self.folder, name) for name in ("wanted", "made"))
+        peer = median_of(peer_words, path, wanted, self.args.runs)
+        cells, ratio = [], "-"
+        for index, (_, program) in enumerate(self.programs):
+            result = median_of([program, *words], path, made, self.args.runs)
+            fits = result and peer and same(wanted, made)
+            self.differing += not fits
+            cells.append(shown(result) + ("" if fits else " (OTHER BYTES)"))
+            if index == 0 and result and peer:
+                ratio = "%.2f" % (result[0] / peer[0])
+        if self.args.floor:
+            cells.append(shown(peer and median_of(floor_words(wanted), path, made, self.args.runs)))
+        print("| %s | `%s` | %s | %s | %s |" % (image, tool, " | ".join(cells), shown(peer), ratio), flush=True)
+
+
+def raw_lines(table, images, tools, floor):
+    """The lines of tools whose results are raw images."""
+    for name, path, width, height in images:
+        for tool in tools:
+            chain = tool.replace("WIDE", str(2 * width)).replace("HIGH", str(2 * height))
+            kept = os.path.getsize(path) if any(word in tool.split() for word in KEEPING) else 0
+
+            def floor_words(wanted):
+                times = max(1, round(os.path.getsize(wanted) / os.path.getsize(path)))
+                return [floor, str(times), str(kept)]
+
+            table.line(name, tool, path, [chain], chain.split(), same_bytes, floor_words)
+
+
+def plain_lines(table, images, floor):
+    """The lines of tools whose results are plain text."""
+    headers = {name: header.split() for name, header, _ in IMAGES}
+    for name, path, width, height in images:
+        if name not in PLAIN_IMAGES:
+            continue
+        magic, *_, maxval = headers[name]
+        numbers = [magic.decode()[1], str(width), str(height), "1" if magic == b"P4" else maxval.decode()]
+        for tool in PLAIN_TOOLS:
+            table.line(
+                name,
+                "--plain " + tool,
+                path,
+                ["--plain", tool],
+                [*tool.split(), "-plain"],
+                lambda one, other: same_samples(table.args.program, one, other, table.folder),
+                lambda _: [floor, *numbers],
+            )
 
 
 def main():
@@ -143,36 +306,21 @@ def main():
     parser.add_argument("--program", default="bin/pnmpipe")
     parser.add_argument("--beside", action="append", default=[], metavar="NAME=PATH")
     parser.add_argument("--image", action="append", choices=[name for name, _, _ in IMAGES])
-    parser.add_argument("--tool", action="append", help="a chain of one tool; by default, all of the list")
+    parser.add_argument("--tool", action="append", help="a chain of one tool; by default, all of the list, and then plain text")
+    parser.add_argument("--plain", action="store_true", help="plain text alone")
     parser.add_argument("--runs", type=int, default=5)
-    parser.add_argument("--floor", action="store_true", help="also a program that only reads and writes")
+    parser.add_argument("--floor", action="store_true", help="also a program that does no more than has to be done")
     parser.add_argument("--folder", default="/dev/shm" if os.path.isdir("/dev/shm") else None)
     args = parser.parse_args()
-    programs = [("pnmpipe", args.program)] + [tuple(pair.split("=", 1)) for pair in args.beside]
-    differing = 0
-    names = [name for name, _ in programs] + ["floor"] * args.floor
-    print("| image | tool | " + " | ".join(names) + " | Netpbm | over Netpbm |")
-    print("|---" * (len(names) + 4) + "|")
     with tempfile.TemporaryDirectory(dir=args.folder) as folder:
-        floor = floor_built(folder) if args.floor else None
-        for name, path, width, height in written_images(folder, args.image):
-            for tool in args.tool or TOOLS:
-                chain = tool.replace("WIDE", str(2 * width)).replace("HIGH", str(2 * height))
-                wanted, made = os.path.join(folder, "wanted"), os.path.join(folder, "made")
-                peer = median_of(chain.split(), path, wanted, args.runs)
-                cells, ratio = [], "-"
-                for index, (_, program) in enumerate(programs):
-                    result = median_of([program, chain], path, made, args.runs)
-                    same = result and peer and subprocess.run(["cmp", "-s", wanted, made]).returncode == 0
-                    differing += not same
-                    cells.append(shown(result) + ("" if same else " (OTHER BYTES)"))
-                    if index == 0 and result and peer:
-                        ratio = "%.2f" % (result[0] / peer[0])
-                if floor:
-                    cells.append(shown(peer and median_of_floor(floor, tool, path, wanted, args.runs)))
-                print("| %s | `%s` | %s | %s | %s |" % (name, tool, " | ".join(cells), shown(peer), ratio), flush=True)
-    if differing:
-        sys.exit(f"{differing} results differ from Netpbm's or failed")
+        table = Table(args, folder)
+        images = written_images(folder, args.image)
+        if not args.plain:
+            raw_lines(table, images, args.tool or TOOLS, args.floor and floor_built(folder, FLOOR))
+        if args.plain or not args.tool:
+            plain_lines(table, images, args.floor and floor_built(folder, PLAIN_FLOOR))
+    if table.differing:
+        sys.exit(f"{table.differing} results differ from Netpbm's or failed")
 
 
 if __name__ == "__main__":

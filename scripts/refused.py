@@ -33,8 +33,9 @@ MEMORY = re.compile(r"pnmpipe: (command line: Memory|chain: Memory|NoStart|input
 TESTED = ["pnm_tools_tests", "pnm_chain_tests", "pnm_flow_tests", "pnmpipe"]
 OF_MEMORY = "memory::"
 
-# no command makes more allocations than this
+# no command makes more allocations than this, and none has more tools
 MOST = 2000
+MOST_TOOLS = 16
 
 
 class Command(typing.NamedTuple):
@@ -129,9 +130,12 @@ def threads_of(row_wise, others, lanes):
 def commands_over(lanes):
     """The commands that stand at each number of lanes."""
 
-    def command(chain, given, whole, row_wise, others, ring=1, line=""):
-        words = ["--ring", str(ring), "--lanes", str(lanes), chain]
+    def command(chain, given, whole, row_wise, others, ring=1, line="", form=()):
+        words = ["--ring", str(ring), "--lanes", str(lanes), *form, chain]
         return Command(words, given, whole, threads_of(row_wise, others, lanes), line)
+
+    def plain(*facts, **options):
+        return command(*facts, form=["--plain"], **options)
 
     yield from (command(chain, STREAM, whole, 1, 0) for chain, whole in ROW_WISE)
     yield from (command(chain, STREAM, whole, 0, 1) for chain, whole in WHOLE)
@@ -147,6 +151,10 @@ def commands_over(lanes):
     cut = bits("11", "10") + gray(9, [2, 1], [4, 3]) + gray(300, [2, 1], [0, 0])[:-4]
     yield command("pamflip -lr | pamflip -lr | pamflip -lr", STREAM[:-1], cut, 3, 0, line="pnmpipe: input: RasterCut\n")
     yield command("pnminvert | pamcut -left 2 | pnminvert", STREAM, b"", 2, 1, line="pnmpipe: tool 2: CutOutside\n")
+    # plain text, of which a stream's second image is none, nor is PAM
+    yield plain("pnminvert", gray(300, [1, 2], [3, 300]), b"P2\n2 2\n300\n299 298\n297 0\n", 1, 0)
+    yield plain("pamflip -tb | pnminvert", STREAM, b"P1\n2 2\n1 0\n0 0\n", 1, 1, line="pnmpipe: output: SecondPlain\n")
+    yield plain("pamchannel 0", gray(9, [1], [2]), b"", 1, 0, line="pnmpipe: output: PlainPam\n")
 
 
 def stored_run():
@@ -191,6 +199,8 @@ def place_of(line):
     number = re.match(r"pnmpipe: tool ([0-9]+):", line)
     if number:
         return 2 + int(number[1])
+    if line.startswith("pnmpipe: output:"):
+        return MOST_TOOLS + 3
     return 2 if line.startswith("pnmpipe: input:") else 1
 
 
