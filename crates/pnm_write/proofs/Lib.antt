@@ -2,3 +2,11 @@ pub mod FormLaws
 pub mod MessageLaws
 pub mod PlainLaws
 pub mod RawLaws
+pub mod DecimalText
+pub mod NumberText
+pub mod PamText
+pub mod HeaderText
+pub mod RowText
+pub mod PlainText
+pub mod OneText
+pub mod ReadAgain

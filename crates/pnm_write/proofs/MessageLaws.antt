@@ -15,10 +15,10 @@ use Rattle.pnm_image.specs.Places.{Accepts, place_after, place_of}
 use Rattle.pnm_image.proofs.Places.{lawful_more, place_of-append}
 use Rattle.pnm_image.proofs.Lists.{each-push}
 use Rattle.pnm_write.specs.declared.sink.Sink.{Sink}
-use Rattle.pnm_write.specs.Encoding.{header_text, row_bytes, encoding_of, bytes_at, bytes_from}
-use Rattle.pnm_write.specs.Forms.{has_begun_after, has_begun_by, form_fault, form_fault_of}
+use Rattle.pnm_write.specs.Encoding.{header_text, row_bytes, encoding_of, bytes_at, bytes_from, bytes_of, written_of}
+use Rattle.pnm_write.specs.Forms.{has_begun_after, has_begun_by, form_fault, form_fault_of, taken_by}
 use Rattle.pnm_write.specs.Sinks.{writer_of, next_place, form_of, has_begun, has_failed, HasRows, Takes, HasPut, HasWritten}
-use Rattle.pnm_write.proofs.FormLaws.{has_begun_by-more, form_fault-more}
+use Rattle.pnm_write.proofs.FormLaws.{has_begun_by-more, form_fault-more, IsFrontOf, taken_front, taken_by-all}
 
 -- the bytes of rows, and of what comes after the image
 bytes_of_rows : (form : Form) (s : Shape) (y : ℕ) (rows : List (List ℕ)) (rest : List Message)
@@ -49,6 +49,18 @@ bytes_from-append form place (m ∷ ms) ns =
 -- one message more adds its bytes
 pub bytes_of_more : (form : Form) (place : Place) (messages : List Message) (m : Message) → bytes_from form place (messages ++ m ∷ []) ≡ bytes_from form place messages ++ bytes_at form (place_of place messages) m
 bytes_of_more form place messages m = bytes_from-append form place messages (m ∷ []) ∙ ap (λ (l : List ℕ). bytes_from form place messages ++ l) (append-nil (bytes_at form (place_of place messages) m))
+
+-- what is written is a front of what is written of more messages
+pub written_front : (form : Form) (messages more : List Message) → (rest : List ℕ) × (written_of form (messages ++ more) ≡ written_of form messages ++ rest)
+written_front form messages more =
+    let front : IsFrontOf (taken_by form messages) (taken_by form (messages ++ more)) = taken_front form messages more in (
+      bytes_from form (place_of Between (taken_by form messages)) front.0,
+      ap (bytes_from form Between) front.1 ∙ bytes_from-append form Between (taken_by form messages) front.0,
+    )
+
+-- where no message is refused, all bytes are written
+pub written_all : (form : Form) (messages : List Message) → form_fault_of form messages ≡ None → written_of form messages ≡ bytes_of form messages
+written_all form messages none = ap (bytes_from form Between) (taken_by-all form messages none)
 
 -- ---- one message more
 

@@ -85,7 +85,7 @@ words_step true fits column word words begun here next = cc
 words_step false true column word words begun here next = ap (λ (l : List ℕ). blank ∷ (word ++ l)) here ∙ ap (λ (l : List ℕ). blank ∷ l) (sym (append_assoc word (text_of_part (column + 1 + length word) words) (line_feed ∷ [])))
 words_step false false column word words begun here next = ap (λ (l : List ℕ). line_feed ∷ (word ++ l)) next ∙ ap (λ (l : List ℕ). line_feed ∷ l) (sym (append_assoc word (text_of_part (length word) words) (line_feed ∷ [])))
 
-has_begun_line : (column : ℕ) → 0 < column → (column == 0) ≡ false
+pub has_begun_line : (column : ℕ) → 0 < column → (column == 0) ≡ false
 has_begun_line column begun = grind (arith, nat_tests)
 
 -- behind a line that has begun, the words that follow
