@@ -28,7 +28,7 @@ suite() {
     mkdir "$work/run-$1"
     (cd "$work/run-$1" && env PATH="$2" BUILDDIR="$work" CHECK_TYPE=install PNMPIPE="$PNMPIPE" PNMPIPE_SHIM_LOG="$work/log-$1" \
         bash "$work/test/Execute-Tests" > "$work/said-$1" 2>&1 < /dev/null) || true
-    grep -a '^[^ ]*\.test: ' "$work/said-$1" | LC_ALL=C sort > "$work/$1" || true
+    grep -aE '^[^ ]*\.test: (UNEXPECTED |EXPECTED )?(SUCCESS|FAILURE|NOT TESTABLE)$' "$work/said-$1" | LC_ALL=C sort > "$work/$1" || true
     printf '%s: %s passed of %s, %s not testable\n' "$1" "$(grep -c ': SUCCESS' "$work/$1")" \
         "$(grep -vc ': NOT TESTABLE' "$work/$1")" "$(grep -c ': NOT TESTABLE' "$work/$1")"
 }
