@@ -30,6 +30,7 @@ END
 
 tried=0
 failed=0
+# shellcheck disable=SC2231
 for control in crates/${CRATE:-*}/controls/*.edit; do
     [ -e "$control" ] || continue
     tried=$((tried + 1))

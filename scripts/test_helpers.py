@@ -1,0 +1,347 @@
+#!/usr/bin/env python3
+"""Tests of the helpers and of the stand-ins for Netpbm's tools, in seconds.
+
+They want python3 and sh alone. The program is named by --program; where it isn't there, what wants it is passed over. The
+stand-ins are tried over scripts that only tell how they were called.
+"""
+
+import argparse
+import importlib.machinery
+import importlib.util
+import os
+import shutil
+import subprocess
+import sys
+import tempfile
+import unittest
+
+sys.dont_write_bytecode = True
+
+SCRIPTS = os.path.dirname(os.path.abspath(__file__))
+ROOT = os.path.dirname(SCRIPTS)
+PROGRAM = None
+
+GRAY = b"P5\n2 1\n9\n\x01\x02"
+COLOR = b"P6\n1 1\n9\n\x03\x04\x05"
+
+# pipelines, and what they become
+TRANSLATED = [
+    ("pamcut -l 8 in.pgm | pnminvert > out", "pnmpipe 'pamcut -left 8 | pnminvert' < in.pgm > out"),
+    ("pamflip -r90 a", "pnmpipe 'pamflip -lr | pamflip -xy' < a"),
+    ("pamflip --r270 | pamflip -r180", "pnmpipe 'pamflip -xy | pamflip -lr | pamflip -lr | pamflip -tb'"),
+    ("pnmcut 1 2 0 -3 'a b'", "pnmpipe 'pamcut -left 1 -top 2 -right -1 -bottom -4' < 'a b'"),
+    ("pamcut -cropl 5 --cropright=9", "pnmpipe 'pamcut -left 5 -right -10'"),
+    ("pnmenlarge -scale 3 - | cat", "pnmpipe 'pamenlarge 3' | cat"),
+    ("pamenlarge -xs 3 -ys=2 f", "pnmpipe 'pamenlarge -xscale 3 -yscale 2' < f"),
+    ("pamflip -xform=leftright,transpose", "pnmpipe 'pamflip -lr | pamflip -xy'"),
+    ("pnmflip -tr -cw f", "pnmpipe 'pamflip -xy | pamflip -xy | pamflip -lr' < f"),
+    ("pamchannel -infile='a b' -tuple X 0 1", "pnmpipe 'pamchannel -tupletype=X 0 1' < 'a b'"),
+    ("pnmtile 7 8 f -quiet 2>/dev/null", "pnmpipe 'pnmtile 7 8' < f 2>/dev/null"),
+    ("pamdepth 9 f | pnmtile -plain 3 3", "pnmpipe --plain 'pamdepth 9 | pnmtile 3 3' < f"),
+    ("a | pamcut -left 1 f|pamflip -lr", "a | pnmpipe 'pamcut -left 1 | pamflip -lr' < f"),
+    ('x="$(pamcut -left 1 < "$f" | pamflip -tb)"', "x=\"$(pnmpipe 'pamcut -left 1 | pamflip -tb' < \"$f\")\""),
+    ("pamcut -left 1 |\n  pamflip -lr", "pnmpipe 'pamcut -left 1 | pamflip -lr'"),
+    ('for f in *; do pnminvert "$f"; done', "for f in *; do pnmpipe 'pnminvert' < \"$f\"; done"),
+    ("cat <<E | pnminvert\npnminvert\nE", "cat <<E | pnmpipe 'pnminvert'\npnminvert\nE"),
+    ("case $x in a) pnminvert ;; esac", "case $x in a) pnmpipe 'pnminvert' ;; esac"),
+    ("pamchannel 0 | pnminvert | pamflip -lr", "pnmpipe 'pamchannel 0' | pnminvert | pnmpipe 'pamflip -lr'"),
+    ("pamcut -left 1 2> e | pnminvert", "pnmpipe 'pamcut -left 1' 2> e | pnmpipe 'pnminvert'"),
+]
+
+# what is kept as it is
+KEPT = [
+    "pamcut -pad -left 1",
+    "pamcut -left $n",
+    "pamcut -left 1 $f",
+    "pamcut -left 1 *.pgm",
+    "pamcut -left 1 a b",
+    "pamcut -left 1 -left 2",
+    "pamcut -left 1 -right 2 -width 2",
+    "pamcut -cropleft -1",
+    "pamcut 0 0 +3 3",
+    "pamflip -lr -tb",
+    "pamflip -xform=left",
+    "pamflip -l",
+    "pamdepth 0",
+    "pamdepth 65536",
+    "pamchannel -tupletype 'two words' 0",
+    "pamchannel 0 -plain",
+    "pamenlarge -scale 2 -xscale 3",
+    "pnmtile 3",
+    "pnminvert -version",
+    "pnminvert |& cat",
+    "pnminvert f < g",
+    "pnminvert << E\nE",
+    "pamcut() { :; }\npamcut -left 1",
+    "case pamcut in pamcut) ;; (pnminvert|pamcut) ;; esac",
+    "a=(pnminvert)",
+    "sh -c 'pnminvert' # pnminvert",
+    "echo pnminvert; xargs pnminvert",
+    "echo `pnminvert`",
+    'pnminvert "$@"',
+    "pnminvert 'a",
+]
+
+
+def run(words, given=b"", **others):
+    return subprocess.run(words, input=given, capture_output=True, check=False, **others)
+
+
+class Folder(unittest.TestCase):
+    """A test that has a folder of its own."""
+
+    def setUp(self):
+        self.folder = tempfile.mkdtemp()
+        self.addCleanup(shutil.rmtree, self.folder)
+
+    def path(self, name):
+        return os.path.join(self.folder, name)
+
+    def write(self, name, data, mode=0o644):
+        os.makedirs(os.path.dirname(self.path(name)), exist_ok=True)
+        with open(self.path(name), "wb") as file:
+            file.write(data)
+        os.chmod(self.path(name), mode)
+        return self.path(name)
+
+    def read(self, name):
+        with open(self.path(name), "rb") as file:
+            return file.read()
+
+
+def loaded(name):
+    """A helper, as a module."""
+    loader = importlib.machinery.SourceFileLoader(name.replace("-", "_"), f"{SCRIPTS}/{name}")
+    module = importlib.util.module_from_spec(importlib.util.spec_from_loader(loader.name, loader))
+    loader.exec_module(module)
+    return module
+
+
+class Translate(Folder):
+    translate = loaded("pnmpipe-translate")
+
+    def translated(self, text):
+        made, said = self.translate.translated(text)
+        return made, "\n".join(note for _, note in said)
+
+    def test_translates(self):
+        for text, wanted in TRANSLATED:
+            made, said = self.translated(text)
+            self.assertEqual(made, wanted)
+            self.assertIn("in one call", said)
+
+    def test_keeps(self):
+        for text in KEPT:
+            self.assertEqual(self.translated(text)[0], text)
+
+    def test_tells_what_differs(self):
+        for text, note in [
+            ("pnminvert", "every image of a stream"),
+            ("pnmtile 2 2", "stays PAM"),
+            ("pamdepth 1", "stay as they are"),
+            ("pamcut -left 1", "several plain images"),
+            ('pnminvert "$f"', "begins with a dash"),
+            ("pnminvert -plain", "breaks the lines"),
+        ]:
+            self.assertIn(note, self.translated(text)[1])
+
+    def test_script(self):
+        script = self.write("script", b"#!/bin/sh\n# caf\xe9\npnminvert < a\n")
+        done = run([f"{SCRIPTS}/pnmpipe-translate", "-f", script])
+        self.assertEqual(done.stdout, b"#!/bin/sh\n# caf\xe9\npnmpipe 'pnminvert' < a\n")
+        self.assertIn(b"line 3: 1 tool in one call", done.stderr)
+
+    def test_long_runs(self):
+        made, _ = self.translated(" | ".join(["pnminvert"] * 18))
+        self.assertEqual([call.count("pnminvert") for call in made.split("pnmpipe")[1:]], [16, 2])
+
+
+class Split(Folder):
+    def split(self, given, *words):
+        return run([f"{SCRIPTS}/pnmpipe-split", *words, self.path("x-")], given)
+
+    def test_all_kinds(self):
+        bits = b"P4 # c\n9 #d\n2\n" + bytes(4)
+        deep = b"P5\n1 1\n256\n\x01\x00"
+        pam = b"P7\nWIDTH 1\nHEIGHT 1\n# c\nDEPTH 2\nMAXVAL 255\nTUPLTYPE A\nENDHDR\nab"
+        self.assertEqual(self.split(bits + GRAY + COLOR + deep + pam).returncode, 0)
+        names = ["x-0001.pbm", "x-0002.pgm", "x-0003.ppm", "x-0004.pgm", "x-0005.pam"]
+        self.assertEqual(sorted(os.listdir(self.folder)), names)
+        self.assertEqual([self.read(name) for name in names], [bits, GRAY, COLOR, deep, pam])
+
+    def test_faults(self):
+        for given, words in [
+            (GRAY + GRAY[:-1], b"image 2 ends in its raster"),
+            (GRAY + b"P5\n3", b"image 2 ends in a header"),
+            (GRAY + b"P2 1 1 9 3", b"image 2 is plain"),
+            (GRAY + b"\n", b"image 2 doesn't begin with P4 to P7"),
+            (GRAY + b"P5 x", b"image 2 has a header's number that isn't decimal"),
+        ]:
+            done = self.split(given)
+            self.assertEqual(done.returncode, 1)
+            self.assertIn(words, done.stderr)
+            self.assertEqual(os.listdir(self.folder), ["x-0001.pgm"])
+
+    def test_names(self):
+        names = self.write("names", b"in/a b.pgm\nc.ppm\n")
+        self.assertEqual(self.split(GRAY + COLOR, "--names", names).returncode, 0)
+        self.assertEqual((self.read("x-a b.pgm"), self.read("x-c.ppm")), (GRAY, COLOR))
+        self.assertIn(b"image 2 is missing", self.split(GRAY, "--names", names).stderr)
+        self.assertIn(b"image 3 has no name", self.split(GRAY * 3, "--names", names).stderr)
+        self.write("names", b"a/c\nb/c\n")
+        self.assertEqual(self.split(GRAY + COLOR, "--names", names).returncode, 1)
+
+
+# tells how it was called, and hands its input on
+TELLS = b"#!/bin/sh\nprintf '%s:' \"${0##*/}\" \"$@\"\nexec cat\n"
+
+SHIMS = "pnminvert pamcut pamdepth pamchannel pamenlarge pamflip pnmtile pnmcut pnmdepth pnmenlarge pnmflip".split()
+
+# a call, and the chain that pnmpipe gets
+STOOD_IN = [
+    (["pnminvert", "F"], "pnminvert"),
+    (["pamcut", "-l", "3", "--right=-4", "F"], "pamcut  -left 3 -right -4"),
+    (["pamcut", "F", "-cropright", "09", "-croptop=2"], "pamcut  -right -10 -top 2"),
+    (["pnmcut", "1", "2", "0", "-3", "F"], "pamcut -left 1 -top 2 -right -1 -bottom -4"),
+    (["pnmdepth", "-quiet", "9", "F"], "pamdepth 9"),
+    (["pamchannel", "-infile=F", "-tupl", "RGB", "2", "1", "0"], "pamchannel -tupletype=RGB 2 1 0"),
+    (["pamenlarge", "3", "F"], "pamenlarge 3"),
+    (["pnmenlarge", "-x", "3", "-ys=2", "F"], "pamenlarge  -xscale 3 -yscale 2"),
+    (["pamflip", "-r90", "F"], "pamflip -lr | pamflip -xy"),
+    (["pamflip", "-xform", "leftright,topbottom", "F"], "pamflip -lr | pamflip -tb"),
+    (["pnmflip", "-tr", "-lr", "F"], "pamflip -xy | pamflip -lr"),
+    (["pnmtile", "4", "5", "F"], "pnmtile 4 5"),
+]
+
+# calls that go to the tool itself
+HANDED_ON = [
+    ["pamcut", "-pad", "-left", "3", "F"],
+    ["pamcut", "-left", "1", "-right", "2", "-width", "3", "F"],
+    ["pamflip", "-lr", "-tb", "F"],
+    ["pamflip", "-l", "F"],
+    ["pamflip", "-xform=left", "F"],
+    ["pamdepth", "1", "F"],
+    ["pamchannel", "-tupletype", "two 'words'", "0", "-infile", "F"],
+    ["pnminvert", "-plain", "F"],
+    ["pnminvert", "-version"],
+    ["pnmtile", "3", "F"],
+    ["pnminvert", "no such file"],
+]
+
+
+class StandIns(Folder):
+    def setUp(self):
+        super().setUp()
+        self.write("bin/pnmpipe", TELLS, 0o755)
+        os.mkdir(self.path("shims"))
+        for name in SHIMS:
+            self.write(f"netpbm/{name}", TELLS, 0o755)
+            os.symlink(f"{SCRIPTS}/netpbm-shim", self.path(f"shims/{name}"))
+        self.file = self.write("a 'b'.pgm", b"the image")
+
+    def call(self, words, folders=("shims", "bin", "netpbm")):
+        words = [word.replace("F", self.file) if word in ("F", "-infile=F") else word for word in words]
+        path = ":".join([self.path(folder) for folder in folders] + ["/usr/bin", "/bin"])
+        return words, run([self.path("shims/" + words[0]), *words[1:]], b"given", env={"PATH": path})
+
+    def test_stands_in(self):
+        for words, chain in STOOD_IN:
+            _, done = self.call(words)
+            self.assertEqual(done.stdout.decode(), f"pnmpipe:--:{chain}:the image", words)
+            _, done = self.call([word for word in words if "F" not in word])
+            self.assertEqual(done.stdout.decode(), f"pnmpipe:--:{chain}:given", words)
+
+    def test_hands_on(self):
+        for words in HANDED_ON:
+            words, done = self.call(words)
+            self.assertEqual(done.stdout.decode(), ":".join([*words, "given"]))
+
+    def test_nobody_to_hand_on_to(self):
+        tools = self.path("tools")
+        os.mkdir(tools)
+        for name in ("sh", "sed", "cat"):
+            os.symlink(shutil.which(name), f"{tools}/{name}")
+        done = run([self.path("shims/pamcut"), "-pad"], env={"PATH": f"{self.path('shims')}:{tools}"})
+        self.assertEqual(done.returncode, 1)
+        self.assertIn(b"pnmpipe does not take -pad", done.stderr)
+
+
+class Files(Folder):
+    def setUp(self):
+        super().setUp()
+        if PROGRAM is None:
+            self.skipTest("there is no program")
+        for name, data in [("a b.pgm", GRAY), ("c.ppm", COLOR), ("cut.pgm", GRAY[:-1]), ("-d.pgm", GRAY)]:
+            self.write("in/" + name, data)
+
+    def files(self, *words):
+        return run([f"{SCRIPTS}/pnmpipe-files", *words], cwd=self.folder, env={**os.environ, "PNMPIPE": PROGRAM})
+
+    def test_some(self):
+        done = self.files("pnminvert", "out", *["in/" + name for name in os.listdir(self.path("in"))])
+        self.assertEqual(done.returncode, 1)
+        self.assertIn(b"in/cut.pgm: pnmpipe: input: RasterCut", done.stderr)
+        self.assertEqual(sorted(os.listdir(self.path("out"))), ["-d.pgm", "a b.pgm", "c.ppm", "pnmpipe-files.log"])
+        self.assertEqual(self.read("out/a b.pgm"), GRAY[:-2] + b"\x08\x07")
+        self.write("in/cut.pgm", GRAY)
+        os.utime(self.path("out/c.ppm"), (1, 1))
+        done = self.files("--resume", "pnminvert", "out", *["in/" + name for name in os.listdir(self.path("in"))])
+        self.assertEqual((done.returncode, done.stderr), (0, b"1 files, 0 failed, 3 left out\n"))
+        self.assertEqual(os.stat(self.path("out/c.ppm")).st_mtime, 1)
+        self.assertEqual(self.files("--resume", "pamcut", "out", "in/c.ppm").returncode, 2)
+
+    def test_refuses(self):
+        for words in [
+            ("pnmscale 2", "out", "in/c.ppm"),
+            ("pnminvert", "in", "in/c.ppm"),
+            ("pnminvert", "out", "in/c.ppm", "./in/c.ppm"),
+            ("pnminvert", "out"),
+            ("--jobs", "x", "pnminvert", "out", "in/c.ppm"),
+        ]:
+            self.assertEqual(self.files(*words).returncode, 2, words)
+            self.assertEqual(self.read("in/c.ppm"), COLOR)
+
+
+class Completion(unittest.TestCase):
+    def replies(self, *words):
+        code = f'. {ROOT}/completions/pnmpipe.bash; COMP_WORDS=("$@"); COMP_CWORD=$(($# - 1)); _pnmpipe; printf "%s\\n" "${{COMPREPLY[@]}}"'
+        return run(["bash", "--norc", "-c", code, "bash", *words]).stdout.decode().splitlines()
+
+    @unittest.skipIf(shutil.which("bash") is None, "bash isn't installed")
+    def test_replies(self):
+        self.assertIn("'pamcut", self.replies("pnmpipe", "pam"))
+        self.assertEqual(self.replies("pnmpipe", "--l"), ["--lanes"])
+        self.assertEqual(self.replies("pnmpipe", "--lanes", ""), ["1", "2", "4", "8"])
+        self.assertEqual(self.replies("pnmpipe", "'pamcut -wi"), ["pamcut -width ", "pamcut -width |"])
+        self.assertEqual(self.replies("pnmpipe", '"pamcut -left 8|pamflip -l'), ["pamcut -left 8|pamflip -lr", "pamcut -left 8|pamflip -leftright"])
+
+
+class Install(Folder):
+    @unittest.skipUnless(os.access(f"{ROOT}/bin/pnmpipe", os.X_OK) and shutil.which("make"), "there is no bin/pnmpipe, or no make")
+    def test_installs(self):
+        target = ["-s", "-C", ROOT, f"DESTDIR={self.folder}/x y", "PREFIX=/usr"]
+        self.assertEqual(run(["make", "install", *target]).returncode, 0)
+        bin_folder = self.path("x y/usr/bin")
+        path = {"PATH": f"{bin_folder}:{os.environ['PATH']}"}
+        self.assertEqual(run([f"{bin_folder}/pnmpipe", "pnminvert"], GRAY).stdout, GRAY[:-2] + b"\x08\x07")
+        self.assertEqual(run([f"{bin_folder}/pnmpipe-translate", "pnminvert"]).stdout, b"pnmpipe 'pnminvert'\n")
+        self.assertEqual(run([self.path("x y/usr/libexec/pnmpipe/netpbm/pamcut")], GRAY, env=path).stdout, GRAY)
+        self.assertNotIn(b"@VERSION@", self.read("x y/usr/share/man/man1/pnmpipe.1"))
+        self.assertEqual(run(["make", "uninstall", *target]).returncode, 0)
+        self.assertEqual([names for _, _, names in os.walk(self.path("x y")) if names], [])
+
+
+def main():
+    global PROGRAM
+    parser = argparse.ArgumentParser(description=__doc__.split("\n")[0])
+    parser.add_argument("--program", default=f"{ROOT}/bin/pnmpipe")
+    options = parser.parse_args()
+    if os.access(options.program, os.X_OK):
+        PROGRAM = os.path.abspath(options.program)
+    else:
+        print(f"test_helpers: there is no {options.program}, so tests that want it are passed over")
+    unittest.main(argv=[sys.argv[0]])
+
+
+if __name__ == "__main__":
+    main()
