@@ -4,7 +4,17 @@ PROGRAM := crates/pnmpipe
 # where the tests stand: a library's in a crate of their own
 TESTED := pnm_samples_tests pnm_image_tests pnm_read_tests pnm_tools_tests pnm_write_tests pnm_chain_tests pnm_lanes_tests pnm_flow_tests pnmpipe
 
-.PHONY: all bench check test help toolchain controls lanes long-stream refused soak
+.PHONY: all bench built check controls deb dist help install lanes long-stream pictures recipes refused scripts soak test toolchain uninstall
+
+# where `make install` puts things, below DESTDIR
+PREFIX ?= /usr/local
+BINDIR ?= $(PREFIX)/bin
+MANDIR ?= $(PREFIX)/share/man
+LIBEXECDIR ?= $(PREFIX)/libexec
+COMPLETIONDIR ?= $(PREFIX)/share/bash-completion/completions
+SHIMDIR = $(LIBEXECDIR)/pnmpipe/netpbm
+HELPERS := pnmpipe-files pnmpipe-split
+SHIMS := pnminvert pamcut pamdepth pamchannel pamenlarge pamflip pnmtile pnmcut pnmdepth pnmenlarge pnmflip
 
 # crates whose tests of want of memory are refused each allocation
 REFUSED := pnm_tools_tests pnm_chain_tests pnm_flow_tests pnmpipe
@@ -35,7 +45,50 @@ check: toolchain
 	test ! -e bin/gate-failed
 	python3 scripts/refused.py growth start tests --program $(PROGRAM)/out/pnmpipe
 	python3 scripts/idle.py --program $(PROGRAM)/out/pnmpipe
+	$(MAKE) --no-print-directory scripts BUILT=$(PROGRAM)/out/pnmpipe
 	tail -n 1 bin/gate
+
+# the scripts, pages and documents: in seconds, and with what is installed
+BUILT ?= bin/pnmpipe
+scripts:
+	python3 scripts/check_page.py
+	sh scripts/check_scripts.sh
+	python3 scripts/test_helpers.py --program $(BUILT)
+
+built:
+	@test -x bin/pnmpipe || { echo "there is no bin/pnmpipe: run make first" >&2; exit 1; }
+
+# the program that make has left, its pages, the completion, the helpers, and the stand-ins for Netpbm's tools
+install: built
+	install -d "$(DESTDIR)$(BINDIR)" "$(DESTDIR)$(MANDIR)/man1" "$(DESTDIR)$(COMPLETIONDIR)" "$(DESTDIR)$(SHIMDIR)"
+	install -m 755 bin/pnmpipe "$(DESTDIR)$(BINDIR)/pnmpipe"
+	for helper in $(HELPERS); do install -m 755 scripts/$$helper "$(DESTDIR)$(BINDIR)/$$helper" || exit 1; done
+	for page in man/*.1; do sed "s/@VERSION@/$$(cat VERSION)/" $$page > "$(DESTDIR)$(MANDIR)/man1/$${page#man/}" || exit 1; done
+	install -m 644 completions/pnmpipe.bash "$(DESTDIR)$(COMPLETIONDIR)/pnmpipe"
+	install -m 755 scripts/pnmpipe-translate scripts/netpbm-shim "$(DESTDIR)$(LIBEXECDIR)/pnmpipe"
+	install -m 644 scripts/netpbm_words.py "$(DESTDIR)$(LIBEXECDIR)/pnmpipe"
+	ln -srf "$(DESTDIR)$(LIBEXECDIR)/pnmpipe/pnmpipe-translate" "$(DESTDIR)$(BINDIR)/pnmpipe-translate"
+	for name in $(SHIMS); do ln -sf ../netpbm-shim "$(DESTDIR)$(SHIMDIR)/$$name" || exit 1; done
+
+uninstall:
+	rm -f "$(DESTDIR)$(BINDIR)/pnmpipe" "$(DESTDIR)$(COMPLETIONDIR)/pnmpipe"
+	for file in pnmpipe-translate netpbm-shim netpbm_words.py; do rm -f "$(DESTDIR)$(LIBEXECDIR)/pnmpipe/$$file"; done
+	for helper in $(HELPERS) pnmpipe-translate; do rm -f "$(DESTDIR)$(BINDIR)/$$helper"; done
+	for page in man/*.1; do rm -f "$(DESTDIR)$(MANDIR)/man1/$${page#man/}"; done
+	for name in $(SHIMS); do rm -f "$(DESTDIR)$(SHIMDIR)/$$name"; done
+	for folder in "$(DESTDIR)$(SHIMDIR)" "$(DESTDIR)$(LIBEXECDIR)/pnmpipe"; do test ! -d "$$folder" || rmdir "$$folder"; done
+
+# archives of the source and of the built program, and a Debian package, in dist/
+dist deb: built
+	sh scripts/package.sh $@
+
+# the pictures of the documents, made anew from the program that make has left
+pictures: built
+	python3 scripts/pictures.py
+
+# each block of docs/RECIPES.md, with the real programs
+recipes: built
+	python3 scripts/recipes.py
 
 # the tests alone, built and run as they stand: `make check` proves them too
 test: toolchain
@@ -80,4 +133,9 @@ help:
 	@echo "make controls        tries the edits that keep the code's meaning, which must prove"
 	@echo "make refused         refuses each allocation and each start of a thread in turn, of the program that make has left and of tests"
 	@echo "make soak SECONDS=n  runs random chains over random streams for n seconds, in one thread and over threads"
+	@echo "make scripts         checks the scripts, pages and documents, with the program that make has left"
+	@echo "make install         installs the program that make has left, below PREFIX=/usr/local; make uninstall takes it away"
+	@echo "make dist, make deb  archives, and a Debian package, of the program that make has left, in dist/"
+	@echo "make pictures        makes the pictures of the documents anew"
+	@echo "make recipes         runs each block of docs/RECIPES.md, with the programs that are installed"
 	@echo "make help            this list"

@@ -1,0 +1,96 @@
+#!/bin/sh
+# package.sh dist: the source as git has it, and an archive with the built program, into dist/.
+# package.sh deb: a local Debian package of the built program, into dist/. It wants dpkg-deb.
+# Both want the program that make has left as bin/pnmpipe.
+set -eu
+cd "$(dirname "$0")/.."
+version=$(cat VERSION)
+machine=$(uname -m)
+work=$(mktemp -d)
+trap 'rm -rf "$work"' EXIT
+
+fail() {
+    echo "package.sh: $1" >&2
+    exit 1
+}
+
+# staged FOLDER PREFIX: what make install leaves, with the program stripped where strip is there
+staged() {
+    make -s install DESTDIR="$1" PREFIX="$2" > /dev/null
+    if command -v strip > /dev/null; then
+        strip --strip-unneeded "$1$2/bin/pnmpipe"
+    else
+        echo "package.sh: strip isn't there, so the program keeps its symbols" >&2
+    fi
+}
+
+# the toolchain's line: its own, or the one that the documents name
+toolchain() {
+    if command -v rt > /dev/null; then
+        rt version
+    else
+        # shellcheck disable=SC2016
+        sed -n 's/^The toolchain (`\([^`]*\)`).*/\1/p' docs/PROMISES.md
+    fi
+}
+
+dist() {
+    command -v git > /dev/null || fail "git isn't there, and the source is taken from it"
+    name=pnmpipe-$version-linux-$machine
+    seconds=$(git log -1 --format=%ct)
+    mkdir -p dist
+    git archive --format=tar --prefix="pnmpipe-$version/" HEAD | gzip -n -9 > "dist/pnmpipe-$version.tar.gz"
+    staged "$work/$name" ""
+    cp README.md CHANGELOG.md VERSION "$work/$name"
+    toolchain > "$work/$name/TOOLCHAIN"
+    (cd "$work/$name" && find . -type f ! -name SHA256SUMS | LC_ALL=C sort | xargs sha256sum > "$work/sums" && mv "$work/sums" SHA256SUMS)
+    tar -C "$work" --sort=name --owner=0 --group=0 --numeric-owner --mtime="@$seconds" -cf - "$name" | gzip -n -9 > "dist/$name.tar.gz"
+    (cd dist && sha256sum "pnmpipe-$version.tar.gz" "$name.tar.gz" > SHA256SUMS && cat SHA256SUMS)
+}
+
+# the changes of this version, in the form of a Debian changelog
+changes() {
+    printf 'pnmpipe (%s) unstable; urgency=medium\n\n' "$version"
+    sed -n "/^## $version\$/,/^## /p" CHANGELOG.md | sed -e '/^##/d' -e '/^$/d' -e 's/^- /  * /' -e 's/^  \([^*]\)/    \1/'
+    printf '\n -- %s  %s\n' "$maintainer" "$(LC_ALL=C git log -1 --format=%cD)"
+}
+
+deb() {
+    command -v dpkg-deb > /dev/null || fail "dpkg-deb isn't there, and it makes the package"
+    maintainer=${MAINTAINER:-$(git log -1 --format='%an <%ae>')}
+    root=$work/root
+    staged "$root" /usr
+    find "$root/usr/share/man" -name '*.1' -exec gzip -n -9 {} +
+    mkdir -p "$root/DEBIAN" "$root/usr/share/doc/pnmpipe"
+    cp README.md "$root/usr/share/doc/pnmpipe"
+    changes | gzip -n -9 > "$root/usr/share/doc/pnmpipe/changelog.gz"
+    libc=
+    if ldd bin/pnmpipe 2> /dev/null | grep -q 'libc\.so'; then libc='libc6, '; fi
+    cat > "$root/DEBIAN/control" << CONTROL
+Package: pnmpipe
+Version: $version
+Architecture: $(dpkg --print-architecture)
+Maintainer: $maintainer
+Section: graphics
+Priority: optional
+Depends: ${libc}python3
+Recommends: parallel
+Suggests: netpbm
+Installed-Size: $(du -k -s "$root/usr" | cut -f 1)
+Description: chain of Netpbm tools over a stream of images in one process
+ pnmpipe reads PBM, PGM, PPM and PAM images, passes their rows through
+ pnminvert, pamcut, pamdepth, pamchannel, pamenlarge, pamflip and pnmtile,
+ each in a thread of its own, and writes raw Netpbm images. Beside it are
+ helpers for many files, for streams and for scripts that call Netpbm.
+CONTROL
+    (cd "$root" && find usr -type f | LC_ALL=C sort | xargs md5sum > DEBIAN/md5sums)
+    chmod -R u=rwX,go=rX "$root"
+    mkdir -p dist
+    dpkg-deb --root-owner-group --build "$root" dist
+}
+
+[ -x bin/pnmpipe ] || fail "there is no bin/pnmpipe: run make first"
+case ${1-} in
+    dist | deb) "$1" ;;
+    *) fail "say dist or deb" ;;
+esac
