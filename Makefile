@@ -54,6 +54,7 @@ scripts:
 	python3 scripts/check_page.py
 	sh scripts/check_scripts.sh
 	python3 scripts/test_helpers.py --program $(BUILT)
+	python3 scripts/pictures.py --check --program $(BUILT)
 
 built:
 	@test -x bin/pnmpipe || { echo "there is no bin/pnmpipe: run make first" >&2; exit 1; }
