@@ -1,10 +1,10 @@
 #!/usr/bin/env python3
 """Wants the manual page, the documents and the completion to say what the sources do.
 
-The page's SYNOPSIS is the usage line of the program, and the page names each fault that the crates name. Each edit that
-docs/PROMISES.md names stands in a crate's must-fail, each link of the README and of docs leads to a file, and lines
-there wrap at 100 columns but for tables. Options and tools of the completion stand in the page, and the other way round.
-Where mandoc is installed, it has to find nothing in the pages.
+The page's SYNOPSIS is the usage line of the program, and the page names each fault, tool and option that the crates
+name. Each edit that docs/PROMISES.md names stands in a crate's must-fail, each link of the README and of docs leads to a
+file, and lines there wrap at 100 columns but for tables. Options and tools of the completion stand in the page, and the
+other way round. Where mandoc is installed, it has to find nothing in the pages.
 """
 
 import glob
@@ -81,6 +81,10 @@ def faults_of_completion():
         given = set(re.findall(r"-(\w+)", line.group(1))) if line else None
         if given != told:
             found.append(f"completions/pnmpipe.bash gives {tool} the options {given}, the page {told}")
+    names = set(re.findall(r"^\.It Ic (\w+)", tools, re.M)) | set(re.findall(r"Fl (\w+)", tools))
+    taken = set(re.findall(r'b"(\w+)"', read("crates/pnm_chain/src/options.rt")))
+    if not taken <= names:
+        found.append(f"man/pnmpipe.1 has no {', '.join(sorted(taken - names))} among the tools and their options")
     options = set(re.findall(r"\.It Fl -(\w+)", page.split(".Sh OPTIONS\n")[1].split(".Sh ")[0]))
     if not all(f"--{option}" in completion for option in options):
         found.append("completions/pnmpipe.bash lacks an option of the page")

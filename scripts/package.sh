@@ -64,8 +64,12 @@ deb() {
     mkdir -p "$root/DEBIAN" "$root/usr/share/doc/pnmpipe"
     cp README.md "$root/usr/share/doc/pnmpipe"
     changes | gzip -n -9 > "$root/usr/share/doc/pnmpipe/changelog.gz"
+    # the newest symbols of the C library that the program asks for
     libc=
-    if ldd bin/pnmpipe 2> /dev/null | grep -q 'libc\.so'; then libc='libc6, '; fi
+    if ldd bin/pnmpipe 2> /dev/null | grep -q 'libc\.so'; then
+        newest=$(objdump -T bin/pnmpipe 2> /dev/null | sed -n 's/.*GLIBC_\([0-9.]*\).*/\1/p' | sort -V | tail -n 1)
+        libc="libc6${newest:+ (>= $newest)}, "
+    fi
     cat > "$root/DEBIAN/control" << CONTROL
 Package: pnmpipe
 Version: $version

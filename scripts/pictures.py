@@ -27,6 +27,7 @@ CHAINS = {
     "enlarge": "pamenlarge 2",
     "flip": "pamflip -xy",
     "tile": "pnmtile 144 96",
+    "chain": "pamcut -left 16 -width 64 | pamflip -xy | pnminvert",
 }
 
 # the letters R and F, which no turn makes look alike
