@@ -82,6 +82,8 @@ class Stage:
         self.file = None
         self.plain = False
         self.notes = []
+        # notes that hold where it is the first of its call
+        self.notes_if_first = []
 
     def add(self, start, end):
         self.start = start if self.start is None else self.start
@@ -280,7 +282,7 @@ def read_stage(stage):
     if tool in ("pnminvert", "pamenlarge", "pamflip", "pnmflip", "pnmtile"):
         stage.notes.append(STREAMS.format(tool))
     else:
-        stage.notes.append(PLAIN_STREAMS.format(tool))
+        stage.notes_if_first.append(PLAIN_STREAMS.format(tool))
     if tool in ("pnminvert", "pnmtile"):
         stage.notes.append(STAYS_PAM.format(tool))
     if tools == ["pamdepth 1"]:
