@@ -289,6 +289,9 @@ class Files(Folder):
         self.assertEqual((done.returncode, done.stderr), (0, b"1 files, 0 failed, 3 left out\n"))
         self.assertEqual(os.stat(self.path("out/c.ppm")).st_mtime, 1)
         self.assertEqual(self.files("--resume", "pamcut", "out", "in/c.ppm").returncode, 2)
+        self.write("list", b"in/a b.pgm\nin/c.ppm")
+        self.assertEqual(self.files("pamflip -lr", "out", "--names", "list").returncode, 0)
+        self.assertEqual(self.read("out/a b.pgm"), GRAY[:-2] + b"\x02\x01")
 
     def test_refuses(self):
         for words in [
@@ -296,6 +299,8 @@ class Files(Folder):
             ("pnminvert", "in", "in/c.ppm"),
             ("pnminvert", "out", "in/c.ppm", "./in/c.ppm"),
             ("pnminvert", "out"),
+            ("pnminvert", "out", "--names", "no list"),
+            ("pnminvert", "out", "in/two\nlines"),
             ("--jobs", "x", "pnminvert", "out", "in/c.ppm"),
         ]:
             self.assertEqual(self.files(*words).returncode, 2, words)
