@@ -1,6 +1,9 @@
 pub mod FormLaws
 pub mod MessageLaws
 pub mod PlainLaws
+pub mod EntryLaws
+pub mod PixelLaws
+pub mod NumeralLaws
 pub mod RawLaws
 pub mod DecimalText
 pub mod NumberText

@@ -1,7 +1,7 @@
 -- The text of a plain row: part by part.
-use Rattle.std.proofs.Common.{◌≡◌, ℕ, ◌+◌, ◌^◌, ◌==◌, ◌<◌, ◌≤◌, if◌then◌else◌, Bool, true, false, List, [], ◌∷◌, ◌++◌, length, take, drop, refl, sym, ap, ap₂, ◌∙◌, append_assoc, arith, get_or, All, subst}
+use Rattle.std.proofs.Common.{◌≡◌, ℕ, ◌+◌, ◌^◌, ◌==◌, ◌<◌, ◌≤◌, if◌then◌else◌, Bool, true, false, List, [], ◌∷◌, ◌++◌, length, take, drop, refl, sym, ap, ap₂, ◌∙◌, append_assoc, arith, get_or, All, subst, suc, ◌-◌}
 use Rattle.std.proofs.lemmas.List.{append-nil, map-append, take-append-drop, take_more, length-drop}
-use Rattle.std.proofs.lemmas.List.Elements.{All-head, All-tail}
+use Rattle.std.proofs.lemmas.List.Elements.{All-nil, All-cons, All-head, All-tail}
 use Rattle.std.proofs.lemmas.Bool.Decides.{nat_tests}
 use Rattle.std.specs.List.{AllByRecursion}
 use Rattle.std.proofs.lemmas.Fmt.{decimal_nonempty}
@@ -131,3 +131,29 @@ column_more column kind samples i sample at new below is here after =
     ∙ ap (λ (n : ℕ). column_after n (sample_text kind sample)) here
     ∙ sym (column_after_part-append column (sample_texts kind (take i samples)) (sample_text kind sample ∷ []))
     ∙ ap (column_after_part column) (sym (texts_more kind samples i sample below is))
+
+-- ---- numbers
+
+-- numbers of a width are within a range
+pub numbers_fit : (xs : List ℕ) → ((k : ℕ) → get_or xs k 0 < 2 ^ 64) → All (λ sample. sample < 2 ^ 64) xs
+numbers_fit [] fits = All-nil (λ sample. sample < 2 ^ 64)
+numbers_fit (x ∷ xs) fits = All-cons (λ sample. sample < 2 ^ 64) x xs (fits 0) (numbers_fit xs (λ k. fits (suc k)))
+
+-- what is left of a row of numbers is the part that is written now, and the rest
+pub part_of_numbers : (column n : ℕ) (rest part after set written : List ℕ) (then_column : ℕ) (is_end : Bool) → n ≤ length rest → 0 < length rest → part ≡ take n rest → after ≡ drop n rest → set ≡ text_of_part column (sample_texts Gray part)
+    → then_column ≡ column_after_part column (sample_texts Gray part) → is_end ≡ (length after == 0) → written ≡ set ++ row_end is_end → text_left column Gray rest ≡ written ++ text_left then_column Gray after
+part_of_numbers column n rest part after set written then_column is_end within some front back text column_is ends whole =
+    let left : length after ≡ length rest - n = ap length back ∙ length-drop n rest in
+    left_part column Gray n rest is_end within some (λ e. ends ∙ is_nothing (length after) (omega arith)) (λ h. ends ∙ has_begun_line (length after) (omega arith))
+    ∙ ap (λ (l : List ℕ). (text_of_part column (sample_texts Gray l) ++ row_end is_end) ++ text_left (column_after_part column (sample_texts Gray l)) Gray (drop n rest)) (sym front)
+    ∙ ap₂ (λ (l : List ℕ) (k : ℕ). (l ++ row_end is_end) ++ text_left k Gray (drop n rest)) (sym text) (sym column_is)
+    ∙ ap₂ (λ (l m : List ℕ). l ++ text_left then_column Gray m) (sym whole) (sym back)
+  where
+    is_nothing : (n : ℕ) → n ≡ 0 → (n == 0) ≡ true
+    is_nothing n e = grind (arith, nat_tests)
+
+pub some_left : (n : ℕ) (is_nothing : Bool) → is_nothing ≡ (n == 0) → is_nothing ≡ false → 0 < n
+some_left n is_nothing e f = some_by n (sym e ∙ f)
+  where
+    some_by : (n : ℕ) → (n == 0) ≡ false → 0 < n
+    some_by n h = grind (arith, nat_tests)

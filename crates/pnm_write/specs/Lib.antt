@@ -1,5 +1,7 @@
 pub mod PlainRows
 pub mod PlainParts
+pub mod Numerals
+pub mod PixelCells
 pub mod Forms
 pub mod Encoding
 pub mod Rooms

@@ -7,6 +7,8 @@
 mod fault;
 mod header;
 pub mod laws;
+mod numerals;
+mod pixels;
 mod plain;
 mod raw;
 mod room;

@@ -1,9 +1,15 @@
 //! A fixed room for bytes.
 
-ghost use Rattle.std.specs.Prelude.{◌≡◌, ◌+◌, ◌≤◌, [], ◌++◌, length};
+ghost use Rattle.std.specs.Prelude.{◌≡◌, ◌+◌, ◌*◌, ◌<◌, ◌≤◌, [], ◌++◌, length, take};
+ghost use Rattle.pnm_image.specs.declared.shape.Kind.{Kind};
+ghost use Rattle.pnm_samples.specs.Pixels.{all_pixels};
+ghost use Rattle.pnm_write.specs.PlainRows.{plain_row_text};
+ghost use Rattle.pnm_write.specs.PlainParts.{text_of_part, column_after_part, sample_texts};
 ghost use Rattle.pnm_write.specs.Encoding.{bytes_in};
 ghost use Rattle.pnm_write.specs.Rooms.{most_samples, FitIn};
 
+use crate::numerals::{append_bytes, append_words};
+use crate::pixels::put_pixels;
 use crate::raw::encode;
 use pnm_image::SampleWidth;
 use std::marker::Model;
@@ -71,5 +77,46 @@ impl Room {
         ensures { self.new ≡ bytes_in sample_width samples.now }
     {
         self.length = encode(sample_width, samples, &mut self.bytes);
+    }
+
+    /// Appends the numbers to a line that has so many bytes, and to those after it, and answers how many bytes the
+    /// last line has.
+    pub fn append_bytes(&mut self, column: usize, samples: &[u8]) -> usize
+        requires room { length self.old + 6 * length samples.now ≤ 4096 }
+        requires begun { 0 < column }
+        requires line { column ≤ 70 }
+        ensures text { self.new ≡ self.old ++ text_of_part column (sample_texts Kind.Gray samples.now) }
+        ensures count { length self.new ≤ length self.old + 6 * length samples.now }
+        ensures column { result ≡ column_after_part column (sample_texts Kind.Gray samples.now) }
+        ensures line { result ≤ 70 }
+    {
+        let (end, at) = append_bytes(&mut self.bytes, self.length, column, samples);
+        self.length = end;
+        at
+    }
+
+    /// The same of wider numbers.
+    pub fn append_words(&mut self, column: usize, samples: &[u16]) -> usize
+        requires room { length self.old + 6 * length samples.now ≤ 4096 }
+        requires begun { 0 < column }
+        requires line { column ≤ 70 }
+        ensures text { self.new ≡ self.old ++ text_of_part column (sample_texts Kind.Gray samples.now) }
+        ensures count { length self.new ≤ length self.old + 6 * length samples.now }
+        ensures column { result ≡ column_after_part column (sample_texts Kind.Gray samples.now) }
+        ensures line { result ≤ 70 }
+    {
+        let (end, at) = append_words(&mut self.bytes, self.length, column, samples);
+        self.length = end;
+        at
+    }
+
+    /// Holds the text of a row of so many pixels, the first of these bytes, in place of what it held.
+    pub fn set_pixels(&mut self, bytes: &[u8], count: usize)
+        requires few { length bytes.now ≤ 256 }
+        requires enough { count ≤ 8 * length bytes.now }
+        ensures { self.new ≡ plain_row_text Kind.Bit (take count (all_pixels bytes.now)) }
+    {
+        put_pixels(&mut self.bytes, bytes, count);
+        self.length = 2 * count;
     }
 }

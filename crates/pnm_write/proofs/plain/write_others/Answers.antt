@@ -7,10 +7,10 @@ use Rattle.pnm_image.proofs.Written.{Sending, at_any_error, sending_part, sendin
 use Rattle.pnm_write.specs.PlainRows.{plain_row_text}
 use Rattle.pnm_write.specs.PlainParts.{text_of_part, column_after_part, sample_texts, row_end}
 use Rattle.pnm_write.proofs.PlainLaws.{text_left, left_part, row_text_left}
-use Rattle.pnm_write.proofs.plain.write_lines.Goals as goal
+use Rattle.pnm_write.proofs.plain.write_others.Goals as goal
 
 -- what is left is the part that is written now, and the rest
-part_and_rest : (kind : Kind) (column start n : ℕ) (row copied samples written set : List ℕ) (is_end : Bool) (then_column : ℕ) → start < length row → n ≡ min (length row - start) 512 → length samples ≡ 512
+part_and_rest : (kind : Kind) (column start n : ℕ) (row copied samples written set : List ℕ) (is_end : Bool) (then_column : ℕ) → start < length row → n ≡ min (length row - start) 680 → length samples ≡ 680
     → copied ≡ take (length (take n samples)) (drop start row) → set ≡ text_of_part column (sample_texts kind (take n (copied ++ drop n samples))) → then_column ≡ column_after_part column (sample_texts kind (take n (copied ++ drop n samples)))
     → (start + n ≡ length row → is_end ≡ true) → (start + n < length row → is_end ≡ false) → written ≡ set ++ row_end is_end
     → text_left column kind (drop start row) ≡ written ++ text_left then_column kind (drop (start + n) row)
@@ -28,7 +28,7 @@ part_and_rest kind column start n row copied samples written set is_end then_col
     ∙ ap (λ (l : List ℕ). written ++ text_left then_column kind l) (drop-drop n start row)
 
 -- the samples that were copied stand in place of as many
-copied_size : (start n : ℕ) (row copied samples : List ℕ) → n ≡ min (length row - start) 512 → length samples ≡ 512 → copied ≡ take (length (take n samples)) (drop start row) → length (copied ++ drop n samples) ≡ 512
+copied_size : (start n : ℕ) (row copied samples : List ℕ) → n ≡ min (length row - start) 680 → length samples ≡ 680 → copied ≡ take (length (take n samples)) (drop start row) → length (copied ++ drop n samples) ≡ 680
 copied_size start n row copied samples count room same =
     let long : length copied ≡ n = ap length same ∙ omega (arith, length-take (length (take n samples)) (drop start row), length-take n samples, length-drop start row) in
     omega (arith, length-append copied (drop n samples), length-drop n samples)
