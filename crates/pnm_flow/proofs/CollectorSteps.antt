@@ -1,6 +1,7 @@
 -- A message that is taken from the ring behind the last tool of a run, and put.
 use Rattle.std.proofs.Common.{◌≡◌, ℕ, Bool, true, false, inl, inr, List, [], ◌∷◌, ◌++◌, Option, length, refl, sym, ap, ◌∙◌, append_assoc}
 use Rattle.rtrb.specs.Ring.{received}
+use Rattle.pnm_image.specs.declared.format.Form.{Form}
 use Rattle.pnm_image.specs.declared.message.Message.{Message}
 use Rattle.pnm_image.specs.declared.message.Message.TheVariants.{Begin, Row, ImageEnd, StreamEnd, Stop}
 use Rattle.pnm_image.specs.Messages.{without_stop}
@@ -43,11 +44,11 @@ cuts_last false l Stop going ended same = unbroken_keeps_all More l tt ended ∙
 
 -- ---- what came from the ring
 
-pub collects_one : {W : Type 0} (held : W → Option (List ℕ)) (failures : W → ℕ) (start : W) (before : List Message) (m : Message) (old new : Collector W)
+pub collects_one : {W : Type 0} (held : W → Option (List ℕ)) (failures : W → ℕ) (form : Form) (start : W) (before : List Message) (m : Message) (old new : Collector W)
     → received new.input ≡ received old.input ++ m ∷ []
-    → ((l : List Message) → HasPut held failures start l old → HasPut held failures start (l ++ m ∷ []) new)
-    → IsCollecting held failures start before old → IsCollecting held failures start before new
-collects_one held failures start before m old new added puts was = record {
+    → ((l : List Message) → HasPut held failures form start l old → HasPut held failures form start (l ++ m ∷ []) new)
+    → IsCollecting held failures form start before old → IsCollecting held failures form start before new
+collects_one held failures form start before m old new added puts was = record {
   took = was.took ++ m ∷ [];
   came = added ∙ ap (λ (x : List Message). x ++ m ∷ []) was.came ∙ append_assoc before was.took (m ∷ []);
   put = puts was.took was.put;

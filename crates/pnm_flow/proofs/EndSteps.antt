@@ -3,6 +3,8 @@ use Rattle.std.proofs.Common.{◌≡◌, ◌≢◌, ◌⊎◌, ℕ, ◌≤◌, L
 use Rattle.std.proofs.lemmas.List.{append-nil, length-append}
 use Rattle.std.specs.Io.KnownBytes.{Appends, Consumes, Keeps}
 use Rattle.pnm_image.specs.Devices.{AppendsFront, Failed}
+use Rattle.pnm_image.specs.declared.format.Form.{Form}
+use Rattle.pnm_image.specs.declared.format.Form.TheVariants.{Raw, Plain}
 use Rattle.pnm_image.specs.declared.message.Message.{Message}
 use Rattle.pnm_image.specs.declared.message.Message.TheVariants.{Stop}
 use Rattle.pnm_read.specs.declared.fault.InputFault.{InputFault}
@@ -17,21 +19,22 @@ use Rattle.pnm_read.proofs.Turns.{no_fault}
 use Rattle.pnm_read.proofs.Consumed.{consumes_nothing}
 use Rattle.pnm_read.proofs.StreamLaws.{no_text_fault}
 use Rattle.pnm_tools.specs.Tools.{output_due}
-use Rattle.pnm_tools.specs.Chains.{due_in_turn}
-use Rattle.pnm_write.specs.Encoding.{bytes_of}
-use Rattle.pnm_tools.specs.ChainAnswers.{HasRefused, HaveAnswered}
+use Rattle.pnm_tools.specs.ChainAnswers.{HasRefused, HaveAnswered, IsFirstFault}
 use Rattle.pnm_write.specs.declared.fault.SinkFault.{SinkFault}
 use Rattle.pnm_write.specs.declared.fault.SinkFault.TheVariants.{WriteFailed}
+use Rattle.pnm_write.specs.Encoding.{written_of}
+use Rattle.pnm_write.specs.Forms.{form_fault_of, IsOfForm}
 use Rattle.pnm_flow.specs.declared.downstream.Downstream.{Downstream}
 use Rattle.pnm_flow.specs.declared.fault.RunFault.TheVariants.{Input, Tool as OfTool}
 use Rattle.pnm_flow.specs.declared.summary.Summary.{Summary}
 use Rattle.pnm_flow.specs.Downstreams.{output_of, AnswersFlushes}
 use Rattle.pnm_flow.specs.Feeding.{IsSaidOf}
+use Rattle.pnm_flow.specs.Jobs.{Job, bytes_due}
 use Rattle.pnm_flow.specs.Runs.{Change, change, HasRun, HasRunInOneThread, AllIsWritten, IsOfOneThread, answer_by, input_of, IsFirstRefusal, IfInput, IfTool, IfOutput, EndedWell, IsStoppedBy, OutlastsRun, HasMore, MayFollow, AnswersText, IsFrontOfDue, IsFrontForEach, FitAnswer, IsAllWritten}
-use Rattle.pnm_flow.specs.Verdicts.{IsTaken}
+use Rattle.pnm_flow.specs.Verdicts.{IsTaken, HasResults}
 use Rattle.pnm_flow.proofs.VerdictLaws.{verdict_follows}
 use Rattle.pnm_flow.proofs.FeedingSteps.{rest_of, read_failure}
-use Rattle.pnm_flow.proofs.RunSteps.{Ran, nothing_front, input_fault, said_front, said_before_fault, run_front, run_all, run_refused, run_taken, run_output, run_sound, run_well}
+use Rattle.pnm_flow.proofs.RunSteps.{Ran, nothing_front, input_fault, said_front, said_before_fault, run_front, run_all, run_refused, run_taken, run_results, IsOutputFault, run_output, run_sound, run_well}
 use Rattle.pnm_tools.proofs.ChainLaws.{first_fault_in_order}
 
 -- what the stages have answered, and the first refusal; where there is one, not all of it need be what came out
@@ -42,7 +45,7 @@ pub record HaveEnded (tools : List Tool) (faults : List (Option ToolFault)) (giv
   pub all : refused ≡ None → last ≡ out
 
 -- what the source gave, what the stages answered, what the sink took, and how each of them ended
-pub record Ended {W : Type 0} (reader : Change) (held : W → Option (List ℕ)) (failures : W → ℕ) (start done : W) (tools : List Tool) (input : Result (Unit {0}) InputFault) (refused : Option (ℕ × ToolFault)) (output : Result Summary SinkFault) : Type 0 where
+pub record Ended {W : Type 0} (reader : Change) (held : W → Option (List ℕ)) (failures : W → ℕ) (start done : W) (job : Job) (input : Result (Unit {0}) InputFault) (refused : Option (ℕ × ToolFault)) (output : Result Summary SinkFault) : Type 0 where
   pub faults : List (Option ToolFault)
   pub given : List Message
   pub out : List Message
@@ -52,8 +55,8 @@ pub record Ended {W : Type 0} (reader : Change) (held : W → Option (List ℕ))
   pub told : (rest : List ℕ) → MayFollow input reader rest → IsSaidOf (read ++ rest) given input
   pub count : (input ≡ Err ReadFailed → ⊥) → reader.failures_new ≡ reader.failures_old
   pub read_failed : input ≡ Err ReadFailed → Failed reader.failures_old reader.failures_new ⊎ OutlastsRun reader.old reader.new
-  pub ran : Ran held failures start tools given out sink
-  pub stages : input ≡ Ok tt → HaveEnded tools faults given out refused
+  pub ran : Ran held failures start job given out sink
+  pub stages : input ≡ Ok tt → HaveEnded job.tools faults given out refused
   pub kept : Keeps (held (output_of sink)) (held done)
   pub broken : (fault : SinkFault) → sink.output ≡ Err fault → (output ≡ Err fault) × (done ≡ output_of sink)
   pub well : sink.output ≡ Ok tt → AnswersFlushes failures sink done output
@@ -64,95 +67,117 @@ rest_follows input reader [] is = inl refl
 rest_follows input reader (byte ∷ more) is = inr (inl (subst HasMore (sym is) tt))
 
 -- what is told of the reader's own text
-own_text : {W : Type 0} (reader : Change) (held : W → Option (List ℕ)) (failures : W → ℕ) (start done : W) (tools : List Tool) (input : Result (Unit {0}) InputFault) (refused : Option (ℕ × ToolFault)) (output : Result Summary SinkFault) (text : List ℕ)
-    → (ended : Ended reader held failures start done tools input refused output) → reader.old ≡ Some text → IsSaidOf text ended.given input
-own_text reader held failures start done tools input refused output text ended is =
+own_text : {W : Type 0} (reader : Change) (held : W → Option (List ℕ)) (failures : W → ℕ) (start done : W) (job : Job) (input : Result (Unit {0}) InputFault) (refused : Option (ℕ × ToolFault)) (output : Result Summary SinkFault) (text : List ℕ)
+    → (ended : Ended reader held failures start done job input refused output) → reader.old ≡ Some text → IsSaidOf text ended.given input
+own_text reader held failures start done job input refused output text ended is =
     let rest = rest_of reader.old reader.new ended.read text ended.consumed is in
     subst (λ (l : List ℕ). IsSaidOf l ended.given input) (sym rest.2) (ended.told rest.0 (rest_follows input reader rest.0 rest.1))
 
 -- ---- the clauses, by the answer
 
-ended_well : {W : Type 0} (reader : Change) (held : W → Option (List ℕ)) (failures : W → ℕ) (start done : W) (tools : List Tool) (input : Result (Unit {0}) InputFault) (refused : Option (ℕ × ToolFault)) (output : Result Summary SinkFault)
-    → Ended reader held failures start done tools input refused output → (text : List ℕ) → reader.old ≡ Some text → IfOk (answer_by input refused output) (EndedWell text tools (held start) (held done))
-ended_well reader held failures start done tools (Err fault) refused output ended text is = tt
-ended_well reader held failures start done tools (Ok tt) (Some found) output ended text is = tt
-ended_well reader held failures start done tools (Ok tt) None (Err fault) ended text is = tt
-ended_well reader held failures start done tools (Ok tt) None (Ok summary) ended text is =
-    let said = own_text reader held failures start done tools (Ok tt) None (Ok summary) text ended is in
-    let written = run_sound held failures start done tools ended.given ended.out ended.sink ended.sink.output (Ok summary) summary ended.ran refl ended.broken ended.well refl in
+ended_well : {W : Type 0} (reader : Change) (held : W → Option (List ℕ)) (failures : W → ℕ) (start done : W) (job : Job) (input : Result (Unit {0}) InputFault) (refused : Option (ℕ × ToolFault)) (output : Result Summary SinkFault)
+    → Ended reader held failures start done job input refused output → (text : List ℕ) → reader.old ≡ Some text → IfOk (answer_by input refused output) (EndedWell text job (held start) (held done))
+ended_well reader held failures start done job (Err fault) refused output ended text is = tt
+ended_well reader held failures start done job (Ok tt) (Some found) output ended text is = tt
+ended_well reader held failures start done job (Ok tt) None (Err fault) ended text is = tt
+ended_well reader held failures start done job (Ok tt) None (Ok summary) ended text is =
+    let said = own_text reader held failures start done job (Ok tt) None (Ok summary) text ended is in
+    let written = run_sound held failures start done job ended.given ended.out ended.sink ended.sink.output (Ok summary) summary ended.ran refl ended.broken ended.well refl in
     let stages = ended.stages refl in
-    let answered = subst (HaveAnswered tools ended.faults ended.given) (stages.all refl) stages.answered in
-    run_well held failures start done tools ended.faults ended.given ended.out ended.sink summary text ended.ran.lawful answered said stages.first written.0 written.1 ended.kept
+    let answered = subst (HaveAnswered job.tools ended.faults ended.given) (stages.all refl) stages.answered in
+    run_well held failures start done job ended.faults ended.given ended.out ended.sink summary text ended.ran.lawful answered said stages.first written.0 written.1 ended.kept
 
-ended_without_failure : {W : Type 0} (reader : Change) (held : W → Option (List ℕ)) (failures : W → ℕ) (start done : W) (tools : List Tool) (input : Result (Unit {0}) InputFault) (refused : Option (ℕ × ToolFault)) (output : Result Summary SinkFault)
-    → Ended reader held failures start done tools input refused output → OnOk (answer_by input refused output) ((reader.failures_new ≡ reader.failures_old) × (failures done ≡ failures start))
-ended_without_failure reader held failures start done tools (Err fault) refused output ended = tt
-ended_without_failure reader held failures start done tools (Ok tt) (Some found) output ended = tt
-ended_without_failure reader held failures start done tools (Ok tt) None (Err fault) ended = tt
-ended_without_failure reader held failures start done tools (Ok tt) None (Ok summary) ended =
-    let written = run_sound held failures start done tools ended.given ended.out ended.sink ended.sink.output (Ok summary) summary ended.ran refl ended.broken ended.well refl in
+ended_without_failure : {W : Type 0} (reader : Change) (held : W → Option (List ℕ)) (failures : W → ℕ) (start done : W) (job : Job) (input : Result (Unit {0}) InputFault) (refused : Option (ℕ × ToolFault)) (output : Result Summary SinkFault)
+    → Ended reader held failures start done job input refused output → OnOk (answer_by input refused output) ((reader.failures_new ≡ reader.failures_old) × (failures done ≡ failures start))
+ended_without_failure reader held failures start done job (Err fault) refused output ended = tt
+ended_without_failure reader held failures start done job (Ok tt) (Some found) output ended = tt
+ended_without_failure reader held failures start done job (Ok tt) None (Err fault) ended = tt
+ended_without_failure reader held failures start done job (Ok tt) None (Ok summary) ended =
+    let written = run_sound held failures start done job ended.given ended.out ended.sink ended.sink.output (Ok summary) summary ended.ran refl ended.broken ended.well refl in
     (ended.count (no_fault tt ReadFailed), written.2)
 
-ended_input : {W : Type 0} (reader : Change) (held : W → Option (List ℕ)) (failures : W → ℕ) (start done : W) (tools : List Tool) (input : Result (Unit {0}) InputFault) (refused : Option (ℕ × ToolFault)) (output : Result Summary SinkFault)
-    → Ended reader held failures start done tools input refused output → (text : List ℕ) → reader.old ≡ Some text → IfInput (answer_by input refused output) (λ fault. IsOutsideFault fault ⊎ IsAtFault text fault)
-ended_input reader held failures start done tools (Err fault) refused output ended text is = input_fault text ended.given fault (own_text reader held failures start done tools (Err fault) refused output text ended is)
-ended_input reader held failures start done tools (Ok tt) (Some found) output ended text is = tt
-ended_input reader held failures start done tools (Ok tt) None (Err fault) ended text is = tt
-ended_input reader held failures start done tools (Ok tt) None (Ok summary) ended text is = tt
+ended_input : {W : Type 0} (reader : Change) (held : W → Option (List ℕ)) (failures : W → ℕ) (start done : W) (job : Job) (input : Result (Unit {0}) InputFault) (refused : Option (ℕ × ToolFault)) (output : Result Summary SinkFault)
+    → Ended reader held failures start done job input refused output → (text : List ℕ) → reader.old ≡ Some text → IfInput (answer_by input refused output) (λ fault. IsOutsideFault fault ⊎ IsAtFault text fault)
+ended_input reader held failures start done job (Err fault) refused output ended text is = input_fault text ended.given fault (own_text reader held failures start done job (Err fault) refused output text ended is)
+ended_input reader held failures start done job (Ok tt) (Some found) output ended text is = tt
+ended_input reader held failures start done job (Ok tt) None (Err fault) ended text is = tt
+ended_input reader held failures start done job (Ok tt) None (Ok summary) ended text is = tt
 
-ended_at_failed_read : {W : Type 0} (reader : Change) (held : W → Option (List ℕ)) (failures : W → ℕ) (start done : W) (tools : List Tool) (input : Result (Unit {0}) InputFault) (refused : Option (ℕ × ToolFault)) (output : Result Summary SinkFault)
-    → Ended reader held failures start done tools input refused output → IfInput (answer_by input refused output) (λ fault. fault ≡ ReadFailed → Failed reader.failures_old reader.failures_new ⊎ OutlastsRun reader.old reader.new)
-ended_at_failed_read reader held failures start done tools (Err fault) refused output ended = λ is. ended.read_failed cc
-ended_at_failed_read reader held failures start done tools (Ok tt) (Some found) output ended = tt
-ended_at_failed_read reader held failures start done tools (Ok tt) None (Err fault) ended = tt
-ended_at_failed_read reader held failures start done tools (Ok tt) None (Ok summary) ended = tt
+ended_at_failed_read : {W : Type 0} (reader : Change) (held : W → Option (List ℕ)) (failures : W → ℕ) (start done : W) (job : Job) (input : Result (Unit {0}) InputFault) (refused : Option (ℕ × ToolFault)) (output : Result Summary SinkFault)
+    → Ended reader held failures start done job input refused output → IfInput (answer_by input refused output) (λ fault. fault ≡ ReadFailed → Failed reader.failures_old reader.failures_new ⊎ OutlastsRun reader.old reader.new)
+ended_at_failed_read reader held failures start done job (Err fault) refused output ended = λ is. ended.read_failed cc
+ended_at_failed_read reader held failures start done job (Ok tt) (Some found) output ended = tt
+ended_at_failed_read reader held failures start done job (Ok tt) None (Err fault) ended = tt
+ended_at_failed_read reader held failures start done job (Ok tt) None (Ok summary) ended = tt
 
-ended_with_sound_reader : {W : Type 0} (reader : Change) (held : W → Option (List ℕ)) (failures : W → ℕ) (start done : W) (tools : List Tool) (input : Result (Unit {0}) InputFault) (refused : Option (ℕ × ToolFault)) (output : Result Summary SinkFault)
-    → Ended reader held failures start done tools input refused output → (answer_by input refused output ≡ Err (Input ReadFailed) → ⊥) → reader.failures_new ≡ reader.failures_old
-ended_with_sound_reader reader held failures start done tools (Err fault) refused output ended not = ended.count (λ e. not (ap (λ (f : InputFault). Err (Input f)) (read_failure fault _ refl e)))
-ended_with_sound_reader reader held failures start done tools (Ok tt) refused output ended not = ended.count (no_fault tt ReadFailed)
+ended_with_sound_reader : {W : Type 0} (reader : Change) (held : W → Option (List ℕ)) (failures : W → ℕ) (start done : W) (job : Job) (input : Result (Unit {0}) InputFault) (refused : Option (ℕ × ToolFault)) (output : Result Summary SinkFault)
+    → Ended reader held failures start done job input refused output → (answer_by input refused output ≡ Err (Input ReadFailed) → ⊥) → reader.failures_new ≡ reader.failures_old
+ended_with_sound_reader reader held failures start done job (Err fault) refused output ended not = ended.count (λ e. not (ap (λ (f : InputFault). Err (Input f)) (read_failure fault _ refl e)))
+ended_with_sound_reader reader held failures start done job (Ok tt) refused output ended not = ended.count (no_fault tt ReadFailed)
 
-ended_at_tool : {W : Type 0} (reader : Change) (held : W → Option (List ℕ)) (failures : W → ℕ) (start done : W) (tools : List Tool) (input : Result (Unit {0}) InputFault) (refused : Option (ℕ × ToolFault)) (output : Result Summary SinkFault)
-    → Ended reader held failures start done tools input refused output → IfTool (answer_by input refused output) (λ number fault. (fault ≢ OutOfOrder) × (1 ≤ number) × (number ≤ length tools))
-ended_at_tool reader held failures start done tools (Err fault) refused output ended = tt
-ended_at_tool reader held failures start done tools (Ok tt) (Some found) output ended =
+ended_at_tool : {W : Type 0} (reader : Change) (held : W → Option (List ℕ)) (failures : W → ℕ) (start done : W) (job : Job) (input : Result (Unit {0}) InputFault) (refused : Option (ℕ × ToolFault)) (output : Result Summary SinkFault)
+    → Ended reader held failures start done job input refused output → IfTool (answer_by input refused output) (λ number fault. (fault ≢ OutOfOrder) × (1 ≤ number) × (number ≤ length job.tools))
+ended_at_tool reader held failures start done job (Err fault) refused output ended = tt
+ended_at_tool reader held failures start done job (Ok tt) (Some found) output ended =
     let stages = ended.stages refl in
-    first_fault_in_order tools ended.faults ended.given stages.last found.0 found.1 ended.ran.lawful ended.ran.sound stages.answered stages.first
-ended_at_tool reader held failures start done tools (Ok tt) None (Err fault) ended = tt
-ended_at_tool reader held failures start done tools (Ok tt) None (Ok summary) ended = tt
+    first_fault_in_order job.tools ended.faults ended.given stages.last found.0 found.1 ended.ran.lawful ended.ran.sound stages.answered stages.first
+ended_at_tool reader held failures start done job (Ok tt) None (Err fault) ended = tt
+ended_at_tool reader held failures start done job (Ok tt) None (Ok summary) ended = tt
 
-ended_by_refusal : {W : Type 0} (reader : Change) (held : W → Option (List ℕ)) (failures : W → ℕ) (start done : W) (tools : List Tool) (input : Result (Unit {0}) InputFault) (refused : Option (ℕ × ToolFault)) (output : Result Summary SinkFault) (NoList : ℕ → ToolFault → Type 0)
-    → Ended reader held failures start done tools input refused output → (text : List ℕ) → reader.old ≡ Some text → IfTool (answer_by input refused output) (λ number fault. NoList number fault ⊎ IsStoppedBy text tools number fault)
-ended_by_refusal reader held failures start done tools (Err fault) refused output NoList ended text is = tt
-ended_by_refusal reader held failures start done tools (Ok tt) (Some found) output NoList ended text is =
-    let said = own_text reader held failures start done tools (Ok tt) (Some found) output text ended is in
+ended_by_refusal : {W : Type 0} (reader : Change) (held : W → Option (List ℕ)) (failures : W → ℕ) (start done : W) (job : Job) (input : Result (Unit {0}) InputFault) (refused : Option (ℕ × ToolFault)) (output : Result Summary SinkFault) (NoList : ℕ → ToolFault → Type 0)
+    → Ended reader held failures start done job input refused output → (text : List ℕ) → reader.old ≡ Some text → IfTool (answer_by input refused output) (λ number fault. NoList number fault ⊎ IsStoppedBy text job.tools number fault)
+ended_by_refusal reader held failures start done job (Err fault) refused output NoList ended text is = tt
+ended_by_refusal reader held failures start done job (Ok tt) (Some found) output NoList ended text is =
+    let said = own_text reader held failures start done job (Ok tt) (Some found) output text ended is in
     let stages = ended.stages refl in
-    inr (run_refused tools ended.faults ended.given stages.last text found.0 found.1 ended.ran.lawful ended.ran.sound stages.answered said stages.first)
-ended_by_refusal reader held failures start done tools (Ok tt) None (Err fault) NoList ended text is = tt
-ended_by_refusal reader held failures start done tools (Ok tt) None (Ok summary) NoList ended text is = tt
+    inr (run_refused job.tools ended.faults ended.given stages.last text found.0 found.1 ended.ran.lawful ended.ran.sound stages.answered said stages.first)
+ended_by_refusal reader held failures start done job (Ok tt) None (Err fault) NoList ended text is = tt
+ended_by_refusal reader held failures start done job (Ok tt) None (Ok summary) NoList ended text is = tt
 
-ended_at_output : {W : Type 0} (reader : Change) (held : W → Option (List ℕ)) (failures : W → ℕ) (start done : W) (tools : List Tool) (input : Result (Unit {0}) InputFault) (refused : Option (ℕ × ToolFault)) (output : Result Summary SinkFault)
-    → Ended reader held failures start done tools input refused output → IfOutput (answer_by input refused output) (λ fault. (fault ≡ WriteFailed) × Failed (failures start) (failures done) × (reader.failures_new ≡ reader.failures_old))
-ended_at_output reader held failures start done tools (Err fault) refused output ended = tt
-ended_at_output reader held failures start done tools (Ok tt) (Some found) output ended = tt
-ended_at_output reader held failures start done tools (Ok tt) None (Err fault) ended =
-    let failed = run_output held failures start done tools ended.given ended.out ended.sink ended.sink.output (Err fault) fault ended.ran refl ended.broken ended.well refl in
-    (failed.0, failed.1, ended.count (no_fault tt ReadFailed))
-ended_at_output reader held failures start done tools (Ok tt) None (Ok summary) ended = tt
+of_output : (fault : SinkFault) (form : Form) (out : List Message) (failures_old failures_new : ℕ) → IsOutputFault fault form out failures_old failures_new → ((fault ≡ WriteFailed) × Failed failures_old failures_new) ⊎ IsOfForm fault
+of_output fault form out failures_old failures_new (inl failed) = inl failed
+of_output fault form out failures_old failures_new (inr refused) = inr refused.0
 
-ended_at_output_last : {W : Type 0} (reader : Change) (held : W → Option (List ℕ)) (failures : W → ℕ) (start done : W) (tools : List Tool) (input : Result (Unit {0}) InputFault) (refused : Option (ℕ × ToolFault)) (output : Result Summary SinkFault)
-    → Ended reader held failures start done tools input refused output → (text : List ℕ) → reader.old ≡ Some text → IfOutput (answer_by input refused output) (λ fault. IsTaken text tools)
-ended_at_output_last reader held failures start done tools (Err fault) refused output ended text is = tt
-ended_at_output_last reader held failures start done tools (Ok tt) (Some found) output ended text is = tt
-ended_at_output_last reader held failures start done tools (Ok tt) None (Err fault) ended text is =
+ended_at_output : {W : Type 0} (reader : Change) (held : W → Option (List ℕ)) (failures : W → ℕ) (start done : W) (job : Job) (input : Result (Unit {0}) InputFault) (refused : Option (ℕ × ToolFault)) (output : Result Summary SinkFault)
+    → Ended reader held failures start done job input refused output → IfOutput (answer_by input refused output) (λ fault. (((fault ≡ WriteFailed) × Failed (failures start) (failures done)) ⊎ IsOfForm fault) × (reader.failures_new ≡ reader.failures_old))
+ended_at_output reader held failures start done job (Err fault) refused output ended = tt
+ended_at_output reader held failures start done job (Ok tt) (Some found) output ended = tt
+ended_at_output reader held failures start done job (Ok tt) None (Err fault) ended =
+    let failed = run_output held failures start done job ended.given ended.out ended.sink ended.sink.output (Err fault) fault ended.ran refl ended.broken ended.well refl in
+    (of_output fault job.form ended.out (failures start) (failures done) failed, ended.count (no_fault tt ReadFailed))
+ended_at_output reader held failures start done job (Ok tt) None (Ok summary) ended = tt
+
+ended_at_output_last : {W : Type 0} (reader : Change) (held : W → Option (List ℕ)) (failures : W → ℕ) (start done : W) (job : Job) (input : Result (Unit {0}) InputFault) (refused : Option (ℕ × ToolFault)) (output : Result Summary SinkFault)
+    → Ended reader held failures start done job input refused output → (text : List ℕ) → reader.old ≡ Some text → IfOutput (answer_by input refused output) (λ fault. IsTaken text job.tools)
+ended_at_output_last reader held failures start done job (Err fault) refused output ended text is = tt
+ended_at_output_last reader held failures start done job (Ok tt) (Some found) output ended text is = tt
+ended_at_output_last reader held failures start done job (Ok tt) None (Err fault) ended text is =
     let stages = ended.stages refl in
-    run_taken tools ended.faults ended.given stages.last text ended.ran.lawful stages.answered (own_text reader held failures start done tools (Ok tt) None (Err fault) text ended is) stages.first
-ended_at_output_last reader held failures start done tools (Ok tt) None (Ok summary) ended text is = tt
+    run_taken job.tools ended.faults ended.given stages.last text ended.ran.lawful stages.answered (own_text reader held failures start done job (Ok tt) None (Err fault) text ended is) stages.first
+ended_at_output_last reader held failures start done job (Ok tt) None (Ok summary) ended text is = tt
 
-ended_at_front : {W : Type 0} (reader : Change) (held : W → Option (List ℕ)) (failures : W → ℕ) (start done : W) (tools : List Tool) (input : Result (Unit {0}) InputFault) (refused : Option (ℕ × ToolFault)) (output : Result Summary SinkFault)
-    → Ended reader held failures start done tools input refused output → (text : List ℕ) → reader.old ≡ Some text → IsFrontOfDue text tools (held start) (held done)
-ended_at_front reader held failures start done tools input refused output ended text is =
-    run_front held failures start done tools ended.given ended.out ended.sink text ended.ran (said_front text ended.given input (own_text reader held failures start done tools input refused output text ended is)) ended.kept
+-- the form refuses what it can't hold
+reason_is : (fault : SinkFault) (form : Form) (out : List Message) (failures_old failures_new : ℕ) → IsOutputFault fault form out failures_old failures_new → IsOfForm fault → form_fault_of form out ≡ Some fault
+reason_is fault form out failures_old failures_new (inl failed) of_form = absurd (subst IsOfForm failed.0 of_form)
+reason_is fault form out failures_old failures_new (inr refused) of_form = refused.1
+
+ended_by_form : {W : Type 0} (reader : Change) (held : W → Option (List ℕ)) (failures : W → ℕ) (start done : W) (job : Job) (input : Result (Unit {0}) InputFault) (refused : Option (ℕ × ToolFault)) (output : Result Summary SinkFault)
+    → Ended reader held failures start done job input refused output → (text : List ℕ) → reader.old ≡ Some text → IfOutput (answer_by input refused output) (λ fault. IsOfForm fault → HasResults text job (Some fault))
+ended_by_form reader held failures start done job (Err fault) refused output ended text is = tt
+ended_by_form reader held failures start done job (Ok tt) (Some found) output ended text is = tt
+ended_by_form reader held failures start done job (Ok tt) None (Err fault) ended text is = λ of_form.
+    let failed = run_output held failures start done job ended.given ended.out ended.sink ended.sink.output (Err fault) fault ended.ran refl ended.broken ended.well refl in
+    let stages = ended.stages refl in
+    let answered = subst (HaveAnswered job.tools ended.faults ended.given) (stages.all refl) stages.answered in
+    let said = own_text reader held failures start done job (Ok tt) None (Err fault) text ended is in
+    subst (HasResults text job) (reason_is fault job.form ended.out (failures start) (failures done) failed of_form)
+    (run_results job ended.faults ended.given ended.out text ended.ran.lawful answered said stages.first)
+ended_by_form reader held failures start done job (Ok tt) None (Ok summary) ended text is = tt
+
+ended_at_front : {W : Type 0} (reader : Change) (held : W → Option (List ℕ)) (failures : W → ℕ) (start done : W) (job : Job) (input : Result (Unit {0}) InputFault) (refused : Option (ℕ × ToolFault)) (output : Result Summary SinkFault)
+    → Ended reader held failures start done job input refused output → (text : List ℕ) → reader.old ≡ Some text → IsFrontOfDue text job (held start) (held done)
+ended_at_front reader held failures start done job input refused output ended text is =
+    run_front held failures start done job ended.given ended.out ended.sink text ended.ran (said_front text ended.given input (own_text reader held failures start done job input refused output text ended is)) ended.kept
 
 -- how the input ended is told by the answer
 input_is : (input : Result (Unit {0}) InputFault) (refused : Option (ℕ × ToolFault)) (output : Result Summary SinkFault) → input_of (answer_by input refused output) ≡ input
@@ -161,13 +186,13 @@ input_is (Ok tt) (Some found) output = refl
 input_is (Ok tt) None (Err fault) = refl
 input_is (Ok tt) None (Ok summary) = refl
 
-ended_at_front_for_each : {W : Type 0} (reader : Change) (held : W → Option (List ℕ)) (failures : W → ℕ) (start done : W) (tools : List Tool) (input : Result (Unit {0}) InputFault) (refused : Option (ℕ × ToolFault)) (output : Result Summary SinkFault)
-    → Ended reader held failures start done tools input refused output → IsFrontForEach tools (input_of (answer_by input refused output)) reader (change held failures start done)
-ended_at_front_for_each reader held failures start done tools input refused output ended =
-    subst (λ (i : Result (Unit {0}) InputFault). IsFrontForEach tools i reader (change held failures start done)) (sym (input_is input refused output)) (record {
+ended_at_front_for_each : {W : Type 0} (reader : Change) (held : W → Option (List ℕ)) (failures : W → ℕ) (start done : W) (job : Job) (input : Result (Unit {0}) InputFault) (refused : Option (ℕ × ToolFault)) (output : Result Summary SinkFault)
+    → Ended reader held failures start done job input refused output → IsFrontForEach job (input_of (answer_by input refused output)) reader (change held failures start done)
+ended_at_front_for_each reader held failures start done job input refused output ended =
+    subst (λ (i : Result (Unit {0}) InputFault). IsFrontForEach job i reader (change held failures start done)) (sym (input_is input refused output)) (record {
       read = ended.read;
       consumed = ended.consumed;
-      front = λ rest may. run_front held failures start done tools ended.given ended.out ended.sink (ended.read ++ rest) ended.ran (said_front (ended.read ++ rest) ended.given input (ended.told rest may)) ended.kept;
+      front = λ rest may. run_front held failures start done job ended.given ended.out ended.sink (ended.read ++ rest) ended.ran (said_front (ended.read ++ rest) ended.given input (ended.told rest may)) ended.kept;
     })
 
 -- the refusals of the stages fit the answer
@@ -182,31 +207,32 @@ said_all : (text : List ℕ) (given : List Message) (input : Result (Unit {0}) I
 said_all text given (Err fault) refused output told has = said_before_fault text given fault told has
 said_all text given (Ok tt) refused output told has = told.0
 
-ended_with_all : {W : Type 0} (reader : Change) (held : W → Option (List ℕ)) (failures : W → ℕ) (start done : W) (tools : List Tool) (input : Result (Unit {0}) InputFault) (refused : Option (ℕ × ToolFault)) (output : Result Summary SinkFault)
-    → (ended : Ended reader held failures start done tools input refused output) → HaveAnswered tools ended.faults ended.given ended.out → IsFirstRefusal ended.faults refused
-    → AllIsWritten tools (answer_by input refused output) reader (change held failures start done)
-ended_with_all reader held failures start done tools input refused output ended answered first text is has sound =
-    let told = own_text reader held failures start done tools input refused output text ended is in
-    run_all held failures start done tools ended.faults ended.given ended.out ended.sink text ended.ran answered (said_all text ended.given input refused output told has) (λ fault e. (ended.broken fault e).1) ended.kept sound (answer_by input refused output) (fit_answer ended.faults input refused output first)
+ended_with_all : {W : Type 0} (reader : Change) (held : W → Option (List ℕ)) (failures : W → ℕ) (start done : W) (job : Job) (input : Result (Unit {0}) InputFault) (refused : Option (ℕ × ToolFault)) (output : Result Summary SinkFault)
+    → (ended : Ended reader held failures start done job input refused output) → HaveAnswered job.tools ended.faults ended.given ended.out → IsFirstRefusal ended.faults refused
+    → AllIsWritten job (answer_by input refused output) reader (change held failures start done)
+ended_with_all reader held failures start done job input refused output ended answered first text is has sound =
+    let told = own_text reader held failures start done job input refused output text ended is in
+    run_all held failures start done job ended.faults ended.given ended.out ended.sink text ended.ran answered (said_all text ended.given input refused output told has) (λ fault e. (ended.broken fault e).1) ended.kept sound (answer_by input refused output) (fit_answer ended.faults input refused output first)
 
-pub ended_has_run : {W : Type 0} (reader : Change) (held : W → Option (List ℕ)) (failures : W → ℕ) (start done : W) (tools : List Tool) (input : Result (Unit {0}) InputFault) (refused : Option (ℕ × ToolFault)) (output : Result Summary SinkFault) (unread : Type 0)
-    → Ended reader held failures start done tools input refused output → HasRun tools (answer_by input refused output) unread reader (change held failures start done)
-ended_has_run reader held failures start done tools input refused output unread ended = record {
-  well = ended_well reader held failures start done tools input refused output ended;
-  no_failure = ended_without_failure reader held failures start done tools input refused output ended;
-  input = ended_input reader held failures start done tools input refused output ended;
-  read_failed = ended_at_failed_read reader held failures start done tools input refused output ended;
-  sound_reader = λ no_failure. ended_with_sound_reader reader held failures start done tools input refused output ended no_failure;
-  tool = ended_at_tool reader held failures start done tools input refused output ended;
-  refusal = ended_by_refusal reader held failures start done tools input refused output (λ number fault. (fault ≡ Memory) × (number ≡ 1) × unread) ended;
-  output = ended_at_output reader held failures start done tools input refused output ended;
-  output_last = ended_at_output_last reader held failures start done tools input refused output ended;
+pub ended_has_run : {W : Type 0} (reader : Change) (held : W → Option (List ℕ)) (failures : W → ℕ) (start done : W) (job : Job) (input : Result (Unit {0}) InputFault) (refused : Option (ℕ × ToolFault)) (output : Result Summary SinkFault) (unread : Type 0)
+    → Ended reader held failures start done job input refused output → HasRun job (answer_by input refused output) unread reader (change held failures start done)
+ended_has_run reader held failures start done job input refused output unread ended = record {
+  well = ended_well reader held failures start done job input refused output ended;
+  no_failure = ended_without_failure reader held failures start done job input refused output ended;
+  input = ended_input reader held failures start done job input refused output ended;
+  read_failed = ended_at_failed_read reader held failures start done job input refused output ended;
+  sound_reader = λ no_failure. ended_with_sound_reader reader held failures start done job input refused output ended no_failure;
+  tool = ended_at_tool reader held failures start done job input refused output ended;
+  refusal = ended_by_refusal reader held failures start done job input refused output (λ number fault. (fault ≡ Memory) × (number ≡ 1) × unread) ended;
+  output = ended_at_output reader held failures start done job input refused output ended;
+  output_last = ended_at_output_last reader held failures start done job input refused output ended;
   verdict = λ text is.
-      verdict_follows text tools (answer_by input refused output) unread reader (change held failures start done)
-      (ended_well reader held failures start done tools input refused output ended text is) (ended_input reader held failures start done tools input refused output ended text is)
-      (ended_by_refusal reader held failures start done tools input refused output (λ number fault. (fault ≡ Memory) × (number ≡ 1) × unread) ended text is) (ended_at_output reader held failures start done tools input refused output ended);
-  front = ended_at_front reader held failures start done tools input refused output ended;
-  front_for_each = ended_at_front_for_each reader held failures start done tools input refused output ended;
+      verdict_follows text job (answer_by input refused output) unread reader (change held failures start done)
+      (ended_well reader held failures start done job input refused output ended text is) (ended_input reader held failures start done job input refused output ended text is)
+      (ended_by_refusal reader held failures start done job input refused output (λ number fault. (fault ≡ Memory) × (number ≡ 1) × unread) ended text is) (ended_at_output reader held failures start done job input refused output ended)
+      (ended_by_form reader held failures start done job input refused output ended text is);
+  front = ended_at_front reader held failures start done job input refused output ended;
+  front_for_each = ended_at_front_for_each reader held failures start done job input refused output ended;
 }
 
 -- a run in one thread
@@ -216,12 +242,12 @@ of_one_thread (Ok tt) (Some found) output = tt
 of_one_thread (Ok tt) None (Err fault) = tt
 of_one_thread (Ok tt) None (Ok summary) = tt
 
-pub ended_in_one_thread : {W : Type 0} (reader : Change) (held : W → Option (List ℕ)) (failures : W → ℕ) (start done : W) (tools : List Tool) (input : Result (Unit {0}) InputFault) (refused : Option (ℕ × ToolFault)) (output : Result Summary SinkFault) (unread : Type 0)
-    → (ended : Ended reader held failures start done tools input refused output) → HaveAnswered tools ended.faults ended.given ended.out → IsFirstRefusal ended.faults refused
-    → HasRunInOneThread tools (answer_by input refused output) unread reader (change held failures start done)
-ended_in_one_thread reader held failures start done tools input refused output unread ended answered first = record {
-  run = ended_has_run reader held failures start done tools input refused output unread ended;
-  all_written = ended_with_all reader held failures start done tools input refused output ended answered first;
+pub ended_in_one_thread : {W : Type 0} (reader : Change) (held : W → Option (List ℕ)) (failures : W → ℕ) (start done : W) (job : Job) (input : Result (Unit {0}) InputFault) (refused : Option (ℕ × ToolFault)) (output : Result Summary SinkFault) (unread : Type 0)
+    → (ended : Ended reader held failures start done job input refused output) → HaveAnswered job.tools ended.faults ended.given ended.out → IsFirstRefusal ended.faults refused
+    → HasRunInOneThread job (answer_by input refused output) unread reader (change held failures start done)
+ended_in_one_thread reader held failures start done job input refused output unread ended answered first = record {
+  run = ended_has_run reader held failures start done job input refused output unread ended;
+  all_written = ended_with_all reader held failures start done job input refused output ended answered first;
   one_thread = of_one_thread input refused output;
 }
 
@@ -246,15 +272,18 @@ appends_nothing : (held : Option (List ℕ)) → Appends held held []
 appends_nothing None = tt
 appends_nothing (Some bytes) = sym (append-nil bytes)
 
-pub ended_without_list : (text : List ℕ) (tools : List Tool) (held : Option (List ℕ)) → 1 ≤ length tools → IsAllWritten {A = Summary} text tools (Err (OfTool 1 Memory)) held held
-ended_without_list text [] held some = absurd (omega arith)
-ended_without_list text (tool ∷ tools) held some = record {
-  faults = Some Memory ∷ map (λ tool. Some Memory) tools;
-  given = [];
-  fit = (refl, refl);
-  answered = ([], not_started tool (said_of text), none_started tools);
-  written = appends_nothing held;
-}
+none_answered : (tools : List Tool) (received : List Message) → 1 ≤ length tools → (faults : List (Option ToolFault)) × IsFirstFault 1 faults 1 Memory × HaveAnswered tools faults received []
+none_answered [] received some = absurd (omega arith)
+none_answered (tool ∷ tools) received some = (Some Memory ∷ map (λ tool. Some Memory) tools, (refl, refl), ([], not_started tool received, none_started tools))
+
+no_bytes : (form : Form) → written_of form [] ≡ []
+no_bytes Raw = refl
+no_bytes Plain = refl
+
+pub ended_without_list : (text : List ℕ) (job : Job) (held : Option (List ℕ)) → 1 ≤ length job.tools → IsAllWritten {A = Summary} text job (Err (OfTool 1 Memory)) held held
+ended_without_list text job held some =
+    let none = none_answered job.tools (said_of text) some in
+    record { faults = none.0; given = []; fit = none.1; answered = none.2; written = subst (Appends held held) (sym (no_bytes job.form)) (appends_nothing held) }
 
 nothing_written : (writer : Change) → writer.new ≡ writer.old → (bytes : List ℕ) → AppendsFront writer.old writer.new bytes
 nothing_written writer written bytes = subst (λ (held : Option (List ℕ)). AppendsFront writer.old held bytes) (sym written) (nothing_front writer.old bytes)
@@ -263,8 +292,8 @@ nothing_read : (reader : Change) → reader.new ≡ reader.old → Consumes read
 nothing_read reader read = subst (λ (left : Option (List ℕ)). Consumes reader.old left []) (sym read) (consumes_nothing reader.old)
 
 -- a run that has read and written nothing, since there is no memory for the list
-pub ended_unread : (tools : List Tool) (unread : Type 0) (reader writer : Change) → 1 ≤ length tools → unread → reader.new ≡ reader.old → reader.failures_new ≡ reader.failures_old → writer.new ≡ writer.old → HasRunInOneThread tools (Err (OfTool 1 Memory)) unread reader writer
-ended_unread tools unread reader writer some untouched read same_count written = record {
+pub ended_unread : (job : Job) (unread : Type 0) (reader writer : Change) → 1 ≤ length job.tools → unread → reader.new ≡ reader.old → reader.failures_new ≡ reader.failures_old → writer.new ≡ writer.old → HasRunInOneThread job (Err (OfTool 1 Memory)) unread reader writer
+ended_unread job unread reader writer some untouched read same_count written = record {
   run = record {
     well = λ text is. tt;
     no_failure = tt;
@@ -276,16 +305,16 @@ ended_unread tools unread reader writer some untouched read same_count written =
     output = tt;
     output_last = λ text is. tt;
     verdict = λ text is. inl refl;
-    front = λ text is images completes. nothing_written writer written (bytes_of (due_in_turn tools images));
-    front_for_each = record { read = []; consumed = nothing_read reader read; front = λ rest may images completes. nothing_written writer written (bytes_of (due_in_turn tools images)) };
+    front = λ text is images completes. nothing_written writer written (bytes_due job images);
+    front_for_each = record { read = []; consumed = nothing_read reader read; front = λ rest may images completes. nothing_written writer written (bytes_due job images) };
   };
-  all_written = λ text is has sound. subst (λ (held : Option (List ℕ)). IsAllWritten {A = Summary} text tools (Err (OfTool 1 Memory)) writer.old held) (sym written) (ended_without_list text tools writer.old some);
+  all_written = λ text is has sound. subst (λ (held : Option (List ℕ)). IsAllWritten {A = Summary} text job (Err (OfTool 1 Memory)) writer.old held) (sym written) (ended_without_list text job writer.old some);
   one_thread = tt;
 }
 
 -- a run that has written nothing, since there is no memory to read
-pub ended_without_reading : (tools : List Tool) (unread : Type 0) (reader writer : Change) → reader.new ≡ reader.old → reader.failures_new ≡ reader.failures_old → writer.new ≡ writer.old → HasRunInOneThread tools (Err (Input NoMemoryToRead)) unread reader writer
-ended_without_reading tools unread reader writer read same_count written = record {
+pub ended_without_reading : (job : Job) (unread : Type 0) (reader writer : Change) → reader.new ≡ reader.old → reader.failures_new ≡ reader.failures_old → writer.new ≡ writer.old → HasRunInOneThread job (Err (Input NoMemoryToRead)) unread reader writer
+ended_without_reading job unread reader writer read same_count written = record {
   run = record {
     well = λ text is. tt;
     no_failure = tt;
@@ -297,8 +326,8 @@ ended_without_reading tools unread reader writer read same_count written = recor
     output = tt;
     output_last = λ text is. tt;
     verdict = λ text is. inl (inr refl);
-    front = λ text is images completes. nothing_written writer written (bytes_of (due_in_turn tools images));
-    front_for_each = record { read = []; consumed = nothing_read reader read; front = λ rest may images completes. nothing_written writer written (bytes_of (due_in_turn tools images)) };
+    front = λ text is images completes. nothing_written writer written (bytes_due job images);
+    front_for_each = record { read = []; consumed = nothing_read reader read; front = λ rest may images completes. nothing_written writer written (bytes_due job images) };
   };
   all_written = λ text is has sound. absurd (no_text_fault text NoMemoryToRead has (inr refl));
   one_thread = tt;

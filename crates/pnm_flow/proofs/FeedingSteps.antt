@@ -97,7 +97,7 @@ going_none left reader_failures at all_given stopped held writer_failures source
   unread = λ more. unread.unread;
   many = refl;
   sound = refl;
-  output = record { out = []; stages = λ tools is. is; taken = λ start is. is };
+  output = record { out = []; stages = λ tools is. is; taken = λ form start is. is };
 }
 
 -- one message more has passed
@@ -106,7 +106,7 @@ have_taken_more : {F W : Type 0} (at : F → Tool → List Message → List Mess
 have_taken_more at all_given stopped held failures given m old now next before d after was passes = record {
   out = was.out ++ passes.more;
   stages = λ tools is. passes.stages tools given was.out (was.stages tools is);
-  taken = λ start is. passes.taken start was.out (was.taken start is);
+  taken = λ form start is. passes.taken form start was.out (was.taken form start is);
 }
 
 pub going_more : {R F W : Type 0} (left : R → Option (List ℕ)) (reader_failures : R → ℕ) (at : F → Tool → List Message → List Message → Type 0) (all_given : F → Bool) (stopped : F → Option ToolFault) (held : W → Option (List ℕ)) (writer_failures : W → ℕ) (first source next : Source R) (old now after : List (SerialStage F)) (start d new : Downstream W) (count : ℕ) (m : Message)

@@ -1,10 +1,12 @@
 pub mod MessageSteps
+pub mod FormSteps
 pub mod DownstreamSteps
 pub mod PassingSteps
 pub mod FaultSteps
 pub mod FeedingSteps
 pub mod ToolSteps
 pub mod CountLaws
+pub mod ResultSteps
 pub mod VerdictLaws
 pub mod VerdictFaults
 pub mod RunSteps

@@ -1,12 +1,13 @@
 -- Lists of messages, and one message more.
 use Rattle.std.proofs.Common.{◌≡◌, ℕ, List, [], ◌∷◌, ◌++◌, refl}
+use Rattle.pnm_image.specs.declared.format.Form.{Form}
 use Rattle.pnm_image.specs.declared.message.Message.{Message}
 use Rattle.pnm_image.specs.declared.place.Place.TheVariants.{Between}
 use Rattle.pnm_image.specs.Places.{place_of}
 use Rattle.pnm_image.proofs.Places.{lawful_front, next_may_come}
 use Rattle.pnm_image.proofs.Lists.{all_of_front, each-middle}
 use Rattle.pnm_write.specs.Encoding.{bytes_from, bytes_of}
-use Rattle.pnm_write.specs.Sinks.{HasRows, Takes}
+use Rattle.pnm_write.specs.Sinks.{HasRows, IsInOrder}
 use Rattle.pnm_write.proofs.MessageLaws.{bytes_from-append}
 use Rattle.pnm_flow.specs.Counts.{images_after, rows_after, images_in, rows_in}
 use Rattle.pnm_flow.specs.Downstreams.{AreWritable}
@@ -20,12 +21,12 @@ rows_in-push rows [] m = refl
 rows_in-push rows (n ∷ ms) m = rows_in-push (rows_after rows n) ms m
 
 -- the bytes of messages are a front of the bytes of these and more
-pub bytes_of-append : (ms ns : List Message) → (more : List ℕ) × (bytes_of (ms ++ ns) ≡ bytes_of ms ++ more)
-bytes_of-append ms ns = (bytes_from (place_of Between ms) ns, bytes_from-append Between ms ns)
+pub bytes_of-append : (form : Form) (ms ns : List Message) → (more : List ℕ) × (bytes_of form (ms ++ ns) ≡ bytes_of form ms ++ more)
+bytes_of-append form ms ns = (bytes_from form (place_of Between ms) ns, bytes_from-append form Between ms ns)
 
 pub front_is_writable : (ms ns : List Message) → AreWritable (ms ++ ns) → AreWritable ms
 front_is_writable ms ns writable = (lawful_front Between ms ns writable.0, all_of_front HasRows ms ns writable.1)
 
--- the last of messages that may be written is taken where those before it lead
-pub last_is_taken : (ms : List Message) (m : Message) → AreWritable (ms ++ m ∷ []) → Takes (place_of Between ms) m
-last_is_taken ms m writable = (next_may_come Between ms m [] writable.0, each-middle HasRows ms m [] writable.1)
+-- the last of messages that may be written comes in order where those before it lead
+pub last_is_in_order : (ms : List Message) (m : Message) → AreWritable (ms ++ m ∷ []) → IsInOrder (place_of Between ms) m
+last_is_in_order ms m writable = (next_may_come Between ms m [] writable.0, each-middle HasRows ms m [] writable.1)

@@ -4,6 +4,7 @@ use Rattle.std.specs.Prelude.{◌==◌, slice_set}
 use Rattle.std.proofs.lemmas.List.{take_all, drop_all}
 use Rattle.std.proofs.lemmas.Bool.Decides.{nat_tests}
 use borrow.Rule.Slice.PartMut.{mid_of, put_mid}
+use Rattle.pnm_image.specs.declared.format.Form.{Form}
 use Rattle.pnm_image.specs.declared.message.Message.{Message}
 use Rattle.pnm_tools.specs.declared.fault.ToolFault.{ToolFault}
 use Rattle.pnm_tools.specs.declared.tool.Tool.{Tool}
@@ -26,7 +27,7 @@ pub record Going {F W : Type 0} (at : F → Tool → List Message → List Messa
   pub more : List Message
   pub stage : (tool : Tool) (l g : List Message) → StageAt at all_given stopped first tool l g → StageBusy at stopped first_now tool (l ++ m ∷ []) (g ++ out)
   pub stages : (tools : List Tool) (l g : List Message) → StagesAt at all_given stopped others tools l g → StagesAt at all_given stopped others_now tools (l ++ out) (g ++ more)
-  pub taken : (start : W) (messages : List Message) → HasTaken held failures start messages before → HasTaken held failures start (messages ++ more) after
+  pub taken : (form : Form) (start : W) (messages : List Message) → HasTaken held failures form start messages before → HasTaken held failures form start (messages ++ more) after
 
 -- the messages that the first of the stages is still to give, at most
 abbrev pub first_waiting : {F : Type 0} → (F → ℕ) → List (SerialStage F) → ℕ
@@ -46,8 +47,8 @@ put_is {X = X} x xs ys =
 same_stages : {F : Type 0} (at : F → Tool → List Message → List Message → Type 0) (all_given : F → Bool) (stopped : F → Option ToolFault) (stages : List (SerialStage F)) (tools : List Tool) (l g : List Message) → StagesAt at all_given stopped stages tools l g → StagesAt at all_given stopped stages tools (l ++ []) (g ++ [])
 same_stages at all_given stopped stages tools l g is = subst (λ (x : List Message). StagesAt at all_given stopped stages tools x (g ++ [])) (sym (append-nil l)) (subst (StagesAt at all_given stopped stages tools l) (sym (append-nil g)) is)
 
-same_taken : {W : Type 0} (held : W → Option (List ℕ)) (failures : W → ℕ) (start : W) (messages : List Message) (d : Downstream W) → HasTaken held failures start messages d → HasTaken held failures start (messages ++ []) d
-same_taken held failures start messages d is = subst (λ (x : List Message). HasTaken held failures start x d) (sym (append-nil messages)) is
+same_taken : {W : Type 0} (held : W → Option (List ℕ)) (failures : W → ℕ) (form : Form) (start : W) (messages : List Message) (d : Downstream W) → HasTaken held failures form start messages d → HasTaken held failures form start (messages ++ []) d
+same_taken held failures form start messages d is = subst (λ (x : List Message). HasTaken held failures form start x d) (sym (append-nil messages)) is
 
 -- the first stage was fed
 pub going_first : {F W : Type 0} (at : F → Tool → List Message → List Message → Type 0) (all_given : F → Bool) (stopped : F → Option ToolFault) (held : W → Option (List ℕ)) (failures : W → ℕ) (stages : List (SerialStage F)) (was other fed : SerialStage F) (m : Message) (d : Downstream W)
@@ -66,7 +67,7 @@ going_first at all_given stopped held failures (s ∷ ss) was other fed m d firs
   more = [];
   stage = λ tool l g is. subst (StageBusy at stopped fed tool (l ++ m ∷ [])) (sym (append-nil g)) (feeds tool l g (subst (λ (x : SerialStage _). StageAt at all_given stopped x tool l g) (sym first) is));
   stages = λ tools l g is. same_stages at all_given stopped ss tools l g is;
-  taken = λ start messages is. same_taken held failures start messages d is;
+  taken = λ form start messages is. same_taken held failures form start messages d is;
 }
 
 -- what the first stage gave has passed through the others
@@ -93,7 +94,7 @@ going_on at all_given stopped held failures old (s ∷ ss) ys was other next m a
           let was_at = subst (λ (x : List (SerialStage _)). StagesAt at all_given stopped x tools (l ++ going.out) (g ++ going.more)) (sym (part_is next ss ∙ same_others)) (going.stages tools l g is) in
           subst (λ (x : List Message). StagesAt at all_given stopped ys tools x (g ++ (going.more ++ passes.more))) (append_assoc l going.out (answer ∷ []))
           (subst (StagesAt at all_given stopped ys tools ((l ++ going.out) ++ answer ∷ [])) (append_assoc g going.more passes.more) (passes.stages tools (l ++ going.out) (g ++ going.more) was_at));
-      taken = λ start messages is. subst (λ (x : List Message). HasTaken held failures start x after) (append_assoc messages going.more passes.more) (passes.taken start (messages ++ going.more) (going.taken start messages is));
+      taken = λ form start messages is. subst (λ (x : List Message). HasTaken held failures form start x after) (append_assoc messages going.more passes.more) (passes.taken form start (messages ++ going.more) (going.taken form start messages is));
     }
 
 -- stages behind the first, and the first
@@ -135,7 +136,7 @@ no_stages at all_given stopped (tool ∷ tools) l g m is = absurd is
 
 -- without a stage the message is what is given
 pub passes_on : {F W : Type 0} (at : F → Tool → List Message → List Message → Type 0) (all_given : F → Bool) (stopped : F → Option ToolFault) (held : W → Option (List ℕ)) (failures : W → ℕ) (stages : List (SerialStage F)) (m : Message) (before after : Downstream W)
-    → (length stages == 0) ≡ true → ((start : W) (messages : List Message) → HasTaken held failures start messages before → HasTaken held failures start (messages ++ m ∷ []) after)
+    → (length stages == 0) ≡ true → ((form : Form) (start : W) (messages : List Message) → HasTaken held failures form start messages before → HasTaken held failures form start (messages ++ m ∷ []) after)
     → FeedsThrough at all_given stopped held failures stages m stages before after
 passes_on at all_given stopped held failures [] m before after none taken = record { more = m ∷ []; stages = λ tools l g is. no_stages at all_given stopped tools l g m is; taken = taken }
 passes_on at all_given stopped held failures (s ∷ ss) m before after none taken = absurd (grind (arith, nat_tests))

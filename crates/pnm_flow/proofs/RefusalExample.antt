@@ -2,6 +2,7 @@
 use Rattle.std.proofs.Common.{◌≡◌, ℕ, List, [], ◌∷◌, ◌++◌, Option, None, Some, Result, Ok, Err, refl, sym, ap, subst, ◌∙◌, inl, inr, arith, zero, suc, false, ◌<◌, ◌≤◌, get_or}
 use Rattle.std.specs.Prelude.{codes}
 use Rattle.std.specs.Fmt.{digits}
+use Rattle.pnm_image.specs.declared.format.Form.TheVariants.{Raw}
 use Rattle.pnm_image.specs.declared.message.Message.{Message}
 use Rattle.pnm_image.specs.declared.message.Message.TheVariants.{Begin, Row, ImageEnd, StreamEnd}
 use Rattle.pnm_image.specs.declared.shape.Kind.TheVariants.{Gray}
@@ -116,12 +117,12 @@ chain_given (Some other ∷ []) given first answered =
     let has = subst (λ (f : ToolFault). HasRefused tool f (messages_of_stream wide_then_narrow) answered.0) (sym first.1) answered.1 in
     subst (λ (l : List Message). IsFrontOf (messages_of_image result) l) (sym answered.2) (refused_given answered.0 has)
 
-with_more : (more : List ℕ) → bytes_of (messages_of_image result) ++ more ≡ codes "P5\n1 1\n9\n" ++ 2 ∷ more
+with_more : (more : List ℕ) → bytes_of Raw (messages_of_image result) ++ more ≡ codes "P5\n1 1\n9\n" ++ 2 ∷ more
 unfolding digits
 with_more more = refl
 
 pub result_is_written : ResultBeforeRefusalIsWritten
 result_is_written text old new said all =
     let front = chain_given all.faults all.given all.fit (subst (λ (l : List Message). HaveAnswered (tool ∷ []) all.faults l all.given) said all.answered) in
-    let more = bytes_of-append (messages_of_image result) front.0 in
-    (more.0, all.written ∙ ap (λ (bytes : List ℕ). old ++ bytes) (ap bytes_of front.1 ∙ more.1 ∙ with_more more.0))
+    let more = bytes_of-append Raw (messages_of_image result) front.0 in
+    (more.0, all.written ∙ ap (λ (bytes : List ℕ). old ++ bytes) (ap (bytes_of Raw) front.1 ∙ more.1 ∙ with_more more.0))

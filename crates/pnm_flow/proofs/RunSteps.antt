@@ -6,6 +6,7 @@ use Rattle.std.specs.Io.KnownBytes.{Appends, Keeps}
 use Rattle.std.proofs.lemmas.List.{append-nil, take_at}
 use Rattle.std.proofs.KnownBytes.{Appends-kept}
 use Rattle.pnm_image.specs.Devices.{Failed, AppendsFront}
+use Rattle.pnm_image.specs.declared.format.Form.{Form}
 use Rattle.pnm_image.specs.declared.message.Message.{Message}
 use Rattle.pnm_image.specs.declared.message.Message.TheVariants.{Begin, Row, ImageEnd, StreamEnd, Stop}
 use Rattle.pnm_image.specs.Images.{Image, messages_of_stream}
@@ -26,10 +27,12 @@ use Rattle.pnm_tools.specs.ChainAnswers.{IsSound, AreSound, HaveAnswered, AreWel
 use Rattle.pnm_tools.proofs.ChainLaws.{given_are_sound, stream_is_answered, refusal_is_first, none_before_first_fault, given_is_front}
 use Rattle.pnm_tools.proofs.SoundLaws.{sound_keeps_all}
 use Rattle.pnm_write.specs.declared.fault.SinkFault.{SinkFault}
-use Rattle.pnm_write.specs.declared.fault.SinkFault.TheVariants.{WriteFailed}
-use Rattle.pnm_write.specs.Encoding.{bytes_of}
+use Rattle.pnm_write.specs.declared.fault.SinkFault.TheVariants.{WriteFailed, OutOfOrder, Broken, SecondPlain, PlainPam}
+use Rattle.pnm_write.specs.Encoding.{bytes_of, written_of}
+use Rattle.pnm_write.specs.Forms.{form_fault_of, IsOfForm}
 use Rattle.pnm_write.specs.Sinks.{HasRows, has_failed}
-use Rattle.pnm_write.proofs.MessageLaws.{bytes_of_stream}
+use Rattle.pnm_write.proofs.FormLaws.{stream_fault}
+use Rattle.pnm_write.proofs.MessageLaws.{bytes_of_stream, written_all, written_front}
 use Rattle.pnm_image.proofs.Written.{front-more}
 use Rattle.pnm_flow.specs.declared.downstream.Downstream.{Downstream}
 use Rattle.pnm_stages.specs.declared.serial_stage.SerialStage.{SerialStage}
@@ -37,14 +40,14 @@ use Rattle.pnm_stages.specs.declared.serial_stage.SerialStage.TheVariants.{AtWor
 use Rattle.pnm_flow.specs.declared.fault.RunFault.{RunFault}
 use Rattle.pnm_flow.specs.declared.summary.Summary.{Summary}
 use Rattle.pnm_flow.specs.Counts.{counted, images_in, rows_in}
-use Rattle.pnm_flow.specs.Downstreams.{output_of, AreWritable, AreWritten, AreCutOff, HasTakenWith, AnswersFlushes}
+use Rattle.pnm_flow.specs.Downstreams.{output_of, AreWritable, AreWritten, CutsOff, AreCutOff, HasTakenWith, AnswersFlushes}
 use Rattle.pnm_flow.specs.Feeding.{IsSaidOf, HasFed}
+use Rattle.pnm_flow.specs.Jobs.{Job, bytes_due}
 use Rattle.pnm_flow.specs.Runs.{EndedWell, IsStoppedBy, IsFrontOfDue, FitAnswer, IsAllWritten}
-use Rattle.pnm_flow.specs.Verdicts.{IsTaken}
+use Rattle.pnm_flow.specs.Verdicts.{IsTaken, HasResults}
 use Rattle.pnm_flow.specs.SerialChains.{refusals_in, StagesAt, AreFresh}
 use Rattle.pnm_flow.proofs.ToolSteps.{fresh_at}
 use Rattle.pnm_flow.proofs.CountLaws.{images_in-stream, rows_in-stream}
-use Rattle.pnm_flow.proofs.MessageSteps.{bytes_of-append}
 use Rattle.pnm_flow.proofs.FeedingSteps.{said_are_sound}
 
 -- ---- what is said
@@ -117,31 +120,58 @@ pub nothing_front : (a : Option (List ℕ)) (bytes : List ℕ) → AppendsFront 
 nothing_front None bytes = (0, tt)
 nothing_front (Some xs) bytes = (0, sym (append-nil xs))
 
-output_front : {W : Type 0} (held : W → Option (List ℕ)) (failures : W → ℕ) (start : W) (out : List Message) (more : List ℕ) (d : Downstream W) (o : Result (Unit {0}) SinkFault) → AreWritable out → HasTakenWith held failures start out d o → AppendsFront (held start) (held (output_of d)) (bytes_of out ++ more)
-output_front held failures start out more d (Ok x) writable is = front_of_more (held start) (held (output_of d)) (bytes_of out) more is.written.bytes
-output_front held failures start out more d (Err fault) writable is = front-more (held start) (held (output_of d)) (bytes_of out) more (is.front writable).1.0
+-- the messages that were written are all that the form takes of them
+takes_written : {W : Type 0} (held : W → Option (List ℕ)) (failures : W → ℕ) (form : Form) (start : W) (out : List Message) (d : Downstream W) → AreWritten held failures form start out d → form_fault_of form out ≡ None
+takes_written held failures form start out d is = subst (λ (f : Form). form_fault_of f out ≡ None) is.in_form is.written.put.form
 
-pub output_all : {W : Type 0} (held : W → Option (List ℕ)) (failures : W → ℕ) (start done : W) (out : List Message) (d : Downstream W) (o : Result (Unit {0}) SinkFault) → AreWritable out → HasTakenWith held failures start out d o
+bytes_written : {W : Type 0} (held : W → Option (List ℕ)) (failures : W → ℕ) (form : Form) (start : W) (out : List Message) (d : Downstream W) → AreWritten held failures form start out d → Appends (held start) (held (output_of d)) (bytes_of form out)
+bytes_written held failures form start out d is = subst (λ (f : Form). Appends (held start) (held (output_of d)) (bytes_of f out)) is.in_form is.written.bytes
+
+all_taken_written : {W : Type 0} (held : W → Option (List ℕ)) (failures : W → ℕ) (form : Form) (start : W) (out : List Message) (d : Downstream W) → AreWritten held failures form start out d → Appends (held start) (held (output_of d)) (written_of form out)
+all_taken_written held failures form start out d is =
+    subst (Appends (held start) (held (output_of d))) (sym (written_all form out (takes_written held failures form start out d is))) (bytes_written held failures form start out d is)
+
+-- a front of what the form takes was written, whatever cut it off
+cut_front : (fault : SinkFault) (form : Form) (out : List Message) (more : List ℕ) (old new : Option (List ℕ)) (failures_old failures_new : ℕ) → CutsOff fault form out old new failures_old failures_new → AppendsFront old new (written_of form out ++ more)
+cut_front WriteFailed form out more old new failures_old failures_new cut = front-more old new (written_of form out) more cut.0
+cut_front OutOfOrder form out more old new failures_old failures_new cut = absurd cut
+cut_front Broken form out more old new failures_old failures_new cut = absurd cut
+cut_front SecondPlain form out more old new failures_old failures_new cut = front_of_more old new (written_of form out) more cut.1
+cut_front PlainPam form out more old new failures_old failures_new cut = front_of_more old new (written_of form out) more cut.1
+
+output_front : {W : Type 0} (held : W → Option (List ℕ)) (failures : W → ℕ) (form : Form) (start : W) (out : List Message) (more : List ℕ) (d : Downstream W) (o : Result (Unit {0}) SinkFault) → AreWritable out → HasTakenWith held failures form start out d o → AppendsFront (held start) (held (output_of d)) (written_of form out ++ more)
+output_front held failures form start out more d (Ok x) writable is = front_of_more (held start) (held (output_of d)) (written_of form out) more (all_taken_written held failures form start out d is)
+output_front held failures form start out more d (Err fault) writable is = cut_front fault form out more (held start) (held (output_of d)) (failures start) (failures (output_of d)) (is.front writable)
+
+-- where the writer didn't fail, all of it was
+cut_all : (fault : SinkFault) (form : Form) (out : List Message) (old now done : Option (List ℕ)) (failures_old failures_now failures_done : ℕ) → CutsOff fault form out old now failures_old failures_now → failures_done ≡ failures_now → Keeps now done → ¬ Failed failures_old failures_done → Appends old done (written_of form out)
+cut_all WriteFailed form out old now done failures_old failures_now failures_done cut same kept sound = absurd (sound (subst (Failed failures_old) (sym same) cut.1))
+cut_all OutOfOrder form out old now done failures_old failures_now failures_done cut same kept sound = absurd cut
+cut_all Broken form out old now done failures_old failures_now failures_done cut same kept sound = absurd cut
+cut_all SecondPlain form out old now done failures_old failures_now failures_done cut same kept sound = Appends-kept old now done (written_of form out) cut.1 kept
+cut_all PlainPam form out old now done failures_old failures_now failures_done cut same kept sound = Appends-kept old now done (written_of form out) cut.1 kept
+
+pub output_all : {W : Type 0} (held : W → Option (List ℕ)) (failures : W → ℕ) (form : Form) (start done : W) (out : List Message) (d : Downstream W) (o : Result (Unit {0}) SinkFault) → AreWritable out → HasTakenWith held failures form start out d o
     → ((fault : SinkFault) → o ≡ Err fault → done ≡ output_of d) → Keeps (held (output_of d)) (held done) → ¬ Failed (failures start) (failures done)
-    → Appends (held start) (held done) (bytes_of out)
-output_all held failures start done out d (Ok x) writable is broken kept sound = Appends-kept (held start) (held (output_of d)) (held done) (bytes_of out) is.written.bytes kept
-output_all held failures start done out d (Err fault) writable is broken kept sound =
-    absurd (sound (subst (λ (w : _). Failed (failures start) (failures w)) (sym (broken fault refl)) (is.front writable).1.1))
+    → Appends (held start) (held done) (written_of form out)
+output_all held failures form start done out d (Ok x) writable is broken kept sound = Appends-kept (held start) (held (output_of d)) (held done) (written_of form out) (all_taken_written held failures form start out d is) kept
+output_all held failures form start done out d (Err fault) writable is broken kept sound =
+    cut_all fault form out (held start) (held (output_of d)) (held done) (failures start) (failures (output_of d)) (failures done) (is.front writable) (ap failures (broken fault refl)) kept sound
 
 -- the sink has failed where its output is at fault
-pub failed_so : {W : Type 0} (held : W → Option (List ℕ)) (failures : W → ℕ) (start : W) (out : List Message) (d : Downstream W) (o : Result (Unit {0}) SinkFault) → HasTakenWith held failures start out d o → has_failed d.sink ≡ is_err o
-failed_so held failures start out d (Ok x) is = is.sound
-failed_so held failures start out d (Err fault) is = is.failed
+pub failed_so : {W : Type 0} (held : W → Option (List ℕ)) (failures : W → ℕ) (form : Form) (start : W) (out : List Message) (d : Downstream W) (o : Result (Unit {0}) SinkFault) → HasTakenWith held failures form start out d o → has_failed d.sink ≡ is_err o
+failed_so held failures form start out d (Ok x) is = is.sound
+failed_so held failures form start out d (Err fault) is = is.failed
 
 -- ---- the run
 
 -- What a run knows at its end: what the source gave, and what the sink took, a front of what is due.
-pub record Ran {W : Type 0} (held : W → Option (List ℕ)) (failures : W → ℕ) (start : W) (tools : List Tool) (given out : List Message) (d : Downstream W) : Type 0 where
-  pub lawful : AreLawfulTools tools
+pub record Ran {W : Type 0} (held : W → Option (List ℕ)) (failures : W → ℕ) (start : W) (job : Job) (given out : List Message) (d : Downstream W) : Type 0 where
+  pub lawful : AreLawfulTools job.tools
   pub sound : AreSound given
   pub writable : AreWritable out
-  pub due : (is : List Image) → Completes is given → IsFrontOf out (due_in_turn tools is)
-  pub taken : HasTakenWith held failures start out d d.output
+  pub due : (is : List Image) → Completes is given → IsFrontOf out (due_in_turn job.tools is)
+  pub taken : HasTakenWith held failures job.form start out d d.output
 
 -- images that complete what is said complete a front of it
 completes_front : (l given : List Message) (is : List Image) → AreSound l → AreSound given → IsFrontOf given l → Completes is l → Completes is given
@@ -154,27 +184,27 @@ completes_front l given is sound given_sound front c = record {
 }
 
 -- however it ends, what was written is a front of what is due
-pub run_front : {W : Type 0} (held : W → Option (List ℕ)) (failures : W → ℕ) (start done : W) (tools : List Tool) (given out : List Message) (d : Downstream W) (text : List ℕ)
-    → Ran held failures start tools given out d → IsFrontOf given (said_of text) → Keeps (held (output_of d)) (held done) → IsFrontOfDue text tools (held start) (held done)
-run_front held failures start done tools given out d text ran said kept images completes =
+pub run_front : {W : Type 0} (held : W → Option (List ℕ)) (failures : W → ℕ) (start done : W) (job : Job) (given out : List Message) (d : Downstream W) (text : List ℕ)
+    → Ran held failures start job given out d → IsFrontOf given (said_of text) → Keeps (held (output_of d)) (held done) → IsFrontOfDue text job (held start) (held done)
+run_front held failures start done job given out d text ran said kept images completes =
     let c = completes_front (said_of text) given images (said_are_sound text) ran.sound said completes in
     let front = ran.due images c in
-    let more = bytes_of-append out front.0 in
-    front-kept (held start) (held (output_of d)) (held done) (bytes_of (due_in_turn tools images))
-    (subst (AppendsFront (held start) (held (output_of d))) (sym (ap bytes_of front.1 ∙ more.1))
-    (output_front held failures start out more.0 d d.output ran.writable ran.taken))
+    let more = written_front job.form out front.0 in
+    front-kept (held start) (held (output_of d)) (held done) (bytes_due job images)
+    (subst (AppendsFront (held start) (held (output_of d))) (sym (ap (written_of job.form) front.1 ∙ more.1))
+    (output_front held failures job.form start out more.0 d d.output ran.writable ran.taken))
     kept
 
 -- where the whole text was read, all that the tools answered was written, unless the writer failed
-pub run_all : {W : Type 0} (held : W → Option (List ℕ)) (failures : W → ℕ) (start done : W) (tools : List Tool) (faults : List (Option ToolFault)) (given out : List Message) (d : Downstream W) (text : List ℕ)
-    → Ran held failures start tools given out d → HaveAnswered tools faults given out → said_of text ≡ given → ((f : SinkFault) → d.output ≡ Err f → done ≡ output_of d) → Keeps (held (output_of d)) (held done) → ¬ Failed (failures start) (failures done)
-    → (answer : Result Summary RunFault) → FitAnswer answer faults → IsAllWritten text tools answer (held start) (held done)
-run_all held failures start done tools faults given out d text ran have said broken kept sound answer fit = record {
+pub run_all : {W : Type 0} (held : W → Option (List ℕ)) (failures : W → ℕ) (start done : W) (job : Job) (faults : List (Option ToolFault)) (given out : List Message) (d : Downstream W) (text : List ℕ)
+    → Ran held failures start job given out d → HaveAnswered job.tools faults given out → said_of text ≡ given → ((f : SinkFault) → d.output ≡ Err f → done ≡ output_of d) → Keeps (held (output_of d)) (held done) → ¬ Failed (failures start) (failures done)
+    → (answer : Result Summary RunFault) → FitAnswer answer faults → IsAllWritten text job answer (held start) (held done)
+run_all held failures start done job faults given out d text ran have said broken kept sound answer fit = record {
   faults = faults;
   given = out;
   fit = fit;
-  answered = subst (λ (l : List Message). HaveAnswered tools faults l out) (sym said) have;
-  written = output_all held failures start done out d d.output ran.writable ran.taken broken kept sound;
+  answered = subst (λ (l : List Message). HaveAnswered job.tools faults l out) (sym said) have;
+  written = output_all held failures job.form start done out d d.output ran.writable ran.taken broken kept sound;
 }
 
 -- the first fault of the stages
@@ -200,42 +230,69 @@ run_taken tools faults given out text lawful have said well =
     let answered = stream_is_answered tools faults found.0 out lawful (spelled_are_images text found.0 found.1) well (subst (λ (l : List Message). HaveAnswered tools faults l out) stream have) in
     (found.0, found.1, answered.4)
 
--- the writer failed
-pub run_output : {W : Type 0} (held : W → Option (List ℕ)) (failures : W → ℕ) (start done : W) (tools : List Tool) (given out : List Message) (d : Downstream W) (o : Result (Unit {0}) SinkFault) (answer : Result Summary SinkFault) (fault : SinkFault)
-    → Ran held failures start tools given out d → d.output ≡ o
-    → ((f : SinkFault) → d.output ≡ Err f → (answer ≡ Err f) × (done ≡ output_of d))
-    → (d.output ≡ Ok tt → AnswersFlushes failures d done answer)
-    → answer ≡ Err fault → (fault ≡ WriteFailed) × Failed (failures start) (failures done)
-run_output held failures start done tools given out d (Ok tt) answer fault ran o-is broken well answer-is =
-    let written : AreWritten held failures start out d = subst (HasTakenWith held failures start out d) o-is ran.taken in
-    rw answer-is at (well o-is (failures start) written.count)
-run_output held failures start done tools given out d (Err other) answer fault ran o-is broken well answer-is =
-    let cut : AreCutOff held failures start out d other = subst (HasTakenWith held failures start out d) o-is ran.taken in
-    let both = broken other o-is in
-    let same : fault ≡ other = cc (both.0, answer-is) in
-    let front = cut.front ran.writable in
-    (same ∙ front.0, subst (λ (w : _). Failed (failures start) (failures w)) (sym both.1) front.1.1)
-
--- the writer didn't fail
-pub run_sound : {W : Type 0} (held : W → Option (List ℕ)) (failures : W → ℕ) (start done : W) (tools : List Tool) (given out : List Message) (d : Downstream W) (o : Result (Unit {0}) SinkFault) (answer : Result Summary SinkFault) (summary : Summary)
-    → Ran held failures start tools given out d → d.output ≡ o
-    → ((f : SinkFault) → d.output ≡ Err f → (answer ≡ Err f) × (done ≡ output_of d))
-    → (d.output ≡ Ok tt → AnswersFlushes failures d done answer)
-    → answer ≡ Ok summary → AreWritten held failures start out d × (summary ≡ d.summary) × (failures done ≡ failures start)
-run_sound held failures start done tools given out d (Ok tt) answer summary ran o-is broken well answer-is =
-    let written : AreWritten held failures start out d = subst (HasTakenWith held failures start out d) o-is ran.taken in
-    let same = rw answer-is at (well o-is (failures start) written.count) in
-    (written, same.0, same.1)
-run_sound held failures start done tools given out d (Err other) answer summary ran o-is broken well answer-is = absurd (cc ((broken other o-is).0, answer-is))
-
--- a run that ended well
-pub run_well : {W : Type 0} (held : W → Option (List ℕ)) (failures : W → ℕ) (start done : W) (tools : List Tool) (faults : List (Option ToolFault)) (given out : List Message) (d : Downstream W) (summary : Summary) (text : List ℕ)
-    → AreLawfulTools tools → HaveAnswered tools faults given out → (said_of text ≡ given) × (fault_of text ≡ None) → AreWell faults → AreWritten held failures start out d → summary ≡ d.summary → Keeps (held (output_of d)) (held done)
-    → EndedWell text tools (held start) (held done) summary
-run_well held failures start done tools faults given out d summary text lawful have said well written same kept =
+-- and what the form says of the results of all images
+pub run_results : (job : Job) (faults : List (Option ToolFault)) (given out : List Message) (text : List ℕ)
+    → AreLawfulTools job.tools → HaveAnswered job.tools faults given out → (said_of text ≡ given) × (fault_of text ≡ None) → AreWell faults → HasResults text job (form_fault_of job.form out)
+run_results job faults given out text lawful have said well =
     let found = said_text_is_spelled text said.1 in
     let stream : given ≡ messages_of_stream found.0 = sym said.0 ∙ found.2 in
-    let answered = stream_is_answered tools faults found.0 out lawful (spelled_are_images text found.0 found.1) well (subst (λ (l : List Message). HaveAnswered tools faults l out) stream have) in
+    let answered = stream_is_answered job.tools faults found.0 out lawful (spelled_are_images text found.0 found.1) well (subst (λ (l : List Message). HaveAnswered job.tools faults l out) stream have) in
+    record {
+      images = found.0;
+      results = answered.0;
+      spelled = found.1;
+      taken = answered.4;
+      made = answered.1;
+      fit = sym (ap (form_fault_of job.form) answered.3 ∙ stream_fault job.form answered.0);
+    }
+
+-- a fault of the output: the writer failed, or the form refuses one of the messages
+abbrev pub IsOutputFault : SinkFault → Form → List Message → ℕ → ℕ → Type 0
+IsOutputFault fault form out failures_old failures_new = ((fault ≡ WriteFailed) × Failed failures_old failures_new) ⊎ (IsOfForm fault × (form_fault_of form out ≡ Some fault))
+
+cut_fault : (fault : SinkFault) (form : Form) (out : List Message) (old new : Option (List ℕ)) (failures_old failures_new : ℕ) → CutsOff fault form out old new failures_old failures_new → IsOutputFault fault form out failures_old failures_new
+cut_fault WriteFailed form out old new failures_old failures_new cut = inl (refl, cut.1)
+cut_fault OutOfOrder form out old new failures_old failures_new cut = absurd cut
+cut_fault Broken form out old new failures_old failures_new cut = absurd cut
+cut_fault SecondPlain form out old new failures_old failures_new cut = inr (tt, cut.0)
+cut_fault PlainPam form out old new failures_old failures_new cut = inr (tt, cut.0)
+
+pub run_output : {W : Type 0} (held : W → Option (List ℕ)) (failures : W → ℕ) (start done : W) (job : Job) (given out : List Message) (d : Downstream W) (o : Result (Unit {0}) SinkFault) (answer : Result Summary SinkFault) (fault : SinkFault)
+    → Ran held failures start job given out d → d.output ≡ o
+    → ((f : SinkFault) → d.output ≡ Err f → (answer ≡ Err f) × (done ≡ output_of d))
+    → (d.output ≡ Ok tt → AnswersFlushes failures d done answer)
+    → answer ≡ Err fault → IsOutputFault fault job.form out (failures start) (failures done)
+run_output held failures start done job given out d (Ok tt) answer fault ran o-is broken well answer-is =
+    let written : AreWritten held failures job.form start out d = subst (HasTakenWith held failures job.form start out d) o-is ran.taken in
+    inl (rw answer-is at (well o-is (failures start) written.count))
+run_output held failures start done job given out d (Err other) answer fault ran o-is broken well answer-is =
+    let cut : AreCutOff held failures job.form start out d other = subst (HasTakenWith held failures job.form start out d) o-is ran.taken in
+    let both = broken other o-is in
+    let same : other ≡ fault = cc (both.0, answer-is) in
+    subst (λ (f : SinkFault). IsOutputFault f job.form out (failures start) (failures done)) same
+    (subst (λ (w : _). IsOutputFault other job.form out (failures start) (failures w)) (sym both.1)
+    (cut_fault other job.form out (held start) (held (output_of d)) (failures start) (failures (output_of d)) (cut.front ran.writable)))
+
+-- the writer didn't fail
+pub run_sound : {W : Type 0} (held : W → Option (List ℕ)) (failures : W → ℕ) (start done : W) (job : Job) (given out : List Message) (d : Downstream W) (o : Result (Unit {0}) SinkFault) (answer : Result Summary SinkFault) (summary : Summary)
+    → Ran held failures start job given out d → d.output ≡ o
+    → ((f : SinkFault) → d.output ≡ Err f → (answer ≡ Err f) × (done ≡ output_of d))
+    → (d.output ≡ Ok tt → AnswersFlushes failures d done answer)
+    → answer ≡ Ok summary → AreWritten held failures job.form start out d × (summary ≡ d.summary) × (failures done ≡ failures start)
+run_sound held failures start done job given out d (Ok tt) answer summary ran o-is broken well answer-is =
+    let written : AreWritten held failures job.form start out d = subst (HasTakenWith held failures job.form start out d) o-is ran.taken in
+    let same = rw answer-is at (well o-is (failures start) written.count) in
+    (written, same.0, same.1)
+run_sound held failures start done job given out d (Err other) answer summary ran o-is broken well answer-is = absurd (cc ((broken other o-is).0, answer-is))
+
+-- a run that ended well
+pub run_well : {W : Type 0} (held : W → Option (List ℕ)) (failures : W → ℕ) (start done : W) (job : Job) (faults : List (Option ToolFault)) (given out : List Message) (d : Downstream W) (summary : Summary) (text : List ℕ)
+    → AreLawfulTools job.tools → HaveAnswered job.tools faults given out → (said_of text ≡ given) × (fault_of text ≡ None) → AreWell faults → AreWritten held failures job.form start out d → summary ≡ d.summary → Keeps (held (output_of d)) (held done)
+    → EndedWell text job (held start) (held done) summary
+run_well held failures start done job faults given out d summary text lawful have said well written same kept =
+    let found = said_text_is_spelled text said.1 in
+    let stream : given ≡ messages_of_stream found.0 = sym said.0 ∙ found.2 in
+    let answered = stream_is_answered job.tools faults found.0 out lawful (spelled_are_images text found.0 found.1) well (subst (λ (l : List Message). HaveAnswered job.tools faults l out) stream have) in
     let results : List Image = answered.0 in
     let counts_images : d.summary.images ≡ counted (length results) = written.images ∙ ap (images_in 0) answered.3 ∙ images_in-stream 0 results ∙ ap counted (zero-add (length results)) in
     let counts_rows : d.summary.rows ≡ counted (sum_by (λ i. i.head.shape.height) results) = written.rows ∙ ap (rows_in 0) answered.3 ∙ rows_in-stream 0 results ∙ ap counted (zero-add _) in
@@ -244,8 +301,12 @@ run_well held failures start done tools faults given out d summary text lawful h
       images = found.0;
       results = results;
       spelled = found.1;
-      made = answered.1;
-      written = subst (Appends (held start) (held done)) (ap bytes_of answered.3 ∙ bytes_of_stream results) (Appends-kept (held start) (held (output_of d)) (held done) (bytes_of out) written.written.bytes kept);
+      output = record {
+        made = answered.1;
+        fit = sym (ap (form_fault_of job.form) answered.3 ∙ stream_fault job.form results) ∙ takes_written held failures job.form start out d written;
+        written = subst (Appends (held start) (held done)) (ap (bytes_of job.form) answered.3 ∙ bytes_of_stream job.form results)
+            (Appends-kept (held start) (held (output_of d)) (held done) (bytes_of job.form out) (bytes_written held failures job.form start out d written) kept);
+      };
       counts = same ∙ ap (λ k. both k d.summary.rows) counts_images ∙ ap (λ k. both (counted (length results)) k) counts_rows;
     }
 
@@ -258,16 +319,16 @@ stages_answered left reader_failures held failures source source_new result old 
     have_answered IsToolAt (λ s. is_all_given s.pending) (λ s. s.fault) new tools fed.given fed.output.out (fed.output.stages tools (fresh_at old tools fresh))
 
 -- the end of the source's messages
-pub ran_of : {R W : Type 0} (left : R → Option (List ℕ)) (reader_failures : R → ℕ) (held : W → Option (List ℕ)) (failures : W → ℕ) (source source_new : Source R) (result : Result (Unit {0}) InputFault) (old new : List (SerialStage (Standing Work))) (before after : Downstream W) (tools : List Tool)
-    → AreLawfulTools tools → AreFresh old tools → HasTakenWith held failures (output_of before) [] before before.output
+pub ran_of : {R W : Type 0} (left : R → Option (List ℕ)) (reader_failures : R → ℕ) (held : W → Option (List ℕ)) (failures : W → ℕ) (source source_new : Source R) (result : Result (Unit {0}) InputFault) (old new : List (SerialStage (Standing Work))) (before after : Downstream W) (job : Job)
+    → AreLawfulTools job.tools → AreFresh old job.tools → HasTakenWith held failures job.form (output_of before) [] before before.output
     → (fed : HasFed left reader_failures IsToolAt (λ s. is_all_given s.pending) (λ s. s.fault) held failures source source_new result old new before after)
-    → Ran held failures (output_of before) tools fed.given fed.output.out after
-ran_of left reader_failures held failures source source_new result old new before after tools lawful fresh start fed =
-    let have = stages_answered left reader_failures held failures source source_new result old new before after tools fresh fed in
+    → Ran held failures (output_of before) job fed.given fed.output.out after
+ran_of left reader_failures held failures source source_new result old new before after job lawful fresh start fed =
+    let have = stages_answered left reader_failures held failures source source_new result old new before after job.tools fresh fed in
     record {
       lawful = lawful;
       sound = fed.sound;
-      writable = sound_is_writable fed.output.out (given_are_sound tools (refusals_in new) fed.given fed.output.out lawful fed.sound have);
-      due = λ is completes. given_is_front tools (refusals_in new) fed.given fed.output.out is lawful fed.sound have completes;
-      taken = fed.output.taken (output_of before) start;
+      writable = sound_is_writable fed.output.out (given_are_sound job.tools (refusals_in new) fed.given fed.output.out lawful fed.sound have);
+      due = λ is completes. given_is_front job.tools (refusals_in new) fed.given fed.output.out is lawful fed.sound have completes;
+      taken = fed.output.taken job.form (output_of before) start;
     }

@@ -37,6 +37,7 @@ use Rattle.pnm_flow.specs.Collectors.{EndedBy}
 use Rattle.pnm_flow.specs.Downstreams.{output_of, HasTaken, AnswersFlushes}
 use Rattle.pnm_flow.specs.Feeders.{HasAskedBy, closing}
 use Rattle.pnm_rings.specs.Rings.{IsEnded}
+use Rattle.pnm_flow.specs.Jobs.{Job}
 use Rattle.pnm_flow.specs.Runs.{Change, change, MayFollow}
 use Rattle.pnm_rings.specs.Fronts.{IsFrontOfDue}
 use Rattle.pnm_flow.specs.ThreadedRuns.{fault_of_end, first_fault_from, answer_over, HasEndedOver, HaveEnded, FitEnds, IsAllSent, IsFrontWhatever, HasRunOverThreads}
@@ -116,8 +117,8 @@ have_ended lanes (t ∷ tools) (e ∷ ends) (l ∷ links) all took left gave got
 -- What is known once all have ended: what the source gave and how it ended, how much of it the first tool received, how
 -- the tools ended, how much of what the last one sent was taken, and what the sink took of it.
 pub record Over {R W : Type 0} (left : R → Option (List ℕ)) (reader_failures : R → ℕ) (held : W → Option (List ℕ)) (failures : W → ℕ) (first source : Source R) (start done : W)
-    (lanes : ℕ) (tools : List Tool) (ends : List StageEnd) (input : Option (Result (Unit {0}) InputFault)) (has_ended : Bool) (output : Result Summary SinkFault) : Type 0 where
-  pub lawful : AreLawfulTools tools
+    (lanes : ℕ) (job : Job) (ends : List StageEnd) (input : Option (Result (Unit {0}) InputFault)) (has_ended : Bool) (output : Result Summary SinkFault) : Type 0 where
+  pub lawful : AreLawfulTools job.tools
   pub given : List Message
   pub asked : HasAskedBy left reader_failures first source given input
   pub fed : List Message
@@ -129,15 +130,15 @@ pub record Over {R W : Type 0} (left : R → Option (List ℕ)) (reader_failures
   pub received : fed ≡ took ++ untaken
   pub links : List Link
   pub gave : List Message
-  pub stages : AreStages lanes tools ends links took gave
-  pub due : IsFrontOfDue (due_in_turn tools) took gave
+  pub stages : AreStages lanes job.tools ends links took gave
+  pub due : IsFrontOfDue (due_in_turn job.tools) took gave
   pub got : List Message
   pub rest : List Message
   pub came : gave ≡ got ++ rest
   pub ended : EndedBy has_ended got
   pub all : (has_ended ≡ true) ⊎ (rest ≡ [])
   pub sink : Downstream W
-  pub taken : HasTaken held failures start (without_stop got) sink
+  pub taken : HasTaken held failures job.form start (without_stop got) sink
   pub kept : Keeps (held (output_of sink)) (held done)
   pub broken : (fault : SinkFault) → sink.output ≡ Err fault → (output ≡ Err fault) × (done ≡ output_of sink)
   pub well : sink.output ≡ Ok tt → AnswersFlushes failures sink done output
@@ -161,16 +162,16 @@ accepted_completed given closed accepted a b c fed took is sound cut passed rece
     let of_given = subst (λ (x : List Message). IsFrontOf x (messages_of_stream is)) (sound_keeps_all given sound.sound) completes.front in
     record { images = completes.images; front = front_of_front (without_stop accepted) given (messages_of_stream is) front of_given }
 
-ran_over : {R W : Type 0} (left : R → Option (List ℕ)) (reader_failures : R → ℕ) (held : W → Option (List ℕ)) (failures : W → ℕ) (first source : Source R) (start done : W) (lanes : ℕ) (tools : List Tool) (ends : List StageEnd) (input : Option (Result (Unit {0}) InputFault)) (has_ended : Bool) (output : Result Summary SinkFault)
-    → (over : Over left reader_failures held failures first source start done lanes tools ends input has_ended output) → Ran held failures start tools over.given (without_stop over.got) over.sink
-ran_over left reader_failures held failures first source start done lanes tools ends input has_ended output over =
+ran_over : {R W : Type 0} (left : R → Option (List ℕ)) (reader_failures : R → ℕ) (held : W → Option (List ℕ)) (failures : W → ℕ) (first source : Source R) (start done : W) (lanes : ℕ) (job : Job) (ends : List StageEnd) (input : Option (Result (Unit {0}) InputFault)) (has_ended : Bool) (output : Result Summary SinkFault)
+    → (over : Over left reader_failures held failures first source start done lanes job ends input has_ended output) → Ran held failures start job over.given (without_stop over.got) over.sink
+ran_over left reader_failures held failures first source start done lanes job ends input has_ended output over =
     let sound = given_sound left reader_failures first source over.given input over.asked in
     let front = subst (λ (x : List Message). IsFrontOf (without_stop over.got) (without_stop x)) (sym over.came) (front_without_stop over.got over.rest) in
-    let due : (is : List Image) → Completes is over.given → IsFrontOf (without_stop over.got) (due_in_turn tools is) = λ is completes.
-    front_of_front (without_stop over.got) (without_stop over.gave) (due_in_turn tools is) front
+    let due : (is : List Image) → Completes is over.given → IsFrontOf (without_stop over.got) (due_in_turn job.tools is) = λ is completes.
+    front_of_front (without_stop over.got) (without_stop over.gave) (due_in_turn job.tools is) front
     (over.due.front is (accepted_completed over.given (over.given ++ closing input) over.due.accepted over.due.rest over.untaken over.unfed over.fed over.took is sound
     (closing_is_cut over.given input sound) over.passed over.received over.due.parts completes)) in
-    record { lawful = over.lawful; sound = sound; writable = sound_is_writable (without_stop over.got) (front_of_due_is_sound tools over.given (without_stop over.got) over.lawful sound due); due = due; taken = over.taken }
+    record { lawful = over.lawful; sound = sound; writable = sound_is_writable (without_stop over.got) (front_of_due_is_sound job.tools over.given (without_stop over.got) over.lawful sound due); due = due; taken = over.taken }
 
 -- ---- an end that was dropped
 
@@ -190,13 +191,13 @@ said_by left failures first source given (Some (Err fault)) (inl none) asked = a
 said_by left failures first source given (Some (Err fault)) (inr well) asked = absurd cc
 
 -- a run in which a ring's other end was seen dropped
-gone_has_run : {R W : Type 0} (left : R → Option (List ℕ)) (reader_failures : R → ℕ) (held : W → Option (List ℕ)) (failures : W → ℕ) (first source : Source R) (start done : W) (lanes : ℕ) (tools : List Tool) (ends : List StageEnd) (input : Option (Result (Unit {0}) InputFault)) (has_ended : Bool) (output : Result Summary SinkFault) (number : ℕ)
-    → (over : Over left reader_failures held failures first source start done lanes tools ends input has_ended output) → (input ≡ None) ⊎ (input ≡ Some (Ok tt)) → number ≤ length tools + 1
-    → HasRunOverThreads lanes tools (Err (Gone number)) (change left reader_failures (reader_of first) (reader_of source)) (change held failures start done)
-gone_has_run left reader_failures held failures first source start done lanes tools ends input has_ended output number over well within =
+gone_has_run : {R W : Type 0} (left : R → Option (List ℕ)) (reader_failures : R → ℕ) (held : W → Option (List ℕ)) (failures : W → ℕ) (first source : Source R) (start done : W) (lanes : ℕ) (job : Job) (ends : List StageEnd) (input : Option (Result (Unit {0}) InputFault)) (has_ended : Bool) (output : Result Summary SinkFault) (number : ℕ)
+    → (over : Over left reader_failures held failures first source start done lanes job ends input has_ended output) → (input ≡ None) ⊎ (input ≡ Some (Ok tt)) → number ≤ length job.tools + 1
+    → HasRunOverThreads lanes job (Err (Gone number)) (change left reader_failures (reader_of first) (reader_of source)) (change held failures start done)
+gone_has_run left reader_failures held failures first source start done lanes job ends input has_ended output number over well within =
     let reader = change left reader_failures (reader_of first) (reader_of source) in
     let said = said_by left reader_failures first source over.given input well over.asked in
-    let ran = ran_over left reader_failures held failures first source start done lanes tools ends input has_ended output over in
+    let ran = ran_over left reader_failures held failures first source start done lanes job ends input has_ended output over in
     let out = without_stop over.got in
     record {
       run = record {
@@ -213,8 +214,8 @@ gone_has_run left reader_failures held failures first source start done lanes to
         front = λ text is.
             let rest = rest_of reader.old reader.new said.0 text said.1 is in
             let front = subst (λ (l : List ℕ). IsFrontOf over.given (said_of l)) (sym rest.2) (said.3 rest.0 (rest_follows (Ok tt) reader rest.0 rest.1)) in
-            run_front held failures start done tools over.given out over.sink text ran front over.kept;
-        front_for_each = record { read = said.0; consumed = said.1; front = λ rest may. run_front held failures start done tools over.given out over.sink (said.0 ++ rest) ran (said.3 rest may) over.kept };
+            run_front held failures start done job over.given out over.sink text ran front over.kept;
+        front_for_each = record { read = said.0; consumed = said.1; front = λ rest may. run_front held failures start done job over.given out over.sink (said.0 ++ rest) ran (said.3 rest may) over.kept };
       };
       all_written = λ text is has sound. absurd has;
       read_failed = tt;
@@ -223,11 +224,11 @@ gone_has_run left reader_failures held failures first source start done lanes to
 
 -- ---- the other answers
 
-ended_over : {R W : Type 0} (left : R → Option (List ℕ)) (reader_failures : R → ℕ) (held : W → Option (List ℕ)) (failures : W → ℕ) (first source : Source R) (start done : W) (lanes : ℕ) (tools : List Tool) (ends : List StageEnd) (result : Result (Unit {0}) InputFault) (has_ended : Bool) (output : Result Summary SinkFault)
+ended_over : {R W : Type 0} (left : R → Option (List ℕ)) (reader_failures : R → ℕ) (held : W → Option (List ℕ)) (failures : W → ℕ) (first source : Source R) (start done : W) (lanes : ℕ) (job : Job) (ends : List StageEnd) (result : Result (Unit {0}) InputFault) (has_ended : Bool) (output : Result Summary SinkFault)
     (refused : Option (ℕ × ToolFault)) (faults : List (Option ToolFault))
-    → (over : Over left reader_failures held failures first source start done lanes tools ends (Some result) has_ended output) → (result ≡ Ok tt → StagesAnswered tools faults over.given (without_stop over.got) refused)
-    → Ended (change left reader_failures (reader_of first) (reader_of source)) held failures start done tools result refused output
-ended_over left reader_failures held failures first source start done lanes tools ends result has_ended output refused faults over stages = record {
+    → (over : Over left reader_failures held failures first source start done lanes job ends (Some result) has_ended output) → (result ≡ Ok tt → StagesAnswered job.tools faults over.given (without_stop over.got) refused)
+    → Ended (change left reader_failures (reader_of first) (reader_of source)) held failures start done job result refused output
+ended_over left reader_failures held failures first source start done lanes job ends result has_ended output refused faults over stages = record {
   faults = faults;
   given = over.given;
   out = without_stop over.got;
@@ -237,7 +238,7 @@ ended_over left reader_failures held failures first source start done lanes tool
   told = over.asked.told;
   count = over.asked.count;
   read_failed = λ failed. inl (over.asked.read_failed failed);
-  ran = ran_over left reader_failures held failures first source start done lanes tools ends (Some result) has_ended output over;
+  ran = ran_over left reader_failures held failures first source start done lanes job ends (Some result) has_ended output over;
   stages = stages;
   kept = over.kept;
   broken = over.broken;
@@ -259,23 +260,23 @@ given_whole left failures first source given asked =
     subst (EndsBy Whole) (sym found.2 ∙ said.0) (stream_ends_whole found.0)
 
 -- and the first tool received it all
-took_all : {R W : Type 0} (left : R → Option (List ℕ)) (reader_failures : R → ℕ) (held : W → Option (List ℕ)) (failures : W → ℕ) (first source : Source R) (start done : W) (lanes : ℕ) (tools : List Tool) (ends : List StageEnd) (has_ended : Bool) (output : Result Summary SinkFault)
-    → (over : Over left reader_failures held failures first source start done lanes tools ends (Some (Ok tt)) has_ended output) → FirstIsThere ends → (EndsBy Whole over.given) × (over.took ≡ over.given)
-took_all left reader_failures held failures first source start done lanes tools ends has_ended output over there =
+took_all : {R W : Type 0} (left : R → Option (List ℕ)) (reader_failures : R → ℕ) (held : W → Option (List ℕ)) (failures : W → ℕ) (first source : Source R) (start done : W) (lanes : ℕ) (job : Job) (ends : List StageEnd) (has_ended : Bool) (output : Result Summary SinkFault)
+    → (over : Over left reader_failures held failures first source start done lanes job ends (Some (Ok tt)) has_ended output) → FirstIsThere ends → (EndsBy Whole over.given) × (over.took ≡ over.given)
+took_all left reader_failures held failures first source start done lanes job ends has_ended output over there =
     let whole = given_whole left reader_failures first source over.given over.asked in
     let all : over.fed ≡ over.given = sym (append-nil over.fed) ∙ ap (λ (x : List Message). over.fed ++ x) (sym (over.none_waits refl)) ∙ over.passed ∙ append-nil over.given in
-    let ended = first_received lanes tools ends over.links over.took over.gave over.stages there in
+    let ended = first_received lanes job.tools ends over.links over.took over.gave over.stages there in
     let none = nothing_follows over.took over.untaken ended (subst IsEnded (sym all ∙ over.received) (inl whole)) in
     (whole, sym (whole_list over.fed over.took over.untaken over.received none) ∙ all)
 
 -- no stage is at fault, and the end of the stream was taken
-well_stages : {R W : Type 0} (left : R → Option (List ℕ)) (reader_failures : R → ℕ) (held : W → Option (List ℕ)) (failures : W → ℕ) (first source : Source R) (start done : W) (lanes : ℕ) (tools : List Tool) (ends : List StageEnd) (output : Result Summary SinkFault)
-    → (over : Over left reader_failures held failures first source start done lanes tools ends (Some (Ok tt)) true output) → first_fault_from 1 ends ≡ None
-    → (faults : List (Option ToolFault)) × StagesAnswered tools faults over.given (without_stop over.got) None
-well_stages left reader_failures held failures first source start done lanes tools ends output over none =
-    let there = next_is_well lanes 1 tools ends over.links over.took over.gave over.stages none in
-    let took = took_all left reader_failures held failures first source start done lanes tools ends true output over there in
-    let answered = all_answered lanes 1 tools ends over.links over.given over.gave (subst (λ (x : List Message). AreStages lanes tools ends over.links x over.gave) took.1 over.stages) took.0 none in
+well_stages : {R W : Type 0} (left : R → Option (List ℕ)) (reader_failures : R → ℕ) (held : W → Option (List ℕ)) (failures : W → ℕ) (first source : Source R) (start done : W) (lanes : ℕ) (job : Job) (ends : List StageEnd) (output : Result Summary SinkFault)
+    → (over : Over left reader_failures held failures first source start done lanes job ends (Some (Ok tt)) true output) → first_fault_from 1 ends ≡ None
+    → (faults : List (Option ToolFault)) × StagesAnswered job.tools faults over.given (without_stop over.got) None
+well_stages left reader_failures held failures first source start done lanes job ends output over none =
+    let there = next_is_well lanes 1 job.tools ends over.links over.took over.gave over.stages none in
+    let took = took_all left reader_failures held failures first source start done lanes job ends true output over there in
+    let answered = all_answered lanes 1 job.tools ends over.links over.given over.gave (subst (λ (x : List Message). AreStages lanes job.tools ends over.links x over.gave) took.1 over.stages) took.0 none in
     let nothing = nothing_follows over.got over.rest over.ended (subst IsEnded over.came (inl answered.ends)) in
     let all = whole_list over.gave over.got over.rest over.came nothing in (
       answered.faults,
@@ -288,13 +289,13 @@ well_stages left reader_failures held failures first source start done lanes too
     )
 
 -- a tool is at fault
-refused_stages : {R W : Type 0} (left : R → Option (List ℕ)) (reader_failures : R → ℕ) (held : W → Option (List ℕ)) (failures : W → ℕ) (first source : Source R) (start done : W) (lanes : ℕ) (tools : List Tool) (ends : List StageEnd) (has_ended : Bool) (output : Result Summary SinkFault) (number : ℕ) (fault : ToolFault)
-    → (over : Over left reader_failures held failures first source start done lanes tools ends (Some (Ok tt)) has_ended output) → first_fault_from 1 ends ≡ Some (OfTool number fault)
-    → (faults : List (Option ToolFault)) × StagesAnswered tools faults over.given (without_stop over.got) (Some (number, fault))
-refused_stages left reader_failures held failures first source start done lanes tools ends has_ended output number fault over is =
-    let there = next_is_there lanes 1 number fault tools ends over.links over.took over.gave over.stages is in
-    let took = took_all left reader_failures held failures first source start done lanes tools ends has_ended output over there in
-    let answered = answered_until lanes 1 tools ends over.links over.given over.gave number fault over.lawful (given_sound left reader_failures first source over.given (Some (Ok tt)) over.asked).lawful (subst (λ (x : List Message). AreStages lanes tools ends over.links x over.gave) took.1 over.stages) took.0 is in
+refused_stages : {R W : Type 0} (left : R → Option (List ℕ)) (reader_failures : R → ℕ) (held : W → Option (List ℕ)) (failures : W → ℕ) (first source : Source R) (start done : W) (lanes : ℕ) (job : Job) (ends : List StageEnd) (has_ended : Bool) (output : Result Summary SinkFault) (number : ℕ) (fault : ToolFault)
+    → (over : Over left reader_failures held failures first source start done lanes job ends (Some (Ok tt)) has_ended output) → first_fault_from 1 ends ≡ Some (OfTool number fault)
+    → (faults : List (Option ToolFault)) × StagesAnswered job.tools faults over.given (without_stop over.got) (Some (number, fault))
+refused_stages left reader_failures held failures first source start done lanes job ends has_ended output number fault over is =
+    let there = next_is_there lanes 1 number fault job.tools ends over.links over.took over.gave over.stages is in
+    let took = took_all left reader_failures held failures first source start done lanes job ends has_ended output over there in
+    let answered = answered_until lanes 1 job.tools ends over.links over.given over.gave number fault over.lawful (given_sound left reader_failures first source over.given (Some (Ok tt)) over.asked).lawful (subst (λ (x : List Message). AreStages lanes job.tools ends over.links x over.gave) took.1 over.stages) took.0 is in
     (answered.faults, record { last = answered.last; answered = answered.answered; first = answered.first; all = λ none. absurd cc })
 
 -- what was taken has ended, or it is all
@@ -304,23 +305,23 @@ got_ended rest false got ended (inl is) = absurd cc
 got_ended rest false got ended (inr none) = inr none
 
 -- all that was sent was written, unless the writer failed
-all_sent : {R W : Type 0} (left : R → Option (List ℕ)) (reader_failures : R → ℕ) (held : W → Option (List ℕ)) (failures : W → ℕ) (first source : Source R) (start done : W) (lanes : ℕ) (tools : List Tool) (ends : List StageEnd) (has_ended : Bool) (output : Result Summary SinkFault) (answer : Result Summary RunFault)
-    → Over left reader_failures held failures first source start done lanes tools ends (Some (Ok tt)) has_ended output → FitEnds answer ends
-    → (text : List ℕ) → left (reader_of first) ≡ Some text → ¬ Failed (failures start) (failures done) → IsAllSent text lanes tools answer (held start) (held done)
-all_sent left reader_failures held failures first source start done lanes tools ends has_ended output answer over fit text is sound =
+all_sent : {R W : Type 0} (left : R → Option (List ℕ)) (reader_failures : R → ℕ) (held : W → Option (List ℕ)) (failures : W → ℕ) (first source : Source R) (start done : W) (lanes : ℕ) (job : Job) (ends : List StageEnd) (has_ended : Bool) (output : Result Summary SinkFault) (answer : Result Summary RunFault)
+    → Over left reader_failures held failures first source start done lanes job ends (Some (Ok tt)) has_ended output → FitEnds answer ends
+    → (text : List ℕ) → left (reader_of first) ≡ Some text → ¬ Failed (failures start) (failures done) → IsAllSent text lanes job answer (held start) (held done)
+all_sent left reader_failures held failures first source start done lanes job ends has_ended output answer over fit text is sound =
     let reader = change left reader_failures (reader_of first) (reader_of source) in
     let rest = rest_of reader.old reader.new over.asked.read text over.asked.consumed is in
     let said = over.asked.told rest.0 (rest_follows (Ok tt) reader rest.0 rest.1) in
     let text_is : said_of text ≡ over.given = ap said_of rest.2 ∙ said.0 in
     let whole = given_whole left reader_failures first source over.given over.asked in
     let fed : over.given ≡ over.took ++ over.untaken = sym (append-nil over.given) ∙ sym over.passed ∙ ap (λ (x : List Message). over.fed ++ x) (over.none_waits refl) ∙ append-nil over.fed ∙ over.received in
-    let ran = ran_over left reader_failures held failures first source start done lanes tools ends (Some (Ok tt)) has_ended output over in
+    let ran = ran_over left reader_failures held failures first source start done lanes job ends (Some (Ok tt)) has_ended output over in
     record {
       ends = ends;
       given = over.got;
       fit = fit;
-      ended = subst (λ (x : List Message). HaveEnded lanes tools ends x over.got) (sym text_is) (have_ended lanes tools ends over.links over.given over.took over.untaken over.gave over.got over.rest over.stages fed (inl (inl whole)) over.came (got_ended over.rest has_ended over.got over.ended over.all));
-      written = output_all held failures start done (without_stop over.got) over.sink over.sink.output ran.writable ran.taken (λ fault e. (over.broken fault e).1) over.kept sound;
+      ended = subst (λ (x : List Message). HaveEnded lanes job.tools ends x over.got) (sym text_is) (have_ended lanes job.tools ends over.links over.given over.took over.untaken over.gave over.got over.rest over.stages fed (inl (inl whole)) over.came (got_ended over.rest has_ended over.got over.ended over.all));
+      written = output_all held failures job.form start done (without_stop over.got) over.sink over.sink.output ran.writable ran.taken (λ fault e. (over.broken fault e).1) over.kept sound;
     }
 
 -- ---- the answer
@@ -349,63 +350,63 @@ of_stage from (Fault other ∷ ends) fault is = let same : OfTool from other ≡
 of_stage from (PeerGone ∷ ends) fault is = let same : Gone from ≡ fault = cc in subst IsOfStage same tt
 
 -- after a failed read anything may come
-front_whatever : {R W : Type 0} (left : R → Option (List ℕ)) (reader_failures : R → ℕ) (held : W → Option (List ℕ)) (failures : W → ℕ) (first source : Source R) (start done : W) (lanes : ℕ) (tools : List Tool) (ends : List StageEnd) (fault : InputFault) (has_ended : Bool) (output : Result Summary SinkFault)
-    → Over left reader_failures held failures first source start done lanes tools ends (Some (Err fault)) has_ended output → fault ≡ ReadFailed → IsFrontWhatever tools (change left reader_failures (reader_of first) (reader_of source)) (change held failures start done)
-front_whatever left reader_failures held failures first source start done lanes tools ends fault has_ended output over is =
-    let ran = ran_over left reader_failures held failures first source start done lanes tools ends (Some (Err fault)) has_ended output over in
+front_whatever : {R W : Type 0} (left : R → Option (List ℕ)) (reader_failures : R → ℕ) (held : W → Option (List ℕ)) (failures : W → ℕ) (first source : Source R) (start done : W) (lanes : ℕ) (job : Job) (ends : List StageEnd) (fault : InputFault) (has_ended : Bool) (output : Result Summary SinkFault)
+    → Over left reader_failures held failures first source start done lanes job ends (Some (Err fault)) has_ended output → fault ≡ ReadFailed → IsFrontWhatever job (change left reader_failures (reader_of first) (reader_of source)) (change held failures start done)
+front_whatever left reader_failures held failures first source start done lanes job ends fault has_ended output over is =
+    let ran = ran_over left reader_failures held failures first source start done lanes job ends (Some (Err fault)) has_ended output over in
     record {
       read = over.asked.read;
       consumed = over.asked.consumed;
       front = λ rest.
           let text = over.asked.read ++ rest in
-          run_front held failures start done tools over.given (without_stop over.got) over.sink text ran (said_front text over.given (Err fault) (over.asked.after_failed_read (ap Err is) rest)) over.kept;
+          run_front held failures start done job over.given (without_stop over.got) over.sink text ran (said_front text over.given (Err fault) (over.asked.after_failed_read (ap Err is) rest)) over.kept;
     }
 
-pub over_has_run : {R W : Type 0} (left : R → Option (List ℕ)) (reader_failures : R → ℕ) (held : W → Option (List ℕ)) (failures : W → ℕ) (first source : Source R) (start done : W) (lanes : ℕ) (tools : List Tool) (ends : List StageEnd) (input : Option (Result (Unit {0}) InputFault)) (found : Option RunFault) (has_ended : Bool) (output : Result Summary SinkFault)
-    → Over left reader_failures held failures first source start done lanes tools ends input has_ended output → length ends ≡ length tools → first_fault_from 1 ends ≡ found
-    → HasRunOverThreads lanes tools (answer_over input found has_ended (length ends + 1) output) (change left reader_failures (reader_of first) (reader_of source)) (change held failures start done)
-over_has_run left reader_failures held failures first source start done lanes tools ends None found has_ended output over many is =
-    gone_has_run left reader_failures held failures first source start done lanes tools ends None has_ended output 0 over (inl refl) (omega arith)
-over_has_run left reader_failures held failures first source start done lanes tools ends (Some (Err fault)) found has_ended output over many is =
-    let ended = ended_over left reader_failures held failures first source start done lanes tools ends (Err fault) has_ended output None [] over (λ well. absurd cc) in
+pub over_has_run : {R W : Type 0} (left : R → Option (List ℕ)) (reader_failures : R → ℕ) (held : W → Option (List ℕ)) (failures : W → ℕ) (first source : Source R) (start done : W) (lanes : ℕ) (job : Job) (ends : List StageEnd) (input : Option (Result (Unit {0}) InputFault)) (found : Option RunFault) (has_ended : Bool) (output : Result Summary SinkFault)
+    → Over left reader_failures held failures first source start done lanes job ends input has_ended output → length ends ≡ length job.tools → first_fault_from 1 ends ≡ found
+    → HasRunOverThreads lanes job (answer_over input found has_ended (length ends + 1) output) (change left reader_failures (reader_of first) (reader_of source)) (change held failures start done)
+over_has_run left reader_failures held failures first source start done lanes job ends None found has_ended output over many is =
+    gone_has_run left reader_failures held failures first source start done lanes job ends None has_ended output 0 over (inl refl) (omega arith)
+over_has_run left reader_failures held failures first source start done lanes job ends (Some (Err fault)) found has_ended output over many is =
+    let ended = ended_over left reader_failures held failures first source start done lanes job ends (Err fault) has_ended output None [] over (λ well. absurd cc) in
     record {
-      run = ended_has_run (change left reader_failures (reader_of first) (reader_of source)) held failures start done tools (Err fault) None output ⊥ ended;
+      run = ended_has_run (change left reader_failures (reader_of first) (reader_of source)) held failures start done job (Err fault) None output ⊥ ended;
       all_written = λ text has no sound. absurd no;
-      read_failed = λ is. (over.asked.read_failed (ap Err is), front_whatever left reader_failures held failures first source start done lanes tools ends fault has_ended output over is);
+      read_failed = λ is. (over.asked.read_failed (ap Err is), front_whatever left reader_failures held failures first source start done lanes job ends fault has_ended output over is);
       gone = tt;
     }
-over_has_run left reader_failures held failures first source start done lanes tools ends (Some (Ok tt)) (Some NoStart) has_ended output over many is = absurd (of_stage 1 ends NoStart is)
-over_has_run left reader_failures held failures first source start done lanes tools ends (Some (Ok tt)) (Some (Input fault)) has_ended output over many is = absurd (of_stage 1 ends (Input fault) is)
-over_has_run left reader_failures held failures first source start done lanes tools ends (Some (Ok tt)) (Some (Output fault)) has_ended output over many is = absurd (of_stage 1 ends (Output fault) is)
-over_has_run left reader_failures held failures first source start done lanes tools ends (Some (Ok tt)) (Some (OfTool number fault)) has_ended output over many is =
-    let stages = refused_stages left reader_failures held failures first source start done lanes tools ends has_ended output number fault over is in
-    let ended = ended_over left reader_failures held failures first source start done lanes tools ends (Ok tt) has_ended output (Some (number, fault)) stages.0 over (λ well. stages.1) in
+over_has_run left reader_failures held failures first source start done lanes job ends (Some (Ok tt)) (Some NoStart) has_ended output over many is = absurd (of_stage 1 ends NoStart is)
+over_has_run left reader_failures held failures first source start done lanes job ends (Some (Ok tt)) (Some (Input fault)) has_ended output over many is = absurd (of_stage 1 ends (Input fault) is)
+over_has_run left reader_failures held failures first source start done lanes job ends (Some (Ok tt)) (Some (Output fault)) has_ended output over many is = absurd (of_stage 1 ends (Output fault) is)
+over_has_run left reader_failures held failures first source start done lanes job ends (Some (Ok tt)) (Some (OfTool number fault)) has_ended output over many is =
+    let stages = refused_stages left reader_failures held failures first source start done lanes job ends has_ended output number fault over is in
+    let ended = ended_over left reader_failures held failures first source start done lanes job ends (Ok tt) has_ended output (Some (number, fault)) stages.0 over (λ well. stages.1) in
     record {
-      run = ended_has_run (change left reader_failures (reader_of first) (reader_of source)) held failures start done tools (Ok tt) (Some (number, fault)) output ⊥ ended;
+      run = ended_has_run (change left reader_failures (reader_of first) (reader_of source)) held failures start done job (Ok tt) (Some (number, fault)) output ⊥ ended;
       read_failed = tt;
-      all_written = λ text has tools_are sound. all_sent left reader_failures held failures first source start done lanes tools ends has_ended output (Err (OfTool number fault)) over is text has sound;
+      all_written = λ text has tools_are sound. all_sent left reader_failures held failures first source start done lanes job ends has_ended output (Err (OfTool number fault)) over is text has sound;
       gone = tt;
     }
-over_has_run left reader_failures held failures first source start done lanes tools ends (Some (Ok tt)) (Some (Gone number)) has_ended output over many is =
-    gone_has_run left reader_failures held failures first source start done lanes tools ends (Some (Ok tt)) has_ended output number over (inr refl) (let within = gone_within 1 number ends is in omega (arith, many))
-over_has_run left reader_failures held failures first source start done lanes tools ends (Some (Ok tt)) None false output over many is =
-    gone_has_run left reader_failures held failures first source start done lanes tools ends (Some (Ok tt)) false output (length ends + 1) over (inr refl) (omega (arith, many))
-over_has_run left reader_failures held failures first source start done lanes tools ends (Some (Ok tt)) None true (Err fault) over many is =
-    let stages = well_stages left reader_failures held failures first source start done lanes tools ends (Err fault) over is in
-    let ended = ended_over left reader_failures held failures first source start done lanes tools ends (Ok tt) true (Err fault) None stages.0 over (λ well. stages.1) in
+over_has_run left reader_failures held failures first source start done lanes job ends (Some (Ok tt)) (Some (Gone number)) has_ended output over many is =
+    gone_has_run left reader_failures held failures first source start done lanes job ends (Some (Ok tt)) has_ended output number over (inr refl) (let within = gone_within 1 number ends is in omega (arith, many))
+over_has_run left reader_failures held failures first source start done lanes job ends (Some (Ok tt)) None false output over many is =
+    gone_has_run left reader_failures held failures first source start done lanes job ends (Some (Ok tt)) false output (length ends + 1) over (inr refl) (omega (arith, many))
+over_has_run left reader_failures held failures first source start done lanes job ends (Some (Ok tt)) None true (Err fault) over many is =
+    let stages = well_stages left reader_failures held failures first source start done lanes job ends (Err fault) over is in
+    let ended = ended_over left reader_failures held failures first source start done lanes job ends (Ok tt) true (Err fault) None stages.0 over (λ well. stages.1) in
     record {
-      run = ended_has_run (change left reader_failures (reader_of first) (reader_of source)) held failures start done tools (Ok tt) None (Err fault) ⊥ ended;
+      run = ended_has_run (change left reader_failures (reader_of first) (reader_of source)) held failures start done job (Ok tt) None (Err fault) ⊥ ended;
       read_failed = tt;
-      all_written = λ text has tools_are sound. all_sent left reader_failures held failures first source start done lanes tools ends true (Err fault) (Err (Output fault)) over is text has sound;
+      all_written = λ text has tools_are sound. all_sent left reader_failures held failures first source start done lanes job ends true (Err fault) (Err (Output fault)) over is text has sound;
       gone = tt;
     }
-over_has_run left reader_failures held failures first source start done lanes tools ends (Some (Ok tt)) None true (Ok summary) over many is =
-    let stages = well_stages left reader_failures held failures first source start done lanes tools ends (Ok summary) over is in
-    let ended = ended_over left reader_failures held failures first source start done lanes tools ends (Ok tt) true (Ok summary) None stages.0 over (λ well. stages.1) in
+over_has_run left reader_failures held failures first source start done lanes job ends (Some (Ok tt)) None true (Ok summary) over many is =
+    let stages = well_stages left reader_failures held failures first source start done lanes job ends (Ok summary) over is in
+    let ended = ended_over left reader_failures held failures first source start done lanes job ends (Ok tt) true (Ok summary) None stages.0 over (λ well. stages.1) in
     record {
-      run = ended_has_run (change left reader_failures (reader_of first) (reader_of source)) held failures start done tools (Ok tt) None (Ok summary) ⊥ ended;
+      run = ended_has_run (change left reader_failures (reader_of first) (reader_of source)) held failures start done job (Ok tt) None (Ok summary) ⊥ ended;
       read_failed = tt;
-      all_written = λ text has tools_are sound. all_sent left reader_failures held failures first source start done lanes tools ends true (Ok summary) (Ok summary) over is text has sound;
+      all_written = λ text has tools_are sound. all_sent left reader_failures held failures first source start done lanes job ends true (Ok summary) (Ok summary) over is text has sound;
       gone = tt;
     }
 
@@ -443,5 +444,5 @@ was_started input ends has_ended behind output = started_by input (first_fault_f
 -- ---- before the first message
 
 -- there is no memory to read
-pub unread_has_run : (lanes : ℕ) (tools : List Tool) (reader writer : Change) → reader.new ≡ reader.old → reader.failures_new ≡ reader.failures_old → writer.new ≡ writer.old → HasRunOverThreads lanes tools (Err (Input NoMemoryToRead)) reader writer
-unread_has_run lanes tools reader writer read same_count written = record { run = (ended_without_reading tools ⊥ reader writer read same_count written).run; all_written = λ text is has sound. absurd has; read_failed = λ is. absurd cc; gone = tt }
+pub unread_has_run : (lanes : ℕ) (job : Job) (reader writer : Change) → reader.new ≡ reader.old → reader.failures_new ≡ reader.failures_old → writer.new ≡ writer.old → HasRunOverThreads lanes job (Err (Input NoMemoryToRead)) reader writer
+unread_has_run lanes job reader writer read same_count written = record { run = (ended_without_reading job ⊥ reader writer read same_count written).run; all_written = λ text is has sound. absurd has; read_failed = λ is. absurd cc; gone = tt }

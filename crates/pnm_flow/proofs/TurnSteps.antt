@@ -14,7 +14,7 @@ pub turned_more : {R W : Type 0} (left : R → Option (List ℕ)) (reader_failur
     → HaveTurned left reader_failures same_reader held writer_failures same_writer f c f2 c2
 turned_more left reader_failures same_reader held writer_failures same_writer f f1 f2 c c1 c2 before turned reader writer = record {
   feeding = λ first sent is. turned.feeding first sent (before.feeding first sent is);
-  collecting = λ start taken is. turned.collecting start taken (before.collecting start taken is);
+  collecting = λ form start taken is. turned.collecting form start taken (before.collecting form start taken is);
   sends = same_output f.output f1.output f2.output before.sends turned.sends;
   takes = same_input c.input c1.input c2.input before.takes turned.takes;
   reader = reader;

@@ -21,7 +21,9 @@ use Rattle.pnm_tools.proofs.ResultLaws.{result_is_image, result_has_rows}
 use Rattle.pnm_lanes.proofs.DealtParts.{all_of_rest}
 use Rattle.pnm_flow.specs.declared.fault.RunFault.TheVariants.{NoStart, Input, Tool as OfTool, Output, PeerGone}
 use Rattle.pnm_flow.specs.Verdicts.{IsRefusedBy, VerdictsAreOfTexts}
+use Rattle.pnm_write.specs.Forms.{IsOfForm}
 use Rattle.pnm_flow.proofs.FeedingSteps.{said_are_sound}
+use Rattle.pnm_flow.proofs.ResultSteps.{reason_is_of_form}
 
 -- ---- one tool
 
@@ -99,10 +101,12 @@ text_refusal text tools number fault lawful is =
     chain_refusal 1 tools is.0 (record { number = number; fault = fault }) lawful (spelled_are_images text is.0 is.1) (rows_of_stream is.0 sound.sound) is.2
 
 pub verdict_is_of_text : VerdictsAreOfTexts
-verdict_is_of_text text tools NoStart lawful is = absurd is
-verdict_is_of_text text tools (Input fault) lawful is = (no_text_fault text fault is, λ number e. absurd cc)
-verdict_is_of_text text tools (OfTool number fault) lawful is =
-    let is_named = text_refusal text tools number fault lawful is in
-    (is_named.0, λ other e. let same : fault ≡ OutOfOrder = cc in is_named.1 same)
-verdict_is_of_text text tools (Output fault) lawful is = absurd is
-verdict_is_of_text text tools (PeerGone number) lawful is = absurd is
+verdict_is_of_text text job NoStart lawful is = absurd is
+verdict_is_of_text text job (Input fault) lawful is = (no_text_fault text fault is, λ number e. absurd cc, λ out e. absurd cc)
+verdict_is_of_text text job (OfTool number fault) lawful is =
+    let is_named = text_refusal text job.tools number fault lawful is in
+    (is_named.0, λ other e. let same : fault ≡ OutOfOrder = cc in is_named.1 same, λ out e. absurd cc)
+verdict_is_of_text text job (Output fault) lawful is =
+    let of_form = reason_is_of_form job.form is.results fault is.fit in
+    (λ failed. subst IsOfForm failed of_form, λ number e. absurd cc, λ out e. let same : fault ≡ out = cc in subst IsOfForm same of_form)
+verdict_is_of_text text job (PeerGone number) lawful is = absurd is

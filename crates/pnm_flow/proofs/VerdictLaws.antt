@@ -16,13 +16,17 @@ use Rattle.pnm_tools.specs.Tools.{applied}
 use Rattle.pnm_tools.specs.Chains.{AreResultsInTurn, applied_in_turn, Refusal, refusal_from, refusal_of}
 use Rattle.pnm_tools.proofs.FrontLaws.{rest_in_turn}
 use Rattle.pnm_tools.proofs.RefusalLaws.{refusal_by, results_are}
+use Rattle.pnm_write.specs.declared.fault.SinkFault.{SinkFault}
 use Rattle.pnm_write.specs.declared.fault.SinkFault.TheVariants.{WriteFailed}
+use Rattle.pnm_write.specs.Forms.{images_fault, IsOfForm}
 use Rattle.pnm_flow.specs.declared.fault.RunFault.{RunFault}
 use Rattle.pnm_flow.specs.declared.fault.RunFault.TheVariants.{NoStart, Input, Tool as OfTool, Output, PeerGone}
 use Rattle.pnm_flow.specs.declared.summary.Summary.{Summary}
+use Rattle.pnm_flow.specs.Jobs.{Job}
 use Rattle.pnm_flow.specs.Runs.{Change, EndedWell, IfInput, IfTool, IfOutput, IsStoppedBy, summary_of}
 use Rattle.pnm_flow.specs.RunLaws.{OneAnswerForEachText}
-use Rattle.pnm_flow.specs.Verdicts.{IsVerdict, HasOneVerdict, OneVerdictForEachText, IsFromOutside, AnswersVerdict}
+use Rattle.pnm_flow.specs.Verdicts.{IsRefusedBy, HasResults, IsVerdict, HasOneVerdict, OneVerdictForEachText, IsFromOutside, AnswersVerdict}
+use Rattle.pnm_flow.proofs.ResultSteps.{chain_results}
 
 -- ---- the results of a chain
 
@@ -80,83 +84,123 @@ fault_of_refusal (Some refusal) = Some (OfTool refusal.number refusal.fault)
 never_at_fault : (text : List ℕ) (images : List Image) (fault : InputFault) → Spells text images → fault_of text ≡ Some fault → ⊥
 never_at_fault text images fault spelled is = let none = (spelled_text_is_said text images spelled).1 in cc (is, none)
 
-verdicts_are_one : (text : List ℕ) (tools : List Tool) (one other : Option RunFault) → IsVerdict text tools one → IsVerdict text tools other → one ≡ other
-verdicts_are_one text tools None None is is_too = refl
-verdicts_are_one text tools None (Some (Input fault)) is is_too = absurd (never_at_fault text is.0 fault is.1 is_too)
-verdicts_are_one text tools None (Some (OfTool number fault)) is is_too = let same = refusals_are_one text tools is.0 is_too.0 None _ is.1 is_too.1 is.2 is_too.2 in absurd cc
-verdicts_are_one text tools None (Some NoStart) is is_too = absurd is_too
-verdicts_are_one text tools None (Some (Output fault)) is is_too = absurd is_too
-verdicts_are_one text tools None (Some (PeerGone number)) is is_too = absurd is_too
-verdicts_are_one text tools (Some (Input fault)) None is is_too = absurd (never_at_fault text is_too.0 fault is_too.1 is)
-verdicts_are_one text tools (Some (Input fault)) (Some (Input fault_too)) is is_too = let same : fault ≡ fault_too = cc in ap (λ (f : InputFault). Some (Input f)) same
-verdicts_are_one text tools (Some (Input fault)) (Some (OfTool number fault_too)) is is_too = absurd (never_at_fault text is_too.0 fault is_too.1 is)
-verdicts_are_one text tools (Some (Input fault)) (Some NoStart) is is_too = absurd is_too
-verdicts_are_one text tools (Some (Input fault)) (Some (Output fault_too)) is is_too = absurd is_too
-verdicts_are_one text tools (Some (Input fault)) (Some (PeerGone number)) is is_too = absurd is_too
-verdicts_are_one text tools (Some (OfTool number fault)) None is is_too = let same = refusals_are_one text tools is.0 is_too.0 _ None is.1 is_too.1 is.2 is_too.2 in absurd cc
-verdicts_are_one text tools (Some (OfTool number fault)) (Some (Input fault_too)) is is_too = absurd (never_at_fault text is.0 fault_too is.1 is_too)
-verdicts_are_one text tools (Some (OfTool number fault)) (Some (OfTool number_too fault_too)) is is_too =
-    ap fault_of_refusal (refusals_are_one text tools is.0 is_too.0 _ _ is.1 is_too.1 is.2 is_too.2)
-verdicts_are_one text tools (Some (OfTool number fault)) (Some NoStart) is is_too = absurd is_too
-verdicts_are_one text tools (Some (OfTool number fault)) (Some (Output fault_too)) is is_too = absurd is_too
-verdicts_are_one text tools (Some (OfTool number fault)) (Some (PeerGone number_too)) is is_too = absurd is_too
-verdicts_are_one text tools (Some NoStart) other is is_too = absurd is
-verdicts_are_one text tools (Some (Output fault)) other is is_too = absurd is
-verdicts_are_one text tools (Some (PeerGone number)) other is is_too = absurd is
+-- and no two reasons for which the form can't hold its results
+reasons_are_one : (text : List ℕ) (job : Job) (one other : Option SinkFault) → HasResults text job one → HasResults text job other → one ≡ other
+reasons_are_one text job one other is is_too =
+    let images = images_are_one text is.images is_too.images is.spelled is_too.spelled in
+    let made = subst (λ (l : List Image). AreResultsInTurn job.tools l is.results) images is.made in
+    sym is.fit ∙ ap (images_fault job.form) (results_are_one job.tools is_too.images is.results is_too.results made is_too.made) ∙ is_too.fit
 
-has_one : (text : List ℕ) (tools : List Tool) (verdict : Option RunFault) → IsVerdict text tools verdict → HasOneVerdict text tools
-has_one text tools verdict holds = record { verdict = verdict; holds = holds; only = λ other is. verdicts_are_one text tools other verdict is holds }
+-- a text whose images no tool refuses isn't one of which a tool refuses an image
+never_refused : (text : List ℕ) (job : Job) (found : Option SinkFault) (number : ℕ) (fault : ToolFault) → HasResults text job found → IsRefusedBy text job.tools number fault → ⊥
+never_refused text job found number fault is refused =
+    let same = refusals_are_one text job.tools is.images refused.0 None _ is.spelled refused.1 is.taken refused.2 in absurd cc
 
-by_refusal : (text : List ℕ) (tools : List Tool) (images : List Image) (found : Option Refusal) → Spells text images → refusal_of tools images ≡ found → HasOneVerdict text tools
-by_refusal text tools images None spelled is = has_one text tools None (images, spelled, is)
-by_refusal text tools images (Some refusal) spelled is = has_one text tools (Some (OfTool refusal.number refusal.fault)) (images, spelled, is)
+-- the verdict of a form's reason
+abbrev verdict_of_form : Option SinkFault → Option RunFault
+verdict_of_form None = None
+verdict_of_form (Some fault) = Some (Output fault)
+
+verdicts_are_one : (text : List ℕ) (job : Job) (one other : Option RunFault) → IsVerdict text job one → IsVerdict text job other → one ≡ other
+verdicts_are_one text job None None is is_too = refl
+verdicts_are_one text job None (Some (Input fault)) is is_too = absurd (never_at_fault text is.images fault is.spelled is_too)
+verdicts_are_one text job None (Some (OfTool number fault)) is is_too = absurd (never_refused text job None number fault is is_too)
+verdicts_are_one text job None (Some NoStart) is is_too = absurd is_too
+verdicts_are_one text job None (Some (Output fault)) is is_too = ap verdict_of_form (reasons_are_one text job None (Some fault) is is_too)
+verdicts_are_one text job None (Some (PeerGone number)) is is_too = absurd is_too
+verdicts_are_one text job (Some (Input fault)) None is is_too = absurd (never_at_fault text is_too.images fault is_too.spelled is)
+verdicts_are_one text job (Some (Input fault)) (Some (Input fault_too)) is is_too = let same : fault ≡ fault_too = cc in ap (λ (f : InputFault). Some (Input f)) same
+verdicts_are_one text job (Some (Input fault)) (Some (OfTool number fault_too)) is is_too = absurd (never_at_fault text is_too.0 fault is_too.1 is)
+verdicts_are_one text job (Some (Input fault)) (Some NoStart) is is_too = absurd is_too
+verdicts_are_one text job (Some (Input fault)) (Some (Output fault_too)) is is_too = absurd (never_at_fault text is_too.images fault is_too.spelled is)
+verdicts_are_one text job (Some (Input fault)) (Some (PeerGone number)) is is_too = absurd is_too
+verdicts_are_one text job (Some (OfTool number fault)) None is is_too = absurd (never_refused text job None number fault is_too is)
+verdicts_are_one text job (Some (OfTool number fault)) (Some (Input fault_too)) is is_too = absurd (never_at_fault text is.0 fault_too is.1 is_too)
+verdicts_are_one text job (Some (OfTool number fault)) (Some (OfTool number_too fault_too)) is is_too =
+    ap fault_of_refusal (refusals_are_one text job.tools is.0 is_too.0 _ _ is.1 is_too.1 is.2 is_too.2)
+verdicts_are_one text job (Some (OfTool number fault)) (Some NoStart) is is_too = absurd is_too
+verdicts_are_one text job (Some (OfTool number fault)) (Some (Output fault_too)) is is_too = absurd (never_refused text job (Some fault_too) number fault is_too is)
+verdicts_are_one text job (Some (OfTool number fault)) (Some (PeerGone number_too)) is is_too = absurd is_too
+verdicts_are_one text job (Some NoStart) other is is_too = absurd is
+verdicts_are_one text job (Some (Output fault)) None is is_too = ap verdict_of_form (reasons_are_one text job (Some fault) None is is_too)
+verdicts_are_one text job (Some (Output fault)) (Some (Input fault_too)) is is_too = absurd (never_at_fault text is.images fault_too is.spelled is_too)
+verdicts_are_one text job (Some (Output fault)) (Some (OfTool number fault_too)) is is_too = absurd (never_refused text job (Some fault) number fault_too is is_too)
+verdicts_are_one text job (Some (Output fault)) (Some NoStart) is is_too = absurd is_too
+verdicts_are_one text job (Some (Output fault)) (Some (Output fault_too)) is is_too = ap verdict_of_form (reasons_are_one text job (Some fault) (Some fault_too) is is_too)
+verdicts_are_one text job (Some (Output fault)) (Some (PeerGone number)) is is_too = absurd is_too
+verdicts_are_one text job (Some (PeerGone number)) other is is_too = absurd is
+
+has_one : (text : List ℕ) (job : Job) (verdict : Option RunFault) → IsVerdict text job verdict → HasOneVerdict text job
+has_one text job verdict holds = record { verdict = verdict; holds = holds; only = λ other is. verdicts_are_one text job other verdict is holds }
+
+by_form : (text : List ℕ) (job : Job) (found : Option SinkFault) → HasResults text job found → HasOneVerdict text job
+by_form text job None is = has_one text job None is
+by_form text job (Some fault) is = has_one text job (Some (Output fault)) is
+
+by_refusal : (text : List ℕ) (job : Job) (images : List Image) (found : Option Refusal) → Spells text images → refusal_of job.tools images ≡ found → HasOneVerdict text job
+by_refusal text job images None spelled is =
+    let found = chain_results 1 job.tools images is in
+    by_form text job (images_fault job.form found.0) (record { images = images; results = found.0; spelled = spelled; taken = is; made = found.1; fit = refl })
+by_refusal text job images (Some refusal) spelled is = has_one text job (Some (OfTool refusal.number refusal.fault)) (images, spelled, is)
 
 pub one_verdict : OneVerdictForEachText
-one_verdict text tools =
+one_verdict text job =
     elim (one_list_or_one_fault text) [
-      | inl found ↦ by_refusal text tools found.0 (refusal_of tools found.0) found.1.spelled refl
-      | inr found ↦ has_one text tools (Some (Input found.0)) found.1.first
+      | inl found ↦ by_refusal text job found.0 (refusal_of job.tools found.0) found.1.spelled refl
+      | inr found ↦ has_one text job (Some (Input found.0)) found.1.first
     ]
 
 -- ---- the answer of a run
 
 -- The answer is from outside or the verdict, by what it tells at its end, of the input, of a tool and of the output.
-pub verdict_follows : (text : List ℕ) (tools : List Tool) (answer : Result Summary RunFault) (unread : Type 0) (reader writer : Change)
-    → IfOk answer (EndedWell text tools writer.old writer.new)
+pub verdict_follows : (text : List ℕ) (job : Job) (answer : Result Summary RunFault) (unread : Type 0) (reader writer : Change)
+    → IfOk answer (EndedWell text job writer.old writer.new)
     → IfInput answer (λ fault. IsOutsideFault fault ⊎ IsAtFault text fault)
-    → IfTool answer (λ number fault. ((fault ≡ Memory) × (number ≡ 1) × unread) ⊎ IsStoppedBy text tools number fault)
-    → IfOutput answer (λ fault. (fault ≡ WriteFailed) × Failed writer.failures_old writer.failures_new × (reader.failures_new ≡ reader.failures_old))
-    → AnswersVerdict text tools answer
-verdict_follows text tools (Ok summary) unread reader writer well input refusal output = (well.images, well.spelled, none_refused 1 tools well.images well.results well.made)
-verdict_follows text tools (Err NoStart) unread reader writer well input refusal output = inl tt
-verdict_follows text tools (Err (Input fault)) unread reader writer well input refusal output =
+    → IfTool answer (λ number fault. ((fault ≡ Memory) × (number ≡ 1) × unread) ⊎ IsStoppedBy text job.tools number fault)
+    → IfOutput answer (λ fault. (((fault ≡ WriteFailed) × Failed writer.failures_old writer.failures_new) ⊎ IsOfForm fault) × (reader.failures_new ≡ reader.failures_old))
+    → IfOutput answer (λ fault. IsOfForm fault → HasResults text job (Some fault))
+    → AnswersVerdict text job answer
+verdict_follows text job (Ok summary) unread reader writer well input refusal output form = record {
+  images = well.images;
+  results = well.results;
+  spelled = well.spelled;
+  taken = none_refused 1 job.tools well.images well.results well.output.made;
+  made = well.output.made;
+  fit = well.output.fit;
+}
+verdict_follows text job (Err NoStart) unread reader writer well input refusal output form = inl tt
+verdict_follows text job (Err (Input fault)) unread reader writer well input refusal output form =
     elim input [
       | inl outside ↦ inl outside
       | inr own ↦ inr own.first
     ]
-verdict_follows text tools (Err (OfTool number fault)) unread reader writer well input (inl no_list) output = inl no_list.0
-verdict_follows text tools (Err (OfTool number fault)) unread reader writer well input (inr (inl memory)) output = inl memory.0
-verdict_follows text tools (Err (OfTool number fault)) unread reader writer well input (inr (inr refused)) output = inr refused
-verdict_follows text tools (Err (Output fault)) unread reader writer well input refusal output = inl output.0
-verdict_follows text tools (Err (PeerGone number)) unread reader writer well input refusal output = inl tt
+verdict_follows text job (Err (OfTool number fault)) unread reader writer well input (inl no_list) output form = inl no_list.0
+verdict_follows text job (Err (OfTool number fault)) unread reader writer well input (inr (inl memory)) output form = inl memory.0
+verdict_follows text job (Err (OfTool number fault)) unread reader writer well input (inr (inr refused)) output form = inr refused
+verdict_follows text job (Err (Output fault)) unread reader writer well input refusal output form =
+    elim output.0 [
+      | inl failed ↦ inl failed.0
+      | inr of_form ↦ inr (form of_form)
+    ]
+verdict_follows text job (Err (PeerGone number)) unread reader writer well input refusal output form = inl tt
 
 -- two runs that ended well have the same summary
-summaries_are_one : (text : List ℕ) (tools : List Tool) (old new old_too new_too : Option (List ℕ)) (one other : Summary) → EndedWell text tools old new one → EndedWell text tools old_too new_too other → one ≡ other
-summaries_are_one text tools old new old_too new_too one other well well_too =
+summaries_are_one : (text : List ℕ) (job : Job) (old new old_too new_too : Option (List ℕ)) (one other : Summary) → EndedWell text job old new one → EndedWell text job old_too new_too other → one ≡ other
+summaries_are_one text job old new old_too new_too one other well well_too =
     let images = images_are_one text well.images well_too.images well.spelled well_too.spelled in
-    let made = subst (λ (is : List Image). AreResultsInTurn tools is well.results) images well.made in
-    well.counts ∙ ap summary_of (results_are_one tools well_too.images well.results well_too.results made well_too.made) ∙ sym well_too.counts
+    let made = subst (λ (is : List Image). AreResultsInTurn job.tools is well.results) images well.output.made in
+    well.counts ∙ ap summary_of (results_are_one job.tools well_too.images well.results well_too.results made well_too.output.made) ∙ sym well_too.counts
 
 -- a fault that isn't from outside is the verdict
-fault_inside : (text : List ℕ) (tools : List Tool) (fault : RunFault) → IsFromOutside fault ⊎ IsVerdict text tools (Some fault) → ¬ IsFromOutside fault → IsVerdict text tools (Some fault)
-fault_inside text tools fault (inl outside) inside = absurd (inside outside)
-fault_inside text tools fault (inr verdict) inside = verdict
+fault_inside : (text : List ℕ) (job : Job) (fault : RunFault) → IsFromOutside fault ⊎ IsVerdict text job (Some fault) → ¬ IsFromOutside fault → IsVerdict text job (Some fault)
+fault_inside text job fault (inl outside) inside = absurd (inside outside)
+fault_inside text job fault (inr verdict) inside = verdict
 
 pub one_answer : OneAnswerForEachText
-one_answer text tools (Ok summary) (Ok summary_too) writer writer_too is is_too = ap Ok (summaries_are_one text tools writer.old writer.new writer_too.old writer_too.new summary summary_too is.well is_too.well)
-one_answer text tools (Ok summary) (Err fault) writer writer_too is is_too = let same = verdicts_are_one text tools None (Some fault) is.verdict (fault_inside text tools fault is_too.verdict is_too.inside) in absurd cc
-one_answer text tools (Err fault) (Ok summary) writer writer_too is is_too = let same = verdicts_are_one text tools None (Some fault) is_too.verdict (fault_inside text tools fault is.verdict is.inside) in absurd cc
-one_answer text tools (Err fault) (Err fault_too) writer writer_too is is_too =
-    let same = verdicts_are_one text tools (Some fault) (Some fault_too) (fault_inside text tools fault is.verdict is.inside) (fault_inside text tools fault_too is_too.verdict is_too.inside) in
+one_answer text job (Ok summary) (Ok summary_too) writer writer_too is is_too = ap Ok (summaries_are_one text job writer.old writer.new writer_too.old writer_too.new summary summary_too is.well is_too.well)
+one_answer text job (Ok summary) (Err fault) writer writer_too is is_too = let same = verdicts_are_one text job None (Some fault) is.verdict (fault_inside text job fault is_too.verdict is_too.inside) in absurd cc
+one_answer text job (Err fault) (Ok summary) writer writer_too is is_too = let same = verdicts_are_one text job None (Some fault) is_too.verdict (fault_inside text job fault is.verdict is.inside) in absurd cc
+one_answer text job (Err fault) (Err fault_too) writer writer_too is is_too =
+    let same = verdicts_are_one text job (Some fault) (Some fault_too) (fault_inside text job fault is.verdict is.inside) (fault_inside text job fault_too is_too.verdict is_too.inside) in
     let fault_is : fault ≡ fault_too = cc in
     ap Err fault_is

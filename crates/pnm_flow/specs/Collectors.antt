@@ -1,6 +1,7 @@
 -- What was taken from the ring behind the last tool of a run, and what was written of it.
 use Rattle.std.specs.Prelude.{◌≡◌, ℕ, Bool, true, false, List, ◌++◌, Option}
 use Rattle.rtrb.specs.Ring.{received}
+use Rattle.pnm_image.specs.declared.format.Form.{Form}
 use Rattle.pnm_image.specs.declared.message.Message.{Message}
 use Rattle.pnm_image.specs.Messages.{without_stop}
 use Rattle.pnm_tools.specs.Answers.{More, EndsBy}
@@ -14,15 +15,15 @@ EndedBy true l = IsEnded l
 EndedBy false l = EndsBy More l
 
 -- these messages were taken, and written but for Stop
-pub record HasPut {W : Type 0} (held : W → Option (List ℕ)) (failures : W → ℕ) (start : W) (l : List Message) (c : Collector W) : Type 0 where
+pub record HasPut {W : Type 0} (held : W → Option (List ℕ)) (failures : W → ℕ) (form : Form) (start : W) (l : List Message) (c : Collector W) : Type 0 where
   pub ended : EndedBy c.has_ended l
-  pub taken : HasTaken held failures start (without_stop l) c.downstream
+  pub taken : HasTaken held failures form start (without_stop l) c.downstream
 
 -- so were those that came after the ones which had been received before
-pub record IsCollecting {W : Type 0} (held : W → Option (List ℕ)) (failures : W → ℕ) (start : W) (before : List Message) (c : Collector W) : Type 0 where
+pub record IsCollecting {W : Type 0} (held : W → Option (List ℕ)) (failures : W → ℕ) (form : Form) (start : W) (before : List Message) (c : Collector W) : Type 0 where
   pub took : List Message
   pub came : received c.input ≡ before ++ took
-  pub put : HasPut held failures start took c
+  pub put : HasPut held failures form start took c
 
 -- no more is to be taken, or can be
 abbrev pub is_over_of : Bool → Bool → Bool

@@ -2,6 +2,7 @@
 use Rattle.std.specs.Prelude.{◌≡◌, ◌⊎◌, ℕ, Bool, List, [], ◌++◌, Option, Some, None, Result, Ok, Err}
 use Rattle.std.specs.Io.KnownBytes.{Consumes}
 use Rattle.pnm_image.specs.Devices.{Failed}
+use Rattle.pnm_image.specs.declared.format.Form.{Form}
 use Rattle.pnm_image.specs.declared.message.Message.{Message}
 use Rattle.pnm_image.specs.Completion.{IsFrontOf}
 use Rattle.pnm_read.specs.declared.fault.InputFault.{InputFault}
@@ -30,7 +31,7 @@ pub record HaveTaken {F W : Type 0} (at : F → Tool → List Message → List M
     (given : List Message) (old new : List (SerialStage F)) (before after : Downstream W) : Type 0 where
   pub out : List Message
   pub stages : (tools : List Tool) → StagesAt at all_given stopped old tools [] [] → StagesAt at all_given stopped new tools given out
-  pub taken : (start : W) → HasTaken held failures start [] before → HasTaken held failures start out after
+  pub taken : (form : Form) (start : W) → HasTaken held failures form start [] before → HasTaken held failures form start out after
 
 -- the source has read these bytes and given these messages, which are told of each text that may go on after them
 pub record HasFed {R F W : Type 0} (left : R → Option (List ℕ)) (reader_failures : R → ℕ) (at : F → Tool → List Message → List Message → Type 0) (all_given : F → Bool) (stopped : F → Option ToolFault) (held : W → Option (List ℕ)) (writer_failures : W → ℕ)

@@ -1,6 +1,7 @@
 pub mod Counts
 pub mod Downstreams
 pub mod SerialChains
+pub mod Jobs
 pub mod Verdicts
 pub mod Runs
 pub mod RunLaws

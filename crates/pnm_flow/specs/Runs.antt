@@ -13,16 +13,17 @@ use Rattle.pnm_read.specs.TextLaws.{IsAtFault}
 use Rattle.pnm_tools.specs.declared.fault.ToolFault.{ToolFault}
 use Rattle.pnm_tools.specs.declared.fault.ToolFault.TheVariants.{OutOfOrder, Memory}
 use Rattle.pnm_tools.specs.declared.tool.Tool.{Tool}
-use Rattle.pnm_tools.specs.Chains.{AreResultsInTurn, due_in_turn}
 use Rattle.pnm_tools.specs.ChainAnswers.{HaveAnswered, AreWell, IsFirstFault}
 use Rattle.pnm_write.specs.declared.fault.SinkFault.{SinkFault}
 use Rattle.pnm_write.specs.declared.fault.SinkFault.TheVariants.{WriteFailed}
-use Rattle.pnm_write.specs.Encoding.{bytes_of, encoding_of}
+use Rattle.pnm_write.specs.Encoding.{written_of}
+use Rattle.pnm_write.specs.Forms.{IsOfForm}
 use Rattle.pnm_image.specs.Devices.{AppendsFront, Failed}
 use Rattle.pnm_flow.specs.declared.fault.RunFault.{RunFault}
 use Rattle.pnm_flow.specs.declared.fault.RunFault.TheVariants.{NoStart, Input, Tool as OfTool, Output, PeerGone}
 use Rattle.pnm_flow.specs.declared.summary.Summary.{Summary}
 use Rattle.pnm_flow.specs.Counts.{counted}
+use Rattle.pnm_flow.specs.Jobs.{Job, bytes_due, IsOutputOf}
 use Rattle.pnm_flow.specs.Verdicts.{IsRefusedBy, IsTaken, AnswersVerdict}
 
 -- what a reader has left or a writer holds, where that is known, and its failures, before and after a call
@@ -98,14 +99,13 @@ IfOutput (Err (PeerGone number)) P = Unit {0}
 abbrev pub summary_of : List Image → Summary
 summary_of images = record { images = counted (length images); rows = counted (sum_by (λ i. i.head.shape.height) images) }
 
--- a run that ended well: the text spells images, none of which is refused, their results were written, and the summary
--- counts these
-pub record EndedWell (text : List ℕ) (tools : List Tool) (old new : Option (List ℕ)) (summary : Summary) : Type 0 where
+-- a run that ended well: the text spells images, none of which is refused, the form can hold their results, these were
+-- written in it, and the summary counts them
+pub record EndedWell (text : List ℕ) (job : Job) (old new : Option (List ℕ)) (summary : Summary) : Type 0 where
   pub images : List Image
   pub results : List Image
   pub spelled : Spells text images
-  pub made : AreResultsInTurn tools images results
-  pub written : Appends old new (encoding_of results)
+  pub output : IsOutputOf job images results old new
   pub counts : summary ≡ summary_of results
 
 -- ---- refusals, and want of memory
@@ -151,14 +151,14 @@ AnswersText text (Err (PeerGone number)) = ⊥
 -- ---- what was written
 
 -- what was written is a front of what is due, whatever images complete what is said of the text
-abbrev pub IsFrontOfDue : List ℕ → List Tool → Option (List ℕ) → Option (List ℕ) → Type 0
-IsFrontOfDue text tools old new = (images : List Image) → Completes images (said_of text) → AppendsFront old new (bytes_of (due_in_turn tools images))
+abbrev pub IsFrontOfDue : List ℕ → Job → Option (List ℕ) → Option (List ℕ) → Type 0
+IsFrontOfDue text job old new = (images : List Image) → Completes images (said_of text) → AppendsFront old new (bytes_due job images)
 
 -- these bytes were read; and whatever may come after them, what was written is a front of what is due for that text
-pub record IsFrontForEach (tools : List Tool) (input : Result (Unit {0}) InputFault) (reader writer : Change) : Type 0 where
+pub record IsFrontForEach (job : Job) (input : Result (Unit {0}) InputFault) (reader writer : Change) : Type 0 where
   pub read : List ℕ
   pub consumed : Consumes reader.old reader.new read
-  pub front : (rest : List ℕ) → MayFollow input reader rest → IsFrontOfDue (read ++ rest) tools writer.old writer.new
+  pub front : (rest : List ℕ) → MayFollow input reader rest → IsFrontOfDue (read ++ rest) job writer.old writer.new
 
 -- the refusals of the tools, as far as the answer tells them: none where no tool's fault is answered, and else which is the
 -- first. At the input's fault any tool, and at a tool's fault any tool behind it, may also have run out of memory, of which
@@ -172,28 +172,28 @@ FitAnswer (Err (Output fault)) faults = AreWell faults
 FitAnswer (Err (PeerGone number)) faults = Unit {0}
 
 -- each tool has answered what the one before it gave for all that is said of the text, in full or until its refusal, and
--- the answers of the last were written
-pub record IsAllWritten {A : Type 0} (text : List ℕ) (tools : List Tool) (answer : Result A RunFault) (old new : Option (List ℕ)) : Type 0 where
+-- the answers of the last were written, as far as the form takes them
+pub record IsAllWritten {A : Type 0} (text : List ℕ) (job : Job) (answer : Result A RunFault) (old new : Option (List ℕ)) : Type 0 where
   pub faults : List (Option ToolFault)
   pub given : List Message
   pub fit : FitAnswer answer faults
-  pub answered : HaveAnswered tools faults (said_of text) given
-  pub written : Appends old new (bytes_of given)
+  pub answered : HaveAnswered job.tools faults (said_of text) given
+  pub written : Appends old new (written_of job.form given)
 
 -- where the answer is of the text and the writer didn't fail, all was written that the tools of a run in one thread have
 -- answered
-abbrev pub AllIsWritten : {A : Type 0} → List Tool → Result A RunFault → Change → Change → Type 0
-AllIsWritten tools answer reader writer =
-    (text : List ℕ) → reader.old ≡ Some text → AnswersText text answer → ¬ Failed writer.failures_old writer.failures_new → IsAllWritten text tools answer writer.old writer.new
+abbrev pub AllIsWritten : {A : Type 0} → Job → Result A RunFault → Change → Change → Type 0
+AllIsWritten job answer reader writer =
+    (text : List ℕ) → reader.old ≡ Some text → AnswersText text answer → ¬ Failed writer.failures_old writer.failures_new → IsAllWritten text job answer writer.old writer.new
 
 -- ---- the run
 
 -- how a run answers, in one thread or over several, and what it has read and written then; where there is no memory for the list of the tools, the reader
 -- is as it was
-pub record HasRun (tools : List Tool) (answer : Result Summary RunFault) (unread : Type 0) (reader writer : Change) : Type 0 where
-  -- It ends well only where the whole input is accepted, no tool refuses an image, the results of all images are written,
-  -- and no device failed.
-  pub well : (text : List ℕ) → reader.old ≡ Some text → IfOk answer (EndedWell text tools writer.old writer.new)
+pub record HasRun (job : Job) (answer : Result Summary RunFault) (unread : Type 0) (reader writer : Change) : Type 0 where
+  -- It ends well only where the whole input is accepted, no tool refuses an image, the form can hold the results of
+  -- all images, these are written, and no device failed.
+  pub well : (text : List ℕ) → reader.old ≡ Some text → IfOk answer (EndedWell text job writer.old writer.new)
   pub no_failure : OnOk answer ((reader.failures_new ≡ reader.failures_old) × (writer.failures_new ≡ writer.failures_old))
   -- A fault of the input is the first of its text, which then spells nothing; or the reader failed, memory ran out, or as
   -- many messages came as a run takes. With any other answer the reader hasn't failed.
@@ -203,20 +203,21 @@ pub record HasRun (tools : List Tool) (answer : Result Summary RunFault) (unread
   -- A tool's fault is answered only where the input has none and no tool before it refuses an image: it is the tool's own
   -- refusal, or want of memory. Or there was no memory for the list of the tools: it is then of tool 1, and nothing was
   -- read, whatever the input is. That a message came out of order is never answered.
-  pub tool : IfTool answer (λ number fault. (fault ≢ OutOfOrder) × (1 ≤ number) × (number ≤ length tools))
-  pub refusal : (text : List ℕ) → reader.old ≡ Some text → IfTool answer (λ number fault. ((fault ≡ Memory) × (number ≡ 1) × unread) ⊎ IsStoppedBy text tools number fault)
-  -- The output's fault is answered only where the input and the tools have none.
-  pub output : IfOutput answer (λ fault. (fault ≡ WriteFailed) × Failed writer.failures_old writer.failures_new × (reader.failures_new ≡ reader.failures_old))
-  pub output_last : (text : List ℕ) → reader.old ≡ Some text → IfOutput answer (λ fault. IsTaken text tools)
+  pub tool : IfTool answer (λ number fault. (fault ≢ OutOfOrder) × (1 ≤ number) × (number ≤ length job.tools))
+  pub refusal : (text : List ℕ) → reader.old ≡ Some text → IfTool answer (λ number fault. ((fault ≡ Memory) × (number ≡ 1) × unread) ⊎ IsStoppedBy text job.tools number fault)
+  -- The output's fault is answered only where the input and the tools have none: the writer failed, or the form can't hold
+  -- the results.
+  pub output : IfOutput answer (λ fault. (((fault ≡ WriteFailed) × Failed writer.failures_old writer.failures_new) ⊎ IsOfForm fault) × (reader.failures_new ≡ reader.failures_old))
+  pub output_last : (text : List ℕ) → reader.old ≡ Some text → IfOutput answer (λ fault. IsTaken text job.tools)
   -- So each answer is the verdict, unless it is from outside.
-  pub verdict : (text : List ℕ) → reader.old ≡ Some text → AnswersVerdict text tools answer
+  pub verdict : (text : List ℕ) → reader.old ≡ Some text → AnswersVerdict text job answer
   -- However it ends, what is written is a front of the output due, for the reader's own text and for any other that may
   -- begin with the bytes that were read.
-  pub front : (text : List ℕ) → reader.old ≡ Some text → IsFrontOfDue text tools writer.old writer.new
-  pub front_for_each : IsFrontForEach tools (input_of answer) reader writer
+  pub front : (text : List ℕ) → reader.old ≡ Some text → IsFrontOfDue text job writer.old writer.new
+  pub front_for_each : IsFrontForEach job (input_of answer) reader writer
 
 -- and in one thread all was written that the tools have answered
-pub record HasRunInOneThread (tools : List Tool) (answer : Result Summary RunFault) (unread : Type 0) (reader writer : Change) : Type 0 where
-  pub run : HasRun tools answer unread reader writer
-  pub all_written : AllIsWritten tools answer reader writer
+pub record HasRunInOneThread (job : Job) (answer : Result Summary RunFault) (unread : Type 0) (reader writer : Change) : Type 0 where
+  pub run : HasRun job answer unread reader writer
+  pub all_written : AllIsWritten job answer reader writer
   pub one_thread : IsOfOneThread answer

@@ -1,5 +1,6 @@
 -- What passes through the stages of a run in one thread.
 use Rattle.std.specs.Prelude.{ℕ, List, [], ◌∷◌, ◌++◌, ◌≡◌, map, Option, Bool}
+use Rattle.pnm_image.specs.declared.format.Form.{Form}
 use Rattle.pnm_image.specs.declared.message.Message.{Message}
 use Rattle.pnm_tools.specs.declared.fault.ToolFault.{ToolFault}
 use Rattle.pnm_tools.specs.declared.tool.Tool.{Tool}
@@ -22,7 +23,7 @@ pub record FeedsThrough {F W : Type 0} (at : F → Tool → List Message → Lis
     (old : List (SerialStage F)) (m : Message) (new : List (SerialStage F)) (before after : Downstream W) : Type 0 where
   pub more : List Message
   pub stages : (tools : List Tool) (l g : List Message) → StagesAt at all_given stopped old tools l g → StagesAt at all_given stopped new tools (l ++ m ∷ []) (g ++ more)
-  pub taken : (start : W) (messages : List Message) → HasTaken held failures start messages before → HasTaken held failures start (messages ++ more) after
+  pub taken : (form : Form) (start : W) (messages : List Message) → HasTaken held failures form start messages before → HasTaken held failures form start (messages ++ more) after
 
 -- why each stage refused, if it did
 abbrev pub refusals_in : {F : Type 0} → List (SerialStage F) → List (Option ToolFault)

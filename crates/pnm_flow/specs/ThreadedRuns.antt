@@ -9,12 +9,13 @@ use Rattle.pnm_read.specs.declared.fault.InputFault.TheVariants.{ReadFailed}
 use Rattle.pnm_read.specs.Said.{said_of}
 use Rattle.pnm_tools.specs.declared.tool.Tool.{Tool}
 use Rattle.pnm_write.specs.declared.fault.SinkFault.{SinkFault}
-use Rattle.pnm_write.specs.Encoding.{bytes_of}
+use Rattle.pnm_write.specs.Encoding.{written_of}
 use Rattle.pnm_flow.specs.declared.fault.RunFault.{RunFault}
 use Rattle.pnm_flow.specs.declared.fault.RunFault.TheVariants.{NoStart, Input, Tool as OfTool, Output, PeerGone as Gone}
 use Rattle.pnm_rings.specs.declared.stage_end.StageEnd.{StageEnd}
 use Rattle.pnm_rings.specs.declared.stage_end.StageEnd.TheVariants.{Well, Broken, Fault, PeerGone}
 use Rattle.pnm_flow.specs.declared.summary.Summary.{Summary}
+use Rattle.pnm_flow.specs.Jobs.{Job}
 use Rattle.pnm_flow.specs.Runs.{Change, IfInput, IsFrontOfDue, HasRun}
 use Rattle.pnm_rings.specs.Stages.{HasEndedSo}
 use Rattle.pnm_lanes.specs.Lanes.{HaveLanesEndedSo}
@@ -78,13 +79,14 @@ IsOfTools (Err (OfTool number fault)) = Unit {0}
 IsOfTools (Err (Output fault)) = Unit {0}
 IsOfTools (Err (Gone number)) = ⊥
 
--- the tools have ended so for all that is said of the text, and what the last one sent was written
-pub record IsAllSent {A : Type 0} (text : List ℕ) (lanes : ℕ) (tools : List Tool) (answer : Result A RunFault) (old new : Option (List ℕ)) : Type 0 where
+-- the tools have ended so for all that is said of the text, and what the last one sent was written, as far as the form takes
+-- it
+pub record IsAllSent {A : Type 0} (text : List ℕ) (lanes : ℕ) (job : Job) (answer : Result A RunFault) (old new : Option (List ℕ)) : Type 0 where
   pub ends : List StageEnd
   pub given : List Message
   pub fit : FitEnds answer ends
-  pub ended : HaveEnded lanes tools ends (said_of text) given
-  pub written : Appends old new (bytes_of (without_stop given))
+  pub ended : HaveEnded lanes job.tools ends (said_of text) given
+  pub written : Appends old new (written_of job.form (without_stop given))
 
 -- ---- the run
 
@@ -98,16 +100,16 @@ IfGone (Err (Output fault)) P = Unit {0}
 IfGone (Err (Gone number)) P = P number
 
 -- these bytes were read; and whatever comes after them, what was written is a front of what is due for that text
-pub record IsFrontWhatever (tools : List Tool) (reader writer : Change) : Type 0 where
+pub record IsFrontWhatever (job : Job) (reader writer : Change) : Type 0 where
   pub read : List ℕ
   pub consumed : Consumes reader.old reader.new read
-  pub front : (rest : List ℕ) → IsFrontOfDue (read ++ rest) tools writer.old writer.new
+  pub front : (rest : List ℕ) → IsFrontOfDue (read ++ rest) job writer.old writer.new
 
 -- a run over threads that was started: what holds of one in one thread, and what its stages did. There is no list of tools
 -- for which memory could be missing, and no number of messages ends it: where a failed read is answered the reader failed,
 -- and anything may come after the bytes that were read.
-pub record HasRunOverThreads (lanes : ℕ) (tools : List Tool) (answer : Result Summary RunFault) (reader writer : Change) : Type 0 where
-  pub run : HasRun tools answer ⊥ reader writer
-  pub all_written : (text : List ℕ) → reader.old ≡ Some text → IsOfTools answer → ¬ Failed writer.failures_old writer.failures_new → IsAllSent text lanes tools answer writer.old writer.new
-  pub read_failed : IfInput answer (λ fault. fault ≡ ReadFailed → Failed reader.failures_old reader.failures_new × IsFrontWhatever tools reader writer)
-  pub gone : IfGone answer (λ number. number ≤ length tools + 1)
+pub record HasRunOverThreads (lanes : ℕ) (job : Job) (answer : Result Summary RunFault) (reader writer : Change) : Type 0 where
+  pub run : HasRun job answer ⊥ reader writer
+  pub all_written : (text : List ℕ) → reader.old ≡ Some text → IsOfTools answer → ¬ Failed writer.failures_old writer.failures_new → IsAllSent text lanes job answer writer.old writer.new
+  pub read_failed : IfInput answer (λ fault. fault ≡ ReadFailed → Failed reader.failures_old reader.failures_new × IsFrontWhatever job reader writer)
+  pub gone : IfGone answer (λ number. number ≤ length job.tools + 1)

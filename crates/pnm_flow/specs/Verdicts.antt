@@ -7,8 +7,11 @@ use Rattle.pnm_read.specs.Spelling.{Spells}
 use Rattle.pnm_tools.specs.declared.fault.ToolFault.{ToolFault}
 use Rattle.pnm_tools.specs.declared.fault.ToolFault.TheVariants.{OutOfOrder, Memory}
 use Rattle.pnm_tools.specs.declared.tool.Tool.{Tool}
-use Rattle.pnm_tools.specs.Chains.{AreLawfulTools, refusal_of}
+use Rattle.pnm_tools.specs.Chains.{AreLawfulTools, AreResultsInTurn, refusal_of}
+use Rattle.pnm_write.specs.declared.fault.SinkFault.{SinkFault}
 use Rattle.pnm_write.specs.declared.fault.SinkFault.TheVariants.{WriteFailed}
+use Rattle.pnm_write.specs.Forms.{images_fault, IsOfForm}
+use Rattle.pnm_flow.specs.Jobs.{Job}
 use Rattle.pnm_flow.specs.declared.fault.RunFault.{RunFault}
 use Rattle.pnm_flow.specs.declared.fault.RunFault.TheVariants.{NoStart, Input, Tool as OfTool, Output, PeerGone}
 
@@ -22,27 +25,37 @@ IsRefusedBy text tools number fault = (images : List Image) × Spells text image
 abbrev pub IsTaken : List ℕ → List Tool → Type 0
 IsTaken text tools = (images : List Image) × Spells text images × (refusal_of tools images ≡ None)
 
+-- the text is accepted and no tool refuses one of the images: why the form can't hold their results, or nothing where it can
+pub record HasResults (text : List ℕ) (job : Job) (found : Option SinkFault) : Type 0 where
+  pub images : List Image
+  pub results : List Image
+  pub spelled : Spells text images
+  pub taken : refusal_of job.tools images ≡ None
+  pub made : AreResultsInTurn job.tools images results
+  pub fit : images_fault job.form results ≡ found
+
 -- ---- the verdict
 
 -- The verdict is the fault of the text, if it has one; else, of the images that it spells, the refusal of the first tool
--- that refuses one of the images which the tools before it made, none of which these refused; else there is none.
-abbrev pub IsVerdict : List ℕ → List Tool → Option RunFault → Type 0
-IsVerdict text tools None = IsTaken text tools
-IsVerdict text tools (Some NoStart) = ⊥
-IsVerdict text tools (Some (Input fault)) = fault_of text ≡ Some fault
-IsVerdict text tools (Some (OfTool number fault)) = IsRefusedBy text tools number fault
-IsVerdict text tools (Some (Output fault)) = ⊥
-IsVerdict text tools (Some (PeerGone number)) = ⊥
+-- that refuses one of the images which the tools before it made, none of which these refused; else the reason for which
+-- the form can't hold the results of all images; else there is none.
+abbrev pub IsVerdict : List ℕ → Job → Option RunFault → Type 0
+IsVerdict text job None = HasResults text job None
+IsVerdict text job (Some NoStart) = ⊥
+IsVerdict text job (Some (Input fault)) = fault_of text ≡ Some fault
+IsVerdict text job (Some (OfTool number fault)) = IsRefusedBy text job.tools number fault
+IsVerdict text job (Some (Output fault)) = HasResults text job (Some fault)
+IsVerdict text job (Some (PeerGone number)) = ⊥
 
--- the text and the tools have this verdict and no other
-pub record HasOneVerdict (text : List ℕ) (tools : List Tool) : Type 0 where
+-- the text and the job have this verdict and no other
+pub record HasOneVerdict (text : List ℕ) (job : Job) : Type 0 where
   pub verdict : Option RunFault
-  pub holds : IsVerdict text tools verdict
-  pub only : (other : Option RunFault) → IsVerdict text tools other → other ≡ verdict
+  pub holds : IsVerdict text job verdict
+  pub only : (other : Option RunFault) → IsVerdict text job other → other ≡ verdict
 
--- each text has exactly one verdict with each chain
+-- each text has exactly one verdict with each job
 abbrev pub OneVerdictForEachText : Type 0
-OneVerdictForEachText = (text : List ℕ) (tools : List Tool) → HasOneVerdict text tools
+OneVerdictForEachText = (text : List ℕ) (job : Job) → HasOneVerdict text job
 
 -- ---- answers
 
@@ -55,10 +68,11 @@ IsFromOutside (Output fault) = fault ≡ WriteFailed
 IsFromOutside (PeerGone number) = Unit {0}
 
 -- a run ends well only where there is no verdict, and each fault that it answers is the verdict, or is from outside
-abbrev pub AnswersVerdict : {A : Type 0} → List ℕ → List Tool → Result A RunFault → Type 0
-AnswersVerdict text tools (Ok x) = IsVerdict text tools None
-AnswersVerdict text tools (Err fault) = IsFromOutside fault ⊎ IsVerdict text tools (Some fault)
+abbrev pub AnswersVerdict : {A : Type 0} → List ℕ → Job → Result A RunFault → Type 0
+AnswersVerdict text job (Ok x) = IsVerdict text job None
+AnswersVerdict text job (Err fault) = IsFromOutside fault ⊎ IsVerdict text job (Some fault)
 
--- a verdict with lawful tools never is a fault from outside, nor that a message came out of order
+-- a verdict with lawful tools never is a fault from outside, nor that a message came out of order; of the output it is a
+-- fault that a form has
 abbrev pub VerdictsAreOfTexts : Type 0
-VerdictsAreOfTexts = (text : List ℕ) (tools : List Tool) (fault : RunFault) → AreLawfulTools tools → IsVerdict text tools (Some fault) → ¬ IsFromOutside fault × ((number : ℕ) → fault ≢ OfTool number OutOfOrder)
+VerdictsAreOfTexts = (text : List ℕ) (job : Job) (fault : RunFault) → AreLawfulTools job.tools → IsVerdict text job (Some fault) → ¬ IsFromOutside fault × ((number : ℕ) → fault ≢ OfTool number OutOfOrder) × ((out : SinkFault) → fault ≡ Output out → IsOfForm out)

@@ -2,11 +2,12 @@
 
 ghost use Rattle.std.specs.Prelude.{◌≡◌, ◌⊎◌, [], ◌∷◌, ◌++◌, List, true, false};
 ghost use Rattle.rtrb.specs.Ring.{received, sent, known_items, IsPair, SameConsumer, ProducerLooked};
+ghost use Rattle.pnm_image.specs.declared.format.Form.{Form as FormValue};
 ghost use Rattle.pnm_image.specs.declared.message.Message.{Message as MessageValue};
 ghost use Rattle.pnm_flow.specs.Downstreams.{output_of};
 
 use crate::downstream::Downstream;
-use pnm_image::{BytesOut, Message};
+use pnm_image::{BytesOut, Form, Message};
 use pnm_rings::{Bell, Ending, Input, Output, ends_image};
 
 /// The ring that the results of a run come from, and what is written of them.
@@ -25,14 +26,14 @@ pub struct Collector<W> {
 impl<W: BytesOut + Drop> Collector<W> {
     ghost use Rattle.pnm_flow.specs.Collectors.{IsCollecting, HasPut, is_over_by};
 
-    /// A collector that has taken nothing yet.
-    pub fn new(input: Input, writer: W) -> Collector<W>
-        ensures collecting { IsCollecting W.held W.failures writer (received input) result }
+    /// A collector that has taken nothing yet, and is to write in this form.
+    pub fn new(input: Input, writer: W, form: Form) -> Collector<W>
+        ensures collecting { IsCollecting W.held W.failures form writer (received input) result }
         ensures parts { (result.input ≡ input) × (output_of result.downstream ≡ writer) }
     {
         Collector {
             input,
-            downstream: Downstream::new(writer),
+            downstream: Downstream::new(writer, form),
             has_ended: false,
             is_gone: false,
             images: 0,
@@ -55,8 +56,9 @@ impl<W: BytesOut + Drop> Collector<W> {
     /// bell is that of the other end.
     pub fn turn(&mut self, other: &Bell) -> bool
         requires going { is_over_by self.old ≡ false }
-        ensures collecting { (start : W) (before : List MessageValue) → IsCollecting W.held W.failures start before self.old
-            → IsCollecting W.held W.failures start before self.new }
+        ensures collecting { (form : FormValue) (start : W) (before : List MessageValue)
+            → IsCollecting W.held W.failures form start before self.old
+            → IsCollecting W.held W.failures form start before self.new }
         ensures ring { SameConsumer self.old.input self.new.input }
         ensures same_device { W.same (output_of self.old.downstream) (output_of self.new.downstream) }
     {
@@ -78,8 +80,9 @@ impl<W: BytesOut + Drop> Collector<W> {
     /// Takes what is left in the ring, both of whose ends are here: what was pushed before the other end was seen dropped.
     pub fn take_rest(&mut self, sender: &mut Output)
         requires one_ring { IsPair sender.old self.old.input }
-        ensures collecting { (start : W) (before : List MessageValue) → IsCollecting W.held W.failures start before self.old
-            → IsCollecting W.held W.failures start before self.new }
+        ensures collecting { (form : FormValue) (start : W) (before : List MessageValue)
+            → IsCollecting W.held W.failures form start before self.old
+            → IsCollecting W.held W.failures form start before self.new }
         ensures in_order { received self.new.input ++ known_items self.new.input ≡ sent sender.new }
         ensures rest { (self.new.has_ended ≡ true) ⊎ (known_items self.new.input ≡ []) }
         ensures ring { SameConsumer self.old.input self.new.input }
@@ -96,8 +99,8 @@ impl<W: BytesOut + Drop> Collector<W> {
     /// Writes the message, unless it is Stop.
     fn put(&mut self, message: Message)
         requires going { self.old.has_ended ≡ false }
-        ensures put { (start : W) (l : List MessageValue) → HasPut W.held W.failures start l self.old
-            → HasPut W.held W.failures start (l ++ message ∷ []) self.new }
+        ensures put { (form : FormValue) (start : W) (l : List MessageValue) → HasPut W.held W.failures form start l self.old
+            → HasPut W.held W.failures form start (l ++ message ∷ []) self.new }
         ensures ring { (self.new.input ≡ self.old.input) × (self.new.is_gone ≡ self.old.is_gone) }
         ensures same_device { W.same (output_of self.old.downstream) (output_of self.new.downstream) }
     {

@@ -3,12 +3,13 @@
 ghost use Rattle.std.specs.Prelude.{◌≡◌, [], ◌∷◌, ◌++◌, List, Ok, Err};
 ghost use Rattle.std.specs.Result.{is_err};
 ghost use Rattle.std.specs.Io.KnownBytes.{Keeps};
+ghost use Rattle.pnm_image.specs.declared.format.Form.{Form as FormValue};
 ghost use Rattle.pnm_image.specs.declared.message.Message.{Message as MessageValue};
 ghost use Rattle.pnm_write.specs.declared.fault.SinkFault.{SinkFault as Fault};
 ghost use Rattle.pnm_write.specs.Sinks.{has_failed};
 
 use crate::summary::Summary;
-use pnm_image::{BytesOut, Message};
+use pnm_image::{BytesOut, Form, Message};
 use pnm_rings::ends_image;
 use pnm_write::{Sink, SinkFault};
 
@@ -25,13 +26,13 @@ pub struct Downstream<W> {
 impl<W: BytesOut + Drop> Downstream<W> {
     ghost use Rattle.pnm_flow.specs.Downstreams.{output_of, AreWritten, HasTaken, AnswersFlushes};
 
-    /// The sink before the first message.
-    pub fn new(writer: W) -> Downstream<W>
-        ensures fresh { HasTaken W.held W.failures writer [] result }
+    /// The sink before the first message, which writes in this form.
+    pub fn new(writer: W, form: Form) -> Downstream<W>
+        ensures fresh { HasTaken W.held W.failures form writer [] result }
         ensures writer { output_of result ≡ writer }
     {
         Downstream {
-            sink: Sink::new(writer),
+            sink: Sink::new(writer, form),
             summary: Summary { images: 0, rows: 0 },
             output: Ok(()),
             flush_failed: false,
@@ -41,9 +42,9 @@ impl<W: BytesOut + Drop> Downstream<W> {
     /// Writes the message, unless there was a fault of the output before, and flushes the writer at an image's end, so
     /// that the image isn't kept back until the next one comes.
     pub fn put(&mut self, message: Message)
-        ensures taken { (start : W) (messages : List MessageValue)
-            → HasTaken W.held W.failures start messages self.old
-            → HasTaken W.held W.failures start (messages ++ message ∷ []) self.new }
+        ensures taken { (form : FormValue) (start : W) (messages : List MessageValue)
+            → HasTaken W.held W.failures form start messages self.old
+            → HasTaken W.held W.failures form start (messages ++ message ∷ []) self.new }
         ensures same_device { W.same (output_of self.old) (output_of self.new) }
     {
         if self.output.is_ok() {
@@ -57,9 +58,9 @@ impl<W: BytesOut + Drop> Downstream<W> {
 
     /// Flushes the writer at an image's end. Where that fails more is written, and `finish` answers so.
     fn pass_on(&mut self, message: &Message)
-        ensures written { (start : W) (messages : List MessageValue)
-            → AreWritten W.held W.failures start messages self.old
-            → AreWritten W.held W.failures start messages self.new }
+        ensures written { (form : FormValue) (start : W) (messages : List MessageValue)
+            → AreWritten W.held W.failures form start messages self.old
+            → AreWritten W.held W.failures form start messages self.new }
         ensures output { self.new.output ≡ self.old.output }
         ensures same_device { W.same (output_of self.old) (output_of self.new) }
     {

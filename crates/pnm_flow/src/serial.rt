@@ -5,6 +5,7 @@ ghost use Rattle.pnm_read.specs.Sources.{reader_of, IsFresh as IsUnread};
 ghost use Rattle.pnm_tools.specs.declared.fault.ToolFault.TheVariants.{Memory as NoMemory};
 ghost use Rattle.pnm_tools.specs.Chains.{AreLawfulTools, IsChain};
 ghost use Rattle.pnm_flow.specs.Downstreams.{output_of};
+ghost use Rattle.pnm_flow.specs.Jobs.{job_of};
 ghost use Rattle.pnm_flow.specs.Runs.{answer_by, change, HasRunInOneThread, IsFirstRefusal};
 ghost use Rattle.pnm_flow.specs.SerialChains.{refusals_in, AreFresh};
 ghost use Rattle.pnm_flow.specs.Feeding.{HasFed};
@@ -13,28 +14,29 @@ use crate::downstream::Downstream;
 use crate::fault::RunFault;
 use crate::passing::feed_through;
 use crate::summary::Summary;
-use pnm_image::{BytesIn, BytesOut};
+use pnm_image::{BytesIn, BytesOut, Form};
 use pnm_read::{InputFault, ReadBuffer, Source};
 use pnm_stages::{SerialStage, stage_of};
 use pnm_tools::{Filter, Tool, ToolFault, ToolState};
 use pnm_write::SinkFault;
 use std::alloc::Global;
 
-/// Reads the images of the reader, passes them through the tools and writes what comes out. The
-/// input's fault is answered before those of the tools, these in the order of the tools, and all of
-/// them before the output's. After a fault of a tool or of the output it goes on reading, and so it
-/// does after want of memory for one of the tools, so that a fault that comes before that one in this
-/// order is still met; where there is no memory for the list of the tools, nothing is read and the
-/// fault is that of tool 1. An input of which `u64::MAX` messages are said is answered by `ReadFailed`
-/// after them.
+/// Reads the images of the reader, passes them through the tools and writes what comes out in the
+/// form. The input's fault is answered before those of the tools, these in the order of the tools, and
+/// all of them before the output's: the writer's, or that the form can't hold the results. After a
+/// fault of a tool or of the output it goes on reading, and so it does after want of memory for one of
+/// the tools, so that a fault that comes before that one in this order is still met; where there is no
+/// memory for the list of the tools, nothing is read and the fault is that of tool 1. An input of which
+/// `u64::MAX` messages are said is answered by `ReadFailed` after them.
 pub fn run_serial<R: BytesIn, W: BytesOut>(
     alloc: Global,
     reader: &mut R,
     writer: &mut W,
     tools: &[Tool],
+    form: Form,
 ) -> Result<Summary, RunFault>
     requires { IsChain tools.now }
-    ensures ran { HasRunInOneThread tools.now result (reader.new ≡ reader.old)
+    ensures ran { HasRunInOneThread (job_of tools.now form) result (reader.new ≡ reader.old)
         (change R.left R.failures reader.old reader.new) (change W.held W.failures writer.old writer.new) }
     ensures same_reader { R.same reader.old reader.new }
     ensures same_writer { W.same writer.old writer.new }
@@ -48,7 +50,7 @@ pub fn run_serial<R: BytesIn, W: BytesOut>(
         Err(fault) => return Err(RunFault::Input(fault)),
     };
     let mut source = Source::with_buffer(buffer, &mut *reader);
-    let mut downstream = Downstream::new(&mut *writer);
+    let mut downstream = Downstream::new(&mut *writer, form);
     let input = feed_all(&mut source, stages.as_mut_slice(), &mut downstream);
     let read = source.into_reader();
     let (written, output) = downstream.finish();

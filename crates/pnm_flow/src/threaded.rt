@@ -3,10 +3,10 @@
 ghost use Rattle.std.specs.Prelude.{◌≡◌, ◌≢◌, ◌⊎◌, ◌≤◌, ◌+◌, ℕ, [], List, length, Some, Err, IfSome};
 ghost use Rattle.std.specs.Thread.{IsSync};
 ghost use Rattle.rtrb.specs.Ring.{sent, received, IsPair, SameProducer, SameConsumer};
+ghost use Rattle.pnm_image.specs.declared.format.Form.{Form as FormValue};
 ghost use Rattle.pnm_image.specs.Limits.{max_tools};
 ghost use Rattle.pnm_read.specs.declared.source.Source.{Source as SourceValue};
 ghost use Rattle.pnm_read.specs.Sources.{reader_of};
-ghost use Rattle.pnm_tools.specs.declared.tool.Tool.{Tool as ToolValue};
 ghost use Rattle.pnm_tools.specs.Chains.{AreLawfulTools, IsChain};
 ghost use Rattle.pnm_lanes.specs.Limits.{IsLaneCount};
 ghost use Rattle.pnm_rings.specs.Limits.{IsRingCapacity};
@@ -15,6 +15,7 @@ ghost use Rattle.pnm_flow.specs.Chains.{HasRunChain};
 ghost use Rattle.pnm_flow.specs.Collectors.{IsCollecting};
 ghost use Rattle.pnm_flow.specs.Downstreams.{output_of};
 ghost use Rattle.pnm_flow.specs.Feeders.{IsFeeding};
+ghost use Rattle.pnm_flow.specs.Jobs.{Job, job_of};
 ghost use Rattle.pnm_flow.specs.Runs.{change};
 ghost use Rattle.pnm_flow.specs.ThreadedRuns.{answer_over, fault_of_end, first_fault_from, HasRunOverThreads};
 ghost use Rattle.pnm_flow.specs.Turns.{HaveTurned};
@@ -26,7 +27,7 @@ use crate::feeder::Feeder;
 use crate::summary::Summary;
 use crate::tool_run::{ToolBells, bell_of_tools};
 use crate::turns::Turns;
-use pnm_image::{BytesIn, BytesOut};
+use pnm_image::{BytesIn, BytesOut, Form};
 use pnm_read::{InputFault, ReadBuffer, Source};
 use pnm_rings::{Bell, Input, Output, StageEnd, new_ring};
 use pnm_stages::{Call, Gate, run_both};
@@ -36,11 +37,11 @@ use std::alloc::Global;
 use std::sync::Wait;
 use std::thread::Threads;
 
-/// Reads the images of the reader, passes them through the tools and writes what comes out, with the answers and the bytes of
-/// `run_serial`. This thread reads and writes, and each tool works in a thread of its own, which passes the gate with its
-/// number, from 1, and lane 0. Where there are several lanes, 8 at most, each row-wise tool has a thread for each of them,
-/// which passes the gate with the tool's number and its lane, from 0, and two more that deal the rows and gather them. All
-/// rings hold so many messages each, 1 to 1,024.
+/// Reads the images of the reader, passes them through the tools and writes what comes out in the form, with the answers
+/// and the bytes of `run_serial`. This thread reads and writes, and each tool works in a thread of its own, which passes
+/// the gate with its number, from 1, and lane 0. Where there are several lanes, 8 at most, each row-wise tool has a thread
+/// for each of them, which passes the gate with the tool's number and its lane, from 0, and two more that deal the rows and
+/// gather them. All rings hold so many messages each, 1 to 1,024.
 ///
 /// `NoStart` is answered where there is no memory for a ring or a list, or a thread can't be started. Where a source waits
 /// for its reader, all that had come from the last tool by then was written before.
@@ -50,6 +51,7 @@ pub fn run<H: Threads + Wait + Sync, R: BytesIn, W: BytesOut, G: Gate>(
     reader: &mut R,
     writer: &mut W,
     tools: &[Tool],
+    form: Form,
     capacity: usize,
     lanes: usize,
     gate: &G,
@@ -57,7 +59,7 @@ pub fn run<H: Threads + Wait + Sync, R: BytesIn, W: BytesOut, G: Gate>(
     requires chain { IsChain tools.now }
     requires capacity { IsRingCapacity capacity }
     requires lanes { IsLaneCount lanes }
-    ensures ran { (result ≡ Err NotStarted) ⊎ HasRunOverThreads lanes tools.now result
+    ensures ran { (result ≡ Err NotStarted) ⊎ HasRunOverThreads lanes (job_of tools.now form) result
         (change R.left R.failures reader.old reader.new) (change W.held W.failures writer.old writer.new) }
     // Where no chain came back, what it held didn't either.
     ensures same_reader { result ≢ Err NotStarted → R.same reader.old reader.new }
@@ -75,7 +77,7 @@ pub fn run<H: Threads + Wait + Sync, R: BytesIn, W: BytesOut, G: Gate>(
     };
     let source = Source::with_buffer(buffer, &mut *reader);
     let feeder = Feeder::new(source, to_chain);
-    let collector = Collector::new(from_chain, &mut *writer);
+    let collector = Collector::new(from_chain, &mut *writer, form);
     let both = beside_chain(
         rt, alloc, tools, capacity, lanes, gate, input, output, feeder, collector,
     );
@@ -157,11 +159,11 @@ fn conclude<R: BytesIn + Drop, W: BytesOut + Drop>(
 ) -> (R, W, Result<Summary, RunFault>)
     requires rings { IsPair feeder.output chain.input × IsPair chain.output collector.input }
     requires ends { length chain.ends.items ≤ max_tools }
-    requires taken { (start : W) × IsCollecting W.held W.failures start [] collector }
-    ensures ran { (first : SourceValue R) (start : W) (lanes : ℕ) (tools : List ToolValue) → AreLawfulTools tools
-        → IsFeeding R.left R.failures first [] feeder → IsCollecting W.held W.failures start [] collector
-        → HasRunChain lanes tools chain.ends.items chain.links.items [] (received chain.input) [] (sent chain.output)
-        → HasRunOverThreads lanes tools result.2 (change R.left R.failures (reader_of first) result.0) (change W.held W.failures start result.1) }
+    requires taken { (form : FormValue) × (start : W) × IsCollecting W.held W.failures form start [] collector }
+    ensures ran { (first : SourceValue R) (start : W) (lanes : ℕ) (job : Job) → AreLawfulTools job.tools
+        → IsFeeding R.left R.failures first [] feeder → IsCollecting W.held W.failures job.form start [] collector
+        → HasRunChain lanes job.tools chain.ends.items chain.links.items [] (received chain.input) [] (sent chain.output)
+        → HasRunOverThreads lanes job result.2 (change R.left R.failures (reader_of first) result.0) (change W.held W.failures start result.1) }
     ensures started { result.2 ≢ Err NotStarted }
     ensures reader { result.0 ≡ reader_of feeder.source }
     ensures same_writer { W.same (output_of collector.downstream) result.1 }

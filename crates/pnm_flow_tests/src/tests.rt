@@ -13,6 +13,7 @@ mod gates;
 mod lanes;
 mod memory;
 mod order;
+mod plain;
 mod refusals;
 mod rings;
 mod run;

@@ -9,7 +9,7 @@ mod slow;
 
 use pnm_chain::parse_chain;
 use pnm_flow::{MAX_RING_CAPACITY, OpenGate, run, run_serial};
-use pnm_image::Device;
+use pnm_image::{Device, Form};
 use slow::Slow;
 use std::env;
 use std::io::Read;
@@ -79,7 +79,13 @@ fn compare<H: AllocGlobal + Clock + Print + Threads + Wait + Sync>(
         return NO_RUNS;
     }
     let mut writer = Device::new(Vec::new(alloc));
-    let answer = run_serial(alloc, &mut Device::new(input), &mut writer, &tools);
+    let answer = run_serial(
+        alloc,
+        &mut Device::new(input),
+        &mut writer,
+        &tools,
+        Form::Raw,
+    );
     let written = writer.into_inner();
     let mut reader = Device::new(Slow::new(rt, input, words.seed));
     let mut writer = Device::new(Slow::new(rt, Vec::new(alloc), words.seed ^ 1));
@@ -89,6 +95,7 @@ fn compare<H: AllocGlobal + Clock + Print + Threads + Wait + Sync>(
         &mut reader,
         &mut writer,
         &tools,
+        Form::Raw,
         capacity,
         lanes,
         &OpenGate,

@@ -6,23 +6,34 @@ ghost use Rattle.pnm_tools.specs.Chains.{AreLawfulTools};
 use super::ways::{WAYS, Way, run_by};
 use pnm_chain::parse_chain;
 use pnm_flow::{RunFault, Summary};
-use pnm_image::Device;
+use pnm_image::{Device, Form};
 use pnm_tools::{CutBox, Planes, Tool};
 use std::alloc::{AllocError, Global};
 use std::process::Abort;
 use std::sync::Wait;
 use std::thread::Threads;
 
-/// What a run of these tools over this input answers, and what it writes. It is the same in each way.
+/// What a run of these tools over this input answers, and what it writes, in raw form. It is the same in each way.
 pub fn run_chain<R: Threads + Wait + Abort + Sync>(
     rt: &R,
     alloc: Global,
     tools: &[Tool],
     input: &[u8],
 ) -> (Result<Summary, RunFault>, Vec<u8>) {
-    let first = run_chain_by(rt, alloc, Way::OneThread, tools, input);
+    run_chain_in(rt, alloc, tools, Form::Raw, input)
+}
+
+/// The same in this form.
+fn run_chain_in<R: Threads + Wait + Abort + Sync>(
+    rt: &R,
+    alloc: Global,
+    tools: &[Tool],
+    form: Form,
+    input: &[u8],
+) -> (Result<Summary, RunFault>, Vec<u8>) {
+    let first = run_form_by(rt, alloc, Way::OneThread, tools, form, input);
     for way in WAYS {
-        let again = run_chain_by(rt, alloc, way, tools, input);
+        let again = run_form_by(rt, alloc, way, tools, form, input);
         assert!(rt; again == first, "by {way:?}");
     }
     first
@@ -39,7 +50,18 @@ pub fn run_text<R: Threads + Wait + Abort + Sync>(
     run_chain(rt, alloc, tools.as_slice(), input)
 }
 
-/// What a run of the tools answers in this way alone, and what it writes.
+/// The same in plain form.
+pub fn run_plain_text<R: Threads + Wait + Abort + Sync>(
+    rt: &R,
+    alloc: Global,
+    chain: &str,
+    input: &[u8],
+) -> (Result<Summary, RunFault>, Vec<u8>) {
+    let tools = parse_chain(alloc, chain).expect(rt, "the text of a chain");
+    run_chain_in(rt, alloc, tools.as_slice(), Form::Plain, input)
+}
+
+/// What a run of the tools answers in this way alone, and what it writes, in raw form.
 pub fn run_chain_by<R: Threads + Wait + Abort + Sync>(
     rt: &R,
     alloc: Global,
@@ -47,9 +69,22 @@ pub fn run_chain_by<R: Threads + Wait + Abort + Sync>(
     tools: &[Tool],
     input: &[u8],
 ) -> (Result<Summary, RunFault>, Vec<u8>) {
+    run_form_by(rt, alloc, way, tools, Form::Raw, input)
+}
+
+/// The same in this form.
+fn run_form_by<R: Threads + Wait + Abort + Sync>(
+    rt: &R,
+    alloc: Global,
+    way: Way,
+    tools: &[Tool],
+    form: Form,
+    input: &[u8],
+) -> (Result<Summary, RunFault>, Vec<u8>) {
     assert!(rt; 1 <= tools.len() && tools.len() <= 16 && are_lawful(tools));
     let mut writer = Device::new(Vec::new(alloc));
-    let answer = run_by(rt, alloc, way, &mut Device::new(input), &mut writer, tools);
+    let mut reader = Device::new(input);
+    let answer = run_by(rt, alloc, way, &mut reader, &mut writer, tools, form);
     (answer, writer.into_inner())
 }
 

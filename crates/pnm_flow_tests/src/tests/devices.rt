@@ -5,7 +5,7 @@ use super::streams::{FIRST_IMAGE, TWO, TWO_INVERTED};
 use super::ways::{WAYS, Way, run_by};
 use super::{IMAGE, INVERTED, Outcome, agrees};
 use pnm_flow::{RunFault, Summary};
-use pnm_image::{BytesIn, BytesOut, Device};
+use pnm_image::{BytesIn, BytesOut, Device, Form};
 use pnm_read::InputFault;
 use pnm_test_devices::{Drips, FailsOnce, NeverFlushes, Sips};
 use pnm_tools::Tool;
@@ -34,17 +34,18 @@ struct Made<'a> {
 /// What `pamcut -right -1 -width 1` makes of them.
 const TWO_CUT: &[u8] = b"P5\n1 1\n9\n\x02P6\n1 1\n9\n\x03\x04\x05";
 
-/// The run of these tools over these devices.
-fn make_by<H: Threads + Wait + Abort + Sync, R: BytesIn, W: BytesOut>(
+/// The run of these tools over these devices, which writes in this form.
+pub fn make_by<H: Threads + Wait + Abort + Sync, R: BytesIn, W: BytesOut>(
     rt: &H,
     alloc: Global,
     way: Way,
     reader: &mut R,
     writer: &mut W,
     tools: &[Tool],
+    form: Form,
 ) -> Result<Summary, RunFault> {
     assert!(rt; 1 <= tools.len() && tools.len() <= 16 && are_lawful(tools));
-    run_by(rt, alloc, way, reader, writer, tools)
+    run_by(rt, alloc, way, reader, writer, tools, form)
 }
 
 /// The run of `pnminvert` over these devices.
@@ -55,7 +56,7 @@ pub fn invert_by<H: Threads + Wait + Abort + Sync, R: BytesIn, W: BytesOut>(
     reader: &mut R,
     writer: &mut W,
 ) -> Result<Summary, RunFault> {
-    run_by(rt, alloc, way, reader, writer, &[Tool::Invert])
+    run_by(rt, alloc, way, reader, writer, &[Tool::Invert], Form::Raw)
 }
 
 /// A reader that fails at each read, a writer that fails at each write, of a byte each, and one that fails at each flush,
@@ -100,7 +101,15 @@ fn answers_a_failed_read<H: Threads + Wait + Abort + Sync>(
 ) {
     let mut reader = Device::new(Drips::new(TWO, 1, FailsOnce::after(before)));
     let mut writer = Device::new(Vec::new(alloc));
-    let answer = make_by(rt, alloc, way, &mut reader, &mut writer, made.tools);
+    let answer = make_by(
+        rt,
+        alloc,
+        way,
+        &mut reader,
+        &mut writer,
+        made.tools,
+        Form::Raw,
+    );
     let size = due_after(made, before).min(made.whole.len());
     let want = if before < 24 {
         Err(RunFault::Input(InputFault::ReadFailed))
@@ -137,7 +146,7 @@ fn writes<H: Threads + Wait + Abort + Sync>(
     let mut sips = sips;
     let mut reader = Device::new(input);
     let mut writer = Device::new(&mut sips);
-    let answer = make_by(rt, alloc, way, &mut reader, &mut writer, tools);
+    let answer = make_by(rt, alloc, way, &mut reader, &mut writer, tools, Form::Raw);
     agrees(rt, (answer, sips.held()), want, &(way, sips.flushed()));
 }
 
@@ -180,7 +189,15 @@ fn answers_failed_flushes<H: Threads + Wait + Abort + Sync>(
 ) {
     let mut reader = Device::new(TWO);
     let mut writer = Device::new(NeverFlushes::new(alloc));
-    let answer = make_by(rt, alloc, way, &mut reader, &mut writer, made.tools);
+    let answer = make_by(
+        rt,
+        alloc,
+        way,
+        &mut reader,
+        &mut writer,
+        made.tools,
+        Form::Raw,
+    );
     let given = writer.into_inner();
     agrees(rt, (answer, given.held()), (FAILED, made.whole), &way);
 }

@@ -5,7 +5,7 @@ use super::chains::are_lawful;
 use super::lanes::{TWO_ROWS, TWO_ROWS_INVERTED};
 use super::threads::{Both, BothLanes, TURNS};
 use pnm_flow::{Gate, OpenGate, Summary, run};
-use pnm_image::Device;
+use pnm_image::{Device, Form};
 use pnm_tools::Tool;
 use std::alloc::Global;
 use std::io::{Read, Write};
@@ -38,7 +38,17 @@ fn meets<R: Threads + Wait + Abort + Sync>(
     assert!(rt; 1 <= lanes && lanes <= 8);
     let mut writer = Device::new(Vec::new(alloc));
     let mut reader = Device::new(input);
-    let answer = run(rt, alloc, &mut reader, &mut writer, tools, 1, lanes, gate);
+    let answer = run(
+        rt,
+        alloc,
+        &mut reader,
+        &mut writer,
+        tools,
+        Form::Raw,
+        1,
+        lanes,
+        gate,
+    );
     let want = (Ok(Summary { images: 1, rows: 2 }), made);
     let written = writer.into_inner();
     agrees(rt, (answer, written.as_slice()), want, &lanes);
@@ -148,7 +158,17 @@ fn reads_and_writes<R: Threads + Wait + Abort + Sync>(rt: &R, alloc: Global, hel
     let mut reader = Device::new(SeenReader(input, &seen));
     let mut writer = Device::new(SeenWriter(Vec::new(alloc), &seen));
     let gate = HoldsFirst(&seen);
-    let answer = run(rt, alloc, &mut reader, &mut writer, tools, 1, lanes, &gate);
+    let answer = run(
+        rt,
+        alloc,
+        &mut reader,
+        &mut writer,
+        tools,
+        Form::Raw,
+        1,
+        lanes,
+        &gate,
+    );
     let want = (Ok(Summary { images: 1, rows: 2 }), made);
     let written = writer.into_inner().0;
     agrees(rt, (answer, written.as_slice()), want, &lanes);
@@ -208,6 +228,7 @@ fn writes_each_image_before_the_next_is_read(rt: HostRuntime) {
             &mut reader,
             &mut writer,
             &TOOLS,
+            Form::Raw,
             capacity,
             lanes,
             &OpenGate,

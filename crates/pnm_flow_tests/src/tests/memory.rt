@@ -5,7 +5,7 @@ use super::rings::{IMAGE, Input, Part, Unmade, holds, is_made_of, ring, send_all
 use super::threads::{INVERTED, chain};
 use super::ways::{Way, run_by};
 use pnm_flow::{OpenGate, RunFault, StageEnd, Summary};
-use pnm_image::Device;
+use pnm_image::{Device, Form};
 use pnm_read::InputFault;
 use pnm_tools::{FlipWay, Tool, ToolFault};
 use std::alloc::Global;
@@ -25,6 +25,11 @@ const SAMPLE: &[u8] = b"P5\n1 1\n9\n\x07";
 
 const DOUBLED: &[u8] = b"P5\n2 2\n9\n\x02\x02\x02\x02";
 
+const SAMPLE_DOUBLED: Written<'static> = (Form::Raw, SAMPLE, DOUBLED);
+
+/// The same in plain form.
+const PLAIN_DOUBLED: Written<'static> = (Form::Plain, SAMPLE, b"P2\n2 2\n9\n2 2\n2 2\n");
+
 /// What a run over three tools answers; none where there is no memory for these.
 fn run_short_of_memory<H: Threads + Wait + Abort + Sync>(
     rt: &H,
@@ -35,8 +40,11 @@ fn run_short_of_memory<H: Threads + Wait + Abort + Sync>(
         return None;
     };
     let tools = [Tool::Depth(255), Tool::Cut(LAST_COLUMN), planes];
-    make_short_of_memory(rt, alloc, way, &tools, STREAM, PICKED)
+    make_short_of_memory(rt, alloc, way, &tools, (Form::Raw, STREAM, PICKED))
 }
+
+/// The form in which a run writes, its input, and its whole output.
+type Written<'a> = (Form, &'a [u8], &'a [u8]);
 
 /// What a run over these tools answers. Whatever it is, a front of the whole output is written, and want of memory alone can
 /// be at fault: for the start of a run over threads too.
@@ -45,13 +53,14 @@ fn make_short_of_memory<H: Threads + Wait + Abort + Sync>(
     alloc: Global,
     way: Way,
     tools: &[Tool],
-    input: &[u8],
-    whole: &[u8],
+    run: Written<'_>,
 ) -> Option<Summary> {
+    let (form, input, whole) = run;
     assert!(rt; 1 <= tools.len() && tools.len() <= 16 && are_lawful(tools));
     let mut room = [0; 200];
     let mut writer = Device::new(room.as_mut_slice());
-    let answer = run_by(rt, alloc, way, &mut Device::new(input), &mut writer, tools);
+    let mut reader = Device::new(input);
+    let answer = run_by(rt, alloc, way, &mut reader, &mut writer, tools, form);
     let rest = writer.into_inner().len();
     assert!(rt; rest <= room.len());
     let written = &room[..room.len() - rest];
@@ -119,15 +128,34 @@ fn ends_well_over_lanes_with_memory(rt: HostRuntime) {
 #[test]
 fn doubles_in_one_thread_or_runs_out(rt: HostRuntime) {
     let tools = [Tool::Enlarge(2, 2), Tool::Invert];
-    let _ = make_short_of_memory(&rt, rt.alloc(), Way::OneThread, &tools, SAMPLE, DOUBLED);
+    let _ = make_short_of_memory(&rt, rt.alloc(), Way::OneThread, &tools, SAMPLE_DOUBLED);
 }
 
 /// The same, where none is refused.
 #[test]
 fn doubles_in_one_thread_with_memory(rt: HostRuntime) {
     let tools = [Tool::Enlarge(2, 2), Tool::Invert];
-    let summary = make_short_of_memory(&rt, rt.alloc(), Way::OneThread, &tools, SAMPLE, DOUBLED);
+    let summary = make_short_of_memory(&rt, rt.alloc(), Way::OneThread, &tools, SAMPLE_DOUBLED);
     assert_eq!(rt; summary, Some(Summary { images: 1, rows: 2 }));
+}
+
+/// Each growth of a run that writes in plain form may be refused.
+#[test]
+fn writes_plain_or_runs_out(rt: HostRuntime) {
+    let tools = [Tool::Enlarge(2, 2), Tool::Invert];
+    for way in [Way::OneThread, Way::Threads(1, 1), Way::Threads(1, 2)] {
+        let _ = make_short_of_memory(&rt, rt.alloc(), way, &tools, PLAIN_DOUBLED);
+    }
+}
+
+/// The same, where none is refused.
+#[test]
+fn writes_plain_with_memory(rt: HostRuntime) {
+    let tools = [Tool::Enlarge(2, 2), Tool::Invert];
+    for way in [Way::OneThread, Way::Threads(1, 1), Way::Threads(1, 2)] {
+        let summary = make_short_of_memory(&rt, rt.alloc(), way, &tools, PLAIN_DOUBLED);
+        assert_eq!(rt; summary, Some(Summary { images: 1, rows: 2 }));
+    }
 }
 
 /// Whether Stop is the last that the ring holds. Before it there is a front of these, and after it nothing.

@@ -6,7 +6,7 @@ use super::streams::TWO;
 use super::ways::{WAYS, Way, run_by};
 use super::{IMAGE, agrees};
 use pnm_flow::RunFault;
-use pnm_image::Device;
+use pnm_image::{Device, Form};
 use pnm_read::InputFault;
 use pnm_test_devices::{Drips, FailsOnce, Sips};
 use pnm_tools::{Tool, ToolFault};
@@ -66,7 +66,7 @@ fn answers_so<R: Threads + Wait + Abort + Sync>(
     let mut reader = Device::new(Drips::new(order.input, 1, fails(order.reads)));
     let mut sips = Sips::new(alloc, 1, FailsOnce::after(before), FailsOnce::never());
     let mut writer = Device::new(&mut sips);
-    let answer = run_by(rt, alloc, way, &mut reader, &mut writer, tools);
+    let answer = run_by(rt, alloc, way, &mut reader, &mut writer, tools, Form::Raw);
     let given = (answer, sips.held());
     let want = (Err(order.fault), &due[..before]);
     agrees(rt, given, want, &(way, before));

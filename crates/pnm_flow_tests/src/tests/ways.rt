@@ -3,7 +3,7 @@
 ghost use Rattle.pnm_tools.specs.Chains.{IsChain};
 
 use pnm_flow::{OpenGate, RunFault, Summary, run, run_serial};
-use pnm_image::{BytesIn, BytesOut};
+use pnm_image::{BytesIn, BytesOut, Form};
 use pnm_tools::Tool;
 use std::alloc::Global;
 use std::process::Abort;
@@ -28,7 +28,7 @@ pub const WAYS: [Way; 7] = [
     Way::Threads(1_024, 3),
 ];
 
-/// The run of these tools, in this way.
+/// The run of these tools that writes in this form, in this way.
 pub fn run_by<H: Threads + Wait + Abort + Sync, R: BytesIn, W: BytesOut>(
     rt: &H,
     alloc: Global,
@@ -36,14 +36,17 @@ pub fn run_by<H: Threads + Wait + Abort + Sync, R: BytesIn, W: BytesOut>(
     reader: &mut R,
     writer: &mut W,
     tools: &[Tool],
+    form: Form,
 ) -> Result<Summary, RunFault>
     requires { IsChain tools.now }
 {
     match way {
-        Way::OneThread => run_serial(alloc, reader, writer, tools),
+        Way::OneThread => run_serial(alloc, reader, writer, tools, form),
         Way::Threads(capacity, lanes) => {
             assert!(rt; 1 <= capacity && capacity <= 1_024 && 1 <= lanes && lanes <= 8);
-            run(rt, alloc, reader, writer, tools, capacity, lanes, &OpenGate)
+            run(
+                rt, alloc, reader, writer, tools, form, capacity, lanes, &OpenGate,
+            )
         }
     }
 }

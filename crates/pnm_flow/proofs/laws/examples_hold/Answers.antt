@@ -28,6 +28,10 @@ computed = record {
   top_bottom = record { said = refl; due = refl };
   transposed = record { said = refl; due = refl };
   tiled = record { said = refl; due = refl };
+  plain_bits = record { said = refl; due = refl };
+  plain_color = record { said = refl; due = refl };
+  plain_first = record { said = refl; due = refl };
+  plain_pam = record { said = refl; due = refl };
 }
 
 pub returns : goal.returns

@@ -9,8 +9,8 @@ loop-self-preserved g c =
     let input = c.put.ensures.ring.0 in
     let added = ap (λ (i : _). received i) input ∙ c.pop_known-message.ensures.received.0 in
     let first = c.pop_known-message.ensures.received.1 ∙ ap (λ (i : _). c.pop_known-message.result ∷ known_items i) (sym input) in (
-      λ start before was. collects_one g.W.BytesOut.held g.W.BytesOut.failures start before c.pop_known-message.result c.loop-self.self c.put.new.self added
-          (λ l put. c.put.ensures.put start l (record { ended = put.ended; taken = put.taken })) (c.loop-self.invariant.0 start before was),
+      λ form start before was. collects_one g.W.BytesOut.held g.W.BytesOut.failures form start before c.pop_known-message.result c.loop-self.self c.put.new.self added
+          (λ l put. c.put.ensures.put form start l (record { ended = put.ended; taken = put.taken })) (c.loop-self.invariant.0 form start before was),
       still_all (received c.loop-self.self.input) (received c.put.new.self.input) (known_items c.loop-self.self.input) (known_items c.put.new.self.input) (sent c.slots_beside.new.producer) c.pop_known-message.result
           c.loop-self.invariant.1 added first,
       subst (λ (i : _). SameConsumer c.args.self.now.input i) (sym input) (same_input c.args.self.now.input c.loop-self.self.input c.pop_known-message.new.self c.loop-self.invariant.2 c.pop_known-message.ensures.ring),
