@@ -117,6 +117,8 @@ def options_of(tool, words):
         word = left.pop(0)
         text = word.value
         is_number = tool == "pamcut" and text is not None and re.fullmatch(r"-[0-9]+", text)
+        if text is None and word.raw.startswith("-"):
+            raise Kept(f"{word.raw} has a variable")
         if text is None or is_number or not text.startswith("-") or text == "-":
             arguments.append(word)
             continue

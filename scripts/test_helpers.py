@@ -52,6 +52,7 @@ TRANSLATED = [
 KEPT = [
     "pamcut -pad -left 1",
     "pamcut -left $n",
+    "pamcut -left=$n f",
     "pamcut -left 1 $f",
     "pamcut -left 1 *.pgm",
     "pamcut -left 1 a b",
