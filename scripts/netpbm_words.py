@@ -45,7 +45,7 @@ PNMFLIP += [("-r1.*|-rotate1.*", "r180"), ("-r2.*|-rotate2.*|-cw", "r270")]
 STREAMS = "{}: every image of a stream is treated, and Netpbm's tool takes the first alone"
 STAYS_PAM = "{}: a PAM image stays PAM, and Netpbm's tool makes PGM or PPM of it"
 STAYS_BITS = "pamdepth 1: PBM, and PAM of type BLACKANDWHITE, stay as they are, and Netpbm's tool makes gray of them"
-PLAIN_LINES = "-plain: pnmpipe breaks the lines of a plain file elsewhere than Netpbm"
+PLAIN_LINES = "-plain: the same samples, with other blanks and line ends than Netpbm's"
 PLAIN_STREAMS = "{}: of several plain images in one input the first alone is taken, and Netpbm's tool takes all"
 NAMED = "{} is taken for a file's name: where it begins with a dash, Netpbm's tool takes it for an option or standard input"
 

@@ -142,7 +142,7 @@ class Translate(Folder):
             ("pamdepth 1", "stay as they are"),
             ("pamcut -left 1", "several plain images"),
             ('pnminvert "$f"', "begins with a dash"),
-            ("pnminvert -plain", "breaks the lines"),
+            ("pnminvert -plain", "other blanks and line ends"),
         ]:
             self.assertIn(note, self.translated(text)[1])
 
