@@ -37,7 +37,8 @@ all: toolchain
 	python3 scripts/refused.py start
 
 # one check a processor, each of at most 4 GB; then each allocation and each start of a thread is refused in turn, of the
-# program and the tests that the gate has left, and the program's input is silent. The gate's own last line comes last
+# program and the tests that the gate has left, the program's input is silent, and the scripts, pages and documents are
+# checked. The gate's own last line comes last
 check: toolchain
 	mkdir -p bin
 	rm -f bin/gate-failed
@@ -127,7 +128,7 @@ toolchain:
 help:
 	@echo "make                 proves the crates, builds the program and leaves it as bin/pnmpipe"
 	@echo "make test            the tests alone, without their proofs"
-	@echo "make check           the whole gate: every proof, the edits that must fail, the tests, the stored runs, refused allocations and silent inputs"
+	@echo "make check           the whole gate: every proof, the edits that must fail, the tests, the stored runs, refused allocations, silent inputs, scripts and pages"
 	@echo "make bench           times the program that make has left beside Netpbm's own tools, on large images"
 	@echo "make lanes           times the program that make has left with 1, 2, 4 and 8 lanes"
 	@echo "make long-stream     passes a stream of 4 GiB through the program that make has left, and wants less than 32 MB of memory"
