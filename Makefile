@@ -4,7 +4,7 @@ PROGRAM := crates/pnmpipe
 # where the tests stand: a library's in a crate of their own
 TESTED := pnm_samples_tests pnm_image_tests pnm_read_tests pnm_tools_tests pnm_write_tests pnm_chain_tests pnm_lanes_tests pnm_flow_tests pnmpipe
 
-.PHONY: all bench built check controls deb dist help install lanes long-stream pictures recipes refused scripts soak test toolchain uninstall
+.PHONY: all bench bench-files built check controls deb dist help install lanes long-stream pictures recipes refused scripts soak test toolchain uninstall
 
 # where `make install` puts things, below DESTDIR
 PREFIX ?= /usr/local
@@ -100,6 +100,10 @@ test: toolchain
 bench:
 	python3 scripts/bench.py
 
+# many small files in each way, beside Netpbm: a table, for a quiet machine
+bench-files:
+	python3 scripts/bench_files.py
+
 # the program that make has left with 1, 2, 4 and 8 lanes: a table, for a quiet machine
 lanes:
 	python3 scripts/lanes.py
@@ -130,6 +134,7 @@ help:
 	@echo "make test            the tests alone, without their proofs"
 	@echo "make check           the whole gate: every proof, the edits that must fail, the tests, the stored runs, refused allocations, silent inputs, scripts and pages"
 	@echo "make bench           times the program that make has left beside Netpbm's own tools, on large images"
+	@echo "make bench-files     times many small files in each way, beside Netpbm's own tools"
 	@echo "make lanes           times the program that make has left with 1, 2, 4 and 8 lanes"
 	@echo "make long-stream     passes a stream of 4 GiB through the program that make has left, and wants less than 32 MB of memory"
 	@echo "make controls        tries the edits that keep the code's meaning, which must prove"
