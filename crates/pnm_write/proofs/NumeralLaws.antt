@@ -1,7 +1,7 @@
 -- The text of a number that is put into a room.
-use Rattle.std.proofs.Common.{◌≡◌, ℕ, ◌+◌, ◌-◌, ◌/◌, ◌%◌, ◌<◌, ◌≤◌, ◌==◌, nat_le, if◌then◌else◌, Bool, true, false, List, [], ◌∷◌, ◌++◌, length, take, drop, set, get_or, decimal, refl, sym, ap, ap₂, ◌∙◌, append_assoc, length-append, arith}
+use Rattle.std.proofs.Common.{◌≡◌, ℕ, ◌+◌, ◌-◌, ◌/◌, ◌%◌, ◌<◌, ◌≤◌, ◌==◌, nat_le, if◌then◌else◌, Bool, true, false, List, [], ◌∷◌, ◌++◌, length, take, drop, set, get_or, decimal, refl, sym, ap, ap₂, ◌∙◌, append_assoc, append-nil, length-append, arith}
 use Rattle.std.proofs.Math.Seq.{take-append-add, take-set-lt}
-use Rattle.std.proofs.lemmas.List.{take-append-le, take_all, take_more_set, length-take, length-drop, drop-drop}
+use Rattle.std.proofs.lemmas.List.{take-append-le, get_or-drop, take_all, take_more_set, take-take, length-take, length-drop, drop-drop}
 use Rattle.std.proofs.Math.ListN.{length-set}
 use Rattle.std.proofs.lemmas.Fmt.{decimal_step, decimal_digit, length-decimal-le}
 use Rattle.pnm_image.specs.declared.shape.Kind.TheVariants.{Gray}
@@ -47,15 +47,40 @@ take_put_front room bytes after at count within enough =
     ∙ take-append-add (take at room) (bytes ++ after) count
     ∙ ap (λ (l : List ℕ). take at room ++ l) (take-append-le count bytes after enough)
 
+-- four bytes, one after the other
+pub four_are_put : (room bytes : List ℕ) (at : ℕ) → at + 4 ≤ length room → 4 ≤ length bytes
+    → take (at + 4) (set (set (set (set room at (get_or bytes 0 0)) (at + 1) (get_or bytes 1 0)) (at + 2) (get_or bytes 2 0)) (at + 3) (get_or bytes 3 0)) ≡ take at room ++ take 4 bytes
+four_are_put room (a ∷ b ∷ c ∷ d ∷ bytes) at within enough =
+    let one : List ℕ = set room at a in
+    let two : List ℕ = set one (at + 1) b in
+    let three : List ℕ = set two (at + 2) c in
+    let long_one : length one ≡ length room = length-set room at a in
+    let long_two : length two ≡ length room = length-set one (at + 1) b ∙ long_one in
+    let long_three : length three ≡ length room = length-set two (at + 2) c ∙ long_two in
+    next three d (at + 3) (at + 4) (omega arith) (omega arith)
+    ∙ ap (λ (l : List ℕ). l ++ d ∷ []) (next two c (at + 2) (at + 3) (omega arith) (omega arith) ∙ ap (λ (l : List ℕ). l ++ c ∷ []) (next one b (at + 1) (at + 2) (omega arith) (omega arith) ∙ ap (λ (l : List ℕ). l ++ b ∷ []) (next room a at (at + 1) (omega arith) (omega arith))))
+    ∙ append_assoc ((take at room ++ a ∷ []) ++ b ∷ []) (c ∷ []) (d ∷ [])
+    ∙ append_assoc (take at room ++ a ∷ []) (b ∷ []) (c ∷ d ∷ [])
+    ∙ append_assoc (take at room) (a ∷ []) (b ∷ c ∷ d ∷ [])
+  where
+    next : (l : List ℕ) (x i j : ℕ) → j ≡ i + 1 → i < length l → take j (set l i x) ≡ take i l ++ x ∷ []
+    next l x i j e below = ap (λ (n : ℕ). take n (set l i x)) e ∙ take_more_set l i x below
+four_are_put room [] at within enough = absurd (omega arith)
+four_are_put room (a ∷ []) at within enough = absurd (omega arith)
+four_are_put room (a ∷ b ∷ []) at within enough = absurd (omega arith)
+four_are_put room (a ∷ b ∷ c ∷ []) at within enough = absurd (omega arith)
+
 -- the front of an entry is a blank and the number
-pub small_is_put : (room entry copied after : List ℕ) (at number size : ℕ) → number < 256 → IsEntry number entry → at + 4 ≤ length room → size ≡ 1 + length (decimal number) → copied ≡ drop 1 entry
-    → take (at + size) (take at room ++ (copied ++ after)) ≡ take at room ++ blank ∷ decimal number
-small_is_put room entry copied after at number size small is within count same =
+pub small_is_put : (room new entry : List ℕ) (at number size : ℕ) → number < 256 → IsEntry number entry → size ≡ 1 + length (decimal number) → take (at + 4) new ≡ take at room ++ take 4 (drop 1 entry) → at ≤ length room
+    → take (at + size) new ≡ take at room ++ blank ∷ decimal number
+small_is_put room new entry at number size small is count put within =
     let digits : length (decimal number) ≤ 3 = length-decimal-le 3 number (omega arith) (omega arith) (omega arith) in
-    let long : length copied ≡ 4 = ap length same ∙ omega (arith, length-drop 1 entry, is.long) in
-    take_put_front room copied after at size (omega arith) (omega arith)
-    ∙ ap₂ (λ (n : ℕ) (l : List ℕ). take at room ++ take n l) count same
-    ∙ ap (λ (l : List ℕ). take at room ++ l) is.text
+    let copied : List ℕ = take 4 (drop 1 entry) in
+    let long : length copied ≡ 4 = omega (arith, length-take 4 (drop 1 entry), length-drop 1 entry, is.long) in
+    sym (take-take (at + size) (at + 4) new (omega arith))
+    ∙ ap (take (at + size)) (put ∙ ap (λ (l : List ℕ). take at room ++ l) (sym (append-nil copied)))
+    ∙ take_put_front room copied [] at size within (omega arith)
+    ∙ ap (λ (l : List ℕ). take at room ++ l) (take-take size 4 (drop 1 entry) (omega arith) ∙ ap (λ (n : ℕ). take n (drop 1 entry)) count ∙ is.text)
 
 -- the end of the entry of a number from 100 to 199 is its last two digits
 pub entry_ends : (n : ℕ) (entry : List ℕ) → n < 1000 → IsEntry (100 + n % 100) entry → drop 3 entry ≡ (48 + n / 10 % 10) ∷ (48 + n % 10) ∷ []
@@ -70,17 +95,26 @@ entry_ends n entry small is =
     sym (drop-drop 2 1 entry) ∙ ap (drop 2) whole ∙ ap₂ (λ (a b : ℕ). (48 + a) ∷ (48 + b) ∷ []) tens ones
 
 -- three digits
-pub three_are_put : (room entry copied after : List ℕ) (at n digit : ℕ) → n < 1000 → IsEntry (100 + n % 100) entry → at + 3 ≤ length room → digit ≡ 48 + n / 100 → copied ≡ drop 3 entry
-    → take (at + 3) (take (at + 1) (set room at digit) ++ (copied ++ after)) ≡ take at room ++ three_digits n
-three_are_put room entry copied after at n digit small is within first same =
-    let ends : copied ≡ (48 + n / 10 % 10) ∷ (48 + n % 10) ∷ [] = same ∙ entry_ends n entry small is in
-    let two : length copied ≡ 2 = ap length ends in
+pub three_are_put : (room entry : List ℕ) (at n digit : ℕ) → n < 1000 → IsEntry (100 + n % 100) entry → at + 3 ≤ length room → digit ≡ 48 + n / 100
+    → take (at + 3) (set (set (set room at digit) (at + 1) (get_or entry 3 0)) (at + 2) (get_or entry 4 0)) ≡ take at room ++ three_digits n
+three_are_put room entry at n digit small is within first =
+    let ends : drop 3 entry ≡ (48 + n / 10 % 10) ∷ (48 + n % 10) ∷ [] = entry_ends n entry small is in
+    let tens : get_or entry 3 0 ≡ 48 + n / 10 % 10 = sym (get_or-drop 3 entry 0 0) ∙ ap (λ (l : List ℕ). get_or l 0 0) ends in
+    let ones : get_or entry 4 0 ≡ 48 + n % 10 = sym (get_or-drop 3 entry 1 0) ∙ ap (λ (l : List ℕ). get_or l 1 0) ends in
     let hundreds : digit ≡ 48 + n / 100 % 10 = omega arith in
-    ap (λ (k : ℕ). take k (take (at + 1) (set room at digit) ++ (copied ++ after))) (omega arith)
-    ∙ take_put_front (set room at digit) copied after (at + 1) 2 (omega (arith, length-set room at digit)) (omega arith)
-    ∙ ap₂ (λ (a b : List ℕ). a ++ take 2 b) (take_more_set room at digit (omega arith)) ends
-    ∙ append_assoc (take at room) (digit ∷ []) ((48 + n / 10 % 10) ∷ (48 + n % 10) ∷ [])
+    let one : List ℕ = set room at digit in
+    let two : List ℕ = set one (at + 1) (get_or entry 3 0) in
+    let long_one : length one ≡ length room = length-set room at digit in
+    let long_two : length two ≡ length room = length-set one (at + 1) (get_or entry 3 0) ∙ long_one in
+    next two (get_or entry 4 0) (at + 2) (at + 3) (omega arith) (omega arith)
+    ∙ ap (λ (l : List ℕ). l ++ get_or entry 4 0 ∷ []) (next one (get_or entry 3 0) (at + 1) (at + 2) (omega arith) (omega arith) ∙ ap (λ (l : List ℕ). l ++ get_or entry 3 0 ∷ []) (next room digit at (at + 1) (omega arith) (omega arith)))
+    ∙ append_assoc (take at room ++ digit ∷ []) (get_or entry 3 0 ∷ []) (get_or entry 4 0 ∷ [])
+    ∙ append_assoc (take at room) (digit ∷ []) (get_or entry 3 0 ∷ get_or entry 4 0 ∷ [])
+    ∙ ap₂ (λ (d e : ℕ). take at room ++ digit ∷ d ∷ e ∷ []) tens ones
     ∙ ap (λ (d : ℕ). take at room ++ d ∷ (48 + n / 10 % 10) ∷ (48 + n % 10) ∷ []) hundreds
+  where
+    next : (l : List ℕ) (x i j : ℕ) → j ≡ i + 1 → i < length l → take j (set l i x) ≡ take i l ++ x ∷ []
+    next l x i j e below = ap (λ (n : ℕ). take n (set l i x)) e ∙ take_more_set l i x below
 
 -- a number of three digits behind a blank
 pub three_alone : (room new : List ℕ) (at n : ℕ) → 256 ≤ n → n < 1000 → at < length room → take (at + 1 + 3) new ≡ take (at + 1) (set room at blank) ++ three_digits n → take (at + 4) new ≡ take at room ++ blank ∷ decimal n

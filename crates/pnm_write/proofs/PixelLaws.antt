@@ -12,7 +12,7 @@ use Rattle.pnm_image.specs.declared.shape.Kind.TheVariants.{Bit}
 use Rattle.pnm_write.specs.PlainRows.{blank, line_feed, max_line_length, words_after, plain_row_text}
 use Rattle.pnm_write.specs.PlainParts.{sample_texts}
 use Rattle.pnm_write.specs.PixelCells.{cell, cells, nibble_cells}
-use Rattle.pnm_write.proofs.NumeralLaws.{take_put_front, set_behind}
+use Rattle.pnm_write.proofs.NumeralLaws.{set_behind}
 use Rattle.pnm_write.proofs.EntryLaws.{are_same, same, and_parts}
 
 -- ---- the table
@@ -55,17 +55,20 @@ byte_cells b small =
     let c0 : 49 - (1 - b / 2 ^ 0 % 2) ≡ 48 + b % 16 % 2 = omega arith in
     cc
 
-pub length-nibble : (bits : ℕ) → length (nibble_cells bits) ≡ 8
-length-nibble bits = refl
+pub nibble_is_put : (room half new cells' : List ℕ) (at bits : ℕ) → cells' ≡ nibble_cells bits → take (at + 4) half ≡ take at room ++ take 4 cells' → take (at + 4 + 4) new ≡ take (at + 4) half ++ take 4 (drop 4 cells')
+    → take (at + 8) new ≡ take at room ++ nibble_cells bits
+nibble_is_put room half new cells' at bits is first second =
+    ap (λ (n : ℕ). take n new) (omega arith)
+    ∙ second
+    ∙ ap₂ (λ (a b : List ℕ). a ++ take 4 (drop 4 b)) (first ∙ ap (λ (l : List ℕ). take at room ++ take 4 l) is) is
+    ∙ append_assoc (take at room) (take 4 (nibble_cells bits)) (drop 4 (nibble_cells bits))
 
-pub byte_is_put : (room first second put after more : List ℕ) (at b : ℕ) → b < 256 → at + 16 ≤ length room → first ≡ nibble_cells (b / 16) → second ≡ nibble_cells (b % 16) → put ≡ take at room ++ (first ++ after) → length put ≡ length room
-    → take (at + 16) (take (at + 8) put ++ (second ++ more)) ≡ take at room ++ cells (pixels b)
-byte_is_put room first second put after more at b small within one two put_is long =
-    ap (λ (n : ℕ). take n (take (at + 8) put ++ (second ++ more))) (omega arith)
-    ∙ take_put_front put second more (at + 8) 8 (omega arith) (omega (arith, ap length two))
-    ∙ ap (λ (l : List ℕ). l ++ take 8 second) (ap (take (at + 8)) put_is ∙ take_put_front room first after at 8 (omega arith) (omega (arith, ap length one)))
-    ∙ append_assoc (take at room) (take 8 first) (take 8 second)
-    ∙ ap₂ (λ (a c : List ℕ). take at room ++ (take 8 a ++ take 8 c)) one two
+pub byte_is_put : (room half new : List ℕ) (at b : ℕ) → b < 256 → take (at + 8) half ≡ take at room ++ nibble_cells (b / 16) → take (at + 8 + 8) new ≡ take (at + 8) half ++ nibble_cells (b % 16) → take (at + 16) new ≡ take at room ++ cells (pixels b)
+byte_is_put room half new at b small first second =
+    ap (λ (n : ℕ). take n new) (omega arith)
+    ∙ second
+    ∙ ap (λ (l : List ℕ). l ++ nibble_cells (b % 16)) first
+    ∙ append_assoc (take at room) (nibble_cells (b / 16)) (nibble_cells (b % 16))
     ∙ ap (λ (l : List ℕ). take at room ++ l) (sym (byte_cells b small))
 
 pub cells_more : (room new bytes : List ℕ) (i b : ℕ) → i < length bytes → b ≡ get_or bytes i 0 → take (16 * i) room ≡ cells (all_pixels (take i bytes)) → take (16 * i + 16) new ≡ take (16 * i) room ++ cells (pixels b)

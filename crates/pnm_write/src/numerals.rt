@@ -40,6 +40,23 @@ fn entry(number: usize) -> &'static [u8]
     &entries[5 * number..5 * number + 5]
 }
 
+/// Puts four bytes into the room. All are read before one is written, so that they are moved as one word.
+#[inline(always)]
+pub fn put_four(room: &mut [u8], at: usize, bytes: &[u8])
+    requires room { at + 4 ≤ length room.old }
+    requires enough { 4 ≤ length bytes.now }
+    ensures { take (at + 4) room.new ≡ take at room.old ++ take 4 bytes.now }
+{
+    let first = bytes[0];
+    let second = bytes[1];
+    let third = bytes[2];
+    let fourth = bytes[3];
+    room[at] = first;
+    room[at + 1] = second;
+    room[at + 2] = third;
+    room[at + 3] = fourth;
+}
+
 /// Puts a blank and a small number into the room, and answers how many bytes these are.
 #[inline(always)]
 fn put_small(room: &mut [u8], at: usize, number: usize) -> usize
@@ -50,7 +67,7 @@ fn put_small(room: &mut [u8], at: usize, number: usize) -> usize
     ensures within { result ≤ 4 }
 {
     let entry = entry(number);
-    room[at..at + 4].copy_from_slice(&entry[1..]);
+    put_four(room, at, &entry[1..]);
     usize::from(entry[0] - b'0')
 }
 
@@ -63,8 +80,11 @@ fn put_three(room: &mut [u8], at: usize, number: usize)
 {
     // The two digits at the end of a number between 100 and 199.
     let entry = entry(100 + number % 100);
+    let tens = entry[3];
+    let ones = entry[4];
     room[at] = b'0' + (number / 100) as u8;
-    room[at + 1..at + 3].copy_from_slice(&entry[3..]);
+    room[at + 1] = tens;
+    room[at + 2] = ones;
 }
 
 /// Puts a blank and a number into the room, and answers how many bytes these are.

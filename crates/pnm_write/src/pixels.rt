@@ -6,6 +6,8 @@ ghost use Rattle.pnm_image.specs.declared.shape.Kind.{Kind};
 ghost use Rattle.pnm_write.specs.PlainRows.{plain_row_text};
 ghost use Rattle.pnm_write.specs.PixelCells.{cells, nibble_cells};
 
+use crate::numerals::put_four;
+
 /// How many pixels a line has: each has a character, and a blank or the LF behind it.
 const LINE: usize = 35;
 
@@ -25,6 +27,18 @@ fn nibble(bits: usize) -> &'static [u8]
     &nibbles[8 * bits..8 * bits + 8]
 }
 
+/// Puts the characters of four pixels into the room.
+#[inline(always)]
+fn put_nibble(room: &mut [u8], at: usize, bits: usize)
+    requires room { at + 8 ≤ length room.old }
+    requires range { bits < 16 }
+    ensures { take (at + 8) room.new ≡ take at room.old ++ nibble_cells bits }
+{
+    let cells = nibble(bits);
+    put_four(room, at, cells);
+    put_four(room, at + 4, &cells[4..]);
+}
+
 /// Puts the characters of a byte's pixels into the room.
 #[inline(always)]
 fn put_byte(room: &mut [u8], at: usize, byte: u8)
@@ -32,8 +46,8 @@ fn put_byte(room: &mut [u8], at: usize, byte: u8)
     ensures { take (at + 16) room.new ≡ take at room.old ++ cells (pixels byte) }
 {
     let bits = usize::from(byte);
-    room[at..at + 8].copy_from_slice(nibble(bits / 16));
-    room[at + 8..at + 16].copy_from_slice(nibble(bits % 16));
+    put_nibble(room, at, bits / 16);
+    put_nibble(room, at + 8, bits % 16);
 }
 
 /// Puts the characters of the pixels of these bytes into the room, with a blank behind each.

@@ -1,9 +1,10 @@
-use Rattle.std.proofs.Common.{◌∙◌, ◌/◌, ◌%◌, ℕ, ap, refl, arith}
+use Rattle.std.proofs.Common.{◌++◌, ◌∙◌, ℕ, take, ap, arith}
+use Rattle.pnm_samples.specs.Pixels.{pixels}
+use Rattle.pnm_write.specs.PixelCells.{cells}
 use Rattle.pnm_write.proofs.PixelLaws.{byte_is_put}
-use Rattle.pnm_write.specs.PixelCells.{nibble_cells}
 use Rattle.pnm_write.proofs.pixels.put_byte.Goals as goal
 
 pub returns : goal.returns
 returns c =
-    byte_is_put c.args.room.now c.copy_from_slice.new.self c.copy_from_slice-2.new.self _ _ _ c.args.at c.args.byte (omega arith) c.requires
-    (c.copy_from_slice.ensures.after ∙ c.nibble.ensures ∙ ap (λ (n : ℕ). nibble_cells (n / 16)) c.from-bits.ensures) (c.copy_from_slice-2.ensures.after ∙ c.nibble-2.ensures ∙ ap (λ (n : ℕ). nibble_cells (n % 16)) c.from-bits.ensures) refl (omega arith)
+    byte_is_put c.args.room.now c.put_nibble.new.room c.put_nibble-2.new.room c.args.at c.from-bits.result (omega arith) c.put_nibble.ensures c.put_nibble-2.ensures
+    ∙ ap (λ (b : ℕ). take c.args.at c.args.room.now ++ cells (pixels b)) c.from-bits.ensures
