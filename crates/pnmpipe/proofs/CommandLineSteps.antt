@@ -1,9 +1,10 @@
 -- What a parse of the words by the program's command gives.
-use Rattle.std.proofs.Common.{◌≡◌, ◌∙◌, ◌<◌, ◌≤◌, ℕ, zero, suc, true, false, not, List, [], ◌∷◌, length, map, codes, Option, Some, is_some, inl, inr, refl, sym, ap, subst, arith, slice_index}
+use Rattle.pnm_image.specs.declared.format.Form.TheVariants.{Raw}
+use Rattle.std.proofs.Common.{◌≡◌, ◌∙◌, ◌<◌, ◌≤◌, ℕ, zero, suc, Bool, true, false, not, List, [], ◌∷◌, length, map, codes, Option, Some, None, is_some, inl, inr, refl, sym, ap, subst, arith, slice_index}
 use Rattle.std.specs.Prelude.{◌^◌, Result, Ok, pos}
 use Rattle.std.specs.List.{list_all, slice_index_or}
 use Rattle.std.specs.Str.{bytes_eq}
-use Rattle.std.specs.Str.Parse.{ParsesUnsigned}
+use Rattle.std.specs.Str.Parse.{ParsesBool, ParsesUnsigned}
 use Rattle.std.proofs.lemmas.Bool.{not-true}
 use Rattle.std.proofs.lemmas.List.{get_or-map, length-map}
 use Rattle.clap.specs.Words.{IsSignedIn, ReadsOne, App, items_of, one_text, without_minus, Rule, Shape, Text, FailsBy, HasKind, HasMatchesOf, IsAmong, IsParsedFrom, IsPlain, app_of, args_of, fault_of, first_of, first_value, found_of, is_simple, is_simple_and_free, kind_of, one_of, rule_of, shape_of}
@@ -29,7 +30,7 @@ use Rattle.clap.proofs.OnLiterals.{clap_on_literals}
 use Rattle.clap.proofs.SimpleLemmas.{plain_fields, ready_simple, simple_groups, HasPlainFields}
 use Rattle.clap.proofs.WalkLemmas.{both, first_value-rows, one_text-rows}
 use Rattle.pnmpipe.proofs.DefaultReads.{default_reads}
-use Rattle.pnmpipe.specs.CommandLine.{program, chain_rule, lanes_rule, number_of, number_rule, ring_rule, FitsKind, GivesChain, GivesLanes, GivesNumber, GivesRing, IsFaultOfWords}
+use Rattle.pnmpipe.specs.CommandLine.{program, chain_rule, form_by, lanes_rule, plain_rule, value_of, number_rule, ring_rule, FitsKind, GivesChain, GivesForm, GivesLanes, GivesNumber, GivesRing, IsFaultOfWords}
 use Rattle.pnmpipe.specs.declared.command_line.CommandLineFault.{CommandLineFault}
 use Rattle.pnmpipe.specs.declared.command_line.CommandLineFault.TheVariants.{Help, Usage, Memory}
 
@@ -91,44 +92,66 @@ chain_given c words m chain read taken first = record {
 }
 
 -- and the text that an option is read from is that of the words
-text_given : (c : Command) (words : List Text) (m : ArgMatches) (name text : Text) → HasRead c words m → one_text (found_of m) name ≡ Some text
-    → number_of name words ≡ Some text
-text_given c words m name text read is =
+text_of : (c : Command) (words : List Text) (m : ArgMatches) (name : Text) → HasRead c words m → value_of name words ≡ one_text (found_of m) name
+text_of c words m name read =
     let rows = (subst (λ (x : App). HasMatchesOf x words m) read.same read.has) program_is_simple in
-    ap (one_of name) (sym rows.0) ∙ (sym (one_text-rows (found_of m) name) ∙ is)
+    ap (one_of name) (sym rows.0) ∙ sym (one_text-rows (found_of m) name)
+
+text_given : (c : Command) (words : List Text) (m : ArgMatches) (name text : Text) → HasRead c words m → one_text (found_of m) name ≡ Some text
+    → value_of name words ≡ Some text
+text_given c words m name text read is = text_of c words m name read ∙ is
 
 -- the rules of the program's arguments in turn, and their ids
 abbrev rules : List Rule
-rules = ring_rule ∷ lanes_rule ∷ chain_rule ∷ []
+rules = ring_rule ∷ lanes_rule ∷ plain_rule ∷ chain_rule ∷ []
 
 abbrev id_of : ℕ → Text
 id_of k = (slice_index_or rules k chain_rule).id
 
 -- no two have one id
-distinct : (j k : ℕ) → j < 3 → k < 3 → bytes_eq (id_of j) (id_of k) ≡ true → j ≡ k
-distinct zero zero j3 k3 same = refl
-distinct zero (suc zero) j3 k3 same =
+distinct : (j k : ℕ) → j < 4 → k < 4 → bytes_eq (id_of j) (id_of k) ≡ true → j ≡ k
+distinct zero zero j4 k4 same = refl
+distinct zero (suc zero) j4 k4 same =
     let bad : false ≡ true = same in
     cc
-distinct zero (suc (suc zero)) j3 k3 same =
+distinct zero (suc (suc zero)) j4 k4 same =
     let bad : false ≡ true = same in
     cc
-distinct (suc zero) zero j3 k3 same =
+distinct zero (suc (suc (suc zero))) j4 k4 same =
     let bad : false ≡ true = same in
     cc
-distinct (suc zero) (suc zero) j3 k3 same = refl
-distinct (suc zero) (suc (suc zero)) j3 k3 same =
+distinct (suc zero) zero j4 k4 same =
     let bad : false ≡ true = same in
     cc
-distinct (suc (suc zero)) zero j3 k3 same =
+distinct (suc zero) (suc zero) j4 k4 same = refl
+distinct (suc zero) (suc (suc zero)) j4 k4 same =
     let bad : false ≡ true = same in
     cc
-distinct (suc (suc zero)) (suc zero) j3 k3 same =
+distinct (suc zero) (suc (suc (suc zero))) j4 k4 same =
     let bad : false ≡ true = same in
     cc
-distinct (suc (suc zero)) (suc (suc zero)) j3 k3 same = refl
-distinct (suc (suc (suc j))) k j3 k3 same = absurd (omega arith)
-distinct j (suc (suc (suc k))) j3 k3 same = absurd (omega arith)
+distinct (suc (suc zero)) zero j4 k4 same =
+    let bad : false ≡ true = same in
+    cc
+distinct (suc (suc zero)) (suc zero) j4 k4 same =
+    let bad : false ≡ true = same in
+    cc
+distinct (suc (suc zero)) (suc (suc zero)) j4 k4 same = refl
+distinct (suc (suc zero)) (suc (suc (suc zero))) j4 k4 same =
+    let bad : false ≡ true = same in
+    cc
+distinct (suc (suc (suc zero))) zero j4 k4 same =
+    let bad : false ≡ true = same in
+    cc
+distinct (suc (suc (suc zero))) (suc zero) j4 k4 same =
+    let bad : false ≡ true = same in
+    cc
+distinct (suc (suc (suc zero))) (suc (suc zero)) j4 k4 same =
+    let bad : false ≡ true = same in
+    cc
+distinct (suc (suc (suc zero))) (suc (suc (suc zero))) j4 k4 same = refl
+distinct (suc (suc (suc (suc j)))) k j4 k4 same = absurd (omega arith)
+distinct j (suc (suc (suc (suc k)))) j4 k4 same = absurd (omega arith)
 
 -- and none is empty or that of a flag that building adds, by its first letter
 record IsNamed (id : Text) : Type 0 where
@@ -146,11 +169,12 @@ named_by_start t x start none h v = record {
   no_version = other_start t (codes "version") x 118 start refl v;
 }
 
-named : (k : ℕ) → k < 3 → IsNamed (id_of k)
-named zero k3 = named_by_start (codes "ring") 114 refl (λ e. absurd (omega arith)) (λ e. absurd (omega arith)) (λ e. absurd (omega arith))
-named (suc zero) k3 = named_by_start (codes "lanes") 108 refl (λ e. absurd (omega arith)) (λ e. absurd (omega arith)) (λ e. absurd (omega arith))
-named (suc (suc zero)) k3 = named_by_start (codes "CHAIN") 67 refl (λ e. absurd (omega arith)) (λ e. absurd (omega arith)) (λ e. absurd (omega arith))
-named (suc (suc (suc k))) k3 = absurd (omega arith)
+named : (k : ℕ) → k < 4 → IsNamed (id_of k)
+named zero k4 = named_by_start (codes "ring") 114 refl (λ e. absurd (omega arith)) (λ e. absurd (omega arith)) (λ e. absurd (omega arith))
+named (suc zero) k4 = named_by_start (codes "lanes") 108 refl (λ e. absurd (omega arith)) (λ e. absurd (omega arith)) (λ e. absurd (omega arith))
+named (suc (suc zero)) k4 = named_by_start (codes "plain") 112 refl (λ e. absurd (omega arith)) (λ e. absurd (omega arith)) (λ e. absurd (omega arith))
+named (suc (suc (suc zero))) k4 = named_by_start (codes "CHAIN") 67 refl (λ e. absurd (omega arith)) (λ e. absurd (omega arith)) (λ e. absurd (omega arith))
+named (suc (suc (suc (suc k)))) k4 = absurd (omega arith)
 
 -- what a command is that reads like the program's
 record IsProgram (c : Command) : Type 0 where
@@ -185,27 +209,27 @@ record IsArgAt (c : Command) (k : ℕ) (d : Arg) : Type 0 where
   pub some : (slice_index_or (args_of c) k d).id.now ≡ [] → ⊥
   pub own : IsAuto (slice_index_or (args_of c) k d) → ⊥
 
-count_of : (c : Command) → IsProgram c → length (args_of c) ≡ 3
+count_of : (c : Command) → IsProgram c → length (args_of c) ≡ 4
 count_of c p = sym (length-map (args_of c) rule_of) ∙ ap length p.rules_are
 
-rule_at : (c : Command) → IsProgram c → (k : ℕ) (d : Arg) → k < 3 → rule_of (slice_index_or (args_of c) k d) ≡ slice_index_or rules k chain_rule
-rule_at c p k d k3 =
+rule_at : (c : Command) → IsProgram c → (k : ℕ) (d : Arg) → k < 4 → rule_of (slice_index_or (args_of c) k d) ≡ slice_index_or rules k chain_rule
+rule_at c p k d k4 =
     let count = count_of c p in
     sym (get_or-map rule_of (args_of c) k d chain_rule (omega arith)) ∙ ap (λ (rs : List Rule). slice_index_or rs k chain_rule) p.rules_are
 
-arg_at : (c : Command) → IsProgram c → (k : ℕ) (d : Arg) → k < 3 → IsArgAt c k d
-arg_at c p k d k3 =
+arg_at : (c : Command) → IsProgram c → (k : ℕ) (d : Arg) → k < 4 → IsArgAt c k d
+arg_at c p k d k4 =
     let count = count_of c p in
-    let id : (slice_index_or (args_of c) k d).id.now ≡ id_of k = ap (λ (r : Rule). r.id) (rule_at c p k d k3) in
-    let names = named k k3 in
+    let id : (slice_index_or (args_of c) k d).id.now ≡ id_of k = ap (λ (r : Rule). r.id) (rule_at c p k d k4) in
+    let names = named k k4 in
     record {
       low = omega arith;
-      rule = rule_at c p k d k3;
+      rule = rule_at c p k d k4;
       id = id;
       only = λ j e lt found.
-          let j3 : j < 3 = omega arith in
-          let other : (slice_index_or (args_of c) j e).id.now ≡ id_of j = ap (λ (r : Rule). r.id) (rule_at c p j e j3) in
-          distinct j k j3 k3 (subst (λ (t : Text). bytes_eq t (id_of k) ≡ true) other (subst (λ (t : Text). bytes_eq (slice_index_or (args_of c) j e).id.now t ≡ true) id found));
+          let j4 : j < 4 = omega arith in
+          let other : (slice_index_or (args_of c) j e).id.now ≡ id_of j = ap (λ (r : Rule). r.id) (rule_at c p j e j4) in
+          distinct j k j4 k4 (subst (λ (t : Text). bytes_eq t (id_of k) ≡ true) other (subst (λ (t : Text). bytes_eq (slice_index_or (args_of c) j e).id.now t ≡ true) id found));
       some = λ empty. names.some (sym id ∙ empty);
       own = λ auto. elim auto [
         | inl h ↦ names.no_help (sym id ∙ h)
@@ -233,19 +257,19 @@ pub has_chain : (c : Command) (words : List Text) (m : ArgMatches) → HasRead c
 has_chain c words m read =
     let p = is_program c read.same in
     let d = any_arg c p in
-    let at = arg_at c p 2 d (omega arith) in
-    let has = required_has_value c m read.parsed p.plain p.globals p.negates 2 d at.low (ap (λ (r : Rule). r.required) at.rule) (ap (λ (r : Rule). r.action) at.rule)
-    (p.simple.args 2 d at.low).delimiter (least_one (slice_index_or (args_of c) 2 d) chain_rule at.rule refl) at.only at.some at.own in
+    let at = arg_at c p 3 d (omega arith) in
+    let has = required_has_value c m read.parsed p.plain p.globals p.negates 3 d at.low (ap (λ (r : Rule). r.required) at.rule) (ap (λ (r : Rule). r.action) at.rule)
+    (p.simple.args 3 d at.low).delimiter (least_one (slice_index_or (args_of c) 3 d) chain_rule at.rule refl) at.only at.some at.own in
     subst (λ (t : Text). is_some (first_value (found_of m) t) ≡ true) at.id has
 
 -- a parse that succeeds gives an option of a number a text of its range
-number_text : (c : Command) (words : List Text) (m : ArgMatches) → HasRead c words m → (k : ℕ) (name default : Text) (high : ℕ) → k < 3
+number_text : (c : Command) (words : List Text) (m : ArgMatches) → HasRead c words m → (k : ℕ) (name default : Text) (high : ℕ) → k < 4
     → slice_index_or rules k chain_rule ≡ number_rule name default high
     → (t : Text) × (one_text (found_of m) name ≡ Some (without_minus t)) × IsSignedIn (pos 1) (pos high) t
-number_text c words m read k name default high k3 is_number =
+number_text c words m read k name default high k4 is_number =
     let p = is_program c read.same in
     let d = any_arg c p in
-    let at = arg_at c p k d k3 in
+    let at = arg_at c p k d k4 in
     let is : rule_of (slice_index_or (args_of c) k d) ≡ number_rule name default high = at.rule ∙ is_number in
     let id : (slice_index_or (args_of c) k d).id.now ≡ name = ap (λ (r : Rule). r.id) is in
     let defaults : texts (items_of (slice_index_or (args_of c) k d).default_vals) ≡ default ∷ [] = ap (λ (r : Rule). r.defaults) is in
@@ -269,11 +293,11 @@ number_text c words m read k name default high k3 is_number =
 
 -- what was read of it is a number, and the words give the option that
 number_given : (E : Type 0) (G : List ℕ → Result ℕ E → Type 0) (bits : ℕ) (c : Command) (words : List Text) (m : ArgMatches) (r : Option ℕ) → HasRead c words m
-    → ((u : List ℕ) (x : Result ℕ E) → G u x → ParsesUnsigned bits 10 u x) → (k : ℕ) (name default : Text) (high : ℕ) → k < 3 → high < 2 ^ bits
+    → ((u : List ℕ) (x : Result ℕ E) → G u x → ParsesUnsigned bits 10 u x) → (k : ℕ) (name default : Text) (high : ℕ) → k < 4 → high < 2 ^ bits
     → slice_index_or rules k chain_rule ≡ number_rule name default high → ((t : Text) → one_text (found_of m) name ≡ Some t → ReadsOne G t r)
     → (n : ℕ) × (r ≡ Some n) × GivesNumber name high words n
-number_given E G bits c words m r read only k name default high k3 fits is_number reads =
-    let text = number_text c words m read k name default high k3 is_number in
+number_given E G bits c words m r read only k name default high k4 fits is_number reads =
+    let text = number_text c words m read k name default high k4 is_number in
     let one : ReadsOne G (without_minus text.0) r = reads (without_minus text.0) text.1 in
     let got = signed_reads E G bits 1 high text.0 r one only fits text.2 in
     let parsed : G (without_minus text.0) (Ok got.0) = subst (ReadsOne G (without_minus text.0)) got.1 one in (
@@ -298,3 +322,29 @@ pub lanes_given : (E : Type 0) (G : List ℕ → Result ℕ E → Type 0) (c : C
     → ((u : List ℕ) (x : Result ℕ E) → G u x → ParsesUnsigned 8 10 u x) → ((t : Text) → one_text (found_of m) (codes "lanes") ≡ Some t → ReadsOne G t r)
     → (n : ℕ) × (r ≡ Some n) × GivesLanes words n
 lanes_given E G c words m r read only = number_given E G 8 c words m r read only 1 (codes "lanes") (codes "1") 8 (omega arith) (omega arith) refl
+
+-- ---- the form
+
+-- a text that reads as true is that of a flag which was given
+flag_given : (E : Type 0) (o t : Option Text) (r : Option Bool) → t ≡ o → r ≡ Some true → (o ≡ None → r ≡ None) → ((u : Text) → o ≡ Some u → ReadsOne (ParsesBool {E = E}) u r) → t ≡ Some (codes "true")
+flag_given E None t r same is none reads =
+    let bad : r ≡ None = none refl in
+    absurd cc
+flag_given E (Some u) t r same is none reads = same ∙ ap Some (subst (ReadsOne (ParsesBool {E = E}) u) is (reads u refl))
+
+-- the texts of the two values of a flag
+other_text : codes "true" ≡ codes "false" → ⊥
+other_text same = other_start (codes "true") (codes "false") 116 102 refl refl (λ e. absurd (omega arith)) same
+
+not_given : (E : Type 0) (r : Option Bool) → form_by r ≡ Raw → ReadsOne (ParsesBool {E = E}) (codes "true") r → ⊥
+not_given E None raw reads = reads.1.0 refl
+not_given E (Some false) raw reads = other_text reads
+not_given E (Some true) raw reads = absurd cc
+
+-- the words give the form that the flag asks for
+pub form_given : (E : Type 0) (c : Command) (words : List Text) (m : ArgMatches) (r : Option Bool) → HasRead c words m
+    → (one_text (found_of m) (codes "plain") ≡ None → r ≡ None) → ((t : Text) → one_text (found_of m) (codes "plain") ≡ Some t → ReadsOne (ParsesBool {E = E}) t r)
+    → GivesForm words (form_by r)
+form_given E c words m None read none reads = λ given. not_given E None refl (reads (codes "true") (sym (text_of c words m (codes "plain") read) ∙ given))
+form_given E c words m (Some false) read none reads = λ given. not_given E (Some false) refl (reads (codes "true") (sym (text_of c words m (codes "plain") read) ∙ given))
+form_given E c words m (Some true) read none reads = flag_given E (one_text (found_of m) (codes "plain")) (value_of (codes "plain") words) (Some true) (text_of c words m (codes "plain") read) refl none reads

@@ -1,14 +1,17 @@
 -- What the words of the command line say, as `clap` reads them.
 use Rattle.std.specs.Str.Parse.{digits_value, without_leading_plus}
-use Rattle.std.specs.Prelude.{◌≡◌, ◌≢◌, ◌⊎◌, ◌≤◌, ◌∷◌, ℕ, List, [], Option, Some, Result, Ok, Err, codes, pos, true}
+use Rattle.std.specs.Prelude.{◌≡◌, ◌≢◌, ◌⊎◌, ◌≤◌, ◌∷◌, ℕ, List, [], Option, Some, None, Result, Ok, Err, Bool, codes, pos, true, false}
+use Rattle.pnm_image.specs.declared.format.Form.{Form}
+use Rattle.pnm_image.specs.declared.format.Form.TheVariants.{Raw, Plain}
 use Rattle.pnm_tools.specs.declared.tool.Tool.{Tool}
 use Rattle.clap.specs.Words.{App, Rule, Text, IsAmong, fault_of, first_of, matches_of, one_of, new_app, new_rule, with_rule}
-use Rattle.clap.specs.declared.builder.action.ArgAction.TheVariants.{Set}
+use Rattle.clap.specs.declared.builder.action.ArgAction.TheVariants.{Set, SetTrue}
 use Rattle.clap.specs.declared.builder.value_parser.ValueParser.TheVariants.{Signed}
 use Rattle.clap.specs.declared.error.kind.ErrorKind.{ErrorKind}
 use Rattle.clap.specs.declared.error.kind.ErrorKind.TheVariants.{DisplayHelp, OutOfMemory}
 use Rattle.pnm_chain.specs.ChainText.{SpellsChain}
 use Rattle.pnm_rings.specs.Limits.{max_ring_capacity}
+use Rattle.pnm_flow.specs.Jobs.{Job, job_of}
 use Rattle.pnm_flow.specs.Runs.{Change}
 use Rattle.pnm_flow.specs.ThreadedRuns.{HasRunOverThreads}
 use Rattle.pnm_flow.specs.declared.fault.RunFault.{RunFault}
@@ -35,44 +38,63 @@ ring_rule = number_rule (codes "ring") (codes "64") max_ring_capacity
 abbrev pub lanes_rule : Rule
 lanes_rule = number_rule (codes "lanes") (codes "1") 8
 
+-- `--plain`: a flag
+abbrev pub plain_rule : Rule
+plain_rule = record (new_rule (codes "plain")) { long = Some (codes "plain"); action = Some SetTrue }
+
 -- one text, which has to be given
 abbrev pub chain_rule : Rule
 chain_rule = record (new_rule (codes "CHAIN")) { action = Some Set; required = true }
 
 -- the command that the words are read by; `clap` adds `--help` and `-h` to it
 abbrev pub program : App
-program = with_rule (with_rule (with_rule (new_app (codes "pnmpipe")) ring_rule) lanes_rule) chain_rule
+program = with_rule (with_rule (with_rule (with_rule (new_app (codes "pnmpipe")) ring_rule) lanes_rule) plain_rule) chain_rule
 
 -- the words, of which the first is the program's name, are a command line, and this is its CHAIN
 pub record GivesChain (words : List Text) (chain : Text) : Type 0 where
   pub taken : fault_of program words ≡ []
   pub given : first_of (codes "CHAIN") (matches_of program words) ≡ Some chain
 
--- the text that the number of the option of this name is read from
-abbrev pub number_of : Text → List Text → Option Text
-number_of name words = one_of name (matches_of program words)
+-- the text that the value of the option of this name is read from
+abbrev pub value_of : Text → List Text → Option Text
+value_of name words = one_of name (matches_of program words)
 
 -- the words give the option of this name this number, which is 1 or more and no higher than that
 pub record GivesNumber (name : Text) (high : ℕ) (words : List Text) (number : ℕ) : Type 0 where
   pub least : 1 ≤ number
   pub most : number ≤ high
   pub text : Text
-  pub given : number_of name words ≡ Some text
+  pub given : value_of name words ≡ Some text
   pub spelled : number ≡ digits_value 10 (without_leading_plus text)
 
 -- the text of `--ring`, and its number
 abbrev pub ring_of : List Text → Option Text
-ring_of = number_of (codes "ring")
+ring_of = value_of (codes "ring")
 
 abbrev pub GivesRing : List Text → ℕ → Type 0
 GivesRing = GivesNumber (codes "ring") max_ring_capacity
 
 -- the text of `--lanes`, and its number
 abbrev pub lanes_of : List Text → Option Text
-lanes_of = number_of (codes "lanes")
+lanes_of = value_of (codes "lanes")
 
 abbrev pub GivesLanes : List Text → ℕ → Type 0
 GivesLanes = GivesNumber (codes "lanes") 8
+
+-- the text of `--plain`: `true` where the flag is among the words, and else `false`
+abbrev pub plain_of : List Text → Option Text
+plain_of = value_of (codes "plain")
+
+-- the form that a flag asks for
+abbrev pub form_by : Option Bool → Form
+form_by None = Raw
+form_by (Some false) = Raw
+form_by (Some true) = Plain
+
+-- the words give this form: plain exactly where the flag is among them
+abbrev pub GivesForm : List Text → Form → Type 0
+GivesForm words Raw = plain_of words ≢ Some (codes "true")
+GivesForm words Plain = plain_of words ≡ Some (codes "true")
 
 -- the first thing that isn't read on past is a call for help
 abbrev pub AsksForHelp : List Text → Type 0
@@ -99,18 +121,21 @@ abbrev pub status_of : Result Summary RunFault → ℕ
 status_of (Ok summary) = 0
 status_of (Err fault) = 1
 
--- a run over these tools, of which each row-wise one has so many lanes, which gave the status by its answer, or couldn't be started
-pub record HasRunTools (lanes : ℕ) (tools : List Tool) (status : ℕ) (reader writer : Change) : Type 0 where
+-- a run that does this job, of whose tools each row-wise one has so many lanes, which gave the status by its answer, or
+-- couldn't be started
+pub record HasRunTools (lanes : ℕ) (job : Job) (status : ℕ) (reader writer : Change) : Type 0 where
   pub answer : Result Summary RunFault
   pub status_is : status ≡ status_of answer
-  pub ran : (answer ≡ Err NoStart) ⊎ HasRunOverThreads lanes tools answer reader writer
+  pub ran : (answer ≡ Err NoStart) ⊎ HasRunOverThreads lanes job answer reader writer
 
--- the words give a chain and a number of lanes, the chain spells tools, and a run over these ended
+-- the words give a chain, a number of lanes and a form, the chain spells tools, and a run over these in that form ended
 pub record HasRunWords (words : List Text) (status : ℕ) (reader writer : Change) : Type 0 where
   pub chain : Text
   pub tools : List Tool
   pub lanes : ℕ
+  pub form : Form
   pub given : GivesChain words chain
   pub lanes_given : GivesLanes words lanes
+  pub form_given : GivesForm words form
   pub spelled : SpellsChain chain tools
-  pub run : HasRunTools lanes tools status reader writer
+  pub run : HasRunTools lanes (job_of tools form) status reader writer

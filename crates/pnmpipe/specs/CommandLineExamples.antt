@@ -2,7 +2,9 @@
 use Rattle.std.specs.Prelude.{◌≡◌, ◌∷◌, List, [], Some, codes}
 use Rattle.clap.specs.Words.{Kinds, Text, fault_of}
 use Rattle.clap.specs.declared.error.kind.ErrorKind.TheVariants.{ArgumentConflict, DisplayHelp, InvalidValue, MissingRequiredArgument, UnknownArgument, ValueValidation}
-use Rattle.pnmpipe.specs.CommandLine.{GivesChain, lanes_of, program, ring_of}
+use Rattle.pnm_image.specs.declared.format.Form.{Form}
+use Rattle.pnm_image.specs.declared.format.Form.TheVariants.{Raw, Plain}
+use Rattle.pnmpipe.specs.CommandLine.{GivesChain, GivesForm, lanes_of, program, ring_of}
 
 -- `-` is code 45
 abbrev pub BeginsWithDash : Text → Type 0
@@ -18,6 +20,11 @@ pub record GivesAll (words : List Text) (text messages threads : Text) : Type 0 
   pub both : GivesBoth words text messages
   pub lanes : lanes_of (codes "pnmpipe" ∷ words) ≡ Some threads
 
+-- these words after the program's name give this chain, and the results' form
+pub record GivesFormToo (words : List Text) (text : Text) (wanted : Form) : Type 0 where
+  pub chain : GivesChain (codes "pnmpipe" ∷ words) text
+  pub form : GivesForm (codes "pnmpipe" ∷ words) wanted
+
 -- these words after the program's name fail so
 abbrev pub FailBy : List Text → Kinds → Type 0
 FailBy words kinds = fault_of program (codes "pnmpipe" ∷ words) ≡ kinds
@@ -31,6 +38,10 @@ pub record CommandLinesHold : Type 0 where
   pub ring_attached : GivesBoth (codes "--ring=7" ∷ codes "pnminvert" ∷ []) (codes "pnminvert") (codes "7")
   pub lanes_before : GivesAll (codes "--lanes" ∷ codes "8" ∷ codes "pnminvert" ∷ []) (codes "pnminvert") (codes "64") (codes "8")
   pub ring_and_lanes : GivesAll (codes "--ring" ∷ codes "2" ∷ codes "pnminvert" ∷ codes "--lanes=3" ∷ []) (codes "pnminvert") (codes "2") (codes "3")
+  pub plain_left_out : GivesFormToo (codes "pnminvert" ∷ []) (codes "pnminvert") Raw
+  pub plain_before : GivesFormToo (codes "--plain" ∷ codes "pnminvert" ∷ []) (codes "pnminvert") Plain
+  pub plain_after : GivesFormToo (codes "--ring" ∷ codes "2" ∷ codes "pnminvert" ∷ codes "--plain" ∷ []) (codes "pnminvert") Plain
+  pub plain_after_dashes : GivesFormToo (codes "--" ∷ codes "--plain" ∷ []) (codes "--plain") Raw
   pub after_dashes : GivesBoth (codes "--" ∷ codes "--help" ∷ []) (codes "--help") (codes "64")
   pub empty_chain : GivesBoth ([] ∷ []) [] (codes "64")
   pub no_chain : FailBy [] (MissingRequiredArgument ∷ [])
@@ -46,9 +57,11 @@ pub record CommandLinesHold : Type 0 where
   pub lanes_large : FailBy (codes "--lanes" ∷ codes "9" ∷ codes "a" ∷ []) (ValueValidation ∷ [])
   pub lanes_letter : FailBy (codes "--lanes" ∷ codes "x" ∷ codes "a" ∷ []) (ValueValidation ∷ [])
   pub lanes_twice : FailBy (codes "--lanes" ∷ codes "1" ∷ codes "--lanes" ∷ codes "1" ∷ codes "a" ∷ []) (ArgumentConflict ∷ [])
-  pub unknown : FailBy (codes "--plain" ∷ codes "2" ∷ codes "a" ∷ []) (UnknownArgument ∷ [])
+  pub plain_twice : FailBy (codes "--plain" ∷ codes "--plain" ∷ codes "a" ∷ []) (ArgumentConflict ∷ [])
+  pub plain_alone : FailBy (codes "--plain" ∷ []) (MissingRequiredArgument ∷ [])
+  pub unknown : FailBy (codes "--raw" ∷ codes "2" ∷ codes "a" ∷ []) (UnknownArgument ∷ [])
   pub help : FailBy (codes "--help" ∷ []) (DisplayHelp ∷ [])
   pub short_help : FailBy (codes "a" ∷ codes "-h" ∷ []) (DisplayHelp ∷ [])
-  pub help_before_fault : FailBy (codes "--help" ∷ codes "--plain" ∷ []) (DisplayHelp ∷ [])
-  pub fault_before_help : FailBy (codes "--plain" ∷ codes "--help" ∷ []) (UnknownArgument ∷ [])
+  pub help_before_fault : FailBy (codes "--help" ∷ codes "--raw" ∷ []) (DisplayHelp ∷ [])
+  pub fault_before_help : FailBy (codes "--raw" ∷ codes "--help" ∷ []) (UnknownArgument ∷ [])
   pub bad_ring_before_help : FailBy (codes "--ring" ∷ codes "0" ∷ codes "--help" ∷ []) (ValueValidation ∷ [])

@@ -4,6 +4,7 @@ ghost use Rattle.std.specs.Prelude.{◌≡◌, ◌≢◌, ◌⊎◌, ◌≤◌, 
 ghost use Rattle.std.specs.Io.KnownBytes.{Appends};
 ghost use Rattle.pnm_image.specs.Devices.{AppendsFront, Failed};
 ghost use Rattle.pnmpipe.specs.CommandLine.{AsksForHelp, HasRunTools, HasRunWords};
+ghost use Rattle.pnm_flow.specs.Jobs.{job_of};
 ghost use Rattle.pnm_flow.specs.Runs.{change};
 ghost use Rattle.pnm_lanes.specs.Limits.{IsLaneCount};
 ghost use Rattle.pnm_rings.specs.Limits.{IsRingCapacity};
@@ -13,7 +14,7 @@ use crate::command_line::{CommandLineFault, read_words};
 use crate::fault_line::{print_chain_fault, print_run_fault, print_usage, print_want_of_memory};
 use pnm_chain::parse_chain;
 use pnm_flow::{OpenGate, run};
-use pnm_image::{BytesIn, BytesOut, write_all};
+use pnm_image::{BytesIn, BytesOut, Form, write_all};
 use pnm_tools::Tool;
 use std::io::Write;
 use std::sync::Wait;
@@ -29,9 +30,9 @@ const RUN_FAULT: u8 = 1;
 pub const COMMAND_LINE_FAULT: u8 = 2;
 
 /// Runs the program: `words` are its own name, options and the chain. It reads the images of `input`
-/// and writes those that come out to `output`. Where the words ask for help, that is written to
-/// `output` and nothing is read. A fault prints one line to `errors`; if that can't be written,
-/// nothing else changes. The status is 0 where all went well or help was asked for, 1 after a fault
+/// and writes those that come out to `output`, in the form that the words ask for. Where they ask for
+/// help, that is written to `output` and nothing is read. A fault prints one line to `errors`; if that
+/// can't be written, nothing else changes. The status is 0 where all went well or help was asked for, 1 after a fault
 /// of the run, and 2 where the words name no chain or memory ran out before the run, and then nothing is
 /// read or written.
 pub fn command<H: AllocGlobal + Threads + Wait + Sync, R: BytesIn, W: BytesOut, E: Write>(
@@ -72,6 +73,7 @@ pub fn command<H: AllocGlobal + Threads + Wait + Sync, R: BytesIn, W: BytesOut, 
             tools.as_slice(),
             line.ring,
             line.lanes,
+            line.form,
             input,
             output,
             errors,
@@ -83,13 +85,14 @@ pub fn command<H: AllocGlobal + Threads + Wait + Sync, R: BytesIn, W: BytesOut, 
     }
 }
 
-/// Runs the tools over the input, with rings for so many messages between them and each row-wise one over so many lanes,
-/// and prints the run's fault.
+/// Runs the tools over the input, with rings for so many messages between them and each row-wise one over
+/// so many lanes, writes the results in the form, and prints the run's fault.
 fn run_tools<H: AllocGlobal + Threads + Wait + Sync, R: BytesIn, W: BytesOut, E: Write>(
     rt: &H,
     tools: &[Tool],
     ring: u16,
     lanes: u8,
+    form: Form,
     input: &mut R,
     output: &mut W,
     errors: &mut E,
@@ -98,7 +101,7 @@ fn run_tools<H: AllocGlobal + Threads + Wait + Sync, R: BytesIn, W: BytesOut, E:
     requires ring { IsRingCapacity ring }
     requires lanes { IsLaneCount lanes }
     ensures status { result ≤ 1 }
-    ensures ran { HasRunTools lanes tools.now result
+    ensures ran { HasRunTools lanes (job_of tools.now form) result
         (change R.left R.failures input.old input.new) (change W.held W.failures output.old output.new) }
 {
     let capacity = usize::from(ring);
@@ -109,6 +112,7 @@ fn run_tools<H: AllocGlobal + Threads + Wait + Sync, R: BytesIn, W: BytesOut, E:
         input,
         output,
         tools,
+        form,
         capacity,
         lanes,
         &OpenGate,

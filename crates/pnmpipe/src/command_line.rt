@@ -2,25 +2,29 @@
 
 ghost use Rattle.std.specs.Prelude.{◌≡◌, IfOk, IfErr, map, string_bytes};
 ghost use Rattle.clap.specs.Words.{app_of, kind_of, rule_of};
-ghost use Rattle.pnmpipe.specs.CommandLine.{lanes_rule, program, ring_rule, FitsKind, GivesChain, GivesLanes, GivesRing, IsFaultOfWords};
+ghost use Rattle.pnmpipe.specs.CommandLine.{form_by, lanes_rule, plain_rule, program, ring_rule};
+ghost use Rattle.pnmpipe.specs.CommandLine.{FitsKind, GivesChain, GivesForm, GivesLanes, GivesRing, IsFaultOfWords};
 ghost use Rattle.pnmpipe.specs.declared.command_line.CommandLineFault.TheVariants.{Memory};
 
 use clap::error::ErrorKind;
 use clap::{Arg, ArgAction, Command, value_parser};
 use pnm_flow::MAX_RING_CAPACITY;
+use pnm_image::Form;
 use std::alloc::{AllocError, Global};
 
 /// How the program is called.
-pub const USAGE: &str = "pnmpipe [--ring N] [--lanes K] CHAIN";
+pub const USAGE: &str = "pnmpipe [--ring N] [--lanes K] [--plain] CHAIN";
 
 const ABOUT: &str = "Reads a stream of PBM, PGM, PPM or PAM images from standard input, passes it
-through a chain of tools, and writes raw Netpbm images to standard output.";
+through a chain of tools, and writes Netpbm images to standard output.";
 
 const CHAIN_HELP: &str = "1 to 16 tools, parted by |, in one word";
 
 const RING_HELP: &str = "Messages between two tools, 1 to 1024";
 
 const LANES_HELP: &str = "Threads of each row-wise tool, 1 to 8";
+
+const PLAIN_HELP: &str = "Write one plain PBM, PGM or PPM image, not raw ones";
 
 const AFTER_HELP: &str = "Tools:
   pnminvert
@@ -30,7 +34,6 @@ const AFTER_HELP: &str = "Tools:
   pamenlarge N, or [-xscale N] [-yscale N]
   pamflip -null, -lr (-leftright), -tb (-topbottom) or -xy (-transpose)
   pnmtile WIDTH HEIGHT
-
 Status: 0 all went well, 1 the input, a tool or the output failed, 2 wrong words
 Example: pnmpipe 'pamcut -width 640 | pamflip -lr' < a.ppm > b.ppm";
 
@@ -43,6 +46,8 @@ pub struct CommandLine<'a> {
     pub ring: u16,
     /// How many threads each row-wise tool works in.
     pub lanes: u8,
+    /// In which form the results are written.
+    pub form: Form,
 }
 
 /// Why words name no run.
@@ -72,6 +77,7 @@ pub fn read_words<'a>(
     ensures given { IfOk result (λ line. GivesChain (map string_bytes words.entry.now) line.chain.now) }
     ensures ring { IfOk result (λ line. GivesRing (map string_bytes words.entry.now) line.ring) }
     ensures lanes { IfOk result (λ line. GivesLanes (map string_bytes words.entry.now) line.lanes) }
+    ensures form { IfOk result (λ line. GivesForm (map string_bytes words.entry.now) line.form) }
     ensures refused { IfErr result (IsFaultOfWords (map string_bytes words.entry.now)) }
 {
     let matches = match program(alloc)?.try_get_matches_from(words) {
@@ -82,7 +88,18 @@ pub fn read_words<'a>(
         chain: matches.get_str("CHAIN").unwrap(),
         ring: matches.get_one::<u16>("ring").unwrap(),
         lanes: matches.get_one::<u8>("lanes").unwrap(),
+        form: form_by(matches.get_one::<bool>("plain")),
     })
+}
+
+/// The form that the flag asks for.
+fn form_by(is_plain: Option<bool>) -> Form
+    ensures { result ≡ form_by is_plain }
+{
+    match is_plain {
+        Some(true) => Form::Plain,
+        Some(false) | None => Form::Raw,
+    }
 }
 
 /// The command that the words are read by.
@@ -99,6 +116,7 @@ fn program<'a>(alloc: Global) -> Result<Command<'a>, AllocError>
         .after_help(AFTER_HELP)
         .arg(ring_option(alloc))?
         .arg(lanes_option(alloc))?
+        .arg(plain_option(alloc))?
         .arg(chain)
 }
 
@@ -126,6 +144,16 @@ fn lanes_option<'a>(alloc: Global) -> Arg<'a>
         .value_parser(value_parser!(u8).range(1..=8))
         .default_value("1")
         .help(LANES_HELP)
+}
+
+/// The option `--plain`.
+fn plain_option<'a>(alloc: Global) -> Arg<'a>
+    ensures { rule_of result ≡ plain_rule }
+{
+    Arg::new(alloc, "plain")
+        .long("plain")
+        .action(ArgAction::SetTrue)
+        .help(PLAIN_HELP)
 }
 
 /// What is at fault where `clap` gives this error.

@@ -13,4 +13,4 @@ const IMAGE: &[u8] = b"P5\n2 1\n122\nAB";
 const INVERTED: &[u8] = b"P5\n2 1\n122\n98";
 
 /// The line for words that are no command line.
-const USAGE_LINE: &str = "pnmpipe: usage: pnmpipe [--ring N] [--lanes K] CHAIN\n";
+const USAGE_LINE: &str = "pnmpipe: usage: pnmpipe [--ring N] [--lanes K] [--plain] CHAIN\n";

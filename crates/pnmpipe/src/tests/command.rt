@@ -56,7 +56,8 @@ fn refuses_words(rt: HostRuntime) -> Result<(), Fail> {
         (["pnmpipe", "pnminvert", "pnminvert"].as_slice(), USAGE_LINE),
         (["pnmpipe", "--ring", "7"].as_slice(), USAGE_LINE),
         (["pnmpipe", "--lanes", "7"].as_slice(), USAGE_LINE),
-        (["pnmpipe", "--plain", "pnminvert"].as_slice(), USAGE_LINE),
+        (["pnmpipe", "--plain"].as_slice(), USAGE_LINE),
+        (["pnmpipe", "--raw", "pnminvert"].as_slice(), USAGE_LINE),
         (["pnmpipe", "--version"].as_slice(), USAGE_LINE),
         (["pnmpipe", "-V"].as_slice(), USAGE_LINE),
         (["pnmpipe", "pnmscale"].as_slice(), unknown),
@@ -150,6 +151,75 @@ fn refuses_lanes(rt: HostRuntime) -> Result<(), Fail> {
         ["pnmpipe", "--ring", "8", "--lanes", "64", "pnminvert"].as_slice(),
     ];
     refuses_each(&rt, cases.as_slice())
+}
+
+/// `--plain` takes no value, and stands once.
+#[test]
+fn refuses_plain(rt: HostRuntime) -> Result<(), Fail> {
+    let cases = [
+        ["pnmpipe", "--plain=true", "pnminvert"].as_slice(),
+        ["pnmpipe", "--plain=", "pnminvert"].as_slice(),
+        ["pnmpipe", "--plain", "true", "pnminvert"].as_slice(),
+        ["pnmpipe", "--plain", "--plain", "pnminvert"].as_slice(),
+        ["pnmpipe", "--plai", "pnminvert"].as_slice(),
+        ["pnmpipe", "--PLAIN", "pnminvert"].as_slice(),
+        ["pnmpipe", "-plain", "pnminvert"].as_slice(),
+        // The word after `--ring` is its value.
+        ["pnmpipe", "--ring", "--plain", "pnminvert"].as_slice(),
+    ];
+    refuses_each(&rt, cases.as_slice())
+}
+
+/// Where `--plain` stands among the words, the result is written in plain form.
+#[test]
+fn writes_plain(rt: HostRuntime) -> Result<(), Fail> {
+    for texts in [
+        ["pnmpipe", "--plain", "pnminvert"].as_slice(),
+        ["pnmpipe", "pnminvert", "--plain"].as_slice(),
+        [
+            "pnmpipe",
+            "--ring",
+            "1",
+            "--plain",
+            "--lanes",
+            "3",
+            "pnminvert",
+        ]
+        .as_slice(),
+        ["pnmpipe", "--plain", "--", "pnminvert"].as_slice(),
+    ] {
+        let answer = answer_to(&rt, texts, IMAGE)?;
+        assert_eq!(rt; answer.status, 0, "at {texts:?}");
+        assert_eq!(rt;
+            answer.output.as_slice(),
+            b"P2\n2 1\n122\n57 56\n".as_slice(),
+            "at {texts:?}"
+        );
+        assert!(rt; answer.errors.is_empty(), "at {texts:?}");
+    }
+    // After `--` it is a chain.
+    let answer = answer_to(&rt, ["pnmpipe", "--", "--plain"].as_slice(), IMAGE)?;
+    assert_eq!(rt; answer.status, 2);
+    assert_eq!(rt;
+        answer.errors.as_slice(),
+        b"pnmpipe: chain: stage 1: UnknownTool\n".as_slice()
+    );
+    Ok(())
+}
+
+/// A plain file holds one image, and a second one is a fault of the output.
+#[test]
+fn refuses_a_second_plain_image(rt: HostRuntime) -> Result<(), Fail> {
+    let input = b"P5\n1 1\n9\n\x01P5\n1 1\n9\n\x02".as_slice();
+    let texts = ["pnmpipe", "--plain", "pnminvert"];
+    let answer = answer_to(&rt, texts.as_slice(), input)?;
+    assert_eq!(rt; answer.status, 1);
+    assert_eq!(rt; answer.output.as_slice(), b"P2\n1 1\n9\n8\n".as_slice());
+    assert_eq!(rt;
+        answer.errors.as_slice(),
+        b"pnmpipe: output: SecondPlain\n".as_slice()
+    );
+    Ok(())
 }
 
 /// What `clap` takes for one chain with or without `--ring` and `--lanes`.

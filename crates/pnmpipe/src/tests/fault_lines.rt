@@ -66,6 +66,14 @@ fn names_tools(rt: HostRuntime) -> Result<(), Fail> {
             RunFault::Output(SinkFault::WriteFailed),
             "pnmpipe: output: WriteFailed\n",
         ),
+        (
+            RunFault::Output(SinkFault::SecondPlain),
+            "pnmpipe: output: SecondPlain\n",
+        ),
+        (
+            RunFault::Output(SinkFault::PlainPam),
+            "pnmpipe: output: PlainPam\n",
+        ),
     ] {
         let mut errors = Vec::new(rt.alloc());
         print_run_fault(&mut errors, fault);

@@ -7,9 +7,9 @@ use pnm_image::Device;
 use std::test::Fail;
 
 pub const HELP: &str = "Reads a stream of PBM, PGM, PPM or PAM images from standard input, passes it
-through a chain of tools, and writes raw Netpbm images to standard output.
+through a chain of tools, and writes Netpbm images to standard output.
 
-Usage: pnmpipe [--ring N] [--lanes K] CHAIN
+Usage: pnmpipe [--ring N] [--lanes K] [--plain] CHAIN
 
 Arguments:
   <CHAIN>  1 to 16 tools, parted by |, in one word
@@ -17,6 +17,7 @@ Arguments:
 Options:
       --ring <N>   Messages between two tools, 1 to 1024 [default: 64]
       --lanes <K>  Threads of each row-wise tool, 1 to 8 [default: 1]
+      --plain      Write one plain PBM, PGM or PPM image, not raw ones
   -h, --help       Print help
 
 Tools:
@@ -27,7 +28,6 @@ Tools:
   pamenlarge N, or [-xscale N] [-yscale N]
   pamflip -null, -lr (-leftright), -tb (-topbottom) or -xy (-transpose)
   pnmtile WIDTH HEIGHT
-
 Status: 0 all went well, 1 the input, a tool or the output failed, 2 wrong words
 Example: pnmpipe 'pamcut -width 640 | pamflip -lr' < a.ppm > b.ppm
 ";
@@ -46,6 +46,8 @@ fn helps(rt: HostRuntime) -> Result<(), Fail> {
         ["pnmpipe", "--help", "--ring", "0"].as_slice(),
         ["pnmpipe", "--help", "--lanes", "9"].as_slice(),
         ["pnmpipe", "-h", "--plain"].as_slice(),
+        ["pnmpipe", "--plain", "--help"].as_slice(),
+        ["pnmpipe", "-h", "--raw"].as_slice(),
         ["pnmpipe", "--help", "a", "b"].as_slice(),
         // `-hx` is `-h` and `-x`.
         ["pnmpipe", "-hx"].as_slice(),
@@ -63,7 +65,7 @@ fn helps(rt: HostRuntime) -> Result<(), Fail> {
 #[test]
 fn refuses_before_help(rt: HostRuntime) -> Result<(), Fail> {
     for (texts, printed) in [
-        (["pnmpipe", "--plain", "--help"].as_slice(), USAGE_LINE),
+        (["pnmpipe", "--raw", "--help"].as_slice(), USAGE_LINE),
         (["pnmpipe", "--ring", "0", "--help"].as_slice(), USAGE_LINE),
         (["pnmpipe", "--ring", "--help"].as_slice(), USAGE_LINE),
         (["pnmpipe", "--lanes", "9", "--help"].as_slice(), USAGE_LINE),

@@ -1,11 +1,11 @@
-use Rattle.std.proofs.Common.{◌≡◌, Some, codes, map, refl, rules, subst}
+use Rattle.std.proofs.Common.{◌≡◌, Some, codes, map, refl, rules, subst, sym}
 use Rattle.std.specs.Prelude.{Ok, Err, string_bytes}
 use Rattle.std.specs.Str.Parse.{ParsesUnsigned, ExplainsUnsignedError, HasUnsignedDigitsIfOk}
 use Rattle.clap.specs.Words.{app_of, first_value, found_of}
 use Rattle.clap.specs.declared.parser.matches.ArgMatches.{ArgMatches}
 use Rattle.clap.proofs.CallerLemmas.{some_of_text}
-use Rattle.pnmpipe.specs.CommandLine.{GivesLanes, GivesRing}
-use Rattle.pnmpipe.proofs.CommandLineSteps.{HasRead, chain_given, fault_fits, has_chain, lanes_given, parse_fails, ring_given}
+use Rattle.pnmpipe.specs.CommandLine.{GivesForm, GivesLanes, GivesRing}
+use Rattle.pnmpipe.proofs.CommandLineSteps.{HasRead, chain_given, fault_fits, form_given, has_chain, lanes_given, parse_fails, ring_given}
 use Rattle.pnmpipe.proofs.command_line.read_words.Goals as goal
 
 pub returns-in-Err-clause-refused : goal.returns-in-Err-clause-refused
@@ -66,3 +66,11 @@ returns-clause-lanes c =
     let is : c.get_one-2.result ≡ Some c.unwrap-3.result = search rules in
     let same : got.0 ≡ c.unwrap-3.result = cc in
     subst (GivesLanes words) same got.2
+
+pub returns-clause-form : goal.returns-clause-form
+returns-clause-form c =
+    let words = map string_bytes c.args.words.now in
+    let read : HasRead c.in_ok-program.field-0 (map string_bytes c.args.words.now) c.in-Ok.matches =
+    record { same = c.in_ok-program.ensures; parsed = c.in-Ok.ensures.parsed; has = c.in-Ok.ensures.matches } in
+    subst (GivesForm words) (sym c.form_by.ensures)
+    (form_given _ c.in_ok-program.field-0 words c.in-Ok.matches c.get_one-3.result read c.get_one-3.ensures.none c.get_one-3.ensures.value)

@@ -23,6 +23,10 @@ computed = record {
   ring_attached = record { chain = record { taken = refl; given = refl }; ring = refl };
   lanes_before = record { both = record { chain = record { taken = refl; given = refl }; ring = refl }; lanes = refl };
   ring_and_lanes = record { both = record { chain = record { taken = refl; given = refl }; ring = refl }; lanes = refl };
+  plain_left_out = record { chain = record { taken = refl; given = refl }; form = λ plain. absurd cc };
+  plain_before = record { chain = record { taken = refl; given = refl }; form = refl };
+  plain_after = record { chain = record { taken = refl; given = refl }; form = refl };
+  plain_after_dashes = record { chain = record { taken = refl; given = refl }; form = λ plain. absurd cc };
   after_dashes = record { chain = record { taken = refl; given = refl }; ring = refl };
   empty_chain = record { chain = record { taken = refl; given = refl }; ring = refl };
   no_chain = refl;
@@ -38,6 +42,8 @@ computed = record {
   lanes_large = refl;
   lanes_letter = refl;
   lanes_twice = refl;
+  plain_twice = refl;
+  plain_alone = refl;
   unknown = refl;
   help = refl;
   short_help = refl;
