@@ -1,5 +1,5 @@
 -- A message that is put into the sink.
-use Rattle.std.proofs.Common.{◌≡◌, ℕ, Bool, true, false, List, [], ◌∷◌, ◌++◌, Option, Result, Some, None, Ok, Err, OnOk, OnErr, refl, sym, ap, subst, ◌∙◌}
+use Rattle.std.proofs.Common.{◌≡◌, ℕ, Bool, true, false, List, [], ◌∷◌, ◌++◌, Option, Result, Some, None, Ok, Err, OnOk, OnErr, sym, ap, subst, ◌∙◌}
 use Rattle.std.specs.Result.{is_ok, IfErr}
 use Rattle.pnm_image.specs.Devices.{Failed, AppendsFront, FailsIn}
 use Rattle.pnm_image.specs.declared.format.Form.{Form}
