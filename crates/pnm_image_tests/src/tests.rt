@@ -6,6 +6,7 @@ use std::process::Abort;
 
 mod callers;
 mod devices;
+mod formats;
 mod heads;
 mod messages;
 mod places;

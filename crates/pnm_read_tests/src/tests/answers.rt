@@ -39,7 +39,7 @@ pub type Case<'a> = (&'a [u8], &'a [Answer<'a>]);
 /// through the one before the next list's.
 pub type Cuts<'a> = (&'a [u8], &'a [(usize, &'a [Answer<'a>])]);
 
-/// Whether a row is these samples, in whatever form it holds them.
+/// Whether a row is these samples, however wide they are held.
 fn are_samples(row: &Samples, samples: &[u16]) -> bool {
     if row.len() != samples.len() {
         return false;

@@ -1,7 +1,7 @@
 //! How the rows are held that a source gives: as they lie in the input, and as words where it is
 //! plain.
 
-use pnm_image::{Device, SampleSlice, Message};
+use pnm_image::{Device, Message, SampleSlice};
 use pnm_read::Source;
 use std::alloc::Global;
 use std::process::Abort;

@@ -1,7 +1,7 @@
 //! The greatest sample, and whether rows are within a number.
 
 use super::same;
-use pnm_samples::{Bits, SampleVec, Sample, Samples, greatest, greatest_byte};
+use pnm_samples::{Bits, Sample, SampleVec, Samples, greatest, greatest_byte};
 use std::process::Abort;
 use std::test::Fail;
 
@@ -82,9 +82,15 @@ fn bits_are_within(rt: HostRuntime) -> Result<(), Fail> {
 #[test]
 fn rows_with_a_bound_are_within(rt: HostRuntime) -> Result<(), Fail> {
     for bound in [9, 10, 255, 1000, u32::MAX] {
-        let bytes = Samples::within(SampleVec::Bytes(Vec::from_slice(rt.alloc(), &[3, 9, 0])?), bound);
+        let bytes = Samples::within(
+            SampleVec::Bytes(Vec::from_slice(rt.alloc(), &[3, 9, 0])?),
+            bound,
+        );
         ends_at(&rt, &bytes, 9);
-        let words = Samples::within(SampleVec::Words(Vec::from_slice(rt.alloc(), &[3, 9, 0])?), bound);
+        let words = Samples::within(
+            SampleVec::Words(Vec::from_slice(rt.alloc(), &[3, 9, 0])?),
+            bound,
+        );
         ends_at(&rt, &words, 9);
     }
     Ok(())

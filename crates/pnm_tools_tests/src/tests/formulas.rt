@@ -2,9 +2,9 @@
 //! them, by column, row and plane.
 
 use super::parts::{
-    Part, Width, are_made_of, held_so, holds, is_made_of, message, pass_all, start, take_all,
+    Part, are_made_of, held_so, holds, is_made_of, message, pass_all, start, take_all,
 };
-use pnm_image::{Kind, Message};
+use pnm_image::{Kind, Message, SampleWidth};
 use pnm_tools::{Filter, FlipWay, Tool, ToolState};
 use std::alloc::Global;
 use std::process::Abort;
@@ -14,10 +14,10 @@ use std::test::Fail;
 pub(super) type Sizes = (u32, u32, u32);
 
 /// The kind of an image, its maxval, and how wide its samples come.
-pub(super) type Form = (Kind, u32, Width);
+pub(super) type ImageType = (Kind, u32, SampleWidth);
 
 /// Samples of all sorts.
-const WIDE: Form = (Kind::Pam, 65_535, Width::Word);
+const WIDE: ImageType = (Kind::Pam, 65_535, SampleWidth::Words);
 
 /// Images of one pixel, of one column, of one row, and of several of both; of one plane, of three
 /// and of the most.
@@ -181,7 +181,7 @@ fn result_row_of(
 fn answers_to(
     alloc: Global,
     state: &mut ToolState,
-    (kind, maxval, held): Form,
+    (kind, maxval, held): ImageType,
     sizes: Sizes,
 ) -> Result<Vec<Message>, Fail> {
     let (_, height, _) = sizes;
@@ -202,7 +202,7 @@ fn answers_to(
 fn is_result(
     alloc: Global,
     tool: &Tool,
-    (kind, maxval, _): Form,
+    (kind, maxval, _): ImageType,
     sizes: Sizes,
     given: &[Message],
 ) -> Result<bool, Fail> {
@@ -242,11 +242,11 @@ pub(super) fn follows_formula_at(
     rt: &impl Abort,
     alloc: Global,
     tool: &Tool,
-    form: Form,
+    image_type: ImageType,
     images: &[Sizes],
 ) -> Result<(), Fail> {
     let mut state = start(alloc, tool)?;
-    follows_at_work(rt, alloc, tool, &mut state, form, images)
+    follows_at_work(rt, alloc, tool, &mut state, image_type, images)
 }
 
 /// The same of the tool at work.
@@ -255,13 +255,13 @@ fn follows_at_work(
     alloc: Global,
     tool: &Tool,
     state: &mut ToolState,
-    form: Form,
+    image_type: ImageType,
     images: &[Sizes],
 ) -> Result<(), Fail> {
     for sizes in images {
-        let given = answers_to(alloc, state, form, *sizes)?;
-        let is_result = is_result(alloc, tool, form, *sizes, given.as_slice())?;
-        holds(rt, is_result, &given, &(form, *sizes), tool);
+        let given = answers_to(alloc, state, image_type, *sizes)?;
+        let is_result = is_result(alloc, tool, image_type, *sizes, given.as_slice())?;
+        holds(rt, is_result, &given, &(image_type, *sizes), tool);
     }
     let given = pass_all(alloc, state, &[Part::StreamEnd])?;
     are_made_of(rt, given.as_slice(), &[Part::StreamEnd]);

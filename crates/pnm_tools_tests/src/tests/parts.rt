@@ -1,6 +1,6 @@
 //! Messages, what they are made of, and what a tool answers to them.
 
-use pnm_image::{Bits, Head, HeadFault, SampleVec, Kind, Message, Samples, Shape};
+use pnm_image::{Bits, Head, HeadFault, Kind, Message, SampleVec, SampleWidth, Samples, Shape};
 use pnm_tools::{CutBox, Filter, Planes, Tool, ToolFault, ToolState};
 use std::alloc::{AllocError, AllocFailed, Global};
 use std::fmt;
@@ -149,20 +149,16 @@ pub(super) fn narrow(alloc: Global, samples: &[u16]) -> Result<Samples, Unmade> 
     Ok(Samples::from_vec(held))
 }
 
-/// How wide each sample is held.
-#[derive(Clone, Copy, Debug, PartialEq, Eq)]
-pub(super) enum Width {
-    Bit,
-    Byte,
-    Word,
-}
-
-/// The samples, each so wide.
-pub(super) fn held_so(alloc: Global, samples: Vec<u16>, width: Width) -> Result<Samples, Unmade> {
-    let held = match width {
-        Width::Bit => SampleVec::Bits(bits_of(alloc, samples.as_slice())?),
-        Width::Byte => SampleVec::Bytes(bytes_of(alloc, samples.as_slice())?),
-        Width::Word => SampleVec::Words(samples),
+/// The samples, held so wide.
+pub(super) fn held_so(
+    alloc: Global,
+    samples: Vec<u16>,
+    sample_width: SampleWidth,
+) -> Result<Samples, Unmade> {
+    let held = match sample_width {
+        SampleWidth::Bits => SampleVec::Bits(bits_of(alloc, samples.as_slice())?),
+        SampleWidth::Bytes => SampleVec::Bytes(bytes_of(alloc, samples.as_slice())?),
+        SampleWidth::Words => SampleVec::Words(samples),
     };
     Ok(Samples::from_vec(held))
 }

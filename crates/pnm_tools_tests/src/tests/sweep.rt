@@ -1,31 +1,31 @@
 //! Each tool over images of many widths, however their samples are held: what it gives is what the formulas
 //! say, by column, row and plane.
 
-use super::formulas::{Form, Sizes, follows_formula_at};
-use super::parts::{WHOLE, Width, channel};
-use pnm_image::Kind;
+use super::formulas::{ImageType, Sizes, follows_formula_at};
+use super::parts::{WHOLE, channel};
+use pnm_image::{Kind, SampleWidth};
 use pnm_tools::{CutBox, FlipWay, Tool};
 use std::alloc::Global;
 use std::process::Abort;
 use std::test::Fail;
 
 /// The kind, the maxval and the planes of an image, and how its samples are held: each way that fits them.
-const FORMS: [(Form, u32); 15] = [
-    ((Kind::Bit, 1, Width::Bit), 1),
-    ((Kind::Bit, 1, Width::Byte), 1),
-    ((Kind::Bit, 1, Width::Word), 1),
-    ((Kind::Pam, 1, Width::Bit), 2),
-    ((Kind::Pam, 1, Width::Byte), 2),
-    ((Kind::Pam, 1, Width::Word), 2),
-    ((Kind::Pam, 1, Width::Bit), 3),
-    ((Kind::Pam, 1, Width::Byte), 3),
-    ((Kind::Pam, 1, Width::Word), 3),
-    ((Kind::Gray, 200, Width::Byte), 1),
-    ((Kind::Gray, 200, Width::Word), 1),
-    ((Kind::Color, 255, Width::Byte), 3),
-    ((Kind::Color, 255, Width::Word), 3),
-    ((Kind::Gray, 256, Width::Word), 1),
-    ((Kind::Color, 1000, Width::Word), 3),
+const IMAGE_TYPES: [(ImageType, u32); 15] = [
+    ((Kind::Bit, 1, SampleWidth::Bits), 1),
+    ((Kind::Bit, 1, SampleWidth::Bytes), 1),
+    ((Kind::Bit, 1, SampleWidth::Words), 1),
+    ((Kind::Pam, 1, SampleWidth::Bits), 2),
+    ((Kind::Pam, 1, SampleWidth::Bytes), 2),
+    ((Kind::Pam, 1, SampleWidth::Words), 2),
+    ((Kind::Pam, 1, SampleWidth::Bits), 3),
+    ((Kind::Pam, 1, SampleWidth::Bytes), 3),
+    ((Kind::Pam, 1, SampleWidth::Words), 3),
+    ((Kind::Gray, 200, SampleWidth::Bytes), 1),
+    ((Kind::Gray, 200, SampleWidth::Words), 1),
+    ((Kind::Color, 255, SampleWidth::Bytes), 3),
+    ((Kind::Color, 255, SampleWidth::Words), 3),
+    ((Kind::Gray, 256, SampleWidth::Words), 1),
+    ((Kind::Color, 1000, SampleWidth::Words), 3),
 ];
 
 /// Widths about multiples of 8 above 70.
@@ -39,9 +39,9 @@ fn sweeps(
     width: u32,
     height: u32,
 ) -> Result<(), Fail> {
-    for (form, depth) in FORMS {
+    for (image_type, depth) in IMAGE_TYPES {
         let image: Sizes = (width, height, depth);
-        follows_formula_at(rt, alloc, tool, form, &[image])?;
+        follows_formula_at(rt, alloc, tool, image_type, &[image])?;
     }
     Ok(())
 }
@@ -114,14 +114,14 @@ fn follows_its_formula_at_each_width(rt: HostRuntime) -> Result<(), Fail> {
 fn picks_planes(
     rt: &impl Abort,
     alloc: Global,
-    form: Form,
+    image_type: ImageType,
     depth: u32,
     widths: &[u32],
 ) -> Result<(), Fail> {
     let last = u16::try_from(depth)?.wrapping_sub(1);
     let tool = channel(alloc, &[last, 0], "A B")?;
     for width in widths {
-        follows_formula_at(rt, alloc, &tool, form, &[(*width, 2, depth)])?;
+        follows_formula_at(rt, alloc, &tool, image_type, &[(*width, 2, depth)])?;
     }
     Ok(())
 }
@@ -134,8 +134,8 @@ fn picks_planes_at_each_width(rt: HostRuntime) -> Result<(), Fail> {
         widths.push(width)?;
     }
     widths.extend_from_slice(&WIDER)?;
-    for (form, depth) in FORMS {
-        picks_planes(&rt, alloc, form, depth, widths.as_slice())?;
+    for (image_type, depth) in IMAGE_TYPES {
+        picks_planes(&rt, alloc, image_type, depth, widths.as_slice())?;
     }
     Ok(())
 }

@@ -1,8 +1,8 @@
 //! How the rows are held that tools give: those of `pnminvert` and `pamcut` as they came, where the
 //! samples of the result can be held so, and those of `pamflip -transpose` as the maxval asks.
 
-use super::parts::{Part, WHOLE, Width, holds, message, narrow, start, take_all};
-use pnm_image::{Kind, SampleSlice, Message, Samples};
+use super::parts::{Part, WHOLE, holds, message, narrow, start, take_all};
+use pnm_image::{Kind, Message, SampleSlice, SampleWidth, Samples};
 use pnm_tools::{CutBox, Filter, FlipWay, Tool};
 use std::alloc::Global;
 use std::process::Abort;
@@ -10,39 +10,40 @@ use std::test::Fail;
 
 /// A kind, a maxval, a row that comes in as few bits as hold its samples, and how wide the row is that is
 /// given.
-type WidthCase<'a> = (Kind, u32, &'a [u16], Width);
+type WidthCase<'a> = (Kind, u32, &'a [u16], SampleWidth);
 
 const INVERTED: &[WidthCase<'static>] = &[
-    (Kind::Gray, 1, &[0, 1, 1], Width::Bit),
-    (Kind::Gray, 255, &[0, 1, 1], Width::Word),
-    (Kind::Gray, 255, &[0, 2, 255], Width::Byte),
-    (Kind::Gray, 2, &[0, 2, 1], Width::Byte),
-    (Kind::Gray, 256, &[0, 2, 255], Width::Word),
-    (Kind::Gray, 256, &[0, 2, 256], Width::Word),
+    (Kind::Gray, 1, &[0, 1, 1], SampleWidth::Bits),
+    (Kind::Gray, 255, &[0, 1, 1], SampleWidth::Words),
+    (Kind::Gray, 255, &[0, 2, 255], SampleWidth::Bytes),
+    (Kind::Gray, 2, &[0, 2, 1], SampleWidth::Bytes),
+    (Kind::Gray, 256, &[0, 2, 255], SampleWidth::Words),
+    (Kind::Gray, 256, &[0, 2, 256], SampleWidth::Words),
 ];
 
 const CUT: &[WidthCase<'static>] = &[
-    (Kind::Gray, 1, &[0, 1, 1], Width::Bit),
-    (Kind::Gray, 255, &[0, 1, 1], Width::Bit),
-    (Kind::Gray, 255, &[0, 2, 255], Width::Byte),
-    (Kind::Gray, 256, &[0, 2, 255], Width::Byte),
-    (Kind::Gray, 256, &[0, 2, 256], Width::Word),
+    (Kind::Gray, 1, &[0, 1, 1], SampleWidth::Bits),
+    (Kind::Gray, 255, &[0, 1, 1], SampleWidth::Bits),
+    (Kind::Gray, 255, &[0, 2, 255], SampleWidth::Bytes),
+    (Kind::Gray, 256, &[0, 2, 255], SampleWidth::Bytes),
+    (Kind::Gray, 256, &[0, 2, 256], SampleWidth::Words),
 ];
 
 const TRANSPOSED: &[WidthCase<'static>] = &[
-    (Kind::Bit, 1, &[0, 1, 1], Width::Bit),
-    (Kind::Gray, 1, &[0, 1, 1], Width::Byte),
-    (Kind::Gray, 255, &[0, 1, 1], Width::Byte),
-    (Kind::Gray, 255, &[0, 2, 255], Width::Byte),
-    (Kind::Gray, 256, &[0, 1, 1], Width::Word),
-    (Kind::Gray, 256, &[0, 2, 256], Width::Word),
+    (Kind::Bit, 1, &[0, 1, 1], SampleWidth::Bits),
+    (Kind::Gray, 1, &[0, 1, 1], SampleWidth::Bytes),
+    (Kind::Gray, 255, &[0, 1, 1], SampleWidth::Bytes),
+    (Kind::Gray, 255, &[0, 2, 255], SampleWidth::Bytes),
+    (Kind::Gray, 256, &[0, 1, 1], SampleWidth::Words),
+    (Kind::Gray, 256, &[0, 2, 256], SampleWidth::Words),
 ];
 
-fn width_of(row: &Samples) -> Width {
+/// How wide the samples of a row are held.
+fn width_of(row: &Samples) -> SampleWidth {
     match row.as_slice() {
-        SampleSlice::Bits(_) => Width::Bit,
-        SampleSlice::Bytes(_) => Width::Byte,
-        SampleSlice::Words(_) => Width::Word,
+        SampleSlice::Bits(_) => SampleWidth::Bits,
+        SampleSlice::Bytes(_) => SampleWidth::Bytes,
+        SampleSlice::Words(_) => SampleWidth::Words,
     }
 }
 
@@ -52,7 +53,7 @@ fn width_given(
     tool: &Tool,
     (kind, maxval): (Kind, u32),
     row: &[u16],
-) -> Result<Width, Fail> {
+) -> Result<SampleWidth, Fail> {
     let mut state = start(alloc, tool)?;
     let mut given = Vec::new(alloc);
     let width = u32::try_from(row.len())?;
