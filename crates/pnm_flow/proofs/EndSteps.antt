@@ -23,18 +23,18 @@ use Rattle.pnm_tools.specs.ChainAnswers.{HasRefused, HaveAnswered, IsFirstFault}
 use Rattle.pnm_write.specs.declared.fault.SinkFault.{SinkFault}
 use Rattle.pnm_write.specs.declared.fault.SinkFault.TheVariants.{WriteFailed}
 use Rattle.pnm_write.specs.Encoding.{written_of}
-use Rattle.pnm_write.specs.Forms.{form_fault_of, IsOfForm}
+use Rattle.pnm_write.specs.Forms.{form_fault_of, IsFormFault}
 use Rattle.pnm_flow.specs.declared.downstream.Downstream.{Downstream}
 use Rattle.pnm_flow.specs.declared.fault.RunFault.TheVariants.{Input, Tool as OfTool}
 use Rattle.pnm_flow.specs.declared.summary.Summary.{Summary}
 use Rattle.pnm_flow.specs.Downstreams.{output_of, AnswersFlushes}
 use Rattle.pnm_flow.specs.Feeding.{IsSaidOf}
 use Rattle.pnm_flow.specs.Jobs.{Job, bytes_due}
-use Rattle.pnm_flow.specs.Runs.{Change, change, HasRun, HasRunInOneThread, AllIsWritten, IsOfOneThread, answer_by, input_of, IsFirstRefusal, IfInput, IfTool, IfOutput, EndedWell, IsStoppedBy, OutlastsRun, HasMore, MayFollow, AnswersText, IsFrontOfDue, IsFrontForEach, FitAnswer, IsAllWritten}
+use Rattle.pnm_flow.specs.Runs.{Change, change, HasRun, HasRunInOneThread, AllIsWritten, IsOfOneThread, answer_by, input_of, IsFirstRefusal, IfInput, IfTool, IfOutput, EndedWell, HasWrittenResults, IsStoppedBy, OutlastsRun, HasMore, MayFollow, AnswersText, IsFrontOfDue, IsFrontForEach, FitAnswer, IsAllWritten}
 use Rattle.pnm_flow.specs.Verdicts.{IsTaken, HasResults}
 use Rattle.pnm_flow.proofs.VerdictLaws.{verdict_follows}
 use Rattle.pnm_flow.proofs.FeedingSteps.{rest_of, read_failure}
-use Rattle.pnm_flow.proofs.RunSteps.{Ran, nothing_front, input_fault, said_front, said_before_fault, run_front, run_all, run_refused, run_taken, run_results, IsOutputFault, run_output, run_sound, run_well}
+use Rattle.pnm_flow.proofs.RunSteps.{Ran, nothing_front, input_fault, said_front, said_before_fault, run_front, run_all, run_refused, run_taken, run_results, run_held, IsOutputFault, no_write_fault, run_output, run_written, run_sound, run_well}
 use Rattle.pnm_tools.proofs.ChainLaws.{first_fault_in_order}
 
 -- what the stages have answered, and the first refusal; where there is one, not all of it need be what came out
@@ -134,12 +134,12 @@ ended_by_refusal reader held failures start done job (Ok tt) (Some found) output
 ended_by_refusal reader held failures start done job (Ok tt) None (Err fault) NoList ended text is = tt
 ended_by_refusal reader held failures start done job (Ok tt) None (Ok summary) NoList ended text is = tt
 
-of_output : (fault : SinkFault) (form : Form) (out : List Message) (failures_old failures_new : ℕ) → IsOutputFault fault form out failures_old failures_new → ((fault ≡ WriteFailed) × Failed failures_old failures_new) ⊎ IsOfForm fault
+of_output : (fault : SinkFault) (form : Form) (out : List Message) (failures_old failures_new : ℕ) → IsOutputFault fault form out failures_old failures_new → ((fault ≡ WriteFailed) × Failed failures_old failures_new) ⊎ IsFormFault form fault
 of_output fault form out failures_old failures_new (inl failed) = inl failed
 of_output fault form out failures_old failures_new (inr refused) = inr refused.0
 
 ended_at_output : {W : Type 0} (reader : Change) (held : W → Option (List ℕ)) (failures : W → ℕ) (start done : W) (job : Job) (input : Result (Unit {0}) InputFault) (refused : Option (ℕ × ToolFault)) (output : Result Summary SinkFault)
-    → Ended reader held failures start done job input refused output → IfOutput (answer_by input refused output) (λ fault. (((fault ≡ WriteFailed) × Failed (failures start) (failures done)) ⊎ IsOfForm fault) × (reader.failures_new ≡ reader.failures_old))
+    → Ended reader held failures start done job input refused output → IfOutput (answer_by input refused output) (λ fault. (((fault ≡ WriteFailed) × Failed (failures start) (failures done)) ⊎ IsFormFault job.form fault) × (reader.failures_new ≡ reader.failures_old))
 ended_at_output reader held failures start done job (Err fault) refused output ended = tt
 ended_at_output reader held failures start done job (Ok tt) (Some found) output ended = tt
 ended_at_output reader held failures start done job (Ok tt) None (Err fault) ended =
@@ -157,12 +157,12 @@ ended_at_output_last reader held failures start done job (Ok tt) None (Err fault
 ended_at_output_last reader held failures start done job (Ok tt) None (Ok summary) ended text is = tt
 
 -- the form refuses what it can't hold
-reason_is : (fault : SinkFault) (form : Form) (out : List Message) (failures_old failures_new : ℕ) → IsOutputFault fault form out failures_old failures_new → IsOfForm fault → form_fault_of form out ≡ Some fault
-reason_is fault form out failures_old failures_new (inl failed) of_form = absurd (subst IsOfForm failed.0 of_form)
+reason_is : (fault : SinkFault) (form : Form) (out : List Message) (failures_old failures_new : ℕ) → IsOutputFault fault form out failures_old failures_new → IsFormFault form fault → form_fault_of form out ≡ Some fault
+reason_is fault form out failures_old failures_new (inl failed) of_form = absurd (no_write_fault form (subst (IsFormFault form) failed.0 of_form))
 reason_is fault form out failures_old failures_new (inr refused) of_form = refused.1
 
 ended_by_form : {W : Type 0} (reader : Change) (held : W → Option (List ℕ)) (failures : W → ℕ) (start done : W) (job : Job) (input : Result (Unit {0}) InputFault) (refused : Option (ℕ × ToolFault)) (output : Result Summary SinkFault)
-    → Ended reader held failures start done job input refused output → (text : List ℕ) → reader.old ≡ Some text → IfOutput (answer_by input refused output) (λ fault. IsOfForm fault → HasResults text job (Some fault))
+    → Ended reader held failures start done job input refused output → (text : List ℕ) → reader.old ≡ Some text → IfOutput (answer_by input refused output) (λ fault. IsFormFault job.form fault → HasResults text job (Some fault))
 ended_by_form reader held failures start done job (Err fault) refused output ended text is = tt
 ended_by_form reader held failures start done job (Ok tt) (Some found) output ended text is = tt
 ended_by_form reader held failures start done job (Ok tt) None (Err fault) ended text is = λ of_form.
@@ -173,6 +173,19 @@ ended_by_form reader held failures start done job (Ok tt) None (Err fault) ended
     subst (HasResults text job) (reason_is fault job.form ended.out (failures start) (failures done) failed of_form)
     (run_results job ended.faults ended.given ended.out text ended.ran.lawful answered said stages.first)
 ended_by_form reader held failures start done job (Ok tt) None (Ok summary) ended text is = tt
+
+ended_before_refused : {W : Type 0} (reader : Change) (held : W → Option (List ℕ)) (failures : W → ℕ) (start done : W) (job : Job) (input : Result (Unit {0}) InputFault) (refused : Option (ℕ × ToolFault)) (output : Result Summary SinkFault)
+    → Ended reader held failures start done job input refused output → (text : List ℕ) → reader.old ≡ Some text
+    → IfOutput (answer_by input refused output) (λ fault. IsFormFault job.form fault → HasWrittenResults text job (held start) (held done))
+ended_before_refused reader held failures start done job (Err fault) refused output ended text is = tt
+ended_before_refused reader held failures start done job (Ok tt) (Some found) output ended text is = tt
+ended_before_refused reader held failures start done job (Ok tt) None (Err fault) ended text is = λ of_form.
+    let stages = ended.stages refl in
+    let answered = subst (HaveAnswered job.tools ended.faults ended.given) (stages.all refl) stages.answered in
+    run_held job ended.faults ended.given ended.out text (held start) (held done) ended.ran.lawful answered
+    (own_text reader held failures start done job (Ok tt) None (Err fault) text ended is) stages.first
+    (run_written held failures start done job ended.given ended.out ended.sink ended.sink.output (Err fault) fault ended.ran refl ended.broken ended.well refl of_form)
+ended_before_refused reader held failures start done job (Ok tt) None (Ok summary) ended text is = tt
 
 ended_at_front : {W : Type 0} (reader : Change) (held : W → Option (List ℕ)) (failures : W → ℕ) (start done : W) (job : Job) (input : Result (Unit {0}) InputFault) (refused : Option (ℕ × ToolFault)) (output : Result Summary SinkFault)
     → Ended reader held failures start done job input refused output → (text : List ℕ) → reader.old ≡ Some text → IsFrontOfDue text job (held start) (held done)
@@ -226,6 +239,7 @@ ended_has_run reader held failures start done job input refused output unread en
   refusal = ended_by_refusal reader held failures start done job input refused output (λ number fault. (fault ≡ Memory) × (number ≡ 1) × unread) ended;
   output = ended_at_output reader held failures start done job input refused output ended;
   output_last = ended_at_output_last reader held failures start done job input refused output ended;
+  before_refused = ended_before_refused reader held failures start done job input refused output ended;
   verdict = λ text is.
       verdict_follows text job (answer_by input refused output) unread reader (change held failures start done)
       (ended_well reader held failures start done job input refused output ended text is) (ended_input reader held failures start done job input refused output ended text is)
@@ -304,6 +318,7 @@ ended_unread job unread reader writer some untouched read same_count written = r
     refusal = λ text is. inl (refl, refl, untouched);
     output = tt;
     output_last = λ text is. tt;
+    before_refused = λ text is. tt;
     verdict = λ text is. inl refl;
     front = λ text is images completes. nothing_written writer written (bytes_due job images);
     front_for_each = record { read = []; consumed = nothing_read reader read; front = λ rest may images completes. nothing_written writer written (bytes_due job images) };
@@ -325,6 +340,7 @@ ended_without_reading job unread reader writer read same_count written = record 
     refusal = λ text is. tt;
     output = tt;
     output_last = λ text is. tt;
+    before_refused = λ text is. tt;
     verdict = λ text is. inl (inr refl);
     front = λ text is images completes. nothing_written writer written (bytes_due job images);
     front_for_each = record { read = []; consumed = nothing_read reader read; front = λ rest may images completes. nothing_written writer written (bytes_due job images) };

@@ -13,7 +13,7 @@ use Rattle.pnm_tools.specs.Tools.{applied}
 use Rattle.pnm_tools.proofs.RefusalLaws.{refusal_by, results_in_turn, same_in_turn}
 use Rattle.pnm_write.specs.declared.fault.SinkFault.{SinkFault}
 use Rattle.pnm_write.specs.declared.fault.SinkFault.TheVariants.{SecondPlain, PlainPam}
-use Rattle.pnm_write.specs.Forms.{plain_kind_fault, images_fault, IsOfForm}
+use Rattle.pnm_write.specs.Forms.{plain_kind_fault, images_fault, IsFormFault}
 
 -- ---- one tool
 
@@ -61,16 +61,16 @@ chain_results number (tool ∷ tools) is none =
 
 -- its reason is one that a form has
 plain_reason : (kind : Kind) (more : List Image) (fault : SinkFault)
-    → (elim (plain_kind_fault kind) [ Some found ↦ Some found | None ↦ elim more [ [] ↦ None | next ∷ others ↦ Some SecondPlain ] ]) ≡ Some fault → IsOfForm fault
+    → (elim (plain_kind_fault kind) [ Some found ↦ Some found | None ↦ elim more [ [] ↦ None | next ∷ others ↦ Some SecondPlain ] ]) ≡ Some fault → IsFormFault Plain fault
 plain_reason Bit [] fault is = absurd cc
-plain_reason Bit (next ∷ more) fault is = let same : SecondPlain ≡ fault = cc in subst IsOfForm same tt
+plain_reason Bit (next ∷ more) fault is = let same : SecondPlain ≡ fault = cc in subst (IsFormFault Plain) same tt
 plain_reason Gray [] fault is = absurd cc
-plain_reason Gray (next ∷ more) fault is = let same : SecondPlain ≡ fault = cc in subst IsOfForm same tt
+plain_reason Gray (next ∷ more) fault is = let same : SecondPlain ≡ fault = cc in subst (IsFormFault Plain) same tt
 plain_reason Color [] fault is = absurd cc
-plain_reason Color (next ∷ more) fault is = let same : SecondPlain ≡ fault = cc in subst IsOfForm same tt
-plain_reason Pam more fault is = let same : PlainPam ≡ fault = cc in subst IsOfForm same tt
+plain_reason Color (next ∷ more) fault is = let same : SecondPlain ≡ fault = cc in subst (IsFormFault Plain) same tt
+plain_reason Pam more fault is = let same : PlainPam ≡ fault = cc in subst (IsFormFault Plain) same tt
 
-pub reason_is_of_form : (form : Form) (is : List Image) (fault : SinkFault) → images_fault form is ≡ Some fault → IsOfForm fault
+pub reason_is_of_form : (form : Form) (is : List Image) (fault : SinkFault) → images_fault form is ≡ Some fault → IsFormFault form fault
 reason_is_of_form Raw is fault reason = absurd cc
 reason_is_of_form Plain [] fault reason = absurd cc
 reason_is_of_form Plain (i ∷ is) fault reason = plain_reason i.head.shape.kind is fault reason

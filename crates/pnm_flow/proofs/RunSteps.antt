@@ -7,6 +7,7 @@ use Rattle.std.proofs.lemmas.List.{append-nil, take_at}
 use Rattle.std.proofs.KnownBytes.{Appends-kept}
 use Rattle.pnm_image.specs.Devices.{Failed, AppendsFront}
 use Rattle.pnm_image.specs.declared.format.Form.{Form}
+use Rattle.pnm_image.specs.declared.format.Form.TheVariants.{Raw, Plain}
 use Rattle.pnm_image.specs.declared.message.Message.{Message}
 use Rattle.pnm_image.specs.declared.message.Message.TheVariants.{Begin, Row, ImageEnd, StreamEnd, Stop}
 use Rattle.pnm_image.specs.Images.{Image, messages_of_stream}
@@ -29,7 +30,7 @@ use Rattle.pnm_tools.proofs.SoundLaws.{sound_keeps_all}
 use Rattle.pnm_write.specs.declared.fault.SinkFault.{SinkFault}
 use Rattle.pnm_write.specs.declared.fault.SinkFault.TheVariants.{WriteFailed, OutOfOrder, Broken, SecondPlain, PlainPam}
 use Rattle.pnm_write.specs.Encoding.{bytes_of, written_of}
-use Rattle.pnm_write.specs.Forms.{form_fault_of, IsOfForm}
+use Rattle.pnm_write.specs.Forms.{form_fault_of, IsFormFault}
 use Rattle.pnm_write.specs.Sinks.{HasRows, has_failed}
 use Rattle.pnm_write.proofs.FormLaws.{stream_fault}
 use Rattle.pnm_write.proofs.MessageLaws.{bytes_of_stream, written_all, written_front}
@@ -43,7 +44,7 @@ use Rattle.pnm_flow.specs.Counts.{counted, images_in, rows_in}
 use Rattle.pnm_flow.specs.Downstreams.{output_of, AreWritable, AreWritten, CutsOff, AreCutOff, HasTakenWith, AnswersFlushes}
 use Rattle.pnm_flow.specs.Feeding.{IsSaidOf, HasFed}
 use Rattle.pnm_flow.specs.Jobs.{Job, bytes_due}
-use Rattle.pnm_flow.specs.Runs.{EndedWell, IsStoppedBy, IsFrontOfDue, FitAnswer, IsAllWritten}
+use Rattle.pnm_flow.specs.Runs.{EndedWell, HasWrittenResults, IsStoppedBy, IsFrontOfDue, FitAnswer, IsAllWritten}
 use Rattle.pnm_flow.specs.Verdicts.{IsTaken, HasResults}
 use Rattle.pnm_flow.specs.SerialChains.{refusals_in, StagesAt, AreFresh}
 use Rattle.pnm_flow.proofs.ToolSteps.{fresh_at}
@@ -248,14 +249,24 @@ run_results job faults given out text lawful have said well =
 
 -- a fault of the output: the writer failed, or the form refuses one of the messages
 abbrev pub IsOutputFault : SinkFault → Form → List Message → ℕ → ℕ → Type 0
-IsOutputFault fault form out failures_old failures_new = ((fault ≡ WriteFailed) × Failed failures_old failures_new) ⊎ (IsOfForm fault × (form_fault_of form out ≡ Some fault))
+IsOutputFault fault form out failures_old failures_new = ((fault ≡ WriteFailed) × Failed failures_old failures_new) ⊎ (IsFormFault form fault × (form_fault_of form out ≡ Some fault))
+
+-- what a form refuses is a fault that it has
+refused_by_form : (form : Form) (out : List Message) (fault : SinkFault) → form_fault_of form out ≡ Some fault → IsFormFault Plain fault → IsFormFault form fault
+refused_by_form Raw out fault is of_plain = absurd cc
+refused_by_form Plain out fault is of_plain = of_plain
+
+-- a failed write is none
+pub no_write_fault : (form : Form) → IsFormFault form WriteFailed → ⊥
+no_write_fault Raw is = is
+no_write_fault Plain is = is
 
 cut_fault : (fault : SinkFault) (form : Form) (out : List Message) (old new : Option (List ℕ)) (failures_old failures_new : ℕ) → CutsOff fault form out old new failures_old failures_new → IsOutputFault fault form out failures_old failures_new
 cut_fault WriteFailed form out old new failures_old failures_new cut = inl (refl, cut.1)
 cut_fault OutOfOrder form out old new failures_old failures_new cut = absurd cut
 cut_fault Broken form out old new failures_old failures_new cut = absurd cut
-cut_fault SecondPlain form out old new failures_old failures_new cut = inr (tt, cut.0)
-cut_fault PlainPam form out old new failures_old failures_new cut = inr (tt, cut.0)
+cut_fault SecondPlain form out old new failures_old failures_new cut = inr (refused_by_form form out SecondPlain cut.0 tt, cut.0)
+cut_fault PlainPam form out old new failures_old failures_new cut = inr (refused_by_form form out PlainPam cut.0 tt, cut.0)
 
 pub run_output : {W : Type 0} (held : W → Option (List ℕ)) (failures : W → ℕ) (start done : W) (job : Job) (given out : List Message) (d : Downstream W) (o : Result (Unit {0}) SinkFault) (answer : Result Summary SinkFault) (fault : SinkFault)
     → Ran held failures start job given out d → d.output ≡ o
@@ -272,6 +283,45 @@ run_output held failures start done job given out d (Err other) answer fault ran
     subst (λ (f : SinkFault). IsOutputFault f job.form out (failures start) (failures done)) same
     (subst (λ (w : _). IsOutputFault other job.form out (failures start) (failures w)) (sym both.1)
     (cut_fault other job.form out (held start) (held (output_of d)) (failures start) (failures (output_of d)) (cut.front ran.writable)))
+
+-- at a fault of the form all that it takes was written
+cut_written : (fault : SinkFault) (form : Form) (out : List Message) (old new : Option (List ℕ)) (failures_old failures_new : ℕ) → CutsOff fault form out old new failures_old failures_new → IsFormFault form fault → Appends old new (written_of form out)
+cut_written WriteFailed form out old new failures_old failures_new cut of_form = absurd (no_write_fault form of_form)
+cut_written OutOfOrder form out old new failures_old failures_new cut of_form = absurd cut
+cut_written Broken form out old new failures_old failures_new cut of_form = absurd cut
+cut_written SecondPlain form out old new failures_old failures_new cut of_form = cut.1
+cut_written PlainPam form out old new failures_old failures_new cut of_form = cut.1
+
+pub run_written : {W : Type 0} (held : W → Option (List ℕ)) (failures : W → ℕ) (start done : W) (job : Job) (given out : List Message) (d : Downstream W) (o : Result (Unit {0}) SinkFault) (answer : Result Summary SinkFault) (fault : SinkFault)
+    → Ran held failures start job given out d → d.output ≡ o
+    → ((f : SinkFault) → d.output ≡ Err f → (answer ≡ Err f) × (done ≡ output_of d))
+    → (d.output ≡ Ok tt → AnswersFlushes failures d done answer)
+    → answer ≡ Err fault → IsFormFault job.form fault → Appends (held start) (held done) (written_of job.form out)
+run_written held failures start done job given out d (Ok tt) answer fault ran o-is broken well answer-is of_form =
+    let written : AreWritten held failures job.form start out d = subst (HasTakenWith held failures job.form start out d) o-is ran.taken in
+    let failed = rw answer-is at (well o-is (failures start) written.count) in
+    absurd (no_write_fault job.form (subst (IsFormFault job.form) failed.0 of_form))
+run_written held failures start done job given out d (Err other) answer fault ran o-is broken well answer-is of_form =
+    let cut : AreCutOff held failures job.form start out d other = subst (HasTakenWith held failures job.form start out d) o-is ran.taken in
+    let both = broken other o-is in
+    let same : other ≡ fault = cc (both.0, answer-is) in
+    subst (λ (w : _). Appends (held start) (held w) (written_of job.form out)) (sym both.1)
+    (cut_written other job.form out (held start) (held (output_of d)) (failures start) (failures (output_of d)) (cut.front ran.writable) (subst (IsFormFault job.form) (sym same) of_form))
+
+-- and the results of all images are its messages
+pub run_held : (job : Job) (faults : List (Option ToolFault)) (given out : List Message) (text : List ℕ) (old new : Option (List ℕ))
+    → AreLawfulTools job.tools → HaveAnswered job.tools faults given out → (said_of text ≡ given) × (fault_of text ≡ None) → AreWell faults → Appends old new (written_of job.form out) → HasWrittenResults text job old new
+run_held job faults given out text old new lawful have said well written =
+    let found = said_text_is_spelled text said.1 in
+    let stream : given ≡ messages_of_stream found.0 = sym said.0 ∙ found.2 in
+    let answered = stream_is_answered job.tools faults found.0 out lawful (spelled_are_images text found.0 found.1) well (subst (λ (l : List Message). HaveAnswered job.tools faults l out) stream have) in
+    record {
+      images = found.0;
+      results = answered.0;
+      spelled = found.1;
+      made = answered.1;
+      written = subst (λ (l : List Message). Appends old new (written_of job.form l)) answered.3 written;
+    }
 
 -- the writer didn't fail
 pub run_sound : {W : Type 0} (held : W → Option (List ℕ)) (failures : W → ℕ) (start done : W) (job : Job) (given out : List Message) (d : Downstream W) (o : Result (Unit {0}) SinkFault) (answer : Result Summary SinkFault) (summary : Summary)

@@ -210,6 +210,7 @@ gone_has_run left reader_failures held failures first source start done lanes jo
         refusal = λ text is. tt;
         output = tt;
         output_last = λ text is. tt;
+        before_refused = λ text is. tt;
         verdict = λ text is. inl tt;
         front = λ text is.
             let rest = rest_of reader.old reader.new said.0 text said.1 is in

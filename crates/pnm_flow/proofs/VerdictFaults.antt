@@ -21,9 +21,10 @@ use Rattle.pnm_tools.proofs.ResultLaws.{result_is_image, result_has_rows}
 use Rattle.pnm_lanes.proofs.DealtParts.{all_of_rest}
 use Rattle.pnm_flow.specs.declared.fault.RunFault.TheVariants.{NoStart, Input, Tool as OfTool, Output, PeerGone}
 use Rattle.pnm_flow.specs.Verdicts.{IsRefusedBy, VerdictsAreOfTexts}
-use Rattle.pnm_write.specs.Forms.{IsOfForm}
+use Rattle.pnm_write.specs.Forms.{IsFormFault}
 use Rattle.pnm_flow.proofs.FeedingSteps.{said_are_sound}
 use Rattle.pnm_flow.proofs.ResultSteps.{reason_is_of_form}
+use Rattle.pnm_flow.proofs.RunSteps.{no_write_fault}
 
 -- ---- one tool
 
@@ -108,5 +109,5 @@ verdict_is_of_text text job (OfTool number fault) lawful is =
     (is_named.0, λ other e. let same : fault ≡ OutOfOrder = cc in is_named.1 same, λ out e. absurd cc)
 verdict_is_of_text text job (Output fault) lawful is =
     let of_form = reason_is_of_form job.form is.results fault is.fit in
-    (λ failed. subst IsOfForm failed of_form, λ number e. absurd cc, λ out e. let same : fault ≡ out = cc in subst IsOfForm same of_form)
+    (λ failed. no_write_fault job.form (subst (IsFormFault job.form) failed of_form), λ number e. absurd cc, λ out e. let same : fault ≡ out = cc in subst (IsFormFault job.form) same of_form)
 verdict_is_of_text text job (PeerGone number) lawful is = absurd is

@@ -18,7 +18,7 @@ use Rattle.pnm_tools.proofs.FrontLaws.{rest_in_turn}
 use Rattle.pnm_tools.proofs.RefusalLaws.{refusal_by, results_are}
 use Rattle.pnm_write.specs.declared.fault.SinkFault.{SinkFault}
 use Rattle.pnm_write.specs.declared.fault.SinkFault.TheVariants.{WriteFailed}
-use Rattle.pnm_write.specs.Forms.{images_fault, IsOfForm}
+use Rattle.pnm_write.specs.Forms.{images_fault, IsFormFault}
 use Rattle.pnm_flow.specs.declared.fault.RunFault.{RunFault}
 use Rattle.pnm_flow.specs.declared.fault.RunFault.TheVariants.{NoStart, Input, Tool as OfTool, Output, PeerGone}
 use Rattle.pnm_flow.specs.declared.summary.Summary.{Summary}
@@ -157,8 +157,8 @@ pub verdict_follows : (text : List ℕ) (job : Job) (answer : Result Summary Run
     → IfOk answer (EndedWell text job writer.old writer.new)
     → IfInput answer (λ fault. IsOutsideFault fault ⊎ IsAtFault text fault)
     → IfTool answer (λ number fault. ((fault ≡ Memory) × (number ≡ 1) × unread) ⊎ IsStoppedBy text job.tools number fault)
-    → IfOutput answer (λ fault. (((fault ≡ WriteFailed) × Failed writer.failures_old writer.failures_new) ⊎ IsOfForm fault) × (reader.failures_new ≡ reader.failures_old))
-    → IfOutput answer (λ fault. IsOfForm fault → HasResults text job (Some fault))
+    → IfOutput answer (λ fault. (((fault ≡ WriteFailed) × Failed writer.failures_old writer.failures_new) ⊎ IsFormFault job.form fault) × (reader.failures_new ≡ reader.failures_old))
+    → IfOutput answer (λ fault. IsFormFault job.form fault → HasResults text job (Some fault))
     → AnswersVerdict text job answer
 verdict_follows text job (Ok summary) unread reader writer well input refusal output form = record {
   images = well.images;

@@ -2,7 +2,7 @@
 use Rattle.std.specs.Prelude.{◌≡◌, ◌≢◌, ◌⊎◌, ℕ, ◌-◌, ◌^◌, ◌≤◌, ◌<◌, sum_by, length, take, List, [], ◌∷◌, ◌++◌, Option, Some, None, Result, Ok, Err, IfOk, OnOk}
 use Rattle.std.specs.Io.KnownBytes.{Appends, Consumes}
 use Rattle.pnm_image.specs.declared.message.Message.{Message}
-use Rattle.pnm_image.specs.Images.{Image}
+use Rattle.pnm_image.specs.Images.{Image, messages_of_stream}
 use Rattle.pnm_image.specs.Completion.{Completes}
 use Rattle.pnm_read.specs.declared.fault.InputFault.{InputFault}
 use Rattle.pnm_read.specs.declared.fault.InputFault.TheVariants.{ReadFailed}
@@ -13,11 +13,12 @@ use Rattle.pnm_read.specs.TextLaws.{IsAtFault}
 use Rattle.pnm_tools.specs.declared.fault.ToolFault.{ToolFault}
 use Rattle.pnm_tools.specs.declared.fault.ToolFault.TheVariants.{OutOfOrder, Memory}
 use Rattle.pnm_tools.specs.declared.tool.Tool.{Tool}
+use Rattle.pnm_tools.specs.Chains.{AreResultsInTurn}
 use Rattle.pnm_tools.specs.ChainAnswers.{HaveAnswered, AreWell, IsFirstFault}
 use Rattle.pnm_write.specs.declared.fault.SinkFault.{SinkFault}
 use Rattle.pnm_write.specs.declared.fault.SinkFault.TheVariants.{WriteFailed}
 use Rattle.pnm_write.specs.Encoding.{written_of}
-use Rattle.pnm_write.specs.Forms.{IsOfForm}
+use Rattle.pnm_write.specs.Forms.{IsFormFault}
 use Rattle.pnm_image.specs.Devices.{AppendsFront, Failed}
 use Rattle.pnm_flow.specs.declared.fault.RunFault.{RunFault}
 use Rattle.pnm_flow.specs.declared.fault.RunFault.TheVariants.{NoStart, Input, Tool as OfTool, Output, PeerGone}
@@ -107,6 +108,14 @@ pub record EndedWell (text : List ℕ) (job : Job) (old new : Option (List ℕ))
   pub spelled : Spells text images
   pub output : IsOutputOf job images results old new
   pub counts : summary ≡ summary_of results
+
+-- the text spells images, none of which is refused, and of their results all that the form takes was written
+pub record HasWrittenResults (text : List ℕ) (job : Job) (old new : Option (List ℕ)) : Type 0 where
+  pub images : List Image
+  pub results : List Image
+  pub spelled : Spells text images
+  pub made : AreResultsInTurn job.tools images results
+  pub written : Appends old new (written_of job.form (messages_of_stream results))
 
 -- ---- refusals, and want of memory
 
@@ -207,8 +216,10 @@ pub record HasRun (job : Job) (answer : Result Summary RunFault) (unread : Type 
   pub refusal : (text : List ℕ) → reader.old ≡ Some text → IfTool answer (λ number fault. ((fault ≡ Memory) × (number ≡ 1) × unread) ⊎ IsStoppedBy text job.tools number fault)
   -- The output's fault is answered only where the input and the tools have none: the writer failed, or the form can't hold
   -- the results.
-  pub output : IfOutput answer (λ fault. (((fault ≡ WriteFailed) × Failed writer.failures_old writer.failures_new) ⊎ IsOfForm fault) × (reader.failures_new ≡ reader.failures_old))
+  pub output : IfOutput answer (λ fault. (((fault ≡ WriteFailed) × Failed writer.failures_old writer.failures_new) ⊎ IsFormFault job.form fault) × (reader.failures_new ≡ reader.failures_old))
   pub output_last : (text : List ℕ) → reader.old ≡ Some text → IfOutput answer (λ fault. IsTaken text job.tools)
+  -- At a fault of the form all was written that it takes of the results.
+  pub before_refused : (text : List ℕ) → reader.old ≡ Some text → IfOutput answer (λ fault. IsFormFault job.form fault → HasWrittenResults text job writer.old writer.new)
   -- So each answer is the verdict, unless it is from outside.
   pub verdict : (text : List ℕ) → reader.old ≡ Some text → AnswersVerdict text job answer
   -- However it ends, what is written is a front of the output due, for the reader's own text and for any other that may

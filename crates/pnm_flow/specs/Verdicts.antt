@@ -1,4 +1,4 @@
--- The verdict on a text and a chain of tools: what a run over them is to answer where nothing fails around it.
+-- The verdict on a text and a job: what a run over them is to answer where nothing fails around it.
 use Rattle.std.specs.Prelude.{◌≡◌, ◌≢◌, ◌⊎◌, ℕ, List, Option, Some, None, Result, Ok, Err}
 use Rattle.pnm_image.specs.Images.{Image}
 use Rattle.pnm_read.specs.Inputs.{IsOutsideFault}
@@ -10,7 +10,7 @@ use Rattle.pnm_tools.specs.declared.tool.Tool.{Tool}
 use Rattle.pnm_tools.specs.Chains.{AreLawfulTools, AreResultsInTurn, refusal_of}
 use Rattle.pnm_write.specs.declared.fault.SinkFault.{SinkFault}
 use Rattle.pnm_write.specs.declared.fault.SinkFault.TheVariants.{WriteFailed}
-use Rattle.pnm_write.specs.Forms.{images_fault, IsOfForm}
+use Rattle.pnm_write.specs.Forms.{images_fault, IsFormFault}
 use Rattle.pnm_flow.specs.Jobs.{Job}
 use Rattle.pnm_flow.specs.declared.fault.RunFault.{RunFault}
 use Rattle.pnm_flow.specs.declared.fault.RunFault.TheVariants.{NoStart, Input, Tool as OfTool, Output, PeerGone}
@@ -73,6 +73,6 @@ AnswersVerdict text job (Ok x) = IsVerdict text job None
 AnswersVerdict text job (Err fault) = IsFromOutside fault ⊎ IsVerdict text job (Some fault)
 
 -- a verdict with lawful tools never is a fault from outside, nor that a message came out of order; of the output it is a
--- fault that a form has
+-- fault of the job's form
 abbrev pub VerdictsAreOfTexts : Type 0
-VerdictsAreOfTexts = (text : List ℕ) (job : Job) (fault : RunFault) → AreLawfulTools job.tools → IsVerdict text job (Some fault) → ¬ IsFromOutside fault × ((number : ℕ) → fault ≢ OfTool number OutOfOrder) × ((out : SinkFault) → fault ≡ Output out → IsOfForm out)
+VerdictsAreOfTexts = (text : List ℕ) (job : Job) (fault : RunFault) → AreLawfulTools job.tools → IsVerdict text job (Some fault) → ¬ IsFromOutside fault × ((number : ℕ) → fault ≢ OfTool number OutOfOrder) × ((out : SinkFault) → fault ≡ Output out → IsFormFault job.form out)

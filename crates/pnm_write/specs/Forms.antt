@@ -75,7 +75,7 @@ taken_by Plain messages = plain_taken_from false messages
 
 -- ---- images
 
--- why the form can't hold these images: the first is PAM, or there is a second one
+-- why the form can't hold these images: the first is PAM, or there is a second one; no image at all isn't refused
 abbrev pub plain_images_fault : List Image → Option SinkFault
 plain_images_fault [] = None
 plain_images_fault (image ∷ images) = elim (plain_kind_fault image.head.shape.kind) [
@@ -90,10 +90,11 @@ abbrev pub images_fault : Form → List Image → Option SinkFault
 images_fault Raw images = None
 images_fault Plain images = plain_images_fault images
 
--- a fault that a form has
-abbrev pub IsOfForm : SinkFault → Type 0
-IsOfForm WriteFailed = ⊥
-IsOfForm OutOfOrder = ⊥
-IsOfForm Broken = ⊥
-IsOfForm SecondPlain = Unit {0}
-IsOfForm PlainPam = Unit {0}
+-- a fault for which this form may refuse a message: the raw form has none
+abbrev pub IsFormFault : Form → SinkFault → Type 0
+IsFormFault Raw fault = ⊥
+IsFormFault Plain WriteFailed = ⊥
+IsFormFault Plain OutOfOrder = ⊥
+IsFormFault Plain Broken = ⊥
+IsFormFault Plain SecondPlain = Unit {0}
+IsFormFault Plain PlainPam = Unit {0}
