@@ -5,19 +5,20 @@ ghost use Rattle.pnm_flow.specs.Examples.{ExamplesHold, ResultBeforeRefusalIsWri
 ghost use Rattle.pnm_flow.specs.RunLaws.{OneAnswerForEachText};
 ghost use Rattle.pnm_flow.specs.Verdicts.{OneVerdictForEachText, VerdictsAreOfTexts};
 
-/// Each text has exactly one verdict with each chain: its fault, or the chain's refusal of the images
-/// that it spells, or none.
+/// Each text has exactly one verdict with each job: its fault, or the chain's refusal of the images
+/// that it spells, or why the form can't hold the results, or none.
 pub fn one_verdict_for_each_text()
     ensures { OneVerdictForEachText }
 {}
 
-/// A verdict never tells of what failed around a run, nor that a message came out of order.
+/// A verdict never tells of what failed around a run, nor that a message came out of order; of the
+/// output it is a fault that a form has.
 pub fn verdicts_are_of_texts()
     ensures { VerdictsAreOfTexts }
 {}
 
-/// Two runs over the same text and chain, in one thread or over several, answer the same where neither
-/// answer tells of what failed around it.
+/// Two runs over the same text that do the same job, in one thread or over several, answer the same
+/// where neither answer tells of what failed around it.
 pub fn one_answer_for_each_text()
     ensures { OneAnswerForEachText }
 {}
