@@ -123,7 +123,7 @@ refused: toolchain
 
 # random chains over random streams, in one thread and over threads between slow devices
 soak: toolchain
-	cd crates/pnm_soak && rt run -- 4 2 7 pnminvert < stdin > /dev/null
+	cd crates/pnm_soak && rt run -- 4 2 7 raw pnminvert < stdin > /dev/null
 	python3 scripts/soak.py --seconds $(SECONDS)
 
 toolchain:

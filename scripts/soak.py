@@ -2,7 +2,7 @@
 """Runs random chains over random streams, in one thread and over threads, until the seconds are over.
 
 The program of crates/pnm_soak does both runs and compares what they answer and write; its devices are slow at times, and
-rings and lanes are random. Each run is made of a seed alone. One that doesn't end within its bound, or ends otherwise
+rings, lanes and the form are random. Each run is made of a seed alone. One that doesn't end within its bound, or ends otherwise
 than well, is named by its seed, and `--first SEED --runs 1` repeats it. `make soak SECONDS=n` builds the program first.
 """
 
@@ -147,7 +147,8 @@ def soak(program, seed, seconds):
     stream, width, height, depth = stream_of(numbers)
     chain = chain_of(numbers, width, height, depth)
     capacity = numbers.choice([1, 1, 2, 3, 8, 64, numbers.randint(1, 1024), 1024])
-    words = [program, str(capacity), str(numbers.randint(1, 8)), str(seed), chain]
+    form = numbers.choice(["raw", "raw", "plain"])
+    words = [program, str(capacity), str(numbers.randint(1, 8)), str(seed), form, chain]
     try:
         ran = subprocess.run(words, input=stream, capture_output=True, timeout=seconds)
     except subprocess.TimeoutExpired:

@@ -1,8 +1,9 @@
 //! Runs a chain over the images of standard input twice, in one thread and over threads between slow devices, and wants the
 //! same answer and the same bytes. `scripts/soak.py` calls it with random ones.
 //!
-//! The words are the rings' capacity, the number of lanes, a seed for the devices, and the chain. The status is 0 where
-//! both runs agree, 1 where they don't, and 2 where the words are no such ones or memory ran out before the runs.
+//! The words are the rings' capacity, the number of lanes, a seed for the devices, `raw` or `plain`, and the chain. The
+//! status is 0 where both runs agree, 1 where they don't, and 2 where the words are no such ones or memory ran out before
+//! the runs.
 #![tactic(auto)]
 
 mod slow;
@@ -34,6 +35,7 @@ struct Words {
     capacity: usize,
     lanes: usize,
     seed: u64,
+    form: Form,
     chain: String,
 }
 
@@ -55,13 +57,24 @@ fn read_words<H: Env + AllocGlobal>(rt: &H) -> Option<Words> {
     let capacity = words.next()?.as_str().parse::<usize>().ok()?;
     let lanes = words.next()?.as_str().parse::<usize>().ok()?;
     let seed = words.next()?.as_str().parse::<u64>().ok()?;
+    let form = form_of(words.next()?.as_str())?;
     let chain = words.next()?;
     Some(Words {
         capacity,
         lanes,
         seed,
+        form,
         chain,
     })
+}
+
+/// The form that a word names.
+fn form_of(word: &str) -> Option<Form> {
+    match word {
+        "raw" => Some(Form::Raw),
+        "plain" => Some(Form::Plain),
+        _ => None,
+    }
 }
 
 /// Runs both, and prints what each answers and how much it wrote. Gives the status: whether they agree.
@@ -84,7 +97,7 @@ fn compare<H: AllocGlobal + Clock + Print + Threads + Wait + Sync>(
         &mut Device::new(input),
         &mut writer,
         &tools,
-        Form::Raw,
+        words.form,
     );
     let written = writer.into_inner();
     let mut reader = Device::new(Slow::new(rt, input, words.seed));
@@ -95,7 +108,7 @@ fn compare<H: AllocGlobal + Clock + Print + Threads + Wait + Sync>(
         &mut reader,
         &mut writer,
         &tools,
-        Form::Raw,
+        words.form,
         capacity,
         lanes,
         &OpenGate,
