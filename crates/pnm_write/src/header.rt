@@ -33,13 +33,7 @@ fn push_header(room: &mut Room, form: Form, head: &Head)
     ensures { room.new ≡ room.old ++ header_text form head.now }
 {
     let shape = head.shape();
-    push_magic(
-        room,
-        Format {
-            kind: shape.kind,
-            form,
-        },
-    );
+    push_magic(room, shape.kind, form);
     match shape.kind {
         Kind::Bit => push_size(room, shape),
         Kind::Gray | Kind::Color => {
@@ -51,12 +45,12 @@ fn push_header(room: &mut Room, form: Form, head: &Head)
 }
 
 /// The line of the magic.
-fn push_magic(room: &mut Room, format: Format)
+fn push_magic(room: &mut Room, kind: Kind, form: Form)
     requires { length room.old ≡ 0 }
-    ensures line { room.new ≡ room.old ++ magic_line format.kind format.form }
+    ensures line { room.new ≡ room.old ++ magic_line kind form }
     ensures count { length room.new ≡ 3 }
 {
-    room.push(format.magic());
+    room.push(Format { kind, form }.magic());
     room.push(b"\n");
 }
 

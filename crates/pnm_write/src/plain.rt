@@ -206,7 +206,7 @@ fn end_row(room: &mut Room, is_end: bool)
     ensures { room.new ≡ room.old ++ row_end is_end }
 {
     if is_end {
-        room.push(b"\n");
+        room.push(&[b'\n']);
     }
 }
 

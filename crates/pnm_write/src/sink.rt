@@ -171,15 +171,9 @@ impl<W: BytesOut> Sink<W> {
         if let Some(fault) = self.refusal(message) {
             return Err(fault);
         }
-        if write_message(
-            &mut self.writer,
-            &mut self.room,
-            self.form,
-            self.place,
-            message,
-        )
-        .is_err()
-        {
+        let (writer, room) = (&mut self.writer, &mut self.room);
+        let written = write_message(writer, room, self.form, self.place, message);
+        if written.is_err() {
             return Err(SinkFault::WriteFailed);
         }
         self.place.step(message);
