@@ -6,4 +6,6 @@ mod formats;
 mod long_rows;
 mod order;
 mod parts;
+mod plain;
+mod plain_rows;
 mod texts;

@@ -3,7 +3,7 @@
 use super::parts::{COLOR, GRAY, Part, holds, message};
 use pnm_image::Device;
 use pnm_test_devices::{FailsOnce, Sips};
-use pnm_write::{Sink, SinkFault};
+use pnm_write::{Form, Sink, SinkFault};
 use std::alloc::Global;
 use std::process::Abort;
 use std::test::Fail;
@@ -35,8 +35,8 @@ struct Said {
 
 /// What a sink over the writer answers to these messages, each of which is put whatever came before it, and flushed where it
 /// ends an image.
-fn answers(alloc: Global, sips: &mut Sips, parts: &[Part<'_>]) -> Result<Said, Fail> {
-    let mut sink = Sink::new(Device::new(sips));
+fn answers(alloc: Global, sips: &mut Sips, form: Form, parts: &[Part<'_>]) -> Result<Said, Fail> {
+    let mut sink = Sink::new(Device::new(sips), form);
     let mut fault = None;
     let mut stays = true;
     let mut flush = None;
@@ -78,7 +78,7 @@ fn answers_a_failed_write(rt: HostRuntime) -> Result<(), Fail> {
 /// The write after so many fails, if there are more.
 fn answers_write_that_fails(rt: &impl Abort, alloc: Global, before: usize) -> Result<(), Fail> {
     let mut sips = Sips::new(alloc, 1, FailsOnce::after(before), FailsOnce::never());
-    let said = answers(alloc, &mut sips, STREAM)?;
+    let said = answers(alloc, &mut sips, Form::Raw, STREAM)?;
     let broken = SinkFault::Broken;
     let want = if before < 22 {
         (Some(SinkFault::WriteFailed), Some(broken), Err(broken))
@@ -104,6 +104,44 @@ fn answers_write_that_fails(rt: &impl Abort, alloc: Global, before: usize) -> Re
     Ok(())
 }
 
+/// An image, and its bytes in plain form.
+const PLAIN_STREAM: &[Part<'static>] = &[
+    Part::Begin(COLOR, ""),
+    Part::Row(&[3, 4, 5]),
+    Part::ImageEnd,
+    Part::StreamEnd,
+];
+
+const PLAIN_BYTES: &[u8] = b"P3\n1 1\n9\n3 4 5\n";
+
+/// A write for each byte of a plain image, of which the one after so many fails.
+#[test]
+fn answers_a_failed_write_of_a_plain_image(rt: HostRuntime) -> Result<(), Fail> {
+    for before in 0..17 {
+        answers_plain_write_that_fails(&rt, rt.alloc(), before)?;
+    }
+    Ok(())
+}
+
+/// The write after so many fails, if there are more.
+fn answers_plain_write_that_fails(
+    rt: &impl Abort,
+    alloc: Global,
+    before: usize,
+) -> Result<(), Fail> {
+    let mut sips = Sips::new(alloc, 1, FailsOnce::after(before), FailsOnce::never());
+    let said = answers(alloc, &mut sips, Form::Plain, PLAIN_STREAM)?;
+    let want = if before < 15 {
+        (Some(SinkFault::WriteFailed), Err(SinkFault::Broken))
+    } else {
+        (None, Ok(()))
+    };
+    let is_so = said.stays && (said.fault, said.end) == want;
+    holds(rt, is_so, &said, &want, &before);
+    holds_bytes(rt, &sips, &PLAIN_BYTES[..before.min(15)]);
+    Ok(())
+}
+
 /// A flush after each image, and one at the end, of which the one after so many fails. All is written.
 #[test]
 fn answers_a_failed_flush(rt: HostRuntime) -> Result<(), Fail> {
@@ -120,7 +158,7 @@ fn answers_a_failed_flush(rt: HostRuntime) -> Result<(), Fail> {
             FailsOnce::never(),
             FailsOnce::after(before),
         );
-        let said = answers(rt.alloc(), &mut sips, STREAM)?;
+        let said = answers(rt.alloc(), &mut sips, Form::Raw, STREAM)?;
         let is_so = (said.fault, said.flush, said.end) == want;
         holds(&rt, is_so, &said, &want, &before);
         holds_bytes(&rt, &sips, BYTES);
@@ -132,7 +170,7 @@ fn answers_a_failed_flush(rt: HostRuntime) -> Result<(), Fail> {
 #[test]
 fn answers_a_write_of_no_byte(rt: HostRuntime) -> Result<(), Fail> {
     let mut sips = Sips::new(rt.alloc(), 0, FailsOnce::never(), FailsOnce::never());
-    let said = answers(rt.alloc(), &mut sips, &STREAM[..1])?;
+    let said = answers(rt.alloc(), &mut sips, Form::Raw, &STREAM[..1])?;
     let want = (Some(SinkFault::WriteFailed), Err(SinkFault::Broken));
     let is_so = (said.fault, said.end) == want;
     holds(&rt, is_so, &said, &want, &"the first write");

@@ -2,14 +2,19 @@
 
 use super::parts::{Part, holds, message};
 use pnm_image::{Device, Kind, Shape};
-use pnm_write::Sink;
+use pnm_write::{Form, Sink};
 use std::alloc::{AllocError, Global};
 use std::process::Abort;
 use std::test::Fail;
 
-/// What is written of the messages.
+/// What is written of the messages, in raw form.
 pub(super) fn written(alloc: Global, parts: &[Part<'_>]) -> Result<Vec<u8>, Fail> {
-    let mut sink = Sink::new(Device::new(Vec::new(alloc)));
+    written_in(alloc, Form::Raw, parts)
+}
+
+/// What is written of the messages.
+pub(super) fn written_in(alloc: Global, form: Form, parts: &[Part<'_>]) -> Result<Vec<u8>, Fail> {
+    let mut sink = Sink::new(Device::new(Vec::new(alloc)), form);
     for part in parts {
         sink.put(&message(alloc, *part)?)?;
     }

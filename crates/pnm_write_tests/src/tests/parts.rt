@@ -62,3 +62,12 @@ pub(super) const COLOR: Shape = Shape {
     depth: 3,
     maxval: 9,
 };
+
+/// One PAM pixel of a plane, up to 9.
+pub(super) const PAM: Shape = Shape {
+    kind: Kind::Pam,
+    width: 1,
+    height: 1,
+    depth: 1,
+    maxval: 9,
+};

@@ -9,6 +9,8 @@ fn prints_names(rt: HostRuntime) -> Result<(), Fail> {
         (SinkFault::WriteFailed, "WriteFailed"),
         (SinkFault::OutOfOrder, "OutOfOrder"),
         (SinkFault::Broken, "Broken"),
+        (SinkFault::SecondPlain, "SecondPlain"),
+        (SinkFault::PlainPam, "PlainPam"),
     ] {
         let text = format!(in rt.alloc(); "{fault}")?;
         assert_eq!(rt; text.as_str(), name);
