@@ -2,7 +2,7 @@
 use Rattle.std.proofs.Common.{◌≡◌, ℕ, zero, suc, ◌+◌, ◌-◌, ◌*◌, ◌<◌, Bool, true, false, ◌&&◌, ◌==◌, List, [], ◌∷◌, length, take, drop, slice_index, decimal, refl, ap, ap₂, subst, ◌∙◌, arith}
 use Rattle.std.proofs.lemmas.List.{drop-drop}
 use Rattle.std.proofs.lemmas.Bool.Decides.{nat_tests}
-use Rattle.pnm_write.specs.PlainRows.{blank}
+use Rattle.pnm_image.specs.Characters.{blank}
 use Rattle.pnm_write.specs.Numerals.{IsEntry}
 
 abbrev pub are_same : List ℕ → List ℕ → Bool

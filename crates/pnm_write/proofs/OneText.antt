@@ -5,7 +5,8 @@ use Rattle.std.proofs.lemmas.Bool.Decides.{nat_tests}
 use Rattle.pnm_image.specs.declared.shape.Kind.{Kind}
 use Rattle.pnm_image.specs.Heads.{HeadValue, IsHead}
 use Rattle.pnm_image.specs.Places.{IsRowOf}
-use Rattle.pnm_write.specs.PlainRows.{blank, line_feed, max_line_length, sample_text, joined, IsFilled, AreFilled, IsLine, line_text, IsSetInLines, words_after, set_in_lines}
+use Rattle.pnm_image.specs.Characters.{blank, line_feed}
+use Rattle.pnm_write.specs.PlainRows.{max_line_length, sample_text, joined, IsFilled, AreFilled, IsLine, line_text, IsSetInLines, words_after, set_in_lines}
 use Rattle.pnm_write.specs.EncodingLaws.{HasOneText}
 use Rattle.pnm_write.proofs.PlainText.{AreSpelled, row_is_spelled}
 

@@ -9,7 +9,8 @@ use Rattle.std.proofs.lemmas.List.{take-append-drop, take_all, drop_all, take_mo
 use Rattle.pnm_samples.specs.Pixels.{pixels, all_pixels}
 use Rattle.pnm_samples.proofs.PixelLaws.{length-all_pixels, all_pixels-push, take-all_pixels, drop-all_pixels}
 use Rattle.pnm_image.specs.declared.shape.Kind.TheVariants.{Bit}
-use Rattle.pnm_write.specs.PlainRows.{blank, line_feed, max_line_length, words_after, plain_row_text}
+use Rattle.pnm_image.specs.Characters.{blank, line_feed}
+use Rattle.pnm_write.specs.PlainRows.{max_line_length, words_after, plain_row_text}
 use Rattle.pnm_write.specs.PlainParts.{sample_texts}
 use Rattle.pnm_write.specs.PixelCells.{cell, cells, nibble_cells}
 use Rattle.pnm_write.proofs.NumeralLaws.{set_behind}

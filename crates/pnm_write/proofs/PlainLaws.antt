@@ -7,7 +7,8 @@ use Rattle.std.specs.List.{AllByRecursion}
 use Rattle.std.proofs.lemmas.Fmt.{decimal_nonempty}
 use Rattle.pnm_image.specs.declared.shape.Kind.{Kind}
 use Rattle.pnm_image.specs.declared.shape.Kind.TheVariants.{Bit, Gray, Color, Pam}
-use Rattle.pnm_write.specs.PlainRows.{sample_text, words_after, plain_row_text, blank, line_feed}
+use Rattle.pnm_image.specs.Characters.{blank, line_feed}
+use Rattle.pnm_write.specs.PlainRows.{sample_text, words_after, plain_row_text}
 use Rattle.pnm_write.specs.PlainParts.{fits_in_line, column_after, word_in_line, text_of_part, column_after_part, sample_texts, row_end}
 
 -- ---- words

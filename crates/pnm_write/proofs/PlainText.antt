@@ -15,7 +15,8 @@ use Rattle.pnm_read.specs.Texts.{commented_after, uncommented_from, begins_apart
 use Rattle.pnm_read.specs.Rasters.{IsGap, SpellsSample, SpellsPiece, MayFollow, SpellsPlainSamples}
 use Rattle.pnm_read.proofs.PlainLaws.{apart_follows}
 use Rattle.pnm_write.specs.Encoding.{row_bytes}
-use Rattle.pnm_write.specs.PlainRows.{sample_text, plain_row_text, blank, line_feed}
+use Rattle.pnm_image.specs.Characters.{blank, line_feed}
+use Rattle.pnm_write.specs.PlainRows.{sample_text, plain_row_text}
 use Rattle.pnm_write.specs.PlainParts.{fits_in_line, separator, column_after, word_in_line, text_of_part, sample_texts}
 use Rattle.pnm_write.proofs.DecimalText.{decimal_spells, decimal_short}
 use Rattle.pnm_write.proofs.PlainLaws.{row_text_left, has_begun_line}

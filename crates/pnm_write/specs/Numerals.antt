@@ -1,6 +1,6 @@
 -- The decimal texts of small numbers, as a table has them.
 use Rattle.std.specs.Prelude.{◌≡◌, ℕ, ◌+◌, ◌/◌, ◌%◌, List, [], ◌∷◌, length, take, drop, slice_index, decimal}
-use Rattle.pnm_write.specs.PlainRows.{blank}
+use Rattle.pnm_image.specs.Characters.{blank}
 
 -- the entry of a number: a digit, how many bytes the number has behind a blank, and these bytes, filled up
 pub record IsEntry (number : ℕ) (entry : List ℕ) : Type 0 where

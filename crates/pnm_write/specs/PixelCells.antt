@@ -1,7 +1,7 @@
 -- The characters of pixels, with a blank behind each.
 use Rattle.std.specs.Prelude.{ℕ, ◌+◌, ◌-◌, ◌/◌, ◌%◌, List, [], ◌∷◌}
 use Rattle.std.specs.List.{flat_map}
-use Rattle.pnm_write.specs.PlainRows.{blank, digit_one}
+use Rattle.pnm_image.specs.Characters.{blank, digit_one}
 
 abbrev pub cell : ℕ → List ℕ
 cell sample = (digit_one - sample) ∷ blank ∷ []

@@ -1,7 +1,8 @@
 -- The text of a part of a plain row, behind a line that has so many bytes: 0 where the row begins.
 use Rattle.std.specs.Prelude.{ℕ, ◌+◌, nat_le, ◌==◌, Bool, true, false, if◌then◌else◌, List, [], ◌∷◌, ◌++◌, length, map}
 use Rattle.pnm_image.specs.declared.shape.Kind.{Kind}
-use Rattle.pnm_write.specs.PlainRows.{blank, line_feed, max_line_length, sample_text}
+use Rattle.pnm_image.specs.Characters.{blank, line_feed}
+use Rattle.pnm_write.specs.PlainRows.{max_line_length, sample_text}
 
 -- whether the word stands in this line, behind a blank
 abbrev pub fits_in_line : ℕ → List ℕ → Bool

@@ -3,17 +3,9 @@
 -- samples, also between pixels, and that a line holds as many samples as it can, are own.
 use Rattle.std.specs.Prelude.{◌≡◌, ℕ, ◌+◌, ◌-◌, ◌<◌, ◌≤◌, nat_le, if◌then◌else◌, List, [], ◌∷◌, ◌++◌, length, map, flat_map, decimal}
 use Rattle.std.specs.List.{AllByRecursion}
+use Rattle.pnm_image.specs.Characters.{blank, line_feed, digit_one}
 use Rattle.pnm_image.specs.declared.shape.Kind.{Kind}
 use Rattle.pnm_image.specs.declared.shape.Kind.TheVariants.{Bit, Gray, Color, Pam}
-
-abbrev pub blank : ℕ
-blank = 32
-
-abbrev pub line_feed : ℕ
-line_feed = 10
-
-abbrev pub digit_one : ℕ
-digit_one = 49
 
 -- the bytes of a line without its LF, at most
 abbrev pub max_line_length : ℕ

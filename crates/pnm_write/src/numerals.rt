@@ -3,7 +3,8 @@
 ghost use Rattle.std.specs.Prelude.{◌≡◌, ◌+◌, ◌-◌, ◌*◌, ◌<◌, ◌≤◌, nat_le, if◌then◌else◌, ◌∷◌, ◌++◌, length, take, decimal, slice_set};
 ghost use Rattle.pnm_image.specs.declared.shape.Kind.{Kind};
 ghost use Rattle.pnm_write.specs.Numerals.{IsEntry, three_digits};
-ghost use Rattle.pnm_write.specs.PlainRows.{blank, line_feed, max_line_length};
+ghost use Rattle.pnm_image.specs.Characters.{blank, line_feed};
+ghost use Rattle.pnm_write.specs.PlainRows.{max_line_length};
 ghost use Rattle.pnm_write.specs.PlainParts.{column_after, word_in_line, text_of_part, column_after_part, sample_texts};
 
 /// The bytes of a line without its LF, at most.
