@@ -1,32 +1,31 @@
 -- The rows of a flipped image, and what is still to be given of it.
-use Rattle.std.proofs.Common.{◌≡◌, ℕ, zero, suc, ◌+◌, ◌-◌, ◌*◌, ◌<◌, ◌≤◌, List, [], ◌∷◌, ◌++◌, length, take, drop, reverse, get_or, refl, sym, ap, ◌∙◌, arith, mul-le-mul, length-take-le, length-drop, map, Vec, vec_capacity, Global, subst, append-nil, suc-mul, Bool, true, false, ◌==◌, if◌then◌else◌, Ok, Err, Option, Some, None, All, nat_lt}
+use Rattle.std.proofs.Common.{◌≡◌, ℕ, zero, suc, ◌+◌, ◌-◌, ◌*◌, ◌<◌, ◌≤◌, List, [], ◌∷◌, ◌++◌, length, take, drop, reverse, get_or, refl, sym, ap, ◌∙◌, arith, mul-le-mul, length-take-le, length-drop, map, Vec, vec_capacity, Global, subst, suc-mul, Bool, true, false, if◌then◌else◌, Ok, Option, None, All, nat_lt}
 use Rattle.std.specs.List.{flat_map, range_with_len}
 use borrow.Rule.Slice.PartMut.{put_mid}
-use Rattle.std.proofs.lemmas.List.{append_assoc, length-append, reverse-append, reverse-reverse, length-reverse, take-append-drop, take_at, drop_at, drop-drop, take_more, drop_more, take_all, length-take, length-map, get_or-map, same_lists, nil_from_length}
+use Rattle.std.proofs.lemmas.List.{append_assoc, length-append, reverse-append, reverse-reverse, length-reverse, take-append-drop, take_at, drop_at, drop-drop, take_more, drop_more, take_all, length-take, length-map, get_or-map, same_lists}
 use Rattle.pnm_image.specs.declared.shape.Shape.{Shape}
-use Rattle.pnm_tools.specs.Flip.{mirrored_row, column_of, transposed_head_value}
+use Rattle.pnm_tools.specs.Flip.{turn_of, in_order, mirrored_row, column_of, transposed_head_value}
 use Rattle.pnm_tools.specs.Pixels.{pixel_of}
 use Rattle.pnm_tools.proofs.PickLaws.{flat_map_one_more, pieces_within}
 use Rattle.std.proofs.lemmas.List.FromFn.{get_or-map-range_with_len, length-map-range_with_len}
 use Rattle.pnm_tools.specs.Columns.{HaveRoom, samples_of}
-use Rattle.std.specs.Option.{option_to_list, IfNone}
-use Rattle.std.proofs.lemmas.Bool.{eqb-true, ltb-true}
+use Rattle.std.proofs.lemmas.Bool.{ltb-true}
 use Rattle.std.proofs.lemmas.List.Elements.{All-nil, All-take, All-drop}
-use Rattle.pnm_image.specs.Heads.{HeadValue, IsHead, Suits, row_length, is_too_large}
+use Rattle.pnm_image.specs.Heads.{HeadValue, IsHead, Suits, row_length}
 use Rattle.pnm_image.specs.SampleWidths.{sample_width_of}
 use Rattle.pnm_image.specs.declared.sample_width.SampleWidth.{SampleWidth}
 use Rattle.pnm_image.specs.declared.sample_width.SampleWidth.TheVariants.{Bytes, Words}
 use Rattle.pnm_image.specs.declared.shape.Kind.{Kind}
 use Rattle.pnm_image.specs.declared.shape.Kind.TheVariants.{Bit, Gray, Color, Pam}
-use Rattle.pnm_tools.specs.declared.fault.ToolFault.TheVariants.{OutOfOrder, TooLarge}
 use Rattle.pnm_tools.specs.declared.tool.Tool.TheVariants.{Flip}
-use Rattle.pnm_tools.specs.declared.flip.FlipWay.TheVariants.{Transpose}
-use Rattle.pnm_tools.specs.Answering.{row_list}
+use Rattle.pnm_tools.specs.declared.flip.FlipWay.{FlipWay}
 use Rattle.pnm_tools.specs.SampleRows.{SuitsShape}
-use Rattle.pnm_tools.specs.Keeping.{Transposed, IsTransposing, transposed, transposed_due}
+use Rattle.pnm_tools.specs.Keeping.{Reversed, ReversesRows, reversed, reversed_due, Transposed, IsTransposing, transposed, transposed_due}
 use Rattle.pnm_tools.specs.Tools.{result_head, row_answer}
 use Rattle.pnm_tools.proofs.HeadLaws.{small_row}
 use Rattle.pnm_tools.proofs.RangeLaws.{map_in_parts}
+use Rattle.pnm_tools.proofs.TurnLaws.{in_order_nil, exchanged_moves, reversed_moves, row_moved}
+use Rattle.pnm_tools.proofs.WholeHeadLaws.{is_turned}
 
 -- ---- a row, the last pixel first
 
@@ -176,70 +175,44 @@ pub all_made : {X : Type 0} (count first depth room n : ℕ) (rows : List (List 
 all_made {X = X} count first depth room n rows made le h =
     columns_made count first depth room (take n rows) made h ∙ ap (λ (l : List (List X)). map (column_of depth l) (range_with_len first count)) (take_all n rows le)
 
--- ---- the rows that a transposer has still to give
-
--- a transposer answers no row before the image has ended
-row_of_transpose : (s : Shape) (y : ℕ) (row : List ℕ) → row_answer (Flip Transpose) s y row ≡ []
-unfolding row_answer
-row_of_transpose s y row = refl
+-- ---- the rows that a reverser has still to give
 
 -- nothing is due before the image has ended
-pub none_made : (depth : ℕ) (sample_width : SampleWidth) (next columns : ℕ) (rows band : List (List ℕ)) (s : Shape) (y : ℕ) (row : List ℕ) → band ≡ [] → columns ≡ 0 → transposed_due (transposed depth sample_width rows band next columns) ≡ row_answer (Flip Transpose) s y row
-none_made depth sample_width next columns rows band s y row no_band no_column =
+pub none_reversed : (w : Reversed) (s : Shape) (y : ℕ) (row : List ℕ) → ReversesRows (turn_of w.way) → w.ended ≡ None → reversed_due w ≡ row_answer (Flip w.way) s y row
+none_reversed w s y row reverses none =
+    ap (λ (ended : Option Shape). reversed_due (reversed w.way w.rows ended)) none ∙ sym (row_moved w.way s y row (reversed_moves (turn_of w.way) reverses))
+
+-- ---- the rows that a transposer has still to give
+
+-- nothing is due before the image has ended
+pub none_made : (way : FlipWay) (depth : ℕ) (sample_width : SampleWidth) (next columns : ℕ) (rows band : List (List ℕ)) (s : Shape) (y : ℕ) (row : List ℕ) → (turn_of way).exchanged ≡ true → band ≡ [] → columns ≡ 0
+    → transposed_due (transposed way depth sample_width rows band next columns) ≡ row_answer (Flip way) s y row
+none_made way depth sample_width next columns rows band s y row exchanged no_band no_column =
     let none : columns - next ≡ 0 = omega arith in
-    ap (λ (l : List (List ℕ)). transposed_due (transposed depth sample_width rows l next columns)) no_band ∙ ap (λ (n : ℕ). map (column_of depth rows) (range_with_len next n)) none ∙ sym (row_of_transpose s y row)
+    let last_first : Bool = (turn_of way).columns_reversed in
+    ap (λ (l : List (List ℕ)). transposed_due (transposed way depth sample_width rows l next columns)) no_band
+    ∙ ap (λ (n : ℕ). in_order last_first (map (column_of depth rows) (range_with_len next n))) none
+    ∙ in_order_nil last_first
+    ∙ sym (row_moved way s y row (exchanged_moves (turn_of way) exchanged))
 
 -- the band that is made holds the columns that were the next to be made
-pub band_made : (depth : ℕ) (sample_width : SampleWidth) (next columns count : ℕ) (rows band : List (List ℕ)) → next + count ≤ columns → band ≡ reverse (map (column_of depth rows) (range_with_len next count))
-    → transposed_due (transposed depth sample_width rows [] next columns) ≡ transposed_due (transposed depth sample_width rows band (next + count) columns)
-band_made depth sample_width next columns count rows band within made =
+pub first_made : (way : FlipWay) (depth : ℕ) (sample_width : SampleWidth) (next columns count : ℕ) (rows band : List (List ℕ)) → (turn_of way).columns_reversed ≡ false → next + count ≤ columns
+    → band ≡ reverse (map (column_of depth rows) (range_with_len next count))
+    → transposed_due (transposed way depth sample_width rows band (next + count) columns) ≡ transposed_due (transposed way depth sample_width rows [] next columns)
+first_made way depth sample_width next columns count rows band first_first within made =
     let f : ℕ → List ℕ = column_of depth rows in
     let parts : columns - next ≡ count + (columns - (next + count)) = omega arith in
-    ap (λ (n : ℕ). map f (range_with_len next n)) parts ∙ map_in_parts f next count (columns - (next + count))
-    ∙ ap (λ (l : List (List ℕ)). l ++ map f (range_with_len (next + count) (columns - (next + count)))) (sym (reverse-reverse (map f (range_with_len next count))) ∙ ap reverse (sym made))
-
--- the last column of the band is given
-pub last_given : (depth : ℕ) (sample_width : SampleWidth) (next columns : ℕ) (rows band left : List (List ℕ)) (row : Option (List ℕ)) → band ≡ left ++ option_to_list row
-    → transposed_due (transposed depth sample_width rows band next columns) ≡ row_list row ++ transposed_due (transposed depth sample_width rows left next columns)
-last_given depth sample_width next columns rows band left None parts =
-    ap (λ (l : List (List ℕ)). transposed_due (transposed depth sample_width rows l next columns)) (parts ∙ append-nil left)
-last_given depth sample_width next columns rows band left (Some row) parts =
-    ap (λ (l : List (List ℕ)). transposed_due (transposed depth sample_width rows l next columns)) parts
-    ∙ ap (λ (l : List (List ℕ)). l ++ map (column_of depth rows) (range_with_len next (columns - next))) (reverse-append left (row ∷ []))
-
--- where none is given all have been
-pub all_given : (depth : ℕ) (sample_width : SampleWidth) (next columns : ℕ) (rows band left : List (List ℕ)) (row : Option (List ℕ)) → band ≡ left ++ option_to_list row → (row ≡ None → band ≡ []) → (band ≡ [] → columns ≤ next)
-    → IfNone row (transposed_due (transposed depth sample_width rows left next columns) ≡ [])
-all_given depth sample_width next columns rows band left None parts empty ends =
-    let none : band ≡ [] = empty refl in
-    let over : columns - next ≡ 0 = omega (arith, ends none) in
-    ap (λ (l : List (List ℕ)). transposed_due (transposed depth sample_width rows l next columns)) (sym (append-nil left) ∙ sym parts ∙ none)
-    ∙ ap (λ (n : ℕ). map (column_of depth rows) (range_with_len next n)) over
-all_given depth sample_width next columns rows band left (Some row) parts empty ends = tt
-
--- columns that are made are not none
-pub some_made : (depth : ℕ) (rows band : List (List ℕ)) (next count : ℕ) → band ≡ reverse (map (column_of depth rows) (range_with_len next count)) → band ≡ [] → count ≡ 0
-some_made depth rows band next count made none =
-    sym (length-map-range_with_len (column_of depth rows) next count) ∙ sym (length-reverse (map (column_of depth rows) (range_with_len next count))) ∙ ap length (sym made ∙ none)
-
--- a band that is found empty
-pub no_items : (xs : List (List ℕ)) (n : ℕ) → n ≡ length xs → true ≡ (n == 0) → xs ≡ []
-no_items xs n count found = nil_from_length xs (sym count ∙ eqb-true n 0 (sym found))
+    let rest : List (List ℕ) = map f (range_with_len (next + count) (columns - (next + count))) in
+    ap (λ (b : Bool). reverse band ++ in_order b rest) first_first
+    ∙ ap (λ (l : List (List ℕ)). l ++ rest) (ap reverse made ∙ reverse-reverse (map f (range_with_len next count)))
+    ∙ sym (ap (λ (n : ℕ). map f (range_with_len next n)) parts ∙ map_in_parts f next count (columns - (next + count)))
+    ∙ ap (λ (b : Bool). in_order b (map f (range_with_len next (columns - next)))) (sym first_first)
 
 -- ---- the head
 
--- a head that is made is not too large
-not_large : (b c : Bool) (x made : HeadValue) → (if b then Err OutOfOrder else if c then Err TooLarge else Ok x) ≡ Ok made → c ≡ false
-not_large true c x made e = absurd cc
-not_large false true x made e = absurd cc
-not_large false false x made e = refl
-
--- a column of an image is within the limits where its transposed head is made
-column_small : (head made : HeadValue) → result_head (Flip Transpose) head ≡ Ok made → head.shape.height * head.shape.depth ≤ 16777216
-unfolding result_head
-column_small head made e =
-    let x : HeadValue = transposed_head_value head in
-    small_row x.shape (not_large (head.shape.height == 0) (is_too_large x.shape) x made e)
+-- a column of an image is within the limits where the head with its sizes exchanged is made
+column_small : (way : FlipWay) (head made : HeadValue) → (turn_of way).exchanged ≡ true → result_head (Flip way) head ≡ Ok made → head.shape.height * head.shape.depth ≤ 16777216
+column_small way head made exchanged e = small_row (transposed_head_value head).shape ((is_turned way head made e).limits exchanged)
 
 -- bytes hold samples up to 255
 narrow_suits : (s : Shape) (b : Bool) → nat_lt s.maxval 256 ≡ b → SuitsShape (if b then Bytes else Words) s
@@ -257,10 +230,11 @@ width_suits : (s : Shape) (text : List ℕ) → Suits s.kind s.depth s.maxval te
 width_suits s text suits = kind_suits s.kind s text suits
 
 -- a transposer that has begun is ready for the first row
-pub ready_to_transpose : (w : Transposed) (head made : HeadValue) → IsHead head → result_head (Flip Transpose) head ≡ Ok made → w.sample_width ≡ sample_width_of head.shape.kind head.shape.maxval → w.rows ≡ [] → w.band ≡ [] → w.next ≡ 0 → w.columns ≡ 0 → IsTransposing w head.shape []
-ready_to_transpose w head made sound e sample_width rows band next columns = record {
+pub ready_to_transpose : (w : Transposed) (head made : HeadValue) → (turn_of w.way).exchanged ≡ true → IsHead head → result_head (Flip w.way) head ≡ Ok made
+    → w.sample_width ≡ sample_width_of head.shape.kind head.shape.maxval → w.rows ≡ [] → w.band ≡ [] → w.next ≡ 0 → w.columns ≡ 0 → IsTransposing w head.shape []
+ready_to_transpose w head made exchanged sound e sample_width rows band next columns = record {
   limits = sound.limits;
-  column = column_small head made e;
+  column = column_small w.way head made exchanged e;
   sample_width = subst (λ (p : SampleWidth). SuitsShape p head.shape) (sym sample_width) (width_suits head.shape head.tuple_type sound.suits);
   rows = rows;
   lengths = All-nil (λ row. length row ≡ row_length head.shape);

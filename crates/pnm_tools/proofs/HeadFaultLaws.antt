@@ -1,21 +1,21 @@
 -- Why a tool refuses a head.
-use Rattle.std.proofs.Common.{◌≡◌, Bool, true, false, not, ◌&&◌, Option, Some, None, Result, Ok, Err, nat_lt, refl, subst}
+use Rattle.std.proofs.Common.{◌≡◌, Bool, true, false, not, ◌&&◌, Option, Some, None, Result, Ok, Err, nat_lt, refl, ap, subst}
 use Rattle.std.specs.Prelude.{◌==◌, if◌then◌else◌}
 use Rattle.std.specs.List.{list_all}
-use Rattle.std.proofs.lemmas.Bool.{eqb-true, eq-eqb, not-true, not_from_false, and_parts, and_from}
+use Rattle.std.proofs.lemmas.Bool.{eqb-true, eq-eqb, not-true, not-false, not_from_false, and_parts, and_from}
 use Rattle.pnm_image.specs.Heads.{HeadValue, is_too_large}
 use Rattle.pnm_tools.specs.declared.cut.CutBox.{CutBox}
 use Rattle.pnm_tools.specs.declared.cut.Span.{Span}
 use Rattle.pnm_tools.specs.declared.fault.ToolFault.{ToolFault}
 use Rattle.pnm_tools.specs.declared.fault.ToolFault.TheVariants.{TooLarge, ChannelOutside, OutOfOrder}
 use Rattle.pnm_tools.specs.declared.flip.FlipWay.{FlipWay}
-use Rattle.pnm_tools.specs.declared.flip.FlipWay.TheVariants.{Null, LeftRight, TopBottom, Transpose}
+use Rattle.pnm_tools.specs.declared.flip.Turn.{Turn}
 use Rattle.pnm_tools.specs.declared.tool.Tool.{Tool}
 use Rattle.pnm_tools.specs.declared.tool.Tool.TheVariants.{Invert, Cut, Depth, Channel, Enlarge, Flip, Tile}
 use Rattle.pnm_tools.specs.Channel.{picked_head_value}
 use Rattle.pnm_tools.specs.Cut.{head_of_spans, columns_kept, rows_kept}
 use Rattle.pnm_tools.specs.Enlarge.{enlarged_head_value}
-use Rattle.pnm_tools.specs.Flip.{transposed_head_value, flipped_head}
+use Rattle.pnm_tools.specs.Flip.{turn_of, moves_rows, turned_head, transposed_head_value}
 use Rattle.pnm_tools.specs.Laws.{IsFaultOfHead}
 use Rattle.pnm_tools.specs.Limits.{within_limits}
 use Rattle.pnm_tools.specs.Tile.{tiled_head_value}
@@ -45,11 +45,13 @@ spans_by_name box head (Some columns) (Some rows) = tt
 spans_by_name box head (Some columns) None = (box, refl)
 spans_by_name box head None rows = (box, refl)
 
-flip_by_name : (way : FlipWay) (head : HeadValue) → RefusesByName (Flip way) head (flipped_head way head)
-flip_by_name Null head = tt
-flip_by_name LeftRight head = tt
-flip_by_name TopBottom head = order_by_name (Flip TopBottom) head (Ok head) refl tt
-flip_by_name Transpose head = order_by_name (Flip Transpose) head (within_limits (transposed_head_value head)) refl (limits_by_name (Flip Transpose) head (transposed_head_value head))
+flip_by_name : (way : FlipWay) (head : HeadValue) → RefusesByName (Flip way) head (turned_head (turn_of way) head)
+flip_by_name way head =
+    let t : Turn = turn_of way in
+    let x : HeadValue = transposed_head_value head in
+    either_by_name (Flip way) head (moves_rows t && (head.shape.height == 0)) (Err OutOfOrder) (if t.exchanged then within_limits x else Ok head) (λ none.
+    let parts = and_parts (moves_rows t) (head.shape.height == 0) none in
+    (ap not parts.0, eqb-true head.shape.height 0 parts.1)) (either_by_name (Flip way) head t.exchanged (within_limits x) (Ok head) (λ exchanged. limits_by_name (Flip way) head x) tt)
 
 by_name : (tool : Tool) (head : HeadValue) → RefusesByName tool head (result_head tool head)
 unfolding result_head
@@ -77,12 +79,6 @@ refused_first : (b : Bool) (r : Result HeadValue ToolFault) → b ≡ true → (
 refused_first true r out = refl
 refused_first false r out = absurd cc
 
-no_rows_flipped : (way : FlipWay) (head : HeadValue) → is_row_wise (Flip way) ≡ false → head.shape.height ≡ 0 → flipped_head way head ≡ Err OutOfOrder
-no_rows_flipped Null head whole none = absurd cc
-no_rows_flipped LeftRight head whole none = absurd cc
-no_rows_flipped TopBottom head whole none = refused_first (head.shape.height == 0) (Ok head) (eq-eqb head.shape.height 0 none)
-no_rows_flipped Transpose head whole none = refused_first (head.shape.height == 0) (within_limits (transposed_head_value head)) (eq-eqb head.shape.height 0 none)
-
 -- a tool that isn't row-wise refuses a head of no rows
 pub no_rows_refused : (tool : Tool) (head : HeadValue) → is_row_wise tool ≡ false → head.shape.height ≡ 0 → result_head tool head ≡ Err OutOfOrder
 unfolding result_head
@@ -92,5 +88,7 @@ no_rows_refused (Depth maxval) head whole none = absurd cc
 no_rows_refused (Channel planes) head whole none = absurd cc
 no_rows_refused (Enlarge across down) head whole none =
     refused_first (not (down == 1) && (head.shape.height == 0)) (within_limits (enlarged_head_value across down head)) (and_from (not (down == 1)) (head.shape.height == 0) (not_from_false (down == 1) whole) (eq-eqb head.shape.height 0 none))
-no_rows_refused (Flip way) head whole none = no_rows_flipped way head whole none
+no_rows_refused (Flip way) head whole none =
+    let t : Turn = turn_of way in
+    refused_first (moves_rows t && (head.shape.height == 0)) (if t.exchanged then within_limits (transposed_head_value head) else Ok head) (and_from (moves_rows t) (head.shape.height == 0) (not-false (moves_rows t) whole) (eq-eqb head.shape.height 0 none))
 no_rows_refused (Tile across down) head whole none = refused_first (head.shape.height == 0) (within_limits (tiled_head_value across down head)) (eq-eqb head.shape.height 0 none)

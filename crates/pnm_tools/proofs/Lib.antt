@@ -21,6 +21,7 @@ pub mod DepthLaws
 pub mod DepthRowLaws
 pub mod ChannelLaws
 pub mod EnlargeLaws
+pub mod TurnLaws
 pub mod FlipLaws
 pub mod TileLaws
 pub mod ToolLaws

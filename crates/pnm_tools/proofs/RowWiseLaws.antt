@@ -2,7 +2,7 @@
 use Rattle.std.proofs.Common.{◌≡◌, ◌↔◌, ℕ, ◌*◌, ◌≤◌, Bool, true, false, ◌||◌, List, [], ◌∷◌, ◌++◌, map, nat_lt, Result, Ok, Err, refl, sym, ap, subst, ◌∙◌, arith, append-nil}
 use Rattle.std.specs.Prelude.{if◌then◌else◌}
 use Rattle.std.specs.List.{list_all}
-use Rattle.std.proofs.lemmas.Bool.{eqb-true, le-ltb}
+use Rattle.std.proofs.lemmas.Bool.{eqb-true, le-ltb, not-true}
 use Rattle.std.proofs.lemmas.List.Elements.{All-nil, All-cons}
 use Rattle.pnm_image.specs.declared.shape.Shape.{Shape}
 use Rattle.pnm_image.specs.declared.message.Message.{Message}
@@ -15,7 +15,8 @@ use Rattle.pnm_image.proofs.Lists.{same_first, same_rest}
 use Rattle.pnm_image.proofs.Rows.{concat-cut_rows, image_of}
 use Rattle.pnm_tools.specs.declared.fault.ToolFault.{ToolFault}
 use Rattle.pnm_tools.specs.declared.fault.ToolFault.TheVariants.{ChannelOutside, TooLarge, OutOfOrder}
-use Rattle.pnm_tools.specs.declared.flip.FlipWay.TheVariants.{Null, LeftRight, TopBottom, Transpose}
+use Rattle.pnm_tools.specs.declared.flip.FlipWay.{FlipWay}
+use Rattle.pnm_tools.specs.declared.flip.Turn.{Turn}
 use Rattle.pnm_tools.specs.declared.tool.Tool.{Tool}
 use Rattle.pnm_tools.specs.declared.tool.Tool.TheVariants.{Invert, Cut, Depth, Channel, Enlarge, Flip, Tile}
 use Rattle.pnm_tools.specs.Answering.{answered_from}
@@ -23,7 +24,7 @@ use Rattle.pnm_tools.specs.Channel.{Picks, picked_row, picked_head_value}
 use Rattle.pnm_tools.specs.Dealing.{dealt_height, dealt_head, dealt_image, dealt_result, dealt_rows, IsRowWise, column}
 use Rattle.pnm_tools.specs.Depth.{rescaled_row}
 use Rattle.pnm_tools.specs.Enlarge.{enlarged_head_value, enlarged_row}
-use Rattle.pnm_tools.specs.Flip.{mirrored_row}
+use Rattle.pnm_tools.specs.Flip.{turn, turn_of, moves_rows, moved_rows, turned_head, turned_row}
 use Rattle.pnm_tools.specs.Formulas.{image_by}
 use Rattle.pnm_tools.specs.Invert.{inverted_row}
 use Rattle.pnm_tools.specs.Limits.{within_limits}
@@ -32,8 +33,9 @@ use Rattle.pnm_tools.proofs.DealingLaws.{dealt_height_within, dealt_image_is_ima
 use Rattle.pnm_tools.proofs.FormulaLaws.{length-image_by}
 use Rattle.pnm_tools.proofs.HeadFaultLaws.{head_is_refused_by_name, no_rows_refused}
 use Rattle.pnm_tools.proofs.ImageLaws.{result_by_head, answers_to_rows, each_row_answered, rows_answered}
-use Rattle.pnm_tools.proofs.RowLaws.{row_of_invert, row_of_depth, row_of_channel, row_of_enlarge, row_of_flip}
+use Rattle.pnm_tools.proofs.RowLaws.{row_of_invert, row_of_depth, row_of_channel, row_of_enlarge}
 use Rattle.pnm_tools.proofs.ToolLaws.{tool_answers_images}
+use Rattle.pnm_tools.proofs.TurnLaws.{row_stays}
 
 -- ---- the rows of a result, by the rows that answer
 
@@ -197,24 +199,25 @@ enlarge_by_rows across = record {
   head = λ lane lanes h is. enlarged_once across lane lanes h is;
 }
 
-null_by_rows : AnswersRowByRow (Flip Null)
-unfolding result_head
-null_by_rows = record {
-  row = λ s r. r;
-  one = λ s y r. row_of_flip Null s y r;
-  none = λ s rows. refl;
-  any_height = λ s height r. refl;
-  head = λ lane lanes h is. refl;
-}
+-- a head is kept where rows stay in their places
+head_kept : (columns rows exchanged : Bool) (h : HeadValue) → moves_rows (turn columns rows exchanged) ≡ false → turned_head (turn columns rows exchanged) h ≡ Ok h
+head_kept columns rows true h e = absurd cc
+head_kept columns true false h e = absurd cc
+head_kept columns false false h e = refl
 
-left_right_by_rows : AnswersRowByRow (Flip LeftRight)
+kept_head_dealt : (t : Turn) (lane lanes : ℕ) (h : HeadValue) → moves_rows t ≡ false → turned_head t (dealt_head lane lanes h) ≡ dealt_head_result lane lanes (turned_head t h)
+kept_head_dealt t lane lanes h stays =
+    head_kept t.columns_reversed t.rows_reversed t.exchanged (dealt_head lane lanes h) stays
+    ∙ ap (dealt_head_result lane lanes) (sym (head_kept t.columns_reversed t.rows_reversed t.exchanged h stays))
+
+flip_by_rows : (way : FlipWay) → moves_rows (turn_of way) ≡ false → AnswersRowByRow (Flip way)
 unfolding result_head
-left_right_by_rows = record {
-  row = mirrored_row;
-  one = λ s y r. row_of_flip LeftRight s y r;
-  none = λ s rows. refl;
+flip_by_rows way stays = record {
+  row = turned_row (turn_of way);
+  one = λ s y r. row_stays way s y r stays;
+  none = λ s rows. ap (λ (b : Bool). if b then moved_rows (turn_of way) s rows else []) stays;
   any_height = λ s height r. refl;
-  head = λ lane lanes h is. refl;
+  head = λ lane lanes h is. kept_head_dealt (turn_of way) lane lanes h stays;
 }
 
 -- a tool that is called row-wise answers row by row
@@ -224,10 +227,7 @@ by_rows (Cut box) e = absurd cc
 by_rows (Depth maxval) e = depth_by_rows maxval
 by_rows (Channel planes) e = channel_by_rows planes
 by_rows (Enlarge across down) e = subst (λ (n : ℕ). AnswersRowByRow (Enlarge across n)) (sym (eqb-true down 1 e)) (enlarge_by_rows across)
-by_rows (Flip Null) e = null_by_rows
-by_rows (Flip LeftRight) e = left_right_by_rows
-by_rows (Flip TopBottom) e = absurd cc
-by_rows (Flip Transpose) e = absurd cc
+by_rows (Flip way) e = flip_by_rows way (not-true (moves_rows (turn_of way)) e)
 by_rows (Tile width height) e = absurd cc
 
 -- ---- no others

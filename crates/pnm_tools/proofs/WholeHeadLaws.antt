@@ -5,11 +5,12 @@ use Rattle.std.proofs.lemmas.Bool.{eqb-false}
 use Rattle.pnm_image.specs.Heads.{HeadValue, is_too_large}
 use Rattle.pnm_tools.specs.declared.fault.ToolFault.{ToolFault}
 use Rattle.pnm_tools.specs.declared.fault.ToolFault.TheVariants.{OutOfOrder, TooLarge}
-use Rattle.pnm_tools.specs.declared.flip.FlipWay.TheVariants.{Null, LeftRight, TopBottom, Transpose}
+use Rattle.pnm_tools.specs.declared.flip.FlipWay.{FlipWay}
+use Rattle.pnm_tools.specs.declared.flip.Turn.{Turn}
 use Rattle.pnm_tools.specs.declared.tool.Tool.TheVariants.{Enlarge, Flip, Tile}
 use Rattle.pnm_tools.specs.Limits.{within_limits}
 use Rattle.pnm_tools.specs.Enlarge.{enlarged_head_value}
-use Rattle.pnm_tools.specs.Flip.{transposed_head_value}
+use Rattle.pnm_tools.specs.Flip.{turn, turn_of, turned_head, turned_head_value, transposed_head_value}
 use Rattle.pnm_tools.specs.Tile.{tiled_head_value}
 use Rattle.pnm_tools.specs.Tools.{result_head}
 
@@ -55,26 +56,28 @@ is_tiled across down head result e =
     let order = in_order (head.shape.height == 0) (within_limits (tiled_head_value across down head)) result e in
     record { some_rows = pos_of_ne-zero (eqb-false head.shape.height 0 order.in_order); within = is_within (tiled_head_value across down head) result order.same }
 
--- the head of a transposed image
-pub is_transposed : (head result : HeadValue) → result_head (Flip Transpose) head ≡ Ok result → IsWhole head (transposed_head_value head) result
-unfolding result_head
-is_transposed head result e =
+-- the head of a flipped image is what the rule makes of the head; where columns and rows are exchanged the image has rows,
+-- and the result is within the limits
+pub record IsTurned (t : Turn) (head result : HeadValue) : Type 0 where
+  pub result_is : turned_head_value t head ≡ result
+  pub some_rows : t.exchanged ≡ true → 0 < head.shape.height
+  pub limits : t.exchanged ≡ true → is_too_large (transposed_head_value head).shape ≡ false
+
+turned_by : (columns rows exchanged : Bool) (head result : HeadValue) → turned_head (turn columns rows exchanged) head ≡ Ok result → IsTurned (turn columns rows exchanged) head result
+turned_by columns rows true head result e =
     let order = in_order (head.shape.height == 0) (within_limits (transposed_head_value head)) result e in
-    record { some_rows = pos_of_ne-zero (eqb-false head.shape.height 0 order.in_order); within = is_within (transposed_head_value head) result order.same }
+    let within = is_within (transposed_head_value head) result order.same in
+    record {
+      result_is = within.result_is;
+      some_rows = λ _. pos_of_ne-zero (eqb-false head.shape.height 0 order.in_order);
+      limits = λ _. within.limits;
+    }
+turned_by columns rows false head result e =
+    let same = (in_order (rows && (head.shape.height == 0)) (Ok head) result e).same in
+    record { result_is = cc; some_rows = λ exchanged. absurd cc; limits = λ exchanged. absurd cc }
 
--- nothing changed keeps the head
-pub null_keeps : (head result : HeadValue) → result_head (Flip Null) head ≡ Ok result → head ≡ result
+pub is_turned : (way : FlipWay) (head result : HeadValue) → result_head (Flip way) head ≡ Ok result → IsTurned (turn_of way) head result
 unfolding result_head
-null_keeps head result e = cc
-
--- left and right exchanged keep the head
-pub left_right_keeps : (head result : HeadValue) → result_head (Flip LeftRight) head ≡ Ok result → head ≡ result
-unfolding result_head
-left_right_keeps head result e = cc
-
--- top and bottom exchanged keep the head
-pub top_bottom_keeps : (head result : HeadValue) → result_head (Flip TopBottom) head ≡ Ok result → head ≡ result
-unfolding result_head
-top_bottom_keeps head result e =
-    let same = (in_order (head.shape.height == 0) (Ok head) result e).same in
-    cc
+is_turned way head result e =
+    let t : Turn = turn_of way in
+    turned_by t.columns_reversed t.rows_reversed t.exchanged head result e

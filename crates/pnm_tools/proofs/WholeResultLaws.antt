@@ -1,17 +1,19 @@
 -- The enlarged, the flipped and the tiled image are images.
-use Rattle.std.proofs.Common.{◌≡◌, ℕ, ◌*◌, ◌<◌, ◌≤◌, false, Ok, ap, subst, arith, mul-pos}
+use Rattle.std.proofs.Common.{◌≡◌, ℕ, ◌*◌, ◌<◌, ◌≤◌, Bool, true, false, Ok, refl, sym, ap, subst, arith, mul-pos}
 use Rattle.pnm_image.specs.declared.shape.Shape.{Shape}
 use Rattle.pnm_image.specs.Heads.{HeadValue, IsHead, is_too_large}
 use Rattle.pnm_image.specs.Images.{Image, IsImage}
 use Rattle.pnm_image.proofs.Heads.{sizes_within}
 use Rattle.pnm_tools.specs.declared.flip.FlipWay.{FlipWay}
-use Rattle.pnm_tools.specs.declared.flip.FlipWay.TheVariants.{Null, LeftRight, TopBottom, Transpose}
+use Rattle.pnm_tools.specs.declared.flip.Turn.{Turn}
 use Rattle.pnm_tools.specs.declared.tool.Tool.TheVariants.{Enlarge, Flip, Tile}
+use Rattle.pnm_tools.specs.Flip.{turn, turn_of}
 use Rattle.pnm_tools.specs.Tools.{applied, result_head, result_sample}
 use Rattle.pnm_tools.proofs.ImageLaws.{result_by_head}
 use Rattle.pnm_tools.proofs.MadeLaws.{made_is_image, sample_in_range}
 use Rattle.pnm_tools.proofs.PixelLaws.{resized}
-use Rattle.pnm_tools.proofs.WholeHeadLaws.{is_enlarged, is_tiled, is_transposed, null_keeps, left_right_keeps, top_bottom_keeps}
+use Rattle.pnm_tools.proofs.WholeHeadLaws.{IsTurned, is_enlarged, is_tiled, is_turned}
+use Rattle.pnm_tools.proofs.TurnLaws.{flipped_is_turned}
 
 -- a head with other sizes is a head, where they are within the limits
 resized_is : (width height : ℕ) (head : HeadValue) → 0 < width → IsHead head → is_too_large (resized width height head).shape ≡ false → IsHead (resized width height head)
@@ -61,10 +63,7 @@ enlarged_has_rows across down i j high rows e =
 -- the samples of a flipped image are those of the image
 flipped_in_range : (way : FlipWay) (i : Image) (x y p : ℕ) → IsImage i → result_sample (Flip way) i x y p ≤ i.head.shape.maxval
 unfolding result_sample
-flipped_in_range Null i x y p is = sample_in_range i _ _ p is
-flipped_in_range LeftRight i x y p is = sample_in_range i _ _ p is
-flipped_in_range TopBottom i x y p is = sample_in_range i _ _ p is
-flipped_in_range Transpose i x y p is = sample_in_range i _ _ p is
+flipped_in_range way i x y p is = subst (λ (sample : ℕ → ℕ → ℕ → ℕ). sample x y p ≤ i.head.shape.maxval) (sym (flipped_is_turned way i)) (sample_in_range i _ _ p is)
 
 -- the flipped head: it is a head, the samples' range is kept, and there are rows
 record IsFlipped (head result : HeadValue) : Type 0 where
@@ -81,19 +80,21 @@ same_head head result sound same =
       rows = λ some. subst (λ (h : HeadValue). 0 < h.shape.height) same some;
     }
 
--- the head of each way
-is_flipped : (way : FlipWay) (head result : HeadValue) → IsHead head → result_head (Flip way) head ≡ Ok result → IsFlipped head result
-is_flipped Null head result sound e = same_head head result sound (null_keeps head result e)
-is_flipped LeftRight head result sound e = same_head head result sound (left_right_keeps head result e)
-is_flipped TopBottom head result sound e = same_head head result sound (top_bottom_keeps head result e)
-is_flipped Transpose head result sound e =
+-- the head of each rule
+flipped_by : (columns rows exchanged : Bool) (head result : HeadValue) → IsHead head → IsTurned (turn columns rows exchanged) head result → IsFlipped head result
+flipped_by columns rows true head result sound is =
     let s : Shape = head.shape in
-    let whole = is_transposed head result e in
     record {
-      header = subst IsHead whole.within.result_is (resized_is s.height s.width head whole.some_rows sound whole.within.limits);
-      range = ap (λ (h : HeadValue). h.shape.maxval) whole.within.result_is;
-      rows = λ some. subst (λ (h : HeadValue). 0 < h.shape.height) whole.within.result_is sound.limits.width_low;
+      header = subst IsHead is.result_is (resized_is s.height s.width head (is.some_rows refl) sound (is.limits refl));
+      range = ap (λ (h : HeadValue). h.shape.maxval) is.result_is;
+      rows = λ some. subst (λ (h : HeadValue). 0 < h.shape.height) is.result_is sound.limits.width_low;
     }
+flipped_by columns rows false head result sound is = same_head head result sound is.result_is
+
+is_flipped : (way : FlipWay) (head result : HeadValue) → IsHead head → result_head (Flip way) head ≡ Ok result → IsFlipped head result
+is_flipped way head result sound e =
+    let t : Turn = turn_of way in
+    flipped_by t.columns_reversed t.rows_reversed t.exchanged head result sound (is_turned way head result e)
 
 -- a flipped image is an image
 pub flipped_is_image : (way : FlipWay) (i j : Image) → IsImage i → applied (Flip way) i ≡ Ok j → IsImage j

@@ -1,6 +1,6 @@
 -- The flipped image, from pamflip(1): the same, flipped left for right, flipped top for bottom, or transposed: columns and
--- rows exchanged.
-use Rattle.std.specs.Prelude.{ℕ, ◌-◌, ◌==◌, List, [], ◌∷◌, map, reverse, Result, Ok, Err, if◌then◌else◌, Bool, true, false}
+-- rows exchanged. Each way is a rule as well: which orders are reversed, and whether columns and rows are exchanged then.
+use Rattle.std.specs.Prelude.{ℕ, ◌-◌, ◌==◌, List, [], ◌∷◌, map, reverse, Result, Ok, Err, if◌then◌else◌, Bool, true, false, not, ◌&&◌, ◌||◌}
 use Rattle.std.specs.List.{flat_map, range_with_len}
 use Rattle.pnm_image.specs.declared.shape.Shape.{Shape}
 use Rattle.pnm_image.specs.Heads.{HeadValue}
@@ -9,61 +9,94 @@ use Rattle.pnm_tools.specs.declared.fault.ToolFault.{ToolFault}
 use Rattle.pnm_tools.specs.declared.fault.ToolFault.TheVariants.{OutOfOrder}
 use Rattle.pnm_tools.specs.declared.flip.FlipWay.{FlipWay}
 use Rattle.pnm_tools.specs.declared.flip.FlipWay.TheVariants.{Null, LeftRight, TopBottom, Transpose}
+use Rattle.pnm_tools.specs.declared.flip.Turn.{Turn}
 use Rattle.pnm_tools.specs.Limits.{within_limits}
 use Rattle.pnm_tools.specs.Pixels.{pixel_of}
 use Rattle.pnm_tools.specs.Meaning.{Meaning}
 
-abbrev pub transposed_head_value : HeadValue → HeadValue
-transposed_head_value head = record head { shape = record head.shape { width = head.shape.height; height = head.shape.width } }
+-- ---- the ways
 
--- where rows change places the tool isn't row-wise, so that a height of 0 is out of order
-abbrev pub flipped_head : FlipWay → HeadValue → Result HeadValue ToolFault
-flipped_head Null head = Ok head
-flipped_head LeftRight head = Ok head
-flipped_head TopBottom head = if head.shape.height == 0 then Err OutOfOrder else Ok head
-flipped_head Transpose head = if head.shape.height == 0 then Err OutOfOrder else within_limits (transposed_head_value head)
-
+-- the sample of the result in a column, a row and a plane
 abbrev pub flipped_sample : FlipWay → Image → ℕ → ℕ → ℕ → ℕ
 flipped_sample Null i x y p = sample_at i x y p
 flipped_sample LeftRight i x y p = sample_at i (i.head.shape.width - 1 - x) y p
 flipped_sample TopBottom i x y p = sample_at i x (i.head.shape.height - 1 - y) p
 flipped_sample Transpose i x y p = sample_at i y x p
 
+-- a rule: the order of the columns is reversed or not, and that of the rows, and then columns and rows are exchanged or not
+abbrev pub turn : Bool → Bool → Bool → Turn
+turn columns_reversed rows_reversed exchanged = record { columns_reversed = columns_reversed; rows_reversed = rows_reversed; exchanged = exchanged }
+
+-- the rule of each way
+abbrev pub turn_of : FlipWay → Turn
+turn_of Null = turn false false false
+turn_of LeftRight = turn true false false
+turn_of TopBottom = turn false true false
+turn_of Transpose = turn false false true
+
+-- ---- what a rule makes of an image
+
+-- the place that comes to the k-th one of n, where their order is reversed or not
+abbrev pub place_in : Bool → ℕ → ℕ → ℕ
+place_in reversed n k = if reversed then n - 1 - k else k
+
+-- the sample of the result in a column, a row and a plane
+abbrev pub turned_sample : Turn → Image → ℕ → ℕ → ℕ → ℕ
+turned_sample t i x y p =
+    sample_at i (place_in t.columns_reversed i.head.shape.width (if t.exchanged then y else x)) (place_in t.rows_reversed i.head.shape.height (if t.exchanged then x else y)) p
+
+-- rows don't stay in their places
+abbrev pub moves_rows : Turn → Bool
+moves_rows t = t.exchanged || t.rows_reversed
+
+abbrev pub transposed_head_value : HeadValue → HeadValue
+transposed_head_value head = record head { shape = record head.shape { width = head.shape.height; height = head.shape.width } }
+
+abbrev pub turned_head_value : Turn → HeadValue → HeadValue
+turned_head_value t head = if t.exchanged then transposed_head_value head else head
+
+-- where rows change places the tool isn't row-wise, so that a height of 0 is out of order
+abbrev pub turned_head : Turn → HeadValue → Result HeadValue ToolFault
+turned_head t head =
+    if moves_rows t && (head.shape.height == 0) then Err OutOfOrder
+    else if t.exchanged then within_limits (transposed_head_value head)
+    else Ok head
+
+-- a list, last first or not
+abbrev pub in_order : {X : Type 0} → Bool → List X → List X
+in_order reversed xs = if reversed then reverse xs else xs
+
 -- a row of an image of this shape, the last pixel first
 abbrev pub mirrored_row : {X : Type 0} → Shape → List X → List X
 mirrored_row s row = flat_map (λ x. pixel_of s.depth row (s.width - 1 - x)) (range_with_len 0 s.width)
 
--- the rows that answer a row
-abbrev pub flipped_rows : FlipWay → Shape → List ℕ → List (List ℕ)
-flipped_rows Null s row = row ∷ []
-flipped_rows LeftRight s row = mirrored_row s row ∷ []
-flipped_rows TopBottom s row = []
-flipped_rows Transpose s row = []
+abbrev pub turned_row : Turn → Shape → List ℕ → List ℕ
+turned_row t s row = if t.columns_reversed then mirrored_row s row else row
 
 -- a column of the rows of an image of so many planes
 abbrev pub column_of : {X : Type 0} → ℕ → List (List X) → ℕ → List X
 column_of depth rows x = flat_map (λ row. pixel_of depth row x) rows
 
--- the rows that answer the end of an image of this shape and of these rows
-abbrev pub flipped_at_end : FlipWay → Shape → List (List ℕ) → List (List ℕ)
-flipped_at_end Null s rows = []
-flipped_at_end LeftRight s rows = []
-flipped_at_end TopBottom s rows = reverse rows
-flipped_at_end Transpose s rows = map (column_of s.depth rows) (range_with_len 0 s.width)
+-- the rows that answer a row
+abbrev pub turned_rows : Turn → Shape → List ℕ → List (List ℕ)
+turned_rows t s row = if moves_rows t then [] else turned_row t s row ∷ []
 
--- rows stay where they are
-abbrev pub keeps_rows : FlipWay → Bool
-keeps_rows Null = true
-keeps_rows LeftRight = true
-keeps_rows TopBottom = false
-keeps_rows Transpose = false
+-- the rows of the result, where they are others than those of an image of this shape and of these rows
+abbrev pub moved_rows : Turn → Shape → List (List ℕ) → List (List ℕ)
+moved_rows t s rows =
+    if t.exchanged then in_order t.columns_reversed (map (column_of s.depth (in_order t.rows_reversed rows)) (range_with_len 0 s.width))
+    else map (turned_row t s) (reverse rows)
+
+-- the rows that answer the end of the image
+abbrev pub turned_at_end : Turn → Shape → List (List ℕ) → List (List ℕ)
+turned_at_end t s rows = if moves_rows t then moved_rows t s rows else []
 
 abbrev pub flipping : FlipWay → Meaning
 flipping way = record {
   lawful = Unit {0};
-  row_wise = keeps_rows way;
-  head = flipped_head way;
+  row_wise = not (moves_rows (turn_of way));
+  head = turned_head (turn_of way);
   sample = flipped_sample way;
-  row_answer = λ s y row. flipped_rows way s row;
-  end_answer = flipped_at_end way;
+  row_answer = λ s y row. turned_rows (turn_of way) s row;
+  end_answer = turned_at_end (turn_of way);
 }

@@ -1,20 +1,22 @@
 -- What tools keep while the rows of an image come, and the rows of the result that they still give.
-use Rattle.std.specs.Prelude.{◌≡◌, ℕ, ◌+◌, ◌-◌, ◌*◌, ◌<◌, ◌≤◌, ◌%◌, false, if◌then◌else◌, List, [], ◌++◌, map, length, take, reverse, replicate, slice_index_or, All, Some, None}
+use Rattle.std.specs.Prelude.{◌≡◌, ℕ, ◌+◌, ◌-◌, ◌*◌, ◌<◌, ◌≤◌, ◌%◌, true, false, List, [], ◌++◌, map, length, take, reverse, replicate, slice_index_or, All, Option, Some, None}
 use Rattle.std.specs.List.{range_with_len}
 use Rattle.pnm_image.specs.Limits.{max_side, max_depth, max_row_length}
 use Rattle.pnm_image.specs.declared.sample_width.SampleWidth.{SampleWidth}
 use Rattle.pnm_image.specs.declared.sample_width.SampleWidth.TheVariants.{Bits as OfBits}
 use Rattle.pnm_image.specs.declared.shape.Shape.{Shape}
 use Rattle.pnm_image.specs.Heads.{IsWithinLimits, row_length}
+use Rattle.pnm_image.specs.Places.{IsRowOf}
 use Rattle.pnm_tools.specs.declared.cut.Cutter.{Cutter}
 use Rattle.pnm_tools.specs.declared.depth.Rescaler.{Rescaler}
 use Rattle.pnm_tools.specs.declared.depth.Table.{Table}
 use Rattle.pnm_tools.specs.declared.depth.Table.TheVariants.{Absent, Bytes, Words}
 use Rattle.pnm_tools.specs.declared.enlarge.Enlarger.{Enlarger}
-use Rattle.pnm_tools.specs.declared.flip.RowReverser.{RowReverser}
+use Rattle.pnm_tools.specs.declared.flip.FlipWay.{FlipWay}
+use Rattle.pnm_tools.specs.declared.flip.Turn.{Turn}
 use Rattle.pnm_tools.specs.Cut.{columns_kept, rows_kept}
 use Rattle.pnm_tools.specs.Depth.{nearest_sample}
-use Rattle.pnm_tools.specs.Flip.{column_of}
+use Rattle.pnm_tools.specs.Flip.{turn_of, moves_rows, in_order, turned_row, column_of}
 use Rattle.pnm_tools.specs.SampleRows.{SuitsShape}
 use Rattle.pnm_tools.specs.Tile.{tiled_row}
 
@@ -49,21 +51,60 @@ enlarged_due w = elim w.row [
   | Some row ↦ replicate (w.more + 1) row
 ]
 
--- ---- pamflip -topbottom: all rows
+-- ---- pamflip where rows stay in their places
 
-pub record IsReversingRows (w : RowReverser) (come : List (List ℕ)) : Type 0 where
-  pub rows : w.rows.items ≡ come
-  pub none_given : w.has_ended ≡ false
+abbrev pub KeepsRows : FlipWay → Type 0
+KeepsRows way = moves_rows (turn_of way) ≡ false
 
--- the last row first
-abbrev pub reversed_due : RowReverser → List (List ℕ)
-reversed_due w = if w.has_ended then reverse w.rows.items else []
+-- rows of a shape within the limits stay in their places
+pub record FlipsInRows (way : FlipWay) (s : Shape) : Type 0 where
+  pub limits : IsWithinLimits s
+  pub stays : KeepsRows way
 
--- ---- pamflip -transpose: all rows, and a band of rows of the result
+-- ---- pamflip where the order of rows is reversed: all rows
 
--- the planes of the image, how its rows are held, and the rows; the band, whose last row is given next; and of all the columns, which become the
--- rows of the result, the first one that isn't in a band yet
+-- the order of the rows is reversed, and they stay rows
+pub record ReversesRows (t : Turn) : Type 0 where
+  pub reversed : t.rows_reversed ≡ true
+  pub stay_rows : t.exchanged ≡ false
+
+-- the way, the rows that are kept, and once the image has ended its shape
+pub record Reversed : Type 0 where
+  pub way : FlipWay
+  pub rows : List (List ℕ)
+  pub ended : Option Shape
+
+abbrev pub reversed : FlipWay → List (List ℕ) → Option Shape → Reversed
+reversed way rows ended = record { way = way; rows = rows; ended = ended }
+
+-- they are rows of an image that has ended
+abbrev pub AreRowsOf : Option Shape → List (List ℕ) → Type 0
+AreRowsOf None rows = Unit {0}
+AreRowsOf (Some s) rows = IsWithinLimits s × All (IsRowOf s) rows
+
+pub record CanReverse (w : Reversed) : Type 0 where
+  pub way : ReversesRows (turn_of w.way)
+  pub rows : AreRowsOf w.ended w.rows
+
+pub record IsReversingRows (w : Reversed) (s : Shape) (come : List (List ℕ)) : Type 0 where
+  pub limits : IsWithinLimits s
+  pub rows : w.rows ≡ come
+  pub each : All (IsRowOf s) come
+  pub none_given : w.ended ≡ None
+
+-- the last row first, each the last pixel first or as it is
+abbrev pub reversed_due : Reversed → List (List ℕ)
+reversed_due w = elim w.ended [
+  | None ↦ []
+  | Some s ↦ map (turned_row (turn_of w.way) s) (reverse w.rows)
+]
+
+-- ---- pamflip where columns and rows are exchanged: all rows, and a band of rows of the result
+
+-- the way, the planes of the image, how its rows are held, and the rows; the band, whose last row is given next; and of all the columns,
+-- which become the rows of the result, those from `next` up to `columns` aren't in a band yet
 pub record Transposed : Type 0 where
+  pub way : FlipWay
   pub depth : ℕ
   pub sample_width : SampleWidth
   pub rows : List (List ℕ)
@@ -71,12 +112,13 @@ pub record Transposed : Type 0 where
   pub next : ℕ
   pub columns : ℕ
 
-abbrev pub transposed : ℕ → SampleWidth → List (List ℕ) → List (List ℕ) → ℕ → ℕ → Transposed
-transposed depth sample_width rows band next columns = record { depth = depth; sample_width = sample_width; rows = rows; band = band; next = next; columns = columns }
+abbrev pub transposed : FlipWay → ℕ → SampleWidth → List (List ℕ) → List (List ℕ) → ℕ → ℕ → Transposed
+transposed way depth sample_width rows band next columns = record { way = way; depth = depth; sample_width = sample_width; rows = rows; band = band; next = next; columns = columns }
 
 -- each row has a pixel of each column, and a row of the result is within the limits; packed rows have one plane, and the next
 -- column is the first of a byte
 pub record HasColumns (w : Transposed) : Type 0 where
+  pub way : (turn_of w.way).exchanged ≡ true
   pub columns : All (λ row. w.columns * w.depth ≤ length row) w.rows
   pub each : 0 < w.columns → length w.rows * w.depth ≤ max_row_length
   pub depth : w.depth ≤ max_depth
@@ -93,7 +135,7 @@ pub record IsTransposing (w : Transposed) (s : Shape) (come : List (List ℕ)) :
   pub none_made : (w.band ≡ []) × (w.next ≡ 0) × (w.columns ≡ 0)
 
 abbrev pub transposed_due : Transposed → List (List ℕ)
-transposed_due w = reverse w.band ++ map (column_of w.depth w.rows) (range_with_len w.next (w.columns - w.next))
+transposed_due w = reverse w.band ++ in_order (turn_of w.way).columns_reversed (map (column_of w.depth w.rows) (range_with_len w.next (w.columns - w.next)))
 
 -- ---- pnmtile: the rows that the result shows, the next one first
 

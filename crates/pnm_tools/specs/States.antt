@@ -8,16 +8,15 @@ use Rattle.pnm_image.specs.declared.place.Place.{Place}
 use Rattle.pnm_image.specs.declared.place.Place.TheVariants.{Between, Inside, After}
 use Rattle.pnm_image.specs.Places.{IsLawful, place_of}
 use Rattle.pnm_tools.specs.declared.fault.ToolFault.{ToolFault}
-use Rattle.pnm_tools.specs.declared.flip.FlipWay.TheVariants.{Null, LeftRight, TopBottom, Transpose}
 use Rattle.pnm_tools.specs.declared.state.Pending.{Pending}
 use Rattle.pnm_tools.specs.declared.state.Pending.TheVariants.{AllGiven, Waiting, Rows, RowsAndEnd, Nothing}
 use Rattle.pnm_tools.specs.declared.tool.Tool.{Tool}
 use Rattle.pnm_tools.specs.declared.tool.Tool.TheVariants.{Invert, Cut, Depth, Channel, Enlarge, Flip, Tile}
 use Rattle.pnm_tools.specs.declared.work.Work.{Work}
-use Rattle.pnm_tools.specs.declared.work.Work.TheVariants.{Inverting, Cutting, Rescaling, Picking, Enlarging, Passing, Mirroring, ReversingRows, Transposing, Tiling}
+use Rattle.pnm_tools.specs.declared.work.Work.TheVariants.{Inverting, Cutting, Rescaling, Picking, Enlarging, FlippingRows, ReversingRows, Transposing, Tiling}
 use Rattle.pnm_tools.specs.Answers.{Answers}
 use Rattle.pnm_tools.specs.Answering.{row_list, rows_come, answered_from}
-use Rattle.pnm_tools.specs.Keeping.{HasSpans, HasTable, IsEnlarging, IsReversingRows, IsTransposing, IsTiling, enlarged_due, reversed_due, transposed_due, tiled_due}
+use Rattle.pnm_tools.specs.Keeping.{HasSpans, HasTable, IsEnlarging, FlipsInRows, IsReversingRows, IsTransposing, IsTiling, enlarged_due, reversed_due, transposed_due, tiled_due}
 use Rattle.pnm_tools.specs.Channel.{HasPlanes}
 use Rattle.pnm_tools.specs.Tools.{IsLawfulTool, AreTaken}
 
@@ -41,10 +40,9 @@ worker (Cutting w) = at_once (Cut w.tool.cut) w.made (HasSpans w.tool)
 worker (Rescaling w) = at_once (Depth w.tool.maxval) w.made (λ s. IsWithinLimits s × HasTable w.tool s)
 worker (Picking w) = at_once (Channel w.tool) w.made (HasPlanes w.tool)
 worker (Enlarging w) = record { tool = Enlarge w.across w.down; due = enlarged_due w; kept = row_list w.row; ready = λ s rows. IsEnlarging w.across s }
-worker (Passing w) = at_once (Flip Null) w.made (λ s. Unit {0})
-worker (Mirroring w) = at_once (Flip LeftRight) w.made IsWithinLimits
-worker (ReversingRows w) = record { tool = Flip TopBottom; due = reversed_due w; kept = w.rows.items; ready = λ s rows. IsReversingRows w rows }
-worker (Transposing w) = record { tool = Flip Transpose; due = transposed_due w; kept = w.rows ++ w.band; ready = λ s rows. IsTransposing w s rows }
+worker (FlippingRows w) = at_once (Flip w.tool) w.made (FlipsInRows w.tool)
+worker (ReversingRows w) = record { tool = Flip w.way; due = reversed_due w; kept = w.rows; ready = λ s rows. IsReversingRows w s rows }
+worker (Transposing w) = record { tool = Flip w.way; due = transposed_due w; kept = w.rows ++ w.band; ready = λ s rows. IsTransposing w s rows }
 worker (Tiling w) = record { tool = Tile w.width w.height; due = tiled_due w; kept = w.rows; ready = λ s rows. IsTiling w s rows }
 
 abbrev pub tool_of : Work → Tool

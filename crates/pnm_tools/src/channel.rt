@@ -113,7 +113,7 @@ impl Rows for Planes {
 
     ghost ready = { HasPlanes };
 
-    ghost at_once = { λ _ _ _ _. [] };
+    ghost at_once = { λ _ _ _ _ _. [] };
 
     fn begin(&mut self, alloc: Global, head: &Head) -> Result<Head, ToolFault> {
         self.head(alloc, head)

@@ -98,7 +98,7 @@ impl Rows for Cutter {
 
     ghost ready = { HasSpans };
 
-    ghost at_once = { λ _ _ _ _. [] };
+    ghost at_once = { λ _ _ _ _ _. [] };
 
     fn begin(&mut self, alloc: Global, head: &Head) -> Result<Head, ToolFault> {
         let shape = head.shape();

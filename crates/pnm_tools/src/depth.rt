@@ -141,7 +141,7 @@ impl Rows for Rescaler {
 
     ghost ready = { λ r s. IsWithinLimits s × HasTable r s };
 
-    ghost at_once = { λ _ _ _ _. [] };
+    ghost at_once = { λ _ _ _ _ _. [] };
 
     fn begin(&mut self, alloc: Global, head: &Head) -> Result<Head, ToolFault> {
         let rescaled = head_at(alloc, self.maxval, head)?;

@@ -1,14 +1,14 @@
-//! `pamflip`: left and right, or top and bottom exchanged, from pamflip(1). Columns and rows are
-//! exchanged in `transpose`.
+//! `pamflip`: an image flipped or turned, from pamflip(1). Each way is a rule: the order of the columns
+//! is reversed or not, and that of the rows, and then columns and rows are exchanged or not. Where they
+//! are, `transpose` does it.
 
-ghost use Rattle.std.specs.Prelude.{◌≡◌, ◌⊎◌, length, false, [], OnOk, IfOk, IfErr, Ok, Err};
+ghost use Rattle.std.specs.Prelude.{◌≡◌, ◌⊎◌, if◌then◌else◌, length, true, false, [], None, OnOk, IfOk, IfErr, Ok, Err};
 ghost use Rattle.pnm_image.specs.Heads.{IsWithinLimits, row_length};
 ghost use Rattle.pnm_image.specs.Places.{IsRowOf};
 ghost use Rattle.pnm_tools.specs.declared.fault.ToolFault.TheVariants.{Memory};
-ghost use Rattle.pnm_tools.specs.declared.flip.FlipWay.TheVariants.{Null, LeftRight, TopBottom};
 ghost use Rattle.pnm_tools.specs.declared.tool.Tool.TheVariants.{Flip};
-ghost use Rattle.pnm_tools.specs.Flip.{mirrored_row};
-ghost use Rattle.pnm_tools.specs.Keeping.{IsReversingRows, reversed_due};
+ghost use Rattle.pnm_tools.specs.Flip.{mirrored_row, moved_rows, moves_rows, turn_of, turned_row};
+ghost use Rattle.pnm_tools.specs.Keeping.{FlipsInRows, IsReversingRows, ReversesRows, reversed_due};
 ghost use Rattle.pnm_tools.specs.Tools.{Takes, result_head};
 
 use crate::fault::ToolFault;
@@ -17,6 +17,7 @@ use crate::maker::Maker;
 use crate::rows::Rows;
 use pnm_image::{Bits, Head, SampleVec, Samples, Shape};
 use std::alloc::{AllocError, Global};
+use std::marker::Model;
 
 /// How an image is flipped.
 #[derive(Clone, Copy, Debug, PartialEq, Eq)]
@@ -29,6 +30,62 @@ pub enum FlipWay {
     TopBottom,
     /// Columns become rows, and rows columns.
     Transpose,
+}
+
+/// A way as a rule, applied in this order.
+#[derive(Clone, Copy, Debug)]
+pub(crate) struct Turn {
+    /// Whether the order of the columns is reversed.
+    pub columns_reversed: bool,
+    /// Whether the order of the rows is reversed.
+    pub rows_reversed: bool,
+    /// Whether columns become rows, and rows columns.
+    pub exchanged: bool,
+}
+
+impl FlipWay {
+    /// The rule.
+    pub(crate) fn turn(self) -> Turn
+        ensures { result ≡ turn_of self }
+    {
+        let (columns_reversed, rows_reversed, exchanged) = match self {
+            FlipWay::Null => (false, false, false),
+            FlipWay::LeftRight => (true, false, false),
+            FlipWay::TopBottom => (false, true, false),
+            FlipWay::Transpose => (false, false, true),
+        };
+        Turn {
+            columns_reversed,
+            rows_reversed,
+            exchanged,
+        }
+    }
+}
+
+impl Turn {
+    /// Whether rows don't stay in their places.
+    pub fn moves_rows(self) -> bool
+        ensures { result ≡ moves_rows self }
+    {
+        self.exchanged || self.rows_reversed
+    }
+}
+
+/// The row as it is, or the last pixel first.
+///
+/// # Errors
+///
+/// Where there is no memory for bits that become bytes.
+fn turned(alloc: Global, turn: Turn, shape: Shape, row: Samples) -> Result<Samples, AllocError>
+    requires limits { IsWithinLimits shape }
+    requires row { IsRowOf shape row }
+    ensures { IfOk result (λ turned. turned ≡ turned_row turn shape row) }
+{
+    if turn.columns_reversed {
+        mirrored(alloc, shape, row)
+    } else {
+        Ok(row)
+    }
 }
 
 /// The row, the last pixel first, changed in place; bits of several planes become bytes.
@@ -89,45 +146,33 @@ fn reverse_pixels<T: Copy>(samples: &mut [T], shape: Shape)
     }
 }
 
-/// Passes the rows of images on.
-#[derive(Clone, Copy, Debug)]
-pub struct Passer;
-
-impl Rows for Passer {
-    ghost tool = { λ _. Flip Null };
-
-    ghost ready = { λ _ _. Unit {0} };
-
-    ghost at_once = { λ _ _ _ _. [] };
-
-    fn begin(&mut self, alloc: Global, head: &Head) -> Result<Head, ToolFault> {
-        flipped_head(alloc, FlipWay::Null, head)
-    }
-
-    fn row(
-        &self,
-        _alloc: Global,
-        _shape: Shape,
-        _y: u32,
-        row: Samples,
-    ) -> Result<Option<Samples>, ToolFault> {
-        Ok(Some(row))
-    }
+/// Passes the rows of images on, the last pixel first or as they are: any way that leaves rows in their
+/// places.
+#[derive(Debug, Drop)]
+pub struct RowFlipper {
+    way: FlipWay,
 }
 
-/// Exchanges left and right in the rows of images.
-#[derive(Clone, Copy, Debug)]
-pub struct Mirror;
+impl Model for RowFlipper {
+    ghost use Rattle.pnm_tools.specs.declared.flip.FlipWay.{FlipWay};
+    ghost use Rattle.pnm_tools.specs.Keeping.{KeepsRows};
 
-impl Rows for Mirror {
-    ghost tool = { λ _. Flip LeftRight };
+    ghost Value = { FlipWay };
 
-    ghost ready = { λ _ shape. IsWithinLimits shape };
+    ghost view = { λ w. w.way };
 
-    ghost at_once = { λ _ _ _ _. [] };
+    ghost invariant = { λ w. KeepsRows w.way };
+}
+
+impl Rows for RowFlipper {
+    ghost tool = { λ way. Flip way };
+
+    ghost ready = { λ way shape. FlipsInRows way shape };
+
+    ghost at_once = { λ way shape rows ready i. if ready.stays i then moved_rows (turn_of way) shape rows else [] };
 
     fn begin(&mut self, alloc: Global, head: &Head) -> Result<Head, ToolFault> {
-        flipped_head(alloc, FlipWay::LeftRight, head)
+        flipped_head(alloc, self.way, head)
     }
 
     /// Changes the row in place.
@@ -138,31 +183,53 @@ impl Rows for Mirror {
         _y: u32,
         row: Samples,
     ) -> Result<Option<Samples>, ToolFault> {
-        Ok(Some(mirrored(alloc, shape, row)?))
+        Ok(Some(turned(alloc, self.way.turn(), shape, row)?))
     }
 }
 
-/// Exchanges top and bottom: keeps the rows of an image, and gives the last one first.
+impl RowFlipper {
+    /// The tool before the first row.
+    pub(crate) fn new(way: FlipWay) -> RowFlipper
+        requires { moves_rows (turn_of way) ≡ false }
+        ensures { result ≡ way }
+    {
+        RowFlipper { way }
+    }
+}
+
+/// Reverses the order of rows: keeps those of an image, and gives the last one first, each the last
+/// pixel first or as it is.
 #[derive(Debug, Drop)]
 pub struct RowReverser {
+    way: FlipWay,
     rows: Vec<Samples>,
-    /// Whether the image has ended, and its rows are given.
-    has_ended: bool,
+    /// The image's shape once it has ended, and its rows are given.
+    ended: Option<Shape>,
+}
+
+impl Model for RowReverser {
+    ghost use Rattle.pnm_tools.specs.Keeping.{Reversed, reversed, CanReverse};
+
+    ghost Value = { Reversed };
+
+    ghost view = { λ w. reversed w.way w.rows.items w.ended };
+
+    ghost invariant = { λ w. CanReverse (reversed w.way w.rows.items w.ended) };
 }
 
 impl Maker for RowReverser {
-    ghost tool = { λ _. Flip TopBottom };
+    ghost tool = { λ w. Flip w.way };
 
-    ghost ready = { λ w shape rows. IsReversingRows w rows };
+    ghost ready = { IsReversingRows };
 
     ghost due = { reversed_due };
 
-    ghost kept = { λ w. w.rows.items };
+    ghost kept = { λ w. w.rows };
 
     fn begin(&mut self, alloc: Global, head: &Head) -> Result<Head, ToolFault> {
-        let reversed = flipped_head(alloc, FlipWay::TopBottom, head)?;
+        let reversed = flipped_head(alloc, self.way, head)?;
+        self.ended = None;
         self.rows = Vec::new(alloc);
-        self.has_ended = false;
         Ok(reversed)
     }
 
@@ -177,15 +244,18 @@ impl Maker for RowReverser {
         Ok(())
     }
 
-    fn end(&mut self, _shape: Shape) {
-        self.has_ended = true;
+    fn end(&mut self, shape: Shape) {
+        self.ended = Some(shape);
     }
 
-    fn give(&mut self, _alloc: Global) -> Result<Option<Samples>, ToolFault> {
-        if !self.has_ended {
+    fn give(&mut self, alloc: Global) -> Result<Option<Samples>, ToolFault> {
+        let Some(shape) = self.ended else {
             return Ok(None);
-        }
-        Ok(self.rows.pop())
+        };
+        let Some(row) = self.rows.pop() else {
+            return Ok(None);
+        };
+        Ok(Some(turned(alloc, self.way.turn(), shape, row)?))
     }
 
     fn release(&mut self, alloc: Global) {
@@ -195,13 +265,16 @@ impl Maker for RowReverser {
 
 impl RowReverser {
     /// The tool before the first row.
-    pub(crate) fn new(alloc: Global) -> RowReverser
-        ensures rows { result.rows.items ≡ [] }
-        ensures coming { result.has_ended ≡ false }
+    pub(crate) fn new(alloc: Global, way: FlipWay) -> RowReverser
+        requires { ReversesRows (turn_of way) }
+        ensures way { result.way ≡ way }
+        ensures rows { result.rows ≡ [] }
+        ensures coming { result.ended ≡ None }
     {
         RowReverser {
+            way,
             rows: Vec::new(alloc),
-            has_ended: false,
+            ended: None,
         }
     }
 }
@@ -213,18 +286,18 @@ pub(crate) fn flipped_head(alloc: Global, way: FlipWay, head: &Head) -> Result<H
     ensures refused { IfErr result (λ fault. (result_head (Flip way) head.now ≡ Err fault)
         ⊎ ((fault ≡ Memory) × Takes (Flip way) head.now)) }
 {
-    let shape = head.shape();
-    let flipped = match way {
-        FlipWay::Null | FlipWay::LeftRight => shape,
-        FlipWay::TopBottom | FlipWay::Transpose if shape.height == 0 => {
-            return Err(ToolFault::OutOfOrder);
-        }
-        FlipWay::TopBottom => shape,
-        FlipWay::Transpose => Shape {
+    let (turn, shape) = (way.turn(), head.shape());
+    if turn.moves_rows() && shape.height == 0 {
+        return Err(ToolFault::OutOfOrder);
+    }
+    let turned = if turn.exchanged {
+        Shape {
             width: shape.height,
             height: shape.width,
             ..shape
-        },
+        }
+    } else {
+        shape
     };
-    head_within_limits(alloc, flipped, head.tuple_type())
+    head_within_limits(alloc, turned, head.tuple_type())
 }

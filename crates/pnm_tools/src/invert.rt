@@ -59,7 +59,7 @@ impl Rows for Inverter {
 
     ghost ready = { λ _ s. IsWithinLimits s };
 
-    ghost at_once = { λ _ _ _ _. [] };
+    ghost at_once = { λ _ _ _ _ _. [] };
 
     fn begin(&mut self, _alloc: Global, head: &Head) -> Result<Head, ToolFault> {
         match head.copy() {

@@ -46,5 +46,6 @@ pub trait Rows {
         ensures row { IfOk result (λ made. row_answer (tool self.now) shape y row ≡ row_list made) }
         ensures refused { IfErr result (λ fault. fault ≡ Memory) };
 
-    ghost at_once: { (s : Self) (shape : ShapeValue) (rows : List (List ℕ)) → end_answer (tool s) shape rows ≡ [] };
+    ghost at_once: { (s : Self) (shape : ShapeValue) (rows : List (List ℕ))
+        → ready s shape → end_answer (tool s) shape rows ≡ [] };
 }

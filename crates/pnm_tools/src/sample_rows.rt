@@ -72,6 +72,18 @@ impl SampleRows {
         Ok(())
     }
 
+    /// The rows in the opposite order.
+    pub fn reverse(&mut self)
+        ensures sample_width { rows_width self.new ≡ rows_width self.old }
+        ensures reversed { row_lists self.new ≡ reverse (row_lists self.old) }
+    {
+        match self {
+            SampleRows::Bits(rows) => rows.reverse(),
+            SampleRows::Bytes(rows) => rows.reverse(),
+            SampleRows::Words(rows) => rows.reverse(),
+        }
+    }
+
     /// How many columns are made side by side.
     pub fn band_length(&self) -> u32
         ensures length { result ≡ band_length (rows_width self.now) }

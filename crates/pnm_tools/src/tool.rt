@@ -2,6 +2,7 @@
 
 ghost use Rattle.std.specs.Prelude.{◌≡◌, ◌↔◌, ◌⊎◌, IsTrue, true, None, [], IfOk, IfErr, Ok, Err};
 ghost use Rattle.pnm_tools.specs.declared.fault.ToolFault.TheVariants.{Memory};
+ghost use Rattle.pnm_tools.specs.declared.tool.Tool.TheVariants.{Flip};
 ghost use Rattle.pnm_tools.specs.States.{IsFresh, kept_of, tool_of};
 ghost use Rattle.pnm_tools.specs.Tools.{IsLawfulTool, Takes, is_row_wise, result_head};
 
@@ -11,7 +12,7 @@ use crate::cut::{CutBox, Cutter};
 use crate::depth::{Rescaler, Table, head_at};
 use crate::enlarge::{Enlarger, enlarged_head};
 use crate::fault::ToolFault;
-use crate::flip::{FlipWay, Mirror, Passer, RowReverser, flipped_head};
+use crate::flip::{FlipWay, RowFlipper, RowReverser, flipped_head};
 use crate::invert::Inverter;
 use crate::limits::is_extent;
 use crate::rows::Rows;
@@ -81,16 +82,15 @@ impl Tool {
     }
 
     /// Whether the rows of an image may be dealt to several of this tool, each of which sees an image
-    /// of its own: `Invert`, `Depth`, `Channel`, `Enlarge` by 1 down, and `Flip` by `Null` and
-    /// `LeftRight`, but no other.
+    /// of its own: `Invert`, `Depth`, `Channel`, `Enlarge` by 1 down, and `Flip` where rows stay in
+    /// their places, but no other.
     pub fn is_row_wise(&self) -> bool
         ensures { result ≡ is_row_wise self.now }
     {
         match self {
             Tool::Invert | Tool::Depth(_) | Tool::Channel(_) => true,
             Tool::Enlarge(_, down) => *down == 1,
-            Tool::Flip(FlipWay::Null | FlipWay::LeftRight) => true,
-            Tool::Flip(FlipWay::TopBottom | FlipWay::Transpose) => false,
+            Tool::Flip(way) => !way.turn().moves_rows(),
             Tool::Cut(_) | Tool::Tile(_, _) => false,
         }
     }
@@ -138,11 +138,23 @@ impl Tool {
             })),
             Tool::Channel(planes) => Work::Picking(AtOnce::new(planes.copy()?)),
             Tool::Enlarge(across, down) => Work::Enlarging(Enlarger::new(*across, *down)),
-            Tool::Flip(FlipWay::Null) => Work::Passing(AtOnce::new(Passer)),
-            Tool::Flip(FlipWay::LeftRight) => Work::Mirroring(AtOnce::new(Mirror)),
-            Tool::Flip(FlipWay::TopBottom) => Work::ReversingRows(RowReverser::new(alloc)),
-            Tool::Flip(FlipWay::Transpose) => Work::Transposing(Transposer::new(alloc)),
+            Tool::Flip(way) => flip(alloc, *way),
             Tool::Tile(width, height) => Work::Tiling(Tiler::new(alloc, *width, *height)),
         })
+    }
+}
+
+/// The tool at work that flips images this way.
+fn flip(alloc: Global, way: FlipWay) -> Work
+    ensures tool { tool_of result ≡ Flip way }
+    ensures kept { kept_of result ≡ [] }
+{
+    let turn = way.turn();
+    if turn.exchanged {
+        Work::Transposing(Transposer::new(alloc, way))
+    } else if turn.rows_reversed {
+        Work::ReversingRows(RowReverser::new(alloc, way))
+    } else {
+        Work::FlippingRows(AtOnce::new(RowFlipper::new(way)))
     }
 }

@@ -1,8 +1,9 @@
-//! `pamflip -transpose`: columns and rows exchanged, from pamflip(1).
+//! `pamflip` where columns and rows are exchanged, from pamflip(1).
 
-ghost use Rattle.std.specs.Prelude.{◌≡◌, ◌++◌, []};
+ghost use Rattle.std.specs.Prelude.{◌≡◌, ◌<◌, ◌++◌, [], true, false, length, OnOk, IfErr};
+ghost use Rattle.pnm_tools.specs.declared.fault.ToolFault.TheVariants.{Memory};
 ghost use Rattle.pnm_tools.specs.declared.tool.Tool.TheVariants.{Flip};
-ghost use Rattle.pnm_tools.specs.declared.flip.FlipWay.TheVariants.{Transpose};
+ghost use Rattle.pnm_tools.specs.Flip.{turn_of};
 ghost use Rattle.pnm_tools.specs.Keeping.{IsTransposing, transposed_due};
 
 use crate::fault::ToolFault;
@@ -13,16 +14,19 @@ use pnm_image::{Head, SampleWidth, Samples, Shape};
 use std::alloc::Global;
 use std::marker::Model;
 
-/// Exchanges columns and rows: keeps the rows of an image, and gives its columns.
+/// Exchanges columns and rows: keeps the rows of an image, and gives its columns. Where the order of
+/// the rows is reversed, that of the kept rows is once the image has ended; where that of the columns
+/// is, they are made from the last one on. So no sample is moved twice.
 #[derive(Debug, Drop)]
 pub struct Transposer {
+    way: FlipWay,
     depth: u32,
     rows: SampleRows,
     /// Columns that are made, the next one last.
     band: Vec<Samples>,
     /// The first column that isn't made yet.
     next: u32,
-    /// Columns of the image, 0 until it has ended.
+    /// The columns before this one aren't made yet from `next` on; 0 until the image has ended.
     columns: u32,
 }
 
@@ -32,13 +36,13 @@ impl Model for Transposer {
 
     ghost Value = { Transposed };
 
-    ghost view = { λ w. transposed w.depth (rows_width w.rows) (row_lists w.rows) w.band.items w.next w.columns };
+    ghost view = { λ w. transposed w.way w.depth (rows_width w.rows) (row_lists w.rows) w.band.items w.next w.columns };
 
-    ghost invariant = { λ w. HasColumns (transposed w.depth (rows_width w.rows) (row_lists w.rows) w.band.items w.next w.columns) };
+    ghost invariant = { λ w. HasColumns (transposed w.way w.depth (rows_width w.rows) (row_lists w.rows) w.band.items w.next w.columns) };
 }
 
 impl Maker for Transposer {
-    ghost tool = { λ _. Flip Transpose };
+    ghost tool = { λ w. Flip w.way };
 
     ghost ready = { IsTransposing };
 
@@ -47,7 +51,7 @@ impl Maker for Transposer {
     ghost kept = { λ w. w.rows ++ w.band };
 
     fn begin(&mut self, alloc: Global, head: &Head) -> Result<Head, ToolFault> {
-        let transposed = flipped_head(alloc, FlipWay::Transpose, head)?;
+        let transposed = flipped_head(alloc, self.way, head)?;
         let shape = head.shape();
         let sample_width = SampleWidth::of(shape.kind, shape.maxval);
         self.clear(alloc);
@@ -66,16 +70,20 @@ impl Maker for Transposer {
     }
 
     fn end(&mut self, shape: Shape) {
+        if self.way.turn().rows_reversed {
+            self.rows.reverse();
+        }
         self.depth = shape.depth;
         self.columns = shape.width;
     }
 
     fn give(&mut self, alloc: Global) -> Result<Option<Samples>, ToolFault> {
         if self.band.is_empty() && self.next < self.columns {
-            let count = (self.columns - self.next).min(self.rows.band_length());
-            let (first, depth) = (self.next as usize, self.depth as usize);
-            self.band = self.rows.band(alloc, first, count as usize, depth)?;
-            self.next += count;
+            if self.way.turn().columns_reversed {
+                self.make_last(alloc)?;
+            } else {
+                self.make_first(alloc)?;
+            }
         }
         Ok(self.band.pop())
     }
@@ -87,11 +95,14 @@ impl Maker for Transposer {
 
 impl Transposer {
     /// The tool before the first row.
-    pub(crate) fn new(alloc: Global) -> Transposer
+    pub(crate) fn new(alloc: Global, way: FlipWay) -> Transposer
+        requires { (turn_of way).exchanged ≡ true }
+        ensures way { result.way ≡ way }
         ensures rows { result.rows ≡ [] }
         ensures band { result.band ≡ [] }
     {
         Transposer {
+            way,
             depth: 0,
             rows: SampleRows::new(alloc),
             band: Vec::new(alloc),
@@ -102,6 +113,7 @@ impl Transposer {
 
     /// Gives up all rows and columns.
     fn clear(&mut self, alloc: Global)
+        ensures way { self.new.way ≡ self.old.way }
         ensures rows { (self.new.rows ≡ []) × (self.new.band ≡ []) }
         ensures columns { (self.new.next ≡ 0) × (self.new.columns ≡ 0) }
     {
@@ -109,5 +121,42 @@ impl Transposer {
         self.next = 0;
         self.rows = SampleRows::new(alloc);
         self.band = Vec::new(alloc);
+    }
+
+    /// Makes the first of the columns that are left. The only fault is `Memory`.
+    fn make_first(&mut self, alloc: Global) -> Result<(), ToolFault>
+        requires order { (turn_of self.old.way).columns_reversed ≡ false }
+        requires left { (self.old.band ≡ []) × (self.old.next < self.old.columns) }
+        ensures way { self.new.way ≡ self.old.way }
+        ensures due { OnOk result (transposed_due self.new ≡ transposed_due self.old) }
+        ensures some { OnOk result (0 < length self.new.band) }
+        ensures refused { IfErr result (λ fault. fault ≡ Memory) }
+    {
+        let count = (self.columns - self.next).min(self.rows.band_length());
+        let (first, depth) = (self.next as usize, self.depth as usize);
+        self.band = self.rows.band(alloc, first, count as usize, depth)?;
+        self.next += count;
+        Ok(())
+    }
+
+    /// Makes the last of the columns that are left, so many that their first is at a multiple of a
+    /// band's length. The only fault is `Memory`.
+    fn make_last(&mut self, alloc: Global) -> Result<(), ToolFault>
+        requires order { (turn_of self.old.way).columns_reversed ≡ true }
+        requires left { (self.old.band ≡ []) × (self.old.next < self.old.columns) }
+        ensures way { self.new.way ≡ self.old.way }
+        ensures due { OnOk result (transposed_due self.new ≡ transposed_due self.old) }
+        ensures some { OnOk result (0 < length self.new.band) }
+        ensures refused { IfErr result (λ fault. fault ≡ Memory) }
+    {
+        let count = (self.columns - self.next - 1) % self.rows.band_length() + 1;
+        let (first, depth) = (self.columns - count, self.depth as usize);
+        let mut band = self
+            .rows
+            .band(alloc, first as usize, count as usize, depth)?;
+        band.reverse();
+        self.band = band;
+        self.columns = first;
+        Ok(())
     }
 }

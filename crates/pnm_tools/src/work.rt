@@ -6,7 +6,7 @@ use crate::cut::Cutter;
 use crate::depth::Rescaler;
 use crate::enlarge::Enlarger;
 use crate::fault::ToolFault;
-use crate::flip::{Mirror, Passer, RowReverser};
+use crate::flip::{RowFlipper, RowReverser};
 use crate::invert::Inverter;
 use crate::maker::Maker;
 use crate::tile::Tiler;
@@ -23,8 +23,7 @@ macro_rules! with_tool {
             Work::Rescaling($work) => $does,
             Work::Picking($work) => $does,
             Work::Enlarging($work) => $does,
-            Work::Passing($work) => $does,
-            Work::Mirroring($work) => $does,
+            Work::FlippingRows($work) => $does,
             Work::ReversingRows($work) => $does,
             Work::Transposing($work) => $does,
             Work::Tiling($work) => $does,
@@ -45,13 +44,11 @@ pub enum Work {
     Picking(AtOnce<Planes>),
     /// `pamenlarge`.
     Enlarging(Enlarger),
-    /// `pamflip -null`.
-    Passing(AtOnce<Passer>),
-    /// `pamflip -leftright`.
-    Mirroring(AtOnce<Mirror>),
-    /// `pamflip -topbottom`.
+    /// `pamflip` where rows stay in their places.
+    FlippingRows(AtOnce<RowFlipper>),
+    /// `pamflip` where the order of rows is reversed.
     ReversingRows(RowReverser),
-    /// `pamflip -transpose`.
+    /// `pamflip` where columns and rows are exchanged.
     Transposing(Transposer),
     /// `pnmtile`.
     Tiling(Tiler),

@@ -6,8 +6,5 @@ returns-in-Cutting-clause-ready c = rw c.in-Cutting.is c.give-in-Cutting.ensures
 pub returns-in-Rescaling-clause-ready : goal.returns-in-Rescaling-clause-ready
 returns-in-Rescaling-clause-ready c = rw c.in-Rescaling.is c.give-in-Rescaling.ensures.ready
 
-pub returns-in-ReversingRows-clause-ready : goal.returns-in-ReversingRows-clause-ready
-returns-in-ReversingRows-clause-ready c = rw c.in-ReversingRows.is c.give-in-ReversingRows.ensures.ready
-
 pub returns-in-Transposing-clause-ready : goal.returns-in-Transposing-clause-ready
 returns-in-Transposing-clause-ready c = rw c.in-Transposing.is c.give-in-Transposing.ensures.ready

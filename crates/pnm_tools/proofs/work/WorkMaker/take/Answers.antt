@@ -5,6 +5,3 @@ returns-in-Cutting-clause-ready c = rw c.in-Cutting.is c.take-in-Cutting.ensures
 
 pub returns-in-Rescaling-clause-ready : goal.returns-in-Rescaling-clause-ready
 returns-in-Rescaling-clause-ready c = rw c.in-Rescaling.is c.take-in-Rescaling.ensures.ready
-
-pub returns-in-ReversingRows-clause-ready : goal.returns-in-ReversingRows-clause-ready
-returns-in-ReversingRows-clause-ready c = rw c.in-ReversingRows.is c.take-in-ReversingRows.ensures.ready

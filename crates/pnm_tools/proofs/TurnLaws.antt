@@ -1,0 +1,54 @@
+-- Each way is its rule, and what a rule says of orders and of rows.
+use Rattle.std.proofs.Common.{◌≡◌, ℕ, ◌<◌, Bool, true, false, ◌||◌, List, [], ◌∷◌, map, refl, sym, ap, ◌∙◌, arith}
+use Rattle.std.specs.Prelude.{if◌then◌else◌}
+use Rattle.std.specs.List.{range_with_len}
+use Rattle.pnm_image.specs.declared.shape.Shape.{Shape}
+use Rattle.pnm_image.specs.Images.{Image}
+use Rattle.pnm_tools.specs.declared.flip.FlipWay.{FlipWay}
+use Rattle.pnm_tools.specs.declared.flip.FlipWay.TheVariants.{Null, LeftRight, TopBottom, Transpose}
+use Rattle.pnm_tools.specs.declared.flip.Turn.{Turn}
+use Rattle.pnm_tools.specs.declared.tool.Tool.TheVariants.{Flip}
+use Rattle.pnm_tools.specs.Flip.{flipped_sample, turn_of, turned_sample, place_in, in_order, moves_rows, turned_row}
+use Rattle.pnm_tools.specs.Keeping.{ReversesRows}
+use Rattle.pnm_tools.specs.Tools.{row_answer}
+use Rattle.pnm_tools.proofs.RangeLaws.{downward}
+use Rattle.pnm_tools.proofs.RowLaws.{row_of_flip}
+
+-- the formula of a way is that of its rule
+pub flipped_is_turned : (way : FlipWay) (i : Image) → flipped_sample way i ≡ turned_sample (turn_of way) i
+flipped_is_turned Null i = refl
+flipped_is_turned LeftRight i = refl
+flipped_is_turned TopBottom i = refl
+flipped_is_turned Transpose i = refl
+
+-- ---- orders
+
+-- a place is one of as many
+pub place_within : (b : Bool) (n k : ℕ) → k < n → place_in b n k < n
+place_within true n k lt = omega arith
+place_within false n k lt = lt
+
+-- what is made of each number of a range, in either order
+pub in_order_by_places : {A : Type 0} (b : Bool) (f : ℕ → A) (n : ℕ) → in_order b (map f (range_with_len 0 n)) ≡ map (λ k. f (place_in b n k)) (range_with_len 0 n)
+in_order_by_places true f n = sym (downward f n)
+in_order_by_places false f n = refl
+
+pub in_order_nil : {A : Type 0} (b : Bool) → in_order {X = A} b [] ≡ []
+in_order_nil true = refl
+in_order_nil false = refl
+
+-- ---- rows that don't stay in their places
+
+pub exchanged_moves : (t : Turn) → t.exchanged ≡ true → moves_rows t ≡ true
+exchanged_moves t e = ap (λ (b : Bool). b || t.rows_reversed) e
+
+pub reversed_moves : (t : Turn) → ReversesRows t → moves_rows t ≡ true
+reversed_moves t h = ap (λ (b : Bool). b || t.rows_reversed) h.stay_rows ∙ h.reversed
+
+-- they are answered by none
+pub row_moved : (way : FlipWay) (s : Shape) (y : ℕ) (row : List ℕ) → moves_rows (turn_of way) ≡ true → row_answer (Flip way) s y row ≡ []
+row_moved way s y row moves = row_of_flip way s y row ∙ ap (λ (b : Bool). if b then [] else turned_row (turn_of way) s row ∷ []) moves
+
+-- where they stay each is answered by itself, mirrored or not
+pub row_stays : (way : FlipWay) (s : Shape) (y : ℕ) (row : List ℕ) → moves_rows (turn_of way) ≡ false → row_answer (Flip way) s y row ≡ turned_row (turn_of way) s row ∷ []
+row_stays way s y row stays = row_of_flip way s y row ∙ ap (λ (b : Bool). if b then [] else turned_row (turn_of way) s row ∷ []) stays
