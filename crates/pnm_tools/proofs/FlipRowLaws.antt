@@ -208,6 +208,23 @@ first_made way depth sample_width next columns count rows band first_first withi
     ∙ sym (ap (λ (n : ℕ). map f (range_with_len next n)) parts ∙ map_in_parts f next count (columns - (next + count)))
     ∙ ap (λ (b : Bool). in_order b (map f (range_with_len next (columns - next)))) (sym first_first)
 
+-- where the last columns come first, they were the last ones
+pub last_made : (way : FlipWay) (depth : ℕ) (sample_width : SampleWidth) (next columns first count : ℕ) (rows made band : List (List ℕ)) → (turn_of way).columns_reversed ≡ true → next ≤ first → first + count ≡ columns
+    → made ≡ reverse (map (column_of depth rows) (range_with_len first count)) → band ≡ reverse made
+    → transposed_due (transposed way depth sample_width rows band next first) ≡ transposed_due (transposed way depth sample_width rows [] next columns)
+last_made way depth sample_width next columns first count rows made band last_first within ends is turned =
+    let f : ℕ → List ℕ = column_of depth rows in
+    let parts : (first - next) + count ≡ columns - next = omega arith in
+    let place : next + (first - next) ≡ first = omega arith in
+    let before : List (List ℕ) = map f (range_with_len next (first - next)) in
+    let last : List (List ℕ) = map f (range_with_len first count) in
+    let all : map f (range_with_len next (columns - next)) ≡ before ++ last =
+    ap (λ (n : ℕ). map f (range_with_len next n)) (sym parts) ∙ map_in_parts f next (first - next) count ∙ ap (λ (n : ℕ). before ++ map f (range_with_len n count)) place in
+    ap (λ (b : Bool). reverse band ++ in_order b before) last_first
+    ∙ ap (λ (l : List (List ℕ)). reverse l ++ reverse before) (turned ∙ ap reverse is ∙ reverse-reverse last)
+    ∙ sym (ap reverse all ∙ reverse-append before last)
+    ∙ ap (λ (b : Bool). in_order b (map f (range_with_len next (columns - next)))) (sym last_first)
+
 -- ---- the head
 
 -- a column of an image is within the limits where the head with its sizes exchanged is made

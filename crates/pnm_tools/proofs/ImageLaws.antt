@@ -14,7 +14,8 @@ use Rattle.pnm_tools.specs.Tools.{result_head, result_sample, applied, row_answe
 use Rattle.pnm_tools.specs.Formulas.{image_by}
 use Rattle.pnm_tools.specs.Answering.{answered_from}
 
-abbrev made_by : (ℕ → ℕ → ℕ → ℕ) → Result HeadValue ToolFault → Result Image ToolFault
+-- what becomes of an image by a formula and what becomes of its head
+abbrev pub made_by : (ℕ → ℕ → ℕ → ℕ) → Result HeadValue ToolFault → Result Image ToolFault
 made_by sample r = elim r [ Ok head ↦ Ok (image_by head sample) | Err fault ↦ Err fault ]
 
 -- an image by its head

@@ -38,6 +38,7 @@ pub mod PixelLaws
 pub mod WholeHeadLaws
 pub mod MadeLaws
 pub mod SampleLaws
+pub mod QuarterTurnLaws
 pub mod WholeResultLaws
 pub mod TileRowLaws
 pub mod RepeatedBitLaws

@@ -32,7 +32,7 @@ in_piece f each from (suc count) (suc number) index at long within below is =
     ∙ in_piece f each (from + 1) count number index at long (omega arith) below (omega arith)
 
 -- the sample of an image of a formula
-sample_at-image_by : (head : HeadValue) (sample : ℕ → ℕ → ℕ → ℕ) (x y p : ℕ) → x < head.shape.width → y < head.shape.height → p < head.shape.depth → sample_at (image_by head sample) x y p ≡ sample x y p
+pub sample_at-image_by : (head : HeadValue) (sample : ℕ → ℕ → ℕ → ℕ) (x y p : ℕ) → x < head.shape.width → y < head.shape.height → p < head.shape.depth → sample_at (image_by head sample) x y p ≡ sample x y p
 sample_at-image_by head sample x y p column row plane =
     let s : Shape = head.shape in
     let planes : ℕ → List ℕ = λ k. map (λ q. sample k y q) (range_with_len 0 s.depth) in

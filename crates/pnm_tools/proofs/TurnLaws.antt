@@ -5,7 +5,7 @@ use Rattle.std.specs.List.{range_with_len}
 use Rattle.pnm_image.specs.declared.shape.Shape.{Shape}
 use Rattle.pnm_image.specs.Images.{Image}
 use Rattle.pnm_tools.specs.declared.flip.FlipWay.{FlipWay}
-use Rattle.pnm_tools.specs.declared.flip.FlipWay.TheVariants.{Null, LeftRight, TopBottom, Transpose}
+use Rattle.pnm_tools.specs.declared.flip.FlipWay.TheVariants.{Null, LeftRight, TopBottom, Transpose, Rotate90, Rotate180, Rotate270}
 use Rattle.pnm_tools.specs.declared.flip.Turn.{Turn}
 use Rattle.pnm_tools.specs.declared.tool.Tool.TheVariants.{Flip}
 use Rattle.pnm_tools.specs.Flip.{flipped_sample, turn_of, turned_sample, place_in, in_order, moves_rows, turned_row}
@@ -20,6 +20,9 @@ flipped_is_turned Null i = refl
 flipped_is_turned LeftRight i = refl
 flipped_is_turned TopBottom i = refl
 flipped_is_turned Transpose i = refl
+flipped_is_turned Rotate90 i = refl
+flipped_is_turned Rotate180 i = refl
+flipped_is_turned Rotate270 i = refl
 
 -- ---- orders
 

@@ -76,8 +76,9 @@ turned_by columns rows false head result e =
     let same = (in_order (rows && (head.shape.height == 0)) (Ok head) result e).same in
     record { result_is = cc; some_rows = λ exchanged. absurd cc; limits = λ exchanged. absurd cc }
 
+pub turned_is : (t : Turn) (head result : HeadValue) → turned_head t head ≡ Ok result → IsTurned t head result
+turned_is t head result e = turned_by t.columns_reversed t.rows_reversed t.exchanged head result e
+
 pub is_turned : (way : FlipWay) (head result : HeadValue) → result_head (Flip way) head ≡ Ok result → IsTurned (turn_of way) head result
 unfolding result_head
-is_turned way head result e =
-    let t : Turn = turn_of way in
-    turned_by t.columns_reversed t.rows_reversed t.exchanged head result e
+is_turned way head result e = turned_is (turn_of way) head result e

@@ -1,5 +1,5 @@
--- The flipped image, from pamflip(1): the same, flipped left for right, flipped top for bottom, or transposed: columns and
--- rows exchanged. Each way is a rule as well: which orders are reversed, and whether columns and rows are exchanged then.
+-- The flipped image, from pamflip(1): the same, flipped left for right, flipped top for bottom, transposed, columns and rows
+-- exchanged, or turned counterclockwise by one, two or three quarters. Each way is a rule as well: which orders are reversed, and whether columns and rows are exchanged then.
 use Rattle.std.specs.Prelude.{ℕ, ◌-◌, ◌==◌, List, [], ◌∷◌, map, reverse, Result, Ok, Err, if◌then◌else◌, Bool, true, false, not, ◌&&◌, ◌||◌}
 use Rattle.std.specs.List.{flat_map, range_with_len}
 use Rattle.pnm_image.specs.declared.shape.Shape.{Shape}
@@ -8,7 +8,7 @@ use Rattle.pnm_image.specs.Images.{Image, sample_at}
 use Rattle.pnm_tools.specs.declared.fault.ToolFault.{ToolFault}
 use Rattle.pnm_tools.specs.declared.fault.ToolFault.TheVariants.{OutOfOrder}
 use Rattle.pnm_tools.specs.declared.flip.FlipWay.{FlipWay}
-use Rattle.pnm_tools.specs.declared.flip.FlipWay.TheVariants.{Null, LeftRight, TopBottom, Transpose}
+use Rattle.pnm_tools.specs.declared.flip.FlipWay.TheVariants.{Null, LeftRight, TopBottom, Transpose, Rotate90, Rotate180, Rotate270}
 use Rattle.pnm_tools.specs.declared.flip.Turn.{Turn}
 use Rattle.pnm_tools.specs.Limits.{within_limits}
 use Rattle.pnm_tools.specs.Pixels.{pixel_of}
@@ -22,6 +22,9 @@ flipped_sample Null i x y p = sample_at i x y p
 flipped_sample LeftRight i x y p = sample_at i (i.head.shape.width - 1 - x) y p
 flipped_sample TopBottom i x y p = sample_at i x (i.head.shape.height - 1 - y) p
 flipped_sample Transpose i x y p = sample_at i y x p
+flipped_sample Rotate90 i x y p = sample_at i (i.head.shape.width - 1 - y) x p
+flipped_sample Rotate180 i x y p = sample_at i (i.head.shape.width - 1 - x) (i.head.shape.height - 1 - y) p
+flipped_sample Rotate270 i x y p = sample_at i y (i.head.shape.height - 1 - x) p
 
 -- a rule: the order of the columns is reversed or not, and that of the rows, and then columns and rows are exchanged or not
 abbrev pub turn : Bool → Bool → Bool → Turn
@@ -33,6 +36,9 @@ turn_of Null = turn false false false
 turn_of LeftRight = turn true false false
 turn_of TopBottom = turn false true false
 turn_of Transpose = turn false false true
+turn_of Rotate90 = turn true false true
+turn_of Rotate180 = turn true true false
+turn_of Rotate270 = turn false true true
 
 -- ---- what a rule makes of an image
 

@@ -1,5 +1,5 @@
 -- The laws of tools and chains.
-use Rattle.std.specs.Prelude.{◌≡◌, ◌⊎◌, ◌<◌, ◌≤◌, ℕ, ◌+◌, ◌*◌, false, length, List, Option, Some, None, Ok, Err}
+use Rattle.std.specs.Prelude.{◌≡◌, ◌⊎◌, ◌<◌, ◌≤◌, ℕ, ◌+◌, ◌*◌, false, length, List, Option, Some, None, Result, Ok, Err}
 use Rattle.pnm_image.specs.declared.message.Message.{Message}
 use Rattle.pnm_image.specs.Heads.{HeadValue, row_length}
 use Rattle.pnm_image.specs.Images.{Image, IsImage, AreImages, sample_at, messages_of_stream}
@@ -7,8 +7,10 @@ use Rattle.pnm_image.specs.Completion.{IsFrontOf, Completes}
 use Rattle.pnm_tools.specs.declared.fault.ToolFault.{ToolFault}
 use Rattle.pnm_tools.specs.declared.cut.CutBox.{CutBox}
 use Rattle.pnm_tools.specs.declared.fault.ToolFault.TheVariants.{CutOutside, ChannelOutside, TooLarge, OutOfOrder, Memory}
+use Rattle.pnm_tools.specs.declared.flip.FlipWay.{FlipWay}
+use Rattle.pnm_tools.specs.declared.flip.FlipWay.TheVariants.{LeftRight, TopBottom, Transpose, Rotate90, Rotate180, Rotate270}
 use Rattle.pnm_tools.specs.declared.tool.Tool.{Tool}
-use Rattle.pnm_tools.specs.declared.tool.Tool.TheVariants.{Cut, Channel}
+use Rattle.pnm_tools.specs.declared.tool.Tool.TheVariants.{Cut, Channel, Flip}
 use Rattle.pnm_tools.specs.Channel.{Picks}
 use Rattle.pnm_tools.specs.Depth.{nearest_sample}
 use Rattle.pnm_tools.specs.Tools.{IsLawfulTool, is_row_wise, result_head, result_sample, applied}
@@ -41,6 +43,24 @@ pub record IsByTheFormula (j : Image) (formula : ℕ → ℕ → ℕ → ℕ) : 
 -- the result of an image has the head of its tool's rule and the samples of its tool's formula
 abbrev pub SamplesAreByTheFormula : Type 0
 SamplesAreByTheFormula = (tool : Tool) (i j : Image) → applied tool i ≡ Ok j → (result_head tool i.head ≡ Ok j.head) × IsByTheFormula j (result_sample tool i)
+
+-- what a way makes of what became of an image
+abbrev pub then_flipped : FlipWay → Result Image ToolFault → Result Image ToolFault
+then_flipped way (Ok i) = applied (Flip way) i
+then_flipped way (Err fault) = Err fault
+
+-- where a quarter turn isn't refused, the second one makes the half turn of it, and three quarters after it give the image back;
+-- and each turn is two flips, refused where they are
+pub record HasQuarterTurns (i : Image) : Type 0 where
+  pub twice : (j : Image) → applied (Flip Rotate90) i ≡ Ok j → applied (Flip Rotate90) j ≡ applied (Flip Rotate180) i
+  pub back : (j : Image) → applied (Flip Rotate90) i ≡ Ok j → applied (Flip Rotate270) j ≡ Ok i
+  pub quarter : applied (Flip Rotate90) i ≡ then_flipped TopBottom (applied (Flip Transpose) i)
+  pub half : applied (Flip Rotate180) i ≡ then_flipped TopBottom (applied (Flip LeftRight) i)
+  pub three_quarters : applied (Flip Rotate270) i ≡ then_flipped Transpose (applied (Flip TopBottom) i)
+
+-- the turns of an image by quarters add up
+abbrev pub QuarterTurnsAddUp : Type 0
+QuarterTurnsAddUp = (i : Image) → IsImage i → HasQuarterTurns i
 
 -- a rescaled sample q is the nearest to sample * new / old, halves up
 abbrev pub SamplesAreNearest : Type 0

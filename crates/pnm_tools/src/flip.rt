@@ -30,6 +30,12 @@ pub enum FlipWay {
     TopBottom,
     /// Columns become rows, and rows columns.
     Transpose,
+    /// A quarter turn counterclockwise: the last column becomes the first row.
+    Rotate90,
+    /// A half turn: the last row becomes the first one, its last pixel first.
+    Rotate180,
+    /// A quarter turn clockwise: the first column becomes the first row, its last pixel first.
+    Rotate270,
 }
 
 /// A way as a rule, applied in this order.
@@ -53,6 +59,9 @@ impl FlipWay {
             FlipWay::LeftRight => (true, false, false),
             FlipWay::TopBottom => (false, true, false),
             FlipWay::Transpose => (false, false, true),
+            FlipWay::Rotate90 => (true, false, true),
+            FlipWay::Rotate180 => (true, true, false),
+            FlipWay::Rotate270 => (false, true, true),
         };
         Turn {
             columns_reversed,
@@ -252,10 +261,10 @@ impl Maker for RowReverser {
         let Some(shape) = self.ended else {
             return Ok(None);
         };
-        let Some(row) = self.rows.pop() else {
+        let Some(kept) = self.rows.pop() else {
             return Ok(None);
         };
-        Ok(Some(turned(alloc, self.way.turn(), shape, row)?))
+        Ok(Some(turned(alloc, self.way.turn(), shape, kept)?))
     }
 
     fn release(&mut self, alloc: Global) {

@@ -3,7 +3,7 @@
 
 ghost use Rattle.pnm_tools.specs.Answers.{FullAnswerIsTheStream};
 ghost use Rattle.pnm_tools.specs.Dealing.{RowWiseToolsCommuteWithDealing, DealtExamplesHold};
-ghost use Rattle.pnm_tools.specs.Laws.{HeadsAreRefusedByName, ResultsAreImages, SamplesAreByTheFormula, SamplesAreNearest, StreamsAreAnswered, FirstFaultIsTheRefusal, AnswersAreDue};
+ghost use Rattle.pnm_tools.specs.Laws.{HeadsAreRefusedByName, QuarterTurnsAddUp, ResultsAreImages, SamplesAreByTheFormula, SamplesAreNearest, StreamsAreAnswered, FirstFaultIsTheRefusal, AnswersAreDue};
 
 /// A full answer to a stream is the tool's stream: the results of all its images, none of which is
 /// refused.
@@ -26,6 +26,13 @@ pub fn results_are_images()
 /// of its tool's formula.
 pub fn samples_are_by_the_formula()
     ensures { SamplesAreByTheFormula }
+{}
+
+/// Two quarter turns of an image are a half turn, and one counterclockwise and one clockwise give it back, where
+/// the first isn't refused. Each turn is two flips: transposed and then top for bottom, left for right and then
+/// top for bottom, and top for bottom and then transposed.
+pub fn quarter_turns_add_up()
+    ensures { QuarterTurnsAddUp }
 {}
 
 /// A rescaled sample is the nearest to the same share of the new maxval, halves up.

@@ -39,21 +39,16 @@ impl SampleRows {
         SampleRows::Words(Vec::new(alloc))
     }
 
-    /// No rows, and room for so many of this width. The only fault is `Memory`.
-    pub fn with_capacity(
-        alloc: Global,
-        sample_width: SampleWidth,
-        count: usize,
-    ) -> Result<SampleRows, ToolFault>
-        ensures empty { IfOk result (λ rows. row_lists rows ≡ []) }
-        ensures sample_width { IfOk result (λ rows. rows_width rows ≡ sample_width) }
-        ensures refused { IfErr result (λ fault. fault ≡ Memory) }
+    /// No rows of this width. Memory is taken as they come, and none for those that a head only tells.
+    pub fn of_width(alloc: Global, sample_width: SampleWidth) -> SampleRows
+        ensures empty { row_lists result ≡ [] }
+        ensures sample_width { rows_width result ≡ sample_width }
     {
-        Ok(match sample_width {
-            SampleWidth::Bits => SampleRows::Bits(Vec::with_capacity(alloc, count)?),
-            SampleWidth::Bytes => SampleRows::Bytes(Vec::with_capacity(alloc, count)?),
-            SampleWidth::Words => SampleRows::Words(Vec::with_capacity(alloc, count)?),
-        })
+        match sample_width {
+            SampleWidth::Bits => SampleRows::Bits(Vec::new(alloc)),
+            SampleWidth::Bytes => SampleRows::Bytes(Vec::new(alloc)),
+            SampleWidth::Words => SampleRows::Words(Vec::new(alloc)),
+        }
     }
 
     /// Adds a row at the end, without a copy where it is held so. The only fault is `Memory`.

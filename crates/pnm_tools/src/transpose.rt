@@ -55,7 +55,7 @@ impl Maker for Transposer {
         let shape = head.shape();
         let sample_width = SampleWidth::of(shape.kind, shape.maxval);
         self.clear(alloc);
-        self.rows = SampleRows::with_capacity(alloc, sample_width, shape.height as usize)?;
+        self.rows = SampleRows::of_width(alloc, sample_width);
         Ok(transposed)
     }
 

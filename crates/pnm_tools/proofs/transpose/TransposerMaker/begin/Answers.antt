@@ -11,8 +11,8 @@ use Rattle.pnm_tools.proofs.transpose.TransposerMaker.begin.Goals as goal
 pub returns-clause-ready : goal.returns-clause-ready
 returns-clause-ready c =
     let x = c.self-2.inside in
-    let rows = c.in_ok-self-inside.field-0 in
+    let rows = c.of_width.result in
     let made : result_head (Flip x.way) c.args.head.now ≡ Ok c.in_ok-transposed.transposed = search rules in
     ready_to_transpose (transposed x.way x.depth (rows_width rows) (row_lists rows) x.band.items x.next x.columns) c.args.head.now c.in_ok-transposed.transposed c.self-2.invariant.way c.shape-shape.ensures.sound made
-    (c.in_ok-self-inside.ensures.sample_width ∙ c.of-sample_width.ensures ∙ ap (λ (s : Shape). sample_width_of s.kind s.maxval) c.shape-shape.ensures.shape)
-    c.in_ok-self-inside.ensures.empty (ap (λ (w : Transposed). w.band) c.self-2.view_is ∙ c.clear.ensures.rows.1) (ap (λ (w : Transposed). w.next) c.self-2.view_is ∙ c.clear.ensures.columns.0) (ap (λ (w : Transposed). w.columns) c.self-2.view_is ∙ c.clear.ensures.columns.1)
+    (c.of_width.ensures.sample_width ∙ c.of-sample_width.ensures ∙ ap (λ (s : Shape). sample_width_of s.kind s.maxval) c.shape-shape.ensures.shape)
+    c.of_width.ensures.empty (ap (λ (w : Transposed). w.band) c.self-2.view_is ∙ c.clear.ensures.rows.1) (ap (λ (w : Transposed). w.next) c.self-2.view_is ∙ c.clear.ensures.columns.0) (ap (λ (w : Transposed). w.columns) c.self-2.view_is ∙ c.clear.ensures.columns.1)

@@ -1,0 +1,198 @@
+-- Quarter turns add up, and each turn is two flips.
+use Rattle.std.proofs.Common.{◌≡◌, ℕ, ◌-◌, ◌<◌, ◌==◌, Bool, true, false, List, map, Result, Ok, Err, refl, sym, ap, subst, ◌∙◌, arith}
+use Rattle.std.specs.Prelude.{if◌then◌else◌}
+use Rattle.std.specs.List.{range_with_len}
+use Rattle.std.proofs.lemmas.Bool.{ne_eqb}
+use Rattle.pnm_image.specs.declared.shape.Shape.{Shape}
+use Rattle.pnm_image.specs.Heads.{HeadValue, is_too_large, row_length}
+use Rattle.pnm_image.specs.Images.{Image, IsImage, sample_at, rows_of}
+use Rattle.pnm_image.proofs.Rows.{concat-cut_rows, image_of}
+use Rattle.pnm_tools.specs.declared.fault.ToolFault.{ToolFault}
+use Rattle.pnm_tools.specs.declared.fault.ToolFault.TheVariants.{OutOfOrder}
+use Rattle.pnm_tools.specs.declared.flip.FlipWay.{FlipWay}
+use Rattle.pnm_tools.specs.declared.flip.FlipWay.TheVariants.{LeftRight, TopBottom, Transpose, Rotate90, Rotate180, Rotate270}
+use Rattle.pnm_tools.specs.declared.flip.Turn.{Turn}
+use Rattle.pnm_tools.specs.declared.tool.Tool.TheVariants.{Flip}
+use Rattle.pnm_tools.specs.Flip.{turn, turn_of, turned_sample, turned_head, turned_head_value, transposed_head_value}
+use Rattle.pnm_tools.specs.Formulas.{row_by, image_by}
+use Rattle.pnm_tools.specs.Laws.{then_flipped, HasQuarterTurns}
+use Rattle.pnm_tools.specs.Limits.{within_limits}
+use Rattle.pnm_tools.specs.Tools.{applied, result_head, result_sample}
+use Rattle.pnm_tools.proofs.FormulaLaws.{rows_are, range_alike, length-image_by}
+use Rattle.pnm_tools.proofs.HeadLaws.{small_head, not_too_large}
+use Rattle.pnm_tools.proofs.ImageLaws.{made_by}
+use Rattle.pnm_tools.proofs.PixelLaws.{rows_by_rows}
+use Rattle.pnm_tools.proofs.RangeLaws.{pieces_alike}
+use Rattle.pnm_tools.proofs.SampleLaws.{sample_at-image_by}
+use Rattle.pnm_tools.proofs.TurnLaws.{flipped_is_turned}
+use Rattle.pnm_tools.proofs.WholeHeadLaws.{turned_is}
+
+-- ---- images by formulas
+
+-- formulas that are alike at each sample of a head
+abbrev AreAlike : HeadValue → (ℕ → ℕ → ℕ → ℕ) → (ℕ → ℕ → ℕ → ℕ) → Type 0
+AreAlike head f g = (x y p : ℕ) → x < head.shape.width → y < head.shape.height → p < head.shape.depth → f x y p ≡ g x y p
+
+-- give one image
+image_alike : (head : HeadValue) (f g : ℕ → ℕ → ℕ → ℕ) → AreAlike head f g → image_by head f ≡ image_by head g
+image_alike head f g same =
+    let s : Shape = head.shape in
+    ap (λ (samples : List ℕ). record { head = head; samples = samples })
+    (pieces_alike (λ y. row_by s (λ x p. f x y p)) (λ y. row_by s (λ x p. g x y p)) 0 s.height (λ y row.
+    pieces_alike (λ x. map (λ p. f x y p) (range_with_len 0 s.depth)) (λ x. map (λ p. g x y p) (range_with_len 0 s.depth)) 0 s.width (λ x column.
+    range_alike (λ p. f x y p) (λ p. g x y p) 0 s.depth (λ p plane. same x y p (omega arith) (omega arith) (omega arith)))))
+
+-- an image of a head and of rows
+of_rows : (i : Image) → IsImage i → image_of i.head (rows_of i) ≡ i
+of_rows i is = ap (λ (samples : List ℕ). record { head = i.head; samples = samples }) (concat-cut_rows i.head.shape.height (row_length i.head.shape) i.samples is.count)
+
+by_formula : (head : HeadValue) (f : ℕ → ℕ → ℕ → ℕ) → image_of head (rows_of (image_by head f)) ≡ image_by head f
+by_formula head f =
+    ap (λ (samples : List ℕ). record { head = head; samples = samples }) (concat-cut_rows head.shape.height (row_length head.shape) (image_by head f).samples (length-image_by head f))
+
+-- an image is that of its samples
+image_is : (i : Image) → IsImage i → image_by i.head (sample_at i) ≡ i
+image_is i is =
+    sym (by_formula i.head (sample_at i))
+    ∙ ap (image_of i.head) (rows_by_rows i i.head.shape.height (λ y. y) is (λ y lt. lt) ∙ sym (rows_are i))
+    ∙ of_rows i is
+
+-- ---- images by rules
+
+-- what a way makes of an image is what its rule does
+turned_image : (way : FlipWay) (i : Image) → applied (Flip way) i ≡ made_by (turned_sample (turn_of way) i) (turned_head (turn_of way) i.head)
+unfolding result_head result_sample
+turned_image way i = ap (λ (f : ℕ → ℕ → ℕ → ℕ). made_by f (turned_head (turn_of way) i.head)) (flipped_is_turned way i)
+
+made_alike : (t : Turn) (i : Image) (f g : ℕ → ℕ → ℕ → ℕ) (r : Result HeadValue ToolFault) → turned_head t i.head ≡ r → AreAlike (turned_head_value t i.head) f g → made_by f r ≡ made_by g r
+made_alike t i f g (Err fault) e same = refl
+made_alike t i f g (Ok head) e same = ap (λ (j : Image). Ok j) (image_alike head f g (subst (λ (h : HeadValue). AreAlike h f g) (turned_is t i.head head e).result_is same))
+
+-- heads of images with rows
+moved_head : (columns : Bool) (head : HeadValue) → (head.shape.height ≡ 0 → ⊥) → turned_head (turn columns true false) head ≡ Ok head
+moved_head columns head some = ap (λ (b : Bool). if b then Err OutOfOrder else Ok head) (ne_eqb head.shape.height 0 some)
+
+exchanged_head : (columns rows : Bool) (head : HeadValue) → (head.shape.height ≡ 0 → ⊥) → is_too_large (transposed_head_value head).shape ≡ false → turned_head (turn columns rows true) head ≡ Ok (transposed_head_value head)
+exchanged_head columns rows head some fits =
+    ap (λ (b : Bool). if b then Err OutOfOrder else within_limits (transposed_head_value head)) (ne_eqb head.shape.height 0 some) ∙ small_head (transposed_head_value head) fits
+
+-- the image of a head and of the rule
+record IsOnce (t : Turn) (i j : Image) : Type 0 where
+  image : image_by (turned_head_value t i.head) (turned_sample t i) ≡ j
+  head : turned_head t i.head ≡ Ok j.head
+
+once_by : (t : Turn) (i j : Image) (r : Result HeadValue ToolFault) → turned_head t i.head ≡ r → made_by (turned_sample t i) r ≡ Ok j → IsOnce t i j
+once_by t i j (Err fault) e made = absurd cc
+once_by t i j (Ok head) e made =
+    let same : image_by head (turned_sample t i) ≡ j = cc in
+    record {
+      image = ap (λ (h : HeadValue). image_by h (turned_sample t i)) (turned_is t i.head head e).result_is ∙ same;
+      head = e ∙ ap (λ (k : Image). Ok k.head) same;
+    }
+
+once : (way : FlipWay) (i j : Image) → applied (Flip way) i ≡ Ok j → IsOnce (turn_of way) i j
+once way i j e = once_by (turn_of way) i j (turned_head (turn_of way) i.head) refl (sym (turned_image way i) ∙ e)
+
+-- ---- two quarter turns
+
+-- the image after one
+abbrev turned_once : Image → Image
+turned_once i = image_by (transposed_head_value i.head) (turned_sample (turn true false true) i)
+
+-- has rows, and its head with its sizes exchanged is that of the image
+some_columns : (i : Image) → IsImage i → i.head.shape.width ≡ 0 → ⊥
+some_columns i is none = absurd (omega (arith, is.head.limits.width_low))
+
+turned_back : (columns rows : Bool) (i : Image) → IsImage i → turned_head (turn columns rows true) (turned_once i).head ≡ Ok i.head
+turned_back columns rows i is = exchanged_head columns rows (turned_once i).head (some_columns i is) (not_too_large i.head.shape is.head.limits)
+
+-- two are a half turn
+turned_twice : (i : Image) → IsImage i → (i.head.shape.height ≡ 0 → ⊥) → applied (Flip Rotate90) (turned_once i) ≡ applied (Flip Rotate180) i
+turned_twice i is some =
+    let s : Shape = i.head.shape in
+    let j : Image = turned_once i in
+    turned_image Rotate90 j
+    ∙ ap (made_by (turned_sample (turn true false true) j)) (turned_back true false i is)
+    ∙ ap (λ (k : Image). Ok k) (image_alike i.head (turned_sample (turn true false true) j) (turned_sample (turn true true false) i) (λ x y p column row plane.
+    let line : s.height - 1 - y < s.height = omega arith in
+    sample_at-image_by j.head (turned_sample (turn true false true) i) (s.height - 1 - y) x p line column plane))
+    ∙ sym (turned_image Rotate180 i ∙ ap (made_by (turned_sample (turn true true false) i)) (moved_head true i.head some))
+
+-- one and the one after it clockwise give the image back
+turned_there_and_back : (i : Image) → IsImage i → applied (Flip Rotate270) (turned_once i) ≡ Ok i
+turned_there_and_back i is =
+    let s : Shape = i.head.shape in
+    let j : Image = turned_once i in
+    turned_image Rotate270 j
+    ∙ ap (made_by (turned_sample (turn false true true) j)) (turned_back false true i is)
+    ∙ ap (λ (k : Image). Ok k) (image_alike i.head (turned_sample (turn false true true) j) (sample_at i) (λ x y p column row plane.
+    let from : s.width - 1 - x < s.width = omega arith in
+    let again : s.width - 1 - (s.width - 1 - x) ≡ x = omega arith in
+    sample_at-image_by j.head (turned_sample (turn true false true) i) y (s.width - 1 - x) p row from plane ∙ ap (λ (k : ℕ). sample_at i k y p) again) ∙ image_is i is)
+
+-- ---- a turn is two flips
+
+quarter_by : (i : Image) (r : Result HeadValue ToolFault) → IsImage i → turned_head (turn false false true) i.head ≡ r
+    → made_by (turned_sample (turn true false true) i) r ≡ then_flipped TopBottom (made_by (turned_sample (turn false false true) i) r)
+quarter_by i (Err fault) is e = refl
+quarter_by i (Ok head) is e =
+    let s : Shape = i.head.shape in
+    let transposed : ℕ → ℕ → ℕ → ℕ = turned_sample (turn false false true) i in
+    let k : Image = image_by (transposed_head_value i.head) transposed in
+    let flipped : applied (Flip TopBottom) k ≡ Ok (image_by k.head (turned_sample (turn true false true) i)) =
+    turned_image TopBottom k
+    ∙ ap (made_by (turned_sample (turn false true false) k)) (moved_head false k.head (some_columns i is))
+    ∙ ap (λ (j : Image). Ok j) (image_alike k.head (turned_sample (turn false true false) k) (turned_sample (turn true false true) i) (λ x y p column row plane.
+    let line : s.width - 1 - y < s.width = omega arith in
+    sample_at-image_by k.head transposed x (s.width - 1 - y) p column line plane)) in
+    subst (λ (h : HeadValue). Ok (image_by h (turned_sample (turn true false true) i)) ≡ applied (Flip TopBottom) (image_by h transposed)) (turned_is (turn false false true) i.head head e).result_is (sym flipped)
+
+quarter_is : (i : Image) → IsImage i → applied (Flip Rotate90) i ≡ then_flipped TopBottom (applied (Flip Transpose) i)
+quarter_is i is =
+    turned_image Rotate90 i
+    ∙ quarter_by i (turned_head (turn false false true) i.head) is refl
+    ∙ ap (then_flipped TopBottom) (sym (turned_image Transpose i))
+
+half_is : (i : Image) → applied (Flip Rotate180) i ≡ then_flipped TopBottom (applied (Flip LeftRight) i)
+half_is i =
+    let s : Shape = i.head.shape in
+    let mirrored : ℕ → ℕ → ℕ → ℕ = turned_sample (turn true false false) i in
+    let k : Image = image_by i.head mirrored in
+    turned_image Rotate180 i
+    ∙ made_alike (turn true true false) i (turned_sample (turn true true false) i) (turned_sample (turn false true false) k) (turned_head (turn true true false) i.head) refl (λ x y p column row plane.
+    let line : s.height - 1 - y < s.height = omega arith in
+    sym (sample_at-image_by i.head mirrored x (s.height - 1 - y) p column line plane))
+    ∙ sym (turned_image TopBottom k)
+    ∙ ap (then_flipped TopBottom) (sym (turned_image LeftRight i))
+
+three_quarters_by : (i : Image) (b : Bool) → (i.head.shape.height == 0) ≡ b
+    → applied (Flip Rotate270) i ≡ then_flipped Transpose (made_by (turned_sample (turn false true false) i) (if b then Err OutOfOrder else Ok i.head))
+three_quarters_by i true e =
+    turned_image Rotate270 i
+    ∙ ap (λ (b : Bool). made_by (turned_sample (turn false true true) i) (if b then Err OutOfOrder else within_limits (transposed_head_value i.head))) e
+three_quarters_by i false e =
+    let turned : ℕ → ℕ → ℕ → ℕ = turned_sample (turn false true false) i in
+    let k : Image = image_by i.head turned in
+    turned_image Rotate270 i
+    ∙ made_alike (turn false true true) i (turned_sample (turn false true true) i) (turned_sample (turn false false true) k) (turned_head (turn false true true) i.head) refl (λ x y p column row plane.
+    sym (sample_at-image_by i.head turned y x p row column plane))
+    ∙ sym (turned_image Transpose k)
+
+three_quarters_is : (i : Image) → applied (Flip Rotate270) i ≡ then_flipped Transpose (applied (Flip TopBottom) i)
+three_quarters_is i = three_quarters_by i (i.head.shape.height == 0) refl ∙ ap (then_flipped Transpose) (sym (turned_image TopBottom i))
+
+-- ---- all of them
+
+rows_turned : (i j : Image) → IsOnce (turn true false true) i j → i.head.shape.height ≡ 0 → ⊥
+rows_turned i j is none = absurd (omega (arith, (turned_is (turn true false true) i.head j.head is.head).some_rows refl))
+
+pub quarter_turns : (i : Image) → IsImage i → HasQuarterTurns i
+quarter_turns i is = record {
+  twice = λ j e.
+      let turned = once Rotate90 i j e in
+      ap (λ (k : Image). applied (Flip Rotate90) k) (sym turned.image) ∙ turned_twice i is (rows_turned i j turned);
+  back = λ j e. ap (λ (k : Image). applied (Flip Rotate270) k) (sym (once Rotate90 i j e).image) ∙ turned_there_and_back i is;
+  quarter = quarter_is i is;
+  half = half_is i;
+  three_quarters = three_quarters_is i;
+}
