@@ -1,7 +1,7 @@
 -- Small texts of chains, their faults, and the tools that they mean, as the definitions compute them.
 use Rattle.std.specs.Prelude.{◌≡◌, ℕ, negsuc, Some, None, Option, [], ◌∷◌, codes}
 use Rattle.pnm_image.specs.Texts.{words}
-use Rattle.pnm_tools.specs.declared.flip.FlipWay.TheVariants.{LeftRight}
+use Rattle.pnm_tools.specs.declared.flip.FlipWay.TheVariants.{LeftRight, Rotate90}
 use Rattle.pnm_tools.specs.declared.tool.Tool.TheVariants as tools
 use Rattle.pnm_tools.specs.Channel.{picks}
 use Rattle.pnm_chain.specs.declared.chain_text.ChainFault.{ChainFault}
@@ -35,6 +35,7 @@ pub record ChainTextsHold : Type 0 where
   pub three_of_axis : chain_fault_of (codes "pamcut -left 1 -right 2 -width 2") ≡ at_stage 1 Conflict
   pub twice : chain_fault_of (codes "pnminvert | pamcut -left 1 --left=x") ≡ at_stage 2 Conflict
   pub two_ways : chain_fault_of (codes "pamflip -lr -leftright") ≡ at_stage 1 Conflict
+  pub turned_and_flipped : chain_fault_of (codes "pamflip -r90 -xy") ≡ at_stage 1 Conflict
   pub argument_and_scale : chain_fault_of (codes "pamenlarge -xscale 2 3") ≡ at_stage 1 Conflict
   pub no_way : chain_fault_of (codes "pamflip") ≡ at_stage 1 MissingArgument
   pub no_factor : chain_fault_of (codes "pamenlarge") ≡ at_stage 1 MissingArgument
@@ -51,3 +52,4 @@ pub record ChainTextsHold : Type 0 where
   pub planes : meant_by Channel (items_of Channel (words (codes "2 -tupletype a=b 0"))) ≡ tools.Channel (picks (2 ∷ 0 ∷ []) (codes "a=b"))
   pub across : meant_by Enlarge (items_of Enlarge (words (codes "-xscale=3"))) ≡ tools.Enlarge 3 1
   pub mirrored : meant_by Flip (items_of Flip (words (codes "-leftright"))) ≡ tools.Flip LeftRight
+  pub turned : meant_by Flip (items_of Flip (words (codes "-r90"))) ≡ tools.Flip Rotate90

@@ -2,11 +2,12 @@
 -- pamcut(1), pamdepth(1), pamchannel(1), pamenlarge(1), pamflip(1) and pnmtile(1). Names are exact, and case counts.
 use Rattle.std.specs.Prelude.{ℕ, Bool, false, not, ◌==◌, ◌&&◌, ◌-◌, nat_le, if◌then◌else◌, ℤ, pos, neg_ℤ, Option, Some, None, is_some, List, [], ◌∷◌, length, codes}
 use Rattle.std.specs.List.{list_all}
+use Rattle.std.specs.Option.{option_or}
 use Rattle.std.specs.Str.{bytes_eq}
 use Rattle.pnm_image.specs.Limits.{max_depth, max_extent, max_maxval, max_tuple_type_length}
 use Rattle.pnm_image.specs.Texts.{is_digit, decimal_value}
 use Rattle.pnm_tools.specs.declared.flip.FlipWay.{FlipWay}
-use Rattle.pnm_tools.specs.declared.flip.FlipWay.TheVariants.{Null, LeftRight, TopBottom, Transpose}
+use Rattle.pnm_tools.specs.declared.flip.FlipWay.TheVariants.{Null, LeftRight, TopBottom, Transpose, Rotate90, Rotate180, Rotate270}
 use Rattle.pnm_chain.specs.declared.options.ToolName.{ToolName}
 use Rattle.pnm_chain.specs.declared.options.ToolName.TheVariants.{Invert, Cut, Depth, Channel, Enlarge, Flip, Tile}
 use Rattle.pnm_chain.specs.declared.options.ToolOption.{ToolOption}
@@ -53,6 +54,13 @@ flip_option name =
     else if bytes_eq (codes "topbottom") name then Some (Way TopBottom)
     else if bytes_eq (codes "xy") name then Some (Way Transpose)
     else if bytes_eq (codes "transpose") name then Some (Way Transpose)
+    else None
+
+unfoldable pub turn_option : List ℕ → Option ToolOption
+turn_option name =
+    if bytes_eq (codes "r90") name then Some (Way Rotate90)
+    else if bytes_eq (codes "r180") name then Some (Way Rotate180)
+    else if bytes_eq (codes "r270") name then Some (Way Rotate270)
     else None
 
 -- ---- numbers and other values
@@ -159,7 +167,7 @@ tool_rule Cut = record { option = cut_option; most = 0; takes = no_argument }
 tool_rule Depth = record { option = no_option; most = 1; takes = spells_maxval }
 tool_rule Channel = record { option = channel_option; most = max_depth; takes = spells_plane }
 tool_rule Enlarge = record { option = enlarge_option; most = 1; takes = spells_extent }
-tool_rule Flip = record { option = flip_option; most = 0; takes = no_argument }
+tool_rule Flip = record { option = λ name. option_or (flip_option name) (turn_option name); most = 0; takes = no_argument }
 tool_rule Tile = record { option = no_option; most = 2; takes = spells_extent }
 
 -- the tool's option of this name

@@ -2,7 +2,7 @@
 
 ghost use Rattle.std.specs.Prelude.{◌≡◌};
 ghost use Rattle.pnm_chain.specs.Options.{channel_option, cut_option, enlarge_option, flip_option};
-ghost use Rattle.pnm_chain.specs.Options.{option_named, tool_named, wants_value};
+ghost use Rattle.pnm_chain.specs.Options.{option_named, tool_named, turn_option, wants_value};
 
 use pnm_tools::FlipWay;
 
@@ -60,7 +60,7 @@ impl ToolName {
             ToolName::Cut => cut_option(name),
             ToolName::Channel => channel_option(name),
             ToolName::Enlarge => enlarge_option(name),
-            ToolName::Flip => flip_option(name),
+            ToolName::Flip => flip_option(name).or(turn_option(name)),
         }
     }
 }
@@ -119,6 +119,18 @@ fn flip_option(name: &[u8]) -> Option<ToolOption>
         b"lr" | b"leftright" => Some(ToolOption::Way(FlipWay::LeftRight)),
         b"tb" | b"topbottom" => Some(ToolOption::Way(FlipWay::TopBottom)),
         b"xy" | b"transpose" => Some(ToolOption::Way(FlipWay::Transpose)),
+        _ => None,
+    }
+}
+
+#[tactic(auto, unfolding(crate::specs::Options::turn_option))]
+fn turn_option(name: &[u8]) -> Option<ToolOption>
+    ensures { result ≡ turn_option name.now }
+{
+    match name {
+        b"r90" => Some(ToolOption::Way(FlipWay::Rotate90)),
+        b"r180" => Some(ToolOption::Way(FlipWay::Rotate180)),
+        b"r270" => Some(ToolOption::Way(FlipWay::Rotate270)),
         _ => None,
     }
 }

@@ -69,6 +69,12 @@ const CHAINS: &[(&str, &str)] = &[
     ("pamflip --xy", "[Flip(Transpose)]"),
     ("pamflip -transpose", "[Flip(Transpose)]"),
     ("pamflip\n--transpose", "[Flip(Transpose)]"),
+    ("pamflip -r90", "[Flip(Rotate90)]"),
+    ("pamflip --r90", "[Flip(Rotate90)]"),
+    ("pamflip -r180", "[Flip(Rotate180)]"),
+    ("pamflip --r180", "[Flip(Rotate180)]"),
+    ("pamflip -r270", "[Flip(Rotate270)]"),
+    ("pamflip --r270", "[Flip(Rotate270)]"),
     // Tools in the order of the text.
     ("pamenlarge 2 | pnminvert", "[Enlarge(2, 2), Invert]"),
     ("pnminvert|pamenlarge 2", "[Invert, Enlarge(2, 2)]"),

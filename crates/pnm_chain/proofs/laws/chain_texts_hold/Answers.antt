@@ -1,13 +1,13 @@
 use Rattle.std.proofs.Common.{refl}
 use Rattle.pnm_image.specs.Texts.{words}
-use Rattle.pnm_chain.specs.Options.{tool_named, cut_option, channel_option, enlarge_option, flip_option}
+use Rattle.pnm_chain.specs.Options.{tool_named, cut_option, channel_option, enlarge_option, flip_option, turn_option}
 use Rattle.pnm_chain.specs.Items.{items_of, fault_after}
 use Rattle.pnm_chain.specs.ChainText.{fault_from, chain_fault_of}
 use Rattle.pnm_chain.specs.ChainExamples.{ChainTextsHold}
 use Rattle.pnm_chain.proofs.laws.chain_texts_hold.Goals as goal
 
 computed : ChainTextsHold
-unfolding words tool_named cut_option channel_option enlarge_option flip_option items_of fault_after fault_from chain_fault_of
+unfolding words tool_named cut_option channel_option enlarge_option flip_option turn_option items_of fault_after fault_from chain_fault_of
 computed = record {
   inverts = refl;
   empty = refl;
@@ -29,6 +29,7 @@ computed = record {
   three_of_axis = refl;
   twice = refl;
   two_ways = refl;
+  turned_and_flipped = refl;
   argument_and_scale = refl;
   no_way = refl;
   no_factor = refl;
@@ -38,6 +39,7 @@ computed = record {
   planes = refl;
   across = refl;
   mirrored = refl;
+  turned = refl;
 }
 
 pub returns : goal.returns
