@@ -19,5 +19,6 @@ mod streams;
 mod sweep;
 mod texts;
 mod tile;
+mod turn;
 mod whole;
 mod widths;

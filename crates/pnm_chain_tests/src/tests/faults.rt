@@ -156,7 +156,7 @@ const UNKNOWN_OPTIONS: &[(&str, usize)] = &[
     // The name is judged before the value, and the word before the whole stage.
     ("pamcut -pad=", 1),
     ("pnminvert -x=", 1),
-    ("pamflip -lr -r90", 1),
+    ("pamflip -lr -r45", 1),
     ("pamcut -left 1 -right 2 -width 2 -pad", 1),
     ("pamenlarge -zscale", 1),
     ("pnminvert -x 3", 1),
@@ -207,6 +207,7 @@ const CONFLICTS: &[(&str, usize)] = &[
     ("pamflip -null -null", 1),
     ("pamflip -null -xy", 1),
     ("pamflip -r90 -xy", 1),
+    ("pamflip -lr -r90", 1),
     ("pamflip -r90 -r90", 1),
     ("pamflip -r180 --r270", 1),
     ("pamflip -lr -tb=", 1),

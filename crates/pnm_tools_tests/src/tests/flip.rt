@@ -10,12 +10,27 @@ use pnm_tools::{FlipWay, Tool, ToolFault};
 use std::test::Fail;
 
 /// Each way once.
-const WAYS: [FlipWay; 4] = [
+const WAYS: [FlipWay; 7] = [
     FlipWay::Null,
     FlipWay::LeftRight,
     FlipWay::TopBottom,
     FlipWay::Transpose,
+    FlipWay::Rotate90,
+    FlipWay::Rotate180,
+    FlipWay::Rotate270,
 ];
+
+/// The ways by which rows don't stay in their places.
+const MOVING: [FlipWay; 5] = [
+    FlipWay::TopBottom,
+    FlipWay::Transpose,
+    FlipWay::Rotate90,
+    FlipWay::Rotate180,
+    FlipWay::Rotate270,
+];
+
+/// The ways by which columns become rows.
+const EXCHANGING: [FlipWay; 3] = [FlipWay::Transpose, FlipWay::Rotate90, FlipWay::Rotate270];
 
 /// Three columns and two rows.
 const GRAY: &[Part<'static>] = &[
@@ -181,8 +196,7 @@ fn exchanges_columns_and_rows(rt: HostRuntime) -> Result<(), Fail> {
     answers(&rt, alloc, Tool::Flip(FlipWay::Transpose), TRANSPOSED)
 }
 
-/// Column x of the result shows column width - 1 - x, or row y shows row height - 1 - y, or column
-/// x shows row x.
+/// Columns, rows and both are shown in the other order, or columns as rows.
 #[test]
 fn follows_the_formula(rt: HostRuntime) -> Result<(), Fail> {
     for way in WAYS {
@@ -194,10 +208,11 @@ fn follows_the_formula(rt: HostRuntime) -> Result<(), Fail> {
 /// Images of many columns, since rows of the result are made side by side, so many at a time.
 #[test]
 fn transposes_many_columns(rt: HostRuntime) -> Result<(), Fail> {
-    let tool = Tool::Flip(FlipWay::Transpose);
-    for width in 1..71 {
-        let images = [(width, 3, 1), (width, 2, 3), (width, 1, 2)];
-        follows_formula(&rt, rt.alloc(), &tool, &images)?;
+    for way in EXCHANGING {
+        for width in 1..71 {
+            let images = [(width, 3, 1), (width, 2, 3), (width, 1, 2)];
+            follows_formula(&rt, rt.alloc(), &Tool::Flip(way), &images)?;
+        }
     }
     Ok(())
 }
@@ -240,11 +255,18 @@ const TRANSPOSED_HEADS: &[HeadCase<'static>] = &[
 #[test]
 fn keeps_all_but_the_sizes(rt: HostRuntime) -> Result<(), Fail> {
     let alloc = rt.alloc();
-    for way in [FlipWay::Null, FlipWay::LeftRight, FlipWay::TopBottom] {
+    for way in [
+        FlipWay::Null,
+        FlipWay::LeftRight,
+        FlipWay::TopBottom,
+        FlipWay::Rotate180,
+    ] {
         keeps_heads(&rt, alloc, Tool::Flip(way), SAME_HEADS)?;
     }
-    let transpose = Tool::Flip(FlipWay::Transpose);
-    gives_heads(&rt, alloc, transpose, TRANSPOSED_HEADS)
+    for way in EXCHANGING {
+        gives_heads(&rt, alloc, Tool::Flip(way), TRANSPOSED_HEADS)?;
+    }
+    Ok(())
 }
 
 /// There may be as many rows as columns, but a row may have no more than 16,777,216 samples, which
@@ -276,8 +298,10 @@ const TALL: &[HeadCase<'static>] = &[
 
 #[test]
 fn refuses_large_results(rt: HostRuntime) -> Result<(), Fail> {
-    let transpose = Tool::Flip(FlipWay::Transpose);
-    gives_heads(&rt, rt.alloc(), transpose, TALL)
+    for way in EXCHANGING {
+        gives_heads(&rt, rt.alloc(), Tool::Flip(way), TALL)?;
+    }
+    Ok(())
 }
 
 const WITHOUT_ROWS: &[Part<'static>] = &[
@@ -293,7 +317,7 @@ fn takes_heads_without_rows(rt: HostRuntime) -> Result<(), Fail> {
     for way in [FlipWay::Null, FlipWay::LeftRight] {
         keeps_heads(&rt, alloc, Tool::Flip(way), WITHOUT_ROWS)?;
     }
-    for way in [FlipWay::TopBottom, FlipWay::Transpose] {
+    for way in MOVING {
         let (tool, fault) = (Tool::Flip(way), ToolFault::OutOfOrder);
         refuses_heads(&rt, alloc, tool, WITHOUT_ROWS, fault)?;
     }
@@ -336,7 +360,7 @@ fn takes_images_without_rows(rt: HostRuntime) -> Result<(), Fail> {
     for way in [FlipWay::Null, FlipWay::LeftRight] {
         answers(&rt, alloc, Tool::Flip(way), ROW_WISE)?;
     }
-    for way in [FlipWay::TopBottom, FlipWay::Transpose] {
+    for way in MOVING {
         answers(&rt, alloc, Tool::Flip(way), NOT_ROW_WISE)?;
     }
     Ok(())

@@ -110,7 +110,9 @@ fn result_sizes(tool: &Tool, (width, height, depth): Sizes) -> Sizes {
             height.wrapping_mul(*down),
             depth,
         ),
-        Tool::Flip(FlipWay::Transpose) => (height, width, depth),
+        Tool::Flip(FlipWay::Transpose | FlipWay::Rotate90 | FlipWay::Rotate270) => {
+            (height, width, depth)
+        }
         Tool::Tile(across, down) => (*across, *down, depth),
         Tool::Channel(planes) => {
             let count = u32::try_from(planes.numbers().len()).unwrap_or(0);
@@ -130,6 +132,12 @@ fn shown_at(tool: &Tool, (width, height, _): Sizes, x: u32, y: u32) -> (u32, u32
         Tool::Flip(FlipWay::LeftRight) => (width.wrapping_sub(1).wrapping_sub(x), y),
         Tool::Flip(FlipWay::TopBottom) => (x, height.wrapping_sub(1).wrapping_sub(y)),
         Tool::Flip(FlipWay::Transpose) => (y, x),
+        Tool::Flip(FlipWay::Rotate90) => (width.wrapping_sub(1).wrapping_sub(y), x),
+        Tool::Flip(FlipWay::Rotate180) => (
+            width.wrapping_sub(1).wrapping_sub(x),
+            height.wrapping_sub(1).wrapping_sub(y),
+        ),
+        Tool::Flip(FlipWay::Rotate270) => (y, height.wrapping_sub(1).wrapping_sub(x)),
         Tool::Tile(_, _) => (
             x.checked_rem(width).unwrap_or(0),
             y.checked_rem(height).unwrap_or(0),

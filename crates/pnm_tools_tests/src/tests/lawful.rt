@@ -233,11 +233,14 @@ fn judges_factors_and_sizes(rt: HostRuntime) {
 }
 
 /// Each way, and whether its rows may be dealt.
-const WAYS: [(FlipWay, bool); 4] = [
+const WAYS: [(FlipWay, bool); 7] = [
     (FlipWay::Null, true),
     (FlipWay::LeftRight, true),
     (FlipWay::TopBottom, false),
     (FlipWay::Transpose, false),
+    (FlipWay::Rotate90, false),
+    (FlipWay::Rotate180, false),
+    (FlipWay::Rotate270, false),
 ];
 
 #[test]

@@ -85,6 +85,32 @@ const TRANSPOSED: &[Part<'static>] = &[
     Part::StreamEnd,
 ];
 
+const QUARTER: &[Part<'static>] = &[
+    Part::Pam(2, 3, 2, 4, "A"),
+    Part::Row(&[4, 0, 0, 4]),
+    Part::Row(&[2, 3, 2, 1]),
+    Part::Row(&[0, 1, 4, 3]),
+    Part::ImageEnd,
+    Part::StreamEnd,
+];
+
+const HALF: &[Part<'static>] = &[
+    Part::Pam(3, 2, 2, 4, "A"),
+    Part::Row(&[0, 4, 2, 1, 4, 3]),
+    Part::Row(&[4, 0, 2, 3, 0, 1]),
+    Part::ImageEnd,
+    Part::StreamEnd,
+];
+
+const THREE_QUARTERS: &[Part<'static>] = &[
+    Part::Pam(2, 3, 2, 4, "A"),
+    Part::Row(&[4, 3, 0, 1]),
+    Part::Row(&[2, 1, 2, 3]),
+    Part::Row(&[0, 4, 4, 0]),
+    Part::ImageEnd,
+    Part::StreamEnd,
+];
+
 const TILED: &[Part<'static>] = &[
     Part::Pam(4, 3, 2, 4, "A"),
     Part::Row(&[0, 1, 2, 3, 4, 0, 0, 1]),
@@ -264,6 +290,22 @@ fn turns_or_runs_out(rt: HostRuntime) {
 #[test]
 fn transposes_or_runs_out(rt: HostRuntime) {
     let _ = answers_image(&rt, rt.alloc(), &Tool::Flip(FlipWay::Transpose), TRANSPOSED);
+}
+
+#[test]
+fn turns_by_a_quarter_or_runs_out(rt: HostRuntime) {
+    let _ = answers_image(&rt, rt.alloc(), &Tool::Flip(FlipWay::Rotate90), QUARTER);
+}
+
+#[test]
+fn turns_by_two_or_runs_out(rt: HostRuntime) {
+    let _ = answers_image(&rt, rt.alloc(), &Tool::Flip(FlipWay::Rotate180), HALF);
+}
+
+#[test]
+fn turns_by_three_or_runs_out(rt: HostRuntime) {
+    let turn = Tool::Flip(FlipWay::Rotate270);
+    let _ = answers_image(&rt, rt.alloc(), &turn, THREE_QUARTERS);
 }
 
 /// More columns and rows than there are, and fewer of both. Whether nothing was refused.

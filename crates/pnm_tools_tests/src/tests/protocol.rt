@@ -143,6 +143,9 @@ fn waits_where_nothing_is_given(rt: HostRuntime) -> Result<(), Fail> {
     waits_after_row(&rt, rt.alloc(), Tool::Cut(second_row))?;
     waits_after_row(&rt, rt.alloc(), Tool::Flip(FlipWay::TopBottom))?;
     waits_after_row(&rt, rt.alloc(), Tool::Flip(FlipWay::Transpose))?;
+    waits_after_row(&rt, rt.alloc(), Tool::Flip(FlipWay::Rotate90))?;
+    waits_after_row(&rt, rt.alloc(), Tool::Flip(FlipWay::Rotate180))?;
+    waits_after_row(&rt, rt.alloc(), Tool::Flip(FlipWay::Rotate270))?;
     waits_after_row(&rt, rt.alloc(), Tool::Tile(3, 1))
 }
 
@@ -308,7 +311,7 @@ fn without_rows(tool: &Tool) -> Option<Part<'static>> {
         Tool::Enlarge(_, 1) => Some(gray(4, 0, 9)),
         Tool::Enlarge(_, _) => None,
         Tool::Flip(FlipWay::Null | FlipWay::LeftRight) => Some(NO_ROWS),
-        Tool::Flip(FlipWay::TopBottom | FlipWay::Transpose) => None,
+        Tool::Flip(_) => None,
         Tool::Tile(_, _) => None,
     }
 }

@@ -211,7 +211,6 @@ fn takes_images_of_other_sizes(rt: HostRuntime) -> Result<(), Fail> {
 /// Wider than what is made side by side, and taller, in one stream with narrow images.
 #[test]
 fn transposes_wide_and_narrow_images(rt: HostRuntime) -> Result<(), Fail> {
-    let tool = Tool::Flip(FlipWay::Transpose);
     let images = [
         (40, 3, 1),
         (1, 1, 1),
@@ -223,7 +222,15 @@ fn transposes_wide_and_narrow_images(rt: HostRuntime) -> Result<(), Fail> {
         (1, 70, 3),
         (5, 4, 2),
     ];
-    follows_formula(&rt, rt.alloc(), &tool, &images)
+    for way in [
+        FlipWay::Transpose,
+        FlipWay::Rotate90,
+        FlipWay::Rotate180,
+        FlipWay::Rotate270,
+    ] {
+        follows_formula(&rt, rt.alloc(), &Tool::Flip(way), &images)?;
+    }
+    Ok(())
 }
 
 /// Four rows, of which the first one is shown, or the first two.

@@ -110,6 +110,21 @@ fn follows_its_formula_at_each_width(rt: HostRuntime) -> Result<(), Fail> {
     Ok(())
 }
 
+#[test]
+fn turns_each_width_by_a_quarter(rt: HostRuntime) -> Result<(), Fail> {
+    sweeps_widths(&rt, rt.alloc(), &Tool::Flip(FlipWay::Rotate90))
+}
+
+#[test]
+fn turns_each_width_by_two(rt: HostRuntime) -> Result<(), Fail> {
+    sweeps_widths(&rt, rt.alloc(), &Tool::Flip(FlipWay::Rotate180))
+}
+
+#[test]
+fn turns_each_width_by_three(rt: HostRuntime) -> Result<(), Fail> {
+    sweeps_widths(&rt, rt.alloc(), &Tool::Flip(FlipWay::Rotate270))
+}
+
 /// The last plane and the first one are picked from images of each width.
 fn picks_planes(
     rt: &impl Abort,
@@ -141,14 +156,109 @@ fn picks_planes_at_each_width(rt: HostRuntime) -> Result<(), Fail> {
 }
 
 /// As many rows as there are columns otherwise.
-#[test]
-fn transposes_each_height(rt: HostRuntime) -> Result<(), Fail> {
-    let transpose = Tool::Flip(FlipWay::Transpose);
+fn sweeps_heights(rt: &impl Abort, alloc: Global, way: FlipWay) -> Result<(), Fail> {
+    let tool = Tool::Flip(way);
     for height in 1..71 {
-        sweeps(&rt, rt.alloc(), &transpose, 9, height)?;
+        sweeps(rt, alloc, &tool, 9, height)?;
     }
     for height in WIDER {
-        sweeps(&rt, rt.alloc(), &transpose, 66, height)?;
+        sweeps(rt, alloc, &tool, 66, height)?;
     }
     Ok(())
+}
+
+#[test]
+fn transposes_each_height(rt: HostRuntime) -> Result<(), Fail> {
+    sweeps_heights(&rt, rt.alloc(), FlipWay::Transpose)
+}
+
+#[test]
+fn turns_each_height_by_a_quarter(rt: HostRuntime) -> Result<(), Fail> {
+    sweeps_heights(&rt, rt.alloc(), FlipWay::Rotate90)
+}
+
+#[test]
+fn turns_each_height_by_two(rt: HostRuntime) -> Result<(), Fail> {
+    sweeps_heights(&rt, rt.alloc(), FlipWay::Rotate180)
+}
+
+#[test]
+fn turns_each_height_by_three(rt: HostRuntime) -> Result<(), Fail> {
+    sweeps_heights(&rt, rt.alloc(), FlipWay::Rotate270)
+}
+
+/// One to five planes, in bits, bytes and words.
+const DEPTHS: [ImageType; 3] = [
+    (Kind::Pam, 1, SampleWidth::Bits),
+    (Kind::Pam, 200, SampleWidth::Bytes),
+    (Kind::Pam, 1000, SampleWidth::Words),
+];
+
+/// Sizes about multiples of 8.
+const ABOUT_EIGHTS: [u32; 9] = [23, 24, 25, 31, 32, 33, 63, 64, 65];
+
+/// The image of these sizes flipped each way, of one to five planes.
+fn flips_depths(
+    rt: &impl Abort,
+    alloc: Global,
+    way: FlipWay,
+    width: u32,
+    height: u32,
+) -> Result<(), Fail> {
+    for form in DEPTHS {
+        for depth in 1..6 {
+            let image: Sizes = (width, height, depth);
+            follows_formula_at(rt, alloc, &Tool::Flip(way), form, &[image])?;
+        }
+    }
+    Ok(())
+}
+
+fn flips_sizes(rt: &impl Abort, alloc: Global, way: FlipWay) -> Result<(), Fail> {
+    for width in 1..21 {
+        for height in 1..21 {
+            flips_depths(rt, alloc, way, width, height)?;
+        }
+    }
+    for size in ABOUT_EIGHTS {
+        flips_depths(rt, alloc, way, size, 3)?;
+        flips_depths(rt, alloc, way, 3, size)?;
+        flips_depths(rt, alloc, way, size, size)?;
+    }
+    Ok(())
+}
+
+#[test]
+fn keeps_all_small_sizes(rt: HostRuntime) -> Result<(), Fail> {
+    flips_sizes(&rt, rt.alloc(), FlipWay::Null)
+}
+
+#[test]
+fn mirrors_all_small_sizes(rt: HostRuntime) -> Result<(), Fail> {
+    flips_sizes(&rt, rt.alloc(), FlipWay::LeftRight)
+}
+
+#[test]
+fn reverses_all_small_sizes(rt: HostRuntime) -> Result<(), Fail> {
+    flips_sizes(&rt, rt.alloc(), FlipWay::TopBottom)
+}
+
+#[test]
+fn transposes_all_small_sizes(rt: HostRuntime) -> Result<(), Fail> {
+    flips_sizes(&rt, rt.alloc(), FlipWay::Transpose)
+}
+
+#[test]
+fn turns_all_small_sizes_by_a_quarter(rt: HostRuntime) -> Result<(), Fail> {
+    flips_sizes(&rt, rt.alloc(), FlipWay::Rotate90)
+}
+
+#[test]
+fn turns_all_small_sizes_by_two(rt: HostRuntime) -> Result<(), Fail> {
+    flips_sizes(&rt, rt.alloc(), FlipWay::Rotate180)
+}
+
+#[test]
+fn turns_all_small_sizes_by_three(rt: HostRuntime) -> Result<(), Fail> {
+    flips_sizes(&rt, rt.alloc(), FlipWay::Rotate270)
 }

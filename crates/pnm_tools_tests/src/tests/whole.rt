@@ -25,6 +25,25 @@ const TRANSPOSED: &[Part<'static>] = &[
     Part::ImageEnd,
 ];
 
+const QUARTER: &[Part<'static>] = &[
+    Part::Row(&[3, 6]),
+    Part::Row(&[2, 5]),
+    Part::Row(&[1, 4]),
+    Part::ImageEnd,
+];
+
+const HALF: &[Part<'static>] = &[Part::Row(&[6, 5, 4]), Part::Row(&[3, 2, 1]), Part::ImageEnd];
+
+const THREE_QUARTERS: &[Part<'static>] = &[
+    Part::Row(&[4, 1]),
+    Part::Row(&[5, 2]),
+    Part::Row(&[6, 3]),
+    Part::ImageEnd,
+];
+
+/// The head where columns become rows.
+const EXCHANGED: Part<'static> = Part::Begin(Kind::Gray, 2, 3, 9);
+
 const TILED: &[Part<'static>] = &[
     Part::Row(&[1, 2, 3, 1]),
     Part::Row(&[4, 5, 6, 4]),
@@ -36,17 +55,16 @@ const TILED: &[Part<'static>] = &[
 type Keeper = (Tool, &'static [Part<'static>], &'static [Part<'static>]);
 
 /// How many tools keep rows.
-const KEEPERS: usize = 3;
+const KEEPERS: usize = 6;
 
 /// Each of them.
 fn keeper(number: usize) -> Keeper {
     match number {
         0 => (Tool::Flip(FlipWay::TopBottom), &[HEAD], TURNED),
-        1 => (
-            Tool::Flip(FlipWay::Transpose),
-            &[Part::Begin(Kind::Gray, 2, 3, 9)],
-            TRANSPOSED,
-        ),
+        1 => (Tool::Flip(FlipWay::Transpose), &[EXCHANGED], TRANSPOSED),
+        2 => (Tool::Flip(FlipWay::Rotate90), &[EXCHANGED], QUARTER),
+        3 => (Tool::Flip(FlipWay::Rotate180), &[HEAD], HALF),
+        4 => (Tool::Flip(FlipWay::Rotate270), &[EXCHANGED], THREE_QUARTERS),
         _ => (Tool::Tile(4, 3), &[Part::Begin(Kind::Gray, 4, 3, 9)], TILED),
     }
 }

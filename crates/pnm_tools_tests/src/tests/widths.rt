@@ -100,5 +100,7 @@ fn cuts_as_held(rt: HostRuntime) -> Result<(), Fail> {
 #[test]
 fn transposes_as_the_maxval_asks(rt: HostRuntime) -> Result<(), Fail> {
     let alloc = rt.alloc();
-    gives_widths(&rt, alloc, Tool::Flip(FlipWay::Transpose), TRANSPOSED)
+    gives_widths(&rt, alloc, Tool::Flip(FlipWay::Transpose), TRANSPOSED)?;
+    gives_widths(&rt, alloc, Tool::Flip(FlipWay::Rotate90), TRANSPOSED)?;
+    gives_widths(&rt, alloc, Tool::Flip(FlipWay::Rotate270), TRANSPOSED)
 }
