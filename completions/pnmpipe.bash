@@ -10,7 +10,7 @@ _pnmpipe_stage() {
         pamdepth) words='1 255 65535' ;;
         pamchannel) words='0 1 2 3 -tupletype' ;;
         pamenlarge) words='2 3 4 -xscale -yscale' ;;
-        pamflip) words='-lr -tb -xy -null -leftright -topbottom -transpose' ;;
+        pamflip) words='-lr -tb -xy -r90 -r180 -r270 -null -leftright -topbottom -transpose' ;;
         pnmtile) words='' ;;
         *) words='' ;;
     esac

@@ -37,6 +37,9 @@ TOOLS = [
     "pamflip -lr",
     "pamflip -tb",
     "pamflip -xy",
+    "pamflip -r90",
+    "pamflip -r180",
+    "pamflip -r270",
     "pamenlarge 2",
     "pnmtile WIDE HIGH",
     "pamdepth 100",
@@ -165,7 +168,7 @@ int main(int count, char **words) {
 """
 
 # What the options and names of tools have that keep an image.
-KEEPING = ("-tb", "-xy", "pnmtile")
+KEEPING = ("-tb", "-xy", "-r90", "-r180", "-r270", "pnmtile")
 
 
 def written_images(folder, names):

@@ -3,7 +3,7 @@
 import re
 import shlex
 
-# the stages for each way to turn an image. pamflip of pnmpipe has no rotations: here alone they are put together
+# the stages for each way to turn an image
 WAYS = {
     "leftright": ["pamflip -lr"],
     "lr": ["pamflip -lr"],
@@ -12,14 +12,14 @@ WAYS = {
     "transpose": ["pamflip -xy"],
     "xy": ["pamflip -xy"],
     "null": ["pamflip -null"],
-    "rotate90": ["pamflip -lr", "pamflip -xy"],
-    "r90": ["pamflip -lr", "pamflip -xy"],
-    "ccw": ["pamflip -lr", "pamflip -xy"],
-    "rotate180": ["pamflip -lr", "pamflip -tb"],
-    "r180": ["pamflip -lr", "pamflip -tb"],
-    "rotate270": ["pamflip -xy", "pamflip -lr"],
-    "r270": ["pamflip -xy", "pamflip -lr"],
-    "cw": ["pamflip -xy", "pamflip -lr"],
+    "rotate90": ["pamflip -r90"],
+    "r90": ["pamflip -r90"],
+    "ccw": ["pamflip -r90"],
+    "rotate180": ["pamflip -r180"],
+    "r180": ["pamflip -r180"],
+    "rotate270": ["pamflip -r270"],
+    "r270": ["pamflip -r270"],
+    "cw": ["pamflip -r270"],
 }
 
 # Netpbm's options: those with a value, and those without

@@ -129,8 +129,8 @@ def chain_of(numbers, width, height, depth):
             text, wide, high = scale_of(numbers, wide, high)
             tools.append(text)
         elif name == "pamflip":
-            way = numbers.choice(["-null", "-lr", "-tb", "-xy"])
-            wide, high = (max(wide, high * depth), max(high, wide)) if way == "-xy" else (wide, high)
+            way = numbers.choice(["-null", "-lr", "-tb", "-xy", "-r90", "-r180", "-r270"])
+            wide, high = (max(wide, high * depth), max(high, wide)) if way in ("-xy", "-r90", "-r270") else (wide, high)
             tools.append(f"pamflip {way}")
         elif name == "pnmtile":
             across, down = numbers.randint(1, 90), numbers.randint(1, 60)

@@ -15,12 +15,13 @@ use std::alloc::{AllocError, Global};
 /// How the program is called.
 pub const USAGE: &str = "pnmpipe [--ring N] [--lanes K] [--plain] CHAIN";
 
-const ABOUT: &str = "Reads a stream of PBM, PGM, PPM or PAM images from standard input, passes it
-through a chain of tools, and writes Netpbm images to standard output.";
+const ABOUT: &str = "Passes a stream of PBM, PGM, PPM or PAM images through a chain of tools, as in
+  pnmpipe 'pamcut -width 640 | pamflip -lr' < a.ppm > b.ppm
+Put CHAIN in quotes; files go by < and >. Every image of a stream is treated.";
 
 const CHAIN_HELP: &str = "1 to 16 tools, parted by |, in one word";
 
-const RING_HELP: &str = "Messages between two tools, 1 to 1024";
+const RING_HELP: &str = "Rows that wait between two tools, 1 to 1024";
 
 const LANES_HELP: &str = "Threads of each row-wise tool, 1 to 8";
 
@@ -29,13 +30,16 @@ const PLAIN_HELP: &str = "Write one plain PBM, PGM or PPM image, not raw ones";
 const AFTER_HELP: &str = "Tools:
   pnminvert
   pamcut [-left N] [-right N] [-top N] [-bottom N] [-width N] [-height N]
+          N counts from 0, and a negative one from the end
   pamdepth MAXVAL
   pamchannel [-tupletype TEXT] PLANE...
   pamenlarge N, or [-xscale N] [-yscale N]
-  pamflip -null, -lr (-leftright), -tb (-topbottom) or -xy (-transpose)
+  pamflip -null, -lr (-leftright), -tb (-topbottom), -xy (-transpose),
+          or counterclockwise -r90, -r180, -r270
   pnmtile WIDTH HEIGHT
+
 Status: 0 all went well, 1 the input, a tool or the output failed, 2 wrong words
-Example: pnmpipe 'pamcut -width 640 | pamflip -lr' < a.ppm > b.ppm";
+64 rows suit all but huge ones. The page pnmpipe(1) has more.";
 
 /// What the words name.
 #[derive(Clone, Copy, Debug)]

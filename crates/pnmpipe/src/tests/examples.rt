@@ -86,6 +86,25 @@ fn runs_each_way(rt: HostRuntime) -> Result<(), Fail> {
             ["pamflip -xy", "pamflip --transpose"],
             b"P5\n3 2\n9\n\x01\x03\x05\x02\x04\x06",
         ),
+        (
+            ["pamflip -r90", "pamflip -xy | pamflip -tb"],
+            b"P5\n3 2\n9\n\x02\x04\x06\x01\x03\x05",
+        ),
+        (
+            ["pamflip -r180", "pamflip --r90 | pamflip --r90"],
+            b"P5\n2 3\n9\n\x06\x05\x04\x03\x02\x01",
+        ),
+        (
+            ["pamflip -r270", "pamflip -r180 | pamflip -r90"],
+            b"P5\n3 2\n9\n\x05\x03\x01\x06\x04\x02",
+        ),
+        (
+            [
+                "pamflip -r90 | pamflip -r270",
+                "pamflip -r270 | pamflip -r90",
+            ],
+            image,
+        ),
         (["pamflip -null", "pamflip --null"], image),
     ] {
         for chain in chains {

