@@ -46,6 +46,7 @@ STREAMS = "{}: every image of a stream is treated, and Netpbm's tool takes the f
 STAYS_PAM = "{}: a PAM image stays PAM, and Netpbm's tool makes PGM or PPM of it"
 STAYS_BITS = "pamdepth 1: PBM, and PAM of type BLACKANDWHITE, stay as they are, and Netpbm's tool makes gray of them"
 PLAIN_LINES = "-plain: the same samples, with other blanks and line ends than Netpbm's"
+TYPES = "pamchannel -tupletype: each type is taken, and Netpbm's tool refuses one that doesn't fit the planes or the maxval"
 PLAIN_STREAMS = "{}: of several plain images in one input the first alone is taken, and Netpbm's tool takes all"
 NAMED = "{} is taken for a file's name: where it begins with a dash, Netpbm's tool takes it for an option or standard input"
 
@@ -287,6 +288,8 @@ def read_stage(stage):
         stage.notes_if_first.append(PLAIN_STREAMS.format(tool))
     if tool in ("pnminvert", "pnmtile"):
         stage.notes.append(STAYS_PAM.format(tool))
+    if tool == "pamchannel" and "-tupletype=" in tools[0]:
+        stage.notes.append(TYPES)
     if tools == ["pamdepth 1"]:
         stage.notes.append(STAYS_BITS)
     if stage.plain:

@@ -141,6 +141,7 @@ class Translate(Folder):
             ("pnmtile 2 2", "stays PAM"),
             ("pamdepth 1", "stay as they are"),
             ("pamcut -left 1", "several plain images"),
+            ("pamchannel -tupletype RGB 0", "doesn't fit the planes"),
             ('pnminvert "$f"', "begins with a dash"),
             ("pnminvert -plain", "other blanks and line ends"),
         ]:
