@@ -34,7 +34,7 @@ Tools:
   pnmtile WIDTH HEIGHT
 
 Status: 0 all went well, 1 the input, a tool or the output failed, 2 wrong words
-64 rows suit all but huge ones. The page pnmpipe(1) has more.
+64 rows suit all but huge ones. The page pnmpipe(1) has more. Version 0.1.0
 ";
 
 /// Calls for help get it on the output, status 0, and nothing is read.
