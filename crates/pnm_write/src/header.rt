@@ -17,9 +17,11 @@ pub fn write_header<W: BytesOut>(
     form: Form,
     head: &Head,
 ) -> Result<(), DeviceFailed>
-    ensures written { OnOk result (Appends (W.held writer.old) (W.held writer.new) (header_text form head.now)) }
+    ensures written { OnOk result
+        (Appends (W.held writer.old) (W.held writer.new) (header_text form head.now)) }
     ensures failed { OnErr result
-        (FailsIn (header_text form head.now) (W.held writer.old) (W.held writer.new) (W.failures writer.old) (W.failures writer.new)) }
+        (FailsIn (header_text form head.now) (W.held writer.old) (W.held writer.new)
+        (W.failures writer.old) (W.failures writer.new)) }
     ensures count { OnOk result (W.failures writer.new ≡ W.failures writer.old) }
     ensures same_device { W.same writer.old writer.new }
 {

@@ -116,8 +116,10 @@ fn put(room: &mut [u8], at: usize, number: usize) -> usize
 fn break_line(room: &mut [u8], at: usize, column: usize, size: usize) -> usize
     requires room { at < length room.old }
     requires line { column ≤ 70 }
+    requires some { 0 < size }
     requires size { size ≤ 6 }
-    ensures room { room.new ≡ (if nat_le (column + size) max_line_length then room.old else slice_set room.old at line_feed) }
+    ensures room { room.new ≡ (if nat_le (column + size) max_line_length then room.old
+        else slice_set room.old at line_feed) }
     ensures column { result ≡ (if nat_le (column + size) max_line_length then column + size else size - 1) }
     ensures line { result ≤ 70 }
     ensures begun { 1 < size → 0 < result }
@@ -137,7 +139,8 @@ pub fn append_bytes(room: &mut [u8], start: usize, column: usize, samples: &[u8]
     requires room { start + 6 * length samples.now ≤ length room.old }
     requires begun { 0 < column }
     requires line { column ≤ 70 }
-    ensures text { take result.0 room.new ≡ take start room.old ++ text_of_part column (sample_texts Kind.Gray samples.now) }
+    ensures text { take result.0 room.new
+        ≡ take start room.old ++ text_of_part column (sample_texts Kind.Gray samples.now) }
     ensures within { result.0 ≤ start + 6 * length samples.now }
     ensures column { result.1 ≡ column_after_part column (sample_texts Kind.Gray samples.now) }
     ensures line { result.1 ≤ 70 }
@@ -157,7 +160,8 @@ pub fn append_words(room: &mut [u8], start: usize, column: usize, samples: &[u16
     requires room { start + 6 * length samples.now ≤ length room.old }
     requires begun { 0 < column }
     requires line { column ≤ 70 }
-    ensures text { take result.0 room.new ≡ take start room.old ++ text_of_part column (sample_texts Kind.Gray samples.now) }
+    ensures text { take result.0 room.new
+        ≡ take start room.old ++ text_of_part column (sample_texts Kind.Gray samples.now) }
     ensures within { result.0 ≤ start + 6 * length samples.now }
     ensures column { result.1 ≡ column_after_part column (sample_texts Kind.Gray samples.now) }
     ensures line { result.1 ≤ 70 }

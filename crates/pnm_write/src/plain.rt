@@ -26,7 +26,8 @@ pub fn write_lines<W: BytesOut>(
     row: &Samples,
 ) -> Result<(), DeviceFailed>
     requires { All (λ sample. sample ≤ shape.maxval) row.now }
-    ensures written { OnOk result (Appends (W.held writer.old) (W.held writer.new) (plain_row_text shape.kind row.now)) }
+    ensures written { OnOk result
+        (Appends (W.held writer.old) (W.held writer.new) (plain_row_text shape.kind row.now)) }
     ensures failed { OnErr result
         (FailsIn (plain_row_text shape.kind row.now) (W.held writer.old) (W.held writer.new)
         (W.failures writer.old) (W.failures writer.new)) }
@@ -51,7 +52,8 @@ fn write_pixels<W: BytesOut>(
     room: &mut Room,
     pixels: &Bits,
 ) -> Result<(), DeviceFailed>
-    ensures written { OnOk result (Appends (W.held writer.old) (W.held writer.new) (plain_row_text Kind.Bit pixels.now)) }
+    ensures written { OnOk result
+        (Appends (W.held writer.old) (W.held writer.new) (plain_row_text Kind.Bit pixels.now)) }
     ensures failed { OnErr result
         (FailsIn (plain_row_text Kind.Bit pixels.now) (W.held writer.old) (W.held writer.new)
         (W.failures writer.old) (W.failures writer.new)) }
@@ -77,7 +79,8 @@ fn write_bytes<W: BytesOut>(
     room: &mut Room,
     samples: &[u8],
 ) -> Result<(), DeviceFailed>
-    ensures written { OnOk result (Appends (W.held writer.old) (W.held writer.new) (plain_row_text Kind.Gray samples.now)) }
+    ensures written { OnOk result
+        (Appends (W.held writer.old) (W.held writer.new) (plain_row_text Kind.Gray samples.now)) }
     ensures failed { OnErr result
         (FailsIn (plain_row_text Kind.Gray samples.now) (W.held writer.old) (W.held writer.new)
         (W.failures writer.old) (W.failures writer.new)) }
@@ -103,7 +106,8 @@ fn write_words<W: BytesOut>(
     room: &mut Room,
     samples: &[u16],
 ) -> Result<(), DeviceFailed>
-    ensures written { OnOk result (Appends (W.held writer.old) (W.held writer.new) (plain_row_text Kind.Gray samples.now)) }
+    ensures written { OnOk result
+        (Appends (W.held writer.old) (W.held writer.new) (plain_row_text Kind.Gray samples.now)) }
     ensures failed { OnErr result
         (FailsIn (plain_row_text Kind.Gray samples.now) (W.held writer.old) (W.held writer.new)
         (W.failures writer.old) (W.failures writer.new)) }
@@ -131,7 +135,8 @@ fn write_others<W: BytesOut>(
     row: &Samples,
 ) -> Result<(), DeviceFailed>
     requires { All (λ sample. sample ≤ shape.maxval) row.now }
-    ensures written { OnOk result (Appends (W.held writer.old) (W.held writer.new) (plain_row_text shape.kind row.now)) }
+    ensures written { OnOk result
+        (Appends (W.held writer.old) (W.held writer.new) (plain_row_text shape.kind row.now)) }
     ensures failed { OnErr result
         (FailsIn (plain_row_text shape.kind row.now) (W.held writer.old) (W.held writer.new)
         (W.failures writer.old) (W.failures writer.new)) }

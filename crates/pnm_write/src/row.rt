@@ -24,7 +24,8 @@ pub fn write_samples<W: BytesOut>(
     row: &Samples,
 ) -> Result<(), DeviceFailed>
     requires { All (λ sample. sample ≤ shape.maxval) row.now }
-    ensures written { OnOk result (Appends (W.held writer.old) (W.held writer.new) (row_bytes form shape row.now)) }
+    ensures written { OnOk result
+        (Appends (W.held writer.old) (W.held writer.new) (row_bytes form shape row.now)) }
     ensures failed { OnErr result
         (FailsIn (row_bytes form shape row.now) (W.held writer.old) (W.held writer.new)
         (W.failures writer.old) (W.failures writer.new)) }
@@ -45,7 +46,8 @@ fn write_raw<W: BytesOut>(
     row: &Samples,
 ) -> Result<(), DeviceFailed>
     requires { All (λ sample. sample ≤ shape.maxval) row.now }
-    ensures written { OnOk result (Appends (W.held writer.old) (W.held writer.new) (row_bytes Form.Raw shape row.now)) }
+    ensures written { OnOk result
+        (Appends (W.held writer.old) (W.held writer.new) (row_bytes Form.Raw shape row.now)) }
     ensures failed { OnErr result
         (FailsIn (row_bytes Form.Raw shape row.now) (W.held writer.old) (W.held writer.new)
         (W.failures writer.old) (W.failures writer.new)) }
@@ -68,7 +70,8 @@ fn write_others<W: BytesOut>(
     row: &Samples,
 ) -> Result<(), DeviceFailed>
     requires { All (λ sample. sample ≤ shape.maxval) row.now }
-    ensures written { OnOk result (Appends (W.held writer.old) (W.held writer.new) (row_bytes Form.Raw shape row.now)) }
+    ensures written { OnOk result
+        (Appends (W.held writer.old) (W.held writer.new) (row_bytes Form.Raw shape row.now)) }
     ensures failed { OnErr result
         (FailsIn (row_bytes Form.Raw shape row.now) (W.held writer.old) (W.held writer.new)
         (W.failures writer.old) (W.failures writer.new)) }
@@ -96,7 +99,8 @@ fn write_words<W: BytesOut>(
     samples: &[u16],
 ) -> Result<(), DeviceFailed>
     requires { All (λ sample. sample ≤ shape.maxval) samples.now }
-    ensures written { OnOk result (Appends (W.held writer.old) (W.held writer.new) (row_bytes Form.Raw shape samples.now)) }
+    ensures written { OnOk result
+        (Appends (W.held writer.old) (W.held writer.new) (row_bytes Form.Raw shape samples.now)) }
     ensures failed { OnErr result
         (FailsIn (row_bytes Form.Raw shape samples.now) (W.held writer.old) (W.held writer.new)
         (W.failures writer.old) (W.failures writer.new)) }

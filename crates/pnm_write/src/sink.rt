@@ -61,9 +61,11 @@ impl<W: BytesOut> Sink<W> {
     /// is written.
     pub fn put(&mut self, message: &Message) -> Result<(), SinkFault>
         ensures written { OnOk result
-            (Appends (W.held (writer_of self.old)) (W.held (writer_of self.new)) (bytes_at (form_of self.old) (next_place self.old) message.now)) }
+            (Appends (W.held (writer_of self.old)) (W.held (writer_of self.new))
+            (bytes_at (form_of self.old) (next_place self.old) message.now)) }
         ensures taken { OnOk result
-            (Takes (form_of self.old) (has_begun self.old) (next_place self.old) message.now × (W.failures (writer_of self.new) ≡ W.failures (writer_of self.old))) }
+            (Takes (form_of self.old) (has_begun self.old) (next_place self.old) message.now
+            × (W.failures (writer_of self.new) ≡ W.failures (writer_of self.old))) }
         ensures sound { OnOk result ((has_failed self.old ≡ false) × (has_failed self.new ≡ false)) }
         ensures form { form_of self.new ≡ form_of self.old }
 
@@ -80,7 +82,8 @@ impl<W: BytesOut> Sink<W> {
         ensures stays { OnErr result (has_failed self.new ≡ true) }
         ensures broken { has_failed self.old ≡ true → (result ≡ Err SinkFault.Broken) × (self.new ≡ self.old) }
         ensures refused { has_failed self.old ≡ false
-            → IfErr result (λ fault. Refuses (form_of self.old) (has_begun self.old) (next_place self.old) message.now fault
+            → IfErr result (λ fault. Refuses (form_of self.old) (has_begun self.old) (next_place self.old)
+            message.now fault
             (W.held (writer_of self.old)) (W.held (writer_of self.new))
             (W.failures (writer_of self.old)) (W.failures (writer_of self.new))) }
         ensures same_device { W.same (writer_of self.old) (writer_of self.new) }
@@ -153,14 +156,17 @@ impl<W: BytesOut> Sink<W> {
 
     fn write(&mut self, message: &Message) -> Result<(), SinkFault>
         ensures written { OnOk result
-            (Appends (W.held (writer_of self.old)) (W.held (writer_of self.new)) (bytes_at (form_of self.old) (next_place self.old) message.now)) }
+            (Appends (W.held (writer_of self.old)) (W.held (writer_of self.new))
+            (bytes_at (form_of self.old) (next_place self.old) message.now)) }
         ensures taken { OnOk result
-            (Takes (form_of self.old) (has_begun self.old) (next_place self.old) message.now × (has_failed self.old ≡ false)
+            (Takes (form_of self.old) (has_begun self.old) (next_place self.old) message.now
+            × (has_failed self.old ≡ false)
             × (next_place self.new ≡ place_after (next_place self.old) message.now)
             × (has_begun self.new ≡ has_begun_after (has_begun self.old) message.now)) }
         ensures broken { has_failed self.old ≡ true → (result ≡ Err SinkFault.Broken) × (self.new ≡ self.old) }
         ensures refused { has_failed self.old ≡ false
-            → IfErr result (λ fault. Refuses (form_of self.old) (has_begun self.old) (next_place self.old) message.now fault
+            → IfErr result (λ fault. Refuses (form_of self.old) (has_begun self.old) (next_place self.old)
+            message.now fault
             (W.held (writer_of self.old)) (W.held (writer_of self.new))
             (W.failures (writer_of self.old)) (W.failures (writer_of self.new))) }
         ensures form { form_of self.new ≡ form_of self.old }
