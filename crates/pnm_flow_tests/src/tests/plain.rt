@@ -7,7 +7,7 @@ use super::{Outcome, agrees};
 use pnm_flow::{RunFault, Summary};
 use pnm_image::{Device, Form};
 use pnm_read::InputFault;
-use pnm_test_devices::Sips;
+use pnm_test_devices::{Drips, FailsOnce, Sips};
 use pnm_tools::{Tool, ToolFault};
 use pnm_write::SinkFault;
 use std::alloc::Global;
@@ -23,6 +23,8 @@ const SECOND_PLAIN: Result<Summary, RunFault> = Err(RunFault::Output(SinkFault::
 const PLAIN_PAM: Result<Summary, RunFault> = Err(RunFault::Output(SinkFault::PlainPam));
 
 const FAILED: Result<Summary, RunFault> = Err(RunFault::Output(SinkFault::WriteFailed));
+
+const READ_FAILED: Result<Summary, RunFault> = Err(RunFault::Input(InputFault::ReadFailed));
 
 /// A chain, an input, and what the run answers and writes.
 type Run<'a> = (&'a str, &'a [u8], Outcome<'a>);
@@ -221,6 +223,45 @@ fn answers_failed_writes(rt: HostRuntime) {
         let taking_none = Written { most: 0, ..run };
         writes(&rt, alloc, way, taking_none, (FAILED, b""));
         writes(&rt, alloc, way, run, (ONE_ROW, COLOR_INVERTED));
+    }
+}
+
+/// A run of `pnminvert` over the image in color, with a reader that gives a byte a read and fails after so many.
+fn reads<H: Threads + Wait + Abort + Sync>(rt: &H, alloc: Global, way: Way, before: usize) {
+    let mut reader = Device::new(Drips::new(COLOR, 1, FailsOnce::after(before)));
+    let mut writer = Device::new(Vec::new(alloc));
+    let answer = make_by(
+        rt,
+        alloc,
+        way,
+        &mut reader,
+        &mut writer,
+        &[Tool::Invert],
+        Form::Plain,
+    );
+    // The header is due once it is whole, and the row once that is.
+    let due = match before {
+        0..=10 => 0,
+        11..=13 => 11,
+        _ => COLOR_INVERTED.len(),
+    };
+    let want = if before <= COLOR.len() {
+        READ_FAILED
+    } else {
+        ONE_ROW
+    };
+    let written = writer.into_inner();
+    let given = (answer, written.as_slice());
+    agrees(rt, given, (want, &COLOR_INVERTED[..due]), &(way, before));
+}
+
+/// A read for each byte, and one that finds the end, of which one fails: what was due for the bytes before it is written.
+#[test]
+fn answers_failed_reads(rt: HostRuntime) {
+    for way in WAYS {
+        for before in 0..COLOR.len() + 2 {
+            reads(&rt, rt.alloc(), way, before);
+        }
     }
 }
 
