@@ -17,6 +17,8 @@ use Rattle.pnm_chain.specs.Options.{tool_named}
 use Rattle.pnm_chain.specs.Items.{items_of, meant_by}
 use Rattle.pnm_chain.specs.ChainText.{SpellsTool, SpellTools, SpellsChain, stage_texts, named_fault, words_fault, stage_fault, fault_from, whole, chain_fault_of, IsOneChainOrOneFault}
 use Rattle.pnm_chain.proofs.ItemLaws.{items_mean, meaning_has_no_fault}
+use Rattle.pnm_chain.specs.declared.chain_text.TheConstants.{MAX_TEXT_LENGTH}
+use Rattle.pnm_tools.specs.declared.limits.TheConstants.{MAX_TOOLS}
 
 -- ---- a stage
 
@@ -145,7 +147,7 @@ chain_fault_by long blank many others =
     else if many then Some (whole TooMany)
     else others
 
-pub chain_fault_is : (text : List ℕ) → chain_fault_of text ≡ chain_fault_by (nat_lt 4096 (length text)) (list_all is_white text) (nat_lt 16 (length (stage_texts text))) (fault_from 1 (stage_texts text))
+pub chain_fault_is : (text : List ℕ) → chain_fault_of text ≡ chain_fault_by (nat_lt MAX_TEXT_LENGTH (length text)) (list_all is_white text) (nat_lt MAX_TOOLS (length (stage_texts text))) (fault_from 1 (stage_texts text))
 unfolding chain_fault_of
 chain_fault_is text = refl
 
@@ -166,16 +168,16 @@ chain_fits long blank many others h = rw (h.short, h.not_blank, h.not_many) h.no
 
 pub chain_spelled : (text : List ℕ) → chain_fault_of text ≡ None → (tools : List Tool) × SpellsChain text tools
 chain_spelled text e =
-    let free = chain_free (nat_lt 4096 (length text)) (list_all is_white text) (nat_lt 16 (length (stage_texts text))) (fault_from 1 (stage_texts text)) (sym (chain_fault_is text) ∙ e) in
+    let free = chain_free (nat_lt MAX_TEXT_LENGTH (length text)) (list_all is_white text) (nat_lt MAX_TOOLS (length (stage_texts text))) (fault_from 1 (stage_texts text)) (sym (chain_fault_is text) ∙ e) in
     let found = stages_spell 1 (stage_texts text) free.no_fault in
-    (found.0, record { short = ltb-false 4096 (length text) free.short; not_many = ltb-false 16 (length (stage_texts text)) free.not_many; spelled = found.1 })
+    (found.0, record { short = ltb-false MAX_TEXT_LENGTH (length text) free.short; not_many = ltb-false MAX_TOOLS (length (stage_texts text)) free.not_many; spelled = found.1 })
 
 pub spelled_chain_has_no_fault : (text : List ℕ) (tools : List Tool) → SpellsChain text tools → chain_fault_of text ≡ None
 spelled_chain_has_no_fault text tools h =
-    chain_fault_is text ∙ chain_fits (nat_lt 4096 (length text)) (list_all is_white text) (nat_lt 16 (length (stage_texts text))) (fault_from 1 (stage_texts text)) (record {
-      short = le-ltb 4096 (length text) h.short;
+    chain_fault_is text ∙ chain_fits (nat_lt MAX_TEXT_LENGTH (length text)) (list_all is_white text) (nat_lt MAX_TOOLS (length (stage_texts text))) (fault_from 1 (stage_texts text)) (record {
+      short = le-ltb MAX_TEXT_LENGTH (length text) h.short;
       not_blank = false_from_ne_true (list_all is_white text) (λ blank. blank_spells_nothing text tools blank h.spelled);
-      not_many = le-ltb 16 (length (stage_texts text)) h.not_many;
+      not_many = le-ltb MAX_TOOLS (length (stage_texts text)) h.not_many;
       no_fault = spelled_have_no_fault 1 (stage_texts text) tools h.spelled;
     })
 

@@ -14,6 +14,8 @@ use Rattle.pnm_chain.specs.Items.{Item, Argument, Given, Unknown, items_of, argu
 use Rattle.pnm_chain.specs.ChainText.{stage_texts, named_fault, words_fault, stage_fault, fault_from, chain_fault_of, is_of_stage, IsPlaced}
 use Rattle.pnm_chain.proofs.ItemLaws.{argument_by, option_by, value_by, missing_by, end_by, after_by, fault_after-cons, fault_after-nil}
 use Rattle.pnm_chain.proofs.ChainLaws.{from_by, fault_from-cons, fault_from-nil, chain_fault_by, chain_fault_is}
+use Rattle.pnm_chain.specs.declared.chain_text.TheConstants.{MAX_TEXT_LENGTH}
+use Rattle.pnm_tools.specs.declared.limits.TheConstants.{MAX_TOOLS}
 
 -- ---- kinds of a stage's faults
 
@@ -100,11 +102,11 @@ empty_is_no_memory e = absurd cc
 too_many_is_no_memory : TooMany ≢ Memory
 too_many_is_no_memory e = absurd cc
 
-placed_within : (count : ℕ) (fault : Option ChainFault) → count ≤ 16 → IsWithin 1 count fault → IfSome fault IsPlaced
+placed_within : (count : ℕ) (fault : Option ChainFault) → count ≤ MAX_TOOLS → IsWithin 1 count fault → IfSome fault IsPlaced
 placed_within count None few h = cc
 placed_within count (Some fault) few h = inl (h.0, h.1, omega arith)
 
-placed_by : (long blank many : Bool) (count : ℕ) (others : Option ChainFault) → (many ≡ false → count ≤ 16) → IsWithin 1 count others → IfSome (chain_fault_by long blank many others) IsPlaced
+placed_by : (long blank many : Bool) (count : ℕ) (others : Option ChainFault) → (many ≡ false → count ≤ MAX_TOOLS) → IsWithin 1 count others → IfSome (chain_fault_by long blank many others) IsPlaced
 placed_by true blank many count others few h = inr (refl, too_long_is_no_memory, refl)
 placed_by false true many count others few h = inr (refl, empty_is_no_memory, refl)
 placed_by false false true count others few h = inr (refl, too_many_is_no_memory, refl)
@@ -113,8 +115,8 @@ placed_by false false false count others few h = placed_within count others (few
 placed : (text : List ℕ) → IfSome (chain_fault_of text) IsPlaced
 placed text =
     subst (λ (fault : Option ChainFault). IfSome fault IsPlaced) (sym (chain_fault_is text))
-    (placed_by (nat_lt 4096 (length text)) (list_all is_white text) (nat_lt 16 (length (stage_texts text))) (length (stage_texts text)) (fault_from 1 (stage_texts text))
-    (λ e. ltb-false 16 (length (stage_texts text)) e) (of_stages 1 (stage_texts text)))
+    (placed_by (nat_lt MAX_TEXT_LENGTH (length text)) (list_all is_white text) (nat_lt MAX_TOOLS (length (stage_texts text))) (length (stage_texts text)) (fault_from 1 (stage_texts text))
+    (λ e. ltb-false MAX_TOOLS (length (stage_texts text)) e) (of_stages 1 (stage_texts text)))
 
 pub chain_faults_are_placed : (text : List ℕ) (fault : ChainFault) → chain_fault_of text ≡ Some fault → IsPlaced fault
 chain_faults_are_placed text fault e = subst (λ (f : Option ChainFault). IfSome f IsPlaced) e (placed text)

@@ -23,6 +23,7 @@ use Rattle.pnm_chain.specs.declared.options.ToolOption.TheVariants.{Left, Right,
 use Rattle.pnm_chain.specs.Options.{option_named, wants_value, takes_value, slot_of, excludes, takes_argument, most_arguments, is_numeral, spells_number, spells_offset, offset_value, begins_with_dash, without_dash}
 use Rattle.pnm_chain.specs.Items.{Item, Argument, Given, Unknown, without_dashes, name_in, value_in, takes_next, given_as, item_of, items_of, arguments_of, value_of, is_there, factor_by, meant_by, IsFormed, is_conflict, is_missing}
 use Rattle.pnm_chain.specs.ChainText.{SpellsTool, SpellTools, SpellsChain, stage_texts}
+use Rattle.pnm_tools.specs.declared.limits.TheConstants.{MAX_EXTENT, MAX_TOOLS}
 
 -- ---- options that are the same
 
@@ -114,9 +115,9 @@ offset_by (b ∷ word) = offset_by_dash (b == 45) b word
 
 edge_in_range : (word : List ℕ) → spells_offset word ≡ true → IsEdge (offset_value word)
 edge_in_range word e =
-    let range = in_range 0 16777216 (without_dash word) e in
+    let range = in_range 0 MAX_EXTENT (without_dash word) e in
     let size : unsigned_abs (offset_value word) ≡ decimal_value (without_dash word) = ap (λ (z : ℤ). unsigned_abs z) (offset_by word) ∙ abs_offset (begins_with_dash word) (decimal_value (without_dash word)) in
-    subst (λ (n : ℕ). n ≤ 16777216) (sym size) range.1
+    subst (λ (n : ℕ). n ≤ MAX_EXTENT) (sym size) range.1
 
 -- ---- pamcut
 
@@ -124,9 +125,9 @@ some_edge : (o : Option (List ℕ)) → IfSome o (λ word. spells_offset word �
 some_edge None h = h
 some_edge (Some word) h = edge_in_range word h
 
-some_size : (o : Option (List ℕ)) → IfSome o (λ word. spells_number 1 16777216 word ≡ true) → IfSome (option_map decimal_value o) IsExtent
+some_size : (o : Option (List ℕ)) → IfSome o (λ word. spells_number 1 MAX_EXTENT word ≡ true) → IfSome (option_map decimal_value o) IsExtent
 some_size None h = h
-some_size (Some word) h = in_range 1 16777216 word h
+some_size (Some word) h = in_range 1 MAX_EXTENT word h
 
 not_three : (start end size : Option (List ℕ)) → (is_some start && (is_some end && is_some size)) ≡ false → IsSome (option_map offset_value start) × IsSome (option_map offset_value end) × IsSome (option_map decimal_value size) → ⊥
 not_three None end size e h = false≢true h.0
@@ -134,7 +135,7 @@ not_three (Some start) None size e h = false≢true h.1
 not_three (Some start) (Some end) None e h = false≢true h.2
 not_three (Some start) (Some end) (Some size) e h = absurd cc
 
-axis : (start end size : Option (List ℕ)) → IfSome start (λ word. spells_offset word ≡ true) → IfSome end (λ word. spells_offset word ≡ true) → IfSome size (λ word. spells_number 1 16777216 word ≡ true)
+axis : (start end size : Option (List ℕ)) → IfSome start (λ word. spells_offset word ≡ true) → IfSome end (λ word. spells_offset word ≡ true) → IfSome size (λ word. spells_number 1 MAX_EXTENT word ≡ true)
     → (is_some start && (is_some end && is_some size)) ≡ false → IsLawfulAxis (option_map offset_value start) (option_map offset_value end) (option_map decimal_value size)
 axis start end size s e z three = record { start_edge = some_edge start s; end_edge = some_edge end e; one_size = some_size size z; one_free = λ h. not_three start end size three h }
 
@@ -145,29 +146,29 @@ first_in_range : (least most : ℕ) (args : List (List ℕ)) → AllByRecursion 
 first_in_range least most [] all e = absurd cc
 first_in_range least most (word ∷ args) all e = in_range least most word all.0
 
-first_of_two : (args : List (List ℕ)) → AllByRecursion (λ word. spells_number 1 16777216 word ≡ true) args → nat_lt (length args) 2 ≡ false
-    → (1 ≤ slice_index_or (map decimal_value args) 0 0) × (slice_index_or (map decimal_value args) 0 0 ≤ 16777216)
+first_of_two : (args : List (List ℕ)) → AllByRecursion (λ word. spells_number 1 MAX_EXTENT word ≡ true) args → nat_lt (length args) 2 ≡ false
+    → (1 ≤ slice_index_or (map decimal_value args) 0 0) × (slice_index_or (map decimal_value args) 0 0 ≤ MAX_EXTENT)
 first_of_two [] all e = absurd cc
-first_of_two (word ∷ args) all e = in_range 1 16777216 word all.0
+first_of_two (word ∷ args) all e = in_range 1 MAX_EXTENT word all.0
 
-second_of_two : (args : List (List ℕ)) → AllByRecursion (λ word. spells_number 1 16777216 word ≡ true) args → nat_lt (length args) 2 ≡ false
-    → (1 ≤ slice_index_or (map decimal_value args) 1 0) × (slice_index_or (map decimal_value args) 1 0 ≤ 16777216)
+second_of_two : (args : List (List ℕ)) → AllByRecursion (λ word. spells_number 1 MAX_EXTENT word ≡ true) args → nat_lt (length args) 2 ≡ false
+    → (1 ≤ slice_index_or (map decimal_value args) 1 0) × (slice_index_or (map decimal_value args) 1 0 ≤ MAX_EXTENT)
 second_of_two [] all e = absurd cc
 second_of_two (word ∷ []) all e = absurd cc
-second_of_two (word ∷ other ∷ args) all e = in_range 1 16777216 other all.1.0
+second_of_two (word ∷ other ∷ args) all e = in_range 1 MAX_EXTENT other all.1.0
 
 planes_in_range : (args : List (List ℕ)) → AllByRecursion (λ word. spells_number 0 255 word ≡ true) args → All (λ number. number ≤ 255) (map decimal_value args)
 planes_in_range [] all = All-nil (λ number. number ≤ 255)
 planes_in_range (word ∷ args) all = All-cons (λ number. number ≤ 255) (decimal_value word) (map decimal_value args) (in_range 0 255 word all.0).1 (planes_in_range args all.1)
 
-scale_in_range : (scale : Option (List ℕ)) → IfSome scale (λ word. spells_number 1 16777216 word ≡ true) → (1 ≤ unwrap_or (option_map decimal_value scale) 1) × (unwrap_or (option_map decimal_value scale) 1 ≤ 16777216)
+scale_in_range : (scale : Option (List ℕ)) → IfSome scale (λ word. spells_number 1 MAX_EXTENT word ≡ true) → (1 ≤ unwrap_or (option_map decimal_value scale) 1) × (unwrap_or (option_map decimal_value scale) 1 ≤ MAX_EXTENT)
 scale_in_range None h = (omega arith, omega arith)
-scale_in_range (Some word) h = in_range 1 16777216 word h
+scale_in_range (Some word) h = in_range 1 MAX_EXTENT word h
 
-factor_in_range : (args : List (List ℕ)) (scale : Option (List ℕ)) → AllByRecursion (λ word. spells_number 1 16777216 word ≡ true) args → IfSome scale (λ word. spells_number 1 16777216 word ≡ true)
-    → (1 ≤ factor_by (map decimal_value args) (option_map decimal_value scale)) × (factor_by (map decimal_value args) (option_map decimal_value scale) ≤ 16777216)
+factor_in_range : (args : List (List ℕ)) (scale : Option (List ℕ)) → AllByRecursion (λ word. spells_number 1 MAX_EXTENT word ≡ true) args → IfSome scale (λ word. spells_number 1 MAX_EXTENT word ≡ true)
+    → (1 ≤ factor_by (map decimal_value args) (option_map decimal_value scale)) × (factor_by (map decimal_value args) (option_map decimal_value scale) ≤ MAX_EXTENT)
 factor_in_range [] scale all h = scale_in_range scale h
-factor_in_range (word ∷ args) scale all h = in_range 1 16777216 word all.0
+factor_in_range (word ∷ args) scale all h = in_range 1 MAX_EXTENT word all.0
 
 -- ---- words and values without white space
 
@@ -347,6 +348,6 @@ spelled_chain_is_lawful text tools h =
     let parts = length-slice_split (λ b. b == 124) text in
     record {
       some = subst (λ (n : ℕ). 1 ≤ n) (sym (count ∙ parts)) (omega arith);
-      not_many = subst (λ (n : ℕ). n ≤ 16) (sym count) h.not_many;
+      not_many = subst (λ (n : ℕ). n ≤ MAX_TOOLS) (sym count) h.not_many;
       lawful = spelled_are_lawful (stage_texts text) tools h.spelled;
     }

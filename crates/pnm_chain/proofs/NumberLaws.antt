@@ -16,6 +16,7 @@ use Rattle.std.proofs.lemmas.Str.Parse.{IsDigitsTest, IsNumeralModel, numerals_b
 use Rattle.pnm_image.specs.Texts.{is_digit, decimal_value}
 use Rattle.pnm_chain.specs.Options.{begins_with_dash, is_numeral, offset_value, spells_number, spells_offset, without_dash}
 use Rattle.pnm_chain.proofs.LawfulLaws.{in_range as spelled_in_range}
+use Rattle.pnm_tools.specs.declared.limits.TheConstants.{MAX_EXTENT}
 
 abbrev AreDigits : List ℕ → Type 0
 AreDigits word = list_all is_digit word ≡ true
@@ -105,22 +106,22 @@ parse_is_spelled word text r plus same h = read_is_spelled word r (parse_plain m
 
 -- ---- an offset counted from the other side
 
-negated : (n : ℕ) → n ≤ 16777216 → to_z w32 (of_z w32 (pos 0 -ℤ to_z w32 n)) ≡ neg_ℤ (pos n)
+negated : (n : ℕ) → n ≤ MAX_EXTENT → to_z w32 (of_z w32 (pos 0 -ℤ to_z w32 n)) ≡ neg_ℤ (pos n)
 negated n low = grind (arith, ints)
 
-negated_by : (spells : Bool) (n m : ℕ) → (spells ≡ true → m ≤ 16777216) → Some n ≡ (if spells then Some m else None) → Some (to_z w32 (of_z w32 (pos 0 -ℤ to_z w32 n))) ≡ (if spells then Some (neg_ℤ (pos m)) else None)
+negated_by : (spells : Bool) (n m : ℕ) → (spells ≡ true → m ≤ MAX_EXTENT) → Some n ≡ (if spells then Some m else None) → Some (to_z w32 (of_z w32 (pos 0 -ℤ to_z w32 n))) ≡ (if spells then Some (neg_ℤ (pos m)) else None)
 negated_by true n m low e = ap (λ (k : ℕ). Some (to_z w32 (of_z w32 (pos 0 -ℤ to_z w32 k)))) (same_Some n m e) ∙ ap (λ (z : ℤ). Some z) (negated m (low refl))
 negated_by false n m low e = absurd cc
 
-dashed_by : (word digits : List ℕ) (n : ℕ) → begins_with_dash word ≡ true → digits ≡ without_dash word → Some n ≡ (if spells_number 0 16777216 digits then Some (decimal_value digits) else None) → Some (to_z w32 (of_z w32 (pos 0 -ℤ to_z w32 n))) ≡ (if spells_offset word then Some (offset_value word) else None)
+dashed_by : (word digits : List ℕ) (n : ℕ) → begins_with_dash word ≡ true → digits ≡ without_dash word → Some n ≡ (if spells_number 0 MAX_EXTENT digits then Some (decimal_value digits) else None) → Some (to_z w32 (of_z w32 (pos 0 -ℤ to_z w32 n))) ≡ (if spells_offset word then Some (offset_value word) else None)
 dashed_by word digits n dash same e =
-    negated_by (spells_number 0 16777216 digits) n (decimal_value digits) (λ t. (spelled_in_range 0 16777216 digits t).1) e
-    ∙ ap (λ (ds : List ℕ). if spells_number 0 16777216 ds then Some (neg_ℤ (pos (decimal_value ds))) else None) same
+    negated_by (spells_number 0 MAX_EXTENT digits) n (decimal_value digits) (λ t. (spelled_in_range 0 MAX_EXTENT digits t).1) e
+    ∙ ap (λ (ds : List ℕ). if spells_number 0 MAX_EXTENT ds then Some (neg_ℤ (pos (decimal_value ds))) else None) same
     ∙ ap (λ (z : ℤ). if spells_offset word then Some z else None) (sym (cond-true (begins_with_dash word) (neg_ℤ (pos (decimal_value (without_dash word)))) (pos (decimal_value word)) dash))
 
 after_dash : (b : ℕ) (word : List ℕ) → b ≡ 45 → take (length (b ∷ word) - 1) word ≡ without_dash (b ∷ word)
 after_dash b word e = take_all (length (b ∷ word) - 1) word (omega arith) ∙ sym (cond-true (b == 45) word (b ∷ word) (eq-eqb b 45 e))
 
-pub dashed : (word : List ℕ) (n : ℕ) → 0 < length word → get_or word 0 0 ≡ 45 → Some n ≡ (if spells_number 0 16777216 (take (length word - 1) (drop 1 word)) then Some (decimal_value (take (length word - 1) (drop 1 word))) else None) → Some (to_z w32 (of_z w32 (pos 0 -ℤ to_z w32 n))) ≡ (if spells_offset word then Some (offset_value word) else None)
+pub dashed : (word : List ℕ) (n : ℕ) → 0 < length word → get_or word 0 0 ≡ 45 → Some n ≡ (if spells_number 0 MAX_EXTENT (take (length word - 1) (drop 1 word)) then Some (decimal_value (take (length word - 1) (drop 1 word))) else None) → Some (to_z w32 (of_z w32 (pos 0 -ℤ to_z w32 n))) ≡ (if spells_offset word then Some (offset_value word) else None)
 dashed [] n some dash e = absurd (omega arith)
 dashed (b ∷ word) n some dash e = dashed_by (b ∷ word) (take (length (b ∷ word) - 1) word) n (eq-eqb b 45 dash) (after_dash b word dash) e

@@ -16,6 +16,8 @@ use Rattle.pnm_chain.specs.declared.chain_text.ChainKind.TheVariants.{Empty, Too
 use Rattle.pnm_chain.specs.ChainText.{SpellsTool, SpellTools, SpellsChain, stage_texts, stage_fault, fault_from, whole, chain_fault_of}
 use Rattle.pnm_chain.specs.Settings.{AreRead}
 use Rattle.pnm_chain.proofs.ChainLaws.{no_words, from_by, fault_from-cons, chain_fault_by, chain_fault_is}
+use Rattle.pnm_chain.specs.declared.chain_text.TheConstants.{MAX_TEXT_LENGTH}
+use Rattle.pnm_tools.specs.declared.limits.TheConstants.{MAX_TOOLS}
 
 -- ---- stages
 
@@ -78,12 +80,12 @@ by_tests : (long blank many : Bool) (others : Option ChainFault) → long ≡ fa
 by_tests long blank many others e f g = rw (e, f, g) refl
 
 -- a text that isn't too long, nor white space alone, nor of too many stages, is judged by its stages
-pub by_stages : (text : List ℕ) → length text ≤ 4096 → list_all is_white text ≡ false → length (stage_texts text) ≤ 16 → chain_fault_of text ≡ fault_from 1 (stage_texts text)
+pub by_stages : (text : List ℕ) → length text ≤ MAX_TEXT_LENGTH → list_all is_white text ≡ false → length (stage_texts text) ≤ MAX_TOOLS → chain_fault_of text ≡ fault_from 1 (stage_texts text)
 by_stages text short black few =
-    chain_fault_is text ∙ by_tests (nat_lt 4096 (length text)) (list_all is_white text) (nat_lt 16 (length (stage_texts text))) (fault_from 1 (stage_texts text))
-    (le-ltb 4096 (length text) short) black (le-ltb 16 (length (stage_texts text)) few)
+    chain_fault_is text ∙ by_tests (nat_lt MAX_TEXT_LENGTH (length text)) (list_all is_white text) (nat_lt MAX_TOOLS (length (stage_texts text))) (fault_from 1 (stage_texts text))
+    (le-ltb MAX_TEXT_LENGTH (length text) short) black (le-ltb MAX_TOOLS (length (stage_texts text)) few)
 
-pub stage_at_fault : (text : List ℕ) (n count : ℕ) (tools : List Tool) (stage bytes : List ℕ) (fault : ChainFault) → length text ≤ 4096 → list_all is_white text ≡ false → length (stage_texts text) ≤ 16
+pub stage_at_fault : (text : List ℕ) (n count : ℕ) (tools : List Tool) (stage bytes : List ℕ) (fault : ChainFault) → length text ≤ MAX_TEXT_LENGTH → list_all is_white text ≡ false → length (stage_texts text) ≤ MAX_TOOLS
     → AreRead (stage_texts text) n tools → (n < length (stage_texts text)) × (stage ≡ get_or (stage_texts text) n stage) → count ≡ n → bytes ≡ stage
     → (fault ≡ whole Memory) ⊎ ((stage_fault bytes ≡ Some fault.kind) × (fault.stage ≡ count + 1)) → (fault ≡ whole Memory) ⊎ (chain_fault_of text ≡ Some fault)
 stage_at_fault text n count tools stage bytes fault short black few h at same equal (inl memory) = inl memory
@@ -92,29 +94,29 @@ stage_at_fault text n count tools stage bytes fault short black few h at same eq
     let placed : fault.stage ≡ n + 1 = is.1 ∙ ap (λ (k : ℕ). k + 1) same in
     inr (by_stages text short black few ∙ numbered (stage_texts text) n tools stage fault.kind h at of_stage ∙ ap (λ (k : ℕ). Some (record { stage = k; kind = fault.kind })) (sym placed))
 
-pub chain_read : (text : List ℕ) (n : ℕ) (tools : List Tool) → length text ≤ 4096 → length (stage_texts text) ≤ 16 → AreRead (stage_texts text) n tools → n ≡ length (stage_texts text) → SpellsChain text tools
+pub chain_read : (text : List ℕ) (n : ℕ) (tools : List Tool) → length text ≤ MAX_TEXT_LENGTH → length (stage_texts text) ≤ MAX_TOOLS → AreRead (stage_texts text) n tools → n ≡ length (stage_texts text) → SpellsChain text tools
 chain_read text n tools short few h all =
     let parts : take n (stage_texts text) ≡ stage_texts text = ap (λ (k : ℕ). take k (stage_texts text)) all ∙ take-length (stage_texts text) in
     record { short = short; not_many = few; spelled = subst (λ (l : List (List ℕ)). SpellTools l tools) parts h.spelled }
 
 -- ---- faults of the whole text
 
-pub too_long : (text : List ℕ) → 4096 < length text → chain_fault_of text ≡ Some (whole TooLong)
+pub too_long : (text : List ℕ) → MAX_TEXT_LENGTH < length text → chain_fault_of text ≡ Some (whole TooLong)
 too_long text long =
-    chain_fault_is text ∙ ap (λ (b : Bool). chain_fault_by b (list_all is_white text) (nat_lt 16 (length (stage_texts text))) (fault_from 1 (stage_texts text))) (lt-ltb 4096 (length text) long)
+    chain_fault_is text ∙ ap (λ (b : Bool). chain_fault_by b (list_all is_white text) (nat_lt MAX_TOOLS (length (stage_texts text))) (fault_from 1 (stage_texts text))) (lt-ltb MAX_TEXT_LENGTH (length text) long)
 
-pub no_words_at_all : (text : List ℕ) → length text ≤ 4096 → list_all is_white text ≡ true → chain_fault_of text ≡ Some (whole Empty)
+pub no_words_at_all : (text : List ℕ) → length text ≤ MAX_TEXT_LENGTH → list_all is_white text ≡ true → chain_fault_of text ≡ Some (whole Empty)
 no_words_at_all text short blank =
     chain_fault_is text
-    ∙ ap (λ (b : Bool). chain_fault_by b (list_all is_white text) (nat_lt 16 (length (stage_texts text))) (fault_from 1 (stage_texts text))) (le-ltb 4096 (length text) short)
-    ∙ ap (λ (b : Bool). chain_fault_by false b (nat_lt 16 (length (stage_texts text))) (fault_from 1 (stage_texts text))) blank
+    ∙ ap (λ (b : Bool). chain_fault_by b (list_all is_white text) (nat_lt MAX_TOOLS (length (stage_texts text))) (fault_from 1 (stage_texts text))) (le-ltb MAX_TEXT_LENGTH (length text) short)
+    ∙ ap (λ (b : Bool). chain_fault_by false b (nat_lt MAX_TOOLS (length (stage_texts text))) (fault_from 1 (stage_texts text))) blank
 
-pub too_many : (text : List ℕ) → length text ≤ 4096 → list_all is_white text ≡ false → 16 < length (stage_texts text) → chain_fault_of text ≡ Some (whole TooMany)
+pub too_many : (text : List ℕ) → length text ≤ MAX_TEXT_LENGTH → list_all is_white text ≡ false → MAX_TOOLS < length (stage_texts text) → chain_fault_of text ≡ Some (whole TooMany)
 too_many text short black many =
     chain_fault_is text
-    ∙ ap (λ (b : Bool). chain_fault_by b (list_all is_white text) (nat_lt 16 (length (stage_texts text))) (fault_from 1 (stage_texts text))) (le-ltb 4096 (length text) short)
-    ∙ ap (λ (b : Bool). chain_fault_by false b (nat_lt 16 (length (stage_texts text))) (fault_from 1 (stage_texts text))) black
-    ∙ ap (λ (b : Bool). chain_fault_by false false b (fault_from 1 (stage_texts text))) (lt-ltb 16 (length (stage_texts text)) many)
+    ∙ ap (λ (b : Bool). chain_fault_by b (list_all is_white text) (nat_lt MAX_TOOLS (length (stage_texts text))) (fault_from 1 (stage_texts text))) (le-ltb MAX_TEXT_LENGTH (length text) short)
+    ∙ ap (λ (b : Bool). chain_fault_by false b (nat_lt MAX_TOOLS (length (stage_texts text))) (fault_from 1 (stage_texts text))) black
+    ∙ ap (λ (b : Bool). chain_fault_by false false b (fault_from 1 (stage_texts text))) (lt-ltb MAX_TOOLS (length (stage_texts text)) many)
 
 -- ---- what is known of a text whose first word was looked for
 
@@ -128,8 +130,8 @@ pub word_found : (text bytes : List ℕ) (found : Option (Bor (List ℕ) × Bor 
 word_found text bytes None same first some = absurd cc
 word_found text bytes (Some r) same first some = has_words text (λ none. not_nil r.0.now (words r.1.now) (sym first ∙ ap (λ (b : List ℕ). words b) same ∙ none))
 
-pub few_stages : (text bytes : List ℕ) (bars : ℕ) → bytes ≡ text → bars + 1 ≡ length (stage_texts bytes) → bars < 16 → length (stage_texts text) ≤ 16
-few_stages text bytes bars same count few = subst (λ (n : ℕ). n ≤ 16) (count ∙ ap (λ (b : List ℕ). length (stage_texts b)) same) (omega arith)
+pub few_stages : (text bytes : List ℕ) (bars : ℕ) → bytes ≡ text → bars + 1 ≡ length (stage_texts bytes) → bars < MAX_TOOLS → length (stage_texts text) ≤ MAX_TOOLS
+few_stages text bytes bars same count few = subst (λ (n : ℕ). n ≤ MAX_TOOLS) (count ∙ ap (λ (b : List ℕ). length (stage_texts b)) same) (omega arith)
 
-pub many_stages : (text bytes : List ℕ) (bars : ℕ) → bytes ≡ text → bars + 1 ≡ length (stage_texts bytes) → 16 ≤ bars → 16 < length (stage_texts text)
-many_stages text bytes bars same count many = subst (λ (n : ℕ). 16 < n) (count ∙ ap (λ (b : List ℕ). length (stage_texts b)) same) (omega arith)
+pub many_stages : (text bytes : List ℕ) (bars : ℕ) → bytes ≡ text → bars + 1 ≡ length (stage_texts bytes) → MAX_TOOLS ≤ bars → MAX_TOOLS < length (stage_texts text)
+many_stages text bytes bars same count many = subst (λ (n : ℕ). MAX_TOOLS < n) (count ∙ ap (λ (b : List ℕ). length (stage_texts b)) same) (omega arith)

@@ -1,7 +1,8 @@
 -- The text of a chain: which texts spell which tools, and what is wrong with every other text.
 use Rattle.std.specs.Prelude.{◌≡◌, ◌≢◌, ◌≤◌, ◌↔◌, ◌⊎◌, ℕ, suc, Bool, true, false, nat_lt, ◌==◌, if◌then◌else◌, Option, Some, None, List, [], ◌∷◌, length}
 use Rattle.std.specs.List.{slice_split, list_all}
-use Rattle.pnm_image.specs.Limits.{max_tools}
+use Rattle.pnm_chain.specs.declared.chain_text.TheConstants.{MAX_TEXT_LENGTH}
+use Rattle.pnm_tools.specs.declared.limits.TheConstants.{MAX_TOOLS}
 use Rattle.pnm_image.specs.Texts.{is_white, words}
 use Rattle.pnm_tools.specs.declared.tool.Tool.{Tool}
 use Rattle.pnm_chain.specs.declared.chain_text.ChainFault.{ChainFault}
@@ -34,8 +35,8 @@ SpellTools (text ∷ texts) [] = ⊥
 SpellTools (text ∷ texts) (tool ∷ tools) = SpellsTool text tool × SpellTools texts tools
 
 pub record SpellsChain (text : List ℕ) (tools : List Tool) : Type 0 where
-  pub short : length text ≤ 4096
-  pub not_many : length (stage_texts text) ≤ max_tools
+  pub short : length text ≤ MAX_TEXT_LENGTH
+  pub not_many : length (stage_texts text) ≤ MAX_TOOLS
   pub spelled : SpellTools (stage_texts text) tools
 
 -- ---- faults
@@ -70,9 +71,9 @@ whole kind = record { stage = 0; kind = kind }
 
 unfoldable pub chain_fault_of : List ℕ → Option ChainFault
 chain_fault_of text =
-    if nat_lt 4096 (length text) then Some (whole TooLong)
+    if nat_lt MAX_TEXT_LENGTH (length text) then Some (whole TooLong)
     else if list_all is_white text then Some (whole Empty)
-    else if nat_lt max_tools (length (stage_texts text)) then Some (whole TooMany)
+    else if nat_lt MAX_TOOLS (length (stage_texts text)) then Some (whole TooMany)
     else fault_from 1 (stage_texts text)
 
 -- ---- each text is a chain or has a fault
@@ -100,7 +101,7 @@ is_of_stage ExtraArgument = true
 is_of_stage Memory = false
 
 abbrev pub IsPlaced : ChainFault → Type 0
-IsPlaced fault = ((is_of_stage fault.kind ≡ true) × (1 ≤ fault.stage) × (fault.stage ≤ max_tools)) ⊎ ((is_of_stage fault.kind ≡ false) × (fault.kind ≢ Memory) × (fault.stage ≡ 0))
+IsPlaced fault = ((is_of_stage fault.kind ≡ true) × (1 ≤ fault.stage) × (fault.stage ≤ MAX_TOOLS)) ⊎ ((is_of_stage fault.kind ≡ false) × (fault.kind ≢ Memory) × (fault.stage ≡ 0))
 
 abbrev pub ChainFaultsArePlaced : Type 0
 ChainFaultsArePlaced = (text : List ℕ) (fault : ChainFault) → chain_fault_of text ≡ Some fault → IsPlaced fault

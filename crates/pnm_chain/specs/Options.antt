@@ -4,7 +4,8 @@ use Rattle.std.specs.Prelude.{ℕ, Bool, false, not, ◌==◌, ◌&&◌, ◌-◌
 use Rattle.std.specs.List.{list_all}
 use Rattle.std.specs.Option.{option_or}
 use Rattle.std.specs.Str.{bytes_eq}
-use Rattle.pnm_image.specs.Limits.{max_depth, max_extent, max_maxval, max_tuple_type_length}
+use Rattle.pnm_image.specs.declared.limits.TheConstants.{MAX_DEPTH, MAX_MAXVAL, MAX_TUPLE_TYPE_LENGTH}
+use Rattle.pnm_tools.specs.declared.limits.TheConstants.{MAX_EXTENT}
 use Rattle.pnm_image.specs.Texts.{is_digit, decimal_value}
 use Rattle.pnm_tools.specs.declared.flip.FlipWay.{FlipWay}
 use Rattle.pnm_tools.specs.declared.flip.FlipWay.TheVariants.{Null, LeftRight, TopBottom, Transpose, Rotate90, Rotate180, Rotate270}
@@ -75,14 +76,14 @@ abbrev pub spells_number : ℕ → ℕ → List ℕ → Bool
 spells_number least most word = is_numeral word && (nat_le least (decimal_value word) && nat_le (decimal_value word) most)
 
 abbrev pub spells_maxval : List ℕ → Bool
-spells_maxval word = spells_number 1 max_maxval word
+spells_maxval word = spells_number 1 MAX_MAXVAL word
 
 abbrev pub spells_plane : List ℕ → Bool
-spells_plane word = spells_number 0 (max_depth - 1) word
+spells_plane word = spells_number 0 (MAX_DEPTH - 1) word
 
 -- a width, a height, a factor, or columns or rows to fill
 abbrev pub spells_extent : List ℕ → Bool
-spells_extent word = spells_number 1 max_extent word
+spells_extent word = spells_number 1 MAX_EXTENT word
 
 -- a dash, 45, begins an option's word, and may begin an offset
 abbrev pub begins_with_dash : List ℕ → Bool
@@ -96,7 +97,7 @@ without_dash (b ∷ word) = if b == 45 then word else b ∷ word
 
 -- an offset may have one dash before its number
 abbrev pub spells_offset : List ℕ → Bool
-spells_offset word = spells_number 0 max_extent (without_dash word)
+spells_offset word = spells_number 0 MAX_EXTENT (without_dash word)
 
 abbrev pub offset_value : List ℕ → ℤ
 offset_value word = if begins_with_dash word then neg_ℤ (pos (decimal_value (without_dash word))) else pos (decimal_value word)
@@ -123,7 +124,7 @@ option_rule Top = edge_at 2
 option_rule Bottom = edge_at 3
 option_rule Width = size_at 4
 option_rule Height = size_at 5
-option_rule TupleType = record { slot = 6; way = None; takes = λ word. nat_le (length word) max_tuple_type_length }
+option_rule TupleType = record { slot = 6; way = None; takes = λ word. nat_le (length word) MAX_TUPLE_TYPE_LENGTH }
 option_rule XScale = size_at 7
 option_rule YScale = size_at 8
 option_rule (Way way) = record { slot = 9; way = Some way; takes = λ word. false }
@@ -165,7 +166,7 @@ abbrev pub tool_rule : ToolName → ToolRule
 tool_rule Invert = record { option = no_option; most = 0; takes = no_argument }
 tool_rule Cut = record { option = cut_option; most = 0; takes = no_argument }
 tool_rule Depth = record { option = no_option; most = 1; takes = spells_maxval }
-tool_rule Channel = record { option = channel_option; most = max_depth; takes = spells_plane }
+tool_rule Channel = record { option = channel_option; most = MAX_DEPTH; takes = spells_plane }
 tool_rule Enlarge = record { option = enlarge_option; most = 1; takes = spells_extent }
 tool_rule Flip = record { option = λ name. option_or (flip_option name) (turn_option name); most = 0; takes = no_argument }
 tool_rule Tile = record { option = no_option; most = 2; takes = spells_extent }

@@ -1,6 +1,6 @@
 -- What the parser of a chain's text holds while it reads: of a stage its settings, and of the chain its tools.
 use Rattle.std.specs.Prelude.{◌≡◌, ℕ, ℤ, Bool, true, false, ◌&&◌, ◌||◌, nat_le, if◌then◌else◌, Option, Some, None, is_some, option_map, slice_get, unwrap_or, List, [], ◌∷◌, ◌++◌, ◌+◌, length, take, drop}
-use Rattle.pnm_image.specs.Limits.{max_depth}
+use Rattle.pnm_image.specs.declared.limits.TheConstants.{MAX_DEPTH}
 use Rattle.pnm_image.specs.Texts.{decimal_value, words}
 use denote.Ref.{Bor}
 use Rattle.pnm_tools.specs.declared.cut.CutBox.{CutBox}
@@ -61,7 +61,7 @@ two_arguments = record {
 }
 
 abbrev pub has_all_planes : List ℕ → Bool
-has_all_planes planes = nat_le max_depth (length planes)
+has_all_planes planes = nat_le MAX_DEPTH (length planes)
 
 abbrev plane_arguments : ArgumentRule
 plane_arguments = record {

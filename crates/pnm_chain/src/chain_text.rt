@@ -9,13 +9,12 @@ use crate::items::split_item;
 use crate::options::ToolName;
 use crate::settings::Settings;
 use crate::word::split_word;
-use pnm_image::limits::MAX_TOOLS;
-use pnm_tools::Tool;
+use pnm_tools::{MAX_TOOLS, Tool};
 use std::alloc::{AllocError, AllocFailed, Global};
 use thiserror::Error;
 
 /// The longest text of a chain, in bytes.
-const LONGEST: usize = 4_096;
+pub const MAX_TEXT_LENGTH: usize = 4_096;
 
 /// The most stages of a text, each of which names a tool.
 const MOST_STAGES: usize = MAX_TOOLS;
@@ -26,10 +25,10 @@ pub enum ChainKind {
     /// The text is nothing but white space.
     #[error("Empty")]
     Empty,
-    /// The text has more than 4,096 bytes.
+    /// The text is longer than `MAX_TEXT_LENGTH`.
     #[error("TooLong")]
     TooLong,
-    /// There are more than 16 stages.
+    /// There are more stages than `MAX_TOOLS`.
     #[error("TooMany")]
     TooMany,
     /// The stage has no word.
@@ -104,7 +103,7 @@ impl ChainFault {
     }
 }
 
-/// The tools that the text names, 1 to 16 with bars between them, each with its options. The fault is
+/// The tools that the text names, 1 to `MAX_TOOLS` with bars between them, each with its options. The fault is
 /// the first of `TooLong`, `Empty` and `TooMany`, or else the first of the first stage that has one;
 /// or `Memory`.
 pub fn parse_chain(alloc: Global, text: &str) -> Result<Vec<Tool>, ChainFault>
@@ -112,7 +111,7 @@ pub fn parse_chain(alloc: Global, text: &str) -> Result<Vec<Tool>, ChainFault>
     ensures lawful { IfOk result (λ tools. IsChain tools.items) }
     ensures refused { IfErr result (λ fault. (fault ≡ whole Memory) ⊎ (chain_fault_of text.now ≡ Some fault)) }
 {
-    if text.len() > LONGEST {
+    if text.len() > MAX_TEXT_LENGTH {
         return Err(ChainFault::whole(ChainKind::TooLong));
     }
     if split_word(text.as_bytes()).is_none() {

@@ -15,12 +15,12 @@ pub fn one_chain_or_one_fault()
 {}
 
 /// A fault of a text is of the whole, and has stage 0, or of one of its stages, and has its number, 1
-/// to 16. None is want of memory.
+/// to `MAX_TOOLS`. None is want of memory.
 pub fn chain_faults_are_placed()
     ensures { ChainFaultsArePlaced }
 {}
 
-/// The tools that a text spells are 1 to 16, and their options are in their ranges.
+/// The tools that a text spells are 1 to `MAX_TOOLS`, and their options are in their ranges.
 pub fn spelled_chains_are_lawful()
     ensures { SpelledChainsAreLawful }
 {}

@@ -19,8 +19,8 @@ use crate::chain_text::ChainKind;
 use crate::items::Item;
 use crate::options::{ToolName, ToolOption};
 use crate::word::{number, offset};
-use pnm_image::limits::{MAX_DEPTH, MAX_EXTENT, MAX_MAXVAL, MAX_TUPLE_TYPE_LENGTH};
-use pnm_tools::{CutBox, FlipWay, Planes, Tool};
+use pnm_image::limits::{MAX_DEPTH, MAX_MAXVAL, MAX_TUPLE_TYPE_LENGTH};
+use pnm_tools::{CutBox, FlipWay, MAX_EXTENT, Planes, Tool};
 use std::alloc::Global;
 
 /// What the words of a stage have set so far.

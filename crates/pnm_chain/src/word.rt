@@ -5,7 +5,7 @@ ghost use Rattle.pnm_image.specs.Texts.{decimal_value, words};
 ghost use Rattle.pnm_chain.specs.Options.{offset_value, spells_number, spells_offset};
 
 use pnm_image::characters::is_white;
-use pnm_image::limits::MAX_EXTENT;
+use pnm_tools::MAX_EXTENT;
 
 /// The first word of a text, and the text after it. A word is a longest run of bytes that aren't
 /// white space: blank, TAB, CR and LF.
@@ -29,7 +29,7 @@ pub(crate) fn split_word(text: &[u8]) -> Option<(&[u8], &[u8])>
     Some(rest.split_at(length))
 }
 
-/// The offset from -16,777,216 to 16,777,216 that the word spells, if it spells one: a number that
+/// The offset from -`MAX_EXTENT` to `MAX_EXTENT` that the word spells, if it spells one: a number that
 /// may have one dash before it.
 pub(crate) fn offset(word: &[u8]) -> Option<i32>
     ensures { result ≡ (if spells_offset word.now then Some (offset_value word.now) else None) }

@@ -8,7 +8,7 @@ use Rattle.rtrb.specs.declared.producer.Producer.{Producer}
 use Rattle.rtrb.specs.declared.consumer.Consumer.{Consumer}
 use Rattle.rtrb.specs.Ring.{sent, received, SameProducer, SameConsumer}
 use Rattle.pnm_image.specs.declared.message.Message.{Message}
-use Rattle.pnm_image.specs.Limits.{max_tools}
+use Rattle.pnm_tools.specs.declared.limits.TheConstants.{MAX_TOOLS}
 use Rattle.pnm_image.specs.Images.{Image, messages_of_stream}
 use Rattle.pnm_image.specs.Completion.{IsStreamOf}
 use Rattle.pnm_tools.specs.declared.tool.Tool.{Tool}
@@ -113,5 +113,5 @@ pub record HasRunBetween (lanes : ℕ) (tools : List Tool) (links_room ends_room
 pub record HasRoom (links : List Link) (links_room : ℕ) (ends : List StageEnd) (ends_room : ℕ) : Type 0 where
   pub no_links : links ≡ []
   pub no_ends : ends ≡ []
-  pub for_links : max_tools ≤ links_room
-  pub for_ends : max_tools ≤ ends_room
+  pub for_links : MAX_TOOLS ≤ links_room
+  pub for_ends : MAX_TOOLS ≤ ends_room

@@ -3,7 +3,6 @@
 ghost use Rattle.std.specs.Prelude.{◌≡◌, ◌≤◌, ◌<◌, ◌+◌, [], ◌∷◌, ◌++◌, length, vec_capacity, IfOk, IfErr, IfSome};
 ghost use Rattle.std.specs.Thread.{IsSync};
 ghost use Rattle.rtrb.specs.Ring.{sent, received, known_items, IsPair, SameProducer, SameConsumer};
-ghost use Rattle.pnm_image.specs.Limits.{max_tools};
 ghost use Rattle.pnm_tools.specs.Chains.{AreLawfulTools, IsChain};
 ghost use Rattle.pnm_tools.specs.Tools.{IsLawfulTool};
 ghost use Rattle.pnm_flow.specs.Links.{IsWhole};
@@ -143,7 +142,7 @@ fn run_stages<R: Threads + Wait + Sync, G: Gate>(
     bells: ToolBells<'_>,
 ) -> Result<ChainDone, NoStart>
     requires shared { IsSync R.row × IsSync G.row }
-    requires tools { AreLawfulTools tools.now × (1 ≤ length tools.now) × (length tools.now ≤ max_tools) }
+    requires tools { AreLawfulTools tools.now × (1 ≤ length tools.now) × (length tools.now ≤ MAX_TOOLS) }
     requires capacity { IsRingCapacity capacity }
     requires lanes { IsLaneCount lanes }
     requires room { HasRoom room.links.items (vec_capacity room.links) room.ends.items (vec_capacity room.ends) }
@@ -187,7 +186,7 @@ fn run_stages<R: Threads + Wait + Sync, G: Gate>(
         },
         move || -> Option<ChainDone>
             requires { (IsSync R.row × IsSync G.row)
-                × (AreLawfulTools others.now × (1 ≤ length others.now) × (length others.now ≤ max_tools)) × IsLaneCount lanes
+                × (AreLawfulTools others.now × (1 ≤ length others.now) × (length others.now ≤ MAX_TOOLS)) × IsLaneCount lanes
                 × IsRingCapacity capacity × HasRoom room.links.items (vec_capacity room.links) room.ends.items (vec_capacity room.ends) }
             ensures { IfSome result (HasRunBetween lanes others.entry.now (vec_capacity room.links) (vec_capacity room.ends) input producer) }
         {

@@ -4,7 +4,7 @@ ghost use Rattle.std.specs.Prelude.{◌≡◌, ◌≢◌, ◌⊎◌, ◌≤◌, 
 ghost use Rattle.std.specs.Thread.{IsSync};
 ghost use Rattle.rtrb.specs.Ring.{sent, received, IsPair, SameProducer, SameConsumer};
 ghost use Rattle.pnm_image.specs.declared.format.Form.{Form as FormValue};
-ghost use Rattle.pnm_image.specs.Limits.{max_tools};
+ghost use Rattle.pnm_tools.specs.declared.limits.TheConstants.{MAX_TOOLS};
 ghost use Rattle.pnm_read.specs.declared.source.Source.{Source as SourceValue};
 ghost use Rattle.pnm_read.specs.Sources.{reader_of};
 ghost use Rattle.pnm_tools.specs.Chains.{AreLawfulTools, IsChain};
@@ -158,7 +158,7 @@ fn conclude<R: BytesIn + Drop, W: BytesOut + Drop>(
     collector: Collector<W>,
 ) -> (R, W, Result<Summary, RunFault>)
     requires rings { IsPair feeder.output chain.input × IsPair chain.output collector.input }
-    requires ends { length chain.ends.items ≤ max_tools }
+    requires ends { length chain.ends.items ≤ MAX_TOOLS }
     requires taken { (form : FormValue) × (start : W) × IsCollecting W.held W.failures form start [] collector }
     ensures ran { (first : SourceValue R) (start : W) (lanes : ℕ) (job : Job) → AreLawfulTools job.tools
         → IsFeeding R.left R.failures first [] feeder → IsCollecting W.held W.failures job.form start [] collector
@@ -192,7 +192,7 @@ fn answer(
     has_ended: bool,
     output: Result<Summary, SinkFault>,
 ) -> Result<Summary, RunFault>
-    requires { length ends.now ≤ max_tools }
+    requires { length ends.now ≤ MAX_TOOLS }
     ensures { result ≡ answer_over input (first_fault_from 1 ends.now) has_ended (length ends.now + 1) output }
 {
     match input {

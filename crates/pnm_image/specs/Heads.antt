@@ -1,7 +1,7 @@
 -- Heads: the kind, the sizes and the maxval of an image, and the tuple type of a PAM image.
 use Rattle.std.specs.Prelude.{◌≡◌, ◌≢◌, ℕ, ◌*◌, ◌-◌, ◌<◌, ◌≤◌, Bool, false, List, [], length, slice_index, All, Option, Some, None, nat_lt, ◌==◌, ◌||◌, if◌then◌else◌}
 use Rattle.pnm_image.specs.Characters.{line_feed}
-use Rattle.pnm_image.specs.Limits.{max_side, max_depth, max_row_length, max_maxval, max_tuple_type_length}
+use Rattle.pnm_image.specs.declared.limits.TheConstants.{MAX_DEPTH, MAX_MAXVAL, MAX_ROW_LENGTH, MAX_SIDE, MAX_TUPLE_TYPE_LENGTH}
 use Rattle.pnm_image.specs.Texts.{is_blank}
 use Rattle.pnm_image.specs.declared.shape.Kind.{Kind}
 use Rattle.pnm_image.specs.declared.shape.Kind.TheVariants.{Bit, Gray, Color, Pam}
@@ -28,7 +28,7 @@ with_height h height = record h { shape = record h.shape { height = height } }
 
 -- the text of TUPLTYPE lines, from pam(5): one line, without white space at its ends
 pub record IsTupleType (text : List ℕ) : Type 0 where
-  pub short : length text ≤ max_tuple_type_length
+  pub short : length text ≤ MAX_TUPLE_TYPE_LENGTH
   pub one_line : All (λ b. b ≢ line_feed) text
   pub first : 0 < length text → is_blank (slice_index text 0) ≡ false
   pub last : 0 < length text → is_blank (slice_index text (length text - 1)) ≡ false
@@ -43,13 +43,13 @@ Suits Pam depth maxval tuple_type = IsTupleType tuple_type
 -- the limits on sizes and maxval; a height of 0 occurs inside the program alone
 pub record IsWithinLimits (s : Shape) : Type 0 where
   pub width_low : 0 < s.width
-  pub width_high : s.width ≤ max_side
-  pub height_high : s.height ≤ max_side
+  pub width_high : s.width ≤ MAX_SIDE
+  pub height_high : s.height ≤ MAX_SIDE
   pub depth_low : 0 < s.depth
-  pub depth_high : s.depth ≤ max_depth
-  pub row_high : row_length s ≤ max_row_length
+  pub depth_high : s.depth ≤ MAX_DEPTH
+  pub row_high : row_length s ≤ MAX_ROW_LENGTH
   pub maxval_low : 0 < s.maxval
-  pub maxval_high : s.maxval ≤ max_maxval
+  pub maxval_high : s.maxval ≤ MAX_MAXVAL
 
 -- what holds of each head
 pub record IsHead (h : HeadValue) : Type 0 where
@@ -58,12 +58,12 @@ pub record IsHead (h : HeadValue) : Type 0 where
 
 -- a size is beyond the limits
 abbrev pub is_too_large : Shape → Bool
-is_too_large s = nat_lt max_side s.width || nat_lt max_side s.height || nat_lt max_depth s.depth || nat_lt max_row_length (row_length s)
+is_too_large s = nat_lt MAX_SIDE s.width || nat_lt MAX_SIDE s.height || nat_lt MAX_DEPTH s.depth || nat_lt MAX_ROW_LENGTH (row_length s)
 
 -- what is wrong with a new head's numbers: the first of the faults in their order
 abbrev pub shape_fault : Shape → Option HeadFault
 shape_fault s =
     if (s.width == 0) || (s.height == 0) || (s.depth == 0) then Some ZeroSize
     else if is_too_large s then Some TooLarge
-    else if (s.maxval == 0) || nat_lt max_maxval s.maxval then Some BadMaxval
+    else if (s.maxval == 0) || nat_lt MAX_MAXVAL s.maxval then Some BadMaxval
     else None

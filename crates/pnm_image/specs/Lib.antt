@@ -1,4 +1,3 @@
-pub mod Limits
 pub mod Characters
 pub mod Formats
 pub mod Texts

@@ -1,7 +1,7 @@
 //! Heads: what an image says of itself before its rows.
 
 ghost use Rattle.std.specs.Prelude.{◌≡◌, ◌≤◌, ◌⊎◌, ◌↔◌, IsTrue, IfOk, OnOk, IfErr};
-ghost use Rattle.pnm_image.specs.Limits.{max_side};
+ghost use Rattle.pnm_image.specs.declared.limits.TheConstants.{MAX_SIDE};
 ghost use Rattle.pnm_image.specs.Heads.{Suits, IsTupleType, IsHead, head_value, with_height, shape_fault};
 
 use crate::characters::is_blank;
@@ -17,8 +17,7 @@ pub enum HeadFault {
     /// The width, the height or the depth is 0.
     #[error("ZeroSize")]
     ZeroSize,
-    /// The width or the height is above 1,000,000, the depth is above 256, or a row has more than
-    /// 16,777,216 samples.
+    /// The width, the height, the depth, or the samples of a row are beyond the limits.
     #[error("TooLarge")]
     TooLarge,
     /// The maxval is 0 or above 65,535.
@@ -96,7 +95,7 @@ impl Head {
 
     /// The same head with another height, which may be 0 inside a program.
     pub fn with_height(self, height: u32) -> Head
-        requires { height ≤ max_side }
+        requires { height ≤ MAX_SIDE }
         ensures { result ≡ with_height self height }
     {
         let Head { shape, tuple_type } = self;

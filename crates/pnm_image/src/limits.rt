@@ -1,4 +1,5 @@
-//! The limits of images, and of what is done with them.
+//! The limits of images: own ones, which no page has, but for the maxval's. What is proved of them and
+//! what is done by them names these numbers and says them nowhere again.
 
 /// The greatest width and the greatest height.
 pub const MAX_SIDE: u32 = 1_000_000;
@@ -14,9 +15,3 @@ pub const MAX_MAXVAL: u32 = 65_535;
 
 /// The longest tuple type, in bytes.
 pub const MAX_TUPLE_TYPE_LENGTH: usize = 255;
-
-/// The greatest number of columns or rows that an option of a tool names.
-pub const MAX_EXTENT: u32 = 16_777_216;
-
-/// The most tools of a chain.
-pub const MAX_TOOLS: usize = 16;

@@ -12,7 +12,7 @@ use Rattle.pnm_image.specs.declared.place.Place.{Place}
 use Rattle.pnm_image.specs.declared.place.Place.TheVariants.{Between, Inside, After}
 use Rattle.pnm_image.specs.Completion.{IsFrontOf}
 use Rattle.pnm_image.specs.Heads.{HeadValue, IsHead, with_height}
-use Rattle.pnm_image.specs.Limits.{max_side}
+use Rattle.pnm_image.specs.declared.limits.TheConstants.{MAX_SIDE}
 use Rattle.pnm_image.specs.Places.{Accepts, IsLawfulFrom, place_after}
 use Rattle.pnm_tools.specs.declared.fault.ToolFault.TheVariants.{OutOfOrder}
 use Rattle.pnm_tools.specs.Answers.{ending_of}
@@ -136,7 +136,7 @@ is_like StreamEnd StreamEnd alike = refl
 is_like StreamEnd Stop alike = absurd alike
 is_like Stop m alike = absurd alike
 
-head_of_height : (head : HeadValue) (height : ℕ) → IsHead head → height ≤ max_side → IsHead (with_height head height)
+head_of_height : (head : HeadValue) (height : ℕ) → IsHead head → height ≤ MAX_SIDE → IsHead (with_height head height)
 head_of_height head height is within =
     let limits = is.limits in
     record {
@@ -153,7 +153,7 @@ head_of_height head height is within =
       suits = is.suits;
     }
 
-like_of_stream : (m : Message) (height : ℕ) → IsOfStream m → height ≤ max_side → IsOfStream (like m height)
+like_of_stream : (m : Message) (height : ℕ) → IsOfStream m → height ≤ MAX_SIDE → IsOfStream (like m height)
 like_of_stream (Begin head) height is within = head_of_height head height is within
 like_of_stream (Row row) height is within = tt
 like_of_stream ImageEnd height is within = tt
@@ -178,7 +178,7 @@ pub record IsTakingEach (lanes : ℕ) (place : Place) (first : Message) (heights
   pub may : Accepts place first
   pub is : IsOfStream first
   pub height : get_or heights 0 0 ≡ height_in first
-  pub within : (other : ℕ) → get_or heights other 0 ≤ max_side
+  pub within : (other : ℕ) → get_or heights other 0 ≤ MAX_SIDE
   pub some : 1 ≤ lane
 
 -- the first message that was taken
@@ -200,7 +200,7 @@ next_until lane first m heights other below alike =
     ]
 
 -- none of them is Stop
-until_of_stream : (lane : ℕ) (first : Message) (heights : List ℕ) → IsOfStream first → ((other : ℕ) → get_or heights other 0 ≤ max_side) → (other : ℕ) → AllByRecursion IsOfStream (until lane first heights other)
+until_of_stream : (lane : ℕ) (first : Message) (heights : List ℕ) → IsOfStream first → ((other : ℕ) → get_or heights other 0 ≤ MAX_SIDE) → (other : ℕ) → AllByRecursion IsOfStream (until lane first heights other)
 until_of_stream lane first heights is within other = elim (cases_lt other lane) [
   | inl before ↦ subst (AllByRecursion IsOfStream) (sym (until_before lane first heights other before)) (like_of_stream first (get_or heights other 0) is (within other), tt)
   | inr reached ↦ subst (AllByRecursion IsOfStream) (sym (until_from lane first heights other reached)) tt
@@ -208,7 +208,7 @@ until_of_stream lane first heights is within other = elim (cases_lt other lane) 
 
 -- ---- what was taken so far
 
-set_within : (heights : List ℕ) (lane height other : ℕ) → ((l : ℕ) → get_or heights l 0 ≤ max_side) → height ≤ max_side → lane < length heights → get_or (set heights lane height) other 0 ≤ max_side
+set_within : (heights : List ℕ) (lane height other : ℕ) → ((l : ℕ) → get_or heights l 0 ≤ MAX_SIDE) → height ≤ MAX_SIDE → lane < length heights → get_or (set heights lane height) other 0 ≤ MAX_SIDE
 set_within heights lane height other within here below = elim (cases_eq other lane) [
   | inl same ↦ let new : get_or (set heights lane height) other 0 ≡ height = ap (λ (o : ℕ). get_or (set heights lane height) o 0) same ∙ get_or-set_same heights lane height 0 below in omega (arith, new, here)
   | inr differ ↦ let old : get_or (set heights lane height) other 0 ≡ get_or heights other 0 = get_or-set_other heights lane other height 0 differ in omega (arith, old, within other)
@@ -216,7 +216,7 @@ set_within heights lane height other within here below = elim (cases_eq other la
 
 pub next_taken : (lanes lane height : ℕ) (place : Place) (first m : Message) (heights : List ℕ) (states_old states_new : List LaneState) (start old new : ℕ → List Message)
     → IsTakingEach lanes place first heights lane states_old start old → lane < lanes → lane < length heights → lanes ≤ length states_old → AreAlike first m
-    → IsOfStream m × HasGiven lane m states_old states_new old new → height ≡ height_in m → height ≤ max_side
+    → IsOfStream m × HasGiven lane m states_old states_new old new → height ≡ height_in m → height ≤ MAX_SIDE
     → IsTakingEach lanes place first (set heights lane height) (lane + 1) states_new start new
 next_taken lanes lane height place first m heights states_old states_new start old new taking below room enough alike from is_height within = record {
   parts = taken_same lanes states_new start new (one_more_of lane m (until lane first heights)) (until (lane + 1) first (set heights lane height))
@@ -276,7 +276,7 @@ accepts_begin After head other may = may
 
 -- the lanes' heads are those of a head
 heads_dealt : (lanes : ℕ) (head : HeadValue) (heights : List ℕ) (n : Message) → 0 < lanes → ((lane : ℕ) → lane < lanes → Begin (with_height head (get_or heights lane 0)) ≡ part_for lane lanes n) → IsOfStream n
-    → (height : ℕ) × (height ≤ max_side) × ((lane : ℕ) → lane < lanes → get_or heights lane 0 ≡ dealt_height lane lanes height)
+    → (height : ℕ) × (height ≤ MAX_SIDE) × ((lane : ℕ) → lane < lanes → get_or heights lane 0 ≡ dealt_height lane lanes height)
 heads_dealt lanes head heights (Begin whole) some parts is =
     (whole.shape.height, is.limits.height_high, λ lane below. ap (λ (h : HeadValue). h.shape.height) (same_begin (with_height head (get_or heights lane 0)) (dealt_head lane lanes whole) (parts lane below)))
 heads_dealt lanes head heights (Row row) some parts is = let first = parts 0 some in absurd cc

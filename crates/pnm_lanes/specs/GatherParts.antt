@@ -7,7 +7,7 @@ use Rattle.pnm_image.specs.declared.place.Place.{Place}
 use Rattle.pnm_image.specs.declared.place.Place.TheVariants.{Between, Inside, After}
 use Rattle.pnm_image.specs.Completion.{IsFrontOf}
 use Rattle.pnm_image.specs.Heads.{IsHead, with_height}
-use Rattle.pnm_image.specs.Limits.{max_side}
+use Rattle.pnm_image.specs.declared.limits.TheConstants.{MAX_SIDE}
 use Rattle.pnm_image.specs.Messages.{IsMessage}
 use Rattle.pnm_image.specs.Places.{Accepts, IsLawfulFrom}
 use Rattle.pnm_tools.specs.declared.fault.ToolFault.TheVariants.{OutOfOrder}
@@ -70,7 +70,7 @@ AreDealtHeights heights height = (lane : ℕ) → lane < length heights → slic
 
 -- the message of the whole stream, where the lanes' images have these heights
 abbrev pub IsTogether : Message → List ℕ → Message → Type 0
-IsTogether (Begin first) heights m = (height : ℕ) × (height ≤ max_side) × AreDealtHeights heights height × (m ≡ Begin (with_height first height))
+IsTogether (Begin first) heights m = (height : ℕ) × (height ≤ MAX_SIDE) × AreDealtHeights heights height × (m ≡ Begin (with_height first height))
 IsTogether (Row row) heights m = m ≡ Row row
 IsTogether ImageEnd heights m = m ≡ ImageEnd
 IsTogether StreamEnd heights m = m ≡ StreamEnd
@@ -78,7 +78,7 @@ IsTogether Stop heights m = m ≡ Stop
 
 -- there is no such message
 abbrev pub AreNotTogether : Message → List ℕ → Type 0
-AreNotTogether (Begin first) heights = (height : ℕ) → height ≤ max_side → AreDealtHeights heights height → ⊥
+AreNotTogether (Begin first) heights = (height : ℕ) → height ≤ MAX_SIDE → AreDealtHeights heights height → ⊥
 AreNotTogether (Row row) heights = ⊥
 AreNotTogether ImageEnd heights = ⊥
 AreNotTogether StreamEnd heights = ⊥

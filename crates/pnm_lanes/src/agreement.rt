@@ -1,7 +1,6 @@
 //! Whether the messages that the lanes give for one message of the whole stream agree, and which message that is.
 
 ghost use Rattle.std.specs.Prelude.{◌≡◌, ◌↔◌, ℕ, ◌≤◌, ◌<◌, length, slice_index, All, IsTrue, IfSome, IfNone, sum};
-ghost use Rattle.pnm_image.specs.Limits.{max_side};
 ghost use Rattle.pnm_tools.specs.Dealing.{dealt_height};
 ghost use Rattle.pnm_image.specs.Heads.{with_height};
 ghost use Rattle.pnm_lanes.specs.GatherParts.{height_in, AreAlike, IsTogether, AreNotTogether, AreDealtHeights};
@@ -14,7 +13,7 @@ use pnm_image::{Head, Message, Shape};
 /// The height of the image that the message begins; 0 where it begins none.
 pub fn height_of(message: &Message) -> u32
     ensures height { result ≡ height_in message.now }
-    ensures within { result ≤ max_side }
+    ensures within { result ≤ MAX_SIDE }
 {
     match message {
         Message::Begin(head) => head.shape().height,
@@ -51,8 +50,8 @@ fn are_heads_alike(first: &Head, other: &Head) -> bool
 pub fn whole_height(heights: &[u32]) -> Option<u32>
     requires some { 1 ≤ length heights.now }
     requires few { length heights.now ≤ MAX_LANES }
-    ensures found { IfSome result (λ height. (height ≤ max_side) × AreDealtHeights heights.now height) }
-    ensures none { IfNone result ((height : ℕ) → height ≤ max_side → AreDealtHeights heights.now height → ⊥) }
+    ensures found { IfSome result (λ height. (height ≤ MAX_SIDE) × AreDealtHeights heights.now height) }
+    ensures none { IfNone result ((height : ℕ) → height ≤ MAX_SIDE → AreDealtHeights heights.now height → ⊥) }
 {
     let height = sum_of(heights)?;
     for (lane, part) in heights.iter().enumerate() {
@@ -66,8 +65,8 @@ pub fn whole_height(heights: &[u32]) -> Option<u32>
 /// The sum of the heights, where it is within the limits.
 fn sum_of(heights: &[u32]) -> Option<u32>
     requires { length heights.now ≤ MAX_LANES }
-    ensures found { IfSome result (λ height. (height ≤ max_side) × (height ≡ sum heights.now)) }
-    ensures none { IfNone result (max_side < sum heights.now) }
+    ensures found { IfSome result (λ height. (height ≤ MAX_SIDE) × (height ≡ sum heights.now)) }
+    ensures none { IfNone result (MAX_SIDE < sum heights.now) }
 {
     let mut sum: u64 = 0;
     for height in heights {

@@ -3,10 +3,11 @@
 ghost use Rattle.std.specs.Prelude.{◌≡◌, ◌<◌, ◌≤◌, ◌∷◌, [], length, IfSome};
 ghost use Rattle.rtrb.specs.Ring.{sent, received, known_items, SameProducer, SameConsumer};
 ghost use Rattle.pnm_image.specs.Places.{Accepts};
-ghost use Rattle.pnm_lanes.specs.Limits.{max_lanes, IsLaneCount};
+ghost use Rattle.pnm_lanes.specs.Limits.{IsLaneCount};
 ghost use Rattle.pnm_lanes.specs.Deals.{HasDealt};
 ghost use Rattle.pnm_lanes.specs.DealParts.{IsRow, part_at, row_part, lane_part, HasSentParts};
 ghost use Rattle.pnm_lanes.specs.DealParts.{HasBrokenOffAfter};
+ghost use Rattle.pnm_lanes.specs.declared.limits.TheConstants.{MAX_LANES};
 
 use crate::heights::dealt_height;
 use pnm_image::{Message, Place, Samples};
@@ -231,7 +232,7 @@ fn send_each<R: Wait>(
 /// message. None where there is no memory for a head.
 fn part_of(message: &Message, lane: usize, lanes: usize) -> Option<Message>
     requires lane { lane < lanes }
-    requires lanes { lanes ≤ max_lanes }
+    requires lanes { lanes ≤ MAX_LANES }
     requires message { IsRow message.now → ⊥ }
     ensures { IfSome result (λ part. lane_part lanes message.now lane ≡ part ∷ []) }
 {

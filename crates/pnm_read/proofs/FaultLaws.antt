@@ -16,10 +16,11 @@ use Rattle.pnm_image.specs.declared.sample_width.SampleWidth.TheVariants.{Bits, 
 use Rattle.pnm_read.specs.Texts.{is_apart, begins_apart, ends_in_comment, number_in}
 use Rattle.pnm_image.specs.Texts.{is_digit}
 use Rattle.pnm_image.specs.SampleWidths.{sample_width_of}
-use Rattle.pnm_read.specs.Items.{◌>>=◌, piece_from, raw_item, gap_limit, ends_in_digit, is_complete, decimal_item, decimal_end, is_pixel, pixel_item, pixel_end, pixel_in, plain_pixel, sample_item, plain_decimal, plain_sample, after_last_item}
+use Rattle.pnm_read.specs.Items.{◌>>=◌, piece_from, raw_item, ends_in_digit, is_complete, decimal_item, decimal_end, is_pixel, pixel_item, pixel_end, pixel_in, plain_pixel, sample_item, plain_decimal, plain_sample, after_last_item}
 use Rattle.pnm_read.specs.Said.{Said, in_turn, units_in_row, units_at, raw_row, plain_row, last_plain_row, row_by, row_at, end_said, rows_said, head_said, format_said, image_said, later_said_in, later_said, format_at, head_at, said, fault_of}
 use Rattle.pnm_read.proofs.RowTurns.{said_from}
 use Rattle.pnm_read.proofs.HeaderFaults.{EndsByText, FailsByText, IsJudgedByText, bind_by_text, when_by_text, piece_by_text, three_by_text, format_by_text, head_by_text}
+use Rattle.pnm_read.specs.declared.decimal.TheConstants.{GAP_LIMIT}
 
 -- ---- rows
 
@@ -49,7 +50,7 @@ raw_row_by_text s text =
 
 decimal_byte_by_text : (before : List ℕ) (b : ℕ) → IsJudgedByText (decimal_item before b)
 unfolding decimal_item
-decimal_byte_by_text before b = three_by_text (nat_le gap_limit (length before) && not (is_complete before b)) (not (ends_in_comment before) && not (is_digit b || is_apart b)) (is_complete before b) TooLong BadSample EndsBefore tt tt tt
+decimal_byte_by_text before b = three_by_text (nat_le GAP_LIMIT (length before) && not (is_complete before b)) (not (ends_in_comment before) && not (is_digit b || is_apart b)) (is_complete before b) TooLong BadSample EndsBefore tt tt tt
 
 decimal_end_by : (t : Bool) → EndsByText (if t then None else Some RasterCut)
 decimal_end_by true = tt
@@ -57,7 +58,7 @@ decimal_end_by false = tt
 
 pixel_byte_by_text : (before : List ℕ) (b : ℕ) → IsJudgedByText (pixel_item before b)
 unfolding pixel_item
-pixel_byte_by_text before b = three_by_text (nat_le gap_limit (length before)) (not (ends_in_comment before) && not (is_pixel b || is_apart b)) (not (ends_in_comment before) && is_pixel b) TooLong BadSample EndsWith tt tt tt
+pixel_byte_by_text before b = three_by_text (nat_le GAP_LIMIT (length before)) (not (ends_in_comment before) && not (is_pixel b || is_apart b)) (not (ends_in_comment before) && is_pixel b) TooLong BadSample EndsWith tt tt tt
 
 pixel_by_text : (text : List ℕ) → FailsByText (plain_pixel text)
 unfolding plain_pixel

@@ -24,6 +24,7 @@ use Rattle.pnm_read.specs.PamLines.{ended_lines, last_line, second_token, line_k
 use Rattle.pnm_read.specs.Items.{◌>>=◌, piece_from, first_magic_item, second_magic_item, header_limit, is_bad_in_header, is_delimiter, header_item, header_end, fault_of_head, numbers_item, line_feed_item, pam_limit, number_item, tuple_type_item, line_item, pam_item, is_incomplete, shape_in, lines_item}
 use Rattle.pnm_read.specs.Said.{format_at, pnm_head_at, pam_head_at, head_by, head_at}
 use Rattle.pnm_read.proofs.PamLineLaws.{line_by}
+use Rattle.pnm_image.specs.declared.limits.TheConstants.{MAX_DEPTH, MAX_MAXVAL, MAX_ROW_LENGTH, MAX_SIDE}
 
 -- ---- faults of a text, and steps that fail by one
 
@@ -154,7 +155,7 @@ judged_by_text false false true head = tt
 judged_by_text false false false head = tt
 
 shape_by_text : (s : Shape) (head : HeadValue) → FailsByText (head_or_fault (shape_fault s) head)
-shape_by_text s head = judged_by_text ((s.width == 0) || (s.height == 0) || (s.depth == 0)) (nat_lt 1000000 s.width || nat_lt 1000000 s.height || nat_lt 256 s.depth || nat_lt 16777216 (row_length s)) ((s.maxval == 0) || nat_lt 65535 s.maxval) head
+shape_by_text s head = judged_by_text ((s.width == 0) || (s.height == 0) || (s.depth == 0)) (nat_lt MAX_SIDE s.width || nat_lt MAX_SIDE s.height || nat_lt MAX_DEPTH s.depth || nat_lt MAX_ROW_LENGTH (row_length s)) ((s.maxval == 0) || nat_lt MAX_MAXVAL s.maxval) head
 
 numbers_by_text : (kind : Kind) (numbers : List ℕ) → FailsByText (numbers_item kind numbers)
 unfolding numbers_item

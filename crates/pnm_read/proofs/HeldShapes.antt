@@ -13,6 +13,7 @@ use Rattle.pnm_read.specs.declared.fault.InputFault.TheVariants.{ReadFailed, Mem
 use Rattle.pnm_read.specs.Items.{fault_of_head}
 use Rattle.pnm_read.specs.Saturation.{saturated, GivesInMemory}
 use Rattle.pnm_read.proofs.ShapeLaws.{head_or_fault, limits_of}
+use Rattle.pnm_image.specs.declared.limits.TheConstants.{MAX_ROW_LENGTH, MAX_SIDE}
 
 -- a limit below the greatest u32 is passed by a number where it is passed by the u32
 saturated-limit : (limit n : ℕ) → limit < 4294967295 → nat_lt limit (saturated n) ≡ nat_lt limit n
@@ -35,14 +36,14 @@ great_product : (a b : ℕ) → 4294967295 ≤ a → 0 < b → 4294967295 ≤ a 
 great_product a b great some = let more = mul-le-mul_left a some in omega arith
 
 -- a row of such numbers is too long
-great_row : (a b : ℕ) → 4294967295 ≤ a → 0 < b → nat_lt 16777216 (a * b) ≡ true
-great_row a b great some = let high = great_product a b great some in lt-ltb 16777216 (a * b) (omega arith)
+great_row : (a b : ℕ) → 4294967295 ≤ a → 0 < b → nat_lt MAX_ROW_LENGTH (a * b) ≡ true
+great_row a b great some = let high = great_product a b great some in lt-ltb MAX_ROW_LENGTH (a * b) (omega arith)
 
 -- a row is too long where that of the u32s is, if a factor is too great for one
-great_rows : (a b : ℕ) → 4294967295 ≤ a → nat_lt 16777216 (saturated a * saturated b) ≡ nat_lt 16777216 (a * b)
+great_rows : (a b : ℕ) → 4294967295 ≤ a → nat_lt MAX_ROW_LENGTH (saturated a * saturated b) ≡ nat_lt MAX_ROW_LENGTH (a * b)
 great_rows a b great =
     elim (cases_eq b 0) [
-      | inl is ↦ ap (λ (k : ℕ). nat_lt 16777216 (saturated a * saturated k)) is ∙ ap (λ (k : ℕ). nat_lt 16777216 k) (omega arith) ∙ sym (ap (λ (k : ℕ). nat_lt 16777216 (a * k)) is)
+      | inl is ↦ ap (λ (k : ℕ). nat_lt MAX_ROW_LENGTH (saturated a * saturated k)) is ∙ ap (λ (k : ℕ). nat_lt MAX_ROW_LENGTH k) (omega arith) ∙ sym (ap (λ (k : ℕ). nat_lt MAX_ROW_LENGTH (a * k)) is)
       | inr not ↦ let some = low_or_not b not in great_row (saturated a) (saturated b) (omega arith) (omega arith) ∙ sym (great_row a b great some)
     ]
   where
@@ -50,12 +51,12 @@ great_rows a b great =
     low_or_not b not = grind (arith, not)
 
 -- a row is too long where that of the u32s is
-saturated-row : (a b : ℕ) → nat_lt 16777216 (saturated a * saturated b) ≡ nat_lt 16777216 (a * b)
+saturated-row : (a b : ℕ) → nat_lt MAX_ROW_LENGTH (saturated a * saturated b) ≡ nat_lt MAX_ROW_LENGTH (a * b)
 saturated-row a b =
     elim (cases_lt a 4294967295) [
       | inr great ↦ great_rows a b great
       | inl few ↦ elim (cases_lt b 4294967295) [
-        | inr great ↦ ap (λ (k : ℕ). nat_lt 16777216 k) (omega arith) ∙ great_rows b a great ∙ ap (λ (k : ℕ). nat_lt 16777216 k) (omega arith)
+        | inr great ↦ ap (λ (k : ℕ). nat_lt MAX_ROW_LENGTH k) (omega arith) ∙ great_rows b a great ∙ ap (λ (k : ℕ). nat_lt MAX_ROW_LENGTH k) (omega arith)
         | inl less ↦ let same_a : saturated a ≡ a = omega arith in let same_b : saturated b ≡ b = omega arith in rw (same_a, same_b) refl
       ]
     ]
@@ -71,8 +72,8 @@ same_fault s =
       saturated-zero s.width,
       saturated-zero s.height,
       saturated-zero s.depth,
-      saturated-limit 1000000 s.width (omega arith),
-      saturated-limit 1000000 s.height (omega arith),
+      saturated-limit MAX_SIDE s.width (omega arith),
+      saturated-limit MAX_SIDE s.height (omega arith),
       saturated-limit 256 s.depth (omega arith),
       saturated-row s.width s.depth,
       saturated-zero s.maxval,
@@ -91,8 +92,8 @@ shape_from kind width height depth maxval = record { kind = kind; width = width;
 same_shape : (s : Shape) → shape_fault (saturated_shape s) ≡ None → saturated_shape s ≡ s
 same_shape s e =
     let limits = (limits_of (saturated_shape s) e).0 in
-    let width : saturated s.width ≡ s.width = small_is s.width 1000000 limits.width_high (omega arith) in
-    let height : saturated s.height ≡ s.height = small_is s.height 1000000 limits.height_high (omega arith) in
+    let width : saturated s.width ≡ s.width = small_is s.width MAX_SIDE limits.width_high (omega arith) in
+    let height : saturated s.height ≡ s.height = small_is s.height MAX_SIDE limits.height_high (omega arith) in
     let depth : saturated s.depth ≡ s.depth = small_is s.depth 256 limits.depth_high (omega arith) in
     let maxval : saturated s.maxval ≡ s.maxval = small_is s.maxval 65535 limits.maxval_high (omega arith) in
     ap (λ (n : ℕ). shape_from s.kind n (saturated s.height) (saturated s.depth) (saturated s.maxval)) width

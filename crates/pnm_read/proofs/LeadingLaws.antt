@@ -20,6 +20,7 @@ use Rattle.pnm_read.proofs.SampleLaws.{spelled_piece_is_read}
 use Rattle.pnm_read.proofs.UnitLaws.{turned, and_turns, in_turn-add}
 use Rattle.pnm_read.proofs.PartLaws.{one_is_read}
 use Rattle.pnm_read.proofs.WordLaws.{white_is_not_sharp, digit_value_is}
+use Rattle.pnm_read.specs.declared.decimal.TheConstants.{GAP_LIMIT}
 
 -- ---- white space
 
@@ -167,7 +168,7 @@ in_parts a b bytes rest = ap (λ (l : List ℕ). l ++ rest) (sym (take-append-dr
 ends_there : (bytes rest : List ℕ) (n : ℕ) → n < length bytes → is_white (get_or bytes n 0) ≡ true → begins_apart (drop n bytes ++ rest) ≡ true
 ends_there bytes rest n some white = ap (λ (l : List ℕ). begins_apart (l ++ rest)) (drop_at bytes n some) ∙ white_is_apart (get_or bytes n 0) white
 
-number_is_read : (maxval gap number count : ℕ) (bytes : List ℕ) → length bytes ≤ 1048576 → AllPass is_white (take gap bytes) → IsNumberFirst (drop gap bytes) number count → number ≤ maxval
+number_is_read : (maxval gap number count : ℕ) (bytes : List ℕ) → length bytes ≤ GAP_LIMIT → AllPass is_white (take gap bytes) → IsNumberFirst (drop gap bytes) number count → number ≤ maxval
     → IsSampleFirst (plain_decimal maxval) bytes number (gap + count)
 number_is_read maxval gap number count bytes short white t range =
     let some : gap + count < length bytes = omega (arith, t.within, length-drop gap bytes) in
@@ -188,7 +189,7 @@ number_is_read maxval gap number count bytes short white t range =
           (ends_there bytes rest (gap + count) some follows) range;
     }
 
-pixel_is_read : (gap b sample : ℕ) (bytes : List ℕ) → length bytes ≤ 1048576 → gap < length bytes → AllPass is_white (take gap bytes) → get_or bytes gap 0 ≡ b → 48 ≤ b → sample ≡ 49 - b → b ≤ 49 → IsSampleFirst plain_pixel bytes sample (gap + 1)
+pixel_is_read : (gap b sample : ℕ) (bytes : List ℕ) → length bytes ≤ GAP_LIMIT → gap < length bytes → AllPass is_white (take gap bytes) → get_or bytes gap 0 ≡ b → 48 ≤ b → sample ≡ 49 - b → b ≤ 49 → IsSampleFirst plain_pixel bytes sample (gap + 1)
 pixel_is_read gap b sample bytes short some white is low is_sample high =
     let most : gap + 1 ≤ length bytes = omega arith in
     let small : sample ≤ 1 = omega arith in
@@ -282,7 +283,7 @@ white_more bytes taken at w some white =
     }
 
 -- a number more
-pub number_taken : (maxval : ℕ) (bytes old now new : List ℕ) (taken at skipped number count : ℕ) → length bytes ≤ 1048576 → TakesSamples (plain_decimal maxval) bytes old now taken → IsWhiteFrom bytes taken at
+pub number_taken : (maxval : ℕ) (bytes old now new : List ℕ) (taken at skipped number count : ℕ) → length bytes ≤ GAP_LIMIT → TakesSamples (plain_decimal maxval) bytes old now taken → IsWhiteFrom bytes taken at
     → AllPass is_white (take skipped (drop at bytes)) → IsNumberFirst (drop (at + skipped) bytes) number count → number ≤ maxval → new ≡ now ++ number ∷ [] → TakesSamples (plain_decimal maxval) bytes old new (at + skipped + count)
 number_taken maxval bytes old now new taken at skipped number count short t w white f range e =
     let gap : taken + ((at - taken) + skipped) ≡ at + skipped = omega (arith, w.before) in
@@ -298,7 +299,7 @@ white_after_number bytes start number count f =
     white_more bytes (start + count) (start + count) (white_at_once bytes (start + count) (omega arith)) some (ap is_white (sym (get_or-drop start bytes count 0)) ∙ f.follows)
 
 -- a pixel more
-pub pixel_taken : (bytes old now new : List ℕ) (taken at sample : ℕ) → length bytes ≤ 1048576 → TakesSamples plain_pixel bytes old now taken → IsWhiteFrom bytes taken at → at < length bytes → 48 ≤ get_or bytes at 0 → get_or bytes at 0 ≤ 49
+pub pixel_taken : (bytes old now new : List ℕ) (taken at sample : ℕ) → length bytes ≤ GAP_LIMIT → TakesSamples plain_pixel bytes old now taken → IsWhiteFrom bytes taken at → at < length bytes → 48 ≤ get_or bytes at 0 → get_or bytes at 0 ≤ 49
     → sample ≡ 49 - get_or bytes at 0 → new ≡ now ++ sample ∷ [] → TakesSamples plain_pixel bytes old new (at + 1)
 pixel_taken bytes old now new taken at sample short t w some low high is e =
     let on : taken + (at - taken) ≡ at = omega (arith, w.before) in

@@ -13,9 +13,10 @@ use Rattle.pnm_read.specs.declared.judgement.Judgement.TheVariants.{GoesOn, Ends
 use Rattle.pnm_read.specs.Texts.{is_line_end, is_apart, ends_by, commented, commented_after, ends_in_comment, uncommented_from, uncommented, number_in}
 use Rattle.pnm_image.specs.Texts.{is_white, is_digit, decimal_value}
 use Rattle.pnm_read.specs.Rasters.{IsGap}
-use Rattle.pnm_read.specs.Items.{◌>>=◌, piece_from, gap_limit, ends_in_digit, is_complete, decimal_item, is_pixel, pixel_item}
+use Rattle.pnm_read.specs.Items.{◌>>=◌, piece_from, ends_in_digit, is_complete, decimal_item, is_pixel, pixel_item}
 use Rattle.pnm_read.proofs.CommentLaws.{commented_after-push, ends_by-push}
 use Rattle.pnm_read.proofs.WordLaws.{digit_is_not_sharp, digit_value_is, uncommented-plain, uncommented-comment}
+use Rattle.pnm_read.specs.declared.decimal.TheConstants.{GAP_LIMIT}
 
 -- ---- one byte more
 
@@ -183,14 +184,14 @@ gap-push before b h all = white_by (ends_in_comment before) before b refl h all
 
 -- a byte of a gap lets the piece go on
 abbrev pub GoesOverGaps : (List ℕ → ℕ → Judgement) → Type 0
-GoesOverGaps item = (before : List ℕ) (b : ℕ) → length before < gap_limit → ends_in_digit before ≡ false → in_gap (ends_in_comment before) b ≡ true → item before b ≡ GoesOn
+GoesOverGaps item = (before : List ℕ) (b : ℕ) → length before < GAP_LIMIT → ends_in_digit before ≡ false → in_gap (ends_in_comment before) b ≡ true → item before b ≡ GoesOn
 
 -- what holds after a gap: the piece goes on, and doesn't end in a digit
 abbrev pub AfterGap : (List ℕ → ℕ → Judgement) → (List ℕ → Option InputFault) → List ℕ → List ℕ → List ℕ → Type 0
 AfterGap item at_end before gap rest = (piece_from item at_end before (gap ++ rest) ≡ piece_from item at_end (before ++ gap) rest) × (ends_in_digit (before ++ gap) ≡ false)
 
 pub over_gap : (item : List ℕ → ℕ → Judgement) (at_end : List ℕ → Option InputFault) → GoesOverGaps item → (gap before rest : List ℕ) → ends_in_digit before ≡ false
-    → AllPass is_white (uncommented_from (ends_in_comment before) gap) → length before + length gap ≤ gap_limit → AfterGap item at_end before gap rest
+    → AllPass is_white (uncommented_from (ends_in_comment before) gap) → length before + length gap ≤ GAP_LIMIT → AfterGap item at_end before gap rest
 over_gap item at_end on [] before rest out white short =
     let whole : before ++ [] ≡ before = append-nil before in
     (ap (λ (t : List ℕ). piece_from item at_end t rest) (sym whole), ap ends_in_digit whole ∙ out)
@@ -212,7 +213,7 @@ unfolding commented_after ends_by
 nothing_ends = refl
 
 -- a whole gap is gone over
-pub over_whole_gap : (item : List ℕ → ℕ → Judgement) (at_end : List ℕ → Option InputFault) → GoesOverGaps item → (gap rest : List ℕ) → IsGap gap → length gap ≤ gap_limit → AfterGap item at_end [] gap rest
+pub over_whole_gap : (item : List ℕ → ℕ → Judgement) (at_end : List ℕ → Option InputFault) → GoesOverGaps item → (gap rest : List ℕ) → IsGap gap → length gap ≤ GAP_LIMIT → AfterGap item at_end [] gap rest
 unfolding commented_after
 over_whole_gap item at_end on gap rest g short = over_gap item at_end on gap [] rest nothing_ends g.white (omega arith)
 
@@ -226,13 +227,13 @@ decimal_by long bad complete = if long && not complete then Fails TooLong else i
 abbrev pub is_bad_in_decimal : Bool → ℕ → Bool
 is_bad_in_decimal inside b = not inside && not (is_digit b || is_apart b)
 
-pub decimal_item_is : (before : List ℕ) (b : ℕ) → decimal_item before b ≡ decimal_by (nat_le gap_limit (length before)) (is_bad_in_decimal (ends_in_comment before) b) (is_complete before b)
+pub decimal_item_is : (before : List ℕ) (b : ℕ) → decimal_item before b ≡ decimal_by (nat_le GAP_LIMIT (length before)) (is_bad_in_decimal (ends_in_comment before) b) (is_complete before b)
 unfolding decimal_item
 decimal_item_is before b = refl
 
 -- each judgement, from the tests
-pub decimal_goes_on : (before : List ℕ) (b : ℕ) → length before < gap_limit → is_bad_in_decimal (ends_in_comment before) b ≡ false → is_complete before b ≡ false → decimal_item before b ≡ GoesOn
-decimal_goes_on before b short good more = decimal_item_is before b ∙ rw (lt-leb gap_limit (length before) short, good, more) refl
+pub decimal_goes_on : (before : List ℕ) (b : ℕ) → length before < GAP_LIMIT → is_bad_in_decimal (ends_in_comment before) b ≡ false → is_complete before b ≡ false → decimal_item before b ≡ GoesOn
+decimal_goes_on before b short good more = decimal_item_is before b ∙ rw (lt-leb GAP_LIMIT (length before) short, good, more) refl
 
 ends_before_by : (long bad complete : Bool) → bad ≡ false → complete ≡ true → decimal_by long bad complete ≡ EndsBefore
 ends_before_by true bad complete b c = rw (b, c) refl
@@ -240,7 +241,7 @@ ends_before_by false bad complete b c = rw (b, c) refl
 
 pub decimal_ends_before : (before : List ℕ) (b : ℕ) → is_bad_in_decimal (ends_in_comment before) b ≡ false → is_complete before b ≡ true → decimal_item before b ≡ EndsBefore
 decimal_ends_before before b good end =
-    decimal_item_is before b ∙ ends_before_by (nat_le gap_limit (length before)) (is_bad_in_decimal (ends_in_comment before) b) (is_complete before b) good end
+    decimal_item_is before b ∙ ends_before_by (nat_le GAP_LIMIT (length before)) (is_bad_in_decimal (ends_in_comment before) b) (is_complete before b) good end
 
 -- the tests, from each judgement
 abbrev DecimalTests : Bool → Bool → Bool → Judgement → Type 0
@@ -260,10 +261,10 @@ decimal_tests false false false = (refl, refl, refl)
 
 -- what a judgement of a byte of a number tells
 abbrev pub DecimalTold : List ℕ → ℕ → Judgement → Type 0
-DecimalTold before b j = DecimalTests (nat_le gap_limit (length before)) (is_bad_in_decimal (ends_in_comment before) b) (is_complete before b) j
+DecimalTold before b j = DecimalTests (nat_le GAP_LIMIT (length before)) (is_bad_in_decimal (ends_in_comment before) b) (is_complete before b) j
 
 pub decimal_told : (before : List ℕ) (b : ℕ) → DecimalTold before b (decimal_item before b)
-decimal_told before b = subst (DecimalTold before b) (sym (decimal_item_is before b)) (decimal_tests (nat_le gap_limit (length before)) (is_bad_in_decimal (ends_in_comment before) b) (is_complete before b))
+decimal_told before b = subst (DecimalTold before b) (sym (decimal_item_is before b)) (decimal_tests (nat_le GAP_LIMIT (length before)) (is_bad_in_decimal (ends_in_comment before) b) (is_complete before b))
 
 -- ---- bytes of a pixel
 
@@ -274,15 +275,15 @@ pixel_by long bad pixel = if long then Fails TooLong else if bad then Fails BadS
 abbrev pub is_bad_in_pixels : Bool → ℕ → Bool
 is_bad_in_pixels inside b = not inside && not (is_pixel b || is_apart b)
 
-pub pixel_item_is : (before : List ℕ) (b : ℕ) → pixel_item before b ≡ pixel_by (nat_le gap_limit (length before)) (is_bad_in_pixels (ends_in_comment before) b) (not (ends_in_comment before) && is_pixel b)
+pub pixel_item_is : (before : List ℕ) (b : ℕ) → pixel_item before b ≡ pixel_by (nat_le GAP_LIMIT (length before)) (is_bad_in_pixels (ends_in_comment before) b) (not (ends_in_comment before) && is_pixel b)
 unfolding pixel_item
 pixel_item_is before b = refl
 
-pixel_goes_on : (before : List ℕ) (b : ℕ) → length before < gap_limit → is_bad_in_pixels (ends_in_comment before) b ≡ false → (not (ends_in_comment before) && is_pixel b) ≡ false → pixel_item before b ≡ GoesOn
-pixel_goes_on before b short good more = pixel_item_is before b ∙ rw (lt-leb gap_limit (length before) short, good, more) refl
+pixel_goes_on : (before : List ℕ) (b : ℕ) → length before < GAP_LIMIT → is_bad_in_pixels (ends_in_comment before) b ≡ false → (not (ends_in_comment before) && is_pixel b) ≡ false → pixel_item before b ≡ GoesOn
+pixel_goes_on before b short good more = pixel_item_is before b ∙ rw (lt-leb GAP_LIMIT (length before) short, good, more) refl
 
-pub pixel_ends_with : (before : List ℕ) (b : ℕ) → length before < gap_limit → is_bad_in_pixels (ends_in_comment before) b ≡ false → (not (ends_in_comment before) && is_pixel b) ≡ true → pixel_item before b ≡ EndsWith
-pixel_ends_with before b short good end = pixel_item_is before b ∙ rw (lt-leb gap_limit (length before) short, good, end) refl
+pub pixel_ends_with : (before : List ℕ) (b : ℕ) → length before < GAP_LIMIT → is_bad_in_pixels (ends_in_comment before) b ≡ false → (not (ends_in_comment before) && is_pixel b) ≡ true → pixel_item before b ≡ EndsWith
+pixel_ends_with before b short good end = pixel_item_is before b ∙ rw (lt-leb GAP_LIMIT (length before) short, good, end) refl
 
 abbrev PixelTests : Bool → Bool → Bool → Judgement → Type 0
 PixelTests long bad pixel (Fails fault) = Unit {0}
@@ -298,10 +299,10 @@ pixel_tests false false false = (refl, refl, refl)
 
 -- what a judgement of a byte of a pixel's piece tells
 abbrev pub PixelTold : List ℕ → ℕ → Judgement → Type 0
-PixelTold before b j = PixelTests (nat_le gap_limit (length before)) (is_bad_in_pixels (ends_in_comment before) b) (not (ends_in_comment before) && is_pixel b) j
+PixelTold before b j = PixelTests (nat_le GAP_LIMIT (length before)) (is_bad_in_pixels (ends_in_comment before) b) (not (ends_in_comment before) && is_pixel b) j
 
 pub pixel_told : (before : List ℕ) (b : ℕ) → PixelTold before b (pixel_item before b)
-pixel_told before b = subst (PixelTold before b) (sym (pixel_item_is before b)) (pixel_tests (nat_le gap_limit (length before)) (is_bad_in_pixels (ends_in_comment before) b) (not (ends_in_comment before) && is_pixel b))
+pixel_told before b = subst (PixelTold before b) (sym (pixel_item_is before b)) (pixel_tests (nat_le GAP_LIMIT (length before)) (is_bad_in_pixels (ends_in_comment before) b) (not (ends_in_comment before) && is_pixel b))
 
 -- ---- gaps are gone over
 

@@ -15,10 +15,11 @@ use Rattle.pnm_read.specs.Texts.{is_apart, begins_apart, ends_by, commented, end
 use Rattle.pnm_image.specs.Texts.{is_white, is_digit, decimal_value}
 use Rattle.pnm_image.proofs.BoolLaws.{not_and_parts}
 use Rattle.pnm_read.specs.Rasters.{IsGap, SpellsDecimal, SpellsSample, SpellsPiece, MayFollow}
-use Rattle.pnm_read.specs.Items.{◌>>=◌, piece_from, gap_limit, ends_in_digit, is_complete, decimal_item, decimal_end, is_pixel, pixel_item, pixel_end, pixel_in, plain_pixel, sample_item, plain_decimal, plain_sample}
+use Rattle.pnm_read.specs.Items.{◌>>=◌, piece_from, ends_in_digit, is_complete, decimal_item, decimal_end, is_pixel, pixel_item, pixel_end, pixel_in, plain_pixel, sample_item, plain_decimal, plain_sample}
 use Rattle.pnm_read.proofs.CommentLaws.{uncommented_from-append, ends_by-push}
 use Rattle.pnm_read.proofs.PieceLaws.{bind_ok, done, ok_is, piece_step, FoundBy, found_from, found_at_end, piece_ends, found_is_whole, in_gap, apart_is_no_digit, after_gap_byte, ends_in_digit-push, gap-push, nothing_ends, over_whole_gap, is_bad_in_decimal, decimal_goes_on, decimal_ends_before, DecimalTold, decimal_told, is_bad_in_pixels, pixel_ends_with, PixelTold, pixel_told, good_in_gap, decimals_go_over_gaps, pixels_go_over_gaps, if_ok}
 use Rattle.pnm_read.proofs.WordLaws.{digit_is_not_sharp, white_is_not_digit}
+use Rattle.pnm_read.specs.declared.decimal.TheConstants.{GAP_LIMIT}
 
 -- ---- digits
 
@@ -27,7 +28,7 @@ bad_no_more true digit apart e = refl
 bad_no_more false digit apart e = ap (λ (d : Bool). not (d || apart)) e
 
 -- a digit lets the piece go on
-digit_goes_on : (before : List ℕ) (b : ℕ) → length before < gap_limit → is_digit b ≡ true → decimal_item before b ≡ GoesOn
+digit_goes_on : (before : List ℕ) (b : ℕ) → length before < GAP_LIMIT → is_digit b ≡ true → decimal_item before b ≡ GoesOn
 digit_goes_on before b short h = decimal_goes_on before b short (bad_no_more (ends_in_comment before) (is_digit b) (is_apart b) h) (and_right (ends_in_digit before) (not (is_digit b)) (not_from_true (is_digit b) h))
 
 -- a text outside comments and a digit end in a digit
@@ -36,7 +37,7 @@ ends_in_digit-digit before b e h =
     ends_in_digit-push before b ∙ ap (λ (i : Bool). not (commented i b) && is_digit b) e ∙ ap (λ (m : Bool). not m && is_digit b) (digit_is_not_sharp b h) ∙ h
 
 -- digits are gone over
-over_digits : (digits before rest : List ℕ) → ends_in_digit before ≡ true → AllPass is_digit digits → length before + length digits ≤ gap_limit
+over_digits : (digits before rest : List ℕ) → ends_in_digit before ≡ true → AllPass is_digit digits → length before + length digits ≤ GAP_LIMIT
     → (piece_from decimal_item decimal_end before (digits ++ rest) ≡ piece_from decimal_item decimal_end (before ++ digits) rest) × (ends_in_digit (before ++ digits) ≡ true)
 over_digits [] before rest out digits short =
     let whole : before ++ [] ≡ before = append-nil before in
@@ -47,7 +48,7 @@ over_digits (b ∷ digits) before rest out all short =
     let long : length (before ++ b ∷ []) ≡ length before + 1 = length-append before (b ∷ []) in
     let more = over_digits digits (before ++ b ∷ []) rest (ends_in_digit-digit before b outside first) (All-tail (λ x. is_digit x ≡ true) b digits all) (omega arith) in
     let whole : (before ++ b ∷ []) ++ digits ≡ before ++ b ∷ digits = append_assoc before (b ∷ []) digits in
-    let short_here : length before < gap_limit = omega arith in (
+    let short_here : length before < GAP_LIMIT = omega arith in (
       piece_step decimal_item decimal_end before b (digits ++ rest) GoesOn (digit_goes_on before b short_here first) ∙ more.0 ∙ ap (λ (t : List ℕ). piece_from decimal_item decimal_end t rest) whole,
       ap ends_in_digit (sym whole) ∙ more.1,
     )
@@ -65,12 +66,12 @@ digits_end before (b ∷ rest) out apart =
     piece_step decimal_item decimal_end before b rest EndsBefore (decimal_ends_before before b (apart_is_good (ends_in_comment before) b apart) complete)
 
 -- a gap and digits are read as one piece
-decimal_piece_is_read : (gap digits rest : List ℕ) → IsGap gap → 0 < length digits → AllPass is_digit digits → length (gap ++ digits) ≤ gap_limit → begins_apart rest ≡ true
+decimal_piece_is_read : (gap digits rest : List ℕ) → IsGap gap → 0 < length digits → AllPass is_digit digits → length (gap ++ digits) ≤ GAP_LIMIT → begins_apart rest ≡ true
     → piece_from decimal_item decimal_end [] ((gap ++ digits) ++ rest) ≡ Ok (gap ++ digits, rest)
 decimal_piece_is_read gap [] rest g some all short apart = absurd (omega (arith, some))
 decimal_piece_is_read gap (b ∷ digits) rest g some all short apart =
     let lengths : length (gap ++ b ∷ digits) ≡ length gap + suc (length digits) = length-append gap (b ∷ digits) in
-    let within : length gap < gap_limit = omega arith in
+    let within : length gap < GAP_LIMIT = omega arith in
     let first : is_digit b ≡ true = All-head (λ x. is_digit x ≡ true) b digits all in
     let over = over_whole_gap decimal_item decimal_end decimals_go_over_gaps gap (b ∷ digits ++ rest) g (omega arith) in
     let long : length (gap ++ b ∷ []) ≡ length gap + 1 = length-append gap (b ∷ []) in
@@ -115,7 +116,7 @@ number_of_piece gap digits g all =
 -- ---- what is spelled is read
 
 -- a number and the gap before it are read
-spelled_decimal_is_read : (maxval : ℕ) (gap digits rest : List ℕ) (sample : ℕ) → IsGap gap → SpellsDecimal digits sample → length (gap ++ digits) ≤ gap_limit → begins_apart rest ≡ true → sample ≤ maxval
+spelled_decimal_is_read : (maxval : ℕ) (gap digits rest : List ℕ) (sample : ℕ) → IsGap gap → SpellsDecimal digits sample → length (gap ++ digits) ≤ GAP_LIMIT → begins_apart rest ≡ true → sample ≤ maxval
     → plain_decimal maxval ((gap ++ digits) ++ rest) ≡ Ok (sample, rest)
 unfolding plain_decimal
 spelled_decimal_is_read maxval gap digits rest sample g d short apart range =
@@ -136,22 +137,22 @@ pixel_is_good true b e h = absurd cc
 pixel_is_good false b e h = (ap (λ (t : Bool). not (t || is_apart b)) h, h)
 
 -- a pixel and the gap before it are read
-spelled_pixel_is_read : (gap rest : List ℕ) (b : ℕ) → IsGap gap → is_pixel b ≡ true → length (gap ++ b ∷ []) ≤ gap_limit → plain_pixel ((gap ++ b ∷ []) ++ rest) ≡ Ok (if b == 49 then 0 else 1, rest)
+spelled_pixel_is_read : (gap rest : List ℕ) (b : ℕ) → IsGap gap → is_pixel b ≡ true → length (gap ++ b ∷ []) ≤ GAP_LIMIT → plain_pixel ((gap ++ b ∷ []) ++ rest) ≡ Ok (if b == 49 then 0 else 1, rest)
 unfolding plain_pixel
 spelled_pixel_is_read gap rest b g h short =
     let lengths : length (gap ++ b ∷ []) ≡ length gap + 1 = length-append gap (b ∷ []) in
-    let within : length gap < gap_limit = omega arith in
+    let within : length gap < GAP_LIMIT = omega arith in
     let over = over_whole_gap pixel_item pixel_end pixels_go_over_gaps gap (b ∷ rest) g (omega arith) in
     let good = pixel_is_good (ends_in_comment gap) b g.outside h in
     let found : piece_from pixel_item pixel_end [] ((gap ++ b ∷ []) ++ rest) ≡ Ok (gap ++ b ∷ [], rest) =
     ap (piece_from pixel_item pixel_end []) (append_assoc gap (b ∷ []) rest) ∙ over.0 ∙ piece_step pixel_item pixel_end gap b rest EndsWith (pixel_ends_with gap b within good.0 good.1) in
     ap (λ (r : Result (List ℕ × List ℕ) InputFault). r >>= λ piece. Ok (pixel_in piece.0, piece.1)) found ∙ ap (λ (t : Bool). done (if t then 0 else 1, rest)) (ends_by-push (λ c. c == 49) gap b)
 
-spelled_by_kind : (kind : Kind) (maxval : ℕ) (gap digits rest : List ℕ) (sample : ℕ) → IsGap gap → SpellsSample kind digits sample → length (gap ++ digits) ≤ gap_limit → MayFollow kind rest → sample ≤ maxval
+spelled_by_kind : (kind : Kind) (maxval : ℕ) (gap digits rest : List ℕ) (sample : ℕ) → IsGap gap → SpellsSample kind digits sample → length (gap ++ digits) ≤ GAP_LIMIT → MayFollow kind rest → sample ≤ maxval
     → plain_sample kind maxval ((gap ++ digits) ++ rest) ≡ Ok (sample, rest)
 spelled_by_kind Bit maxval gap digits rest sample g d short follows range =
     let p = pixel_of_sample sample d.0 in
-    let short_here : length (gap ++ (49 - sample) ∷ []) ≤ gap_limit = subst (λ (t : List ℕ). length (gap ++ t) ≤ gap_limit) d.1 short in
+    let short_here : length (gap ++ (49 - sample) ∷ []) ≤ GAP_LIMIT = subst (λ (t : List ℕ). length (gap ++ t) ≤ GAP_LIMIT) d.1 short in
     ap (λ (t : List ℕ). plain_pixel ((gap ++ t) ++ rest)) d.1 ∙ spelled_pixel_is_read gap rest (49 - sample) g p.0 short_here ∙ ap (λ (n : ℕ). done (n, rest)) p.1
 spelled_by_kind Gray maxval gap digits rest sample g d short follows range = spelled_decimal_is_read maxval gap digits rest sample g d short follows range
 spelled_by_kind Color maxval gap digits rest sample g d short follows range = spelled_decimal_is_read maxval gap digits rest sample g d short follows range
@@ -161,7 +162,7 @@ spelled_by_kind Pam maxval gap digits rest sample g d short follows range = spel
 pub spelled_piece_is_read : (kind : Kind) (maxval : ℕ) (piece rest : List ℕ) (sample : ℕ) → SpellsPiece kind piece sample → MayFollow kind rest → sample ≤ maxval
     → plain_sample kind maxval (piece ++ rest) ≡ Ok (sample, rest)
 spelled_piece_is_read kind maxval piece rest sample s follows range =
-    let short : length (s.gap ++ s.digits) ≤ gap_limit = subst (λ (t : List ℕ). length t ≤ gap_limit) s.whole s.short in
+    let short : length (s.gap ++ s.digits) ≤ GAP_LIMIT = subst (λ (t : List ℕ). length t ≤ GAP_LIMIT) s.whole s.short in
     ap (λ (t : List ℕ). plain_sample kind maxval (t ++ rest)) s.whole ∙ spelled_by_kind kind maxval s.gap s.digits rest sample s.gap_is s.digits_are short follows range
 
 -- ---- what is read is spelled
@@ -174,7 +175,7 @@ record InDigits (before : List ℕ) : Type 0 where
   pub gap_is : IsGap gap
   pub some : 0 < length digits
   pub all : AllPass is_digit digits
-  pub short : length before ≤ gap_limit
+  pub short : length before ≤ GAP_LIMIT
   pub ends : ends_in_digit before ≡ true
 
 -- a number that was read, and what may follow it
@@ -182,13 +183,13 @@ record IsDecimal (found : List ℕ × List ℕ) : Type 0 where
   pub read : InDigits found.0
   pub follows : begins_apart found.1 ≡ true
 
-short-push : (before : List ℕ) (b : ℕ) → nat_le gap_limit (length before) ≡ false → length (before ++ b ∷ []) ≤ gap_limit
+short-push : (before : List ℕ) (b : ℕ) → nat_le GAP_LIMIT (length before) ≡ false → length (before ++ b ∷ []) ≤ GAP_LIMIT
 short-push before b e =
-    let within : length before < gap_limit = leb-false gap_limit (length before) e in
+    let within : length before < GAP_LIMIT = leb-false GAP_LIMIT (length before) e in
     omega (arith, length-append before (b ∷ []))
 
 -- one digit more
-digits-push : (before : List ℕ) (b : ℕ) → InDigits before → nat_le gap_limit (length before) ≡ false → is_digit b ≡ true → InDigits (before ++ b ∷ [])
+digits-push : (before : List ℕ) (b : ℕ) → InDigits before → nat_le GAP_LIMIT (length before) ≡ false → is_digit b ≡ true → InDigits (before ++ b ∷ [])
 digits-push before b s short h = record {
   gap = s.gap;
   digits = s.digits ++ b ∷ [];
@@ -233,7 +234,7 @@ record InGap (before : List ℕ) : Type 0 where
   pub ends : ends_in_digit before ≡ false
 
 -- the first digit
-first_digit : (before : List ℕ) (b : ℕ) → InGap before → nat_le gap_limit (length before) ≡ false → (not (ends_in_comment before) && is_digit b) ≡ true → InDigits (before ++ b ∷ [])
+first_digit : (before : List ℕ) (b : ℕ) → InGap before → nat_le GAP_LIMIT (length before) ≡ false → (not (ends_in_comment before) && is_digit b) ≡ true → InDigits (before ++ b ∷ [])
 first_digit before b s short h =
     let parts = not_and_parts (ends_in_comment before) (is_digit b) h in
     record {
@@ -329,7 +330,7 @@ record IsPixelPiece (found : List ℕ × List ℕ) : Type 0 where
   pub whole : found.0 ≡ gap ++ character ∷ []
   pub gap_is : IsGap gap
   pub pixel : is_pixel character ≡ true
-  pub short : length found.0 ≤ gap_limit
+  pub short : length found.0 ≤ GAP_LIMIT
 
 in_pixel_gap_by : (before : List ℕ) (b : ℕ) (text : List ℕ) (found : List ℕ × List ℕ) (j : Judgement) → AllPass is_white (uncommented before) → PixelTold before b j → FoundBy pixel_item pixel_end before b text found j
     → (AllPass is_white (uncommented (before ++ b ∷ [])) → piece_from pixel_item pixel_end (before ++ b ∷ []) text ≡ Ok found → IsPixelPiece found) → IsPixelPiece found

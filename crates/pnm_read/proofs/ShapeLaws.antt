@@ -9,6 +9,7 @@ use Rattle.pnm_image.specs.Heads.{HeadValue, IsWithinLimits, row_length, shape_f
 use Rattle.pnm_image.proofs.Heads.{sizes_within, not_large_size}
 use Rattle.pnm_read.specs.declared.fault.InputFault.{InputFault}
 use Rattle.pnm_read.specs.Items.{fault_of_head}
+use Rattle.pnm_image.specs.declared.limits.TheConstants.{MAX_DEPTH, MAX_MAXVAL, MAX_ROW_LENGTH, MAX_SIDE}
 
 -- a head, or its fault
 abbrev pub head_or_fault : Option HeadFault → HeadValue → Result HeadValue InputFault
@@ -37,7 +38,7 @@ maxval_is_not_bad maxval e = (grind (arith, nat_tests), grind (arith, nat_tests)
 -- a shape without a fault is within the limits, and has rows
 pub limits_of : (s : Shape) → shape_fault s ≡ None → IsWithinLimits s × (0 < s.height)
 limits_of s e =
-    let tests = no_fault ((s.width == 0) || (s.height == 0) || (s.depth == 0)) (nat_lt 1000000 s.width || nat_lt 1000000 s.height || nat_lt 256 s.depth || nat_lt 16777216 (row_length s)) ((s.maxval == 0) || nat_lt 65535 s.maxval) heads.ZeroSize heads.TooLarge heads.BadMaxval e in
+    let tests = no_fault ((s.width == 0) || (s.height == 0) || (s.depth == 0)) (nat_lt MAX_SIDE s.width || nat_lt MAX_SIDE s.height || nat_lt MAX_DEPTH s.depth || nat_lt MAX_ROW_LENGTH (row_length s)) ((s.maxval == 0) || nat_lt MAX_MAXVAL s.maxval) heads.ZeroSize heads.TooLarge heads.BadMaxval e in
     let low = sizes_are_not_zero s.width s.height s.depth tests.0 in
     let high = sizes_within s.width s.height s.depth (row_length s) tests.1 in
     let maxval = maxval_is_not_bad s.maxval tests.2 in

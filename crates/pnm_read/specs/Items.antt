@@ -26,6 +26,7 @@ use Rattle.pnm_image.specs.Formats.{format_of, is_plain_form}
 use Rattle.pnm_read.specs.Formats.{shape_of}
 use Rattle.pnm_read.specs.PamLines.{ended_lines, last_line, second_token, line_kind, field_values, tuple_type_in}
 use Rattle.pnm_read.specs.Rasters.{pixels}
+use Rattle.pnm_read.specs.declared.decimal.TheConstants.{GAP_LIMIT}
 
 infixl 10 ◌>>=◌
 abbrev pub ◌>>=◌ : {A B : Type 0} → Result A InputFault → (A → Result B InputFault) → Result B InputFault
@@ -181,10 +182,6 @@ raw_item Words maxval (b ∷ c ∷ text) = if nat_le (256 * b + c) maxval then O
 
 -- ---- plain rasters
 
--- the bytes from after a sample's last digit through the next sample's last digit, at most
-abbrev pub gap_limit : ℕ
-gap_limit = 1048576
-
 -- the last byte is a digit outside comments
 abbrev pub ends_in_digit : List ℕ → Bool
 ends_in_digit before = not (ends_in_comment before) && ends_by is_digit before
@@ -196,7 +193,7 @@ is_complete before b = ends_in_digit before && not (is_digit b)
 -- a byte of a number, or of the gap before it
 unfoldable pub decimal_item : List ℕ → ℕ → Judgement
 decimal_item before b =
-    if nat_le gap_limit (length before) && not (is_complete before b) then Fails TooLong
+    if nat_le GAP_LIMIT (length before) && not (is_complete before b) then Fails TooLong
     else if not (ends_in_comment before) && not (is_digit b || is_apart b) then Fails BadSample
     else if is_complete before b then EndsBefore
     else GoesOn
@@ -210,7 +207,7 @@ is_pixel b = (b == digit_zero) || (b == digit_one)
 -- a pixel, or a byte of the gap before it
 unfoldable pub pixel_item : List ℕ → ℕ → Judgement
 pixel_item before b =
-    if nat_le gap_limit (length before) then Fails TooLong
+    if nat_le GAP_LIMIT (length before) then Fails TooLong
     else if not (ends_in_comment before) && not (is_pixel b || is_apart b) then Fails BadSample
     else if not (ends_in_comment before) && is_pixel b then EndsWith
     else GoesOn

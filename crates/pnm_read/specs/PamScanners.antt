@@ -4,7 +4,7 @@ use Rattle.std.specs.List.{list_all}
 use Rattle.pnm_read.specs.declared.fault.InputFault.TheVariants.{BadPamLine, BadNumber, DuplicateField, TooLong, Memory}
 use Rattle.pnm_read.specs.declared.judgement.Judgement.{Judgement}
 use Rattle.pnm_read.specs.declared.judgement.Judgement.TheVariants.{GoesOn, EndsWith, EndsBefore, Fails}
-use Rattle.pnm_image.specs.Limits.{max_tuple_type_length}
+use Rattle.pnm_image.specs.declared.limits.TheConstants.{MAX_TUPLE_TYPE_LENGTH}
 use Rattle.pnm_image.specs.declared.shape.Shape.{Shape}
 use Rattle.pnm_image.specs.declared.shape.Kind.TheVariants.{Pam}
 use Rattle.pnm_read.specs.declared.line.Field.{Field}
@@ -32,7 +32,7 @@ pub record IsFields (fields : Fields) (lines : List (List ℕ)) : Type 0 where
   pub depth : fields.depth ≡ held_number (field_values Depth lines)
   pub maxval : fields.maxval ≡ held_number (field_values Maxval lines)
   pub tuple_type : fields.tuple_type.items ≡ tuple_type_in lines
-  pub short : length (tuple_type_in lines) ≤ max_tuple_type_length
+  pub short : length (tuple_type_in lines) ≤ MAX_TUPLE_TYPE_LENGTH
 
 -- the fields after a line that was judged so
 abbrev pub TakesLine : Fields → Judgement → List (List ℕ) → Type 0

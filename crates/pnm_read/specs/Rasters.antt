@@ -14,6 +14,7 @@ use Rattle.pnm_image.specs.Images.{Image, IsImage, cut_rows, rows_of}
 use Rattle.pnm_image.specs.declared.sample_width.SampleWidth.TheVariants.{Bits, Bytes, Words}
 use Rattle.pnm_read.specs.Texts.{begins_apart, ends_in_comment, uncommented}
 use Rattle.pnm_image.specs.Texts.{is_white, is_digit, decimal_value}
+use Rattle.pnm_read.specs.declared.decimal.TheConstants.{GAP_LIMIT}
 
 -- ---- raw
 
@@ -76,7 +77,7 @@ pub record SpellsPiece (kind : Kind) (text : List ℕ) (sample : ℕ) : Type 0 w
   pub whole : text ≡ gap ++ digits
   pub gap_is : IsGap gap
   pub digits_are : SpellsSample kind digits sample
-  pub short : length text ≤ 1048576
+  pub short : length text ≤ GAP_LIMIT
 
 -- what may follow a sample: after a number its digits have ended; after a pixel anything
 abbrev pub MayFollow : Kind → List ℕ → Type 0

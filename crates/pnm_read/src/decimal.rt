@@ -25,7 +25,7 @@ pub struct DecimalScanner {
     in_comment: bool,
     /// The bytes that have come.
     length: usize,
-    ghost short: { length ≤ 1048576 },
+    ghost short: { length ≤ GAP_LIMIT },
 }
 
 impl DecimalScanner {
@@ -53,7 +53,7 @@ impl DecimalScanner {
     #[tactic(auto, unfolding(crate::specs::Items::decimal_item))]
     fn judge(&self, byte: u8) -> Judgement
         ensures judged { JudgesDecimal self.now byte result }
-        ensures short { result ≡ GoesOn → self.now.length < 1048576 }
+        ensures short { result ≡ GoesOn → self.now.length < GAP_LIMIT }
         ensures of_text { result ≡ Fails ReadFailed → ⊥ }
         ensures no_memory { result ≡ Fails Memory → ⊥ }
     {
@@ -71,7 +71,7 @@ impl DecimalScanner {
 
     /// Takes a byte with which the number, or the gap before it, goes on.
     fn push(&mut self, byte: u8)
-        requires { self.old.length < 1048576 }
+        requires { self.old.length < GAP_LIMIT }
         ensures { PushesDecimal self.old byte self.new }
     {
         self.in_number = !self.in_comment && is_digit(byte);
@@ -99,7 +99,7 @@ impl Scanner for DecimalScanner {
 
     ghost is_whole = { IsDecimalWhole };
 
-    ghost room = { λ s. 1048576 - s.length };
+    ghost room = { λ s. GAP_LIMIT - s.length };
 
     ghost keeps_bytes = { false };
 

@@ -26,8 +26,7 @@ pub enum InputFault {
     /// The width, the height or the depth is 0.
     #[error("ZeroSize")]
     ZeroSize,
-    /// The width or the height is above 1,000,000, the depth above 256, or a row has more than
-    /// 16,777,216 samples.
+    /// The width, the height, the depth, or the samples of a row are beyond the limits.
     #[error("TooLarge")]
     TooLarge,
     /// The maxval is 0 or above 65,535.

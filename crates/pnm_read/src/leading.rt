@@ -5,9 +5,9 @@
 ghost use Rattle.std.specs.Prelude.{◌≡◌, ◌≤◌, ◌<◌, ◌-◌, length, take, true, IfOk, IfSome};
 ghost use Rattle.std.specs.List.{AllPass};
 ghost use Rattle.pnm_image.specs.Characters.{digit_zero};
-ghost use Rattle.pnm_image.specs.Limits.{max_maxval};
+ghost use Rattle.pnm_image.specs.declared.limits.TheConstants.{MAX_MAXVAL};
 ghost use Rattle.pnm_image.specs.Texts.{is_white, is_digit};
-ghost use Rattle.pnm_read.specs.Items.{plain_sample, plain_pixel, plain_decimal, gap_limit};
+ghost use Rattle.pnm_read.specs.Items.{plain_sample, plain_pixel, plain_decimal};
 ghost use Rattle.pnm_read.specs.Leading.{IsNumberFirst, TakesSamples};
 
 use crate::decimal::GAP_LIMIT;
@@ -30,7 +30,7 @@ pub fn take_samples(
     wanted: usize,
     row: &mut Vec<u16>,
 ) -> Result<usize, AllocError>
-    requires { shape.maxval ≤ max_maxval }
+    requires { shape.maxval ≤ MAX_MAXVAL }
     ensures taken { IfOk result (TakesSamples (plain_sample shape.kind shape.maxval) bytes.now row.old.items row.new.items) }
     ensures most { IfOk result (λ _. length row.old.items ≤ wanted → length row.new.items ≤ wanted) }
 {
@@ -44,7 +44,7 @@ pub fn take_samples(
 
 /// Appends the pixels as samples. No branch hangs on which of the two a pixel is.
 fn take_pixels(bytes: &[u8], wanted: usize, row: &mut Vec<u16>) -> Result<usize, AllocError>
-    requires { length bytes.now ≤ gap_limit }
+    requires { length bytes.now ≤ GAP_LIMIT }
     ensures taken { IfOk result (TakesSamples plain_pixel bytes.now row.old.items row.new.items) }
     ensures most { IfOk result (λ _. length row.old.items ≤ wanted → length row.new.items ≤ wanted) }
 {
@@ -70,8 +70,8 @@ fn take_numbers(
     wanted: usize,
     row: &mut Vec<u16>,
 ) -> Result<usize, AllocError>
-    requires maxval { maxval ≤ max_maxval }
-    requires short { length bytes.now ≤ gap_limit }
+    requires maxval { maxval ≤ MAX_MAXVAL }
+    requires short { length bytes.now ≤ GAP_LIMIT }
     ensures taken { IfOk result (TakesSamples (plain_decimal maxval) bytes.now row.old.items row.new.items) }
     ensures most { IfOk result (λ _. length row.old.items ≤ wanted → length row.new.items ≤ wanted) }
 {
@@ -105,7 +105,7 @@ fn white_first(bytes: &[u8]) -> usize
 
 /// The number up to the maxval that comes first, and how many digits it has.
 fn sample_first(bytes: &[u8], maxval: u32) -> Option<(u16, usize)>
-    requires { maxval ≤ max_maxval }
+    requires { maxval ≤ MAX_MAXVAL }
     ensures number { IfSome result (λ found. IsNumberFirst bytes.now found.0 found.1) }
     ensures most { IfSome result (λ found. found.0 ≤ maxval) }
 {

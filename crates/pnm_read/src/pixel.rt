@@ -18,7 +18,7 @@ pub struct PixelScanner {
     in_comment: bool,
     /// The bytes of the gap that have come.
     length: usize,
-    ghost short: { length ≤ 1048576 },
+    ghost short: { length ≤ GAP_LIMIT },
 }
 
 impl PixelScanner {
@@ -45,7 +45,7 @@ impl PixelScanner {
     #[tactic(auto, unfolding(crate::specs::Items::pixel_item))]
     fn judge(&self, byte: u8) -> Judgement
         ensures judged { JudgesPixel self.now byte result }
-        ensures short { result ≡ GoesOn → self.now.length < 1048576 }
+        ensures short { result ≡ GoesOn → self.now.length < GAP_LIMIT }
         ensures of_text { result ≡ Fails ReadFailed → ⊥ }
         ensures no_memory { result ≡ Fails Memory → ⊥ }
     {
@@ -75,7 +75,7 @@ impl Scanner for PixelScanner {
 
     ghost is_whole = { IsPixelWhole };
 
-    ghost room = { λ s. 1048576 - s.length };
+    ghost room = { λ s. GAP_LIMIT - s.length };
 
     ghost keeps_bytes = { false };
 

@@ -1,7 +1,7 @@
 //! The rows of a plain raster.
 
 ghost use Rattle.std.specs.Prelude.{◌≡◌, ◌≤◌, true};
-ghost use Rattle.pnm_image.specs.Limits.{max_maxval};
+ghost use Rattle.pnm_image.specs.declared.limits.TheConstants.{MAX_MAXVAL};
 ghost use Rattle.pnm_image.specs.Heads.{row_length};
 ghost use Rattle.pnm_read.specs.Items.{plain_pixel, plain_decimal, plain_sample, after_last_item};
 ghost use Rattle.pnm_read.specs.Said.{plain_row, row_by};
@@ -23,7 +23,7 @@ pub fn read_row<R: BytesIn>(
     shape: Shape,
     more: u32,
 ) -> Result<Samples, InputFault>
-    requires { shape.maxval ≤ max_maxval }
+    requires { shape.maxval ≤ MAX_MAXVAL }
     ensures { Turn R.left R.failures R.same input.old input.new result (Finds (row_by true shape more) result) }
 {
     let row = read_samples(input, shape)?;
@@ -36,7 +36,7 @@ pub fn read_row<R: BytesIn>(
 /// The samples of the next row: those that the bytes which are held tell by themselves, and the
 /// others by a scanner each.
 fn read_samples<R: BytesIn>(input: &mut Input<R>, shape: Shape) -> Result<Samples, InputFault>
-    requires { shape.maxval ≤ max_maxval }
+    requires { shape.maxval ≤ MAX_MAXVAL }
     ensures { Turn R.left R.failures R.same input.old input.new result (Finds (plain_row shape) result) }
 {
     let length = shape.row_length() as usize;
@@ -62,7 +62,7 @@ fn read_samples<R: BytesIn>(input: &mut Input<R>, shape: Shape) -> Result<Sample
 
 /// The next sample.
 fn read_sample<R: BytesIn>(input: &mut Input<R>, kind: Kind, maxval: u32) -> Result<u16, InputFault>
-    requires { maxval ≤ max_maxval }
+    requires { maxval ≤ MAX_MAXVAL }
     ensures { Turn R.left R.failures R.same input.old input.new result (Finds (plain_sample kind maxval) result) }
 {
     match kind {
@@ -84,7 +84,7 @@ fn read_pixel<R: BytesIn>(input: &mut Input<R>) -> Result<u16, InputFault>
 /// The next number, at most the maxval.
 #[tactic(auto, unfolding(crate::specs::Items::plain_decimal))]
 fn read_decimal<R: BytesIn>(input: &mut Input<R>, maxval: u32) -> Result<u16, InputFault>
-    requires { maxval ≤ max_maxval }
+    requires { maxval ≤ MAX_MAXVAL }
     ensures { Turn R.left R.failures R.same input.old input.new result (Finds (plain_decimal maxval) result) }
 {
     let mut number = DecimalScanner::new();

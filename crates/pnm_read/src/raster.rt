@@ -1,7 +1,7 @@
 //! How far a raster was read.
 
 ghost use Rattle.std.specs.Prelude.{◌≡◌, ◌≤◌, ◌<◌, ◌+◌};
-ghost use Rattle.pnm_image.specs.Limits.{max_maxval, max_side};
+ghost use Rattle.pnm_image.specs.declared.limits.TheConstants.{MAX_MAXVAL, MAX_SIDE};
 
 use pnm_image::{Format, Shape};
 
@@ -12,15 +12,15 @@ pub struct Raster {
     pub shape: Shape,
     pub y: u32,
     ghost within: { y ≤ shape.height },
-    ghost width: { shape.width ≤ max_side },
-    ghost maxval: { shape.maxval ≤ max_maxval },
+    ghost width: { shape.width ≤ MAX_SIDE },
+    ghost maxval: { shape.maxval ≤ MAX_MAXVAL },
 }
 
 impl Raster {
     /// A raster of which no row has passed.
     pub fn new(format: Format, shape: Shape) -> Raster
-        requires width { shape.width ≤ max_side }
-        requires maxval { shape.maxval ≤ max_maxval }
+        requires width { shape.width ≤ MAX_SIDE }
+        requires maxval { shape.maxval ≤ MAX_MAXVAL }
         ensures format { result.format ≡ format }
         ensures shape { result.shape ≡ shape }
         ensures y { result.y ≡ 0 }

@@ -1,7 +1,7 @@
 //! The rows of a raw raster.
 
 ghost use Rattle.std.specs.Prelude.{◌≡◌, ◌≤◌, ◌<◌, [], All, IfOk, OnOk, length, take};
-ghost use Rattle.pnm_image.specs.Limits.{max_side};
+ghost use Rattle.pnm_image.specs.declared.limits.TheConstants.{MAX_SIDE};
 ghost use Rattle.pnm_image.specs.SampleWidths.{sample_width_of};
 ghost use Rattle.pnm_image.specs.declared.sample_width.SampleWidth.TheVariants.{Words};
 ghost use Rattle.pnm_read.specs.Said.{raw_row};
@@ -17,7 +17,7 @@ use pnm_image::{Bits, BytesIn, SampleVec, SampleWidth, Samples, Shape};
 /// The next row, held as it was read, without a copy. No sample is looked at again: none is above the
 /// maxval.
 pub fn read_row<R: BytesIn>(input: &mut Input<R>, shape: Shape) -> Result<Samples, InputFault>
-    requires { shape.width ≤ max_side }
+    requires { shape.width ≤ MAX_SIDE }
     ensures { Turn R.left R.failures R.same input.old input.new result (Finds (raw_row shape) result) }
 {
     let length = shape.row_length() as usize;
@@ -46,7 +46,7 @@ fn read_bytes<R: BytesIn>(
     shape: Shape,
     sample_width: SampleWidth,
 ) -> Result<Vec<u8>, InputFault>
-    requires width { shape.width ≤ max_side }
+    requires width { shape.width ≤ MAX_SIDE }
     requires sample_width { sample_width ≡ sample_width_of shape.kind shape.maxval }
     requires bytes { sample_width ≡ Words → ⊥ }
     ensures found { Turn R.left R.failures R.same input.old input.new result (FindsUnits (λ row. samples_of_bytes sample_width row.items) shape result) }
@@ -90,7 +90,7 @@ fn read_part<R: BytesIn>(
 
 /// The samples of two bytes of the next row.
 fn read_words<R: BytesIn>(input: &mut Input<R>, shape: Shape) -> Result<Vec<u16>, InputFault>
-    requires width { shape.width ≤ max_side }
+    requires width { shape.width ≤ MAX_SIDE }
     requires sample_width { Words ≡ sample_width_of shape.kind shape.maxval }
     ensures found { Turn R.left R.failures R.same input.old input.new result (FindsUnits (λ row. row.items) shape result) }
     ensures within { IfOk result (λ row. All (λ sample. sample ≤ shape.maxval) row.items) }

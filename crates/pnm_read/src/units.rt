@@ -2,7 +2,7 @@
 //! pixels.
 
 ghost use Rattle.std.specs.Prelude.{◌≡◌, ◌≤◌, ◌↔◌, IsTrue};
-ghost use Rattle.pnm_image.specs.Limits.{max_side};
+ghost use Rattle.pnm_image.specs.declared.limits.TheConstants.{MAX_SIDE};
 ghost use Rattle.pnm_read.specs.RawParts.{AppendsWide};
 ghost use Rattle.pnm_read.specs.Units.{AreBytesWithin};
 ghost use Rattle.pnm_read.specs.Said.{units_in_row};
@@ -40,7 +40,7 @@ pub fn are_units_within(bytes: &[u8], sample_width: SampleWidth, maxval: u32) ->
 
 /// The units in a row of this shape.
 pub fn units_in_row(sample_width: SampleWidth, shape: Shape) -> usize
-    requires { shape.width ≤ max_side }
+    requires { shape.width ≤ MAX_SIDE }
     ensures { result ≡ units_in_row sample_width shape }
 {
     match sample_width {

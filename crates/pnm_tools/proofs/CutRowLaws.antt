@@ -18,6 +18,7 @@ use Rattle.pnm_tools.specs.Limits.{within_limits}
 use Rattle.pnm_tools.specs.Tools.{result_head, row_answer}
 use Rattle.pnm_tools.proofs.HeadLaws.{head_of_cut, small_sizes, small_head}
 use Rattle.pnm_tools.proofs.RowLaws.{row_of_cut}
+use Rattle.pnm_image.specs.declared.limits.TheConstants.{MAX_ROW_LENGTH}
 
 -- the samples before what is kept, and those that are kept
 both_parts : (first last depth : ℕ) → first ≤ last → (last + 1) * depth ≡ first * depth + ((last + 1) - first) * depth
@@ -135,7 +136,7 @@ cut_head_by box head s columns rows same some a b =
 pub cut_is_small : (s : Shape) (width height : ℕ) → IsWithinLimits s → width ≤ s.width → height ≤ s.height → is_too_large (record s { width = width; height = height }) ≡ false
 cut_is_small s width height h w y =
     let below : width * s.depth ≤ s.width * s.depth = mul-le-mul {n₁ = width} {m₁ = s.depth} {n₂ = s.width} {m₂ = s.depth} w (omega arith) in
-    let row : width * s.depth ≤ 16777216 = omega (arith, below, h.row_high) in
+    let row : width * s.depth ≤ MAX_ROW_LENGTH = omega (arith, below, h.row_high) in
     small_sizes (record s { width = width; height = height }) (omega (arith, h.width_high)) (omega (arith, h.height_high)) h.depth_high row
 
 pub cut_head_made : (box : CutBox) (head : HeadValue) (s : Shape) (columns rows : Span) (width height : ℕ) (t : List ℕ) → s ≡ head.shape → IsWithinLimits head.shape → (s.height ≡ 0 → ⊥) → Some columns ≡ columns_kept box s → Some rows ≡ rows_kept box s

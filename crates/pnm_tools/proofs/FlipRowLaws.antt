@@ -26,6 +26,7 @@ use Rattle.pnm_tools.proofs.HeadLaws.{small_row}
 use Rattle.pnm_tools.proofs.RangeLaws.{map_in_parts}
 use Rattle.pnm_tools.proofs.TurnLaws.{in_order_nil, exchanged_moves, reversed_moves, row_moved}
 use Rattle.pnm_tools.proofs.WholeHeadLaws.{is_turned}
+use Rattle.pnm_image.specs.declared.limits.TheConstants.{MAX_ROW_LENGTH}
 
 -- ---- a row, the last pixel first
 
@@ -228,7 +229,7 @@ last_made way depth sample_width next columns first count rows made band last_fi
 -- ---- the head
 
 -- a column of an image is within the limits where the head with its sizes exchanged is made
-column_small : (way : FlipWay) (head made : HeadValue) → (turn_of way).exchanged ≡ true → result_head (Flip way) head ≡ Ok made → head.shape.height * head.shape.depth ≤ 16777216
+column_small : (way : FlipWay) (head made : HeadValue) → (turn_of way).exchanged ≡ true → result_head (Flip way) head ≡ Ok made → head.shape.height * head.shape.depth ≤ MAX_ROW_LENGTH
 column_small way head made exchanged e = small_row (transposed_head_value head).shape ((is_turned way head made e).limits exchanged)
 
 -- bytes hold samples up to 255

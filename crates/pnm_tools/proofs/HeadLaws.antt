@@ -17,6 +17,7 @@ use Rattle.pnm_tools.specs.Depth.{kind_at, type_at, rescaled_head}
 use Rattle.pnm_tools.specs.Limits.{within_limits}
 use Rattle.pnm_tools.specs.Tools.{Takes, result_head}
 use Rattle.pnm_tools.proofs.PickLaws.{all_below}
+use Rattle.pnm_image.specs.declared.limits.TheConstants.{MAX_DEPTH, MAX_ROW_LENGTH, MAX_SIDE}
 
 pub head_of_invert : (head : HeadValue) → result_head Invert head ≡ Ok head
 unfolding result_head
@@ -36,7 +37,7 @@ head_of_channel planes head = refl
 
 -- ---- limits
 
-pub small_sizes : (s : Shape) → s.width ≤ 1000000 → s.height ≤ 1000000 → s.depth ≤ 256 → row_length s ≤ 16777216 → is_too_large s ≡ false
+pub small_sizes : (s : Shape) → s.width ≤ MAX_SIDE → s.height ≤ MAX_SIDE → s.depth ≤ MAX_DEPTH → row_length s ≤ MAX_ROW_LENGTH → is_too_large s ≡ false
 small_sizes s width height depth row = not_large_size s.width s.height s.depth (row_length s) width height depth row
 
 -- an image's shape is within the limits of results
@@ -101,5 +102,5 @@ planes_inside planes head s seen b n t shape same h found count type =
     planes_head planes head s seen b shape same h ∙ ap (planes_by planes head) found ∙ ap within_limits whole
 
 -- the rows of a head within the limits are within them
-pub small_row : (s : Shape) → is_too_large s ≡ false → row_length s ≤ 16777216
+pub small_row : (s : Shape) → is_too_large s ≡ false → row_length s ≤ MAX_ROW_LENGTH
 small_row s e = (sizes_within s.width s.height s.depth (row_length s) e).3

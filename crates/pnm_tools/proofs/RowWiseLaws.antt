@@ -10,7 +10,7 @@ use Rattle.pnm_image.specs.declared.message.Message.TheVariants.{Begin, Row, Ima
 use Rattle.pnm_image.specs.declared.place.Place.TheVariants.{Between, Inside}
 use Rattle.pnm_image.specs.Heads.{HeadValue, IsHead, with_height, row_length, is_too_large}
 use Rattle.pnm_image.specs.Images.{Image, IsImage, rows_of, messages_of_image}
-use Rattle.pnm_image.specs.Limits.{max_side, max_depth, max_row_length}
+use Rattle.pnm_image.specs.declared.limits.TheConstants.{MAX_DEPTH, MAX_ROW_LENGTH, MAX_SIDE}
 use Rattle.pnm_image.proofs.Lists.{same_first, same_rest}
 use Rattle.pnm_image.proofs.Rows.{concat-cut_rows, image_of}
 use Rattle.pnm_tools.specs.declared.fault.ToolFault.{ToolFault}
@@ -134,13 +134,13 @@ limits_dealt false b' lane lanes head e = ap (λ (x : Bool). if x then Err TooLa
 height_aside : (w h h' d r : Bool) → h ≡ false → h' ≡ false → (w || h' || d || r) ≡ (w || h || d || r)
 height_aside w h h' d r e e' = ap (λ (x : Bool). w || x || d || r) (e' ∙ sym e)
 
-within_limits_dealt : (lane lanes : ℕ) (head : HeadValue) → head.shape.height ≤ max_side → within_limits (dealt_head lane lanes head) ≡ dealt_head_result lane lanes (within_limits head)
+within_limits_dealt : (lane lanes : ℕ) (head : HeadValue) → head.shape.height ≤ MAX_SIDE → within_limits (dealt_head lane lanes head) ≡ dealt_head_result lane lanes (within_limits head)
 within_limits_dealt lane lanes head within =
     let s : Shape = head.shape in
     let low : dealt_height lane lanes s.height ≤ s.height = dealt_height_within lane lanes s.height in
     limits_dealt (is_too_large s) (is_too_large (dealt_head lane lanes head).shape) lane lanes head
-    (height_aside (nat_lt max_side s.width) (nat_lt max_side s.height) (nat_lt max_side (dealt_height lane lanes s.height)) (nat_lt max_depth s.depth) (nat_lt max_row_length (row_length s))
-    (le-ltb max_side s.height within) (le-ltb max_side (dealt_height lane lanes s.height) (omega arith)))
+    (height_aside (nat_lt MAX_SIDE s.width) (nat_lt MAX_SIDE s.height) (nat_lt MAX_SIDE (dealt_height lane lanes s.height)) (nat_lt MAX_DEPTH s.depth) (nat_lt MAX_ROW_LENGTH (row_length s))
+    (le-ltb MAX_SIDE s.height within) (le-ltb MAX_SIDE (dealt_height lane lanes s.height) (omega arith)))
 
 either_dealt : (b : Bool) (lane lanes : ℕ) (r r' : Result HeadValue ToolFault) (fault : ToolFault) → r' ≡ dealt_head_result lane lanes r → (if b then r' else Err fault) ≡ dealt_head_result lane lanes (if b then r else Err fault)
 either_dealt true lane lanes r r' fault same = same

@@ -14,6 +14,7 @@ use Rattle.pnm_tools.specs.Flip.{turn_of, moves_rows, turned_head, transposed_he
 use Rattle.pnm_tools.specs.Limits.{within_limits}
 use Rattle.pnm_tools.specs.Tools.{result_head}
 use Rattle.pnm_tools.proofs.HeadLaws.{small_head, large_head, not_too_large}
+use Rattle.pnm_image.specs.declared.limits.TheConstants.{MAX_SIDE}
 
 and_false_right : (a b : Bool) → b ≡ false → (a && b) ≡ false
 and_false_right true b e = e
@@ -64,20 +65,20 @@ enlarged_head_made across down head s width height t shape order wide high type 
     enlarge_in_order across down head s shape order ∙ ap within_limits whole
 
 -- a width or a height beyond the limits
-too_wide : (s : Shape) → 1000000 < s.width → is_too_large s ≡ true
+too_wide : (s : Shape) → MAX_SIDE < s.width → is_too_large s ≡ true
 too_wide s h = grind (arith, nat_tests)
 
-too_high : (s : Shape) → 1000000 < s.height → is_too_large s ≡ true
+too_high : (s : Shape) → MAX_SIDE < s.height → is_too_large s ≡ true
 too_high s h = grind (arith, nat_tests)
 
 -- a width or a height that no number of the program holds
 pub enlarged_too_large : (across down : ℕ) (head : HeadValue) (s : Shape) → s ≡ head.shape → ((down ≡ 1 → ⊥) × (s.height ≡ 0 → ⊥)) ⊎ (down ≡ 1)
-    → (1000000 < s.width * across) ⊎ (1000000 < s.height * down) → result_head (Enlarge across down) head ≡ Err TooLarge
+    → (MAX_SIDE < s.width * across) ⊎ (MAX_SIDE < s.height * down) → result_head (Enlarge across down) head ≡ Err TooLarge
 enlarged_too_large across down head s shape order (inl h) =
-    let below : 1000000 < head.shape.width * across = subst (λ (z : Shape). 1000000 < z.width * across) shape h in
+    let below : MAX_SIDE < head.shape.width * across = subst (λ (z : Shape). MAX_SIDE < z.width * across) shape h in
     enlarge_in_order across down head s shape order ∙ large_head (enlarged_head_value across down head) (too_wide (enlarged_head_value across down head).shape below)
 enlarged_too_large across down head s shape order (inr h) =
-    let below : 1000000 < head.shape.height * down = subst (λ (z : Shape). 1000000 < z.height * down) shape h in
+    let below : MAX_SIDE < head.shape.height * down = subst (λ (z : Shape). MAX_SIDE < z.height * down) shape h in
     enlarge_in_order across down head s shape order ∙ large_head (enlarged_head_value across down head) (too_high (enlarged_head_value across down head).shape below)
 
 -- ---- flipped images

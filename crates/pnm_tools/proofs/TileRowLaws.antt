@@ -19,6 +19,7 @@ use Rattle.pnm_tools.specs.Pixels.{pixel_of}
 use Rattle.pnm_tools.proofs.RangeLaws.{pieces_alike_from, pieces_in_parts, length_of_equals, alike_from}
 use Rattle.std.proofs.lemmas.List.Elements.{All-head, All-push, All-rest, All-same, All-take, All-drop, All-append}
 use Rattle.pnm_tools.proofs.FormulaLaws.{range_alike}
+use Rattle.pnm_image.specs.declared.limits.TheConstants.{MAX_ROW_LENGTH}
 
 -- ---- the head, and what is answered before the end
 
@@ -50,9 +51,9 @@ tiled_head_made across down head s t shape type some =
     head_of_tile across down head ∙ ap (tiled_by across down head) height ∙ ap within_limits whole
 
 -- a row of the result is within the limits where its head is made
-pub tiled_row_small : (across down : ℕ) (s t : Shape) (x : HeadValue) (r : Result HeadValue ToolFault) → s ≡ t → x.shape ≡ record s { width = across; height = down } → IfOk r (λ made. (made ≡ x) × (is_too_large x.shape ≡ false)) → OnOk r (across * t.depth ≤ 16777216)
+pub tiled_row_small : (across down : ℕ) (s t : Shape) (x : HeadValue) (r : Result HeadValue ToolFault) → s ≡ t → x.shape ≡ record s { width = across; height = down } → IfOk r (λ made. (made ≡ x) × (is_too_large x.shape ≡ false)) → OnOk r (across * t.depth ≤ MAX_ROW_LENGTH)
 tiled_row_small across down s t x (Ok made) same shape h =
-    let small : row_length x.shape ≤ 16777216 = small_row x.shape h.1 in
+    let small : row_length x.shape ≤ MAX_ROW_LENGTH = small_row x.shape h.1 in
     let width : x.shape.width ≡ across = ap (λ (z : Shape). z.width) shape in
     let depth : x.shape.depth ≡ t.depth = ap (λ (z : Shape). z.depth) (shape) ∙ ap (λ (z : Shape). z.depth) same in
     omega (arith, small, ap (λ (n : ℕ). n * x.shape.depth) width, ap (λ (n : ℕ). across * n) depth)

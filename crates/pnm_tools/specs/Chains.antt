@@ -3,7 +3,7 @@ use Rattle.std.specs.Prelude.{◌≡◌, ◌≤◌, ℕ, ◌+◌, length, List, 
 use Rattle.pnm_image.specs.declared.message.Message.{Message}
 use Rattle.pnm_image.specs.declared.message.Message.TheVariants.{StreamEnd}
 use Rattle.pnm_image.specs.Images.{Image, messages_of_image}
-use Rattle.pnm_image.specs.Limits.{max_tools}
+use Rattle.pnm_tools.specs.declared.limits.TheConstants.{MAX_TOOLS}
 use Rattle.pnm_tools.specs.declared.fault.ToolFault.{ToolFault}
 use Rattle.pnm_tools.specs.declared.tool.Tool.{Tool}
 use Rattle.pnm_tools.specs.Tools.{IsLawfulTool, applied}
@@ -16,7 +16,7 @@ AreLawfulTools (tool ∷ tools) = IsLawfulTool tool × AreLawfulTools tools
 -- 1 to 16 tools whose options are in their ranges
 pub record IsChain (tools : List Tool) : Type 0 where
   pub some : 1 ≤ length tools
-  pub not_many : length tools ≤ max_tools
+  pub not_many : length tools ≤ MAX_TOOLS
   pub lawful : AreLawfulTools tools
 
 -- what the tools make of an image, one after another; the first refusal of one of them

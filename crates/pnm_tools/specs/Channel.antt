@@ -2,7 +2,7 @@
 -- tuple type is the one that is named.
 use Rattle.std.specs.Prelude.{◌≤◌, ◌<◌, ℕ, ◌+◌, ◌-◌, ◌*◌, List, length, map, slice_index, slice_index_or, All, Result, Err, if◌then◌else◌, nat_lt, true, [], ◌∷◌}
 use Rattle.std.specs.List.{flat_map, range_with_len, list_all}
-use Rattle.pnm_image.specs.Limits.{max_depth}
+use Rattle.pnm_image.specs.declared.limits.TheConstants.{MAX_DEPTH}
 use Rattle.pnm_image.specs.declared.shape.Kind.TheVariants.{Pam}
 use Rattle.pnm_image.specs.declared.shape.Shape.{Shape}
 use Rattle.pnm_image.specs.Heads.{HeadValue, IsTupleType}
@@ -23,8 +23,8 @@ picks numbers tuple_type = record { numbers = numbers; tuple_type = tuple_type }
 -- as many planes as an image has at most, each numbered as one of those
 pub record IsLawfulPick (picks : Picks) : Type 0 where
   pub some : 1 ≤ length picks.numbers
-  pub not_many : length picks.numbers ≤ max_depth
-  pub in_range : All (λ number. number ≤ max_depth - 1) picks.numbers
+  pub not_many : length picks.numbers ≤ MAX_DEPTH
+  pub in_range : All (λ number. number ≤ MAX_DEPTH - 1) picks.numbers
   pub tuple_type : IsTupleType picks.tuple_type
 
 abbrev pub picked_head_value : Picks → HeadValue → HeadValue

@@ -2,7 +2,7 @@
 -- the first and the last row that are kept, or in place of one of two edges its width or its height. An edge is counted
 -- from the left or the top, from 0; a negative one from the right or the bottom, so that -1 is the last column or row.
 use Rattle.std.specs.Prelude.{◌≤◌, ℕ, suc, ◌+◌, ◌-◌, ◌*◌, ℤ, pos, negsuc, ◌+ℤ◌, ◌-ℤ◌, unsigned_abs, Option, Some, None, IfSome, IsSome, List, [], ◌∷◌, length, take, drop, Result, Ok, Err, nat_le, nat_lt, ◌==◌, ◌&&◌, if◌then◌else◌, false}
-use Rattle.pnm_image.specs.Limits.{max_extent}
+use Rattle.pnm_tools.specs.declared.limits.TheConstants.{MAX_EXTENT}
 use Rattle.pnm_image.specs.declared.shape.Shape.{Shape}
 use Rattle.pnm_image.specs.Heads.{HeadValue}
 use Rattle.pnm_image.specs.Images.{Image, sample_at}
@@ -15,7 +15,7 @@ use Rattle.pnm_tools.specs.Meaning.{Meaning}
 
 -- an edge lies as far as the greatest extent from either end
 abbrev pub IsEdge : ℤ → Type 0
-IsEdge edge = unsigned_abs edge ≤ max_extent
+IsEdge edge = unsigned_abs edge ≤ MAX_EXTENT
 
 -- the options of one axis: both edges and the size don't stand together
 pub record IsLawfulAxis (start end : Option ℤ) (size : Option ℕ) : Type 0 where

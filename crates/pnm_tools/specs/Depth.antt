@@ -2,7 +2,7 @@
 -- share of the new maxval; of two that are as near, the greater.
 use Rattle.std.specs.Prelude.{ℕ, ◌+◌, ◌*◌, ◌/◌, List, map, codes, Result, Ok, ◌==◌, if◌then◌else◌, ◌≤◌, true, [], ◌∷◌}
 use Rattle.std.specs.Str.{bytes_eq}
-use Rattle.pnm_image.specs.Limits.{max_maxval}
+use Rattle.pnm_image.specs.declared.limits.TheConstants.{MAX_MAXVAL}
 use Rattle.pnm_image.specs.declared.shape.Kind.{Kind}
 use Rattle.pnm_image.specs.declared.shape.Kind.TheVariants.{Bit, Gray, Color, Pam}
 use Rattle.pnm_image.specs.declared.shape.Shape.{Shape}
@@ -46,7 +46,7 @@ rescaled_row new s row = map (nearest_sample new s.maxval) row
 
 abbrev pub rescaling : ℕ → Meaning
 rescaling new = record {
-  lawful = (1 ≤ new) × (new ≤ max_maxval);
+  lawful = (1 ≤ new) × (new ≤ MAX_MAXVAL);
   row_wise = true;
   head = rescaled_head new;
   sample = rescaled_sample new;

@@ -1,7 +1,7 @@
 -- What tools keep while the rows of an image come, and the rows of the result that they still give.
 use Rattle.std.specs.Prelude.{◌≡◌, ℕ, ◌+◌, ◌-◌, ◌*◌, ◌<◌, ◌≤◌, ◌%◌, true, false, List, [], ◌++◌, map, length, take, reverse, replicate, slice_index_or, All, Option, Some, None}
 use Rattle.std.specs.List.{range_with_len}
-use Rattle.pnm_image.specs.Limits.{max_side, max_depth, max_row_length}
+use Rattle.pnm_image.specs.declared.limits.TheConstants.{MAX_DEPTH, MAX_ROW_LENGTH, MAX_SIDE}
 use Rattle.pnm_image.specs.declared.sample_width.SampleWidth.{SampleWidth}
 use Rattle.pnm_image.specs.declared.sample_width.SampleWidth.TheVariants.{Bits as OfBits}
 use Rattle.pnm_image.specs.declared.shape.Shape.{Shape}
@@ -42,8 +42,8 @@ HasTable r s = IsTable r.maxval s.maxval r.table
 -- for images of a shape that stays within the limits with its pixels repeated
 pub record IsEnlarging (across : ℕ) (s : Shape) : Type 0 where
   pub limits : IsWithinLimits s
-  pub width : s.width * across ≤ max_side
-  pub row : s.width * across * s.depth ≤ max_row_length
+  pub width : s.width * across ≤ MAX_SIDE
+  pub row : s.width * across * s.depth ≤ MAX_ROW_LENGTH
 
 abbrev pub enlarged_due : Enlarger → List (List ℕ)
 enlarged_due w = elim w.row [
@@ -120,15 +120,15 @@ transposed way depth sample_width rows band next columns = record { way = way; d
 pub record HasColumns (w : Transposed) : Type 0 where
   pub way : (turn_of w.way).exchanged ≡ true
   pub columns : All (λ row. w.columns * w.depth ≤ length row) w.rows
-  pub each : 0 < w.columns → length w.rows * w.depth ≤ max_row_length
-  pub depth : w.depth ≤ max_depth
+  pub each : 0 < w.columns → length w.rows * w.depth ≤ MAX_ROW_LENGTH
+  pub depth : w.depth ≤ MAX_DEPTH
   pub made : w.next ≤ w.columns
   pub one_plane : w.sample_width ≡ OfBits → 0 < w.columns → w.depth ≡ 1
   pub at_byte : w.sample_width ≡ OfBits → w.next < w.columns → w.next % 8 ≡ 0
 
 pub record IsTransposing (w : Transposed) (s : Shape) (come : List (List ℕ)) : Type 0 where
   pub limits : IsWithinLimits s
-  pub column : s.height * s.depth ≤ max_row_length
+  pub column : s.height * s.depth ≤ MAX_ROW_LENGTH
   pub sample_width : SuitsShape w.sample_width s
   pub rows : w.rows ≡ come
   pub lengths : All (λ row. length row ≡ row_length s) come
@@ -156,7 +156,7 @@ pub record HasTiles (w : Tiled) : Type 0 where
   pub some : 0 < length w.rows
   pub lengths : All (λ row. length row ≡ w.image_width * w.depth) w.rows
   pub width : 0 < w.image_width
-  pub filled : w.width * w.depth ≤ max_row_length
+  pub filled : w.width * w.depth ≤ MAX_ROW_LENGTH
 
 -- no sample of these rows is above the maxval
 abbrev pub AreWithin : ℕ → List (List ℕ) → Type 0
@@ -165,7 +165,7 @@ AreWithin maxval rows = All (λ row. All (λ sample. sample ≤ maxval) row) row
 pub record IsTiling (w : Tiled) (s : Shape) (come : List (List ℕ)) : Type 0 where
   pub limits : IsWithinLimits s
   pub some : 0 < s.height
-  pub filled : w.width * s.depth ≤ max_row_length
+  pub filled : w.width * s.depth ≤ MAX_ROW_LENGTH
   pub rows : w.rows ≡ take w.height come
   pub lengths : All (λ row. length row ≡ row_length s) come
   pub range : AreWithin s.maxval come

@@ -2,7 +2,7 @@
 
 ghost use Rattle.std.specs.Prelude.{◌≡◌, ◌≤◌, ◌+◌, ◌*◌, ◌++◌, ℕ, List, All, length, map, reverse, vec_len, vec_capacity, IfOk, IfErr};
 ghost use Rattle.std.specs.List.{range_with_len};
-ghost use Rattle.pnm_image.specs.Limits.{max_depth, max_row_length};
+ghost use Rattle.pnm_image.specs.declared.limits.TheConstants.{MAX_DEPTH, MAX_ROW_LENGTH};
 ghost use Rattle.pnm_tools.specs.declared.fault.ToolFault.TheVariants.{Memory};
 ghost use Rattle.pnm_tools.specs.Columns.{AreEmpty, HaveRoom, HavePixels, samples_of};
 ghost use Rattle.pnm_tools.specs.Flip.{column_of};
@@ -71,7 +71,7 @@ pub(crate) fn columns_of<T: Copy>(
     depth: usize,
 ) -> Result<Vec<Vec<T>>, ToolFault>
     requires rows { All (λ row. (first + count) * depth ≤ length row) rows.now }
-    requires sizes { (length rows.now * depth ≤ max_row_length) × (depth ≤ max_depth)
+    requires sizes { (length rows.now * depth ≤ MAX_ROW_LENGTH) × (depth ≤ MAX_DEPTH)
         × (first + count ≤ 4294967295) }
     ensures made { IfOk result (λ columns. samples_of columns.items
         ≡ map (column_of depth rows.now) (range_with_len first count)) }

@@ -1,7 +1,6 @@
 //! `pamchannel`: planes of the image, in the order in which they are named, from pamchannel(1).
 
 ghost use Rattle.std.specs.Prelude.{◌≡◌, ◌≤◌, ◌<◌, ◌↔◌, ◌⊎◌, ◌+◌, ◌++◌, All, IsTrue, OnOk, IfOk, IfErr, Ok, Err, length, map, slice_index_or, []};
-ghost use Rattle.pnm_image.specs.Limits.{max_depth};
 ghost use Rattle.pnm_image.specs.Heads.{row_length};
 ghost use Rattle.pnm_image.specs.Places.{IsRowOf};
 ghost use Rattle.pnm_tools.specs.declared.fault.ToolFault.TheVariants.{Memory};
@@ -37,7 +36,7 @@ pub struct Planes {
 fn picked(alloc: Global, numbers: &[u16], shape: Shape, row: Samples) -> Result<Samples, AllocError>
     requires numbers { All (λ number. number < shape.depth) numbers.now }
     requires row { IsRowOf shape row }
-    requires limits { length numbers.now ≤ max_depth }
+    requires limits { length numbers.now ≤ MAX_DEPTH }
     ensures { IfOk result (λ picked. picked ≡ picked_samples numbers.now shape row) }
 {
     match row.into_vec() {
@@ -70,7 +69,7 @@ fn pick<T: Copy + Default>(
 ) -> Result<Vec<T>, AllocError>
     requires numbers { All (λ number. number < shape.depth) numbers.now }
     requires row { length row.now ≡ row_length shape }
-    requires limits { length numbers.now ≤ max_depth }
+    requires limits { length numbers.now ≤ MAX_DEPTH }
     ensures { IfOk result (λ picked. (past : T) → picked.items ≡ picked_or past numbers.now shape row.now) }
 {
     let (width, depth, count) = (shape.width as usize, shape.depth as usize, numbers.len());

@@ -1,15 +1,14 @@
 //! `pamcut`: a rectangle of the image, from pamcut(1).
 
 ghost use Rattle.std.specs.Prelude.{◌≡◌, ◌≤◌, ◌↔◌, All, IsTrue, IfSome, IfOk, []};
-ghost use Rattle.pnm_image.specs.Limits.{max_side};
+ghost use Rattle.pnm_image.specs.declared.limits.TheConstants.{MAX_SIDE};
 ghost use Rattle.pnm_tools.specs.Cut.{IsEdge, IsLawfulAxis, KeepsWithin, columns_of_row, span_of, first_kept, last_kept, edge_of};
 ghost use Rattle.pnm_tools.specs.Limits.{IsExtent};
 ghost use Rattle.pnm_tools.specs.declared.tool.Tool.TheVariants.{Cut};
 
 use crate::fault::ToolFault;
-use crate::limits::{head_within_limits, is_extent};
+use crate::limits::{MAX_EXTENT, head_within_limits, is_extent};
 use crate::rows::Rows;
-use pnm_image::limits::MAX_EXTENT;
 use pnm_image::{Bits, Head, SampleVec, Samples, Shape};
 use std::alloc::{AllocError, Global};
 
@@ -151,8 +150,8 @@ impl Cutter {
 impl CutBox {
     ghost use Rattle.pnm_tools.specs.Cut.{IsLawfulBox, columns_kept, rows_kept};
 
-    /// Whether each edge is from -16,777,216 to 16,777,216, each size from 1 to 16,777,216, and no
-    /// axis has two edges and a size.
+    /// Whether each edge is from -`MAX_EXTENT` to `MAX_EXTENT`, each size from 1 to it, and no axis has
+    /// two edges and a size.
     pub(crate) fn is_lawful(&self) -> bool
         ensures { IsTrue result ↔ IsLawfulBox self.now }
     {
@@ -183,7 +182,7 @@ impl Span {
 
     /// How many columns or rows these are.
     fn count(self) -> u32
-        requires { (self.first ≤ self.last) × (self.last < max_side) }
+        requires { (self.first ≤ self.last) × (self.last < MAX_SIDE) }
         ensures { result ≡ span_count self }
     {
         self.last - self.first + 1

@@ -2,7 +2,7 @@
 
 ghost use Rattle.std.specs.Prelude.{◌≡◌, ◌≤◌, ◌+◌, All, map, [], ℕ, length, OnOk, IfOk, IfErr, Ok, Err, ◌⊎◌};
 ghost use Rattle.std.specs.List.{range_with_len};
-ghost use Rattle.pnm_image.specs.Limits.{max_maxval};
+ghost use Rattle.pnm_image.specs.declared.limits.TheConstants.{MAX_MAXVAL};
 ghost use Rattle.pnm_image.specs.Heads.{IsWithinLimits};
 ghost use Rattle.pnm_tools.specs.declared.fault.ToolFault.TheVariants.{Memory};
 ghost use Rattle.pnm_tools.specs.declared.tool.Tool.TheVariants.{Depth};
@@ -41,7 +41,7 @@ pub(crate) enum Table {
 
 /// The sample nearest to the same share of the new maxval, halves up.
 fn nearest_sample(new: u32, old: u32, sample: u32) -> u16
-    requires limits { (1 ≤ new) × (new ≤ max_maxval) × (1 ≤ old) × (old ≤ max_maxval) }
+    requires limits { (1 ≤ new) × (new ≤ MAX_MAXVAL) × (1 ≤ old) × (old ≤ MAX_MAXVAL) }
     requires sample { sample ≤ old }
     ensures { result ≡ nearest_sample new old sample }
 {
@@ -51,7 +51,7 @@ fn nearest_sample(new: u32, old: u32, sample: u32) -> u16
 
 /// Computes each sample.
 fn rescale(samples: &mut [u16], new: u32, old: u32)
-    requires limits { (1 ≤ new) × (new ≤ max_maxval) × (1 ≤ old) × (old ≤ max_maxval) }
+    requires limits { (1 ≤ new) × (new ≤ MAX_MAXVAL) × (1 ≤ old) × (old ≤ MAX_MAXVAL) }
     requires samples { All (λ sample. sample ≤ old) samples.old }
     ensures { samples.new ≡ map (nearest_sample new old) samples.old }
 {
@@ -107,8 +107,8 @@ impl Rescaler {
     ///
     /// Where there is no memory for samples of another width.
     fn rescaled(&self, alloc: Global, old: u32, row: Samples) -> Result<Samples, AllocError>
-        requires new { (1 ≤ self.now.maxval) × (self.now.maxval ≤ max_maxval) }
-        requires old { (1 ≤ old) × (old ≤ max_maxval) }
+        requires new { (1 ≤ self.now.maxval) × (self.now.maxval ≤ MAX_MAXVAL) }
+        requires old { (1 ≤ old) × (old ≤ MAX_MAXVAL) }
         requires table { IsTable self.now.maxval old self.now.table }
         requires range { All (λ sample. sample ≤ old) row }
         ensures { IfOk result (λ rescaled. rescaled ≡ map (nearest_sample self.now.maxval old) row) }
@@ -168,7 +168,7 @@ impl Rows for Rescaler {
 
 /// The head of the rescaled image, or the refusal.
 pub(crate) fn head_at(alloc: Global, maxval: u32, head: &Head) -> Result<Head, ToolFault>
-    requires { (1 ≤ maxval) × (maxval ≤ max_maxval) }
+    requires { (1 ≤ maxval) × (maxval ≤ MAX_MAXVAL) }
     ensures made { IfOk result (λ made. result_head (Depth maxval) head.now ≡ Ok made) }
     ensures refused { IfErr result (λ fault. (result_head (Depth maxval) head.now ≡ Err fault)
         ⊎ ((fault ≡ Memory) × Takes (Depth maxval) head.now)) }
@@ -184,7 +184,7 @@ pub(crate) fn head_at(alloc: Global, maxval: u32, head: &Head) -> Result<Head, T
 
 /// What becomes of each sample from 0 to the old maxval, as bytes where both maxvals are at most 255.
 fn table_of(alloc: Global, new: u32, old: u32) -> Result<Table, ToolFault>
-    requires limits { (1 ≤ new) × (new ≤ max_maxval) × (1 ≤ old) × (old ≤ max_maxval) }
+    requires limits { (1 ≤ new) × (new ≤ MAX_MAXVAL) × (1 ≤ old) × (old ≤ MAX_MAXVAL) }
     ensures made { IfOk result (IsTable new old) }
     ensures refused { IfErr result (λ fault. fault ≡ Memory) }
 {
@@ -198,7 +198,7 @@ fn table_of(alloc: Global, new: u32, old: u32) -> Result<Table, ToolFault>
 
 /// What becomes of each sample from 0 to the old maxval.
 fn nearest_samples(alloc: Global, new: u32, old: u32) -> Result<Vec<u16>, ToolFault>
-    requires limits { (1 ≤ new) × (new ≤ max_maxval) × (1 ≤ old) × (old ≤ max_maxval) }
+    requires limits { (1 ≤ new) × (new ≤ MAX_MAXVAL) × (1 ≤ old) × (old ≤ MAX_MAXVAL) }
     ensures made { IfOk result (λ table. table.items ≡ map (nearest_sample new old) (range_with_len 0 (old + 1))) }
     ensures refused { IfErr result (λ fault. fault ≡ Memory) }
 {

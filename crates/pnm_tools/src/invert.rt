@@ -1,7 +1,7 @@
 //! `pnminvert`: black becomes white and white black, from pnminvert(1).
 
 ghost use Rattle.std.specs.Prelude.{◌≡◌, ◌≤◌, ◌-◌, All, IfOk, map, []};
-ghost use Rattle.pnm_image.specs.Limits.{max_maxval};
+ghost use Rattle.pnm_image.specs.declared.limits.TheConstants.{MAX_MAXVAL};
 ghost use Rattle.pnm_tools.specs.declared.tool.Tool.TheVariants.{Invert};
 
 use crate::fault::ToolFault;
@@ -21,7 +21,7 @@ pub struct Inverter;
 ///
 /// Where there is no memory for the words.
 fn inverted(alloc: Global, maxval: u32, row: Samples) -> Result<Samples, AllocError>
-    requires maxval { (1 ≤ maxval) × (maxval ≤ max_maxval) }
+    requires maxval { (1 ≤ maxval) × (maxval ≤ MAX_MAXVAL) }
     requires range { All (λ sample. sample ≤ maxval) row }
     ensures { IfOk result (λ made. made ≡ map (λ sample. maxval - sample) row) }
 {

@@ -31,5 +31,6 @@ pub use cut::CutBox;
 pub use fault::ToolFault;
 pub use filter::Filter;
 pub use flip::FlipWay;
+pub use limits::{MAX_EXTENT, MAX_TOOLS};
 pub use row_state::{RowState, RowWise};
 pub use tool::{Tool, ToolState};

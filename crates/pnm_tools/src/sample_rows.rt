@@ -2,7 +2,7 @@
 
 ghost use Rattle.std.specs.Prelude.{◌≡◌, ◌≤◌, ◌<◌, ◌+◌, ◌*◌, ◌++◌, ◌∷◌, [], All, OnOk, OnErr, IfOk, IfErr, length, map, reverse};
 ghost use Rattle.std.specs.List.{range_with_len};
-ghost use Rattle.pnm_image.specs.Limits.{max_depth, max_row_length};
+ghost use Rattle.pnm_image.specs.declared.limits.TheConstants.{MAX_DEPTH, MAX_ROW_LENGTH};
 ghost use Rattle.pnm_tools.specs.declared.fault.ToolFault.TheVariants.{Memory};
 ghost use Rattle.pnm_tools.specs.Flip.{column_of};
 ghost use Rattle.pnm_tools.specs.SampleRows.{row_lists, rows_width, FitsWidth, IsBandOfBits, band_length};
@@ -100,7 +100,7 @@ impl SampleRows {
         depth: usize,
     ) -> Result<Vec<Samples>, ToolFault>
         requires rows { All (λ row. (first + count) * depth ≤ length row) (row_lists self.now) }
-        requires sizes { (length (row_lists self.now) * depth ≤ max_row_length) × (depth ≤ max_depth)
+        requires sizes { (length (row_lists self.now) * depth ≤ MAX_ROW_LENGTH) × (depth ≤ MAX_DEPTH)
             × (first + count ≤ 4294967295) }
         requires bits { rows_width self.now ≡ SampleWidth.Bits → IsBandOfBits first count depth }
         ensures made { IfOk result (λ band. band.items

@@ -1,7 +1,7 @@
 //! `pnmtile`: the image side by side, from pnmtile(1).
 
 ghost use Rattle.std.specs.Prelude.{◌≡◌, ◌≤◌, ◌<◌, ◌*◌, ◌⊎◌, length, All, OnOk, IfOk, IfErr, Ok, Err, []};
-ghost use Rattle.pnm_image.specs.Limits.{max_row_length};
+ghost use Rattle.pnm_image.specs.declared.limits.TheConstants.{MAX_ROW_LENGTH};
 ghost use Rattle.pnm_tools.specs.declared.fault.ToolFault.TheVariants.{Memory};
 ghost use Rattle.pnm_tools.specs.declared.tool.Tool.TheVariants.{Tile};
 ghost use Rattle.pnm_tools.specs.Tile.{tiled_row};
@@ -39,7 +39,7 @@ pub struct Tiler {
 fn tile_row(alloc: Global, width: u32, shape: Shape, row: &Samples) -> Result<Samples, ToolFault>
     requires row { (0 < shape.width) × (length row.now ≡ shape.width * shape.depth) }
     requires range { All (λ sample. sample ≤ shape.maxval) row.now }
-    requires fits { width * shape.depth ≤ max_row_length }
+    requires fits { width * shape.depth ≤ MAX_ROW_LENGTH }
     ensures made { IfOk result (λ made. made ≡ tiled_row width shape.width shape.depth row.now) }
     ensures refused { IfErr result (λ fault. fault ≡ Memory) }
 {
@@ -72,7 +72,7 @@ fn tile_last_row(
 ) -> Result<Samples, ToolFault>
     requires row { (0 < shape.width) × (length row ≡ shape.width * shape.depth) }
     requires range { All (λ sample. sample ≤ shape.maxval) row }
-    requires fits { width * shape.depth ≤ max_row_length }
+    requires fits { width * shape.depth ≤ MAX_ROW_LENGTH }
     ensures made { IfOk result (λ made. made ≡ tiled_row width shape.width shape.depth row) }
     ensures refused { IfErr result (λ fault. fault ≡ Memory) }
 {
@@ -101,7 +101,7 @@ fn tile_bits(
     row: &Bits,
 ) -> Result<Bits, ToolFault>
     requires row { (0 < image_width) × (length row.now ≡ image_width * depth) }
-    requires fits { width * depth ≤ max_row_length }
+    requires fits { width * depth ≤ MAX_ROW_LENGTH }
     ensures made { IfOk result (λ made. made ≡ tiled_row width image_width depth row.now) }
     ensures refused { IfErr result (λ fault. fault ≡ Memory) }
 {
@@ -123,7 +123,7 @@ fn tile<T: Copy>(
     row: &[T],
 ) -> Result<Vec<T>, ToolFault>
     requires row { (0 < image_width) × (length row.now ≡ image_width * depth) }
-    requires fits { width * depth ≤ max_row_length }
+    requires fits { width * depth ≤ MAX_ROW_LENGTH }
     ensures made { IfOk result (λ made. made.items ≡ tiled_row width image_width depth row.now) }
     ensures refused { IfErr result (λ fault. fault ≡ Memory) }
 {
@@ -147,7 +147,7 @@ fn tile_last<T: Copy>(
     mut row: Vec<T>,
 ) -> Result<Vec<T>, ToolFault>
     requires row { (0 < image_width) × (length row.items ≡ image_width * depth) }
-    requires fits { width * depth ≤ max_row_length }
+    requires fits { width * depth ≤ MAX_ROW_LENGTH }
     ensures made { IfOk result (λ made. made.items ≡ tiled_row width image_width depth row.items) }
     ensures refused { IfErr result (λ fault. fault ≡ Memory) }
 {
@@ -265,7 +265,7 @@ pub(crate) fn tiled_head(
 ) -> Result<Head, ToolFault>
     requires { IsExtent width × IsExtent height }
     ensures made { IfOk result (λ made. result_head (Tile width height) head.now ≡ Ok made) }
-    ensures limits { OnOk result (width * head.now.shape.depth ≤ max_row_length) }
+    ensures limits { OnOk result (width * head.now.shape.depth ≤ MAX_ROW_LENGTH) }
     ensures refused { IfErr result (λ fault. (result_head (Tile width height) head.now ≡ Err fault)
         ⊎ ((fault ≡ Memory) × Takes (Tile width height) head.now)) }
 {

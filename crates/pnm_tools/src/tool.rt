@@ -47,10 +47,10 @@ pub enum Tool {
 }
 
 impl Tool {
-    /// Whether the options are in their ranges: `Cut` has edges from -16,777,216 to 16,777,216 and
-    /// sizes from 1 to 16,777,216, but not two edges and a size of one axis; `Depth` has 1 to 65,535;
-    /// `Channel` has 1 to 256 numbers, each 0 to 255, and a tuple type as PAM allows it; both numbers of
-    /// `Enlarge` and of `Tile` are 1 to 16,777,216.
+    /// Whether the options are in their ranges: `Cut` has edges from -`MAX_EXTENT` to
+    /// `MAX_EXTENT` and sizes from 1 to it, but not two edges and a size of one axis; `Depth` has 1 to
+    /// `MAX_MAXVAL`; `Channel` has 1 to `MAX_DEPTH` numbers, each below that, and a tuple type as PAM
+    /// allows it; both numbers of `Enlarge` and of `Tile` are 1 to `MAX_EXTENT`.
     pub fn is_lawful(&self) -> bool
         ensures { IsTrue result ↔ IsLawfulTool self.now }
     {

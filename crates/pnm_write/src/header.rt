@@ -1,7 +1,7 @@
 //! The headers of images, from pbm(5), pgm(5), ppm(5) and pam(5).
 
 ghost use Rattle.std.specs.Prelude.{◌≡◌, ◌+◌, ◌≤◌, ◌++◌, length, codes, decimal, OnOk, OnErr};
-ghost use Rattle.pnm_image.specs.Limits.{max_tuple_type_length};
+ghost use Rattle.pnm_image.specs.declared.limits.TheConstants.{MAX_TUPLE_TYPE_LENGTH};
 ghost use Rattle.std.specs.Io.KnownBytes.{Appends};
 ghost use Rattle.pnm_write.specs.Encoding.{magic_line, size_line, tuple_type_line, pam_text, header_text};
 ghost use Rattle.pnm_image.specs.Devices.{FailsIn};
@@ -59,7 +59,7 @@ fn push_magic(room: &mut Room, kind: Kind, form: Form)
 /// The lines of a PAM header after that of its magic.
 fn push_fields(room: &mut Room, shape: Shape, tuple_type: &[u8])
     requires magic { room.old ≡ codes "P7\n" }
-    requires short { length tuple_type.now ≤ max_tuple_type_length }
+    requires short { length tuple_type.now ≤ MAX_TUPLE_TYPE_LENGTH }
     ensures { room.new ≡ pam_text shape tuple_type.now }
 {
     push_field(room, b"WIDTH ", shape.width);

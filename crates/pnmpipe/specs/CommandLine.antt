@@ -10,7 +10,7 @@ use Rattle.clap.specs.declared.builder.value_parser.ValueParser.TheVariants.{Sig
 use Rattle.clap.specs.declared.error.kind.ErrorKind.{ErrorKind}
 use Rattle.clap.specs.declared.error.kind.ErrorKind.TheVariants.{DisplayHelp, OutOfMemory}
 use Rattle.pnm_chain.specs.ChainText.{SpellsChain}
-use Rattle.pnm_rings.specs.Limits.{max_ring_capacity}
+use Rattle.pnm_rings.specs.declared.limits.TheConstants.{MAX_RING_CAPACITY}
 use Rattle.pnm_flow.specs.Jobs.{Job, job_of}
 use Rattle.pnm_flow.specs.Runs.{Change}
 use Rattle.pnm_flow.specs.ThreadedRuns.{HasRunOverThreads}
@@ -32,7 +32,7 @@ number_rule name default high = record (new_rule name) {
 
 -- `--ring N`: what a ring may hold, where it isn't given 64
 abbrev pub ring_rule : Rule
-ring_rule = number_rule (codes "ring") (codes "64") max_ring_capacity
+ring_rule = number_rule (codes "ring") (codes "64") MAX_RING_CAPACITY
 
 -- `--lanes K`: 1 to 8, where it isn't given 1
 abbrev pub lanes_rule : Rule
@@ -72,7 +72,7 @@ abbrev pub ring_of : List Text → Option Text
 ring_of = value_of (codes "ring")
 
 abbrev pub GivesRing : List Text → ℕ → Type 0
-GivesRing = GivesNumber (codes "ring") max_ring_capacity
+GivesRing = GivesNumber (codes "ring") MAX_RING_CAPACITY
 
 -- the text of `--lanes`, and its number
 abbrev pub lanes_of : List Text → Option Text

@@ -10,20 +10,20 @@ use Rattle.pnm_chain.proofs.LawfulLaws.{spelled_chain_is_lawful}
 use Rattle.pnm_chain.proofs.ParsingLaws.{none_read, one_read_more, stage_at_fault, chain_read, too_long, no_words_at_all, too_many, no_word_found, word_found, few_stages, many_stages}
 use Rattle.pnm_chain.proofs.chain_text.parse_chain.Goals as goal
 
-pub returns-then-text-gt-LONGEST-clause-refused : goal.returns-then-text-gt-LONGEST-clause-refused
-returns-then-text-gt-LONGEST-clause-refused c = inr (too_long c.args.text.now c.if-text-gt-LONGEST.true ∙ ap (λ f. Some f) (sym c.whole.ensures))
+pub returns-then-text-gt-MAX_TEXT_LENGTH-clause-refused : goal.returns-then-text-gt-MAX_TEXT_LENGTH-clause-refused
+returns-then-text-gt-MAX_TEXT_LENGTH-clause-refused c = inr (too_long c.args.text.now c.if-text-gt-MAX_TEXT_LENGTH.true ∙ ap (λ f. Some f) (sym c.whole.ensures))
 
 pub returns-then-is_none-clause-refused : goal.returns-then-is_none-clause-refused
 returns-then-is_none-clause-refused c =
     let blank = no_word_found c.args.text.now c.as_bytes.result.now c.split_word.result c.as_bytes.ensures.value c.split_word.ensures.first c.if-is_none.ensures in
-    inr (no_words_at_all c.args.text.now c.if-text-gt-LONGEST.false blank ∙ ap (λ f. Some f) (sym c.whole-then-is_none.ensures))
+    inr (no_words_at_all c.args.text.now c.if-text-gt-MAX_TEXT_LENGTH.false blank ∙ ap (λ f. Some f) (sym c.whole-then-is_none.ensures))
 
 pub returns-then-count_bars-ge-MOST_STAGES-clause-refused :
     goal.returns-then-count_bars-ge-MOST_STAGES-clause-refused
 returns-then-count_bars-ge-MOST_STAGES-clause-refused c =
     let black = word_found c.args.text.now c.as_bytes.result.now c.split_word.result c.as_bytes.ensures.value c.split_word.ensures.first c.if-is_none.ensures in
     let many = many_stages c.args.text.now c.as_bytes-2.result.now c.count_bars.result c.as_bytes-2.ensures.value c.count_bars.ensures c.if-count_bars-ge-MOST_STAGES.true in
-    inr (too_many c.args.text.now c.if-text-gt-LONGEST.false black many ∙ ap (λ f. Some f) (sym c.whole-then-count_bars-ge-MOST_STAGES.ensures))
+    inr (too_many c.args.text.now c.if-text-gt-MAX_TEXT_LENGTH.false black many ∙ ap (λ f. Some f) (sym c.whole-then-count_bars-ge-MOST_STAGES.ensures))
 
 pub loop-stage-init : goal.loop-stage-init
 loop-stage-init c = subst (λ (tools : List Tool). AreRead (stage_texts c.args.text.now) 0 tools) (sym c.new-tools.ensures.items) (none_read (stage_texts c.args.text.now))
@@ -36,7 +36,7 @@ returns-in_err-tool-clause-refused c =
     let few = few_stages c.args.text.now c.as_bytes-2.result.now c.count_bars.result c.as_bytes-2.ensures.value c.count_bars.ensures c.if-count_bars-ge-MOST_STAGES.false in
     let fault : (c.in_err-tool.field-0.0 ≡ whole Memory) ⊎ (chain_fault_of c.args.text.now ≡ Some c.in_err-tool.field-0.0) =
     stage_at_fault c.args.text.now (length c.loop-stage.yielded) c.len.result c.loop-stage.tools.items c.in-Some.stage.now c.as_bytes-in-loop-stage.result.now c.in_err-tool.field-0.0
-    c.if-text-gt-LONGEST.false black few c.loop-stage.invariant turn (search rules) c.as_bytes-in-loop-stage.ensures.value c.in_err-tool.ensures.refused in
+    c.if-text-gt-MAX_TEXT_LENGTH.false black few c.loop-stage.invariant turn (search rules) c.as_bytes-in-loop-stage.ensures.value c.in_err-tool.ensures.refused in
     search rules
 
 pub loop-stage-preserved : goal.loop-stage-preserved
@@ -51,11 +51,11 @@ returns-clause-spelled c =
     let given = YieldsList-at c.into_iter-stage-iterator.ensures.into_iter_gives (YieldsList-from_str_split 124 c.args.text.now (omega arith) c.split-stage-items.ensures.text c.split-stage-items.ensures.has_more c.split-stage-items.ensures.pattern) in
     let end = YieldsList-end given c.loop-stage.yielded _ c.loop-stage.yielded_by _ _ c.in-None.is c.next.ensures.steps in
     let few = few_stages c.args.text.now c.as_bytes-2.result.now c.count_bars.result c.as_bytes-2.ensures.value c.count_bars.ensures c.if-count_bars-ge-MOST_STAGES.false in
-    chain_read c.args.text.now (length c.loop-stage.yielded) c.loop-stage.tools.items c.if-text-gt-LONGEST.false few c.loop-stage.invariant end.1
+    chain_read c.args.text.now (length c.loop-stage.yielded) c.loop-stage.tools.items c.if-text-gt-MAX_TEXT_LENGTH.false few c.loop-stage.invariant end.1
 
 pub returns-clause-lawful : goal.returns-clause-lawful
 returns-clause-lawful c = spelled_chain_is_lawful c.args.text.now c.loop-stage.tools.items (
     let given = YieldsList-at c.into_iter-stage-iterator.ensures.into_iter_gives (YieldsList-from_str_split 124 c.args.text.now (omega arith) c.split-stage-items.ensures.text c.split-stage-items.ensures.has_more c.split-stage-items.ensures.pattern) in
     let end = YieldsList-end given c.loop-stage.yielded _ c.loop-stage.yielded_by _ _ c.in-None.is c.next.ensures.steps in
     let few = few_stages c.args.text.now c.as_bytes-2.result.now c.count_bars.result c.as_bytes-2.ensures.value c.count_bars.ensures c.if-count_bars-ge-MOST_STAGES.false in
-    chain_read c.args.text.now (length c.loop-stage.yielded) c.loop-stage.tools.items c.if-text-gt-LONGEST.false few c.loop-stage.invariant end.1)
+    chain_read c.args.text.now (length c.loop-stage.yielded) c.loop-stage.tools.items c.if-text-gt-MAX_TEXT_LENGTH.false few c.loop-stage.invariant end.1)

@@ -7,6 +7,7 @@ use Rattle.pnm_tools.proofs.HeadLaws.{head_so, fault_so}
 use Rattle.pnm_tools.proofs.SizeLaws.{enlarge_without_rows, enlarged_too_large, enlarged_head_made}
 use Rattle.pnm_tools.proofs.enlarge.enlarged_head.Goals as goal
 use Rattle.pnm_tools.proofs.enlarge.enlarged_head.Goals.{in_default-via-in-Some+in_default, in_default-via-in_default}
+use Rattle.pnm_image.specs.declared.limits.TheConstants.{MAX_SIDE}
 
 pub returns-then-shape-eq0-clause-refused : goal.returns-then-shape-eq0-clause-refused
 returns-then-shape-eq0-clause-refused c = inl (enlarge_without_rows c.args.across c.args.down c.args.head.now c.shape-shape.result c.shape-shape.ensures.shape c.if-down-ne1.true c.if-shape-eq0.true)
@@ -14,7 +15,7 @@ returns-then-shape-eq0-clause-refused c = inl (enlarge_without_rows c.args.acros
 pub returns-in_default-clause-refused : goal.returns-in_default-clause-refused
 returns-in_default-clause-refused c =
     let s = c.shape-shape.result in
-    let beyond : (1000000 < s.width * c.args.across) ⊎ (1000000 < s.height * c.args.down) = elim c.in_default.branch [
+    let beyond : (MAX_SIDE < s.width * c.args.across) ⊎ (MAX_SIDE < s.height * c.args.down) = elim c.in_default.branch [
       | in_default-via-in-Some+in_default w ↦ inr (omega (arith, w.in_default.ensures'))
       | in_default-via-in_default w ↦ inl (omega (arith, rw w.in_default.is-0 at c.checked_mul.ensures))
     ] in

@@ -6,6 +6,7 @@ use Rattle.pnm_tools.proofs.HeadLaws.{head_so, fault_so}
 use Rattle.pnm_tools.proofs.CutRowLaws.{columns_lie, rows_lie, counts_within, cut_without_rows, cut_head_by, cut_head_made}
 use Rattle.pnm_tools.proofs.cut.CutterRows.begin.Goals as goal
 use Rattle.pnm_tools.proofs.cut.CutterRows.begin.Goals.{in_default-via-in-Some+in_default, in_default-via-in_default}
+use Rattle.pnm_image.specs.declared.limits.TheConstants.{MAX_SIDE}
 
 pub returns-then-shape-eq0-clause-refused : goal.returns-then-shape-eq0-clause-refused
 returns-then-shape-eq0-clause-refused c =
@@ -21,13 +22,13 @@ pub count-requires : goal.count-requires
 count-requires c =
     let limits = subst IsWithinLimits (sym c.shape-shape.ensures.shape) c.shape-shape.ensures.sound.limits in
     let lies = columns_lie c.args.self.now.cut c.shape-shape.result c.in-Some-Some.columns c.in-Some-Some.ensures in
-    counts_within c.in-Some-Some.columns c.shape-shape.result.width 1000000 lies limits.width_high
+    counts_within c.in-Some-Some.columns c.shape-shape.result.width MAX_SIDE lies limits.width_high
 
 pub count-requires-2 : goal.count-requires-2
 count-requires-2 c =
     let limits = subst IsWithinLimits (sym c.shape-shape.ensures.shape) c.shape-shape.ensures.sound.limits in
     let lies = rows_lie c.args.self.now.cut c.shape-shape.result c.in-Some-Some.rows c.in-Some-Some.ensures' in
-    counts_within c.in-Some-Some.rows c.shape-shape.result.height 1000000 lies limits.height_high
+    counts_within c.in-Some-Some.rows c.shape-shape.result.height MAX_SIDE lies limits.height_high
 
 pub head_within_limits-requires-clause-some : goal.head_within_limits-requires-clause-some
 head_within_limits-requires-clause-some c =
