@@ -18,7 +18,8 @@ pub record ChainTextsHold : Type 0 where
   pub inverts : chain_fault_of (codes "pnminvert") ≡ None
   pub empty : chain_fault_of [] ≡ at_stage 0 Empty
   pub blank : chain_fault_of (codes " \t ") ≡ at_stage 0 Empty
-  pub bars : chain_fault_of (codes "||||||||||||||||") ≡ at_stage 0 TooMany
+  pub too_many : chain_fault_of (codes "||||||||||||||||||||||||||||||||||||||||||||||||||||||||||||||||") ≡ at_stage 0 TooMany
+  pub many_without_words : chain_fault_of (codes "|||||||||||||||||||||||||||||||||||||||||||||||||||||||||||||||") ≡ at_stage 1 EmptyStage
   pub empty_stage : chain_fault_of (codes "pnminvert | | pnminvert") ≡ at_stage 2 EmptyStage
   pub unknown_tool : chain_fault_of (codes "pnmscale 2") ≡ at_stage 1 UnknownTool
   pub unknown_option : chain_fault_of (codes "pamcut -pad") ≡ at_stage 1 UnknownOption

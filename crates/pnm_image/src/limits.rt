@@ -2,7 +2,7 @@
 //! what is done by them names these numbers and says them nowhere again.
 
 /// The greatest width and the greatest height.
-pub const MAX_SIDE: u32 = 1_000_000;
+pub const MAX_SIDE: u32 = 16_777_216;
 
 /// The greatest depth: samples in a pixel.
 pub const MAX_DEPTH: u32 = 256;

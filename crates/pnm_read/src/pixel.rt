@@ -3,6 +3,7 @@
 ghost use Rattle.std.specs.Prelude.{◌≡◌, ◌<◌, ◌≤◌, ◌-◌, []};
 ghost use Rattle.pnm_read.specs.declared.judgement.Judgement.TheVariants.{GoesOn, Fails};
 ghost use Rattle.pnm_read.specs.declared.fault.InputFault.TheVariants.{ReadFailed, Memory};
+ghost use Rattle.pnm_read.specs.declared.decimal.TheConstants.{GAP_LIMIT};
 
 use crate::comments::{commented, is_apart};
 use crate::decimal::GAP_LIMIT;

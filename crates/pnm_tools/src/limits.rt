@@ -14,7 +14,7 @@ use std::alloc::Global;
 pub const MAX_EXTENT: u32 = 16_777_216;
 
 /// The most tools of a chain.
-pub const MAX_TOOLS: usize = 16;
+pub const MAX_TOOLS: usize = 64;
 
 /// Whether a factor, or a number of columns or rows, is from 1 to the greatest.
 pub(crate) fn is_extent(count: u32) -> bool
