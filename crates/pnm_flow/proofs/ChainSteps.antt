@@ -7,7 +7,6 @@ use Rattle.rtrb.specs.declared.producer.Producer.{Producer}
 use Rattle.rtrb.specs.declared.consumer.Consumer.{Consumer}
 use Rattle.rtrb.specs.Ring.{sent, received, known_items, SameProducer, SameConsumer}
 use Rattle.pnm_image.specs.declared.message.Message.{Message}
-use Rattle.pnm_tools.specs.declared.limits.TheConstants.{MAX_TOOLS}
 use Rattle.pnm_image.specs.Images.{Image, messages_of_stream}
 use Rattle.pnm_image.specs.Messages.{without_stop}
 use Rattle.pnm_image.specs.Completion.{IsFrontOf, IsStreamOf}
@@ -214,9 +213,9 @@ pub tool_came_back : (lanes : ℕ) (tool : Tool) (input : Consumer Message Globa
 tool_came_back lanes tool input output result done has is = subst (λ (x : Option StageDone). IfSome x (HasRunToolBetween lanes tool input output)) is has
 
 -- there is still room for a link and an end
-pub has_room : (lanes : ℕ) (tools : List Tool) (links_room ends_room : ℕ) (input : Consumer Message Global AnyMessage) (output : Producer Message Global AnyMessage) (done : ChainDone) → HasRunBetween lanes tools links_room ends_room input output done → length tools + 1 ≤ MAX_TOOLS → MAX_TOOLS ≤ links_room → MAX_TOOLS ≤ ends_room
+pub has_room : (count lanes : ℕ) (tools : List Tool) (links_room ends_room : ℕ) (input : Consumer Message Global AnyMessage) (output : Producer Message Global AnyMessage) (done : ChainDone) → HasRunBetween lanes tools links_room ends_room input output done → length tools + 1 ≤ count → count ≤ links_room → count ≤ ends_room
     → (length done.links.items < vec_capacity done.links) × (length done.ends.items < vec_capacity done.ends)
-has_room lanes tools links_room ends_room input output done has few links ends =
+has_room most lanes tools links_room ends_room input output done has few links ends =
     let counts = count lanes tools done.ends.items done.links.items has.ran.took has.ran.gave has.ran.stages in
     (omega (arith, counts.1, has.for_links), omega (arith, counts.0, has.for_ends))
 

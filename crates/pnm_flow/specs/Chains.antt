@@ -8,7 +8,6 @@ use Rattle.rtrb.specs.declared.producer.Producer.{Producer}
 use Rattle.rtrb.specs.declared.consumer.Consumer.{Consumer}
 use Rattle.rtrb.specs.Ring.{sent, received, SameProducer, SameConsumer}
 use Rattle.pnm_image.specs.declared.message.Message.{Message}
-use Rattle.pnm_tools.specs.declared.limits.TheConstants.{MAX_TOOLS}
 use Rattle.pnm_image.specs.Images.{Image, messages_of_stream}
 use Rattle.pnm_image.specs.Completion.{IsStreamOf}
 use Rattle.pnm_tools.specs.declared.tool.Tool.{Tool}
@@ -109,9 +108,9 @@ pub record HasRunBetween (lanes : ℕ) (tools : List Tool) (links_room ends_room
 
 -- ---- before a chain has started
 
--- two lists without members have room for the links and the ends of as many tools as a chain may have
-pub record HasRoom (links : List Link) (links_room : ℕ) (ends : List StageEnd) (ends_room : ℕ) : Type 0 where
+-- two lists without members have room for the links and the ends of so many tools
+pub record HasRoom (count : ℕ) (links : List Link) (links_room : ℕ) (ends : List StageEnd) (ends_room : ℕ) : Type 0 where
   pub no_links : links ≡ []
   pub no_ends : ends ≡ []
-  pub for_links : MAX_TOOLS ≤ links_room
-  pub for_ends : MAX_TOOLS ≤ ends_room
+  pub for_links : count ≤ links_room
+  pub for_ends : count ≤ ends_room

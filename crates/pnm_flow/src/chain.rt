@@ -13,7 +13,6 @@ ghost use Rattle.pnm_lanes.specs.Limits.{IsLaneCount};
 
 use crate::link::Link;
 use crate::tool_run::{ToolBells, bell_of_tool, bell_of_tools, run_between, run_tool_by};
-use pnm_image::limits::MAX_TOOLS;
 use pnm_rings::{Bell, Input, Output, StageEnd, new_ring};
 use pnm_stages::{Gate, NoStart, StageDone, at_once};
 use pnm_tools::Tool;
@@ -102,7 +101,7 @@ pub fn run_chain_by<R: Threads + Wait + Sync, G: Gate>(
         (received input) (received done.input) (sent output) (sent done.output)) }
     ensures not_started { IfErr result (λ refused. IfSome refused.ends (IsUntouched input output)) }
 {
-    let Some(room) = Room::new(alloc) else {
+    let Some(room) = Room::new(alloc, tools.len()) else {
         return Err(not_started(input, output));
     };
     run_stages(
@@ -118,12 +117,12 @@ struct Room {
 }
 
 impl Room {
-    /// Room for as many tools as a chain may have; none where there is no memory.
-    fn new(alloc: Global) -> Option<Room>
-        ensures { IfSome result (λ room. HasRoom room.links.items (vec_capacity room.links) room.ends.items (vec_capacity room.ends)) }
+    /// Room for so many tools; none where there is no memory.
+    fn new(alloc: Global, count: usize) -> Option<Room>
+        ensures { IfSome result (λ room. HasRoom count room.links.items (vec_capacity room.links) room.ends.items (vec_capacity room.ends)) }
     {
-        let links = Vec::with_capacity(alloc, MAX_TOOLS).ok()?;
-        let ends = Vec::with_capacity(alloc, MAX_TOOLS).ok()?;
+        let links = Vec::with_capacity(alloc, count).ok()?;
+        let ends = Vec::with_capacity(alloc, count).ok()?;
         Some(Room { links, ends })
     }
 }
@@ -142,10 +141,10 @@ fn run_stages<R: Threads + Wait + Sync, G: Gate>(
     bells: ToolBells<'_>,
 ) -> Result<ChainDone, NoStart>
     requires shared { IsSync R.row × IsSync G.row }
-    requires tools { AreLawfulTools tools.now × (1 ≤ length tools.now) × (length tools.now ≤ MAX_TOOLS) }
+    requires tools { AreLawfulTools tools.now × (1 ≤ length tools.now) }
     requires capacity { IsRingCapacity capacity }
     requires lanes { IsLaneCount lanes }
-    requires room { HasRoom room.links.items (vec_capacity room.links) room.ends.items (vec_capacity room.ends) }
+    requires room { HasRoom (length tools.now) room.links.items (vec_capacity room.links) room.ends.items (vec_capacity room.ends) }
     ensures ran { IfOk result (HasRunBetween lanes tools.now (vec_capacity room.links) (vec_capacity room.ends) input output) }
     ensures not_started { IfErr result (λ refused. IfSome refused.ends (IsUntouched input output)) }
 {
@@ -186,8 +185,8 @@ fn run_stages<R: Threads + Wait + Sync, G: Gate>(
         },
         move || -> Option<ChainDone>
             requires { (IsSync R.row × IsSync G.row)
-                × (AreLawfulTools others.now × (1 ≤ length others.now) × (length others.now ≤ MAX_TOOLS)) × IsLaneCount lanes
-                × IsRingCapacity capacity × HasRoom room.links.items (vec_capacity room.links) room.ends.items (vec_capacity room.ends) }
+                × (AreLawfulTools others.now × (1 ≤ length others.now)) × IsLaneCount lanes
+                × IsRingCapacity capacity × HasRoom (length others.now) room.links.items (vec_capacity room.links) room.ends.items (vec_capacity room.ends) }
             ensures { IfSome result (HasRunBetween lanes others.entry.now (vec_capacity room.links) (vec_capacity room.ends) input producer) }
         {
             let bells = ToolBells {
@@ -242,7 +241,7 @@ fn last_and_others(tools: &[Tool]) -> (&Tool, &[Tool])
 
 /// A chain of one stage.
 fn only(done: StageDone, room: Room) -> ChainDone
-    requires { HasRoom room.links.items (vec_capacity room.links) room.ends.items (vec_capacity room.ends) }
+    requires { HasRoom 1 room.links.items (vec_capacity room.links) room.ends.items (vec_capacity room.ends) }
     ensures ends { (result.input ≡ done.input) × (result.output ≡ done.output) }
     ensures lists { (result.links.items ≡ []) × (result.ends.items ≡ done.end ∷ []) }
     ensures room { (vec_capacity result.links ≡ vec_capacity room.links) × (vec_capacity result.ends ≡ vec_capacity room.ends) }

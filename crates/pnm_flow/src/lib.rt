@@ -18,7 +18,7 @@ mod turns;
 pub use chain::{ChainDone, run_chain};
 pub use fault::RunFault;
 pub use link::Link;
-pub use pnm_lanes::{DealDone, GatherDone, deal, gather, run_lanes};
+pub use pnm_lanes::{DealDone, GatherDone, MAX_LANES, deal, gather, run_lanes};
 pub use pnm_rings::{AnyMessage, MAX_RING_CAPACITY, StageEnd};
 pub use pnm_stages::{Gate, NoStart, OpenGate, StageDone, run_stage};
 pub use serial::run_serial;

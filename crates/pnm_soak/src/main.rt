@@ -9,7 +9,7 @@
 mod slow;
 
 use pnm_chain::parse_chain;
-use pnm_flow::{MAX_RING_CAPACITY, OpenGate, run, run_serial};
+use pnm_flow::{MAX_LANES, MAX_RING_CAPACITY, OpenGate, run, run_serial};
 use pnm_image::{Device, Form};
 use slow::Slow;
 use std::env;
@@ -88,7 +88,7 @@ fn compare<H: AllocGlobal + Clock + Print + Threads + Wait + Sync>(
         return NO_RUNS;
     };
     let (capacity, lanes) = (words.capacity, words.lanes);
-    if capacity < 1 || capacity > MAX_RING_CAPACITY || lanes < 1 || lanes > 8 {
+    if capacity < 1 || capacity > MAX_RING_CAPACITY || lanes < 1 || lanes > MAX_LANES {
         return NO_RUNS;
     }
     let mut writer = Device::new(Vec::new(alloc));

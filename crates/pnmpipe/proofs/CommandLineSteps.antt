@@ -30,6 +30,8 @@ use Rattle.clap.proofs.OnLiterals.{clap_on_literals}
 use Rattle.clap.proofs.SimpleLemmas.{plain_fields, ready_simple, simple_groups, HasPlainFields}
 use Rattle.clap.proofs.WalkLemmas.{both, first_value-rows, one_text-rows}
 use Rattle.pnmpipe.proofs.DefaultReads.{default_reads}
+use Rattle.pnm_lanes.specs.declared.limits.TheConstants.{MAX_LANES}
+use Rattle.pnm_rings.specs.declared.limits.TheConstants.{MAX_RING_CAPACITY}
 use Rattle.pnmpipe.specs.CommandLine.{program, chain_rule, form_by, lanes_rule, plain_rule, value_of, number_rule, ring_rule, FitsKind, GivesChain, GivesForm, GivesLanes, GivesNumber, GivesRing, IsFaultOfWords}
 use Rattle.pnmpipe.specs.declared.command_line.CommandLineFault.{CommandLineFault}
 use Rattle.pnmpipe.specs.declared.command_line.CommandLineFault.TheVariants.{Help, Usage, Memory}
@@ -316,12 +318,12 @@ number_given E G bits c words m r read only k name default high k4 fits is_numbe
 pub ring_given : (E : Type 0) (G : List ℕ → Result ℕ E → Type 0) (c : Command) (words : List Text) (m : ArgMatches) (r : Option ℕ) → HasRead c words m
     → ((u : List ℕ) (x : Result ℕ E) → G u x → ParsesUnsigned 16 10 u x) → ((t : Text) → one_text (found_of m) (codes "ring") ≡ Some t → ReadsOne G t r)
     → (n : ℕ) × (r ≡ Some n) × GivesRing words n
-ring_given E G c words m r read only = number_given E G 16 c words m r read only 0 (codes "ring") (codes "64") 1024 (omega arith) (omega arith) refl
+ring_given E G c words m r read only = number_given E G 16 c words m r read only 0 (codes "ring") (codes "64") MAX_RING_CAPACITY (omega arith) (omega arith) refl
 
 pub lanes_given : (E : Type 0) (G : List ℕ → Result ℕ E → Type 0) (c : Command) (words : List Text) (m : ArgMatches) (r : Option ℕ) → HasRead c words m
     → ((u : List ℕ) (x : Result ℕ E) → G u x → ParsesUnsigned 8 10 u x) → ((t : Text) → one_text (found_of m) (codes "lanes") ≡ Some t → ReadsOne G t r)
     → (n : ℕ) × (r ≡ Some n) × GivesLanes words n
-lanes_given E G c words m r read only = number_given E G 8 c words m r read only 1 (codes "lanes") (codes "1") 8 (omega arith) (omega arith) refl
+lanes_given E G c words m r read only = number_given E G 8 c words m r read only 1 (codes "lanes") (codes "1") MAX_LANES (omega arith) (omega arith) refl
 
 -- ---- the form
 

@@ -10,6 +10,7 @@ use Rattle.clap.specs.declared.builder.value_parser.ValueParser.TheVariants.{Sig
 use Rattle.clap.specs.declared.error.kind.ErrorKind.{ErrorKind}
 use Rattle.clap.specs.declared.error.kind.ErrorKind.TheVariants.{DisplayHelp, OutOfMemory}
 use Rattle.pnm_chain.specs.ChainText.{SpellsChain}
+use Rattle.pnm_lanes.specs.declared.limits.TheConstants.{MAX_LANES}
 use Rattle.pnm_rings.specs.declared.limits.TheConstants.{MAX_RING_CAPACITY}
 use Rattle.pnm_flow.specs.Jobs.{Job, job_of}
 use Rattle.pnm_flow.specs.Runs.{Change}
@@ -34,9 +35,9 @@ number_rule name default high = record (new_rule name) {
 abbrev pub ring_rule : Rule
 ring_rule = number_rule (codes "ring") (codes "64") MAX_RING_CAPACITY
 
--- `--lanes K`: 1 to 8, where it isn't given 1
+-- `--lanes K`: how many a tool may have, where it isn't given 1
 abbrev pub lanes_rule : Rule
-lanes_rule = number_rule (codes "lanes") (codes "1") 8
+lanes_rule = number_rule (codes "lanes") (codes "1") MAX_LANES
 
 -- `--plain`: a flag
 abbrev pub plain_rule : Rule
@@ -79,7 +80,7 @@ abbrev pub lanes_of : List Text → Option Text
 lanes_of = value_of (codes "lanes")
 
 abbrev pub GivesLanes : List Text → ℕ → Type 0
-GivesLanes = GivesNumber (codes "lanes") 8
+GivesLanes = GivesNumber (codes "lanes") MAX_LANES
 
 -- the text of `--plain`: `true` where the flag is among the words, and else `false`
 abbrev pub plain_of : List Text → Option Text

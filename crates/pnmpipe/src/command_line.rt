@@ -10,6 +10,7 @@ use clap::error::ErrorKind;
 use clap::{Arg, ArgAction, Command, value_parser};
 use pnm_flow::MAX_RING_CAPACITY;
 use pnm_image::Form;
+use pnm_lanes::MAX_LANES;
 use std::alloc::{AllocError, Global};
 
 /// How the program is called.
@@ -145,7 +146,7 @@ fn lanes_option<'a>(alloc: Global) -> Arg<'a>
         .long("lanes")
         .value_name("K")
         .action(ArgAction::Set)
-        .value_parser(value_parser!(u8).range(1..=8))
+        .value_parser(value_parser!(u8).range(1..=MAX_LANES as i64))
         .default_value("1")
         .help(LANES_HELP)
 }

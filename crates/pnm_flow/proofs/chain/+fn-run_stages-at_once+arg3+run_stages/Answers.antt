@@ -1,4 +1,4 @@
-use Rattle.std.proofs.Common.{List, sym, ap, subst, ◌∙◌, arith, vec_capacity}
+use Rattle.std.proofs.Common.{List, length, sym, ap, subst, ◌∙◌, arith, vec_capacity}
 use Rattle.rtrb.specs.Ring.{sent, received, known_items, SameProducer, SameConsumer}
 use Rattle.pnm_image.specs.declared.message.Message.{Message}
 use Rattle.pnm_flow.specs.Chains.{HasRunStages}
@@ -8,7 +8,8 @@ use Rattle.pnm_flow.proofs.chain.+fn-run_stages-at_once+arg3+run_stages.Goals as
 pub joined-requires-clause-room : goal.joined-requires-clause-room
 joined-requires-clause-room g t c =
     let chain = (came_back c.args.lanes c.last_and_others.result.1.now (vec_capacity c.args.room.links) (vec_capacity c.args.room.ends) c.args.input c.in-Some.producer c.in-Some-both.chain c.in-Some-chain.chain c.in-Some-both.ensures.second c.in-Some-chain.is) in
-    has_room c.args.lanes c.last_and_others.result.1.now (vec_capacity c.args.room.links) (vec_capacity c.args.room.ends) c.args.input c.in-Some.producer c.in-Some-chain.chain chain (omega (arith, c.last_and_others.ensures.one_less, c.requires.tools.2)) c.requires.room.for_links c.requires.room.for_ends
+    has_room (length c.args.tools.now) c.args.lanes c.last_and_others.result.1.now (vec_capacity c.args.room.links) (vec_capacity c.args.room.ends) c.args.input
+    c.in-Some.producer c.in-Some-chain.chain chain (omega (arith, c.last_and_others.ensures.one_less)) c.requires.room.for_links c.requires.room.for_ends
 
 pub returns-in-Some-chain : goal.returns-in-Some-chain
 returns-in-Some-chain g t c =
