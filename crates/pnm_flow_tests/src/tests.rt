@@ -5,6 +5,7 @@ use pnm_read::InputFault;
 use std::fmt;
 use std::process::Abort;
 
+mod arrivals;
 mod blanks;
 mod chains;
 mod cuts;

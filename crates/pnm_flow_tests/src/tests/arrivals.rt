@@ -1,0 +1,164 @@
+//! Which threads come to the gate of a run: each stage and lane once, by its number, and before it takes a message.
+
+use super::agrees;
+use super::chains::are_lawful;
+use super::threads::TURNS;
+use pnm_flow::{Gate, Summary, run};
+use pnm_image::{Device, Form};
+use pnm_tools::Tool;
+use std::alloc::Global;
+use std::io::Read;
+use std::process::Abort;
+use std::sync::Wait;
+use std::sync::atomic::AtomicU64;
+use std::sync::atomic::Ordering::SeqCst;
+use std::thread::Threads;
+use std::{io, thread};
+
+/// An image of nine rows, and the image inverted.
+const NINE_ROWS: &[u8] = b"P5\n1 9\n9\n\x01\x02\x03\x04\x05\x06\x07\x08\x09";
+
+const NINE_ROWS_INVERTED: &[u8] = b"P5\n1 9\n9\n\x08\x07\x06\x05\x04\x03\x02\x01\x00";
+
+/// Gives a byte a read, and counts the reads.
+#[derive(Drop)]
+struct ByteByByte<'a>(&'a [u8], &'a AtomicU64);
+
+impl Read for ByteByByte<'_> {
+    fn read(&mut self, room: &mut [u8]) -> io::Result<usize> {
+        self.1.fetch_add(1, SeqCst);
+        let count = room.len().min(1);
+        self.0.read(&mut room[..count])
+    }
+}
+
+/// Holds a stage, or a lane of it, until as many bytes were read as can be where that one has taken nothing, and a while
+/// longer, and counts who comes.
+#[derive(Drop)]
+struct HoldsOne<'a> {
+    /// The stage and the lane that are held.
+    held: (usize, usize),
+    /// The reads that can be made without them.
+    most: u64,
+    reads: &'a AtomicU64,
+    /// How often the first three stages have come, the second lane of the first one, and anybody else.
+    came: [AtomicU64; 5],
+    missed: AtomicU64,
+    early: AtomicU64,
+}
+
+impl Gate for HoldsOne<'_> {
+    fn arrive(&self, stage: usize, lane: usize) {
+        let index = match (stage, lane) {
+            (1, 0) => 0,
+            (2, 0) => 1,
+            (3, 0) => 2,
+            (1, 1) => 3,
+            _ => 4,
+        };
+        self.came[index].fetch_add(1, SeqCst);
+        if (stage, lane) == self.held {
+            self.hold();
+        }
+    }
+}
+
+impl HoldsOne<'_> {
+    fn hold(&self) {
+        for turn in 0..TURNS {
+            if self.reads.load(SeqCst) >= self.most {
+                break;
+            }
+            if turn + 1 == TURNS {
+                self.missed.fetch_add(1, SeqCst);
+            }
+            thread::yield_now();
+        }
+        for _ in 0..100_000 {
+            thread::yield_now();
+        }
+        if self.reads.load(SeqCst) > self.most {
+            self.early.fetch_add(1, SeqCst);
+        }
+    }
+}
+
+/// While this stage and lane are held so many reads are made and no more, and these come, each so often.
+fn comes_before_it_takes<R: Threads + Wait + Abort + Sync>(
+    rt: &R,
+    alloc: Global,
+    tools: &[Tool],
+    lanes: usize,
+    held: (usize, usize),
+    most: u64,
+    came: [u64; 5],
+) {
+    assert!(rt; 1 <= tools.len() && tools.len() <= 16 && are_lawful(tools));
+    assert!(rt; 1 <= lanes && lanes <= 8);
+    let reads = AtomicU64::new(0);
+    let gate = HoldsOne {
+        held,
+        most,
+        reads: &reads,
+        came: [
+            AtomicU64::new(0),
+            AtomicU64::new(0),
+            AtomicU64::new(0),
+            AtomicU64::new(0),
+            AtomicU64::new(0),
+        ],
+        missed: AtomicU64::new(0),
+        early: AtomicU64::new(0),
+    };
+    let mut reader = Device::new(ByteByByte(NINE_ROWS, &reads));
+    let mut writer = Device::new(Vec::new(alloc));
+    let answer = run(
+        rt,
+        alloc,
+        &mut reader,
+        &mut writer,
+        tools,
+        Form::Raw,
+        1,
+        lanes,
+        &gate,
+    );
+    let want = (Ok(Summary { images: 1, rows: 9 }), NINE_ROWS_INVERTED);
+    let written = writer.into_inner();
+    agrees(rt, (answer, written.as_slice()), want, &held);
+    let counts = gate.came.each_ref().map(|count| count.load(SeqCst));
+    assert_eq!(rt; counts, came, "at {held:?}");
+    assert_eq!(rt;
+        (gate.missed.load(SeqCst), gate.early.load(SeqCst)),
+        (0, 0),
+        "at {held:?}"
+    );
+}
+
+/// Over rings of one message the caller holds one that waits for room, each ring before the stage that is held one, and
+/// each stage before it one: the image's head, of nine bytes, and 2 k - 1 rows where stage k is held.
+#[test]
+fn each_stage_comes_before_it_takes(rt: HostRuntime) {
+    let tools = [Tool::Invert, Tool::Invert, Tool::Invert];
+    for (stage, most) in [(1, 10), (2, 12), (3, 14)] {
+        comes_before_it_takes(
+            &rt,
+            rt.alloc(),
+            &tools,
+            1,
+            (stage, 0),
+            most,
+            [1, 1, 1, 0, 0],
+        );
+    }
+}
+
+/// Each lane has been sent the head. Where the first one is held the first row waits for room with the dealer, where the second is
+/// the second; the ring before the dealer and the caller hold a row each.
+#[test]
+fn each_lane_comes_before_it_takes(rt: HostRuntime) {
+    for (lane, most) in [(0, 12), (1, 13)] {
+        let came = [1, 0, 0, 1, 0];
+        comes_before_it_takes(&rt, rt.alloc(), &[Tool::Invert], 2, (1, lane), most, came);
+    }
+}
