@@ -41,11 +41,12 @@ impl<'a, H: Wait, R: BytesIn + Drop, W: BytesOut + Drop> Task for Turns<'a, H, R
         let mut feeder = feeder;
         let mut collector = collector;
         let mut patience = Patience::new();
+        let mut takes = false;
         for _ in rt.forever() {
             if feeder.is_over() && collector.is_over() {
                 return (feeder, collector);
             }
-            if turn(&mut feeder, &mut collector, first, last) {
+            if turn(&mut feeder, &mut collector, &mut takes, first, last) {
                 patience = Patience::new();
             } else {
                 patience.wait(rt, own, first);
@@ -55,18 +56,30 @@ impl<'a, H: Wait, R: BytesIn + Drop, W: BytesOut + Drop> Task for Turns<'a, H, R
     }
 }
 
-/// Takes and writes a message that is there, since to ask the source for one may have to wait for its reader; else sends
-/// the message that waits for room, or asks the source. False where none of these could be done.
+/// Goes on with what was done in the turn before, to take and write a message or to send one, as long as that can be done,
+/// and then does the other: so the caller looks at a ring for many messages at once. After a wide row it takes what has
+/// come. False where neither can be done.
 fn turn<R: BytesIn + Drop, W: BytesOut + Drop>(
     feeder: &mut Feeder<R>,
     collector: &mut Collector<W>,
+    takes: &mut bool,
     first: &Bell,
     last: &Bell,
 ) -> bool
     ensures turned { HaveTurned R.left R.failures R.same W.held W.failures W.same feeder.old collector.old feeder.new collector.new }
 {
-    (!collector.is_over() && collector.turn(last))
-        || (may_feed(feeder, collector) && feeder.turn(first))
+    if *takes {
+        if !collector.is_over() && collector.turn(last) {
+            return true;
+        }
+        *takes = false;
+    }
+    if may_feed(feeder, collector) && feeder.turn(first) {
+        *takes = feeder.is_wide();
+        return true;
+    }
+    *takes = true;
+    !collector.is_over() && collector.turn(last)
 }
 
 /// Whether there is more to be sent, and not the end of an image whose result is still to be written: to ask the source for
