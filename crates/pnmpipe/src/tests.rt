@@ -5,6 +5,7 @@ mod command;
 mod examples;
 mod fault_lines;
 mod help;
+mod interrupted;
 mod words_memory;
 
 /// An image of one row, and the image inverted.
