@@ -117,8 +117,14 @@ const FIRST: &[Refused<'static>] = &[
         NO_CHANNEL,
         b"",
     ),
-    // A plane that isn't there.
+    // A plane that isn't there, and one that isn't there in the second image, once the first one's result was due.
     ("pamchannel 1", b"P5\n1 1\n9\n\x05", NO_CHANNEL, b""),
+    (
+        "pamchannel 1",
+        b"P6\n1 1\n9\n\x01\x02\x03P5\n1 1\n9\n\x04",
+        NO_CHANNEL,
+        b"P7\nWIDTH 1\nHEIGHT 1\nDEPTH 1\nMAXVAL 9\nENDHDR\n\x02",
+    ),
 ];
 
 #[test]
