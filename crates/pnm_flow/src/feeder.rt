@@ -5,13 +5,10 @@ ghost use Rattle.rtrb.specs.Ring.{sent, SameProducer};
 ghost use Rattle.pnm_image.specs.declared.message.Message.{Message as MessageValue};
 ghost use Rattle.pnm_read.specs.Sources.{reader_of, IsFresh as IsUnread};
 
-use pnm_image::{BytesIn, Message, SampleSlice};
+use pnm_image::{BytesIn, Message};
 use pnm_read::{InputFault, Source};
 use pnm_rings::{Bell, Output, ends_image};
 use rtrb::PushError;
-
-/// The bytes from which on a row is wide: as many such rows as a ring holds don't stay in the processor's cache.
-const WIDE: usize = 4_096;
 
 /// The source of a run, and the ring that its messages go into.
 #[derive(Drop)]
@@ -26,8 +23,6 @@ pub struct Feeder<R> {
     is_gone: bool,
     /// The images whose end was sent, up to `u64::MAX`.
     images: u64,
-    /// The message that was sent last, or waits for room, is a wide row.
-    is_wide: bool,
 }
 
 impl<R: BytesIn + Drop> Feeder<R> {
@@ -46,7 +41,6 @@ impl<R: BytesIn + Drop> Feeder<R> {
             input: None,
             is_gone: false,
             images: 0,
-            is_wide: false,
         }
     }
 
@@ -63,9 +57,9 @@ impl<R: BytesIn + Drop> Feeder<R> {
         self.images
     }
 
-    /// Whether the message that was sent last, or waits for room, is a wide row.
-    pub fn is_wide(&self) -> bool {
-        self.is_wide
+    /// Whether to ask the source for the next message may have to wait for its reader.
+    pub fn would_read(&self) -> bool {
+        self.held.is_none() && !self.source.holds_next()
     }
 
     /// Asks the source for a message, where none waits for room in the ring, and sends it. False where there is no room. The
@@ -94,7 +88,6 @@ impl<R: BytesIn + Drop> Feeder<R> {
             return true;
         };
         let is_end = ends_image(&message);
-        self.is_wide = is_wide_row(&message);
         match self.output.push(message) {
             Ok(()) => {
                 self.images = self.images.saturating_add(u64::from(is_end));
@@ -138,17 +131,5 @@ impl<R: BytesIn + Drop> Feeder<R> {
             ..
         } = self;
         (source.into_reader(), output, input)
-    }
-}
-
-/// Whether the message is a row of so many bytes, as it is held.
-fn is_wide_row(message: &Message) -> bool {
-    let Message::Row(row) = message else {
-        return false;
-    };
-    match row.as_slice() {
-        SampleSlice::Bits(bits) => bits.len() >= 8 * WIDE,
-        SampleSlice::Bytes(bytes) => bytes.len() >= WIDE,
-        SampleSlice::Words(words) => words.len() >= WIDE / 2,
     }
 }

@@ -57,8 +57,8 @@ impl<'a, H: Wait, R: BytesIn + Drop, W: BytesOut + Drop> Task for Turns<'a, H, R
 }
 
 /// Goes on with what was done in the turn before, to take and write a message or to send one, as long as that can be done,
-/// and then does the other: so the caller looks at a ring for many messages at once. After a wide row it takes what has
-/// come. False where neither can be done.
+/// and then does the other: so the caller looks at a ring for many messages at once. Before the source is asked for what it
+/// would have to wait for, all that has come is taken. False where nothing can be done.
 fn turn<R: BytesIn + Drop, W: BytesOut + Drop>(
     feeder: &mut Feeder<R>,
     collector: &mut Collector<W>,
@@ -68,27 +68,27 @@ fn turn<R: BytesIn + Drop, W: BytesOut + Drop>(
 ) -> bool
     ensures turned { HaveTurned R.left R.failures R.same W.held W.failures W.same feeder.old collector.old feeder.new collector.new }
 {
-    if *takes {
+    if *takes || feeder.would_read() {
         if !collector.is_over() && collector.turn(last) {
             return true;
         }
         *takes = false;
     }
     if may_feed(feeder, collector) && feeder.turn(first) {
-        *takes = feeder.is_wide();
         return true;
     }
     *takes = true;
     !collector.is_over() && collector.turn(last)
 }
 
-/// Whether there is more to be sent, and not the end of an image whose result is still to be written: to ask the source for
-/// what follows that image may have to wait for its reader.
+/// Whether there is more to be sent. Where the result of an image that was sent is still to be written, it isn't what the
+/// source may have to wait for.
 fn may_feed<R: BytesIn + Drop, W: BytesOut + Drop>(
     feeder: &Feeder<R>,
     collector: &Collector<W>,
 ) -> bool
     ensures { IsTrue result → is_over_by feeder.now ≡ false }
 {
-    !feeder.is_over() && (collector.is_over() || feeder.images() <= collector.images())
+    !feeder.is_over()
+        && (collector.is_over() || feeder.images() <= collector.images() || !feeder.would_read())
 }

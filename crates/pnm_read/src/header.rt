@@ -17,7 +17,7 @@ use crate::fault::InputFault;
 use crate::input::Input;
 use crate::judgement::Judgement;
 use crate::pam;
-use crate::scan::{Scanner, scan};
+use crate::scan::{Scanner, feed, scan};
 use pnm_image::characters::{is_digit, is_white};
 use pnm_image::{BytesIn, Format, Head, HeadFault, Kind, Shape};
 use std::alloc::Global;
@@ -60,6 +60,29 @@ pub fn read_head<R: BytesIn>(input: &mut Input<R>, format: Format) -> Result<Hea
     match format.kind {
         Kind::Bit | Kind::Gray | Kind::Color => read_pnm_head(input, format.kind),
         Kind::Pam => pam::read_head(input),
+    }
+}
+
+/// Whether a header, or its fault, is told by these bytes, with which the image begins, and no more are needed.
+pub fn is_told(bytes: &[u8], is_first: bool) -> bool {
+    match bytes {
+        [] | [b'P'] => false,
+        [b'P', byte, rest @ ..] => match format_named(*byte, is_first) {
+            Ok(format) => ends_within(format.kind, rest),
+            Err(_) => true,
+        },
+        _ => true,
+    }
+}
+
+/// Whether the header of an image of this kind ends within these bytes, which follow its magic, or has its fault there.
+fn ends_within(kind: Kind, bytes: &[u8]) -> bool {
+    match kind {
+        Kind::Bit | Kind::Gray | Kind::Color => {
+            let mut header = HeaderScanner::new(number_count(kind));
+            !matches!(feed(&mut header, bytes), Ok(None))
+        }
+        Kind::Pam => pam::has_last_line(bytes),
     }
 }
 

@@ -1,6 +1,6 @@
 //! The bytes of a reader, of which a buffer's worth is held.
 
-ghost use Rattle.std.specs.Prelude.{◌≡◌, ◌==◌, ◌≤◌, ◌<◌, ◌⊎◌, [], true, false, drop, take, length, List, ℕ, vec_len, OnOk, IfOk, IfErr, MatchResult};
+ghost use Rattle.std.specs.Prelude.{◌≡◌, ◌==◌, ◌≤◌, ◌<◌, ◌⊎◌, ◌↔◌, IsTrue, [], true, false, drop, take, length, List, ℕ, vec_len, OnOk, IfOk, IfErr, MatchResult};
 ghost use Rattle.pnm_read.specs.declared.fault.InputFault.TheVariants.{ReadFailed, Memory};
 ghost use Rattle.pnm_read.specs.Reads.{HasRead};
 
@@ -79,6 +79,13 @@ impl<R: BytesIn> Input<R> {
         ensures { result.now ≡ held_of self.now }
     {
         &self.buffer[self.at..self.end]
+    }
+
+    /// Whether so many bytes are held, or all that are left.
+    pub fn holds(&self, wanted: usize) -> bool
+        ensures { IsTrue result ↔ HoldsEnough wanted self.now }
+    {
+        self.ended || self.end - self.at >= wanted
     }
 
     /// Takes so many of the bytes that are held.

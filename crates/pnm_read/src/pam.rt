@@ -27,6 +27,14 @@ pub fn read_head<R: BytesIn>(input: &mut Input<R>) -> Result<Head, InputFault>
     head_of(input.allocator(), header.fields)
 }
 
+/// The last line of a header as it is mostly written, with the LF before it.
+const LAST_LINE: &[u8] = b"\nENDHDR\n";
+
+/// Whether the last line of a header, as it is mostly written, stands in these bytes.
+pub fn has_last_line(bytes: &[u8]) -> bool {
+    bytes.windows(LAST_LINE.len()).any(|part| part == LAST_LINE)
+}
+
 /// The LF after the magic.
 #[tactic(auto, unfolding(crate::specs::Items::line_feed_item))]
 fn read_line_feed<R: BytesIn>(input: &mut Input<R>) -> Result<(), InputFault>

@@ -40,6 +40,18 @@ pub fn read_row<R: BytesIn>(input: &mut Input<R>, shape: Shape) -> Result<Sample
     }
 }
 
+/// The bytes that a row of this shape takes.
+pub fn bytes_in_row(shape: Shape) -> usize
+    requires { shape.width ≤ MAX_SIDE }
+{
+    let sample_width = SampleWidth::of(shape.kind, shape.maxval);
+    let units = units_in_row(sample_width, shape);
+    match sample_width {
+        SampleWidth::Bits | SampleWidth::Bytes => units,
+        SampleWidth::Words => units.saturating_mul(2),
+    }
+}
+
 /// The bytes of the next row, each of them a unit.
 fn read_bytes<R: BytesIn>(
     input: &mut Input<R>,

@@ -74,7 +74,7 @@ pub fn scan<R: BytesIn, S: Scanner>(input: &mut Input<R>, scanner: &mut S) -> Re
 
 /// Gives the scanner these bytes until its piece ends. Answers how many it took; none where the
 /// piece goes on after them.
-fn feed<S: Scanner>(scanner: &mut S, bytes: &[u8]) -> Result<Option<usize>, InputFault>
+pub fn feed<S: Scanner>(scanner: &mut S, bytes: &[u8]) -> Result<Option<usize>, InputFault>
     ensures fed { Feeds (S.item scanner.old) (S.at_end scanner.old) (S.is_after scanner.old) (S.is_after scanner.new) (S.is_whole scanner.new) bytes.now result }
     ensures taken { IfOk result (λ ended. IfSome ended (λ taken. taken ≤ length bytes.now)) }
     ensures of_text { result ≡ Err ReadFailed → ⊥ }

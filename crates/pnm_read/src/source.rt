@@ -10,7 +10,7 @@ ghost use Rattle.pnm_read.specs.Inputs.{Turn, Finds};
 ghost use Rattle.pnm_read.specs.Awaiting.{awaited_after, row_of, Answers, Steps, Begins, SeesText};
 
 use crate::fault::InputFault;
-use crate::header::{read_format, read_head};
+use crate::header::{is_told, read_format, read_head};
 use crate::input::{Input, ReadBuffer};
 use crate::raster::Raster;
 use crate::{plain, raw};
@@ -116,6 +116,15 @@ impl<R: BytesIn> Source<R> {
         }
     }
 
+    /// Whether the next message is told by the bytes that are held, so that `next` makes no read. A header is where it is held
+    /// whole, and a row of a plain image where all that is left of the input is held.
+    pub fn holds_next(&self) -> bool {
+        match self.state {
+            State::Awaits(awaited) => holds_at(&self.input, awaited),
+            State::Ended | State::Failed(_) => true,
+        }
+    }
+
     /// The next message, before the end of the stream and any fault.
     fn go_on(&mut self, awaited: Awaited) -> Result<Option<Message>, InputFault>
         ensures turn { Turn R.left R.failures R.same self.old.input self.new.input result (Answers awaited result self.new.state) }
@@ -150,6 +159,18 @@ fn step_at<R: BytesIn>(input: &mut Input<R>, awaited: Awaited) -> Result<Step, I
         Awaited::RowOrEnd(raster) => next_row(input, raster),
         Awaited::ImageOrEnd => follow(input),
         Awaited::End => Ok(stream_end()),
+    }
+}
+
+/// Whether what is held tells the message that is awaited.
+fn holds_at<R: BytesIn>(input: &Input<R>, awaited: Awaited) -> bool {
+    match awaited {
+        Awaited::FirstImage => input.holds(usize::MAX) || is_told(input.bytes(), true),
+        Awaited::RowOrEnd(raster) if raster.y == raster.shape.height => true,
+        Awaited::RowOrEnd(raster) if raster.format.is_plain() => input.holds(usize::MAX),
+        Awaited::RowOrEnd(raster) => input.holds(raw::bytes_in_row(raster.shape)),
+        Awaited::ImageOrEnd => input.holds(usize::MAX) || is_told(input.bytes(), false),
+        Awaited::End => true,
     }
 }
 

@@ -5,6 +5,7 @@
 mod answers;
 mod cases;
 mod headers;
+mod held;
 mod limits;
 mod pam;
 mod pam_faults;
