@@ -20,7 +20,7 @@ const ABOUT: &str = "Passes a stream of PBM, PGM, PPM or PAM images through a ch
   pnmpipe 'pamcut -width 640 | pamflip -lr' < a.ppm > b.ppm
 Put CHAIN in quotes; files go by < and >. Every image of a stream is treated.";
 
-const CHAIN_HELP: &str = "1 to 16 tools, parted by |, in one word";
+const CHAIN_HELP: &str = "1 to 64 tools, parted by |, in one word";
 
 const RING_HELP: &str = "Rows that wait between two tools, 1 to 1024";
 

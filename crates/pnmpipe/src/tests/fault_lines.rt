@@ -19,9 +19,9 @@ fn names_stages(rt: HostRuntime) -> Result<(), Fail> {
             "pnmpipe: chain: stage 1: UnknownTool\n",
         ),
         (
-            16,
+            64,
             ChainKind::UnknownTool,
-            "pnmpipe: chain: stage 16: UnknownTool\n",
+            "pnmpipe: chain: stage 64: UnknownTool\n",
         ),
         (
             usize::MAX,
@@ -53,8 +53,8 @@ fn names_tools(rt: HostRuntime) -> Result<(), Fail> {
             "pnmpipe: tool 10: TooLarge\n",
         ),
         (
-            RunFault::Tool(16, ToolFault::Memory),
-            "pnmpipe: tool 16: Memory\n",
+            RunFault::Tool(64, ToolFault::Memory),
+            "pnmpipe: tool 64: Memory\n",
         ),
         (RunFault::NoStart, "pnmpipe: NoStart\n"),
         (RunFault::PeerGone(2), "pnmpipe: tool 2: PeerGone\n"),

@@ -14,7 +14,7 @@ Put CHAIN in quotes; files go by < and >. Every image of a stream is treated.
 Usage: pnmpipe [--ring N] [--lanes K] [--plain] CHAIN
 
 Arguments:
-  <CHAIN>  1 to 16 tools, parted by |, in one word
+  <CHAIN>  1 to 64 tools, parted by |, in one word
 
 Options:
       --ring <N>   Rows that wait between two tools, 1 to 1024 [default: 64]
