@@ -1,7 +1,7 @@
 #!/usr/bin/env python3
 """Wants a run whose input is silent to take next to no processor time, and to have written what was due before.
 
-The input is held open for some seconds before its first byte, inside an image and after one, for a tool alone, for 16 of
+The input is held open for some seconds before its first byte, inside an image and after one, for a tool alone, for 64 of
 them and for tools over lanes. Threads that only yield while they wait would take a processor each.
 """
 
@@ -16,7 +16,7 @@ SCRIPTS = os.path.dirname(os.path.abspath(__file__))
 
 CHAINS = [
     ["pnminvert"],
-    [" | ".join(["pnminvert"] * 16)],
+    [" | ".join(["pnminvert"] * 64)],
     ["--lanes", "3", "--ring", "1", "pnminvert | pamflip -lr"],
 ]
 

@@ -28,7 +28,7 @@ def colors(width, height):
     return b"P7\nWIDTH %d\nHEIGHT %d\nDEPTH 4\nMAXVAL 255\nTUPLTYPE RGB_ALPHA\nENDHDR\n" % (width, height)
 
 
-# the name, the header of each image, the bytes of its raster, and how many there are: an image has at most 1,000,000 rows
+# the name, the header of each image, the bytes of its raster, and how many there are
 IMAGES = {
     "narrow": (gray(64, 781250, 255), 64 * 781250, 2),
     "wide": (gray(18000, 5556, 255), 18000 * 5556, 1),

@@ -51,6 +51,10 @@ PLAIN_STREAMS = "{}: of several plain images in one input the first alone is tak
 NAMED = "{} is taken for a file's name: where it begins with a dash, Netpbm's tool takes it for an option or standard input"
 
 
+# one less than the greatest number that pnmpipe takes, or a negative one counted from the end
+MOST_NUMBER = 16_777_215
+
+
 class Kept(Exception):
     """Why a stage is kept as it is."""
 
@@ -103,8 +107,8 @@ def whole_name(tool, given):
 
 
 def number_of(text, what, least=None):
-    """A decimal number as text, where pnmpipe takes it."""
-    if text is None or not re.fullmatch(r"-?[0-9]{1,7}", text) or (least is not None and int(text) < least):
+    """A decimal number as text, where pnmpipe takes it, and one less than it too."""
+    if text is None or not re.fullmatch(r"-?[0-9]{1,8}", text) or abs(int(text)) > MOST_NUMBER or (least is not None and int(text) < least):
         raise Kept(f"{what} isn't a number that pnmpipe takes")
     return int(text)
 

@@ -35,7 +35,7 @@ OF_MEMORY = "memory::"
 
 # no command makes more allocations than this, and none has more tools
 MOST = 2000
-MOST_TOOLS = 16
+MOST_TOOLS = 64
 
 
 class Command(typing.NamedTuple):
@@ -149,7 +149,9 @@ def commands_over(lanes):
     picked = pam(255, 2, b"RGB", [30, 10])
     yield command("pamchannel 2 0 -tupletype RGB", b"P3 1 1 255 10 20 30", picked, 1, 0)
     yield command("pamchannel 2 0 -tupletype RGB | pamflip -tb | pnminvert", b"P3 1 1 255 10 20 30", pam(255, 2, b"RGB", [225, 245]), 2, 1)
-    yield command(" | ".join(["pnminvert"] * 16), STREAM, STREAM, 16, 0)
+    # over lanes the most tools start so many threads that refusing each would take too long
+    count = MOST_TOOLS if lanes == 1 else 16
+    yield command(" | ".join(["pnminvert"] * count), STREAM, STREAM, count, 0)
     # an input that is cut, after whose fault no tool's want of memory is answered, and one that the second tool refuses
     cut = bits("11", "10") + gray(9, [2, 1], [4, 3]) + gray(300, [2, 1], [0, 0])[:-4]
     yield command("pamflip -lr | pamflip -lr | pamflip -lr", STREAM[:-1], cut, 3, 0, line="pnmpipe: input: RasterCut\n")
@@ -361,9 +363,9 @@ def refuse_by_builds(step, seconds):
 def refuse_by_room(program, seconds):
     """Refuses starts of threads by the room that the process may take: that of one stack more each turn."""
     stack = 64 << 20
-    for command in (stored_run(), *(it for it in commands_over(1) if it.starts == 16)):
+    for command in (stored_run(), *(it for it in commands_over(1) if it.starts == MOST_TOOLS)):
         refused = 0
-        for room in range(stack, 64 * stack, stack):
+        for room in range(stack, 4 * MOST_TOOLS * stack, stack):
 
             def narrow():
                 resource.setrlimit(resource.RLIMIT_STACK, (stack, stack))

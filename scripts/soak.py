@@ -18,7 +18,7 @@ import time
 
 ROOT = os.path.dirname(os.path.dirname(os.path.abspath(__file__)))
 
-# samples that a result may have at most, so that a run is over soon; few are let through beyond it
+# samples that a result may have at most, so that a run is over soon; few are let through beyond it, to ten times as many
 MOST_SAMPLES = 400_000
 
 MAXVALS = [1, 2, 9, 100, 254, 255, 256, 300, 4095, 65535]
@@ -101,21 +101,25 @@ def cut_of(numbers):
     return " ".join(["pamcut", *options])
 
 
+# two planes of any image, so many times as wide, are more samples than a row may have
+TOO_LARGE = ["pamchannel 0 0", "pamenlarge -xscale 8388609"]
+
+
 def scale_of(numbers, wide, high):
-    if numbers.random() < 0.02:
-        return "pamenlarge 1000001", wide, high
     across, down = numbers.randint(1, 3), numbers.randint(1, 3)
-    if wide * across * high * down > MOST_SAMPLES and numbers.random() < 0.98:
+    samples = wide * across * high * down
+    if samples > 10 * MOST_SAMPLES or samples > MOST_SAMPLES and numbers.random() < 0.98:
         across, down = 1, 1
     text = numbers.choice([f"-xscale {across}", f"-yscale {down}", f"-xscale {across} -yscale {down}"])
     return "pamenlarge " + text, wide * across, high * down
 
 
 def chain_of(numbers, width, height, depth):
-    """1 to 16 tools, and how large a result may be, so that no chain makes too much."""
+    """1 to 64 tools, and how large a result may be, so that no chain makes too much."""
     tools = []
     wide, high = width * depth, height
-    for _ in range(numbers.choice([1, 1, 2, 2, 3, 4, 5, 8, 16])):
+    count = numbers.choice([1, 1, 2, 2, 3, 4, 5, 8, 16, 17, 64])
+    while len(tools) < count:
         name = numbers.choice(["pnminvert", "pamcut", "pamdepth", "pamchannel", "pamenlarge", "pamflip", "pnmtile"])
         if name == "pamcut":
             tools.append(cut_of(numbers))
@@ -125,6 +129,8 @@ def chain_of(numbers, width, height, depth):
             planes = [numbers.choice([0, 0, 0, 0, 1, 2]) for _ in range(numbers.randint(1, 3))]
             wide *= len(planes)
             tools.append(f"pamchannel {' '.join(map(str, planes))}" + numbers.choice(["", " -tupletype=", " -tupletype RGB"]))
+        elif name == "pamenlarge" and len(tools) + 2 <= count and numbers.random() < 0.02:
+            tools += TOO_LARGE
         elif name == "pamenlarge":
             text, wide, high = scale_of(numbers, wide, high)
             tools.append(text)

@@ -36,6 +36,7 @@ TRANSLATED = [
     ("pamflip -xform=leftright,transpose", "pnmpipe 'pamflip -lr | pamflip -xy'"),
     ("pnmflip -tr -cw f", "pnmpipe 'pamflip -xy | pamflip -r270' < f"),
     ("pamchannel -infile='a b' -tuple X 0 1", "pnmpipe 'pamchannel -tupletype=X 0 1' < 'a b'"),
+    ("pnmcut 0 0 12000000 -16777215", "pnmpipe 'pamcut -left 0 -top 0 -width 12000000 -bottom -16777216'"),
     ("pnmtile 7 8 f -quiet 2>/dev/null", "pnmpipe 'pnmtile 7 8' < f 2>/dev/null"),
     ("pamdepth 9 f | pnmtile -plain 3 3", "pnmpipe --plain 'pamdepth 9 | pnmtile 3 3' < f"),
     ("a | pamcut -left 1 f|pamflip -lr", "a | pnmpipe 'pamcut -left 1 | pamflip -lr' < f"),
@@ -69,6 +70,7 @@ KEPT = [
     "pamchannel 0 -plain",
     "pamenlarge -scale 2 -xscale 3",
     "pnmtile 3",
+    "pnmtile 1 16777217",
     "pnminvert -version",
     "pnminvert |& cat",
     "pnminvert f < g",
@@ -154,8 +156,8 @@ class Translate(Folder):
         self.assertIn(b"line 3: 1 tool in one call", done.stderr)
 
     def test_long_runs(self):
-        made, _ = self.translated(" | ".join(["pnminvert"] * 18))
-        self.assertEqual([call.count("pnminvert") for call in made.split("pnmpipe")[1:]], [16, 2])
+        made, _ = self.translated(" | ".join(["pnminvert"] * 66))
+        self.assertEqual([call.count("pnminvert") for call in made.split("pnmpipe")[1:]], [64, 2])
 
 
 class Split(Folder):
@@ -213,6 +215,7 @@ STOOD_IN = [
     (["pamflip", "-xform", "leftright,topbottom", "F"], "pamflip -lr | pamflip -tb"),
     (["pnmflip", "-tr", "-lr", "F"], "pamflip -xy | pamflip -lr"),
     (["pnmtile", "4", "5", "F"], "pnmtile 4 5"),
+    (["pnmtile", "12000000", "16777215", "F"], "pnmtile 12000000 16777215"),
 ]
 
 # calls that go to the tool itself
@@ -227,6 +230,7 @@ HANDED_ON = [
     ["pnminvert", "-plain", "F"],
     ["pnminvert", "-version"],
     ["pnmtile", "3", "F"],
+    ["pnmtile", "3", "16777216", "F"],
     ["pnminvert", "no such file"],
 ]
 
