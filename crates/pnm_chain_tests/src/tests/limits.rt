@@ -48,10 +48,18 @@ const LONG_CHAINS: &[(Long<'static>, Long<'static>)] = &[
             "",
         ),
     ),
-    // 16 tools.
+    // 16, 17 and 64 tools.
     (
         ("", "pnminvert|", 15, "pnminvert"),
         ("[", "Invert, ", 15, "Invert]"),
+    ),
+    (
+        ("", "pnminvert|", 16, "pnminvert"),
+        ("[", "Invert, ", 16, "Invert]"),
+    ),
+    (
+        ("", "pnminvert|", 63, "pnminvert"),
+        ("[", "Invert, ", 63, "Invert]"),
     ),
     // Tuple types of up to 255 bytes, however many characters these are.
     (
@@ -235,34 +243,36 @@ const LONG_TEXTS: &[(Long<'static>, usize, ChainKind)] = &[
     // Characters of two bytes.
     (("", "\u{a0}", 2_049, ""), 0, ChainKind::TooLong),
     (("", "\u{a0}", 2_048, ""), 1, ChainKind::UnknownTool),
-    // 17 stages, also where some are empty or name no tool, and 16.
-    (("pnminvert", "|pnminvert", 16, ""), 0, ChainKind::TooMany),
+    // 65 stages, also where some are empty or name no tool, and 64.
+    (("pnminvert", "|pnminvert", 64, ""), 0, ChainKind::TooMany),
     (("pnminvert", "|pnminvert", 399, ""), 0, ChainKind::TooMany),
-    (("", "pnminvert|", 16, ""), 0, ChainKind::TooMany),
-    (("", "|pnminvert", 16, ""), 0, ChainKind::TooMany),
-    (("", "|", 16, ""), 0, ChainKind::TooMany),
-    ((" ", "\t| ", 16, "\n"), 0, ChainKind::TooMany),
-    (("pnmscale", "|", 16, ""), 0, ChainKind::TooMany),
-    (("pamcut -pad", "|pnminvert", 16, ""), 0, ChainKind::TooMany),
-    (("", "|", 15, ""), 1, ChainKind::EmptyStage),
-    (("pnmscale", "|", 15, ""), 1, ChainKind::UnknownTool),
-    (("", "pnminvert|", 15, ""), 16, ChainKind::EmptyStage),
-    (("pnminvert", "|pnminvert", 14, "||"), 0, ChainKind::TooMany),
+    (("", "pnminvert|", 64, ""), 0, ChainKind::TooMany),
+    (("", "|pnminvert", 64, ""), 0, ChainKind::TooMany),
+    (("", "|", 64, ""), 0, ChainKind::TooMany),
+    ((" ", "\t| ", 64, "\n"), 0, ChainKind::TooMany),
+    (("pnmscale", "|", 64, ""), 0, ChainKind::TooMany),
+    (("pamcut -pad", "|pnminvert", 64, ""), 0, ChainKind::TooMany),
+    (("", "|", 63, ""), 1, ChainKind::EmptyStage),
+    (("pnmscale", "|", 63, ""), 1, ChainKind::UnknownTool),
+    (("", "pnminvert|", 63, ""), 64, ChainKind::EmptyStage),
+    (("pnminvert", "|pnminvert", 62, "||"), 0, ChainKind::TooMany),
     (
-        ("", "pnminvert|", 15, "pamflip"),
-        16,
+        ("", "pnminvert|", 63, "pamflip"),
+        64,
         ChainKind::MissingArgument,
     ),
     (
-        ("", "pnminvert|", 15, "pnmscale"),
-        16,
+        ("", "pnminvert|", 63, "pnmscale"),
+        64,
         ChainKind::UnknownTool,
     ),
     (
-        ("", "pnminvert|", 15, "pamcut -left"),
-        16,
+        ("", "pnminvert|", 63, "pamcut -left"),
+        64,
         ChainKind::MissingValue,
     ),
+    // 17 are few.
+    (("", "pnminvert|", 16, ""), 17, ChainKind::EmptyStage),
     // 257 planes, and a fault in the last of them or before.
     (("pamchannel", " 0", 257, ""), 1, ChainKind::ExtraArgument),
     (

@@ -10,18 +10,23 @@ fn judges_numbers_in_order(rt: HostRuntime) {
     for (width, height, depth, maxval, fault) in [
         (1, 1, 1, 9, None),
         (1_000_000, 1_000_000, 1, 65_535, None),
+        (1_000_001, 1, 1, 9, None),
+        (1, 1_000_001, 1, 9, None),
+        (16_777_216, 16_777_216, 1, 65_535, None),
         (65_536, 1, 256, 1, None),
+        (65_536, 16_777_216, 256, 65_535, None),
         (0, 1, 1, 9, Some(ZeroSize)),
         (1, 0, 1, 9, Some(ZeroSize)),
         (1, 1, 0, 9, Some(ZeroSize)),
-        (1_000_001, 1, 1, 9, Some(TooLarge)),
-        (1, 1_000_001, 1, 9, Some(TooLarge)),
+        (16_777_217, 1, 1, 9, Some(TooLarge)),
+        (1, 16_777_217, 1, 9, Some(TooLarge)),
         (1, 1, 257, 9, Some(TooLarge)),
         (65_537, 1, 256, 9, Some(TooLarge)),
+        (8_388_609, 1, 2, 9, Some(TooLarge)),
         (1, 1, 1, 0, Some(BadMaxval)),
         (1, 1, 1, 65_536, Some(BadMaxval)),
-        (0, 2_000_000, 1, 0, Some(ZeroSize)),
-        (1, 2_000_000, 1, 0, Some(TooLarge)),
+        (0, 20_000_000, 1, 0, Some(ZeroSize)),
+        (1, 20_000_000, 1, 0, Some(TooLarge)),
         (0, 1, 300, 9, Some(ZeroSize)),
     ] {
         let shape = Shape {
@@ -66,11 +71,11 @@ fn keeps_fields(rt: HostRuntime) -> Result<(), Fail> {
         assert_eq!(rt; none.shape(), Shape { height: 0, ..shape });
         assert_eq!(rt; none.tuple_type(), tuple_type);
         assert!(rt; Place::new().accepts(&Message::Begin(none)));
-        let most = copy.with_height(1_000_000);
+        let most = copy.with_height(16_777_216);
         assert_eq!(rt;
             most.shape(),
             Shape {
-                height: 1_000_000,
+                height: 16_777_216,
                 ..shape
             }
         );

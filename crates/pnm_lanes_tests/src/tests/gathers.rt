@@ -131,6 +131,44 @@ fn stops_where_a_lane_does(rt: HostRuntime) -> Result<(), Fail> {
     Ok(())
 }
 
+/// Heights of lanes add up to one of 16,777,216 at most.
+#[test]
+fn adds_heights_up_to_the_greatest(rt: HostRuntime) -> Result<(), Fail> {
+    let cases: [Case<'_>; 3] = [
+        (
+            "the greatest height",
+            &[
+                &[Part::Begin(1, 8_388_608), Part::Stop],
+                &[Part::Begin(1, 8_388_608), Part::Stop],
+            ],
+            &[Part::Begin(1, 16_777_216), Part::Stop],
+            StageEnd::Broken,
+        ),
+        (
+            "a height beyond it",
+            &[
+                &[Part::Begin(1, 8_388_609), Part::Stop],
+                &[Part::Begin(1, 8_388_608), Part::Stop],
+            ],
+            &[Part::Stop],
+            OUT_OF_ORDER,
+        ),
+        (
+            "the greatest height twice",
+            &[
+                &[Part::Begin(1, 16_777_216), Part::Stop],
+                &[Part::Begin(1, 16_777_216), Part::Stop],
+            ],
+            &[Part::Stop],
+            OUT_OF_ORDER,
+        ),
+    ];
+    for case in cases {
+        ends_so(&rt, rt.alloc(), case)?;
+    }
+    Ok(())
+}
+
 /// Where nothing more can come of a lane, what came is sent, and Stop.
 #[test]
 fn stops_where_a_lane_is_gone(rt: HostRuntime) -> Result<(), Fail> {

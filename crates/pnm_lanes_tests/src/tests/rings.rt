@@ -50,7 +50,7 @@ fn shape(width: u32, height: u32) -> Shape {
 /// A head of this height, which may be 0.
 fn head(alloc: Global, width: u32, height: u32) -> Result<Head, Unmade> {
     let shape = shape(width, 1);
-    if height > 1_000_000 || !Head::suits(shape.kind, shape.depth, shape.maxval, &[]) {
+    if height > 16_777_216 || !Head::suits(shape.kind, shape.depth, shape.maxval, &[]) {
         return Err(Unmade);
     }
     Ok(Head::new(alloc, shape, &[])?.with_height(height))
