@@ -12,6 +12,7 @@ mod cuts;
 mod devices;
 mod gates;
 mod lanes;
+mod limits;
 mod memory;
 mod order;
 mod plain;
@@ -44,9 +45,24 @@ const BAD_INPUTS: &[BadInput<'static>] = &[
     (b"P5 0 1 9\n", b"", InputFault::ZeroSize),
     (b"P5 1 0 9\n", b"", InputFault::ZeroSize),
     (b"P5 0 1000001 0\n", b"", InputFault::ZeroSize),
-    (b"P5 1000001 1 9\n", b"", InputFault::TooLarge),
-    (b"P5 1 1000001 9\n", b"", InputFault::TooLarge),
-    (b"P5 1000001 1 0\n", b"", InputFault::TooLarge),
+    (
+        b"P5 1000001 1 9\n",
+        b"P5\n1000001 1\n9\n",
+        InputFault::RasterCut,
+    ),
+    (
+        b"P5 1 1000001 9\n",
+        b"P5\n1 1000001\n9\n",
+        InputFault::RasterCut,
+    ),
+    (b"P5 1000001 1 0\n", b"", InputFault::BadMaxval),
+    (b"P5 16777217 1 9\n", b"", InputFault::TooLarge),
+    (b"P5 1 16777217 9\n", b"", InputFault::TooLarge),
+    (
+        b"P4 16777216 16777216\n",
+        b"P4\n16777216 16777216\n",
+        InputFault::RasterCut,
+    ),
     (
         b"P5 123456789012345678901234567890 1 9\n",
         b"",

@@ -81,7 +81,7 @@ fn run_form_by<R: Threads + Wait + Abort + Sync>(
     form: Form,
     input: &[u8],
 ) -> (Result<Summary, RunFault>, Vec<u8>) {
-    assert!(rt; 1 <= tools.len() && tools.len() <= 16 && are_lawful(tools));
+    assert!(rt; 1 <= tools.len() && tools.len() <= 64 && are_lawful(tools));
     let mut writer = Device::new(Vec::new(alloc));
     let mut reader = Device::new(input);
     let answer = run_by(rt, alloc, way, &mut reader, &mut writer, tools, form);

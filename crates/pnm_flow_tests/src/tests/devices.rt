@@ -44,7 +44,7 @@ pub fn make_by<H: Threads + Wait + Abort + Sync, R: BytesIn, W: BytesOut>(
     tools: &[Tool],
     form: Form,
 ) -> Result<Summary, RunFault> {
-    assert!(rt; 1 <= tools.len() && tools.len() <= 16 && are_lawful(tools));
+    assert!(rt; 1 <= tools.len() && tools.len() <= 64 && are_lawful(tools));
     run_by(rt, alloc, way, reader, writer, tools, form)
 }
 

@@ -34,7 +34,7 @@ fn meets<R: Threads + Wait + Abort + Sync>(
     gate: &impl Gate,
 ) {
     let (tools, lanes, input, made) = held;
-    assert!(rt; 1 <= tools.len() && tools.len() <= 16 && are_lawful(tools));
+    assert!(rt; 1 <= tools.len() && tools.len() <= 64 && are_lawful(tools));
     assert!(rt; 1 <= lanes && lanes <= 8);
     let mut writer = Device::new(Vec::new(alloc));
     let mut reader = Device::new(input);
@@ -152,7 +152,7 @@ impl Gate for HoldsFirst<'_> {
 /// The input is read while the gate holds the first tool back, or the first lane of it, and nothing is written without it.
 fn reads_and_writes<R: Threads + Wait + Abort + Sync>(rt: &R, alloc: Global, held: HeldRun<'_>) {
     let (tools, lanes, input, made) = held;
-    assert!(rt; 1 <= tools.len() && tools.len() <= 16 && are_lawful(tools));
+    assert!(rt; 1 <= tools.len() && tools.len() <= 64 && are_lawful(tools));
     assert!(rt; 1 <= lanes && lanes <= 8);
     let seen = Seen::new();
     let mut reader = Device::new(SeenReader(input, &seen));

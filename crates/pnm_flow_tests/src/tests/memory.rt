@@ -56,7 +56,7 @@ fn make_short_of_memory<H: Threads + Wait + Abort + Sync>(
     run: Written<'_>,
 ) -> Option<Summary> {
     let (form, input, whole) = run;
-    assert!(rt; 1 <= tools.len() && tools.len() <= 16 && are_lawful(tools));
+    assert!(rt; 1 <= tools.len() && tools.len() <= 64 && are_lawful(tools));
     let mut room = [0; 200];
     let mut writer = Device::new(room.as_mut_slice());
     let mut reader = Device::new(input);

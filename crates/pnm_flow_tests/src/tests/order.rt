@@ -61,7 +61,7 @@ fn answers_so<R: Threads + Wait + Abort + Sync>(
     order: &Order<'_>,
 ) {
     let (tools, due) = (order.tools, order.due);
-    assert!(rt; 1 <= tools.len() && tools.len() <= 16 && are_lawful(tools));
+    assert!(rt; 1 <= tools.len() && tools.len() <= 64 && are_lawful(tools));
     assert!(rt; before <= due.len());
     let mut reader = Device::new(Drips::new(order.input, 1, fails(order.reads)));
     let mut sips = Sips::new(alloc, 1, FailsOnce::after(before), FailsOnce::never());

@@ -2,19 +2,18 @@
 
 use super::agrees;
 use super::chains::run_text;
-use pnm_flow::{RunFault, Summary};
+use pnm_flow::RunFault;
 use pnm_read::InputFault;
 use pnm_tools::ToolFault;
 use std::alloc::Global;
 use std::process::Abort;
 use std::sync::Wait;
-use std::test::Fail;
 use std::thread::Threads;
 
 /// A chain, an input, what is answered and what is written.
-type Refused<'a> = (&'a str, &'a [u8], RunFault, &'a [u8]);
+pub type Refused<'a> = (&'a str, &'a [u8], RunFault, &'a [u8]);
 
-fn refuses<R: Threads + Wait + Abort + Sync>(rt: &R, alloc: Global, cases: &[Refused<'_>]) {
+pub fn refuses<R: Threads + Wait + Abort + Sync>(rt: &R, alloc: Global, cases: &[Refused<'_>]) {
     for (chain, input, fault, output) in cases {
         let (answer, written) = run_text(rt, alloc, chain, input);
         let want = (Err(*fault), *output);
@@ -26,7 +25,7 @@ const BAD_SAMPLE: RunFault = RunFault::Input(InputFault::BadSample);
 
 const BAD_MAGIC: RunFault = RunFault::Input(InputFault::BadMagic);
 
-const RASTER_CUT: RunFault = RunFault::Input(InputFault::RasterCut);
+pub const RASTER_CUT: RunFault = RunFault::Input(InputFault::RasterCut);
 
 const MISSING_FIELD: RunFault = RunFault::Input(InputFault::MissingField);
 
@@ -42,7 +41,7 @@ const THIRD_OUTSIDE: RunFault = RunFault::Tool(3, ToolFault::CutOutside);
 
 const NO_CHANNEL: RunFault = RunFault::Tool(1, ToolFault::ChannelOutside);
 
-const FIRST_LARGE: RunFault = RunFault::Tool(1, ToolFault::TooLarge);
+pub const FIRST_LARGE: RunFault = RunFault::Tool(1, ToolFault::TooLarge);
 
 const SECOND_LARGE: RunFault = RunFault::Tool(2, ToolFault::TooLarge);
 
@@ -185,9 +184,14 @@ const BEFORE_REFUSAL: &[Refused<'static>] = &[
         b"P5\n1 1\n9\n\x02",
     ),
     // The result has too many columns, or too many rows.
-    ("pnmtile 1000001 1", b"P5\n1 1\n9\n\x05", FIRST_LARGE, b""),
     (
-        "pnminvert | pamenlarge -yscale 1000000",
+        "pnmtile 5592406 1",
+        b"P6\n1 1\n9\n\x05\x06\x07",
+        FIRST_LARGE,
+        b"",
+    ),
+    (
+        "pnminvert | pamenlarge -yscale 8388609",
         b"P5\n1 2\n9\n\x01\x02",
         SECOND_LARGE,
         b"",
@@ -197,23 +201,4 @@ const BEFORE_REFUSAL: &[Refused<'static>] = &[
 #[test]
 fn writes_what_comes_before_a_refusal(rt: HostRuntime) {
     refuses(&rt, rt.alloc(), BEFORE_REFUSAL);
-}
-
-/// The widest image is inverted; twice as wide it would be too large.
-#[test]
-fn runs_on_the_widest_image(rt: HostRuntime) -> Result<(), Fail> {
-    let header = b"P5\n1000000 1\n1\n".as_slice();
-    let mut input = Vec::from_slice(rt.alloc(), header)?;
-    let mut inverted = Vec::from_slice(rt.alloc(), header)?;
-    for _ in 0..1_000_000 {
-        input.push(0)?;
-        inverted.push(1)?;
-    }
-    let (answer, written) = run_text(&rt, rt.alloc(), "pnminvert", input.as_slice());
-    assert_eq!(rt; answer, Ok(Summary { images: 1, rows: 1 }));
-    assert!(rt; written == inverted);
-    let (answer, written) = run_text(&rt, rt.alloc(), "pamenlarge -xscale 2", input.as_slice());
-    assert_eq!(rt; answer, Err(FIRST_LARGE));
-    assert!(rt; written.is_empty());
-    Ok(())
 }

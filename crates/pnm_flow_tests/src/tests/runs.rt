@@ -186,7 +186,7 @@ const ON_KINDS: &[Run<'static>] = &[
         4,
         b"P7\nWIDTH 2\nHEIGHT 2\nDEPTH 2\nMAXVAL 1\nTUPLTYPE T\nENDHDR\n\x01\x01\x00\x00\x00\x00\x01\x01P7\nWIDTH 2\nHEIGHT 1\nDEPTH 2\nMAXVAL 3\nTUPLTYPE T\nENDHDR\n\x00\x00\x03\x03P7\nWIDTH 2\nHEIGHT 1\nDEPTH 2\nMAXVAL 1\nTUPLTYPE T\nENDHDR\n\x00\x00\x01\x01",
     ),
-    // The longest chain, of an even number of inversions.
+    // A long chain, of an even number of inversions.
     (
         "pnminvert|pnminvert|pnminvert|pnminvert|pnminvert|pnminvert|pnminvert|pnminvert|pnminvert|pnminvert|pnminvert|pnminvert|pnminvert|pnminvert|pnminvert|pnminvert",
         KINDS,
@@ -269,6 +269,40 @@ const SIZES: &[u8] =
 
 const SIZES_TRANSPOSED: &[u8] =
     b"P5\n2 3\n9\n\x01\x04\x02\x05\x03\x06P6\n3 1\n9\n\x01\x02\x03\x04\x05\x06\x07\x08\x09P4\n2 9\n\x00\x80\x40\xc0\x00\x80\x40\xc0\x00P7\nWIDTH 1\nHEIGHT 2\nDEPTH 2\nMAXVAL 300\nTUPLTYPE A B\nENDHDR\n\x00\x01\x00\x02\x01\x2c\x00\x04";
+
+/// Two columns and three rows.
+const TALL: &[u8] = b"P5\n2 3\n9\n\x01\x02\x03\x04\x05\x06";
+
+/// Turns are counterclockwise.
+const QUARTERS: &[Run<'static>] = &[
+    (
+        "pamflip -r90",
+        TALL,
+        1,
+        2,
+        b"P5\n3 2\n9\n\x02\x04\x06\x01\x03\x05",
+    ),
+    (
+        "pamflip -r180",
+        TALL,
+        1,
+        3,
+        b"P5\n2 3\n9\n\x06\x05\x04\x03\x02\x01",
+    ),
+    (
+        "pamflip -r270",
+        TALL,
+        1,
+        2,
+        b"P5\n3 2\n9\n\x05\x03\x01\x06\x04\x02",
+    ),
+    ("pamflip -r90 | pamflip -r270", TALL, 1, 3, TALL),
+];
+
+#[test]
+fn turns_by_quarters(rt: HostRuntime) {
+    runs(&rt, rt.alloc(), QUARTERS);
+}
 
 /// An image transposed twice is the image again, and so it is after four quarter turns and an even
 /// number of inversions.

@@ -52,7 +52,7 @@ pub fn chain<R: Threads + Wait + Abort + Sync>(
     input: Input,
     output: Output,
 ) -> Result<ChainDone, NoStart> {
-    assert!(rt; 1 <= tools.len() && tools.len() <= 16 && are_lawful(tools));
+    assert!(rt; 1 <= tools.len() && tools.len() <= 64 && are_lawful(tools));
     assert!(rt; 1 <= capacity && capacity <= 1024 && 1 <= lanes && lanes <= 8);
     run_chain(rt, alloc, tools, capacity, lanes, gate, input, output)
 }
@@ -114,7 +114,7 @@ fn ends_so<R: Threads + Wait + Abort + Sync>(
 #[test]
 fn passes_a_stream_through_all_tools(rt: HostRuntime) -> Result<(), Fail> {
     let well = (StageEnd::Well, StageEnd::Well, StageEnd::Well);
-    for (count, capacity) in [(1, 1), (2, 1), (3, 1024), (16, 1), (16, 8)] {
+    for (count, capacity) in [(1, 1), (2, 1), (3, 1024), (64, 1), (64, 8)] {
         let run = Run {
             count,
             cut_at: count,
@@ -142,7 +142,7 @@ fn breaks_off_after_a_refusal(rt: HostRuntime) -> Result<(), Fail> {
         Part::ImageEnd,
         Part::StreamEnd,
     ];
-    for (count, cut_at) in [(1, 0), (2, 0), (2, 1), (16, 0), (16, 7), (16, 15)] {
+    for (count, cut_at) in [(1, 0), (2, 0), (2, 1), (64, 0), (64, 31), (64, 63)] {
         let run = Run {
             count,
             cut_at,
@@ -177,7 +177,7 @@ fn is_last(rt: &impl Abort, done: &ChainDone, want: StageEnd) {
 /// Where an outer ring's other end is gone, all stages end.
 #[test]
 fn ends_where_an_outer_end_is_gone(rt: HostRuntime) -> Result<(), Fail> {
-    let tools = tools_with_cut(rt.alloc(), 16, 16)?;
+    let tools = tools_with_cut(rt.alloc(), 64, 64)?;
     for taken in 0..4 {
         let (mut producer, input) = ring(rt.alloc(), 8)?;
         let (output, mut consumer) = ring(rt.alloc(), 8)?;
