@@ -49,13 +49,13 @@ stored_twice {X = X} room front n a b v w was fits first second =
 -- ---- pixels of a few samples
 
 -- a pixel of one sample
-pixel_of_one : {X : Type 0} (row : List X) (i : ℕ) (v : X) → i < length row → v ≡ get_or row i v → pixel_of 1 row i ≡ v ∷ []
+pub pixel_of_one : {X : Type 0} (row : List X) (i : ℕ) (v : X) → i < length row → v ≡ get_or row i v → pixel_of 1 row i ≡ v ∷ []
 pixel_of_one {X = X} row i v lt is =
     let place : i * 1 ≡ i = omega arith in
     ap (λ (k : ℕ). take 1 (drop k row)) place ∙ ap (take 1) (drop_more row i v lt) ∙ ap (λ (x : X). x ∷ []) (sym is)
 
 -- a pixel of three samples
-pixel_of_three : {X : Type 0} (row : List X) (x : ℕ) (a b c : X) → 3 * x + 3 ≤ length row → a ≡ get_or row (3 * x) a → b ≡ get_or row (3 * x + 1) b → c ≡ get_or row (3 * x + 2) c → pixel_of 3 row x ≡ a ∷ b ∷ c ∷ []
+pub pixel_of_three : {X : Type 0} (row : List X) (x : ℕ) (a b c : X) → 3 * x + 3 ≤ length row → a ≡ get_or row (3 * x) a → b ≡ get_or row (3 * x + 1) b → c ≡ get_or row (3 * x + 2) c → pixel_of 3 row x ≡ a ∷ b ∷ c ∷ []
 pixel_of_three {X = X} row x a b c fits first second third =
     let n : ℕ = 3 * x in
     let place : x * 3 ≡ n = omega arith in

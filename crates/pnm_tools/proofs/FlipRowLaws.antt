@@ -1,14 +1,12 @@
 -- The rows of a flipped image, and what is still to be given of it.
-use Rattle.std.proofs.Common.{◌≡◌, ℕ, zero, suc, ◌+◌, ◌-◌, ◌*◌, ◌<◌, ◌≤◌, List, [], ◌∷◌, ◌++◌, length, take, drop, reverse, get_or, refl, sym, ap, ◌∙◌, arith, mul-le-mul, length-take-le, length-drop, map, Vec, vec_capacity, Global, subst, suc-mul, Bool, true, false, if◌then◌else◌, Ok, Option, None, All, nat_lt}
+use Rattle.std.proofs.Common.{◌≡◌, ℕ, zero, suc, ◌+◌, ◌-◌, ◌*◌, ◌<◌, ◌≤◌, List, [], ◌∷◌, ◌++◌, length, take, drop, reverse, get_or, refl, sym, ap, ◌∙◌, arith, mul-le-mul, length-take-le, length-drop, map, subst, Bool, true, false, if◌then◌else◌, Ok, Option, None, All, nat_lt}
 use Rattle.std.specs.List.{flat_map, range_with_len}
 use borrow.Rule.Slice.PartMut.{put_mid}
-use Rattle.std.proofs.lemmas.List.{append_assoc, length-append, reverse-append, reverse-reverse, length-reverse, take-append-drop, take_at, drop_at, drop-drop, take_more, drop_more, take_all, length-take, length-map, get_or-map, same_lists}
+use Rattle.std.proofs.lemmas.List.{append_assoc, length-append, reverse-append, reverse-reverse, length-reverse, take-append-drop, take_at, drop_at, drop-drop, take_more, drop_more, take_all}
 use Rattle.pnm_image.specs.declared.shape.Shape.{Shape}
 use Rattle.pnm_tools.specs.Flip.{turn_of, in_order, mirrored_row, column_of, transposed_head_value}
 use Rattle.pnm_tools.specs.Pixels.{pixel_of}
 use Rattle.pnm_tools.proofs.PickLaws.{flat_map_one_more, pieces_within}
-use Rattle.std.proofs.lemmas.List.FromFn.{get_or-map-range_with_len, length-map-range_with_len}
-use Rattle.pnm_tools.specs.Columns.{HaveRoom, samples_of}
 use Rattle.std.proofs.lemmas.Bool.{ltb-true}
 use Rattle.std.proofs.lemmas.List.Elements.{All-nil, All-take, All-drop}
 use Rattle.pnm_image.specs.Heads.{HeadValue, IsHead, Suits, row_length}
@@ -132,49 +130,6 @@ pub mirrored_in_place : (s : Shape) (row items lent new : List ℕ) (len : ℕ) 
 mirrored_in_place s row items lent new len made long same given count =
     let size : length new ≡ len = long ∙ ap length same ∙ sym count in
     take_at new (drop (length new) items) len size ∙ made ∙ ap (mirrored_row s) (same ∙ given)
-
--- ---- columns that are made side by side
-
--- the columns of these rows, as many, from the first one on, each with its room
-pub record AreColumns {X : Type 0} (count first depth room : ℕ) (rows : List (List X)) (columns : List (Vec X Global)) : Type 0 where
-  pub many : length columns ≡ count
-  pub made : (k : ℕ) (d : Vec X Global) → k < count → (get_or columns k d).items ≡ column_of depth rows (first + k)
-  pub enough : (k : ℕ) (d : Vec X Global) → k < count → room ≤ vec_capacity (get_or columns k d)
-
--- a column is as long as its rows give it
-length_of_column : {X : Type 0} (depth : ℕ) (rows : List (List X)) (x : ℕ) → length (column_of depth rows x) ≤ length rows * depth
-length_of_column depth [] x = omega arith
-length_of_column depth (row ∷ rows) x =
-    omega (arith, length-append (pixel_of depth row x) (column_of depth rows x), length-take depth (drop (x * depth) row), length_of_column depth rows x, suc-mul (length rows) depth)
-
--- there is room for a pixel more while rows are left
-pub room_is_left : {X : Type 0} (count first depth n : ℕ) (rows : List (List X)) (columns : List (Vec X Global)) → n < length rows → AreColumns count first depth (length rows * depth) (take n rows) columns → HaveRoom depth columns
-room_is_left {X = X} count first depth n rows columns lt h k d below =
-    let v : Vec X Global = get_or columns k d in
-    let inside : k < count = omega (arith, h.many) in
-    let size : length v.items ≤ length (take n rows) * depth = subst (λ (l : List X). length l ≤ length (take n rows) * depth) (sym (h.made k d inside)) (length_of_column depth (take n rows) (first + k)) in
-    let passed : length (take n rows) ≡ n = length-take-le n rows (omega arith) in
-    let below : suc n * depth ≤ length rows * depth = mul-le-mul {n₁ = suc n} {m₁ = depth} {n₂ = length rows} {m₂ = depth} (omega arith) (omega arith) in
-    omega (arith, size, ap (λ (m : ℕ). m * depth) passed, suc-mul n depth, below, h.enough k d inside, v.ok.0)
-
--- number by number
-columns_by_number : {X : Type 0} (count first depth room : ℕ) (rows : List (List X)) (columns : List (Vec X Global)) (d : Vec X Global) → AreColumns count first depth room rows columns
-    → samples_of columns ≡ map (column_of depth rows) (range_with_len first count)
-columns_by_number {X = X} count first depth room rows columns d h =
-    same_lists (samples_of columns) (map (column_of depth rows) (range_with_len first count)) (length-map columns (λ (v : Vec X Global). v.items) ∙ h.many ∙ sym (length-map-range_with_len (column_of depth rows) first count))
-    (λ k e lt.
-    let inside : k < count = omega (arith, length-map columns (λ (v : Vec X Global). v.items), h.many) in
-    get_or-map (λ (v : Vec X Global). v.items) columns k d e (omega (arith, h.many)) ∙ h.made k d inside ∙ sym (get_or-map-range_with_len (column_of depth rows) first count k (first + k) e inside refl))
-
--- once all rows have passed
-pub columns_made : {X : Type 0} (count first depth room : ℕ) (rows : List (List X)) (columns : List (Vec X Global)) → AreColumns count first depth room rows columns → samples_of columns ≡ map (column_of depth rows) (range_with_len first count)
-columns_made count first depth room rows [] h = ap (λ (n : ℕ). map (column_of depth rows) (range_with_len first n)) h.many
-columns_made count first depth room rows (column ∷ columns) h = columns_by_number count first depth room rows (column ∷ columns) column h
-
--- once no row is left
-pub all_made : {X : Type 0} (count first depth room n : ℕ) (rows : List (List X)) (made : List (Vec X Global)) → length rows ≤ n → AreColumns count first depth room (take n rows) made → samples_of made ≡ map (column_of depth rows) (range_with_len first count)
-all_made {X = X} count first depth room n rows made le h =
-    columns_made count first depth room (take n rows) made h ∙ ap (λ (l : List (List X)). map (column_of depth l) (range_with_len first count)) (take_all n rows le)
 
 -- ---- the rows that a reverser has still to give
 

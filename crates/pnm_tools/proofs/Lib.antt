@@ -9,6 +9,7 @@ pub mod PickLaws
 pub mod CutRowLaws
 pub mod SizeLaws
 pub mod FlipRowLaws
+pub mod ColumnLaws
 pub mod BitColumnLaws
 pub mod EnlargeRowLaws
 pub mod InvertLaws

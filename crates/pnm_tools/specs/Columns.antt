@@ -1,23 +1,21 @@
 -- Columns of an image while they are made side by side.
-use Rattle.std.specs.Prelude.{◌≡◌, ℕ, ◌+◌, ◌<◌, ◌≤◌, List, [], ◌++◌, length, map, slice_index_or, Vec, vec_len, vec_capacity}
+use Rattle.std.specs.Prelude.{◌≡◌, ℕ, ◌+◌, ◌<◌, ◌≤◌, List, ◌++◌, length, map, take, slice_index_or, Vec, vec_len}
 use Rattle.std.specs.Global.{Global}
-use Rattle.pnm_tools.specs.Pixels.{pixel_of}
 
--- so many columns without samples, each with room for so many
-pub record AreEmpty {X : Type 0} (count room : ℕ) (columns : List (Vec X Global)) : Type 0 where
+-- so many columns of so many samples
+pub record AreBlank {X : Type 0} (count samples : ℕ) (columns : List (Vec X Global)) : Type 0 where
   pub many : length columns ≡ count
-  pub empty : (k : ℕ) (d : Vec X Global) → k < count → (slice_index_or columns k d).items ≡ []
-  pub enough : (k : ℕ) (d : Vec X Global) → k < count → room ≤ vec_capacity (slice_index_or columns k d)
+  pub long : (k : ℕ) (d : Vec X Global) → k < count → vec_len (slice_index_or columns k d) ≡ samples
 
--- each has room for so many samples more
+-- each has at least so many samples
 abbrev pub HaveRoom : {X : Type 0} → ℕ → List (Vec X Global) → Type 0
-HaveRoom {X = X} more columns = (k : ℕ) (d : Vec X Global) → k < length columns → vec_len (slice_index_or columns k d) + more ≤ vec_capacity (slice_index_or columns k d)
+HaveRoom {X = X} samples columns = (k : ℕ) (d : Vec X Global) → k < length columns → samples ≤ vec_len (slice_index_or columns k d)
 
--- each of the first ones has got its pixel of a row, within its room, and the others are as they were
-pub record HavePixels {X : Type 0} (count depth : ℕ) (row : List X) (old new : List (Vec X Global)) : Type 0 where
+-- each of the first ones has got its samples behind those before a place, and is as long as it was; the others are as they were
+pub record HavePixels {X : Type 0} (count at : ℕ) (pixels : ℕ → List X) (old new : List (Vec X Global)) : Type 0 where
   pub many : length new ≡ length old
-  pub added : (k : ℕ) (d : Vec X Global) → k < count → (slice_index_or new k d).items ≡ (slice_index_or old k d).items ++ pixel_of depth row k
-  pub enough : (k : ℕ) (d : Vec X Global) → k < count → vec_capacity (slice_index_or new k d) ≡ vec_capacity (slice_index_or old k d)
+  pub long : (k : ℕ) (d : Vec X Global) → vec_len (slice_index_or new k d) ≡ vec_len (slice_index_or old k d)
+  pub stored : (k : ℕ) (d : Vec X Global) → k < count → take (at + length (pixels k)) (slice_index_or new k d).items ≡ take at (slice_index_or old k d).items ++ pixels k
   pub others : (k : ℕ) (d : Vec X Global) → count ≤ k → slice_index_or new k d ≡ slice_index_or old k d
 
 -- the samples of columns

@@ -1,11 +1,12 @@
 //! Columns of an image, made side by side.
 
-ghost use Rattle.std.specs.Prelude.{◌≡◌, ◌≤◌, ◌+◌, ◌*◌, ◌++◌, ℕ, List, All, length, map, reverse, vec_len, vec_capacity, IfOk, IfErr};
+ghost use Rattle.std.specs.Prelude.{◌≡◌, ◌≤◌, ◌+◌, ◌*◌, ℕ, List, All, length, map, reverse, IfOk, IfErr};
 ghost use Rattle.std.specs.List.{range_with_len};
 ghost use Rattle.pnm_image.specs.declared.limits.TheConstants.{MAX_DEPTH, MAX_ROW_LENGTH};
 ghost use Rattle.pnm_tools.specs.declared.fault.ToolFault.TheVariants.{Memory};
-ghost use Rattle.pnm_tools.specs.Columns.{AreEmpty, HaveRoom, HavePixels, samples_of};
+ghost use Rattle.pnm_tools.specs.Columns.{AreBlank, HaveRoom, HavePixels, samples_of};
 ghost use Rattle.pnm_tools.specs.Flip.{column_of};
+ghost use Rattle.pnm_tools.specs.Pixels.{pixel_of};
 
 use crate::fault::ToolFault;
 use crate::row_of::RowOf;
@@ -63,7 +64,7 @@ pub(crate) fn last_first<C: Column>(
 }
 
 /// So many columns of the rows, from the first one on.
-pub(crate) fn columns_of<T: Copy>(
+pub(crate) fn columns_of<T: Copy + Default>(
     alloc: Global,
     rows: &[RowOf<T>],
     first: usize,
@@ -77,67 +78,133 @@ pub(crate) fn columns_of<T: Copy>(
         ≡ map (column_of depth rows.now) (range_with_len first count)) }
     ensures refused { IfErr result (λ fault. fault ≡ Memory) }
 {
-    let mut columns = empty_columns(alloc, count, rows.len() * depth)?;
-    for row in rows {
-        add_pixels(
-            columns.as_mut_slice(),
-            &row.as_slice()[first * depth..],
-            depth,
-        );
+    // The columns have their length first, and what is stored then grows nothing.
+    let mut columns = blank_columns(alloc, count, rows.len() * depth)?;
+    let fours = rows.len() / 4;
+    for group in 0..fours {
+        let y = 4 * group;
+        let four = &rows[y..y + 4];
+        put_four(columns.as_mut_slice(), y * depth, four, first, depth);
     }
+    let y = 4 * fours;
+    put_rows(columns.as_mut_slice(), y * depth, &rows[y..], first, depth);
     Ok(columns)
 }
 
-/// Adds to each column its pixel of a row that begins with the first column's.
-fn add_pixels<T: Copy>(columns: &mut [Vec<T>], row: &[T], depth: usize)
-    requires row { length columns.old * depth ≤ length row.now }
-    requires room { HaveRoom depth columns.old }
-    ensures { HavePixels (length columns.old) depth row.now columns.old columns.new }
+/// Stores four rows' pixels from this place of each column on, a row after the other.
+fn put_four<T: Copy>(
+    columns: &mut [Vec<T>],
+    at: usize,
+    rows: &[RowOf<T>],
+    first: usize,
+    depth: usize,
+)
+    requires four { length rows.now ≡ 4 }
+    requires rows { All (λ row. (first + length columns.old) * depth ≤ length row) rows.now }
+    requires sizes { (at + 4 * depth ≤ max_row_length) × (first + length columns.old ≤ 4294967295) }
+    requires room { HaveRoom (at + 4 * depth) columns.old }
+    ensures { HavePixels (length columns.old) at (λ k. column_of depth rows.now (first + k))
+        columns.old columns.new }
 {
-    if depth == 1 {
-        return add_samples(columns, row);
-    }
-    let mut x = 0;
-    for column in columns.iter_mut() {
-        add_pixel(column, &row[x..x + depth]);
-        x += depth;
+    match depth {
+        1 => put_four_samples(columns, at, rows, first),
+        3 => put_four_colors(columns, at, rows, first),
+        _ => put_rows(columns, at, rows, first, depth),
     }
 }
 
-/// The same where each pixel is one sample, without a loop over its samples.
-fn add_samples<T: Copy>(columns: &mut [Vec<T>], row: &[T])
-    requires row { length columns.old ≤ length row.now }
-    requires room { HaveRoom 1 columns.old }
-    ensures { HavePixels (length columns.old) 1 row.now columns.old columns.new }
+/// The same where each pixel is one sample. All are taken before one is stored, so that the compiler
+/// stores them at once.
+fn put_four_samples<T: Copy>(columns: &mut [Vec<T>], at: usize, rows: &[RowOf<T>], first: usize)
+    requires four { length rows.now ≡ 4 }
+    requires rows { All (λ row. (first + length columns.old) * 1 ≤ length row) rows.now }
+    requires room { HaveRoom (at + 4) columns.old }
+    ensures { HavePixels (length columns.old) at (λ k. column_of 1 rows.now (first + k))
+        columns.old columns.new }
 {
-    for (x, column) in columns.iter_mut().enumerate() {
-        column.push_reserved(row[x]);
+    let (a, b) = (rows[0].as_slice(), rows[1].as_slice());
+    let (c, d) = (rows[2].as_slice(), rows[3].as_slice());
+    for (k, column) in columns.iter_mut().enumerate() {
+        let x = first + k;
+        column[at..at + 4].copy_from_slice(&[a[x], b[x], c[x], d[x]]);
     }
 }
 
-/// Adds a pixel to a column that has room for it.
-fn add_pixel<T: Copy>(column: &mut Vec<T>, pixel: &[T])
-    requires { vec_len column.old + length pixel.now ≤ vec_capacity column.old }
-    ensures added { column.new.items ≡ column.old.items ++ pixel.now }
-    ensures enough { vec_capacity column.new ≡ vec_capacity column.old }
+/// The same where each pixel is three samples.
+fn put_four_colors<T: Copy>(columns: &mut [Vec<T>], at: usize, rows: &[RowOf<T>], first: usize)
+    requires four { length rows.now ≡ 4 }
+    requires rows { All (λ row. (first + length columns.old) * 3 ≤ length row) rows.now }
+    requires room { HaveRoom (at + 12) columns.old }
+    ensures { HavePixels (length columns.old) at (λ k. column_of 3 rows.now (first + k))
+        columns.old columns.new }
 {
-    for sample in pixel {
-        column.push_reserved(*sample);
+    let (a, b) = (rows[0].as_slice(), rows[1].as_slice());
+    let (c, d) = (rows[2].as_slice(), rows[3].as_slice());
+    for (k, column) in columns.iter_mut().enumerate() {
+        let x = 3 * (first + k);
+        column[at..at + 12].copy_from_slice(&[
+            a[x],
+            a[x + 1],
+            a[x + 2],
+            b[x],
+            b[x + 1],
+            b[x + 2],
+            c[x],
+            c[x + 1],
+            c[x + 2],
+            d[x],
+            d[x + 1],
+            d[x + 2],
+        ]);
     }
 }
 
-/// So many columns without samples, with room for so many each.
-fn empty_columns<T: Copy>(
+/// Stores rows' pixels from this place of each column on, a row after the other.
+fn put_rows<T: Copy>(
+    columns: &mut [Vec<T>],
+    at: usize,
+    rows: &[RowOf<T>],
+    first: usize,
+    depth: usize,
+)
+    requires rows { All (λ row. (first + length columns.old) * depth ≤ length row) rows.now }
+    requires sizes { (at + length rows.now * depth ≤ max_row_length)
+        × (first + length columns.old ≤ 4294967295) }
+    requires room { HaveRoom (at + length rows.now * depth) columns.old }
+    ensures { HavePixels (length columns.old) at (λ k. column_of depth rows.now (first + k))
+        columns.old columns.new }
+{
+    for (n, row) in rows.iter().enumerate() {
+        put_pixels(columns, at + n * depth, row.as_slice(), first, depth);
+    }
+}
+
+/// Stores a row's pixels at this place of each column.
+fn put_pixels<T: Copy>(columns: &mut [Vec<T>], at: usize, row: &[T], first: usize, depth: usize)
+    requires row { (first + length columns.old) * depth ≤ length row.now }
+    requires fits { first + length columns.old ≤ 4294967295 }
+    requires room { HaveRoom (at + depth) columns.old }
+    ensures { HavePixels (length columns.old) at (λ k. pixel_of depth row.now (first + k))
+        columns.old columns.new }
+{
+    for (k, column) in columns.iter_mut().enumerate() {
+        let x = (first + k) * depth;
+        column[at..at + depth].copy_from_slice(&row[x..x + depth]);
+    }
+}
+
+/// So many columns of so many samples, which are still to be stored.
+fn blank_columns<T: Copy + Default>(
     alloc: Global,
     count: usize,
-    room: usize,
+    samples: usize,
 ) -> Result<Vec<Vec<T>>, ToolFault>
-    ensures empty { IfOk result (λ columns. AreEmpty count room columns.items) }
+    ensures blank { IfOk result (λ columns. AreBlank count samples columns.items) }
     ensures refused { IfErr result (λ fault. fault ≡ Memory) }
 {
     let mut columns = Vec::with_capacity(alloc, count)?;
     for _ in 0..count {
-        columns.push(Vec::with_capacity(alloc, room)?)?;
+        columns.push(Vec::from_elem(alloc, T::default(), samples)?)?;
     }
     Ok(columns)
 }
