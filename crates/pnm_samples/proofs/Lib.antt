@@ -8,3 +8,4 @@ pub mod PackedAgain
 pub mod PackedBytes
 pub mod PixelLaws
 pub mod RepeatLaws
+pub mod StretchLaws

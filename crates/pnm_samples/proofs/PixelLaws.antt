@@ -344,7 +344,7 @@ take_across front rest b count more e =
     ap₂ (λ (n : ℕ) (l : List ℕ). take n l) whole (all_pixels-append front (b ∷ rest)) ∙ take-append-add (all_pixels front) (pixels b ++ all_pixels rest) more
 
 -- the pixels that are held, where the last of them lie in one byte
-held_before : (room : List ℕ) (held : ℕ) → held / 8 < length room → take held (all_pixels room) ≡ all_pixels (take (held / 8) room) ++ take (held % 8) (pixels (get_or room (held / 8) 0))
+pub held_before : (room : List ℕ) (held : ℕ) → held / 8 < length room → take held (all_pixels room) ≡ all_pixels (take (held / 8) room) ++ take (held % 8) (pixels (get_or room (held / 8) 0))
 held_before room held lt =
     let n = held / 8 in let r = held % 8 in let front = take n room in let x = get_or room n 0 in let rest = drop (n + 1) room in
     let size : length front ≡ n = length-take-le n room (omega arith) in

@@ -30,34 +30,32 @@ unfolding pixels
 doubled_pixels b lt =
     same_from_test (all_pixels (to_be_bytes w16 (spread b))) (repeated 2 (pixels b)) (agree_below_at (λ n. same_list (all_pixels (to_be_bytes w16 (spread n))) (repeated 2 (pixels n))) (λ _. true) 256 b refl lt)
 
--- so many of them, each twice
-take_doubled : (k : ℕ) (xs : List ℕ) → take (k * 2) (repeated 2 xs) ≡ repeated 2 (take k xs)
-take_doubled zero xs = refl
-take_doubled (suc k) [] = take_all (suc k * 2) [] (omega arith)
-take_doubled (suc k) (x ∷ xs) =
-    let more : suc k * 2 ≡ length (replicate 2 x) + k * 2 = omega (arith, length-replicate 2 x) in
-    ap (λ (m : ℕ). take m (replicate 2 x ++ repeated 2 xs)) more ∙ take-append-add (replicate 2 x) (repeated 2 xs) (k * 2) ∙ ap (λ (l : List ℕ). replicate 2 x ++ l) (take_doubled k xs)
-
-pub doubled_view : (count : ℕ) (bytes room value : List ℕ) → all_pixels room ≡ repeated 2 (all_pixels bytes) → take count (all_pixels bytes) ≡ value → take (count * 2) (all_pixels room) ≡ repeated 2 value
-doubled_view count bytes room value known is = ap (take (count * 2)) known ∙ take_doubled count (all_pixels bytes) ∙ ap (repeated 2) is
-
 -- ---- any number of times
 
 pub once : (xs : List ℕ) → xs ≡ repeated 1 xs
 once [] = refl
 once (x ∷ xs) = ap (λ (l : List ℕ). x ∷ l) (once xs)
 
+-- so many of them, each so many times
+pub take_repeated : (times k : ℕ) (xs : List ℕ) → take (k * times) (repeated times xs) ≡ repeated times (take k xs)
+take_repeated times zero xs =
+    let none : zero * times ≡ zero = omega arith in
+    ap (λ (k : ℕ). take k (repeated times xs)) none
+take_repeated times (suc k) [] = take_all (suc k * times) [] (omega arith)
+take_repeated times (suc k) (x ∷ xs) =
+    let more : suc k * times ≡ length (replicate times x) + k * times = omega (arith, length-replicate times x) in
+    ap (λ (m : ℕ). take m (replicate times x ++ repeated times xs)) more ∙ take-append-add (replicate times x) (repeated times xs) (k * times) ∙ ap (λ (l : List ℕ). replicate times x ++ l) (take_repeated times k xs)
+
+-- so many pixels of a row, each so many times
+pub repeated_view : (times count : ℕ) (bytes value : List ℕ) → take count (all_pixels bytes) ≡ value → take (count * times) (repeated times (all_pixels bytes)) ≡ repeated times value
+repeated_view times count bytes value is = take_repeated times count (all_pixels bytes) ∙ ap (repeated times) is
+
 -- pixels of one colour
-plain : (n byte s : ℕ) → pixels byte ≡ replicate 8 s → all_pixels (replicate n byte) ≡ replicate (8 * n) s
+pub plain : (n byte s : ℕ) → pixels byte ≡ replicate 8 s → all_pixels (replicate n byte) ≡ replicate (8 * n) s
 plain zero byte s e = refl
 plain (suc n) byte s e =
     let more : 8 + 8 * n ≡ 8 * suc n = omega arith in
     ap₂ (λ (l r : List ℕ). l ++ r) e (plain n byte s e) ∙ replicate-append-replicate 8 (8 * n) s ∙ ap (λ (k : ℕ). replicate k s) more
-
-pub plain_run : (count byte s : ℕ) → pixels byte ≡ replicate 8 s → take count (all_pixels (replicate ((count + 7) / 8) byte)) ≡ replicate count s
-plain_run count byte s e =
-    let n = (count + 7) / 8 in
-    ap (take count) (plain n byte s e) ∙ take-replicate count (8 * n) s (omega arith)
 
 pub black_byte : pixels 255 ≡ replicate 8 0
 unfolding pixels

@@ -9,6 +9,7 @@ use std::marker::Model;
 
 mod mirror;
 mod repeat;
+mod stretch;
 
 /// Pixels of one bit: eight a byte, the most significant bit leftmost, 1 is black, which is sample 0.
 #[derive(Debug, Drop)]

@@ -1,7 +1,7 @@
 //! Pixels that stand several times.
 
 ghost use Rattle.std.specs.Int.{to_be_bytes, w16};
-ghost use Rattle.std.specs.Prelude.{◌≡◌, ◌+◌, ◌*◌, ◌/◌, ◌<◌, ◌^◌, length, take, replicate, IfOk};
+ghost use Rattle.std.specs.Prelude.{◌≡◌, ◌*◌, ◌<◌, ◌^◌, length, replicate, IfOk};
 ghost use Rattle.std.specs.List.{flat_map};
 ghost use Rattle.pnm_samples.specs.Pixels.{pixels, all_pixels};
 
@@ -36,33 +36,6 @@ impl Bits {
         fill_doubled(bytes.as_mut_slice(), self.bytes.as_slice());
         Ok(Bits::new(bytes, count))
     }
-
-    /// Each pixel so many times, by runs of black and of white.
-    fn stretched(&self, alloc: Global, times: usize) -> Result<Bits, AllocError>
-        ensures { IfOk result (λ bits. bits ≡ flat_map (λ s. replicate times s) self.now) }
-    {
-        let _ = &self.bytes;
-        let black = run_of(alloc, 0xff, times)?;
-        let white = run_of(alloc, 0, times)?;
-        let mut row = Bits::empty(alloc);
-        for at in 0..self.len() {
-            if self.pixel(at) == 0 {
-                row.append(&black, 0, times)?;
-            } else {
-                row.append(&white, 0, times)?;
-            }
-        }
-        Ok(row)
-    }
-}
-
-/// So many pixels of a byte that stands again and again.
-fn run_of(alloc: Global, byte: u8, count: usize) -> Result<Bits, AllocError>
-    ensures { IfOk result (λ bits. bits ≡ take count (all_pixels (replicate ((count + 7) / 8) byte))) }
-{
-    let mut bytes = Vec::new(alloc);
-    bytes.resize(count.div_ceil(8), byte)?;
-    Ok(Bits::new(bytes, count))
 }
 
 /// The bits of a byte, each twice.

@@ -2,7 +2,7 @@ use Rattle.std.proofs.Common.{◌≡◌, ◌*◌, ◌∙◌, ℕ, List, take, ap
 use Rattle.std.proofs.lemmas.Grind.{common_steps}
 use Rattle.std.specs.Vec.{with_items}
 use Rattle.pnm_samples.specs.Pixels.{all_pixels}
-use Rattle.pnm_samples.proofs.RepeatLaws.{repeated, doubled_view}
+use Rattle.pnm_samples.proofs.RepeatLaws.{repeated, repeated_view}
 use Rattle.pnm_samples.proofs.bits.Bits.doubled.Goals as goal
 
 pub returns : goal.returns
@@ -12,4 +12,4 @@ returns c =
     let last : (with_items c.resize.new.self room).items ≡ room = grind (arith, common_steps) in
     let size : c.in-Some.count ≡ count * 2 = omega (arith, c.in-Some.ensures) in
     c.new.ensures ∙ ap₂ (λ (k : ℕ) (l : List ℕ). take k (all_pixels l)) size last
-    ∙ doubled_view count c.self.inside.bytes.items room c.args.self.now (c.fill_doubled.ensures ∙ ap (λ l. repeated 2 (all_pixels l)) c.as_slice.ensures.value) c.self.view_is
+    ∙ ap (take (count * 2)) (c.fill_doubled.ensures ∙ ap (λ l. repeated 2 (all_pixels l)) c.as_slice.ensures.value) ∙ repeated_view 2 count c.self.inside.bytes.items c.args.self.now c.self.view_is
