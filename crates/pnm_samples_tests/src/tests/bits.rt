@@ -143,22 +143,44 @@ fn reverses(rt: HostRuntime) -> Result<(), Fail> {
     Ok(())
 }
 
-/// Each number of times that the code tells apart, and those about a byte.
+/// Each number of times that the code tells apart, and those about 16 and 32, where the bytes of a
+/// stretched byte are one vector, two, or more; of rows up to 20 pixels, and about eight bytes.
 #[test]
 fn repeats(rt: HostRuntime) -> Result<(), Fail> {
-    for count in 0..20 {
-        let row = row_of(rt.alloc(), 2, count)?;
-        let bits = Bits::new(packed(rt.alloc(), row.as_slice(), true)?, count);
-        for times in [0, 1, 2, 3, 4, 7, 8, 9, 17] {
-            let mut want = Vec::new(rt.alloc());
-            for sample in row.as_slice() {
-                for _ in 0..times {
-                    want.push(*sample)?;
-                }
-            }
-            let repeated = bits.repeated(rt.alloc(), times)?;
-            holds(&rt, rt.alloc(), &repeated, want.as_slice(), &(count, times))?;
-        }
+    for count in 0..21 {
+        repeats_each(&rt, rt.alloc(), count)?;
+    }
+    for count in 63..66 {
+        repeats_each(&rt, rt.alloc(), count)?;
     }
     Ok(())
+}
+
+fn repeats_each(rt: &impl Abort, alloc: Global, count: usize) -> Result<(), AllocError> {
+    for times in 0..18 {
+        repeats_by(rt, alloc, count, times)?;
+    }
+    for times in [24, 31, 32, 33, 100] {
+        repeats_by(rt, alloc, count, times)?;
+    }
+    Ok(())
+}
+
+/// A row so many times over, beside a plain loop.
+fn repeats_by(
+    rt: &impl Abort,
+    alloc: Global,
+    count: usize,
+    times: usize,
+) -> Result<(), AllocError> {
+    let row = row_of(alloc, 2, count)?;
+    let bits = Bits::new(packed(alloc, row.as_slice(), true)?, count);
+    let mut want = Vec::new(alloc);
+    for sample in row.as_slice() {
+        for _ in 0..times {
+            want.push(*sample)?;
+        }
+    }
+    let repeated = bits.repeated(alloc, times)?;
+    holds(rt, alloc, &repeated, want.as_slice(), &(count, times))
 }
