@@ -2,8 +2,9 @@
 """Times bin/pnmpipe beside Netpbm's own tools, in one run: file to memory, medians, the bytes compared.
 
 A line for each image and tool: wall seconds, processor seconds and the greatest resident memory in MB (that of this
-script, some 15 MB, is the least that shows) of the program, of each program named by --beside NAME=PATH, and of the
-Netpbm tool, and the program's wall time over Netpbm's. Needs some 1.5 GB of memory for files, in /dev/shm or --folder.
+script, some 15 MB, is the least that shows) of the program, of each program named by --beside NAME=PATH, of the Netpbm
+tool, and where `vips` is installed of its turn by as many quarters, and the program's wall time over Netpbm's. Needs some
+1.5 GB of memory for files, in /dev/shm or --folder.
 With --floor, also those of a program in C (cc builds it) that reads 4,096 bytes at a time and writes 64 KiB at a time as many
 bytes as the tool makes, from a block of the whole image for tools that keep one, and does nothing else. Beside other work,
 `chrt -f 10` before this script's name gives figures that can be compared.
@@ -16,6 +17,7 @@ The program in C that --floor names there writes the same text from a table of t
 import argparse
 import os
 import random
+import shutil
 import statistics
 import subprocess
 import sys
@@ -170,6 +172,10 @@ int main(int count, char **words) {
 # What the options and names of tools have that keep an image.
 KEEPING = ("-tb", "-xy", "-r90", "-r180", "-r270", "pnmtile")
 
+# The angles of vips, which turns clockwise, and the names by which it writes each kind of image, without a comment in the header.
+VIPS_TURNS = {"pamflip -r90": "d270", "pamflip -r180": "d180", "pamflip -r270": "d90"}
+VIPS_KINDS = {"scan": ".pbm[strip]", "color": ".ppm[strip]", "gray": ".pgm[strip]", "gray16": ".pgm[strip]"}
+
 
 def written_images(folder, names):
     """Writes the images, some bytes at a time, and gives their names, files and sizes."""
@@ -249,9 +255,10 @@ class Table:
         self.programs = [("pnmpipe", args.program)] + [tuple(pair.split("=", 1)) for pair in args.beside]
         self.folder = folder
         self.differing = 0
-        names = [name for name, _ in self.programs] + ["floor"] * args.floor
-        print("| image | tool | " + " | ".join(names) + " | Netpbm | over Netpbm |")
-        print("|---" * (len(names) + 4) + "|")
+        self.has_vips = shutil.which("vips") is not None
+        names = [name for name, _ in self.programs] + ["floor"] * args.floor + ["Netpbm"] + ["vips"] * self.has_vips
+        print("| image | tool | " + " | ".join(names) + " | over Netpbm |")
+        print("|---" * (len(names) + 3) + "|")
 
     def line(self, image, tool, path, words, peer_words, same, floor_words):
         """A line; `same` compares two results, `floor_words` gives the floor's words for the peer's result."""
@@ -267,7 +274,19 @@ class Table:
                 ratio = "%.2f" % (result[0] / peer[0])
         if self.args.floor:
             cells.append(shown(peer and median_of(floor_words(wanted), path, made, self.args.runs)))
-        print("| %s | `%s` | %s | %s | %s |" % (image, tool, " | ".join(cells), shown(peer), ratio), flush=True)
+        cells.append(shown(peer))
+        if self.has_vips:
+            cells.append(self.vips_cell(image, tool, path, peer))
+        print("| %s | `%s` | %s | %s |" % (image, tool, " | ".join(cells), ratio), flush=True)
+
+    def vips_cell(self, image, tool, path, peer):
+        """The figures of vips, where it has such a turn."""
+        if tool not in VIPS_TURNS:
+            return "-"
+        wanted, made = (os.path.join(self.folder, name) for name in ("wanted", "made"))
+        words = ["vips", "rot", "stdin", VIPS_KINDS[image], VIPS_TURNS[tool]]
+        result = median_of(words, path, made, self.args.runs)
+        return shown(result) + ("" if result and peer and same_bytes(wanted, made) else " (OTHER BYTES)")
 
 
 def raw_lines(table, images, tools, floor):
