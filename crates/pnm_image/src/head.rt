@@ -20,7 +20,7 @@ pub enum HeadFault {
     /// The width, the height, the depth, or the samples of a row are beyond the limits.
     #[error("TooLarge")]
     TooLarge,
-    /// The maxval is 0 or above 65,535.
+    /// The maxval is 0 or beyond the limits.
     #[error("BadMaxval")]
     BadMaxval,
     /// Memory ran out.

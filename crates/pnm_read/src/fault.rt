@@ -15,8 +15,8 @@ pub enum InputFault {
     /// The input ends in a header.
     #[error("HeaderCut")]
     HeaderCut,
-    /// A header has more than 65,536 bytes, or a tuple type more than 255, or a plain raster goes on
-    /// for more than 1,048,576 bytes without the end of a sample.
+    /// The bytes of a header, of a tuple type, or of a plain raster without the end of a sample are
+    /// beyond the limits.
     #[error("TooLong")]
     TooLong,
     /// A byte of a PBM, PGM or PPM header outside comments is neither a digit nor white space, or the
@@ -29,7 +29,7 @@ pub enum InputFault {
     /// The width, the height, the depth, or the samples of a row are beyond the limits.
     #[error("TooLarge")]
     TooLarge,
-    /// The maxval is 0 or above 65,535.
+    /// The maxval is 0 or beyond the limits.
     #[error("BadMaxval")]
     BadMaxval,
     /// A line of a PAM header begins with no name that such a line can have, or lacks its number; or the
