@@ -1,4 +1,4 @@
--- The tools that a text spells are a chain that can be run: 1 to 16, with options in their ranges.
+-- The tools that a text spells are a chain that can be run: 1 to MAX_TOOLS, with options in their ranges.
 use Rattle.std.proofs.Common.{◌≡◌, ◌≤◌, ℕ, zero, suc, ◌+◌, ◌-◌, ◌==◌, ◌&&◌, Bool, true, false, not, if◌then◌else◌, ℤ, pos, Option, Some, None, is_some, option_map, unwrap_or, IfSome, IsSome, List, [], ◌∷◌, length, map, drop, refl, sym, ap, subst, ◌∙◌, arith}
 use Rattle.std.specs.Prelude.{◌≢◌, nat_le, nat_lt, slice_index, slice_index_or, neg_ℤ, unsigned_abs, All}
 use Rattle.std.specs.Option.{option_or}

@@ -85,7 +85,7 @@ pub record IsOneChainOrOneFault (text : List ℕ) : Type 0 where
 abbrev pub OneChainOrOneFault : Type 0
 OneChainOrOneFault = (text : List ℕ) → IsOneChainOrOneFault text
 
--- a fault is of the whole text, and then its stage is 0, or of a stage, 1 to 16; none is want of memory
+-- a fault is of the whole text, and then its stage is 0, or of a stage, 1 to MAX_TOOLS; none is want of memory
 abbrev pub is_of_stage : ChainKind → Bool
 is_of_stage Empty = false
 is_of_stage TooLong = false

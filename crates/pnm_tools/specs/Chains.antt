@@ -13,7 +13,7 @@ abbrev pub AreLawfulTools : List Tool → Type 0
 AreLawfulTools [] = Unit {0}
 AreLawfulTools (tool ∷ tools) = IsLawfulTool tool × AreLawfulTools tools
 
--- 1 to 16 tools whose options are in their ranges
+-- 1 to MAX_TOOLS tools whose options are in their ranges
 pub record IsChain (tools : List Tool) : Type 0 where
   pub some : 1 ≤ length tools
   pub not_many : length tools ≤ MAX_TOOLS
