@@ -5,7 +5,7 @@ use Rattle.std.specs.Int.{bit_at}
 use Rattle.std.proofs.lemmas.Bool.{agree_below_at, cases_lt}
 use Rattle.std.proofs.lemmas.Nat.Bits.{bit_at_or}
 use Rattle.std.proofs.lemmas.Grind.{flat_map-append}
-use Rattle.std.proofs.lemmas.List.{append_assoc, take_at, drop_at, take_more, take_more_set, take-take, take-append-le, drop-append-le, length-set, length-replicate, length-take-le, length-drop, replicate-append-replicate, take-replicate}
+use Rattle.std.proofs.lemmas.List.{append_assoc, take_at, drop_at, take_more, take_more_set, take-take, take-append-le, drop-append-le, length-set, length-replicate, length-take-le, length-drop, replicate-append-replicate, take-replicate, drop-replicate}
 use Rattle.std.proofs.Math.Nat.{mul-le-mul_right}
 use Rattle.std.proofs.Math.Seq.{take-append-add}
 use Rattle.std.proofs.lemmas.Simd.{length-zip2}
@@ -203,6 +203,19 @@ stretched_more times i at size room new part bytes lt is enough long within writ
     (ap (take (8 * times)) (all_pixels-append part rest) ∙ take-append-le (8 * times) (all_pixels part) (all_pixels rest) (omega (arith, length-all_pixels part)) ∙ stretched)
     ∙ sym (flat_map-append (λ s. replicate times s) (all_pixels (take i bytes)) (pixels b))
     ∙ ap (repeated times) (sym (all_pixels-push (take i bytes) b) ∙ ap all_pixels (sym (take_more bytes i 0 lt)))
+
+-- behind it the bytes stay white
+pub white_behind : (at size next : ℕ) (room new part : List ℕ) → at + size ≤ length room → length part ≡ size → next ≡ at + size
+    → new ≡ take at room ++ (part ++ drop size (drop at room)) → drop at room ≡ replicate (length room - at) 0 → drop next new ≡ replicate (length new - next) 0
+white_behind at size next room new part within long is written white =
+    let front = take at room in let rest = drop size (drop at room) in
+    let count : length front ≡ at = length-take-le at room (omega arith) in
+    let whole : length (front ++ part) ≡ next = omega (arith, length-append front part) in
+    let parts : new ≡ (front ++ part) ++ rest = written ∙ sym (append_assoc front part rest) in
+    let size_of_rest : length rest ≡ length room - at - size = omega (arith, length-drop size (drop at room), length-drop at room) in
+    let left : length room - at - size ≡ length new - next = omega (arith, ap length parts, length-append (front ++ part) rest) in
+    ap (drop next) parts ∙ drop_at (front ++ part) rest next whole
+    ∙ ap (drop size) white ∙ drop-replicate size (length room - at) 0 ∙ ap (λ (k : ℕ). replicate k 0) left
 
 -- ---- a row
 

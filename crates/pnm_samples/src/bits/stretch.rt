@@ -1,6 +1,6 @@
 //! Pixels that stand any number of times.
 
-ghost use Rattle.std.specs.Prelude.{◌≡◌, ℕ, ◌+◌, ◌-◌, ◌*◌, ◌/◌, ◌%◌, ◌^◌, ◌<◌, ◌≤◌, ◌++◌, length, take, drop, replicate, bit_or, IfOk};
+ghost use Rattle.std.specs.Prelude.{◌≡◌, ℕ, ◌+◌, ◌-◌, ◌*◌, ◌/◌, ◌%◌, ◌^◌, ◌<◌, ◌≤◌, ◌++◌, length, take, drop, replicate, bit_or, IfOk, OnOk};
 ghost use Rattle.std.specs.List.{flat_map};
 ghost use lib.Lanes.{zip2};
 ghost use Rattle.pnm_samples.specs.Pixels.{pixels, all_pixels};
@@ -13,9 +13,12 @@ use std::simd::prelude::*;
 /// More times than there is memory for.
 const MOST_TIMES: usize = 72_057_594_037_927_936;
 
+/// As many halves of bytes are stretched, if any are. A row of fewer bytes takes less by itself.
+const HALVES: usize = 32;
+
 impl Bits {
-    /// Each pixel so many times. What a byte becomes is as many whole bytes: those of its left half
-    /// and of its right half, one over the other.
+    /// Each pixel so many times. What a byte becomes is as many whole bytes: in a long row those of its
+    /// left half and of its right half, one over the other.
     pub(super) fn stretched(&self, alloc: Global, times: usize) -> Result<Bits, AllocError>
         ensures { IfOk result (λ bits. bits ≡ flat_map (λ s. replicate times s) self.now) }
     {
@@ -32,17 +35,41 @@ impl Bits {
         if times >= MOST_TIMES {
             return Err(AllocError);
         }
-        let left = stretched_halves(alloc, times, 16)?;
-        let right = stretched_halves(alloc, times, 1)?;
         let mut bytes = Vec::from_elem(alloc, 0, room)?;
-        fill_stretched(
-            bytes.as_mut_slice(),
-            self.bytes.as_slice(),
-            left.as_slice(),
-            right.as_slice(),
-            times,
-        );
+        fill(alloc, bytes.as_mut_slice(), self.bytes.as_slice(), times)?;
         Ok(Bits::new(bytes, count))
+    }
+}
+
+/// Fills the white room with the pixels of the bytes, each so many times. What lies behind is unknown.
+fn fill(alloc: Global, room: &mut [u8], bytes: &[u8], times: usize) -> Result<(), AllocError>
+    requires times { times < 2 ^ 56 }
+    requires room { length room.old ≡ length bytes.now * times + 15 }
+    requires white { room.old ≡ replicate (length room.old) 0 }
+    ensures { OnOk result (take (8 * (length bytes.now * times)) (all_pixels room.new)
+        ≡ flat_map (λ s. replicate times s) (all_pixels bytes.now)) }
+{
+    if bytes.len() < HALVES {
+        stretch_each(room, bytes, times);
+        return Ok(());
+    }
+    let left = stretched_halves(alloc, times, 16)?;
+    let right = stretched_halves(alloc, times, 1)?;
+    fill_stretched(room, bytes, left.as_slice(), right.as_slice(), times);
+    Ok(())
+}
+
+/// The same byte by byte.
+fn stretch_each(room: &mut [u8], bytes: &[u8], times: usize)
+    requires times { times < 2 ^ 56 }
+    requires room { length room.old ≡ length bytes.now * times + 15 }
+    requires white { room.old ≡ replicate (length room.old) 0 }
+    ensures { take (8 * (length bytes.now * times)) (all_pixels room.new)
+        ≡ flat_map (λ s. replicate times s) (all_pixels bytes.now) }
+{
+    for i in 0..bytes.len() {
+        let at = i * times;
+        stretch(&mut room[at..at + times], bytes[i], times);
     }
 }
 

@@ -156,6 +156,17 @@ fn repeats(rt: HostRuntime) -> Result<(), Fail> {
     Ok(())
 }
 
+/// Rows of 31, 32 and 33 bytes: from 32 on the halves of bytes are stretched once.
+#[test]
+fn repeats_long_rows(rt: HostRuntime) -> Result<(), Fail> {
+    for count in [248, 249, 257] {
+        for times in [3, 5, 8, 16, 17, 33] {
+            repeats_by(&rt, rt.alloc(), count, times)?;
+        }
+    }
+    Ok(())
+}
+
 fn repeats_each(rt: &impl Abort, alloc: Global, count: usize) -> Result<(), AllocError> {
     for times in 0..18 {
         repeats_by(rt, alloc, count, times)?;
