@@ -115,20 +115,23 @@ const WRONG_NUMBERS: &[Case<'static>] = &[
     (b"P5 0 0 0\n", &[Fault(ZeroSize)]),
     (b"P5 000 1 9\n", &[Fault(ZeroSize)]),
     (b"P5 0#c\n0 1 9\n", &[Fault(ZeroSize)]),
-    (b"P5 0 1000001 0\n", &[Fault(ZeroSize)]),
-    (b"P5 1000001 0 0\n", &[Fault(ZeroSize)]),
+    (b"P5 0 16777217 0\n", &[Fault(ZeroSize)]),
+    (b"P5 16777217 0 0\n", &[Fault(ZeroSize)]),
     (b"P5 4294967296 0 9\n", &[Fault(ZeroSize)]),
     (b"P4 0 1\n", &[Fault(ZeroSize)]),
     (b"P1 1 0 1", &[Fault(ZeroSize)]),
     (b"P2 0 1 9\n", &[Fault(ZeroSize)]),
     (b"P3 1 0 9\n", &[Fault(ZeroSize)]),
     (b"P6 0 1 65536\n", &[Fault(ZeroSize)]),
-    (b"P5 1 1000001 9\n", &[Fault(TooLarge)]),
-    (b"P5 1000001 1 0\n", &[Fault(TooLarge)]),
-    (b"P5 1 1000001 65536\n", &[Fault(TooLarge)]),
-    (b"P4 1000001 1\n", &[Fault(TooLarge)]),
-    (b"P1 1 1000001\n", &[Fault(TooLarge)]),
-    (b"P6 1000001 1 255\n", &[Fault(TooLarge)]),
+    (b"P5 1 16777217 9\n", &[Fault(TooLarge)]),
+    (b"P5 16777217 1 0\n", &[Fault(TooLarge)]),
+    (b"P5 1 16777217 65536\n", &[Fault(TooLarge)]),
+    (b"P4 16777217 1\n", &[Fault(TooLarge)]),
+    (b"P1 1 16777217\n", &[Fault(TooLarge)]),
+    (b"P6 16777217 1 255\n", &[Fault(TooLarge)]),
+    // More samples in a row than there may be, in no more columns.
+    (b"P6 5592406 1 255\n", &[Fault(TooLarge)]),
+    (b"P3 5592406 1 0\n", &[Fault(TooLarge)]),
     // Numbers that are 1, or 65,537, in 32 or 64 bits.
     (b"P5 4294967297 1 9\n", &[Fault(TooLarge)]),
     (b"P5 1 4294967297 9\n", &[Fault(TooLarge)]),
@@ -141,7 +144,28 @@ const WRONG_NUMBERS: &[Case<'static>] = &[
     (b"P6 1 1 00\n", &[Fault(BadMaxval)]),
     (b"P2 1 1 65536 1", &[Fault(BadMaxval)]),
     (b"P3 1 1 0 0 0 0", &[Fault(BadMaxval)]),
-    // The greatest numbers are good, and the raster is judged.
+];
+
+/// Great numbers that are good, up to the greatest: the raster is judged.
+const GREAT_NUMBERS: &[Case<'static>] = &[
+    (
+        b"P5 1 1000001 9\n",
+        &[Begin(Gray, 1, 1_000_001, 9), Fault(RasterCut)],
+    ),
+    (b"P5 1000001 1 0\n", &[Fault(BadMaxval)]),
+    (b"P5 1 1000001 65536\n", &[Fault(BadMaxval)]),
+    (
+        b"P4 1000001 1\n",
+        &[Begin(Bit, 1_000_001, 1, 1), Fault(RasterCut)],
+    ),
+    (
+        b"P1 1 1000001\n",
+        &[Begin(Bit, 1, 1_000_001, 1), Fault(RasterCut)],
+    ),
+    (
+        b"P6 1000001 1 65535\n",
+        &[Begin(Color, 1_000_001, 1, 65_535), Fault(RasterCut)],
+    ),
     (
         b"P5 1000000 1000000 65535\n",
         &[Begin(Gray, 1_000_000, 1_000_000, 65_535), Fault(RasterCut)],
@@ -161,6 +185,32 @@ const WRONG_NUMBERS: &[Case<'static>] = &[
             Fault(SampleAboveMaxval),
         ],
     ),
+    (
+        b"P5 16777216 16777216 65535\n",
+        &[
+            Begin(Gray, 16_777_216, 16_777_216, 65_535),
+            Fault(RasterCut),
+        ],
+    ),
+    (b"P2 16777216 16777216 0\n", &[Fault(BadMaxval)]),
+    (
+        b"P6 5592405 16777216 65535\n\xff",
+        &[
+            Begin(Color, 5_592_405, 16_777_216, 65_535),
+            Fault(RasterCut),
+        ],
+    ),
+    (
+        b"P4 16777216 16777216\n",
+        &[Begin(Bit, 16_777_216, 16_777_216, 1), Fault(RasterCut)],
+    ),
+    (
+        b"P3 5592405 16777216 65535 65536 ",
+        &[
+            Begin(Color, 5_592_405, 16_777_216, 65_535),
+            Fault(SampleAboveMaxval),
+        ],
+    ),
 ];
 
 #[test]
@@ -176,4 +226,9 @@ fn refuses_wrong_bytes(rt: HostRuntime) -> Result<(), Fail> {
 #[test]
 fn refuses_wrong_numbers(rt: HostRuntime) -> Result<(), Fail> {
     check_all(&rt, rt.alloc(), WRONG_NUMBERS)
+}
+
+#[test]
+fn takes_great_numbers(rt: HostRuntime) -> Result<(), Fail> {
+    check_all(&rt, rt.alloc(), GREAT_NUMBERS)
 }

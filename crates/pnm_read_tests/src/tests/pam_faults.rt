@@ -138,7 +138,7 @@ const WRONG_NUMBERS: &[Case<'static>] = &[
         &[Fault(ZeroSize)],
     ),
     (
-        b"P7\nWIDTH 1000001\nHEIGHT 0\nDEPTH 257\nMAXVAL 0\nENDHDR\n",
+        b"P7\nWIDTH 16777217\nHEIGHT 0\nDEPTH 257\nMAXVAL 0\nENDHDR\n",
         &[Fault(ZeroSize)],
     ),
     (
@@ -146,11 +146,11 @@ const WRONG_NUMBERS: &[Case<'static>] = &[
         &[Fault(ZeroSize)],
     ),
     (
-        b"P7\nWIDTH 1000001\nHEIGHT 1\nDEPTH 1\nMAXVAL 0\nENDHDR\n",
+        b"P7\nWIDTH 16777217\nHEIGHT 1\nDEPTH 1\nMAXVAL 0\nENDHDR\n",
         &[Fault(TooLarge)],
     ),
     (
-        b"P7\nWIDTH 1\nHEIGHT 1000001\nDEPTH 1\nMAXVAL 9\nENDHDR\n",
+        b"P7\nWIDTH 1\nHEIGHT 16777217\nDEPTH 1\nMAXVAL 9\nENDHDR\n",
         &[Fault(TooLarge)],
     ),
     (
@@ -164,6 +164,10 @@ const WRONG_NUMBERS: &[Case<'static>] = &[
     ),
     (
         b"P7\nWIDTH 1000000\nHEIGHT 1\nDEPTH 17\nMAXVAL 0\nENDHDR\n",
+        &[Fault(TooLarge)],
+    ),
+    (
+        b"P7\nWIDTH 16777216\nHEIGHT 1\nDEPTH 2\nMAXVAL 0\nENDHDR\n",
         &[Fault(TooLarge)],
     ),
     (
@@ -192,10 +196,32 @@ const WRONG_NUMBERS: &[Case<'static>] = &[
         &[Fault(BadMaxval)],
     ),
     (
-        b"P7\nWIDTH 65536\nHEIGHT 1000000\nDEPTH 256\nMAXVAL 00\nENDHDR\n",
+        b"P7\nWIDTH 65536\nHEIGHT 16777216\nDEPTH 256\nMAXVAL 00\nENDHDR\n",
         &[Fault(BadMaxval)],
     ),
-    // The greatest numbers are good, and the raster is judged.
+];
+
+/// Great numbers that are good, up to the greatest: the raster is judged.
+const GREAT_NUMBERS: &[Case<'static>] = &[
+    (
+        b"P7\nWIDTH 1000001\nHEIGHT 1\nDEPTH 1\nMAXVAL 0\nENDHDR\n",
+        &[Fault(BadMaxval)],
+    ),
+    (
+        b"P7\nWIDTH 1\nHEIGHT 1000001\nDEPTH 1\nMAXVAL 9\nENDHDR\n",
+        &[Pam(1, 1_000_001, 1, 9, b""), Fault(RasterCut)],
+    ),
+    (
+        b"P7\nWIDTH 16777216\nHEIGHT 16777216\nDEPTH 1\nMAXVAL 65535\nENDHDR\n",
+        &[
+            Pam(16_777_216, 16_777_216, 1, 65_535, b""),
+            Fault(RasterCut),
+        ],
+    ),
+    (
+        b"P7\nWIDTH 65536\nHEIGHT 16777216\nDEPTH 256\nMAXVAL 65535\nENDHDR\n",
+        &[Pam(65_536, 16_777_216, 256, 65_535, b""), Fault(RasterCut)],
+    ),
     (
         b"P7\nWIDTH 65536\nHEIGHT 1000000\nDEPTH 256\nMAXVAL 65535\nENDHDR\n",
         &[Pam(65_536, 1_000_000, 256, 65_535, b""), Fault(RasterCut)],
@@ -223,4 +249,9 @@ fn refuses_wrong_fields(rt: HostRuntime) -> Result<(), Fail> {
 #[test]
 fn refuses_wrong_numbers(rt: HostRuntime) -> Result<(), Fail> {
     check_all(&rt, rt.alloc(), WRONG_NUMBERS)
+}
+
+#[test]
+fn takes_great_numbers(rt: HostRuntime) -> Result<(), Fail> {
+    check_all(&rt, rt.alloc(), GREAT_NUMBERS)
 }

@@ -165,9 +165,13 @@ const FAULTY: &[Case<'static>] = &[
     (b"P5 1 x", &[Fault(BadNumber)]),
     (b"P5 0 1 9\n", &[Fault(ZeroSize)]),
     (b"P5 0 16777217 0\n", &[Fault(ZeroSize)]),
-    (b"P5 1000001 1 9\n", &[Fault(TooLarge)]),
+    (b"P5 16777217 1 9\n", &[Fault(TooLarge)]),
     (b"P5 16777217 1 0\n", &[Fault(TooLarge)]),
     (b"P5 1 1 65536\n", &[Fault(BadMaxval)]),
+    (
+        b"P5 1000001 1 9\n",
+        &[Begin(Gray, 1_000_001, 1, 9), Fault(RasterCut)],
+    ),
     (
         b"P5 1 1 10\n\x0b",
         &[Begin(Gray, 1, 1, 10), Fault(SampleAboveMaxval)],

@@ -269,7 +269,7 @@ fn shape_fault(shape: Shape) -> Option<InputFault> {
     if width == 0 || height == 0 || depth == 0 {
         return Some(InputFault::ZeroSize);
     }
-    let most = 1_000_000;
+    let most = 16_777_216;
     if width > most || height > most || depth > 256 || width.saturating_mul(depth) > 16_777_216 {
         return Some(InputFault::TooLarge);
     }
