@@ -1,13 +1,18 @@
 -- The columns of rows of pixels, in bytes.
-use Rattle.std.proofs.Common.{◌≡◌, ℕ, zero, suc, ◌+◌, ◌-◌, ◌*◌, ◌/◌, ◌%◌, ◌<◌, inl, inr, List, [], ◌∷◌, ◌++◌, length, get_or, take, drop, All, refl, sym, ap, subst, ◌∙◌, arith, length-append}
+use Rattle.std.proofs.Common.{Vec, ◌≡◌, ◌≤◌, ℕ, zero, suc, ◌+◌, ◌-◌, ◌*◌, ◌/◌, ◌%◌, ◌<◌, inl, inr, List, [], ◌∷◌, ◌++◌, length, get_or, take, drop, map, All, refl, sym, ap, ◌∙◌, arith}
 use Rattle.std.proofs.lemmas.Bool.{cases_lt}
-use Rattle.std.proofs.lemmas.List.{ext_get_or, get_or-drop, get_or-take, get_or_append_left, get_or-append_right, get_or-map, length-map, length-take, drop_more}
-use Rattle.std.proofs.lemmas.List.Elements.{All-get_or}
+use Rattle.std.proofs.Math.Seq.{take-append_seam}
+use Rattle.std.proofs.lemmas.List.{ext_get_or, get_or-drop, get_or-take, get_or_append_left, get_or-map, length-map, length-take, length-take-le, drop_more}
+use Rattle.std.proofs.lemmas.List.Elements.{All-get_or, All-weaker}
+use Rattle.std.proofs.lemmas.List.FromFn.{get_or-map-range_with_len, length-map-range_with_len}
+use Rattle.std.specs.List.{range_with_len}
 use Rattle.pnm_samples.specs.Pixels.{pixel_at, pixels, all_pixels}
-use Rattle.pnm_samples.specs.Blocks.{column_of_bit, columns_of}
-use Rattle.pnm_samples.specs.Columns.{column_at, HoldsPixels, HoldsFrom, HoldsColumns}
-use Rattle.pnm_samples.proofs.PixelLaws.{length-pixels, get_or-pixels, drop-all_pixels, length-all_pixels}
-use Rattle.pnm_samples.proofs.BlockLaws.{pixels_of_column}
+use Rattle.pnm_samples.specs.Blocks.{bits_of}
+use Rattle.std.specs.Int.{bit_at}
+use Rattle.pnm_samples.proofs.BlockLaws.{bit_of_bits}
+use Rattle.std.specs.Global.{Global}
+use Rattle.pnm_samples.specs.Columns.{column_at, AreLong, HasPair, HavePairs, HoldsPixels, HoldsFrom, HoldColumns}
+use Rattle.pnm_samples.proofs.PixelLaws.{bit_at-shr, bit_at-low_byte, length-pixels, get_or-pixels, drop-all_pixels, length-all_pixels}
 
 -- a pixel of a byte of many
 pub pixel_of_bytes : (bytes : List ℕ) (n r : ℕ) → n < length bytes → r < 8 → get_or (all_pixels bytes) (8 * n + r) 0 ≡ pixel_at (7 - r) (get_or bytes n 0)
@@ -31,88 +36,157 @@ bytes_from_hold row bytes byte from count is start n k lt within =
     ap (pixel_at (7 - k)) (get_or-take (length bytes - from) (drop from bytes) n 0 (omega arith) ∙ get_or-drop from bytes n 0 ∙ ap (λ (i : ℕ). get_or bytes i 0) place)
     ∙ byte_holds row bytes (byte + n) inside is k lt within
 
--- the byte of one of eight columns
-column_of_eight : (rs : List ℕ) (k : ℕ) → k < 8 → get_or (columns_of rs) k 0 ≡ column_of_bit rs (7 - k)
-column_of_eight rs zero lt = refl
-column_of_eight rs (suc zero) lt = refl
-column_of_eight rs (suc (suc zero)) lt = refl
-column_of_eight rs (suc (suc (suc zero))) lt = refl
-column_of_eight rs (suc (suc (suc (suc zero)))) lt = refl
-column_of_eight rs (suc (suc (suc (suc (suc zero))))) lt = refl
-column_of_eight rs (suc (suc (suc (suc (suc (suc zero)))))) lt = refl
-column_of_eight rs (suc (suc (suc (suc (suc (suc (suc zero))))))) lt = refl
-column_of_eight rs (suc (suc (suc (suc (suc (suc (suc (suc k)))))))) lt = absurd (omega arith)
+-- ---- the columns of sixteen rows
 
--- a pixel of one of eight columns
-pixel_of_eight : (rs : List ℕ) (i k : ℕ) → length rs ≡ 8 → i < 8 → k < 8 → pixel_at (7 - i) (get_or (columns_of rs) k 0) ≡ pixel_at (7 - k) (get_or rs i 0)
-pixel_of_eight rs i k eight li lk =
-    ap (pixel_at (7 - i)) (column_of_eight rs k lk) ∙ sym (get_or-pixels (column_of_bit rs (7 - k)) i li)
-    ∙ ap (λ (l : List ℕ). get_or l i 0) (pixels_of_column rs (7 - k) eight) ∙ get_or-map (λ r. pixel_at (7 - k) r) rs i 0 0 (omega arith)
+-- a byte holds the pixels of a row, where there is one
+abbrev pub HoldsRow : ℕ → List (List ℕ) → ℕ → ℕ → Type 0
+HoldsRow byte rows r held = r < length rows → HoldsPixels byte (get_or rows r []) held
 
--- eight bytes hold the columns of eight rows, from this one on, that lie in a byte of each of them; the first row has the highest
--- bit
-abbrev pub HoldsEight : ℕ → ℕ → List (List ℕ) → List ℕ → Type 0
-HoldsEight first byte rows held =
-    (i k : ℕ) → i < 8 → k < 8 → first + i < length rows → 8 * byte + k < length (get_or rows (first + i) [])
-    → pixel_at (7 - i) (get_or held k 0) ≡ get_or (get_or rows (first + i) []) (8 * byte + k) 0
+-- eight of the bytes hold the pixels of eight rows, the last row's first
+abbrev pub HoldEight : ℕ → List (List ℕ) → ℕ → ℕ → List ℕ → Type 0
+HoldEight byte rows first from lanes = (m : ℕ) → m < 8 → HoldsRow byte rows (first + (from + m)) (get_or lanes (from + (7 - m)) 0)
 
--- the columns of eight bytes, each of which holds pixels of its row
-pub eight_held : (rows : List (List ℕ)) (first byte : ℕ) (rs : List ℕ) → length rs ≡ 8 → ((i : ℕ) → i < 8 → first + i < length rows → HoldsPixels byte (get_or rows (first + i) []) (get_or rs i 0)) → HoldsEight first byte rows (columns_of rs)
-eight_held rows first byte rs eight held i k li lk lt within = pixel_of_eight rs i k eight li lk ∙ held i li lt k lk within
+-- what each of eight bytes holds
+pub eight_hold : (Q : ℕ → ℕ → Type 0) (first from : ℕ) (lanes : List ℕ)
+    → Q (first + (from + 0)) (get_or lanes (from + 7) 0) → Q (first + (from + 1)) (get_or lanes (from + 6) 0) → Q (first + (from + 2)) (get_or lanes (from + 5) 0) → Q (first + (from + 3)) (get_or lanes (from + 4) 0)
+    → Q (first + (from + 4)) (get_or lanes (from + 3) 0) → Q (first + (from + 5)) (get_or lanes (from + 2) 0) → Q (first + (from + 6)) (get_or lanes (from + 1) 0) → Q (first + (from + 7)) (get_or lanes (from + 0) 0)
+    → (m : ℕ) → m < 8 → Q (first + (from + m)) (get_or lanes (from + (7 - m)) 0)
+eight_hold Q first from lanes a b c d e f g h zero lt = a
+eight_hold Q first from lanes a b c d e f g h (suc zero) lt = b
+eight_hold Q first from lanes a b c d e f g h (suc (suc zero)) lt = c
+eight_hold Q first from lanes a b c d e f g h (suc (suc (suc zero))) lt = d
+eight_hold Q first from lanes a b c d e f g h (suc (suc (suc (suc zero)))) lt = e
+eight_hold Q first from lanes a b c d e f g h (suc (suc (suc (suc (suc zero))))) lt = f
+eight_hold Q first from lanes a b c d e f g h (suc (suc (suc (suc (suc (suc zero)))))) lt = g
+eight_hold Q first from lanes a b c d e f g h (suc (suc (suc (suc (suc (suc (suc zero))))))) lt = h
+eight_hold Q first from lanes a b c d e f g h (suc (suc (suc (suc (suc (suc (suc (suc m)))))))) lt = absurd (omega arith)
 
--- what holds of the bytes of the groups that have passed, and of some bytes of each row of the next one
-pub record HoldsGroups (byte : ℕ) (rows : List (List ℕ)) (groups beside : ℕ) (bytes : List ℕ) : Type 0 where
-  pub count : length bytes ≡ 256 * groups + 8 * beside
+-- the pixels in the two bytes of a column
+low_pixel : (lanes : List ℕ) (pair place m : ℕ) → length lanes ≡ 16 → pair ≡ bits_of place lanes → m < 8 → pixel_at (7 - m) (pair % 256) ≡ pixel_at place (get_or lanes (0 + (7 - m)) 0)
+low_pixel lanes pair place m count is lt =
+    let at : 7 - m ≡ 0 + (7 - m) = omega arith in
+    ap (λ (n : ℕ). 1 - n) (bit_at-low_byte pair (7 - m) (omega arith) ∙ ap (λ (n : ℕ). bit_at n (7 - m)) is ∙ bit_of_bits place lanes (7 - m) (omega arith))
+    ∙ ap (λ (i : ℕ). pixel_at place (get_or lanes i 0)) at
+
+high_pixel : (lanes : List ℕ) (pair place m : ℕ) → length lanes ≡ 16 → pair ≡ bits_of place lanes → m < 8 → pixel_at (7 - m) (pair / 256) ≡ pixel_at place (get_or lanes (8 + (7 - m)) 0)
+high_pixel lanes pair place m count is lt =
+    ap (λ (n : ℕ). 1 - n) (bit_at-shr pair 8 (7 - m) ∙ ap (λ (n : ℕ). bit_at n (8 + (7 - m))) is ∙ bit_of_bits place lanes (8 + (7 - m)) (omega arith))
+
+-- ---- one byte of each row after another
+
+-- what holds of the columns for the groups of sixteen rows that have passed, and for some bytes of each row of the next one
+pub record HoldsGroups (byte width total : ℕ) (rows : List (List ℕ)) (groups beside : ℕ) (columns : List (Vec ℕ Global)) : Type 0 where
+  pub long : AreLong (8 * width) (2 * total) columns
   pub pixels :
-      (r k : ℕ) → 256 * (r / 8) + k < 256 * groups + 8 * beside → r < length rows → k < 256 → 8 * byte + k < length (get_or rows r []) → pixel_at (7 - r % 8) (get_or bytes (256 * (r / 8) + k) 0) ≡ get_or (get_or rows r []) (8 * byte + k) 0
+      (r k : ℕ) (d : Vec ℕ Global) → 256 * (r / 16) + k < 256 * groups + 8 * beside → r < length rows → k < 8 * width → 8 * byte + k < length (get_or rows r [])
+      → pixel_at (7 - r % 8) (get_or (get_or columns k d).items (r / 8) 0) ≡ get_or (get_or rows r []) (8 * byte + k) 0
 
--- a group of which all bytes have passed
-pub next_group : (byte : ℕ) (rows : List (List ℕ)) (g n : ℕ) (bytes : List ℕ) → n ≡ 32 → HoldsGroups byte rows g n bytes → HoldsGroups byte rows (g + 1) 0 bytes
-next_group byte rows g n bytes all known = record { count = omega (arith, known.count); pixels = λ r k below lt lk within. known.pixels r k (omega arith) lt lk within }
+-- the bytes of one of the eight columns that got some
+pair_at : (first at : ℕ) (pairs : List ℕ) (old new : List (Vec ℕ Global)) (k : ℕ) (d : Vec ℕ Global) → HavePairs 8 first at pairs old new → first ≤ k → k < first + 8 → HasPair at (get_or pairs (k - first) 0) (get_or old k d).items (get_or new k d).items
+pair_at first at pairs old new k d put le lt =
+    let place : first + (k - first) ≡ k = omega arith in
+    rw place at (put.put (k - first) d (omega arith))
 
--- eight columns more
-pub eight_more : (byte : ℕ) (rows : List (List ℕ)) (g n : ℕ) (bytes new eight : List ℕ) → n < 32 → HoldsGroups byte rows g n bytes → new ≡ bytes ++ eight → length eight ≡ 8 → HoldsEight (8 * g) (byte + n) rows eight → HoldsGroups byte rows g (n + 1) new
-eight_more byte rows g n bytes new eight few known e size held = record {
-  count = ap length e ∙ length-append bytes eight ∙ omega (arith, known.count);
-  pixels = λ r k below lt lk within. elim (cases_lt (256 * (r / 8) + k) (256 * g + 8 * n)) [
-    | inl before ↦
-        ap (λ (l : List ℕ). pixel_at (7 - r % 8) (get_or l (256 * (r / 8) + k) 0)) e
-        ∙ ap (pixel_at (7 - r % 8)) (get_or_append_left bytes eight 0 (256 * (r / 8) + k) (omega (arith, known.count)))
-        ∙ known.pixels r k before lt lk within
-    | inr now ↦
-        let group : r / 8 ≡ g = omega arith in
-        let place : 256 * (r / 8) + k - (256 * g + 8 * n) ≡ k - 8 * n = omega arith in
-        let row : 8 * g + r % 8 ≡ r = omega arith in
-        let pixel : 8 * (byte + n) + (k - 8 * n) ≡ 8 * byte + k = omega arith in
-        let here = rw row at (rw pixel at (held (r % 8) (k - 8 * n) (omega arith) (omega arith))) in
-        ap (λ (l : List ℕ). pixel_at (7 - r % 8) (get_or l (256 * (r / 8) + k) 0)) e
-        ∙ ap (pixel_at (7 - r % 8)) (get_or-append_right bytes eight (256 * g + 8 * n) (256 * (r / 8) + k) 0 known.count (omega arith) ∙ ap (λ (m : ℕ). get_or eight m 0) place)
-        ∙ here lt within
+-- each column stays as long
+still_long : (count long first at : ℕ) (pairs : List ℕ) (old new : List (Vec ℕ Global)) → HavePairs 8 first at pairs old new → AreLong count long old → AreLong count long new
+still_long count long first at pairs old new put known = record {
+  many = put.many ∙ known.many;
+  each = λ k d lt. elim (cases_lt k first) [
+    | inl below ↦ ap (λ (v : Vec ℕ Global). length v.items) (put.before k d below) ∙ known.each k d lt
+    | inr above ↦ elim (cases_lt k (first + 8)) [
+      | inl inside ↦ (pair_at first at pairs old new k d put above inside).count ∙ known.each k d lt
+      | inr behind ↦ ap (λ (v : Vec ℕ Global). length v.items) (put.behind k d behind) ∙ known.each k d lt
+    ]
   ];
 }
 
--- what each of eight bytes holds, the first of them at n
-pub eight_hold : (P : ℕ → ℕ → Type 0) (n a b c d e f g h : ℕ) → P n a → P (n + 1) b → P (n + 2) c → P (n + 3) d → P (n + 4) e → P (n + 5) f → P (n + 6) g → P (n + 7) h → (i : ℕ) → i < 8 → P (n + i) (get_or (a ∷ b ∷ c ∷ d ∷ e ∷ f ∷ g ∷ h ∷ []) i 0)
-eight_hold P n a b c d e f g h pa pb pc pd pe pf pg ph zero lt = let here : n ≡ n + 0 = omega arith in subst (λ (m : ℕ). P m a) here pa
-eight_hold P n a b c d e f g h pa pb pc pd pe pf pg ph (suc zero) lt = pb
-eight_hold P n a b c d e f g h pa pb pc pd pe pf pg ph (suc (suc zero)) lt = pc
-eight_hold P n a b c d e f g h pa pb pc pd pe pf pg ph (suc (suc (suc zero))) lt = pd
-eight_hold P n a b c d e f g h pa pb pc pd pe pf pg ph (suc (suc (suc (suc zero)))) lt = pe
-eight_hold P n a b c d e f g h pa pb pc pd pe pf pg ph (suc (suc (suc (suc (suc zero))))) lt = pf
-eight_hold P n a b c d e f g h pa pb pc pd pe pf pg ph (suc (suc (suc (suc (suc (suc zero)))))) lt = pg
-eight_hold P n a b c d e f g h pa pb pc pd pe pf pg ph (suc (suc (suc (suc (suc (suc (suc zero))))))) lt = ph
-eight_hold P n a b c d e f g h pa pb pc pd pe pf pg ph (suc (suc (suc (suc (suc (suc (suc (suc i)))))))) lt = absurd (omega arith)
+-- a byte that was there before stays
+byte_stays : (first at : ℕ) (pairs : List ℕ) (old new : List (Vec ℕ Global)) (k i : ℕ) (d : Vec ℕ Global) → HavePairs 8 first at pairs old new → (first ≤ k → k < first + 8 → i < at) → get_or (get_or new k d).items i 0 ≡ get_or (get_or old k d).items i 0
+byte_stays first at pairs old new k i d put early = elim (cases_lt k first) [
+  | inl below ↦ ap (λ (v : Vec ℕ Global). get_or v.items i 0) (put.before k d below)
+  | inr above ↦ elim (cases_lt k (first + 8)) [
+    | inl inside ↦ (pair_at first at pairs old new k d put above inside).before i (early above inside)
+    | inr behind ↦ ap (λ (v : Vec ℕ Global). get_or v.items i 0) (put.behind k d behind)
+  ]
+]
+
+-- the pixel of a row of the group, in a column that got its bytes
+pixel_got : (byte : ℕ) (rows : List (List ℕ)) (g n : ℕ) (pairs lanes : List ℕ) (old new : List (Vec ℕ Global)) (r k : ℕ) (d : Vec ℕ Global)
+    → length lanes ≡ 16 → ((j : ℕ) → j < 8 → get_or pairs j 0 ≡ bits_of (7 - j) lanes) → HoldEight (byte + n) rows (16 * g) 0 lanes → HoldEight (byte + n) rows (16 * g) 8 lanes
+    → HavePairs 8 (8 * n) (2 * g) pairs old new → r / 16 ≡ g → 8 * n ≤ k → k < 8 * n + 8 → r < length rows → 8 * byte + k < length (get_or rows r [])
+    → pixel_at (7 - r % 8) (get_or (get_or new k d).items (r / 8) 0) ≡ get_or (get_or rows r []) (8 * byte + k) 0
+pixel_got byte rows g n pairs lanes old new r k d count are low high put group le lt below within =
+    let pair = pair_at (8 * n) (2 * g) pairs old new k d put le lt in
+    let is = are (k - 8 * n) (omega arith) in
+    let pixel : 8 * (byte + n) + (k - 8 * n) ≡ 8 * byte + k = omega arith in
+    elim (cases_lt (r % 16) 8) [
+      | inl first ↦
+          let at : r / 8 ≡ 2 * g = omega arith in
+          let row : 16 * g + (0 + r % 8) ≡ r = omega arith in
+          let here = rw row at (rw pixel at (low (r % 8) (omega arith) (omega arith) (k - 8 * n) (omega arith))) in
+          ap (λ (i : ℕ). pixel_at (7 - r % 8) (get_or (get_or new k d).items i 0)) at ∙ ap (pixel_at (7 - r % 8)) pair.low
+          ∙ low_pixel lanes (get_or pairs (k - 8 * n) 0) (7 - (k - 8 * n)) (r % 8) count is (omega arith) ∙ here within
+      | inr second ↦
+          let at : r / 8 ≡ 2 * g + 1 = omega arith in
+          let row : 16 * g + (8 + r % 8) ≡ r = omega arith in
+          let here = rw row at (rw pixel at (high (r % 8) (omega arith) (omega arith) (k - 8 * n) (omega arith))) in
+          ap (λ (i : ℕ). pixel_at (7 - r % 8) (get_or (get_or new k d).items i 0)) at ∙ ap (pixel_at (7 - r % 8)) pair.high
+          ∙ high_pixel lanes (get_or pairs (k - 8 * n) 0) (7 - (k - 8 * n)) (r % 8) count is (omega arith) ∙ here within
+    ]
+
+-- eight columns more
+pub eight_more : (byte width total : ℕ) (rows : List (List ℕ)) (g n : ℕ) (pairs lanes : List ℕ) (old new : List (Vec ℕ Global))
+    → length lanes ≡ 16 → ((j : ℕ) → j < 8 → get_or pairs j 0 ≡ bits_of (7 - j) lanes) → HoldEight (byte + n) rows (16 * g) 0 lanes → HoldEight (byte + n) rows (16 * g) 8 lanes
+    → HavePairs 8 (8 * n) (2 * g) pairs old new → n < width → width ≤ 32 → HoldsGroups byte width total rows g n old → HoldsGroups byte width total rows g (n + 1) new
+eight_more byte width total rows g n pairs lanes old new count are low high put inside few known = record {
+  long = still_long (8 * width) (2 * total) (8 * n) (2 * g) pairs old new put known.long;
+  pixels = λ r k d below lt lk within. elim (cases_lt (256 * (r / 16) + k) (256 * g + 8 * n)) [
+    | inl before ↦
+        ap (pixel_at (7 - r % 8)) (byte_stays (8 * n) (2 * g) pairs old new k (r / 8) d put (λ le less. omega arith)) ∙ known.pixels r k d before lt lk within
+    | inr now ↦ pixel_got byte rows g n pairs lanes old new r k d count are low high put (omega arith) (omega arith) (omega arith) lt within
+  ];
+}
+
+-- a slice of a whole vector, written back
+pub written_whole : {X : Type 0} (n : ℕ) (new old : List X) → n ≡ length new → take n (new ++ drop (length new) old) ≡ new
+written_whole n new old e = ap (λ (k : ℕ). take k (new ++ drop (length new) old)) e ∙ take-append_seam new (drop (length new) old)
+
+-- ---- the columns that are made
 
 -- a column, out of its bytes
-pub column_made : (byte : ℕ) (rows : List (List ℕ)) (bytes column : List ℕ) (k n : ℕ) → HoldsColumns byte rows bytes → k < 256 → All (λ row. 8 * byte + k < length row) rows → n ≡ length rows
-    → length column ≡ length bytes / 256 → ((i : ℕ) → i < length bytes / 256 → get_or column i 0 ≡ get_or bytes (256 * i + k) 0) → take n (all_pixels column) ≡ column_at rows (8 * byte + k)
-column_made byte rows bytes column k n known lk within size count taken =
-    let groups : length bytes / 256 ≡ (length rows + 7) / 8 = omega (arith, known.count) in
-    let made : length (take n (all_pixels column)) ≡ length rows = omega (arith, length-take n (all_pixels column), length-all_pixels column) in
-    ext_get_or 0 (take n (all_pixels column)) (column_at rows (8 * byte + k)) (made ∙ sym (length-map rows (λ row. get_or row (8 * byte + k) 0))) (λ r below.
+column_made : (byte count : ℕ) (rows : List (List ℕ)) (columns : List (Vec ℕ Global)) (k : ℕ) (d : Vec ℕ Global) → HoldColumns byte count rows columns → k < count → All (λ row. 8 * byte + k < length row) rows
+    → take (length rows) (all_pixels (get_or columns k d).items) ≡ column_at rows (8 * byte + k)
+column_made byte count rows columns k d known lk within =
+    let bytes = (get_or columns k d).items in
+    let enough = known.enough k d lk in
+    let made : length (take (length rows) (all_pixels bytes)) ≡ length rows = omega (arith, enough, length-take (length rows) (all_pixels bytes), length-all_pixels bytes) in
+    ext_get_or 0 (take (length rows) (all_pixels bytes)) (column_at rows (8 * byte + k)) (made ∙ sym (length-map rows (λ row. get_or row (8 * byte + k) 0))) (λ r below.
     let lt : r < length rows = omega (arith, made) in
     let place : r ≡ 8 * (r / 8) + r % 8 = omega arith in
-    get_or-take n (all_pixels column) r 0 (omega arith) ∙ ap (λ (i : ℕ). get_or (all_pixels column) i 0) place
-    ∙ pixel_of_bytes column (r / 8) (r % 8) (omega arith) (omega arith) ∙ ap (pixel_at (7 - r % 8)) (taken (r / 8) (omega arith))
-    ∙ known.pixels r k lt lk (All-get_or (λ row. 8 * byte + k < length row) rows r [] lt within)
+    get_or-take (length rows) (all_pixels bytes) r 0 lt ∙ ap (λ (i : ℕ). get_or (all_pixels bytes) i 0) place
+    ∙ pixel_of_bytes bytes (r / 8) (r % 8) (omega (arith, enough)) (omega arith)
+    ∙ known.pixels r k d lt lk (All-get_or (λ row. 8 * byte + k < length row) rows r [] lt within)
     ∙ sym (get_or-map (λ row. get_or row (8 * byte + k) 0) rows r [] 0 lt))
+
+-- the pixels of a column
+abbrev pub pixels_of_column : ℕ → Vec ℕ Global → List ℕ
+pixels_of_column n column = take n (all_pixels column.items)
+
+made_by_number : (byte width count : ℕ) (rows : List (List ℕ)) (columns : List (Vec ℕ Global)) (d : Vec ℕ Global) → HoldColumns byte (8 * width) rows columns → count ≤ 8 * width → All (λ row. 8 * byte + count ≤ length row) rows
+    → map (pixels_of_column (length rows)) (take count columns) ≡ map (column_at rows) (range_with_len (8 * byte) count)
+made_by_number byte width count rows columns d known le within =
+    let kept : length (take count columns) ≡ count = length-take-le count columns (omega (arith, known.many)) in
+    let many : length (map (pixels_of_column (length rows)) (take count columns)) ≡ count = length-map (take count columns) (pixels_of_column (length rows)) ∙ kept in
+    ext_get_or [] (map (pixels_of_column (length rows)) (take count columns)) (map (column_at rows) (range_with_len (8 * byte) count)) (many ∙ sym (length-map-range_with_len (column_at rows) (8 * byte) count)) (λ k below.
+    let lt : k < count = omega (arith, many) in
+    get_or-map (pixels_of_column (length rows)) (take count columns) k d [] (omega (arith, kept))
+    ∙ ap (pixels_of_column (length rows)) (get_or-take count columns k d lt)
+    ∙ column_made byte (8 * width) rows columns k d known (omega arith) (All-weaker (λ row. 8 * byte + count ≤ length row) (λ row. 8 * byte + k < length row) (λ row h. omega arith) rows within)
+    ∙ sym (get_or-map-range_with_len (column_at rows) (8 * byte) count k (8 * byte + k) [] lt refl))
+
+pub columns_made : (byte width count : ℕ) (rows : List (List ℕ)) (columns : List (Vec ℕ Global)) → HoldColumns byte (8 * width) rows columns → count ≤ 8 * width → All (λ row. 8 * byte + count ≤ length row) rows
+    → map (pixels_of_column (length rows)) (take count columns) ≡ map (column_at rows) (range_with_len (8 * byte) count)
+columns_made byte width count rows [] known le within =
+    let none : count ≡ 0 = omega (arith, known.many) in
+    ap (λ (n : ℕ). map (pixels_of_column (length rows)) (take n [])) none ∙ ap (λ (n : ℕ). map (column_at rows) (range_with_len (8 * byte) n)) (sym none)
+columns_made byte width count rows (column ∷ columns) known le within = made_by_number byte width count rows (column ∷ columns) column known le within

@@ -68,10 +68,10 @@ pixels_by b l count known =
     get_or-pixels b i inside ∙ sym (known i inside))
 
 -- a bit of a shifted number, and of its low byte
-bit_at-shr : (n k i : ℕ) → bit_at (n / 2 ^ k) i ≡ bit_at n (k + i)
+pub bit_at-shr : (n k i : ℕ) → bit_at (n / 2 ^ k) i ≡ bit_at n (k + i)
 bit_at-shr n k i = ap (λ m. m % 2) (shr-shr n k i)
 
-bit_at-low_byte : (n i : ℕ) → i < 8 → bit_at (n % 256) i ≡ bit_at n i
+pub bit_at-low_byte : (n i : ℕ) → i < 8 → bit_at (n % 256) i ≡ bit_at n i
 bit_at-low_byte n i h = sym (bit_at_cat_low (n / 2 ^ 8) 8 (n % 2 ^ 8) i h) ∙ ap (λ m. bit_at m i) (shr_split n 8)
 
 -- a bit of eight bits of two bytes

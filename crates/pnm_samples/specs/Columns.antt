@@ -1,5 +1,6 @@
 -- Columns of rows of pixels.
-use Rattle.std.specs.Prelude.{◌≡◌, ℕ, ◌+◌, ◌-◌, ◌*◌, ◌/◌, ◌%◌, ◌<◌, List, [], get_or, length, map}
+use Rattle.std.specs.Prelude.{◌≡◌, ℕ, ◌+◌, ◌-◌, ◌*◌, ◌/◌, ◌%◌, ◌<◌, ◌≤◌, List, [], get_or, length, map, Vec}
+use Rattle.std.specs.Global.{Global}
 use Rattle.pnm_samples.specs.Pixels.{pixel_at}
 
 -- the pixels of one column, top to bottom
@@ -14,8 +15,28 @@ HoldsPixels byte row held = (k : ℕ) → k < 8 → 8 * byte + k < length row �
 abbrev pub HoldsFrom : ℕ → List ℕ → List ℕ → Type 0
 HoldsFrom byte row bytes = (n : ℕ) → HoldsPixels (byte + n) row (get_or bytes n 0)
 
--- bytes hold 256 columns of rows, the first in this byte of each row: of each eight rows a byte of each column
-pub record HoldsColumns (byte : ℕ) (rows : List (List ℕ)) (bytes : List ℕ) : Type 0 where
-  pub count : length bytes ≡ 256 * ((length rows + 7) / 8)
+-- so many columns of so many bytes each
+pub record AreLong (count long : ℕ) (columns : List (Vec ℕ Global)) : Type 0 where
+  pub many : length columns ≡ count
+  pub each : (k : ℕ) (d : Vec ℕ Global) → k < count → length (get_or columns k d).items ≡ long
+
+-- two bytes are those of a number, the low one first, and those before them are as they were
+pub record HasPair (at pair : ℕ) (old new : List ℕ) : Type 0 where
+  pub count : length new ≡ length old
+  pub low : get_or new at 0 ≡ pair % 256
+  pub high : get_or new (at + 1) 0 ≡ pair / 256
+  pub before : (i : ℕ) → i < at → get_or new i 0 ≡ get_or old i 0
+
+-- so many columns, from this one on, have got two bytes each, and the others are as they were
+pub record HavePairs (count first at : ℕ) (pairs : List ℕ) (old new : List (Vec ℕ Global)) : Type 0 where
+  pub many : length new ≡ length old
+  pub put : (k : ℕ) (d : Vec ℕ Global) → k < count → HasPair at (get_or pairs k 0) (get_or old (first + k) d).items (get_or new (first + k) d).items
+  pub before : (k : ℕ) (d : Vec ℕ Global) → k < first → get_or new k d ≡ get_or old k d
+  pub behind : (k : ℕ) (d : Vec ℕ Global) → first + count ≤ k → get_or new k d ≡ get_or old k d
+
+-- so many columns of rows, from the one in the highest bit of this byte of each row on: of each eight rows a byte
+pub record HoldColumns (byte count : ℕ) (rows : List (List ℕ)) (columns : List (Vec ℕ Global)) : Type 0 where
+  pub many : length columns ≡ count
+  pub enough : (k : ℕ) (d : Vec ℕ Global) → k < count → (length rows + 7) / 8 ≤ length (get_or columns k d).items
   pub pixels :
-      (r k : ℕ) → r < length rows → k < 256 → 8 * byte + k < length (get_or rows r []) → pixel_at (7 - r % 8) (get_or bytes (256 * (r / 8) + k) 0) ≡ get_or (get_or rows r []) (8 * byte + k) 0
+      (r k : ℕ) (d : Vec ℕ Global) → r < length rows → k < count → 8 * byte + k < length (get_or rows r []) → pixel_at (7 - r % 8) (get_or (get_or columns k d).items (r / 8) 0) ≡ get_or (get_or rows r []) (8 * byte + k) 0

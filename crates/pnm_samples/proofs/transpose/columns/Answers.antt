@@ -1,17 +1,16 @@
-use Rattle.std.proofs.Common.{◌≡◌, ◌+◌, ◌*◌, ◌<◌, ◌≤◌, ◌∷◌, [], ◌++◌, ◌∙◌, List, ℕ, All, length, ap₂, subst, sym, arith, refl}
-use Rattle.std.proofs.lemmas.List.Elements.{All-weaker}
-use Rattle.std.proofs.lemmas.List.FromFn.{map-range_with_len_more}
-use Rattle.pnm_samples.specs.Columns.{column_at, HoldsColumns}
-use Rattle.pnm_samples.proofs.ColumnLaws.{column_made}
+use Rattle.std.proofs.Common.{rules, ◌∙◌, length, map, sym, ap, arith}
+use Rattle.std.proofs.lemmas.List.{map-id}
+use Rattle.std.proofs.lemmas.Iterator.Adapters.{YieldsList-from_vec}
+use Rattle.std.proofs.lemmas.Iterator.Consumers.{YieldsList-end}
+use Rattle.pnm_samples.proofs.ColumnLaws.{columns_made, pixels_of_column}
 use Rattle.pnm_samples.proofs.transpose.columns.Goals as goal
 
-pub loop-k-preserved : goal.loop-k-preserved
-loop-k-preserved c =
-    let byte = c.args.byte in
-    let rows = c.args.rows.now in
-    let k = c.loop-k.k in
-    let within : All (λ row. 8 * byte + k < length row) rows = All-weaker (λ row. 8 * byte + c.args.count ≤ length row) (λ row. 8 * byte + k < length row) (λ row le. omega arith) rows c.requires.rows in
-    let bytes : HoldsColumns byte rows c.as_slice.result.now = subst (HoldsColumns byte rows) (sym c.as_slice.ensures.value) c.in_ok-bytes.ensures in
-    let made : c.new.result ≡ column_at rows (8 * byte + k) =
-    c.new.ensures ∙ column_made byte rows c.as_slice.result.now c.in_ok-column.column.items k (length rows) bytes (omega arith) within refl c.in_ok-column.ensures.count c.in_ok-column.ensures.made in
-    c.in_ok-push.ensures.items ∙ ap₂ (λ (l : List (List ℕ)) (x : List ℕ). l ++ x ∷ []) c.loop-k.invariant made ∙ sym (map-range_with_len_more (column_at rows) (8 * byte) k (8 * byte + k) refl)
+pub returns : goal.returns
+returns c =
+    let columns = c.in_ok-columns.columns.items in
+    let left = c.truncate.new.self.items in
+    let made = pixels_of_column (length c.args.rows.now) in
+    let given = YieldsList-from_vec {s = c.into_iter-column-iterator.result} left c.into_iter-column-iterator.ensures.into_iter_gives.0 (search rules) in
+    let end = YieldsList-end given c.loop-column.yielded c.loop-column.column-iterator c.loop-column.yielded_by c.next.result c.next.new.self c.in-None.is c.next.ensures.steps in
+    c.loop-column.invariant ∙ ap (map made) (sym (map-id c.loop-column.yielded) ∙ end.0 ∙ c.truncate.ensures.items)
+    ∙ columns_made c.args.byte c.div_ceil.result c.args.count c.args.rows.now columns c.in_ok-columns.ensures (omega (arith, c.div_ceil.ensures)) c.requires.rows

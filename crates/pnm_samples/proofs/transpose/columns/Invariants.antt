@@ -1,8 +1,7 @@
-use Rattle.std.proofs.Common.{◌≡◌, ◌*◌, map}
-use Rattle.std.specs.List.{range_with_len}
-use Rattle.pnm_samples.specs.Columns.{column_at}
+use Rattle.std.proofs.Common.{◌≡◌, length, map, take}
+use Rattle.pnm_samples.specs.Pixels.{all_pixels}
 use Rattle.pnm_samples.proofs.transpose.columns.Given as goal
 
 -- the columns that have passed
-abbrev pub invariant-loop-k : goal.invariant-loop-k
-invariant-loop-k l = l.made.items ≡ map (column_at l.rows) (range_with_len (8 * l.byte) l.k)
+abbrev pub invariant-loop-column : goal.invariant-loop-column
+invariant-loop-column l = l.made.items ≡ map (λ column. take (length l.rows) (all_pixels column.items)) l.yielded
