@@ -7,6 +7,7 @@ use std::process::Abort;
 mod bits;
 mod bounds;
 mod samples;
+mod transpose;
 
 /// Stops the test where the two aren't the same, and shows them. An assertion that shows its values is dear to
 /// prove: this one stands for those of many tests.
