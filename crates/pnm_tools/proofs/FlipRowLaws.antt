@@ -1,8 +1,8 @@
 -- The rows of a flipped image, and what is still to be given of it.
-use Rattle.std.proofs.Common.{◌≡◌, ℕ, zero, suc, ◌+◌, ◌-◌, ◌*◌, ◌<◌, ◌≤◌, List, [], ◌∷◌, ◌++◌, length, take, drop, reverse, get_or, refl, sym, ap, ◌∙◌, arith, mul-le-mul, length-take-le, length-drop, map, subst, Bool, true, false, if◌then◌else◌, Ok, Option, None, All, nat_lt}
+use Rattle.std.proofs.Common.{◌≡◌, ℕ, zero, suc, ◌+◌, ◌-◌, ◌*◌, ◌<◌, ◌≤◌, List, [], ◌∷◌, ◌++◌, length, take, drop, reverse, get_or, set, refl, sym, ap, ◌∙◌, arith, mul-le-mul, length-take-le, length-drop, map, subst, Bool, true, false, if◌then◌else◌, Ok, Option, None, All, nat_lt}
 use Rattle.std.specs.List.{flat_map, range_with_len}
 use borrow.Rule.Slice.PartMut.{put_mid}
-use Rattle.std.proofs.lemmas.List.{append_assoc, length-append, reverse-append, reverse-reverse, length-reverse, take-append-drop, take_at, drop_at, drop-drop, take_more, drop_more, take_all}
+use Rattle.std.proofs.lemmas.List.{append_assoc, length-append, reverse-append, reverse-reverse, length-reverse, take-append-drop, take_at, drop_at, drop-drop, take_more, drop_more, take_all, drop_all, append-nil}
 use Rattle.pnm_image.specs.declared.shape.Shape.{Shape}
 use Rattle.pnm_tools.specs.Flip.{turn_of, in_order, mirrored_row, column_of, transposed_head_value}
 use Rattle.pnm_tools.specs.Pixels.{pixel_of}
@@ -115,6 +115,22 @@ one_plane {X = X} s [] samples some one count is =
     let width : 0 ≡ s.width = omega (arith, count, wide) in
     is ∙ ap (λ (k : ℕ). last_pixels s.width s.depth none k) width
 one_plane s (x ∷ row) samples some one count is = some_pixels s (x ∷ row) samples x some one count is
+
+-- three samples, the last one first
+pub three_reversed : {X : Type 0} (xs : List X) (a c : X) → length xs ≡ 3 → a ≡ get_or xs 0 a → c ≡ get_or xs 2 c → set (set xs 0 c) 2 a ≡ reverse xs
+three_reversed [] a c three first last = absurd (omega arith)
+three_reversed (p ∷ []) a c three first last = absurd (omega arith)
+three_reversed (p ∷ q ∷ []) a c three first last = absurd (omega arith)
+three_reversed {X = X} (p ∷ q ∷ r ∷ []) a c three first last = ap (λ (x : X). x ∷ q ∷ a ∷ []) last ∙ ap (λ (x : X). r ∷ q ∷ x ∷ []) first
+three_reversed (p ∷ q ∷ r ∷ s ∷ xs) a c three first last = absurd (omega arith)
+
+-- once all pixels of three samples are turned back
+pub colors_turned : {X : Type 0} (s : Shape) (row samples : List X) (n : ℕ) → s.depth ≡ 3 → length row ≡ s.width * s.depth → n ≡ s.width → samples ≡ last_pixels s.width 3 row n ++ drop (n * 3) (reverse row) → samples ≡ mirrored_row s row
+colors_turned {X = X} s row samples n depth count all is =
+    let long : length row ≡ s.width * 3 = count ∙ ap (λ (d : ℕ). s.width * d) depth in
+    let none : drop (n * 3) (reverse row) ≡ [] = drop_all (n * 3) (reverse row) (omega (arith, length-reverse row)) in
+    is ∙ ap (λ (l : List X). last_pixels s.width 3 row n ++ l) none ∙ append-nil (last_pixels s.width 3 row n)
+    ∙ ap (λ (k : ℕ). last_pixels s.width 3 row k) all ∙ ap (λ (d : ℕ). last_pixels s.width d row s.width) (sym depth)
 
 -- samples within a maxval stay so in a pixel
 pixel_within : (maxval depth x : ℕ) (row : List ℕ) → All (λ sample. sample ≤ maxval) row → All (λ sample. sample ≤ maxval) (pixel_of depth row x)

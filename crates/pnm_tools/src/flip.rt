@@ -2,7 +2,7 @@
 //! is reversed or not, and that of the rows, and then columns and rows are exchanged or not. Where they
 //! are, `transpose` does it.
 
-ghost use Rattle.std.specs.Prelude.{◌≡◌, ◌⊎◌, if◌then◌else◌, length, true, false, [], None, OnOk, IfOk, IfErr, Ok, Err};
+ghost use Rattle.std.specs.Prelude.{◌≡◌, ◌⊎◌, if◌then◌else◌, length, reverse, true, false, [], None, OnOk, IfOk, IfErr, Ok, Err};
 ghost use Rattle.pnm_image.specs.Heads.{IsWithinLimits, row_length};
 ghost use Rattle.pnm_image.specs.Places.{IsRowOf};
 ghost use Rattle.pnm_tools.specs.declared.fault.ToolFault.TheVariants.{Memory};
@@ -146,6 +146,9 @@ fn reverse_pixels<T: Copy>(samples: &mut [T], shape: Shape)
     requires row { length samples.old ≡ row_length shape }
     ensures { samples.new ≡ mirrored_row shape samples.old }
 {
+    if shape.depth == 3 {
+        return reverse_colors(samples, shape);
+    }
     samples.reverse();
     if shape.depth > 1 {
         let depth = shape.depth as usize;
@@ -153,6 +156,30 @@ fn reverse_pixels<T: Copy>(samples: &mut [T], shape: Shape)
             samples[x * depth..(x + 1) * depth].reverse();
         }
     }
+}
+
+/// The same where each pixel is three samples, without a loop over its samples.
+fn reverse_colors<T: Copy>(samples: &mut [T], shape: Shape)
+    requires depth { shape.depth ≡ 3 }
+    requires row { length samples.old ≡ row_length shape }
+    ensures { samples.new ≡ mirrored_row shape samples.old }
+{
+    samples.reverse();
+    for x in 0..shape.width as usize {
+        let start = x * 3;
+        reverse_three(&mut samples[start..start + 3]);
+    }
+}
+
+/// Three samples, the last one first.
+#[inline]
+fn reverse_three<T: Copy>(samples: &mut [T])
+    requires { length samples.old ≡ 3 }
+    ensures { samples.new ≡ reverse samples.old }
+{
+    let first = samples[0];
+    samples[0] = samples[2];
+    samples[2] = first;
 }
 
 /// Passes the rows of images on, the last pixel first or as they are: any way that leaves rows in their
