@@ -194,8 +194,8 @@ const DEPTHS: [ImageType; 3] = [
     (Kind::Pam, 1000, SampleWidth::Words),
 ];
 
-/// Sizes about multiples of 8.
-const ABOUT_EIGHTS: [u32; 9] = [23, 24, 25, 31, 32, 33, 63, 64, 65];
+/// Sizes about multiples of 8 and of 16.
+const ABOUT_EIGHTS: [u32; 12] = [23, 24, 25, 31, 32, 33, 47, 48, 49, 63, 64, 65];
 
 /// The image of these sizes flipped each way, of one to five planes.
 fn flips_depths(
