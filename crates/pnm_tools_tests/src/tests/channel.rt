@@ -190,10 +190,26 @@ const WIDE: &[HeadCase<'static>] = &[
     (Part::Pam(1_000_000, 0, 1, 9, ""), Err(ToolFault::TooLarge)),
 ];
 
-/// Sixteen planes are never too many.
-const LESS_WIDE: &[HeadCase<'static>] = &[(
-    Part::Begin(Kind::Gray, 1_000_000, 1, 9),
-    Ok(Part::Pam(1_000_000, 1, 16, 9, "")),
+/// Sixteen planes: 16 times 1,048,576 is 16,777,216.
+const LESS_WIDE: &[HeadCase<'static>] = &[
+    (
+        Part::Begin(Kind::Gray, 1_000_000, 1, 9),
+        Ok(Part::Pam(1_000_000, 1, 16, 9, "")),
+    ),
+    (
+        Part::Begin(Kind::Gray, 1_048_576, 16_777_216, 9),
+        Ok(Part::Pam(1_048_576, 16_777_216, 16, 9, "")),
+    ),
+    (
+        Part::Begin(Kind::Gray, 1_048_577, 1, 9),
+        Err(ToolFault::TooLarge),
+    ),
+];
+
+/// One plane is never too many.
+const ONE_PLANE: &[HeadCase<'static>] = &[(
+    Part::Begin(Kind::Gray, 16_777_216, 16_777_216, 9),
+    Ok(Part::Pam(16_777_216, 16_777_216, 1, 9, "")),
 )];
 
 /// Planes outside come before a result that is too large.
@@ -207,6 +223,7 @@ fn refuses_large_results(rt: HostRuntime) -> Result<(), Fail> {
     let alloc = rt.alloc();
     picks_heads(&rt, alloc, &[0; 17], "", WIDE)?;
     picks_heads(&rt, alloc, &[0; 16], "", LESS_WIDE)?;
+    picks_heads(&rt, alloc, &[0], "", ONE_PLANE)?;
     let outside = [0, 0, 0, 0, 0, 0, 0, 0, 0, 0, 0, 0, 0, 0, 0, 0, 1];
     picks_heads(&rt, alloc, &outside, "", OUTSIDE_AND_WIDE)
 }

@@ -94,7 +94,7 @@ const AXES: &[AxisCase] = &[
     (5, (None, Some(5), Some(1)), None),
     (5, (None, Some(16_777_216), Some(16_777_216)), None),
     (5, (None, Some(-16_777_216), Some(16_777_216)), None),
-    // The most columns or rows.
+    // Many columns or rows, up to the most.
     (
         1_000_000,
         (Some(-1_000_000), None, None),
@@ -111,6 +111,25 @@ const AXES: &[AxisCase] = &[
         Some((0, 1_000_000)),
     ),
     (1_000_000, (None, Some(-1), Some(1_000_001)), None),
+    (
+        16_777_216,
+        (Some(-16_777_216), None, None),
+        Some((0, 16_777_216)),
+    ),
+    (
+        16_777_216,
+        (Some(16_777_215), Some(-1), None),
+        Some((16_777_215, 1)),
+    ),
+    (
+        16_777_216,
+        (None, Some(-1), Some(16_777_216)),
+        Some((0, 16_777_216)),
+    ),
+    (16_777_216, (None, Some(-2), Some(16_777_216)), None),
+    (16_777_216, (Some(1), None, Some(16_777_216)), None),
+    (16_777_216, (Some(16_777_216), None, None), None),
+    (16_777_215, (Some(-16_777_216), None, None), None),
 ];
 
 /// The head of the cut of an image of these sizes has those, if there are any, and is refused

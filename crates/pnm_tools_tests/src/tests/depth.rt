@@ -315,8 +315,8 @@ const HEADS_AT_2: &[HeadCase<'static>] = &[
 /// The greatest sizes, and the greatest maxval.
 const HEADS_AT_65535: &[HeadCase<'static>] = &[
     (
-        Part::Begin(Kind::Bit, 1_000_000, 1_000_000, 1),
-        Ok(Part::Begin(Kind::Gray, 1_000_000, 1_000_000, 65_535)),
+        Part::Begin(Kind::Bit, 16_777_216, 16_777_216, 1),
+        Ok(Part::Begin(Kind::Gray, 16_777_216, 16_777_216, 65_535)),
     ),
     (
         Part::Pam(65_536, 0, 256, 65_535, "A"),

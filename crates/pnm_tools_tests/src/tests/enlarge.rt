@@ -259,30 +259,34 @@ fn keeps_all_but_the_sizes(rt: HostRuntime) -> Result<(), Fail> {
     gives_heads(&rt, rt.alloc(), Tool::Enlarge(2, 2), DOUBLED)
 }
 
-/// A result may have 1,000,000 columns, as many rows, and 16,777,216 samples a row, which is 256
+/// A result may have 16,777,216 columns, as many rows, and 16,777,216 samples a row, which is 256
 /// times 65,536.
 const TWICE: &[HeadCase<'static>] = &[
     (
-        Part::Begin(Kind::Gray, 500_000, 500_000, 9),
-        Ok(Part::Begin(Kind::Gray, 1_000_000, 1_000_000, 9)),
+        Part::Begin(Kind::Gray, 8_388_608, 8_388_608, 9),
+        Ok(Part::Begin(Kind::Gray, 16_777_216, 16_777_216, 9)),
     ),
     (
-        Part::Begin(Kind::Gray, 500_001, 1, 9),
+        Part::Begin(Kind::Gray, 8_388_609, 1, 9),
         Err(ToolFault::TooLarge),
     ),
     (
-        Part::Begin(Kind::Gray, 1, 500_001, 9),
+        Part::Begin(Kind::Gray, 1, 8_388_609, 9),
         Err(ToolFault::TooLarge),
     ),
     (
-        Part::Pam(32_768, 500_000, 256, 9, "A"),
-        Ok(Part::Pam(65_536, 1_000_000, 256, 9, "A")),
+        Part::Pam(32_768, 8_388_608, 256, 9, "A"),
+        Ok(Part::Pam(65_536, 16_777_216, 256, 9, "A")),
     ),
     (Part::Pam(32_769, 1, 256, 9, "A"), Err(ToolFault::TooLarge)),
+    (
+        Part::Begin(Kind::Gray, 500_001, 500_001, 9),
+        Ok(Part::Begin(Kind::Gray, 1_000_002, 1_000_002, 9)),
+    ),
 ];
 
 /// Seventeen planes: 17 times 986,895 is 16,777,215, and 986,898 columns are not too many by
-/// themselves.
+/// themselves. Three times 5,592,405 is 16,777,215 too.
 const THRICE: &[HeadCase<'static>] = &[
     (
         Part::Pam(328_965, 1, 17, 9, "A"),
@@ -299,11 +303,46 @@ const THRICE: &[HeadCase<'static>] = &[
     ),
     (
         Part::Begin(Kind::Gray, 333_334, 1, 9),
+        Ok(Part::Begin(Kind::Gray, 1_000_002, 1, 9)),
+    ),
+    (
+        Part::Begin(Kind::Gray, 5_592_405, 16_777_216, 9),
+        Ok(Part::Begin(Kind::Gray, 16_777_215, 16_777_216, 9)),
+    ),
+    (
+        Part::Begin(Kind::Gray, 5_592_406, 1, 9),
         Err(ToolFault::TooLarge),
     ),
 ];
 
 /// One column and one row become the most.
+const MOST: &[HeadCase<'static>] = &[
+    (
+        Part::Begin(Kind::Gray, 1, 1, 9),
+        Ok(Part::Begin(Kind::Gray, 16_777_216, 16_777_216, 9)),
+    ),
+    (Part::Pam(1, 1, 2, 9, "A"), Err(ToolFault::TooLarge)),
+    (Part::Begin(Kind::Gray, 2, 1, 9), Err(ToolFault::TooLarge)),
+    (Part::Begin(Kind::Gray, 1, 2, 9), Err(ToolFault::TooLarge)),
+];
+
+/// Rows of the most samples, so many times down.
+const MOST_DOWN: &[HeadCase<'static>] = &[(
+    Part::Pam(65_536, 1, 256, 9, "A"),
+    Ok(Part::Pam(65_536, 16_777_216, 256, 9, "A")),
+)];
+
+/// One column and one row are taken, and two are too many.
+const MORE_THAN_HALF: &[HeadCase<'static>] = &[
+    (
+        Part::Begin(Kind::Gray, 1, 1, 9),
+        Ok(Part::Begin(Kind::Gray, 8_388_609, 8_388_609, 9)),
+    ),
+    (Part::Begin(Kind::Gray, 2, 1, 9), Err(ToolFault::TooLarge)),
+    (Part::Begin(Kind::Gray, 1, 2, 9), Err(ToolFault::TooLarge)),
+];
+
+/// A million times as many.
 const MILLION: &[HeadCase<'static>] = &[
     (
         Part::Begin(Kind::Gray, 1, 1, 9),
@@ -314,33 +353,45 @@ const MILLION: &[HeadCase<'static>] = &[
         Ok(Part::Pam(1_000_000, 1_000_000, 16, 9, "A")),
     ),
     (Part::Pam(1, 1, 17, 9, "A"), Err(ToolFault::TooLarge)),
-    (Part::Begin(Kind::Gray, 2, 1, 9), Err(ToolFault::TooLarge)),
-    (Part::Begin(Kind::Gray, 1, 2, 9), Err(ToolFault::TooLarge)),
+    (
+        Part::Begin(Kind::Gray, 16, 16, 9),
+        Ok(Part::Begin(Kind::Gray, 16_000_000, 16_000_000, 9)),
+    ),
+    (Part::Begin(Kind::Gray, 17, 1, 9), Err(ToolFault::TooLarge)),
+    (Part::Begin(Kind::Gray, 1, 17, 9), Err(ToolFault::TooLarge)),
 ];
 
-const PIXEL: &[Part<'static>] = &[Part::Begin(Kind::Gray, 1, 1, 9)];
+/// One more than a million times as many.
+const MILLION_AND_ONE: &[HeadCase<'static>] = &[(
+    Part::Begin(Kind::Gray, 1, 1, 9),
+    Ok(Part::Begin(Kind::Gray, 1_000_001, 1_000_001, 9)),
+)];
 
 #[test]
 fn refuses_large_results(rt: HostRuntime) -> Result<(), Fail> {
     let alloc = rt.alloc();
     gives_heads(&rt, alloc, Tool::Enlarge(2, 2), TWICE)?;
     gives_heads(&rt, alloc, Tool::Enlarge(3, 1), THRICE)?;
-    gives_heads(&rt, alloc, Tool::Enlarge(1_000_000, 1_000_000), MILLION)?;
-    for (across, down) in [(1_000_001, 1), (1, 1_000_001)] {
-        let tool = Tool::Enlarge(across, down);
-        refuses_heads(&rt, alloc, tool, PIXEL, ToolFault::TooLarge)?;
+    for (factor, heads) in [
+        (1_000_000, MILLION),
+        (1_000_001, MILLION_AND_ONE),
+        (8_388_609, MORE_THAN_HALF),
+        (16_777_216, MOST),
+    ] {
+        gives_heads(&rt, alloc, Tool::Enlarge(factor, factor), heads)?;
     }
-    Ok(())
+    gives_heads(&rt, alloc, Tool::Enlarge(1, 16_777_216), MOST_DOWN)
 }
 
 /// The greatest factor: 256 times it is 4,294,967,296, which is 0 in 32 bits, and 257 times it is
 /// the factor again.
 const GREATEST: &[Part<'static>] = &[
-    Part::Begin(Kind::Gray, 1, 1, 9),
+    Part::Begin(Kind::Gray, 2, 2, 9),
     Part::Begin(Kind::Gray, 256, 256, 9),
     Part::Begin(Kind::Gray, 257, 257, 9),
     Part::Begin(Kind::Gray, 1_000_000, 1_000_000, 9),
-    Part::Pam(65_536, 1, 256, 9, "A"),
+    Part::Begin(Kind::Gray, 16_777_216, 16_777_216, 9),
+    Part::Pam(65_536, 2, 256, 9, "A"),
 ];
 
 /// 65,537 times itself is 131,073 in 32 bits.
@@ -357,7 +408,16 @@ const SQUARED: &[HeadCase<'static>] = &[
         Part::Begin(Kind::Gray, 15, 15, 9),
         Ok(Part::Begin(Kind::Gray, 983_055, 983_055, 9)),
     ),
-    (Part::Begin(Kind::Gray, 16, 1, 9), Err(ToolFault::TooLarge)),
+    (
+        Part::Begin(Kind::Gray, 16, 1, 9),
+        Ok(Part::Begin(Kind::Gray, 1_048_592, 65_537, 9)),
+    ),
+    (
+        Part::Begin(Kind::Gray, 255, 255, 9),
+        Ok(Part::Begin(Kind::Gray, 16_711_935, 16_711_935, 9)),
+    ),
+    (Part::Begin(Kind::Gray, 256, 1, 9), Err(ToolFault::TooLarge)),
+    (Part::Begin(Kind::Gray, 1, 256, 9), Err(ToolFault::TooLarge)),
 ];
 
 /// Products that 32 bits don't hold.
@@ -389,6 +449,18 @@ const WIDER_WITHOUT_ROWS: &[HeadCase<'static>] = &[
     ),
     (
         Part::Begin(Kind::Color, 500_001, 0, 9),
+        Ok(Part::Begin(Kind::Color, 1_000_002, 0, 9)),
+    ),
+    (
+        Part::Begin(Kind::Color, 2_796_202, 0, 9),
+        Ok(Part::Begin(Kind::Color, 5_592_404, 0, 9)),
+    ),
+    (
+        Part::Begin(Kind::Color, 2_796_203, 0, 9),
+        Err(ToolFault::TooLarge),
+    ),
+    (
+        Part::Begin(Kind::Gray, 8_388_609, 0, 9),
         Err(ToolFault::TooLarge),
     ),
     (
@@ -463,11 +535,16 @@ fn takes_images_without_rows(rt: HostRuntime) -> Result<(), Fail> {
     answers(&rt, rt.alloc(), Tool::Enlarge(2, 2), NOT_ROW_WISE)
 }
 
-/// The most columns of a plane, and of 16, and the most samples: the row is the pixel again and
-/// again.
+/// A million columns of a plane, the most of one and of 16, and the most samples: the row is the pixel
+/// again and again.
 #[test]
 fn fills_the_widest_row(rt: HostRuntime) -> Result<(), Fail> {
-    for (across, depth) in [(1_000_000, 1), (1_000_000, 16), (65_536, 256)] {
+    for (across, depth) in [
+        (1_000_000, 1),
+        (1_048_576, 16),
+        (16_777_216, 1),
+        (65_536, 256),
+    ] {
         fills_a_row(&rt, rt.alloc(), across, depth)?;
     }
     Ok(())

@@ -223,9 +223,10 @@ const SAME_HEADS: &[Part<'static>] = &[
     Part::Begin(Kind::Gray, 3, 2, 9),
     Part::Begin(Kind::Color, 3, 2, 65_535),
     Part::Pam(3, 2, 4, 1, "RGB_ALPHA"),
-    Part::Begin(Kind::Color, 1_000_000, 1_000_000, 65_535),
+    Part::Begin(Kind::Gray, 16_777_216, 16_777_216, 65_535),
+    Part::Begin(Kind::Color, 5_592_405, 16_777_216, 65_535),
     Part::Pam(65_536, 1, 256, 300, ""),
-    Part::Pam(1, 1_000_000, 256, 300, "A"),
+    Part::Pam(1, 16_777_216, 256, 300, "A"),
 ];
 
 /// Width and height change places, and nothing else does.
@@ -270,11 +271,15 @@ fn keeps_all_but_the_sizes(rt: HostRuntime) -> Result<(), Fail> {
 }
 
 /// There may be as many rows as columns, but a row may have no more than 16,777,216 samples, which
-/// is 256 times 65,536; 17 times 986,895 is one less.
+/// is 256 times 65,536; 17 times 986,895 is one less, and so is 3 times 5,592,405.
 const TALL: &[HeadCase<'static>] = &[
     (
-        Part::Begin(Kind::Gray, 1, 1_000_000, 9),
-        Ok(Part::Begin(Kind::Gray, 1_000_000, 1, 9)),
+        Part::Begin(Kind::Gray, 1, 16_777_216, 9),
+        Ok(Part::Begin(Kind::Gray, 16_777_216, 1, 9)),
+    ),
+    (
+        Part::Begin(Kind::Bit, 16_777_216, 16_777_216, 1),
+        Ok(Part::Begin(Kind::Bit, 16_777_216, 16_777_216, 1)),
     ),
     (
         Part::Pam(1_000_000, 1_000_000, 16, 9, "A"),
@@ -292,6 +297,22 @@ const TALL: &[HeadCase<'static>] = &[
     (Part::Pam(1, 65_537, 256, 9, "A"), Err(ToolFault::TooLarge)),
     (
         Part::Pam(1, 1_000_000, 256, 9, "A"),
+        Err(ToolFault::TooLarge),
+    ),
+    (
+        Part::Begin(Kind::Color, 1, 5_592_405, 255),
+        Ok(Part::Begin(Kind::Color, 5_592_405, 1, 255)),
+    ),
+    (
+        Part::Begin(Kind::Color, 1, 5_592_406, 255),
+        Err(ToolFault::TooLarge),
+    ),
+    (
+        Part::Begin(Kind::Color, 1, 6_000_000, 255),
+        Err(ToolFault::TooLarge),
+    ),
+    (
+        Part::Pam(1, 16_777_216, 2, 9, "A"),
         Err(ToolFault::TooLarge),
     ),
 ];
@@ -367,7 +388,7 @@ fn takes_images_without_rows(rt: HostRuntime) -> Result<(), Fail> {
 }
 
 #[test]
-fn mirrors_the_widest_row(rt: HostRuntime) -> Result<(), Fail> {
+fn mirrors_a_wide_row(rt: HostRuntime) -> Result<(), Fail> {
     let alloc = rt.alloc();
     let mut row = Vec::new(alloc);
     let mut mirrored = Vec::new(alloc);

@@ -209,7 +209,7 @@ const HEADS: &[HeadCase<'static>] = &[
         Ok(Part::Pam(5, 7, 256, 300, "")),
     ),
     (
-        Part::Begin(Kind::Gray, 1_000_000, 1_000_000, 9),
+        Part::Begin(Kind::Gray, 16_777_216, 16_777_216, 9),
         Ok(Part::Begin(Kind::Gray, 5, 7, 9)),
     ),
 ];
@@ -219,7 +219,24 @@ fn keeps_all_but_the_sizes(rt: HostRuntime) -> Result<(), Fail> {
     gives_heads(&rt, rt.alloc(), Tool::Tile(5, 7), HEADS)
 }
 
-/// The most columns and rows, of sixteen planes at most.
+/// The most columns and rows, of one plane alone.
+const MOST: &[HeadCase<'static>] = &[
+    (
+        Part::Begin(Kind::Gray, 1, 1, 9),
+        Ok(Part::Begin(Kind::Gray, 16_777_216, 16_777_216, 9)),
+    ),
+    (
+        Part::Begin(Kind::Bit, 16_777_216, 16_777_216, 1),
+        Ok(Part::Begin(Kind::Bit, 16_777_216, 16_777_216, 1)),
+    ),
+    (
+        Part::Pam(3, 2, 1, 9, "A"),
+        Ok(Part::Pam(16_777_216, 16_777_216, 1, 9, "A")),
+    ),
+    (Part::Pam(3, 2, 2, 9, "A"), Err(ToolFault::TooLarge)),
+];
+
+/// A million columns and rows, of sixteen planes at most.
 const MILLION: &[HeadCase<'static>] = &[
     (
         Part::Begin(Kind::Gray, 1, 1, 9),
@@ -239,7 +256,7 @@ const WIDEST: &[HeadCase<'static>] = &[
         Ok(Part::Pam(65_536, 1, 256, 9, "A")),
     ),
     (
-        Part::Begin(Kind::Gray, 1_000_000, 1_000_000, 9),
+        Part::Begin(Kind::Gray, 16_777_216, 16_777_216, 9),
         Ok(Part::Begin(Kind::Gray, 65_536, 1, 9)),
     ),
 ];
@@ -269,6 +286,7 @@ const SEVENTEEN_PLANES_WIDER: &[HeadCase<'static>] = &[
 #[test]
 fn refuses_large_results(rt: HostRuntime) -> Result<(), Fail> {
     let alloc = rt.alloc();
+    gives_heads(&rt, alloc, Tool::Tile(16_777_216, 16_777_216), MOST)?;
     gives_heads(&rt, alloc, Tool::Tile(1_000_000, 1_000_000), MILLION)?;
     gives_heads(&rt, alloc, Tool::Tile(65_536, 1), WIDEST)?;
     gives_heads(&rt, alloc, Tool::Tile(65_537, 1), ONE_WIDER)?;
@@ -277,15 +295,31 @@ fn refuses_large_results(rt: HostRuntime) -> Result<(), Fail> {
 }
 
 /// 16,777,216 columns of 256 planes are 0 samples in 32 bits.
-const ANY: &[Part<'static>] = &[
-    Part::Begin(Kind::Gray, 1, 1, 9),
+const OF_SEVERAL_PLANES: &[Part<'static>] = &[
+    Part::Pam(1, 1, 2, 9, "A"),
     Part::Pam(65_536, 1, 256, 9, "A"),
     Part::Begin(Kind::Color, 1_000_000, 1_000_000, 9),
 ];
 
-/// Too many columns or rows for any image.
+/// Too many columns for any image of several planes.
 #[test]
 fn refuses_large_sizes(rt: HostRuntime) -> Result<(), Fail> {
+    for (across, down) in [
+        (8_388_609, 1),
+        (8_388_609, 1_000_001),
+        (16_777_216, 1),
+        (16_777_216, 16_777_216),
+    ] {
+        let tool = Tool::Tile(across, down);
+        let fault = ToolFault::TooLarge;
+        refuses_heads(&rt, rt.alloc(), tool, OF_SEVERAL_PLANES, fault)?;
+    }
+    Ok(())
+}
+
+/// Any number of columns is taken of one plane, and any number of rows of all.
+#[test]
+fn takes_large_sizes(rt: HostRuntime) -> Result<(), Fail> {
     for (across, down) in [
         (1_000_001, 1),
         (1, 1_000_001),
@@ -293,10 +327,13 @@ fn refuses_large_sizes(rt: HostRuntime) -> Result<(), Fail> {
         (1, 16_777_216),
         (16_777_216, 16_777_216),
     ] {
-        let tool = Tool::Tile(across, down);
-        refuses_heads(&rt, rt.alloc(), tool, ANY, ToolFault::TooLarge)?;
+        let made = Part::Begin(Kind::Gray, across, down, 9);
+        let heads = [(Part::Begin(Kind::Gray, 1, 1, 9), Ok(made))];
+        gives_heads(&rt, rt.alloc(), Tool::Tile(across, down), &heads)?;
     }
-    Ok(())
+    let most = Part::Pam(65_536, 16_777_216, 256, 9, "A");
+    let heads = [(Part::Pam(65_536, 1, 256, 9, "A"), Ok(most))];
+    gives_heads(&rt, rt.alloc(), Tool::Tile(65_536, 16_777_216), &heads)
 }
 
 const WITHOUT_ROWS: &[Part<'static>] = &[
@@ -315,14 +352,14 @@ fn judges_height_0_first(rt: HostRuntime) -> Result<(), Fail> {
     Ok(())
 }
 
-/// The most columns of one plane and of sixteen, and the most samples: pixels of one column or of
+/// A million columns of one plane, the most of sixteen, and the most samples: pixels of one column or of
 /// three again and again.
 #[test]
 fn fills_the_widest_rows(rt: HostRuntime) -> Result<(), Fail> {
     for (across, width, depth, count) in [
         (1_000_000, 1, 1, 1),
         (1_000_000, 3, 1, 3),
-        (1_000_000, 3, 16, 48),
+        (1_048_576, 3, 16, 48),
         (65_536, 3, 256, 768),
     ] {
         fills_rows(&rt, rt.alloc(), across, (width, 1, depth), count)?;
