@@ -3,7 +3,9 @@
 use super::command::{answer_to, words_of};
 use super::{IMAGE, INVERTED, USAGE_LINE};
 use crate::command::command;
+use pnm_flow::{MAX_LANES, MAX_RING_CAPACITY};
 use pnm_image::Device;
+use pnm_tools::MAX_TOOLS;
 use std::test::Fail;
 
 pub const HELP: &str =
@@ -103,6 +105,18 @@ fn fits_a_screen(rt: HostRuntime) {
     for line in HELP.lines() {
         assert!(rt; line.len() <= 80, "at {line}");
     }
+}
+
+/// The limits that the text names are those that the words are held to.
+#[test]
+fn names_limits(rt: HostRuntime) -> Result<(), Fail> {
+    let tools = format!(in rt.alloc(); "1 to {MAX_TOOLS} tools")?;
+    let ring = format!(in rt.alloc(); "two tools, 1 to {MAX_RING_CAPACITY} [")?;
+    let lanes = format!(in rt.alloc(); "row-wise tool, 1 to {MAX_LANES} [")?;
+    for text in [&tools, &ring, &lanes] {
+        assert!(rt; HELP.contains(text.as_str()), "{text}");
+    }
+    Ok(())
 }
 
 /// Where the help can't be written whole, the status is 0 and nothing is printed.
