@@ -1,5 +1,6 @@
 //! Worked examples by the program: the chain as a user writes it, the input, and what comes of it.
 
+use super::IMAGE;
 use super::command::answer_to;
 use std::process::Abort;
 use std::sync::Wait;
@@ -132,6 +133,19 @@ fn runs_chains(rt: HostRuntime) -> Result<(), Fail> {
         answers(&rt, chain, input, (0, output, b""))?;
     }
     Ok(())
+}
+
+/// 64 tools, an even number of inversions, and one tool too many.
+#[test]
+fn runs_the_most_tools(rt: HostRuntime) -> Result<(), Fail> {
+    let mut chain = String::from_str(rt.alloc(), "pnminvert")?;
+    for _ in 1..64 {
+        chain.push_str("|pnminvert")?;
+    }
+    answers(&rt, chain.as_str(), IMAGE, (0, IMAGE, b""))?;
+    chain.push_str("|pnminvert")?;
+    let refused = (2, b"".as_slice(), b"pnmpipe: chain: TooMany\n".as_slice());
+    answers(&rt, chain.as_str(), IMAGE, refused)
 }
 
 /// A fault inside a chain is printed with the number of its tool.
