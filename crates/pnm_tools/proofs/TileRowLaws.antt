@@ -1,5 +1,5 @@
 -- The head and the rows of a tiled image, and what a tiler has still to give.
-use Rattle.std.proofs.Common.{◌≡◌, ◌⊎◌, inl, inr, ℕ, ◌*◌, ◌%◌, ◌<◌, ◌≤◌, Bool, false, List, [], map, length, slice_index_or, ◌==◌, if◌then◌else◌, OnOk, IfOk, Result, Ok, Err, sym, ap, refl, ◌∙◌, arith, min, zero, suc, ◌+◌, ◌-◌, ◌/◌, ◌++◌, take, drop, suc-mul, zero-mul, mul-le-mul, mul-le-mul_right, lt_of_mul-lt-mul_right, ◌∷◌, get_or, All, subst}
+use Rattle.std.proofs.Common.{◌≡◌, ◌⊎◌, inl, inr, ℕ, ◌*◌, ◌%◌, ◌<◌, ◌≤◌, Bool, false, List, [], map, length, slice_index_or, ◌==◌, if◌then◌else◌, OnOk, IfOk, Result, Ok, Err, sym, ap, ap₂, refl, ◌∙◌, arith, min, zero, suc, ◌+◌, ◌-◌, ◌/◌, ◌++◌, take, drop, suc-mul, zero-mul, mul-le-mul, mul-le-mul_right, lt_of_mul-lt-mul_right, ◌∷◌, get_or, All, subst}
 use Rattle.std.specs.List.{range_with_len, flat_map}
 use Rattle.std.proofs.lemmas.Bool.{ne_eqb, cases_eq, cases_lt}
 use Rattle.pnm_image.specs.declared.shape.Shape.{Shape}
@@ -8,16 +8,16 @@ use Rattle.pnm_tools.specs.declared.fault.ToolFault.{ToolFault}
 use Rattle.pnm_tools.specs.declared.fault.ToolFault.TheVariants.{OutOfOrder}
 use Rattle.pnm_tools.specs.declared.tool.Tool.TheVariants.{Tile}
 use Rattle.pnm_tools.specs.Limits.{within_limits}
-use Rattle.pnm_tools.specs.Keeping.{Tiled, tiled_due, tiled, HasTiles, AreWithin, IsTiling}
+use Rattle.pnm_tools.specs.Keeping.{Tiled, tiled_due, tiled, HasTiles, AreWithin, IsTiling, shown_row}
 use Rattle.pnm_tools.specs.Tile.{tiled_head, tiled_head_value, tiled_row, tiled_at_end}
 use Rattle.pnm_tools.proofs.HeadLaws.{small_row}
 use Rattle.pnm_tools.specs.Tools.{result_head, row_answer}
 use Rattle.std.proofs.Math.Nat.{mod_self, mod-eq_of_lt, mod-lt, div-add-mod, add-mul-mod_self_left, zero-mod}
-use Rattle.std.proofs.lemmas.List.{take_at, take_all, length-append, length-take, length-take-le, length-drop, drop-drop, get_or-take, get_or_append_left, get_or_at}
+use Rattle.std.proofs.lemmas.List.{take_at, take_all, take-append-le, map-append, get_or-map, length-map, length-append, length-take, length-take-le, length-drop, drop-drop, get_or-take, get_or_append_left, get_or_at}
 use Rattle.std.proofs.Math.Seq.{take-add}
 use Rattle.pnm_tools.specs.Pixels.{pixel_of}
 use Rattle.pnm_tools.proofs.RangeLaws.{pieces_alike_from, pieces_in_parts, length_of_equals, alike_from}
-use Rattle.std.proofs.lemmas.List.Elements.{All-head, All-push, All-rest, All-same, All-take, All-drop, All-append}
+use Rattle.std.proofs.lemmas.List.Elements.{All-head, All-push, All-rest, All-same, All-take, All-map, All-drop, All-append}
 use Rattle.pnm_tools.proofs.FormulaLaws.{range_alike}
 use Rattle.pnm_image.specs.declared.limits.TheConstants.{MAX_ROW_LENGTH}
 
@@ -243,6 +243,12 @@ tiled_within maxval across width depth held row made is same h =
     let P : ℕ → Type 0 = λ sample. sample ≤ maxval in
     subst (All P) (sym (is ∙ ap (tiled_row across width depth) same)) (within_pieces P width depth row 0 across h)
 
+-- the samples of a front of the row are
+pub front_within : (maxval n : ℕ) (before held row made : List ℕ) → before ≡ [] → made ≡ before ++ take n held → held ≡ row → All (λ sample. sample ≤ maxval) row → All (λ sample. sample ≤ maxval) made
+front_within maxval n before held row made none is same h =
+    let P : ℕ → Type 0 = λ sample. sample ≤ maxval in
+    subst (All P) (sym (is ∙ ap₂ (λ (a b : List ℕ). a ++ b) none (ap (take n) same))) (All-take P n row h)
+
 -- ---- the rows that are due
 
 -- among the rows that are kept each row of the result finds its own
@@ -257,26 +263,84 @@ kept_row down height y rows come kept count lt (inr all) =
     let same : rows ≡ come = kept ∙ take_all down come (omega arith) in
     ap (λ (l : List (List ℕ)). get_or l (y % length l) []) same ∙ ap (λ (n : ℕ). get_or come (y % n) []) count
 
+-- what is shown of a row is tiled as the row is
+shown_tiled : (across : ℕ) (s : Shape) (row : List ℕ) → length row ≡ row_length s → (across < s.width) ⊎ (s.width ≤ across)
+    → tiled_row across (min across s.width) s.depth (shown_row across s row) ≡ tiled_row across s.width s.depth row
+shown_tiled across s row long (inl narrow) =
+    let least : min across s.width ≡ across = omega arith in
+    let front = take (across * s.depth) row in
+    let all : length front ≤ across * s.depth = omega (arith, length-take (across * s.depth) row) in
+    ap (λ (n : ℕ). tiled_row across n s.depth (take (n * s.depth) row)) least ∙ tiled_front across across s.depth front (omega arith)
+    ∙ take_all (across * s.depth) front all ∙ sym (tiled_front across s.width s.depth row (omega arith))
+shown_tiled across s row long (inr wide) =
+    let least : min across s.width ≡ s.width = omega arith in
+    ap (λ (n : ℕ). tiled_row across n s.depth (take (n * s.depth) row)) least ∙ ap (tiled_row across s.width s.depth) (take_all (s.width * s.depth) row (omega arith))
+
+-- a row that is kept is what is shown of the row that came
+shown_at : (across : ℕ) (s : Shape) (rows : List (List ℕ)) (k : ℕ) → k < length rows → slice_index_or (map (shown_row across s) rows) k [] ≡ shown_row across s (slice_index_or rows k [])
+shown_at across s rows k lt = get_or-map (shown_row across s) rows k [] [] lt
+
 -- the rows that are due once the image has ended
-pub due_at_end : (across down : ℕ) (s : Shape) (rows come : List (List ℕ)) → rows ≡ take down come → length come ≡ s.height
-    → tiled_due (tiled across down s.width s.depth rows down) ≡ tiled_at_end across down s come
-due_at_end across down s rows come kept count =
-    range_alike (λ y. tiled_row across s.width s.depth (get_or rows (y % length rows) [])) (λ y. tiled_row across s.width s.depth (get_or come (y % s.height) [])) 0 down
-    (λ y lt. ap (tiled_row across s.width s.depth) (kept_row down s.height y rows come kept count (omega arith) (cases_lt down s.height)))
+pub due_at_end : (across down : ℕ) (s : Shape) (rows come : List (List ℕ)) → rows ≡ map (shown_row across s) (take down come) → length come ≡ s.height → 0 < s.height → All (λ row. length row ≡ row_length s) come
+    → tiled_due (tiled across down (min across s.width) s.depth rows down) ≡ tiled_at_end across down s come
+due_at_end across down s rows come kept count some lengths =
+    let shown = take down come in
+    let many : length rows ≡ length shown = ap length kept ∙ length-map shown (shown_row across s) in
+    range_alike (λ y. tiled_row across (min across s.width) s.depth (get_or rows (y % length rows) [])) (λ y. tiled_row across s.width s.depth (get_or come (y % s.height) [])) 0 down
+    (λ y lt.
+    let there : 0 < length shown = omega (arith, length-take down come) in
+    let row = get_or come (y % s.height) [] in
+    let below : y % length shown < length shown = mod-lt y there in
+    let within : y % s.height < length come = omega (arith, mod-lt y some) in
+    let is : get_or rows (y % length rows) [] ≡ shown_row across s row =
+    ap₂ (λ (l : List (List ℕ)) (n : ℕ). get_or l (y % n) []) kept many ∙ shown_at across s shown (y % length shown) below
+    ∙ ap (shown_row across s) (kept_row down s.height y shown come refl count (omega arith) (cases_lt down s.height)) in
+    ap (tiled_row across (min across s.width) s.depth) is ∙ shown_tiled across s row (lengths (y % s.height) [] within) (cases_lt across s.width))
+
+-- what is shown of a row has its columns
+length_shown : (across : ℕ) (s : Shape) (row : List ℕ) → length row ≡ row_length s → length (shown_row across s row) ≡ min across s.width * s.depth
+length_shown across s row long =
+    let fewer : min across s.width * s.depth ≤ s.width * s.depth = mul-le-mul_right {m = min across s.width} {n = s.width} s.depth (omega arith) in
+    length-take-le (min across s.width * s.depth) row (omega arith)
 
 -- once an image that has rows has ended there are rows to give
-pub tiles_at_end : (w : Tiled) (s : Shape) (come : List (List ℕ)) → IsTiling w s come → length come ≡ s.height → 0 < s.height → 0 < w.height
-    → HasTiles (tiled w.width w.height s.width s.depth w.rows w.height)
-tiles_at_end w s come ready count some wanted = record {
-  some = omega (arith, ap length ready.rows, length-take w.height come);
-  lengths = subst (All (λ row. length row ≡ row_length s)) (sym ready.rows) (All-take (λ row. length row ≡ row_length s) w.height come ready.lengths);
-  width = ready.limits.width_low;
-  filled = ready.filled;
-}
+pub tiles_at_end : (w : Tiled) (s : Shape) (come : List (List ℕ)) → IsTiling w s come → length come ≡ s.height → 0 < s.height → 0 < w.width → 0 < w.height
+    → HasTiles (tiled w.width w.height (min w.width s.width) s.depth w.rows w.height)
+tiles_at_end w s come ready count some wide wanted =
+    let shown = take w.height come in
+    let P : List ℕ → Type 0 = λ row. length row ≡ min w.width s.width * s.depth in
+    let low = ready.limits.width_low in
+    record {
+      some = omega (arith, ap length ready.rows, length-map shown (shown_row w.width s), length-take w.height come);
+      lengths = subst (All P) (sym ready.rows) (All-map P (shown_row w.width s) shown (λ k d lt. length_shown w.width s (get_or shown k d) (All-take (λ row. length row ≡ row_length s) w.height come ready.lengths k d lt)));
+      width = omega arith;
+      filled = ready.filled;
+    }
 
 -- those rows are within the maxval
 pub rows_within_at_end : (w : Tiled) (s : Shape) (come : List (List ℕ)) → IsTiling w s come → AreWithin s.maxval w.rows
-rows_within_at_end w s come ready = subst (AreWithin s.maxval) (sym ready.rows) (All-take (λ row. All (λ sample. sample ≤ s.maxval) row) w.height come ready.range)
+rows_within_at_end w s come ready =
+    let shown = take w.height come in
+    let P : ℕ → Type 0 = λ sample. sample ≤ s.maxval in
+    subst (AreWithin s.maxval) (sym ready.rows) (All-map (All P) (shown_row w.width s) shown (λ k d lt. All-take P (min w.width s.width * s.depth) (get_or shown k d) (All-take (All P) w.height come ready.range k d lt)))
+
+-- a row that is kept
+pub kept_more : (across down y : ℕ) (s : Shape) (held new before come : List (List ℕ)) (row : List ℕ) → held ≡ map (shown_row across s) (take down before) → length before ≡ y → y < down
+    → held ≡ map (shown_row across s) (take down come) → new ≡ held ++ shown_row across s row ∷ [] → new ≡ map (shown_row across s) (take down (come ++ row ∷ []))
+kept_more across down y s held new before come row was count lt known is =
+    let f = shown_row across s in
+    let many : length (take down come) ≡ length (take down before) = sym (length-map (take down come) f) ∙ ap length (sym known ∙ was) ∙ length-map (take down before) f in
+    let few : length come < down = omega (arith, many, length-take down come, length-take down before) in
+    is ∙ ap (λ (l : List (List ℕ)). l ++ f row ∷ []) (known ∙ ap (map f) (take_all down come (omega arith))) ∙ sym (map-append f come (row ∷ []))
+    ∙ ap (map f) (sym (take_all down (come ++ row ∷ []) (omega (arith, length-append come (row ∷ [])))))
+
+-- a row that isn't
+pub kept_same : (across down y : ℕ) (s : Shape) (held before come : List (List ℕ)) (row : List ℕ) → held ≡ map (shown_row across s) (take down before) → length before ≡ y → down ≤ y
+    → held ≡ map (shown_row across s) (take down come) → held ≡ map (shown_row across s) (take down (come ++ row ∷ []))
+kept_same across down y s held before come row was count le known =
+    let f = shown_row across s in
+    let many : length (take down come) ≡ length (take down before) = sym (length-map (take down come) f) ∙ ap length (sym known ∙ was) ∙ length-map (take down before) f in
+    known ∙ ap (map f) (sym (take-append-le down come (row ∷ []) (omega (arith, many, length-take down come, length-take down before))))
 
 -- ---- the queue of rows
 

@@ -1,5 +1,5 @@
 -- What tools keep while the rows of an image come, and the rows of the result that they still give.
-use Rattle.std.specs.Prelude.{◌≡◌, ℕ, ◌+◌, ◌-◌, ◌*◌, ◌<◌, ◌≤◌, ◌%◌, true, false, List, [], ◌++◌, map, length, take, reverse, replicate, slice_index_or, All, Option, Some, None}
+use Rattle.std.specs.Prelude.{◌≡◌, ℕ, ◌+◌, ◌-◌, ◌*◌, ◌<◌, ◌≤◌, ◌%◌, true, false, List, [], ◌++◌, map, length, min, take, reverse, replicate, slice_index_or, All, Option, Some, None}
 use Rattle.std.specs.List.{range_with_len}
 use Rattle.pnm_image.specs.declared.limits.TheConstants.{MAX_DEPTH, MAX_ROW_LENGTH, MAX_SIDE}
 use Rattle.pnm_image.specs.declared.sample_width.SampleWidth.{SampleWidth}
@@ -137,9 +137,13 @@ pub record IsTransposing (w : Transposed) (s : Shape) (come : List (List ℕ)) :
 abbrev pub transposed_due : Transposed → List (List ℕ)
 transposed_due w = reverse w.band ++ in_order (turn_of w.way).columns_reversed (map (column_of w.depth w.rows) (range_with_len w.next (w.columns - w.next)))
 
--- ---- pnmtile: the rows that the result shows, the next one first
+-- ---- pnmtile: what the result shows of the rows, the next one first
 
--- so many columns and rows to fill; the width and the planes of the image; how many rows are still to be given
+-- the columns of a row that so many columns show, from the first one on
+abbrev pub shown_row : ℕ → Shape → List ℕ → List ℕ
+shown_row width s row = take (min width s.width * s.depth) row
+
+-- so many columns and rows to fill; the columns that are kept, and the planes of the image; how many rows are still to be given
 pub record Tiled : Type 0 where
   pub width : ℕ
   pub height : ℕ
@@ -151,7 +155,7 @@ pub record Tiled : Type 0 where
 abbrev pub tiled : ℕ → ℕ → ℕ → ℕ → List (List ℕ) → ℕ → Tiled
 tiled width height image_width depth rows left = record { width = width; height = height; image_width = image_width; depth = depth; rows = rows; left = left }
 
--- there are rows to give, each of the image's width
+-- there are rows to give, each of the columns that are kept
 pub record HasTiles (w : Tiled) : Type 0 where
   pub some : 0 < length w.rows
   pub lengths : All (λ row. length row ≡ w.image_width * w.depth) w.rows
@@ -166,7 +170,7 @@ pub record IsTiling (w : Tiled) (s : Shape) (come : List (List ℕ)) : Type 0 wh
   pub limits : IsWithinLimits s
   pub some : 0 < s.height
   pub filled : w.width * s.depth ≤ MAX_ROW_LENGTH
-  pub rows : w.rows ≡ take w.height come
+  pub rows : w.rows ≡ map (shown_row w.width s) (take w.height come)
   pub lengths : All (λ row. length row ≡ row_length s) come
   pub range : AreWithin s.maxval come
   pub none_given : w.left ≡ 0

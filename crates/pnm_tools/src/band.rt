@@ -101,7 +101,7 @@ fn put_four<T: Copy>(
 )
     requires four { length rows.now ≡ 4 }
     requires rows { All (λ row. (first + length columns.old) * depth ≤ length row) rows.now }
-    requires sizes { (at + 4 * depth ≤ max_row_length) × (first + length columns.old ≤ 4294967295) }
+    requires sizes { (at + 4 * depth ≤ MAX_ROW_LENGTH) × (first + length columns.old ≤ 4294967295) }
     requires room { HaveRoom (at + 4 * depth) columns.old }
     ensures { HavePixels (length columns.old) at (λ k. column_of depth rows.now (first + k))
         columns.old columns.new }
@@ -168,7 +168,7 @@ fn put_rows<T: Copy>(
     depth: usize,
 )
     requires rows { All (λ row. (first + length columns.old) * depth ≤ length row) rows.now }
-    requires sizes { (at + length rows.now * depth ≤ max_row_length)
+    requires sizes { (at + length rows.now * depth ≤ MAX_ROW_LENGTH)
         × (first + length columns.old ≤ 4294967295) }
     requires room { HaveRoom (at + length rows.now * depth) columns.old }
     ensures { HavePixels (length columns.old) at (λ k. column_of depth rows.now (first + k))

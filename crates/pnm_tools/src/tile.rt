@@ -1,11 +1,12 @@
 //! `pnmtile`: the image side by side, from pnmtile(1).
 
-ghost use Rattle.std.specs.Prelude.{◌≡◌, ◌≤◌, ◌<◌, ◌*◌, ◌⊎◌, length, All, OnOk, IfOk, IfErr, Ok, Err, []};
+ghost use Rattle.std.specs.Prelude.{◌≡◌, ◌≤◌, ◌<◌, ◌*◌, ◌⊎◌, length, take, All, OnOk, IfOk, IfErr, Ok, Err, []};
 ghost use Rattle.pnm_image.specs.declared.limits.TheConstants.{MAX_ROW_LENGTH};
 ghost use Rattle.pnm_tools.specs.declared.fault.ToolFault.TheVariants.{Memory};
 ghost use Rattle.pnm_tools.specs.declared.tool.Tool.TheVariants.{Tile};
 ghost use Rattle.pnm_tools.specs.Tile.{tiled_row};
-ghost use Rattle.pnm_tools.specs.Keeping.{IsTiling, tiled_due};
+ghost use Rattle.pnm_image.specs.Heads.{IsWithinLimits, row_length};
+ghost use Rattle.pnm_tools.specs.Keeping.{IsTiling, shown_row, tiled_due};
 ghost use Rattle.pnm_tools.specs.Limits.{IsExtent};
 ghost use Rattle.pnm_tools.specs.Tools.{Takes, result_head};
 
@@ -17,13 +18,13 @@ use std::alloc::Global;
 use std::collections::VecDeque;
 use std::marker::Model;
 
-/// Lays images side by side: keeps the rows that the result shows, as they came, and gives each as
-/// often as it takes.
+/// Lays images side by side: keeps what the result shows of the rows, and gives each as often as it
+/// takes.
 #[derive(Debug, Drop)]
 pub struct Tiler {
     width: u32,
     height: u32,
-    /// That of the image whose rows these are, once it has ended.
+    /// That of the image of which these are the rows, once it has ended, with the columns that are kept.
     shape: Shape,
     /// The next one first.
     rows: VecDeque<Samples>,
@@ -59,7 +60,7 @@ fn tile_row(alloc: Global, width: u32, shape: Shape, row: &Samples) -> Result<Sa
     }
 }
 
-/// The same of a row that isn't wanted again.
+/// The same of a row that isn't wanted again: the row itself, where it has those columns.
 ///
 /// # Errors
 ///
@@ -76,20 +77,55 @@ fn tile_last_row(
     ensures made { IfOk result (λ made. made ≡ tiled_row width shape.width shape.depth row) }
     ensures refused { IfErr result (λ fault. fault ≡ Memory) }
 {
+    if shape.width == width {
+        return Ok(row);
+    }
+    tile_row(alloc, width, shape, &row)
+}
+
+/// The columns of a row of an image of this shape that so many columns show, held as it is.
+///
+/// # Errors
+///
+/// `Memory`, where there is none for them.
+fn shown_part(alloc: Global, width: u32, shape: Shape, row: Samples) -> Result<Samples, ToolFault>
+    requires row { length row ≡ row_length shape }
+    requires range { All (λ sample. sample ≤ shape.maxval) row }
+    ensures made { IfOk result (λ made. made ≡ shown_row width shape row) }
+    ensures refused { IfErr result (λ fault. fault ≡ Memory) }
+{
+    if shape.width <= width {
+        return Ok(row);
+    }
+    let count = width as usize * shape.depth as usize;
     match row.into_vec() {
         SampleVec::Bits(bits) => {
-            let bits = tile_bits(alloc, width, shape.width, shape.depth, &bits)?;
-            Ok(Samples::within(SampleVec::Bits(bits), shape.maxval))
+            let mut shown = Bits::empty(alloc);
+            shown.append(&bits, 0, count)?;
+            Ok(Samples::within(SampleVec::Bits(shown), shape.maxval))
         }
         SampleVec::Bytes(bytes) => {
-            let bytes = tile_last(alloc, width, shape.width, shape.depth, bytes)?;
+            let bytes = front(alloc, bytes, count)?;
             Ok(Samples::within(SampleVec::Bytes(bytes), shape.maxval))
         }
         SampleVec::Words(words) => {
-            let words = tile_last(alloc, width, shape.width, shape.depth, words)?;
+            let words = front(alloc, words, count)?;
             Ok(Samples::within(SampleVec::Words(words), shape.maxval))
         }
     }
+}
+
+/// The first samples of a row. A vector keeps the memory of what is cut off, so that few of them
+/// are copied into one of their own.
+fn front<T: Copy>(alloc: Global, mut row: Vec<T>, count: usize) -> Result<Vec<T>, ToolFault>
+    ensures made { IfOk result (λ made. made.items ≡ take count row.items) }
+    ensures refused { IfErr result (λ fault. fault ≡ Memory) }
+{
+    if count < row.len() / 2 {
+        return Ok(Vec::from_slice(alloc, &row.as_slice()[..count])?);
+    }
+    row.truncate(count);
+    Ok(row)
 }
 
 /// The row side by side up to so many columns, as bits: whole rows, and a part of one.
@@ -138,26 +174,6 @@ fn tile<T: Copy>(
     Ok(tiled)
 }
 
-/// The same of a row that isn't wanted again: where it is wide enough, it is cut off.
-fn tile_last<T: Copy>(
-    alloc: Global,
-    width: u32,
-    image_width: u32,
-    depth: u32,
-    mut row: Vec<T>,
-) -> Result<Vec<T>, ToolFault>
-    requires row { (0 < image_width) × (length row.items ≡ image_width * depth) }
-    requires fits { width * depth ≤ MAX_ROW_LENGTH }
-    ensures made { IfOk result (λ made. made.items ≡ tiled_row width image_width depth row.items) }
-    ensures refused { IfErr result (λ fault. fault ≡ Memory) }
-{
-    if image_width < width {
-        return tile(alloc, width, image_width, depth, row.as_slice());
-    }
-    row.truncate(width as usize * depth as usize);
-    Ok(row)
-}
-
 impl Model for Tiler {
     ghost use Rattle.pnm_tools.specs.Keeping.{Tiled, tiled, HasTiles, AreWithin};
     ghost use Rattle.std.specs.Prelude.{◌<◌};
@@ -182,27 +198,22 @@ impl Maker for Tiler {
     fn begin(&mut self, alloc: Global, head: &Head) -> Result<Head, ToolFault> {
         let tiled = tiled_head(alloc, self.width, self.height, head)?;
         self.left = 0;
-        let rows = head.shape().height.min(self.height);
-        self.rows = VecDeque::with_capacity(alloc, rows as usize)?;
+        self.rows = VecDeque::new(alloc);
         Ok(tiled)
     }
 
-    /// Rows that the result doesn't show aren't kept.
-    fn take(
-        &mut self,
-        _alloc: Global,
-        _shape: Shape,
-        y: u32,
-        row: Samples,
-    ) -> Result<(), ToolFault> {
+    /// Rows and columns that the result doesn't show aren't kept.
+    fn take(&mut self, alloc: Global, shape: Shape, y: u32, row: Samples) -> Result<(), ToolFault> {
         if y < self.height {
-            self.rows.push_back(row)?;
+            let shown = shown_part(alloc, self.width, shape, row)?;
+            self.rows.push_back(shown)?;
         }
         Ok(())
     }
 
     fn end(&mut self, shape: Shape) {
-        self.shape = shape;
+        let width = self.width.min(shape.width);
+        self.shape = Shape { width, ..shape };
         self.left = self.height;
     }
 
@@ -265,6 +276,7 @@ pub(crate) fn tiled_head(
 ) -> Result<Head, ToolFault>
     requires { IsExtent width × IsExtent height }
     ensures made { IfOk result (λ made. result_head (Tile width height) head.now ≡ Ok made) }
+    ensures source { OnOk result (IsWithinLimits head.now.shape) }
     ensures limits { OnOk result (width * head.now.shape.depth ≤ MAX_ROW_LENGTH) }
     ensures refused { IfErr result (λ fault. (result_head (Tile width height) head.now ≡ Err fault)
         ⊎ ((fault ≡ Memory) × Takes (Tile width height) head.now)) }

@@ -1,11 +1,10 @@
-use Rattle.pnm_tools.proofs.TileRowLaws.{tiled_within}
+use Rattle.std.proofs.Common.{◌≡◌, ◌*◌, ◌∙◌, ℕ, sym, ap, arith}
+use Rattle.std.proofs.lemmas.List.{take_all}
+use Rattle.pnm_tools.proofs.TileRowLaws.{tiled_front}
 use Rattle.pnm_tools.proofs.tile.tile_last_row.Goals as goal
 
-pub within-requires : goal.within-requires
-within-requires c = tiled_within c.args.shape.maxval c.args.width c.args.shape.width c.args.shape.depth _ c.args.row c.in_ok-bits-in-Bits.bits c.in_ok-bits-in-Bits.ensures.made c.in-Bits.ensures c.requires.range
-
-pub within-requires-in-Bytes : goal.within-requires-in-Bytes
-within-requires-in-Bytes c = tiled_within c.args.shape.maxval c.args.width c.args.shape.width c.args.shape.depth _ c.args.row _ c.in_ok-bytes-in-Bytes.ensures.made c.in-Bytes.ensures c.requires.range
-
-pub within-requires-in-Words : goal.within-requires-in-Words
-within-requires-in-Words c = tiled_within c.args.shape.maxval c.args.width c.args.shape.width c.args.shape.depth _ c.args.row _ c.in_ok-words-in-Words.ensures.made c.in-Words.ensures c.requires.range
+pub returns-then-shape-width-clause-made : goal.returns-then-shape-width-clause-made
+returns-then-shape-width-clause-made c =
+    let s = c.args.shape in
+    let same : s.width ≡ c.args.width = omega arith in
+    sym (tiled_front c.args.width s.width s.depth c.args.row (omega arith) ∙ take_all (c.args.width * s.depth) c.args.row (omega (arith, c.requires.row.1, ap (λ (n : ℕ). n * s.depth) same)))
