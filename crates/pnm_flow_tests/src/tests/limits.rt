@@ -43,7 +43,10 @@ fn runs_on_a_wide_image(rt: HostRuntime) -> Result<(), Fail> {
     let inverted = (MILLION.0, 1, MILLION.2);
     makes(&rt, rt.alloc(), "pnminvert", MILLION, inverted)?;
     let doubled = (b"P5\n2000000 1\n1\n".as_slice(), 0, 2_000_000);
-    makes(&rt, rt.alloc(), "pamenlarge -xscale 2", MILLION, doubled)
+    makes(&rt, rt.alloc(), "pamenlarge -xscale 2", MILLION, doubled)?;
+    let pixel = (b"P5\n1 1\n9\n".as_slice(), 5, 1);
+    let tiled = (b"P5\n1000001 1\n9\n".as_slice(), 5, 1_000_001);
+    makes(&rt, rt.alloc(), "pnmtile 1000001 1", pixel, tiled)
 }
 
 /// Seventeen times as wide it would be too large.
