@@ -24,7 +24,7 @@ use std::marker::Model;
 pub struct Tiler {
     width: u32,
     height: u32,
-    /// That of the image of which these are the rows, once it has ended, with the columns that are kept.
+    /// That of the image, once it has ended, with the columns of these rows.
     shape: Shape,
     /// The next one first.
     rows: VecDeque<Samples>,
