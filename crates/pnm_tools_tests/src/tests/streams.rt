@@ -37,7 +37,7 @@ const WIDE_AT_LAST: &[Case<'static>] = &[(
         Part::Row(&[1, 2, 3]),
         Part::Row(&[4, 5, 6]),
         Part::ImageEnd,
-        Part::Begin(Kind::Gray, 3, 500_001, 9),
+        Part::Begin(Kind::Gray, 3, 8_388_609, 9),
     ],
     &[
         Part::Begin(Kind::Gray, 3, 4, 9),
