@@ -99,6 +99,7 @@ test: toolchain
 # the program that make has left beside Netpbm's own tools, where these are installed: a table, for a quiet machine
 bench:
 	python3 scripts/bench.py
+	python3 scripts/bench_narrow.py
 
 # many small files in each way, beside Netpbm: a table, for a quiet machine
 bench-files:
@@ -133,7 +134,7 @@ help:
 	@echo "make                 proves the crates, builds the program and leaves it as bin/pnmpipe"
 	@echo "make test            the tests alone, without their proofs"
 	@echo "make check           the whole gate: every proof, the edits that must fail, the tests, the stored runs, refused allocations, silent inputs, scripts and pages"
-	@echo "make bench           times the program that make has left beside Netpbm's own tools, on large images"
+	@echo "make bench           times the program that make has left beside Netpbm's own tools, on large images, narrow rows and small images"
 	@echo "make bench-files     times many small files in each way, beside Netpbm's own tools"
 	@echo "make lanes           times the program that make has left with 1, 2, 4 and 8 lanes"
 	@echo "make long-stream     passes a stream of 4 GiB through the program that make has left, and wants less than 32 MB of memory"

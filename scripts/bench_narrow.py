@@ -1,0 +1,71 @@
+#!/usr/bin/env python3
+"""Times bin/pnmpipe over narrow rows and small images beside a shell pipe of Netpbm's tools, in one run: file to memory,
+medians, the bytes compared. A line for each image and chain: wall seconds, processor seconds and the greatest resident
+memory in MB of the program, of each program named by --beside NAME=PATH and of the pipe, and the program's wall time over
+the pipe's."""
+
+import argparse
+import os
+import random
+import sys
+import tempfile
+
+from bench import median_of, same_bytes, shown
+
+# the name, the header and the bytes of the raster of an image, how many there are, and the chains
+STREAMS = [
+    ("page", b"P4\n2480 56128\n", 310 * 56128, 1, ["pnminvert", "pamcut -left 8 -right -9 | pamflip -lr | pnminvert"]),
+    ("label", b"P4\n384 400000\n", 48 * 400000, 1, ["pnminvert"]),
+    ("narrow", b"P5\n64 500000\n255\n", 64 * 500000, 1, ["pamcut -left 8 | pamdepth 127"]),
+    ("icons", b"P5\n64 64\n255\n", 64 * 64, 20000, ["pnminvert", "pamcut -left 8 | pamdepth 127"]),
+    ("dots", b"P5\n1 1\n255\n", 1, 100000, ["pamcut | pamcut | pamcut"]),
+]
+
+
+def written(folder, name, header, size, count):
+    path = os.path.join(folder, name)
+    numbers = random.Random(1)
+    with open(path, "wb") as file:
+        for _ in range(count):
+            file.write(header)
+            file.write(numbers.randbytes(size))
+    return path
+
+
+def main():
+    parser = argparse.ArgumentParser(description=__doc__.split("\n")[0])
+    parser.add_argument("--program", default="bin/pnmpipe")
+    parser.add_argument("--beside", action="append", default=[], metavar="NAME=PATH")
+    parser.add_argument("--image", action="append", choices=[stream[0] for stream in STREAMS])
+    parser.add_argument("--runs", type=int, default=7)
+    parser.add_argument("--folder", default="/dev/shm" if os.path.isdir("/dev/shm") else None)
+    args = parser.parse_args()
+    programs = [("pnmpipe", args.program)] + [tuple(pair.split("=", 1)) for pair in args.beside]
+    names = [name for name, _ in programs] + ["Netpbm", "over Netpbm"]
+    print("| image | chain | " + " | ".join(names) + " |")
+    print("|---" * (len(names) + 2) + "|")
+    differing = 0
+    with tempfile.TemporaryDirectory(dir=args.folder) as folder:
+        wanted, made = (os.path.join(folder, name) for name in ("wanted", "made"))
+        for name, header, size, count, chains in STREAMS:
+            if args.image and name not in args.image:
+                continue
+            path = written(folder, name, header, size, count)
+            for chain in chains:
+                peer = median_of(["sh", "-c", chain], path, wanted, args.runs)
+                results, cells = [], []
+                for _, program in programs:
+                    result = median_of([program, chain], path, made, args.runs)
+                    fits = result and peer and same_bytes(wanted, made)
+                    differing += not fits
+                    results.append(result)
+                    cells.append(shown(result) + ("" if fits else " (OTHER BYTES)"))
+                ratio = "%.2f" % (results[0][0] / peer[0]) if results[0] and peer else "-"
+                print("| %s | `%s` | %s | %s | %s |" % (name, chain, " | ".join(cells), shown(peer), ratio), flush=True)
+            os.remove(path)
+    if differing:
+        sys.exit(f"{differing} results differ from Netpbm's or failed")
+
+
+if __name__ == "__main__":
+    main()
