@@ -127,6 +127,14 @@ const CORNER: &[Part<'static>] = &[
     Part::StreamEnd,
 ];
 
+const PIXELS: &[Part<'static>] = &[
+    Part::Pam(1, 2, 2, 4, "A"),
+    Part::Row(&[0, 1]),
+    Part::Row(&[4, 3]),
+    Part::ImageEnd,
+    Part::StreamEnd,
+];
+
 const REPEATED: &[Part<'static>] = &[
     Part::Pam(3, 4, 2, 4, "A"),
     Part::Row(&[0, 1, 2, 3, 4, 0]),
@@ -308,10 +316,12 @@ fn turns_by_three_or_runs_out(rt: HostRuntime) {
     let _ = answers_image(&rt, rt.alloc(), &turn, THREE_QUARTERS);
 }
 
-/// More columns and rows than there are, and fewer of both. Whether nothing was refused.
+/// More columns and rows than there are, fewer of both, and so few columns that they are copied.
+/// Whether nothing was refused.
 fn tiles(rt: &impl Abort, alloc: Global) -> bool {
     let filled = answers_image(rt, alloc, &Tool::Tile(4, 3), TILED);
-    answers_image(rt, alloc, &Tool::Tile(2, 1), CORNER) && filled
+    let copied = answers_image(rt, alloc, &Tool::Tile(1, 2), PIXELS);
+    answers_image(rt, alloc, &Tool::Tile(2, 1), CORNER) && filled && copied
 }
 
 #[test]

@@ -91,6 +91,31 @@ fn cuts_and_tiles_each_width(rt: HostRuntime) -> Result<(), Fail> {
     Ok(())
 }
 
+/// Columns of which less than half are shown, about half, and all but one; fewer rows than there
+/// are, and more.
+fn tiles_part(rt: &impl Abort, alloc: Global, width: u32) -> Result<(), Fail> {
+    sweeps(rt, alloc, &Tool::Tile(width / 3 + 1, 1), width, 2)?;
+    sweeps(rt, alloc, &Tool::Tile(width / 2 + 1, 2), width, 3)?;
+    sweeps(
+        rt,
+        alloc,
+        &Tool::Tile(width.saturating_sub(1).max(1), 5),
+        width,
+        2,
+    )
+}
+
+#[test]
+fn tiles_part_of_each_width(rt: HostRuntime) -> Result<(), Fail> {
+    for width in 1..71 {
+        tiles_part(&rt, rt.alloc(), width)?;
+    }
+    for width in WIDER {
+        tiles_part(&rt, rt.alloc(), width)?;
+    }
+    Ok(())
+}
+
 #[test]
 fn follows_its_formula_at_each_width(rt: HostRuntime) -> Result<(), Fail> {
     for tool in [
