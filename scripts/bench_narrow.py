@@ -17,7 +17,7 @@ STREAMS = [
     ("page", b"P4\n2480 56128\n", 310 * 56128, 1, ["pnminvert", "pamcut -left 8 -right -9 | pamflip -lr | pnminvert"]),
     ("label", b"P4\n384 400000\n", 48 * 400000, 1, ["pnminvert"]),
     ("narrow", b"P5\n64 500000\n255\n", 64 * 500000, 1, ["pamcut -left 8 | pamdepth 127"]),
-    ("icons", b"P5\n64 64\n255\n", 64 * 64, 20000, ["pnminvert", "pamcut -left 8 | pamdepth 127"]),
+    ("icons", b"P5\n64 64\n255\n", 64 * 64, 20000, ["pamcut -left 8", "pamcut -left 8 | pamdepth 127"]),
     ("dots", b"P5\n1 1\n255\n", 1, 100000, ["pamcut | pamcut | pamcut"]),
 ]
 
