@@ -20,13 +20,54 @@ const NINE_ROWS: &[u8] = b"P5\n1 9\n9\n\x01\x02\x03\x04\x05\x06\x07\x08\x09";
 
 const NINE_ROWS_INVERTED: &[u8] = b"P5\n1 9\n9\n\x08\x07\x06\x05\x04\x03\x02\x01\x00";
 
-/// Gives a byte a read, and counts the reads.
+/// What a run has read so far, who has come to its gate, and whether that was waited for in vain or too long.
 #[derive(Drop)]
-struct ByteByByte<'a>(&'a [u8], &'a AtomicU64);
+struct Seen {
+    reads: AtomicU64,
+    first: AtomicU64,
+    second: AtomicU64,
+    third: AtomicU64,
+    /// The second lane of the first stage.
+    lane: AtomicU64,
+    /// Anybody else.
+    other: AtomicU64,
+    missed: AtomicU64,
+    early: AtomicU64,
+}
+
+impl Seen {
+    fn new() -> Seen {
+        Seen {
+            reads: AtomicU64::new(0),
+            first: AtomicU64::new(0),
+            second: AtomicU64::new(0),
+            third: AtomicU64::new(0),
+            lane: AtomicU64::new(0),
+            other: AtomicU64::new(0),
+            missed: AtomicU64::new(0),
+            early: AtomicU64::new(0),
+        }
+    }
+
+    /// How often the first three stages have come, the second lane of the first one, and anybody else.
+    fn came(&self) -> [u64; 5] {
+        [
+            self.first.load(SeqCst),
+            self.second.load(SeqCst),
+            self.third.load(SeqCst),
+            self.lane.load(SeqCst),
+            self.other.load(SeqCst),
+        ]
+    }
+}
+
+/// Gives a byte a read, and is seen.
+#[derive(Drop)]
+struct ByteByByte<'a>(&'a [u8], &'a Seen);
 
 impl Read for ByteByByte<'_> {
     fn read(&mut self, room: &mut [u8]) -> io::Result<usize> {
-        self.1.fetch_add(1, SeqCst);
+        self.1.reads.fetch_add(1, SeqCst);
         let count = room.len().min(1);
         self.0.read(&mut room[..count])
     }
@@ -37,49 +78,45 @@ impl Read for ByteByByte<'_> {
 #[derive(Drop)]
 struct HoldsOne<'a> {
     /// The stage and the lane that are held.
-    held: (usize, usize),
+    stage: usize,
+    lane: usize,
     /// The reads that can be made without them.
     most: u64,
-    reads: &'a AtomicU64,
-    /// How often the first three stages have come, the second lane of the first one, and anybody else.
-    came: [AtomicU64; 5],
-    missed: AtomicU64,
-    early: AtomicU64,
+    seen: &'a Seen,
 }
 
 impl Gate for HoldsOne<'_> {
     fn arrive(&self, stage: usize, lane: usize) {
-        let index = match (stage, lane) {
-            (1, 0) => 0,
-            (2, 0) => 1,
-            (3, 0) => 2,
-            (1, 1) => 3,
-            _ => 4,
+        let seen = self.seen;
+        match (stage, lane) {
+            (1, 0) => seen.first.fetch_add(1, SeqCst),
+            (2, 0) => seen.second.fetch_add(1, SeqCst),
+            (3, 0) => seen.third.fetch_add(1, SeqCst),
+            (1, 1) => seen.lane.fetch_add(1, SeqCst),
+            _ => seen.other.fetch_add(1, SeqCst),
         };
-        self.came[index].fetch_add(1, SeqCst);
-        if (stage, lane) == self.held {
-            self.hold();
+        if stage == self.stage && lane == self.lane {
+            hold(seen, self.most);
         }
     }
 }
 
-impl HoldsOne<'_> {
-    fn hold(&self) {
-        for turn in 0..TURNS {
-            if self.reads.load(SeqCst) >= self.most {
-                break;
-            }
-            if turn + 1 == TURNS {
-                self.missed.fetch_add(1, SeqCst);
-            }
-            thread::yield_now();
+/// Waits until so many bytes were read, and a while longer.
+fn hold(seen: &Seen, most: u64) {
+    for turn in 0..TURNS {
+        if seen.reads.load(SeqCst) >= most {
+            break;
         }
-        for _ in 0..100_000 {
-            thread::yield_now();
+        if turn + 1 == TURNS {
+            seen.missed.fetch_add(1, SeqCst);
         }
-        if self.reads.load(SeqCst) > self.most {
-            self.early.fetch_add(1, SeqCst);
-        }
+        thread::yield_now();
+    }
+    for _ in 0..100_000 {
+        thread::yield_now();
+    }
+    if seen.reads.load(SeqCst) > most {
+        seen.early.fetch_add(1, SeqCst);
     }
 }
 
@@ -89,28 +126,20 @@ fn comes_before_it_takes<R: Threads + Wait + Abort + Sync>(
     alloc: Global,
     tools: &[Tool],
     lanes: usize,
-    held: (usize, usize),
+    (stage, lane): (usize, usize),
     most: u64,
     came: [u64; 5],
 ) {
     assert!(rt; 1 <= tools.len() && tools.len() <= 16 && are_lawful(tools));
     assert!(rt; 1 <= lanes && lanes <= 8);
-    let reads = AtomicU64::new(0);
+    let seen = Seen::new();
     let gate = HoldsOne {
-        held,
+        stage,
+        lane,
         most,
-        reads: &reads,
-        came: [
-            AtomicU64::new(0),
-            AtomicU64::new(0),
-            AtomicU64::new(0),
-            AtomicU64::new(0),
-            AtomicU64::new(0),
-        ],
-        missed: AtomicU64::new(0),
-        early: AtomicU64::new(0),
+        seen: &seen,
     };
-    let mut reader = Device::new(ByteByByte(NINE_ROWS, &reads));
+    let mut reader = Device::new(ByteByByte(NINE_ROWS, &seen));
     let mut writer = Device::new(Vec::new(alloc));
     let answer = run(
         rt,
@@ -125,14 +154,9 @@ fn comes_before_it_takes<R: Threads + Wait + Abort + Sync>(
     );
     let want = (Ok(Summary { images: 1, rows: 9 }), NINE_ROWS_INVERTED);
     let written = writer.into_inner();
-    agrees(rt, (answer, written.as_slice()), want, &held);
-    let counts = gate.came.each_ref().map(|count| count.load(SeqCst));
-    assert_eq!(rt; counts, came, "at {held:?}");
-    assert_eq!(rt;
-        (gate.missed.load(SeqCst), gate.early.load(SeqCst)),
-        (0, 0),
-        "at {held:?}"
-    );
+    agrees(rt, (answer, written.as_slice()), want, &(stage, lane));
+    assert_eq!(rt; seen.came(), came);
+    assert_eq!(rt; (seen.missed.load(SeqCst), seen.early.load(SeqCst)), (0, 0));
 }
 
 /// Over rings of one message the caller holds one that waits for room, each ring before the stage that is held one, and
