@@ -118,7 +118,11 @@ impl<R: BytesIn> Source<R> {
 
     /// Whether the next message is told by the bytes that are held, so that `next` makes no read. A header is where it is held
     /// whole, and a row of a plain image where all that is left of the input is held.
-    pub fn holds_next(&self) -> bool {
+    pub fn holds_next(&self) -> bool
+        // After the end and after a fault nothing is read.
+        ensures ended { has_ended self.now ≡ true → result ≡ true }
+        ensures stopped { (fault : Fault) → stopped_by self.now ≡ Some fault → result ≡ true }
+    {
         match self.state {
             State::Awaits(awaited) => holds_at(&self.input, awaited),
             State::Ended | State::Failed(_) => true,
