@@ -6,6 +6,7 @@ mod copies;
 mod cut;
 mod depth;
 mod enlarge;
+mod enlarge_heads;
 mod flip;
 mod formulas;
 mod lanes;
