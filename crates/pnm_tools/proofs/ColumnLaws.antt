@@ -7,8 +7,8 @@ use Rattle.std.proofs.Math.ListN.{length-set}
 use Rattle.std.proofs.Math.Seq.{take-add}
 use Rattle.std.proofs.lemmas.Bool.{cases_eq, cases_lt}
 use Rattle.std.proofs.lemmas.Grind.{get_or-set_at, flat_map-append}
-use Rattle.std.proofs.lemmas.List.{append_assoc, append-nil, length-append, length-drop, length-take-le, length-map, take_all, take_at, take_more, get_or-map, get_or-set_other, get_or_default, same_lists, with_items_is}
-use Rattle.std.proofs.lemmas.List.Elements.{All-head, All-tail, All-weaker, All-take, All-drop, All-get_or}
+use Rattle.std.proofs.lemmas.List.{append_assoc, append-nil, length-append, length-drop, length-take-le, length-map, take_all, drop_more, get_or-map, get_or-set_other, get_or_default, same_lists, with_items_is}
+use Rattle.std.proofs.lemmas.List.Elements.{All-head, All-tail, All-weaker, All-take, All-get_or}
 use Rattle.std.proofs.lemmas.List.FromFn.{get_or-map-range_with_len, length-map-range_with_len}
 use Rattle.std.proofs.lemmas.Slice.{take-put_mid}
 use Rattle.pnm_tools.specs.Columns.{AreBlank, HaveRoom, HavePixels, samples_of}
@@ -126,6 +126,15 @@ length_of_column {X = X} depth (row ∷ rows) x long =
     let pixel : length (pixel_of depth row x) ≡ depth = length-take-le depth (drop (x * depth) row) (omega (arith, length-drop (x * depth) row, add-mul x 1 depth)) in
     omega (arith, length-append (pixel_of depth row x) (column_of depth rows x), pixel, length_of_column depth rows x (All-tail Reaches row rows long), suc-mul (length rows) depth)
 
+-- the same samples, said in another way
+pub pixels_alike : {X : Type 0} (count at : ℕ) (f g : ℕ → List X) (old new : List (Vec X Global)) → ((k : ℕ) → f k ≡ g k) → HavePixels count at f old new → HavePixels count at g old new
+pixels_alike {X = X} count at f g old new same h = record {
+  many = h.many;
+  long = h.long;
+  stored = λ k d lt. subst (λ (l : List X). take (at + length l) (get_or new k d).items ≡ take at (get_or old k d).items ++ l) (same k) (h.stored k d lt);
+  others = h.others;
+}
+
 -- pixels behind those that were stored before
 pub pixels_behind : {X : Type 0} (count at m : ℕ) (f g both : ℕ → List X) (old columns new : List (Vec X Global)) → ((k : ℕ) → k < count → length (f k) ≡ m) → ((k : ℕ) → k < count → both k ≡ f k ++ g k)
     → HavePixels count at f old columns → HavePixels count (at + m) g columns new → HavePixels count at both old new
@@ -141,121 +150,70 @@ pixels_behind {X = X} count at m f g both old columns new size parts a b = recor
   others = λ k d le. b.others k d le ∙ a.others k d le;
 }
 
+-- rows behind those before them
+pub rows_behind : {X : Type 0} (first depth n m at : ℕ) (rows : List (List X)) (old columns new : List (Vec X Global)) → n + m ≤ length rows → All (λ row. (first + length old) * depth ≤ length row) rows
+    → HavePixels (length old) at (λ k. column_of depth (take n rows) (first + k)) old columns → HavePixels (length columns) (at + n * depth) (λ k. column_of depth (take m (drop n rows)) (first + k)) columns new
+    → HavePixels (length old) at (λ k. column_of depth (take (n + m) rows) (first + k)) old new
+rows_behind {X = X} first depth n m at rows old columns new le long before behind =
+    let count : ℕ = length old in
+    let passed : length (take n rows) ≡ n = length-take-le n rows (omega arith) in
+    pixels_behind count at (n * depth) (λ k. column_of depth (take n rows) (first + k)) (λ k. column_of depth (take m (drop n rows)) (first + k)) (λ k. column_of depth (take (n + m) rows) (first + k)) old columns new
+    (λ k below.
+    length_of_column depth (take n rows) (first + k) (reach depth first count k (take n rows) below (All-take (λ (row : List X). (first + count) * depth ≤ length row) n rows long)) ∙ ap (λ (i : ℕ). i * depth) passed)
+    (λ k below.
+    ap (λ (l : List (List X)). column_of depth l (first + k)) (take-add n m rows) ∙ flat_map-append (λ (row : List X). pixel_of depth row (first + k)) (take n rows) (take m (drop n rows)))
+    before
+    (subst (λ (i : ℕ). HavePixels i (at + n * depth) (λ k. column_of depth (take m (drop n rows)) (first + k)) columns new) before.many behind)
+
+-- four rows more
+pub four_behind : {X : Type 0} (first depth g m at : ℕ) (rows : List (List X)) (old columns new : List (Vec X Global)) → 4 * g + 4 ≤ length rows → m ≡ 4 → All (λ row. (first + length old) * depth ≤ length row) rows
+    → HavePixels (length old) at (λ k. column_of depth (take (4 * g) rows) (first + k)) old columns → HavePixels (length columns) (at + 4 * g * depth) (λ k. column_of depth (take m (drop (4 * g) rows)) (first + k)) columns new
+    → HavePixels (length old) at (λ k. column_of depth (take (4 * (g + 1)) rows) (first + k)) old new
+four_behind {X = X} first depth g m at rows old columns new le four long before behind =
+    let next : 4 * g + m ≡ 4 * (g + 1) = omega arith in
+    subst (λ (n : ℕ). HavePixels (length old) at (λ k. column_of depth (take n rows) (first + k)) old new) next
+    (rows_behind first depth (4 * g) m at rows old columns new (omega arith) long before behind)
+
 -- a row behind those before it
 pub row_behind : {X : Type 0} (first depth n at : ℕ) (rows : List (List X)) (row : List X) (old columns new : List (Vec X Global)) → n < length rows → row ≡ get_or rows n row → All (λ row. (first + length old) * depth ≤ length row) rows
     → HavePixels (length old) at (λ k. column_of depth (take n rows) (first + k)) old columns → HavePixels (length columns) (at + n * depth) (λ k. pixel_of depth row (first + k)) columns new
     → HavePixels (length old) at (λ k. column_of depth (take (n + 1) rows) (first + k)) old new
 row_behind {X = X} first depth n at rows row old columns new lt is long before behind =
-    let count : ℕ = length old in
-    let passed : length (take n rows) ≡ n = length-take-le n rows (omega arith) in
-    let next : take (n + 1) rows ≡ take n rows ++ row ∷ [] = take_more rows n row lt ∙ ap (λ (r : List X). take n rows ++ r ∷ []) (sym is) in
-    pixels_behind count at (n * depth) (λ k. column_of depth (take n rows) (first + k)) (λ k. pixel_of depth row (first + k)) (λ k. column_of depth (take (n + 1) rows) (first + k)) old columns new
-    (λ k below.
-    length_of_column depth (take n rows) (first + k) (reach depth first count k (take n rows) below (All-take (λ (row : List X). (first + count) * depth ≤ length row) n rows long)) ∙ ap (λ (m : ℕ). m * depth) passed)
-    (λ k below.
-    ap (λ (l : List (List X)). column_of depth l (first + k)) next ∙ flat_map-append (λ (row : List X). pixel_of depth row (first + k)) (take n rows) (row ∷ [])
-    ∙ ap (λ (l : List X). column_of depth (take n rows) (first + k) ++ l) (append-nil (pixel_of depth row (first + k))))
-    before
-    (subst (λ (m : ℕ). HavePixels m (at + n * depth) (λ k. pixel_of depth row (first + k)) columns new) before.many behind)
+    let one : take 1 (drop n rows) ≡ row ∷ [] = ap (take 1) (drop_more rows n row lt) ∙ ap (λ (r : List X). r ∷ []) (sym is) in
+    rows_behind first depth n 1 at rows old columns new (omega arith) long before
+    (subst (λ (l : List (List X)). HavePixels (length columns) (at + n * depth) (λ k. column_of depth l (first + k)) columns new) (sym one)
+    (pixels_alike (length columns) (at + n * depth) (λ k. pixel_of depth row (first + k)) (λ k. column_of depth (row ∷ []) (first + k)) columns new (λ k. sym (append-nil (pixel_of depth row (first + k)))) behind))
 
 -- once all rows have passed
 pub all_behind : {X : Type 0} (first depth n at count : ℕ) (rows : List (List X)) (old new : List (Vec X Global)) → length rows ≤ n → HavePixels count at (λ k. column_of depth (take n rows) (first + k)) old new
     → HavePixels count at (λ k. column_of depth rows (first + k)) old new
 all_behind {X = X} first depth n at count rows old new le h = subst (λ (l : List (List X)). HavePixels count at (λ k. column_of depth l (first + k)) old new) (take_all n rows le) h
 
--- the columns of these rows, as many, from the first one on, in the front of so many samples
-pub record AreColumns {X : Type 0} (count first depth samples : ℕ) (rows : List (List X)) (columns : List (Vec X Global)) : Type 0 where
-  pub many : length columns ≡ count
-  pub long : (k : ℕ) (d : Vec X Global) → k < count → vec_len (get_or columns k d) ≡ samples
-  pub made : (k : ℕ) (d : Vec X Global) → k < count → take (length rows * depth) (get_or columns k d).items ≡ column_of depth rows (first + k)
-
--- columns of no rows
-pub no_rows : {X : Type 0} (count first depth samples n : ℕ) (rows : List (List X)) (columns : List (Vec X Global)) → n ≡ 0 → AreBlank count samples columns → AreColumns count first depth samples (take n rows) columns
-no_rows {X = X} count first depth samples n rows columns none h = record {
-  many = h.many;
-  long = h.long;
-  made = λ k d lt.
-      let nothing : 0 * depth ≡ 0 = omega arith in
-      subst (λ (i : ℕ). take (length (take i rows) * depth) (get_or columns k d).items ≡ column_of depth (take i rows) (first + k)) (sym none) (ap (λ (m : ℕ). take m (get_or columns k d).items) nothing);
-}
-
--- rows more
-pub rows_more : {X : Type 0} (count first depth samples n at : ℕ) (rows more all : List (List X)) (old new : List (Vec X Global)) → n ≤ length rows → at ≡ n * depth → All (λ row. (first + count) * depth ≤ length row) more → all ≡ take n rows ++ more
-    → AreColumns count first depth samples (take n rows) old → HavePixels (length old) at (λ k. column_of depth more (first + k)) old new → AreColumns count first depth samples all new
-rows_more {X = X} count first depth samples n at rows more all old new le place reaches parts h stored =
-    let passed : length (take n rows) ≡ n = length-take-le n rows le in
-    let size : length all * depth ≡ at + length more * depth =
-    ap (λ (l : List (List X)). length l * depth) parts ∙ ap (λ (m : ℕ). m * depth) (length-append (take n rows) more) ∙ add-mul (length (take n rows)) (length more) depth
-    ∙ ap (λ (m : ℕ). m * depth + length more * depth) passed ∙ ap (λ (m : ℕ). m + length more * depth) (sym place) in
-    let before : at ≡ length (take n rows) * depth = place ∙ ap (λ (m : ℕ). m * depth) (sym passed) in
-    record {
-      many = stored.many ∙ h.many;
-      long = λ k d lt. stored.long k d ∙ h.long k d lt;
-      made = λ k d lt.
-          let x : ℕ = first + k in
-          let full : length (column_of depth more x) ≡ length more * depth = length_of_column depth more x (reach depth first count k more lt reaches) in
-          ap (λ (m : ℕ). take m (get_or new k d).items) (size ∙ ap (λ (m : ℕ). at + m) (sym full)) ∙ stored.stored k d (omega (arith, h.many))
-          ∙ ap (λ (m : ℕ). take m (get_or old k d).items ++ column_of depth more x) before ∙ ap (λ (l : List X). l ++ column_of depth more x) (h.made k d lt)
-          ∙ sym (flat_map-append (λ (row : List X). pixel_of depth row x) (take n rows) more) ∙ ap (λ (l : List (List X)). column_of depth l x) (sym parts);
-    }
-
--- ---- what is asked of rows that are added
+-- ---- all columns
 
 -- places within all samples
 pub within : (y m rows depth : ℕ) → y + m ≤ rows → y * depth + m * depth ≤ rows * depth
 within y m rows depth le = omega (arith, add-mul y m depth, mul-le-mul {n₁ = y + m} {m₁ = depth} {n₂ = rows} {m₂ = depth} le (omega arith))
 
--- there is room for them
-pub there_is_room : {X : Type 0} (count first depth samples n : ℕ) (rows : List (List X)) (columns : List (Vec X Global)) → n ≤ samples → AreColumns count first depth samples rows columns → HaveRoom n columns
-there_is_room count first depth samples n rows columns le h k d lt = omega (arith, le, h.long k d (omega (arith, h.many)))
+-- there is still room behind what was stored
+pub room_left : {X : Type 0} (count at least most : ℕ) (pixels : ℕ → List X) (old columns : List (Vec X Global)) → least ≤ most → HaveRoom most old → HavePixels count at pixels old columns → HaveRoom least columns
+room_left count at least most pixels old columns le room h k d lt = omega (arith, le, room k d (omega (arith, h.many)), h.long k d)
 
--- number by number
-columns_by_number : {X : Type 0} (count first depth : ℕ) (rows : List (List X)) (columns : List (Vec X Global)) (d : Vec X Global) → AreColumns count first depth (length rows * depth) rows columns
-    → samples_of columns ≡ map (column_of depth rows) (range_with_len first count)
-columns_by_number {X = X} count first depth rows columns d h =
-    same_lists (samples_of columns) (map (column_of depth rows) (range_with_len first count)) (length-map columns (λ (v : Vec X Global). v.items) ∙ h.many ∙ sym (length-map-range_with_len (column_of depth rows) first count))
+-- blank columns that were filled, number by number
+filled_by_number : {X : Type 0} (count first samples : ℕ) (f : ℕ → List X) (old new : List (Vec X Global)) (v : Vec X Global) → AreBlank count samples old → HavePixels count 0 (λ k. f (first + k)) old new
+    → ((k : ℕ) → k < count → length (f (first + k)) ≡ samples) → samples_of new ≡ map f (range_with_len first count)
+filled_by_number {X = X} count first samples f old new v blank h long =
+    same_lists (samples_of new) (map f (range_with_len first count)) (length-map new (λ (v : Vec X Global). v.items) ∙ h.many ∙ blank.many ∙ sym (length-map-range_with_len f first count))
     (λ k e lt.
-    let inside : k < count = omega (arith, length-map columns (λ (v : Vec X Global). v.items), h.many) in
-    let v : Vec X Global = get_or columns k d in
-    let whole : take (length rows * depth) v.items ≡ v.items = take_all (length rows * depth) v.items (omega (arith, h.long k d inside, v.ok.0)) in
-    get_or-map (λ (v : Vec X Global). v.items) columns k d e (omega (arith, h.many)) ∙ sym whole ∙ h.made k d inside ∙ sym (get_or-map-range_with_len (column_of depth rows) first count k (first + k) e inside refl))
+    let inside : k < count = omega (arith, length-map new (λ (v : Vec X Global). v.items), h.many, blank.many) in
+    let w : Vec X Global = get_or new k v in
+    let whole : take (length (f (first + k))) w.items ≡ w.items = take_all (length (f (first + k))) w.items (omega (arith, long k inside, h.long k v, blank.long k v inside, w.ok.0)) in
+    let front : length (f (first + k)) ≡ 0 + length (f (first + k)) = omega arith in
+    get_or-map (λ (v : Vec X Global). v.items) new k v e (omega (arith, h.many, blank.many)) ∙ sym whole ∙ ap (λ (n : ℕ). take n w.items) front ∙ h.stored k v inside
+    ∙ sym (get_or-map-range_with_len f first count k (first + k) e inside refl))
 
--- once all rows have passed
-pub columns_made : {X : Type 0} (count first depth : ℕ) (rows : List (List X)) (columns : List (Vec X Global)) → AreColumns count first depth (length rows * depth) rows columns
-    → samples_of columns ≡ map (column_of depth rows) (range_with_len first count)
-columns_made count first depth rows [] h = ap (λ (n : ℕ). map (column_of depth rows) (range_with_len first n)) h.many
-columns_made count first depth rows (column ∷ columns) h = columns_by_number count first depth rows (column ∷ columns) column h
-
--- ---- columns that were lent
-
--- rows more, in columns that were lent
-added : {X : Type 0} (count first depth samples n m at len : ℕ) (rows : List (List X)) (items lent new : List (Vec X Global)) → n + m ≤ length rows → at ≡ n * depth → All (λ row. (first + count) * depth ≤ length row) rows
-    → lent ≡ items → length items ≡ len → AreColumns count first depth samples (take n rows) items → HavePixels (length lent) at (λ k. column_of depth (take m (drop n rows)) (first + k)) lent new
-    → AreColumns count first depth samples (take (n + m) rows) (take len (new ++ drop (length new) items))
-added {X = X} count first depth samples n m at len rows items lent new le place long same size h stored =
-    let Reaches : List X → Type 0 = λ row. (first + count) * depth ≤ length row in
-    let before : AreColumns count first depth samples (take n rows) lent = subst (λ (l : List (Vec X Global)). AreColumns count first depth samples (take n rows) l) (sym same) h in
-    let after : AreColumns count first depth samples (take (n + m) rows) new =
-    rows_more count first depth samples n at rows (take m (drop n rows)) (take (n + m) rows) lent new (omega arith) place (All-take Reaches m (drop n rows) (All-drop Reaches n rows long)) (take-add n m rows) before stored in
-    let whole : take len (new ++ drop (length new) items) ≡ new = take_at new (drop (length new) items) len (stored.many ∙ ap length same ∙ size) in
-    subst (λ (l : List (Vec X Global)). AreColumns count first depth samples (take (n + m) rows) l) (sym whole) after
-
--- four rows more
-pub group_more : {X : Type 0} (count first depth samples g m at len : ℕ) (rows : List (List X)) (items lent new : List (Vec X Global)) → 4 * g + 4 ≤ length rows → m ≡ 4 → at ≡ 4 * g * depth → All (λ row. (first + count) * depth ≤ length row) rows
-    → lent ≡ items → length items ≡ len → AreColumns count first depth samples (take (4 * g) rows) items → HavePixels (length lent) at (λ k. column_of depth (take m (drop (4 * g) rows)) (first + k)) lent new
-    → AreColumns count first depth samples (take (4 * (g + 1)) rows) (take len (new ++ drop (length new) items))
-group_more {X = X} count first depth samples g m at len rows items lent new le four place long same size h stored =
-    let next : 4 * g + m ≡ 4 * (g + 1) = omega arith in
-    subst (λ (n : ℕ). AreColumns count first depth samples (take n rows) (take len (new ++ drop (length new) items))) next
-    (added count first depth samples (4 * g) m at len rows items lent new (omega arith) place long same size h stored)
-
--- the rows that are left
-pub rest_made : {X : Type 0} (count first depth passed n m at len : ℕ) (rows : List (List X)) (items lent new : List (Vec X Global)) → passed ≡ n → n + m ≡ length rows → at ≡ n * depth → All (λ row. (first + count) * depth ≤ length row) rows
-    → lent ≡ items → length items ≡ len → AreColumns count first depth (length rows * depth) (take passed rows) items → HavePixels (length lent) at (λ k. column_of depth (take m (drop n rows)) (first + k)) lent new
-    → samples_of (take len (new ++ drop (length new) items)) ≡ map (column_of depth rows) (range_with_len first count)
-rest_made {X = X} count first depth passed n m at len rows items lent new all rest place long same size h stored =
-    let samples : ℕ = length rows * depth in
-    let before : AreColumns count first depth samples (take n rows) items = subst (λ (i : ℕ). AreColumns count first depth samples (take i rows) items) all h in
-    columns_made count first depth rows (take len (new ++ drop (length new) items))
-    (subst (λ (l : List (List X)). AreColumns count first depth samples l (take len (new ++ drop (length new) items))) (take_all (n + m) rows (omega arith))
-    (added count first depth samples n m at len rows items lent new (omega arith) place long same size before stored))
+-- blank columns that were filled
+pub columns_filled : {X : Type 0} (count first samples : ℕ) (f : ℕ → List X) (old new : List (Vec X Global)) → AreBlank count samples old → HavePixels count 0 (λ k. f (first + k)) old new
+    → ((k : ℕ) → k < count → length (f (first + k)) ≡ samples) → samples_of new ≡ map f (range_with_len first count)
+columns_filled count first samples f old [] blank h long = let none : 0 ≡ count = h.many ∙ blank.many in ap (λ (n : ℕ). map f (range_with_len first n)) none
+columns_filled count first samples f old (column ∷ new) blank h long = filled_by_number count first samples f old (column ∷ new) column blank h long

@@ -1,30 +1,17 @@
 -- The rows of a flipped image, and what is still to be given of it.
-use Rattle.std.proofs.Common.{◌≡◌, ℕ, zero, suc, ◌+◌, ◌-◌, ◌*◌, ◌<◌, ◌≤◌, List, [], ◌∷◌, ◌++◌, length, take, drop, reverse, get_or, set, refl, sym, ap, ◌∙◌, arith, mul-le-mul, length-take-le, length-drop, map, subst, Bool, true, false, if◌then◌else◌, Ok, Option, None, All, nat_lt}
+use Rattle.std.proofs.Common.{◌≡◌, ℕ, zero, suc, ◌+◌, ◌-◌, ◌*◌, ◌<◌, ◌≤◌, List, [], ◌∷◌, ◌++◌, length, take, drop, reverse, get_or, set, refl, sym, ap, ◌∙◌, arith, mul-le-mul, length-take-le, length-drop, subst, Option, None, All}
 use Rattle.std.specs.List.{flat_map, range_with_len}
 use borrow.Rule.Slice.PartMut.{put_mid}
 use Rattle.std.proofs.lemmas.List.{append_assoc, length-append, reverse-append, reverse-reverse, length-reverse, take-append-drop, take_at, drop_at, drop-drop, take_more, drop_more, take_all, drop_all, append-nil}
 use Rattle.pnm_image.specs.declared.shape.Shape.{Shape}
-use Rattle.pnm_tools.specs.Flip.{turn_of, in_order, mirrored_row, column_of, transposed_head_value}
+use Rattle.pnm_tools.specs.Flip.{turn_of, mirrored_row}
 use Rattle.pnm_tools.specs.Pixels.{pixel_of}
 use Rattle.pnm_tools.proofs.PickLaws.{flat_map_one_more, pieces_within}
-use Rattle.std.proofs.lemmas.Bool.{ltb-true}
-use Rattle.std.proofs.lemmas.List.Elements.{All-nil, All-take, All-drop}
-use Rattle.pnm_image.specs.Heads.{HeadValue, IsHead, Suits, row_length}
-use Rattle.pnm_image.specs.SampleWidths.{sample_width_of}
-use Rattle.pnm_image.specs.declared.sample_width.SampleWidth.{SampleWidth}
-use Rattle.pnm_image.specs.declared.sample_width.SampleWidth.TheVariants.{Bytes, Words}
-use Rattle.pnm_image.specs.declared.shape.Kind.{Kind}
-use Rattle.pnm_image.specs.declared.shape.Kind.TheVariants.{Bit, Gray, Color, Pam}
+use Rattle.std.proofs.lemmas.List.Elements.{All-take, All-drop}
 use Rattle.pnm_tools.specs.declared.tool.Tool.TheVariants.{Flip}
-use Rattle.pnm_tools.specs.declared.flip.FlipWay.{FlipWay}
-use Rattle.pnm_tools.specs.SampleRows.{SuitsShape}
-use Rattle.pnm_tools.specs.Keeping.{Reversed, ReversesRows, reversed, reversed_due, Transposed, IsTransposing, transposed, transposed_due}
-use Rattle.pnm_tools.specs.Tools.{result_head, row_answer}
-use Rattle.pnm_tools.proofs.HeadLaws.{small_row}
-use Rattle.pnm_tools.proofs.RangeLaws.{map_in_parts}
-use Rattle.pnm_tools.proofs.TurnLaws.{in_order_nil, exchanged_moves, reversed_moves, row_moved}
-use Rattle.pnm_tools.proofs.WholeHeadLaws.{is_turned}
-use Rattle.pnm_image.specs.declared.limits.TheConstants.{MAX_ROW_LENGTH}
+use Rattle.pnm_tools.specs.Keeping.{Reversed, ReversesRows, reversed, reversed_due}
+use Rattle.pnm_tools.specs.Tools.{row_answer}
+use Rattle.pnm_tools.proofs.TurnLaws.{reversed_moves, row_moved}
 
 -- ---- a row, the last pixel first
 
@@ -153,79 +140,3 @@ mirrored_in_place s row items lent new len made long same given count =
 pub none_reversed : (w : Reversed) (s : Shape) (y : ℕ) (row : List ℕ) → ReversesRows (turn_of w.way) → w.ended ≡ None → reversed_due w ≡ row_answer (Flip w.way) s y row
 none_reversed w s y row reverses none =
     ap (λ (ended : Option Shape). reversed_due (reversed w.way w.rows ended)) none ∙ sym (row_moved w.way s y row (reversed_moves (turn_of w.way) reverses))
-
--- ---- the rows that a transposer has still to give
-
--- nothing is due before the image has ended
-pub none_made : (way : FlipWay) (depth : ℕ) (sample_width : SampleWidth) (next columns : ℕ) (rows band : List (List ℕ)) (s : Shape) (y : ℕ) (row : List ℕ) → (turn_of way).exchanged ≡ true → band ≡ [] → columns ≡ 0
-    → transposed_due (transposed way depth sample_width rows band next columns) ≡ row_answer (Flip way) s y row
-none_made way depth sample_width next columns rows band s y row exchanged no_band no_column =
-    let none : columns - next ≡ 0 = omega arith in
-    let last_first : Bool = (turn_of way).columns_reversed in
-    ap (λ (l : List (List ℕ)). transposed_due (transposed way depth sample_width rows l next columns)) no_band
-    ∙ ap (λ (n : ℕ). in_order last_first (map (column_of depth rows) (range_with_len next n))) none
-    ∙ in_order_nil last_first
-    ∙ sym (row_moved way s y row (exchanged_moves (turn_of way) exchanged))
-
--- the band that is made holds the columns that were the next to be made
-pub first_made : (way : FlipWay) (depth : ℕ) (sample_width : SampleWidth) (next columns count : ℕ) (rows band : List (List ℕ)) → (turn_of way).columns_reversed ≡ false → next + count ≤ columns
-    → band ≡ reverse (map (column_of depth rows) (range_with_len next count))
-    → transposed_due (transposed way depth sample_width rows band (next + count) columns) ≡ transposed_due (transposed way depth sample_width rows [] next columns)
-first_made way depth sample_width next columns count rows band first_first within made =
-    let f : ℕ → List ℕ = column_of depth rows in
-    let parts : columns - next ≡ count + (columns - (next + count)) = omega arith in
-    let rest : List (List ℕ) = map f (range_with_len (next + count) (columns - (next + count))) in
-    ap (λ (b : Bool). reverse band ++ in_order b rest) first_first
-    ∙ ap (λ (l : List (List ℕ)). l ++ rest) (ap reverse made ∙ reverse-reverse (map f (range_with_len next count)))
-    ∙ sym (ap (λ (n : ℕ). map f (range_with_len next n)) parts ∙ map_in_parts f next count (columns - (next + count)))
-    ∙ ap (λ (b : Bool). in_order b (map f (range_with_len next (columns - next)))) (sym first_first)
-
--- where the last columns come first, they were the last ones
-pub last_made : (way : FlipWay) (depth : ℕ) (sample_width : SampleWidth) (next columns first count : ℕ) (rows made band : List (List ℕ)) → (turn_of way).columns_reversed ≡ true → next ≤ first → first + count ≡ columns
-    → made ≡ reverse (map (column_of depth rows) (range_with_len first count)) → band ≡ reverse made
-    → transposed_due (transposed way depth sample_width rows band next first) ≡ transposed_due (transposed way depth sample_width rows [] next columns)
-last_made way depth sample_width next columns first count rows made band last_first within ends is turned =
-    let f : ℕ → List ℕ = column_of depth rows in
-    let parts : (first - next) + count ≡ columns - next = omega arith in
-    let place : next + (first - next) ≡ first = omega arith in
-    let before : List (List ℕ) = map f (range_with_len next (first - next)) in
-    let last : List (List ℕ) = map f (range_with_len first count) in
-    let all : map f (range_with_len next (columns - next)) ≡ before ++ last =
-    ap (λ (n : ℕ). map f (range_with_len next n)) (sym parts) ∙ map_in_parts f next (first - next) count ∙ ap (λ (n : ℕ). before ++ map f (range_with_len n count)) place in
-    ap (λ (b : Bool). reverse band ++ in_order b before) last_first
-    ∙ ap (λ (l : List (List ℕ)). reverse l ++ reverse before) (turned ∙ ap reverse is ∙ reverse-reverse last)
-    ∙ sym (ap reverse all ∙ reverse-append before last)
-    ∙ ap (λ (b : Bool). in_order b (map f (range_with_len next (columns - next)))) (sym last_first)
-
--- ---- the head
-
--- a column of an image is within the limits where the head with its sizes exchanged is made
-column_small : (way : FlipWay) (head made : HeadValue) → (turn_of way).exchanged ≡ true → result_head (Flip way) head ≡ Ok made → head.shape.height * head.shape.depth ≤ MAX_ROW_LENGTH
-column_small way head made exchanged e = small_row (transposed_head_value head).shape ((is_turned way head made e).limits exchanged)
-
--- bytes hold samples up to 255
-narrow_suits : (s : Shape) (b : Bool) → nat_lt s.maxval 256 ≡ b → SuitsShape (if b then Bytes else Words) s
-narrow_suits s true e = let below : s.maxval < 256 = ltb-true s.maxval 256 e in omega arith
-narrow_suits s false e = tt
-
-kind_suits : (kind : Kind) (s : Shape) (text : List ℕ) → Suits kind s.depth s.maxval text → SuitsShape (sample_width_of kind s.maxval) s
-kind_suits Bit s text suits = (omega (arith, suits.1), suits.0)
-kind_suits Gray s text suits = narrow_suits s (nat_lt s.maxval 256) refl
-kind_suits Color s text suits = narrow_suits s (nat_lt s.maxval 256) refl
-kind_suits Pam s text suits = narrow_suits s (nat_lt s.maxval 256) refl
-
--- the rows of an image can be held as its kind and maxval ask
-width_suits : (s : Shape) (text : List ℕ) → Suits s.kind s.depth s.maxval text → SuitsShape (sample_width_of s.kind s.maxval) s
-width_suits s text suits = kind_suits s.kind s text suits
-
--- a transposer that has begun is ready for the first row
-pub ready_to_transpose : (w : Transposed) (head made : HeadValue) → (turn_of w.way).exchanged ≡ true → IsHead head → result_head (Flip w.way) head ≡ Ok made
-    → w.sample_width ≡ sample_width_of head.shape.kind head.shape.maxval → w.rows ≡ [] → w.band ≡ [] → w.next ≡ 0 → w.columns ≡ 0 → IsTransposing w head.shape []
-ready_to_transpose w head made exchanged sound e sample_width rows band next columns = record {
-  limits = sound.limits;
-  column = column_small w.way head made exchanged e;
-  sample_width = subst (λ (p : SampleWidth). SuitsShape p head.shape) (sym sample_width) (width_suits head.shape head.tuple_type sound.suits);
-  rows = rows;
-  lengths = All-nil (λ row. length row ≡ row_length head.shape);
-  none_made = (band, next, columns);
-}

@@ -10,6 +10,8 @@ pub mod CutRowLaws
 pub mod SizeLaws
 pub mod FlipRowLaws
 pub mod ColumnLaws
+pub mod StripLaws
+pub mod TransposeLaws
 pub mod BitColumnLaws
 pub mod EnlargeRowLaws
 pub mod InvertLaws

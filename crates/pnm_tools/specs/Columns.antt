@@ -11,6 +11,10 @@ pub record AreBlank {X : Type 0} (count samples : ℕ) (columns : List (Vec X Gl
 abbrev pub HaveRoom : {X : Type 0} → ℕ → List (Vec X Global) → Type 0
 HaveRoom {X = X} samples columns = (k : ℕ) (d : Vec X Global) → k < length columns → samples ≤ vec_len (slice_index_or columns k d)
 
+-- each has so many samples
+abbrev pub AreAsLong : {X : Type 0} → ℕ → List (Vec X Global) → Type 0
+AreAsLong {X = X} samples columns = (k : ℕ) (d : Vec X Global) → k < length columns → vec_len (slice_index_or columns k d) ≡ samples
+
 -- each of the first ones has got its samples behind those before a place, and is as long as it was; the others are as they were
 pub record HavePixels {X : Type 0} (count at : ℕ) (pixels : ℕ → List X) (old new : List (Vec X Global)) : Type 0 where
   pub many : length new ≡ length old

@@ -18,6 +18,7 @@ use Rattle.pnm_tools.specs.Cut.{columns_kept, rows_kept}
 use Rattle.pnm_tools.specs.Depth.{nearest_sample}
 use Rattle.pnm_tools.specs.Flip.{turn_of, moves_rows, in_order, turned_row, column_of}
 use Rattle.pnm_tools.specs.SampleRows.{SuitsShape}
+use Rattle.pnm_tools.specs.Strips.{HaveSizes, ReachColumns, coming_column, kept_column, kept_count}
 use Rattle.pnm_tools.specs.Tile.{tiled_row}
 
 -- ---- pamcut: the columns and the rows that are kept of an image
@@ -101,26 +102,28 @@ reversed_due w = elim w.ended [
 
 -- ---- pamflip where columns and rows are exchanged: all rows, and a band of rows of the result
 
--- the way, the planes of the image, how its rows are held, and the rows; the band, whose last row is given next; and of all the columns,
--- which become the rows of the result, those from `next` up to `columns` aren't in a band yet
+-- the way, the planes of the image, how its rows are held, the strips and the rows after them; the band, whose last row is given next;
+-- and of all the columns, which become the rows of the result, those from `next` up to `columns` aren't in a band yet
 pub record Transposed : Type 0 where
   pub way : FlipWay
   pub depth : ℕ
   pub sample_width : SampleWidth
+  pub strips : List (List ℕ)
   pub rows : List (List ℕ)
   pub band : List (List ℕ)
   pub next : ℕ
   pub columns : ℕ
 
-abbrev pub transposed : FlipWay → ℕ → SampleWidth → List (List ℕ) → List (List ℕ) → ℕ → ℕ → Transposed
-transposed way depth sample_width rows band next columns = record { way = way; depth = depth; sample_width = sample_width; rows = rows; band = band; next = next; columns = columns }
+abbrev pub transposed : FlipWay → ℕ → SampleWidth → List (List ℕ) → List (List ℕ) → List (List ℕ) → ℕ → ℕ → Transposed
+transposed way depth sample_width strips rows band next columns =
+    record { way = way; depth = depth; sample_width = sample_width; strips = strips; rows = rows; band = band; next = next; columns = columns }
 
--- each row has a pixel of each column, and a row of the result is within the limits; packed rows have one plane, and the next
--- column is the first of a byte
+-- each row has a pixel of each column, and each strip a part of each; a row of the result is within the limits; packed rows have one
+-- plane, and the next column is the first of a byte
 pub record HasColumns (w : Transposed) : Type 0 where
   pub way : (turn_of w.way).exchanged ≡ true
-  pub columns : All (λ row. w.columns * w.depth ≤ length row) w.rows
-  pub each : 0 < w.columns → length w.rows * w.depth ≤ MAX_ROW_LENGTH
+  pub reach : ReachColumns w.columns w.depth w.strips w.rows
+  pub each : 0 < w.columns → kept_count w.strips w.rows * w.depth ≤ MAX_ROW_LENGTH
   pub depth : w.depth ≤ MAX_DEPTH
   pub made : w.next ≤ w.columns
   pub one_plane : w.sample_width ≡ OfBits → 0 < w.columns → w.depth ≡ 1
@@ -130,12 +133,14 @@ pub record IsTransposing (w : Transposed) (s : Shape) (come : List (List ℕ)) :
   pub limits : IsWithinLimits s
   pub column : s.height * s.depth ≤ MAX_ROW_LENGTH
   pub sample_width : SuitsShape w.sample_width s
-  pub rows : w.rows ≡ come
-  pub lengths : All (λ row. length row ≡ row_length s) come
+  pub count : kept_count w.strips w.rows ≡ length come
+  pub same : (x : ℕ) → x < s.width → coming_column (turn_of w.way).rows_reversed s.depth w.strips w.rows x ≡ column_of s.depth (in_order (turn_of w.way).rows_reversed come) x
+  pub sizes : HaveSizes s.width s.depth w.strips w.rows
   pub none_made : (w.band ≡ []) × (w.next ≡ 0) × (w.columns ≡ 0)
 
 abbrev pub transposed_due : Transposed → List (List ℕ)
-transposed_due w = reverse w.band ++ in_order (turn_of w.way).columns_reversed (map (column_of w.depth w.rows) (range_with_len w.next (w.columns - w.next)))
+transposed_due w =
+    reverse w.band ++ in_order (turn_of w.way).columns_reversed (map (kept_column (turn_of w.way).rows_reversed w.depth w.strips w.rows) (range_with_len w.next (w.columns - w.next)))
 
 -- ---- pnmtile: what the result shows of the rows, the next one first
 

@@ -13,6 +13,7 @@ pub mod Tools
 pub mod Answers
 pub mod Answering
 pub mod Columns
+pub mod Strips
 pub mod SampleRows
 pub mod Keeping
 pub mod States

@@ -1,16 +1,22 @@
 -- Rows of one width of samples, and which columns of them are made side by side.
-use Rattle.std.specs.Prelude.{◌≡◌, ℕ, ◌%◌, ◌<◌, ◌≤◌, List, All}
+use Rattle.std.specs.Prelude.{◌≡◌, ℕ, ◌%◌, ◌<◌, ◌≤◌, List, [], All}
 use Rattle.pnm_image.specs.declared.sample_width.SampleWidth.{SampleWidth}
 use Rattle.pnm_image.specs.declared.sample_width.SampleWidth.TheVariants.{Bits as OfBits, Bytes as OfBytes, Words as OfWords}
 use Rattle.pnm_image.specs.declared.shape.Shape.{Shape}
 use Rattle.pnm_tools.specs.declared.sample_rows.SampleRows.{SampleRows}
 use Rattle.pnm_tools.specs.declared.sample_rows.SampleRows.TheVariants.{Bits, Bytes, Words}
 
--- the samples of each
+-- the samples of each row that stands in no strip
 abbrev pub row_lists : SampleRows → List (List ℕ)
 row_lists (Bits rows) = rows.items
-row_lists (Bytes rows) = rows.items
-row_lists (Words rows) = rows.items
+row_lists (Bytes kept) = kept.rows.items
+row_lists (Words kept) = kept.rows.items
+
+-- the samples of each strip
+abbrev pub strip_lists : SampleRows → List (List ℕ)
+strip_lists (Bits rows) = []
+strip_lists (Bytes kept) = kept.strips.items
+strip_lists (Words kept) = kept.strips.items
 
 -- how wide they are held
 abbrev pub rows_width : SampleRows → SampleWidth

@@ -42,7 +42,7 @@ worker (Picking w) = at_once (Channel w.tool) w.made (HasPlanes w.tool)
 worker (Enlarging w) = record { tool = Enlarge w.across w.down; due = enlarged_due w; kept = row_list w.row; ready = λ s rows. IsEnlarging w.across s }
 worker (FlippingRows w) = at_once (Flip w.tool) w.made (FlipsInRows w.tool)
 worker (ReversingRows w) = record { tool = Flip w.way; due = reversed_due w; kept = w.rows; ready = λ s rows. IsReversingRows w s rows }
-worker (Transposing w) = record { tool = Flip w.way; due = transposed_due w; kept = w.rows ++ w.band; ready = λ s rows. IsTransposing w s rows }
+worker (Transposing w) = record { tool = Flip w.way; due = transposed_due w; kept = w.strips ++ w.rows ++ w.band; ready = λ s rows. IsTransposing w s rows }
 worker (Tiling w) = record { tool = Tile w.width w.height; due = tiled_due w; kept = w.rows; ready = λ s rows. IsTiling w s rows }
 
 abbrev pub tool_of : Work → Tool

@@ -7,9 +7,11 @@ ghost use Rattle.pnm_tools.specs.declared.fault.ToolFault.TheVariants.{Memory};
 ghost use Rattle.pnm_tools.specs.Columns.{AreBlank, HaveRoom, HavePixels, samples_of};
 ghost use Rattle.pnm_tools.specs.Flip.{column_of};
 ghost use Rattle.pnm_tools.specs.Pixels.{pixel_of};
+ghost use Rattle.pnm_tools.specs.Strips.{ReachColumns, kept_column, kept_count};
 
 use crate::fault::ToolFault;
 use crate::row_of::RowOf;
+use crate::strip::{STRIP_ROWS, StripedRows};
 use pnm_image::{Bits, SampleVec, Samples};
 use std::alloc::Global;
 
@@ -66,29 +68,76 @@ pub(crate) fn last_first<C: Column>(
 /// So many columns of the rows, from the first one on.
 pub(crate) fn columns_of<T: Copy + Default>(
     alloc: Global,
-    rows: &[RowOf<T>],
+    kept: &StripedRows<T>,
+    rows_first: bool,
     first: usize,
     count: usize,
     depth: usize,
 ) -> Result<Vec<Vec<T>>, ToolFault>
-    requires rows { All (λ row. (first + count) * depth ≤ length row) rows.now }
-    requires sizes { (length rows.now * depth ≤ MAX_ROW_LENGTH) × (depth ≤ MAX_DEPTH)
-        × (first + count ≤ 4294967295) }
+    requires reach { ReachColumns (first + count) depth kept.now.strips.items kept.now.rows.items }
+    requires sizes { (kept_count kept.now.strips.items kept.now.rows.items * depth ≤ MAX_ROW_LENGTH)
+        × (depth ≤ MAX_DEPTH) × (first + count ≤ 4294967295) }
     ensures made { IfOk result (λ columns. samples_of columns.items
-        ≡ map (column_of depth rows.now) (range_with_len first count)) }
+        ≡ map (kept_column rows_first depth kept.now.strips.items kept.now.rows.items) (range_with_len first count)) }
     ensures refused { IfErr result (λ fault. fault ≡ Memory) }
 {
     // The columns have their length first, and what is stored then grows nothing.
-    let mut columns = blank_columns(alloc, count, rows.len() * depth)?;
+    let samples = STRIP_ROWS * depth * kept.strips.len() + depth * kept.rows.len();
+    let mut columns = blank_columns(alloc, count, samples)?;
+    put_kept(columns.as_mut_slice(), kept, rows_first, first, depth);
+    Ok(columns)
+}
+
+/// Stores columns of the rows, each from its first sample on: of those in strips and of those that came
+/// after them, or of the latter first.
+fn put_kept<T: Copy>(
+    columns: &mut [Vec<T>],
+    kept: &StripedRows<T>,
+    rows_first: bool,
+    first: usize,
+    depth: usize,
+)
+    requires reach { ReachColumns (first + length columns.old) depth kept.now.strips.items kept.now.rows.items }
+    requires sizes { (kept_count kept.now.strips.items kept.now.rows.items * depth ≤ MAX_ROW_LENGTH)
+        × (depth ≤ MAX_DEPTH) × (first + length columns.old ≤ 4294967295) }
+    requires room { HaveRoom (kept_count kept.now.strips.items kept.now.rows.items * depth) columns.old }
+    ensures { HavePixels (length columns.old) 0
+        (λ k. kept_column rows_first depth kept.now.strips.items kept.now.rows.items (first + k))
+        columns.old columns.new }
+{
+    let (strips, rows) = (kept.strips.as_slice(), kept.rows.as_slice());
+    let part = STRIP_ROWS * depth;
+    if rows_first {
+        put_all(columns, 0, rows, first, depth);
+        put_rows(columns, rows.len() * depth, strips, first, part);
+    } else {
+        put_rows(columns, 0, strips, first, part);
+        put_all(columns, strips.len() * part, rows, first, depth);
+    }
+}
+
+/// Stores rows' pixels from this place of each column on, a row after the other, four rows at a time.
+pub(crate) fn put_all<T: Copy>(
+    columns: &mut [Vec<T>],
+    at: usize,
+    rows: &[RowOf<T>],
+    first: usize,
+    depth: usize,
+)
+    requires rows { All (λ row. (first + length columns.old) * depth ≤ length row) rows.now }
+    requires sizes { (at + length rows.now * depth ≤ MAX_ROW_LENGTH) × (depth ≤ MAX_DEPTH)
+        × (first + length columns.old ≤ 4294967295) }
+    requires room { HaveRoom (at + length rows.now * depth) columns.old }
+    ensures { HavePixels (length columns.old) at (λ k. column_of depth rows.now (first + k))
+        columns.old columns.new }
+{
     let fours = rows.len() / 4;
     for group in 0..fours {
         let y = 4 * group;
-        let four = &rows[y..y + 4];
-        put_four(columns.as_mut_slice(), y * depth, four, first, depth);
+        put_four(columns, at + y * depth, &rows[y..y + 4], first, depth);
     }
     let y = 4 * fours;
-    put_rows(columns.as_mut_slice(), y * depth, &rows[y..], first, depth);
-    Ok(columns)
+    put_rows(columns, at + y * depth, &rows[y..], first, depth);
 }
 
 /// Stores four rows' pixels from this place of each column on, a row after the other.
@@ -194,7 +243,7 @@ fn put_pixels<T: Copy>(columns: &mut [Vec<T>], at: usize, row: &[T], first: usiz
 }
 
 /// So many columns of so many samples, which are still to be stored.
-fn blank_columns<T: Copy + Default>(
+pub(crate) fn blank_columns<T: Copy + Default>(
     alloc: Global,
     count: usize,
     samples: usize,

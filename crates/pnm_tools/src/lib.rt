@@ -21,6 +21,7 @@ mod row_state;
 mod rows;
 mod sample_rows;
 mod state;
+mod strip;
 mod tile;
 mod tool;
 mod transpose;

@@ -16,7 +16,7 @@ use std::marker::Model;
 
 /// Exchanges columns and rows: keeps the rows of an image, and gives its columns. Where the order of
 /// the rows is reversed, that of the kept rows is once the image has ended; where that of the columns
-/// is, they are made from the last one on. So no sample is moved twice.
+/// is, they are made from the last one on.
 #[derive(Debug, Drop)]
 pub struct Transposer {
     way: FlipWay,
@@ -32,13 +32,13 @@ pub struct Transposer {
 
 impl Model for Transposer {
     ghost use Rattle.pnm_tools.specs.Keeping.{Transposed, transposed, HasColumns};
-    ghost use Rattle.pnm_tools.specs.SampleRows.{row_lists, rows_width};
+    ghost use Rattle.pnm_tools.specs.SampleRows.{row_lists, strip_lists, rows_width};
 
     ghost Value = { Transposed };
 
-    ghost view = { λ w. transposed w.way w.depth (rows_width w.rows) (row_lists w.rows) w.band.items w.next w.columns };
+    ghost view = { λ w. transposed w.way w.depth (rows_width w.rows) (strip_lists w.rows) (row_lists w.rows) w.band.items w.next w.columns };
 
-    ghost invariant = { λ w. HasColumns (transposed w.way w.depth (rows_width w.rows) (row_lists w.rows) w.band.items w.next w.columns) };
+    ghost invariant = { λ w. HasColumns (transposed w.way w.depth (rows_width w.rows) (strip_lists w.rows) (row_lists w.rows) w.band.items w.next w.columns) };
 }
 
 impl Maker for Transposer {
@@ -48,7 +48,7 @@ impl Maker for Transposer {
 
     ghost due = { transposed_due };
 
-    ghost kept = { λ w. w.rows ++ w.band };
+    ghost kept = { λ w. w.strips ++ w.rows ++ w.band };
 
     fn begin(&mut self, alloc: Global, head: &Head) -> Result<Head, ToolFault> {
         let transposed = flipped_head(alloc, self.way, head)?;
@@ -62,17 +62,18 @@ impl Maker for Transposer {
     fn take(
         &mut self,
         alloc: Global,
-        _shape: Shape,
+        shape: Shape,
         _y: u32,
         row: Samples,
     ) -> Result<(), ToolFault> {
-        self.rows.push(alloc, row)
+        self.rows.push(alloc, row)?;
+        let last_first = self.way.turn().rows_reversed;
+        self.rows.fill_strip(alloc, last_first, shape)
     }
 
     fn end(&mut self, shape: Shape) {
-        if self.way.turn().rows_reversed {
-            self.rows.reverse();
-        }
+        let last_first = self.way.turn().rows_reversed;
+        self.rows.put_in_order(last_first);
         self.depth = shape.depth;
         self.columns = shape.width;
     }
@@ -98,7 +99,7 @@ impl Transposer {
     pub(crate) fn new(alloc: Global, way: FlipWay) -> Transposer
         requires { (turn_of way).exchanged ≡ true }
         ensures way { result.way ≡ way }
-        ensures rows { result.rows ≡ [] }
+        ensures rows { (result.strips ≡ []) × (result.rows ≡ []) }
         ensures band { result.band ≡ [] }
     {
         Transposer {
@@ -114,7 +115,7 @@ impl Transposer {
     /// Gives up all rows and columns.
     fn clear(&mut self, alloc: Global)
         ensures way { self.new.way ≡ self.old.way }
-        ensures rows { (self.new.rows ≡ []) × (self.new.band ≡ []) }
+        ensures rows { (self.new.strips ≡ []) × (self.new.rows ≡ []) × (self.new.band ≡ []) }
         ensures columns { (self.new.next ≡ 0) × (self.new.columns ≡ 0) }
     {
         self.columns = 0;
@@ -134,7 +135,10 @@ impl Transposer {
     {
         let count = (self.columns - self.next).min(self.rows.band_length());
         let (first, depth) = (self.next as usize, self.depth as usize);
-        self.band = self.rows.band(alloc, first, count as usize, depth)?;
+        let rows_first = self.way.turn().rows_reversed;
+        self.band = self
+            .rows
+            .band(alloc, rows_first, first, count as usize, depth)?;
         self.next += count;
         Ok(())
     }
@@ -151,9 +155,10 @@ impl Transposer {
     {
         let count = (self.columns - self.next - 1) % self.rows.band_length() + 1;
         let (first, depth) = (self.columns - count, self.depth as usize);
+        let rows_first = self.way.turn().rows_reversed;
         let mut band = self
             .rows
-            .band(alloc, first as usize, count as usize, depth)?;
+            .band(alloc, rows_first, first as usize, count as usize, depth)?;
         band.reverse();
         self.band = band;
         self.columns = first;

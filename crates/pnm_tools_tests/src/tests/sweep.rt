@@ -212,6 +212,29 @@ fn turns_each_height_by_three(rt: HostRuntime) -> Result<(), Fail> {
     sweeps_heights(&rt, rt.alloc(), FlipWay::Rotate270)
 }
 
+/// Images of many rows: they are kept in strips of 64, but for the last ones, where there are at least 1,024.
+fn sweeps_strips(rt: &impl Abort, alloc: Global, way: FlipWay) -> Result<(), Fail> {
+    for (width, height) in [(1, 1023), (2, 1024), (66, 1093)] {
+        sweeps(rt, alloc, &Tool::Flip(way), width, height)?;
+    }
+    Ok(())
+}
+
+#[test]
+fn transposes_many_rows(rt: HostRuntime) -> Result<(), Fail> {
+    sweeps_strips(&rt, rt.alloc(), FlipWay::Transpose)
+}
+
+#[test]
+fn turns_many_rows_by_a_quarter(rt: HostRuntime) -> Result<(), Fail> {
+    sweeps_strips(&rt, rt.alloc(), FlipWay::Rotate90)
+}
+
+#[test]
+fn turns_many_rows_by_three(rt: HostRuntime) -> Result<(), Fail> {
+    sweeps_strips(&rt, rt.alloc(), FlipWay::Rotate270)
+}
+
 /// One to five planes, in bits, bytes and words.
 const DEPTHS: [ImageType; 3] = [
     (Kind::Pam, 1, SampleWidth::Bits),
