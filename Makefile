@@ -4,7 +4,7 @@ PROGRAM := crates/pnmpipe
 # where the tests stand: a library's in a crate of their own
 TESTED := pnm_samples_tests pnm_image_tests pnm_read_tests pnm_tools_tests pnm_write_tests pnm_chain_tests pnm_lanes_tests pnm_flow_tests pnmpipe
 
-.PHONY: all bench bench-files built check controls deb dist help install lanes long-stream pictures recipes refused scripts soak test toolchain uninstall
+.PHONY: all bench bench-files built check controls deb dist help install lanes long-stream near pass pictures recipes refused scripts soak test toolchain uninstall
 
 # where `make install` puts things, below DESTDIR
 PREFIX ?= /usr/local
@@ -19,22 +19,17 @@ SHIMS := pnminvert pamcut pamdepth pamchannel pamenlarge pamflip pnmtile pnmcut 
 # crates whose tests of want of memory are refused each allocation
 REFUSED := pnm_tools_tests pnm_chain_tests pnm_flow_tests pnmpipe
 
-# the crates that most others stand on, those below first
-BELOW := pnm_samples pnm_image pnm_tools pnm_rings pnm_stages pnm_lanes pnm_read pnm_write pnm_flow pnm_chain
-
 # how long `make soak` starts runs
 SECONDS ?= 60
 
-# the crates that others stand on one after the other, each by all processors, since side by side each gets one; then the rest
+# the crates that the program stands on, side by side where they can be, and the program, as bin/pnmpipe; the tests, their
+# crates, the edits and the soak are left to `make check`
 all: toolchain
-	mkdir -p bin
-	for crate in $(BELOW); do (cd crates/$$crate && rt lib) || exit 1; done
-	rt all check --jobs $$(nproc)
-	cd $(PROGRAM) && rt run -- pnminvert < stdin > ../../bin/stored-run
-	cmp bin/stored-run $(PROGRAM)/stdout
-	rm bin/stored-run
-	cp $(PROGRAM)/out/pnmpipe bin/pnmpipe
-	python3 scripts/refused.py start
+	python3 scripts/build.py
+
+# crates that were changed, CRATES="..": in minutes, over what earlier checks kept; and from nothing, as the gate judges them
+near pass: toolchain
+	python3 scripts/change.py $@ $(CRATES)
 
 # one check a processor, each of at most 4 GB; then each allocation and each start of a thread is refused in turn, of the
 # program and the tests that the gate has left, the program's input is silent, and the scripts, pages and documents are
@@ -131,7 +126,9 @@ toolchain:
 	@$(if $(shell command -v rt),:,$(error the command rt of the Rattle toolchain is not on the PATH))
 
 help:
-	@echo "make                 proves the crates, builds the program and leaves it as bin/pnmpipe"
+	@echo "make                 proves the crates that the program stands on, builds it and leaves it as bin/pnmpipe"
+	@echo "make near CRATES=..  tries changed crates in minutes: layout, proof, edits that must fail, tests as they stand, and the crates above"
+	@echo "make pass CRATES=..  proves changed crates, their tests and edits from nothing, as the gate does, with what they stand on"
 	@echo "make test            the tests alone, without their proofs"
 	@echo "make check           the whole gate: every proof, the edits that must fail, the tests, the stored runs, refused allocations, silent inputs, scripts and pages"
 	@echo "make bench           times the program that make has left beside Netpbm's own tools, on large images, narrow rows and small images"

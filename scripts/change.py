@@ -1,0 +1,121 @@
+#!/usr/bin/env python3
+"""Tries crates that were changed: `near` in minutes, over what was kept, `pass` from nothing, as the gate does.
+
+near: of each crate the layout, its check, the edits that must fail and the tests as they stand, unproved; then the
+check of each crate that stands on one of them. pass: `rt ci` over a temporary copy, below TMPDIR, of these crates and
+their tests, and of all that they stand on, the latter without edits. Neither takes the place of `make check`, which
+is the gate.
+"""
+
+import argparse
+import os
+import shutil
+import subprocess
+import sys
+import tempfile
+
+from crates import ROOT, SOURCES, Ended, above, below, end_by_signals, read_crates, tests_of
+
+
+def say(text):
+    print(f"change: {text}", flush=True)
+
+
+def call(folder, *words):
+    """Runs rt; ends this script where it fails."""
+    place = os.path.relpath(folder, ROOT)
+    say(f"rt {' '.join(words)}" + (f", in {place}" if place != "." else ""))
+    status = subprocess.run(["rt", *words], cwd=folder).returncode
+    if status:
+        sys.exit(f"change: rt {' '.join(words)} in {place} FAILED, status {status}")
+
+
+def copied(name, folder, parts):
+    """A copy of these parts of a crate, or of all but what checks left."""
+    source, target = os.path.join(ROOT, "crates", name), os.path.join(folder, "crates", name)
+    os.makedirs(target)
+    for part in parts or (it for it in os.listdir(source) if it != "out"):
+        path = os.path.join(source, part)
+        if os.path.isdir(path):
+            shutil.copytree(path, os.path.join(target, part))
+        elif os.path.isfile(path):
+            shutil.copy(path, target)
+    return target
+
+
+def is_laid_out(name):
+    """Whether rt fmt, which mends files in place, finds nothing to mend in a copy."""
+    with tempfile.TemporaryDirectory() as folder:
+        copy = copied(name, folder, SOURCES)
+        made = subprocess.run(["rt", "fmt"], cwd=copy, capture_output=True, text=True, check=False)
+    if made.returncode or "formatted" in made.stdout:
+        print(made.stdout + made.stderr, end="")
+    return made.returncode == 0 and "formatted" not in made.stdout
+
+
+def has_tests(folder):
+    """Whether a crate has a test."""
+    for at, _, files in os.walk(os.path.join(folder, "src")):
+        for file in files:
+            with open(os.path.join(at, file), encoding="utf-8") as text:
+                if "#[test]" in text.read():
+                    return True
+    return False
+
+
+def near(crates, names):
+    folders = {name: os.path.join(ROOT, "crates", name) for name in crates}
+    for name in names:
+        say(f"the layout of {name}")
+        if not is_laid_out(name):
+            sys.exit(f"change: {name} isn't laid out: run rt fmt in crates/{name}")
+    for name in names:
+        call(folders[name], "check")
+    call(ROOT, "must-fail", *names)
+    for tests in dict.fromkeys(it for name in names for it in tests_of(crates, name)):
+        if has_tests(folders[tests]):
+            call(folders[tests], "try", "--test", "--seconds", "600")
+    for name in above(crates, names):
+        call(folders[name], "check")
+    say(f"{', '.join(names)} and what stands on them hold; `make check` is the gate")
+    return 0
+
+
+def pass_alone(crates, names):
+    whole = set(names).union(*(tests_of(crates, name) for name in names))
+    taken = whole.union(*(below(crates, name) for name in whole))
+    with tempfile.TemporaryDirectory(prefix="pnmpipe-pass-") as folder:
+        # (rt ci wants crates.txt at the top of a repository)
+        os.mkdir(os.path.join(folder, ".git"))
+        shutil.copy(os.path.join(ROOT, "HANDLES"), folder)
+        with open(os.path.join(ROOT, "crates.txt"), encoding="utf-8") as file:
+            lines = [line for line in file if line.partition(":")[0].strip() in taken]
+        with open(os.path.join(folder, "crates.txt"), "w", encoding="utf-8") as file:
+            file.writelines(lines)
+        for name in taken:
+            copied(name, folder, () if name in whole else SOURCES)
+        named = ", ".join(it for it in crates if it in whole)
+        say(f"rt ci over {named}, and {len(taken - whole)} crates that these stand on")
+        environment = {"RT_JOBS": str(len(os.sched_getaffinity(0))), **os.environ}
+        return subprocess.run(["rt", "ci"], cwd=folder, env=environment).returncode
+
+
+def main():
+    crates = read_crates()
+    parser = argparse.ArgumentParser(description=__doc__.split("\n")[0])
+    parser.add_argument("how", choices=["near", "pass"])
+    parser.add_argument("crates", nargs="+", metavar="CRATE", help="names of crates, as crates.txt has them")
+    args = parser.parse_args()
+    unknown = [name for name in args.crates if name not in crates]
+    if unknown:
+        parser.error(f"crates.txt has no {', '.join(unknown)}")
+    names = [name for name in crates if name in args.crates]
+    end_by_signals()
+    try:
+        return near(crates, names) if args.how == "near" else pass_alone(crates, names)
+    except Ended as ended:
+        return 128 + ended.args[0]
+
+
+if __name__ == "__main__":
+    sys.exit(main())

@@ -1,0 +1,58 @@
+"""The crates of crates.txt, what each stands on, and what stands on it. For scripts that prove some of them."""
+
+import os
+import signal
+
+ROOT = os.path.dirname(os.path.dirname(os.path.abspath(__file__)))
+
+# what a check reads of a crate
+SOURCES = ("src", "specs", "proofs")
+
+SIGNALS = (signal.SIGINT, signal.SIGTERM, signal.SIGHUP)
+
+
+class Ended(Exception):
+    """One of the signals came: what was begun is ended, and copies are removed, on the way out."""
+
+
+def end_by_signals():
+    """Has the first of the signals raise Ended."""
+
+    def end(number, _):
+        for other in SIGNALS:
+            signal.signal(other, signal.SIG_IGN)
+        raise Ended(number)
+
+    for number in SIGNALS:
+        signal.signal(number, end)
+
+
+def read_crates():
+    """Each crate with the crates of this repository that its line names, those that others stand on before these."""
+    lines = {}
+    with open(os.path.join(ROOT, "crates.txt"), encoding="utf-8") as file:
+        for line in file:
+            name, bar, words = line.partition("#")[0].partition(":")
+            if bar:
+                lines[name.split()[0]] = words.split()
+    named = {name: [word for word in words if word in lines] for name, words in lines.items()}
+    return {name: named[name] for name in sorted(named, key=lambda it: len(below(named, it)))}
+
+
+def below(crates, name):
+    """All crates that this one stands on."""
+    found = set(crates[name])
+    return found.union(*(below(crates, it) for it in found))
+
+
+def above(crates, names):
+    """All crates that stand on one of these, lowest first."""
+    return [it for it in crates if it not in names and below(crates, it) & set(names)]
+
+
+def tests_of(crates, name):
+    """Where a crate's tests stand: in one of its name, or in those that name it, or else in itself, as the
+    program's."""
+    if f"{name}_tests" in crates:
+        return [f"{name}_tests"]
+    return [it for it in crates if it.endswith("_tests") and name in crates[it]] or [name]
