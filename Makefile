@@ -4,7 +4,7 @@ PROGRAM := crates/pnmpipe
 # where the tests stand: a library's in a crate of their own
 TESTED := pnm_samples_tests pnm_image_tests pnm_read_tests pnm_tools_tests pnm_write_tests pnm_chain_tests pnm_lanes_tests pnm_flow_tests pnmpipe
 
-.PHONY: all bench bench-files built check controls deb dist help install lanes long-stream near pass pictures recipes refused scripts soak test toolchain uninstall
+.PHONY: all bench bench-files bench-sweep built check controls deb dist help install lanes long-stream near pass pictures recipes refused scripts soak test toolchain uninstall
 
 # where `make install` puts things, below DESTDIR
 PREFIX ?= /usr/local
@@ -96,6 +96,10 @@ bench:
 	python3 scripts/bench.py
 	python3 scripts/bench_narrow.py
 
+# all tools by kinds of images and by options, beside Netpbm's own: which pairs take more processor time than these
+bench-sweep:
+	python3 scripts/bench.py --sweep
+
 # many small files in each way, beside Netpbm: a table, for a quiet machine
 bench-files:
 	python3 scripts/bench_files.py
@@ -132,6 +136,7 @@ help:
 	@echo "make test            the tests alone, without their proofs"
 	@echo "make check           the whole gate: every proof, the edits that must fail, the tests, the stored runs, refused allocations, silent inputs, scripts and pages"
 	@echo "make bench           times the program that make has left beside Netpbm's own tools, on large images, narrow rows and small images"
+	@echo "make bench-sweep     all tools by kinds of images and by options, and which take more processor time than Netpbm's"
 	@echo "make bench-files     times many small files in each way, beside Netpbm's own tools"
 	@echo "make lanes           times the program that make has left with 1, 2, 4 and 8 lanes"
 	@echo "make long-stream     passes a stream of 4 GiB through the program that make has left, and wants less than 32 MB of memory"

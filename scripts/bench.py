@@ -12,6 +12,9 @@ bytes as the tool makes, from a block of the whole image for tools that keep one
 After the tools come those whose result is plain text: the program with --plain beside the Netpbm tool with -plain. Their
 lines differ, so what both have written is read again, by the program and by Netpbm, and the four raw images are compared.
 The program in C that --floor names there writes the same text from a table of the texts of all samples.
+
+With --sweep, all tools by kinds of images and by options in their place, and the pairs that take more processor time than
+Netpbm's tool: `bench_sweep.py`, which gets the words behind it.
 """
 
 import argparse
@@ -333,7 +336,13 @@ def main():
     parser.add_argument("--runs", type=int, default=5)
     parser.add_argument("--floor", action="store_true", help="also a program that does no more than has to be done")
     parser.add_argument("--folder", default="/dev/shm" if os.path.isdir("/dev/shm") else None)
+    parser.add_argument("--sweep", nargs=argparse.REMAINDER, metavar="WORD", help="the words for bench_sweep.py")
     args = parser.parse_args()
+    if args.sweep is not None:
+        # (it imports this file)
+        import bench_sweep
+
+        return bench_sweep.main(["--program", args.program, *args.sweep])
     with tempfile.TemporaryDirectory(dir=args.folder) as folder:
         table = Table(args, folder)
         images = written_images(folder, args.image)
