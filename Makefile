@@ -50,6 +50,7 @@ scripts:
 	python3 scripts/check_page.py
 	sh scripts/check_scripts.sh
 	python3 scripts/test_helpers.py --program $(BUILT)
+	python3 scripts/test_build.py
 	python3 scripts/pictures.py --check --program $(BUILT)
 
 built:
