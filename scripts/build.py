@@ -21,7 +21,7 @@ import time
 from crates import ROOT, SOURCES, Ended, below, end_by_signals, read_crates
 
 PROGRAM = "pnmpipe"
-TOLD = "from nothing it took 10 minutes on 4 cores of a virtual machine, with other work beside it"
+TOLD = "from nothing it took some 25 minutes on 4 cores of a virtual machine that was shared with other work"
 
 # what a check leaves of a crate, and how much memory two checks want
 LEFT = ("incremental", "rlib")
