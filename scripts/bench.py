@@ -2,19 +2,19 @@
 """Times bin/pnmpipe beside Netpbm's own tools, in one run: file to memory, medians, the bytes compared.
 
 A line for each image and tool: wall seconds, processor seconds and the greatest resident memory in MB (that of this
-script, some 15 MB, is the least that shows) of the program, of each program named by --beside NAME=PATH, of the Netpbm
-tool, and where `vips` is installed of its turn by as many quarters, and the program's wall time over Netpbm's. Needs some
-1.5 GB of memory for files, in /dev/shm or --folder.
-With --floor, also those of a program in C (cc builds it) that reads 4,096 bytes at a time and writes 64 KiB at a time as many
-bytes as the tool makes, from a block of the whole image for tools that keep one, and does nothing else. Beside other work,
-`chrt -f 10` before this script's name gives figures that can be compared.
+script, some 15 MB, is the least that shows) of the program, of each program named by --beside NAME=PATH, of the
+Netpbm tool, and where `vips` is installed of its turn by as many quarters, and the program's wall time over Netpbm's.
+Needs some 1.5 GB of memory for files, in /dev/shm or --folder. With --floor, also those of a program in C (cc builds
+it) that reads 4,096 bytes at a time and writes 64 KiB at a time as many bytes as the tool makes, from a block of the
+whole image for tools that keep one, and does nothing else. Beside other work, `chrt -f 10` before this script's name
+gives figures that can be compared.
 
-After the tools come those whose result is plain text: the program with --plain beside the Netpbm tool with -plain. Their
-lines differ, so what both have written is read again, by the program and by Netpbm, and the four raw images are compared.
-The program in C that --floor names there writes the same text from a table of the texts of all samples.
+After the tools come those whose result is plain text: the program with --plain beside the Netpbm tool with -plain.
+Their lines differ, so what both have written is read again, by the program and by Netpbm, and the four raw images are
+compared. The program in C that --floor names there writes the same text from a table of the texts of all samples.
 
-With --sweep, all tools by kinds of images and by options in their place, and the pairs that take more processor time than
-Netpbm's tool: `bench_sweep.py`, which gets the words behind it.
+With --sweep, all tools by kinds of images and by options in their place, and the pairs that take more processor time
+than Netpbm's tool: `bench_sweep.py`, which gets the words behind it.
 """
 
 import argparse
@@ -95,7 +95,8 @@ int main(int count, char **words) {
 PLAIN_TOOLS = ["pnminvert"]
 PLAIN_IMAGES = ["scan", "color", "gray16"]
 
-# Writes the inverted image of standard input as plain text. The arguments: the digit of the magic, width, height and maxval.
+# Writes the inverted image of standard input as plain text. The arguments: the digit of the magic, width, height and
+# maxval.
 PLAIN_FLOOR = r"""
 #include <stdio.h>
 #include <stdlib.h>
@@ -175,7 +176,8 @@ int main(int count, char **words) {
 # What the options and names of tools have that keep an image.
 KEEPING = ("-tb", "-xy", "-r90", "-r180", "-r270", "pnmtile")
 
-# The angles of vips, which turns clockwise, and the names by which it writes each kind of image, without a comment in the header.
+# The angles of vips, which turns clockwise, and the names by which it writes each kind of image, without a comment in
+# the header.
 VIPS_TURNS = {"pamflip -r90": "d270", "pamflip -r180": "d180", "pamflip -r270": "d90"}
 VIPS_KINDS = {"scan": ".pbm[strip]", "color": ".ppm[strip]", "gray": ".pgm[strip]", "gray16": ".pgm[strip]"}
 
@@ -331,7 +333,7 @@ def main():
     parser.add_argument("--program", default="bin/pnmpipe")
     parser.add_argument("--beside", action="append", default=[], metavar="NAME=PATH")
     parser.add_argument("--image", action="append", choices=[name for name, _, _ in IMAGES])
-    parser.add_argument("--tool", action="append", help="a chain of one tool; by default, all of the list, and then plain text")
+    parser.add_argument("--tool", action="append", help="a chain of one tool; by default all, and then plain text")
     parser.add_argument("--plain", action="store_true", help="plain text alone")
     parser.add_argument("--runs", type=int, default=5)
     parser.add_argument("--floor", action="store_true", help="also a program that does no more than has to be done")

@@ -1,9 +1,9 @@
 #!/usr/bin/env python3
 """Times many small files through one chain, in each way, beside Netpbm: files a second, the results compared.
 
-The ways: pnmpipe-files; one call of pnmpipe over all files as a stream, parted by pnmpipe-split; one call for each file, one
-after another; and Netpbm's tools in a pipe of the shell, one file after another and by xargs on all processors. For a quiet
-machine, with the program that make has left and Netpbm.
+The ways: pnmpipe-files; one call of pnmpipe over all files as a stream, parted by pnmpipe-split; one call for each
+file, one after another; and Netpbm's tools in a pipe of the shell, one file after another and by xargs on all
+processors. For a quiet machine, with the program that make has left and Netpbm.
 """
 
 import argparse
@@ -21,11 +21,13 @@ CHAIN = "pamcut -left 8 | pamflip -lr | pnminvert"
 
 WAYS = {
     "pnmpipe-files, all processors": 'pnmpipe-files "$CHAIN" out in/*.pgm 2> /dev/null',
-    "one pnmpipe over all, pnmpipe-split": 'xargs -d "\\n" cat -- < list | pnmpipe "$CHAIN" | pnmpipe-split --names list out/',
+    "one pnmpipe over all, pnmpipe-split": 'xargs -d "\\n" cat -- < list | pnmpipe "$CHAIN" '
+    "| pnmpipe-split --names list out/",
     "one pnmpipe a file, in turn": 'for file in in/*.pgm; do pnmpipe "$CHAIN" < "$file" > "out/${file##*/}"; done',
-    "Netpbm a file, in turn": 'for file in in/*.pgm; do pamcut -left 8 "$file" | pamflip -lr | pnminvert > "out/${file##*/}"; done',
-    "Netpbm by xargs, all processors": 'xargs -a list -d "\\n" -P "$(nproc)" -n 32 sh -c \'for file; do pamcut -left 8 "$file" | '
-    'pamflip -lr | pnminvert > "out/${file##*/}"; done\' sh',
+    "Netpbm a file, in turn": 'for file in in/*.pgm; do pamcut -left 8 "$file" | pamflip -lr | pnminvert '
+    '> "out/${file##*/}"; done',
+    "Netpbm by xargs, all processors": 'xargs -a list -d "\\n" -P "$(nproc)" -n 32 sh -c \'for file; do '
+    'pamcut -left 8 "$file" | pamflip -lr | pnminvert > "out/${file##*/}"; done\' sh',
 }
 
 
@@ -63,16 +65,18 @@ def main():
         os.mkdir(f"{folder}/bin")
         os.symlink(os.path.abspath(options.program), f"{folder}/bin/pnmpipe")
         path = f"{folder}/bin:{ROOT}/scripts:{os.environ['PATH']}"
+        environment = {**os.environ, "PATH": path, "CHAIN": CHAIN}
         fill(folder, options.files, width, height)
         wanted = None
-        print(f"| {options.files} files of {options.size}, `{CHAIN.replace('|', chr(92) + '|')}` | files a second |\n|---|---|")
+        chain = CHAIN.replace("|", "\\|")
+        print(f"| {options.files} files of {options.size}, `{chain}` | files a second |\n|---|---|")
         for name, script in WAYS.items():
             times = []
             for _ in range(options.runs):
                 shutil.rmtree(f"{folder}/out", ignore_errors=True)
                 os.mkdir(f"{folder}/out")
                 start = time.perf_counter()
-                subprocess.run(["sh", "-c", script], cwd=folder, env={**os.environ, "PATH": path, "CHAIN": CHAIN}, check=True)
+                subprocess.run(["sh", "-c", script], cwd=folder, env=environment, check=True)
                 times.append(time.perf_counter() - start)
             made = results(folder)
             wanted = wanted or made

@@ -1,8 +1,8 @@
 #!/usr/bin/env python3
-"""Times bin/pnmpipe over narrow rows and small images beside a shell pipe of Netpbm's tools, in one run: file to memory,
-medians, the bytes compared. A line for each image and chain: wall seconds, processor seconds and the greatest resident
-memory in MB of the program, of each program named by --beside NAME=PATH and of the pipe, and the program's wall time over
-the pipe's."""
+"""Times bin/pnmpipe over narrow rows and small images beside a shell pipe of Netpbm's tools, in one run: file to
+memory, medians, the bytes compared. A line for each image and chain: wall seconds, processor seconds and the greatest
+resident memory in MB of the program, of each program named by --beside NAME=PATH and of the pipe, and the program's
+wall time over the pipe's."""
 
 import argparse
 import os

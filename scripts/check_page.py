@@ -2,9 +2,9 @@
 """Wants the manual page, the documents and the completion to say what the sources do.
 
 The page's SYNOPSIS is the usage line of the program, and the page names each fault, tool and option that the crates
-name. Each edit that docs/PROMISES.md names stands in a crate's must-fail, each link of the README and of docs leads to a
-file, and lines there wrap at 100 columns but for tables. Options and tools of the completion stand in the page, and the
-other way round. Where mandoc is installed, it has to find nothing in the pages.
+name. Each edit that docs/PROMISES.md names stands in a crate's must-fail, each link of the README and of docs leads
+to a file, and lines there wrap at 100 columns but for tables. Options and tools of the completion stand in the page,
+and the other way round. Where mandoc is installed, it has to find nothing in the pages.
 """
 
 import glob
@@ -26,7 +26,8 @@ def read(path):
 
 
 def sources():
-    return [path for path in glob.glob(os.path.join(ROOT, "crates/*/src/**/*.rt"), recursive=True) if "_tests/" not in path]
+    paths = glob.glob(os.path.join(ROOT, "crates/*/src/**/*.rt"), recursive=True)
+    return [path for path in paths if "_tests/" not in path]
 
 
 def synopsis(page):
@@ -100,7 +101,7 @@ def faults_of_documents():
         for name in re.findall(r"`(\w+)`", block):
             if name not in edits:
                 found.append(f"docs/PROMISES.md names the edit {name}, which no crate has")
-    for path in ["README.md"] + ["docs/" + name for name in ("PROMISES.md", "PERFORMANCE.md", "NETPBM.md", "RECIPES.md")]:
+    for path in ["README.md"] + [f"docs/{name}.md" for name in ("PROMISES", "PERFORMANCE", "NETPBM", "RECIPES")]:
         text = read(path)
         for number, line in enumerate(text.split("\n"), 1):
             if len(line) > 100 and not line.startswith("|"):

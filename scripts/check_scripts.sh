@@ -1,5 +1,6 @@
 #!/bin/sh
-# Wants each script to be read without a fault: by python3, by sh, and by shellcheck where that is installed.
+# Wants each script to be read without a fault, by python3, by sh, and by shellcheck where that is installed, and no
+# line of more than 120 columns.
 set -eu
 cd "$(dirname "$0")/.."
 shells='' pythons='' bashes=completions/pnmpipe.bash
@@ -14,11 +15,15 @@ done
 failed=0
 for script in $pythons; do
     # to no file, since a script may stand where nothing can be written
-    python3 -c 'import sys; compile(open(sys.argv[1], encoding="utf-8").read(), sys.argv[1], "exec")' "$script" || failed=1
+    python3 -c 'import sys
+compile(open(sys.argv[1], encoding="utf-8").read(), sys.argv[1], "exec")' "$script" || failed=1
 done
 for script in $shells; do
     sh -n "$script" || failed=1
 done
+# shellcheck disable=SC2086
+awk 'length > 120 { print FILENAME ": line " FNR " has " length " columns"; found = 1 } END { exit found }' \
+    $pythons $shells $bashes scripts/*.c || failed=1
 if command -v shellcheck > /dev/null; then
     # shellcheck disable=SC2086
     shellcheck -s sh $shells || failed=1

@@ -1,7 +1,7 @@
 #!/bin/sh
-# Applies each control, crates/NAME/controls/*.edit, to a copy of its crate, and wants it proved. A control has the shape of
-# the must-fail edit of its name and keeps the code's meaning: where it proves, what refuses that edit is the contract, and
-# not that goals got other names. CRATE, by default all, is the crate whose controls are tried.
+# Applies each control, crates/NAME/controls/*.edit, to a copy of its crate, and wants it proved. A control has the
+# shape of the must-fail edit of its name and keeps the code's meaning: where it proves, what refuses that edit is the
+# contract, and not that goals got other names. CRATE, by default all, is the crate whose controls are tried.
 set -eu
 cd "$(dirname "$0")/.."
 work=$(mktemp -d)
@@ -35,7 +35,10 @@ for control in crates/${CRATE:-*}/controls/*.edit; do
     [ -e "$control" ] || continue
     tried=$((tried + 1))
     folder=${control%/controls/*}
-    [ -e "$folder/must-fail/$(basename "$control")" ] || { echo "$control: no must-fail edit has its name"; failed=$((failed + 1)); }
+    if [ ! -e "$folder/must-fail/$(basename "$control")" ]; then
+        echo "$control: no must-fail edit has its name"
+        failed=$((failed + 1))
+    fi
     applied "$control" "$work/tree/$folder"
     if (cd "$work/tree/$folder" && rt check --jobs 1) > "$work/log" 2>&1; then
         echo "$control: proved, as it must be"
@@ -45,7 +48,9 @@ for control in crates/${CRATE:-*}/controls/*.edit; do
         failed=$((failed + 1))
     fi
     for part in src specs proofs; do
-        [ ! -d "$folder/$part" ] || { rm -rf "$work/tree/$folder/$part" && cp -R "$folder/$part" "$work/tree/$folder/$part"; }
+        [ -d "$folder/$part" ] || continue
+        rm -rf "$work/tree/$folder/$part"
+        cp -R "$folder/$part" "$work/tree/$folder/$part"
     done
 done
 echo "controls: $tried tried, $failed failed"

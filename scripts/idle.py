@@ -1,8 +1,8 @@
 #!/usr/bin/env python3
 """Wants a run whose input is silent to take next to no processor time, and to have written what was due before.
 
-The input is held open for some seconds before its first byte, inside an image and after one, for a tool alone, for 64 of
-them and for tools over lanes. Threads that only yield while they wait would take a processor each.
+The input is held open for some seconds before its first byte, inside an image and after one, for a tool alone, for 64
+of them and for tools over lanes. Threads that only yield while they wait would take a processor each.
 """
 
 import argparse
@@ -34,7 +34,8 @@ START = 0.05
 
 def silent_run(program, words, given, due, seconds):
     """Seconds of the processor that a run takes, and how many bytes it had written when the silence ended."""
-    child = subprocess.Popen([program, *words], stdin=subprocess.PIPE, stdout=subprocess.PIPE, stderr=subprocess.DEVNULL)
+    pipes = {"stdin": subprocess.PIPE, "stdout": subprocess.PIPE, "stderr": subprocess.DEVNULL}
+    child = subprocess.Popen([program, *words], **pipes)
     child.stdin.write(given)
     child.stdin.flush()
     # (where what is due doesn't come before the silence ends, the alarm ends this script)
@@ -60,7 +61,8 @@ def main():
             spent, written = silent_run(options.program, words, given, due, options.seconds)
             if spent > START + SHARE * options.seconds or written < due:
                 slow += 1
-                print(f"{words[-1][:40]} {name}: {spent:.3f} s of the processor in {options.seconds} s, {written} bytes", file=sys.stderr)
+                told = f"{spent:.3f} s of the processor in {options.seconds} s, {written} bytes"
+                print(f"{words[-1][:40]} {name}: {told}", file=sys.stderr)
     print(f"idle: {len(CHAINS) * len(SILENCES)} silent runs, {slow} of them busy")
     return 1 if slow else 0
 

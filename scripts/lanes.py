@@ -1,12 +1,12 @@
 #!/usr/bin/env python3
 """Times bin/pnmpipe at 1, 2, 4 and 8 lanes: file to memory, the best and the median run, the bytes compared.
 
-A line for each image and tool: the wall seconds, best / median, with each number of lanes, and the median with one lane
-over the least of these medians. The images have rows of 64 samples, of which each is little work for a thread, and of 18,000. The runs
-with different numbers of lanes take turns, one process at a time. Where such an image is large, `pamdepth` takes its
-samples from a table; it divides for each where an image has no more samples than its maxval, as those of `small16` and
-`flat16` do, of which the second has three rows.
-Needs some 400 MB of memory for files, in /dev/shm or --folder.
+A line for each image and tool: the wall seconds, best / median, with each number of lanes, and the median with one
+lane over the least of these medians. The images have rows of 64 samples, of which each is little work for a thread,
+and of 18,000. The runs with different numbers of lanes take turns, one process at a time. Where such an image is
+large, `pamdepth` takes its samples from a table; it divides for each where an image has no more samples than its
+maxval, as those of `small16` and `flat16` do, of which the second has three rows. Needs some 400 MB of memory for
+files, in /dev/shm or --folder.
 """
 
 import argparse
@@ -74,7 +74,8 @@ def require_lanes(program):
 
 
 def measured(program, chain, source, folder, runs):
-    """The wall seconds of the runs by their number of lanes, in turn, or None where a run failed or wrote other bytes."""
+    """The wall seconds of the runs by their number of lanes, in turn, or None where a run failed or wrote other
+    bytes."""
     first, made = os.path.join(folder, "first"), os.path.join(folder, "made")
     seconds = {lanes: [] for lanes in LANES}
     for run in range(runs):
@@ -109,7 +110,8 @@ def main():
     args = parser.parse_args()
     require_lanes(args.program)
     failed = 0
-    print("| image | tool | " + " | ".join(f"{lanes} lanes" if lanes > 1 else "1 lane" for lanes in LANES) + " | gain |")
+    columns = [f"{lanes} lanes" if lanes > 1 else "1 lane" for lanes in LANES]
+    print("| image | tool | " + " | ".join(columns) + " | gain |")
     print("|---" * (len(LANES) + 3) + "|")
     with tempfile.TemporaryDirectory(dir=args.folder) as folder:
         source, written = os.path.join(folder, "source"), None

@@ -1,6 +1,7 @@
 #!/bin/sh
-# Passes a stream of 4 GiB, made as it goes, through the program that make has left, and wants each byte of the result and
-# less than 32 MB of memory. An image of 65,536 rows of 65,536 bytes, all 0, is inverted: each byte of the result is 255.
+# Passes a stream of 4 GiB, made as it goes, through the program that make has left, and wants each byte of the result
+# and less than 32 MB of memory. An image of 65,536 rows of 65,536 bytes, all 0, is inverted: each byte of the result
+# is 255.
 set -eu
 cd "$(dirname "$0")/.."
 python3 - bin/pnmpipe << 'END'

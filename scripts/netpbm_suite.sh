@@ -26,9 +26,10 @@ done
 # suite NAME PATH: runs all tests, and leaves a line for each in $work/NAME
 suite() {
     mkdir "$work/run-$1"
-    (cd "$work/run-$1" && env PATH="$2" BUILDDIR="$work" CHECK_TYPE=install PNMPIPE="$PNMPIPE" PNMPIPE_SHIM_LOG="$work/log-$1" \
-        bash "$work/test/Execute-Tests" > "$work/said-$1" 2>&1 < /dev/null) || true
-    grep -aE '^[^ ]*\.test: (UNEXPECTED |EXPECTED )?(SUCCESS|FAILURE|NOT TESTABLE)$' "$work/said-$1" | LC_ALL=C sort > "$work/$1" || true
+    (cd "$work/run-$1" && env PATH="$2" BUILDDIR="$work" CHECK_TYPE=install PNMPIPE="$PNMPIPE" \
+        PNMPIPE_SHIM_LOG="$work/log-$1" bash "$work/test/Execute-Tests" > "$work/said-$1" 2>&1 < /dev/null) || true
+    grep -aE '^[^ ]*\.test: (UNEXPECTED |EXPECTED )?(SUCCESS|FAILURE|NOT TESTABLE)$' "$work/said-$1" \
+        | LC_ALL=C sort > "$work/$1" || true
     printf '%s: %s passed of %s, %s not testable\n' "$1" "$(grep -c ': SUCCESS' "$work/$1")" \
         "$(grep -vc ': NOT TESTABLE' "$work/$1")" "$(grep -c ': NOT TESTABLE' "$work/$1")"
 }
@@ -38,7 +39,9 @@ suite stand-ins "$work/shims:$PATH"
 diff "$work/netpbm" "$work/stand-ins" || true
 echo
 echo "calls by the stand-ins that pnmpipe answered, by tool:"
-awk -F '\t' '$2 == "pnmpipe" { count[$1]++ } END { for (tool in count) print count[tool] "\t" tool }' "$work/log-stand-ins" | sort -rn
+awk -F '\t' '$2 == "pnmpipe" { count[$1]++ } END { for (tool in count) print count[tool] "\t" tool }' \
+    "$work/log-stand-ins" | sort -rn
 echo
 echo "calls that went to the tool itself, by tool and reason:"
-awk -F '\t' '$2 == "netpbm" { count[$1 "\t" $3]++ } END { for (call in count) print count[call] "\t" call }' "$work/log-stand-ins" | sort -rn
+awk -F '\t' '$2 == "netpbm" { count[$1 "\t" $3]++ } END { for (call in count) print count[call] "\t" call }' \
+    "$work/log-stand-ins" | sort -rn

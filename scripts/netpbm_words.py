@@ -46,9 +46,13 @@ STREAMS = "{}: every image of a stream is treated, and Netpbm's tool takes the f
 STAYS_PAM = "{}: a PAM image stays PAM, and Netpbm's tool makes PGM or PPM of it"
 STAYS_BITS = "pamdepth 1: PBM, and PAM of type BLACKANDWHITE, stay as they are, and Netpbm's tool makes gray of them"
 PLAIN_LINES = "-plain: the same samples, with other blanks and line ends than Netpbm's"
-TYPES = "pamchannel -tupletype: each type is taken, and Netpbm's tool refuses one that doesn't fit the planes or the maxval"
+TYPES = (
+    "pamchannel -tupletype: each type is taken, and Netpbm's tool refuses one that doesn't fit the planes or the maxval"
+)
 PLAIN_STREAMS = "{}: of several plain images in one input the first alone is taken, and Netpbm's tool takes all"
-NAMED = "{} is taken for a file's name: where it begins with a dash, Netpbm's tool takes it for an option or standard input"
+NAMED = (
+    "{} is taken for a file's name: where it begins with a dash, Netpbm's tool takes it for an option or standard input"
+)
 
 
 # one less than the greatest number that pnmpipe takes, or a negative one counted from the end
@@ -108,7 +112,8 @@ def whole_name(tool, given):
 
 def number_of(text, what, least=None):
     """A decimal number as text, where pnmpipe takes it, and one less than it too."""
-    if text is None or not re.fullmatch(r"-?[0-9]{1,8}", text) or abs(int(text)) > MOST_NUMBER or (least is not None and int(text) < least):
+    is_number = text is not None and re.fullmatch(r"-?[0-9]{1,8}", text)
+    if not is_number or abs(int(text)) > MOST_NUMBER or (least is not None and int(text) < least):
         raise Kept(f"{what} isn't a number that pnmpipe takes")
     return int(text)
 
@@ -201,7 +206,8 @@ def enlarge(options, arguments):
         if len(options) > 1:
             raise Kept("-scale stands beside another scale")
         return [f"pamenlarge {number_of(options['scale'].value, '-scale', 1)}"], arguments
-    scales = [f"-{name} {number_of(options[name].value, '-' + name, 1)}" for name in ("xscale", "yscale") if name in options]
+    named = [name for name in ("xscale", "yscale") if name in options]
+    scales = [f"-{name} {number_of(options[name].value, '-' + name, 1)}" for name in named]
     return [" ".join(["pamenlarge", *scales])], arguments
 
 
@@ -211,7 +217,8 @@ def flip(options, arguments):
     name = next(iter(options))
     if name == "xform":
         value = options[name].value
-        if value is None or not re.fullmatch(r"(leftright|topbottom|transpose)(,(leftright|topbottom|transpose))*", value):
+        way = "(leftright|topbottom|transpose)"
+        if value is None or not re.fullmatch(f"{way}(,{way})*", value):
             raise Kept("-xform has something else than leftright, topbottom and transpose")
         return [stage for way in value.split(",") for stage in WAYS[way]], arguments
     if name not in WAYS:
@@ -243,7 +250,14 @@ def tile(_, arguments):
     return [f"pnmtile {width} {height}"], arguments[2:]
 
 
-RULES = {"pamcut": cut, "pamdepth": depth, "pamchannel": channel, "pamenlarge": enlarge, "pamflip": flip, "pnmtile": tile}
+RULES = {
+    "pamcut": cut,
+    "pamdepth": depth,
+    "pamchannel": channel,
+    "pamenlarge": enlarge,
+    "pamflip": flip,
+    "pnmtile": tile,
+}
 
 
 def file_of(stage, arguments):

@@ -43,15 +43,18 @@ dist() {
     staged "$work/$name" ""
     cp README.md CHANGELOG.md VERSION "$work/$name"
     toolchain > "$work/$name/TOOLCHAIN"
-    (cd "$work/$name" && find . -type f ! -name SHA256SUMS | LC_ALL=C sort | xargs sha256sum > "$work/sums" && mv "$work/sums" SHA256SUMS)
-    tar -C "$work" --sort=name --owner=0 --group=0 --numeric-owner --mtime="@$seconds" -cf - "$name" | gzip -n -9 > "dist/$name.tar.gz"
+    (cd "$work/$name" && find . -type f ! -name SHA256SUMS | LC_ALL=C sort | xargs sha256sum > "$work/sums" \
+        && mv "$work/sums" SHA256SUMS)
+    tar -C "$work" --sort=name --owner=0 --group=0 --numeric-owner --mtime="@$seconds" -cf - "$name" \
+        | gzip -n -9 > "dist/$name.tar.gz"
     (cd dist && sha256sum "pnmpipe-$version.tar.gz" "$name.tar.gz" > SHA256SUMS && cat SHA256SUMS)
 }
 
 # the changes of this version, in the form of a Debian changelog
 changes() {
     printf 'pnmpipe (%s) unstable; urgency=medium\n\n' "$version"
-    sed -n "/^## $version\$/,/^## /p" CHANGELOG.md | sed -e '/^##/d' -e '/^$/d' -e 's/^- /  * /' -e 's/^  \([^*]\)/    \1/'
+    sed -n "/^## $version\$/,/^## /p" CHANGELOG.md \
+        | sed -e '/^##/d' -e '/^$/d' -e 's/^- /  * /' -e 's/^  \([^*]\)/    \1/'
     printf '\n -- %s  %s\n' "$maintainer" "$(LC_ALL=C git log -1 --format=%cD)"
 }
 

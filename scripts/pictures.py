@@ -76,7 +76,8 @@ def chunk(name, data):
 
 
 def lines_of(width, height, pixels):
-    """The rows as PNG has them: each after the number of its filter, by which a sample is taken from the next pixel's."""
+    """The rows as PNG has them: each after the number of its filter, by which a sample is taken from the next
+    pixel's."""
     lines = []
     for y in range(height):
         row = pixels[y * width * 3 : (y + 1) * width * 3]
@@ -112,17 +113,24 @@ def box(x, width, text, below):
 
 
 def ring(x, text):
-    cells = "".join(f'<rect x="{x + 9 * cell}" y="46" width="9" height="12" fill="#fff" stroke="#888"/>' for cell in range(4))
+    form = '<rect x="{}" y="46" width="9" height="12" fill="#fff" stroke="#888"/>'
+    cells = "".join(form.format(x + 9 * cell) for cell in range(4))
     arrow = f'<path d="M{x - 9} 52h5M{x + 38} 52h5" stroke="#345" marker-end="url(#a)"/>'
     return cells + arrow + f'<text x="{x + 18}" y="90" text-anchor="middle" fill="#567">{text}</text>'
 
 
 def threads():
-    """The diagram: the caller's thread at both ends, a thread for each tool, and a ring before each and behind the last."""
-    parts = [box(4, 84, "reads", "the caller"), ring(104, "ring"), box(156, 84, "tool 1", "a thread"), ring(256, "ring")]
+    """The diagram: the caller's thread at both ends, a thread for each tool, and a ring before each and behind the
+    last."""
+    parts = [box(4, 84, "reads", "the caller"), ring(104, "ring")]
+    parts += [box(156, 84, "tool 1", "a thread"), ring(256, "ring")]
     parts += [box(308, 84, "tool 2", "a thread"), ring(408, "ring"), box(460, 84, "writes", "the caller")]
-    arrow = '<marker id="a" viewBox="0 0 6 6" refX="5" refY="3" markerWidth="5" markerHeight="5" orient="auto"><path d="M0 0L6 3L0 6z" fill="#345"/></marker>'
-    note = '<text x="4" y="18" fill="#345">A row passes from thread to thread; each ring holds the rows that wait, 64 by itself.</text>'
+    arrow = (
+        '<marker id="a" viewBox="0 0 6 6" refX="5" refY="3" markerWidth="5" markerHeight="5" orient="auto">'
+        '<path d="M0 0L6 3L0 6z" fill="#345"/></marker>'
+    )
+    said = "A row passes from thread to thread; each ring holds the rows that wait, 64 by itself."
+    note = f'<text x="4" y="18" fill="#345">{said}</text>'
     return (
         '<svg xmlns="http://www.w3.org/2000/svg" width="548" height="100" viewBox="0 0 548 100" '
         f'font-family="sans-serif" font-size="12"><rect width="548" height="100" fill="#fff"/><defs>{arrow}</defs>'

@@ -1,9 +1,9 @@
 #!/usr/bin/env python3
 """Runs each block of docs/RECIPES.md, with the program that make has left and the real programs beside it.
 
-A block begins with a line like ```sh wants=gs,pnmtops leaves=pages.ps: the programs that it wants, and the files that it
-has to leave, which aren't empty. Each is run by bash in a folder of its own, after `make install` into another one. `ssh
-host` goes to this machine, by an sshd that is started on the loopback for this run alone.
+A block begins with a line like ```sh wants=gs,pnmtops leaves=pages.ps: the programs that it wants, and the files that
+it has to leave, which aren't empty. Each is run by bash in a folder of its own, after `make install` into another
+one. `ssh host` goes to this machine, by an sshd that is started on the loopback for this run alone.
 """
 
 import getpass
@@ -27,14 +27,16 @@ pamcut -l 8 in.pgm | pamflip -r90 | pnminvert | pnmtopng > old.png
 
 
 def gray(width, height, seed):
-    return b"P5\n%d %d\n255\n" % (width, height) + bytes((x * seed + y) % 256 for y in range(height) for x in range(width))
+    raster = bytes((x * seed + y) % 256 for y in range(height) for x in range(width))
+    return b"P5\n%d %d\n255\n" % (width, height) + raster
 
 
 def pdf():
     """A document of two pages of text, written by hand."""
     objects = [b"<</Type/Catalog/Pages 2 0 R>>", b"<</Type/Pages/Kids[3 0 R 5 0 R]/Count 2>>"]
     for number, text in [(3, b"First page"), (5, b"Second page")]:
-        page = b"<</Type/Page/Parent 2 0 R/MediaBox[0 0 288 400]/Contents %d 0 R/Resources<</Font<</F 7 0 R>>>>>>" % (number + 1)
+        page = b"<</Type/Page/Parent 2 0 R/MediaBox[0 0 288 400]/Contents %d 0 R" % (number + 1)
+        page += b"/Resources<</Font<</F 7 0 R>>>>>>"
         drawing = b"BT /F 40 Tf 30 200 Td (%s) Tj ET" % text
         objects += [page, b"<</Length %d>>stream\n%s\nendstream" % (len(drawing), drawing)]
     objects.append(b"<</Type/Font/Subtype/Type1/BaseFont/Helvetica>>")
@@ -42,7 +44,8 @@ def pdf():
     for number, text in enumerate(objects, 1):
         places.append(len(made))
         made += b"%d 0 obj%s endobj\n" % (number, text)
-    table = b"xref\n0 %d\n0000000000 65535 f \n" % (len(objects) + 1) + b"".join(b"%010d 00000 n \n" % place for place in places)
+    table = b"xref\n0 %d\n0000000000 65535 f \n" % (len(objects) + 1)
+    table += b"".join(b"%010d 00000 n \n" % place for place in places)
     return made + table + b"trailer<</Size %d/Root 1 0 R>>\nstartxref\n%d\n%%%%EOF\n" % (len(objects) + 1, len(made))
 
 
@@ -76,13 +79,15 @@ class Host:
             port = free.getsockname()[1]
         with open(f"{folder}/ssh/sshd_config", "w", encoding="utf-8") as file:
             file.write(
-                f"Port {port}\nListenAddress 127.0.0.1\nHostKey {folder}/ssh/host\nPidFile none\nStrictModes no\nUsePAM no\n"
+                f"Port {port}\nListenAddress 127.0.0.1\nHostKey {folder}/ssh/host\n"
+                f"PidFile none\nStrictModes no\nUsePAM no\n"
                 f"AuthorizedKeysFile {folder}/ssh/authorized\nPasswordAuthentication no\nPermitRootLogin yes\n"
                 f"MaxStartups 100\nSetEnv PATH={path}\n"
             )
         with open(f"{folder}/ssh/config", "w", encoding="utf-8") as file:
             file.write(
-                f"Host host\n  HostName 127.0.0.1\n  Port {port}\n  User {getpass.getuser()}\n  IdentityFile {folder}/ssh/user\n"
+                f"Host host\n  HostName 127.0.0.1\n  Port {port}\n  User {getpass.getuser()}\n"
+                f"  IdentityFile {folder}/ssh/user\n"
                 f"  StrictHostKeyChecking no\n  UserKnownHostsFile {folder}/ssh/known\n  LogLevel ERROR\n"
             )
         with open(f"{folder}/bin/ssh", "w", encoding="utf-8") as file:
@@ -93,7 +98,8 @@ class Host:
         self.log = open(f"{folder}/ssh/log", "w", encoding="utf-8")
         self.child = subprocess.Popen([sshd, "-D", "-e", "-f", f"{folder}/ssh/sshd_config"], stderr=self.log)
         for _ in range(100):
-            if subprocess.run([f"{folder}/bin/ssh", "host", "true"], check=False, stderr=subprocess.DEVNULL).returncode == 0:
+            words = [f"{folder}/bin/ssh", "host", "true"]
+            if subprocess.run(words, check=False, stderr=subprocess.DEVNULL).returncode == 0:
                 return
             time.sleep(0.1)
         self.end()
@@ -123,7 +129,8 @@ def run_block(script, leaves, folder, env):
         )
     except subprocess.TimeoutExpired:
         return f"it didn't end in {SECONDS} seconds"
-    missing = [name for name in leaves if not os.path.isfile(f"{folder}/{name}") or not os.path.getsize(f"{folder}/{name}")]
+    paths = {name: f"{folder}/{name}" for name in leaves}
+    missing = [name for name, path in paths.items() if not os.path.isfile(path) or not os.path.getsize(path)]
     if done.returncode != 0 or missing:
         said = (done.stdout + done.stderr).decode(errors="replace")
         return f"status {done.returncode}, without {', '.join(missing) or 'nothing that it has to leave'}\n{said}"
@@ -153,9 +160,10 @@ def main():
                     left_out += 1
                     print(f"left out: {name}: it wants {', '.join(lacks)}")
                     continue
-                fault = run_block(script, given["leaves"].split(",") if "leaves" in given else [], f"{work}/{number}", env)
+                leaves = given["leaves"].split(",") if "leaves" in given else []
+                fault = run_block(script, leaves, f"{work}/{number}", env)
                 failed += fault is not None
-                print(f"{'ran' if fault is None else 'FAILED'}: {name}{'' if fault is None else ': ' + fault}", flush=True)
+                print(f"ran: {name}" if fault is None else f"FAILED: {name}: {fault}", flush=True)
         finally:
             host.end()
     print(f"{len(blocks)} blocks, {failed} failed, {left_out} left out")

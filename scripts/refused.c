@@ -1,5 +1,5 @@
-/* Loaded before a program (scripts/refused.py does so), it refuses one of the program's own calls for memory, or one of its
-   starts of a thread. These variables say which:
+/* Loaded before a program (scripts/refused.py does so), it refuses one of the program's own calls for memory, or one of
+   its starts of a thread. These variables say which:
 
    REFUSED_GROWTH   the number of the call of malloc or realloc, from 1
    REFUSED_START    the number of the call of pthread_create, from 1

@@ -1,12 +1,13 @@
 #!/usr/bin/env python3
 """Refuses each allocation, and each start of a thread, of stored commands in turn, until a run meets no refusal.
 
-`scripts/refused.c`, compiled here and loaded before the program, refuses the Nth one that the program itself asks for; N
-goes upward from 1, once with that one alone refused and once with all after it too. A run that met a refusal has to say
-so by the line that fits and to have written a front of the whole output: nothing where the status is 2 or a thread
-couldn't be started. It has to end in time, and with no thread left. Tests of crates are refused each allocation too,
-since they reach what no command does. Where there is no C compiler, the stored run alone is refused, by the toolchain, which
-builds the program anew for each turn, and starts of threads by the room that the process may take.
+`scripts/refused.c`, compiled here and loaded before the program, refuses the Nth one that the program itself asks
+for; N goes upward from 1, once with that one alone refused and once with all after it too. A run that met a refusal
+has to say so by the line that fits and to have written a front of the whole output: nothing where the status is 2 or
+a thread couldn't be started. It has to end in time, and with no thread left. Tests of crates are refused each
+allocation too, since they reach what no command does. Where there is no C compiler, the stored run alone is refused,
+by the toolchain, which builds the program anew for each turn, and starts of threads by the room that the process may
+take.
 """
 
 import argparse
@@ -39,7 +40,8 @@ MOST_TOOLS = 64
 
 
 class Command(typing.NamedTuple):
-    """A call of the program, what it writes and prints where nothing is refused, and how many threads it starts at least."""
+    """A call of the program, what it writes and prints where nothing is refused, and how many threads it starts at
+    least."""
 
     words: list
     given: bytes
@@ -49,7 +51,8 @@ class Command(typing.NamedTuple):
 
 
 class Answer(typing.NamedTuple):
-    """How a run ended, what it wrote and printed, and what the loaded code told: refusals, and at the end threads that are left."""
+    """How a run ended, what it wrote and printed, and what the loaded code told: refusals, and at the end threads
+    that are left."""
 
     status: int
     written: bytes
@@ -96,7 +99,10 @@ ROW_WISE = [
         + pam(9, 2, b"T", [1, 1, 2, 2], [3, 3, 4, 4])
         + pam(300, 2, b"T", [1, 1, 2, 2], [3, 3, 300, 300]),
     ),
-    ("pamenlarge -xscale 2", bits("1111", "0011") + gray(9, [1, 1, 2, 2], [3, 3, 4, 4]) + gray(300, [1, 1, 2, 2], [3, 3, 300, 300])),
+    (
+        "pamenlarge -xscale 2",
+        bits("1111", "0011") + gray(9, [1, 1, 2, 2], [3, 3, 4, 4]) + gray(300, [1, 1, 2, 2], [3, 3, 300, 300]),
+    ),
     ("pamflip -null", STREAM),
     ("pamflip -lr", bits("11", "10") + gray(9, [2, 1], [4, 3]) + gray(300, [2, 1], [300, 3])),
 ]
@@ -111,13 +117,23 @@ WHOLE = [
         + gray(9, [1, 1, 2, 2], [1, 1, 2, 2], [3, 3, 4, 4], [3, 3, 4, 4])
         + gray(300, [1, 1, 2, 2], [1, 1, 2, 2], [3, 3, 300, 300], [3, 3, 300, 300]),
     ),
-    ("pamenlarge -yscale 2", bits("11", "11", "01", "01") + gray(9, [1, 2], [1, 2], [3, 4], [3, 4]) + gray(300, [1, 2], [1, 2], [3, 300], [3, 300])),
+    (
+        "pamenlarge -yscale 2",
+        bits("11", "11", "01", "01")
+        + gray(9, [1, 2], [1, 2], [3, 4], [3, 4])
+        + gray(300, [1, 2], [1, 2], [3, 300], [3, 300]),
+    ),
     ("pamflip -tb", bits("01", "11") + gray(9, [3, 4], [1, 2]) + gray(300, [3, 300], [1, 2])),
     ("pamflip -xy", bits("10", "11") + gray(9, [1, 3], [2, 4]) + gray(300, [1, 3], [2, 300])),
     ("pamflip -r90", bits("11", "10") + gray(9, [2, 4], [1, 3]) + gray(300, [2, 300], [1, 3])),
     ("pamflip -r180", bits("10", "11") + gray(9, [4, 3], [2, 1]) + gray(300, [300, 3], [2, 1])),
     ("pamflip -r270", bits("01", "11") + gray(9, [3, 1], [4, 2]) + gray(300, [3, 1], [300, 2])),
-    ("pnmtile 3 3", bits("111", "010", "111") + gray(9, [1, 2, 1], [3, 4, 3], [1, 2, 1]) + gray(300, [1, 2, 1], [3, 300, 3], [1, 2, 1])),
+    (
+        "pnmtile 3 3",
+        bits("111", "010", "111")
+        + gray(9, [1, 2, 1], [3, 4, 3], [1, 2, 1])
+        + gray(300, [1, 2, 1], [3, 300, 3], [1, 2, 1]),
+    ),
 ]
 
 LANES = [1, 2, 8]
@@ -146,9 +162,10 @@ def commands_over(lanes):
     yield command("pamflip -xy", gray(9, [1, 2], [3, 4], [5, 6]), gray(9, [1, 3, 5], [2, 4, 6]), 0, 1)
     yield command("pamflip -null", TYPED, pam(1, 1, b"A B", [1]), 1, 0)
     yield command("pnminvert", gray(9, [1], [2]), gray(9, [8], [7]), 1, 0, ring=64)
-    picked = pam(255, 2, b"RGB", [30, 10])
-    yield command("pamchannel 2 0 -tupletype RGB", b"P3 1 1 255 10 20 30", picked, 1, 0)
-    yield command("pamchannel 2 0 -tupletype RGB | pamflip -tb | pnminvert", b"P3 1 1 255 10 20 30", pam(255, 2, b"RGB", [225, 245]), 2, 1)
+    pixel, picked = b"P3 1 1 255 10 20 30", pam(255, 2, b"RGB", [30, 10])
+    inverted = pam(255, 2, b"RGB", [225, 245])
+    yield command("pamchannel 2 0 -tupletype RGB", pixel, picked, 1, 0)
+    yield command("pamchannel 2 0 -tupletype RGB | pamflip -tb | pnminvert", pixel, inverted, 2, 1)
     # over lanes the most tools start so many threads that refusing each would take too long
     count = MOST_TOOLS if lanes == 1 else 16
     yield command(" | ".join(["pnminvert"] * count), STREAM, STREAM, count, 0)
@@ -184,7 +201,8 @@ def run(words, given, seconds, loaded, variables):
     try:
         environment = dict(os.environ, LD_PRELOAD=loaded, REFUSED_REPORT=str(teller), **variables)
         try:
-            ran = subprocess.run(words, input=given, capture_output=True, timeout=seconds, env=environment, pass_fds=[teller])
+            how = {"env": environment, "pass_fds": [teller]}
+            ran = subprocess.run(words, input=given, capture_output=True, timeout=seconds, **how)
         except subprocess.TimeoutExpired:
             raise Fault(f"it hasn't ended after {seconds} seconds") from None
         os.close(teller)
@@ -200,7 +218,8 @@ def run(words, given, seconds, loaded, variables):
 
 
 def place_of(line):
-    """The place of a run's fault in the order in which the first is answered; want of memory before a run comes first."""
+    """The place of a run's fault in the order in which the first is answered; want of memory before a run comes
+    first."""
     number = re.match(r"pnmpipe: tool ([0-9]+):", line)
     if number:
         return 2 + int(number[1])
@@ -215,7 +234,8 @@ def judge(command, answer):
         raise Fault(f"threads are left: {answer.left}; status {answer.status}, {answer.printed!r}")
     if not command.whole.startswith(answer.written):
         raise Fault(f"what is written is no front of the output: {answer.written!r}")
-    is_whole = (answer.status, answer.written, answer.printed) == (1 if command.line else 0, command.whole, command.line)
+    made = (answer.status, answer.written, answer.printed)
+    is_whole = made == (1 if command.line else 0, command.whole, command.line)
     if not answer.refusals:
         if not is_whole:
             raise Fault(f"nothing is refused, and status {answer.status}, {answer.printed!r}, {answer.written!r}")
@@ -275,8 +295,8 @@ def shown(answer):
 
 
 def refuse_test(program, name, seconds, loaded):
-    """Refuses each allocation of a test, and each start of a thread, alone, since tests want memory to be there again. One
-    whose name says that there is memory needs to pass only where nothing is refused."""
+    """Refuses each allocation of a test, and each start of a thread, alone, since tests want memory to be there
+    again. One whose name says that there is memory needs to pass only where nothing is refused."""
     needs_memory = name.endswith("_with_memory")
 
     def run_once(variables):
@@ -371,7 +391,8 @@ def refuse_by_room(program, seconds):
                 resource.setrlimit(resource.RLIMIT_STACK, (stack, stack))
                 resource.setrlimit(resource.RLIMIT_AS, (room, room))
 
-            ran = subprocess.run([program, *command.words], input=command.given, capture_output=True, timeout=seconds, preexec_fn=narrow)
+            how = {"capture_output": True, "timeout": seconds, "preexec_fn": narrow}
+            ran = subprocess.run([program, *command.words], input=command.given, **how)
             if ran.returncode == 0 or (ran.returncode == 1 and ran.stderr):
                 judge(command, Answer(ran.returncode, ran.stdout, ran.stderr.decode(), 1 if ran.returncode else 0, 0))
             if ran.returncode == 0:
@@ -391,7 +412,7 @@ def main():
     parser.add_argument("--program", default=os.path.join(ROOT, "bin/pnmpipe"))
     parser.add_argument("--seconds", type=float, default=20, help="how long a run may take")
     parser.add_argument("--jobs", type=int, default=os.cpu_count())
-    parser.add_argument("--step", type=int, default=10, help="with no C compiler, how many allocations further each turn goes")
+    parser.add_argument("--step", type=int, default=10, help="with no C compiler, each how many-th allocation")
     args = parser.parse_args()
     if set(args.what) - {"growth", "start", "tests"}:
         parser.error("WHAT is growth, start or tests")
@@ -403,7 +424,7 @@ def main():
         loaded = compiled(folder)
         if loaded:
             sys.exit(1 if refuse_all(args, loaded) else 0)
-    print("refused: there is no C compiler, so the toolchain refuses allocations of the stored run, and tests are left out")
+    print("refused: with no C compiler the toolchain refuses allocations of the stored run; the others are left out")
     try:
         faults = refuse_by_builds(args.step, 600) if "growth" in args.what else 0
         faults += refuse_by_room(args.program, args.seconds) if "start" in args.what else 0

@@ -1,9 +1,10 @@
 #!/usr/bin/env python3
 """Runs random chains over random streams, in one thread and over threads, until the seconds are over.
 
-The program of crates/pnm_soak does both runs and compares what they answer and write; its devices are slow at times, and
-rings, lanes and the form are random. Each run is made of a seed alone. One that doesn't end within its bound, or ends otherwise
-than well, is named by its seed, and `--first SEED --runs 1` repeats it. `make soak SECONDS=n` builds the program first.
+The program of crates/pnm_soak does both runs and compares what they answer and write; its devices are slow at times,
+and rings, lanes and the form are random. Each run is made of a seed alone. One that doesn't end within its bound, or
+ends otherwise than well, is named by its seed, and `--first SEED --runs 1` repeats it. `make soak SECONDS=n` builds
+the program first.
 """
 
 import argparse
@@ -18,7 +19,8 @@ import time
 
 ROOT = os.path.dirname(os.path.dirname(os.path.abspath(__file__)))
 
-# samples that a result may have at most, so that a run is over soon; few are let through beyond it, to ten times as many
+# samples that a result may have at most, so that a run is over soon; few are let through beyond it, to ten times as
+# many
 MOST_SAMPLES = 400_000
 
 MAXVALS = [1, 2, 9, 100, 254, 255, 256, 300, 4095, 65535]
@@ -73,7 +75,8 @@ def raw_image(numbers):
     raster = b"".join(sample.to_bytes(1 if maxval < 256 else 2, "big") for sample in samples)
     if kind == 7:
         typed = numbers.choice(TYPES)
-        lines = [b"WIDTH %d" % width, b"HEIGHT %d" % height, b"DEPTH %d" % depth, b"MAXVAL %d" % maxval, b"TUPLTYPE " + typed]
+        lines = [b"WIDTH %d" % width, b"HEIGHT %d" % height, b"DEPTH %d" % depth, b"MAXVAL %d" % maxval]
+        lines.append(b"TUPLTYPE " + typed)
         numbers.shuffle(lines)
         return b"P7\n" + b"\n".join(lines) + b"\nENDHDR\n" + raster, width, height, depth
     return b"P%d\n# c\n%d %d\n%d\n" % (kind, width, height, maxval) + raster, width, height, depth
@@ -81,7 +84,10 @@ def raw_image(numbers):
 
 def stream_of(numbers):
     """A stream, and the greatest width, height and depth of its images; sometimes it is cut or a byte is another."""
-    images = [plain_image(numbers)] if numbers.random() < 0.15 else [raw_image(numbers) for _ in range(numbers.choice([1, 1, 2, 3, 5]))]
+    if numbers.random() < 0.15:
+        images = [plain_image(numbers)]
+    else:
+        images = [raw_image(numbers) for _ in range(numbers.choice([1, 1, 2, 3, 5]))]
     stream = bytearray(b"".join(image for image, _, _, _ in images))
     damage = numbers.random()
     if damage < 0.12:
@@ -96,7 +102,8 @@ def stream_of(numbers):
 def cut_of(numbers):
     options = []
     for start, end, size in [("left", "right", "width"), ("top", "bottom", "height")]:
-        some = numbers.choice([[], [], [(start, (0, 2))], [(end, (-3, -1))], [(start, (-3, 1)), (end, (-1, -1))], [(size, (1, 2))]])
+        forms = [[], [], [(start, (0, 2))], [(end, (-3, -1))], [(start, (-3, 1)), (end, (-1, -1))], [(size, (1, 2))]]
+        some = numbers.choice(forms)
         options += [f"-{name} {numbers.randint(*between)}" for name, between in some]
     return " ".join(["pamcut", *options])
 
@@ -128,7 +135,8 @@ def chain_of(numbers, width, height, depth):
         elif name == "pamchannel":
             planes = [numbers.choice([0, 0, 0, 0, 1, 2]) for _ in range(numbers.randint(1, 3))]
             wide *= len(planes)
-            tools.append(f"pamchannel {' '.join(map(str, planes))}" + numbers.choice(["", " -tupletype=", " -tupletype RGB"]))
+            typed = numbers.choice(["", " -tupletype=", " -tupletype RGB"])
+            tools.append(f"pamchannel {' '.join(map(str, planes))}{typed}")
         elif name == "pamenlarge" and len(tools) + 2 <= count and numbers.random() < 0.02:
             tools += TOO_LARGE
         elif name == "pamenlarge":
@@ -191,7 +199,8 @@ def main():
                 answers[result[0]] += 1
                 given, written, greatest = given + result[1], written + result[2], max(greatest, result[2])
     told = ", ".join(f"{count} {name}" for name, count in answers.most_common())
-    print(f"soak: {runs} runs, {given} bytes in, {written} out, {greatest} of the largest; answers: {told}; {faults} faults")
+    sizes = f"{given} bytes in, {written} out, {greatest} of the largest"
+    print(f"soak: {runs} runs, {sizes}; answers: {told}; {faults} faults")
     sys.exit(1 if faults or not answers else 0)
 
 

@@ -1,8 +1,8 @@
 #!/usr/bin/env python3
 """Tests of the helpers and of the stand-ins for Netpbm's tools, in seconds.
 
-They want python3 and sh alone. The program is named by --program; where it isn't there, what wants it is passed over. The
-stand-ins are tried over scripts that only tell how they were called.
+They want python3 and sh alone. The program is named by --program; where it isn't there, what wants it is passed over.
+The stand-ins are tried over scripts that only tell how they were called.
 """
 
 import argparse
@@ -315,7 +315,8 @@ class Files(Folder):
 
 class Completion(unittest.TestCase):
     def replies(self, *words):
-        code = f'. {ROOT}/completions/pnmpipe.bash; COMP_WORDS=("$@"); COMP_CWORD=$(($# - 1)); _pnmpipe; printf "%s\\n" "${{COMPREPLY[@]}}"'
+        code = f'. {ROOT}/completions/pnmpipe.bash; COMP_WORDS=("$@"); COMP_CWORD=$(($# - 1)); _pnmpipe; '
+        code += 'printf "%s\\n" "${COMPREPLY[@]}"'
         return run(["bash", "--norc", "-c", code, "bash", *words]).stdout.decode().splitlines()
 
     @unittest.skipIf(shutil.which("bash") is None, "bash isn't installed")
@@ -324,11 +325,13 @@ class Completion(unittest.TestCase):
         self.assertEqual(self.replies("pnmpipe", "--l"), ["--lanes"])
         self.assertEqual(self.replies("pnmpipe", "--lanes", ""), ["1", "2", "4", "8"])
         self.assertEqual(self.replies("pnmpipe", "'pamcut -wi"), ["pamcut -width ", "pamcut -width |"])
-        self.assertEqual(self.replies("pnmpipe", '"pamcut -left 8|pamflip -l'), ["pamcut -left 8|pamflip -lr", "pamcut -left 8|pamflip -leftright"])
+        ways = ["pamcut -left 8|pamflip -lr", "pamcut -left 8|pamflip -leftright"]
+        self.assertEqual(self.replies("pnmpipe", '"pamcut -left 8|pamflip -l'), ways)
 
 
 class Install(Folder):
-    @unittest.skipUnless(os.access(f"{ROOT}/bin/pnmpipe", os.X_OK) and shutil.which("make"), "there is no bin/pnmpipe, or no make")
+    @unittest.skipUnless(os.access(f"{ROOT}/bin/pnmpipe", os.X_OK), "there is no bin/pnmpipe")
+    @unittest.skipUnless(shutil.which("make"), "there is no make")
     def test_installs(self):
         target = ["-s", "-C", ROOT, f"DESTDIR={self.folder}/x y", "PREFIX=/usr"]
         self.assertEqual(run(["make", "install", *target]).returncode, 0)
