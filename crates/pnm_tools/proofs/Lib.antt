@@ -14,6 +14,7 @@ pub mod StripLaws
 pub mod TransposeLaws
 pub mod BitColumnLaws
 pub mod EnlargeRowLaws
+pub mod CopyLaws
 pub mod InvertLaws
 pub mod AtLaws
 pub mod InFullLaws

@@ -96,7 +96,7 @@ pub each_repeated : {A : Type 0} (f : ℕ → List A) (n w : ℕ) → flat_map (
 each_repeated f n w = ap (λ (a : ℕ). flat_map (λ x. f (x / n)) (range_with_len a (w * n))) (sym (zero-mul n)) ∙ pieces_repeated f n 0 w
 
 -- one value so many times
-replicated : {A : Type 0} (x : A) (a n : ℕ) → flat_map (λ _. x ∷ []) (range_with_len a n) ≡ replicate n x
+pub replicated : {A : Type 0} (x : A) (a n : ℕ) → flat_map (λ _. x ∷ []) (range_with_len a n) ≡ replicate n x
 replicated x a zero = refl
 replicated {A = A} x a (suc n) = ap (λ (l : List A). x ∷ l) (replicated x (a + 1) n)
 

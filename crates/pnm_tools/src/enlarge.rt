@@ -1,6 +1,6 @@
 //! `pamenlarge`: each pixel so many times across and so many times down, from pamenlarge(1).
 
-ghost use Rattle.std.specs.Prelude.{◌≡◌, ◌≤◌, ◌*◌, ◌⊎◌, length, OnOk, IfOk, IfErr, Ok, Err, None};
+ghost use Rattle.std.specs.Prelude.{◌≡◌, ◌≤◌, ◌+◌, ◌*◌, ◌++◌, ◌∷◌, [], ◌⊎◌, length, replicate, take, OnOk, IfOk, IfErr, Ok, Err, None};
 ghost use Rattle.std.specs.List.{flat_map, range_with_len};
 ghost use Rattle.pnm_image.specs.Heads.{row_length};
 ghost use Rattle.pnm_image.specs.Places.{IsRowOf};
@@ -90,6 +90,8 @@ fn repeat_pixels<T: Copy>(
     match (across, shape.depth) {
         (2, 1) => double_samples(shape, row, room),
         (2, 3) => double_colors(shape, row, room),
+        (_, 1) => repeat_samples(across, shape, row, room),
+        (_, 3) => repeat_colors(across, shape, row, room),
         _ => repeat_each(across, shape, row, room),
     }
     Ok(enlarged)
@@ -167,6 +169,76 @@ fn double_four_colors<T: Copy>(row: &[T], room: &mut [T])
     room[21] = j;
     room[22] = k;
     room[23] = l;
+}
+
+/// Fills the room with the row, each pixel so many times, where a pixel is one sample.
+fn repeat_samples<T: Copy>(across: u32, shape: Shape, row: &[T], room: &mut [T])
+    requires depth { shape.depth ≡ 1 }
+    requires row { length row.now ≡ row_length shape }
+    requires room { length room.old ≡ length row.now * across }
+    ensures { room.new ≡ enlarged_row across shape row.now }
+{
+    let across = across as usize;
+    for i in 0..row.len() {
+        put_copies(room, i * across, across, row[i]);
+    }
+}
+
+/// Stores a sample so many times from this place on. Sixteen are stored at once where there is room for
+/// them, since what stands behind the last one is stored later.
+fn put_copies<T: Copy>(room: &mut [T], at: usize, count: usize, sample: T)
+    requires { at + count ≤ length room.old }
+    ensures long { length room.new ≡ length room.old }
+    ensures stored { take (at + count) room.new ≡ take at room.old ++ replicate count sample }
+{
+    let end = at + count;
+    let mut place = at;
+    while place < end {
+        if room.len() - place >= 16 {
+            room[place..place + 16].copy_from_slice(&[sample; 16]);
+            place += 16;
+        } else {
+            room[place] = sample;
+            place += 1;
+        }
+    }
+}
+
+/// Fills the room with the row, each pixel so many times, where a pixel is three samples.
+fn repeat_colors<T: Copy>(across: u32, shape: Shape, row: &[T], room: &mut [T])
+    requires depth { shape.depth ≡ 3 }
+    requires row { length row.now ≡ row_length shape }
+    requires room { length room.old ≡ length row.now * across }
+    ensures { room.new ≡ enlarged_row across shape row.now }
+{
+    let (width, across) = (shape.width as usize, across as usize);
+    for x in 0..width {
+        let color = (row[3 * x], row[3 * x + 1], row[3 * x + 2]);
+        put_colors(room, 3 * x * across, across, color);
+    }
+}
+
+/// Stores three samples so many times from this place on, as `put_copies` does one.
+fn put_colors<T: Copy>(room: &mut [T], at: usize, count: usize, color: (T, T, T))
+    requires { at + 3 * count ≤ length room.old }
+    ensures long { length room.new ≡ length room.old }
+    ensures stored { take (at + 3 * count) room.new
+        ≡ take at room.old ++ repeated count (color.0 ∷ color.1 ∷ color.2 ∷ []) }
+{
+    let (a, b, c) = color;
+    let mut stored = 0;
+    while stored < count {
+        let place = at + 3 * stored;
+        if room.len() - place >= 15 {
+            room[place..place + 15].copy_from_slice(&[a, b, c, a, b, c, a, b, c, a, b, c, a, b, c]);
+            stored += 5;
+        } else {
+            room[place] = a;
+            room[place + 1] = b;
+            room[place + 2] = c;
+            stored += 1;
+        }
+    }
 }
 
 /// Fills the room with the row, each pixel so many times.
