@@ -1,3 +1,4 @@
 pub mod RingSteps
 pub mod EndingLaws
 pub mod FrontLaws
+mod LongestFronts

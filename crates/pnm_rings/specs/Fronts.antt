@@ -22,6 +22,10 @@ pub record IsLongestLawfulFront (front l : List Message) : Type 0 where
   pub lawful : IsLawful front
   pub longest : (m : Message) (ms : List Message) → rest ≡ m ∷ ms → ¬ Accepts (place_of Between front) m
 
+-- every list has one
+abbrev pub ListsHaveLongestFronts : Type 0
+ListsHaveLongestFronts = (l : List Message) → (front : List Message) × IsLongestLawfulFront front l
+
 -- so it is for the longest lawful front of what was received: a front of what is due, whatever images complete that
 abbrev pub LongestFrontIsDue : Type 0
 LongestFrontIsDue = (due : List Image → List Message) (l g front : List Message) (is : List Image)
