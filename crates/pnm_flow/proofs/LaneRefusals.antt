@@ -38,9 +38,9 @@ refused_at tool fault l of_range lawful found next =
 -- a fault of lanes is a refusal of the tool, if the messages are in order
 pub refused_in_lanes : (tool : Tool) (fault : ToolFault) (l : List Message) → IsLawfulTool tool → IsLawful l → IsFaultOf tool fault l → (given : List Message) × HasRefused tool fault l given
 refused_in_lanes tool CutOutside l of_range lawful found = absurd found
-refused_in_lanes tool ChannelOutside l of_range lawful found =
+refused_in_lanes tool ChannelOutside l of_range lawful (whole, found) =
     refused_at tool ChannelOutside l of_range lawful found ((refl, next_may_come Between found.front (Begin found.head) found.rest (subst IsLawful found.parts lawful)), found.refused)
-refused_in_lanes tool TooLarge l of_range lawful found =
+refused_in_lanes tool TooLarge l of_range lawful (whole, found) =
     refused_at tool TooLarge l of_range lawful found ((refl, next_may_come Between found.front (Begin found.head) found.rest (subst IsLawful found.parts lawful)), found.refused)
 refused_in_lanes tool OutOfOrder l of_range lawful found = absurd (found lawful)
 refused_in_lanes tool Memory l of_range lawful found = ([], not_started tool l)

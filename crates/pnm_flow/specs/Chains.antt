@@ -38,14 +38,14 @@ ByLanes lanes tool Several One = (RunsInLanes lanes tool × Several) ⊎ ((RunsI
 abbrev pub IsStageOver : ℕ → Tool → StageEnd → List Message → List Message → Type 0
 IsStageOver lanes tool end l g = ByLanes lanes tool (IsStageOfLanes tool end l g) (IsStage tool end l g)
 
--- a tool of a chain has ended so, by the messages that its two rings had passed before and have passed now, and those that
--- are left in the first: none, or the end of the stream was received
-pub record HasRunTool (lanes : ℕ) (tool : Tool) (end : StageEnd) (received_old received_new left sent_old sent_new : List Message) : Type 0 where
+-- a tool of a chain has ended so, by the messages that its two rings had passed before and have passed now, and those of the
+-- first that its end has seen and not received: none, or the end of the stream was received
+pub record HasRunTool (lanes : ℕ) (tool : Tool) (end : StageEnd) (received_old received_new seen sent_old sent_new : List Message) : Type 0 where
   pub took : List Message
   pub gave : List Message
   pub input : received_new ≡ received_old ++ took
   pub output : sent_new ≡ sent_old ++ gave
-  pub drained : IsEnded took ⊎ (left ≡ [])
+  pub seen_taken : IsEnded took ⊎ (seen ≡ [])
   pub stage : IsStageOver lanes tool end took gave
 
 -- ---- all of them

@@ -141,7 +141,7 @@ ends_so end answer ending untold drained received_old received_now received_new 
     subst (λ (e : StageEnd). HasDealt e received_old received_new left olds news) (sym same) (record {
       took = took;
       input = rest.input ∙ ap (λ (x : List Message). x ++ rest.more) cut.input ∙ append_assoc received_old cut.took rest.more;
-      drained = rest.nothing;
+      seen_taken = rest.nothing;
       messages = both_all IsMessage cut.took rest.more cut.messages rest.messages;
       once = rest.once;
       ended = cut.may.input rest.more (rest.ended all);
@@ -153,7 +153,7 @@ ends_so end answer ending untold drained received_old received_now received_new 
     subst (λ (e : StageEnd). HasDealt e received_old received_new left olds news) (sym same) (record {
       took = took;
       input = rest.input ∙ ap (λ (x : List Message). x ++ rest.more) cut.input ∙ append_assoc received_old cut.took rest.more;
-      drained = rest.nothing;
+      seen_taken = rest.nothing;
       messages = both_all IsMessage cut.took rest.more cut.messages rest.messages;
       once = rest.once;
       ended = tt;
@@ -248,7 +248,7 @@ ends_gone place received_old received_now received_new left olds nows news m uns
     record {
       took = all;
       input = added ∙ ap (λ (x : List Message). x ++ m ∷ []) dealing.input ∙ append_assoc received_old took (m ∷ []);
-      drained = inl ended;
+      seen_taken = inl ended;
       messages = each-push IsMessage took m dealing.messages is;
       once = once_ended all ended;
       ended = tt;
@@ -264,7 +264,7 @@ input_gone place received_old received_now received_new left olds nows news unto
     record {
       took = took;
       input = gone.0 ∙ dealing.input;
-      drained = inr gone.1;
+      seen_taken = inr gone.1;
       messages = dealing.messages;
       once = (More, dealing.ends);
       ended = tt;

@@ -103,7 +103,7 @@ pub ends_whole : {A P : Type 0} (place : Place) (received_old received_new left 
 ends_whole place received_old received_new left olds news dealing = record {
   took = dealing.took;
   input = dealing.input;
-  drained = inl (inl dealing.ends);
+  seen_taken = inl (inl dealing.ends);
   messages = dealing.messages;
   once = (Whole, dealing.ends);
   ended = (dealing.lawful, dealing.ends);
@@ -114,7 +114,7 @@ pub ends_broken : {A P : Type 0} (place : Place) (received_old received_new left
 ends_broken place received_old received_new left olds news dealing = record {
   took = dealing.took;
   input = dealing.input;
-  drained = inl (inr dealing.ends);
+  seen_taken = inl (inr dealing.ends);
   messages = dealing.messages;
   once = (BrokenOff, dealing.ends);
   ended = (dealing.lawful, dealing.ends);

@@ -46,7 +46,7 @@ record LaneEnded (ended : Bool) (start final left : List Message) : Type 0 where
   pub added : final ≡ start ++ drop (length start) final
   pub messages : AllByRecursion IsMessage (drop (length start) final)
   pub once : EndsAtMostOnce (drop (length start) final)
-  pub drained : IsEnded (drop (length start) final) ⊎ (left ≡ [])
+  pub seen_taken : IsEnded (drop (length start) final) ⊎ (left ≡ [])
   pub has_ended : ended ≡ true → IsEnded (drop (length start) final)
 
 ends_once : (l : List Message) → IsEnded l → EndsAtMostOnce l
@@ -57,10 +57,10 @@ lane_ended : (ended : Bool) (s : LaneState) (start final left : List Message) �
 lane_ended ended Open start final left done is = absurd done
 lane_ended ended Ended start final left done is =
     let all = what_was_added IsEnded start final is in
-    record { added = all.0; messages = all.1; once = ends_once (drop (length start) final) all.2; drained = inl all.2; has_ended = λ e. all.2 }
+    record { added = all.0; messages = all.1; once = ends_once (drop (length start) final) all.2; seen_taken = inl all.2; has_ended = λ e. all.2 }
 lane_ended ended Gone start final left done is =
     let all = what_was_added (EndsBy More) start final is.0 in
-    record { added = all.0; messages = all.1; once = (More, all.2); drained = inr is.1; has_ended = λ e. absurd (false≢true (sym done ∙ e)) }
+    record { added = all.0; messages = all.1; once = (More, all.2); seen_taken = inr is.1; has_ended = λ e. absurd (false≢true (sym done ∙ e)) }
 
 -- ---- where there is no next message
 
@@ -177,7 +177,7 @@ ends_so lanes place end ended states start now new final left taken sent_start s
       gave = gave;
       inputs = λ lane below. (all lane below).added;
       output = output;
-      drained = λ lane below. (all lane below).drained;
+      seen_taken = λ lane below. (all lane below).seen_taken;
       gathered = record {
         ended = so;
         messages = λ lane below. (all lane below).messages;
@@ -278,7 +278,7 @@ ends_well lanes count place m states start now new left sent_start sent_now sent
       gave = gave;
       inputs = lanes_with_one lanes place m states start now new sent_start sent_now going taken;
       output = sent_with_one sent_start sent_now sent_new going.gave m going.output sent;
-      drained = λ lane below. inl (inl (ends lane));
+      seen_taken = λ lane below. inl (inl (ends lane));
       gathered = record {
         ended = (end_of, λ lane below. refl);
         messages = λ lane below. all_messages (took lane) (dealt_of_stream lane lanes Between gave stream);

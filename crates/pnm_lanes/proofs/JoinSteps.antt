@@ -11,8 +11,8 @@ use Rattle.pnm_rings.specs.declared.ring.AnyMessage.{AnyMessage}
 use Rattle.pnm_rings.specs.declared.stage_end.StageEnd.{StageEnd}
 use Rattle.pnm_stages.specs.declared.stage.StageDone.{StageDone}
 use Rattle.pnm_lanes.specs.declared.lane_rings.LaneEnds.{LaneEnds}
-use Rattle.pnm_lanes.specs.LaneRings.{AreUnused, ArePairs, HavePassed}
-use Rattle.pnm_lanes.specs.LaneRuns.{end_of_both, end_of_lanes}
+use Rattle.pnm_lanes.specs.LaneRings.{AreUnused, ArePairs}
+use Rattle.pnm_lanes.specs.LaneRuns.{end_of_both}
 
 one_more : {X : Type 0} (xs : List X) (x : X) → length (xs ++ x ∷ []) ≡ suc (length xs)
 one_more xs x = let both = length-append xs (x ∷ []) in omega (arith, both)
@@ -58,6 +58,20 @@ pairs_last (z ∷ ss) (x ∷ ds) (y ∷ rs) s d r pairs =
     ((pairs.0, pairs.1, rest.0), rest.1, rest.2)
 
 -- ---- lane by lane
+
+-- each lane received a front of what was sent to it, and a front of what it sent was received
+abbrev pub HavePassed : List (Producer Message Global AnyMessage) → List StageDone → List (Consumer Message Global AnyMessage) → Type 0
+HavePassed [] [] [] = Unit {0}
+HavePassed [] [] (r ∷ rs) = ⊥
+HavePassed [] (d ∷ ds) rs = ⊥
+HavePassed (s ∷ ss) [] rs = ⊥
+HavePassed (s ∷ ss) (d ∷ ds) [] = ⊥
+HavePassed (s ∷ ss) (d ∷ ds) (r ∷ rs) = IsFrontOf (received d.input) (sent s) × IsFrontOf (received r) (sent d.output) × HavePassed ss ds rs
+
+-- the end of lanes, and of the thread behind them
+abbrev pub end_of_lanes : List StageDone → StageEnd → StageEnd
+end_of_lanes [] gatherer = gatherer
+end_of_lanes (lane ∷ lanes) gatherer = end_of_both lane.end (end_of_lanes lanes gatherer)
 
 -- some of the last lanes were looked at: what had passed over their rings, and their end with that of the thread behind them
 pub record IsJoining (all_ss : List (Producer Message Global AnyMessage)) (all_ds : List StageDone) (all_rs : List (Consumer Message Global AnyMessage)) (gatherer : StageEnd)

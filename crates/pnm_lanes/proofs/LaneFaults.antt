@@ -1,5 +1,5 @@
 -- How a dealer, lanes and a gatherer end together by a fault.
-use Rattle.std.proofs.Common.{◌≡◌, ◌≢◌, ◌⊎◌, inl, inr, ℕ, ◌+◌, ◌<◌, true, List, [], ◌∷◌, ◌++◌, refl, sym, ap, subst, ◌∙◌, append_assoc}
+use Rattle.std.proofs.Common.{◌≡◌, ◌≢◌, inl, inr, ℕ, ◌+◌, ◌<◌, true, List, [], ◌∷◌, ◌++◌, refl, sym, ap, subst, ◌∙◌, append_assoc}
 use Rattle.std.specs.List.{AllByRecursion}
 use Rattle.pnm_image.specs.declared.message.Message.{Message}
 use Rattle.pnm_image.specs.declared.message.Message.TheVariants.{Begin, Row, ImageEnd, StreamEnd, Stop}
@@ -31,7 +31,7 @@ use Rattle.pnm_rings.proofs.RingSteps.{ends_as}
 use Rattle.pnm_lanes.specs.Deals.{HasReceivedSo, HasSentSo}
 use Rattle.pnm_lanes.specs.Gathers.{HasGatheredSo, IsGathered}
 use Rattle.pnm_lanes.specs.LaneLaws.{results_before, dealt_images}
-use Rattle.pnm_lanes.specs.Lanes.{AreThere, IsFirstRefusal, IsFaultOf, HasFailedInLanes, HaveRunTogether}
+use Rattle.pnm_lanes.specs.Lanes.{AreThere, IsFine, IsFirstOfThreads, IsFirstRefusal, IsFaultOf, HasFailedInLanes, HaveRunTogether}
 use Rattle.pnm_lanes.proofs.LaneDue.{dealt_ends}
 use Rattle.pnm_lanes.proofs.LaneHeads.{refused_head_is_dealt}
 use Rattle.pnm_lanes.proofs.LaneLaws.{dealt_are_images, stream_is_dealt}
@@ -127,26 +127,26 @@ head_of_all tool lane lanes l front rest i before after (Begin part) fault lawfu
       refused = found.5;
     }
 
--- what a fault of a lane says of all messages
-lane_refused : (tool : Tool) (fault : ToolFault) (lane lanes : ℕ) (l front rest i before after : List Message) → IsLawfulTool tool → is_row_wise tool ≡ true → lane < lanes → AllByRecursion IsMessage l → l ≡ front ++ rest
+-- what a fault of a lane says of all messages, where they are lawful
+lane_refused : (tool : Tool) (fault : ToolFault) (lane lanes : ℕ) (l front rest i before after : List Message) → IsLawfulTool tool → is_row_wise tool ≡ true → lane < lanes → AllByRecursion IsMessage l → IsLawful l → l ≡ front ++ rest
     → IsFrontOf (without_stop i) (dealt lane lanes front) → IsLawful (without_stop i) → EndsAtMostOnce i → i ≡ before ++ after → AreTaken tool before → IsRefusedNext tool fault before after → IsFaultOf tool fault l
-lane_refused tool fault lane lanes l front rest i before [] lawful row_wise below messages parts gets ordered once is taken refused = absurd refused
-lane_refused tool CutOutside lane lanes l front rest i before (m ∷ after) lawful row_wise below messages parts gets ordered once is taken refused = absurd (no_head_cut_outside tool m row_wise refused.1)
-lane_refused tool ChannelOutside lane lanes l front rest i before (m ∷ after) lawful row_wise below messages parts gets ordered once is taken refused =
-    head_of_all tool lane lanes l front rest i before after m ChannelOutside lawful row_wise below messages parts gets is taken refused.1
-lane_refused tool TooLarge lane lanes l front rest i before (m ∷ after) lawful row_wise below messages parts gets ordered once is taken refused =
-    head_of_all tool lane lanes l front rest i before after m TooLarge lawful row_wise below messages parts gets is taken refused.1
-lane_refused tool Memory lane lanes l front rest i before (m ∷ after) lawful row_wise below messages parts gets ordered once is taken refused = tt
-lane_refused tool OutOfOrder lane lanes l front rest i before (m ∷ after) lawful row_wise below messages parts gets ordered once is taken (inl not) =
+lane_refused tool fault lane lanes l front rest i before [] lawful row_wise below messages whole parts gets ordered once is taken refused = absurd refused
+lane_refused tool CutOutside lane lanes l front rest i before (m ∷ after) lawful row_wise below messages whole parts gets ordered once is taken refused = absurd (no_head_cut_outside tool m row_wise refused.1)
+lane_refused tool ChannelOutside lane lanes l front rest i before (m ∷ after) lawful row_wise below messages whole parts gets ordered once is taken refused =
+    (whole, head_of_all tool lane lanes l front rest i before after m ChannelOutside lawful row_wise below messages parts gets is taken refused.1)
+lane_refused tool TooLarge lane lanes l front rest i before (m ∷ after) lawful row_wise below messages whole parts gets ordered once is taken refused =
+    (whole, head_of_all tool lane lanes l front rest i before after m TooLarge lawful row_wise below messages parts gets is taken refused.1)
+lane_refused tool Memory lane lanes l front rest i before (m ∷ after) lawful row_wise below messages whole parts gets ordered once is taken refused = tt
+lane_refused tool OutOfOrder lane lanes l front rest i before (m ∷ after) lawful row_wise below messages whole parts gets ordered once is taken (inl not) =
     absurd (not (refl, in_order before m after (subst (λ (x : List Message). IsLawful (without_stop x)) is ordered) (subst EndsAtMostOnce is once)))
-lane_refused tool OutOfOrder lane lanes l front rest i before (m ∷ after) lawful row_wise below messages parts gets ordered once is taken (inr refused) = absurd (no_head_out_of_order tool m row_wise refused)
+lane_refused tool OutOfOrder lane lanes l front rest i before (m ∷ after) lawful row_wise below messages whole parts gets ordered once is taken (inr refused) = absurd (no_head_out_of_order tool m row_wise refused)
 
-lane_failed : (tool : Tool) (fault : ToolFault) (lane lanes : ℕ) (l front rest i o : List Message) → IsLawfulTool tool → is_row_wise tool ≡ true → lane < lanes → AllByRecursion IsMessage l → l ≡ front ++ rest
+lane_failed : (tool : Tool) (fault : ToolFault) (lane lanes : ℕ) (l front rest i o : List Message) → IsLawfulTool tool → is_row_wise tool ≡ true → lane < lanes → AllByRecursion IsMessage l → IsLawful l → l ≡ front ++ rest
     → IsFrontOf (without_stop i) (dealt lane lanes front) → IsLawful (without_stop i) → EndsAtMostOnce i → HasFailed tool fault i o → IsFaultOf tool fault l
-lane_failed tool fault lane lanes l front rest i o lawful row_wise below messages parts gets ordered once failed =
+lane_failed tool fault lane lanes l front rest i o lawful row_wise below messages whole parts gets ordered once failed =
     elim failed.refused.refused [
       | inl memory ↦ subst (λ (f : ToolFault). IsFaultOf tool f l) (sym memory.0) tt
-      | inr next ↦ lane_refused tool fault lane lanes l front rest i failed.refused.accepted failed.refused.rest lawful row_wise below messages parts gets ordered once failed.refused.parts failed.refused.taken next.1
+      | inr next ↦ lane_refused tool fault lane lanes l front rest i failed.refused.accepted failed.refused.rest lawful row_wise below messages whole parts gets ordered once failed.refused.parts failed.refused.taken next.1
     ]
 
 -- ---- what the dealer and the gatherer refuse
@@ -157,6 +157,13 @@ dealer_failed tool ChannelOutside l input = absurd input
 dealer_failed tool TooLarge l input = absurd input
 dealer_failed tool OutOfOrder l input = input.1
 dealer_failed tool Memory l input = tt
+
+-- a dealer that is fine received a lawful list
+dealer_fine : (dealer : StageEnd) (l : List Message) → IsFine dealer → HasReceivedSo dealer l → IsLawful l
+dealer_fine Well l fine input = input.0
+dealer_fine Broken l fine input = input.0
+dealer_fine (Fault fault) l fine input = absurd fine
+dealer_fine PeerGone l fine input = absurd fine
 
 dealer_ended : (dealer : StageEnd) (l : List Message) → dealer ≢ PeerGone → HasReceivedSo dealer l → IsEnded l
 dealer_ended Well l there input = inl input.1
@@ -191,32 +198,29 @@ lane_is_lawful {lanes = lanes} {i = i} run lane below =
     lawful_front Between (without_stop (i lane)) seen.0 (subst IsLawful seen.1 (stream_is_lawful (dealt_images lane lanes found.0) (dealt_are_images lane lanes found.0 found.1.images)))
 
 lane_cause : {tool : Tool} {lanes : ℕ} {dealer : StageEnd} {e : ℕ → StageEnd} {gatherer : StageEnd} {l g : List Message} {d i o r : ℕ → List Message} (run : HaveRunTogether tool lanes dealer e gatherer l d i o r g) (fault : ToolFault) (lane : ℕ)
-    → IsLawfulTool tool → is_row_wise tool ≡ true → lane < lanes → e lane ≡ Fault fault → IsFaultOf tool fault l
-lane_cause {tool = tool} {lanes = lanes} {l = l} {d = d} {i = i} {o = o} run fault lane lawful row_wise below is =
+    → IsLawfulTool tool → is_row_wise tool ≡ true → lane < lanes → IsLawful l → e lane ≡ Fault fault → IsFaultOf tool fault l
+lane_cause {tool = tool} {lanes = lanes} {l = l} {d = d} {i = i} {o = o} run fault lane lawful row_wise below whole is =
     let common = together run in
     let gets = front_of_front (without_stop (i lane)) (without_stop (d lane)) (dealt lane lanes common.accepted) (cut_front (i lane) (d lane) (run.received lane below)) (common.sent lane below) in
-    lane_failed tool fault lane lanes l common.accepted common.rest (i lane) (o lane) lawful row_wise below run.messages common.parts gets (lane_is_lawful run lane below) (run.stages lane below).once
+    lane_failed tool fault lane lanes l common.accepted common.rest (i lane) (o lane) lawful row_wise below run.messages whole common.parts gets (lane_is_lawful run lane below) (run.stages lane below).once
     (subst (λ (x : StageEnd). HasEndedSo tool x (i lane) (o lane)) is (run.stages lane below).ended)
 
 -- the cause of a fault
-abbrev IsCause : ℕ → StageEnd → (ℕ → StageEnd) → StageEnd → ToolFault → Type 0
-IsCause lanes dealer e gatherer fault = (dealer ≡ Fault fault) ⊎ ((lane : ℕ) × (lane < lanes) × (e lane ≡ Fault fault)) ⊎ (gatherer ≡ Fault fault)
-
 cause_tells : {tool : Tool} {lanes : ℕ} {dealer : StageEnd} {e : ℕ → StageEnd} {gatherer : StageEnd} {l g : List Message} {d i o r : ℕ → List Message} (run : HaveRunTogether tool lanes dealer e gatherer l d i o r g) (fault : ToolFault)
-    → IsLawfulTool tool → is_row_wise tool ≡ true → IsCause lanes dealer e gatherer fault → IsFaultOf tool fault l
+    → IsLawfulTool tool → is_row_wise tool ≡ true → IsFirstOfThreads lanes dealer e gatherer fault → IsFaultOf tool fault l
 cause_tells {tool = tool} {l = l} run fault lawful row_wise (inl dealer) = dealer_failed tool fault l (subst (λ (x : StageEnd). HasReceivedSo x l) dealer run.input)
-cause_tells run fault lawful row_wise (inr (inl lane)) = lane_cause run fault lane.0 lawful row_wise lane.1 lane.2
+cause_tells {dealer = dealer} {l = l} run fault lawful row_wise (inr (inl found)) = lane_cause run fault found.1.0 lawful row_wise found.1.1 (dealer_fine dealer l found.0 run.input) found.1.2
 cause_tells {tool = tool} {lanes = lanes} {gatherer = gatherer} {g = g} {r = r} run fault lawful row_wise (inr (inr gathered)) =
     let found = completed run in
     let js : List Image = results_before tool found.0 in
-    absurd (never_failed gatherer fault js lanes r g gathered (run.gathered.images js (results_dealt run lawful row_wise found.0 found.1)).so)
+    absurd (never_failed gatherer fault js lanes r g gathered.2 (run.gathered.images js (results_dealt run lawful row_wise found.0 found.1)).so)
 
 -- where the gatherer ended well none has failed
 whole_part : {lanes : ℕ} {g : List Message} {r : ℕ → List Message} → IsGathered Well lanes r g → (lane : ℕ) → lane < lanes → EndsBy Whole (r lane)
 whole_part {lanes = lanes} {g = g} gathered lane below = subst (EndsBy Whole) (sym (gathered.ended.1 lane below)) (dealt_ends Whole lane lanes g gathered.ended.0)
 
 no_fault_well : {tool : Tool} {lanes : ℕ} {dealer : StageEnd} {e : ℕ → StageEnd} {l g : List Message} {d i o r : ℕ → List Message} (run : HaveRunTogether tool lanes dealer e Well l d i o r g) (fault : ToolFault)
-    → 0 < lanes → ((lane : ℕ) → lane < lanes → e lane ≢ PeerGone) → IsCause lanes dealer e Well fault → ⊥
+    → 0 < lanes → ((lane : ℕ) → lane < lanes → e lane ≢ PeerGone) → IsFirstOfThreads lanes dealer e Well fault → ⊥
 no_fault_well {tool = tool} {lanes = lanes} {e = e} {l = l} {d = d} {i = i} {o = o} {r = r} run fault some there (inl dealer) =
     let lane = whole_lane tool (e 0) (i 0) (o 0) (r 0) (run.stages 0 some).ended (there 0 some) (run.taken 0 some) (whole_part run.gathered 0 some) in
     let whole : EndsBy Whole (i 0) = subst (EndsBy Whole) (sym lane.well.stream.messages) (stream_ends_whole lane.well.images) in
@@ -224,13 +228,15 @@ no_fault_well {tool = tool} {lanes = lanes} {e = e} {l = l} {d = d} {i = i} {o =
     let broken : EndsBy BrokenOff (d 0) = subst (EndsBy BrokenOff) (sym sent.1) (ends_as BrokenOff sent.0 Stop sent.2 refl) in
     not_both (d 0) (subst (EndsBy Whole) (sym (all_of_ended (i 0) (d 0) (run.received 0 some) (inl whole) (inr broken))) whole) broken
 no_fault_well {tool = tool} {lanes = lanes} {e = e} {i = i} {o = o} {r = r} run fault some there (inr (inl failed)) =
-    let lane = whole_lane tool (e failed.0) (i failed.0) (o failed.0) (r failed.0) (run.stages failed.0 failed.1).ended (there failed.0 failed.1) (run.taken failed.0 failed.1) (whole_part run.gathered failed.0 failed.1) in
-    let not = sym lane.is_well ∙ failed.2 in
+    let n : ℕ = failed.1.0 in
+    let below : n < lanes = failed.1.1 in
+    let lane = whole_lane tool (e n) (i n) (o n) (r n) (run.stages n below).ended (there n below) (run.taken n below) (whole_part run.gathered n below) in
+    let not = sym lane.is_well ∙ failed.1.2 in
     absurd cc
-no_fault_well run fault some there (inr (inr gathered)) = absurd cc
+no_fault_well run fault some there (inr (inr gathered)) = let not = gathered.2 in absurd cc
 
 pub together_failed : {tool : Tool} {lanes : ℕ} {dealer : StageEnd} {e : ℕ → StageEnd} {l g : List Message} {d i o r : ℕ → List Message} (gatherer : StageEnd) → HaveRunTogether tool lanes dealer e gatherer l d i o r g → (fault : ToolFault)
-    → 0 < lanes → IsLawfulTool tool → is_row_wise tool ≡ true → IsCause lanes dealer e gatherer fault → AreThere lanes dealer e gatherer → HasFailedInLanes tool fault l g
+    → 0 < lanes → IsLawfulTool tool → is_row_wise tool ≡ true → IsFirstOfThreads lanes dealer e gatherer fault → AreThere lanes dealer e gatherer → HasFailedInLanes tool fault l g
 together_failed {dealer = dealer} {l = l} Well run fault some lawful row_wise cause there = absurd (no_fault_well run fault some there.1 cause)
 together_failed {dealer = dealer} {l = l} Broken run fault some lawful row_wise cause there = record {
   of_input = cause_tells run fault lawful row_wise cause;

@@ -6,6 +6,7 @@ use Rattle.rtrb.specs.declared.consumer.Consumer.{Consumer}
 use Rattle.rtrb.specs.Ring.{sent, received, known_items}
 use Rattle.pnm_image.specs.declared.message.Message.{Message}
 use Rattle.pnm_image.specs.Completion.{IsFrontOf}
+use Rattle.pnm_tools.specs.declared.fault.ToolFault.{ToolFault}
 use Rattle.pnm_tools.specs.declared.tool.Tool.{Tool}
 use Rattle.pnm_tools.specs.Tools.{IsLawfulTool, is_row_wise}
 use Rattle.pnm_rings.specs.declared.ring.AnyMessage.{AnyMessage}
@@ -19,9 +20,10 @@ use Rattle.pnm_lanes.specs.declared.lane_rings.LaneEnds.{LaneEnds}
 use Rattle.pnm_lanes.specs.declared.lanes.OuterEnds.{OuterEnds}
 use Rattle.pnm_lanes.specs.Deals.{AtEachFrom, HasLane, HasSentSo, IsFrontOfDealt}
 use Rattle.pnm_lanes.specs.Gathers.{at_lane, AreSameInputs, IsGathered}
-use Rattle.pnm_lanes.specs.LaneRings.{AreUnused, ArePairs, HavePassed}
-use Rattle.pnm_lanes.specs.LaneRuns.{end_of_both, end_of_lanes, AreLanesRun, HaveRun, HasRunLanes}
+use Rattle.pnm_lanes.specs.LaneRings.{AreUnused, ArePairs}
+use Rattle.pnm_lanes.specs.LaneRuns.{end_of_both, AreLanesRun, HaveRun, HasRunLanes}
 use Rattle.pnm_lanes.specs.Lanes.{IsFine, IsEndOfAll, HaveRunTogether}
+use Rattle.pnm_lanes.proofs.JoinSteps.{HavePassed, end_of_lanes}
 use Rattle.pnm_lanes.proofs.LaneRuns.{lanes_are_a_stage}
 
 -- ---- the rings
@@ -140,11 +142,20 @@ LanesAreThere ds = (lane : ℕ) → lane < length ds → end_at ds lane ≢ Peer
 abbrev LanesAreFine : List StageDone → Type 0
 LanesAreFine ds = (lane : ℕ) → lane < length ds → IsFine (end_at ds lane)
 
+-- the lanes before this one are
+abbrev AreFineBefore : List StageDone → ℕ → Type 0
+AreFineBefore ds lane = (before : ℕ) → before < lane → IsFine (end_at ds before)
+
+-- the first fault of lanes and of the thread behind them
+abbrev IsFirstOfRest : List StageDone → StageEnd → ToolFault → Type 0
+IsFirstOfRest ds gatherer fault =
+    ((lane : ℕ) × (lane < length ds) × (end_at ds lane ≡ Fault fault) × AreFineBefore ds lane) ⊎ (LanesAreFine ds × (gatherer ≡ Fault fault))
+
 -- the end of lanes and of the thread behind them
 abbrev IsEndOfRest : List StageDone → StageEnd → StageEnd → Type 0
 IsEndOfRest ds gatherer Well = (gatherer ≡ Well) × LanesAreFine ds
 IsEndOfRest ds gatherer Broken = (gatherer ≡ Broken) × LanesAreFine ds
-IsEndOfRest ds gatherer (Fault fault) = (((lane : ℕ) × (lane < length ds) × (end_at ds lane ≡ Fault fault)) ⊎ (gatherer ≡ Fault fault)) × LanesAreThere ds × (gatherer ≢ PeerGone)
+IsEndOfRest ds gatherer (Fault fault) = IsFirstOfRest ds gatherer fault × LanesAreThere ds × (gatherer ≢ PeerGone)
 IsEndOfRest ds gatherer PeerGone = Unit {0}
 
 fine_is_there : (end : StageEnd) → IsFine end → end ≢ PeerGone
@@ -164,14 +175,18 @@ fine_more : (d : StageDone) (ds : List StageDone) → IsFine d.end → LanesAreF
 fine_more d ds one rest zero below = one
 fine_more d ds one rest (suc lane) below = rest lane (omega (arith, below))
 
+before_more : (d : StageDone) (ds : List StageDone) (lane : ℕ) → IsFine d.end → AreFineBefore ds lane → AreFineBefore (d ∷ ds) (suc lane)
+before_more d ds lane one rest zero below = one
+before_more d ds lane one rest (suc before) below = rest before (omega (arith, below))
+
 -- a lane before them that is fine
 after_fine : (d : StageDone) (ds : List StageDone) (gatherer end : StageEnd) → IsFine d.end → IsEndOfRest ds gatherer end → IsEndOfRest (d ∷ ds) gatherer end
 after_fine d ds gatherer Well fine rest = (rest.0, fine_more d ds fine rest.1)
 after_fine d ds gatherer Broken fine rest = (rest.0, fine_more d ds fine rest.1)
 after_fine d ds gatherer (Fault fault) fine rest = (
   elim rest.0 [
-    | inl of_lane ↦ inl (suc of_lane.0, omega (arith, of_lane.1), of_lane.2)
-    | inr of_gatherer ↦ inr of_gatherer
+    | inl of_lane ↦ inl (suc of_lane.0, omega (arith, of_lane.1), of_lane.2, before_more d ds of_lane.0 fine of_lane.3)
+    | inr of_gatherer ↦ inr (fine_more d ds fine of_gatherer.0, of_gatherer.1)
   ],
   there_more d ds (fine_is_there d.end fine) rest.1,
   rest.2,
@@ -180,7 +195,7 @@ after_fine d ds gatherer PeerGone fine rest = tt
 
 -- and one that has a fault
 after_fault : (d : StageDone) (ds : List StageDone) (gatherer : StageEnd) (fault : _) → d.end ≡ Fault fault → LanesAreThere ds → gatherer ≢ PeerGone → IsEndOfRest (d ∷ ds) gatherer (Fault fault)
-after_fault d ds gatherer fault is there behind = (inl (0, omega arith, is), there_more d ds (λ gone. absurd cc) there, behind)
+after_fault d ds gatherer fault is there behind = (inl (0, omega arith, is, λ before below. absurd (omega (arith, below))), there_more d ds (λ gone. absurd cc) there, behind)
 
 one_lane_before : (d : StageDone) (ds : List StageDone) (gatherer first end : StageEnd) → d.end ≡ first → IsEndOfRest ds gatherer end → IsEndOfRest (d ∷ ds) gatherer (end_of_both first end)
 one_lane_before d ds gatherer Well end is rest = after_fine d ds gatherer end (subst IsFine (sym is) tt) rest
@@ -194,7 +209,7 @@ one_lane_before d ds gatherer (Fault fault) PeerGone is rest = tt
 nothing_before : (gatherer : StageEnd) → IsEndOfRest [] gatherer gatherer
 nothing_before Well = (refl, λ lane below. absurd (omega (arith, below)))
 nothing_before Broken = (refl, λ lane below. absurd (omega (arith, below)))
-nothing_before (Fault fault) = (inr refl, (λ lane below. absurd (omega (arith, below))), λ gone. absurd cc)
+nothing_before (Fault fault) = (inr ((λ lane below. absurd (omega (arith, below))), refl), (λ lane below. absurd (omega (arith, below))), λ gone. absurd cc)
 nothing_before PeerGone = tt
 
 end_of_rest : (ds : List StageDone) (gatherer : StageEnd) → IsEndOfRest ds gatherer (end_of_lanes ds gatherer)
@@ -207,8 +222,8 @@ dealt_fine dealer ds gatherer Well fine rest = (rest.0, fine, rest.1)
 dealt_fine dealer ds gatherer Broken fine rest = (rest.0, fine, rest.1)
 dealt_fine dealer ds gatherer (Fault fault) fine rest = (
   elim rest.0 [
-    | inl of_lane ↦ inr (inl of_lane)
-    | inr of_gatherer ↦ inr (inr of_gatherer)
+    | inl of_lane ↦ inr (inl (fine, of_lane))
+    | inr of_gatherer ↦ inr (inr (fine, of_gatherer.0, of_gatherer.1))
   ],
   (fine_is_there dealer fine, rest.1, rest.2),
 )
@@ -262,7 +277,20 @@ lanes_have_run tool es outer room done end unused run passed end_is some count l
       gave = gathered.gave;
       input = dealt.input;
       output = gathered.output;
-      drained = dealt.drained;
+      seen_taken = dealt.seen_taken;
       stage = lanes_are_a_stage tool (length ds) dealer (end_at ds) gatherer end dealt.took gathered.gave (at_lane sent done.dealt.outputs.items) (at_lane (λ (d : StageDone). received d.input) ds) (at_lane (λ (d : StageDone). sent d.output) ds) gathered.took
           together (omega (arith, some, count)) lawful row_wise all;
+      threads = record {
+        lanes = length ds;
+        some = omega (arith, some, count);
+        dealer = dealer;
+        lane_ends = end_at ds;
+        gatherer = gatherer;
+        dealt_to = at_lane sent done.dealt.outputs.items;
+        received_by = at_lane (λ (d : StageDone). received d.input) ds;
+        sent_by = at_lane (λ (d : StageDone). sent d.output) ds;
+        gathered_from = gathered.took;
+        together = together;
+        end_of_all = all;
+      };
     }

@@ -1,5 +1,5 @@
 -- A row of the whole stream, taken of its lane.
-use Rattle.std.proofs.Common.{ℕ, ◌%◌, ◌<◌, ◌≤◌, List, [], ◌∷◌, ◌++◌, length, refl, sym, subst, arith, Err}
+use Rattle.std.proofs.Common.{◌≡◌, ℕ, ◌%◌, ◌<◌, ◌≤◌, List, [], ◌∷◌, ◌++◌, length, refl, sym, subst, arith, Err}
 use Rattle.std.specs.List.{AllByRecursion}
 use Rattle.std.proofs.lemmas.Nat.{mod_below}
 use Rattle.pnm_image.specs.declared.message.Message.{Message}
@@ -29,9 +29,9 @@ row_comes lanes y s m (ImageEnd ∷ rest) below lawful are front = let reached =
 row_comes lanes y s m (StreamEnd ∷ rest) below lawful are front = absurd lawful.0
 row_comes lanes y s m (Stop ∷ rest) below lawful are front = absurd are.0
 
-pub row_refused : (lanes y : ℕ) (s : Shape) (m : Message) (states_old states_new : List LaneState) (old new : ℕ → List Message) → 1 ≤ lanes → lanes ≤ length states_old → AreOpen states_old → y < s.height → ¬ Accepts (Inside s y) m
+refused_at_own : (lanes y : ℕ) (s : Shape) (m : Message) (states_old states_new : List LaneState) (old new : ℕ → List Message) → 1 ≤ lanes → lanes ≤ length states_old → AreOpen states_old → y < s.height → ¬ Accepts (Inside s y) m
     → IsOfStream m × HasGiven (y % lanes) m states_old states_new old new → HasTakenNone lanes (Inside s y) (Fault OutOfOrder) states_new old new
-row_refused lanes y s m states_old states_new old new some enough opens below refused from =
+refused_at_own lanes y s m states_old states_new old new some enough opens below refused from =
     let lane : ℕ = y % lanes in
     let within : lane < lanes = mod_below y lanes some in
     record {
@@ -44,9 +44,20 @@ row_refused lanes y s m states_old states_new old new some enough opens below re
       );
     }
 
-pub row_failed : (lanes y : ℕ) (s : Shape) (end : StageEnd) (states_old states_new : List LaneState) (old new : ℕ → List Message) → 1 ≤ lanes → lanes ≤ length states_old → AreOpen states_old
+failed_at_own : (lanes y : ℕ) (s : Shape) (end : StageEnd) (states_old states_new : List LaneState) (old new : ℕ → List Message) → 1 ≤ lanes → lanes ≤ length states_old → AreOpen states_old
     → HasTakenFrom (y % lanes) (Err end) states_old states_new old new → HasTakenNone lanes (Inside s y) end states_new old new
-row_failed lanes y s end states_old states_new old new some enough opens from =
+failed_at_own lanes y s end states_old states_new old new some enough opens from =
     let lane : ℕ = y % lanes in
     let within : lane < lanes = mod_below y lanes some in
     taken_none lanes lane (Inside s y) end states_old states_new old old new (λ l. []) (omega arith) (opens lane (omega arith)) refl within (none_taken lanes states_old old enough opens) from
+
+-- the row's own lane, however its number was found
+pub row_refused : (lanes y lane : ℕ) (s : Shape) (m : Message) (states_old states_new : List LaneState) (old new : ℕ → List Message) → 1 ≤ lanes → lanes ≤ length states_old → AreOpen states_old → y < s.height → ¬ Accepts (Inside s y) m
+    → IsOfStream m × HasGiven lane m states_old states_new old new → lane ≡ y % lanes → HasTakenNone lanes (Inside s y) (Fault OutOfOrder) states_new old new
+row_refused lanes y lane s m states_old states_new old new some enough opens below refused from own =
+    refused_at_own lanes y s m states_old states_new old new some enough opens below refused (subst (λ (n : ℕ). IsOfStream m × HasGiven n m states_old states_new old new) own from)
+
+pub row_failed : (lanes y lane : ℕ) (s : Shape) (end : StageEnd) (states_old states_new : List LaneState) (old new : ℕ → List Message) → 1 ≤ lanes → lanes ≤ length states_old → AreOpen states_old
+    → HasTakenFrom lane (Err end) states_old states_new old new → lane ≡ y % lanes → HasTakenNone lanes (Inside s y) end states_new old new
+row_failed lanes y lane s end states_old states_new old new some enough opens from own =
+    failed_at_own lanes y s end states_old states_new old new some enough opens (subst (λ (n : ℕ). HasTakenFrom n (Err end) states_old states_new old new) own from)

@@ -45,9 +45,9 @@ pub record HasSentParts {A P : Type 0} (part : ℕ → List Message) (unsent : O
 
 -- dealing was broken off after a message with this ending: each lane was sent Stop and the input was drained; or else
 -- the other end of a ring was seen dropped
-pub record HasBrokenOffAfter {A P : Type 0} (end : StageEnd) (ending : Ending) (answer : StageEnd) (received_old received_new left : List Message) (olds news : List (Producer Message A P)) : Type 0 where
+pub record HasBrokenOffAfter {A P : Type 0} (end : StageEnd) (ending : Ending) (answer : StageEnd) (received_old received_new seen : List Message) (olds news : List (Producer Message A P)) : Type 0 where
   pub untold : Option StageEnd
   pub drained : Bool
   pub lanes : AtEach (IsSentPart (λ lane. Stop ∷ []) untold) olds news
-  pub input : HasDrainedAfter ending drained received_old received_new left
+  pub input : HasDrainedAfter ending drained received_old received_new seen
   pub answered : ((untold ≡ None) × (drained ≡ true) × (answer ≡ end)) ⊎ (answer ≡ PeerGone)

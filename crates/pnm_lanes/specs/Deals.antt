@@ -81,12 +81,12 @@ pub record HasLane {A P : Type 0} (end : StageEnd) (lanes : ℕ) (l : List Messa
   pub ended : HasSentSo end lane lanes l gave
   pub front : IsFrontOfDealt lane lanes l gave
 
--- the dealing has ended so, by the messages that the input had passed before and has passed now and those that are
--- left in it, and by the lanes' rings before and now: nothing is left, or the end of the stream was received
-pub record HasDealt {A P : Type 0} (end : StageEnd) (received_old received_new left : List Message) (olds news : List (Producer Message A P)) : Type 0 where
+-- the dealing has ended so, by the messages that the input had passed before and has passed now and those that it has seen
+-- and not received, and by the lanes' rings before and now: there are none of these, or the end of the stream was received
+pub record HasDealt {A P : Type 0} (end : StageEnd) (received_old received_new seen : List Message) (olds news : List (Producer Message A P)) : Type 0 where
   pub took : List Message
   pub input : received_new ≡ received_old ++ took
-  pub drained : IsEnded took ⊎ (left ≡ [])
+  pub seen_taken : IsEnded took ⊎ (seen ≡ [])
   pub messages : AllByRecursion IsMessage took
   pub once : EndsAtMostOnce took
   pub ended : HasReceivedSo end took

@@ -147,25 +147,26 @@ ending_state ImageEnd = Open
 ending_state StreamEnd = Ended
 ending_state Stop = Ended
 
--- one message more was taken of a lane, and leaves it in this state; or none was there
+-- one message more was taken of a lane, and leaves it in this state; or none was there; or the ring's other end was seen
+-- dropped, and no message is left of those that were seen
 abbrev pub HasDrainedOne : Option LaneState → List Message → List Message → List Message → Type 0
-HasDrainedOne None old new left = new ≡ old
-HasDrainedOne (Some Open) old new left = Extends old new (λ more. IsLeftBy Open more)
-HasDrainedOne (Some Ended) old new left = Extends old new (λ more. IsLeftBy Ended more)
-HasDrainedOne (Some Gone) old new left = (new ≡ old) × (left ≡ [])
+HasDrainedOne None old new seen = new ≡ old
+HasDrainedOne (Some Open) old new seen = Extends old new (λ more. IsLeftBy Open more)
+HasDrainedOne (Some Ended) old new seen = Extends old new (λ more. IsLeftBy Ended more)
+HasDrainedOne (Some Gone) old new seen = (new ≡ old) × (seen ≡ [])
 
--- what a lane's state says of all that was received of it from a start on, and of what is left
+-- what a lane's state says of all that was received of it from a start on, and of what was seen and not received
 abbrev pub IsLane : LaneState → List Message → List Message → List Message → Type 0
-IsLane Open start now left = Extends start now (EndsBy More)
-IsLane Ended start now left = Extends start now IsEnded
-IsLane Gone start now left = Extends start now (EndsBy More) × (left ≡ [])
+IsLane Open start now seen = Extends start now (EndsBy More)
+IsLane Ended start now seen = Extends start now IsEnded
+IsLane Gone start now seen = Extends start now (EndsBy More) × (seen ≡ [])
 
 abbrev pub AreLanes : ℕ → List LaneState → (ℕ → List Message) → (ℕ → List Message) → (ℕ → List Message) → Type 0
-AreLanes lanes states start now left = (lane : ℕ) → lane < lanes → IsLane (state_at states lane) (start lane) (now lane) (left lane)
+AreLanes lanes states start now seen = (lane : ℕ) → lane < lanes → IsLane (state_at states lane) (start lane) (now lane) (seen lane)
 
 -- whatever the states said from a start on, they still say, and messages were added alone
-pub record CarriesOn (lanes : ℕ) (states_old states_new : List LaneState) (old new left_old left_new : ℕ → List Message) : Type 0 where
-  pub lanes_are : (start : ℕ → List Message) → AreLanes lanes states_old start old left_old → AreLanes lanes states_new start new left_new
+pub record CarriesOn (lanes : ℕ) (states_old states_new : List LaneState) (old new seen_old seen_new : ℕ → List Message) : Type 0 where
+  pub lanes_are : (start : ℕ → List Message) → AreLanes lanes states_old start old seen_old → AreLanes lanes states_new start new seen_new
   pub fronts : (lane : ℕ) → IsFrontOf (old lane) (new lane)
 
 -- no lane is open any more; whether all have ended
@@ -177,8 +178,8 @@ IsDone ended Gone = ended ≡ false
 abbrev pub AreDone : Bool → List LaneState → Type 0
 AreDone ended states = (lane : ℕ) → lane < length states → IsDone ended (state_at states lane)
 
-pub record HasDrainedAll (lanes : ℕ) (ended : Bool) (states_old states_new : List LaneState) (old new left_old left_new : ℕ → List Message) : Type 0 where
-  pub carried : CarriesOn lanes states_old states_new old new left_old left_new
+pub record HasDrainedAll (lanes : ℕ) (ended : Bool) (states_old states_new : List LaneState) (old new seen_old seen_new : ℕ → List Message) : Type 0 where
+  pub carried : CarriesOn lanes states_old states_new old new seen_old seen_new
   pub done : (lane : ℕ) → lane < lanes → IsDone ended (state_at states_new lane)
 
 -- ---- breaking off
@@ -189,6 +190,6 @@ HasStopped cause end lanes states sent_old sent_new =
     ((end ≡ cause) × (sent_new ≡ sent_old ++ Stop ∷ []) × ((lane : ℕ) → lane < lanes → IsDone true (state_at states lane)))
     ⊎ ((end ≡ PeerGone) × ((sent_new ≡ sent_old ++ Stop ∷ []) ⊎ (sent_new ≡ sent_old)) × ((lane : ℕ) → lane < lanes → IsDone false (state_at states lane)))
 
-pub record HasBrokenOffAll (cause end : StageEnd) (lanes : ℕ) (states_old states_new : List LaneState) (old new left_old left_new : ℕ → List Message) (sent_old sent_new : List Message) : Type 0 where
-  pub carried : CarriesOn lanes states_old states_new old new left_old left_new
+pub record HasBrokenOffAll (cause end : StageEnd) (lanes : ℕ) (states_old states_new : List LaneState) (old new seen_old seen_new : ℕ → List Message) (sent_old sent_new : List Message) : Type 0 where
+  pub carried : CarriesOn lanes states_old states_new old new seen_old seen_new
   pub stopped : HasStopped cause end lanes states_new sent_old sent_new

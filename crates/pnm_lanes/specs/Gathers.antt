@@ -18,7 +18,7 @@ use Rattle.pnm_rings.specs.Rings.{IsEnded, EndsAtMostOnce}
 
 -- ---- lists of ring ends, one for each lane
 
--- what has passed, or is left, in the ring of a lane; nothing where there is no such lane
+-- what has passed over the ring of a lane, or was seen in it; nothing where there is no such lane
 abbrev pub at_lane : {X : Type 0} → (X → List Message) → List X → ℕ → List Message
 at_lane of [] lane = []
 at_lane of (end ∷ ends) zero = of end
@@ -90,12 +90,12 @@ pub record IsGathered (end : StageEnd) (lanes : ℕ) (took : ℕ → List Messag
   pub whole : EndsBy Whole gave → (lane : ℕ) → lane < lanes → EndsBy Whole (took lane)
   pub images : (is : List Image) → AreDealt is lanes took → HasGatheredImages end is lanes took gave
 
--- a gatherer has ended so, by the messages that its rings had passed before and have passed now, and those that are left
--- in the lanes' rings: of each lane none, or it has ended
-pub record HasGathered (end : StageEnd) (lanes : ℕ) (received_old received_new left : ℕ → List Message) (sent_old sent_new : List Message) : Type 0 where
+-- a gatherer has ended so, by the messages that its rings had passed before and have passed now, and those of the lanes' rings
+-- that it has seen and not received: of each lane none, or it has ended
+pub record HasGathered (end : StageEnd) (lanes : ℕ) (received_old received_new seen : ℕ → List Message) (sent_old sent_new : List Message) : Type 0 where
   pub took : ℕ → List Message
   pub gave : List Message
   pub inputs : (lane : ℕ) → lane < lanes → received_new lane ≡ received_old lane ++ took lane
   pub output : sent_new ≡ sent_old ++ gave
-  pub drained : (lane : ℕ) → lane < lanes → IsEnded (took lane) ⊎ (left lane ≡ [])
+  pub seen_taken : (lane : ℕ) → lane < lanes → IsEnded (took lane) ⊎ (seen lane ≡ [])
   pub gathered : IsGathered end lanes took gave

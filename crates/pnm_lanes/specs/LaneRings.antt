@@ -6,7 +6,6 @@ use Rattle.rtrb.specs.declared.producer.Producer.{Producer}
 use Rattle.rtrb.specs.declared.consumer.Consumer.{Consumer}
 use Rattle.rtrb.specs.Ring.{sent, received, IsPair}
 use Rattle.pnm_image.specs.declared.message.Message.{Message}
-use Rattle.pnm_image.specs.Completion.{IsFrontOf}
 use Rattle.pnm_rings.specs.declared.ring.AnyMessage.{AnyMessage}
 use Rattle.pnm_stages.specs.declared.stage.StageDone.{StageDone}
 use Rattle.pnm_lanes.specs.declared.lane_rings.LaneEnds.{LaneEnds}
@@ -29,12 +28,3 @@ ArePairs [] (d ∷ ds) rs = ⊥
 ArePairs (s ∷ ss) [] rs = ⊥
 ArePairs (s ∷ ss) (d ∷ ds) [] = ⊥
 ArePairs (s ∷ ss) (d ∷ ds) (r ∷ rs) = IsPair s d.input × IsPair d.output r × ArePairs ss ds rs
-
--- each lane received a front of what was sent to it, and a front of what it sent was received
-abbrev pub HavePassed : List (Producer Message Global AnyMessage) → List StageDone → List (Consumer Message Global AnyMessage) → Type 0
-HavePassed [] [] [] = Unit {0}
-HavePassed [] [] (r ∷ rs) = ⊥
-HavePassed [] (d ∷ ds) rs = ⊥
-HavePassed (s ∷ ss) [] rs = ⊥
-HavePassed (s ∷ ss) (d ∷ ds) [] = ⊥
-HavePassed (s ∷ ss) (d ∷ ds) (r ∷ rs) = IsFrontOf (received d.input) (sent s) × IsFrontOf (received r) (sent d.output) × HavePassed ss ds rs

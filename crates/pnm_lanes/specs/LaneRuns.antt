@@ -17,7 +17,7 @@ use Rattle.pnm_lanes.specs.declared.lane_rings.LaneEnds.{LaneEnds}
 use Rattle.pnm_lanes.specs.declared.lanes.OuterEnds.{OuterEnds}
 use Rattle.pnm_lanes.specs.Deals.{HasDealt}
 use Rattle.pnm_lanes.specs.Gathers.{at_lane, AreSameInputs, HasGathered}
-use Rattle.pnm_lanes.specs.Lanes.{IsStageOfLanes}
+use Rattle.pnm_lanes.specs.Lanes.{IsStageOfLanes, HaveThreadsEnded}
 use Rattle.pnm_lanes.specs.Limits.{IsLaneCount}
 
 -- ---- the end
@@ -33,22 +33,19 @@ end_of_both (Fault fault) (Fault later) = Fault fault
 end_of_both Well other = other
 end_of_both Broken other = other
 
--- the end of lanes, and of the thread behind them
-abbrev pub end_of_lanes : List StageDone → StageEnd → StageEnd
-end_of_lanes [] gatherer = gatherer
-end_of_lanes (lane ∷ lanes) gatherer = end_of_both lane.end (end_of_lanes lanes gatherer)
-
 -- ---- the run
 
 -- a tool over several lanes has ended so, by the messages that its two outer rings had passed before and have passed now, and
--- those that are left in the first: none, or the end of the stream was received
-pub record HasRunLanes (tool : Tool) (end : StageEnd) (received_old received_new left sent_old sent_new : List Message) : Type 0 where
+-- those of the first that its end has seen and not received: none, or the end of the stream was received. It is a stage of the tool, and its end is
+-- that of its threads, in their order.
+pub record HasRunLanes (tool : Tool) (end : StageEnd) (received_old received_new seen sent_old sent_new : List Message) : Type 0 where
   pub took : List Message
   pub gave : List Message
   pub input : received_new ≡ received_old ++ took
   pub output : sent_new ≡ sent_old ++ gave
-  pub drained : IsEnded took ⊎ (left ≡ [])
+  pub seen_taken : IsEnded took ⊎ (seen ≡ [])
   pub stage : IsStageOfLanes tool end took gave
+  pub threads : HaveThreadsEnded tool end took gave
 
 -- ---- its parts
 

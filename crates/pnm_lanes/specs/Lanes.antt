@@ -31,11 +31,12 @@ pub record IsFirstRefusal (tool : Tool) (fault : ToolFault) (l : List Message) :
   pub taken : AreTaken tool front
   pub refused : result_head tool head ≡ Err fault
 
--- what a fault says of the messages that were received
+-- what a fault says of the messages that were received: the tool's refusal comes only where these are lawful, since the
+-- dealer's fault comes before the lanes'
 abbrev pub IsFaultOf : Tool → ToolFault → List Message → Type 0
 IsFaultOf tool CutOutside l = ⊥
-IsFaultOf tool ChannelOutside l = IsFirstRefusal tool ChannelOutside l
-IsFaultOf tool TooLarge l = IsFirstRefusal tool TooLarge l
+IsFaultOf tool ChannelOutside l = IsLawful l × IsFirstRefusal tool ChannelOutside l
+IsFaultOf tool TooLarge l = IsLawful l × IsFirstRefusal tool TooLarge l
 IsFaultOf tool OutOfOrder l = IsLawful l → ⊥
 IsFaultOf tool Memory l = Unit {0}
 
@@ -73,13 +74,19 @@ IsFine PeerGone = ⊥
 abbrev pub AreThere : ℕ → StageEnd → (ℕ → StageEnd) → StageEnd → Type 0
 AreThere lanes dealer lane_ends gatherer = (dealer ≢ PeerGone) × ((lane : ℕ) → lane < lanes → lane_ends lane ≢ PeerGone) × (gatherer ≢ PeerGone)
 
--- the end of all by the ends of the dealer, of the lanes and of the gatherer: a fault of one of them, or the gatherer's where
--- none has one
+-- the first fault in this order: the dealer's, the lanes' from the first on, the gatherer's
+abbrev pub IsFirstOfThreads : ℕ → StageEnd → (ℕ → StageEnd) → StageEnd → ToolFault → Type 0
+IsFirstOfThreads lanes dealer lane_ends gatherer fault =
+    (dealer ≡ Fault fault)
+    ⊎ (IsFine dealer × ((lane : ℕ) × (lane < lanes) × (lane_ends lane ≡ Fault fault) × ((before : ℕ) → before < lane → IsFine (lane_ends before))))
+    ⊎ (IsFine dealer × ((lane : ℕ) → lane < lanes → IsFine (lane_ends lane)) × (gatherer ≡ Fault fault))
+
+-- the end of all by the ends of the dealer, of the lanes and of the gatherer: the first fault in their order, or the
+-- gatherer's end where none has one
 abbrev pub IsEndOfAll : ℕ → StageEnd → (ℕ → StageEnd) → StageEnd → StageEnd → Type 0
 IsEndOfAll lanes dealer lane_ends gatherer Well = (gatherer ≡ Well) × IsFine dealer × ((lane : ℕ) → lane < lanes → IsFine (lane_ends lane))
 IsEndOfAll lanes dealer lane_ends gatherer Broken = (gatherer ≡ Broken) × IsFine dealer × ((lane : ℕ) → lane < lanes → IsFine (lane_ends lane))
-IsEndOfAll lanes dealer lane_ends gatherer (Fault fault) =
-    ((dealer ≡ Fault fault) ⊎ ((lane : ℕ) × (lane < lanes) × (lane_ends lane ≡ Fault fault)) ⊎ (gatherer ≡ Fault fault)) × AreThere lanes dealer lane_ends gatherer
+IsEndOfAll lanes dealer lane_ends gatherer (Fault fault) = IsFirstOfThreads lanes dealer lane_ends gatherer fault × AreThere lanes dealer lane_ends gatherer
 IsEndOfAll lanes dealer lane_ends gatherer PeerGone = Unit {0}
 
 -- what the dealer received, what it sent to each lane and each lane received and sent, and what the gatherer received of each
@@ -94,6 +101,20 @@ pub record HaveRunTogether (tool : Tool) (lanes : ℕ) (dealer : StageEnd) (lane
   pub stages : (lane : ℕ) → lane < lanes → IsStage tool (lane_ends lane) (received_by lane) (sent_by lane)
   pub taken : (lane : ℕ) → lane < lanes → IsFrontOf (gathered_from lane) (sent_by lane)
   pub gathered : IsGathered gatherer lanes gathered_from g
+
+-- threads of a dealer, of 1 or more lanes and of a gatherer have run together, and this is the end of all
+pub record HaveThreadsEnded (tool : Tool) (end : StageEnd) (l g : List Message) : Type 0 where
+  pub lanes : ℕ
+  pub some : 0 < lanes
+  pub dealer : StageEnd
+  pub lane_ends : ℕ → StageEnd
+  pub gatherer : StageEnd
+  pub dealt_to : ℕ → List Message
+  pub received_by : ℕ → List Message
+  pub sent_by : ℕ → List Message
+  pub gathered_from : ℕ → List Message
+  pub together : HaveRunTogether tool lanes dealer lane_ends gatherer l dealt_to received_by sent_by gathered_from g
+  pub end_of_all : IsEndOfAll lanes dealer lane_ends gatherer end
 
 -- ---- laws
 

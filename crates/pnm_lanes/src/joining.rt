@@ -1,8 +1,13 @@
 //! The threads of a tool over several lanes once all have ended: what is left in their rings, and the end of all.
 
-ghost use Rattle.std.specs.Prelude.{◌≡◌};
-ghost use Rattle.pnm_lanes.specs.LaneRings.{ArePairs, HavePassed};
-ghost use Rattle.pnm_lanes.specs.LaneRuns.{end_of_both, end_of_lanes};
+ghost use Rattle.std.specs.Prelude.{◌≡◌, ◌<◌, ℕ, List, true, length};
+ghost use Rattle.rtrb.specs.Ring.{sent, received, known_items};
+ghost use Rattle.pnm_tools.specs.declared.tool.Tool.{Tool};
+ghost use Rattle.pnm_tools.specs.Tools.{IsLawfulTool, is_row_wise};
+ghost use Rattle.pnm_lanes.specs.declared.lane_rings.LaneEnds.{LaneEnds};
+ghost use Rattle.pnm_lanes.specs.declared.lanes.OuterEnds.{OuterEnds};
+ghost use Rattle.pnm_lanes.specs.LaneRings.{AreUnused, ArePairs};
+ghost use Rattle.pnm_lanes.specs.LaneRuns.{end_of_both, HaveRun, HasRunLanes};
 
 use crate::dealing::DealDone;
 use crate::gathering::GatherDone;
@@ -25,8 +30,11 @@ pub struct LanesDone {
 pub fn joined(done: LanesDone) -> StageDone
     requires rings { ArePairs done.dealt.outputs.items done.lanes.items done.gathered.inputs.items }
     ensures outer { (result.input ≡ done.dealt.input) × (result.output ≡ done.gathered.output) }
-    ensures passed { HavePassed done.dealt.outputs.items done.lanes.items done.gathered.inputs.items }
-    ensures end { result.end ≡ end_of_both done.dealt.end (end_of_lanes done.lanes.items done.gathered.end) }
+    ensures ran { (tool : Tool) (lanes : List LaneEnds) (outer : OuterEnds) (room : ℕ)
+        → IsLawfulTool tool → is_row_wise tool ≡ true → 0 < length lanes
+        → AreUnused outer.outputs.items lanes outer.inputs.items → HaveRun tool lanes outer room done
+        → HasRunLanes tool result.end (received outer.input) (received result.input) (known_items result.input)
+        (sent outer.output) (sent result.output) }
 {
     let LanesDone {
         dealt,

@@ -28,13 +28,14 @@ pub record Extends (old new : List Message) (P : List Message → Type 0) : Type
   pub messages : AllByRecursion IsMessage more
   pub holds : P more
 
--- messages were taken through the end of the stream; or none of those that were taken ends it, and no more are there
+-- messages were taken through the end of the stream; or none of those that were taken ends it, and no message is left of
+-- those that the receiving end has seen. Whether there are more, one end of a ring alone doesn't know.
 abbrev pub HasDrained : Bool → List Message → List Message → List Message → Type 0
-HasDrained true old new left = Extends old new IsEnded
-HasDrained false old new left = Extends old new (EndsBy More) × (left ≡ [])
+HasDrained true old new seen = Extends old new IsEnded
+HasDrained false old new seen = Extends old new (EndsBy More) × (seen ≡ [])
 
 -- the same after a message with this ending: after one that ends the stream nothing is drained
 abbrev pub HasDrainedAfter : Answered → Bool → List Message → List Message → List Message → Type 0
-HasDrainedAfter AnsweredMore drained old new left = HasDrained drained old new left
-HasDrainedAfter AnsweredWhole drained old new left = (drained ≡ true) × (new ≡ old)
-HasDrainedAfter AnsweredBrokenOff drained old new left = (drained ≡ true) × (new ≡ old)
+HasDrainedAfter AnsweredMore drained old new seen = HasDrained drained old new seen
+HasDrainedAfter AnsweredWhole drained old new seen = (drained ≡ true) × (new ≡ old)
+HasDrainedAfter AnsweredBrokenOff drained old new seen = (drained ≡ true) × (new ≡ old)

@@ -59,12 +59,12 @@ pub record IsStage (tool : Tool) (end : StageEnd) (l g : List Message) : Type 0 
   pub once : EndsAtMostOnce l
   pub due : IsFrontOfDue (output_due tool) l g
 
--- a stage has ended so, by the messages that its two rings had passed before and have passed now, and those that are left
--- in the first: none, or the end of the stream was received
-pub record HasRunStage (tool : Tool) (end : StageEnd) (received_old received_new left sent_old sent_new : List Message) : Type 0 where
+-- a stage has ended so, by the messages that its two rings had passed before and have passed now, and those of the first
+-- that its end has seen and not received: none, or the end of the stream was received
+pub record HasRunStage (tool : Tool) (end : StageEnd) (received_old received_new seen sent_old sent_new : List Message) : Type 0 where
   pub took : List Message
   pub gave : List Message
   pub input : received_new ≡ received_old ++ took
   pub output : sent_new ≡ sent_old ++ gave
-  pub drained : IsEnded took ⊎ (left ≡ [])
+  pub seen_taken : IsEnded took ⊎ (seen ≡ [])
   pub stage : IsStage tool end took gave

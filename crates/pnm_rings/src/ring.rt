@@ -38,12 +38,13 @@ pub fn new_ring(alloc: Global, capacity: usize) -> Option<(Output, Input)>
 }
 
 /// The next message; none once the ring is empty and its other end was seen dropped. The thread sleeps by its own bell,
-/// and rings that of the ring's other end once it has made room.
+/// and rings that of the ring's other end once it has made room. That the ring is empty is known only of the messages that
+/// this end has seen in it.
 pub fn take<R: Wait>(rt: &R, input: &mut Input, own: &Bell, other: &Bell) -> Option<Message>
     ensures ring { SameConsumer input.old input.new }
     ensures taken { IfSome result (λ m. received input.new ≡ received input.old ++ m ∷ []) }
     ensures message { IfSome result IsMessage }
-    ensures gone { IfNone result ((received input.new ≡ received input.old) × (known_items input.new ≡ [])) }
+    ensures none_seen { IfNone result ((received input.new ≡ received input.old) × (known_items input.new ≡ [])) }
 {
     let mut patience = Patience::new();
     for _ in rt.forever() {

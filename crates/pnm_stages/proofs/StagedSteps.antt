@@ -96,7 +96,7 @@ input_gone at all_given stopped first (AtWork filter) true r r1 r2 left s s1 s2 
       gave = passing.gave ++ Stop ∷ [];
       input = same.0 ∙ passing.received;
       output = longer_by s s1 passing.gave s2 (Stop ∷ []) passing.sent (given refl);
-      drained = inr same.1;
+      seen_taken = inr same.1;
       stage = record { ended = tt; messages = passing.messages; once = (More, passing.ends); due = due_with_stop (output_due tool) passing.took passing.gave (idle.full.ends More passing.ends) due };
     }
 input_gone at all_given stopped first (AtWork filter) false r r1 r2 left s s1 s2 tool passing same given gone none fresh =
@@ -105,7 +105,7 @@ input_gone at all_given stopped first (AtWork filter) false r r1 r2 left s s1 s2
       gave = passing.gave;
       input = same.0 ∙ passing.received;
       output = gone refl ∙ passing.sent;
-      drained = inr same.1;
+      seen_taken = inr same.1;
       stage = record { ended = tt; messages = passing.messages; once = (More, passing.ends); due = due_by_part tool passing.took passing.gave (part_at at all_given stopped (AtWork filter) tool passing.took passing.gave idle) };
     }
 
@@ -156,7 +156,7 @@ output_gone at all_given stopped first old fed new m a drained r r1 r2 r3 left s
       gave = passing.gave ++ answers.more;
       input = longer_by r r2 took r3 by.rest (one_longer r r1 passing.took r2 m passing.received added) by.added;
       output = longer_by s s1 passing.gave s2 answers.more passing.sent answers.added;
-      drained = by.all;
+      seen_taken = by.all;
       stage = record {
         ended = tt;
         messages = both_all IsMessage took by.rest (each-push IsMessage passing.took m passing.messages is) by.messages;
@@ -218,7 +218,7 @@ broken_off tool fault a end took gave r r1 r2 left s s1 s2 is ends received sent
       gave = gave ++ Stop ∷ [];
       input = longer_by r r1 took r2 by.rest received by.added;
       output = longer_by s s1 gave s2 (Stop ∷ []) sent faulted.1;
-      drained = by.all;
+      seen_taken = by.all;
       stage = record {
         ended = subst (λ (e : StageEnd). HasEndedSo tool e (took ++ by.rest) (gave ++ Stop ∷ [])) (sym faulted.0) (record { given = gave; refused = drops_more tool fault took gave by.rest is.refused; unbroken = is.unbroken; answer = refl; ends = by.ended refl });
         messages = both_all IsMessage took by.rest is.messages by.messages;
@@ -233,7 +233,7 @@ broken_off tool fault a end took gave r r1 r2 left s s1 s2 is ends received sent
       gave = gave ++ Stop ∷ [];
       input = longer_by r r1 took r2 by.rest received by.added;
       output = longer_by s s1 gave s2 (Stop ∷ []) sent gone.1;
-      drained = by.all;
+      seen_taken = by.all;
       stage = record {
         ended = subst (λ (e : StageEnd). HasEndedSo tool e (took ++ by.rest) (gave ++ Stop ∷ [])) (sym gone.0) tt;
         messages = both_all IsMessage took by.rest is.messages by.messages;
@@ -248,7 +248,7 @@ broken_off tool fault a end took gave r r1 r2 left s s1 s2 is ends received sent
       gave = gave;
       input = longer_by r r1 took r2 by.rest received by.added;
       output = gone.1 ∙ sent;
-      drained = by.all;
+      seen_taken = by.all;
       stage = record {
         ended = subst (λ (e : StageEnd). HasEndedSo tool e (took ++ by.rest) gave) (sym gone.0) tt;
         messages = both_all IsMessage took by.rest is.messages by.messages;
@@ -278,7 +278,7 @@ ended_by tool end e l g r r1 left s s1 is ended full messages received sent = re
   gave = g;
   input = received;
   output = sent;
-  drained = inl is;
+  seen_taken = inl is;
   stage = record { ended = ended; messages = messages; once = at_most_once l is; due = due_by_part tool l g (record { accepted = l; rest = []; parts = sym (append-nil l); answers = full.answers }) };
 }
 

@@ -29,7 +29,7 @@ pub record HasSentAnswers {F : Type 0} (at : F → Tool → List Message → Lis
 -- a stage was broken off after a message with this ending: Stop was sent and the input was drained; or Stop wasn't sent, or
 -- the input wasn't drained, since the other end of a ring was seen dropped
 abbrev pub HasBrokenOffAfter : ToolFault → Ending → StageEnd → List Message → List Message → List Message → List Message → List Message → Type 0
-HasBrokenOffAfter fault ending end received_old received_new left sent_old sent_new =
-    ((end ≡ Fault fault) × (sent_new ≡ sent_old ++ Stop ∷ []) × HasDrainedAfter ending true received_old received_new left)
-    ⊎ ((end ≡ PeerGone) × (sent_new ≡ sent_old ++ Stop ∷ []) × HasDrainedAfter ending false received_old received_new left)
-    ⊎ ((end ≡ PeerGone) × (sent_new ≡ sent_old) × ((drained : Bool) × HasDrainedAfter ending drained received_old received_new left))
+HasBrokenOffAfter fault ending end received_old received_new seen sent_old sent_new =
+    ((end ≡ Fault fault) × (sent_new ≡ sent_old ++ Stop ∷ []) × HasDrainedAfter ending true received_old received_new seen)
+    ⊎ ((end ≡ PeerGone) × (sent_new ≡ sent_old ++ Stop ∷ []) × HasDrainedAfter ending false received_old received_new seen)
+    ⊎ ((end ≡ PeerGone) × (sent_new ≡ sent_old) × ((drained : Bool) × HasDrainedAfter ending drained received_old received_new seen))

@@ -23,7 +23,7 @@ loop-init g c = (
 pub returns-in_default-clause-dealt : goal.returns-in_default-clause-dealt
 returns-in_default-clause-dealt g c =
     input_gone c.loop.place (received c.args.input.now) (received c.loop.input) (received c.take.new.input) (known_items c.take.new.input) c.args.outputs.now c.loop.outputs c.send_each.new.outputs c.send_each.result
-    c.loop.invariant.2 c.in_default.ensures.gone c.send_each.ensures
+    c.loop.invariant.2 c.in_default.ensures.none_seen c.send_each.ensures
 
 pub returns-then-not-accepts-clause-dealt : goal.returns-then-not-accepts-clause-dealt
 returns-then-not-accepts-clause-dealt g c =

@@ -1,6 +1,9 @@
 use Rattle.std.proofs.Common.{◌++◌, sym, ap, ◌∙◌, arith}
 use Rattle.rtrb.specs.Ring.{known_items}
+use Rattle.pnm_lanes.specs.LaneRuns.{end_of_both}
 use Rattle.pnm_lanes.proofs.JoinSteps.{joins_none, taken_pairs, joins_one, joins_all}
+use Rattle.pnm_lanes.proofs.LaneNumbers.{lanes_have_run}
+use Rattle.pnm_lanes.proofs.LaneRunSteps.{as_many_run}
 use Rattle.pnm_lanes.proofs.joining.joined.Goals as goal
 
 pub loop-lane-init : goal.loop-lane-init
@@ -27,5 +30,8 @@ loop-lane-preserved c =
     (known_items c.slots_beside-in-Some.new.self, sym (ap (λ (x : _). x ++ known_items c.slots_beside-in-Some.new.self) (sym c.slots_beside-in-Some.ensures.looked.1) ∙ c.slots_beside-in-Some.ensures.fifo ∙ c.slots_beside-in-Some.ensures.producer.1))
     c.end_of_both-end.ensures
 
-pub returns-clause-passed : goal.returns-clause-passed
-returns-clause-passed c = (joins_all c.args.done.dealt.outputs.items c.args.done.lanes.items c.args.done.gathered.inputs.items c.args.done.gathered.end c.loop-lane.outputs.items c.loop-lane.lanes.items c.loop-lane.inputs.items c.loop-lane.end c.loop-lane.invariant (let ok = c.loop-lane.lanes.ok in let none = c.in_default.ensures.cases.0 in omega (arith, ok, none))).0
+pub returns-clause-ran : goal.returns-clause-ran
+returns-clause-ran c tool lanes outer room lawful row_wise some unused run =
+    let all = joins_all c.args.done.dealt.outputs.items c.args.done.lanes.items c.args.done.gathered.inputs.items c.args.done.gathered.end c.loop-lane.outputs.items c.loop-lane.lanes.items c.loop-lane.inputs.items c.loop-lane.end c.loop-lane.invariant (let ok = c.loop-lane.lanes.ok in let none = c.in_default.ensures.cases.0 in omega (arith, ok, none)) in
+    lanes_have_run tool lanes outer room c.args.done c.end_of_both.result unused run all.0 (c.end_of_both.ensures ∙ ap (end_of_both c.args.done.dealt.end) all.1)
+    some (as_many_run tool lanes c.args.done.lanes.items run.lanes_run) lawful row_wise

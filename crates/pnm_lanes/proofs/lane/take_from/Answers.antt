@@ -13,7 +13,7 @@ returns-in_default-clause-inputs g c = one_changed c.args.inputs.now c.args.lane
 
 pub returns-in_default-clause-taken : goal.returns-in_default-clause-taken
 returns-in_default-clause-taken g c =
-    (refl, λ other. has_given_none c.args.inputs.now c.args.lane c.take.new.input c.index-inputs-lane.result other c.requires.lane c.in_default.ensures.gone.0)
+    (refl, λ other. has_given_none c.args.inputs.now c.args.lane c.take.new.input c.index-inputs-lane.result other c.requires.lane c.in_default.ensures.none_seen.0)
 
 pub returns-in-More-clause-inputs : goal.returns-in-More-clause-inputs
 returns-in-More-clause-inputs g c = one_changed c.args.inputs.now c.args.lane c.take.new.input c.index-inputs-lane.result c.requires.lane c.take.ensures.ring

@@ -1,8 +1,6 @@
-use Rattle.std.proofs.Common.{sym, subst, arith, length, vec_capacity}
-use Rattle.rtrb.specs.Ring.{sent, received, known_items}
-use Rattle.pnm_lanes.specs.LaneRuns.{HasRunLanes}
-use Rattle.pnm_lanes.proofs.LaneRunSteps.{as_many_run, came_back}
-use Rattle.pnm_lanes.proofs.LaneNumbers.{as_many_unused, pairs_after, lanes_have_run}
+use Rattle.std.proofs.Common.{arith, length, vec_capacity}
+use Rattle.pnm_lanes.proofs.LaneRunSteps.{came_back}
+use Rattle.pnm_lanes.proofs.LaneNumbers.{as_many_unused, pairs_after}
 use Rattle.pnm_lanes.proofs.lanes.run_lanes_by.Goals as goal
 
 pub run_threads-requires-clause-outer : goal.run_threads-requires-clause-outer
@@ -26,7 +24,5 @@ pub returns-in-Some-clause-ran : goal.returns-in-Some-clause-ran
 returns-in-Some-clause-ran g c =
     let rings = c.in-Some-Some-Ok.rings in
     let run = came_back c.args.tool.now rings.lanes.items _ (vec_capacity c.in-Some-Some-Ok.room) c.run_threads.result c.in-Some.done c.run_threads.ensures c.in-Some.is in
-    let has = lanes_have_run c.args.tool.now rings.lanes.items _ (vec_capacity c.in-Some-Some-Ok.room) c.in-Some.done c.joined.result.end c.in-Some-Some-Ok.ensures.unused run
-    c.joined.ensures.passed c.joined.ensures.end (omega (arith, c.in-Some-Some-Ok.ensures.count, c.requires.lanes.0)) (as_many_run c.args.tool.now rings.lanes.items c.in-Some.done.lanes.items run.lanes_run) c.requires.lawful c.requires.row_wise in
-    subst (λ (x : _). HasRunLanes c.args.tool.now c.joined.result.end (received c.args.input) (received x) (known_items x) (sent c.args.output) (sent c.joined.result.output)) (sym c.joined.ensures.outer.0)
-    (subst (λ (x : _). HasRunLanes c.args.tool.now c.joined.result.end (received c.args.input) (received c.in-Some.done.dealt.input) (known_items c.in-Some.done.dealt.input) (sent c.args.output) (sent x)) (sym c.joined.ensures.outer.1) has)
+    c.joined.ensures.ran c.args.tool.now rings.lanes.items _ (vec_capacity c.in-Some-Some-Ok.room) c.requires.lawful c.requires.row_wise
+    (omega (arith, c.in-Some-Some-Ok.ensures.count, c.requires.lanes.0)) c.in-Some-Some-Ok.ensures.unused run

@@ -16,7 +16,7 @@ returns-in-Some-clause-ran g c tool fresh =
 pub returns-in_default-take-clause-ran : goal.returns-in_default-take-clause-ran
 returns-in_default-take-clause-ran g c tool fresh =
     input_gone g.F.Filter.at g.F.Filter.all_given g.F.Filter.stopped c.args.stage.now c.loop.stage c.give.result (received c.args.input.now) (received c.loop.input) (received c.take.new.input) (known_items c.take.new.input) (sent c.args.output.now) (sent c.loop.output) (sent c.give.new.output) tool
-    c.loop.invariant.2 c.in_default-take.ensures.gone c.give.ensures.given c.give.ensures.gone c.loop.invariant.3 fresh
+    c.loop.invariant.2 c.in_default-take.ensures.none_seen c.give.ensures.given c.give.ensures.gone c.loop.invariant.3 fresh
 
 pub returns-then-not-send_answers-clause-ran : goal.returns-then-not-send_answers-clause-ran
 returns-then-not-send_answers-clause-ran g c tool fresh =
