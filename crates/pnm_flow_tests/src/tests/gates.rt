@@ -73,12 +73,13 @@ fn gives_each_lane_of_a_run_a_thread(rt: HostRuntime) {
     assert_eq!(&rt; (both.first.load(SeqCst), both.second.load(SeqCst)), (1, 1));
 }
 
-/// What a run has read and written so far, and whether a gate waited in vain for it.
+/// What a run has read and written so far, how often a gate held it, and whether it waited in vain.
 #[derive(Drop)]
 struct Seen {
     reads: AtomicU64,
     writes: AtomicU64,
     flushes: AtomicU64,
+    held: AtomicU64,
     missed: AtomicU64,
     early: AtomicU64,
 }
@@ -89,6 +90,7 @@ impl Seen {
             reads: AtomicU64::new(0),
             writes: AtomicU64::new(0),
             flushes: AtomicU64::new(0),
+            held: AtomicU64::new(0),
             missed: AtomicU64::new(0),
             early: AtomicU64::new(0),
         }
@@ -133,6 +135,7 @@ impl Gate for HoldsFirst<'_> {
             return;
         }
         let seen = self.0;
+        seen.held.fetch_add(1, SeqCst);
         for turn in 0..TURNS {
             if seen.reads.load(SeqCst) > 0 {
                 break;
@@ -149,7 +152,8 @@ impl Gate for HoldsFirst<'_> {
     }
 }
 
-/// The input is read while the gate holds the first tool back, or the first lane of it, and nothing is written without it.
+/// The input is read while the gate holds the first tool back, or the first lane of it, once, and nothing is written
+/// without it.
 fn reads_and_writes<R: Threads + Wait + Abort + Sync>(rt: &R, alloc: Global, held: HeldRun<'_>) {
     let (tools, lanes, input, made) = held;
     assert!(rt; 1 <= tools.len() && tools.len() <= 64 && are_lawful(tools));
@@ -172,6 +176,7 @@ fn reads_and_writes<R: Threads + Wait + Abort + Sync>(rt: &R, alloc: Global, hel
     let want = (Ok(Summary { images: 1, rows: 2 }), made);
     let written = writer.into_inner().0;
     agrees(rt, (answer, written.as_slice()), want, &lanes);
+    assert_eq!(rt; seen.held.load(SeqCst), 1);
     assert_eq!(rt; (seen.missed.load(SeqCst), seen.early.load(SeqCst)), (0, 0));
 }
 
