@@ -1,5 +1,5 @@
 -- The columns and rows that are kept.
-use Rattle.std.proofs.Common.{◌≡◌, ◌⊎◌, inl, inr, ℕ, ◌+◌, ◌-◌, ◌*◌, ◌≤◌, ◌<◌, ℤ, pos, negsuc, Bool, true, false, nat_le, nat_lt, ◌&&◌, if◌then◌else◌, Option, Some, None, Result, Ok, Err, ◌==◌, List, [], ◌∷◌, ◌++◌, All, mul-le-mul, length, take, drop, refl, sym, ap, ◌∙◌, subst, arith, length-take-le, length-drop}
+use Rattle.std.proofs.Common.{◌≡◌, ◌⊎◌, inl, inr, ℕ, ◌+◌, ◌-◌, ◌*◌, ◌≤◌, ◌<◌, ℤ, pos, negsuc, Bool, true, false, nat_le, nat_lt, ◌&&◌, if◌then◌else◌, Option, Some, None, Result, Ok, Err, ◌==◌, List, [], ◌∷◌, ◌++◌, All, mul-le-mul, add-mul, length, take, drop, refl, sym, ap, ◌∙◌, subst, arith, length-take-le, length-drop}
 use Rattle.std.specs.List.{copy_within}
 use Rattle.std.proofs.Math.Seq.{paste}
 use Rattle.std.proofs.lemmas.Bool.{leb-true, ltb-true, le-leb, lt-leb, ne_eqb, and_parts, and_right}
@@ -55,6 +55,17 @@ pub kept_at_front : {X : Type 0} (columns : Span) (depth : ℕ) (row new : List 
 kept_at_front columns depth row new m h is size none =
     let zero_first : 0 ≡ columns.first * depth = omega arith in
     is ∙ ap (λ (n : ℕ). take n row) size ∙ ap (λ (n : ℕ). drop n (take ((columns.last + 1) * depth) row)) zero_first ∙ rest_is_kept columns depth row h
+
+-- a row of which all columns are kept
+pub all_kept : {X : Type 0} (columns : Span) (depth count : ℕ) (row : List X) → KeepsWithin columns depth row → count ≡ (columns.last - columns.first + 1) * depth → count ≡ length row → row ≡ columns_of_row columns depth row
+all_kept {X = X} columns depth count row h size all =
+    let n : ℕ = columns.last - columns.first + 1 in
+    let parts : columns.last + 1 ≡ columns.first + n = omega (arith, h.0) in
+    let sum : (columns.last + 1) * depth ≡ columns.first * depth + n * depth = ap (λ (k : ℕ). k * depth) parts ∙ add-mul columns.first n depth in
+    let none : columns.first * depth ≡ 0 = omega (arith, h.1, sum) in
+    let same : span_count columns ≡ n = omega (arith, h.0) in
+    let whole : span_count columns * depth ≡ length row = ap (λ (k : ℕ). k * depth) same ∙ sym size ∙ all in
+    sym (ap (λ (k : ℕ). take (span_count columns * depth) (drop k row)) none ∙ take_all (span_count columns * depth) row (omega arith))
 
 -- what is kept of samples within a maxval, appended to none
 pub kept_within : (maxval first count : ℕ) (row before new : List ℕ) → before ≡ [] → new ≡ before ++ take count (drop first row) → All (λ sample. sample ≤ maxval) row → All (λ sample. sample ≤ maxval) new

@@ -30,10 +30,13 @@ fn kept(alloc: Global, columns: Span, shape: Shape, row: Samples) -> Result<Samp
     ensures { IfOk result (λ kept. kept ≡ columns_of_row columns shape.depth row) }
 {
     let depth = shape.depth as usize;
+    let count = (columns.last as usize - columns.first as usize + 1) * depth;
+    if count == row.len() {
+        return Ok(row);
+    }
     match row.into_vec() {
         SampleVec::Bits(bits) => {
             let first = columns.first as usize * depth;
-            let count = (columns.last as usize - columns.first as usize + 1) * depth;
             let mut kept = Bits::empty(alloc);
             kept.append(&bits, first, count)?;
             Ok(Samples::within(SampleVec::Bits(kept), shape.maxval))
