@@ -4,10 +4,10 @@
 `scripts/refused.c`, compiled here and loaded before the program, refuses the Nth one that the program itself asks
 for; N goes upward from 1, once with that one alone refused and once with all after it too. A run that met a refusal
 has to say so by the line that fits and to have written a front of the whole output: nothing where the status is 2 or
-a thread couldn't be started. It has to end in time, and with no thread left. Tests of crates are refused each
-allocation too, since they reach what no command does. Where there is no C compiler, the stored run alone is refused,
-by the toolchain, which builds the program anew for each turn, and starts of threads by the room that the process may
-take.
+a thread couldn't be started. It has to end in time, and with no thread left. Where the input is silent (`silent`),
+each refused start has to be answered before the silence ends. Tests of crates are refused each allocation too, since
+they reach what no command does. Where there is no C compiler, the stored run alone is refused, by the toolchain,
+which builds the program anew for each turn, and starts of threads by the room that the process may take.
 """
 
 import argparse
@@ -37,6 +37,9 @@ OF_MEMORY = "memory::"
 # no command makes more allocations than this, and none has more tools
 MOST = 2000
 MOST_TOOLS = 64
+
+# how many seconds a refused start may take to be answered, while the input is silent
+PROMPT = 1.0
 
 
 class Command(typing.NamedTuple):
@@ -195,14 +198,32 @@ def commands(program):
         yield from commands_over(lanes)
 
 
+def ended(words, given, seconds, how):
+    """What a run left. Where nothing is given, not even an end, its input is silent, and it has to end before the
+    silence does."""
+    if given is not None:
+        return subprocess.run(words, input=given, capture_output=True, timeout=seconds, **how)
+    pipes = dict.fromkeys(("stdin", "stdout", "stderr"), subprocess.PIPE)
+    with subprocess.Popen(words, **pipes, **how) as child:
+        try:
+            child.wait(PROMPT)
+            return subprocess.CompletedProcess(words, child.returncode, *child.communicate())
+        except subprocess.TimeoutExpired:
+            # (this closes the input)
+            _, printed = child.communicate(timeout=seconds)
+            told = printed.decode(errors="replace")
+            raise Fault(f"no answer while the input was silent for {PROMPT} s; {told!r} after that") from None
+        finally:
+            child.kill()
+
+
 def run(words, given, seconds, loaded, variables):
     """Runs these words with the code loaded before them."""
     told, teller = os.pipe()
     try:
         environment = dict(os.environ, LD_PRELOAD=loaded, REFUSED_REPORT=str(teller), **variables)
         try:
-            how = {"env": environment, "pass_fds": [teller]}
-            ran = subprocess.run(words, input=given, capture_output=True, timeout=seconds, **how)
+            ran = ended(words, given, seconds, {"env": environment, "pass_fds": [teller]})
         except subprocess.TimeoutExpired:
             raise Fault(f"it hasn't ended after {seconds} seconds") from None
         os.close(teller)
@@ -253,10 +274,11 @@ def judge(command, answer):
         raise Fault(f"{answer.printed!r} before {command.line!r}")
 
 
-def refuse_each(kind, is_for_good, run_once):
-    """Refuses the first, the second and so on, until a run meets no refusal. Gives the answers that met one."""
+def refuse_each(kind, is_for_good, run_once, last=MOST):
+    """Refuses the first, the second and so on through the last, or until a run meets no refusal. Gives the answers
+    that met one."""
     met = []
-    for number in range(1, MOST):
+    for number in range(1, last + 1):
         variables = {f"REFUSED_{kind}": str(number)}
         if is_for_good:
             variables["REFUSED_FOR_GOOD"] = "1"
@@ -267,7 +289,9 @@ def refuse_each(kind, is_for_good, run_once):
         if not answer.refusals:
             return met
         met.append(answer)
-    raise Fault(f"{kind.lower()}: no run without a refusal")
+    if last == MOST:
+        raise Fault(f"{kind.lower()}: no run without a refusal")
+    return met
 
 
 def refuse_command(program, command, kinds, seconds, loaded):
@@ -287,6 +311,28 @@ def refuse_command(program, command, kinds, seconds, loaded):
                 raise Fault(f"{kind.lower()}: only {len(met)} were refused, of {least} at least")
             counts.append((kind, len(met)))
             lines.update(shown(answer) for answer in met)
+    return counts, lines
+
+
+def refuse_silent(program, command, seconds, loaded):
+    """Refuses each start of a command's threads while its input is silent. Gives what refuse_command does."""
+
+    def run_over(given):
+        return lambda variables: run([program, *command.words], given, seconds, loaded, variables)
+
+    def run_silent(variables):
+        answer = run_over(None)(variables)
+        if (answer.status, answer.written, answer.printed, answer.left) != (1, b"", "pnmpipe: NoStart\n", 0):
+            left = f"{answer.left} threads are left, {answer.written!r}"
+            raise Fault(f"status {answer.status}, {answer.printed!r}, {left}")
+        return answer
+
+    counts, lines = [], collections.Counter()
+    for is_for_good in (False, True):
+        count = len(refuse_each("START", is_for_good, run_over(command.given)))
+        met = refuse_each("START", is_for_good, run_silent, count)
+        counts.append(("SILENT", len(met)))
+        lines.update(shown(answer) for answer in met)
     return counts, lines
 
 
@@ -342,9 +388,12 @@ def refuse_all(args, loaded):
     jobs = {}
     totals, lines, faults = collections.Counter(), collections.Counter(), 0
     with concurrent.futures.ThreadPoolExecutor(args.jobs) as pool:
-        for command in commands(args.program) if kinds else ():
-            job = pool.submit(refuse_command, args.program, command, kinds, args.seconds, loaded)
-            jobs[job] = textwrap.shorten(shlex.join(command.words), 90, placeholder=" ..")
+        for command in commands(args.program) if kinds or "silent" in args.what else ():
+            name = textwrap.shorten(shlex.join(command.words), 90, placeholder=" ..")
+            if kinds:
+                jobs[pool.submit(refuse_command, args.program, command, kinds, args.seconds, loaded)] = name
+            if "silent" in args.what and command.starts:
+                jobs[pool.submit(refuse_silent, args.program, command, args.seconds, loaded)] = f"{name}, silent"
         for program, crate, name in tests() if "tests" in args.what else ():
             jobs[pool.submit(refuse_test, program, name, args.seconds, loaded)] = f"{crate} {name}"
         for job, name in jobs.items():
@@ -408,14 +457,15 @@ def refuse_by_room(program, seconds):
 
 def main():
     parser = argparse.ArgumentParser(description=__doc__.split("\n")[0])
-    parser.add_argument("what", nargs="*", metavar="WHAT", help="growth, start or tests; by default growth and start")
+    kinds = "growth, start, silent or tests; by default growth and start"
+    parser.add_argument("what", nargs="*", metavar="WHAT", help=kinds)
     parser.add_argument("--program", default=os.path.join(ROOT, "bin/pnmpipe"))
     parser.add_argument("--seconds", type=float, default=20, help="how long a run may take")
     parser.add_argument("--jobs", type=int, default=os.cpu_count())
     parser.add_argument("--step", type=int, default=10, help="with no C compiler, each how many-th allocation")
     args = parser.parse_args()
-    if set(args.what) - {"growth", "start", "tests"}:
-        parser.error("WHAT is growth, start or tests")
+    if set(args.what) - {"growth", "start", "silent", "tests"}:
+        parser.error("WHAT is growth, start, silent or tests")
     args.what = args.what or ["growth", "start"]
     args.program = os.path.abspath(args.program)
     if set(args.what) != {"tests"} and not os.path.exists(args.program):
