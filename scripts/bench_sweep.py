@@ -5,7 +5,7 @@ processor time than Netpbm's tool: file to memory, the bytes compared.
 Images are 4,000 wide, but where a factor would make the result too large. The program and Netpbm's tool run in turn;
 a line has the medians of their processor seconds, and the one over the other. What is above 1.0 is measured once
 more, and the end lists it with both ratios. The ratios can be used where other work runs beside, the seconds can't.
-`make bench-sweep` calls this by `scripts/bench.py --sweep`.
+`make bench-sweep` calls this by `scripts/bench.py --sweep`, and takes a minute or two.
 """
 
 import argparse
