@@ -12,9 +12,9 @@ ghost use Rattle.pnm_stages.specs.Starts.{IsUntouched};
 ghost use Rattle.pnm_lanes.specs.Limits.{IsLaneCount};
 
 use crate::link::Link;
-use crate::tool_run::{ToolBells, bell_of_tool, bell_of_tools, run_between, run_tool_by};
-use pnm_rings::{Bell, Input, Output, StageEnd, new_ring};
-use pnm_stages::{Gate, NoStart, StageDone, at_once};
+use crate::tool_run::{run_between, run_tool_by};
+use pnm_rings::{Input, Output, StageEnd, Wakers, new_ring};
+use pnm_stages::{Gate, NoStart, StageDone, StageWakers, at_once};
 use pnm_tools::Tool;
 use std::alloc::Global;
 use std::sync::Wait;
@@ -64,22 +64,17 @@ pub fn run_chain<R: Threads + Wait + Sync, G: Gate>(
         (received input) (received done.input) (sent output) (sent done.output)) }
     ensures not_started { IfErr result (λ refused. IfSome refused.ends (IsUntouched input output)) }
 {
-    let nobody = Bell::of_nobody();
-    let first = Bell::new();
-    let last = Bell::new();
-    let bells = ToolBells {
-        left: &nobody,
-        receiver: bell_of_tools(tools, lanes, &last, &first),
-        sender: &last,
-        right: &nobody,
+    let (before, behind) = (Wakers::of_one_end(), Wakers::of_one_end());
+    let wakers = StageWakers {
+        input: &before,
+        output: &behind,
     };
     run_chain_by(
-        rt, alloc, tools, capacity, lanes, gate, input, output, bells,
+        rt, alloc, tools, capacity, lanes, gate, input, output, wakers,
     )
 }
 
-/// The same, beside neighbours that have bells. Where one thread receives for the first tool and sends for the last, both
-/// have one bell.
+/// The same, beside neighbours that wake its threads and are woken.
 pub fn run_chain_by<R: Threads + Wait + Sync, G: Gate>(
     rt: &R,
     alloc: Global,
@@ -89,7 +84,7 @@ pub fn run_chain_by<R: Threads + Wait + Sync, G: Gate>(
     gate: &G,
     input: Input,
     output: Output,
-    bells: ToolBells<'_>,
+    wakers: StageWakers<'_>,
 ) -> Result<ChainDone, NoStart>
     requires shared { IsSync R.row × IsSync G.row }
     requires chain { IsChain tools.now }
@@ -105,7 +100,7 @@ pub fn run_chain_by<R: Threads + Wait + Sync, G: Gate>(
         return Err(not_started(input, output));
     };
     run_stages(
-        rt, alloc, tools, capacity, lanes, gate, input, output, room, bells,
+        rt, alloc, tools, capacity, lanes, gate, input, output, room, wakers,
     )
 }
 
@@ -138,7 +133,7 @@ fn run_stages<R: Threads + Wait + Sync, G: Gate>(
     input: Input,
     output: Output,
     room: Room,
-    bells: ToolBells<'_>,
+    wakers: StageWakers<'_>,
 ) -> Result<ChainDone, NoStart>
     requires shared { IsSync R.row × IsSync G.row }
     requires tools { AreLawfulTools tools.now × (1 ≤ length tools.now) }
@@ -151,7 +146,7 @@ fn run_stages<R: Threads + Wait + Sync, G: Gate>(
     let (last, others) = last_and_others(tools);
     if others.is_empty() {
         let done = run_tool_by(
-            rt, alloc, last, 1, lanes, capacity, gate, input, output, bells,
+            rt, alloc, last, 1, lanes, capacity, gate, input, output, wakers,
         );
         return match done {
             Ok(done) => Ok(only(done, room)),
@@ -162,10 +157,12 @@ fn run_stages<R: Threads + Wait + Sync, G: Gate>(
         return Err(not_started(input, output));
     };
     let number = tools.len();
-    // The bells of the two threads between which the ring stands are here, below both.
-    let (sends, receives) = (Bell::new(), Bell::new());
-    let sender = bell_of_tools(others, lanes, bells.receiver, &sends);
-    let receiver = bell_of_tool(last, lanes, bells.sender, &receives);
+    // The ring's wakers are here, below both threads between which it stands.
+    let between = &Wakers::new();
+    let StageWakers {
+        input: before,
+        output: behind,
+    } = wakers;
     let both = at_once(
         rt,
         move || -> Option<StageDone>
@@ -174,13 +171,12 @@ fn run_stages<R: Threads + Wait + Sync, G: Gate>(
                 × HasRunTool lanes last.entry.now done.end (received consumer) (received done.input) (known_items done.input)
                 (sent output) (sent done.output)) }
         {
-            let bells = ToolBells {
-                left: sender,
-                receiver,
-                ..bells
+            let wakers = StageWakers {
+                input: between,
+                output: behind,
             };
             run_between(
-                rt, alloc, last, number, lanes, capacity, gate, consumer, output, bells,
+                rt, alloc, last, number, lanes, capacity, gate, consumer, output, wakers,
             )
         },
         move || -> Option<ChainDone>
@@ -189,18 +185,17 @@ fn run_stages<R: Threads + Wait + Sync, G: Gate>(
                 × IsRingCapacity capacity × HasRoom (length others.now) room.links.items (vec_capacity room.links) room.ends.items (vec_capacity room.ends) }
             ensures { IfSome result (HasRunBetween lanes others.entry.now (vec_capacity room.links) (vec_capacity room.ends) input producer) }
         {
-            let bells = ToolBells {
-                sender,
-                right: receiver,
-                ..bells
+            let wakers = StageWakers {
+                input: before,
+                output: between,
             };
             // Where they weren't started, their ring ends go here, before the last tool is waited for, which looks for
             // that once it is woken.
             let chain = run_stages(
-                rt, alloc, others, capacity, lanes, gate, input, producer, room, bells,
+                rt, alloc, others, capacity, lanes, gate, input, producer, room, wakers,
             )
             .ok();
-            receiver.ring();
+            between.wake_receiver();
             chain
         },
     );

@@ -8,7 +8,7 @@ ghost use Rattle.pnm_flow.specs.Downstreams.{output_of};
 
 use crate::downstream::Downstream;
 use pnm_image::{BytesOut, Form, Message};
-use pnm_rings::{Bell, Ending, Input, Output, ends_image};
+use pnm_rings::{Ending, Input, Output, Wakers, ends_image, wake_sender};
 
 /// The ring that the results of a run come from, and what is written of them.
 #[derive(Drop)]
@@ -53,8 +53,8 @@ impl<W: BytesOut + Drop> Collector<W> {
     }
 
     /// Takes a message, if one is there, and writes it. False where none is, and the ring's other end is still there. The
-    /// bell is that of the other end.
-    pub fn turn(&mut self, other: &Bell) -> bool
+    /// wakers are the ring's.
+    pub fn turn(&mut self, wakers: &Wakers) -> bool
         requires going { is_over_by self.old ≡ false }
         ensures collecting { (form : FormValue) (start : W) (before : List MessageValue)
             → IsCollecting W.held W.failures form start before self.old
@@ -64,7 +64,7 @@ impl<W: BytesOut + Drop> Collector<W> {
     {
         match self.input.pop() {
             Ok(message) => {
-                other.ring();
+                wake_sender(&self.input, wakers);
                 let is_end = ends_image(&message);
                 self.images = self.images.saturating_add(u64::from(is_end));
                 self.put(message);

@@ -7,7 +7,7 @@ ghost use Rattle.pnm_read.specs.Sources.{reader_of, IsFresh as IsUnread};
 
 use pnm_image::{BytesIn, Message};
 use pnm_read::{InputFault, Source};
-use pnm_rings::{Bell, Output, ends_image};
+use pnm_rings::{Output, Wakers, ends_image};
 use rtrb::PushError;
 
 /// The source of a run, and the ring that its messages go into.
@@ -62,9 +62,14 @@ impl<R: BytesIn + Drop> Feeder<R> {
         self.held.is_none() && !self.source.holds_next()
     }
 
+    /// Whether a message waits for room in the ring.
+    pub fn waits_for_room(&self) -> bool {
+        self.held.is_some()
+    }
+
     /// Asks the source for a message, where none waits for room in the ring, and sends it. False where there is no room. The
-    /// bell is that of the ring's other end.
-    pub fn turn(&mut self, other: &Bell) -> bool
+    /// wakers are the ring's.
+    pub fn turn(&mut self, wakers: &Wakers) -> bool
         requires going { is_over_by self.old ≡ false }
         ensures feeding { (first : Source R) (before : List MessageValue) → IsFeeding R.left R.failures first before self.old
             → IsFeeding R.left R.failures first before self.new }
@@ -74,11 +79,11 @@ impl<R: BytesIn + Drop> Feeder<R> {
         if self.held.is_none() {
             self.ask();
         }
-        self.send(other)
+        self.send(wakers)
     }
 
     /// Sends the message that waits, if any. False where there is no room in the ring.
-    fn send(&mut self, other: &Bell) -> bool
+    fn send(&mut self, wakers: &Wakers) -> bool
         ensures feeding { (first : Source R) (before : List MessageValue) → IsFeeding R.left R.failures first before self.old
             → IsFeeding R.left R.failures first before self.new }
         ensures ring { SameProducer self.old.output self.new.output }
@@ -91,7 +96,7 @@ impl<R: BytesIn + Drop> Feeder<R> {
         match self.output.push(message) {
             Ok(()) => {
                 self.images = self.images.saturating_add(u64::from(is_end));
-                other.ring();
+                wakers.wake_receiver();
                 true
             }
             Err(PushError::Full(back)) => {

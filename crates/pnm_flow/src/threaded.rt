@@ -25,12 +25,11 @@ use crate::collector::Collector;
 use crate::fault::RunFault;
 use crate::feeder::Feeder;
 use crate::summary::Summary;
-use crate::tool_run::{ToolBells, bell_of_tools};
 use crate::turns::Turns;
 use pnm_image::{BytesIn, BytesOut, Form};
 use pnm_read::{InputFault, ReadBuffer, Source};
-use pnm_rings::{Bell, Input, Output, StageEnd, new_ring};
-use pnm_stages::{Call, Gate, run_both};
+use pnm_rings::{Input, Output, StageEnd, Wakers, new_ring};
+use pnm_stages::{Call, Gate, StageWakers, run_both};
 use pnm_tools::Tool;
 use pnm_write::SinkFault;
 use std::alloc::Global;
@@ -114,14 +113,11 @@ fn beside_chain<H: Threads + Wait + Sync, R: BytesIn + Drop, W: BytesOut + Drop,
         (received input) (received r.0.input) (sent output) (sent r.0.output)) }
     ensures turned { IfSome result (λ r. HaveTurned R.left R.failures R.same W.held W.failures W.same feeder collector r.1 r.2) }
 {
-    let own = &Bell::new();
-    let last = &Bell::new();
-    let before_last = Bell::new();
-    let first = bell_of_tools(tools, lanes, last, &before_last);
+    let first = &Wakers::new();
+    let last = &Wakers::new();
     let turns = Turns {
         rt,
         first,
-        own,
         last,
         feeder,
         collector,
@@ -132,18 +128,17 @@ fn beside_chain<H: Threads + Wait + Sync, R: BytesIn + Drop, W: BytesOut + Drop,
             ensures { IfSome result (λ done. SameConsumer input done.input × SameProducer output done.output
                 × HasRunChain lanes tools.entry.now done.ends.items done.links.items (received input) (received done.input) (sent output) (sent done.output)) }
         {
-            let bells = ToolBells {
-                left: own,
-                receiver: first,
-                sender: last,
-                right: own,
+            let wakers = StageWakers {
+                input: first,
+                output: last,
             };
             let done = run_chain_by(
-                rt, alloc, tools, capacity, lanes, gate, input, output, bells,
+                rt, alloc, tools, capacity, lanes, gate, input, output, wakers,
             )
             .ok();
             // Where it wasn't started, its ring ends are gone by now.
-            own.ring();
+            first.wake_sender();
+            last.wake_receiver();
             done
         },
     );

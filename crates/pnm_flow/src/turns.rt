@@ -7,17 +7,16 @@ ghost use Rattle.pnm_flow.specs.Turns.{HaveTurned};
 use crate::collector::Collector;
 use crate::feeder::Feeder;
 use pnm_image::{BytesIn, BytesOut};
-use pnm_rings::{Bell, Patience};
+use pnm_rings::{Backoff, Wakers};
 use pnm_stages::Task;
 use std::sync::Wait;
 
-/// The turns of the caller, until all is sent and taken, with the bells of the first tool, its own, and that of the last tool.
+/// The turns of the caller, until all is sent and taken, with the wakers of the first ring and of the last one.
 #[derive(Drop)]
 pub struct Turns<'a, H, R, W> {
     pub rt: &'a H,
-    pub first: &'a Bell,
-    pub own: &'a Bell,
-    pub last: &'a Bell,
+    pub first: &'a Wakers,
+    pub last: &'a Wakers,
     pub feeder: Feeder<R>,
     pub collector: Collector<W>,
 }
@@ -33,26 +32,41 @@ impl<'a, H: Wait, R: BytesIn + Drop, W: BytesOut + Drop> Task for Turns<'a, H, R
         let Turns {
             rt,
             first,
-            own,
             last,
             feeder,
             collector,
         } = self;
         let mut feeder = feeder;
         let mut collector = collector;
-        let mut patience = Patience::new();
+        let mut backoff = Backoff::of_several();
         let mut takes = false;
         for _ in rt.forever() {
             if feeder.is_over() && collector.is_over() {
                 return (feeder, collector);
             }
             if turn(&mut feeder, &mut collector, &mut takes, first, last) {
-                patience = Patience::new();
+                backoff.reset();
             } else {
-                patience.wait(rt, own, first);
+                wait(rt, feeder.waits_for_room(), first, last, &mut backoff);
             }
         }
         unreachable!()
+    }
+}
+
+/// One turn of waiting for both rings: at the first where a message waits for room there, since the tools have enough to do then
+/// that something comes of it, and else at the last.
+fn wait<H: Wait>(
+    rt: &H,
+    waits_for_room: bool,
+    first: &Wakers,
+    last: &Wakers,
+    backoff: &mut Backoff,
+) {
+    if waits_for_room {
+        backoff.wait_to_send(rt, first);
+    } else {
+        backoff.wait_to_receive(rt, last);
     }
 }
 
@@ -63,8 +77,8 @@ fn turn<R: BytesIn + Drop, W: BytesOut + Drop>(
     feeder: &mut Feeder<R>,
     collector: &mut Collector<W>,
     takes: &mut bool,
-    first: &Bell,
-    last: &Bell,
+    first: &Wakers,
+    last: &Wakers,
 ) -> bool
     ensures turned { HaveTurned R.left R.failures R.same W.held W.failures W.same feeder.old collector.old feeder.new collector.new }
 {

@@ -10,8 +10,9 @@ ghost use Rattle.pnm_lanes.specs.DealParts.{HasBrokenOffAfter};
 ghost use Rattle.pnm_lanes.specs.declared.limits.TheConstants.{MAX_LANES};
 
 use crate::heights::dealt_height;
+use crate::lane_rings::LaneWakers;
 use pnm_image::{Message, Place, Samples};
-use pnm_rings::{Bell, Ending, Input, Output, StageEnd, drain_after, give, take};
+use pnm_rings::{Backoff, Ending, Input, Output, StageEnd, Wakers, drain_after, give, take};
 use pnm_tools::ToolFault;
 use std::alloc::Global;
 use std::sync::Wait;
@@ -27,29 +28,23 @@ pub struct DealDone {
     pub end: StageEnd,
 }
 
-/// The bells of a thread that deals and of its neighbours.
+/// The wakers of the rings of a thread that deals.
 #[derive(Clone, Copy)]
-pub struct DealBells<'a> {
-    /// That of the thread before it.
-    pub left: &'a Bell,
-    /// Its own.
-    pub own: &'a Bell,
-    /// Those of the lanes, from the first on; a lane beyond them has none.
-    pub lanes: &'a [Bell],
+pub struct DealWakers<'a> {
+    /// Those of the ring that it receives on.
+    pub input: &'a Wakers,
+    /// Those of the lanes' rings, from the first lane on.
+    pub lanes: &'a [LaneWakers],
+    /// Those of the rings to lanes beyond these.
+    pub others: &'a Wakers,
 }
 
-/// The same, with a bell for the lanes that have none.
-#[derive(Clone, Copy)]
-struct Neighbours<'a> {
-    bells: DealBells<'a>,
-    nobody: &'a Bell,
-}
-
-impl<'a> Neighbours<'a> {
-    fn lane(&self, lane: usize) -> &'a Bell {
-        match self.bells.lanes.get(lane) {
-            Some(bell) => bell,
-            None => self.nobody,
+impl<'a> DealWakers<'a> {
+    /// Those of the ring to a lane.
+    fn lane(&self, lane: usize) -> &'a Wakers {
+        match self.lanes.get(lane) {
+            Some(wakers) => &wakers.dealt,
+            None => self.others,
         }
     }
 }
@@ -69,24 +64,23 @@ pub fn deal<R: Wait>(rt: &R, alloc: Global, input: Input, outputs: Vec<Output>) 
     ensures dealt { HasDealt result.end (received input) (received result.input) (known_items result.input)
         outputs.items result.outputs.items }
 {
-    let nobody = Bell::of_nobody();
-    let own = Bell::new();
-    let bells = DealBells {
-        left: &nobody,
-        own: &own,
+    let (before, behind) = (Wakers::of_one_end(), Wakers::of_one_end());
+    let wakers = DealWakers {
+        input: &before,
         lanes: &[],
+        others: &behind,
     };
-    deal_by(rt, alloc, input, outputs, bells)
+    deal_by(rt, alloc, input, outputs, wakers)
 }
 
-/// The same, beside neighbours that have bells. A copy of a head is made by the head's own allocator: `_alloc` says that
+/// The same, beside neighbours that wake it and are woken. A copy of a head is made by the head's own allocator: `_alloc` says that
 /// memory is taken.
 pub fn deal_by<R: Wait>(
     rt: &R,
     _alloc: Global,
     input: Input,
     outputs: Vec<Output>,
-    bells: DealBells<'_>,
+    wakers: DealWakers<'_>,
 ) -> DealDone
     requires { IsLaneCount (length outputs.items) }
     ensures input { SameConsumer input result.input }
@@ -94,14 +88,10 @@ pub fn deal_by<R: Wait>(
     ensures dealt { HasDealt result.end (received input) (received result.input) (known_items result.input)
         outputs.items result.outputs.items }
 {
-    let nobody = Bell::of_nobody();
-    let neighbours = Neighbours {
-        bells,
-        nobody: &nobody,
-    };
     let mut input = input;
     let mut outputs = outputs;
-    let end = deal_all(rt, &mut input, outputs.as_mut_slice(), neighbours);
+    let mut backoff = Backoff::new();
+    let end = deal_all(rt, &mut input, outputs.as_mut_slice(), wakers, &mut backoff);
     DealDone {
         input,
         outputs,
@@ -114,7 +104,8 @@ fn deal_all<R: Wait>(
     rt: &R,
     input: &mut Input,
     outputs: &mut [Output],
-    neighbours: Neighbours<'_>,
+    wakers: DealWakers<'_>,
+    backoff: &mut Backoff,
 ) -> StageEnd
     requires { IsLaneCount (length outputs.old) }
     ensures input { SameConsumer input.old input.new }
@@ -123,21 +114,21 @@ fn deal_all<R: Wait>(
 {
     let mut place = Place::new();
     for _ in rt.forever() {
-        let Some(message) = take(rt, input, neighbours.bells.own, neighbours.bells.left) else {
-            send_each(rt, &Message::Stop, outputs, neighbours);
+        let Some(message) = take(rt, input, wakers.input, backoff) else {
+            send_each(rt, &Message::Stop, outputs, wakers, backoff);
             return StageEnd::PeerGone;
         };
         let ending = Ending::of(&message);
         if !place.accepts(&message) {
             drop(message);
             let end = StageEnd::Fault(ToolFault::OutOfOrder);
-            return break_off(rt, end, ending, input, outputs, neighbours);
+            return break_off(rt, end, ending, input, outputs, wakers, backoff);
         }
         let here = place;
         place.step(&message);
-        if let Some(end) = send_parts(rt, here, message, outputs, neighbours) {
+        if let Some(end) = send_parts(rt, here, message, outputs, wakers, backoff) {
             match ending {
-                Ending::More => return break_off(rt, end, ending, input, outputs, neighbours),
+                Ending::More => return break_off(rt, end, ending, input, outputs, wakers, backoff),
                 Ending::Whole | Ending::BrokenOff => return StageEnd::PeerGone,
             }
         }
@@ -157,7 +148,8 @@ fn send_parts<R: Wait>(
     place: Place,
     message: Message,
     outputs: &mut [Output],
-    neighbours: Neighbours<'_>,
+    wakers: DealWakers<'_>,
+    backoff: &mut Backoff,
 ) -> Option<StageEnd>
     requires lanes { IsLaneCount (length outputs.old) }
     requires place { Accepts place message }
@@ -168,12 +160,12 @@ fn send_parts<R: Wait>(
             let Place::Inside(_, y) = place else {
                 unreachable!();
             };
-            send_row(rt, y, row, outputs, neighbours)
+            send_row(rt, y, row, outputs, wakers, backoff)
         }
-        Message::Begin(head) => send_each(rt, &Message::Begin(head), outputs, neighbours),
-        Message::ImageEnd => send_each(rt, &Message::ImageEnd, outputs, neighbours),
-        Message::StreamEnd => send_each(rt, &Message::StreamEnd, outputs, neighbours),
-        Message::Stop => send_each(rt, &Message::Stop, outputs, neighbours),
+        Message::Begin(head) => send_each(rt, &Message::Begin(head), outputs, wakers, backoff),
+        Message::ImageEnd => send_each(rt, &Message::ImageEnd, outputs, wakers, backoff),
+        Message::StreamEnd => send_each(rt, &Message::StreamEnd, outputs, wakers, backoff),
+        Message::Stop => send_each(rt, &Message::Stop, outputs, wakers, backoff),
     }
 }
 
@@ -183,20 +175,15 @@ fn send_row<R: Wait>(
     y: u32,
     row: Samples,
     outputs: &mut [Output],
-    neighbours: Neighbours<'_>,
+    wakers: DealWakers<'_>,
+    backoff: &mut Backoff,
 ) -> Option<StageEnd>
     requires { IsLaneCount (length outputs.old) }
     ensures { HasSentParts (row_part (length outputs.old) y row) result outputs.old outputs.new }
 {
     let lane = y as usize % outputs.len();
-    let bell = neighbours.lane(lane);
-    if give(
-        rt,
-        &mut outputs[lane],
-        Message::Row(row),
-        neighbours.bells.own,
-        bell,
-    ) {
+    let wakers = wakers.lane(lane);
+    if give(rt, &mut outputs[lane], Message::Row(row), wakers, backoff) {
         None
     } else {
         Some(StageEnd::PeerGone)
@@ -208,7 +195,8 @@ fn send_each<R: Wait>(
     rt: &R,
     message: &Message,
     outputs: &mut [Output],
-    neighbours: Neighbours<'_>,
+    wakers: DealWakers<'_>,
+    backoff: &mut Backoff,
 ) -> Option<StageEnd>
     requires lanes { IsLaneCount (length outputs.old) }
     requires message { IsRow message.now → ⊥ }
@@ -220,8 +208,8 @@ fn send_each<R: Wait>(
         let Some(part) = part_of(message, lane, lanes) else {
             return Some(StageEnd::Fault(ToolFault::Memory));
         };
-        let bell = neighbours.lane(lane);
-        if !give(rt, &mut outputs[lane], part, neighbours.bells.own, bell) {
+        let wakers = wakers.lane(lane);
+        if !give(rt, &mut outputs[lane], part, wakers, backoff) {
             unsent = Some(StageEnd::PeerGone);
         }
     }
@@ -257,16 +245,16 @@ fn break_off<R: Wait>(
     ending: Ending,
     input: &mut Input,
     outputs: &mut [Output],
-    neighbours: Neighbours<'_>,
+    wakers: DealWakers<'_>,
+    backoff: &mut Backoff,
 ) -> StageEnd
     requires { IsLaneCount (length outputs.old) }
     ensures input { SameConsumer input.old input.new }
     ensures broken { HasBrokenOffAfter end ending result
         (received input.old) (received input.new) (known_items input.new) outputs.old outputs.new }
 {
-    let untold = send_each(rt, &Message::Stop, outputs, neighbours);
-    let bells = neighbours.bells;
-    let drained = drain_after(rt, ending, input, bells.own, bells.left);
+    let untold = send_each(rt, &Message::Stop, outputs, wakers, backoff);
+    let drained = drain_after(rt, ending, input, wakers.input, backoff);
     if untold.is_none() && drained {
         end
     } else {

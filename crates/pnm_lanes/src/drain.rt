@@ -6,9 +6,9 @@ ghost use Rattle.pnm_image.specs.Messages.{IsMessage};
 ghost use Rattle.pnm_lanes.specs.Gathers.{at_lane, AreSameInputs};
 ghost use Rattle.pnm_lanes.specs.GatherParts.{HasDrainedOne, CarriesOn, HasDrainedAll, AreDone, ending_state};
 
-use crate::lane::{LaneBells, LaneState};
+use crate::lane::{GatheredWakers, LaneState};
 use pnm_image::Message;
-use pnm_rings::{Bell, Ending, Input, Patience};
+use pnm_rings::{Backoff, Ending, Input, Wakers, wake_sender};
 use std::sync::Wait;
 
 /// Takes and drops what comes from the lanes that haven't ended, each through the end of its stream or Stop. It tries them in
@@ -17,7 +17,7 @@ pub fn drain_all<R: Wait>(
     rt: &R,
     inputs: &mut [Input],
     states: &mut [LaneState],
-    bells: LaneBells<'_>,
+    wakers: GatheredWakers<'_>,
 ) -> bool
     requires some { 1 ≤ length inputs.old }
     requires states { length inputs.old ≡ length states.old }
@@ -25,23 +25,23 @@ pub fn drain_all<R: Wait>(
     ensures drained { HasDrainedAll (length inputs.old) result states.old states.new (at_lane received inputs.old)
         (at_lane received inputs.new) (at_lane known_items inputs.old) (at_lane known_items inputs.new) }
 {
-    let mut patience = Patience::new();
+    let mut backoff = Backoff::of_several();
     for _ in rt.forever() {
-        let has_moved = drain_round(inputs, states, bells);
+        let has_moved = drain_round(inputs, states, wakers);
         if let Some(have_ended) = outcome(states) {
             return have_ended;
         }
         if has_moved {
-            patience = Patience::new();
+            backoff.reset();
         } else {
-            patience.wait(rt, bells.own, bells.of(inputs.len() - 1));
+            backoff.wait_to_receive(rt, wakers.of(first_open(states)));
         }
     }
     unreachable!()
 }
 
 /// Tries each lane that hasn't ended once; whether one had a message, or was seen to have lost its other end.
-fn drain_round(inputs: &mut [Input], states: &mut [LaneState], bells: LaneBells<'_>) -> bool
+fn drain_round(inputs: &mut [Input], states: &mut [LaneState], wakers: GatheredWakers<'_>) -> bool
     requires { length inputs.old ≡ length states.old }
     ensures inputs { AreSameInputs inputs.old inputs.new }
     ensures carried { CarriesOn (length inputs.old) states.old states.new (at_lane received inputs.old)
@@ -49,7 +49,7 @@ fn drain_round(inputs: &mut [Input], states: &mut [LaneState], bells: LaneBells<
 {
     let mut has_moved = false;
     for lane in 0..inputs.len() {
-        has_moved = drain_lane(inputs, states, lane, bells) || has_moved;
+        has_moved = drain_lane(inputs, states, lane, wakers) || has_moved;
     }
     has_moved
 }
@@ -59,7 +59,7 @@ fn drain_lane(
     inputs: &mut [Input],
     states: &mut [LaneState],
     lane: usize,
-    bells: LaneBells<'_>,
+    wakers: GatheredWakers<'_>,
 ) -> bool
     requires lane { lane < length inputs.old }
     requires states { length inputs.old ≡ length states.old }
@@ -70,7 +70,7 @@ fn drain_lane(
     if states[lane] != LaneState::Open {
         return false;
     }
-    match drain_one(&mut inputs[lane], bells.of(lane)) {
+    match drain_one(&mut inputs[lane], wakers.of(lane)) {
         Some(state) => {
             states[lane] = state;
             true
@@ -81,12 +81,12 @@ fn drain_lane(
 
 /// Takes and drops the next message, where there is one; the lane's state then, or `Gone` where the ring is empty and its
 /// other end was seen dropped.
-fn drain_one(input: &mut Input, other: &Bell) -> Option<LaneState>
+fn drain_one(input: &mut Input, wakers: &Wakers) -> Option<LaneState>
     ensures ring { SameConsumer input.old input.new }
     ensures drained { HasDrainedOne result (received input.old) (received input.new) (known_items input.new) }
 {
     if let Ok(message) = input.pop() {
-        other.ring();
+        wake_sender(input, wakers);
         return Some(state_after(&message));
     }
     if !input.is_abandoned() {
@@ -111,6 +111,14 @@ fn state_after(message: &Message) -> LaneState
         Ending::More => LaneState::Open,
         Ending::Whole | Ending::BrokenOff => LaneState::Ended,
     }
+}
+
+/// The first lane that is open, by whose waker the thread sleeps; or how many lanes there are.
+fn first_open(states: &[LaneState]) -> usize {
+    states
+        .iter()
+        .position(|state| *state == LaneState::Open)
+        .unwrap_or(states.len())
 }
 
 /// Once no lane is open any more: whether all have ended.

@@ -7,11 +7,11 @@ ghost use Rattle.pnm_lanes.specs.Gathers.{at_lane, AreSameInputs, HasGathered};
 ghost use Rattle.pnm_lanes.specs.GatherParts.{HasBrokenOffAll};
 
 use crate::drain::drain_all;
-use crate::lane::{LaneBells, LaneState};
+use crate::lane::{GatheredWakers, LaneState};
 use crate::limits::MAX_LANES;
 use crate::next::take_next;
 use pnm_image::{Message, Place};
-use pnm_rings::{Bell, Ending, Input, Output, StageEnd, give};
+use pnm_rings::{Backoff, Ending, Input, Output, StageEnd, Wakers, give};
 use std::sync::Wait;
 
 /// The ring ends of a gatherer that has ended, and how it did.
@@ -25,15 +25,13 @@ pub struct GatherDone {
     pub end: StageEnd,
 }
 
-/// The bells of a gatherer and of its neighbours.
+/// The wakers of a gatherer's rings.
 #[derive(Clone, Copy)]
-pub struct GatherBells<'a> {
-    /// Those of the lanes, from the first on; a lane beyond them has none.
-    pub lanes: &'a [Bell],
-    /// Its own.
-    pub own: &'a Bell,
-    /// That of the thread that receives from it.
-    pub right: &'a Bell,
+pub struct GatherWakers<'a> {
+    /// Those of the rings that it receives on.
+    pub inputs: GatheredWakers<'a>,
+    /// Those of the ring that it sends on.
+    pub output: &'a Wakers,
 }
 
 /// Puts together what comes on `inputs`, one for each lane, and sends it on `output`: row y comes from lane y mod the number
@@ -49,22 +47,23 @@ pub fn gather<R: Wait>(rt: &R, inputs: Vec<Input>, output: Output) -> GatherDone
     ensures gathered { HasGathered result.end (length inputs.items) (at_lane received inputs.items)
         (at_lane received result.inputs.items) (at_lane known_items result.inputs.items) (sent output) (sent result.output) }
 {
-    let nobody = Bell::of_nobody();
-    let own = Bell::new();
-    let bells = GatherBells {
-        lanes: &[],
-        own: &own,
-        right: &nobody,
+    let (before, behind) = (Wakers::of_one_end(), Wakers::of_one_end());
+    let wakers = GatherWakers {
+        inputs: GatheredWakers {
+            lanes: &[],
+            others: &before,
+        },
+        output: &behind,
     };
-    gather_by(rt, inputs, output, bells)
+    gather_by(rt, inputs, output, wakers)
 }
 
-/// The same, beside neighbours that have bells.
+/// The same, beside neighbours that wake it and are woken.
 pub fn gather_by<R: Wait>(
     rt: &R,
     inputs: Vec<Input>,
     output: Output,
-    bells: GatherBells<'_>,
+    wakers: GatherWakers<'_>,
 ) -> GatherDone
     requires { IsLaneCount (length inputs.items) }
     ensures inputs { AreSameInputs inputs.items result.inputs.items }
@@ -74,19 +73,8 @@ pub fn gather_by<R: Wait>(
 {
     let mut inputs = inputs;
     let mut output = output;
-    let nobody = Bell::of_nobody();
-    let lane_bells = LaneBells {
-        lanes: bells.lanes,
-        nobody: &nobody,
-        own: bells.own,
-    };
-    let end = gather_all(
-        rt,
-        inputs.as_mut_slice(),
-        &mut output,
-        lane_bells,
-        bells.right,
-    );
+    let mut backoff = Backoff::new();
+    let end = gather_all(rt, inputs.as_mut_slice(), &mut output, wakers, &mut backoff);
     GatherDone {
         inputs,
         output,
@@ -99,8 +87,8 @@ fn gather_all<R: Wait>(
     rt: &R,
     inputs: &mut [Input],
     output: &mut Output,
-    bells: LaneBells<'_>,
-    right: &Bell,
+    wakers: GatherWakers<'_>,
+    backoff: &mut Backoff,
 ) -> StageEnd
     requires some { 1 ≤ length inputs.old }
     requires few { length inputs.old ≤ MAX_LANES }
@@ -113,14 +101,14 @@ fn gather_all<R: Wait>(
     for _ in rt.forever() {
         let mut lanes = [LaneState::Open; MAX_LANES];
         let states = &mut lanes[..inputs.len()];
-        let message = match take_next(rt, inputs, states, place, bells) {
+        let message = match take_next(rt, inputs, states, place, wakers.inputs, backoff) {
             Ok(message) => message,
-            Err(end) => return break_off(rt, end, inputs, states, output, bells, right),
+            Err(end) => return break_off(rt, end, inputs, states, output, wakers, backoff),
         };
         let ending = Ending::of(&message);
         place.step(&message);
-        if !give(rt, output, message, bells.own, right) {
-            drain_all(rt, inputs, states, bells);
+        if !give(rt, output, message, wakers.output, backoff) {
+            drain_all(rt, inputs, states, wakers.inputs);
             return StageEnd::PeerGone;
         }
         match ending {
@@ -140,8 +128,8 @@ fn break_off<R: Wait>(
     inputs: &mut [Input],
     states: &mut [LaneState],
     output: &mut Output,
-    bells: LaneBells<'_>,
-    right: &Bell,
+    wakers: GatherWakers<'_>,
+    backoff: &mut Backoff,
 ) -> StageEnd
     requires some { 1 ≤ length inputs.old }
     requires states { length inputs.old ≡ length states.old }
@@ -151,8 +139,8 @@ fn break_off<R: Wait>(
         (at_lane received inputs.new) (at_lane known_items inputs.old) (at_lane known_items inputs.new) (sent output.old)
         (sent output.new) }
 {
-    let told = give(rt, output, Message::Stop, bells.own, right);
-    let drained = drain_all(rt, inputs, states, bells);
+    let told = give(rt, output, Message::Stop, wakers.output, backoff);
+    let drained = drain_all(rt, inputs, states, wakers.inputs);
     if told && drained {
         end
     } else {

@@ -5,8 +5,9 @@ ghost use Rattle.rtrb.specs.Ring.{received, known_items};
 ghost use Rattle.pnm_lanes.specs.Gathers.{at_lane, AreSameInputs};
 ghost use Rattle.pnm_lanes.specs.GatherParts.{HasTakenFrom};
 
+use crate::lane_rings::LaneWakers;
 use pnm_image::Message;
-use pnm_rings::{Bell, Ending, Input, StageEnd, take};
+use pnm_rings::{Backoff, Ending, Input, StageEnd, Wakers, take};
 use std::sync::Wait;
 
 /// What is known of a lane.
@@ -20,21 +21,21 @@ pub enum LaneState {
     Gone,
 }
 
-/// The bells that the gatherer sleeps by and rings while it takes.
+/// The wakers of the rings that a gatherer receives on.
 #[derive(Clone, Copy)]
-pub struct LaneBells<'a> {
-    /// Those of the lanes, from the first on; the others have none.
-    pub lanes: &'a [Bell],
-    pub nobody: &'a Bell,
-    pub own: &'a Bell,
+pub struct GatheredWakers<'a> {
+    /// Those of the lanes' rings, from the first lane on.
+    pub lanes: &'a [LaneWakers],
+    /// Those of the rings from lanes beyond these.
+    pub others: &'a Wakers,
 }
 
-impl<'a> LaneBells<'a> {
-    /// The bell of a lane.
-    pub fn of(&self, lane: usize) -> &'a Bell {
+impl<'a> GatheredWakers<'a> {
+    /// Those of the ring from a lane.
+    pub fn of(&self, lane: usize) -> &'a Wakers {
         match self.lanes.get(lane) {
-            Some(bell) => bell,
-            None => self.nobody,
+            Some(wakers) => &wakers.gathered,
+            None => self.others,
         }
     }
 }
@@ -46,7 +47,8 @@ pub fn take_from<R: Wait>(
     inputs: &mut [Input],
     states: &mut [LaneState],
     lane: usize,
-    bells: LaneBells<'_>,
+    wakers: GatheredWakers<'_>,
+    backoff: &mut Backoff,
 ) -> Result<Message, StageEnd>
     requires lane { lane < length inputs.old }
     requires states { length inputs.old ≤ length states.old }
@@ -54,7 +56,7 @@ pub fn take_from<R: Wait>(
     ensures taken { HasTakenFrom lane result states.old states.new (at_lane received inputs.old)
         (at_lane received inputs.new) }
 {
-    let Some(message) = take(rt, &mut inputs[lane], bells.own, bells.of(lane)) else {
+    let Some(message) = take(rt, &mut inputs[lane], wakers.of(lane), backoff) else {
         return Err(StageEnd::PeerGone);
     };
     let ending = Ending::of(&message);

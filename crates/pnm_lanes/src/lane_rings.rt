@@ -3,7 +3,7 @@
 ghost use Rattle.std.specs.Prelude.{◌≡◌, length, IfSome};
 ghost use Rattle.pnm_lanes.specs.LaneRings.{AreUnused};
 
-use pnm_rings::{Bell, Input, Output, new_ring};
+use pnm_rings::{Input, Output, Wakers, new_ring};
 use std::alloc::Global;
 
 /// The ring ends of a lane.
@@ -50,13 +50,25 @@ impl LaneRings {
     }
 }
 
-/// A bell for each lane; none where there is no memory.
-pub fn lane_bells(alloc: Global, lanes: usize) -> Option<Vec<Bell>>
-    ensures { IfSome result (λ bells. length bells.items ≡ lanes) }
+/// The wakers of a lane's rings.
+#[derive(Drop)]
+pub struct LaneWakers {
+    /// Those of the ring to it.
+    pub dealt: Wakers,
+    /// Those of the ring from it.
+    pub gathered: Wakers,
+}
+
+/// The wakers of so many lanes' rings; none where there is no memory.
+pub fn lane_wakers(alloc: Global, lanes: usize) -> Option<Vec<LaneWakers>>
+    ensures { IfSome result (λ wakers. length wakers.items ≡ lanes) }
 {
-    let mut bells = Vec::with_capacity(alloc, lanes).ok()?;
+    let mut wakers = Vec::with_capacity(alloc, lanes).ok()?;
     for _ in 0..lanes {
-        bells.push_reserved(Bell::new());
+        wakers.push_reserved(LaneWakers {
+            dealt: Wakers::new(),
+            gathered: Wakers::new(),
+        });
     }
-    Some(bells)
+    Some(wakers)
 }

@@ -12,36 +12,17 @@ ghost use Rattle.pnm_lanes.specs.Gathers.{at_lane, AreSameInputs, HasGathered};
 ghost use Rattle.pnm_lanes.specs.Limits.{IsLaneCount};
 ghost use Rattle.pnm_lanes.specs.LaneRuns.{HasRunLanes, HaveRun, IsLaneRun, AreAround};
 
-use crate::dealing::{DealBells, DealDone, deal_by};
-use crate::gathering::{GatherBells, GatherDone, gather_by};
+use crate::dealing::{DealDone, DealWakers, deal_by};
+use crate::gathering::{GatherDone, GatherWakers, gather_by};
 use crate::joining::{LanesDone, joined};
-use crate::lane_rings::{LaneEnds, LaneRings, lane_bells};
-use pnm_rings::{Bell, Input, Output};
-use pnm_stages::{Bells, Gate, NoStart, StageDone, at_once, run_lane_by};
+use crate::lane::GatheredWakers;
+use crate::lane_rings::{LaneEnds, LaneRings, LaneWakers, lane_wakers};
+use pnm_rings::{Input, Output, Wakers};
+use pnm_stages::{Gate, NoStart, StageDone, StageWakers, at_once, run_lane_by};
 use pnm_tools::Tool;
 use std::alloc::Global;
 use std::sync::Wait;
 use std::thread::Threads;
-
-/// The bells of a tool over several lanes and of its neighbours.
-#[derive(Clone, Copy)]
-pub struct OuterBells<'a> {
-    /// That of the thread before the tool.
-    pub left: &'a Bell,
-    /// That of the tool's thread that deals, which the thread before the tool rings.
-    pub dealer: &'a Bell,
-    /// That of the tool's thread that gathers, which the thread behind the tool rings.
-    pub gatherer: &'a Bell,
-    /// That of the thread behind the tool.
-    pub right: &'a Bell,
-}
-
-/// The same, with those of the lanes.
-#[derive(Clone, Copy)]
-struct AllBells<'a> {
-    outer: OuterBells<'a>,
-    lanes: &'a [Bell],
-}
 
 /// The ring ends of the thread that deals and of the one that gathers.
 #[derive(Drop)]
@@ -85,21 +66,17 @@ pub fn run_lanes<R: Threads + Wait + Sync, G: Gate>(
         (sent output) (sent done.output)) }
     ensures not_started { IfErr result (λ refused. IfSome refused.ends (IsUntouched input output)) }
 {
-    let nobody = Bell::of_nobody();
-    let dealer = Bell::new();
-    let gatherer = Bell::new();
-    let bells = OuterBells {
-        left: &nobody,
-        dealer: &dealer,
-        gatherer: &gatherer,
-        right: &nobody,
+    let (before, behind) = (Wakers::of_one_end(), Wakers::of_one_end());
+    let wakers = StageWakers {
+        input: &before,
+        output: &behind,
     };
     run_lanes_by(
-        rt, alloc, tool, number, lanes, capacity, gate, input, output, bells,
+        rt, alloc, tool, number, lanes, capacity, gate, input, output, wakers,
     )
 }
 
-/// The same, beside neighbours that have bells.
+/// The same, beside neighbours that wake its threads and are woken.
 pub fn run_lanes_by<R: Threads + Wait + Sync, G: Gate>(
     rt: &R,
     alloc: Global,
@@ -110,7 +87,7 @@ pub fn run_lanes_by<R: Threads + Wait + Sync, G: Gate>(
     gate: &G,
     input: Input,
     output: Output,
-    bells: OuterBells<'_>,
+    wakers: StageWakers<'_>,
 ) -> Result<StageDone, NoStart>
     requires shared { IsSync R.row × IsSync G.row }
     requires lawful { IsLawfulTool tool.now }
@@ -123,9 +100,9 @@ pub fn run_lanes_by<R: Threads + Wait + Sync, G: Gate>(
         (sent output) (sent done.output)) }
     ensures not_started { IfErr result (λ refused. IfSome refused.ends (IsUntouched input output)) }
 {
-    let (Some(rings), Some(lane_bells), Ok(room)) = (
+    let (Some(rings), Some(lane_wakers), Ok(room)) = (
         LaneRings::new(alloc, lanes, capacity),
-        lane_bells(alloc, lanes),
+        lane_wakers(alloc, lanes),
         Vec::with_capacity(alloc, lanes),
     ) else {
         return Err(NoStart {
@@ -143,11 +120,19 @@ pub fn run_lanes_by<R: Threads + Wait + Sync, G: Gate>(
         inputs,
         output,
     };
-    let bells = AllBells {
-        outer: bells,
-        lanes: lane_bells.as_slice(),
-    };
-    match run_threads(rt, alloc, tool, number, gate, lanes, outer, room, bells) {
+    let lane_wakers = lane_wakers.as_slice();
+    match run_threads(
+        rt,
+        alloc,
+        tool,
+        number,
+        gate,
+        lanes,
+        outer,
+        room,
+        wakers,
+        lane_wakers,
+    ) {
         Some(done) => Ok(joined(done)),
         None => Err(NoStart { ends: None }),
     }
@@ -164,67 +149,67 @@ fn run_threads<R: Threads + Wait + Sync, G: Gate>(
     lanes: Vec<LaneEnds>,
     outer: OuterEnds,
     room: Vec<StageDone>,
-    bells: AllBells<'_>,
+    wakers: StageWakers<'_>,
+    lane_wakers: &[LaneWakers],
 ) -> Option<LanesDone>
     requires shared { IsSync R.row × IsSync G.row }
     requires tool { IsLawfulTool tool.now × (is_row_wise tool.now ≡ true) }
     requires outer { AreAround outer }
-    requires bells { length lanes.items ≤ length bells.lanes.now }
+    requires wakers { length lanes.items ≤ length lane_wakers.now }
     requires room { (room.items ≡ []) × (length lanes.items ≤ vec_capacity room) }
     ensures { IfSome result (HaveRun tool.now lanes.items outer (vec_capacity room)) }
 {
     let mut others = lanes;
     let Some(last) = others.pop() else {
-        return deal_and_gather(rt, alloc, outer, room, bells);
+        return deal_and_gather(rt, alloc, outer, room, wakers, lane_wakers);
     };
     let lane = others.len();
     let LaneEnds { input, output } = last;
-    // The closures take the bells one by one: a clause of a closure that takes the struct whole isn't known to its caller.
-    let AllBells {
-        outer: around,
-        lanes,
-    } = bells;
-    let OuterBells {
-        left,
-        dealer,
-        gatherer,
-        right,
-    } = around;
-    let own = &lanes[lane];
+    // The closures take the wakers one by one: a clause of a closure that takes the struct whole isn't known to its caller.
+    let StageWakers {
+        input: before,
+        output: behind,
+    } = wakers;
+    let own = &lane_wakers[lane];
     let both = at_once(
         rt,
         move || -> StageDone
             requires { IsLawfulTool tool.now × (is_row_wise tool.now ≡ true) }
             ensures { IsLaneRun tool.entry.now input output result }
         {
-            let bells = Bells {
-                left: dealer,
-                own,
-                right: gatherer,
+            let wakers = StageWakers {
+                input: &own.dealt,
+                output: &own.gathered,
             };
-            run_lane_by(rt, alloc, tool, number, lane, gate, input, output, bells)
+            run_lane_by(rt, alloc, tool, number, lane, gate, input, output, wakers)
         },
         move || -> Option<LanesDone>
             requires { (IsSync R.row × IsSync G.row)
                 × (IsLawfulTool tool.now × (is_row_wise tool.now ≡ true)) × AreAround outer
-                × (length others.items ≤ length lanes.now)
+                × (length others.items ≤ length lane_wakers.now)
                 × ((room.items ≡ []) × (length others.items ≤ vec_capacity room)) }
             ensures { IfSome result (HaveRun tool.entry.now others.items outer (vec_capacity room)) }
         {
-            let around = OuterBells {
-                left,
-                dealer,
-                gatherer,
-                right,
-            };
-            let bells = AllBells {
-                outer: around,
-                lanes,
+            let wakers = StageWakers {
+                input: before,
+                output: behind,
             };
             // Where they weren't started, their ring ends go here, before the last lane is waited for, which looks for that
             // once it is woken.
-            let done = run_threads(rt, alloc, tool, number, gate, others, outer, room, bells);
-            own.ring();
+            let done = run_threads(
+                rt,
+                alloc,
+                tool,
+                number,
+                gate,
+                others,
+                outer,
+                room,
+                wakers,
+                lane_wakers,
+            );
+            own.dealt.wake_receiver();
+            own.gathered.wake_sender();
             done
         },
     );
@@ -244,7 +229,8 @@ fn deal_and_gather<R: Threads + Wait + Sync>(
     alloc: Global,
     outer: OuterEnds,
     room: Vec<StageDone>,
-    bells: AllBells<'_>,
+    wakers: StageWakers<'_>,
+    lane_wakers: &[LaneWakers],
 ) -> Option<LanesDone>
     requires outer { AreAround outer }
     ensures dealt { IfSome result (λ done. SameConsumer outer.input done.dealt.input
@@ -263,10 +249,12 @@ fn deal_and_gather<R: Threads + Wait + Sync>(
         inputs,
         output,
     } = outer;
-    let AllBells {
-        outer: around,
-        lanes,
-    } = bells;
+    let StageWakers {
+        input: before,
+        output: behind,
+    } = wakers;
+    // The rings of a lane that has no wakers: there are none.
+    let others = &Wakers::of_one_end();
     let both = at_once(
         rt,
         move || -> DealDone
@@ -275,12 +263,12 @@ fn deal_and_gather<R: Threads + Wait + Sync>(
                 × HasDealt result.end (received input) (received result.input) (known_items result.input)
                 outputs.items result.outputs.items }
         {
-            let bells = DealBells {
-                left: around.left,
-                own: around.dealer,
-                lanes,
+            let wakers = DealWakers {
+                input: before,
+                lanes: lane_wakers,
+                others,
             };
-            deal_by(rt, alloc, input, outputs, bells)
+            deal_by(rt, alloc, input, outputs, wakers)
         },
         move || -> GatherDone
             requires { IsLaneCount (length inputs.items) }
@@ -288,12 +276,15 @@ fn deal_and_gather<R: Threads + Wait + Sync>(
                 × HasGathered result.end (length inputs.items) (at_lane received inputs.items)
                 (at_lane received result.inputs.items) (at_lane known_items result.inputs.items) (sent output) (sent result.output) }
         {
-            let bells = GatherBells {
-                lanes,
-                own: around.gatherer,
-                right: around.right,
+            let inputs_wakers = GatheredWakers {
+                lanes: lane_wakers,
+                others,
             };
-            gather_by(rt, inputs, output, bells)
+            let wakers = GatherWakers {
+                inputs: inputs_wakers,
+                output: behind,
+            };
+            gather_by(rt, inputs, output, wakers)
         },
     );
     let (dealt, gathered) = both?;

@@ -14,8 +14,8 @@ pub mod laws;
 mod limits;
 mod next;
 
-pub use dealing::{DealBells, DealDone, deal, deal_by};
-pub use gathering::{GatherBells, GatherDone, gather, gather_by};
+pub use dealing::{DealDone, deal};
+pub use gathering::{GatherDone, gather};
 pub use heights::dealt_height;
-pub use lanes::{OuterBells, run_lanes, run_lanes_by};
+pub use lanes::{run_lanes, run_lanes_by};
 pub use limits::MAX_LANES;

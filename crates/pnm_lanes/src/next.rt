@@ -6,10 +6,10 @@ ghost use Rattle.pnm_lanes.specs.Gathers.{at_lane, AreSameInputs};
 ghost use Rattle.pnm_lanes.specs.GatherParts.{AreOpen, AwaitsNoRow, HasTakenNext};
 
 use crate::agreement::{are_alike, height_of, together};
-use crate::lane::{LaneBells, LaneState, take_from};
+use crate::lane::{GatheredWakers, LaneState, take_from};
 use crate::limits::MAX_LANES;
 use pnm_image::{Message, Place, Shape};
-use pnm_rings::{Input, StageEnd};
+use pnm_rings::{Backoff, Input, StageEnd};
 use pnm_tools::ToolFault;
 use std::sync::Wait;
 
@@ -23,7 +23,8 @@ pub fn take_next<R: Wait>(
     inputs: &mut [Input],
     states: &mut [LaneState],
     place: Place,
-    bells: LaneBells<'_>,
+    wakers: GatheredWakers<'_>,
+    backoff: &mut Backoff,
 ) -> Result<Message, StageEnd>
     requires some { 1 ≤ length inputs.old }
     requires few { length inputs.old ≤ MAX_LANES }
@@ -35,9 +36,9 @@ pub fn take_next<R: Wait>(
 {
     match place {
         Place::Inside(shape, y) if y < shape.height => {
-            take_row(rt, inputs, states, shape, y, bells)
+            take_row(rt, inputs, states, shape, y, wakers, backoff)
         }
-        _ => take_of_each(rt, inputs, states, place, bells),
+        _ => take_of_each(rt, inputs, states, place, wakers, backoff),
     }
 }
 
@@ -48,7 +49,8 @@ fn take_row<R: Wait>(
     states: &mut [LaneState],
     shape: Shape,
     y: u32,
-    bells: LaneBells<'_>,
+    wakers: GatheredWakers<'_>,
+    backoff: &mut Backoff,
 ) -> Result<Message, StageEnd>
     requires some { 1 ≤ length inputs.old }
     requires states { length inputs.old ≤ length states.old }
@@ -59,7 +61,7 @@ fn take_row<R: Wait>(
         (at_lane received inputs.new) }
 {
     let lane = y as usize % inputs.len();
-    let message = take_from(rt, inputs, states, lane, bells)?;
+    let message = take_from(rt, inputs, states, lane, wakers, backoff)?;
     if !Place::Inside(shape, y).accepts(&message) {
         return Err(OUT_OF_ORDER);
     }
@@ -72,7 +74,8 @@ fn take_of_each<R: Wait>(
     inputs: &mut [Input],
     states: &mut [LaneState],
     place: Place,
-    bells: LaneBells<'_>,
+    wakers: GatheredWakers<'_>,
+    backoff: &mut Backoff,
 ) -> Result<Message, StageEnd>
     requires some { 1 ≤ length inputs.old }
     requires few { length inputs.old ≤ MAX_LANES }
@@ -83,14 +86,14 @@ fn take_of_each<R: Wait>(
     ensures taken { HasTakenNext (length inputs.old) place result states.new (at_lane received inputs.old)
         (at_lane received inputs.new) }
 {
-    let first = take_from(rt, inputs, states, 0, bells)?;
+    let first = take_from(rt, inputs, states, 0, wakers, backoff)?;
     if !place.accepts(&first) {
         return Err(OUT_OF_ORDER);
     }
     let mut heights = [0; MAX_LANES];
     heights[0] = height_of(&first);
     for lane in 1..inputs.len() {
-        let message = take_from(rt, inputs, states, lane, bells)?;
+        let message = take_from(rt, inputs, states, lane, wakers, backoff)?;
         if !are_alike(&first, &message) {
             return Err(OUT_OF_ORDER);
         }

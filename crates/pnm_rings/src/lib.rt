@@ -2,15 +2,17 @@
 //! stage ends.
 #![tactic(auto)]
 
+mod backoff;
 mod ending;
 pub mod laws;
 mod limits;
-mod patience;
 mod ring;
 mod stage_end;
+mod wakers;
 
+pub use backoff::Backoff;
 pub use ending::{Ending, ends_image};
 pub use limits::MAX_RING_CAPACITY;
-pub use patience::{Bell, Patience};
-pub use ring::{AnyMessage, Input, Output, drain, drain_after, give, new_ring, take};
+pub use ring::{AnyMessage, Input, Output, drain, drain_after, give, new_ring, take, wake_sender};
 pub use stage_end::StageEnd;
+pub use wakers::Wakers;

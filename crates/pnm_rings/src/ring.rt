@@ -5,8 +5,9 @@ ghost use Rattle.rtrb.specs.Ring.{sent, received, known_items, IsPair, SameProdu
 ghost use Rattle.pnm_image.specs.Messages.{IsMessage};
 ghost use Rattle.pnm_rings.specs.Rings.{HasDrained, HasDrainedAfter};
 
+use crate::backoff::Backoff;
 use crate::ending::Ending;
-use crate::patience::{Bell, Patience};
+use crate::wakers::Wakers;
 use pnm_image::Message;
 use rtrb::{Consumer, Producer, Protocol, PushError, RingBuffer};
 use std::alloc::Global;
@@ -37,28 +38,41 @@ pub fn new_ring(alloc: Global, capacity: usize) -> Option<(Output, Input)>
     Some((producer, consumer))
 }
 
-/// The next message; none once the ring is empty and its other end was seen dropped. The thread sleeps by its own bell,
-/// and rings that of the ring's other end once it has made room. That the ring is empty is known only of the messages that
-/// this end has seen in it.
-pub fn take<R: Wait>(rt: &R, input: &mut Input, own: &Bell, other: &Bell) -> Option<Message>
+/// The next message; none once the ring is empty and its other end was seen dropped. It wakes the thread at that end once there
+/// is room. That the ring is empty is known only of the messages that this end has seen in it.
+pub fn take<R: Wait>(
+    rt: &R,
+    input: &mut Input,
+    wakers: &Wakers,
+    backoff: &mut Backoff,
+) -> Option<Message>
     ensures ring { SameConsumer input.old input.new }
     ensures taken { IfSome result (λ m. received input.new ≡ received input.old ++ m ∷ []) }
     ensures message { IfSome result IsMessage }
     ensures none_seen { IfNone result ((received input.new ≡ received input.old) × (known_items input.new ≡ [])) }
 {
-    let mut patience = Patience::new();
+    backoff.reset();
     for _ in rt.forever() {
         if let Ok(message) = input.pop() {
-            other.ring();
+            wake_sender(input, wakers);
             return Some(recognised(message));
         }
         // What was pushed before the end was dropped is still there.
         if input.is_abandoned() {
             return input.pop().ok().map(recognised);
         }
-        patience.wait(rt, own, other);
+        backoff.wait_to_receive(rt, wakers);
     }
     unreachable!()
+}
+
+/// Wakes the thread at the sending end after a message was received, on the edge: where none is left of the messages that were
+/// seen, or half a ring of them. So it is woken once after it found no room, and seldom while it finds some.
+pub fn wake_sender(input: &Input, wakers: &Wakers) {
+    let left = input.cached_slots();
+    if left == 0 || left == input.capacity() / 2 {
+        wakers.wake_sender();
+    }
 }
 
 /// The message itself. A proof learns that the head of an image keeps the rules of heads.
@@ -72,24 +86,25 @@ fn recognised(message: Message) -> Message
     message
 }
 
-/// Sends the message; false, and the message is lost, where the ring is full and its other end was seen dropped.
+/// Sends the message, and wakes the thread at the ring's other end; false, and the message is lost, where the ring is full and
+/// that end was seen dropped.
 pub fn give<R: Wait>(
     rt: &R,
     output: &mut Output,
     message: Message,
-    own: &Bell,
-    other: &Bell,
+    wakers: &Wakers,
+    backoff: &mut Backoff,
 ) -> bool
     ensures ring { SameProducer output.old output.new }
     ensures given { IsTrue result → sent output.new ≡ sent output.old ++ message ∷ [] }
     ensures gone { IsFalse result → sent output.new ≡ sent output.old }
 {
-    let mut patience = Patience::new();
+    backoff.reset();
     let mut message = message;
     for _ in rt.forever() {
         match output.push(message) {
             Ok(()) => {
-                other.ring();
+                wakers.wake_receiver();
                 return true;
             }
             Err(PushError::Full(back)) => message = back,
@@ -97,18 +112,18 @@ pub fn give<R: Wait>(
         if output.is_abandoned() {
             return false;
         }
-        patience.wait(rt, own, other);
+        backoff.wait_to_send(rt, wakers);
     }
     unreachable!()
 }
 
 /// Takes and drops what comes, through the end of the stream or Stop; false where the other end was seen dropped before.
-pub fn drain<R: Wait>(rt: &R, input: &mut Input, own: &Bell, other: &Bell) -> bool
+pub fn drain<R: Wait>(rt: &R, input: &mut Input, wakers: &Wakers, backoff: &mut Backoff) -> bool
     ensures ring { SameConsumer input.old input.new }
     ensures drained { HasDrained result (received input.old) (received input.new) (known_items input.new) }
 {
     for _ in rt.forever() {
-        let Some(message) = take(rt, input, own, other) else {
+        let Some(message) = take(rt, input, wakers, backoff) else {
             return false;
         };
         let ending = Ending::of(&message);
@@ -127,14 +142,14 @@ pub fn drain_after<R: Wait>(
     rt: &R,
     ending: Ending,
     input: &mut Input,
-    own: &Bell,
-    other: &Bell,
+    wakers: &Wakers,
+    backoff: &mut Backoff,
 ) -> bool
     ensures ring { SameConsumer input.old input.new }
     ensures drained { HasDrainedAfter ending result (received input.old) (received input.new) (known_items input.new) }
 {
     match ending {
-        Ending::More => drain(rt, input, own, other),
+        Ending::More => drain(rt, input, wakers, backoff),
         Ending::Whole | Ending::BrokenOff => true,
     }
 }

@@ -11,4 +11,4 @@ pub use branches::{Call, Task, at_once, run_both};
 pub use gate::{Gate, OpenGate};
 pub use no_start::NoStart;
 pub use serial_stage::{SerialStage, row_stage_of, stage_of};
-pub use stage::{Bells, StageDone, run_lane_by, run_stage, run_stage_by};
+pub use stage::{StageDone, StageWakers, run_lane_by, run_stage, run_stage_by};

@@ -11,7 +11,7 @@ ghost use Rattle.pnm_stages.specs.StageParts.{HasSentAnswers, HasBrokenOffAfter}
 use crate::gate::Gate;
 use crate::serial_stage::{SerialStage, row_stage_of, stage_of};
 use pnm_image::Message;
-use pnm_rings::{Bell, Ending, Input, Output, StageEnd, drain_after, give, take};
+use pnm_rings::{Backoff, Ending, Input, Output, StageEnd, Wakers, drain_after, give, take};
 use pnm_tools::{Filter, Tool, ToolFault};
 use std::alloc::Global;
 use std::sync::Wait;
@@ -27,15 +27,13 @@ pub struct StageDone {
     pub end: StageEnd,
 }
 
-/// The bells of a stage and of its neighbours.
+/// The wakers of the two rings that a stage stands between.
 #[derive(Clone, Copy)]
-pub struct Bells<'a> {
-    /// That of the thread that sends to the stage.
-    pub left: &'a Bell,
-    /// Its own.
-    pub own: &'a Bell,
-    /// That of the thread that receives from it.
-    pub right: &'a Bell,
+pub struct StageWakers<'a> {
+    /// Those of the ring that it receives on.
+    pub input: &'a Wakers,
+    /// Those of the ring that it sends on.
+    pub output: &'a Wakers,
 }
 
 /// Passes what comes on `input` through the tool to `output`, message by message, until the stream
@@ -57,17 +55,15 @@ pub fn run_stage<R: Wait, G: Gate>(
     ensures ran { HasRunStage tool.now result.end (received input) (received result.input) (known_items result.input)
         (sent output) (sent result.output) }
 {
-    let nobody = Bell::of_nobody();
-    let own = Bell::new();
-    let bells = Bells {
-        left: &nobody,
-        own: &own,
-        right: &nobody,
+    let (before, behind) = (Wakers::of_one_end(), Wakers::of_one_end());
+    let wakers = StageWakers {
+        input: &before,
+        output: &behind,
     };
-    run_stage_by(rt, alloc, tool, number, gate, input, output, bells)
+    run_stage_by(rt, alloc, tool, number, gate, input, output, wakers)
 }
 
-/// The same, beside neighbours that have bells.
+/// The same, beside neighbours that wake it and are woken.
 pub fn run_stage_by<R: Wait, G: Gate>(
     rt: &R,
     alloc: Global,
@@ -76,7 +72,7 @@ pub fn run_stage_by<R: Wait, G: Gate>(
     gate: &G,
     input: Input,
     output: Output,
-    bells: Bells<'_>,
+    wakers: StageWakers<'_>,
 ) -> StageDone
     requires { IsLawfulTool tool.now }
     ensures input { SameConsumer input result.input }
@@ -85,7 +81,7 @@ pub fn run_stage_by<R: Wait, G: Gate>(
         (sent output) (sent result.output) }
 {
     gate.arrive(number, 0);
-    run_filter(rt, stage_of(alloc, tool), input, output, bells)
+    run_filter(rt, stage_of(alloc, tool), input, output, wakers)
 }
 
 /// The same for one lane of a row-wise tool, on what the lane sees; the gate is called with this lane.
@@ -98,7 +94,7 @@ pub fn run_lane_by<R: Wait, G: Gate>(
     gate: &G,
     input: Input,
     output: Output,
-    bells: Bells<'_>,
+    wakers: StageWakers<'_>,
 ) -> StageDone
     requires lawful { IsLawfulTool tool.now }
     requires row_wise { is_row_wise tool.now ≡ true }
@@ -108,7 +104,7 @@ pub fn run_lane_by<R: Wait, G: Gate>(
         (sent output) (sent result.output) }
 {
     gate.arrive(number, lane);
-    run_filter(rt, row_stage_of(alloc, tool), input, output, bells)
+    run_filter(rt, row_stage_of(alloc, tool), input, output, wakers)
 }
 
 /// Passes what comes on `input` through a tool at work, or one that has refused, to `output`.
@@ -117,7 +113,7 @@ fn run_filter<R: Wait, F: Filter + Drop>(
     stage: SerialStage<F>,
     input: Input,
     output: Output,
-    bells: Bells<'_>,
+    wakers: StageWakers<'_>,
 ) -> StageDone
     ensures input { SameConsumer input result.input }
     ensures output { SameProducer output result.output }
@@ -128,7 +124,15 @@ fn run_filter<R: Wait, F: Filter + Drop>(
     let mut stage = stage;
     let mut input = input;
     let mut output = output;
-    let end = pass_all(rt, &mut stage, &mut input, &mut output, bells);
+    let mut backoff = Backoff::new();
+    let end = pass_all(
+        rt,
+        &mut stage,
+        &mut input,
+        &mut output,
+        wakers,
+        &mut backoff,
+    );
     StageDone { input, output, end }
 }
 
@@ -138,7 +142,8 @@ fn pass_all<R: Wait, F: Filter + Drop>(
     stage: &mut SerialStage<F>,
     input: &mut Input,
     output: &mut Output,
-    bells: Bells<'_>,
+    wakers: StageWakers<'_>,
+    backoff: &mut Backoff,
 ) -> StageEnd
     ensures input { SameConsumer input.old input.new }
     ensures output { SameProducer output.old output.new }
@@ -147,21 +152,21 @@ fn pass_all<R: Wait, F: Filter + Drop>(
         (sent output.old) (sent output.new) }
 {
     if let Some(fault) = stage.fault() {
-        return break_off(rt, fault, Ending::More, input, output, bells);
+        return break_off(rt, fault, Ending::More, input, output, wakers, backoff);
     }
     for _ in rt.forever() {
-        let Some(message) = take(rt, input, bells.own, bells.left) else {
-            give(rt, output, Message::Stop, bells.own, bells.right);
+        let Some(message) = take(rt, input, wakers.input, backoff) else {
+            give(rt, output, Message::Stop, wakers.output, backoff);
             return StageEnd::PeerGone;
         };
         let ending = Ending::of(&message);
         stage.feed(message);
-        if !send_answers(rt, stage, output, bells) {
-            drain_after(rt, ending, input, bells.own, bells.left);
+        if !send_answers(rt, stage, output, wakers, backoff) {
+            drain_after(rt, ending, input, wakers.input, backoff);
             return StageEnd::PeerGone;
         }
         if let Some(fault) = stage.fault() {
-            return break_off(rt, fault, ending, input, output, bells);
+            return break_off(rt, fault, ending, input, output, wakers, backoff);
         }
         match ending {
             Ending::More => {}
@@ -178,13 +183,14 @@ fn send_answers<R: Wait, F: Filter + Drop>(
     rt: &R,
     stage: &mut SerialStage<F>,
     output: &mut Output,
-    bells: Bells<'_>,
+    wakers: StageWakers<'_>,
+    backoff: &mut Backoff,
 ) -> bool
     ensures output { SameProducer output.old output.new }
     ensures sent { HasSentAnswers F.at F.all_given F.stopped result stage.old stage.new (sent output.old) (sent output.new) }
 {
     while let Some(answer) = stage.next() {
-        if !give(rt, output, answer, bells.own, bells.right) {
+        if !give(rt, output, answer, wakers.output, backoff) {
             return false;
         }
     }
@@ -199,15 +205,16 @@ fn break_off<R: Wait>(
     ending: Ending,
     input: &mut Input,
     output: &mut Output,
-    bells: Bells<'_>,
+    wakers: StageWakers<'_>,
+    backoff: &mut Backoff,
 ) -> StageEnd
     ensures input { SameConsumer input.old input.new }
     ensures output { SameProducer output.old output.new }
     ensures broken { HasBrokenOffAfter fault ending result (received input.old) (received input.new) (known_items input.new)
         (sent output.old) (sent output.new) }
 {
-    let told = give(rt, output, Message::Stop, bells.own, bells.right);
-    let drained = drain_after(rt, ending, input, bells.own, bells.left);
+    let told = give(rt, output, Message::Stop, wakers.output, backoff);
+    let drained = drain_after(rt, ending, input, wakers.input, backoff);
     if told && drained {
         StageEnd::Fault(fault)
     } else {
