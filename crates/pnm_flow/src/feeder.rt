@@ -7,7 +7,7 @@ ghost use Rattle.pnm_read.specs.Sources.{reader_of, IsFresh as IsUnread};
 
 use pnm_image::{BytesIn, Message};
 use pnm_read::{InputFault, Source};
-use pnm_rings::{Output, Wakers, ends_image};
+use pnm_rings::{Backoff, Output, Wakers, ends_image, is_short_row};
 use rtrb::PushError;
 
 /// The source of a run, and the ring that its messages go into.
@@ -69,7 +69,7 @@ impl<R: BytesIn + Drop> Feeder<R> {
 
     /// Asks the source for a message, where none waits for room in the ring, and sends it. False where there is no room. The
     /// wakers are the ring's.
-    pub fn turn(&mut self, wakers: &Wakers) -> bool
+    pub fn turn(&mut self, wakers: &Wakers, backoff: &mut Backoff) -> bool
         requires going { is_over_by self.old ≡ false }
         ensures feeding { (first : Source R) (before : List MessageValue) → IsFeeding R.left R.failures first before self.old
             → IsFeeding R.left R.failures first before self.new }
@@ -79,11 +79,11 @@ impl<R: BytesIn + Drop> Feeder<R> {
         if self.held.is_none() {
             self.ask();
         }
-        self.send(wakers)
+        self.send(wakers, backoff)
     }
 
     /// Sends the message that waits, if any. False where there is no room in the ring.
-    fn send(&mut self, wakers: &Wakers) -> bool
+    fn send(&mut self, wakers: &Wakers, backoff: &mut Backoff) -> bool
         ensures feeding { (first : Source R) (before : List MessageValue) → IsFeeding R.left R.failures first before self.old
             → IsFeeding R.left R.failures first before self.new }
         ensures ring { SameProducer self.old.output self.new.output }
@@ -93,10 +93,11 @@ impl<R: BytesIn + Drop> Feeder<R> {
             return true;
         };
         let is_end = ends_image(&message);
+        let is_short_row = is_short_row(&message);
         match self.output.push(message) {
             Ok(()) => {
                 self.images = self.images.saturating_add(u64::from(is_end));
-                wakers.wake_receiver();
+                backoff.sent(wakers, is_short_row);
                 true
             }
             Err(PushError::Full(back)) => {

@@ -28,7 +28,7 @@ use crate::summary::Summary;
 use crate::turns::Turns;
 use pnm_image::{BytesIn, BytesOut, Form};
 use pnm_read::{InputFault, ReadBuffer, Source};
-use pnm_rings::{Input, Output, StageEnd, Wakers, new_ring};
+use pnm_rings::{Backoff, Input, Output, StageEnd, Wakers, new_ring};
 use pnm_stages::{Call, Gate, StageWakers, run_both};
 use pnm_tools::Tool;
 use pnm_write::SinkFault;
@@ -119,6 +119,7 @@ fn beside_chain<H: Threads + Wait + Sync, R: BytesIn + Drop, W: BytesOut + Drop,
         rt,
         first,
         last,
+        backoff: Backoff::new().with_rows(capacity).among_several(),
         feeder,
         collector,
     };

@@ -11,12 +11,13 @@ use pnm_rings::{Backoff, Wakers};
 use pnm_stages::Task;
 use std::sync::Wait;
 
-/// The turns of the caller, until all is sent and taken, with the wakers of the first ring and of the last one.
+/// The turns of the caller, until all is sent and taken, with the wakers of the first ring and of the last one, and how it waits.
 #[derive(Drop)]
 pub struct Turns<'a, H, R, W> {
     pub rt: &'a H,
     pub first: &'a Wakers,
     pub last: &'a Wakers,
+    pub backoff: Backoff,
     pub feeder: Feeder<R>,
     pub collector: Collector<W>,
 }
@@ -33,18 +34,26 @@ impl<'a, H: Wait, R: BytesIn + Drop, W: BytesOut + Drop> Task for Turns<'a, H, R
             rt,
             first,
             last,
+            backoff,
             feeder,
             collector,
         } = self;
         let mut feeder = feeder;
         let mut collector = collector;
-        let mut backoff = Backoff::of_several();
+        let mut backoff = backoff;
         let mut takes = false;
         for _ in rt.forever() {
             if feeder.is_over() && collector.is_over() {
                 return (feeder, collector);
             }
-            if turn(&mut feeder, &mut collector, &mut takes, first, last) {
+            if turn(
+                &mut feeder,
+                &mut collector,
+                &mut takes,
+                first,
+                last,
+                &mut backoff,
+            ) {
                 backoff.reset();
             } else {
                 wait(rt, feeder.waits_for_room(), first, last, &mut backoff);
@@ -63,6 +72,7 @@ fn wait<H: Wait>(
     last: &Wakers,
     backoff: &mut Backoff,
 ) {
+    backoff.tell(first);
     if waits_for_room {
         backoff.wait_to_send(rt, first);
     } else {
@@ -72,23 +82,26 @@ fn wait<H: Wait>(
 
 /// Goes on with what was done in the turn before, to take and write a message or to send one, as long as that can be done,
 /// and then does the other: so the caller looks at a ring for many messages at once. Before the source is asked for what it
-/// would have to wait for, all that has come is taken. False where nothing can be done.
+/// would have to wait for, all that has come is taken, and the first tool is told of all that was sent. False where nothing can
+/// be done.
 fn turn<R: BytesIn + Drop, W: BytesOut + Drop>(
     feeder: &mut Feeder<R>,
     collector: &mut Collector<W>,
     takes: &mut bool,
     first: &Wakers,
     last: &Wakers,
+    backoff: &mut Backoff,
 ) -> bool
     ensures turned { HaveTurned R.left R.failures R.same W.held W.failures W.same feeder.old collector.old feeder.new collector.new }
 {
     if *takes || feeder.would_read() {
+        backoff.tell(first);
         if !collector.is_over() && collector.turn(last) {
             return true;
         }
         *takes = false;
     }
-    if may_feed(feeder, collector) && feeder.turn(first) {
+    if may_feed(feeder, collector) && feeder.turn(first, backoff) {
         return true;
     }
     *takes = true;

@@ -25,7 +25,7 @@ pub fn drain_all<R: Wait>(
     ensures drained { HasDrainedAll (length inputs.old) result states.old states.new (at_lane received inputs.old)
         (at_lane received inputs.new) (at_lane known_items inputs.old) (at_lane known_items inputs.new) }
 {
-    let mut backoff = Backoff::of_several();
+    let mut backoff = Backoff::new().among_several();
     for _ in rt.forever() {
         let has_moved = drain_round(inputs, states, wakers);
         if let Some(have_ended) = outcome(states) {

@@ -1,4 +1,5 @@
 //! How a thread waits at one end of a ring: it yields for some turns, and then sleeps until the other end's thread wakes it.
+//! And how often it wakes the thread that it sends to.
 
 use crate::wakers::{Waker, Wakers};
 use std::sync::Wait;
@@ -21,7 +22,11 @@ const DOUBLINGS: u32 = 6;
 /// if nobody did.
 const LONG_SLEEP: u64 = 400;
 
-/// How a thread waits, and what it has learnt of its last waits.
+/// How many short rows at most are sent before the thread at the ring's other end is woken for them: an eighth of an exchange a
+/// row is next to nothing, and so few are soon made.
+const MOST_ROWS: usize = 8;
+
+/// How a thread waits, what it has learnt of its last waits, and what it sent that it woke nobody for.
 #[derive(Clone, Copy, Debug)]
 pub struct Backoff {
     /// The turns of this wait that have yielded, and that have slept.
@@ -33,6 +38,9 @@ pub struct Backoff {
     was_in_vain: bool,
     /// The thread waits for other rings besides, whose other ends' threads don't end its sleep.
     is_brief: bool,
+    /// The short rows that were sent and woke nobody, and for how many somebody is woken.
+    unseen: usize,
+    rows: usize,
 }
 
 impl Backoff {
@@ -44,14 +52,42 @@ impl Backoff {
             yields: MOST_YIELDS,
             was_in_vain: false,
             is_brief: false,
+            unseen: 0,
+            rows: 1,
         }
     }
 
-    /// Of a thread that waits for several rings at once. It sleeps by the waker of one of them, for a short time each.
-    pub fn of_several() -> Backoff {
+    /// The same for one that sends on one ring alone, of this capacity: of short rows a quarter of that, and no more than some,
+    /// are sent before the thread at its other end is woken for them.
+    pub fn with_rows(self, capacity: usize) -> Backoff {
+        Backoff {
+            rows: (capacity / 4).min(MOST_ROWS),
+            ..self
+        }
+    }
+
+    /// The same for one that waits for several rings at once. It sleeps by the waker of one of them, for a short time each.
+    pub fn among_several(self) -> Backoff {
         Backoff {
             is_brief: true,
-            ..Backoff::new()
+            ..self
+        }
+    }
+
+    /// After a message was sent: wakes the thread at the receiving end, unless it is one of few short rows.
+    pub fn sent(&mut self, wakers: &Wakers, is_short_row: bool) {
+        self.unseen = self.unseen.saturating_add(1);
+        if !is_short_row || self.unseen >= self.rows {
+            self.tell(wakers);
+        }
+    }
+
+    /// Wakes the thread at the receiving end, where something was sent that it wasn't woken for: before this one waits, or
+    /// looks whether it has to.
+    pub fn tell(&mut self, wakers: &Wakers) {
+        if self.unseen > 0 {
+            self.unseen = 0;
+            wakers.wake_receiver();
         }
     }
 
@@ -63,6 +99,7 @@ impl Backoff {
 
     /// One turn of waiting, of the thread at the sending end. It looks again after each.
     pub fn wait_to_send<R: Wait>(&mut self, rt: &R, wakers: &Wakers) {
+        self.tell(wakers);
         self.wait(rt, &wakers.sender, wakers.are_shared);
     }
 

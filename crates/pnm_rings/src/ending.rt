@@ -30,6 +30,17 @@ impl Ending {
     }
 }
 
+/// A row with fewer samples is short: some of them are made in less time than a sleeping thread takes to wake.
+const SHORT: usize = 1_024;
+
+/// Whether the message is a short row.
+pub fn is_short_row(message: &Message) -> bool {
+    match message {
+        Message::Row(row) => row.len() < SHORT,
+        _ => false,
+    }
+}
+
 /// Whether the message ends an image.
 pub fn ends_image(message: &Message) -> bool {
     matches!(message, Message::ImageEnd)

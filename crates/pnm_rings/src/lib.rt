@@ -11,7 +11,7 @@ mod stage_end;
 mod wakers;
 
 pub use backoff::Backoff;
-pub use ending::{Ending, ends_image};
+pub use ending::{Ending, ends_image, is_short_row};
 pub use limits::MAX_RING_CAPACITY;
 pub use ring::{AnyMessage, Input, Output, drain, drain_after, give, new_ring, take, wake_sender};
 pub use stage_end::StageEnd;

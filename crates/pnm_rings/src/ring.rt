@@ -6,7 +6,7 @@ ghost use Rattle.pnm_image.specs.Messages.{IsMessage};
 ghost use Rattle.pnm_rings.specs.Rings.{HasDrained, HasDrainedAfter};
 
 use crate::backoff::Backoff;
-use crate::ending::Ending;
+use crate::ending::{Ending, is_short_row};
 use crate::wakers::Wakers;
 use pnm_image::Message;
 use rtrb::{Consumer, Producer, Protocol, PushError, RingBuffer};
@@ -86,8 +86,8 @@ fn recognised(message: Message) -> Message
     message
 }
 
-/// Sends the message, and wakes the thread at the ring's other end; false, and the message is lost, where the ring is full and
-/// that end was seen dropped.
+/// Sends the message, of which the thread at the ring's other end is told; false, and the message is lost, where the ring is full
+/// and that end was seen dropped.
 pub fn give<R: Wait>(
     rt: &R,
     output: &mut Output,
@@ -100,11 +100,12 @@ pub fn give<R: Wait>(
     ensures gone { IsFalse result → sent output.new ≡ sent output.old }
 {
     backoff.reset();
+    let is_short_row = is_short_row(&message);
     let mut message = message;
     for _ in rt.forever() {
         match output.push(message) {
             Ok(()) => {
-                wakers.wake_receiver();
+                backoff.sent(wakers, is_short_row);
                 return true;
             }
             Err(PushError::Full(back)) => message = back,

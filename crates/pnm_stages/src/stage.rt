@@ -124,7 +124,7 @@ fn run_filter<R: Wait, F: Filter + Drop>(
     let mut stage = stage;
     let mut input = input;
     let mut output = output;
-    let mut backoff = Backoff::new();
+    let mut backoff = Backoff::new().with_rows(output.capacity());
     let end = pass_all(
         rt,
         &mut stage,
@@ -155,6 +155,7 @@ fn pass_all<R: Wait, F: Filter + Drop>(
         return break_off(rt, fault, Ending::More, input, output, wakers, backoff);
     }
     for _ in rt.forever() {
+        tell_of_rows(input, wakers.output, backoff);
         let Some(message) = take(rt, input, wakers.input, backoff) else {
             give(rt, output, Message::Stop, wakers.output, backoff);
             return StageEnd::PeerGone;
@@ -175,6 +176,14 @@ fn pass_all<R: Wait, F: Filter + Drop>(
         }
     }
     unreachable!()
+}
+
+/// Before the next message is taken: where none is left of those that were seen, and the stage may have to wait for it, the
+/// thread behind is told of all that was sent.
+fn tell_of_rows(input: &Input, wakers: &Wakers, backoff: &mut Backoff) {
+    if input.cached_slots() == 0 {
+        backoff.tell(wakers);
+    }
 }
 
 /// Sends what the tool gives, until it has given all, or refused; false where the output's other end
