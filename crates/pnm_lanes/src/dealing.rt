@@ -10,7 +10,7 @@ ghost use Rattle.pnm_lanes.specs.DealParts.{HasBrokenOffAfter};
 ghost use Rattle.pnm_lanes.specs.declared.limits.TheConstants.{MAX_LANES};
 
 use crate::heights::dealt_height;
-use crate::lane_rings::LaneWakers;
+use crate::lane_rings::SideWakers;
 use pnm_image::{Message, Place, Samples};
 use pnm_rings::{Backoff, Ending, Input, Output, StageEnd, Wakers, drain_after, give, take};
 use pnm_tools::ToolFault;
@@ -28,27 +28,6 @@ pub struct DealDone {
     pub end: StageEnd,
 }
 
-/// The wakers of the rings of a thread that deals.
-#[derive(Clone, Copy)]
-pub struct DealWakers<'a> {
-    /// Those of the ring that it receives on.
-    pub input: &'a Wakers,
-    /// Those of the lanes' rings, from the first lane on.
-    pub lanes: &'a [LaneWakers],
-    /// Those of the rings to lanes beyond these.
-    pub others: &'a Wakers,
-}
-
-impl<'a> DealWakers<'a> {
-    /// Those of the ring to a lane.
-    fn lane(&self, lane: usize) -> &'a Wakers {
-        match self.lanes.get(lane) {
-            Some(wakers) => &wakers.dealt,
-            None => self.others,
-        }
-    }
-}
-
 /// Deals what comes on `input` to as many lanes as there are outputs, 1 to 8. Row y of an image goes to lane y mod
 /// the number of lanes, all counted from 0; it is moved. Each lane gets a copy of each head, with the number of the
 /// lane's rows as the height, and each end of an image and of the stream.
@@ -57,7 +36,9 @@ impl<'a> DealWakers<'a> {
 /// copy of a head. Each lane is sent Stop then, and the input is taken and dropped through its end or its Stop. Where
 /// the other end of a ring is dropped early, the end is `PeerGone`: each lane whose stream hasn't ended is sent Stop,
 /// and the input is drained.
-pub fn deal<R: Wait>(rt: &R, alloc: Global, input: Input, outputs: Vec<Output>) -> DealDone
+///
+/// A copy of a head is made by the head's own allocator: `_alloc` says that memory is taken.
+pub fn deal<R: Wait>(rt: &R, _alloc: Global, input: Input, outputs: Vec<Output>) -> DealDone
     requires { IsLaneCount (length outputs.items) }
     ensures input { SameConsumer input result.input }
     ensures count { length result.outputs.items ≡ length outputs.items }
@@ -65,33 +46,14 @@ pub fn deal<R: Wait>(rt: &R, alloc: Global, input: Input, outputs: Vec<Output>) 
         outputs.items result.outputs.items }
 {
     let (before, behind) = (Wakers::of_one_end(), Wakers::of_one_end());
-    let wakers = DealWakers {
-        input: &before,
+    let wakers = SideWakers {
+        outer: &before,
         lanes: &[],
         others: &behind,
     };
-    deal_by(rt, alloc, input, outputs, wakers)
-}
-
-/// The same, beside neighbours that wake it and are woken. A copy of a head is made by the head's own allocator: `_alloc` says that
-/// memory is taken.
-pub fn deal_by<R: Wait>(
-    rt: &R,
-    _alloc: Global,
-    input: Input,
-    outputs: Vec<Output>,
-    wakers: DealWakers<'_>,
-) -> DealDone
-    requires { IsLaneCount (length outputs.items) }
-    ensures input { SameConsumer input result.input }
-    ensures count { length result.outputs.items ≡ length outputs.items }
-    ensures dealt { HasDealt result.end (received input) (received result.input) (known_items result.input)
-        outputs.items result.outputs.items }
-{
     let mut input = input;
     let mut outputs = outputs;
-    let mut backoff = Backoff::new();
-    let end = deal_all(rt, &mut input, outputs.as_mut_slice(), wakers, &mut backoff);
+    let end = deal_all(rt, &mut input, outputs.as_mut_slice(), wakers);
     DealDone {
         input,
         outputs,
@@ -99,13 +61,12 @@ pub fn deal_by<R: Wait>(
     }
 }
 
-/// Deals all messages through to the end of the stream.
-fn deal_all<R: Wait>(
+/// Deals all messages through to the end of the stream, beside neighbours that wake it and are woken.
+pub fn deal_all<R: Wait>(
     rt: &R,
     input: &mut Input,
     outputs: &mut [Output],
-    wakers: DealWakers<'_>,
-    backoff: &mut Backoff,
+    wakers: SideWakers<'_>,
 ) -> StageEnd
     requires { IsLaneCount (length outputs.old) }
     ensures input { SameConsumer input.old input.new }
@@ -113,8 +74,9 @@ fn deal_all<R: Wait>(
         outputs.old outputs.new }
 {
     let mut place = Place::new();
+    let backoff = &mut Backoff::new();
     for _ in rt.forever() {
-        let Some(message) = take(rt, input, wakers.input, backoff) else {
+        let Some(message) = take(rt, input, wakers.outer, backoff) else {
             send_each(rt, &Message::Stop, outputs, wakers, backoff);
             return StageEnd::PeerGone;
         };
@@ -148,7 +110,7 @@ fn send_parts<R: Wait>(
     place: Place,
     message: Message,
     outputs: &mut [Output],
-    wakers: DealWakers<'_>,
+    wakers: SideWakers<'_>,
     backoff: &mut Backoff,
 ) -> Option<StageEnd>
     requires lanes { IsLaneCount (length outputs.old) }
@@ -175,14 +137,14 @@ fn send_row<R: Wait>(
     y: u32,
     row: Samples,
     outputs: &mut [Output],
-    wakers: DealWakers<'_>,
+    wakers: SideWakers<'_>,
     backoff: &mut Backoff,
 ) -> Option<StageEnd>
     requires { IsLaneCount (length outputs.old) }
     ensures { HasSentParts (row_part (length outputs.old) y row) result outputs.old outputs.new }
 {
     let lane = y as usize % outputs.len();
-    let wakers = wakers.lane(lane);
+    let wakers = wakers.to(lane);
     if give(rt, &mut outputs[lane], Message::Row(row), wakers, backoff) {
         None
     } else {
@@ -195,7 +157,7 @@ fn send_each<R: Wait>(
     rt: &R,
     message: &Message,
     outputs: &mut [Output],
-    wakers: DealWakers<'_>,
+    wakers: SideWakers<'_>,
     backoff: &mut Backoff,
 ) -> Option<StageEnd>
     requires lanes { IsLaneCount (length outputs.old) }
@@ -208,7 +170,7 @@ fn send_each<R: Wait>(
         let Some(part) = part_of(message, lane, lanes) else {
             return Some(StageEnd::Fault(ToolFault::Memory));
         };
-        let wakers = wakers.lane(lane);
+        let wakers = wakers.to(lane);
         if !give(rt, &mut outputs[lane], part, wakers, backoff) {
             unsent = Some(StageEnd::PeerGone);
         }
@@ -245,7 +207,7 @@ fn break_off<R: Wait>(
     ending: Ending,
     input: &mut Input,
     outputs: &mut [Output],
-    wakers: DealWakers<'_>,
+    wakers: SideWakers<'_>,
     backoff: &mut Backoff,
 ) -> StageEnd
     requires { IsLaneCount (length outputs.old) }
@@ -254,7 +216,7 @@ fn break_off<R: Wait>(
         (received input.old) (received input.new) (known_items input.new) outputs.old outputs.new }
 {
     let untold = send_each(rt, &Message::Stop, outputs, wakers, backoff);
-    let drained = drain_after(rt, ending, input, wakers.input, backoff);
+    let drained = drain_after(rt, ending, input, wakers.outer, backoff);
     if untold.is_none() && drained {
         end
     } else {

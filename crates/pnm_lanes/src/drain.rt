@@ -6,7 +6,8 @@ ghost use Rattle.pnm_image.specs.Messages.{IsMessage};
 ghost use Rattle.pnm_lanes.specs.Gathers.{at_lane, AreSameInputs};
 ghost use Rattle.pnm_lanes.specs.GatherParts.{HasDrainedOne, CarriesOn, HasDrainedAll, AreDone, ending_state};
 
-use crate::lane::{GatheredWakers, LaneState};
+use crate::lane::LaneState;
+use crate::lane_rings::SideWakers;
 use pnm_image::Message;
 use pnm_rings::{Backoff, Ending, Input, Wakers, wake_sender};
 use std::sync::Wait;
@@ -17,7 +18,7 @@ pub fn drain_all<R: Wait>(
     rt: &R,
     inputs: &mut [Input],
     states: &mut [LaneState],
-    wakers: GatheredWakers<'_>,
+    wakers: SideWakers<'_>,
 ) -> bool
     requires some { 1 ≤ length inputs.old }
     requires states { length inputs.old ≡ length states.old }
@@ -34,14 +35,14 @@ pub fn drain_all<R: Wait>(
         if has_moved {
             backoff.reset();
         } else {
-            backoff.wait_to_receive(rt, wakers.of(first_open(states)));
+            backoff.wait_to_receive(rt, wakers.from(first_open(states)));
         }
     }
     unreachable!()
 }
 
 /// Tries each lane that hasn't ended once; whether one had a message, or was seen to have lost its other end.
-fn drain_round(inputs: &mut [Input], states: &mut [LaneState], wakers: GatheredWakers<'_>) -> bool
+fn drain_round(inputs: &mut [Input], states: &mut [LaneState], wakers: SideWakers<'_>) -> bool
     requires { length inputs.old ≡ length states.old }
     ensures inputs { AreSameInputs inputs.old inputs.new }
     ensures carried { CarriesOn (length inputs.old) states.old states.new (at_lane received inputs.old)
@@ -59,7 +60,7 @@ fn drain_lane(
     inputs: &mut [Input],
     states: &mut [LaneState],
     lane: usize,
-    wakers: GatheredWakers<'_>,
+    wakers: SideWakers<'_>,
 ) -> bool
     requires lane { lane < length inputs.old }
     requires states { length inputs.old ≡ length states.old }
@@ -70,7 +71,7 @@ fn drain_lane(
     if states[lane] != LaneState::Open {
         return false;
     }
-    match drain_one(&mut inputs[lane], wakers.of(lane)) {
+    match drain_one(&mut inputs[lane], wakers.from(lane)) {
         Some(state) => {
             states[lane] = state;
             true

@@ -7,7 +7,8 @@ ghost use Rattle.pnm_lanes.specs.Gathers.{at_lane, AreSameInputs, HasGathered};
 ghost use Rattle.pnm_lanes.specs.GatherParts.{HasBrokenOffAll};
 
 use crate::drain::drain_all;
-use crate::lane::{GatheredWakers, LaneState};
+use crate::lane::LaneState;
+use crate::lane_rings::SideWakers;
 use crate::limits::MAX_LANES;
 use crate::next::take_next;
 use pnm_image::{Message, Place};
@@ -25,15 +26,6 @@ pub struct GatherDone {
     pub end: StageEnd,
 }
 
-/// The wakers of a gatherer's rings.
-#[derive(Clone, Copy)]
-pub struct GatherWakers<'a> {
-    /// Those of the rings that it receives on.
-    pub inputs: GatheredWakers<'a>,
-    /// Those of the ring that it sends on.
-    pub output: &'a Wakers,
-}
-
 /// Puts together what comes on `inputs`, one for each lane, and sends it on `output`: row y comes from lane y mod the number
 /// of lanes, and a head is that of each lane with the height of all. It ends `Well` with the end of the stream, which each
 /// lane gives; `Broken` where a lane gives Stop; and by `Fault(OutOfOrder)` where the lanes don't agree, or a message is
@@ -48,33 +40,14 @@ pub fn gather<R: Wait>(rt: &R, inputs: Vec<Input>, output: Output) -> GatherDone
         (at_lane received result.inputs.items) (at_lane known_items result.inputs.items) (sent output) (sent result.output) }
 {
     let (before, behind) = (Wakers::of_one_end(), Wakers::of_one_end());
-    let wakers = GatherWakers {
-        inputs: GatheredWakers {
-            lanes: &[],
-            others: &before,
-        },
-        output: &behind,
+    let wakers = SideWakers {
+        outer: &behind,
+        lanes: &[],
+        others: &before,
     };
-    gather_by(rt, inputs, output, wakers)
-}
-
-/// The same, beside neighbours that wake it and are woken.
-pub fn gather_by<R: Wait>(
-    rt: &R,
-    inputs: Vec<Input>,
-    output: Output,
-    wakers: GatherWakers<'_>,
-) -> GatherDone
-    requires { IsLaneCount (length inputs.items) }
-    ensures inputs { AreSameInputs inputs.items result.inputs.items }
-    ensures output { SameProducer output result.output }
-    ensures gathered { HasGathered result.end (length inputs.items) (at_lane received inputs.items)
-        (at_lane received result.inputs.items) (at_lane known_items result.inputs.items) (sent output) (sent result.output) }
-{
     let mut inputs = inputs;
     let mut output = output;
-    let mut backoff = Backoff::new();
-    let end = gather_all(rt, inputs.as_mut_slice(), &mut output, wakers, &mut backoff);
+    let end = gather_all(rt, inputs.as_mut_slice(), &mut output, wakers);
     GatherDone {
         inputs,
         output,
@@ -82,13 +55,12 @@ pub fn gather_by<R: Wait>(
     }
 }
 
-/// Puts all messages together, through the end of the stream.
-fn gather_all<R: Wait>(
+/// Puts all messages together, through the end of the stream, beside neighbours that wake it and are woken.
+pub fn gather_all<R: Wait>(
     rt: &R,
     inputs: &mut [Input],
     output: &mut Output,
-    wakers: GatherWakers<'_>,
-    backoff: &mut Backoff,
+    wakers: SideWakers<'_>,
 ) -> StageEnd
     requires some { 1 ≤ length inputs.old }
     requires few { length inputs.old ≤ MAX_LANES }
@@ -98,17 +70,18 @@ fn gather_all<R: Wait>(
         (at_lane known_items inputs.new) (sent output.old) (sent output.new) }
 {
     let mut place = Place::new();
+    let backoff = &mut Backoff::new();
     for _ in rt.forever() {
         let mut lanes = [LaneState::Open; MAX_LANES];
         let states = &mut lanes[..inputs.len()];
-        let message = match take_next(rt, inputs, states, place, wakers.inputs, backoff) {
+        let message = match take_next(rt, inputs, states, place, wakers, backoff) {
             Ok(message) => message,
             Err(end) => return break_off(rt, end, inputs, states, output, wakers, backoff),
         };
         let ending = Ending::of(&message);
         place.step(&message);
-        if !give(rt, output, message, wakers.output, backoff) {
-            drain_all(rt, inputs, states, wakers.inputs);
+        if !give(rt, output, message, wakers.outer, backoff) {
+            drain_all(rt, inputs, states, wakers);
             return StageEnd::PeerGone;
         }
         match ending {
@@ -128,7 +101,7 @@ fn break_off<R: Wait>(
     inputs: &mut [Input],
     states: &mut [LaneState],
     output: &mut Output,
-    wakers: GatherWakers<'_>,
+    wakers: SideWakers<'_>,
     backoff: &mut Backoff,
 ) -> StageEnd
     requires some { 1 ≤ length inputs.old }
@@ -139,8 +112,8 @@ fn break_off<R: Wait>(
         (at_lane received inputs.new) (at_lane known_items inputs.old) (at_lane known_items inputs.new) (sent output.old)
         (sent output.new) }
 {
-    let told = give(rt, output, Message::Stop, wakers.output, backoff);
-    let drained = drain_all(rt, inputs, states, wakers.inputs);
+    let told = give(rt, output, Message::Stop, wakers.outer, backoff);
+    let drained = drain_all(rt, inputs, states, wakers);
     if told && drained {
         end
     } else {

@@ -5,9 +5,9 @@ ghost use Rattle.rtrb.specs.Ring.{received, known_items};
 ghost use Rattle.pnm_lanes.specs.Gathers.{at_lane, AreSameInputs};
 ghost use Rattle.pnm_lanes.specs.GatherParts.{HasTakenFrom};
 
-use crate::lane_rings::LaneWakers;
+use crate::lane_rings::SideWakers;
 use pnm_image::Message;
-use pnm_rings::{Backoff, Ending, Input, StageEnd, Wakers, take};
+use pnm_rings::{Backoff, Ending, Input, StageEnd, take};
 use std::sync::Wait;
 
 /// What is known of a lane.
@@ -21,25 +21,6 @@ pub enum LaneState {
     Gone,
 }
 
-/// The wakers of the rings that a gatherer receives on.
-#[derive(Clone, Copy)]
-pub struct GatheredWakers<'a> {
-    /// Those of the lanes' rings, from the first lane on.
-    pub lanes: &'a [LaneWakers],
-    /// Those of the rings from lanes beyond these.
-    pub others: &'a Wakers,
-}
-
-impl<'a> GatheredWakers<'a> {
-    /// Those of the ring from a lane.
-    pub fn of(&self, lane: usize) -> &'a Wakers {
-        match self.lanes.get(lane) {
-            Some(wakers) => &wakers.gathered,
-            None => self.others,
-        }
-    }
-}
-
 /// The next message of a lane that hasn't ended. `Broken` where it is Stop; `PeerGone` once the lane's ring is empty and its
 /// other end was seen dropped.
 pub fn take_from<R: Wait>(
@@ -47,7 +28,7 @@ pub fn take_from<R: Wait>(
     inputs: &mut [Input],
     states: &mut [LaneState],
     lane: usize,
-    wakers: GatheredWakers<'_>,
+    wakers: SideWakers<'_>,
     backoff: &mut Backoff,
 ) -> Result<Message, StageEnd>
     requires lane { lane < length inputs.old }
@@ -56,7 +37,7 @@ pub fn take_from<R: Wait>(
     ensures taken { HasTakenFrom lane result states.old states.new (at_lane received inputs.old)
         (at_lane received inputs.new) }
 {
-    let Some(message) = take(rt, &mut inputs[lane], wakers.of(lane), backoff) else {
+    let Some(message) = take(rt, &mut inputs[lane], wakers.from(lane), backoff) else {
         return Err(StageEnd::PeerGone);
     };
     let ending = Ending::of(&message);

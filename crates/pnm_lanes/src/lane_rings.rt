@@ -59,6 +59,35 @@ pub struct LaneWakers {
     pub gathered: Wakers,
 }
 
+/// The wakers of the rings of the thread that deals, or of the one that gathers.
+#[derive(Clone, Copy)]
+pub struct SideWakers<'a> {
+    /// Those of the ring that isn't a lane's.
+    pub outer: &'a Wakers,
+    /// Those of the lanes' rings, from the first lane on.
+    pub lanes: &'a [LaneWakers],
+    /// Those of the rings of lanes beyond these.
+    pub others: &'a Wakers,
+}
+
+impl<'a> SideWakers<'a> {
+    /// Those of the ring to a lane.
+    pub fn to(&self, lane: usize) -> &'a Wakers {
+        match self.lanes.get(lane) {
+            Some(wakers) => &wakers.dealt,
+            None => self.others,
+        }
+    }
+
+    /// Those of the ring from a lane.
+    pub fn from(&self, lane: usize) -> &'a Wakers {
+        match self.lanes.get(lane) {
+            Some(wakers) => &wakers.gathered,
+            None => self.others,
+        }
+    }
+}
+
 /// The wakers of so many lanes' rings; none where there is no memory.
 pub fn lane_wakers(alloc: Global, lanes: usize) -> Option<Vec<LaneWakers>>
     ensures { IfSome result (λ wakers. length wakers.items ≡ lanes) }

@@ -12,11 +12,10 @@ ghost use Rattle.pnm_lanes.specs.Gathers.{at_lane, AreSameInputs, HasGathered};
 ghost use Rattle.pnm_lanes.specs.Limits.{IsLaneCount};
 ghost use Rattle.pnm_lanes.specs.LaneRuns.{HasRunLanes, HaveRun, IsLaneRun, AreAround};
 
-use crate::dealing::{DealDone, DealWakers, deal_by};
-use crate::gathering::{GatherDone, GatherWakers, gather_by};
+use crate::dealing::{DealDone, deal_all};
+use crate::gathering::{GatherDone, gather_all};
 use crate::joining::{LanesDone, joined};
-use crate::lane::GatheredWakers;
-use crate::lane_rings::{LaneEnds, LaneRings, LaneWakers, lane_wakers};
+use crate::lane_rings::{LaneEnds, LaneRings, LaneWakers, SideWakers, lane_wakers};
 use pnm_rings::{Input, Output, Wakers};
 use pnm_stages::{Gate, NoStart, StageDone, StageWakers, at_once, run_lane_by};
 use pnm_tools::Tool;
@@ -161,7 +160,7 @@ fn run_threads<R: Threads + Wait + Sync, G: Gate>(
 {
     let mut others = lanes;
     let Some(last) = others.pop() else {
-        return deal_and_gather(rt, alloc, outer, room, wakers, lane_wakers);
+        return deal_and_gather(rt, outer, room, wakers, lane_wakers);
     };
     let lane = others.len();
     let LaneEnds { input, output } = last;
@@ -226,7 +225,6 @@ fn run_threads<R: Threads + Wait + Sync, G: Gate>(
 /// The thread that deals, and beside it the one that gathers, which is this one.
 fn deal_and_gather<R: Threads + Wait + Sync>(
     rt: &R,
-    alloc: Global,
     outer: OuterEnds,
     room: Vec<StageDone>,
     wakers: StageWakers<'_>,
@@ -263,12 +261,19 @@ fn deal_and_gather<R: Threads + Wait + Sync>(
                 × HasDealt result.end (received input) (received result.input) (known_items result.input)
                 outputs.items result.outputs.items }
         {
-            let wakers = DealWakers {
-                input: before,
+            let wakers = SideWakers {
+                outer: before,
                 lanes: lane_wakers,
                 others,
             };
-            deal_by(rt, alloc, input, outputs, wakers)
+            let mut input = input;
+            let mut outputs = outputs;
+            let end = deal_all(rt, &mut input, outputs.as_mut_slice(), wakers);
+            DealDone {
+                input,
+                outputs,
+                end,
+            }
         },
         move || -> GatherDone
             requires { IsLaneCount (length inputs.items) }
@@ -276,15 +281,19 @@ fn deal_and_gather<R: Threads + Wait + Sync>(
                 × HasGathered result.end (length inputs.items) (at_lane received inputs.items)
                 (at_lane received result.inputs.items) (at_lane known_items result.inputs.items) (sent output) (sent result.output) }
         {
-            let inputs_wakers = GatheredWakers {
+            let wakers = SideWakers {
+                outer: behind,
                 lanes: lane_wakers,
                 others,
             };
-            let wakers = GatherWakers {
-                inputs: inputs_wakers,
-                output: behind,
-            };
-            gather_by(rt, inputs, output, wakers)
+            let mut inputs = inputs;
+            let mut output = output;
+            let end = gather_all(rt, inputs.as_mut_slice(), &mut output, wakers);
+            GatherDone {
+                inputs,
+                output,
+                end,
+            }
         },
     );
     let (dealt, gathered) = both?;

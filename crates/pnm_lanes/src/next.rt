@@ -6,7 +6,8 @@ ghost use Rattle.pnm_lanes.specs.Gathers.{at_lane, AreSameInputs};
 ghost use Rattle.pnm_lanes.specs.GatherParts.{AreOpen, AwaitsNoRow, HasTakenNext};
 
 use crate::agreement::{are_alike, height_of, together};
-use crate::lane::{GatheredWakers, LaneState, take_from};
+use crate::lane::{LaneState, take_from};
+use crate::lane_rings::SideWakers;
 use crate::limits::MAX_LANES;
 use pnm_image::{Message, Place, Shape};
 use pnm_rings::{Backoff, Input, StageEnd};
@@ -23,7 +24,7 @@ pub fn take_next<R: Wait>(
     inputs: &mut [Input],
     states: &mut [LaneState],
     place: Place,
-    wakers: GatheredWakers<'_>,
+    wakers: SideWakers<'_>,
     backoff: &mut Backoff,
 ) -> Result<Message, StageEnd>
     requires some { 1 ≤ length inputs.old }
@@ -49,7 +50,7 @@ fn take_row<R: Wait>(
     states: &mut [LaneState],
     shape: Shape,
     y: u32,
-    wakers: GatheredWakers<'_>,
+    wakers: SideWakers<'_>,
     backoff: &mut Backoff,
 ) -> Result<Message, StageEnd>
     requires some { 1 ≤ length inputs.old }
@@ -74,7 +75,7 @@ fn take_of_each<R: Wait>(
     inputs: &mut [Input],
     states: &mut [LaneState],
     place: Place,
-    wakers: GatheredWakers<'_>,
+    wakers: SideWakers<'_>,
     backoff: &mut Backoff,
 ) -> Result<Message, StageEnd>
     requires some { 1 ≤ length inputs.old }
