@@ -21,12 +21,12 @@ impl Waker {
     }
 }
 
-/// The wakers of a ring's two ends.
+/// The wakers of a ring's two ends. What both threads read stands between them, where nobody writes beside it.
 #[derive(Drop)]
 pub struct Wakers {
     pub(crate) sender: Waker,
-    pub(crate) receiver: Waker,
     pub(crate) are_shared: bool,
+    pub(crate) receiver: Waker,
 }
 
 impl Wakers {
@@ -34,8 +34,8 @@ impl Wakers {
     pub fn new() -> Wakers {
         Wakers {
             sender: Waker::new(),
-            receiver: Waker::new(),
             are_shared: true,
+            receiver: Waker::new(),
         }
     }
 
@@ -43,8 +43,8 @@ impl Wakers {
     pub fn of_one_end() -> Wakers {
         Wakers {
             sender: Waker::new(),
-            receiver: Waker::new(),
             are_shared: false,
+            receiver: Waker::new(),
         }
     }
 
