@@ -21,7 +21,7 @@ import time
 from crates import ROOT, SOURCES, Ended, below, end_by_signals, read_crates
 
 PROGRAM = "pnmpipe"
-TOLD = "from nothing it took some 25 minutes on 4 cores of a virtual machine that was shared with other work"
+TOLD = "from nothing some 25 minutes on 4 cores shared with other work, added up from its crates; not timed whole"
 
 # what a check leaves of a crate, and how much memory two checks want
 LEFT = ("incremental", "rlib")
