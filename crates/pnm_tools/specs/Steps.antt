@@ -36,9 +36,9 @@ IsRefused tool_at all_given old from m fault =
     ((fault ≡ OutOfOrder) × (IsDue all_given from m → ⊥))
     ⊎ (IsDue all_given from m × (RefusesHead (tool_at old) m fault ⊎ ((fault ≡ Memory) × Begins (tool_at old) m)))
 
-abbrev pub Answered : {W : Type 0} → (W → Tool) → (W → Shape → List (List ℕ) → Type 0) → (W → List (List ℕ)) → (W → List (List ℕ)) → Bool → W → Place → Message → W → Place → Result Pending ToolFault → Type 0
-Answered tool_at ready_for due kept all_given old from m new to (Ok pending) = IsTaken tool_at ready_for due kept all_given old from m new to pending
-Answered tool_at ready_for due kept all_given old from m new to (Err fault) = IsRefused tool_at all_given old from m fault × (tool_at new ≡ tool_at old)
+abbrev pub Answered : {W : Type 0} → (W → Tool) → (W → Shape → List (List ℕ) → Type 0) → (W → List (List ℕ)) → (W → List (List ℕ)) → Bool → W → Place → Message → W → Place → Pending → Result (Unit {0}) ToolFault → Type 0
+Answered tool_at ready_for due kept all_given old from m new to pending (Ok _) = IsTaken tool_at ready_for due kept all_given old from m new to pending
+Answered tool_at ready_for due kept all_given old from m new to pending (Err fault) = IsRefused tool_at all_given old from m fault × (tool_at new ≡ tool_at old)
 
 -- ---- a message is given
 

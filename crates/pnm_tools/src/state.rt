@@ -68,18 +68,14 @@ impl<T: Maker> Filter for State<T> {
         if let Some(fault) = self.fault {
             return Err(fault);
         }
-        let all_given = is_all_given(&self.pending);
         match answer(
             self.alloc,
-            all_given,
             &mut self.work,
             &mut self.place,
+            &mut self.pending,
             message,
         ) {
-            Ok(pending) => {
-                self.pending = pending;
-                Ok(())
-            }
+            Ok(()) => Ok(()),
             Err(refusal) => {
                 self.work.release(self.alloc);
                 self.fault = Some(refusal);
@@ -123,42 +119,50 @@ impl<T: Maker> State<T> {
     }
 }
 
-/// What is to be given for a message, if it may come at this place.
+/// Takes a message, if it may come at this place, and sets what is to be given for it.
 fn answer<T: Maker>(
     alloc: Global,
-    all_given: bool,
     work: &mut T,
     place: &mut Place,
+    pending: &mut Pending,
     message: Message,
-) -> Result<Pending, ToolFault>
+) -> Result<(), ToolFault>
     requires lawful { IsLawfulTool (T.tool work.old) }
     requires ready { (rows : List (List ℕ)) × IsReadyFor T.ready work.old place.old rows }
-    ensures { Answered T.tool T.ready T.due T.kept all_given work.old place.old message work.new place.new result }
+    ensures { Answered T.tool T.ready T.due T.kept (is_all_given pending.old) work.old place.old
+        message work.new place.new pending.new result }
 {
-    if !all_given || !place.accepts(&message) {
+    if !is_all_given(pending) || !place.accepts(&message) {
         return Err(ToolFault::OutOfOrder);
     }
     let from = *place;
     place.step(&message);
-    match (from, message) {
-        (_, Message::Begin(head)) => {
+    match message {
+        Message::Begin(head) => {
             let result = work.begin(alloc, &head)?;
-            Ok(Pending::Waiting(Message::Begin(result)))
+            *pending = Pending::Waiting(Message::Begin(result));
         }
-        (Place::Inside(shape, y), Message::Row(row)) => {
+        Message::Row(row) => {
+            let Place::Inside(shape, y) = from else {
+                unreachable!();
+            };
+            *pending = Pending::Rows;
             work.take(alloc, shape, y, row)?;
-            Ok(Pending::Rows)
         }
-        (Place::Inside(shape, _), Message::ImageEnd) => {
+        Message::ImageEnd => {
+            let Place::Inside(shape, _) = from else {
+                unreachable!();
+            };
             work.end(shape);
-            Ok(Pending::RowsAndEnd)
+            *pending = Pending::RowsAndEnd;
         }
-        (_, Message::Stop) => {
+        Message::StreamEnd => *pending = Pending::Waiting(Message::StreamEnd),
+        Message::Stop => {
             work.release(alloc);
-            Ok(Pending::Waiting(Message::Stop))
+            *pending = Pending::Waiting(Message::Stop);
         }
-        (_, message) => Ok(Pending::Waiting(message)),
     }
+    Ok(())
 }
 
 /// The next message that waits, if one does.
@@ -169,30 +173,33 @@ fn give<T: Maker>(
 ) -> Result<Option<Message>, ToolFault>
     ensures { Gave T.tool T.ready T.due T.kept work.old pending.old work.new pending.new result }
 {
-    match mem::replace(pending, Pending::AllGiven) {
-        Pending::AllGiven | Pending::Nothing => Ok(None),
-        Pending::Waiting(message) => {
-            *pending = Pending::Nothing;
-            Ok(Some(message))
+    match pending {
+        Pending::AllGiven => Ok(None),
+        Pending::Nothing => {
+            *pending = Pending::AllGiven;
+            Ok(None)
         }
         Pending::Rows => match work.give(alloc)? {
-            Some(row) => {
-                *pending = Pending::Rows;
-                Ok(Some(Message::Row(row)))
+            Some(row) => Ok(Some(Message::Row(row))),
+            None => {
+                *pending = Pending::AllGiven;
+                Ok(None)
             }
-            None => Ok(None),
         },
         Pending::RowsAndEnd => match work.give(alloc)? {
-            Some(row) => {
-                *pending = Pending::RowsAndEnd;
-                Ok(Some(Message::Row(row)))
-            }
+            Some(row) => Ok(Some(Message::Row(row))),
             None => {
                 work.release(alloc);
                 *pending = Pending::Nothing;
                 Ok(Some(Message::ImageEnd))
             }
         },
+        Pending::Waiting(_) => {
+            let Pending::Waiting(message) = mem::replace(pending, Pending::Nothing) else {
+                unreachable!();
+            };
+            Ok(Some(message))
+        }
     }
 }
 

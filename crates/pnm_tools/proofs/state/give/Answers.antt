@@ -1,4 +1,4 @@
-use Rattle.std.proofs.Common.{ap, sym, ◌∙◌, List, ℕ, ◌++◌, Option}
+use Rattle.std.proofs.Common.{ap, ◌∙◌, List, ℕ, ◌++◌, Option}
 use Rattle.pnm_tools.specs.Answering.{row_list}
 use Rattle.pnm_tools.proofs.GivingSteps.{ended}
 use Rattle.pnm_tools.proofs.state.give.Goals as goal
@@ -9,4 +9,4 @@ returns-in-None-2 g c =
     let mid = c.give-in-RowsAndEnd.new.self in
     let none = rw c.in-None-2.is at given.ensures.all in
     let waits = given.ensures.due ∙ ap (λ (row : Option (List ℕ)). row_list row ++ g.T.Maker.due mid) c.in-None-2.is ∙ none in
-    ended g.T.Maker.tool g.T.Maker.ready g.T.Maker.due g.T.Maker.kept c.args.work.now c.release.new.self c.args.pending.now (sym c.replace.ensures.value ∙ c.in-RowsAndEnd.is) waits (c.release.ensures.same ∙ given.ensures.same) c.release.ensures.kept
+    ended g.T.Maker.tool g.T.Maker.ready g.T.Maker.due g.T.Maker.kept c.args.work.now c.release.new.self c.args.pending.now c.in-RowsAndEnd.is waits (c.release.ensures.same ∙ given.ensures.same) c.release.ensures.kept

@@ -8,13 +8,11 @@ pub returns-in-Ok-clause-accepted : goal.returns-in-Ok-clause-accepted
 returns-in-Ok-clause-accepted g c = λ t l given at.
     let s = c.self.inside in
     let is_at = rw (← c.self.view_is) at at in
-    let taken = rw c.is_all_given-all_given.ensures at c.in-Ok.ensures in
-    fed g.T.Maker.tool g.T.Maker.ready g.T.Maker.due g.T.Maker.kept (standing s.work s.place s.pending s.fault) c.answer.new.work c.answer.new.place c.args.message c.in-Ok.pending s.fault t l given is_at taken
+    fed g.T.Maker.tool g.T.Maker.ready g.T.Maker.due g.T.Maker.kept (standing s.work s.place s.pending s.fault) c.answer.new.work c.answer.new.place c.args.message c.answer.new.pending s.fault t l given is_at c.in-Ok.ensures
 
 pub returns-in-Err-clause-judged : goal.returns-in-Err-clause-judged
 returns-in-Err-clause-judged g c = λ none t l given at.
     let s = c.self.inside in
     let is_at = rw (← c.self.view_is) at at in
-    let refused = rw c.is_all_given-all_given.ensures at c.in-Err.ensures.0 in
     subst (λ (z : Standing _). Judges (is_all_given z.pending) t l c.args.message (Err c.in-Err.refusal)) c.self.view_is
-    (judged g.T.Maker.tool g.T.Maker.ready g.T.Maker.due g.T.Maker.kept (standing s.work s.place s.pending s.fault) c.args.message c.in-Err.refusal t l given is_at refused)
+    (judged g.T.Maker.tool g.T.Maker.ready g.T.Maker.due g.T.Maker.kept (standing s.work s.place s.pending s.fault) c.args.message c.in-Err.refusal t l given is_at c.in-Err.ensures.0)
