@@ -1,6 +1,6 @@
 -- The steps of a source, by what it awaits.
 use Rattle.pnm_image.specs.Formats.{is_plain_form}
-use Rattle.std.proofs.Common.{◌≡◌, ◌⊎◌, ℕ, suc, ◌+◌, ◌-◌, ◌<◌, ◌≤◌, Bool, true, false, List, [], ◌∷◌, length, Option, ◌==◌, sym, Result, Ok, Err, inl, inr, refl, ap, subst, ◌∙◌, arith}
+use Rattle.std.proofs.Common.{◌≡◌, ◌⊎◌, ℕ, suc, ◌+◌, ◌-◌, ◌<◌, ◌≤◌, Bool, true, false, List, [], ◌∷◌, length, Option, Some, ◌==◌, sym, Result, Ok, Err, inl, inr, refl, ap, subst, ◌∙◌, arith}
 use Rattle.std.proofs.lemmas.Bool.{cases_lt}
 use Rattle.std.proofs.lemmas.Bool.Decides.{nat_tests}
 use Rattle.pnm_image.specs.declared.shape.Shape.{Shape}
@@ -11,12 +11,14 @@ use Rattle.pnm_read.specs.declared.fault.InputFault.TheVariants.{ReadFailed}
 use Rattle.pnm_image.specs.declared.format.Format.{Format}
 use Rattle.pnm_read.specs.declared.input.Input.{Input}
 use Rattle.pnm_read.specs.declared.raster.Raster.{Raster}
+use Rattle.pnm_read.specs.declared.source.Awaited.{Awaited}
 use Rattle.pnm_read.specs.declared.source.Awaited.TheVariants.{FirstImage, RowOrEnd, ImageOrEnd, End}
+use Rattle.pnm_read.specs.declared.source.State.{State}
 use Rattle.pnm_read.specs.declared.source.State.TheVariants.{Awaits, Ended}
 use Rattle.pnm_read.specs.declared.source.Step.{Step}
 use Rattle.pnm_read.specs.Said.{Said, said, later_said, format_at, head_at, format_said, head_said, image_said, rows_said, row_at, end_said, then_said, says_fault}
 use Rattle.pnm_read.specs.Inputs.{Turn, Fills, Finds, IsOutsideFault, HoldsEnough, held_of}
-use Rattle.pnm_read.specs.Awaiting.{Steps, Begins, SeesText, awaited_after, due_at}
+use Rattle.pnm_read.specs.Awaiting.{HasRow, Answers, Steps, Begins, SeesText, awaited_after, due_at}
 use Rattle.pnm_read.proofs.Turns.{no_fault, turn_ok_so, turn_err_so, turn_seen, nothing_left, some_left}
 use Rattle.pnm_read.proofs.ScanSteps.{end_seen, none_of_length}
 use Rattle.pnm_read.proofs.LaterLaws.{later_said-nothing, later_said-next}
@@ -89,21 +91,28 @@ rows_left raster n = let within = raster.within in rows_after raster.shape.heigh
       | inr ge ↦ absurd (n (omega arith))
     ]
 
+-- where a row is awaited
+pub awaits_row : (state : State) (awaited other : Awaited) (raster : Raster) → state ≡ Awaits awaited → state ≡ Awaits other → other ≡ RowOrEnd raster → awaited ≡ RowOrEnd raster
+awaits_row state awaited other raster is same row = cc
+
+pub row_is_left : (state : State) (other : Awaited) (raster : Raster) → state ≡ Awaits other → other ≡ RowOrEnd raster → HasRow state → raster.y < raster.shape.height
+row_is_left state other raster same row has = subst HasRow (same ∙ ap Awaits row) has
+
 -- a row
-pub row_step : (raster next : Raster) (row : List ℕ) (step : Step) (b a : List ℕ) → (raster.y ≡ raster.shape.height → ⊥) → row_at raster.format raster.shape (raster.shape.height - raster.y - 1) b ≡ Ok (row, a)
-    → next.format ≡ raster.format → next.shape ≡ raster.shape → next.y ≡ raster.y + 1 → step.message ≡ Row row → step.state ≡ Awaits (RowOrEnd next) → Steps (RowOrEnd raster) (Ok step) b a
-row_step raster next row step b a n e nf ns ny sm ss =
-    let left = rows_left raster n in
+pub row_answered : (awaited : Awaited) (raster next : Raster) (row b a : List ℕ) → awaited ≡ RowOrEnd raster → raster.y < raster.shape.height → row_at raster.format raster.shape (raster.shape.height - raster.y - 1) b ≡ Ok (row, a)
+    → next.format ≡ raster.format → next.shape ≡ raster.shape → next.y ≡ raster.y + 1 → Answers awaited (Ok (Some (Row row))) (Awaits (RowOrEnd next)) b a
+row_answered awaited raster next row b a is_row lt e nf ns ny =
+    let left = rows_left raster (λ same. omega arith) in
     let rows : next.shape.height - next.y ≡ raster.shape.height - raster.y - 1 = let same = ap (λ (s : Shape). s.height) ns in omega arith in
     let due : rows_said later_said raster.format raster.shape (raster.shape.height - raster.y - 1) a ≡ due_at (RowOrEnd next) a = rw (nf, rows, ns) refl in
     let said : due_at (RowOrEnd raster) b ≡ then_said (Row row) (due_at (RowOrEnd next) a) =
     ap (λ (k : ℕ). rows_said later_said raster.format raster.shape k b) left ∙ row_is_said raster.format raster.shape (raster.shape.height - raster.y - 1) b a row e ∙ ap (then_said (Row row)) due in
-    rw (sm, ss) (said, tt)
+    rw is_row (said, tt)
 
 -- a row at fault
-pub row_fault : (raster : Raster) (k : InputFault) (b a : List ℕ) → (raster.y ≡ raster.shape.height → ⊥) → (row_at raster.format raster.shape (raster.shape.height - raster.y - 1) b ≡ Err k) ⊎ IsOutsideFault k → Steps (RowOrEnd raster) (Err k) b a
-row_fault raster k b a n (inl e) = inl (ap (λ (k : ℕ). rows_said later_said raster.format raster.shape k b) (rows_left raster n) ∙ row_is_at_fault raster.format raster.shape (raster.shape.height - raster.y - 1) b k e)
-row_fault raster k b a n (inr o) = inr o
+pub row_fault : (awaited : Awaited) (state : State) (raster : Raster) (k : InputFault) (b a : List ℕ) → awaited ≡ RowOrEnd raster → raster.y < raster.shape.height → (row_at raster.format raster.shape (raster.shape.height - raster.y - 1) b ≡ Err k) ⊎ IsOutsideFault k → Answers awaited (Err k) state b a
+row_fault awaited state raster k b a is_row lt (inl e) = inl (ap (λ (w : Awaited). due_at w b) is_row ∙ ap (λ (k : ℕ). rows_said later_said raster.format raster.shape k b) (rows_left raster (λ same. omega arith)) ∙ row_is_at_fault raster.format raster.shape (raster.shape.height - raster.y - 1) b k e)
+row_fault awaited state raster k b a is_row lt (inr o) = inr o
 
 -- ---- what follows an image
 

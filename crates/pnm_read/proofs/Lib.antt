@@ -19,6 +19,7 @@ pub mod RawPartLaws
 pub mod DecimalSteps
 pub mod HeaderSteps
 pub mod MagicSteps
+pub mod HeldRows
 pub mod HeldShapes
 pub mod HeadSteps
 pub mod LineSteps

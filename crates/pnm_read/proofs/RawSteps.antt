@@ -64,7 +64,7 @@ units_found p maxval zero text e = cc
 units_found p maxval (suc n) text e = first_found (raw_item p maxval) n (raw_item p maxval text) (unit_found p maxval text) (units_found p maxval n) e
 
 -- the units of a row, by the width of its samples and how many they are
-units_as : (s : Shape) (p : SampleWidth) (all : ℕ) (text : List ℕ) → p ≡ sample_width_of s.kind s.maxval → all ≡ units_in_row p s → units_at s text ≡ in_turn (raw_item p s.maxval) all text
+pub units_as : (s : Shape) (p : SampleWidth) (all : ℕ) (text : List ℕ) → p ≡ sample_width_of s.kind s.maxval → all ≡ units_in_row p s → units_at s text ≡ in_turn (raw_item p s.maxval) all text
 units_as s p all text is_width is_all = sym (ap₂ (λ (q : SampleWidth) (n : ℕ). in_turn (raw_item q s.maxval) n text) is_width (is_all ∙ ap (λ (q : SampleWidth). units_in_row q s) is_width))
 
 -- ---- steps

@@ -1,5 +1,5 @@
 -- What is still to be said where something is awaited, and what a step answers.
-use Rattle.std.specs.Prelude.{◌≡◌, ℕ, ◌-◌, ◌⊎◌, Bool, true, false, List, [], Option, Some, None, Result, Ok, Err}
+use Rattle.std.specs.Prelude.{◌≡◌, ℕ, ◌-◌, ◌<◌, ◌⊎◌, Bool, true, false, List, [], Option, Some, None, Result, Ok, Err}
 use Rattle.pnm_image.specs.declared.message.Message.{Message}
 use Rattle.pnm_image.specs.declared.message.Message.TheVariants.{Begin, Row, ImageEnd, StreamEnd, Stop}
 use Rattle.pnm_read.specs.declared.fault.InputFault.{InputFault}
@@ -27,6 +27,15 @@ due_at End text = ends_stream
 -- the next row of a raster that has one
 abbrev pub row_of : Raster → List ℕ → Result (List ℕ × List ℕ) InputFault
 row_of raster = row_at raster.format raster.shape (raster.shape.height - raster.y - 1)
+
+-- a row is awaited, and not the end of an image
+abbrev pub HasRow : State → Type 0
+HasRow (Awaits FirstImage) = ⊥
+HasRow (Awaits (RowOrEnd raster)) = raster.y < raster.shape.height
+HasRow (Awaits ImageOrEnd) = ⊥
+HasRow (Awaits End) = ⊥
+HasRow Ended = ⊥
+HasRow (Failed fault) = ⊥
 
 -- what is still to be said in a state
 abbrev pub state_due : State → List ℕ → Said

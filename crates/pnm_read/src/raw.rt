@@ -4,8 +4,8 @@ ghost use Rattle.std.specs.Prelude.{◌≡◌, ◌≤◌, ◌<◌, [], All, IfOk
 ghost use Rattle.pnm_image.specs.declared.limits.TheConstants.{MAX_SIDE};
 ghost use Rattle.pnm_image.specs.SampleWidths.{sample_width_of};
 ghost use Rattle.pnm_image.specs.declared.sample_width.SampleWidth.TheVariants.{Words};
-ghost use Rattle.pnm_read.specs.Said.{raw_row};
-ghost use Rattle.pnm_read.specs.Inputs.{Turn, Finds};
+ghost use Rattle.pnm_read.specs.Said.{raw_row, units_in_row};
+ghost use Rattle.pnm_read.specs.Inputs.{Turn, Finds, held_of};
 ghost use Rattle.pnm_read.specs.RawParts.{FindsUnits, FindsPart};
 ghost use Rattle.pnm_read.specs.Units.{samples_of_bytes, AreBytesWithin};
 
@@ -65,6 +65,9 @@ fn read_bytes<R: BytesIn>(
     ensures within { IfOk result (λ row. AreBytesWithin sample_width shape.maxval row.items) }
 {
     let count = units_in_row(sample_width, shape);
+    if input.bytes().len() >= count {
+        return take_bytes(input, count, shape, sample_width);
+    }
     let Ok(mut row) = Vec::from_elem(input.allocator(), 0, count) else {
         return Err(InputFault::Memory);
     };
@@ -73,6 +76,31 @@ fn read_bytes<R: BytesIn>(
         let room = &mut row.as_mut_slice()[filled..];
         filled += read_part(input, room, sample_width, shape.maxval)?;
     }
+    Ok(row)
+}
+
+/// The bytes of the next row, so many units, where they are held.
+fn take_bytes<R: BytesIn>(
+    input: &mut Input<R>,
+    count: usize,
+    shape: Shape,
+    sample_width: SampleWidth,
+) -> Result<Vec<u8>, InputFault>
+    requires held { count ≤ length (held_of input.old) }
+    requires count { count ≡ units_in_row sample_width shape }
+    requires sample_width { sample_width ≡ sample_width_of shape.kind shape.maxval }
+    requires bytes { sample_width ≡ Words → ⊥ }
+    ensures found { Turn R.left R.failures R.same input.old input.new result
+        (FindsUnits (λ row. samples_of_bytes sample_width row.items) shape result) }
+    ensures within { IfOk result (λ row. AreBytesWithin sample_width shape.maxval row.items) }
+{
+    let Ok(row) = Vec::from_slice(input.allocator(), &input.bytes()[..count]) else {
+        return Err(InputFault::Memory);
+    };
+    if !are_units_within(row.as_slice(), sample_width, shape.maxval) {
+        return Err(InputFault::SampleAboveMaxval);
+    }
+    input.advance(count);
     Ok(row)
 }
 

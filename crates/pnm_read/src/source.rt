@@ -1,13 +1,14 @@
 //! The source of a stream: the bytes of a reader as messages.
 
-ghost use Rattle.std.specs.Prelude.{◌≡◌, List, ℕ, ◌≤◌, ◌<◌, ◌-◌, ◌⊎◌, true, false, Some, None, Ok, Err, OnOk, IfOk, IfErr};
+ghost use Rattle.std.specs.Prelude.{◌≡◌, List, ℕ, ◌≤◌, ◌<◌, ◌-◌, ◌⊎◌, ◌↔◌, IsTrue, true, false, Some, None, Ok, Err, OnOk, IfOk, IfErr};
 ghost use Rattle.pnm_image.specs.Devices.{Failed};
 ghost use Rattle.pnm_image.specs.Formats.{is_plain_form};
-ghost use Rattle.pnm_image.specs.declared.message.Message.TheVariants.{StreamEnd, Stop};
+ghost use Rattle.pnm_image.specs.declared.message.Message.TheVariants.{ImageEnd, StreamEnd, Stop};
 ghost use Rattle.pnm_read.specs.declared.fault.InputFault.{InputFault as Fault};
 ghost use Rattle.pnm_read.specs.declared.fault.InputFault.TheVariants.{ReadFailed, Memory};
+ghost use Rattle.pnm_read.specs.declared.source.Awaited.{Awaited as AwaitedValue};
 ghost use Rattle.pnm_read.specs.Inputs.{Turn, Finds};
-ghost use Rattle.pnm_read.specs.Awaiting.{awaited_after, row_of, Answers, Steps, Begins, SeesText};
+ghost use Rattle.pnm_read.specs.Awaiting.{awaited_after, row_of, HasRow, Answers, Steps, Begins, SeesText};
 
 use crate::fault::InputFault;
 use crate::header::{is_told, read_format, read_head};
@@ -131,9 +132,13 @@ impl<R: BytesIn> Source<R> {
 
     /// The next message, before the end of the stream and any fault.
     fn go_on(&mut self, awaited: Awaited) -> Result<Option<Message>, InputFault>
+        requires { self.old.state ≡ State.Awaits awaited }
         ensures turn { Turn R.left R.failures R.same self.old.input self.new.input result (Answers awaited result self.new.state) }
         ensures stopped { IfErr result (λ fault. stopped_by self.new ≡ Some fault) }
     {
+        if has_row(&self.state) {
+            return self.give_row();
+        }
         match step_at(&mut self.input, awaited) {
             Ok(step) => {
                 self.state = step.state;
@@ -146,6 +151,30 @@ impl<R: BytesIn> Source<R> {
         }
     }
 
+    /// The next row of a raster that has one.
+    fn give_row(&mut self) -> Result<Option<Message>, InputFault>
+        requires { HasRow self.old.state }
+        ensures turn { (awaited : AwaitedValue) → self.old.state ≡ State.Awaits awaited
+            → Turn R.left R.failures R.same self.old.input self.new.input result (Answers awaited result self.new.state) }
+        ensures stopped { IfErr result (λ fault. stopped_by self.new ≡ Some fault) }
+    {
+        let State::Awaits(awaited) = self.state else {
+            unreachable!();
+        };
+        let Awaited::RowOrEnd(raster) = awaited else {
+            unreachable!();
+        };
+        // The state is set first, while nothing else was written, so that of the raster only `y` is stored.
+        self.state = State::Awaits(Awaited::RowOrEnd(raster.after_row()));
+        match read_row(&mut self.input, &raster) {
+            Ok(row) => Ok(Some(Message::Row(row))),
+            Err(found) => {
+                self.state = State::Failed(found);
+                Err(found)
+            }
+        }
+    }
+
     /// The reader.
     pub fn into_reader(self) -> R
         ensures { result ≡ reader_of self }
@@ -154,13 +183,26 @@ impl<R: BytesIn> Source<R> {
     }
 }
 
-/// The next message where this is awaited, and the state after it.
+/// Whether a row is awaited, and not the end of an image.
+fn has_row(state: &State) -> bool
+    ensures { IsTrue result ↔ HasRow state.now }
+{
+    match state {
+        State::Awaits(Awaited::RowOrEnd(raster)) => raster.y < raster.shape.height,
+        State::Awaits(Awaited::FirstImage | Awaited::ImageOrEnd | Awaited::End)
+        | State::Ended
+        | State::Failed(_) => false,
+    }
+}
+
+/// The next message where this is awaited and no row is, and the state after it.
 fn step_at<R: BytesIn>(input: &mut Input<R>, awaited: Awaited) -> Result<Step, InputFault>
+    requires { HasRow (State.Awaits awaited) → ⊥ }
     ensures { Turn R.left R.failures R.same input.old input.new result (Steps awaited result) }
 {
     match awaited {
         Awaited::FirstImage => begin(input, true),
-        Awaited::RowOrEnd(raster) => next_row(input, raster),
+        Awaited::RowOrEnd(raster) => Ok(image_end(raster.format)),
         Awaited::ImageOrEnd => follow(input),
         Awaited::End => Ok(stream_end()),
     }
@@ -191,21 +233,15 @@ fn begin<R: BytesIn>(input: &mut Input<R>, is_first: bool) -> Result<Step, Input
     })
 }
 
-/// The next row of a raster, or the end of the image.
-fn next_row<R: BytesIn>(input: &mut Input<R>, raster: Raster) -> Result<Step, InputFault>
-    ensures { Turn R.left R.failures R.same input.old input.new result (Steps (Awaited.RowOrEnd raster) result) }
+/// The end of an image of this format.
+fn image_end(format: Format) -> Step
+    ensures message { result.message ≡ ImageEnd }
+    ensures state { result.state ≡ State.Awaits (awaited_after (is_plain_form format.form)) }
 {
-    if raster.y == raster.shape.height {
-        return Ok(Step {
-            message: Message::ImageEnd,
-            state: State::Awaits(after_image(raster.format)),
-        });
+    Step {
+        message: Message::ImageEnd,
+        state: State::Awaits(after_image(format)),
     }
-    let row = read_row(input, raster)?;
-    Ok(Step {
-        message: Message::Row(row),
-        state: State::Awaits(Awaited::RowOrEnd(raster.after_row())),
-    })
 }
 
 /// What is awaited after an image of this format.
@@ -220,9 +256,9 @@ fn after_image(format: Format) -> Awaited
 }
 
 /// The samples of the next row.
-fn read_row<R: BytesIn>(input: &mut Input<R>, raster: Raster) -> Result<Samples, InputFault>
-    requires { raster.y < raster.shape.height }
-    ensures { Turn R.left R.failures R.same input.old input.new result (Finds (row_of raster) result) }
+fn read_row<R: BytesIn>(input: &mut Input<R>, raster: &Raster) -> Result<Samples, InputFault>
+    requires { raster.now.y < raster.now.shape.height }
+    ensures { Turn R.left R.failures R.same input.old input.new result (Finds (row_of raster.now) result) }
 {
     if raster.format.is_plain() {
         plain::read_row(input, raster.shape, raster.shape.height - raster.y - 1)
