@@ -1,5 +1,5 @@
 -- A row-wise tool at work in a lane takes and gives messages as the tool does.
-use Rattle.std.proofs.Common.{◌≡◌, true, List, [], ◌∷◌, ◌++◌, Option, Some, None, Result, Ok, Err, OnOk, IfOk, IfSome, IfNone}
+use Rattle.std.proofs.Common.{◌≡◌, Bool, true, List, [], ◌∷◌, ◌++◌, Option, Some, None, Result, Ok, Err, OnOk, IfOk, IfSome, IfNone}
 use Rattle.pnm_image.specs.declared.message.Message.{Message}
 use Rattle.pnm_tools.specs.declared.fault.ToolFault.{ToolFault}
 use Rattle.pnm_tools.specs.declared.row_state.RowState.{RowState}
@@ -31,6 +31,11 @@ pub lane_stops : (r : Result (Option Message) ToolFault) (old : Standing Work) (
 lane_stops (Ok (Some m)) old P stops = λ t l g at ends. stops t l g at.state ends
 lane_stops (Ok None) old P stops = stops
 lane_stops (Err fault) old P stops = stops
+
+-- all was given, as far as a look shows
+pub lane_told : (r : Bool) (old new : Standing Work) → (r ≡ true → (is_all_given new.pending ≡ true) × ((t : Tool) (l g : List Message) → IsToolAt old t l g → IsToolAt new t l g × AnswersInFull t l g))
+    → (r ≡ true → (is_all_given new.pending ≡ true) × ((t : Tool) (l g : List Message) → IsRowToolAt (lane_of old) t l g → IsRowToolAt (lane_of new) t l g × AnswersInFull t l g))
+lane_told r old new full = λ e. ((full e).0, λ t l g at. let both = (full e).1 t l g at.state in (record { state = both.0; row_wise = at.row_wise }, both.1))
 
 -- all was given
 pub lane_is_full : (r : Result (Option Message) ToolFault) (old new : Standing Work) → IfOk r (λ o. IfNone o ((is_all_given new.pending ≡ true) × ((t : Tool) (l g : List Message) → IsToolAt old t l g → IsToolAt new t l g × AnswersInFull t l g)))

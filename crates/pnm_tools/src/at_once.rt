@@ -43,6 +43,10 @@ impl<T: Rows> Maker for AtOnce<T> {
         Ok(mem::replace(&mut self.made, None))
     }
 
+    fn may_give(&self) -> bool {
+        self.made.is_some()
+    }
+
     fn release(&mut self, _alloc: Global) {
         self.made = None;
     }

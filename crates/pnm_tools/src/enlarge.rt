@@ -308,6 +308,10 @@ impl Maker for Enlarger {
         Ok(Some(copy))
     }
 
+    fn may_give(&self) -> bool {
+        self.row.is_some()
+    }
+
     fn release(&mut self, _alloc: Global) {
         self.row = None;
     }

@@ -294,6 +294,10 @@ impl Maker for RowReverser {
         Ok(Some(turned(alloc, self.way.turn(), shape, kept)?))
     }
 
+    fn may_give(&self) -> bool {
+        self.ended.is_some()
+    }
+
     fn release(&mut self, alloc: Global) {
         self.rows = Vec::new(alloc);
     }

@@ -1,7 +1,7 @@
 //! What a tool at work makes of the rows of an image: some rows of the result at once, the rest once
 //! the image has ended.
 
-ghost use Rattle.std.specs.Prelude.{ℕ, ◌≡◌, ◌<◌, ◌≤◌, ◌++◌, ◌∷◌, [], ◌⊎◌, List, length, OnOk, IfOk, IfErr, IfNone, Ok, Err};
+ghost use Rattle.std.specs.Prelude.{ℕ, false, ◌≡◌, ◌<◌, ◌≤◌, ◌++◌, ◌∷◌, [], ◌⊎◌, List, length, OnOk, IfOk, IfErr, IfNone, Ok, Err};
 ghost use Rattle.pnm_image.specs.Places.{IsRowOf};
 ghost use Rattle.pnm_image.specs.declared.shape.Shape.{Shape as ShapeValue};
 ghost use Rattle.pnm_tools.specs.Answering.{row_list};
@@ -64,6 +64,10 @@ pub trait Maker {
         ensures due { IfOk result (λ row. due self.old ≡ row_list row ++ due self.new) }
         ensures all { IfOk result (λ row. IfNone row (due self.new ≡ [])) }
         ensures refused { IfErr result (λ fault. fault ≡ Memory) };
+
+    /// Whether a row of the result may be due, as far as a look shows.
+    fn may_give(&self) -> bool
+        ensures { result ≡ false → due self.now ≡ [] };
 
     /// Gives up the rows that it keeps.
     fn release(&mut self, alloc: Global)

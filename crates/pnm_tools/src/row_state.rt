@@ -45,6 +45,10 @@ impl Filter for RowState {
     fn next(&mut self) -> Result<Option<Message>, ToolFault> {
         self.state.next()
     }
+
+    fn gave_all(&mut self) -> bool {
+        self.state.gave_all()
+    }
 }
 
 impl RowWise for RowState {

@@ -1,9 +1,9 @@
 //! A tool at work on a stream: the place, what is still to be given, and the fault that stays.
 
-ghost use Rattle.std.specs.Prelude.{ℕ, ◌≡◌, Some, None, List, [], length};
+ghost use Rattle.std.specs.Prelude.{ℕ, ◌≡◌, true, false, Some, None, List, [], length};
 ghost use Rattle.pnm_tools.specs.States.{waiting_in, is_all_given, IsReadyFor};
 ghost use Rattle.pnm_tools.specs.Tools.{IsLawfulTool};
-ghost use Rattle.pnm_tools.specs.Steps.{Answered, Gave};
+ghost use Rattle.pnm_tools.specs.Steps.{Answered, Gave, IsGiven};
 
 use crate::fault::ToolFault;
 use crate::filter::Filter;
@@ -96,6 +96,10 @@ impl<T: Maker> Filter for State<T> {
                 Err(fault)
             }
         }
+    }
+
+    fn gave_all(&mut self) -> bool {
+        tell(&self.work, &mut self.pending)
     }
 }
 
@@ -200,6 +204,26 @@ fn give<T: Maker>(
             };
             Ok(Some(message))
         }
+    }
+}
+
+/// Whether nothing waits, as far as a look shows; that is told then.
+fn tell<T: Maker>(work: &T, pending: &mut Pending) -> bool
+    ensures told { result ≡ true
+        → IsGiven T.tool T.ready T.due T.kept work.now pending.old work.now pending.new None }
+    ensures unknown { result ≡ false → pending.new ≡ pending.old }
+{
+    match pending {
+        Pending::AllGiven => true,
+        Pending::Nothing => {
+            *pending = Pending::AllGiven;
+            true
+        }
+        Pending::Rows if !work.may_give() => {
+            *pending = Pending::AllGiven;
+            true
+        }
+        Pending::Waiting(_) | Pending::Rows | Pending::RowsAndEnd => false,
     }
 }
 

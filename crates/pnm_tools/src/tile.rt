@@ -238,6 +238,10 @@ impl Maker for Tiler {
         Ok(Some(tiled))
     }
 
+    fn may_give(&self) -> bool {
+        self.left > 0
+    }
+
     fn release(&mut self, alloc: Global) {
         self.left = 0;
         self.rows = VecDeque::new(alloc);

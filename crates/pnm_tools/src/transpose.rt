@@ -89,6 +89,10 @@ impl Maker for Transposer {
         Ok(self.band.pop())
     }
 
+    fn may_give(&self) -> bool {
+        !self.band.is_empty() || self.next < self.columns
+    }
+
     fn release(&mut self, alloc: Global) {
         self.clear(alloc);
     }

@@ -81,6 +81,10 @@ impl Maker for Work {
         with_tool!(self, work => work.give(alloc))
     }
 
+    fn may_give(&self) -> bool {
+        with_tool!(self, work => work.may_give())
+    }
+
     fn release(&mut self, alloc: Global) {
         with_tool!(self, work => work.release(alloc))
     }
