@@ -48,13 +48,17 @@ impl Place {
         requires { Accepts self.old message.now }
         ensures { self.new ≡ place_after self.old message.now }
     {
-        *self = match (*self, message) {
-            (_, Message::Begin(head)) => Place::Inside(head.shape(), 0),
-            (Place::Inside(shape, y), Message::Row(_)) => Place::Inside(shape, y + 1),
-            (place, Message::Row(_)) => place,
-            (_, Message::ImageEnd) => Place::Between,
-            (_, Message::StreamEnd | Message::Stop) => Place::After,
-        };
+        match message {
+            Message::Begin(head) => *self = Place::Inside(head.shape(), 0),
+            Message::Row(_) => {
+                if let Place::Inside(shape, y) = self {
+                    prove!(*y < shape.height);
+                    *y += 1;
+                }
+            }
+            Message::ImageEnd => *self = Place::Between,
+            Message::StreamEnd | Message::Stop => *self = Place::After,
+        }
     }
 }
 
