@@ -9,8 +9,7 @@ use Rattle.pnm_image.specs.Places.{Accepts, place_after, place_of}
 use Rattle.pnm_image.proofs.Places.{lawful_more, place_of-append}
 use Rattle.pnm_tools.specs.declared.fault.ToolFault.{ToolFault}
 use Rattle.pnm_tools.specs.declared.fault.ToolFault.TheVariants.{CutOutside, ChannelOutside, TooLarge, OutOfOrder, Memory}
-use Rattle.pnm_tools.specs.declared.state.Pending.{Pending}
-use Rattle.pnm_tools.specs.declared.state.Pending.TheVariants.{AllGiven, Waiting, Rows, RowsAndEnd, Nothing}
+use Rattle.pnm_tools.specs.Pendings.{Pending, AllGiven, Waiting, Rows, RowsAndEnd, Nothing}
 use Rattle.pnm_tools.specs.declared.tool.Tool.{Tool}
 use Rattle.pnm_tools.specs.Answers.{Begins, RefusesHead, Judges}
 use Rattle.pnm_tools.specs.Answering.{answered, rows_after, rows_come}

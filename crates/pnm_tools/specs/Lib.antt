@@ -5,6 +5,7 @@ pub mod Invert
 pub mod Cut
 pub mod Depth
 pub mod Channel
+pub mod Pendings
 pub mod Pixels
 pub mod Enlarge
 pub mod Flip

@@ -8,8 +8,7 @@ use Rattle.pnm_image.specs.declared.place.Place.{Place}
 use Rattle.pnm_image.specs.declared.place.Place.TheVariants.{Between, Inside, After}
 use Rattle.pnm_image.specs.Places.{IsLawful, place_of}
 use Rattle.pnm_tools.specs.declared.fault.ToolFault.{ToolFault}
-use Rattle.pnm_tools.specs.declared.state.Pending.{Pending}
-use Rattle.pnm_tools.specs.declared.state.Pending.TheVariants.{AllGiven, Waiting, Rows, RowsAndEnd, Nothing}
+use Rattle.pnm_tools.specs.Pendings.{Pending, AllGiven, Waiting, Rows, RowsAndEnd, Nothing}
 use Rattle.pnm_tools.specs.declared.tool.Tool.{Tool}
 use Rattle.pnm_tools.specs.declared.tool.Tool.TheVariants.{Invert, Cut, Depth, Channel, Enlarge, Flip, Tile}
 use Rattle.pnm_tools.specs.declared.work.Work.{Work}

@@ -6,8 +6,7 @@ use Rattle.pnm_image.specs.declared.place.Place.{Place}
 use Rattle.pnm_image.specs.Places.{Accepts, place_after}
 use Rattle.pnm_tools.specs.declared.fault.ToolFault.{ToolFault}
 use Rattle.pnm_tools.specs.declared.fault.ToolFault.TheVariants.{OutOfOrder, Memory}
-use Rattle.pnm_tools.specs.declared.state.Pending.{Pending}
-use Rattle.pnm_tools.specs.declared.state.Pending.TheVariants.{AllGiven, Waiting, Rows, RowsAndEnd, Nothing}
+use Rattle.pnm_tools.specs.Pendings.{Pending, AllGiven, Waiting, Rows, RowsAndEnd, Nothing}
 use Rattle.pnm_tools.specs.declared.tool.Tool.{Tool}
 use Rattle.pnm_tools.specs.Answers.{Begins, RefusesHead}
 use Rattle.pnm_tools.specs.Answering.{answered, rows_after}

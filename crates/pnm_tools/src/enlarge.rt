@@ -295,6 +295,7 @@ impl Maker for Enlarger {
     }
 
     /// Gives the row itself the last time, and copies of it before.
+    #[inline(never)]
     fn give(&mut self, alloc: Global) -> Result<Option<Samples>, ToolFault> {
         let Some(row) = mem::replace(&mut self.row, None) else {
             return Ok(None);

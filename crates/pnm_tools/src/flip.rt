@@ -284,6 +284,7 @@ impl Maker for RowReverser {
         self.ended = Some(shape);
     }
 
+    #[inline(never)]
     fn give(&mut self, alloc: Global) -> Result<Option<Samples>, ToolFault> {
         let Some(shape) = self.ended else {
             return Ok(None);

@@ -1,6 +1,7 @@
 //! A tool at work on a stream: the place, what is still to be given, and the fault that stays.
 
 ghost use Rattle.std.specs.Prelude.{ℕ, ◌≡◌, true, false, Some, None, List, [], length};
+ghost use Rattle.pnm_tools.specs.Pendings.{AllGiven, pending_of, after_one, is_told};
 ghost use Rattle.pnm_tools.specs.States.{waiting_in, is_all_given, IsReadyFor};
 ghost use Rattle.pnm_tools.specs.Tools.{IsLawfulTool};
 ghost use Rattle.pnm_tools.specs.Steps.{Answered, Gave, IsGiven};
@@ -11,21 +12,20 @@ use crate::maker::Maker;
 use pnm_image::{Message, Place};
 use std::alloc::Global;
 use std::marker::Model;
-use std::mem;
 
 /// What is still to be given for the message that was accepted last.
-#[derive(Debug, Drop)]
-pub enum Pending {
+#[derive(Clone, Copy, Debug)]
+pub enum Owed {
     /// Nothing, and that was told.
-    AllGiven,
-    /// One message.
-    Waiting(Message),
+    Told,
+    /// The message that waits.
+    One,
     /// The rows that the tool still gives.
-    Rows,
+    Rest,
     /// The rows that the tool still gives, and the end of the image.
-    RowsAndEnd,
+    RestAndEnd,
     /// Nothing, which isn't told yet.
-    Nothing,
+    Untold,
 }
 
 /// A tool at work on a stream. What it keeps of an image it gives up once it has given the image's end,
@@ -35,20 +35,22 @@ pub struct State<T: Maker> {
     alloc: Global,
     work: T,
     place: Place,
-    pending: Pending,
+    owed: Owed,
+    waiting: Option<Message>,
     fault: Option<ToolFault>,
 }
 
 impl<T: Maker> Model for State<T> {
+    ghost use Rattle.pnm_tools.specs.Pendings.{pending_of};
     ghost use Rattle.pnm_tools.specs.States.{Standing, standing, IsStanding};
     ghost use Rattle.pnm_tools.specs.Tools.{IsLawfulTool};
 
     ghost Value = { Standing T };
 
-    ghost view = { λ s. standing s.work s.place s.pending s.fault };
+    ghost view = { λ s. standing s.work s.place (pending_of s.owed s.waiting) s.fault };
 
     ghost invariant = { λ s. IsLawfulTool (T.tool s.work)
-        × IsStanding T.ready T.kept s.work s.place s.pending s.fault };
+        × IsStanding T.ready T.kept s.work s.place (pending_of s.owed s.waiting) s.fault };
 }
 
 impl<T: Maker> Filter for State<T> {
@@ -72,7 +74,8 @@ impl<T: Maker> Filter for State<T> {
             self.alloc,
             &mut self.work,
             &mut self.place,
-            &mut self.pending,
+            &mut self.owed,
+            &mut self.waiting,
             message,
         ) {
             Ok(()) => Ok(()),
@@ -88,7 +91,12 @@ impl<T: Maker> Filter for State<T> {
         if let Some(fault) = self.fault {
             return Err(fault);
         }
-        match give(self.alloc, &mut self.work, &mut self.pending) {
+        match give(
+            self.alloc,
+            &mut self.work,
+            &mut self.owed,
+            &mut self.waiting,
+        ) {
             Ok(message) => Ok(message),
             Err(fault) => {
                 self.work.release(self.alloc);
@@ -99,7 +107,7 @@ impl<T: Maker> Filter for State<T> {
     }
 
     fn gave_all(&mut self) -> bool {
-        tell(&self.work, &mut self.pending)
+        tell(&self.work, &mut self.owed, &self.waiting)
     }
 }
 
@@ -110,33 +118,35 @@ impl<T: Maker> State<T> {
         requires kept { T.kept work ≡ [] }
         ensures work { result.work ≡ work }
         ensures place { result.place ≡ Place.Between }
-        ensures pending { result.pending ≡ Pending.AllGiven }
+        ensures pending { result.pending ≡ AllGiven }
         ensures fault { result.fault ≡ None }
     {
         State {
             alloc,
             work,
             place: Place::new(),
-            pending: Pending::AllGiven,
+            owed: Owed::Told,
+            waiting: None,
             fault: None,
         }
     }
 }
 
-/// Takes a message, if it may come at this place, and sets what is to be given for it.
+/// Takes a message, if it may come at this place, and sets what is owed for it.
 fn answer<T: Maker>(
     alloc: Global,
     work: &mut T,
     place: &mut Place,
-    pending: &mut Pending,
+    owed: &mut Owed,
+    waiting: &mut Option<Message>,
     message: Message,
 ) -> Result<(), ToolFault>
     requires lawful { IsLawfulTool (T.tool work.old) }
     requires ready { (rows : List (List ℕ)) × IsReadyFor T.ready work.old place.old rows }
-    ensures { Answered T.tool T.ready T.due T.kept (is_all_given pending.old) work.old place.old
-        message work.new place.new pending.new result }
+    ensures { Answered T.tool T.ready T.due T.kept (is_all_given (pending_of owed.old waiting.old)) work.old place.old
+        message work.new place.new (pending_of owed.new waiting.new) result }
 {
-    if !is_all_given(pending) || !place.accepts(&message) {
+    if !is_told(*owed) || !place.accepts(&message) {
         return Err(ToolFault::OutOfOrder);
     }
     let from = *place;
@@ -144,13 +154,14 @@ fn answer<T: Maker>(
     match message {
         Message::Begin(head) => {
             let result = work.begin(alloc, &head)?;
-            *pending = Pending::Waiting(Message::Begin(result));
+            *owed = Owed::One;
+            *waiting = Some(Message::Begin(result));
         }
         Message::Row(row) => {
             let Place::Inside(shape, y) = from else {
                 unreachable!();
             };
-            *pending = Pending::Rows;
+            *owed = Owed::Rest;
             work.take(alloc, shape, y, row)?;
         }
         Message::ImageEnd => {
@@ -158,80 +169,97 @@ fn answer<T: Maker>(
                 unreachable!();
             };
             work.end(shape);
-            *pending = Pending::RowsAndEnd;
+            *owed = Owed::RestAndEnd;
         }
-        Message::StreamEnd => *pending = Pending::Waiting(Message::StreamEnd),
+        Message::StreamEnd => {
+            *owed = Owed::One;
+            *waiting = Some(Message::StreamEnd);
+        }
         Message::Stop => {
             work.release(alloc);
-            *pending = Pending::Waiting(Message::Stop);
+            *owed = Owed::One;
+            *waiting = Some(Message::Stop);
         }
     }
     Ok(())
 }
 
-/// The next message that waits, if one does.
+/// The next message that is owed, if one is.
 fn give<T: Maker>(
     alloc: Global,
     work: &mut T,
-    pending: &mut Pending,
+    owed: &mut Owed,
+    waiting: &mut Option<Message>,
 ) -> Result<Option<Message>, ToolFault>
-    ensures { Gave T.tool T.ready T.due T.kept work.old pending.old work.new pending.new result }
+    ensures { Gave T.tool T.ready T.due T.kept work.old (pending_of owed.old waiting.old) work.new
+        (pending_of owed.new waiting.new) result }
 {
-    match pending {
-        Pending::AllGiven => Ok(None),
-        Pending::Nothing => {
-            *pending = Pending::AllGiven;
+    match *owed {
+        Owed::Told => Ok(None),
+        Owed::Untold => {
+            *owed = Owed::Told;
             Ok(None)
         }
-        Pending::Rows => match work.give(alloc)? {
+        Owed::Rest => match work.give(alloc)? {
             Some(row) => Ok(Some(Message::Row(row))),
             None => {
-                *pending = Pending::AllGiven;
+                *owed = Owed::Told;
                 Ok(None)
             }
         },
-        Pending::RowsAndEnd => match work.give(alloc)? {
+        Owed::RestAndEnd => match work.give(alloc)? {
             Some(row) => Ok(Some(Message::Row(row))),
             None => {
                 work.release(alloc);
-                *pending = Pending::Nothing;
+                *owed = Owed::Untold;
                 Ok(Some(Message::ImageEnd))
             }
         },
-        Pending::Waiting(_) => {
-            let Pending::Waiting(message) = mem::replace(pending, Pending::Nothing) else {
-                unreachable!();
-            };
-            Ok(Some(message))
-        }
+        Owed::One => Ok(give_one(owed, waiting)),
     }
 }
 
-/// Whether nothing waits, as far as a look shows; that is told then.
-fn tell<T: Maker>(work: &T, pending: &mut Pending) -> bool
+/// The message that waits, if one does.
+fn give_one(owed: &mut Owed, waiting: &mut Option<Message>) -> Option<Message>
+    requires { owed.old ≡ Owed.One }
+    ensures given { result ≡ waiting.old }
+    ensures owed { pending_of owed.new waiting.new ≡ after_one waiting.old }
+{
+    let message = waiting.take();
+    *owed = if message.is_some() {
+        Owed::Untold
+    } else {
+        Owed::Told
+    };
+    message
+}
+
+/// Whether nothing is owed, as far as a look shows; that is told then.
+fn tell<T: Maker>(work: &T, owed: &mut Owed, waiting: &Option<Message>) -> bool
     ensures told { result ≡ true
-        → IsGiven T.tool T.ready T.due T.kept work.now pending.old work.now pending.new None }
-    ensures unknown { result ≡ false → pending.new ≡ pending.old }
+        → IsGiven T.tool T.ready T.due T.kept work.now (pending_of owed.old waiting.now) work.now
+        (pending_of owed.new waiting.now) None }
+    ensures unknown { result ≡ false → owed.new ≡ owed.old }
 {
-    match pending {
-        Pending::AllGiven => true,
-        Pending::Nothing => {
-            *pending = Pending::AllGiven;
+    match *owed {
+        Owed::Told => true,
+        Owed::Untold => {
+            *owed = Owed::Told;
             true
         }
-        Pending::Rows if !work.may_give() => {
-            *pending = Pending::AllGiven;
+        Owed::Rest if !work.may_give() => {
+            *owed = Owed::Told;
             true
         }
-        Pending::Waiting(_) | Pending::Rows | Pending::RowsAndEnd => false,
+        Owed::One | Owed::Rest | Owed::RestAndEnd => false,
     }
 }
 
-fn is_all_given(pending: &Pending) -> bool
-    ensures { result ≡ is_all_given pending.now }
+fn is_told(owed: Owed) -> bool
+    ensures { result ≡ is_told owed }
 {
-    match pending {
-        Pending::AllGiven => true,
-        Pending::Waiting(_) | Pending::Rows | Pending::RowsAndEnd | Pending::Nothing => false,
+    match owed {
+        Owed::Told => true,
+        Owed::One | Owed::Rest | Owed::RestAndEnd | Owed::Untold => false,
     }
 }

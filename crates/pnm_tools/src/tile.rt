@@ -218,6 +218,7 @@ impl Maker for Tiler {
     }
 
     /// A row that is wanted again goes to the end. After a fault no row is left.
+    #[inline(never)]
     fn give(&mut self, alloc: Global) -> Result<Option<Samples>, ToolFault> {
         if self.left == 0 {
             return Ok(None);

@@ -78,6 +78,7 @@ impl Maker for Transposer {
         self.columns = shape.width;
     }
 
+    #[inline(never)]
     fn give(&mut self, alloc: Global) -> Result<Option<Samples>, ToolFault> {
         if self.band.is_empty() && self.next < self.columns {
             if self.way.turn().columns_reversed {

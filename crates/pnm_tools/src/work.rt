@@ -65,6 +65,7 @@ impl Maker for Work {
 
     ghost kept = { kept_of };
 
+    #[inline(never)]
     fn begin(&mut self, alloc: Global, head: &Head) -> Result<Head, ToolFault> {
         with_tool!(self, work => work.begin(alloc, head))
     }
@@ -73,6 +74,7 @@ impl Maker for Work {
         with_tool!(self, work => work.take(alloc, shape, y, row))
     }
 
+    #[inline(never)]
     fn end(&mut self, shape: Shape) {
         with_tool!(self, work => work.end(shape))
     }
@@ -85,6 +87,7 @@ impl Maker for Work {
         with_tool!(self, work => work.may_give())
     }
 
+    #[inline(never)]
     fn release(&mut self, alloc: Global) {
         with_tool!(self, work => work.release(alloc))
     }

@@ -1,12 +1,15 @@
 use Rattle.std.proofs.Common.{ap, ◌∙◌, List, ℕ, ◌++◌, Option}
+use Rattle.pnm_tools.specs.declared.state.Owed.{Owed}
 use Rattle.pnm_tools.specs.Answering.{row_list}
+use Rattle.pnm_tools.specs.Pendings.{pending_of}
 use Rattle.pnm_tools.proofs.GivingSteps.{ended}
 use Rattle.pnm_tools.proofs.state.give.Goals as goal
 
 pub returns-in-None-2 : goal.returns-in-None-2
 returns-in-None-2 g c =
-    let given = c.in_ok-row-in-RowsAndEnd in
-    let mid = c.give-in-RowsAndEnd.new.self in
+    let given = c.in_ok-row-in-RestAndEnd in
+    let mid = c.give-in-RestAndEnd.new.self in
     let none = rw c.in-None-2.is at given.ensures.all in
     let waits = given.ensures.due ∙ ap (λ (row : Option (List ℕ)). row_list row ++ g.T.Maker.due mid) c.in-None-2.is ∙ none in
-    ended g.T.Maker.tool g.T.Maker.ready g.T.Maker.due g.T.Maker.kept c.args.work.now c.release.new.self c.args.pending.now c.in-RowsAndEnd.is waits (c.release.ensures.same ∙ given.ensures.same) c.release.ensures.kept
+    let ending = ap (λ (owed : Owed). pending_of owed c.args.waiting.now) c.in-RestAndEnd.is in
+    ended g.T.Maker.tool g.T.Maker.ready g.T.Maker.due g.T.Maker.kept c.args.work.now c.release.new.self (pending_of c.args.owed.now c.args.waiting.now) ending waits (c.release.ensures.same ∙ given.ensures.same) c.release.ensures.kept
