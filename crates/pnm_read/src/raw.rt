@@ -66,8 +66,27 @@ fn read_bytes<R: BytesIn>(
 {
     let count = units_in_row(sample_width, shape);
     if input.bytes().len() >= count {
-        return take_bytes(input, count, shape, sample_width);
+        take_bytes(input, count, shape, sample_width)
+    } else {
+        read_parts(input, count, shape, sample_width)
     }
+}
+
+/// The bytes of the next row, so many units, part by part.
+#[inline(never)]
+fn read_parts<R: BytesIn>(
+    input: &mut Input<R>,
+    count: usize,
+    shape: Shape,
+    sample_width: SampleWidth,
+) -> Result<Vec<u8>, InputFault>
+    requires count { count ≡ units_in_row sample_width shape }
+    requires sample_width { sample_width ≡ sample_width_of shape.kind shape.maxval }
+    requires bytes { sample_width ≡ Words → ⊥ }
+    ensures found { Turn R.left R.failures R.same input.old input.new result
+        (FindsUnits (λ row. samples_of_bytes sample_width row.items) shape result) }
+    ensures within { IfOk result (λ row. AreBytesWithin sample_width shape.maxval row.items) }
+{
     let Ok(mut row) = Vec::from_elem(input.allocator(), 0, count) else {
         return Err(InputFault::Memory);
     };

@@ -1,7 +1,7 @@
 use Rattle.std.proofs.Common.{◌≡◌, ◌-◌, ◌≤◌, take, vec_len}
 use Rattle.pnm_read.specs.Units.{samples_of_bytes, AreBytesWithin}
 use Rattle.pnm_read.proofs.RawSteps.{ReadingUnits}
-use Rattle.pnm_read.proofs.raw.read_bytes.Given as goal
+use Rattle.pnm_read.proofs.raw.read_parts.Given as goal
 
 -- the front of the row was read, and the rest is still to be
 abbrev pub invariant-loop-filled : goal.invariant-loop-filled
