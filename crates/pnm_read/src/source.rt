@@ -155,7 +155,8 @@ impl<R: BytesIn> Source<R> {
     fn give_row(&mut self) -> Result<Option<Message>, InputFault>
         requires { HasRow self.old.state }
         ensures turn { (awaited : AwaitedValue) → self.old.state ≡ State.Awaits awaited
-            → Turn R.left R.failures R.same self.old.input self.new.input result (Answers awaited result self.new.state) }
+            → Turn R.left R.failures R.same self.old.input self.new.input result
+            (Answers awaited result self.new.state) }
         ensures stopped { IfErr result (λ fault. stopped_by self.new ≡ Some fault) }
     {
         let State::Awaits(awaited) = self.state else {
@@ -164,7 +165,7 @@ impl<R: BytesIn> Source<R> {
         let Awaited::RowOrEnd(raster) = awaited else {
             unreachable!();
         };
-        // The state is set first, while nothing else was written, so that of the raster only `y` is stored.
+        // Set before anything else is written, so that of the raster `y` alone has to be stored.
         self.state = State::Awaits(Awaited::RowOrEnd(raster.after_row()));
         match read_row(&mut self.input, &raster) {
             Ok(row) => Ok(Some(Message::Row(row))),
@@ -258,7 +259,8 @@ fn after_image(format: Format) -> Awaited
 /// The samples of the next row.
 fn read_row<R: BytesIn>(input: &mut Input<R>, raster: &Raster) -> Result<Samples, InputFault>
     requires { raster.now.y < raster.now.shape.height }
-    ensures { Turn R.left R.failures R.same input.old input.new result (Finds (row_of raster.now) result) }
+    ensures { Turn R.left R.failures R.same input.old input.new result
+        (Finds (row_of raster.now) result) }
 {
     if raster.format.is_plain() {
         plain::read_row(input, raster.shape, raster.shape.height - raster.y - 1)

@@ -13,15 +13,16 @@ use pnm_image::Message;
 
 /// A tool at work: it takes the messages of images one by one, and gives those of their results.
 ///
-/// After each `feed` the caller asks by `next` until it answers `None`, or until `gave_all` answers true. The result's head is given
-/// as soon as an image begins, and all that is left of the result once the image has ended. How
-/// early a row inside the image is given is open. The end of the stream gives the end of the stream,
-/// and Stop gives Stop alone; nothing is given after either.
+/// After each `feed` the caller asks by `next` until it answers `None`, or until `gave_all` answers
+/// true. The result's head is given as soon as an image begins, and all that is left of the result
+/// once the image has ended. How early a row inside the image is given is open. The end of the stream
+/// gives the end of the stream, and Stop gives Stop alone; nothing is given after either.
 pub trait Filter {
     /// The state of this tool, which has accepted these messages and given those.
     ghost at: { Self → ToolValue → List MessageValue → List MessageValue → Type 0 };
 
-    /// `next` has answered `None`, or `gave_all` true, since the last message that was accepted, or none was accepted.
+    /// `next` has answered `None`, or `gave_all` true, since the last message that was accepted, or
+    /// none was accepted.
     ghost all_given: { Self → Bool };
 
     /// The fault that there was, if any.
@@ -32,10 +33,10 @@ pub trait Filter {
 
     /// Takes the next message. The first of these faults is answered, for good, and the message is
     /// dropped: the earlier fault, if there was one; `OutOfOrder` where neither `next` has answered
-    /// `None` nor `gave_all` true since the last message that was accepted, where the message can't come at its place in the
-    /// stream, or where an image of height 0 begins and the tool isn't row-wise; `CutOutside` or
-    /// `ChannelOutside` where the image that begins hasn't the part that is asked for; `TooLarge`
-    /// where its result is beyond the limits; `Memory`.
+    /// `None` nor `gave_all` true since the last message that was accepted, where the message can't
+    /// come at its place in the stream, or where an image of height 0 begins and the tool isn't
+    /// row-wise; `CutOutside` or `ChannelOutside` where the image that begins hasn't the part that is
+    /// asked for; `TooLarge` where its result is beyond the limits; `Memory`.
     fn feed(&mut self, message: Message) -> Result<(), ToolFault>
         ensures accepted { OnOk result ((t : ToolValue) (l g : List MessageValue) → at self.old t l g → at self.new t (l ++ message ∷ []) g) }
         ensures owes { OnOk result (all_given self.new ≡ false) }
@@ -57,10 +58,11 @@ pub trait Filter {
         ensures goes_on { OnOk result ((stopped self.old ≡ None) × (stopped self.new ≡ None)) }
         ensures stays { (k : Fault) → stopped self.old ≡ Some k → result ≡ Err k };
 
-    /// Whether all that is owed was given, as far as a look shows; that is told then, as by a `None` of `next`. Where it
-    /// answers false `next` tells, and nothing has changed.
+    /// Whether all that is owed was given, as far as a look shows; that is told then, as by a `None`
+    /// of `next`. Where it answers false nothing has changed, and `next` is to be asked.
     fn gave_all(&mut self) -> bool
-        ensures full { result ≡ true → (all_given self.new ≡ true) × ((t : ToolValue) (l g : List MessageValue)
+        ensures full { result ≡ true → (all_given self.new ≡ true)
+            × ((t : ToolValue) (l g : List MessageValue)
             → at self.old t l g → at self.new t l g × AnswersInFull t l g) }
         ensures unknown { result ≡ false → self.new ≡ self.old }
         ensures same { stopped self.new ≡ stopped self.old };

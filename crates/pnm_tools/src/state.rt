@@ -143,8 +143,8 @@ fn answer<T: Maker>(
 ) -> Result<(), ToolFault>
     requires lawful { IsLawfulTool (T.tool work.old) }
     requires ready { (rows : List (List ℕ)) × IsReadyFor T.ready work.old place.old rows }
-    ensures { Answered T.tool T.ready T.due T.kept (is_all_given (pending_of owed.old waiting.old)) work.old place.old
-        message work.new place.new (pending_of owed.new waiting.new) result }
+    ensures { Answered T.tool T.ready T.due T.kept (is_all_given (pending_of owed.old waiting.old))
+        work.old place.old message work.new place.new (pending_of owed.new waiting.new) result }
 {
     if !is_told(*owed) || !place.accepts(&message) {
         return Err(ToolFault::OutOfOrder);
