@@ -2,8 +2,11 @@
 
 ghost use Rattle.std.specs.Prelude.{◌≡◌, ◌≤◌, ◌<◌, ◌+◌};
 ghost use Rattle.pnm_image.specs.declared.limits.TheConstants.{MAX_MAXVAL, MAX_SIDE};
+ghost use Rattle.pnm_image.specs.SampleWidths.{sample_width_of};
+ghost use Rattle.pnm_read.specs.Said.{units_in_row};
 
-use pnm_image::{Format, Shape};
+use crate::units::units_in_row;
+use pnm_image::{Format, SampleWidth, Shape};
 
 /// A raster of which so many rows have passed.
 #[derive(Clone, Copy, Debug)]
@@ -11,9 +14,14 @@ pub struct Raster {
     pub format: Format,
     pub shape: Shape,
     pub y: u32,
+    /// How the samples of its rows lie in their bytes, where it is raw, and how many units a row has.
+    pub sample_width: SampleWidth,
+    pub units: usize,
     ghost within: { y ≤ shape.height },
     ghost width: { shape.width ≤ MAX_SIDE },
     ghost maxval: { shape.maxval ≤ MAX_MAXVAL },
+    ghost samples: { sample_width ≡ sample_width_of shape.kind shape.maxval },
+    ghost count: { units ≡ units_in_row sample_width shape },
 }
 
 impl Raster {
@@ -25,10 +33,13 @@ impl Raster {
         ensures shape { result.shape ≡ shape }
         ensures y { result.y ≡ 0 }
     {
+        let sample_width = SampleWidth::of(shape.kind, shape.maxval);
         Raster {
             format,
             shape,
             y: 0,
+            sample_width,
+            units: units_in_row(sample_width, shape),
         }
     }
 
@@ -43,6 +54,8 @@ impl Raster {
             format: self.format,
             shape: self.shape,
             y: self.y + 1,
+            sample_width: self.sample_width,
+            units: self.units,
         }
     }
 }

@@ -16,19 +16,26 @@ use pnm_image::{Bits, BytesIn, SampleVec, SampleWidth, Samples, Shape};
 
 /// The next row, held as it was read, without a copy. No sample is looked at again: none is above the
 /// maxval.
-pub fn read_row<R: BytesIn>(input: &mut Input<R>, shape: Shape) -> Result<Samples, InputFault>
-    requires { shape.width ≤ MAX_SIDE }
+pub fn read_row<R: BytesIn>(
+    input: &mut Input<R>,
+    shape: Shape,
+    units: usize,
+    sample_width: SampleWidth,
+) -> Result<Samples, InputFault>
+    requires width { shape.width ≤ MAX_SIDE }
+    requires units { units ≡ units_in_row sample_width shape }
+    requires sample_width { sample_width ≡ sample_width_of shape.kind shape.maxval }
     ensures { Turn R.left R.failures R.same input.old input.new result (Finds (raw_row shape) result) }
 {
     let length = shape.row_length() as usize;
-    match SampleWidth::of(shape.kind, shape.maxval) {
+    match sample_width {
         SampleWidth::Bits => {
-            let bytes = read_bytes(input, shape, SampleWidth::Bits)?;
+            let bytes = read_bytes(input, units, shape, SampleWidth::Bits)?;
             let bits = Bits::new(bytes, length);
             Ok(Samples::from_vec(SampleVec::Bits(bits)))
         }
         SampleWidth::Bytes => {
-            let mut bytes = read_bytes(input, shape, SampleWidth::Bytes)?;
+            let mut bytes = read_bytes(input, units, shape, SampleWidth::Bytes)?;
             bytes.truncate(length);
             Ok(Samples::within(SampleVec::Bytes(bytes), shape.maxval))
         }
@@ -40,12 +47,8 @@ pub fn read_row<R: BytesIn>(input: &mut Input<R>, shape: Shape) -> Result<Sample
     }
 }
 
-/// The bytes that a row of this shape takes.
-pub fn bytes_in_row(shape: Shape) -> usize
-    requires { shape.width ≤ MAX_SIDE }
-{
-    let sample_width = SampleWidth::of(shape.kind, shape.maxval);
-    let units = units_in_row(sample_width, shape);
+/// The bytes that so many units of a row take.
+pub fn bytes_of(units: usize, sample_width: SampleWidth) -> usize {
     match sample_width {
         SampleWidth::Bits | SampleWidth::Bytes => units,
         SampleWidth::Words => units.saturating_mul(2),
@@ -55,16 +58,16 @@ pub fn bytes_in_row(shape: Shape) -> usize
 /// The bytes of the next row, each of them a unit.
 fn read_bytes<R: BytesIn>(
     input: &mut Input<R>,
+    count: usize,
     shape: Shape,
     sample_width: SampleWidth,
 ) -> Result<Vec<u8>, InputFault>
-    requires width { shape.width ≤ MAX_SIDE }
+    requires count { count ≡ units_in_row sample_width shape }
     requires sample_width { sample_width ≡ sample_width_of shape.kind shape.maxval }
     requires bytes { sample_width ≡ Words → ⊥ }
     ensures found { Turn R.left R.failures R.same input.old input.new result (FindsUnits (λ row. samples_of_bytes sample_width row.items) shape result) }
     ensures within { IfOk result (λ row. AreBytesWithin sample_width shape.maxval row.items) }
 {
-    let count = units_in_row(sample_width, shape);
     if input.bytes().len() >= count {
         take_bytes(input, count, shape, sample_width)
     } else {

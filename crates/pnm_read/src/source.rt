@@ -215,7 +215,7 @@ fn holds_at<R: BytesIn>(input: &Input<R>, awaited: Awaited) -> bool {
         Awaited::FirstImage => input.holds(usize::MAX) || is_told(input.bytes(), true),
         Awaited::RowOrEnd(raster) if raster.y == raster.shape.height => true,
         Awaited::RowOrEnd(raster) if raster.format.is_plain() => input.holds(usize::MAX),
-        Awaited::RowOrEnd(raster) => input.holds(raw::bytes_in_row(raster.shape)),
+        Awaited::RowOrEnd(raster) => input.holds(raw::bytes_of(raster.units, raster.sample_width)),
         Awaited::ImageOrEnd => input.holds(usize::MAX) || is_told(input.bytes(), false),
         Awaited::End => true,
     }
@@ -265,7 +265,7 @@ fn read_row<R: BytesIn>(input: &mut Input<R>, raster: &Raster) -> Result<Samples
     if raster.format.is_plain() {
         plain::read_row(input, raster.shape, raster.shape.height - raster.y - 1)
     } else {
-        raw::read_row(input, raster.shape)
+        raw::read_row(input, raster.shape, raster.units, raster.sample_width)
     }
 }
 
