@@ -2,7 +2,7 @@
 
 PROGRAM := crates/pnmpipe
 # where the tests stand: a library's in a crate of their own
-TESTED := pnm_samples_tests pnm_image_tests pnm_read_tests pnm_tools_tests pnm_write_tests pnm_chain_tests pnm_lanes_tests pnm_flow_tests pnmpipe
+TESTED := pnm_samples_tests pnm_image_tests pnm_memory_tests pnm_lanes_tests pnm_flow_tests pnmpipe
 
 .PHONY: all bench bench-files bench-sweep built check controls deb dist help install lanes long-stream near pass pictures recipes refused scripts soak test toolchain uninstall
 
@@ -17,7 +17,7 @@ HELPERS := pnmpipe-files pnmpipe-split
 SHIMS := pnminvert pamcut pamdepth pamchannel pamenlarge pamflip pnmtile pnmcut pnmdepth pnmenlarge pnmflip
 
 # crates whose tests of want of memory are refused each allocation
-REFUSED := pnm_tools_tests pnm_chain_tests pnm_flow_tests pnmpipe
+REFUSED := pnm_memory_tests pnm_flow_tests pnmpipe
 
 # how long `make soak` starts runs
 SECONDS ?= 60

@@ -1,7 +1,8 @@
 //! Places: which messages may come where.
 
-use pnm_image::{Head, Kind, Message, Place, Samples, Shape};
-use std::alloc::Global;
+use super::same;
+use pnm_image::{Kind, Message, Place, Shape};
+use pnm_test_devices::{Part, message};
 use std::test::Fail;
 
 /// Two columns and one row of grays up to 9.
@@ -22,92 +23,73 @@ const TALL: Shape = Shape {
     maxval: 300,
 };
 
-/// What a message is made of.
-#[derive(Clone, Copy)]
-enum Part<'a> {
-    Begin(Shape),
-    Row(&'a [u16]),
-    ImageEnd,
-    StreamEnd,
-    Stop,
-}
+const SMALL_HEAD: Part<'static> = Part::Begin(Kind::Gray, 2, 1, 9);
 
-fn message(alloc: Global, part: Part<'_>) -> Result<Message, Fail> {
-    match part {
-        Part::Begin(shape) => {
-            if !Head::suits(shape.kind, shape.depth, shape.maxval, &[]) {
-                return Err(Fail::new("the shape doesn't suit its kind"));
-            }
-            Ok(Message::Begin(Head::new(alloc, shape, &[])?))
-        }
-        Part::Row(samples) => Ok(Message::Row(Samples::new(Vec::from_slice(alloc, samples)?))),
-        Part::ImageEnd => Ok(Message::ImageEnd),
-        Part::StreamEnd => Ok(Message::StreamEnd),
-        Part::Stop => Ok(Message::Stop),
-    }
-}
+const TALL_HEAD: Part<'static> = Part::Pam(1, 2, 3, 300, "");
 
-/// A stream of two images passes, from the first message to the end.
+/// A stream of two images, from the first message to the end, and the place after each.
+const STREAM: &[(Part<'static>, Place)] = &[
+    (SMALL_HEAD, Place::Inside(SMALL, 0)),
+    (Part::Row(&[0, 9]), Place::Inside(SMALL, 1)),
+    (Part::ImageEnd, Place::Between),
+    (TALL_HEAD, Place::Inside(TALL, 0)),
+    (Part::Row(&[1, 2, 300]), Place::Inside(TALL, 1)),
+    (Part::Row(&[4, 5, 6]), Place::Inside(TALL, 2)),
+    (Part::ImageEnd, Place::Between),
+    (Part::StreamEnd, Place::After),
+];
+
 #[test]
 fn passes_two_images(rt: HostRuntime) -> Result<(), Fail> {
     let mut place = Place::new();
-    assert_eq!(rt; place, Place::Between);
-    for (part, next) in [
-        (Part::Begin(SMALL), Place::Inside(SMALL, 0)),
-        (Part::Row(&[0, 9]), Place::Inside(SMALL, 1)),
-        (Part::ImageEnd, Place::Between),
-        (Part::Begin(TALL), Place::Inside(TALL, 0)),
-        (Part::Row(&[1, 2, 300]), Place::Inside(TALL, 1)),
-        (Part::Row(&[4, 5, 6]), Place::Inside(TALL, 2)),
-        (Part::ImageEnd, Place::Between),
-        (Part::StreamEnd, Place::After),
-    ] {
-        let message = message(rt.alloc(), part)?;
-        assert!(rt; place.accepts(&message), "at {place:?} {message:?}");
+    same(&rt, &place, &Place::Between, &"the start");
+    for (part, next) in STREAM {
+        let message = message(rt.alloc(), *part)?;
+        same(&rt, &place.accepts(&message), &true, part);
         place.step(&message);
-        assert_eq!(rt; place, next, "after {message:?}");
+        same(&rt, &place, next, part);
     }
     Ok(())
 }
 
+const START: Place = Place::Inside(SMALL, 0);
+
+const END: Place = Place::Inside(SMALL, 1);
+
 /// What may come and what may not, at each place.
+const MAY_COME: &[(Place, Part<'static>, bool)] = &[
+    (Place::Between, SMALL_HEAD, true),
+    (Place::Between, Part::StreamEnd, true),
+    (Place::Between, Part::Stop, true),
+    (Place::Between, Part::Row(&[0, 9]), false),
+    (Place::Between, Part::ImageEnd, false),
+    (START, Part::Row(&[0, 9]), true),
+    (START, Part::Stop, true),
+    (START, Part::Row(&[]), false),
+    (START, Part::Row(&[9]), false),
+    (START, Part::Row(&[9, 9, 9]), false),
+    (START, Part::Row(&[10, 0]), false),
+    (START, Part::Row(&[0, 10]), false),
+    (START, SMALL_HEAD, false),
+    (START, Part::ImageEnd, false),
+    (START, Part::StreamEnd, false),
+    (END, Part::ImageEnd, true),
+    (END, Part::Stop, true),
+    (END, Part::Row(&[0, 9]), false),
+    (END, SMALL_HEAD, false),
+    (END, Part::StreamEnd, false),
+    (Place::After, SMALL_HEAD, false),
+    (Place::After, Part::Row(&[0, 9]), false),
+    (Place::After, Part::ImageEnd, false),
+    (Place::After, Part::StreamEnd, false),
+    (Place::After, Part::Stop, false),
+];
+
 #[test]
 fn refuses_what_may_not_come(rt: HostRuntime) -> Result<(), Fail> {
-    let start = Place::Inside(SMALL, 0);
-    let end = Place::Inside(SMALL, 1);
-    for (place, part, accepts) in [
-        (Place::Between, Part::Begin(SMALL), true),
-        (Place::Between, Part::StreamEnd, true),
-        (Place::Between, Part::Stop, true),
-        (Place::Between, Part::Row(&[0, 9]), false),
-        (Place::Between, Part::ImageEnd, false),
-        (start, Part::Row(&[0, 9]), true),
-        (start, Part::Stop, true),
-        (start, Part::Row(&[]), false),
-        (start, Part::Row(&[9]), false),
-        (start, Part::Row(&[9, 9, 9]), false),
-        (start, Part::Row(&[10, 0]), false),
-        (start, Part::Row(&[0, 10]), false),
-        (start, Part::Begin(SMALL), false),
-        (start, Part::ImageEnd, false),
-        (start, Part::StreamEnd, false),
-        (end, Part::ImageEnd, true),
-        (end, Part::Stop, true),
-        (end, Part::Row(&[0, 9]), false),
-        (end, Part::Begin(SMALL), false),
-        (end, Part::StreamEnd, false),
-        (Place::After, Part::Begin(SMALL), false),
-        (Place::After, Part::Row(&[0, 9]), false),
-        (Place::After, Part::ImageEnd, false),
-        (Place::After, Part::StreamEnd, false),
-        (Place::After, Part::Stop, false),
-    ] {
-        let message = message(rt.alloc(), part)?;
-        assert_eq!(rt;
-            place.accepts(&message),
-            accepts,
-            "at {place:?} {message:?}"
-        );
+    for (place, part, accepts) in MAY_COME {
+        let message = message(rt.alloc(), *part)?;
+        same(&rt, &place.accepts(&message), accepts, &(*place, *part));
     }
     Ok(())
 }
@@ -118,8 +100,8 @@ fn nothing_comes_after_the_end(rt: HostRuntime) {
     for message in [Message::StreamEnd, Message::Stop] {
         let mut place = Place::new();
         place.step(&message);
-        assert_eq!(rt; place, Place::After, "after {message:?}");
-        assert!(rt; !place.accepts(&Message::StreamEnd), "after {message:?}");
-        assert!(rt; !place.accepts(&Message::Stop), "after {message:?}");
+        same(&rt, &place, &Place::After, &message);
+        same(&rt, &place.accepts(&Message::StreamEnd), &false, &message);
+        same(&rt, &place.accepts(&Message::Stop), &false, &message);
     }
 }

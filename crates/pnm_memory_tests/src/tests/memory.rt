@@ -1,0 +1,398 @@
+//! Want of memory. With ample memory each call succeeds; where an allocation is refused, the call
+//! answers `Memory`, and a tool at work answers it for good though memory is there again.
+//! `scripts/refused.py tests` refuses each allocation of these tests in turn.
+
+use super::tools::{WHOLE, channel, holds, picks, stays};
+use pnm_image::Message;
+use pnm_test_devices::{Part, is_made_of, message};
+use pnm_tools::{CutBox, Filter, FlipWay, Tool, ToolFault, ToolState};
+use std::alloc::Global;
+use std::process::Abort;
+
+/// A PAM image of three columns, two rows and two planes.
+const IMAGE: &[Part<'static>] = &[
+    Part::Pam(3, 2, 2, 4, "A"),
+    Part::Row(&[0, 1, 2, 3, 4, 0]),
+    Part::Row(&[4, 3, 2, 1, 0, 4]),
+    Part::ImageEnd,
+    Part::StreamEnd,
+];
+
+const INVERTED: &[Part<'static>] = &[
+    Part::Pam(3, 2, 2, 4, "A"),
+    Part::Row(&[4, 3, 2, 1, 0, 4]),
+    Part::Row(&[0, 1, 2, 3, 4, 0]),
+    Part::ImageEnd,
+    Part::StreamEnd,
+];
+
+const CUT: &[Part<'static>] = &[
+    Part::Pam(2, 2, 2, 4, "A"),
+    Part::Row(&[2, 3, 4, 0]),
+    Part::Row(&[2, 1, 0, 4]),
+    Part::ImageEnd,
+    Part::StreamEnd,
+];
+
+const RESCALED: &[Part<'static>] = &[
+    Part::Pam(3, 2, 2, 8, "A"),
+    Part::Row(&[0, 2, 4, 6, 8, 0]),
+    Part::Row(&[8, 6, 4, 2, 0, 8]),
+    Part::ImageEnd,
+    Part::StreamEnd,
+];
+
+const PICKED: &[Part<'static>] = &[
+    Part::Pam(3, 2, 3, 4, "B"),
+    Part::Row(&[1, 0, 1, 3, 2, 3, 0, 4, 0]),
+    Part::Row(&[3, 4, 3, 1, 2, 1, 4, 0, 4]),
+    Part::ImageEnd,
+    Part::StreamEnd,
+];
+
+const ENLARGED: &[Part<'static>] = &[
+    Part::Pam(6, 4, 2, 4, "A"),
+    Part::Row(&[0, 1, 0, 1, 2, 3, 2, 3, 4, 0, 4, 0]),
+    Part::Row(&[0, 1, 0, 1, 2, 3, 2, 3, 4, 0, 4, 0]),
+    Part::Row(&[4, 3, 4, 3, 2, 1, 2, 1, 0, 4, 0, 4]),
+    Part::Row(&[4, 3, 4, 3, 2, 1, 2, 1, 0, 4, 0, 4]),
+    Part::ImageEnd,
+    Part::StreamEnd,
+];
+
+const MIRRORED: &[Part<'static>] = &[
+    Part::Pam(3, 2, 2, 4, "A"),
+    Part::Row(&[4, 0, 2, 3, 0, 1]),
+    Part::Row(&[0, 4, 2, 1, 4, 3]),
+    Part::ImageEnd,
+    Part::StreamEnd,
+];
+
+const TURNED: &[Part<'static>] = &[
+    Part::Pam(3, 2, 2, 4, "A"),
+    Part::Row(&[4, 3, 2, 1, 0, 4]),
+    Part::Row(&[0, 1, 2, 3, 4, 0]),
+    Part::ImageEnd,
+    Part::StreamEnd,
+];
+
+const TRANSPOSED: &[Part<'static>] = &[
+    Part::Pam(2, 3, 2, 4, "A"),
+    Part::Row(&[0, 1, 4, 3]),
+    Part::Row(&[2, 3, 2, 1]),
+    Part::Row(&[4, 0, 0, 4]),
+    Part::ImageEnd,
+    Part::StreamEnd,
+];
+
+const QUARTER: &[Part<'static>] = &[
+    Part::Pam(2, 3, 2, 4, "A"),
+    Part::Row(&[4, 0, 0, 4]),
+    Part::Row(&[2, 3, 2, 1]),
+    Part::Row(&[0, 1, 4, 3]),
+    Part::ImageEnd,
+    Part::StreamEnd,
+];
+
+const HALF: &[Part<'static>] = &[
+    Part::Pam(3, 2, 2, 4, "A"),
+    Part::Row(&[0, 4, 2, 1, 4, 3]),
+    Part::Row(&[4, 0, 2, 3, 0, 1]),
+    Part::ImageEnd,
+    Part::StreamEnd,
+];
+
+const THREE_QUARTERS: &[Part<'static>] = &[
+    Part::Pam(2, 3, 2, 4, "A"),
+    Part::Row(&[4, 3, 0, 1]),
+    Part::Row(&[2, 1, 2, 3]),
+    Part::Row(&[0, 4, 4, 0]),
+    Part::ImageEnd,
+    Part::StreamEnd,
+];
+
+const TILED: &[Part<'static>] = &[
+    Part::Pam(4, 3, 2, 4, "A"),
+    Part::Row(&[0, 1, 2, 3, 4, 0, 0, 1]),
+    Part::Row(&[4, 3, 2, 1, 0, 4, 4, 3]),
+    Part::Row(&[0, 1, 2, 3, 4, 0, 0, 1]),
+    Part::ImageEnd,
+    Part::StreamEnd,
+];
+
+const CORNER: &[Part<'static>] = &[
+    Part::Pam(2, 1, 2, 4, "A"),
+    Part::Row(&[0, 1, 2, 3]),
+    Part::ImageEnd,
+    Part::StreamEnd,
+];
+
+const PIXELS: &[Part<'static>] = &[
+    Part::Pam(1, 2, 2, 4, "A"),
+    Part::Row(&[0, 1]),
+    Part::Row(&[4, 3]),
+    Part::ImageEnd,
+    Part::StreamEnd,
+];
+
+const REPEATED: &[Part<'static>] = &[
+    Part::Pam(3, 4, 2, 4, "A"),
+    Part::Row(&[0, 1, 2, 3, 4, 0]),
+    Part::Row(&[0, 1, 2, 3, 4, 0]),
+    Part::Row(&[4, 3, 2, 1, 0, 4]),
+    Part::Row(&[4, 3, 2, 1, 0, 4]),
+    Part::ImageEnd,
+    Part::StreamEnd,
+];
+
+/// All but the first column.
+const REST: CutBox = CutBox {
+    left: Some(1),
+    ..WHOLE
+};
+
+/// What the tool gives is made of this part, if there is one.
+fn is_wanted(rt: &impl Abort, message: &Message, want: Option<&Part<'_>>) {
+    let is_so = want.is_some_and(|want| is_made_of(message, *want));
+    holds(rt, is_so, message, &want, &"a tool");
+}
+
+/// Memory ran out.
+fn is_memory(rt: &impl Abort, fault: ToolFault) {
+    assert_eq!(rt; fault, ToolFault::Memory);
+}
+
+/// Memory ran out, and the tool answers that for good.
+fn has_run_out(rt: &impl Abort, state: &mut ToolState, fault: ToolFault) {
+    is_memory(rt, fault);
+    stays(rt, state, ToolFault::Memory);
+}
+
+/// Takes what the tool gives, which is made of the parts that are next among these. Whether the
+/// tool goes on.
+fn takes(rt: &impl Abort, state: &mut ToolState, wants: &[Part<'_>], given: &mut usize) -> bool {
+    for _ in 0..wants.len() + 1 {
+        match state.next() {
+            Ok(Some(message)) => {
+                is_wanted(rt, &message, wants.get(*given));
+                *given = given.wrapping_add(1);
+            }
+            Ok(None) => return true,
+            Err(fault) => {
+                has_run_out(rt, state, fault);
+                return false;
+            }
+        }
+    }
+    panic!(rt; "the answers have no end")
+}
+
+/// The tool answers the image with these parts, or `Memory` from some message on. Whether nothing was
+/// refused.
+fn answers_image(rt: &impl Abort, alloc: Global, tool: &Tool, wants: &[Part<'_>]) -> bool {
+    assert!(rt; tool.is_lawful());
+    match tool.start(alloc) {
+        Ok(mut state) => answers_parts(rt, alloc, &mut state, wants),
+        Err(fault) => {
+            is_memory(rt, fault);
+            false
+        }
+    }
+}
+
+/// The same of a tool at work.
+fn answers_parts(
+    rt: &impl Abort,
+    alloc: Global,
+    state: &mut ToolState,
+    wants: &[Part<'_>],
+) -> bool {
+    let mut given = 0;
+    for part in IMAGE {
+        // Where no message can be made, the test ends.
+        let Ok(message) = message(alloc, *part) else {
+            return false;
+        };
+        if let Err(fault) = state.feed(message) {
+            has_run_out(rt, state, fault);
+            return false;
+        }
+        if !takes(rt, state, wants, &mut given) {
+            return false;
+        }
+    }
+    holds(rt, given == wants.len(), &given, &wants, &"a tool");
+    true
+}
+
+/// The head rule answers the image's head with this, or with `Memory`, and then with this. Whether
+/// nothing was refused.
+fn answers_head(rt: &impl Abort, alloc: Global, tool: &Tool, want: Part<'_>) -> bool {
+    assert!(rt; tool.is_lawful());
+    let Ok(Message::Begin(head)) = message(alloc, Part::Pam(3, 2, 2, 4, "A")) else {
+        return false;
+    };
+    let (answer, refused) = match tool.head(alloc, &head) {
+        Err(ToolFault::Memory) => (tool.head(alloc, &head), true),
+        answer => (answer, false),
+    };
+    match answer {
+        Ok(head) => {
+            let begin = Message::Begin(head);
+            holds(rt, is_made_of(&begin, want), &begin, &want, tool);
+        }
+        Err(fault) => holds(rt, false, &fault, &want, tool),
+    }
+    !refused
+}
+
+#[test]
+fn inverts_or_runs_out(rt: HostRuntime) {
+    let _ = answers_image(&rt, rt.alloc(), &Tool::Invert, INVERTED);
+}
+
+#[test]
+fn cuts_or_runs_out(rt: HostRuntime) {
+    let _ = answers_image(&rt, rt.alloc(), &Tool::Cut(REST), CUT);
+}
+
+/// Twelve samples up to 4: the image is worth a table.
+#[test]
+fn rescales_or_runs_out(rt: HostRuntime) {
+    let _ = answers_image(&rt, rt.alloc(), &Tool::Depth(8), RESCALED);
+}
+
+#[test]
+fn picks_or_runs_out(rt: HostRuntime) {
+    if let Ok(tool) = channel(rt.alloc(), &[1, 0, 1], "B") {
+        let _ = answers_image(&rt, rt.alloc(), &tool, PICKED);
+    }
+}
+
+/// A row that is made where it comes, and copied where it is given.
+#[test]
+fn enlarges_or_runs_out(rt: HostRuntime) {
+    let _ = answers_image(&rt, rt.alloc(), &Tool::Enlarge(2, 2), ENLARGED);
+}
+
+/// A row that is copied where it is given, and was kept as it came.
+#[test]
+fn repeats_rows_or_runs_out(rt: HostRuntime) {
+    let _ = answers_image(&rt, rt.alloc(), &Tool::Enlarge(1, 2), REPEATED);
+}
+
+#[test]
+fn mirrors_or_runs_out(rt: HostRuntime) {
+    let alloc = rt.alloc();
+    let _ = answers_image(&rt, alloc, &Tool::Flip(FlipWay::Null), IMAGE);
+    let _ = answers_image(&rt, alloc, &Tool::Flip(FlipWay::LeftRight), MIRRORED);
+}
+
+/// Rows that are kept.
+#[test]
+fn turns_or_runs_out(rt: HostRuntime) {
+    let _ = answers_image(&rt, rt.alloc(), &Tool::Flip(FlipWay::TopBottom), TURNED);
+}
+
+/// Rows that are kept, and others that are made at the image's end.
+#[test]
+fn transposes_or_runs_out(rt: HostRuntime) {
+    let _ = answers_image(&rt, rt.alloc(), &Tool::Flip(FlipWay::Transpose), TRANSPOSED);
+}
+
+#[test]
+fn turns_by_a_quarter_or_runs_out(rt: HostRuntime) {
+    let _ = answers_image(&rt, rt.alloc(), &Tool::Flip(FlipWay::Rotate90), QUARTER);
+}
+
+#[test]
+fn turns_by_two_or_runs_out(rt: HostRuntime) {
+    let _ = answers_image(&rt, rt.alloc(), &Tool::Flip(FlipWay::Rotate180), HALF);
+}
+
+#[test]
+fn turns_by_three_or_runs_out(rt: HostRuntime) {
+    let turn = Tool::Flip(FlipWay::Rotate270);
+    let _ = answers_image(&rt, rt.alloc(), &turn, THREE_QUARTERS);
+}
+
+/// More columns and rows than there are, fewer of both, and so few columns that they are copied.
+/// Whether nothing was refused.
+fn tiles(rt: &impl Abort, alloc: Global) -> bool {
+    let filled = answers_image(rt, alloc, &Tool::Tile(4, 3), TILED);
+    let copied = answers_image(rt, alloc, &Tool::Tile(1, 2), PIXELS);
+    answers_image(rt, alloc, &Tool::Tile(2, 1), CORNER) && filled && copied
+}
+
+#[test]
+fn tiles_or_runs_out(rt: HostRuntime) {
+    let _ = tiles(&rt, rt.alloc());
+}
+
+/// The same, where nothing is refused.
+#[test]
+fn tiles_with_memory(rt: HostRuntime) {
+    assert!(rt; tiles(&rt, rt.alloc()));
+}
+
+/// How many tools and ways hold no list.
+const PLAIN_TOOLS: usize = 9;
+
+/// Each of them, and the head that it makes of the image's.
+fn plain_tool(number: usize) -> (Tool, Part<'static>) {
+    let same = Part::Pam(3, 2, 2, 4, "A");
+    let wider = Part::Pam(6, 4, 2, 4, "A");
+    match number {
+        0 => (Tool::Invert, same),
+        1 => (Tool::Cut(REST), Part::Pam(2, 2, 2, 4, "A")),
+        2 => (Tool::Depth(8), Part::Pam(3, 2, 2, 8, "A")),
+        3 => (Tool::Enlarge(2, 2), wider),
+        4 => (Tool::Tile(6, 4), wider),
+        5 => (Tool::Flip(FlipWay::Null), same),
+        6 => (Tool::Flip(FlipWay::LeftRight), same),
+        7 => (Tool::Flip(FlipWay::TopBottom), same),
+        _ => (Tool::Flip(FlipWay::Transpose), Part::Pam(2, 3, 2, 4, "A")),
+    }
+}
+
+/// Whether nothing was refused.
+fn gives_heads(rt: &impl Abort, alloc: Global) -> bool {
+    let mut refused = false;
+    for number in 0..PLAIN_TOOLS {
+        let (tool, want) = plain_tool(number);
+        if !answers_head(rt, alloc, &tool, want) {
+            refused = true;
+        }
+    }
+    match channel(alloc, &[1, 0, 1], "B") {
+        Ok(tool) => answers_head(rt, alloc, &tool, Part::Pam(3, 2, 3, 4, "B")) && !refused,
+        Err(_) => false,
+    }
+}
+
+#[test]
+fn gives_heads_or_runs_out(rt: HostRuntime) {
+    let _ = gives_heads(&rt, rt.alloc());
+}
+
+/// The same, where nothing is refused.
+#[test]
+fn gives_heads_with_memory(rt: HostRuntime) {
+    assert!(rt; gives_heads(&rt, rt.alloc()));
+}
+
+/// A copy that was refused can be asked for again.
+#[test]
+fn copies_or_runs_out(rt: HostRuntime) {
+    let Ok(tool) = channel(rt.alloc(), &[1, 0, 1], "B") else {
+        return;
+    };
+    let answer = match tool.copy(rt.alloc()) {
+        Err(ToolFault::Memory) => tool.copy(rt.alloc()),
+        answer => answer,
+    };
+    match answer {
+        Ok(copy) => picks(&rt, &copy, &[1, 0, 1], "B"),
+        Err(fault) => panic!(rt; "{fault:?} in place of a copy"),
+    }
+}

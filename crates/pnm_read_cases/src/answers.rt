@@ -1,0 +1,104 @@
+//! What a source answers to a text, and to each front of it.
+
+use pnm_image::{BytesIn, Device, Message};
+use pnm_read::{InputFault, Source};
+use pnm_test_devices::{Drips, FailsOnce, tell_change, tell_message, text_of};
+use std::alloc::{AllocError, Global};
+
+/// More answers than there are to any case.
+const MOST_ANSWERS: usize = 100_000;
+
+/// A source over the reader.
+pub fn source_of<R: BytesIn + Drop>(alloc: Global, reader: R) -> Result<Source<R>, AllocError> {
+    match Source::new(alloc, reader) {
+        Ok(source) => Ok(source),
+        Err(_) => Err(AllocError),
+    }
+}
+
+/// Adds all that a source answers to its end, and whether it doesn't stay there.
+pub fn tell_answers<R: BytesIn>(
+    source: &mut Source<R>,
+    told: &mut String,
+) -> Result<(), AllocError> {
+    for _ in 0..MOST_ANSWERS {
+        match source.next() {
+            Ok(Some(Message::StreamEnd)) => {
+                told.push_str(" StreamEnd")?;
+                return tell_stays(source, None, told);
+            }
+            Ok(Some(message)) => tell_message(told, &message)?,
+            Ok(None) => return told.push_str(" nothing"),
+            Err(fault) => {
+                write!(told, " {fault}")?;
+                return tell_stays(source, Some(fault), told);
+            }
+        }
+    }
+    told.push_str(" and more")
+}
+
+/// Adds a word where the source answers anything but this fault, or nothing where there is none.
+fn tell_stays<R: BytesIn>(
+    source: &mut Source<R>,
+    fault: Option<InputFault>,
+    told: &mut String,
+) -> Result<(), AllocError> {
+    for _ in 0..3 {
+        let is_same = match source.next() {
+            Ok(answer) => answer.is_none() && fault.is_none(),
+            Err(other) => fault == Some(other),
+        };
+        if !is_same {
+            told.push_str(" and another answer")?;
+        }
+    }
+    Ok(())
+}
+
+/// Adds the answers to a text that comes at once.
+pub fn tell_whole(alloc: Global, text: &[u8], told: &mut String) -> Result<(), AllocError> {
+    let mut source = source_of(alloc, Device::new(text))?;
+    tell_answers(&mut source, told)
+}
+
+/// Whether the answers are these where a read gives up to so many bytes.
+fn are_told_by(alloc: Global, text: &[u8], most: usize, whole: &str) -> Result<bool, AllocError> {
+    let drips = Drips::new(text, most, FailsOnce::never());
+    let mut source = source_of(alloc, Device::new(drips))?;
+    let mut told = String::new(alloc);
+    tell_answers(&mut source, &mut told)?;
+    Ok(told.as_str() == whole)
+}
+
+/// Adds the answers to a text, and of these numbers of bytes a read those by which they are others.
+pub fn tell_text(
+    alloc: Global,
+    written: &[u8],
+    few: &[usize],
+    told: &mut String,
+) -> Result<(), AllocError> {
+    let text = text_of(alloc, written)?;
+    tell_whole(alloc, text.as_slice(), told)?;
+    for most in few {
+        if !are_told_by(alloc, text.as_slice(), *most, told.as_str())? {
+            write!(told, " but {most}")?;
+        }
+    }
+    Ok(())
+}
+
+/// Adds the answers to each front of a text, a byte a read too, by the length from which on they are those.
+pub fn tell_cuts(alloc: Global, written: &[u8], told: &mut String) -> Result<(), AllocError> {
+    let text = text_of(alloc, written)?;
+    let mut before = String::new(alloc);
+    for length in 0..=text.len() {
+        let mut answers = String::new(alloc);
+        tell_whole(alloc, &text.as_slice()[..length], &mut answers)?;
+        if !are_told_by(alloc, &text.as_slice()[..length], 1, answers.as_str())? {
+            write!(told, " but {length}")?;
+        }
+        tell_change(told, length, &mut before, answers)?;
+    }
+    Ok(())
+}

@@ -1,0 +1,75 @@
+//! What a source answers to many texts that differ a little: how many they are, and the CRC-32 of the answers.
+
+use super::answers::tell_whole;
+use pnm_test_devices::{Sweep, cut_word, text_of};
+use std::alloc::{AllocError, Global};
+
+/// Bytes that mean something, and bytes beside them.
+const TELLING: &[u8] =
+    b"\x00\x01\x08\t\n\x0b\x0c\r\x0e !\"#$/0123456789:PQx~\x7f\x80\x85\xa0\xfe\xff";
+
+/// Bytes that mean something in a plain raster.
+const PLAIN: &[u8] = b" \n#0159:/x";
+
+/// Adds the answers to a text.
+pub fn add_text(alloc: Global, sweep: &mut Sweep, text: &[u8]) -> Result<(), AllocError> {
+    let mut answers = String::new(alloc);
+    tell_whole(alloc, text, &mut answers)?;
+    sweep.add(answers.as_str());
+    Ok(())
+}
+
+/// The bytes of a set: all, by default.
+fn set_of(alloc: Global, word: &[u8]) -> Result<Vec<u8>, AllocError> {
+    match word.first() {
+        Some(b't') => Vec::from_slice(alloc, TELLING),
+        Some(b'p') => Vec::from_slice(alloc, PLAIN),
+        _ => (0..=u8::MAX).collect(alloc),
+    }
+}
+
+/// Adds what is answered where each byte of a set stands in the place of each byte of a text.
+pub fn tell_changes(alloc: Global, line: &[u8], told: &mut String) -> Result<(), AllocError> {
+    tell_sweep(alloc, line, 1, told)
+}
+
+/// Adds what is answered where each byte of a set stands before each byte of a text, and after them.
+pub fn tell_inserts(alloc: Global, line: &[u8], told: &mut String) -> Result<(), AllocError> {
+    tell_sweep(alloc, line, 0, told)
+}
+
+/// Adds what is answered where each byte of a set stands in the place of so many bytes, wherever there are as many.
+fn tell_sweep(
+    alloc: Global,
+    line: &[u8],
+    replaced: usize,
+    told: &mut String,
+) -> Result<(), AllocError> {
+    let (word, written) = cut_word(line);
+    let set = set_of(alloc, word)?;
+    let text = text_of(alloc, written)?;
+    let mut sweep = Sweep::new();
+    for at in 0..=text.len().saturating_sub(replaced) {
+        let (front, rest) = text.as_slice().split_at(at.min(text.len()));
+        let back = rest.get(replaced..).unwrap_or(&[]);
+        add_each(alloc, &mut sweep, set.as_slice(), front, back)?;
+    }
+    sweep.tell(told)
+}
+
+/// Adds the front and the back with each of these bytes between them.
+pub fn add_each(
+    alloc: Global,
+    sweep: &mut Sweep,
+    set: &[u8],
+    front: &[u8],
+    back: &[u8],
+) -> Result<(), AllocError> {
+    for byte in set {
+        let mut text = Vec::from_slice(alloc, front)?;
+        text.push(*byte)?;
+        text.extend_from_slice(back)?;
+        add_text(alloc, sweep, text.as_slice())?;
+    }
+    Ok(())
+}

@@ -1,0 +1,219 @@
+//! Messages as they are written, which is how they are told, and rows that are held so wide.
+
+use super::writing::{cut_at, cut_number, cut_word};
+use pnm_image::{Bits, Head, HeadFault, Kind, Message, SampleVec, SampleWidth, Samples, Shape};
+use std::alloc::{AllocError, AllocFailed, Global};
+use std::io;
+
+/// What is written wasn't made: there is no such head, or memory or a device failed.
+#[derive(Clone, Copy, Debug)]
+pub struct Unmade;
+
+impl From<AllocError> for Unmade {
+    fn from(_error: AllocError) -> Unmade {
+        Unmade
+    }
+}
+
+impl<T: Drop> From<AllocFailed<T>> for Unmade {
+    fn from(_error: AllocFailed<T>) -> Unmade {
+        Unmade
+    }
+}
+
+impl From<HeadFault> for Unmade {
+    fn from(_fault: HeadFault) -> Unmade {
+        Unmade
+    }
+}
+
+impl From<io::Error> for Unmade {
+    fn from(_error: io::Error) -> Unmade {
+        Unmade
+    }
+}
+
+/// Adds the message that a line begins with, its row in as few bits as hold its samples, or in words. Gives what follows
+/// it. `[#COUNT,FIRST,STEP,MODULUS,LENGTH]` stands for rows of so many samples: in all COUNT, FIRST plus k times STEP
+/// modulo MODULUS.
+pub fn cut_messages<'a>(
+    alloc: Global,
+    line: &'a [u8],
+    is_narrow: bool,
+    messages: &mut Vec<Message>,
+) -> Result<&'a [u8], Unmade> {
+    if let Some((b'[', row)) = line.split_first() {
+        let (samples, rest) = cut_at(row, b']');
+        add_rows(alloc, samples, is_narrow, messages)?;
+        return Ok(rest);
+    }
+    let (word, rest) = cut_word(line);
+    let message = match word {
+        b"ImageEnd" => Message::ImageEnd,
+        b"StreamEnd" => Message::StreamEnd,
+        b"Stop" => Message::Stop,
+        _ => {
+            let (head, rest) = cut_head(alloc, line)?;
+            messages.push(Message::Begin(head))?;
+            return Ok(rest);
+        }
+    };
+    messages.push(message)?;
+    Ok(rest)
+}
+
+/// Adds a row of these samples, or rows of so many numbers.
+fn add_rows(
+    alloc: Global,
+    written: &[u8],
+    is_narrow: bool,
+    messages: &mut Vec<Message>,
+) -> Result<(), Unmade> {
+    let Some((b'#', numbers)) = written.split_first() else {
+        let samples = samples_of(alloc, written)?;
+        return add_row(alloc, samples.as_slice(), is_narrow, messages);
+    };
+    let (count, rest) = cut_number(numbers);
+    let (first, rest) = cut_number(rest);
+    let (step, rest) = cut_number(rest);
+    let (modulus, rest) = cut_number(rest);
+    let (length, _) = cut_number(rest);
+    let mut samples = Vec::new(alloc);
+    for k in 0..count {
+        let turned = k.wrapping_mul(step).checked_rem(modulus).unwrap_or(0);
+        samples.push((first.wrapping_add(turned) % 65_536) as u16)?;
+    }
+    for row in samples.as_slice().chunks(length.max(1)) {
+        add_row(alloc, row, is_narrow, messages)?;
+    }
+    Ok(())
+}
+
+/// Adds a row.
+fn add_row(
+    alloc: Global,
+    samples: &[u16],
+    is_narrow: bool,
+    messages: &mut Vec<Message>,
+) -> Result<(), Unmade> {
+    let sample_width = if is_narrow {
+        narrowest(samples)
+    } else {
+        SampleWidth::Words
+    };
+    messages.push(Message::Row(held(alloc, samples, sample_width)?))?;
+    Ok(())
+}
+
+/// The samples that are written one after another.
+fn samples_of(alloc: Global, written: &[u8]) -> Result<Vec<u16>, AllocError> {
+    let mut samples = Vec::new(alloc);
+    let mut rest = written;
+    for _ in 0..written.len() {
+        if rest.is_empty() {
+            break;
+        }
+        let (sample, after) = cut_number(rest);
+        samples.push((sample % 65_536) as u16)?;
+        rest = after;
+    }
+    Ok(samples)
+}
+
+/// The head that a line begins with, and what follows it.
+pub fn cut_head(alloc: Global, line: &[u8]) -> Result<(Head, &[u8]), Unmade> {
+    let (word, rest) = cut_word(line);
+    let (width, rest) = cut_number(rest);
+    let (height, rest) = cut_number(rest);
+    let (depth, rest) = cut_number(rest);
+    let (maxval, rest) = cut_number(rest);
+    let (tuple_type, rest) = match rest.split_first() {
+        Some((b'(', written)) => cut_at(written, b')'),
+        _ => ([].as_slice(), rest),
+    };
+    let shape = Shape {
+        kind: kind_of(word),
+        width: number_of(width),
+        height: number_of(height),
+        depth: number_of(depth),
+        maxval: number_of(maxval),
+    };
+    Ok((head_of(alloc, shape, tuple_type)?, rest))
+}
+
+/// The kind that begins as a word does.
+fn kind_of(word: &[u8]) -> Kind {
+    match word.first() {
+        Some(b'B') => Kind::Bit,
+        Some(b'G') => Kind::Gray,
+        Some(b'C') => Kind::Color,
+        _ => Kind::Pam,
+    }
+}
+
+/// The number, or the greatest one.
+pub fn number_of(number: usize) -> u32 {
+    u32::try_from(number).unwrap_or(u32::MAX)
+}
+
+/// The head of this shape, whose height may be 0.
+pub fn head_of(alloc: Global, shape: Shape, tuple_type: &[u8]) -> Result<Head, Unmade> {
+    if !Head::suits(shape.kind, shape.depth, shape.maxval, tuple_type) {
+        return Err(Unmade);
+    }
+    if shape.height > 0 {
+        return Ok(Head::new(alloc, shape, tuple_type)?);
+    }
+    let head = Head::new(alloc, Shape { height: 1, ..shape }, tuple_type)?;
+    Ok(head.with_height(0))
+}
+
+/// The width of as few bits as hold the samples.
+pub fn narrowest(samples: &[u16]) -> SampleWidth {
+    if samples.iter().all(|sample| *sample <= 1) {
+        SampleWidth::Bits
+    } else if samples.iter().all(|sample| *sample <= 255) {
+        SampleWidth::Bytes
+    } else {
+        SampleWidth::Words
+    }
+}
+
+/// The samples, held so wide.
+pub fn held(
+    alloc: Global,
+    samples: &[u16],
+    sample_width: SampleWidth,
+) -> Result<Samples, AllocError> {
+    Ok(Samples::from_vec(match sample_width {
+        SampleWidth::Bits => SampleVec::Bits(bits_of(alloc, samples)?),
+        SampleWidth::Bytes => SampleVec::Bytes(bytes_of(alloc, samples)?),
+        SampleWidth::Words => SampleVec::Words(Vec::from_slice(alloc, samples)?),
+    }))
+}
+
+/// The samples as pixels of one bit, 0 as black.
+fn bits_of(alloc: Global, samples: &[u16]) -> Result<Bits, AllocError> {
+    let mut bytes = Vec::new(alloc);
+    for pixels in samples.chunks(8) {
+        let mut byte: u8 = 0;
+        let mut bit: u8 = 128;
+        for sample in pixels {
+            if *sample == 0 {
+                byte |= bit;
+            }
+            bit /= 2;
+        }
+        bytes.push(byte)?;
+    }
+    Ok(Bits::new(bytes, samples.len()))
+}
+
+/// The samples modulo 256.
+fn bytes_of(alloc: Global, samples: &[u16]) -> Result<Vec<u8>, AllocError> {
+    let mut bytes = Vec::new(alloc);
+    for sample in samples {
+        bytes.push((*sample % 256) as u8)?;
+    }
+    Ok(bytes)
+}

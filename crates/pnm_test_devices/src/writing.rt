@@ -1,0 +1,135 @@
+//! How a case is written on a line: words that a blank parts, and texts with escapes.
+
+use std::alloc::{AllocError, Global};
+
+/// The first word of a line, and what follows the blank after it.
+pub fn cut_word(line: &[u8]) -> (&[u8], &[u8]) {
+    cut_at(line, b' ')
+}
+
+/// What stands before the first such byte, and what follows it.
+pub fn cut_at(line: &[u8], mark: u8) -> (&[u8], &[u8]) {
+    match line.iter().position(|byte| *byte == mark) {
+        Some(at) if at < line.len() => (&line[..at], &line[at + 1..]),
+        _ => (line, &[]),
+    }
+}
+
+/// The number that a line begins with, and what follows the byte after its digits.
+pub fn cut_number(line: &[u8]) -> (usize, &[u8]) {
+    let mut number = 0usize;
+    let mut rest = line;
+    for _ in 0..line.len() {
+        let Some((byte, after)) = rest.split_first() else {
+            break;
+        };
+        rest = after;
+        if !byte.is_ascii_digit() {
+            break;
+        }
+        let digit = usize::from(byte.wrapping_sub(b'0'));
+        number = number.saturating_mul(10).saturating_add(digit);
+    }
+    (number, rest)
+}
+
+/// The bytes that a written text stands for. A byte stands for itself, but for a backslash: `\n`, `\t`, `\r` and `\xHH` are
+/// the byte that they are in Rust, and any other byte after it is itself. `\N(PART)` stands for the part so many times,
+/// and `\#COUNT,FIRST,STEP,MODULUS,BYTES;` for so many numbers, FIRST plus k times STEP modulo MODULUS, of so many bytes
+/// each, or in decimal with a blank after each where that is 0.
+pub fn text_of(alloc: Global, written: &[u8]) -> Result<Vec<u8>, AllocError> {
+    let mut text = Vec::new(alloc);
+    let mut rest = written;
+    for _ in 0..written.len() {
+        rest = match rest {
+            [b'\\', b'#', numbers @ ..] => add_numbers(&mut text, numbers)?,
+            [b'\\', b'0'..=b'9', ..] => add_repeated(&mut text, &rest[1..])?,
+            [_, ..] => add_byte(&mut text, rest)?,
+            [] => break,
+        };
+    }
+    Ok(text)
+}
+
+/// Adds the byte that a written text begins with, and gives what follows it.
+fn add_byte<'a>(text: &mut Vec<u8>, written: &'a [u8]) -> Result<&'a [u8], AllocError> {
+    let (byte, after) = cut_byte(written);
+    text.push(byte)?;
+    Ok(after)
+}
+
+/// Adds a part so often as the number before it says, and gives what follows it.
+fn add_repeated<'a>(text: &mut Vec<u8>, written: &'a [u8]) -> Result<&'a [u8], AllocError> {
+    let (count, rest) = cut_number(written);
+    let (part, after) = cut_at(rest, b')');
+    let mut bytes = Vec::new(*text.allocator());
+    let mut left = part;
+    for _ in 0..part.len() {
+        if left.is_empty() {
+            break;
+        }
+        left = add_byte(&mut bytes, left)?;
+    }
+    for _ in 0..count {
+        text.extend_from_slice(bytes.as_slice())?;
+    }
+    Ok(after)
+}
+
+/// The byte that a written text begins with, 0 where it is empty, and what follows it.
+fn cut_byte(written: &[u8]) -> (u8, &[u8]) {
+    match written {
+        [b'\\', b'x', high, low, rest @ ..] => (
+            16 * (hexadecimal(*high) % 16) + hexadecimal(*low) % 16,
+            rest,
+        ),
+        [b'\\', mark, rest @ ..] => (escaped(*mark), rest),
+        [byte, rest @ ..] => (*byte, rest),
+        [] => (0, &[]),
+    }
+}
+
+/// The byte that stands for this one after a backslash.
+fn escaped(mark: u8) -> u8 {
+    match mark {
+        b'n' => b'\n',
+        b'r' => b'\r',
+        b't' => b'\t',
+        _ => mark,
+    }
+}
+
+/// What a hexadecimal digit is worth.
+fn hexadecimal(digit: u8) -> u8 {
+    match digit {
+        b'a'..=b'f' => digit - b'a' + 10,
+        _ => digit.wrapping_sub(b'0'),
+    }
+}
+
+/// Adds the numbers that are written so, and gives what follows them.
+fn add_numbers<'a>(text: &mut Vec<u8>, written: &'a [u8]) -> Result<&'a [u8], AllocError> {
+    let (count, rest) = cut_number(written);
+    let (first, rest) = cut_number(rest);
+    let (step, rest) = cut_number(rest);
+    let (modulus, rest) = cut_number(rest);
+    let (bytes, rest) = cut_number(rest);
+    for k in 0..count {
+        let turned = k.wrapping_mul(step).checked_rem(modulus).unwrap_or(0);
+        add_number(text, first.wrapping_add(turned), bytes)?;
+    }
+    Ok(rest)
+}
+
+/// Adds a number in so many bytes, 0 for decimal digits and a blank.
+fn add_number(text: &mut Vec<u8>, number: usize, bytes: usize) -> Result<(), AllocError> {
+    match bytes {
+        0 => {
+            let alloc = *text.allocator();
+            let decimal = format!(in alloc; "{number} ")?;
+            text.extend_from_slice(decimal.as_str().as_bytes())
+        }
+        1 => Ok(text.push((number % 256) as u8)?),
+        _ => text.extend_from_slice(&((number % 65_536) as u16).to_be_bytes()),
+    }
+}

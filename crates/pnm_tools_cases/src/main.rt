@@ -1,0 +1,193 @@
+//! Tells what tools make of written messages. A line of standard input is a word, and what it is about; messages are
+//! written as they are told (`pnm_test_devices`), and escapes are those of texts. A line that begins with `#` is given
+//! back.
+//!
+//! | Line | What is told |
+//! |---|---|
+//! | `judge TOOL` | whether the tool is lawful, and whether row-wise |
+//! | `copy TOOL` | the tool, and a copy of it |
+//! | `tool TOOL` | the same as by `judge`; the lines that follow are about this tool too, after `none` about no other |
+//! | `head HEAD` | the head of the result |
+//! | `run STEPS` | what the tool gives for each step (`steps`), however wide rows are held |
+//! | `lane STEPS` | the same of the tool in a lane |
+//! | `held STEPS` | how the rows are held that the tool gives, of rows in as few bits as hold their samples |
+//! | `images SIZES` | a sweep over made images of these sizes in one stream (`sweeps`) |
+//! | `types FIRST-LAST WIDTH-WIDTHxHEIGHT-HEIGHT` | a sweep over made images of these types and sizes, each by itself |
+//! | `axis LENGTH START END SIZE` | what is kept of so many columns, and of so many rows, by these options of a cut |
+//! | `axes` | a sweep over the cuts of short images by each of the options so far across and down |
+//! | `names` | the printed faults |
+//!
+//! Of several tools the answers are told with the number from which on they are those; of a sweep how many images there
+//! were, and a CRC-32.
+#![tactic(auto)]
+
+mod cuts;
+mod steps;
+mod sweeps;
+mod tools;
+
+use cuts::Axis;
+use pnm_test_devices::{Unmade, cut_word, tell_change, text_of};
+use pnm_tools::{Tool, ToolFault};
+use std::alloc::{AllocError, Global};
+use std::io::{BufRead, BufReader};
+use tools::tool_of;
+
+/// What a line is about.
+#[derive(Clone, Copy)]
+enum How {
+    Judge,
+    Copy,
+    Tool,
+    None,
+    Head,
+    Run,
+    Lane,
+    Held,
+    Images,
+    Types,
+    Axis,
+    Axes,
+    Names,
+}
+
+const WORDS: &[(&[u8], How)] = &[
+    (b"judge", How::Judge),
+    (b"copy", How::Copy),
+    (b"tool", How::Tool),
+    (b"none", How::None),
+    (b"head", How::Head),
+    (b"run", How::Run),
+    (b"lane", How::Lane),
+    (b"held", How::Held),
+    (b"images", How::Images),
+    (b"types", How::Types),
+    (b"axis", How::Axis),
+    (b"axes", How::Axes),
+    (b"names", How::Names),
+];
+
+const FAULTS: &[ToolFault] = &[
+    ToolFault::CutOutside,
+    ToolFault::ChannelOutside,
+    ToolFault::TooLarge,
+    ToolFault::OutOfOrder,
+    ToolFault::Memory,
+];
+
+/// What the lines so far have named.
+#[derive(Drop)]
+struct Named {
+    tools: Vec<Tool>,
+    axes: Vec<Axis>,
+}
+
+fn main(rt: HostRuntime) -> Result<(), Unmade> {
+    let alloc = rt.alloc();
+    let mut named = Named {
+        tools: Vec::new(alloc),
+        axes: Vec::new(alloc),
+    };
+    for line in BufReader::new(alloc, rt.reader())?.lines(alloc) {
+        let line = line?;
+        let told = told_of(alloc, &mut named, line.as_str())?;
+        println!(rt; "{told}")?;
+    }
+    Ok(())
+}
+
+/// What is told of a line.
+fn told_of(alloc: Global, named: &mut Named, line: &str) -> Result<String, Unmade> {
+    let mut told = String::new(alloc);
+    if line.as_bytes().first() == Some(&b'#') {
+        told.push_str(line)?;
+        return Ok(told);
+    }
+    let (word, written) = cut_word(line.as_bytes());
+    let text = text_of(alloc, written)?;
+    match WORDS.iter().find(|(name, _)| *name == word) {
+        Some((_, how)) => tell(alloc, *how, text.as_slice(), named, &mut told)?,
+        None => told.push_str(" no case")?,
+    }
+    Ok(told)
+}
+
+fn tell(
+    alloc: Global,
+    how: How,
+    text: &[u8],
+    named: &mut Named,
+    told: &mut String,
+) -> Result<(), Unmade> {
+    match how {
+        How::Judge => Ok(tools::tell_judged(&tool_of(alloc, text)?, told)?),
+        How::Copy => tools::tell_copy(alloc, &tool_of(alloc, text)?, told),
+        How::Tool => {
+            let tool = tool_of(alloc, text)?;
+            tools::tell_judged(&tool, told)?;
+            Ok(named.tools.push(tool)?)
+        }
+        How::None => {
+            named.tools.clear();
+            Ok(())
+        }
+        How::Axis => {
+            let axis = Axis::of(text);
+            cuts::tell_axis(alloc, axis, told)?;
+            Ok(named.axes.push(axis)?)
+        }
+        How::Axes => cuts::tell_axes(alloc, named.axes.as_slice(), told),
+        How::Names => Ok(tell_names(told)?),
+        _ => tell_each(alloc, how, text, named.tools.as_slice(), told),
+    }
+}
+
+/// Adds what is told of each tool.
+fn tell_each(
+    alloc: Global,
+    how: How,
+    text: &[u8],
+    tools: &[Tool],
+    told: &mut String,
+) -> Result<(), Unmade> {
+    let mut before = String::new(alloc);
+    for (number, tool) in tools.iter().enumerate() {
+        let mut answers = String::new(alloc);
+        tell_of_tool(alloc, how, text, tool, &mut answers)?;
+        if tools.len() == 1 {
+            told.push_str(answers.as_str())?;
+        } else {
+            tell_change(told, number, &mut before, answers)?;
+        }
+    }
+    Ok(())
+}
+
+/// Adds what is told of a tool.
+fn tell_of_tool(
+    alloc: Global,
+    how: How,
+    text: &[u8],
+    tool: &Tool,
+    told: &mut String,
+) -> Result<(), Unmade> {
+    if !tool.is_lawful() {
+        return Ok(told.push_str(" unlawful")?);
+    }
+    match how {
+        How::Head => tools::tell_head_of(alloc, tool, text, told),
+        How::Lane => steps::tell_lane(alloc, tool, text, told),
+        How::Held => steps::tell_held(alloc, tool, text, told),
+        How::Images => sweeps::tell_images(alloc, tool, text, told),
+        How::Types => sweeps::tell_types(alloc, tool, text, told),
+        _ => steps::tell_run(alloc, tool, text, told),
+    }
+}
+
+/// Adds all faults as they are printed.
+fn tell_names(told: &mut String) -> Result<(), AllocError> {
+    for fault in FAULTS {
+        write!(told, " {fault}")?;
+    }
+    Ok(())
+}

@@ -1,0 +1,253 @@
+//! Steps of a tool at work. A message is fed, and all is taken that the tool gives then. With a `~` before it, that isn't told;
+//! with a `!`, nothing is taken. `?` takes one answer. A fault is told, and whether it doesn't stay.
+
+use pnm_image::{Message, SampleSlice, Samples};
+use pnm_test_devices::{Unmade, cut_messages, tell_message};
+use pnm_tools::{Filter, RowState, RowWise, Tool, ToolFault, ToolState};
+use std::alloc::{AllocError, Global};
+
+/// More messages than a tool gives for one.
+const MOST_ANSWERS: usize = 100_000;
+
+/// How a message is passed on.
+#[derive(Clone, Copy, PartialEq)]
+enum Step {
+    /// All that is given then is told.
+    Passes,
+    /// It isn't told.
+    Drops,
+    /// It isn't taken.
+    Takes,
+}
+
+/// Adds what a tool gives by these steps, and whether that is something else where rows are held in few bits.
+pub fn tell_run(alloc: Global, tool: &Tool, text: &[u8], told: &mut String) -> Result<(), Unmade> {
+    let mut narrow = String::new(alloc);
+    tell_at(alloc, tool, text, false, told)?;
+    tell_at(alloc, tool, text, true, &mut narrow)?;
+    if narrow.as_str() != told.as_str() {
+        told.push_str(" but narrow")?;
+        told.push_str(narrow.as_str())?;
+    }
+    Ok(())
+}
+
+/// A lawful tool at work.
+pub fn start(alloc: Global, tool: &Tool) -> Result<ToolState, Unmade> {
+    if !tool.is_lawful() {
+        return Err(Unmade);
+    }
+    match tool.start(alloc) {
+        Ok(state) => Ok(state),
+        Err(_) => Err(Unmade),
+    }
+}
+
+/// Adds what a tool gives by these steps.
+fn tell_at(
+    alloc: Global,
+    tool: &Tool,
+    text: &[u8],
+    is_narrow: bool,
+    told: &mut String,
+) -> Result<(), Unmade> {
+    let mut state = start(alloc, tool)?;
+    go(alloc, &mut state, text, is_narrow, told)
+}
+
+/// A lawful and row-wise tool at work in a lane.
+fn start_rows(alloc: Global, tool: &Tool) -> Result<RowState, Unmade> {
+    if !tool.is_lawful() || !tool.is_row_wise() {
+        return Err(Unmade);
+    }
+    match tool.start_rows(alloc) {
+        Ok(state) => Ok(state),
+        Err(_) => Err(Unmade),
+    }
+}
+
+/// Adds what a row-wise tool gives in a lane.
+pub fn tell_lane(alloc: Global, tool: &Tool, text: &[u8], told: &mut String) -> Result<(), Unmade> {
+    let mut lane = start_rows(alloc, tool)?;
+    go_in_lane(alloc, &mut lane, text, told)
+}
+
+/// The same through the bound.
+fn go_in_lane<F: RowWise>(
+    alloc: Global,
+    lane: &mut F,
+    text: &[u8],
+    told: &mut String,
+) -> Result<(), Unmade> {
+    go(alloc, lane, text, false, told)
+}
+
+/// Adds what is given by these steps.
+fn go<F: Filter>(
+    alloc: Global,
+    state: &mut F,
+    text: &[u8],
+    is_narrow: bool,
+    told: &mut String,
+) -> Result<(), Unmade> {
+    let mut rest = text;
+    for _ in 0..text.len() {
+        rest = match rest.split_first() {
+            None => break,
+            Some((b' ', after)) => after,
+            Some((b'?', after)) => {
+                tell_next(state, told)?;
+                after
+            }
+            Some((b'~', after)) => pass(alloc, state, Step::Drops, after, is_narrow, told)?,
+            Some((b'!', after)) => pass(alloc, state, Step::Takes, after, is_narrow, told)?,
+            Some(_) => pass(alloc, state, Step::Passes, rest, is_narrow, told)?,
+        };
+    }
+    Ok(())
+}
+
+/// Passes on the message that a text begins with, and gives what follows it.
+fn pass<'a, F: Filter>(
+    alloc: Global,
+    state: &mut F,
+    step: Step,
+    text: &'a [u8],
+    is_narrow: bool,
+    told: &mut String,
+) -> Result<&'a [u8], Unmade> {
+    let mut messages = Vec::new(alloc);
+    let rest = cut_messages(alloc, text, is_narrow, &mut messages)?;
+    for message in messages {
+        match state.feed(message) {
+            Ok(()) if step == Step::Passes => take_all(state, told)?,
+            Ok(()) if step == Step::Drops => take_all(state, &mut String::new(alloc))?,
+            Ok(()) => {}
+            Err(fault) => {
+                write!(told, " {fault}")?;
+                tell_stays(state, fault, told)?;
+            }
+        }
+    }
+    Ok(rest)
+}
+
+/// Adds the next answer.
+fn tell_next<F: Filter>(state: &mut F, told: &mut String) -> Result<(), AllocError> {
+    match state.next() {
+        Ok(Some(message)) => tell_message(told, &message),
+        Ok(None) => told.push_str(" nothing"),
+        Err(fault) => write!(told, " {fault}"),
+    }
+}
+
+/// Adds all that is given until nothing is.
+fn take_all<F: Filter>(state: &mut F, told: &mut String) -> Result<(), AllocError> {
+    for _ in 0..MOST_ANSWERS {
+        match state.next() {
+            Ok(Some(message)) => tell_message(told, &message)?,
+            Ok(None) => return Ok(()),
+            Err(fault) => return write!(told, " {fault}"),
+        }
+    }
+    told.push_str(" and more")
+}
+
+/// Adds all that a tool at work gives for a message, or its fault.
+pub fn feed<F: Filter>(
+    state: &mut F,
+    message: Message,
+    told: &mut String,
+) -> Result<(), AllocError> {
+    match state.feed(message) {
+        Ok(()) => take_all(state, told),
+        Err(fault) => write!(told, " {fault}"),
+    }
+}
+
+/// Adds a word where anything but this fault is answered.
+fn tell_stays<F: Filter>(
+    state: &mut F,
+    fault: ToolFault,
+    told: &mut String,
+) -> Result<(), AllocError> {
+    for message in [Message::StreamEnd, Message::Stop, Message::ImageEnd] {
+        if !is_fault(state.next(), fault) || state.feed(message) != Err(fault) {
+            told.push_str(" and another answer")?;
+        }
+    }
+    Ok(())
+}
+
+/// Whether an answer is this fault.
+fn is_fault(answer: Result<Option<Message>, ToolFault>, fault: ToolFault) -> bool {
+    match answer {
+        Ok(_) => false,
+        Err(other) => other == fault,
+    }
+}
+
+/// Adds how wide the rows are held that a tool gives, where those that it gets are held in few bits.
+pub fn tell_held(alloc: Global, tool: &Tool, text: &[u8], told: &mut String) -> Result<(), Unmade> {
+    let messages = messages_of(alloc, text)?;
+    let mut state = start(alloc, tool)?;
+    tell_all_widths(&mut state, messages, told)
+}
+
+/// The messages that are written, of rows in few bits.
+fn messages_of(alloc: Global, text: &[u8]) -> Result<Vec<Message>, Unmade> {
+    let mut messages = Vec::new(alloc);
+    let mut rest = text;
+    for _ in 0..text.len() {
+        rest = match rest.split_first() {
+            None => break,
+            Some((b' ', after)) => after,
+            Some(_) => cut_messages(alloc, rest, true, &mut messages)?,
+        };
+    }
+    Ok(messages)
+}
+
+/// Adds how wide the rows are held that are given for these messages.
+fn tell_all_widths<F: Filter>(
+    state: &mut F,
+    messages: Vec<Message>,
+    told: &mut String,
+) -> Result<(), Unmade> {
+    for message in messages {
+        if state.feed(message).is_err() {
+            return Err(Unmade);
+        }
+        tell_widths(state, told)?;
+    }
+    Ok(())
+}
+
+/// Adds how wide the rows are held that are given.
+fn tell_widths<F: Filter>(state: &mut F, told: &mut String) -> Result<(), AllocError> {
+    for _ in 0..MOST_ANSWERS {
+        match state.next() {
+            Ok(Some(message)) => tell_width(&message, told)?,
+            Ok(None) => return Ok(()),
+            Err(fault) => return write!(told, " {fault}"),
+        }
+    }
+    told.push_str(" and more")
+}
+
+/// Adds how wide a row is held, where the message is one.
+fn tell_width(message: &Message, told: &mut String) -> Result<(), AllocError> {
+    if let Message::Row(row) = message {
+        told.push_str(width_of(row))?;
+    }
+    Ok(())
+}
+
+/// How wide a row is held.
+fn width_of(row: &Samples) -> &'static str {
+    match row.as_slice() {
+        SampleSlice::Bits(_) => " bits",
+        SampleSlice::Bytes(_) => " bytes",
+        SampleSlice::Words(_) => " words",
+    }
+}

@@ -1,0 +1,212 @@
+//! Images whose samples are made by a formula, of many sizes, kinds and maxvals.
+
+use super::steps::{feed, start};
+use pnm_image::{Kind, Message, SampleWidth, Shape};
+use pnm_test_devices::{Sweep, Unmade, cut_number, head_of, held, number_of};
+use pnm_tools::{Filter, Tool};
+use std::alloc::{AllocError, Global};
+
+/// The kind of an image, its maxval, how wide its samples are held, and its planes.
+type ImageType = (Kind, u32, SampleWidth, u32);
+
+/// Each way to hold samples that fits them; then one to five planes of bits, of bytes and of words.
+const IMAGE_TYPES: [ImageType; 30] = [
+    (Kind::Bit, 1, SampleWidth::Bits, 1),
+    (Kind::Bit, 1, SampleWidth::Bytes, 1),
+    (Kind::Bit, 1, SampleWidth::Words, 1),
+    (Kind::Pam, 1, SampleWidth::Bits, 2),
+    (Kind::Pam, 1, SampleWidth::Bytes, 2),
+    (Kind::Pam, 1, SampleWidth::Words, 2),
+    (Kind::Pam, 1, SampleWidth::Bits, 3),
+    (Kind::Pam, 1, SampleWidth::Bytes, 3),
+    (Kind::Pam, 1, SampleWidth::Words, 3),
+    (Kind::Gray, 200, SampleWidth::Bytes, 1),
+    (Kind::Gray, 200, SampleWidth::Words, 1),
+    (Kind::Color, 255, SampleWidth::Bytes, 3),
+    (Kind::Color, 255, SampleWidth::Words, 3),
+    (Kind::Gray, 256, SampleWidth::Words, 1),
+    (Kind::Color, 1000, SampleWidth::Words, 3),
+    (Kind::Pam, 1, SampleWidth::Bits, 1),
+    (Kind::Pam, 1, SampleWidth::Bits, 2),
+    (Kind::Pam, 1, SampleWidth::Bits, 3),
+    (Kind::Pam, 1, SampleWidth::Bits, 4),
+    (Kind::Pam, 1, SampleWidth::Bits, 5),
+    (Kind::Pam, 200, SampleWidth::Bytes, 1),
+    (Kind::Pam, 200, SampleWidth::Bytes, 2),
+    (Kind::Pam, 200, SampleWidth::Bytes, 3),
+    (Kind::Pam, 200, SampleWidth::Bytes, 4),
+    (Kind::Pam, 200, SampleWidth::Bytes, 5),
+    (Kind::Pam, 1000, SampleWidth::Words, 1),
+    (Kind::Pam, 1000, SampleWidth::Words, 2),
+    (Kind::Pam, 1000, SampleWidth::Words, 3),
+    (Kind::Pam, 1000, SampleWidth::Words, 4),
+    (Kind::Pam, 1000, SampleWidth::Words, 5),
+];
+
+/// The sample in this column, row and plane of an image of this maxval. At 65,535 it tells which they are in images of
+/// up to 32 columns, 5 rows and 256 planes. At others samples come in no order.
+fn sample_at(maxval: u32, x: u32, y: u32, plane: u32) -> u16 {
+    let place = if maxval == 65_535 {
+        x.wrapping_mul(300)
+            .wrapping_add(y.wrapping_mul(10_000))
+            .wrapping_add(plane)
+    } else {
+        x.wrapping_mul(40_503)
+            .wrapping_add(y.wrapping_mul(30_011))
+            .wrapping_add(plane.wrapping_mul(50_021))
+            .wrapping_shr(7)
+    };
+    let sample = place.checked_rem(maxval.wrapping_add(1)).unwrap_or(0);
+    (sample % 65_536) as u16
+}
+
+/// A row of a made image.
+fn row_of(alloc: Global, shape: Shape, y: u32) -> Result<Vec<u16>, AllocError> {
+    let mut samples = Vec::new(alloc);
+    for x in 0..shape.width {
+        for plane in 0..shape.depth {
+            samples.push(sample_at(shape.maxval, x, y, plane))?;
+        }
+    }
+    Ok(samples)
+}
+
+/// Adds all that a tool at work gives for a made image.
+fn feed_image<F: Filter>(
+    alloc: Global,
+    state: &mut F,
+    shape: Shape,
+    sample_width: SampleWidth,
+    told: &mut String,
+) -> Result<(), Unmade> {
+    let tuple_type: &[u8] = if shape.kind == Kind::Pam { b"A B" } else { b"" };
+    let head = head_of(alloc, shape, tuple_type)?;
+    feed(state, Message::Begin(head), told)?;
+    for y in 0..shape.height {
+        let row = row_of(alloc, shape, y)?;
+        let row = held(alloc, row.as_slice(), sample_width)?;
+        feed(state, Message::Row(row), told)?;
+    }
+    Ok(feed(state, Message::ImageEnd, told)?)
+}
+
+/// Adds a sweep of a tool over PAM images of these columns, rows and planes, one after another.
+pub fn tell_images(
+    alloc: Global,
+    tool: &Tool,
+    text: &[u8],
+    told: &mut String,
+) -> Result<(), Unmade> {
+    let mut state = start(alloc, tool)?;
+    tell_stream(alloc, &mut state, text, told)
+}
+
+/// The same of a tool at work.
+fn tell_stream<F: Filter>(
+    alloc: Global,
+    state: &mut F,
+    text: &[u8],
+    told: &mut String,
+) -> Result<(), Unmade> {
+    let mut sweep = Sweep::new();
+    let mut rest = text;
+    for _ in 0..text.len() {
+        if rest.is_empty() {
+            break;
+        }
+        let (shape, after) = cut_sizes(rest);
+        let mut answers = String::new(alloc);
+        feed_image(alloc, state, shape, SampleWidth::Words, &mut answers)?;
+        sweep.add(answers.as_str());
+        rest = after;
+    }
+    sweep.tell(told)?;
+    Ok(feed(state, Message::StreamEnd, told)?)
+}
+
+/// The columns, rows and planes of an image, and what follows them.
+fn cut_sizes(text: &[u8]) -> (Shape, &[u8]) {
+    let (width, rest) = cut_number(text);
+    let (height, rest) = cut_number(rest);
+    let (depth, rest) = cut_number(rest);
+    let shape = Shape {
+        kind: Kind::Pam,
+        width: number_of(width),
+        height: number_of(height),
+        depth: number_of(depth),
+        maxval: 65_535,
+    };
+    (shape, rest)
+}
+
+/// Adds a sweep of a tool over images of these types, widths and heights.
+pub fn tell_types(
+    alloc: Global,
+    tool: &Tool,
+    text: &[u8],
+    told: &mut String,
+) -> Result<(), Unmade> {
+    let (first_type, rest) = cut_number(text);
+    let (last_type, rest) = cut_number(rest);
+    let (first_width, rest) = cut_number(rest);
+    let (last_width, rest) = cut_number(rest);
+    let (first_height, rest) = cut_number(rest);
+    let (last_height, _) = cut_number(rest);
+    let mut sweep = Sweep::new();
+    for width in number_of(first_width)..=number_of(last_width) {
+        for height in number_of(first_height)..=number_of(last_height) {
+            for number in first_type..=last_type {
+                if let Some(image_type) = IMAGE_TYPES.get(number) {
+                    let answers = answers_to(alloc, tool, *image_type, width, height)?;
+                    sweep.add(answers.as_str());
+                }
+            }
+        }
+    }
+    Ok(sweep.tell(told)?)
+}
+
+/// What a tool gives for an image by itself.
+fn answers_to(
+    alloc: Global,
+    tool: &Tool,
+    image_type: ImageType,
+    width: u32,
+    height: u32,
+) -> Result<String, Unmade> {
+    let (kind, maxval, sample_width, depth) = image_type;
+    let shape = Shape {
+        kind,
+        width,
+        height,
+        depth,
+        maxval,
+    };
+    let mut told = String::new(alloc);
+    tell_image(alloc, tool, shape, sample_width, &mut told)?;
+    Ok(told)
+}
+
+/// Adds what a tool gives for an image by itself.
+fn tell_image(
+    alloc: Global,
+    tool: &Tool,
+    shape: Shape,
+    sample_width: SampleWidth,
+    told: &mut String,
+) -> Result<(), Unmade> {
+    let mut state = start(alloc, tool)?;
+    feed_alone(alloc, &mut state, shape, sample_width, told)
+}
+
+/// The same of a tool at work.
+fn feed_alone<F: Filter>(
+    alloc: Global,
+    state: &mut F,
+    shape: Shape,
+    sample_width: SampleWidth,
+    told: &mut String,
+) -> Result<(), Unmade> {
+    feed_image(alloc, state, shape, sample_width, told)?;
+    Ok(feed(state, Message::StreamEnd, told)?)
+}

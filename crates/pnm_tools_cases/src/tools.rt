@@ -1,0 +1,171 @@
+//! Tools as they are written: `invert`; `cut LEFT RIGHT TOP BOTTOM WIDTH HEIGHT`, where `_` is none; `depth MAXVAL`;
+//! `planes NUMBERS (TUPLE TYPE)`; `enlarge ACROSS DOWN`; `flip WAY`; `tile WIDTH HEIGHT`.
+
+use pnm_image::Head;
+use pnm_test_devices::{Unmade, cut_at, cut_head, cut_number, cut_word, number_of, tell_head};
+use pnm_tools::{CutBox, FlipWay, Planes, Tool};
+use std::alloc::{AllocError, Global};
+
+const WAYS: &[(&[u8], FlipWay)] = &[
+    (b"null", FlipWay::Null),
+    (b"leftright", FlipWay::LeftRight),
+    (b"topbottom", FlipWay::TopBottom),
+    (b"transpose", FlipWay::Transpose),
+    (b"r90", FlipWay::Rotate90),
+    (b"r180", FlipWay::Rotate180),
+    (b"r270", FlipWay::Rotate270),
+];
+
+/// The tool that is written.
+pub fn tool_of(alloc: Global, text: &[u8]) -> Result<Tool, Unmade> {
+    let (name, rest) = cut_word(text);
+    match name.first() {
+        Some(b'i') => Ok(Tool::Invert),
+        Some(b'c') => Ok(Tool::Cut(cut_of(rest))),
+        Some(b'd') => {
+            let (maxval, _) = cut_number(rest);
+            Ok(Tool::Depth(number_of(maxval)))
+        }
+        Some(b'p') => planes_of(alloc, rest),
+        Some(b'e') => {
+            let (across, down) = pair_of(rest);
+            Ok(Tool::Enlarge(across, down))
+        }
+        Some(b't') => {
+            let (width, height) = pair_of(rest);
+            Ok(Tool::Tile(width, height))
+        }
+        _ => match WAYS.iter().find(|(way, _)| *way == rest) {
+            Some((_, way)) => Ok(Tool::Flip(*way)),
+            None => Err(Unmade),
+        },
+    }
+}
+
+/// Two numbers.
+fn pair_of(text: &[u8]) -> (u32, u32) {
+    let (first, rest) = cut_number(text);
+    let (second, _) = cut_number(rest);
+    (number_of(first), number_of(second))
+}
+
+/// The options of a cut.
+fn cut_of(text: &[u8]) -> CutBox {
+    let (left, rest) = cut_offset(text);
+    let (right, rest) = cut_offset(rest);
+    let (top, rest) = cut_offset(rest);
+    let (bottom, rest) = cut_offset(rest);
+    let (width, rest) = cut_size(rest);
+    let (height, _) = cut_size(rest);
+    CutBox {
+        left,
+        right,
+        top,
+        bottom,
+        width,
+        height,
+    }
+}
+
+/// The number that a line begins with, which may be negative; none where that is `_`. And what follows it.
+pub fn cut_offset(line: &[u8]) -> (Option<i32>, &[u8]) {
+    let (word, rest) = cut_word(line);
+    match word.split_first() {
+        Some((b'_', _)) => (None, rest),
+        Some((b'-', digits)) => (offset_of(digits, true), rest),
+        _ => (offset_of(word, false), rest),
+    }
+}
+
+/// The number of these digits, or the opposite one.
+fn offset_of(digits: &[u8], is_negative: bool) -> Option<i32> {
+    let (number, _) = cut_number(digits);
+    let number = i64::try_from(number).ok()?;
+    let number = if is_negative {
+        number.wrapping_neg()
+    } else {
+        number
+    };
+    i32::try_from(number).ok()
+}
+
+/// The number that a line begins with; none where that is `_`. And what follows it.
+pub fn cut_size(line: &[u8]) -> (Option<u32>, &[u8]) {
+    let (word, rest) = cut_word(line);
+    match word.first() {
+        Some(b'_') => (None, rest),
+        _ => {
+            let (number, _) = cut_number(word);
+            (Some(number_of(number)), rest)
+        }
+    }
+}
+
+/// The pick of these planes, with a tuple type.
+fn planes_of(alloc: Global, text: &[u8]) -> Result<Tool, Unmade> {
+    let (written, rest) = cut_at(text, b'(');
+    let (tuple_type, _) = cut_at(rest, b')');
+    let mut numbers = Vec::new(alloc);
+    let mut left = written;
+    for _ in 0..written.len() {
+        if left.is_empty() {
+            break;
+        }
+        let (number, after) = cut_number(left);
+        numbers.push((number % 65_536) as u16)?;
+        left = after;
+    }
+    let tuple_type = Vec::from_slice(alloc, tuple_type)?;
+    Ok(Tool::Channel(Planes::new(numbers, tuple_type)))
+}
+
+/// Adds whether a tool is lawful, and whether it is row-wise.
+pub fn tell_judged(tool: &Tool, told: &mut String) -> Result<(), AllocError> {
+    told.push_str(if tool.is_lawful() {
+        " lawful"
+    } else {
+        " unlawful"
+    })?;
+    if tool.is_row_wise() {
+        told.push_str(" row-wise")?;
+    }
+    Ok(())
+}
+
+/// Adds a tool, and then its copy.
+pub fn tell_copy(alloc: Global, tool: &Tool, told: &mut String) -> Result<(), Unmade> {
+    write!(told, " {tool:?}")?;
+    match tool.copy(alloc) {
+        Ok(copy) => write!(told, " {copy:?}")?,
+        Err(fault) => write!(told, " {fault}")?,
+    }
+    Ok(())
+}
+
+/// Adds the head that a tool makes of a written one.
+pub fn tell_head_of(
+    alloc: Global,
+    tool: &Tool,
+    text: &[u8],
+    told: &mut String,
+) -> Result<(), Unmade> {
+    let (head, _) = cut_head(alloc, text)?;
+    tell_made_head(alloc, tool, &head, told)
+}
+
+/// Adds the head that a lawful tool makes of one, or its fault.
+pub fn tell_made_head(
+    alloc: Global,
+    tool: &Tool,
+    head: &Head,
+    told: &mut String,
+) -> Result<(), Unmade> {
+    if !tool.is_lawful() {
+        return Err(Unmade);
+    }
+    match tool.head(alloc, head) {
+        Ok(made) => tell_head(told, &made)?,
+        Err(fault) => write!(told, " {fault}")?,
+    }
+    Ok(())
+}

@@ -1,0 +1,96 @@
+//! What a sink answers and writes.
+
+use super::form_of;
+use pnm_image::{BytesOut, Device, Message};
+use pnm_test_devices::{FailsOnce, Sips, Unmade, cut_messages, cut_number, cut_word, tell_text};
+use pnm_write::{Form, Sink, SinkFault};
+use std::alloc::{AllocError, Global};
+
+/// The messages that are written.
+fn messages_of(alloc: Global, text: &[u8]) -> Result<Vec<Message>, Unmade> {
+    let mut messages = Vec::new(alloc);
+    let mut rest = text;
+    for _ in 0..text.len() {
+        rest = match rest.split_first() {
+            None => break,
+            Some((b' ', after)) => after,
+            Some(_) => cut_messages(alloc, rest, false, &mut messages)?,
+        };
+    }
+    Ok(messages)
+}
+
+/// Adds the faults of a sink that gets messages, which is flushed after each image where that is asked.
+fn tell_put<W: BytesOut>(
+    sink: &mut Sink<W>,
+    messages: &[Message],
+    is_flushed: bool,
+    told: &mut String,
+) -> Result<(), AllocError> {
+    for message in messages {
+        if let Err(fault) = sink.put(message) {
+            write!(told, " {fault}")?;
+        }
+        if is_flushed && matches!(message, Message::ImageEnd) {
+            if let Err(fault) = sink.flush() {
+                write!(told, " flush {fault}")?;
+            }
+        }
+    }
+    Ok(())
+}
+
+/// Adds how a stream ends.
+fn tell_end(told: &mut String, end: Result<(), SinkFault>) -> Result<(), AllocError> {
+    told.push_str(" end")?;
+    match end {
+        Ok(()) => Ok(()),
+        Err(fault) => write!(told, " {fault}"),
+    }
+}
+
+/// Adds the faults of messages, how their stream ends, and the bytes.
+pub fn tell_written(
+    alloc: Global,
+    form: Form,
+    text: &[u8],
+    told: &mut String,
+) -> Result<(), Unmade> {
+    let messages = messages_of(alloc, text)?;
+    let mut sink = Sink::new(Device::new(Vec::new(alloc)), form);
+    tell_put(&mut sink, messages.as_slice(), false, told)?;
+    let (writer, end) = sink.finish();
+    tell_end(told, end)?;
+    let bytes = writer.into_inner();
+    Ok(tell_text(told, bytes.as_slice())?)
+}
+
+/// The call that fails: after so many, or none.
+fn cut_failing(text: &[u8]) -> (FailsOnce, &[u8]) {
+    let (word, rest) = cut_word(text);
+    match word.first() {
+        Some(b'_') => (FailsOnce::never(), rest),
+        _ => {
+            let (before, _) = cut_number(word);
+            (FailsOnce::after(before), rest)
+        }
+    }
+}
+
+/// The same where writes take few bytes, or fail; then how often the writer was flushed.
+pub fn tell_sips(alloc: Global, text: &[u8], told: &mut String) -> Result<(), Unmade> {
+    let (form, rest) = cut_word(text);
+    let (most, rest) = cut_number(rest);
+    let (writes, rest) = cut_failing(rest);
+    let (flushes, rest) = cut_failing(rest);
+    let messages = messages_of(alloc, rest)?;
+    let mut sips = Sips::new(alloc, most, writes, flushes);
+    let mut sink = Sink::new(Device::new(&mut sips), form_of(form));
+    tell_put(&mut sink, messages.as_slice(), true, told)?;
+    let (_, end) = sink.finish();
+    tell_end(told, end)?;
+    tell_text(told, sips.held())?;
+    let flushed = sips.flushed();
+    write!(told, " flushed {flushed}")?;
+    Ok(())
+}
