@@ -2,7 +2,9 @@
 
 PROGRAM := crates/pnmpipe
 # where the tests stand: a library's in a crate of their own
-TESTED := pnm_samples_tests pnm_image_tests pnm_memory_tests pnm_lanes_tests pnm_flow_tests pnmpipe
+TESTED := pnm_image_tests pnm_memory_tests pnm_lanes_tests pnm_flow_tests pnmpipe
+# programs that tell what comes of written cases
+CASES := pnm_samples_cases pnm_read_cases pnm_tools_cases pnm_write_cases pnm_chain_cases
 
 .PHONY: all bench bench-files bench-sweep built check controls deb dist help install lanes long-stream near pass pictures recipes refused scripts soak test toolchain uninstall
 
@@ -42,6 +44,7 @@ check: toolchain
 	python3 scripts/refused.py growth start tests --program $(PROGRAM)/out/pnmpipe
 	python3 scripts/idle.py --program $(PROGRAM)/out/pnmpipe
 	$(MAKE) --no-print-directory scripts BUILT=$(PROGRAM)/out/pnmpipe
+	python3 scripts/cases.py
 	tail -n 1 bin/gate
 
 # the scripts, pages and documents: in seconds, and with what is installed
@@ -91,6 +94,8 @@ recipes: built
 # the tests alone, built and run as they stand: `make check` proves them too
 test: toolchain
 	for crate in $(TESTED); do (cd crates/$$crate && rt try --test --seconds 600) || exit 1; done
+	for crate in $(CASES); do (cd crates/$$crate && mkdir -p out && rt run < stdin > out/told && cmp out/told stdout) || exit 1; done
+	python3 scripts/cases.py
 
 # the program that make has left beside Netpbm's own tools, where these are installed: a table, for a quiet machine
 bench:

@@ -1,13 +1,14 @@
 #!/usr/bin/env python3
 """Tries crates that were changed: `near` in minutes, over what was kept, `pass` from nothing, as the gate does.
 
-near: of each crate the layout, its check, the edits that must fail and the tests as they stand, unproved; then the
-check of each crate that stands on one of them. pass: `rt ci` over a temporary copy, below TMPDIR, of these crates and
-their tests, and of all that they stand on, the latter without edits. Neither takes the place of `make check`, which
-is the gate.
+near: of each crate the layout, its check, the edits that must fail, the tests as they stand, unproved, and what the
+program of its cases prints; then the check of each crate that stands on one of them. pass: `rt ci` over a temporary
+copy, below TMPDIR, of these crates and their tests, and of all that they stand on, the latter without edits. Neither
+takes the place of `make check`, which is the gate.
 """
 
 import argparse
+import itertools
 import os
 import shutil
 import subprocess
@@ -63,6 +64,21 @@ def has_tests(folder):
     return False
 
 
+def tells_what_is_stored(folder):
+    """Runs a program on its stored input; ends this script where it prints anything else than is stored."""
+    place = os.path.relpath(folder, ROOT)
+    say(f"rt run, in {place}")
+    with open(os.path.join(folder, "stdin"), encoding="utf-8") as given:
+        made = subprocess.run(["rt", "run"], cwd=folder, stdin=given, stdout=subprocess.PIPE, text=True, check=False)
+    with open(os.path.join(folder, "stdout"), encoding="utf-8") as stored:
+        wants = stored.read()
+    if made.returncode:
+        sys.exit(f"change: rt run in {place} FAILED, status {made.returncode}")
+    for number, (told, want) in enumerate(itertools.zip_longest(made.stdout.split("\n"), wants.split("\n")), 1):
+        if told != want:
+            sys.exit(f"change: {place} FAILED: line {number} is\n{told}\nin place of\n{want}")
+
+
 def near(crates, names):
     folders = {name: os.path.join(ROOT, "crates", name) for name in crates}
     for name in names:
@@ -73,7 +89,9 @@ def near(crates, names):
         call(folders[name], "check")
     call(ROOT, "must-fail", *names)
     for tests in dict.fromkeys(it for name in names for it in tests_of(crates, name)):
-        if has_tests(folders[tests]):
+        if tests.endswith("_cases"):
+            tells_what_is_stored(folders[tests])
+        elif has_tests(folders[tests]):
             call(folders[tests], "try", "--test", "--seconds", "600")
     for name in above(crates, names):
         call(folders[name], "check")

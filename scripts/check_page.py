@@ -27,7 +27,7 @@ def read(path):
 
 def sources():
     paths = glob.glob(os.path.join(ROOT, "crates/*/src/**/*.rt"), recursive=True)
-    return [path for path in paths if "_tests/" not in path]
+    return [path for path in paths if "_tests/" not in path and "_cases/" not in path]
 
 
 def synopsis(page):

@@ -51,8 +51,9 @@ def above(crates, names):
 
 
 def tests_of(crates, name):
-    """Where a crate's tests stand: in one of its name, or in those that name it, or else in itself, as the
-    program's."""
-    if f"{name}_tests" in crates:
-        return [f"{name}_tests"]
+    """Where a crate's tests stand: in those of its name, with the tests of want of memory that name it; else in those
+    that name it; or in itself, as the program's. `NAME_cases` is a program, whose output is stored beside it."""
+    own = [it for it in (f"{name}_tests", f"{name}_cases") if it in crates]
+    if own:
+        return own + [it for it in ("pnm_memory_tests",) if name in crates.get(it, ())]
     return [it for it in crates if it.endswith("_tests") and name in crates[it]] or [name]

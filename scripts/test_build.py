@@ -25,6 +25,7 @@ top: longest right
 pnmpipe: top right clap
 top_tests: top
 right_tests: right
+right_cases: right
 """
 
 # FAULT is the crate, or the command of rt, that fails; SECONDS how long a proof takes, but of the lowest crate
@@ -94,8 +95,9 @@ class Repository(unittest.TestCase):
             # (the lines say which chain is the longest)
             self.write(f"root/crates/{name}/src/lib.rt", "#[test]\n" * (9 if name.endswith("_tests") else 2))
             self.write(f"root/crates/{name}/must-fail/one.edit", "")
-        self.write("root/crates/pnmpipe/stdin", "given")
-        self.write("root/crates/pnmpipe/stdout", "GIVEN")
+        for name in ("pnmpipe", "right_cases"):
+            self.write(f"root/crates/{name}/stdin", "given")
+            self.write(f"root/crates/{name}/stdout", "GIVEN")
         self.write("bin/rt", STAND_IN)
         os.chmod(self.path("bin/rt"), 0o755)
         os.mkdir(self.path("tmp"))
@@ -195,8 +197,15 @@ class Changing(Repository):
         self.assertEqual(status, 0, printed)
         calls = ["fmt (right)", "fmt (longest)", "check (right)", "check (longest)", "must-fail right longest"]
         calls += ["try --test --seconds 600 (right_tests)", "try --test --seconds 600 (longest)"]
-        calls += [f"check ({name})" for name in ("right_tests", "top", "pnmpipe", "top_tests")]
+        calls += ["run (right_cases)", "proves low in the checkout", "proves right in the checkout"]
+        calls += [f"check ({name})" for name in ("right_tests", "right_cases", "top", "pnmpipe", "top_tests")]
         self.assertCountEqual(self.notes(), calls)
+
+    def test_near_wants_what_is_stored(self):
+        for stored in ("GIVE", "GIVEN\n", "given"):
+            self.write("root/crates/right_cases/stdout", stored)
+            status, printed = self.run_script("change.py", "near", "right")
+            self.assertEqual((status, "right_cases FAILED: line" in printed), (1, True), printed)
 
     def test_near_ends_at_a_fault(self):
         for fault, calls in [("fmt", 1), ("check", 2), ("must-fail", 3), ("try", 4)]:
@@ -206,7 +215,8 @@ class Changing(Repository):
     def test_pass_has_the_edits_of_what_was_changed_alone(self):
         status, printed = self.run_script("change.py", "pass", "right")
         self.assertEqual(status, 0, printed)
-        self.assertEqual(self.notes(), ["ci", "ci sees low right right_tests", "edits of right right_tests"])
+        copied = "right right_cases right_tests"
+        self.assertEqual(self.notes(), ["ci", f"ci sees low {copied}", f"edits of {copied}"])
         self.assertEqual(self.run_script("change.py", "pass", "pnmpipe", FAULT="ci")[0], 1)
 
     def test_names_have_to_be_crates(self):

@@ -1,0 +1,249 @@
+"""What a text says as a stream of images, worked out slowly from the formats' description. The limits on the lengths
+of headers, tuple types and gaps are left out. Numbers of answers are as the programs of cases tell them."""
+
+import zlib
+
+FORMATS = {
+    b"1": ("Bit", True),
+    b"2": ("Gray", True),
+    b"3": ("Color", True),
+    b"4": ("Bit", False),
+    b"5": ("Gray", False),
+    b"6": ("Color", False),
+    b"7": ("Pam", False),
+}
+DEPTHS = {"Bit": 1, "Gray": 1, "Color": 3}
+MOST = 16_777_216
+BLANKS = b" \t\r"
+
+
+class Fault(Exception):
+    """A fault, by its name, ends the stream."""
+
+
+def answers(text):
+    """All that a source answers: heads, rows, and words, the last of which is StreamEnd or a fault."""
+    given = []
+    rest = text
+    try:
+        while rest or not given:
+            kind, is_plain = magic(rest, bool(given))
+            head, length = pam_head(rest) if kind == "Pam" else pnm_head(kind, rest)
+            given.append(head)
+            raster = plain_raster if is_plain else raw_raster
+            rest = raster(rest[length:], head, given)
+        given.append("StreamEnd")
+    except Fault as fault:
+        given.append(str(fault))
+    return given
+
+
+def magic(text, is_later):
+    """The kind that the magic names, and whether the image is plain."""
+    if not text:
+        raise Fault("EmptyInput")
+    if text[:1] != b"P":
+        raise Fault("BadMagic")
+    if len(text) < 2:
+        raise Fault("HeaderCut")
+    if text[1:2] not in FORMATS:
+        raise Fault("BadMagic")
+    kind, is_plain = FORMATS[text[1:2]]
+    if is_plain and is_later:
+        raise Fault("PlainInStream")
+    return kind, is_plain
+
+
+def judged(kind, width, height, depth, maxval, tuple_type):
+    """The head of these fields."""
+    if not width or not height or not depth:
+        raise Fault("ZeroSize")
+    if max(width, height, width * depth) > MOST or depth > 256:
+        raise Fault("TooLarge")
+    if not 0 < maxval < 65_536:
+        raise Fault("BadMaxval")
+    return kind, width, height, depth, maxval, tuple_type
+
+
+def marks(text):
+    """What each byte is: # in a comment, which goes through the next CR or LF, blank for white space, 0 for a digit,
+    and x for any other."""
+    found = []
+    is_comment = False
+    for byte in text:
+        if is_comment or byte == ord("#"):
+            found.append("#")
+            is_comment = byte not in b"\r\n"
+        elif byte in b" \t\r\n":
+            found.append(" ")
+        else:
+            found.append("0" if chr(byte) in "0123456789" else "x")
+    return found
+
+
+def pnm_head(kind, text):
+    """The head of PBM, PGM or PPM, and the bytes of the header."""
+    body = text[2:]
+    numbers = []
+    before = " "
+    for at, mark in enumerate(marks(body)):
+        if mark == "x" or (mark == "0" and at == 0):
+            raise Fault("BadNumber")
+        if mark == " " and len(numbers) == (2 if kind == "Bit" else 3):
+            maxval = 1 if kind == "Bit" else numbers[2]
+            return judged(kind, *numbers[:2], DEPTHS[kind], maxval, b""), at + 3
+        if mark == "0":
+            if before != "0":
+                numbers.append(0)
+            numbers[-1] = 10 * numbers[-1] + int(chr(body[at]))
+        if mark != "#":
+            before = mark
+    raise Fault("HeaderCut")
+
+
+def token(line):
+    """The first token of a line, and what follows it."""
+    rest = line.strip(BLANKS)
+    for at, byte in enumerate(rest):
+        if byte in BLANKS:
+            return rest[:at], rest[at:].strip(BLANKS)
+    return rest, b""
+
+
+def pam_head(text):
+    """The head of PAM, and the bytes of the header."""
+    if len(text) < 3:
+        raise Fault("HeaderCut")
+    if text[2:3] != b"\n":
+        raise Fault("BadPamLine")
+    numbers, types = {}, []
+    at = 3
+    while True:
+        end = text.find(b"\n", at)
+        if end < 0:
+            raise Fault("HeaderCut")
+        name, rest = token(text[at:end])
+        at = end + 1
+        if name == b"ENDHDR":
+            break
+        if name == b"TUPLTYPE":
+            types += [rest] if rest else []
+            if len(b" ".join(types)) > 255:
+                raise Fault("TooLong")
+        elif name in (b"WIDTH", b"HEIGHT", b"DEPTH", b"MAXVAL"):
+            add_number(numbers, name, token(rest)[0])
+        elif name and name[:1] != b"#":
+            raise Fault("BadPamLine")
+    if len(numbers) < 4:
+        raise Fault("MissingField")
+    fields = [numbers[name] for name in (b"WIDTH", b"HEIGHT", b"DEPTH", b"MAXVAL")]
+    return judged("Pam", *fields, b" ".join(types)), at
+
+
+def add_number(numbers, name, word):
+    """Takes a number of a PAM header."""
+    if not word:
+        raise Fault("BadPamLine")
+    if any(chr(byte) not in "0123456789" for byte in word):
+        raise Fault("BadNumber")
+    if name in numbers:
+        raise Fault("DuplicateField")
+    numbers[name] = int(word)
+
+
+def raw_raster(raster, head, given):
+    """Adds the rows, and gives what follows the raster."""
+    kind, width, height, depth, maxval, _ = head
+    size = 1 if maxval < 256 else 2
+    at = 0
+    for _ in range(height):
+        row = []
+        for x in range(width * depth):
+            place = at + (x // 8 if kind == "Bit" else size * x)
+            unit = raster[place : place + (1 if kind == "Bit" else size)]
+            if len(unit) < (1 if kind == "Bit" else size):
+                raise Fault("RasterCut")
+            sample = 1 - (unit[0] >> (7 - x % 8) & 1) if kind == "Bit" else int.from_bytes(unit, "big")
+            if sample > maxval:
+                raise Fault("SampleAboveMaxval")
+            row.append(sample)
+        given.append(row)
+        at += (width + 7) // 8 if kind == "Bit" else size * width * depth
+    given.append("ImageEnd")
+    return raster[at:]
+
+
+def plain_raster(raster, head, given):
+    """Adds the rows. What follows the raster is ignored, but for the byte right after it."""
+    kind, width, height, depth, maxval, _ = head
+    kinds = marks(raster)
+    at = 0
+    for y in range(height):
+        row = []
+        for _ in range(width * depth):
+            sample, at = plain_sample(raster, kinds, at, kind, maxval)
+            row.append(sample)
+        # the last row is given after the byte that follows it
+        if y == height - 1 and at < len(raster) and kinds[at] in "0x":
+            raise Fault("BadSample")
+        given.append(row)
+    given.append("ImageEnd")
+    return b""
+
+
+def plain_sample(raster, kinds, at, kind, maxval):
+    """The next sample, and where the byte after it stands."""
+    while at < len(raster) and kinds[at] in " #":
+        at += 1
+    if at == len(raster):
+        raise Fault("RasterCut")
+    if kinds[at] == "x" or (kind == "Bit" and raster[at] not in b"01"):
+        raise Fault("BadSample")
+    if kind == "Bit":
+        return 1 - int(chr(raster[at])), at + 1
+    number = 0
+    while at < len(raster) and kinds[at] == "0":
+        number = 10 * number + int(chr(raster[at]))
+        at += 1
+    if at < len(raster) and kinds[at] == "x":
+        raise Fault("BadSample")
+    if number > maxval:
+        raise Fault("SampleAboveMaxval")
+    return number, at
+
+
+def tell_bytes(text):
+    """A text as it is written."""
+    return "".join(chr(it) if 32 <= it <= 126 else "\\n" if it == 10 else f"\\x{it:02x}" for it in text)
+
+
+def tell_text(text):
+    """A text, or how many bytes it has and their CRC-32."""
+    if not text:
+        return " no bytes"
+    return " " + tell_bytes(text) if len(text) <= 200 else f" {len(text)} bytes {zlib.crc32(text):08x}"
+
+
+def tell_head(kind, width, height, depth, maxval, tuple_type=b""):
+    """A head."""
+    told = f" {kind} {width} {height} {depth} {maxval}"
+    return told + (f" ({tell_bytes(tuple_type)})" if tuple_type else "")
+
+
+def tell_row(row):
+    """The samples of a row, or how many there are and the CRC-32 of them, each of two bytes."""
+    if len(row) <= 64:
+        return f" [{' '.join(map(str, row))}]"
+    samples = b"".join(sample.to_bytes(2, "big") for sample in row)
+    return f" [{len(row)} samples {zlib.crc32(samples):08x}]"
+
+
+def tell(given):
+    """Answers, one after another."""
+    told = ""
+    for answer in given:
+        if isinstance(answer, str):
+            told += f" {answer}"
+        else:
+            told += tell_row(answer) if isinstance(answer, list) else tell_head(*answer)
+    return told
