@@ -1,10 +1,10 @@
-//! Tells what the texts of chains name. A line of standard input is a text with its escapes (`pnm_test_devices`): what
-//! is told of it are the tools, or the number of the stage at fault and the fault. A line that begins with `##` is
-//! given back.
+//! Tells what the texts of chains name. A line of standard input is `chain` and a text with its escapes
+//! (`pnm_test_devices`), or `names`, of which the faults are told as they are printed. Of a text the tools are told, or the
+//! number of the stage at fault and the fault. A line that begins with `#` is given back.
 #![tactic(auto)]
 
 use pnm_chain::{ChainKind, parse_chain};
-use pnm_test_devices::text_of;
+use pnm_test_devices::{Teller, Unmade, tell_lines};
 use std::alloc::{AllocError, Global};
 use std::io::{BufRead, BufReader};
 use std::{io, str};
@@ -24,39 +24,47 @@ const KINDS: &[ChainKind] = &[
     ChainKind::Memory,
 ];
 
-/// Prints what is told of each line, and at last the faults.
-fn main(rt: HostRuntime) -> io::Result<()> {
-    let alloc = rt.alloc();
-    for line in BufReader::new(alloc, rt.reader())?.lines(alloc) {
-        let line = line?;
-        let told = told_of(alloc, line.as_str())?;
-        println!(rt; "{told}")?;
+fn main(rt: HostRuntime) -> Result<(), Unmade> {
+    tell_lines(&rt, &mut Chains)
+}
+
+/// Tells what texts name.
+#[derive(Drop)]
+struct Chains;
+
+impl Teller for Chains {
+    fn tell(
+        &mut self,
+        alloc: Global,
+        word: &[u8],
+        text: &[u8],
+        told: &mut String,
+    ) -> Result<(), Unmade> {
+        if word.starts_with(b"names") {
+            return Ok(tell_names(told)?);
+        }
+        match str::from_utf8(text) {
+            Ok(chain) => Ok(tell_named(alloc, chain, told)?),
+            Err(_) => Err(Unmade),
+        }
     }
+}
+
+/// Adds all faults as they are printed.
+fn tell_names(told: &mut String) -> Result<(), AllocError> {
     for kind in KINDS {
-        println!(rt; "{kind}")?;
+        write!(told, " {kind}")?;
     }
     Ok(())
 }
 
-/// What is told of a line.
-fn told_of(alloc: Global, line: &str) -> Result<String, AllocError> {
-    if line.as_bytes().starts_with(b"##") {
-        return String::from_str(alloc, line);
-    }
-    let written = text_of(alloc, line.as_bytes())?;
-    match str::from_utf8(written.as_slice()) {
-        Ok(text) => named_by(alloc, text),
-        Err(_) => String::from_str(alloc, "no text"),
-    }
-}
-
-/// The tools that a text names, or its fault.
-fn named_by(alloc: Global, text: &str) -> Result<String, AllocError> {
+/// Adds the tools that a text names, or the number of the stage at fault and the fault.
+fn tell_named(alloc: Global, text: &str, told: &mut String) -> Result<(), AllocError> {
     match parse_chain(alloc, text) {
-        Ok(tools) => format!(in alloc; "{:?}", tools.as_slice()),
+        Ok(tools) => write!(told, "{:?}", tools.as_slice()),
         Err(fault) => {
             let (stage, kind) = (fault.stage, fault.kind);
-            format!(in alloc; "{stage} {kind}")
+            write!(told, "{stage} {kind}")
         }
     }
 }

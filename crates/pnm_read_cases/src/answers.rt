@@ -1,8 +1,8 @@
 //! What a source answers to a text, and to each front of it.
 
-use pnm_image::{BytesIn, Device, Message};
+use pnm_image::{BytesIn, Device, Message, SampleSlice};
 use pnm_read::{InputFault, Source};
-use pnm_test_devices::{Drips, FailsOnce, tell_change, tell_message, text_of};
+use pnm_test_devices::{Drips, FailsOnce, tell_change, tell_message};
 use std::alloc::{AllocError, Global};
 
 /// More answers than there are to any case.
@@ -74,14 +74,13 @@ fn are_told_by(alloc: Global, text: &[u8], most: usize, whole: &str) -> Result<b
 /// Adds the answers to a text, and of these numbers of bytes a read those by which they are others.
 pub fn tell_text(
     alloc: Global,
-    written: &[u8],
+    text: &[u8],
     few: &[usize],
     told: &mut String,
 ) -> Result<(), AllocError> {
-    let text = text_of(alloc, written)?;
-    tell_whole(alloc, text.as_slice(), told)?;
+    tell_whole(alloc, text, told)?;
     for most in few {
-        if !are_told_by(alloc, text.as_slice(), *most, told.as_str())? {
+        if !are_told_by(alloc, text, *most, told.as_str())? {
             write!(told, " but {most}")?;
         }
     }
@@ -89,16 +88,34 @@ pub fn tell_text(
 }
 
 /// Adds the answers to each front of a text, a byte a read too, by the length from which on they are those.
-pub fn tell_cuts(alloc: Global, written: &[u8], told: &mut String) -> Result<(), AllocError> {
-    let text = text_of(alloc, written)?;
+pub fn tell_cuts(alloc: Global, text: &[u8], told: &mut String) -> Result<(), AllocError> {
     let mut before = String::new(alloc);
     for length in 0..=text.len() {
         let mut answers = String::new(alloc);
-        tell_whole(alloc, &text.as_slice()[..length], &mut answers)?;
-        if !are_told_by(alloc, &text.as_slice()[..length], 1, answers.as_str())? {
+        tell_whole(alloc, &text[..length], &mut answers)?;
+        if !are_told_by(alloc, &text[..length], 1, answers.as_str())? {
             write!(told, " but {length}")?;
         }
         tell_change(told, length, &mut before, answers)?;
     }
     Ok(())
+}
+
+/// Adds how the samples of a text's first row are held.
+pub fn tell_width(alloc: Global, text: &[u8], told: &mut String) -> Result<(), AllocError> {
+    let mut source = source_of(alloc, Device::new(text))?;
+    let _head = source.next();
+    told.push_str(width_of(source.next()))
+}
+
+/// How the samples of a row are held, where the answer is one.
+fn width_of(answer: Result<Option<Message>, InputFault>) -> &'static str {
+    match answer {
+        Ok(Some(Message::Row(row))) => match row.as_slice() {
+            SampleSlice::Bits(_) => " bits",
+            SampleSlice::Bytes(_) => " bytes",
+            SampleSlice::Words(_) => " words",
+        },
+        _ => " no row",
+    }
 }

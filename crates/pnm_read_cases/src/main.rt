@@ -21,12 +21,9 @@ mod reads;
 mod streams;
 mod sweeps;
 
-use pnm_image::{Device, Message, SampleSlice};
 use pnm_read::InputFault;
-use pnm_test_devices::{cut_word, text_of};
+use pnm_test_devices::{Teller, Unmade, tell_lines};
 use std::alloc::{AllocError, Global};
-use std::io;
-use std::io::{BufRead, BufReader};
 
 /// How a case is told.
 #[derive(Clone, Copy)]
@@ -84,69 +81,57 @@ const FAULTS: &[InputFault] = &[
     InputFault::Memory,
 ];
 
-fn main(rt: HostRuntime) -> io::Result<()> {
-    let alloc = rt.alloc();
-    let mut images = Vec::new(alloc);
-    for line in BufReader::new(alloc, rt.reader())?.lines(alloc) {
-        let line = line?;
-        let told = told_of(alloc, &mut images, line.as_str())?;
-        println!(rt; "{told}")?;
-    }
-    Ok(())
+fn main(rt: HostRuntime) -> Result<(), Unmade> {
+    let mut sources = Sources {
+        images: Vec::new(rt.alloc()),
+    };
+    tell_lines(&rt, &mut sources)
 }
 
-/// What is told of a line.
-fn told_of(alloc: Global, images: &mut Vec<Vec<u8>>, line: &str) -> Result<String, AllocError> {
-    let mut told = String::new(alloc);
-    let (word, rest) = cut_word(line.as_bytes());
-    if word.first() == Some(&b'#') {
-        told.push_str(line)?;
-        return Ok(told);
+/// Tells what sources answer.
+#[derive(Drop)]
+struct Sources {
+    /// The raw images so far.
+    images: Vec<Vec<u8>>,
+}
+
+impl Teller for Sources {
+    fn tell(
+        &mut self,
+        alloc: Global,
+        word: &[u8],
+        text: &[u8],
+        told: &mut String,
+    ) -> Result<(), Unmade> {
+        match WORDS.iter().find(|(name, _)| *name == word) {
+            Some((_, how)) => Ok(tell(alloc, *how, text, &mut self.images, told)?),
+            None => Err(Unmade),
+        }
     }
-    match WORDS.iter().find(|(name, _)| *name == word) {
-        Some((_, how)) => tell(alloc, *how, rest, images, &mut told)?,
-        None => told.push_str("no case")?,
-    }
-    Ok(told)
 }
 
 fn tell(
     alloc: Global,
     how: How,
-    rest: &[u8],
+    text: &[u8],
     images: &mut Vec<Vec<u8>>,
     told: &mut String,
 ) -> Result<(), AllocError> {
     match how {
-        How::Text => answers::tell_text(alloc, rest, &[1, 2, 3, 4, 5, 6, 7, 8, 4097], told),
-        How::Long => answers::tell_text(alloc, rest, &[4097], told),
-        How::Cuts => answers::tell_cuts(alloc, rest, told),
-        How::Fails => reads::tell_fails(alloc, rest, told),
-        How::Reads => reads::tell_reads(alloc, rest, told),
-        How::Ahead => reads::tell_ahead(alloc, rest, told),
-        How::Held => reads::tell_held(alloc, rest, told),
-        How::Width => tell_width(alloc, rest, told),
-        How::Changes => sweeps::tell_changes(alloc, rest, told),
-        How::Inserts => sweeps::tell_inserts(alloc, rest, told),
-        How::Image => Ok(images.push(text_of(alloc, rest)?)?),
+        How::Text => answers::tell_text(alloc, text, &[1, 2, 3, 4, 5, 6, 7, 8, 4097], told),
+        How::Long => answers::tell_text(alloc, text, &[4097], told),
+        How::Cuts => answers::tell_cuts(alloc, text, told),
+        How::Fails => reads::tell_fails(alloc, text, told),
+        How::Reads => reads::tell_reads(alloc, text, told),
+        How::Ahead => reads::tell_ahead(alloc, text, told),
+        How::Held => reads::tell_held(alloc, text, told),
+        How::Width => answers::tell_width(alloc, text, told),
+        How::Changes => sweeps::tell_changes(alloc, text, told),
+        How::Inserts => sweeps::tell_inserts(alloc, text, told),
+        How::Image => Ok(images.push(Vec::from_slice(alloc, text)?)?),
         How::Streams => streams::tell_streams(alloc, images.as_slice(), told),
-        How::After => streams::tell_after(alloc, images.as_slice(), rest, told),
+        How::After => streams::tell_after(alloc, images.as_slice(), text, told),
         How::Names => tell_names(told),
-    }
-}
-
-/// Adds how the samples of a text's first row are held.
-fn tell_width(alloc: Global, written: &[u8], told: &mut String) -> Result<(), AllocError> {
-    let text = text_of(alloc, written)?;
-    let mut source = answers::source_of(alloc, Device::new(text.as_slice()))?;
-    let _head = source.next();
-    match source.next() {
-        Ok(Some(Message::Row(row))) => told.push_str(match row.as_slice() {
-            SampleSlice::Bits(_) => " bits",
-            SampleSlice::Bytes(_) => " bytes",
-            SampleSlice::Words(_) => " words",
-        }),
-        _ => told.push_str(" no row"),
     }
 }
 

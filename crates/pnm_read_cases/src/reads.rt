@@ -2,7 +2,7 @@
 
 use super::answers::{source_of, tell_answers};
 use pnm_image::Device;
-use pnm_test_devices::{Drips, FailsOnce, Recorded, cut_number, tell_change, text_of};
+use pnm_test_devices::{Drips, FailsOnce, Recorded, cut_number, tell_change};
 use std::alloc::{AllocError, Global};
 
 /// The bytes that a read may give where the source tells what it holds.
@@ -30,9 +30,8 @@ fn tell_recorded(
 /// Adds the answers, and what each read asked for and got.
 pub fn tell_reads(alloc: Global, line: &[u8], told: &mut String) -> Result<(), AllocError> {
     let (most, rest) = cut_number(line);
-    let (failing, written) = cut_number(rest);
-    let text = text_of(alloc, written)?;
-    let calls = tell_recorded(alloc, text.as_slice(), (most, failing), told)?;
+    let (failing, text) = cut_number(rest);
+    let calls = tell_recorded(alloc, text, (most, failing), told)?;
     told.push_str(" by")?;
     for (asked, got) in calls.as_slice() {
         write!(told, " {asked}:{got}")?;
@@ -42,12 +41,11 @@ pub fn tell_reads(alloc: Global, line: &[u8], told: &mut String) -> Result<(), A
 
 /// Adds the answers where read 1, 2 and so on of a byte each fails, by the number from which on they are those, and each
 /// number of a read after which there was another.
-pub fn tell_fails(alloc: Global, written: &[u8], told: &mut String) -> Result<(), AllocError> {
-    let text = text_of(alloc, written)?;
+pub fn tell_fails(alloc: Global, text: &[u8], told: &mut String) -> Result<(), AllocError> {
     let mut before = String::new(alloc);
     for read in 0..=text.len() {
         let mut answers = String::new(alloc);
-        let calls = tell_recorded(alloc, text.as_slice(), (1, read + 1), &mut answers)?;
+        let calls = tell_recorded(alloc, text, (1, read + 1), &mut answers)?;
         if calls.len() != read + 1 {
             write!(told, " but {read}")?;
         }
@@ -75,10 +73,9 @@ fn reads_of(
 
 /// Adds how many reads of a byte each were made at first, and after each of so many answers.
 pub fn tell_ahead(alloc: Global, line: &[u8], told: &mut String) -> Result<(), AllocError> {
-    let (count, written) = cut_number(line);
-    let text = text_of(alloc, written)?;
+    let (count, text) = cut_number(line);
     for asked in 0..=count {
-        let (reads, _) = reads_of(alloc, text.as_slice(), 1, asked)?;
+        let (reads, _) = reads_of(alloc, text, 1, asked)?;
         write!(told, " {reads}")?;
     }
     Ok(())
@@ -86,13 +83,12 @@ pub fn tell_ahead(alloc: Global, line: &[u8], told: &mut String) -> Result<(), A
 
 /// Adds of how many answers, for each number of bytes a read, the source told whether a read would be made.
 pub fn tell_held(alloc: Global, line: &[u8], told: &mut String) -> Result<(), AllocError> {
-    let (count, written) = cut_number(line);
-    let text = text_of(alloc, written)?;
+    let (count, text) = cut_number(line);
     for most in FEW {
         let mut right = 0usize;
         for asked in 0..count {
-            let (reads, is_held) = reads_of(alloc, text.as_slice(), most, asked)?;
-            let (reads_after, _) = reads_of(alloc, text.as_slice(), most, asked + 1)?;
+            let (reads, is_held) = reads_of(alloc, text, most, asked)?;
+            let (reads_after, _) = reads_of(alloc, text, most, asked + 1)?;
             if is_held == (reads_after == reads) {
                 right = right.saturating_add(1);
             }

@@ -1,7 +1,7 @@
 //! What a source answers to raw images one after another.
 
 use super::sweeps::{add_each, add_text};
-use pnm_test_devices::{Sweep, text_of};
+use pnm_test_devices::Sweep;
 use std::alloc::{AllocError, Global};
 
 /// The texts one after another.
@@ -55,15 +55,18 @@ fn add_cuts(
 pub fn tell_after(
     alloc: Global,
     images: &[Vec<u8>],
-    written: &[u8],
+    text: &[u8],
     told: &mut String,
 ) -> Result<(), AllocError> {
-    let text = text_of(alloc, written)?;
     let mut sweep = Sweep::new();
     for image in images {
-        let (image, text) = (image.as_slice(), text.as_slice());
+        let image = image.as_slice();
         add_text(alloc, &mut sweep, joined(alloc, &[image, text])?.as_slice())?;
-        add_text(alloc, &mut sweep, joined(alloc, &[image, image, text])?.as_slice())?;
+        add_text(
+            alloc,
+            &mut sweep,
+            joined(alloc, &[image, image, text])?.as_slice(),
+        )?;
     }
     sweep.tell(told)
 }

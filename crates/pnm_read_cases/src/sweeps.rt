@@ -1,7 +1,7 @@
 //! What a source answers to many texts that differ a little: how many they are, and the CRC-32 of the answers.
 
 use super::answers::tell_whole;
-use pnm_test_devices::{Sweep, cut_word, text_of};
+use pnm_test_devices::{Sweep, cut_word};
 use std::alloc::{AllocError, Global};
 
 /// Bytes that mean something, and bytes beside them.
@@ -45,12 +45,11 @@ fn tell_sweep(
     replaced: usize,
     told: &mut String,
 ) -> Result<(), AllocError> {
-    let (word, written) = cut_word(line);
+    let (word, text) = cut_word(line);
     let set = set_of(alloc, word)?;
-    let text = text_of(alloc, written)?;
     let mut sweep = Sweep::new();
     for at in 0..=text.len().saturating_sub(replaced) {
-        let (front, rest) = text.as_slice().split_at(at.min(text.len()));
+        let (front, rest) = text.split_at(at.min(text.len()));
         let back = rest.get(replaced..).unwrap_or(&[]);
         add_each(alloc, &mut sweep, set.as_slice(), front, back)?;
     }

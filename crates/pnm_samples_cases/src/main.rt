@@ -20,9 +20,8 @@ mod made;
 mod pixels;
 mod rows;
 
-use pnm_test_devices::{Unmade, cut_word, text_of};
+use pnm_test_devices::{Teller, Unmade, tell_lines};
 use std::alloc::Global;
-use std::io::{BufRead, BufReader};
 
 /// What a line is about.
 #[derive(Clone, Copy)]
@@ -63,29 +62,26 @@ const WORDS: &[(&[u8], How)] = &[
 ];
 
 fn main(rt: HostRuntime) -> Result<(), Unmade> {
-    let alloc = rt.alloc();
-    for line in BufReader::new(alloc, rt.reader())?.lines(alloc) {
-        let line = line?;
-        let told = told_of(alloc, line.as_str())?;
-        println!(rt; "{told}")?;
-    }
-    Ok(())
+    tell_lines(&rt, &mut Rows)
 }
 
-/// What is told of a line.
-fn told_of(alloc: Global, line: &str) -> Result<String, Unmade> {
-    let mut told = String::new(alloc);
-    if line.as_bytes().first() == Some(&b'#') {
-        told.push_str(line)?;
-        return Ok(told);
+/// Tells what rows hold.
+#[derive(Drop)]
+struct Rows;
+
+impl Teller for Rows {
+    fn tell(
+        &mut self,
+        alloc: Global,
+        word: &[u8],
+        text: &[u8],
+        told: &mut String,
+    ) -> Result<(), Unmade> {
+        match WORDS.iter().find(|(name, _)| *name == word) {
+            Some((_, how)) => tell(alloc, *how, text, told),
+            None => Err(Unmade),
+        }
     }
-    let (word, written) = cut_word(line.as_bytes());
-    let text = text_of(alloc, written)?;
-    match WORDS.iter().find(|(name, _)| *name == word) {
-        Some((_, how)) => tell(alloc, *how, text.as_slice(), &mut told)?,
-        None => told.push_str(" no case")?,
-    }
-    Ok(told)
 }
 
 fn tell(alloc: Global, how: How, text: &[u8], told: &mut String) -> Result<(), Unmade> {

@@ -2,6 +2,7 @@
 //! that tell what comes of written cases, how a case is written and how an answer is told.
 #![tactic(auto)]
 
+mod cases;
 mod devices;
 mod digest;
 mod messages;
@@ -10,6 +11,7 @@ mod sweep;
 mod telling;
 mod writing;
 
+pub use cases::{Teller, tell_lines};
 pub use devices::{Drips, FailsOnce, NeverFlushes, Recorded, Sips};
 pub use digest::Crc32;
 pub use messages::{Unmade, cut_head, cut_messages, head_of, held, narrowest, number_of};

@@ -1,6 +1,7 @@
 //! Which columns and rows a cut keeps.
 
-use super::steps::{feed, start};
+use super::steps::feed;
+use super::tasks::{Task, tell_at_work};
 use super::tools::{cut_offset, cut_size, tell_made_head};
 use pnm_image::{Kind, Message, SampleWidth, Shape};
 use pnm_test_devices::{Sweep, Unmade, cut_number, head_of, held, number_of};
@@ -95,18 +96,13 @@ pub fn tell_axes(alloc: Global, axes: &[Axis], told: &mut String) -> Result<(), 
 /// What a cut gives for an image of colours, each of whose samples tells its plane, its column and its row.
 fn answers_to(alloc: Global, across: Axis, down: Axis) -> Result<String, Unmade> {
     let mut told = String::new(alloc);
-    tell_image(alloc, across, down, &mut told)?;
+    let task = Task::Cut(across.length, down.length);
+    tell_at_work(alloc, &cut_by(across, down), task, &mut told)?;
     Ok(told)
 }
 
-/// Adds it.
-fn tell_image(alloc: Global, across: Axis, down: Axis, told: &mut String) -> Result<(), Unmade> {
-    let mut state = start(alloc, &cut_by(across, down))?;
-    feed_image(alloc, &mut state, across.length, down.length, told)
-}
-
 /// Adds what a cut at work gives for an image of so many columns and rows, which may be that it refuses the image.
-fn feed_image<F: Filter>(
+pub fn feed_image<F: Filter>(
     alloc: Global,
     state: &mut F,
     width: u32,

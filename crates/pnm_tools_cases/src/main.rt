@@ -24,13 +24,14 @@
 mod cuts;
 mod steps;
 mod sweeps;
+mod tasks;
 mod tools;
 
 use cuts::Axis;
-use pnm_test_devices::{Unmade, cut_word, tell_change, text_of};
+use pnm_test_devices::{Teller, Unmade, tell_change, tell_lines};
 use pnm_tools::{Tool, ToolFault};
 use std::alloc::{AllocError, Global};
-use std::io::{BufRead, BufReader};
+use tasks::{Task, tell_at_work};
 use tools::tool_of;
 
 /// What a line is about.
@@ -75,7 +76,7 @@ const FAULTS: &[ToolFault] = &[
     ToolFault::Memory,
 ];
 
-/// What the lines so far have named.
+/// Tells what tools make, with what the lines so far have named.
 #[derive(Drop)]
 struct Named {
     tools: Vec<Tool>,
@@ -88,28 +89,22 @@ fn main(rt: HostRuntime) -> Result<(), Unmade> {
         tools: Vec::new(alloc),
         axes: Vec::new(alloc),
     };
-    for line in BufReader::new(alloc, rt.reader())?.lines(alloc) {
-        let line = line?;
-        let told = told_of(alloc, &mut named, line.as_str())?;
-        println!(rt; "{told}")?;
-    }
-    Ok(())
+    tell_lines(&rt, &mut named)
 }
 
-/// What is told of a line.
-fn told_of(alloc: Global, named: &mut Named, line: &str) -> Result<String, Unmade> {
-    let mut told = String::new(alloc);
-    if line.as_bytes().first() == Some(&b'#') {
-        told.push_str(line)?;
-        return Ok(told);
+impl Teller for Named {
+    fn tell(
+        &mut self,
+        alloc: Global,
+        word: &[u8],
+        text: &[u8],
+        told: &mut String,
+    ) -> Result<(), Unmade> {
+        match WORDS.iter().find(|(name, _)| *name == word) {
+            Some((_, how)) => tell(alloc, *how, text, self, told),
+            None => Err(Unmade),
+        }
     }
-    let (word, written) = cut_word(line.as_bytes());
-    let text = text_of(alloc, written)?;
-    match WORDS.iter().find(|(name, _)| *name == word) {
-        Some((_, how)) => tell(alloc, *how, text.as_slice(), named, &mut told)?,
-        None => told.push_str(" no case")?,
-    }
-    Ok(told)
 }
 
 fn tell(
@@ -177,8 +172,8 @@ fn tell_of_tool(
     match how {
         How::Head => tools::tell_head_of(alloc, tool, text, told),
         How::Lane => steps::tell_lane(alloc, tool, text, told),
-        How::Held => steps::tell_held(alloc, tool, text, told),
-        How::Images => sweeps::tell_images(alloc, tool, text, told),
+        How::Held => tell_at_work(alloc, tool, Task::Held(text), told),
+        How::Images => tell_at_work(alloc, tool, Task::Stream(text), told),
         How::Types => sweeps::tell_types(alloc, tool, text, told),
         _ => steps::tell_run(alloc, tool, text, told),
     }

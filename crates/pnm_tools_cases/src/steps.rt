@@ -1,9 +1,10 @@
 //! Steps of a tool at work. A message is fed, and all is taken that the tool gives then. With a `~` before it, that isn't told;
 //! with a `!`, nothing is taken. `?` takes one answer. A fault is told, and whether it doesn't stay.
 
+use super::tasks::{Task, tell_at_work};
 use pnm_image::{Message, SampleSlice, Samples};
 use pnm_test_devices::{Unmade, cut_messages, tell_message};
-use pnm_tools::{Filter, RowState, RowWise, Tool, ToolFault, ToolState};
+use pnm_tools::{Filter, RowState, RowWise, Tool, ToolFault};
 use std::alloc::{AllocError, Global};
 
 /// More messages than a tool gives for one.
@@ -23,36 +24,13 @@ enum Step {
 /// Adds what a tool gives by these steps, and whether that is something else where rows are held in few bits.
 pub fn tell_run(alloc: Global, tool: &Tool, text: &[u8], told: &mut String) -> Result<(), Unmade> {
     let mut narrow = String::new(alloc);
-    tell_at(alloc, tool, text, false, told)?;
-    tell_at(alloc, tool, text, true, &mut narrow)?;
+    tell_at_work(alloc, tool, Task::Steps(text, false), told)?;
+    tell_at_work(alloc, tool, Task::Steps(text, true), &mut narrow)?;
     if narrow.as_str() != told.as_str() {
         told.push_str(" but narrow")?;
         told.push_str(narrow.as_str())?;
     }
     Ok(())
-}
-
-/// A lawful tool at work.
-pub fn start(alloc: Global, tool: &Tool) -> Result<ToolState, Unmade> {
-    if !tool.is_lawful() {
-        return Err(Unmade);
-    }
-    match tool.start(alloc) {
-        Ok(state) => Ok(state),
-        Err(_) => Err(Unmade),
-    }
-}
-
-/// Adds what a tool gives by these steps.
-fn tell_at(
-    alloc: Global,
-    tool: &Tool,
-    text: &[u8],
-    is_narrow: bool,
-    told: &mut String,
-) -> Result<(), Unmade> {
-    let mut state = start(alloc, tool)?;
-    go(alloc, &mut state, text, is_narrow, told)
 }
 
 /// A lawful and row-wise tool at work in a lane.
@@ -83,7 +61,7 @@ fn go_in_lane<F: RowWise>(
 }
 
 /// Adds what is given by these steps.
-fn go<F: Filter>(
+pub fn go<F: Filter>(
     alloc: Global,
     state: &mut F,
     text: &[u8],
@@ -187,13 +165,6 @@ fn is_fault(answer: Result<Option<Message>, ToolFault>, fault: ToolFault) -> boo
     }
 }
 
-/// Adds how wide the rows are held that a tool gives, where those that it gets are held in few bits.
-pub fn tell_held(alloc: Global, tool: &Tool, text: &[u8], told: &mut String) -> Result<(), Unmade> {
-    let messages = messages_of(alloc, text)?;
-    let mut state = start(alloc, tool)?;
-    tell_all_widths(&mut state, messages, told)
-}
-
 /// The messages that are written, of rows in few bits.
 fn messages_of(alloc: Global, text: &[u8]) -> Result<Vec<Message>, Unmade> {
     let mut messages = Vec::new(alloc);
@@ -208,13 +179,14 @@ fn messages_of(alloc: Global, text: &[u8]) -> Result<Vec<Message>, Unmade> {
     Ok(messages)
 }
 
-/// Adds how wide the rows are held that are given for these messages.
-fn tell_all_widths<F: Filter>(
+/// Adds how wide the rows are held that a tool at work gives, where those that it gets are held in few bits.
+pub fn tell_held<F: Filter>(
+    alloc: Global,
     state: &mut F,
-    messages: Vec<Message>,
+    text: &[u8],
     told: &mut String,
 ) -> Result<(), Unmade> {
-    for message in messages {
+    for message in messages_of(alloc, text)? {
         if state.feed(message).is_err() {
             return Err(Unmade);
         }

@@ -1,6 +1,7 @@
 //! Images whose samples are made by a formula, of many sizes, kinds and maxvals.
 
-use super::steps::{feed, start};
+use super::steps::feed;
+use super::tasks::{Task, tell_at_work};
 use pnm_image::{Kind, Message, SampleWidth, Shape};
 use pnm_test_devices::{Sweep, Unmade, cut_number, head_of, held, number_of};
 use pnm_tools::{Filter, Tool};
@@ -90,19 +91,8 @@ fn feed_image<F: Filter>(
     Ok(feed(state, Message::ImageEnd, told)?)
 }
 
-/// Adds a sweep of a tool over PAM images of these columns, rows and planes, one after another.
-pub fn tell_images(
-    alloc: Global,
-    tool: &Tool,
-    text: &[u8],
-    told: &mut String,
-) -> Result<(), Unmade> {
-    let mut state = start(alloc, tool)?;
-    tell_stream(alloc, &mut state, text, told)
-}
-
-/// The same of a tool at work.
-fn tell_stream<F: Filter>(
+/// Adds a sweep of a tool at work over PAM images of these columns, rows and planes, one after another.
+pub fn tell_stream<F: Filter>(
     alloc: Global,
     state: &mut F,
     text: &[u8],
@@ -183,24 +173,12 @@ fn answers_to(
         maxval,
     };
     let mut told = String::new(alloc);
-    tell_image(alloc, tool, shape, sample_width, &mut told)?;
+    tell_at_work(alloc, tool, Task::Alone(shape, sample_width), &mut told)?;
     Ok(told)
 }
 
-/// Adds what a tool gives for an image by itself.
-fn tell_image(
-    alloc: Global,
-    tool: &Tool,
-    shape: Shape,
-    sample_width: SampleWidth,
-    told: &mut String,
-) -> Result<(), Unmade> {
-    let mut state = start(alloc, tool)?;
-    feed_alone(alloc, &mut state, shape, sample_width, told)
-}
-
-/// The same of a tool at work.
-fn feed_alone<F: Filter>(
+/// Adds what a tool at work gives for a made image, and then for the end of the stream.
+pub fn feed_alone<F: Filter>(
     alloc: Global,
     state: &mut F,
     shape: Shape,

@@ -13,10 +13,9 @@
 mod made;
 mod sinks;
 
-use pnm_test_devices::{Unmade, cut_word, text_of};
+use pnm_test_devices::{Teller, Unmade, tell_lines};
 use pnm_write::{Form, SinkFault};
 use std::alloc::{AllocError, Global};
-use std::io::{BufRead, BufReader};
 
 const FAULTS: &[SinkFault] = &[
     SinkFault::WriteFailed,
@@ -27,35 +26,28 @@ const FAULTS: &[SinkFault] = &[
 ];
 
 fn main(rt: HostRuntime) -> Result<(), Unmade> {
-    let alloc = rt.alloc();
-    for line in BufReader::new(alloc, rt.reader())?.lines(alloc) {
-        let line = line?;
-        let told = told_of(alloc, line.as_str())?;
-        println!(rt; "{told}")?;
-    }
-    Ok(())
+    tell_lines(&rt, &mut Sinks)
 }
 
-/// What is told of a line.
-fn told_of(alloc: Global, line: &str) -> Result<String, Unmade> {
-    let mut told = String::new(alloc);
-    if line.as_bytes().first() == Some(&b'#') {
-        told.push_str(line)?;
-        return Ok(told);
-    }
-    let (word, written) = cut_word(line.as_bytes());
-    let text = text_of(alloc, written)?;
-    tell(alloc, word, text.as_slice(), &mut told)?;
-    Ok(told)
-}
+/// Tells what sinks write.
+#[derive(Drop)]
+struct Sinks;
 
-fn tell(alloc: Global, word: &[u8], text: &[u8], told: &mut String) -> Result<(), Unmade> {
-    match word {
-        b"sips" => sinks::tell_sips(alloc, text, told),
-        b"numbers" => made::tell_numbers(alloc, text, told),
-        b"pixels" => made::tell_pixels(alloc, text, told),
-        b"names" => Ok(tell_names(told)?),
-        _ => sinks::tell_written(alloc, form_of(word), text, told),
+impl Teller for Sinks {
+    fn tell(
+        &mut self,
+        alloc: Global,
+        word: &[u8],
+        text: &[u8],
+        told: &mut String,
+    ) -> Result<(), Unmade> {
+        match word {
+            b"sips" => sinks::tell_sips(alloc, text, told),
+            b"numbers" => made::tell_numbers(alloc, text, told),
+            b"pixels" => made::tell_pixels(alloc, text, told),
+            b"names" => Ok(tell_names(told)?),
+            _ => sinks::tell_written(alloc, form_of(word), text, told),
+        }
     }
 }
 
