@@ -45,7 +45,7 @@ fn passes_two_images(rt: HostRuntime) -> Result<(), Fail> {
     same(&rt, &place, &Place::Between, &"the start");
     for (part, next) in STREAM {
         let message = message(rt.alloc(), *part)?;
-        same(&rt, &place.accepts(&message), &true, part);
+        assert!(rt; place.accepts(&message), "at {part:?}");
         place.step(&message);
         same(&rt, &place, next, part);
     }
