@@ -25,14 +25,14 @@ const KINDS: &[ChainKind] = &[
 ];
 
 fn main(rt: HostRuntime) -> Result<(), Unmade> {
-    tell_lines(&rt, &mut Chains)
+    tell_lines(&rt, &mut ChainTeller)
 }
 
 /// Tells what texts name.
 #[derive(Drop)]
-struct Chains;
+struct ChainTeller;
 
-impl Teller for Chains {
+impl Teller for ChainTeller {
     fn tell(
         &mut self,
         alloc: Global,

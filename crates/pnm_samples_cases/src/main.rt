@@ -62,14 +62,14 @@ const WORDS: &[(&[u8], How)] = &[
 ];
 
 fn main(rt: HostRuntime) -> Result<(), Unmade> {
-    tell_lines(&rt, &mut Rows)
+    tell_lines(&rt, &mut RowTeller)
 }
 
 /// Tells what rows hold.
 #[derive(Drop)]
-struct Rows;
+struct RowTeller;
 
-impl Teller for Rows {
+impl Teller for RowTeller {
     fn tell(
         &mut self,
         alloc: Global,

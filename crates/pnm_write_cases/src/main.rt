@@ -26,14 +26,14 @@ const FAULTS: &[SinkFault] = &[
 ];
 
 fn main(rt: HostRuntime) -> Result<(), Unmade> {
-    tell_lines(&rt, &mut Sinks)
+    tell_lines(&rt, &mut SinkTeller)
 }
 
 /// Tells what sinks write.
 #[derive(Drop)]
-struct Sinks;
+struct SinkTeller;
 
-impl Teller for Sinks {
+impl Teller for SinkTeller {
     fn tell(
         &mut self,
         alloc: Global,
