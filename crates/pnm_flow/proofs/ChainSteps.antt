@@ -1,11 +1,10 @@
 -- The stages of a chain: one more, what is left between them, and what the chain has answered.
 use Rattle.std.proofs.Common.{◌≡◌, ◌≢◌, ℕ, suc, ◌+◌, ◌≤◌, ◌<◌, List, [], ◌∷◌, ◌++◌, length, Option, Some, Result, Ok, Err, refl, sym, ap, subst, ◌∙◌, append_assoc, append-nil, arith}
 use Rattle.std.specs.Prelude.{IfOk, IfSome, vec_capacity}
-use Rattle.std.specs.Global.{Global}
 use Rattle.std.specs.List.{AllByRecursion}
-use Rattle.rtrb.specs.declared.producer.Producer.{Producer}
-use Rattle.rtrb.specs.declared.consumer.Consumer.{Consumer}
-use Rattle.rtrb.specs.Ring.{sent, received, known_items, SameProducer, SameConsumer}
+use Rattle.pnm_stages.specs.declared.sender.Sender.{Sender}
+use Rattle.pnm_stages.specs.declared.receiver.Receiver.{Receiver}
+use Rattle.pnm_stages.specs.Rings.{sent, received, known_items, SameProducer, SameConsumer}
 use Rattle.pnm_image.specs.declared.message.Message.{Message}
 use Rattle.pnm_image.specs.Images.{Image, messages_of_stream}
 use Rattle.pnm_image.specs.Messages.{without_stop}
@@ -18,19 +17,18 @@ use Rattle.pnm_tools.proofs.FrontLaws.{nothing_changes, front_by_results}
 use Rattle.pnm_tools.proofs.FullLaws.{front_of_front}
 use Rattle.pnm_tools.proofs.RefusalLaws.{results_are_images, same_in_turn, results_in_turn}
 use Rattle.pnm_flow.specs.declared.chain.ChainDone.{ChainDone}
-use Rattle.pnm_stages.specs.declared.no_start.NoStart.{NoStart}
+use Rattle.pnm_stages.specs.declared.branches.NoStart.{NoStart}
 use Rattle.pnm_stages.specs.declared.stage.StageDone.{StageDone}
-use Rattle.pnm_flow.specs.declared.link.Link.{Link}
-use Rattle.pnm_rings.specs.declared.ring.AnyMessage.{AnyMessage}
-use Rattle.pnm_rings.specs.declared.stage_end.StageEnd.{StageEnd}
-use Rattle.pnm_rings.specs.declared.stage_end.StageEnd.TheVariants.{Well, PeerGone}
-use Rattle.pnm_rings.specs.Fronts.{IsFrontOfDue}
-use Rattle.pnm_rings.specs.Rings.{IsEnded}
+use Rattle.pnm_flow.specs.declared.chain.Link.{Link}
+use Rattle.pnm_stages.specs.declared.stage.StageEnd.{StageEnd}
+use Rattle.pnm_stages.specs.declared.stage.StageEnd.TheVariants.{Well, PeerGone}
+use Rattle.pnm_stages.specs.Fronts.{IsFrontOfDue}
+use Rattle.pnm_stages.specs.Rings.{IsEnded}
 use Rattle.pnm_flow.specs.Links.{IsWhole, IsDrained}
 use Rattle.pnm_flow.specs.Chains.{IsStageOver, HasRunTool, FirstIsThere, AreStages, HasAnsweredStream, HasRunStages, HasRunChain, HasRunBetween}
 use Rattle.pnm_flow.specs.ThreadedRuns.{HasEndedOver}
-use Rattle.pnm_rings.proofs.EndingLaws.{nothing_follows}
-use Rattle.pnm_rings.proofs.FrontLaws.{front_without_stop}
+use Rattle.pnm_stages.proofs.EndingLaws.{nothing_follows}
+use Rattle.pnm_stages.proofs.FrontLaws.{front_without_stop}
 use Rattle.pnm_flow.proofs.ToolOverLaws.{stage_ended, ended_well, received_ended, sent_ended, stage_due}
 
 -- ---- what is left between two stages
@@ -199,21 +197,24 @@ stages_joined lanes tools all ends all_ends links all_links tool end r r' s s' l
     (subst (λ (x : List Link). HasRunStages lanes (tools ++ tool ∷ []) (ends ++ end ∷ []) x r r' s s') (sym link.1) joined))
 
 -- a chain that came back
-pub came_back : (lanes : ℕ) (tools : List Tool) (links_room ends_room : ℕ) (input : Consumer Message Global AnyMessage) (output : Producer Message Global AnyMessage) (result : Option ChainDone) (done : ChainDone) → IfSome result (HasRunBetween lanes tools links_room ends_room input output) → result ≡ Some done → HasRunBetween lanes tools links_room ends_room input output done
-came_back lanes tools links_room ends_room input output result done has is = subst (λ (x : Option ChainDone). IfSome x (HasRunBetween lanes tools links_room ends_room input output)) is has
+pub came_back : {B : Type 0} (lanes : ℕ) (tools : List Tool) (links_room ends_room : ℕ) (input : Receiver) (output : Sender) (P : B → Type 0) (result : Option (ChainDone × B)) (done : ChainDone) (b : B)
+    → IfSome result (λ r. HasRunBetween lanes tools links_room ends_room input output r.0 × P r.1) → result ≡ Some (done, b)
+    → HasRunBetween lanes tools links_room ends_room input output done × P b
+came_back {B = B} lanes tools links_room ends_room input output P result done b has is =
+    subst (λ (x : Option (ChainDone × B)). IfSome x (λ r. HasRunBetween lanes tools links_room ends_room input output r.0 × P r.1)) is has
 
 -- what a tool of a chain has passed between these ring ends, which came back
-abbrev pub HasRunToolBetween : ℕ → Tool → Consumer Message Global AnyMessage → Producer Message Global AnyMessage → StageDone → Type 0
+abbrev pub HasRunToolBetween : ℕ → Tool → Receiver → Sender → StageDone → Type 0
 HasRunToolBetween lanes tool input output done =
     SameConsumer input done.input × SameProducer output done.output × HasRunTool lanes tool done.end (received input) (received done.input) (known_items done.input) (sent output) (sent done.output)
 
 -- a tool that came back
-pub tool_came_back : (lanes : ℕ) (tool : Tool) (input : Consumer Message Global AnyMessage) (output : Producer Message Global AnyMessage) (result : Option StageDone) (done : StageDone) → IfSome result (HasRunToolBetween lanes tool input output) → result ≡ Some done
+pub tool_came_back : (lanes : ℕ) (tool : Tool) (input : Receiver) (output : Sender) (result : Option StageDone) (done : StageDone) → IfSome result (HasRunToolBetween lanes tool input output) → result ≡ Some done
     → HasRunToolBetween lanes tool input output done
 tool_came_back lanes tool input output result done has is = subst (λ (x : Option StageDone). IfSome x (HasRunToolBetween lanes tool input output)) is has
 
 -- there is still room for a link and an end
-pub has_room : (count lanes : ℕ) (tools : List Tool) (links_room ends_room : ℕ) (input : Consumer Message Global AnyMessage) (output : Producer Message Global AnyMessage) (done : ChainDone) → HasRunBetween lanes tools links_room ends_room input output done → length tools + 1 ≤ count → count ≤ links_room → count ≤ ends_room
+pub has_room : (count lanes : ℕ) (tools : List Tool) (links_room ends_room : ℕ) (input : Receiver) (output : Sender) (done : ChainDone) → HasRunBetween lanes tools links_room ends_room input output done → length tools + 1 ≤ count → count ≤ links_room → count ≤ ends_room
     → (length done.links.items < vec_capacity done.links) × (length done.ends.items < vec_capacity done.ends)
 has_room most lanes tools links_room ends_room input output done has few links ends =
     let counts = count lanes tools done.ends.items done.links.items has.ran.took has.ran.gave has.ran.stages in
@@ -229,7 +230,8 @@ lawful_last (t ∷ tools) tool lawful =
 pub last_is_lawful : (all tools : List Tool) (tool : Tool) → all ≡ tools ++ tool ∷ [] → AreLawfulTools all → IsLawfulTool tool × AreLawfulTools tools
 last_is_lawful all tools tool parts lawful = lawful_last tools tool (subst AreLawfulTools parts lawful)
 
-pub chain_came_back : (lanes : ℕ) (tools : List Tool) (links_room ends_room : ℕ) (input : Consumer Message Global AnyMessage) (output : Producer Message Global AnyMessage) (result : Result ChainDone NoStart) → AreLawfulTools tools → IfOk result (HasRunBetween lanes tools links_room ends_room input output)
-    → IfOk result (λ done. HasRunChain lanes tools done.ends.items done.links.items (received input) (received done.input) (sent output) (sent done.output))
-chain_came_back lanes tools links_room ends_room input output (Ok done) lawful has = chain_has_run lanes tools done.ends.items done.links.items (received input) (received done.input) (sent output) (sent done.output) lawful has.ran
+pub chain_came_back : {B : Type 0} (lanes : ℕ) (tools : List Tool) (links_room ends_room : ℕ) (input : Receiver) (output : Sender) (result : Result (ChainDone × B) NoStart) → AreLawfulTools tools
+    → IfOk result (λ r. HasRunBetween lanes tools links_room ends_room input output r.0)
+    → IfOk result (λ r. HasRunChain lanes tools r.0.ends.items r.0.links.items (received input) (received r.0.input) (sent output) (sent r.0.output))
+chain_came_back lanes tools links_room ends_room input output (Ok (done, b)) lawful has = chain_has_run lanes tools done.ends.items done.links.items (received input) (received done.input) (sent output) (sent done.output) lawful has.ran
 chain_came_back lanes tools links_room ends_room input output (Err refused) lawful has = tt

@@ -1,6 +1,6 @@
 -- A message that is taken from the ring behind the last tool of a run, and put.
 use Rattle.std.proofs.Common.{◌≡◌, ℕ, Bool, true, false, inl, inr, List, [], ◌∷◌, ◌++◌, Option, length, refl, sym, ap, ◌∙◌, append_assoc}
-use Rattle.rtrb.specs.Ring.{received}
+use Rattle.pnm_stages.specs.Rings.{received}
 use Rattle.pnm_image.specs.declared.format.Form.{Form}
 use Rattle.pnm_image.specs.declared.message.Message.{Message}
 use Rattle.pnm_image.specs.declared.message.Message.TheVariants.{Begin, Row, ImageEnd, StreamEnd, Stop}
@@ -9,8 +9,8 @@ use Rattle.pnm_tools.specs.Answers.{Ending, More, Whole, BrokenOff, ending_of}
 use Rattle.pnm_tools.proofs.SoundLaws.{IsUnbroken, unbroken_keeps_all}
 use Rattle.pnm_flow.specs.declared.collector.Collector.{Collector}
 use Rattle.pnm_flow.specs.Collectors.{EndedBy, HasPut, IsCollecting}
-use Rattle.pnm_rings.proofs.RingSteps.{ends_as}
-use Rattle.pnm_rings.proofs.FrontLaws.{stop_is_cut}
+use Rattle.pnm_stages.proofs.RingSteps.{ends_as}
+use Rattle.pnm_stages.proofs.FrontLaws.{stop_is_cut}
 
 -- ---- whether messages have ended, with one more
 

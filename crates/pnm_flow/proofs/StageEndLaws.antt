@@ -1,6 +1,6 @@
 -- What the tools of a chain have answered to a whole stream, by how their stages have ended.
 use Rattle.std.proofs.Common.{◌≡◌, ◌≢◌, ℕ, ◌+◌, List, [], ◌∷◌, ◌++◌, map, Option, Some, None, refl, sym, ap, subst, ◌∙◌, append-nil}
-use Rattle.rtrb.specs.Ring.{sent, received}
+use Rattle.pnm_stages.specs.Rings.{sent, received}
 use Rattle.pnm_image.specs.declared.message.Message.{Message}
 use Rattle.pnm_image.specs.Places.{IsLawful}
 use Rattle.pnm_tools.specs.declared.fault.ToolFault.{ToolFault}
@@ -10,13 +10,13 @@ use Rattle.pnm_tools.specs.Answers.{Whole, BrokenOff, EndsBy}
 use Rattle.pnm_tools.specs.ChainAnswers.{HaveAnswered, AreWell, IsFirstFault}
 use Rattle.pnm_tools.specs.Chains.{AreLawfulTools}
 use Rattle.pnm_flow.specs.declared.fault.RunFault.TheVariants.{Tool as OfTool}
-use Rattle.pnm_flow.specs.declared.link.Link.{Link}
-use Rattle.pnm_rings.specs.declared.stage_end.StageEnd.{StageEnd}
-use Rattle.pnm_rings.specs.declared.stage_end.StageEnd.TheVariants.{Well, Broken, Fault, PeerGone}
+use Rattle.pnm_flow.specs.declared.chain.Link.{Link}
+use Rattle.pnm_stages.specs.declared.stage.StageEnd.{StageEnd}
+use Rattle.pnm_stages.specs.declared.stage.StageEnd.TheVariants.{Well, Broken, Fault, PeerGone}
 use Rattle.pnm_flow.specs.Chains.{FirstIsThere, AreStages}
-use Rattle.pnm_rings.specs.Stages.{HasEndedWell}
+use Rattle.pnm_stages.specs.Stages.{HasEndedWell}
 use Rattle.pnm_flow.specs.ThreadedRuns.{first_fault_from}
-use Rattle.pnm_rings.proofs.EndingLaws.{one_ending, stream_ends_whole}
+use Rattle.pnm_stages.proofs.EndingLaws.{one_ending, stream_ends_whole}
 use Rattle.pnm_flow.proofs.EndSteps.{not_started, none_started}
 use Rattle.pnm_flow.proofs.ToolOverLaws.{stage_ended, ended_well, ended_broken, ended_refused, sent_in_order}
 

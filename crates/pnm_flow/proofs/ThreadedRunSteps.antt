@@ -2,7 +2,7 @@
 use Rattle.std.proofs.Common.{◌≡◌, ◌≢◌, ◌⊎◌, inl, inr, ℕ, suc, drop, get_or, ◌+◌, ◌≤◌, ◌<◌, Bool, true, false, List, [], ◌∷◌, ◌++◌, length, Option, Some, None, Result, Ok, Err, refl, sym, ap, subst, ◌∙◌, append_assoc, append-nil, arith}
 use Rattle.std.proofs.Math.Seq.{drop-cons}
 use Rattle.std.specs.Io.KnownBytes.{Consumes, Keeps}
-use Rattle.rtrb.specs.Ring.{sent, received, known_items}
+use Rattle.pnm_stages.specs.Rings.{sent, received, known_items}
 use Rattle.pnm_image.specs.Devices.{Failed}
 use Rattle.pnm_image.specs.declared.message.Message.{Message}
 use Rattle.pnm_image.specs.Images.{Image, messages_of_stream}
@@ -28,22 +28,22 @@ use Rattle.pnm_write.specs.declared.fault.SinkFault.{SinkFault}
 use Rattle.pnm_flow.specs.declared.downstream.Downstream.{Downstream}
 use Rattle.pnm_flow.specs.declared.fault.RunFault.{RunFault}
 use Rattle.pnm_flow.specs.declared.fault.RunFault.TheVariants.{NoStart, Input, Tool as OfTool, Output, PeerGone as Gone}
-use Rattle.pnm_flow.specs.declared.link.Link.{Link}
-use Rattle.pnm_rings.specs.declared.stage_end.StageEnd.{StageEnd}
-use Rattle.pnm_rings.specs.declared.stage_end.StageEnd.TheVariants.{Well, Broken, Fault, PeerGone}
+use Rattle.pnm_flow.specs.declared.chain.Link.{Link}
+use Rattle.pnm_stages.specs.declared.stage.StageEnd.{StageEnd}
+use Rattle.pnm_stages.specs.declared.stage.StageEnd.TheVariants.{Well, Broken, Fault, PeerGone}
 use Rattle.pnm_flow.specs.declared.summary.Summary.{Summary}
 use Rattle.pnm_flow.specs.Chains.{IsStageOver, FirstIsThere, AreStages}
 use Rattle.pnm_flow.specs.Collectors.{EndedBy}
 use Rattle.pnm_flow.specs.Downstreams.{output_of, HasTaken, AnswersFlushes}
 use Rattle.pnm_flow.specs.Feeders.{HasAskedBy, closing}
-use Rattle.pnm_rings.specs.Rings.{IsEnded}
+use Rattle.pnm_stages.specs.Rings.{IsEnded}
 use Rattle.pnm_flow.specs.Jobs.{Job}
 use Rattle.pnm_flow.specs.Runs.{Change, change, MayFollow}
-use Rattle.pnm_rings.specs.Fronts.{IsFrontOfDue}
+use Rattle.pnm_stages.specs.Fronts.{IsFrontOfDue}
 use Rattle.pnm_flow.specs.ThreadedRuns.{fault_of_end, first_fault_from, answer_over, HasEndedOver, HaveEnded, FitEnds, IsAllSent, IsFrontWhatever, HasRunOverThreads}
 use Rattle.pnm_flow.proofs.ToolOverLaws.{stage_ended, received_ended, sent_ended}
-use Rattle.pnm_rings.proofs.EndingLaws.{nothing_follows, stream_ends_whole}
-use Rattle.pnm_rings.proofs.FrontLaws.{front_without_stop, stop_is_cut}
+use Rattle.pnm_stages.proofs.EndingLaws.{nothing_follows, stream_ends_whole}
+use Rattle.pnm_stages.proofs.FrontLaws.{front_without_stop, stop_is_cut}
 use Rattle.pnm_flow.proofs.EndSteps.{Ended, HaveEnded as StagesAnswered, ended_has_run, ended_without_reading, rest_follows}
 use Rattle.pnm_flow.proofs.FeedingSteps.{given_is_sound, may_give, rest_of}
 use Rattle.pnm_flow.proofs.RunSteps.{Ran, said_front, run_front, output_all, sound_is_writable}

@@ -10,13 +10,13 @@ use Rattle.pnm_tools.specs.Answers.{Whole, BrokenOff, EndsBy}
 use Rattle.pnm_tools.specs.ChainAnswers.{HasRefused}
 use Rattle.pnm_tools.specs.Tools.{IsLawfulTool, output_due}
 use Rattle.pnm_tools.proofs.RefusalLaws.{results_are_images}
-use Rattle.pnm_rings.specs.declared.stage_end.StageEnd.{StageEnd}
-use Rattle.pnm_rings.specs.declared.stage_end.StageEnd.TheVariants.{Well, Broken, Fault, PeerGone}
-use Rattle.pnm_rings.specs.Fronts.{IsFrontOfDue}
-use Rattle.pnm_rings.specs.Rings.{IsEnded}
-use Rattle.pnm_rings.specs.Stages.{HasEndedWell, HasBrokenOff}
-use Rattle.pnm_rings.proofs.EndingLaws.{stream_ends_whole}
-use Rattle.pnm_rings.proofs.RingSteps.{ends_with}
+use Rattle.pnm_stages.specs.declared.stage.StageEnd.{StageEnd}
+use Rattle.pnm_stages.specs.declared.stage.StageEnd.TheVariants.{Well, Broken, Fault, PeerGone}
+use Rattle.pnm_stages.specs.Fronts.{IsFrontOfDue}
+use Rattle.pnm_stages.specs.Rings.{IsEnded}
+use Rattle.pnm_stages.specs.Stages.{HasEndedWell, HasBrokenOff}
+use Rattle.pnm_stages.proofs.EndingLaws.{stream_ends_whole}
+use Rattle.pnm_stages.proofs.RingSteps.{ends_with}
 use Rattle.pnm_flow.specs.Chains.{IsStageOver}
 use Rattle.pnm_flow.specs.ThreadedRuns.{HasEndedOver}
 use Rattle.pnm_flow.proofs.LaneRefusals.{refused_in_lanes}

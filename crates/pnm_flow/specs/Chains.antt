@@ -2,11 +2,10 @@
 -- between it and the next.
 use Rattle.std.specs.Prelude.{◌≡◌, ◌≢◌, ◌⊎◌, ◌<◌, ◌≤◌, ℕ, ◌+◌, true, length, List, [], ◌∷◌, ◌++◌}
 use Rattle.std.specs.Prelude.{vec_capacity}
-use Rattle.std.specs.Global.{Global}
 use Rattle.std.specs.List.{AllByRecursion}
-use Rattle.rtrb.specs.declared.producer.Producer.{Producer}
-use Rattle.rtrb.specs.declared.consumer.Consumer.{Consumer}
-use Rattle.rtrb.specs.Ring.{sent, received, SameProducer, SameConsumer}
+use Rattle.pnm_stages.specs.declared.sender.Sender.{Sender}
+use Rattle.pnm_stages.specs.declared.receiver.Receiver.{Receiver}
+use Rattle.pnm_stages.specs.Rings.{sent, received, known_items, SameProducer, SameConsumer}
 use Rattle.pnm_image.specs.declared.message.Message.{Message}
 use Rattle.pnm_image.specs.Images.{Image, messages_of_stream}
 use Rattle.pnm_image.specs.Completion.{IsStreamOf}
@@ -14,14 +13,18 @@ use Rattle.pnm_tools.specs.declared.tool.Tool.{Tool}
 use Rattle.pnm_tools.specs.Chains.{AreResultsInTurn, due_in_turn}
 use Rattle.pnm_tools.specs.Tools.{is_row_wise}
 use Rattle.pnm_flow.specs.declared.chain.ChainDone.{ChainDone}
-use Rattle.pnm_flow.specs.declared.link.Link.{Link}
-use Rattle.pnm_rings.specs.declared.ring.AnyMessage.{AnyMessage}
-use Rattle.pnm_rings.specs.declared.stage_end.StageEnd.{StageEnd}
-use Rattle.pnm_rings.specs.declared.stage_end.StageEnd.TheVariants.{Well, PeerGone}
+use Rattle.pnm_flow.specs.declared.chain.Link.{Link}
+use Rattle.pnm_flow.specs.declared.tool_run.Across.{Across}
+use Rattle.pnm_flow.specs.declared.tool_run.Across.TheVariants.{Stage, Lanes}
+use Rattle.pnm_stages.specs.declared.stage.StageDone.{StageDone}
+use Rattle.pnm_stages.specs.declared.stage.StageEnd.{StageEnd}
+use Rattle.pnm_stages.specs.declared.stage.StageEnd.TheVariants.{Well, PeerGone}
 use Rattle.pnm_flow.specs.Links.{IsWhole, IsDrained}
-use Rattle.pnm_rings.specs.Fronts.{IsFrontOfDue}
-use Rattle.pnm_rings.specs.Rings.{IsEnded}
-use Rattle.pnm_rings.specs.Stages.{IsStage}
+use Rattle.pnm_stages.specs.Fronts.{IsFrontOfDue}
+use Rattle.pnm_stages.specs.Rings.{IsEnded}
+use Rattle.pnm_stages.specs.Stages.{IsStage, HasRunStage}
+use Rattle.pnm_lanes.specs.LaneRings.{AreLaneRings}
+use Rattle.pnm_lanes.specs.LaneRuns.{HasRunLanes}
 use Rattle.pnm_lanes.specs.Lanes.{IsStageOfLanes}
 
 -- ---- one tool
@@ -47,6 +50,29 @@ pub record HasRunTool (lanes : ℕ) (tool : Tool) (end : StageEnd) (received_old
   pub output : sent_new ≡ sent_old ++ gave
   pub seen_taken : IsEnded took ⊎ (seen ≡ [])
   pub stage : IsStageOver lanes tool end took gave
+
+-- over these ring ends, which came back
+abbrev pub IsToolRun : ℕ → Tool → Receiver → Sender → StageDone → Type 0
+IsToolRun lanes tool input output done =
+    SameConsumer input done.input × SameProducer output done.output
+    × HasRunTool lanes tool done.end (received input) (received done.input) (known_items done.input) (sent output) (sent done.output)
+
+-- as one stage
+abbrev pub IsOneStageRun : Tool → Receiver → Sender → StageDone → Type 0
+IsOneStageRun tool input output done =
+    SameConsumer input done.input × SameProducer output done.output
+    × HasRunStage tool done.end (received input) (received done.input) (known_items done.input) (sent output) (sent done.output)
+
+-- over several lanes
+abbrev pub IsLanesRun : Tool → Receiver → Sender → StageDone → Type 0
+IsLanesRun tool input output done =
+    SameConsumer input done.input × SameProducer output done.output
+    × HasRunLanes tool done.end (received input) (received done.input) (known_items done.input) (sent output) (sent done.output)
+
+-- what the tool works over: one stage, or the rings of its lanes
+abbrev pub IsAcross : ℕ → Tool → Across → Type 0
+IsAcross lanes tool Stage = RunsInLanes lanes tool → ⊥
+IsAcross lanes tool (Lanes rings tells hears) = RunsInLanes lanes tool × AreLaneRings rings
 
 -- ---- all of them
 
@@ -99,7 +125,7 @@ pub record HasRunChain (lanes : ℕ) (tools : List Tool) (ends : List StageEnd) 
   pub due : IsFrontOfDue (due_in_turn tools) took gave
 
 -- the stages of a chain between these ring ends, which came back; the lists still have so much room
-pub record HasRunBetween (lanes : ℕ) (tools : List Tool) (links_room ends_room : ℕ) (input : Consumer Message Global AnyMessage) (output : Producer Message Global AnyMessage) (done : ChainDone) : Type 0 where
+pub record HasRunBetween (lanes : ℕ) (tools : List Tool) (links_room ends_room : ℕ) (input : Receiver) (output : Sender) (done : ChainDone) : Type 0 where
   pub same_input : SameConsumer input done.input
   pub same_output : SameProducer output done.output
   pub ran : HasRunStages lanes tools done.ends.items done.links.items (received input) (received done.input) (sent output) (sent done.output)

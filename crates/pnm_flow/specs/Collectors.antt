@@ -1,13 +1,13 @@
 -- What was taken from the ring behind the last tool of a run, and what was written of it.
 use Rattle.std.specs.Prelude.{◌≡◌, ℕ, Bool, true, false, List, ◌++◌, Option}
-use Rattle.rtrb.specs.Ring.{received}
+use Rattle.pnm_stages.specs.Rings.{received}
 use Rattle.pnm_image.specs.declared.format.Form.{Form}
 use Rattle.pnm_image.specs.declared.message.Message.{Message}
 use Rattle.pnm_image.specs.Messages.{without_stop}
 use Rattle.pnm_tools.specs.Answers.{More, EndsBy}
 use Rattle.pnm_flow.specs.declared.collector.Collector.{Collector}
 use Rattle.pnm_flow.specs.Downstreams.{HasTaken}
-use Rattle.pnm_rings.specs.Rings.{IsEnded}
+use Rattle.pnm_stages.specs.Rings.{IsEnded}
 
 -- whether messages have ended
 abbrev pub EndedBy : Bool → List Message → Type 0

@@ -1,6 +1,6 @@
 -- What the turns of the caller of a run over threads keep.
 use Rattle.std.specs.Prelude.{ℕ, List, Option}
-use Rattle.rtrb.specs.Ring.{SameProducer, SameConsumer}
+use Rattle.pnm_stages.specs.Rings.{SameProducer, SameConsumer}
 use Rattle.pnm_image.specs.declared.format.Form.{Form}
 use Rattle.pnm_image.specs.declared.message.Message.{Message}
 use Rattle.pnm_read.specs.declared.source.Source.{Source}

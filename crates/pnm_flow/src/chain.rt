@@ -2,42 +2,50 @@
 
 ghost use Rattle.std.specs.Prelude.{◌≡◌, ◌≤◌, ◌<◌, ◌+◌, [], ◌∷◌, ◌++◌, length, vec_capacity, IfOk, IfErr, IfSome};
 ghost use Rattle.std.specs.Thread.{IsSync};
-ghost use Rattle.rtrb.specs.Ring.{sent, received, known_items, IsPair, SameProducer, SameConsumer};
 ghost use Rattle.pnm_tools.specs.Chains.{AreLawfulTools, IsChain};
 ghost use Rattle.pnm_tools.specs.Tools.{IsLawfulTool};
-ghost use Rattle.pnm_flow.specs.Links.{IsWhole};
-ghost use Rattle.pnm_flow.specs.Chains.{HasRunTool, HasRunBetween, HasRunChain, HasRoom};
-ghost use Rattle.pnm_rings.specs.Limits.{IsRingCapacity};
+ghost use Rattle.pnm_stages.specs.Limits.{IsRingCapacity};
+ghost use Rattle.pnm_stages.specs.Rings.{sent, received, IsPair, SameProducer, SameConsumer};
 ghost use Rattle.pnm_stages.specs.Starts.{IsUntouched};
 ghost use Rattle.pnm_lanes.specs.Limits.{IsLaneCount};
+ghost use Rattle.pnm_flow.specs.Links.{IsWhole};
+ghost use Rattle.pnm_flow.specs.Chains.{HasRunBetween, HasRunChain, HasRoom};
 
-use crate::link::Link;
-use crate::tool_run::{run_between, run_tool_by};
-use pnm_rings::{Input, Output, StageEnd, Wakers, new_ring};
-use pnm_stages::{Gate, NoStart, StageDone, StageWakers, at_once};
+use crate::tool_run::{Across, run_tool};
+use pnm_stages::{
+    Call, Gate, Idle, NoStart, Receiver, Sender, StageDone, StageEnd, Task, new_ring,
+};
 use pnm_tools::Tool;
 use std::alloc::Global;
 use std::sync::Wait;
 use std::thread::Threads;
+
+/// Both ends of the ring between a tool and the next one, once both have ended.
+#[derive(Drop)]
+pub struct Link {
+    /// The end that the tool sent on.
+    pub producer: Sender,
+    /// The end that the next tool received on.
+    pub consumer: Receiver,
+}
 
 /// A chain that has ended: the ends of its outer rings, the rings between its tools, and how each tool
 /// has ended.
 #[derive(Drop)]
 pub struct ChainDone {
     /// The end that the first tool received on.
-    pub input: Input,
+    pub input: Receiver,
     /// The end that the last tool sent on.
-    pub output: Output,
+    pub output: Sender,
     /// The rings between a tool and the next, in the order of the tools: one less than there are tools.
     pub links: Vec<Link>,
     /// How each tool has ended, in their order.
     pub ends: Vec<StageEnd>,
 }
 
-/// Passes what comes on `input` through the tools to `output`, each tool a stage in a thread of its own
-/// but the first, which runs in this one. Where there are several lanes, 8 at most, a row-wise tool works
-/// over so many in its place: it has a thread for each lane and one that deals the rows to them, and
-/// gathers what they make in the thread that the stage would have. All rings hold so many messages each, 1 to 1,024.
+/// Passes what comes on `input` through the tools to `output`, each tool a stage in a thread of its own. Where there are several
+/// lanes, 8 at most, a row-wise tool works over so many in its place: it has a thread for each lane, one that deals the rows to
+/// them, and one that gathers what they make. All rings hold so many messages each, 1 to 1,024.
 /// The gate is called by each stage with its tool's number, from 1, and lane 0, and by each lane with that
 /// number and its own, from 0.
 ///
@@ -52,8 +60,8 @@ pub fn run_chain<R: Threads + Wait + Sync, G: Gate>(
     capacity: usize,
     lanes: usize,
     gate: &G,
-    input: Input,
-    output: Output,
+    input: Receiver,
+    output: Sender,
 ) -> Result<ChainDone, NoStart>
     requires chain { IsChain tools.now }
     requires capacity { IsRingCapacity capacity }
@@ -64,43 +72,42 @@ pub fn run_chain<R: Threads + Wait + Sync, G: Gate>(
         (received input) (received done.input) (sent output) (sent done.output)) }
     ensures not_started { IfErr result (λ refused. IfSome refused.ends (IsUntouched input output)) }
 {
-    let (before, behind) = (Wakers::of_one_end(), Wakers::of_one_end());
-    let wakers = StageWakers {
-        input: &before,
-        output: &behind,
-    };
-    run_chain_by(
-        rt, alloc, tools, capacity, lanes, gate, input, output, wakers,
-    )
+    match run_chain_beside(rt, alloc, tools, capacity, lanes, gate, input, output, Idle) {
+        Ok((done, ())) => Ok(done),
+        Err(refused) => Err(refused),
+    }
 }
 
-/// The same, beside neighbours that wake its threads and are woken.
-pub fn run_chain_by<R: Threads + Wait + Sync, G: Gate>(
+/// Passes what comes on `input` through the tools to `output`, as `run_chain` does. Once each of its threads is started, other work is
+/// done in this one. At `NoStart` that work isn't done.
+pub fn run_chain_beside<R: Threads + Wait + Sync, G: Gate, T: Task<Output = B> + Drop, B: Drop>(
     rt: &R,
     alloc: Global,
     tools: &[Tool],
     capacity: usize,
     lanes: usize,
     gate: &G,
-    input: Input,
-    output: Output,
-    wakers: StageWakers<'_>,
-) -> Result<ChainDone, NoStart>
+    input: Receiver,
+    output: Sender,
+    beside: T,
+) -> Result<(ChainDone, B), NoStart>
     requires shared { IsSync R.row × IsSync G.row }
     requires chain { IsChain tools.now }
     requires capacity { IsRingCapacity capacity }
     requires lanes { IsLaneCount lanes }
-    ensures input { IfOk result (λ done. SameConsumer input done.input) }
-    ensures output { IfOk result (λ done. SameProducer output done.output) }
-    ensures ran { IfOk result (λ done. HasRunChain lanes tools.now done.ends.items done.links.items
-        (received input) (received done.input) (sent output) (sent done.output)) }
+    requires beside { T.can_run beside }
+    ensures input { IfOk result (λ r. SameConsumer input r.0.input) }
+    ensures output { IfOk result (λ r. SameProducer output r.0.output) }
+    ensures ran { IfOk result (λ r. HasRunChain lanes tools.now r.0.ends.items r.0.links.items
+        (received input) (received r.0.input) (sent output) (sent r.0.output)) }
+    ensures beside { IfOk result (λ r. T.run_gives beside r.1) }
     ensures not_started { IfErr result (λ refused. IfSome refused.ends (IsUntouched input output)) }
 {
     let Some(room) = Room::new(alloc, tools.len()) else {
         return Err(not_started(input, output));
     };
     run_stages(
-        rt, alloc, tools, capacity, lanes, gate, input, output, room, wakers,
+        rt, alloc, tools, capacity, lanes, gate, input, output, room, beside,
     )
 }
 
@@ -122,97 +129,75 @@ impl Room {
     }
 }
 
-/// The tools, at least one: the last in a thread of its own, beside those before it.
-fn run_stages<R: Threads + Wait + Sync, G: Gate>(
+/// Starts the tools, at least one, from the last one on, each in threads of its own, and does the work beside them once all are
+/// started.
+fn run_stages<R: Threads + Wait + Sync, G: Gate, T: Task<Output = B> + Drop, B: Drop>(
     rt: &R,
     alloc: Global,
     tools: &[Tool],
     capacity: usize,
     lanes: usize,
     gate: &G,
-    input: Input,
-    output: Output,
+    input: Receiver,
+    output: Sender,
     room: Room,
-    wakers: StageWakers<'_>,
-) -> Result<ChainDone, NoStart>
+    beside: T,
+) -> Result<(ChainDone, B), NoStart>
     requires shared { IsSync R.row × IsSync G.row }
     requires tools { AreLawfulTools tools.now × (1 ≤ length tools.now) }
     requires capacity { IsRingCapacity capacity }
     requires lanes { IsLaneCount lanes }
     requires room { HasRoom (length tools.now) room.links.items (vec_capacity room.links) room.ends.items (vec_capacity room.ends) }
-    ensures ran { IfOk result (HasRunBetween lanes tools.now (vec_capacity room.links) (vec_capacity room.ends) input output) }
+    requires beside { T.can_run beside }
+    ensures ran { IfOk result (λ r. HasRunBetween lanes tools.now (vec_capacity room.links) (vec_capacity room.ends) input output r.0) }
+    ensures beside { IfOk result (λ r. T.run_gives beside r.1) }
     ensures not_started { IfErr result (λ refused. IfSome refused.ends (IsUntouched input output)) }
 {
     let (last, others) = last_and_others(tools);
+    let number = tools.len();
+    let Some(across) = Across::new(alloc, last, lanes, capacity) else {
+        return Err(not_started(input, output));
+    };
     if others.is_empty() {
-        let done = run_tool_by(
-            rt, alloc, last, 1, lanes, capacity, gate, input, output, wakers,
+        let all = run_tool(
+            rt, alloc, last, number, lanes, across, gate, input, output, beside,
         );
-        return match done {
-            Ok(done) => Ok(only(done, room)),
-            Err(refused) => Err(refused),
+        return match all {
+            Some((done, beside)) => Ok((only(done, room), beside)),
+            None => Err(NoStart { ends: None }),
         };
     }
     let Some((producer, consumer)) = new_ring(alloc, capacity) else {
         return Err(not_started(input, output));
     };
-    let number = tools.len();
-    // The ring's wakers are here, below both threads between which it stands.
-    let between = &Wakers::new();
-    let StageWakers {
-        input: before,
-        output: behind,
-    } = wakers;
-    let both = at_once(
-        rt,
-        move || -> Option<StageDone>
-            requires { (IsSync R.row × IsSync G.row) × IsLawfulTool last.now × IsLaneCount lanes × IsRingCapacity capacity }
-            ensures { IfSome result (λ done. SameConsumer consumer done.input × SameProducer output done.output
-                × HasRunTool lanes last.entry.now done.end (received consumer) (received done.input) (known_items done.input)
-                (sent output) (sent done.output)) }
-        {
-            let wakers = StageWakers {
-                input: between,
-                output: behind,
-            };
-            run_between(
-                rt, alloc, last, number, lanes, capacity, gate, consumer, output, wakers,
-            )
-        },
-        move || -> Option<ChainDone>
+    let before = Call(
+        move || -> Option<(ChainDone, B)>
             requires { (IsSync R.row × IsSync G.row)
                 × (AreLawfulTools others.now × (1 ≤ length others.now)) × IsLaneCount lanes
-                × IsRingCapacity capacity × HasRoom (length others.now) room.links.items (vec_capacity room.links) room.ends.items (vec_capacity room.ends) }
-            ensures { IfSome result (HasRunBetween lanes others.entry.now (vec_capacity room.links) (vec_capacity room.ends) input producer) }
+                × IsRingCapacity capacity × T.can_run beside
+                × HasRoom (length others.now) room.links.items (vec_capacity room.links) room.ends.items (vec_capacity room.ends) }
+            ensures { IfSome result (λ r. HasRunBetween lanes others.entry.now (vec_capacity room.links) (vec_capacity room.ends) input producer r.0
+                × T.run_gives beside r.1) }
         {
-            let wakers = StageWakers {
-                input: before,
-                output: between,
-            };
-            // Where they weren't started, their ring ends go here, before the last tool is waited for, which looks for
-            // that once it is woken.
-            let chain = run_stages(
-                rt, alloc, others, capacity, lanes, gate, input, producer, room, wakers,
+            run_stages(
+                rt, alloc, others, capacity, lanes, gate, input, producer, room, beside,
             )
-            .ok();
-            between.wake_receiver();
-            chain
+            .ok()
         },
     );
-    let Some((done, chain)) = both else {
+    let Some((done, rest)) = run_tool(
+        rt, alloc, last, number, lanes, across, gate, consumer, output, before,
+    ) else {
         return Err(NoStart { ends: None });
     };
-    let Some(done) = done else {
-        return Err(NoStart { ends: None });
-    };
-    match chain {
-        Some(chain) => Ok(joined(chain, done)),
+    match rest {
+        Some((chain, beside)) => Ok((joined(chain, done), beside)),
         None => Err(NoStart { ends: None }),
     }
 }
 
 /// A chain of which nothing has been started: its ring ends come back.
-fn not_started(input: Input, output: Output) -> NoStart
+fn not_started(input: Receiver, output: Sender) -> NoStart
     ensures { IfSome result.ends (IsUntouched input output) }
 {
     NoStart {
@@ -275,7 +260,7 @@ fn joined(chain: ChainDone, done: StageDone) -> ChainDone
         end,
     } = done;
     // What is left in the ring is known now.
-    consumer.slots_beside(&mut producer);
+    consumer.look_beside(&mut producer);
     links.push_reserved(Link { producer, consumer });
     ends.push_reserved(end);
     ChainDone {

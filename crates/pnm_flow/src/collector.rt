@@ -1,19 +1,20 @@
 //! What stands behind the tools of a run: the ring that their results come from, and what is written of them.
 
 ghost use Rattle.std.specs.Prelude.{◌≡◌, ◌⊎◌, [], ◌∷◌, ◌++◌, List, true, false};
-ghost use Rattle.rtrb.specs.Ring.{received, sent, known_items, IsPair, SameConsumer, ProducerLooked};
+ghost use Rattle.pnm_stages.specs.Rings.{received, sent, known_items, IsPair, SameProducer, SameConsumer};
 ghost use Rattle.pnm_image.specs.declared.format.Form.{Form as FormValue};
 ghost use Rattle.pnm_image.specs.declared.message.Message.{Message as MessageValue};
 ghost use Rattle.pnm_flow.specs.Downstreams.{output_of};
 
 use crate::downstream::Downstream;
 use pnm_image::{BytesOut, Form, Message};
-use pnm_rings::{Ending, Input, Output, Wakers, ends_image, wake_sender};
+use pnm_stages::{Backoff, Ending, Receiver, Sender, ends_image};
+use std::sync::Wait;
 
 /// The ring that the results of a run come from, and what is written of them.
 #[derive(Drop)]
 pub struct Collector<W> {
-    input: Input,
+    input: Receiver,
     downstream: Downstream<W>,
     /// The end of the stream, or Stop, was taken.
     has_ended: bool,
@@ -27,7 +28,7 @@ impl<W: BytesOut + Drop> Collector<W> {
     ghost use Rattle.pnm_flow.specs.Collectors.{IsCollecting, HasPut, is_over_by};
 
     /// A collector that has taken nothing yet, and is to write in this form.
-    pub fn new(input: Input, writer: W, form: Form) -> Collector<W>
+    pub fn new(input: Receiver, writer: W, form: Form) -> Collector<W>
         ensures collecting { IsCollecting W.held W.failures form writer (received input) result }
         ensures parts { (result.input ≡ input) × (output_of result.downstream ≡ writer) }
     {
@@ -52,9 +53,8 @@ impl<W: BytesOut + Drop> Collector<W> {
         self.images
     }
 
-    /// Takes a message, if one is there, and writes it. False where none is, and the ring's other end is still there. The
-    /// wakers are the ring's.
-    pub fn turn(&mut self, wakers: &Wakers) -> bool
+    /// Takes a message, if one is there, and writes it. False where none is, and the ring's other end is still there.
+    pub fn turn(&mut self) -> bool
         requires going { is_over_by self.old ≡ false }
         ensures collecting { (form : FormValue) (start : W) (before : List MessageValue)
             → IsCollecting W.held W.failures form start before self.old
@@ -62,23 +62,24 @@ impl<W: BytesOut + Drop> Collector<W> {
         ensures ring { SameConsumer self.old.input self.new.input }
         ensures same_device { W.same (output_of self.old.downstream) (output_of self.new.downstream) }
     {
-        match self.input.pop() {
-            Ok(message) => {
-                wake_sender(&self.input, wakers);
-                let is_end = ends_image(&message);
-                self.images = self.images.saturating_add(u64::from(is_end));
-                self.put(message);
-                true
-            }
-            Err(_) => {
-                self.is_gone = self.input.is_abandoned();
-                self.is_gone
-            }
+        if !self.input.has_message() {
+            self.is_gone = self.input.is_abandoned();
+            return self.is_gone;
         }
+        let message = self.input.receive_known();
+        let is_end = ends_image(&message);
+        self.images = self.images.saturating_add(u64::from(is_end));
+        self.put(message);
+        true
+    }
+
+    /// One turn of waiting for a message.
+    pub fn wait<R: Wait>(&self, rt: &R, backoff: &mut Backoff) {
+        self.input.wait(rt, backoff);
     }
 
     /// Takes what is left in the ring, both of whose ends are here: what was pushed before the other end was seen dropped.
-    pub fn take_rest(&mut self, sender: &mut Output)
+    pub fn take_rest(&mut self, sender: &mut Sender)
         requires one_ring { IsPair sender.old self.old.input }
         ensures collecting { (form : FormValue) (start : W) (before : List MessageValue)
             → IsCollecting W.held W.failures form start before self.old
@@ -86,12 +87,12 @@ impl<W: BytesOut + Drop> Collector<W> {
         ensures in_order { received self.new.input ++ known_items self.new.input ≡ sent sender.new }
         ensures rest { (self.new.has_ended ≡ true) ⊎ (known_items self.new.input ≡ []) }
         ensures ring { SameConsumer self.old.input self.new.input }
-        ensures sender { ProducerLooked sender.old sender.new }
+        ensures sender { SameProducer sender.old sender.new × (sent sender.new ≡ sent sender.old) }
         ensures same_device { W.same (output_of self.old.downstream) (output_of self.new.downstream) }
     {
-        self.input.slots_beside(sender);
-        while !self.has_ended && self.input.cached_slots() > 0 {
-            let message = self.input.pop_known();
+        self.input.look_beside(sender);
+        while !self.has_ended && self.input.has_seen_message() {
+            let message = self.input.receive_known();
             self.put(message);
         }
     }

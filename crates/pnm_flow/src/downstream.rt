@@ -10,7 +10,7 @@ ghost use Rattle.pnm_write.specs.Sinks.{has_failed};
 
 use crate::summary::Summary;
 use pnm_image::{BytesOut, Form, Message};
-use pnm_rings::ends_image;
+use pnm_stages::ends_image;
 use pnm_write::{Sink, SinkFault};
 
 /// The sink, and what came of it so far.

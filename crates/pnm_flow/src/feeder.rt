@@ -1,20 +1,20 @@
 //! What stands before the tools of a run: the source, and the ring that its messages go into.
 
 ghost use Rattle.std.specs.Prelude.{◌≡◌, List, Bool, false, Some, None};
-ghost use Rattle.rtrb.specs.Ring.{sent, SameProducer};
+ghost use Rattle.pnm_stages.specs.Rings.{sent, SameProducer};
 ghost use Rattle.pnm_image.specs.declared.message.Message.{Message as MessageValue};
 ghost use Rattle.pnm_read.specs.Sources.{reader_of, IsFresh as IsUnread};
 
 use pnm_image::{BytesIn, Message};
 use pnm_read::{InputFault, Source};
-use pnm_rings::{Backoff, Output, Wakers, ends_image, is_short_row};
-use rtrb::PushError;
+use pnm_stages::{Backoff, Sender, ends_image};
+use std::sync::Wait;
 
 /// The source of a run, and the ring that its messages go into.
 #[derive(Drop)]
 pub struct Feeder<R> {
     source: Source<R>,
-    output: Output,
+    output: Sender,
     /// The message that waits for room in the ring.
     held: Option<Message>,
     /// How the source has ended, once it has.
@@ -28,12 +28,14 @@ pub struct Feeder<R> {
 impl<R: BytesIn + Drop> Feeder<R> {
     ghost use Rattle.pnm_flow.specs.Feeders.{IsFeeding, is_over_by};
 
-    /// A feeder that has sent nothing yet.
-    pub fn new(source: Source<R>, output: Output) -> Feeder<R>
+    /// A feeder that has sent nothing yet. Of short rows it sends a few before it wakes the first tool (`tell`).
+    pub fn new(source: Source<R>, output: Sender) -> Feeder<R>
         requires { IsUnread (reader_of source) source }
         ensures feeding { IsFeeding R.left R.failures source (sent output) result }
-        ensures parts { (result.source ≡ source) × (result.output ≡ output) }
+        ensures parts { (result.source ≡ source) × SameProducer output result.output × (sent result.output ≡ sent output) }
     {
+        let mut output = output;
+        output.hold_back();
         Feeder {
             source,
             output,
@@ -67,9 +69,29 @@ impl<R: BytesIn + Drop> Feeder<R> {
         self.held.is_some()
     }
 
-    /// Asks the source for a message, where none waits for room in the ring, and sends it. False where there is no room. The
-    /// wakers are the ring's.
-    pub fn turn(&mut self, wakers: &Wakers, backoff: &mut Backoff) -> bool
+    /// Wakes the first tool's thread, where something was sent that it wasn't woken for.
+    pub fn tell(&mut self)
+        ensures feeding { (first : Source R) (before : List MessageValue) → IsFeeding R.left R.failures first before self.old
+            → IsFeeding R.left R.failures first before self.new }
+        ensures ring { SameProducer self.old.output self.new.output }
+        ensures same_device { R.same (reader_of self.old.source) (reader_of self.new.source) }
+        ensures over { is_over_by self.new ≡ is_over_by self.old }
+    {
+        self.output.tell();
+    }
+
+    /// One turn of waiting for room in the ring.
+    pub fn wait<H: Wait>(&mut self, rt: &H, backoff: &mut Backoff)
+        ensures feeding { (first : Source R) (before : List MessageValue) → IsFeeding R.left R.failures first before self.old
+            → IsFeeding R.left R.failures first before self.new }
+        ensures ring { SameProducer self.old.output self.new.output }
+        ensures same_device { R.same (reader_of self.old.source) (reader_of self.new.source) }
+    {
+        self.output.wait(rt, backoff);
+    }
+
+    /// Asks the source for a message, where none waits for room in the ring, and sends it. False where there is no room.
+    pub fn turn(&mut self) -> bool
         requires going { is_over_by self.old ≡ false }
         ensures feeding { (first : Source R) (before : List MessageValue) → IsFeeding R.left R.failures first before self.old
             → IsFeeding R.left R.failures first before self.new }
@@ -79,33 +101,27 @@ impl<R: BytesIn + Drop> Feeder<R> {
         if self.held.is_none() {
             self.ask();
         }
-        self.send(wakers, backoff)
+        self.send()
     }
 
     /// Sends the message that waits, if any. False where there is no room in the ring.
-    fn send(&mut self, wakers: &Wakers, backoff: &mut Backoff) -> bool
+    fn send(&mut self) -> bool
         ensures feeding { (first : Source R) (before : List MessageValue) → IsFeeding R.left R.failures first before self.old
             → IsFeeding R.left R.failures first before self.new }
         ensures ring { SameProducer self.old.output self.new.output }
         ensures same_device { R.same (reader_of self.old.source) (reader_of self.new.source) }
     {
+        if !self.output.has_room() {
+            self.is_gone = self.output.is_abandoned();
+            return self.is_gone;
+        }
         let Some(message) = self.held.take() else {
             return true;
         };
         let is_end = ends_image(&message);
-        let is_short_row = is_short_row(&message);
-        match self.output.push(message) {
-            Ok(()) => {
-                self.images = self.images.saturating_add(u64::from(is_end));
-                backoff.sent(wakers, is_short_row);
-                true
-            }
-            Err(PushError::Full(back)) => {
-                self.held = Some(back);
-                self.is_gone = self.output.is_abandoned();
-                self.is_gone
-            }
-        }
+        self.output.send_reserved(message);
+        self.images = self.images.saturating_add(u64::from(is_end));
+        true
     }
 
     /// Asks the source for the next message. After its fault, Stop is to be sent.
@@ -127,7 +143,7 @@ impl<R: BytesIn + Drop> Feeder<R> {
     }
 
     /// The reader, the ring's end, and how the source has ended; none where the ring's other end was seen dropped before.
-    pub fn into_parts(self) -> (R, Output, Option<Result<(), InputFault>>)
+    pub fn into_parts(self) -> (R, Sender, Option<Result<(), InputFault>>)
         ensures { (result.0 ≡ reader_of self.source) × (result.1 ≡ self.output) × (result.2 ≡ self.input) }
     {
         let Feeder {

@@ -7,7 +7,6 @@ mod downstream;
 mod fault;
 mod feeder;
 pub mod laws;
-mod link;
 mod passing;
 mod serial;
 mod summary;
@@ -15,12 +14,13 @@ mod threaded;
 mod tool_run;
 mod turns;
 
-pub use chain::{ChainDone, run_chain};
+pub use chain::{ChainDone, Link, run_chain};
 pub use fault::RunFault;
-pub use link::Link;
 pub use pnm_lanes::{DealDone, GatherDone, MAX_LANES, deal, gather, run_lanes};
-pub use pnm_rings::{AnyMessage, MAX_RING_CAPACITY, StageEnd};
-pub use pnm_stages::{Gate, NoStart, OpenGate, StageDone, run_stage};
+pub use pnm_stages::{
+    AnyMessage, Gate, MAX_RING_CAPACITY, NoStart, OpenGate, Receiver, Sender, StageDone, StageEnd,
+    new_ring, run_stage,
+};
 pub use serial::run_serial;
 pub use summary::Summary;
 pub use threaded::run;

@@ -2,14 +2,14 @@
 
 ghost use Rattle.std.specs.Prelude.{◌≡◌, ◌≢◌, ◌⊎◌, ◌≤◌, ◌+◌, ℕ, [], List, length, Some, Err, IfSome};
 ghost use Rattle.std.specs.Thread.{IsSync};
-ghost use Rattle.rtrb.specs.Ring.{sent, received, IsPair, SameProducer, SameConsumer};
+ghost use Rattle.pnm_stages.specs.Rings.{sent, received, IsPair, SameProducer, SameConsumer};
 ghost use Rattle.pnm_image.specs.declared.format.Form.{Form as FormValue};
 ghost use Rattle.pnm_tools.specs.declared.limits.TheConstants.{MAX_TOOLS};
 ghost use Rattle.pnm_read.specs.declared.source.Source.{Source as SourceValue};
 ghost use Rattle.pnm_read.specs.Sources.{reader_of};
 ghost use Rattle.pnm_tools.specs.Chains.{AreLawfulTools, IsChain};
 ghost use Rattle.pnm_lanes.specs.Limits.{IsLaneCount};
-ghost use Rattle.pnm_rings.specs.Limits.{IsRingCapacity};
+ghost use Rattle.pnm_stages.specs.Limits.{IsRingCapacity};
 ghost use Rattle.pnm_flow.specs.declared.fault.RunFault.TheVariants.{NoStart as NotStarted};
 ghost use Rattle.pnm_flow.specs.Chains.{HasRunChain};
 ghost use Rattle.pnm_flow.specs.Collectors.{IsCollecting};
@@ -20,7 +20,7 @@ ghost use Rattle.pnm_flow.specs.Runs.{change};
 ghost use Rattle.pnm_flow.specs.ThreadedRuns.{answer_over, fault_of_end, first_fault_from, HasRunOverThreads};
 ghost use Rattle.pnm_flow.specs.Turns.{HaveTurned};
 
-use crate::chain::{ChainDone, run_chain_by};
+use crate::chain::{ChainDone, run_chain_beside};
 use crate::collector::Collector;
 use crate::fault::RunFault;
 use crate::feeder::Feeder;
@@ -28,8 +28,7 @@ use crate::summary::Summary;
 use crate::turns::Turns;
 use pnm_image::{BytesIn, BytesOut, Form};
 use pnm_read::{InputFault, ReadBuffer, Source};
-use pnm_rings::{Backoff, Input, Output, StageEnd, Wakers, new_ring};
-use pnm_stages::{Call, Gate, StageWakers, run_both};
+use pnm_stages::{Gate, Receiver, Sender, StageEnd, new_ring};
 use pnm_tools::Tool;
 use pnm_write::SinkFault;
 use std::alloc::Global;
@@ -90,7 +89,7 @@ pub fn run<H: Threads + Wait + Sync, R: BytesIn, W: BytesOut, G: Gate>(
     answer
 }
 
-/// Runs the chain in a thread of its own, and the caller's turns here; none where the chain couldn't be started.
+/// Runs the chain, and the caller's turns beside it, once each of its threads is started; none where one can't be.
 fn beside_chain<H: Threads + Wait + Sync, R: BytesIn + Drop, W: BytesOut + Drop, G: Gate>(
     rt: &H,
     alloc: Global,
@@ -98,8 +97,8 @@ fn beside_chain<H: Threads + Wait + Sync, R: BytesIn + Drop, W: BytesOut + Drop,
     capacity: usize,
     lanes: usize,
     gate: &G,
-    input: Input,
-    output: Output,
+    input: Receiver,
+    output: Sender,
     feeder: Feeder<R>,
     collector: Collector<W>,
 ) -> Option<(ChainDone, Feeder<R>, Collector<W>)>
@@ -113,38 +112,16 @@ fn beside_chain<H: Threads + Wait + Sync, R: BytesIn + Drop, W: BytesOut + Drop,
         (received input) (received r.0.input) (sent output) (sent r.0.output)) }
     ensures turned { IfSome result (λ r. HaveTurned R.left R.failures R.same W.held W.failures W.same feeder collector r.1 r.2) }
 {
-    let first = &Wakers::new();
-    let last = &Wakers::new();
-    let turns = Turns {
-        rt,
-        first,
-        last,
-        backoff: Backoff::new().with_rows(capacity).among_several(),
-        feeder,
-        collector,
+    let turns = Turns::new(rt, alloc, feeder, collector)?;
+    let all = match run_chain_beside(
+        rt, alloc, tools, capacity, lanes, gate, input, output, turns,
+    ) {
+        Ok(all) => all,
+        Err(_) => return None,
     };
-    let chain = Call(
-        move || -> Option<ChainDone>
-            requires { (IsSync H.row × IsSync G.row) × IsChain tools.now × IsLaneCount lanes × IsRingCapacity capacity }
-            ensures { IfSome result (λ done. SameConsumer input done.input × SameProducer output done.output
-                × HasRunChain lanes tools.entry.now done.ends.items done.links.items (received input) (received done.input) (sent output) (sent done.output)) }
-        {
-            let wakers = StageWakers {
-                input: first,
-                output: last,
-            };
-            let done = run_chain_by(
-                rt, alloc, tools, capacity, lanes, gate, input, output, wakers,
-            )
-            .ok();
-            // Where it wasn't started, its ring ends are gone by now.
-            first.wake_sender();
-            last.wake_receiver();
-            done
-        },
-    );
-    let (chain, (feeder, collector)) = run_both(rt, chain, turns)?;
-    Some((chain?, feeder, collector))
+    let (chain, turned) = all;
+    let (feeder, collector) = turned;
+    Some((chain, Box::into_inner(feeder), Box::into_inner(collector)))
 }
 
 /// The two devices once all have ended, and the answer of the run.
@@ -172,7 +149,7 @@ fn conclude<R: BytesIn + Drop, W: BytesOut + Drop>(
     } = chain;
     let (reader, mut sender, fed) = feeder.into_parts();
     // What was sent and not received is known now.
-    input.slots_beside(&mut sender);
+    input.look_beside(&mut sender);
     let mut collector = collector;
     collector.take_rest(&mut output);
     let (downstream, has_ended) = collector.into_parts();

@@ -1,21 +1,51 @@
 //! A tool of a chain, over one lane or several.
 
-ghost use Rattle.std.specs.Prelude.{◌≡◌, ◌↔◌, IsTrue, IfOk, IfErr, IfSome};
+ghost use Rattle.std.specs.Prelude.{◌≡◌, ◌↔◌, true, IsTrue, IfSome};
 ghost use Rattle.std.specs.Thread.{IsSync};
-ghost use Rattle.rtrb.specs.Ring.{sent, received, known_items, SameProducer, SameConsumer};
-ghost use Rattle.pnm_tools.specs.Tools.{IsLawfulTool};
-ghost use Rattle.pnm_rings.specs.Limits.{IsRingCapacity};
-ghost use Rattle.pnm_stages.specs.Starts.{IsUntouched};
+ghost use Rattle.pnm_tools.specs.Tools.{IsLawfulTool, is_row_wise};
+ghost use Rattle.pnm_stages.specs.Limits.{IsRingCapacity};
+ghost use Rattle.pnm_stages.specs.Rings.{sent, received, known_items, SameProducer, SameConsumer};
 ghost use Rattle.pnm_lanes.specs.Limits.{IsLaneCount};
-ghost use Rattle.pnm_flow.specs.Chains.{RunsInLanes, HasRunTool};
+ghost use Rattle.pnm_lanes.specs.LaneRings.{AreLaneRings};
+ghost use Rattle.pnm_flow.specs.Chains.{RunsInLanes, IsToolRun, IsOneStageRun, IsLanesRun, IsAcross};
 
-use pnm_lanes::run_lanes_by;
-use pnm_rings::{Input, Output};
-use pnm_stages::{Gate, NoStart, StageDone, StageWakers, run_stage_by};
+use pnm_image::Message;
+use pnm_lanes::{LaneRings, run_lanes_beside};
+use pnm_stages::{
+    Backoff, Call, Gate, Receiver, Sender, StageDone, Task, new_ring, run_both, run_filter,
+    stage_of,
+};
 use pnm_tools::Tool;
 use std::alloc::Global;
 use std::sync::Wait;
 use std::thread::Threads;
+
+/// What a tool of a chain works over.
+#[derive(Drop)]
+pub enum Across {
+    /// One stage, in one thread.
+    Stage,
+    /// Several lanes, with these rings to and from them, and one that tells that their threads are started.
+    Lanes(LaneRings, Sender, Receiver),
+}
+
+impl Across {
+    /// What this tool works over, where there are so many lanes for the tools that can have them, with rings for so many messages
+    /// each; none where there is no memory.
+    pub fn new(alloc: Global, tool: &Tool, lanes: usize, capacity: usize) -> Option<Across>
+        requires lanes { IsLaneCount lanes }
+        requires capacity { IsRingCapacity capacity }
+        ensures { IfSome result (IsAcross lanes tool.now) }
+    {
+        if runs_in_lanes(tool, lanes) {
+            let rings = LaneRings::new(alloc, lanes, capacity)?;
+            let (tells, hears) = new_ring(alloc, 1)?;
+            Some(Across::Lanes(rings, tells, hears))
+        } else {
+            Some(Across::Stage)
+        }
+    }
+}
 
 /// Whether the tool works over several lanes, where there are so many: one thread receives for it then, and another sends.
 pub fn runs_in_lanes(tool: &Tool, lanes: usize) -> bool
@@ -24,68 +54,137 @@ pub fn runs_in_lanes(tool: &Tool, lanes: usize) -> bool
     lanes > 1 && tool.is_row_wise()
 }
 
-/// Passes what comes on `input` through the tool to `output`: where it works over several lanes, in threads of its own for
-/// these, and else as one stage in this thread.
-pub fn run_tool_by<R: Threads + Wait + Sync, G: Gate>(
-    rt: &R,
+/// The work of one stage.
+#[derive(Drop)]
+struct Stage<'a, R, G> {
+    rt: &'a R,
     alloc: Global,
-    tool: &Tool,
+    tool: &'a Tool,
     number: usize,
-    lanes: usize,
-    capacity: usize,
-    gate: &G,
-    input: Input,
-    output: Output,
-    wakers: StageWakers<'_>,
-) -> Result<StageDone, NoStart>
-    requires shared { IsSync R.row × IsSync G.row }
-    requires lawful { IsLawfulTool tool.now }
-    requires lanes { IsLaneCount lanes }
-    requires capacity { IsRingCapacity capacity }
-    ensures input { IfOk result (λ done. SameConsumer input done.input) }
-    ensures output { IfOk result (λ done. SameProducer output done.output) }
-    ensures ran { IfOk result (λ done. HasRunTool lanes tool.now done.end (received input) (received done.input)
-        (known_items done.input) (sent output) (sent done.output)) }
-    ensures not_started { IfErr result (λ refused. IfSome refused.ends (IsUntouched input output)) }
-{
-    if runs_in_lanes(tool, lanes) {
-        return run_lanes_by(
-            rt, alloc, tool, number, lanes, capacity, gate, input, output, wakers,
-        );
-    }
-    Ok(run_stage_by(rt, alloc, tool, number, gate, input, output, wakers))
+    gate: &'a G,
+    input: Receiver,
+    output: Sender,
 }
 
-/// The same between two neighbours in other threads. Where it wasn't started, nothing comes back, and both are woken once
-/// its ring ends are gone, for which they look then.
-pub fn run_between<R: Threads + Wait + Sync, G: Gate>(
+impl<'a, R: Wait, G: Gate> Task for Stage<'a, R, G> {
+    type Output = StageDone;
+
+    ghost can_run = { λ s. IsLawfulTool s.tool.now };
+
+    ghost run_gives = { λ s done. IsOneStageRun s.tool.now s.input s.output done };
+
+    fn run(self) -> StageDone {
+        let Stage {
+            rt,
+            alloc,
+            tool,
+            number,
+            gate,
+            input,
+            output,
+        } = self;
+        gate.arrive(number, 0);
+        run_filter(rt, stage_of(alloc, tool), input, output)
+    }
+}
+
+/// Tells that all threads of a tool are started, by a message. Where they aren't, the ring's end goes.
+#[derive(Drop)]
+struct Told<'a, R> {
+    rt: &'a R,
+    tells: Sender,
+}
+
+impl<'a, R: Wait> Task for Told<'a, R> {
+    type Output = ();
+
+    ghost can_run = { λ _. Unit {0} };
+
+    ghost run_gives = { λ _ _. Unit {0} };
+
+    fn run(self) {
+        let Told { rt, mut tells } = self;
+        tells.send(rt, Message::StreamEnd, &mut Backoff::new());
+    }
+}
+
+/// Work that begins once a message tells that the threads of a tool are started; none where its ring's other end goes before.
+#[derive(Drop)]
+struct Hearing<'a, R, T> {
+    rt: &'a R,
+    hears: Receiver,
+    beside: T,
+}
+
+impl<'a, R: Wait, T: Task<Output = B> + Drop, B: Drop> Task for Hearing<'a, R, T> {
+    type Output = Option<B>;
+
+    ghost can_run = { λ h. T.can_run h.beside };
+
+    ghost run_gives = { λ h r. IfSome r (T.run_gives h.beside) };
+
+    fn run(self) -> Option<B> {
+        let Hearing {
+            rt,
+            mut hears,
+            beside,
+        } = self;
+        hears.receive(rt, &mut Backoff::new())?;
+        Some(beside.run())
+    }
+}
+
+/// Passes what comes on `input` through the tool to `output`, in threads of its own; once these are started, other work is done in
+/// this one. None where a thread can't be started: that work isn't done then, and the threads that were started have ended.
+pub fn run_tool<R: Threads + Wait + Sync, G: Gate, T: Task<Output = B> + Drop, B: Drop>(
     rt: &R,
     alloc: Global,
     tool: &Tool,
     number: usize,
     lanes: usize,
-    capacity: usize,
+    across: Across,
     gate: &G,
-    input: Input,
-    output: Output,
-    wakers: StageWakers<'_>,
-) -> Option<StageDone>
+    input: Receiver,
+    output: Sender,
+    beside: T,
+) -> Option<(StageDone, B)>
     requires shared { IsSync R.row × IsSync G.row }
     requires lawful { IsLawfulTool tool.now }
-    requires lanes { IsLaneCount lanes }
-    requires capacity { IsRingCapacity capacity }
-    ensures input { IfSome result (λ done. SameConsumer input done.input) }
-    ensures output { IfSome result (λ done. SameProducer output done.output) }
-    ensures ran { IfSome result (λ done. HasRunTool lanes tool.now done.end (received input) (received done.input)
-        (known_items done.input) (sent output) (sent done.output)) }
+    requires across { IsAcross lanes tool.now across }
+    requires beside { T.can_run beside }
+    ensures ran { IfSome result (λ r. IsToolRun lanes tool.now input output r.0) }
+    ensures beside { IfSome result (λ r. T.run_gives beside r.1) }
 {
-    let done = run_tool_by(
-        rt, alloc, tool, number, lanes, capacity, gate, input, output, wakers,
-    )
-    .ok();
-    if done.is_none() {
-        wakers.input.wake_sender();
-        wakers.output.wake_receiver();
+    match across {
+        Across::Stage => {
+            let stage = Stage {
+                rt,
+                alloc,
+                tool,
+                number,
+                gate,
+                input,
+                output,
+            };
+            run_both(rt, stage, beside)
+        }
+        Across::Lanes(rings, tells, hears) => {
+            // A closure, since a struct that is a task can't hand on that its gate may be shared.
+            let over_lanes = Call(
+                move || -> Option<StageDone>
+                    requires { (IsSync R.row × IsSync G.row)
+                        × IsLawfulTool tool.now × (is_row_wise tool.now ≡ true) × AreLaneRings rings }
+                    ensures { IfSome result (IsLanesRun tool.entry.now input output) }
+                {
+                    let told = Told { rt, tells };
+                    let (done, ()) = run_lanes_beside(
+                        rt, alloc, tool, number, rings, gate, input, output, told,
+                    )?;
+                    Some(done)
+                },
+            );
+            let (done, beside) = run_both(rt, over_lanes, Hearing { rt, hears, beside })?;
+            Some((done?, beside?))
+        }
     }
-    done
 }

@@ -1,111 +1,142 @@
 //! What the caller of a run over threads does while the tools work: it writes what it takes, and sends what it reads.
 
-ghost use Rattle.std.specs.Prelude.{◌≡◌, IsTrue, false};
+ghost use Rattle.std.specs.Prelude.{◌≡◌, IsTrue, IfSome, false};
 ghost use Rattle.pnm_flow.specs.Feeders.{is_over_by};
 ghost use Rattle.pnm_flow.specs.Turns.{HaveTurned};
 
 use crate::collector::Collector;
 use crate::feeder::Feeder;
 use pnm_image::{BytesIn, BytesOut};
-use pnm_rings::{Backoff, Wakers};
-use pnm_stages::Task;
+use pnm_stages::{Backoff, Task};
+use std::alloc::Global;
 use std::sync::Wait;
 
-/// The turns of the caller, until all is sent and taken, with the wakers of the first ring and of the last one, and how it waits.
+/// The turns of the caller, until all is sent and taken. Both ends are boxed, since each level of a chain's starts hands the task
+/// on to the next.
 #[derive(Drop)]
 pub struct Turns<'a, H, R, W> {
     pub rt: &'a H,
-    pub first: &'a Wakers,
-    pub last: &'a Wakers,
-    pub backoff: Backoff,
-    pub feeder: Feeder<R>,
-    pub collector: Collector<W>,
+    pub feeder: Box<Feeder<R>>,
+    pub collector: Box<Collector<W>>,
+}
+
+impl<'a, H, R: BytesIn + Drop, W: BytesOut + Drop> Turns<'a, H, R, W> {
+    /// The turns of a caller that has this before its chain, and that behind it; none where there is no memory.
+    pub fn new(
+        rt: &'a H,
+        alloc: Global,
+        feeder: Feeder<R>,
+        collector: Collector<W>,
+    ) -> Option<Turns<'a, H, R, W>>
+        ensures { IfSome result (λ t. (t.feeder.value ≡ feeder) × (t.collector.value ≡ collector)) }
+    {
+        let feeder = Box::new(alloc, feeder).ok()?;
+        let collector = Box::new(alloc, collector).ok()?;
+        Some(Turns {
+            rt,
+            feeder,
+            collector,
+        })
+    }
 }
 
 impl<'a, H: Wait, R: BytesIn + Drop, W: BytesOut + Drop> Task for Turns<'a, H, R, W> {
-    type Output = (Feeder<R>, Collector<W>);
+    type Output = (Box<Feeder<R>>, Box<Collector<W>>);
 
     ghost can_run = { λ t. Unit {0} };
 
-    ghost run_gives = { λ t r. HaveTurned R.left R.failures R.same W.held W.failures W.same t.feeder t.collector r.0 r.1 };
+    ghost run_gives = { λ t r. HaveTurned R.left R.failures R.same W.held W.failures W.same t.feeder.value t.collector.value r.0.value r.1.value };
 
-    fn run(self) -> (Feeder<R>, Collector<W>) {
+    fn run(self) -> (Box<Feeder<R>>, Box<Collector<W>>) {
         let Turns {
             rt,
-            first,
-            last,
-            backoff,
-            feeder,
-            collector,
+            mut feeder,
+            mut collector,
         } = self;
-        let mut feeder = feeder;
-        let mut collector = collector;
-        let mut backoff = backoff;
-        let mut takes = false;
-        for _ in rt.forever() {
-            if feeder.is_over() && collector.is_over() {
-                return (feeder, collector);
-            }
-            if turn(
-                &mut feeder,
-                &mut collector,
-                &mut takes,
-                first,
-                last,
-                &mut backoff,
-            ) {
-                backoff.reset();
-            } else {
-                wait(rt, feeder.waits_for_room(), first, last, &mut backoff);
-            }
-        }
-        unreachable!()
+        take_turns(rt, &mut feeder, &mut collector);
+        (feeder, collector)
     }
+}
+
+/// Takes and sends until there is no more to do.
+fn take_turns<H: Wait, R: BytesIn + Drop, W: BytesOut + Drop>(
+    rt: &H,
+    feeder: &mut Feeder<R>,
+    collector: &mut Collector<W>,
+)
+    ensures turned { HaveTurned R.left R.failures R.same W.held W.failures W.same feeder.old collector.old feeder.new collector.new }
+{
+    let mut backoff = Backoff::among_several();
+    let mut takes = false;
+    for _ in rt.forever() {
+        if feeder.is_over() && collector.is_over() {
+            return;
+        }
+        let takes_first = tell_before_taking(feeder, collector, takes);
+        if turn(feeder, collector, takes_first, &mut takes) {
+            backoff.reset();
+        } else {
+            wait(rt, feeder, collector, &mut backoff);
+        }
+    }
+    unreachable!()
 }
 
 /// One turn of waiting for both rings: at the first where a message waits for room there, since the tools have enough to do then
 /// that something comes of it, and else at the last.
-fn wait<H: Wait>(
+fn wait<H: Wait, R: BytesIn + Drop, W: BytesOut + Drop>(
     rt: &H,
-    waits_for_room: bool,
-    first: &Wakers,
-    last: &Wakers,
+    feeder: &mut Feeder<R>,
+    collector: &Collector<W>,
     backoff: &mut Backoff,
-) {
-    backoff.tell(first);
-    if waits_for_room {
-        backoff.wait_to_send(rt, first);
+)
+    ensures turned { HaveTurned R.left R.failures R.same W.held W.failures W.same feeder.old collector.now feeder.new collector.now }
+{
+    if feeder.waits_for_room() {
+        feeder.wait(rt, backoff);
     } else {
-        backoff.wait_to_receive(rt, last);
+        feeder.tell();
+        collector.wait(rt, backoff);
     }
 }
 
+/// Whether a message is taken first, if one is there: where one was taken in the turn before, or where the source would have to wait
+/// for its reader. The first tool is told of all that was sent then.
+fn tell_before_taking<R: BytesIn + Drop, W: BytesOut + Drop>(
+    feeder: &mut Feeder<R>,
+    collector: &Collector<W>,
+    takes: bool,
+) -> bool
+    ensures turned { HaveTurned R.left R.failures R.same W.held W.failures W.same feeder.old collector.now feeder.new collector.now }
+{
+    let takes_first = takes || feeder.would_read();
+    if takes_first {
+        feeder.tell();
+    }
+    takes_first
+}
+
 /// Goes on with what was done in the turn before, to take and write a message or to send one, as long as that can be done,
-/// and then does the other: so the caller looks at a ring for many messages at once. Before the source is asked for what it
-/// would have to wait for, all that has come is taken, and the first tool is told of all that was sent. False where nothing can
-/// be done.
+/// and then does the other: so the caller looks at a ring for many messages at once. False where nothing can be done.
 fn turn<R: BytesIn + Drop, W: BytesOut + Drop>(
     feeder: &mut Feeder<R>,
     collector: &mut Collector<W>,
+    takes_first: bool,
     takes: &mut bool,
-    first: &Wakers,
-    last: &Wakers,
-    backoff: &mut Backoff,
 ) -> bool
     ensures turned { HaveTurned R.left R.failures R.same W.held W.failures W.same feeder.old collector.old feeder.new collector.new }
 {
-    if *takes || feeder.would_read() {
-        backoff.tell(first);
-        if !collector.is_over() && collector.turn(last) {
+    if takes_first {
+        if !collector.is_over() && collector.turn() {
             return true;
         }
         *takes = false;
     }
-    if may_feed(feeder, collector) && feeder.turn(first, backoff) {
+    if may_feed(feeder, collector) && feeder.turn() {
         return true;
     }
     *takes = true;
-    !collector.is_over() && collector.turn(last)
+    !collector.is_over() && collector.turn()
 }
 
 /// Whether there is more to be sent. Where the result of an image that was sent is still to be written, it isn't what the

@@ -1,8 +1,8 @@
 -- How dealing is broken off.
 use Rattle.std.proofs.Common.{◌≡◌, ◌⊎◌, inl, inr, ℕ, Bool, true, false, List, [], ◌∷◌, ◌++◌, length, Option, None, refl, sym, ap, subst, ◌∙◌, append_assoc, append-nil}
 use Rattle.std.specs.List.{AllByRecursion}
-use Rattle.rtrb.specs.declared.producer.Producer.{Producer}
-use Rattle.rtrb.specs.Ring.{sent}
+use Rattle.pnm_stages.specs.declared.sender.Sender.{Sender}
+use Rattle.pnm_stages.specs.Rings.{sent}
 use Rattle.pnm_image.specs.declared.message.Message.{Message}
 use Rattle.pnm_image.specs.declared.message.Message.TheVariants.{Stop}
 use Rattle.pnm_image.specs.declared.place.Place.{Place}
@@ -17,13 +17,13 @@ use Rattle.pnm_tools.specs.Dealing.{dealt_message, dealt}
 use Rattle.pnm_tools.proofs.FullLaws.{front_of_front}
 use Rattle.pnm_tools.proofs.SoundLaws.{both_all}
 use Rattle.pnm_tools.proofs.InFullLaws.{ends_after}
-use Rattle.pnm_rings.specs.declared.ending.Ending.{Ending as Answered}
-use Rattle.pnm_rings.specs.declared.ending.Ending.TheVariants.{More as AnsweredMore, Whole as AnsweredWhole, BrokenOff as AnsweredBrokenOff}
-use Rattle.pnm_rings.specs.declared.stage_end.StageEnd.{StageEnd}
-use Rattle.pnm_rings.specs.declared.stage_end.StageEnd.TheVariants.{Fault, PeerGone}
-use Rattle.pnm_rings.specs.Fronts.{IsLongestLawfulFront}
-use Rattle.pnm_rings.specs.Rings.{ending_by, IsEnded, EndsAtMostOnce, HasDrainedAfter}
-use Rattle.pnm_rings.proofs.RingSteps.{ends_nothing, ends_with, same_output}
+use Rattle.pnm_stages.specs.declared.ending.Ending.{Ending as Answered}
+use Rattle.pnm_stages.specs.declared.ending.Ending.TheVariants.{More as AnsweredMore, Whole as AnsweredWhole, BrokenOff as AnsweredBrokenOff}
+use Rattle.pnm_stages.specs.declared.stage.StageEnd.{StageEnd}
+use Rattle.pnm_stages.specs.declared.stage.StageEnd.TheVariants.{Fault, PeerGone}
+use Rattle.pnm_stages.specs.Fronts.{IsLongestLawfulFront}
+use Rattle.pnm_stages.specs.Rings.{ending_by, IsEnded, EndsAtMostOnce, HasDrainedAfter}
+use Rattle.pnm_stages.proofs.RingSteps.{ends_nothing, ends_with, same_output}
 use Rattle.pnm_lanes.specs.Deals.{AtEach, HasReceivedSo, HasSentSo, HasLane, HasDealt}
 use Rattle.pnm_lanes.specs.DealParts.{part_at, lane_part, IsSentPart, HasSentParts, HasBrokenOffAfter}
 use Rattle.pnm_lanes.proofs.EachLaws.{each-map, each-then}
@@ -67,7 +67,7 @@ for_reason end all lanes accepted took (inr gone) =
 -- ---- what was received before and while the input was drained
 
 -- messages were received that end so, and it may end so then
-pub record IsCut {A P : Type 0} (end : StageEnd) (ending : Ending) (received_old received_now : List Message) (olds nows : List (Producer Message A P)) : Type 0 where
+pub record IsCut (end : StageEnd) (ending : Ending) (received_old received_now : List Message) (olds nows : List Sender) : Type 0 where
   pub took : List Message
   pub accepted : List Message
   pub all : Bool
@@ -133,7 +133,7 @@ is_drained AnsweredBrokenOff drained took received_now received_new left ends sa
 -- ---- and how it ends then
 
 -- all were told, and the input was drained
-ends_so : {A P : Type 0} (end answer : StageEnd) (ending : Answered) (untold : Option StageEnd) (drained : Bool) (received_old received_now received_new left : List Message) (olds nows news : List (Producer Message A P)) (cut : IsCut end (ending_by ending) received_old received_now olds nows)
+ends_so : (end answer : StageEnd) (ending : Answered) (untold : Option StageEnd) (drained : Bool) (received_old received_now received_new left : List Message) (olds nows news : List Sender) (cut : IsCut end (ending_by ending) received_old received_now olds nows)
     → AtEach (IsSentPart (λ lane. Stop ∷ []) untold) nows news → IsDrained drained cut.took received_now received_new left
     → ((untold ≡ None) × (drained ≡ true) × (answer ≡ end)) ⊎ (answer ≡ PeerGone) → HasDealt answer received_old received_new left olds news
 ends_so end answer ending untold drained received_old received_now received_new left olds nows news cut told rest (inl (none, all, same)) =
@@ -161,7 +161,7 @@ ends_so end answer ending untold drained received_old received_now received_new 
           (lost_lane cut.all (length olds) cut.accepted took untold (accepted_more cut.accepted cut.took rest.more cut.is)) cut.lanes told;
     })
 
-pub breaks_off : {A P : Type 0} (end answer : StageEnd) (ending : Answered) (e : Ending) (received_old received_now received_new left : List Message) (olds nows news : List (Producer Message A P)) (cut : IsCut end e received_old received_now olds nows)
+pub breaks_off : (end answer : StageEnd) (ending : Answered) (e : Ending) (received_old received_now received_new left : List Message) (olds nows news : List Sender) (cut : IsCut end e received_old received_now olds nows)
     → ending_by ending ≡ e → HasBrokenOffAfter end ending answer received_now received_new left nows news → HasDealt answer received_old received_new left olds news
 breaks_off end answer ending e received_old received_now received_new left olds nows news cut says broken =
     let same : EndsBy (ending_by ending) cut.took = subst (λ (x : Ending). EndsBy x cut.took) (sym says) cut.ends in
@@ -172,7 +172,7 @@ breaks_off end answer ending e received_old received_now received_new left olds 
 -- ---- where it is broken off
 
 -- at a message that can't come
-pub cut_at : {A P : Type 0} (place : Place) (received_old received_now received_new : List Message) (olds nows : List (Producer Message A P)) (m : Message) (dealing : IsDealing More place received_old received_now olds nows)
+pub cut_at : (place : Place) (received_old received_now received_new : List Message) (olds nows : List Sender) (m : Message) (dealing : IsDealing More place received_old received_now olds nows)
     → received_new ≡ received_now ++ m ∷ [] → IsMessage m → (Accepts place m → ⊥) → IsCut (Fault OutOfOrder) (ending_of m) received_old received_new olds nows
 cut_at place received_old received_now received_new olds nows m dealing added is refused =
     let took = dealing.took in
@@ -189,7 +189,7 @@ cut_at place received_old received_now received_new olds nows m dealing added is
     }
 
 -- after a message that not each lane could be sent its part of
-pub cut_after : {A P : Type 0} (end : StageEnd) (place : Place) (received_old received_now received_new : List Message) (olds nows news : List (Producer Message A P)) (m : Message) (unsent : Option StageEnd) (dealing : IsDealing More place received_old received_now olds nows)
+pub cut_after : (end : StageEnd) (place : Place) (received_old received_now received_new : List Message) (olds nows news : List Sender) (m : Message) (unsent : Option StageEnd) (dealing : IsDealing More place received_old received_now olds nows)
     → received_new ≡ received_now ++ m ∷ [] → IsMessage m → Accepts place m → ending_of m ≡ More → HasSentParts (part_at (length nows) place m) unsent nows news
     → (end ≡ Fault Memory) ⊎ (end ≡ PeerGone) → IsCut end (ending_of m) received_old received_new olds news
 cut_after end place received_old received_now received_new olds nows news m unsent dealing added is accepts goes sent_parts reason =
@@ -210,7 +210,7 @@ cut_after end place received_old received_now received_new olds nows news m unse
 -- ---- where the other end of a ring was seen dropped
 
 -- the end of the stream was dealt to those lanes that it could be sent to
-last_lane : {A P : Type 0} (place : Place) (lanes : ℕ) (took : List Message) (m : Message) (unsent : Option StageEnd) → IsAccepted (took ++ m ∷ []) (took ++ m ∷ []) → place ≡ place_of Between took → (lane : ℕ) (old now new : Producer Message A P)
+last_lane : (place : Place) (lanes : ℕ) (took : List Message) (m : Message) (unsent : Option StageEnd) → IsAccepted (took ++ m ∷ []) (took ++ m ∷ []) → place ≡ place_of Between took → (lane : ℕ) (old now new : Sender)
     → HasAll lanes took lane old now → IsSentPart (part_at lanes place m) unsent lane now new → HasLane PeerGone lanes (took ++ m ∷ []) lane old new
 last_lane place lanes took m unsent is here lane old now new all (same, inl added) =
     let gave = dealt lane lanes (took ++ m ∷ []) in
@@ -237,7 +237,7 @@ is_ended_by : (l : List Message) (m : Message) → EndsBy (ending_of m) l → (e
 is_ended_by l m ends (inl whole) = inl (subst (λ (e : Ending). EndsBy e l) whole ends)
 is_ended_by l m ends (inr broken) = inr (subst (λ (e : Ending). EndsBy e l) broken ends)
 
-pub ends_gone : {A P : Type 0} (place : Place) (received_old received_now received_new left : List Message) (olds nows news : List (Producer Message A P)) (m : Message) (unsent : Option StageEnd)
+pub ends_gone : (place : Place) (received_old received_now received_new left : List Message) (olds nows news : List Sender) (m : Message) (unsent : Option StageEnd)
     → IsDealing More place received_old received_now olds nows → received_new ≡ received_now ++ m ∷ [] → IsMessage m → Accepts place m → (ending_of m ≡ Whole) ⊎ (ending_of m ≡ BrokenOff)
     → HasSentParts (part_at (length nows) place m) unsent nows news → HasDealt PeerGone received_old received_new left olds news
 ends_gone place received_old received_now received_new left olds nows news m unsent dealing added is accepts ends sent_parts =
@@ -257,7 +257,7 @@ ends_gone place received_old received_now received_new left olds nows news m uns
     }
 
 -- nothing more came
-pub input_gone : {A P : Type 0} (place : Place) (received_old received_now received_new left : List Message) (olds nows news : List (Producer Message A P)) (untold : Option StageEnd)
+pub input_gone : (place : Place) (received_old received_now received_new left : List Message) (olds nows news : List Sender) (untold : Option StageEnd)
     → IsDealing More place received_old received_now olds nows → (received_new ≡ received_now) × (left ≡ []) → HasSentParts (lane_part (length nows) Stop) untold nows news → HasDealt PeerGone received_old received_new left olds news
 input_gone place received_old received_now received_new left olds nows news untold dealing gone told =
     let took = dealing.took in

@@ -1,8 +1,8 @@
 -- What has been dealt so far, and how the dealing ends.
 use Rattle.std.proofs.Common.{◌≡◌, inl, inr, ℕ, Bool, true, false, List, [], ◌∷◌, ◌++◌, length, Option, None, Some, refl, sym, ap, subst, ◌∙◌, append_assoc, append-nil}
 use Rattle.std.specs.List.{AllByRecursion}
-use Rattle.rtrb.specs.declared.producer.Producer.{Producer}
-use Rattle.rtrb.specs.Ring.{sent, SameProducer}
+use Rattle.pnm_stages.specs.declared.sender.Sender.{Sender}
+use Rattle.pnm_stages.specs.Rings.{sent, SameProducer}
 use Rattle.pnm_image.specs.declared.message.Message.{Message}
 use Rattle.pnm_image.specs.declared.message.Message.TheVariants.{Stop}
 use Rattle.pnm_image.specs.declared.place.Place.{Place}
@@ -15,10 +15,10 @@ use Rattle.pnm_image.proofs.Places.{lawful_more, place_of-append}
 use Rattle.pnm_tools.specs.Answers.{Ending, More, Whole, BrokenOff, ending_of, EndsBy}
 use Rattle.pnm_tools.specs.Dealing.{dealt_message, dealt}
 use Rattle.pnm_tools.proofs.FullLaws.{front_of_front}
-use Rattle.pnm_rings.specs.declared.stage_end.StageEnd.{StageEnd}
-use Rattle.pnm_rings.specs.declared.stage_end.StageEnd.TheVariants.{Well, Broken, PeerGone}
-use Rattle.pnm_rings.proofs.RingSteps.{ends_as, same_output, itself_output}
-use Rattle.pnm_rings.proofs.FrontLaws.{stop_is_cut}
+use Rattle.pnm_stages.specs.declared.stage.StageEnd.{StageEnd}
+use Rattle.pnm_stages.specs.declared.stage.StageEnd.TheVariants.{Well, Broken, PeerGone}
+use Rattle.pnm_stages.proofs.RingSteps.{ends_as, same_output, itself_output}
+use Rattle.pnm_stages.proofs.FrontLaws.{stop_is_cut}
 use Rattle.pnm_lanes.specs.Deals.{AtEach, HasSentSo, IsFrontOfDealt, HasLane, HasDealt}
 use Rattle.pnm_lanes.specs.DealParts.{part_at, IsSentPart, HasSentParts}
 use Rattle.pnm_lanes.proofs.EachLaws.{each-map, each-itself, each-then, each-count}
@@ -27,11 +27,11 @@ use Rattle.pnm_lanes.proofs.DealtLaws.{dealt_more, dealt_goes_on, dealt_part_goe
 -- ---- what has been dealt
 
 -- a lane was sent all that is dealt to it of these messages
-abbrev pub HasAll : {A P : Type 0} → ℕ → List Message → ℕ → Producer Message A P → Producer Message A P → Type 0
+abbrev pub HasAll : ℕ → List Message → ℕ → Sender → Sender → Type 0
 HasAll lanes took lane old now = SameProducer old now × (sent now ≡ sent old ++ dealt lane lanes took)
 
 -- messages were received that end so, and all of them were dealt
-pub record IsDealing {A P : Type 0} (ending : Ending) (place : Place) (received_old received_now : List Message) (olds nows : List (Producer Message A P)) : Type 0 where
+pub record IsDealing (ending : Ending) (place : Place) (received_old received_now : List Message) (olds nows : List Sender) : Type 0 where
   pub took : List Message
   pub input : received_now ≡ received_old ++ took
   pub messages : AllByRecursion IsMessage took
@@ -41,7 +41,7 @@ pub record IsDealing {A P : Type 0} (ending : Ending) (place : Place) (received_
   pub lanes : AtEach (HasAll (length olds) took) olds nows
 
 -- nothing yet
-pub deals_nothing : {A P : Type 0} (l : List Message) (outputs : List (Producer Message A P)) → IsDealing More Between l l outputs outputs
+pub deals_nothing : (l : List Message) (outputs : List Sender) → IsDealing More Between l l outputs outputs
 deals_nothing l outputs = record {
   took = [];
   input = sym (append-nil l);
@@ -53,13 +53,13 @@ deals_nothing l outputs = record {
 }
 
 -- the parts of the lanes, by the number of lanes at the beginning
-pub parts_of : {A P : Type 0} (place : Place) (m : Message) (olds nows news : List (Producer Message A P)) (took : List Message) (unsent : Option StageEnd) → AtEach (HasAll (length olds) took) olds nows
+pub parts_of : (place : Place) (m : Message) (olds nows news : List Sender) (took : List Message) (unsent : Option StageEnd) → AtEach (HasAll (length olds) took) olds nows
     → HasSentParts (part_at (length nows) place m) unsent nows news → HasSentParts (part_at (length olds) place m) unsent nows news
 parts_of place m olds nows news took unsent all parts =
     subst (λ (n : ℕ). HasSentParts (part_at n place m) unsent nows news) (each-count (HasAll (length olds) took) 0 olds nows all) parts
 
 -- a lane was sent all, and its part of one more
-one_more_lane : {A P : Type 0} (place : Place) (lanes : ℕ) (took : List Message) (m : Message) (unsent : Option StageEnd) → unsent ≡ None → place ≡ place_of Between took → (lane : ℕ) (old now new : Producer Message A P)
+one_more_lane : (place : Place) (lanes : ℕ) (took : List Message) (m : Message) (unsent : Option StageEnd) → unsent ≡ None → place ≡ place_of Between took → (lane : ℕ) (old now new : Sender)
     → HasAll lanes took lane old now → IsSentPart (part_at lanes place m) unsent lane now new → HasAll lanes (took ++ m ∷ []) lane old new
 one_more_lane place lanes took m unsent none here lane old now new all (same, inl is) = (
   same_output old now new all.0 same,
@@ -70,7 +70,7 @@ one_more_lane place lanes took m None none here lane old now new all (same, inr 
 one_more_lane place lanes took m (Some end) none here lane old now new all (same, inr lost) = absurd cc
 
 -- a message was dealt
-pub deals_on : {A P : Type 0} (ending : Ending) (place : Place) (received_old received_now received_new : List Message) (olds nows news : List (Producer Message A P)) (m : Message) (unsent : Option StageEnd)
+pub deals_on : (ending : Ending) (place : Place) (received_old received_now received_new : List Message) (olds nows news : List Sender) (m : Message) (unsent : Option StageEnd)
     → IsDealing More place received_old received_now olds nows → received_new ≡ received_now ++ m ∷ [] → IsMessage m → Accepts place m → ending_of m ≡ ending
     → HasSentParts (part_at (length nows) place m) unsent nows news → unsent ≡ None → IsDealing ending (place_after place m) received_old received_new olds news
 deals_on ending place received_old received_now received_new olds nows news m unsent dealing added is accepts ends sent_parts none =
@@ -89,7 +89,7 @@ deals_on ending place received_old received_now received_new olds nows news m un
 -- ---- the end of the stream
 
 -- all was dealt to the lane
-whole_lane : {A P : Type 0} (end : StageEnd) (lanes : ℕ) (took : List Message) → IsLawful took → ((lane : ℕ) → HasSentSo end lane lanes took (dealt lane lanes took)) → (lane : ℕ) (old new : Producer Message A P)
+whole_lane : (end : StageEnd) (lanes : ℕ) (took : List Message) → IsLawful took → ((lane : ℕ) → HasSentSo end lane lanes took (dealt lane lanes took)) → (lane : ℕ) (old new : Sender)
     → HasAll lanes took lane old new → HasLane end lanes took lane old new
 whole_lane end lanes took lawful so lane old new all = record {
   ring = all.0;
@@ -99,7 +99,7 @@ whole_lane end lanes took lawful so lane old new all = record {
   front = record { accepted = took; rest = []; parts = sym (append-nil took); lawful = lawful; front = before_stop_front (dealt lane lanes took) };
 }
 
-pub ends_whole : {A P : Type 0} (place : Place) (received_old received_new left : List Message) (olds news : List (Producer Message A P)) → IsDealing Whole place received_old received_new olds news → HasDealt Well received_old received_new left olds news
+pub ends_whole : (place : Place) (received_old received_new left : List Message) (olds news : List Sender) → IsDealing Whole place received_old received_new olds news → HasDealt Well received_old received_new left olds news
 ends_whole place received_old received_new left olds news dealing = record {
   took = dealing.took;
   input = dealing.input;
@@ -110,7 +110,7 @@ ends_whole place received_old received_new left olds news dealing = record {
   lanes = each-map (HasAll (length olds) dealing.took) (HasLane Well (length olds) dealing.took) 0 olds news (whole_lane Well (length olds) dealing.took dealing.lawful (λ lane. refl)) dealing.lanes;
 }
 
-pub ends_broken : {A P : Type 0} (place : Place) (received_old received_new left : List Message) (olds news : List (Producer Message A P)) → IsDealing BrokenOff place received_old received_new olds news → HasDealt Broken received_old received_new left olds news
+pub ends_broken : (place : Place) (received_old received_new left : List Message) (olds news : List Sender) → IsDealing BrokenOff place received_old received_new olds news → HasDealt Broken received_old received_new left olds news
 ends_broken place received_old received_new left olds news dealing = record {
   took = dealing.took;
   input = dealing.input;
@@ -124,15 +124,15 @@ ends_broken place received_old received_new left olds news dealing = record {
 -- ---- a lane that is sent Stop
 
 -- a lane was sent a front, which goes on, of what is dealt to it of these messages, and all of it where that is said
-abbrev pub HasFront : {A P : Type 0} → Bool → ℕ → List Message → ℕ → Producer Message A P → Producer Message A P → Type 0
+abbrev pub HasFront : Bool → ℕ → List Message → ℕ → Sender → Sender → Type 0
 HasFront all lanes accepted lane old now = SameProducer old now × ((g : List Message) × (sent now ≡ sent old ++ g) × EndsBy More g × IsFrontOf g (dealt lane lanes accepted) × (all ≡ true → g ≡ dealt lane lanes accepted))
 
 -- all that is dealt is a front of itself
-pub all_is_front : {A P : Type 0} (lanes : ℕ) (took : List Message) → EndsBy More took → (lane : ℕ) (old now : Producer Message A P) → HasAll lanes took lane old now → HasFront true lanes took lane old now
+pub all_is_front : (lanes : ℕ) (took : List Message) → EndsBy More took → (lane : ℕ) (old now : Sender) → HasAll lanes took lane old now → HasFront true lanes took lane old now
 all_is_front lanes took more lane old now all = (all.0, (dealt lane lanes took, all.1, dealt_goes_on lane lanes took more, itself_front (dealt lane lanes took), λ e. refl))
 
 -- with its part of one more, or without it
-pub part_is_front : {A P : Type 0} (place : Place) (lanes : ℕ) (took : List Message) (m : Message) (unsent : Option StageEnd) → EndsBy More took → ending_of m ≡ More → place ≡ place_of Between took → (lane : ℕ) (old now new : Producer Message A P)
+pub part_is_front : (place : Place) (lanes : ℕ) (took : List Message) (m : Message) (unsent : Option StageEnd) → EndsBy More took → ending_of m ≡ More → place ≡ place_of Between took → (lane : ℕ) (old now new : Sender)
     → HasAll lanes took lane old now → IsSentPart (part_at lanes place m) unsent lane now new → HasFront false lanes (took ++ m ∷ []) lane old new
 part_is_front place lanes took m unsent more goes here lane old now new all (same, inl is) =
     let more_dealt = dealt_more lane lanes place took m here in (
@@ -167,7 +167,7 @@ pub front_of_dealt : (lane lanes : ℕ) (accepted l g : List Message) → IsAcce
 front_of_dealt lane lanes accepted l g is front = record { accepted = accepted; rest = is.rest; parts = is.parts; lawful = is.lawful; front = front }
 
 -- the lane was sent Stop
-stopped_lane : {A P : Type 0} (end : StageEnd) (all : Bool) (lanes : ℕ) (accepted l : List Message) → IsAccepted accepted l → ((lane : ℕ) (g : List Message) → EndsBy More g → (all ≡ true → g ≡ dealt lane lanes accepted) → HasSentSo end lane lanes l (g ++ Stop ∷ [])) → (lane : ℕ) (old now new : Producer Message A P)
+stopped_lane : (end : StageEnd) (all : Bool) (lanes : ℕ) (accepted l : List Message) → IsAccepted accepted l → ((lane : ℕ) (g : List Message) → EndsBy More g → (all ≡ true → g ≡ dealt lane lanes accepted) → HasSentSo end lane lanes l (g ++ Stop ∷ [])) → (lane : ℕ) (old now new : Sender)
     → HasFront all lanes accepted lane old now → SameProducer now new → sent new ≡ sent now ++ Stop ∷ [] → HasLane end lanes l lane old new
 stopped_lane end all lanes accepted l is so lane old now new (same_now, (g, output, more, front, full)) same added = record {
   ring = same_output old now new same_now same;
@@ -177,14 +177,14 @@ stopped_lane end all lanes accepted l is so lane old now new (same_now, (g, outp
   front = front_of_dealt lane lanes accepted l (g ++ Stop ∷ []) is (subst (λ (x : List Message). IsFrontOf x (dealt lane lanes accepted)) (sym (stop_is_cut g)) front);
 }
 
-pub told_lane : {A P : Type 0} (end : StageEnd) (all : Bool) (lanes : ℕ) (accepted l : List Message) (untold : Option StageEnd) → untold ≡ None → IsAccepted accepted l → ((lane : ℕ) (g : List Message) → EndsBy More g → (all ≡ true → g ≡ dealt lane lanes accepted) → HasSentSo end lane lanes l (g ++ Stop ∷ [])) → (lane : ℕ) (old now new : Producer Message A P)
+pub told_lane : (end : StageEnd) (all : Bool) (lanes : ℕ) (accepted l : List Message) (untold : Option StageEnd) → untold ≡ None → IsAccepted accepted l → ((lane : ℕ) (g : List Message) → EndsBy More g → (all ≡ true → g ≡ dealt lane lanes accepted) → HasSentSo end lane lanes l (g ++ Stop ∷ [])) → (lane : ℕ) (old now new : Sender)
     → HasFront all lanes accepted lane old now → IsSentPart (λ n. Stop ∷ []) untold lane now new → HasLane end lanes l lane old new
 told_lane end all lanes accepted l untold none is so lane old now new front (same, inl added) = stopped_lane end all lanes accepted l is so lane old now new front same added
 told_lane end all lanes accepted l None none is so lane old now new front (same, inr lost) = let lost_one = lost.1 in absurd cc
 told_lane end all lanes accepted l (Some e) none is so lane old now new front (same, inr lost) = absurd cc
 
 -- or wasn't, where the other end of a ring was seen dropped
-pub lost_lane : {A P : Type 0} (all : Bool) (lanes : ℕ) (accepted l : List Message) (untold : Option StageEnd) → IsAccepted accepted l → (lane : ℕ) (old now new : Producer Message A P)
+pub lost_lane : (all : Bool) (lanes : ℕ) (accepted l : List Message) (untold : Option StageEnd) → IsAccepted accepted l → (lane : ℕ) (old now new : Sender)
     → HasFront all lanes accepted lane old now → IsSentPart (λ n. Stop ∷ []) untold lane now new → HasLane PeerGone lanes l lane old new
 lost_lane all lanes accepted l untold is lane old now new front (same, inl added) = stopped_lane PeerGone all lanes accepted l is (λ n g more full. tt) lane old now new front same added
 lost_lane all lanes accepted l untold is lane old now new (same_now, (g, output, more, front, full)) (same, inr lost) = record {

@@ -12,9 +12,9 @@ use Rattle.pnm_tools.specs.Answers.{More, ending_of, EndsBy}
 use Rattle.pnm_tools.specs.Dealing.{dealt_message, dealt_from, dealt}
 use Rattle.pnm_tools.proofs.FullLaws.{front_of_front}
 use Rattle.pnm_tools.proofs.InFullLaws.{EndNothing, ends_after}
-use Rattle.pnm_rings.specs.Fronts.{IsLongestLawfulFront}
-use Rattle.pnm_rings.proofs.RingSteps.{ends_nothing}
-use Rattle.pnm_rings.proofs.FrontLaws.{stop_is_cut, front_without_stop, lawful_front_of_longest}
+use Rattle.pnm_stages.specs.Fronts.{IsLongestLawfulFront}
+use Rattle.pnm_stages.proofs.RingSteps.{ends_nothing}
+use Rattle.pnm_stages.proofs.FrontLaws.{stop_is_cut, front_without_stop, lawful_front_of_longest}
 use Rattle.pnm_lanes.specs.Deals.{IsFrontOfDealt}
 
 -- ---- one after another

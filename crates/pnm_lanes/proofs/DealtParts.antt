@@ -15,7 +15,7 @@ use Rattle.pnm_tools.specs.Answers.{More, Whole, ending_of, EndsBy}
 use Rattle.pnm_tools.specs.Dealing.{dealt_head, dealt_message, dealt_from}
 use Rattle.pnm_tools.proofs.DealingLaws.{dealt_head_is_head}
 use Rattle.pnm_tools.proofs.InFullLaws.{EndNothing}
-use Rattle.pnm_rings.proofs.RingSteps.{ends_nothing}
+use Rattle.pnm_stages.proofs.RingSteps.{ends_nothing}
 use Rattle.pnm_lanes.specs.Gathers.{BeginsOrEnds}
 use Rattle.pnm_lanes.specs.GatherParts.{IsOfStream}
 use Rattle.pnm_lanes.proofs.PartLaws.{begins_so}

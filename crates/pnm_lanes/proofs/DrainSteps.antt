@@ -1,15 +1,15 @@
 -- Lanes that are drained, message by message.
 use Rattle.std.proofs.Common.{◌≡◌, ◌≢◌, inl, inr, ℕ, ◌<◌, List, [], ◌++◌, length, get_or, set, Option, Some, None, refl, sym, ap, subst, ◌∙◌, append-nil, append_assoc, arith}
 use Rattle.std.proofs.lemmas.List.{get_or-set_same, get_or-set_other}
-use Rattle.rtrb.specs.declared.consumer.Consumer.{Consumer}
-use Rattle.rtrb.specs.Ring.{received, known_items}
+use Rattle.pnm_stages.specs.declared.receiver.Receiver.{Receiver}
+use Rattle.pnm_stages.specs.Rings.{received, known_items}
 use Rattle.pnm_image.specs.declared.message.Message.{Message}
 use Rattle.pnm_image.specs.Completion.{IsFrontOf}
 use Rattle.pnm_image.specs.Messages.{IsMessage}
 use Rattle.pnm_tools.specs.Answers.{Ending, More, Whole, BrokenOff, EndsBy}
 use Rattle.pnm_tools.proofs.InFullLaws.{ends_after}
-use Rattle.pnm_rings.specs.Rings.{Extends, IsEnded}
-use Rattle.pnm_rings.proofs.RingSteps.{ends_nothing}
+use Rattle.pnm_stages.specs.Rings.{Extends, IsEnded}
+use Rattle.pnm_stages.proofs.RingSteps.{ends_nothing}
 use Rattle.pnm_lanes.specs.declared.lane.LaneState.{LaneState}
 use Rattle.pnm_lanes.specs.declared.lane.LaneState.TheVariants.{Open, Ended, Gone}
 use Rattle.pnm_lanes.specs.Gathers.{at_lane, AreSameInputs}
@@ -82,7 +82,7 @@ other_state None states lane other differ = refl
 other_state (Some s) states lane other differ = get_or-set_other states lane other s Open differ
 
 -- a lane was tried
-pub carries_one : {A P : Type 0} (ends : List (Consumer Message A P)) (lane : ℕ) (new other : Consumer Message A P) (states : List LaneState) (found : Option LaneState)
+pub carries_one : (ends : List Receiver) (lane : ℕ) (new other : Receiver) (states : List LaneState) (found : Option LaneState)
     → lane < length ends → length ends ≡ length states → state_at states lane ≡ Open → HasDrainedOne found (received (get_or ends lane other)) (received new) (known_items new)
     → CarriesOn (length ends) states (states_found states lane found) (at_lane received ends) (at_lane received (set ends lane new)) (at_lane known_items ends) (at_lane known_items (set ends lane new))
 carries_one ends lane new other states found within same is_open drained =
@@ -102,7 +102,7 @@ carries_one ends lane new other states found within same is_open drained =
     }
 
 -- lanes were tried, and then others
-pub tried_both : {A P : Type 0} (ends0 ends1 ends2 : List (Consumer Message A P)) (s0 s1 s2 : List LaneState)
+pub tried_both : (ends0 ends1 ends2 : List Receiver) (s0 s1 s2 : List LaneState)
     → AreSameInputs ends0 ends1 × CarriesOn (length ends0) s0 s1 (at_lane received ends0) (at_lane received ends1) (at_lane known_items ends0) (at_lane known_items ends1)
     → AreSameInputs ends1 ends2 → CarriesOn (length ends1) s1 s2 (at_lane received ends1) (at_lane received ends2) (at_lane known_items ends1) (at_lane known_items ends2)
     → AreSameInputs ends0 ends2 × CarriesOn (length ends0) s0 s2 (at_lane received ends0) (at_lane received ends2) (at_lane known_items ends0) (at_lane known_items ends2)

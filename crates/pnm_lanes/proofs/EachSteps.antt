@@ -17,8 +17,8 @@ use Rattle.pnm_image.specs.Places.{Accepts, IsLawfulFrom, place_after}
 use Rattle.pnm_tools.specs.declared.fault.ToolFault.TheVariants.{OutOfOrder}
 use Rattle.pnm_tools.specs.Answers.{ending_of}
 use Rattle.pnm_tools.specs.Dealing.{dealt_height, dealt_head, dealt_message, dealt_from}
-use Rattle.pnm_rings.specs.declared.stage_end.StageEnd.{StageEnd}
-use Rattle.pnm_rings.specs.declared.stage_end.StageEnd.TheVariants.{Fault}
+use Rattle.pnm_stages.specs.declared.stage.StageEnd.{StageEnd}
+use Rattle.pnm_stages.specs.declared.stage.StageEnd.TheVariants.{Fault}
 use Rattle.pnm_lanes.specs.declared.lane.LaneState.{LaneState}
 use Rattle.pnm_lanes.specs.declared.lane.LaneState.TheVariants.{Open}
 use Rattle.pnm_lanes.specs.GatherParts.{IsOfStream, HasGiven, HasTakenFrom, state_at, AreOpen, AwaitsNoRow, HasTakenParts, HasTakenWhole, HasTakenNone, HasTakenNext, BeginsNone, IsTogether, AreNotTogether, AreDealtHeights, AreAlike, height_in}

@@ -16,12 +16,12 @@ use Rattle.pnm_image.proofs.Streams.{stream_is_lawful}
 use Rattle.pnm_tools.specs.Answers.{More, Whole, BrokenOff, ending_of, EndsBy}
 use Rattle.pnm_tools.specs.Dealing.{dealt, dealt_message, dealt_from}
 use Rattle.pnm_tools.proofs.FullLaws.{front_of_front}
-use Rattle.pnm_rings.specs.declared.stage_end.StageEnd.{StageEnd}
-use Rattle.pnm_rings.specs.declared.stage_end.StageEnd.TheVariants.{Well, Broken, Fault, PeerGone}
-use Rattle.pnm_rings.specs.Rings.{Extends, IsEnded, EndsAtMostOnce}
-use Rattle.pnm_rings.proofs.EndingLaws.{one_ending, nothing_follows, stream_ends_whole}
-use Rattle.pnm_rings.proofs.FrontLaws.{stop_is_cut, front_without_stop}
-use Rattle.pnm_rings.proofs.RingSteps.{ends_as}
+use Rattle.pnm_stages.specs.declared.stage.StageEnd.{StageEnd}
+use Rattle.pnm_stages.specs.declared.stage.StageEnd.TheVariants.{Well, Broken, Fault, PeerGone}
+use Rattle.pnm_stages.specs.Rings.{Extends, IsEnded, EndsAtMostOnce}
+use Rattle.pnm_stages.proofs.EndingLaws.{one_ending, nothing_follows, stream_ends_whole}
+use Rattle.pnm_stages.proofs.FrontLaws.{stop_is_cut, front_without_stop}
+use Rattle.pnm_stages.proofs.RingSteps.{ends_as}
 use Rattle.pnm_lanes.specs.declared.lane.LaneState.{LaneState}
 use Rattle.pnm_lanes.specs.declared.lane.LaneState.TheVariants.{Open, Ended, Gone}
 use Rattle.pnm_lanes.specs.Gathers.{AreDealt, BeginsOrEnds, HasSentAll, HasPassedSo, HasGatheredSo, HasGathered}

@@ -11,10 +11,10 @@ use Rattle.pnm_image.proofs.Lists.{each-push}
 use Rattle.pnm_image.proofs.Places.{lawful_more, place_of-append}
 use Rattle.pnm_tools.specs.Answers.{More, BrokenOff, ending_of, EndsBy}
 use Rattle.pnm_tools.specs.Dealing.{dealt, dealt_message}
-use Rattle.pnm_rings.proofs.RingSteps.{ends_as}
-use Rattle.pnm_rings.specs.declared.ending.Ending.{Ending as Answered}
-use Rattle.pnm_rings.specs.declared.ending.Ending.TheVariants.{More as AnsweredMore, BrokenOff as AnsweredBrokenOff}
-use Rattle.pnm_rings.specs.Rings.{ending_by}
+use Rattle.pnm_stages.proofs.RingSteps.{ends_as}
+use Rattle.pnm_stages.specs.declared.ending.Ending.{Ending as Answered}
+use Rattle.pnm_stages.specs.declared.ending.Ending.TheVariants.{More as AnsweredMore, BrokenOff as AnsweredBrokenOff}
+use Rattle.pnm_stages.specs.Rings.{ending_by}
 use Rattle.pnm_lanes.specs.declared.lane.LaneState.{LaneState}
 use Rattle.pnm_lanes.specs.declared.lane.LaneState.TheVariants.{Open, Ended, Gone}
 use Rattle.pnm_lanes.specs.GatherParts.{IsOfStream, state_at, IsLeftBy, HasTakenParts, HasTakenWhole, IsLane, AreLanes}

@@ -1,14 +1,12 @@
 -- The rings of lanes once all have ended: lane by lane from the last on, what has passed over them, and the end of all.
 use Rattle.std.proofs.Common.{◌≡◌, ℕ, suc, ◌+◌, List, [], ◌∷◌, ◌++◌, length, refl, sym, ap, subst, ◌∙◌, append_assoc, append-nil, arith}
 use Rattle.std.proofs.lemmas.List.{length-append}
-use Rattle.std.specs.Global.{Global}
-use Rattle.rtrb.specs.declared.producer.Producer.{Producer}
-use Rattle.rtrb.specs.declared.consumer.Consumer.{Consumer}
-use Rattle.rtrb.specs.Ring.{sent, received, IsPair}
+use Rattle.pnm_stages.specs.declared.sender.Sender.{Sender}
+use Rattle.pnm_stages.specs.declared.receiver.Receiver.{Receiver}
+use Rattle.pnm_stages.specs.Rings.{sent, received, IsPair}
 use Rattle.pnm_image.specs.declared.message.Message.{Message}
 use Rattle.pnm_image.specs.Completion.{IsFrontOf}
-use Rattle.pnm_rings.specs.declared.ring.AnyMessage.{AnyMessage}
-use Rattle.pnm_rings.specs.declared.stage_end.StageEnd.{StageEnd}
+use Rattle.pnm_stages.specs.declared.stage.StageEnd.{StageEnd}
 use Rattle.pnm_stages.specs.declared.stage.StageDone.{StageDone}
 use Rattle.pnm_lanes.specs.declared.lane_rings.LaneEnds.{LaneEnds}
 use Rattle.pnm_lanes.specs.LaneRings.{AreUnused, ArePairs}
@@ -23,7 +21,7 @@ pub counted_more : {X : Type 0} (xs ys : List X) (x : X) (n : ℕ) → ys ≡ xs
 counted_more xs ys x n is count = ap length is ∙ one_more xs x ∙ omega (arith, count)
 
 -- rings to and from one lane more
-pub unused_more : (ss : List (Producer Message Global AnyMessage)) (es : List LaneEnds) (rs : List (Consumer Message Global AnyMessage)) (s : Producer Message Global AnyMessage) (e : LaneEnds) (r : Consumer Message Global AnyMessage)
+pub unused_more : (ss : List Sender) (es : List LaneEnds) (rs : List Receiver) (s : Sender) (e : LaneEnds) (r : Receiver)
     → AreUnused ss es rs → IsPair s e.input → IsPair e.output r → sent s ≡ [] → received e.input ≡ [] → sent e.output ≡ [] → received r ≡ [] → AreUnused (ss ++ s ∷ []) (es ++ e ∷ []) (rs ++ r ∷ [])
 unused_more [] [] [] s e r unused to from a b c d = (to, from, (a, b, c, d), tt)
 unused_more [] [] (y ∷ rs) s e r unused to from a b c d = absurd unused
@@ -35,7 +33,7 @@ unused_more (z ∷ ss) (x ∷ es) (y ∷ rs) s e r unused to from a b c d = (unu
 -- ---- the last lane
 
 -- as many rings to lanes as from them
-pub as_many_pairs : (ss : List (Producer Message Global AnyMessage)) (ds : List StageDone) (rs : List (Consumer Message Global AnyMessage)) → ArePairs ss ds rs → (length ss ≡ length ds) × (length rs ≡ length ds)
+pub as_many_pairs : (ss : List Sender) (ds : List StageDone) (rs : List Receiver) → ArePairs ss ds rs → (length ss ≡ length ds) × (length rs ≡ length ds)
 as_many_pairs [] [] [] pairs = (refl, refl)
 as_many_pairs [] [] (r ∷ rs) pairs = absurd pairs
 as_many_pairs [] (d ∷ ds) rs pairs = absurd pairs
@@ -46,7 +44,7 @@ as_many_pairs (s ∷ ss) (d ∷ ds) (r ∷ rs) pairs =
     (ap suc rest.0, ap suc rest.1)
 
 -- the rings of the last lane, and those of the lanes before it
-pub pairs_last : (ss : List (Producer Message Global AnyMessage)) (ds : List StageDone) (rs : List (Consumer Message Global AnyMessage)) (s : Producer Message Global AnyMessage) (d : StageDone) (r : Consumer Message Global AnyMessage)
+pub pairs_last : (ss : List Sender) (ds : List StageDone) (rs : List Receiver) (s : Sender) (d : StageDone) (r : Receiver)
     → ArePairs (ss ++ s ∷ []) (ds ++ d ∷ []) (rs ++ r ∷ []) → ArePairs ss ds rs × IsPair s d.input × IsPair d.output r
 pairs_last [] [] [] s d r pairs = (tt, pairs.0, pairs.1)
 pairs_last [] [] (y ∷ rs) s d r pairs = let many = as_many_pairs (s ∷ []) (d ∷ []) (y ∷ (rs ++ r ∷ [])) pairs in absurd (omega (arith, many.1, one_more rs r))
@@ -60,7 +58,7 @@ pairs_last (z ∷ ss) (x ∷ ds) (y ∷ rs) s d r pairs =
 -- ---- lane by lane
 
 -- each lane received a front of what was sent to it, and a front of what it sent was received
-abbrev pub HavePassed : List (Producer Message Global AnyMessage) → List StageDone → List (Consumer Message Global AnyMessage) → Type 0
+abbrev pub HavePassed : List Sender → List StageDone → List Receiver → Type 0
 HavePassed [] [] [] = Unit {0}
 HavePassed [] [] (r ∷ rs) = ⊥
 HavePassed [] (d ∷ ds) rs = ⊥
@@ -74,17 +72,17 @@ end_of_lanes [] gatherer = gatherer
 end_of_lanes (lane ∷ lanes) gatherer = end_of_both lane.end (end_of_lanes lanes gatherer)
 
 -- some of the last lanes were looked at: what had passed over their rings, and their end with that of the thread behind them
-pub record IsJoining (all_ss : List (Producer Message Global AnyMessage)) (all_ds : List StageDone) (all_rs : List (Consumer Message Global AnyMessage)) (gatherer : StageEnd)
-    (ss : List (Producer Message Global AnyMessage)) (ds : List StageDone) (rs : List (Consumer Message Global AnyMessage)) (end : StageEnd) : Type 0 where
-  pub to_lanes : List (Producer Message Global AnyMessage)
+pub record IsJoining (all_ss : List Sender) (all_ds : List StageDone) (all_rs : List Receiver) (gatherer : StageEnd)
+    (ss : List Sender) (ds : List StageDone) (rs : List Receiver) (end : StageEnd) : Type 0 where
+  pub to_lanes : List Sender
   pub lanes : List StageDone
-  pub from_lanes : List (Consumer Message Global AnyMessage)
+  pub from_lanes : List Receiver
   pub parts : (all_ss ≡ ss ++ to_lanes) × (all_ds ≡ ds ++ lanes) × (all_rs ≡ rs ++ from_lanes)
   pub pairs : ArePairs ss ds rs
   pub passed : HavePassed to_lanes lanes from_lanes
   pub end_is : end ≡ end_of_lanes lanes gatherer
 
-pub joins_none : (ss : List (Producer Message Global AnyMessage)) (ds : List StageDone) (rs : List (Consumer Message Global AnyMessage)) (gatherer : StageEnd) → ArePairs ss ds rs → IsJoining ss ds rs gatherer ss ds rs gatherer
+pub joins_none : (ss : List Sender) (ds : List StageDone) (rs : List Receiver) (gatherer : StageEnd) → ArePairs ss ds rs → IsJoining ss ds rs gatherer ss ds rs gatherer
 joins_none ss ds rs gatherer pairs = record {
   to_lanes = [];
   lanes = [];
@@ -96,31 +94,31 @@ joins_none ss ds rs gatherer pairs = record {
 }
 
 -- the last of those that are left is taken
-pub record IsTaken (ss ss' : List (Producer Message Global AnyMessage)) (ds ds' : List StageDone) (rs rs' : List (Consumer Message Global AnyMessage)) (s : Producer Message Global AnyMessage) (d : StageDone) (r : Consumer Message Global AnyMessage) : Type 0 where
+pub record IsTaken (ss ss' : List Sender) (ds ds' : List StageDone) (rs rs' : List Receiver) (s : Sender) (d : StageDone) (r : Receiver) : Type 0 where
   pub sender : ss ≡ ss' ++ s ∷ []
   pub lane : ds ≡ ds' ++ d ∷ []
   pub receiver : rs ≡ rs' ++ r ∷ []
 
-pub taken_pairs : (all_ss : List (Producer Message Global AnyMessage)) (all_ds : List StageDone) (all_rs : List (Consumer Message Global AnyMessage)) (gatherer : StageEnd) (ss ss' : List (Producer Message Global AnyMessage)) (ds ds' : List StageDone) (rs rs' : List (Consumer Message Global AnyMessage)) (end : StageEnd)
-    (s : Producer Message Global AnyMessage) (d : StageDone) (r : Consumer Message Global AnyMessage) → IsJoining all_ss all_ds all_rs gatherer ss ds rs end → IsTaken ss ss' ds ds' rs rs' s d r → ArePairs ss' ds' rs' × IsPair s d.input × IsPair d.output r
+pub taken_pairs : (all_ss : List Sender) (all_ds : List StageDone) (all_rs : List Receiver) (gatherer : StageEnd) (ss ss' : List Sender) (ds ds' : List StageDone) (rs rs' : List Receiver) (end : StageEnd)
+    (s : Sender) (d : StageDone) (r : Receiver) → IsJoining all_ss all_ds all_rs gatherer ss ds rs end → IsTaken ss ss' ds ds' rs rs' s d r → ArePairs ss' ds' rs' × IsPair s d.input × IsPair d.output r
 taken_pairs all_ss all_ds all_rs gatherer ss ss' ds ds' rs rs' end s d r joining taken =
     pairs_last ss' ds' rs' s d r
-    (subst (λ (x : List (Producer Message Global AnyMessage)). ArePairs x (ds' ++ d ∷ []) (rs' ++ r ∷ [])) taken.sender
+    (subst (λ (x : List Sender). ArePairs x (ds' ++ d ∷ []) (rs' ++ r ∷ [])) taken.sender
     (subst (λ (x : List StageDone). ArePairs ss x (rs' ++ r ∷ [])) taken.lane
     (subst (ArePairs ss ds) taken.receiver joining.pairs)))
 
 -- and looked at
-pub joins_one : (all_ss : List (Producer Message Global AnyMessage)) (all_ds : List StageDone) (all_rs : List (Consumer Message Global AnyMessage)) (gatherer : StageEnd) (ss ss' : List (Producer Message Global AnyMessage)) (ds ds' : List StageDone) (rs rs' : List (Consumer Message Global AnyMessage)) (end next : StageEnd)
-    (s : Producer Message Global AnyMessage) (d : StageDone) (r : Consumer Message Global AnyMessage) → IsJoining all_ss all_ds all_rs gatherer ss ds rs end → IsTaken ss ss' ds ds' rs rs' s d r
+pub joins_one : (all_ss : List Sender) (all_ds : List StageDone) (all_rs : List Receiver) (gatherer : StageEnd) (ss ss' : List Sender) (ds ds' : List StageDone) (rs rs' : List Receiver) (end next : StageEnd)
+    (s : Sender) (d : StageDone) (r : Receiver) → IsJoining all_ss all_ds all_rs gatherer ss ds rs end → IsTaken ss ss' ds ds' rs rs' s d r
     → IsFrontOf (received d.input) (sent s) → IsFrontOf (received r) (sent d.output) → next ≡ end_of_both d.end end → IsJoining all_ss all_ds all_rs gatherer ss' ds' rs' next
 joins_one all_ss all_ds all_rs gatherer ss ss' ds ds' rs rs' end next s d r joining taken to from is = record {
   to_lanes = s ∷ joining.to_lanes;
   lanes = d ∷ joining.lanes;
   from_lanes = r ∷ joining.from_lanes;
   parts = (
-    joining.parts.0 ∙ ap (λ (x : List (Producer Message Global AnyMessage)). x ++ joining.to_lanes) taken.sender ∙ append_assoc ss' (s ∷ []) joining.to_lanes,
+    joining.parts.0 ∙ ap (λ (x : List Sender). x ++ joining.to_lanes) taken.sender ∙ append_assoc ss' (s ∷ []) joining.to_lanes,
     joining.parts.1 ∙ ap (λ (x : List StageDone). x ++ joining.lanes) taken.lane ∙ append_assoc ds' (d ∷ []) joining.lanes,
-    joining.parts.2 ∙ ap (λ (x : List (Consumer Message Global AnyMessage)). x ++ joining.from_lanes) taken.receiver ∙ append_assoc rs' (r ∷ []) joining.from_lanes,
+    joining.parts.2 ∙ ap (λ (x : List Receiver). x ++ joining.from_lanes) taken.receiver ∙ append_assoc rs' (r ∷ []) joining.from_lanes,
   );
   pairs = (taken_pairs all_ss all_ds all_rs gatherer ss ss' ds ds' rs rs' end s d r joining taken).0;
   passed = (to, from, joining.passed);
@@ -132,14 +130,14 @@ no_member : {X : Type 0} (xs : List X) → length xs ≡ 0 → xs ≡ []
 no_member [] none = refl
 no_member (x ∷ xs) none = absurd (omega (arith, none))
 
-pub joins_all : (all_ss : List (Producer Message Global AnyMessage)) (all_ds : List StageDone) (all_rs : List (Consumer Message Global AnyMessage)) (gatherer : StageEnd) (ss : List (Producer Message Global AnyMessage)) (ds : List StageDone) (rs : List (Consumer Message Global AnyMessage)) (end : StageEnd)
+pub joins_all : (all_ss : List Sender) (all_ds : List StageDone) (all_rs : List Receiver) (gatherer : StageEnd) (ss : List Sender) (ds : List StageDone) (rs : List Receiver) (end : StageEnd)
     → IsJoining all_ss all_ds all_rs gatherer ss ds rs end → length ds ≡ 0 → HavePassed all_ss all_ds all_rs × (end ≡ end_of_lanes all_ds gatherer)
 joins_all all_ss all_ds all_rs gatherer ss ds rs end joining none =
     let many = as_many_pairs ss ds rs joining.pairs in
-    let of_ss : all_ss ≡ joining.to_lanes = joining.parts.0 ∙ ap (λ (x : List (Producer Message Global AnyMessage)). x ++ joining.to_lanes) (no_member ss (many.0 ∙ none)) in
+    let of_ss : all_ss ≡ joining.to_lanes = joining.parts.0 ∙ ap (λ (x : List Sender). x ++ joining.to_lanes) (no_member ss (many.0 ∙ none)) in
     let of_ds : all_ds ≡ joining.lanes = joining.parts.1 ∙ ap (λ (x : List StageDone). x ++ joining.lanes) (no_member ds none) in
-    let of_rs : all_rs ≡ joining.from_lanes = joining.parts.2 ∙ ap (λ (x : List (Consumer Message Global AnyMessage)). x ++ joining.from_lanes) (no_member rs (many.1 ∙ none)) in (
-      subst (λ (x : List (Producer Message Global AnyMessage)). HavePassed x all_ds all_rs) (sym of_ss)
+    let of_rs : all_rs ≡ joining.from_lanes = joining.parts.2 ∙ ap (λ (x : List Receiver). x ++ joining.from_lanes) (no_member rs (many.1 ∙ none)) in (
+      subst (λ (x : List Sender). HavePassed x all_ds all_rs) (sym of_ss)
           (subst (λ (x : List StageDone). HavePassed joining.to_lanes x all_rs) (sym of_ds)
           (subst (HavePassed joining.to_lanes joining.lanes) (sym of_rs) joining.passed)),
       joining.end_is ∙ ap (λ (x : List StageDone). end_of_lanes x gatherer) (sym of_ds),

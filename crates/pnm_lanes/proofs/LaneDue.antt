@@ -17,10 +17,10 @@ use Rattle.pnm_tools.proofs.AnsweringLaws.{due_by, due_is}
 use Rattle.pnm_tools.proofs.FullLaws.{front_of_front}
 use Rattle.pnm_tools.proofs.InFullLaws.{ends_after, end_ends_nothing}
 use Rattle.pnm_tools.proofs.ResultLaws.{result_is_image}
-use Rattle.pnm_rings.specs.Fronts.{IsFrontOfDue}
-use Rattle.pnm_rings.proofs.EndingLaws.{one_ending, front_goes_on}
-use Rattle.pnm_rings.proofs.FrontLaws.{front_without_stop}
-use Rattle.pnm_rings.proofs.RingSteps.{ends_as}
+use Rattle.pnm_stages.specs.Fronts.{IsFrontOfDue}
+use Rattle.pnm_stages.proofs.EndingLaws.{one_ending, front_goes_on}
+use Rattle.pnm_stages.proofs.FrontLaws.{front_without_stop}
+use Rattle.pnm_stages.proofs.RingSteps.{ends_as}
 use Rattle.pnm_lanes.specs.LaneLaws.{dealt_images, results_before}
 use Rattle.pnm_lanes.proofs.DealtLaws.{dealt_front, part_ends_nothing}
 use Rattle.pnm_lanes.proofs.LaneLaws.{dealt_are_images, stream_is_dealt, due_is_dealt}

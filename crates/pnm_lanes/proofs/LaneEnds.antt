@@ -13,12 +13,12 @@ use Rattle.pnm_tools.specs.Answers.{Ending, Whole, BrokenOff, EndsBy, AnswersInF
 use Rattle.pnm_tools.specs.Dealing.{dealt}
 use Rattle.pnm_tools.specs.Tools.{IsLawfulTool, is_row_wise}
 use Rattle.pnm_tools.proofs.SoundLaws.{unbroken_keeps_all}
-use Rattle.pnm_rings.specs.declared.stage_end.StageEnd.{StageEnd}
-use Rattle.pnm_rings.specs.declared.stage_end.StageEnd.TheVariants.{Well, Broken, Fault, PeerGone}
-use Rattle.pnm_rings.specs.Rings.{IsEnded}
-use Rattle.pnm_rings.specs.Stages.{HasEndedWell, HasBrokenOff, HasEndedSo}
-use Rattle.pnm_rings.proofs.EndingLaws.{one_ending, stream_ends_whole, ends_stream}
-use Rattle.pnm_rings.proofs.FrontLaws.{stop_is_cut}
+use Rattle.pnm_stages.specs.declared.stage.StageEnd.{StageEnd}
+use Rattle.pnm_stages.specs.declared.stage.StageEnd.TheVariants.{Well, Broken, Fault, PeerGone}
+use Rattle.pnm_stages.specs.Rings.{IsEnded}
+use Rattle.pnm_stages.specs.Stages.{HasEndedWell, HasBrokenOff, HasEndedSo}
+use Rattle.pnm_stages.proofs.EndingLaws.{one_ending, stream_ends_whole, ends_stream}
+use Rattle.pnm_stages.proofs.FrontLaws.{stop_is_cut}
 use Rattle.pnm_lanes.specs.Deals.{HasReceivedSo, HasSentSo}
 use Rattle.pnm_lanes.specs.Gathers.{HasSentAll}
 use Rattle.pnm_lanes.specs.LaneLaws.{results_before, dealt_images}

@@ -22,12 +22,12 @@ use Rattle.pnm_tools.specs.Dealing.{dealt}
 use Rattle.pnm_tools.specs.Tools.{IsLawfulTool, is_row_wise, AreTaken}
 use Rattle.pnm_tools.proofs.FullLaws.{front_of_front}
 use Rattle.pnm_tools.proofs.HeadFaultLaws.{head_is_refused_by_name}
-use Rattle.pnm_rings.specs.declared.stage_end.StageEnd.{StageEnd}
-use Rattle.pnm_rings.specs.declared.stage_end.StageEnd.TheVariants.{Well, Broken, Fault, PeerGone}
-use Rattle.pnm_rings.specs.Rings.{IsEnded, EndsAtMostOnce}
-use Rattle.pnm_rings.specs.Stages.{HasFailed, HasEndedSo}
-use Rattle.pnm_rings.proofs.EndingLaws.{front_goes_on, stream_ends_whole}
-use Rattle.pnm_rings.proofs.RingSteps.{ends_as}
+use Rattle.pnm_stages.specs.declared.stage.StageEnd.{StageEnd}
+use Rattle.pnm_stages.specs.declared.stage.StageEnd.TheVariants.{Well, Broken, Fault, PeerGone}
+use Rattle.pnm_stages.specs.Rings.{IsEnded, EndsAtMostOnce}
+use Rattle.pnm_stages.specs.Stages.{HasFailed, HasEndedSo}
+use Rattle.pnm_stages.proofs.EndingLaws.{front_goes_on, stream_ends_whole}
+use Rattle.pnm_stages.proofs.RingSteps.{ends_as}
 use Rattle.pnm_lanes.specs.Deals.{HasReceivedSo, HasSentSo}
 use Rattle.pnm_lanes.specs.Gathers.{HasGatheredSo, IsGathered}
 use Rattle.pnm_lanes.specs.LaneLaws.{results_before, dealt_images}

@@ -1,9 +1,9 @@
 -- Lists of ring ends, one for each lane.
 use Rattle.std.proofs.Common.{◌≡◌, ◌≢◌, ℕ, zero, suc, ◌<◌, List, [], ◌∷◌, length, get_or, set, refl, ap, arith}
-use Rattle.rtrb.specs.declared.consumer.Consumer.{Consumer}
-use Rattle.rtrb.specs.Ring.{SameConsumer}
+use Rattle.pnm_stages.specs.declared.receiver.Receiver.{Receiver}
+use Rattle.pnm_stages.specs.Rings.{SameConsumer}
 use Rattle.pnm_image.specs.declared.message.Message.{Message}
-use Rattle.pnm_rings.proofs.RingSteps.{same_input, itself_input}
+use Rattle.pnm_stages.proofs.RingSteps.{same_input, itself_input}
 use Rattle.pnm_lanes.specs.Gathers.{at_lane, AreSameInputs}
 
 -- ---- what has passed in the ring of a lane
@@ -28,16 +28,16 @@ at_lane-others of (end ∷ ends) (suc lane) new (suc other) differ = at_lane-oth
 
 -- ---- the same rings
 
-pub are_themselves : {A P : Type 0} (ends : List (Consumer Message A P)) → AreSameInputs ends ends
+pub are_themselves : (ends : List Receiver) → AreSameInputs ends ends
 are_themselves [] = tt
 are_themselves (end ∷ ends) = (itself_input end, are_themselves ends)
 
-pub one_changed : {A P : Type 0} (ends : List (Consumer Message A P)) (lane : ℕ) (new other : Consumer Message A P) → lane < length ends → SameConsumer (get_or ends lane other) new → AreSameInputs ends (set ends lane new)
+pub one_changed : (ends : List Receiver) (lane : ℕ) (new other : Receiver) → lane < length ends → SameConsumer (get_or ends lane other) new → AreSameInputs ends (set ends lane new)
 one_changed [] lane new other below same = tt
 one_changed (end ∷ ends) zero new other below same = (same, are_themselves ends)
 one_changed (end ∷ ends) (suc lane) new other below same = (itself_input end, one_changed ends lane new other (omega arith) same)
 
-pub same_inputs : {A P : Type 0} (a b c : List (Consumer Message A P)) → AreSameInputs a b → AreSameInputs b c → AreSameInputs a c
+pub same_inputs : (a b c : List Receiver) → AreSameInputs a b → AreSameInputs b c → AreSameInputs a c
 same_inputs [] [] [] first second = tt
 same_inputs [] [] (z ∷ c) first second = absurd second
 same_inputs [] (y ∷ b) c first second = absurd first
@@ -45,7 +45,7 @@ same_inputs (x ∷ a) [] c first second = absurd first
 same_inputs (x ∷ a) (y ∷ b) [] first second = absurd second
 same_inputs (x ∷ a) (y ∷ b) (z ∷ c) first second = (same_input x y z first.0 second.0, same_inputs a b c first.1 second.1)
 
-pub as_many : {A P : Type 0} (a b : List (Consumer Message A P)) → AreSameInputs a b → length b ≡ length a
+pub as_many : (a b : List Receiver) → AreSameInputs a b → length b ≡ length a
 as_many [] [] same = refl
 as_many [] (y ∷ b) same = absurd same
 as_many (x ∷ a) [] same = absurd same

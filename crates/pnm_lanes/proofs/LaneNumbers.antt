@@ -1,19 +1,17 @@
 -- What is known of each lane by its number, once all threads of a tool over several lanes have ended; and that they are a stage.
 use Rattle.std.proofs.Common.{◌≡◌, ◌≢◌, ◌⊎◌, inl, inr, ℕ, zero, suc, ◌+◌, ◌<◌, true, List, [], ◌∷◌, ◌++◌, length, refl, sym, ap, subst, ◌∙◌, arith}
-use Rattle.std.specs.Global.{Global}
-use Rattle.rtrb.specs.declared.producer.Producer.{Producer}
-use Rattle.rtrb.specs.declared.consumer.Consumer.{Consumer}
-use Rattle.rtrb.specs.Ring.{sent, received, known_items}
+use Rattle.pnm_stages.specs.declared.sender.Sender.{Sender}
+use Rattle.pnm_stages.specs.declared.receiver.Receiver.{Receiver}
+use Rattle.pnm_stages.specs.Rings.{sent, received, known_items}
 use Rattle.pnm_image.specs.declared.message.Message.{Message}
 use Rattle.pnm_image.specs.Completion.{IsFrontOf}
 use Rattle.pnm_tools.specs.declared.fault.ToolFault.{ToolFault}
 use Rattle.pnm_tools.specs.declared.tool.Tool.{Tool}
 use Rattle.pnm_tools.specs.Tools.{IsLawfulTool, is_row_wise}
-use Rattle.pnm_rings.specs.declared.ring.AnyMessage.{AnyMessage}
-use Rattle.pnm_rings.specs.declared.stage_end.StageEnd.{StageEnd}
-use Rattle.pnm_rings.specs.declared.stage_end.StageEnd.TheVariants.{Well, Broken, Fault, PeerGone}
-use Rattle.pnm_rings.specs.Stages.{IsStage}
-use Rattle.pnm_rings.proofs.RingSteps.{still_pair}
+use Rattle.pnm_stages.specs.declared.stage.StageEnd.{StageEnd}
+use Rattle.pnm_stages.specs.declared.stage.StageEnd.TheVariants.{Well, Broken, Fault, PeerGone}
+use Rattle.pnm_stages.specs.Stages.{IsStage}
+use Rattle.pnm_stages.proofs.RingSteps.{still_pair}
 use Rattle.pnm_stages.specs.declared.stage.StageDone.{StageDone}
 use Rattle.pnm_lanes.specs.declared.joining.LanesDone.{LanesDone}
 use Rattle.pnm_lanes.specs.declared.lane_rings.LaneEnds.{LaneEnds}
@@ -28,7 +26,7 @@ use Rattle.pnm_lanes.proofs.LaneRuns.{lanes_are_a_stage}
 
 -- ---- the rings
 
-pub as_many_unused : (ss : List (Producer Message Global AnyMessage)) (es : List LaneEnds) (rs : List (Consumer Message Global AnyMessage)) → AreUnused ss es rs → (length ss ≡ length es) × (length rs ≡ length es)
+pub as_many_unused : (ss : List Sender) (es : List LaneEnds) (rs : List Receiver) → AreUnused ss es rs → (length ss ≡ length es) × (length rs ≡ length es)
 as_many_unused [] [] [] unused = (refl, refl)
 as_many_unused [] [] (r ∷ rs) unused = absurd unused
 as_many_unused [] (e ∷ es) rs unused = absurd unused
@@ -39,7 +37,7 @@ as_many_unused (s ∷ ss) (e ∷ es) (r ∷ rs) unused =
     (ap suc rest.0, ap suc rest.1)
 
 -- they are still pairs once the threads have ended
-pub pairs_after : (tool : Tool) (end : StageEnd) (lanes n : ℕ) (l : List Message) (ss ss' : List (Producer Message Global AnyMessage)) (es : List LaneEnds) (ds : List StageDone) (rs rs' : List (Consumer Message Global AnyMessage))
+pub pairs_after : (tool : Tool) (end : StageEnd) (lanes n : ℕ) (l : List Message) (ss ss' : List Sender) (es : List LaneEnds) (ds : List StageDone) (rs rs' : List Receiver)
     → AreUnused ss es rs → AtEachFrom (HasLane end lanes l) n ss ss' → AreLanesRun tool es ds → AreSameInputs rs rs' → ArePairs ss' ds rs'
 pairs_after tool end lanes n l [] [] [] [] [] [] unused dealt run same = tt
 pairs_after tool end lanes n l [] (s' ∷ ss') es ds rs rs' unused dealt run same = absurd dealt
@@ -59,7 +57,7 @@ pairs_after tool end lanes n l (s ∷ ss) (s' ∷ ss') (e ∷ es) (d ∷ ds) (r 
 )
 
 -- nothing had passed over them
-record NothingPassed (ss : List (Producer Message Global AnyMessage)) (es : List LaneEnds) (rs : List (Consumer Message Global AnyMessage)) : Type 0 where
+record NothingPassed (ss : List Sender) (es : List LaneEnds) (rs : List Receiver) : Type 0 where
   to_lanes : (lane : ℕ) → at_lane sent ss lane ≡ []
   by_lanes : (lane : ℕ) → at_lane (λ (e : LaneEnds). received e.input) es lane ≡ []
   of_lanes : (lane : ℕ) → at_lane (λ (e : LaneEnds). sent e.output) es lane ≡ []
@@ -69,7 +67,7 @@ first_or : {X : Type 0} (of : X → List Message) (x : X) (xs : List X) → of x
 first_or of x xs one rest zero = one
 first_or of x xs one rest (suc lane) = rest lane
 
-nothing_passed : (ss : List (Producer Message Global AnyMessage)) (es : List LaneEnds) (rs : List (Consumer Message Global AnyMessage)) → AreUnused ss es rs → NothingPassed ss es rs
+nothing_passed : (ss : List Sender) (es : List LaneEnds) (rs : List Receiver) → AreUnused ss es rs → NothingPassed ss es rs
 nothing_passed [] [] [] unused = record { to_lanes = λ lane. refl; by_lanes = λ lane. refl; of_lanes = λ lane. refl; from_lanes = λ lane. refl }
 nothing_passed [] [] (r ∷ rs) unused = absurd unused
 nothing_passed [] (e ∷ es) rs unused = absurd unused
@@ -91,7 +89,7 @@ all_of_it old new more added none = sym (added ∙ ap (λ (x : List Message). x 
 -- ---- the lane of a number
 
 -- what was dealt to it
-dealt_of : (end : StageEnd) (lanes n : ℕ) (l : List Message) (ss ss' : List (Producer Message Global AnyMessage)) → ((lane : ℕ) → at_lane sent ss lane ≡ []) → AtEachFrom (HasLane end lanes l) n ss ss'
+dealt_of : (end : StageEnd) (lanes n : ℕ) (l : List Message) (ss ss' : List Sender) → ((lane : ℕ) → at_lane sent ss lane ≡ []) → AtEachFrom (HasLane end lanes l) n ss ss'
     → (lane : ℕ) → lane < length ss → HasSentSo end (n + lane) lanes l (at_lane sent ss' lane) × IsFrontOfDealt (n + lane) lanes l (at_lane sent ss' lane)
 dealt_of end lanes n l [] ss' none dealt lane below = absurd (omega (arith, below))
 dealt_of end lanes n l (s ∷ ss) [] none dealt lane below = absurd dealt
@@ -125,7 +123,7 @@ stage_of tool (e ∷ es) (d ∷ ds) no_input no_output run (suc lane) below =
     stage_of tool es ds (λ k. no_input (suc k)) (λ k. no_output (suc k)) run.1 lane (omega (arith, below))
 
 -- what passed over its rings
-passed_of : (ss : List (Producer Message Global AnyMessage)) (ds : List StageDone) (rs : List (Consumer Message Global AnyMessage)) → HavePassed ss ds rs → (lane : ℕ) → lane < length ds
+passed_of : (ss : List Sender) (ds : List StageDone) (rs : List Receiver) → HavePassed ss ds rs → (lane : ℕ) → lane < length ds
     → IsFrontOf (at_lane (λ (d : StageDone). received d.input) ds lane) (at_lane sent ss lane) × IsFrontOf (at_lane received rs lane) (at_lane (λ (d : StageDone). sent d.output) ds lane)
 passed_of ss [] rs passed lane below = absurd (omega (arith, below))
 passed_of [] (d ∷ ds) rs passed lane below = absurd passed

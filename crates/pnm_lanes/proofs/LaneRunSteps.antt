@@ -21,9 +21,10 @@ as_many_run tool [] (y ∷ ds) run = absurd run
 as_many_run tool (x ∷ es) [] run = absurd run
 as_many_run tool (x ∷ es) (y ∷ ds) run = ap suc (as_many_run tool es ds run.1)
 
--- the threads that came back
-pub came_back : (tool : Tool) (es : List LaneEnds) (outer : OuterEnds) (room : ℕ) (result : Option LanesDone) (done : LanesDone) → IfSome result (HaveRun tool es outer room) → result ≡ Some done → HaveRun tool es outer room done
-came_back tool es outer room result done run is = subst (λ (x : Option LanesDone). IfSome x (HaveRun tool es outer room)) is run
+-- the threads that came back, and what was done beside them
+pub came_back : {B : Type 0} (tool : Tool) (es : List LaneEnds) (outer : OuterEnds) (room : ℕ) (P : B → Type 0) (result : Option (LanesDone × B)) (done : LanesDone) (b : B)
+    → IfSome result (λ r. HaveRun tool es outer room r.0 × P r.1) → result ≡ Some (done, b) → HaveRun tool es outer room done
+came_back {B = B} tool es outer room P result done b run is = (subst (λ (x : Option (LanesDone × B)). IfSome x (λ r. HaveRun tool es outer room r.0 × P r.1)) is run).0
 
 pub has_run_more : (tool : Tool) (all es : List LaneEnds) (outer : OuterEnds) (room : ℕ) (done : LanesDone) (lanes : Vec StageDone) (e : LaneEnds) (d : StageDone) → HaveRun tool es outer room done → IsLaneRun tool e.input e.output d
     → all ≡ es ++ e ∷ [] → lanes.items ≡ done.lanes.items ++ d ∷ [] → vec_capacity lanes ≡ vec_capacity done.lanes → HaveRun tool all outer room (record { dealt = done.dealt; lanes = lanes; gathered = done.gathered })

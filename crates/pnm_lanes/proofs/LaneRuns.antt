@@ -3,8 +3,8 @@ use Rattle.std.proofs.Common.{◌≡◌, ℕ, ◌<◌, true, List, subst}
 use Rattle.pnm_image.specs.declared.message.Message.{Message}
 use Rattle.pnm_tools.specs.declared.tool.Tool.{Tool}
 use Rattle.pnm_tools.specs.Tools.{IsLawfulTool, is_row_wise}
-use Rattle.pnm_rings.specs.declared.stage_end.StageEnd.{StageEnd}
-use Rattle.pnm_rings.specs.declared.stage_end.StageEnd.TheVariants.{Well, Broken, Fault, PeerGone}
+use Rattle.pnm_stages.specs.declared.stage.StageEnd.{StageEnd}
+use Rattle.pnm_stages.specs.declared.stage.StageEnd.TheVariants.{Well, Broken, Fault, PeerGone}
 use Rattle.pnm_lanes.specs.Lanes.{HaveLanesEndedSo, IsStageOfLanes, IsEndOfAll, HaveRunTogether}
 use Rattle.pnm_lanes.proofs.LaneStages.{together_due}
 use Rattle.pnm_lanes.proofs.LaneEnds.{together_well, together_broken}

@@ -15,14 +15,14 @@ use Rattle.pnm_tools.specs.Tools.{IsLawfulTool, is_row_wise, output_due}
 use Rattle.pnm_tools.proofs.AtLaws.{StopsLast, lawful_stops, keeps_all}
 use Rattle.pnm_tools.proofs.FullLaws.{front_of_front}
 use Rattle.pnm_tools.proofs.SoundLaws.{unbroken_keeps_all}
-use Rattle.pnm_rings.specs.declared.stage_end.StageEnd.{StageEnd}
-use Rattle.pnm_rings.specs.declared.stage_end.StageEnd.TheVariants.{Well, Broken, Fault, PeerGone}
-use Rattle.pnm_rings.specs.Fronts.{IsFrontOfDue}
-use Rattle.pnm_rings.specs.Rings.{IsEnded}
-use Rattle.pnm_rings.specs.Stages.{HasEndedWell, HasEndedSo}
-use Rattle.pnm_rings.proofs.EndingLaws.{one_ending, nothing_follows, stream_ends_whole}
-use Rattle.pnm_rings.proofs.FrontLaws.{front_without_stop, stop_is_cut}
-use Rattle.pnm_rings.proofs.RingSteps.{ends_as}
+use Rattle.pnm_stages.specs.declared.stage.StageEnd.{StageEnd}
+use Rattle.pnm_stages.specs.declared.stage.StageEnd.TheVariants.{Well, Broken, Fault, PeerGone}
+use Rattle.pnm_stages.specs.Fronts.{IsFrontOfDue}
+use Rattle.pnm_stages.specs.Rings.{IsEnded}
+use Rattle.pnm_stages.specs.Stages.{HasEndedWell, HasEndedSo}
+use Rattle.pnm_stages.proofs.EndingLaws.{one_ending, nothing_follows, stream_ends_whole}
+use Rattle.pnm_stages.proofs.FrontLaws.{front_without_stop, stop_is_cut}
+use Rattle.pnm_stages.proofs.RingSteps.{ends_as}
 use Rattle.pnm_lanes.specs.Gathers.{AreDealt, IsStopped}
 use Rattle.pnm_lanes.specs.LaneLaws.{results_before}
 use Rattle.pnm_lanes.specs.Lanes.{IsFine, HaveRunTogether}

@@ -12,8 +12,8 @@ use Rattle.pnm_tools.proofs.AnsweringLaws.{fronts}
 use Rattle.pnm_tools.proofs.AtLaws.{StopsLast, lawful_stops, keeps_all}
 use Rattle.pnm_tools.proofs.FullLaws.{front_of_front}
 use Rattle.pnm_tools.proofs.SoundLaws.{unbroken_keeps_all}
-use Rattle.pnm_rings.specs.Rings.{EndsAtMostOnce}
-use Rattle.pnm_rings.proofs.FrontLaws.{front_without_stop, stop_is_cut}
+use Rattle.pnm_stages.specs.Rings.{EndsAtMostOnce}
+use Rattle.pnm_stages.proofs.FrontLaws.{front_without_stop, stop_is_cut}
 use Rattle.pnm_lanes.specs.Deals.{IsFrontOfDealt}
 use Rattle.pnm_lanes.proofs.DealtLaws.{dealt_from-append, dealt_front}
 use Rattle.pnm_lanes.proofs.LaneDue.{front_or_all}

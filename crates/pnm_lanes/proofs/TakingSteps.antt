@@ -1,7 +1,7 @@
 -- One message that is taken of a lane.
 use Rattle.std.proofs.Common.{◌≡◌, ◌⊎◌, inl, inr, ℕ, zero, suc, ◌<◌, List, [], ◌∷◌, ◌++◌, length, get_or, set, refl, sym, ap, ◌∙◌, arith}
-use Rattle.rtrb.specs.declared.consumer.Consumer.{Consumer}
-use Rattle.rtrb.specs.Ring.{received}
+use Rattle.pnm_stages.specs.declared.receiver.Receiver.{Receiver}
+use Rattle.pnm_stages.specs.Rings.{received}
 use Rattle.pnm_image.specs.declared.message.Message.{Message}
 use Rattle.pnm_image.specs.declared.message.Message.TheVariants.{Begin, Row, ImageEnd, StreamEnd, Stop}
 use Rattle.pnm_image.specs.Messages.{IsMessage}
@@ -12,7 +12,7 @@ use Rattle.pnm_lanes.specs.GatherParts.{IsOfStream, HasGiven, states_after}
 use Rattle.pnm_lanes.proofs.LaneLists.{at_lane-get, at_lane-set, at_lane-others}
 
 -- the lane has given a message
-pub has_given : {A P : Type 0} (ends : List (Consumer Message A P)) (lane : ℕ) (new other : Consumer Message A P) (m : Message) (e : Ending) (states_old states_new : List LaneState)
+pub has_given : (ends : List Receiver) (lane : ℕ) (new other : Receiver) (m : Message) (e : Ending) (states_old states_new : List LaneState)
     → lane < length ends → received new ≡ received (get_or ends lane other) ++ m ∷ [] → e ≡ ending_of m → states_new ≡ states_after states_old lane e
     → HasGiven lane m states_old states_new (at_lane received ends) (at_lane received (set ends lane new))
 has_given ends lane new other m e states_old states_new below added so states = record {
@@ -22,7 +22,7 @@ has_given ends lane new other m e states_old states_new below added so states = 
 }
 
 -- nothing was taken of any lane
-pub has_given_none : {A P : Type 0} (ends : List (Consumer Message A P)) (lane : ℕ) (new other : Consumer Message A P) (o : ℕ)
+pub has_given_none : (ends : List Receiver) (lane : ℕ) (new other : Receiver) (o : ℕ)
     → lane < length ends → received new ≡ received (get_or ends lane other) → at_lane received (set ends lane new) o ≡ at_lane received ends o
 has_given_none [] lane new other o below same = refl
 has_given_none (end ∷ ends) zero new other zero below same = same

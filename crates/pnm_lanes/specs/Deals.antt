@@ -1,8 +1,8 @@
 -- What a thread that deals rows to lanes has received and sent once it has ended.
 use Rattle.std.specs.Prelude.{◌≡◌, ◌⊎◌, ℕ, ◌+◌, List, [], ◌∷◌, ◌++◌, length}
 use Rattle.std.specs.List.{AllByRecursion}
-use Rattle.rtrb.specs.declared.producer.Producer.{Producer}
-use Rattle.rtrb.specs.Ring.{sent, SameProducer}
+use Rattle.pnm_stages.specs.declared.sender.Sender.{Sender}
+use Rattle.pnm_stages.specs.Rings.{sent, SameProducer}
 use Rattle.pnm_image.specs.declared.message.Message.{Message}
 use Rattle.pnm_image.specs.declared.message.Message.TheVariants.{Stop}
 use Rattle.pnm_image.specs.Messages.{IsMessage, without_stop}
@@ -12,10 +12,10 @@ use Rattle.pnm_tools.specs.declared.fault.ToolFault.{ToolFault}
 use Rattle.pnm_tools.specs.declared.fault.ToolFault.TheVariants.{CutOutside, ChannelOutside, TooLarge, OutOfOrder, Memory}
 use Rattle.pnm_tools.specs.Answers.{More, Whole, BrokenOff, EndsBy}
 use Rattle.pnm_tools.specs.Dealing.{dealt}
-use Rattle.pnm_rings.specs.declared.stage_end.StageEnd.{StageEnd}
-use Rattle.pnm_rings.specs.declared.stage_end.StageEnd.TheVariants.{Well, Broken, Fault, PeerGone}
-use Rattle.pnm_rings.specs.Fronts.{IsLongestLawfulFront}
-use Rattle.pnm_rings.specs.Rings.{IsEnded, EndsAtMostOnce}
+use Rattle.pnm_stages.specs.declared.stage.StageEnd.{StageEnd}
+use Rattle.pnm_stages.specs.declared.stage.StageEnd.TheVariants.{Well, Broken, Fault, PeerGone}
+use Rattle.pnm_stages.specs.Fronts.{IsLongestLawfulFront}
+use Rattle.pnm_stages.specs.Rings.{IsEnded, EndsAtMostOnce}
 
 -- ---- lanes, numbered from 0
 
@@ -74,7 +74,7 @@ pub record IsFrontOfDealt (lane lanes : ℕ) (l g : List Message) : Type 0 where
   pub front : IsFrontOf (without_stop g) (dealt lane lanes accepted)
 
 -- what a lane was sent, of so many, where these messages were received
-pub record HasLane {A P : Type 0} (end : StageEnd) (lanes : ℕ) (l : List Message) (lane : ℕ) (old new : Producer Message A P) : Type 0 where
+pub record HasLane (end : StageEnd) (lanes : ℕ) (l : List Message) (lane : ℕ) (old new : Sender) : Type 0 where
   pub ring : SameProducer old new
   pub gave : List Message
   pub output : sent new ≡ sent old ++ gave
@@ -83,7 +83,7 @@ pub record HasLane {A P : Type 0} (end : StageEnd) (lanes : ℕ) (l : List Messa
 
 -- the dealing has ended so, by the messages that the input had passed before and has passed now and those that it has seen
 -- and not received, and by the lanes' rings before and now: there are none of these, or the end of the stream was received
-pub record HasDealt {A P : Type 0} (end : StageEnd) (received_old received_new seen : List Message) (olds news : List (Producer Message A P)) : Type 0 where
+pub record HasDealt (end : StageEnd) (received_old received_new seen : List Message) (olds news : List Sender) : Type 0 where
   pub took : List Message
   pub input : received_new ≡ received_old ++ took
   pub seen_taken : IsEnded took ⊎ (seen ≡ [])

@@ -1,8 +1,8 @@
 -- What the gatherer of lanes has received and sent once it has ended: the lanes' messages, put together again.
 use Rattle.std.specs.Prelude.{◌≡◌, ◌⊎◌, ◌<◌, ℕ, zero, suc, List, [], ◌∷◌, ◌++◌}
 use Rattle.std.specs.List.{AllByRecursion}
-use Rattle.rtrb.specs.declared.consumer.Consumer.{Consumer}
-use Rattle.rtrb.specs.Ring.{SameConsumer}
+use Rattle.pnm_stages.specs.declared.receiver.Receiver.{Receiver}
+use Rattle.pnm_stages.specs.Rings.{SameConsumer}
 use Rattle.pnm_image.specs.declared.message.Message.{Message}
 use Rattle.pnm_image.specs.declared.message.Message.TheVariants.{Begin, Row, ImageEnd, StreamEnd, Stop}
 use Rattle.pnm_image.specs.Completion.{IsFrontOf}
@@ -12,9 +12,9 @@ use Rattle.pnm_image.specs.Places.{IsLawful}
 use Rattle.pnm_tools.specs.declared.fault.ToolFault.TheVariants.{OutOfOrder}
 use Rattle.pnm_tools.specs.Answers.{More, Whole, BrokenOff, EndsBy}
 use Rattle.pnm_tools.specs.Dealing.{dealt}
-use Rattle.pnm_rings.specs.declared.stage_end.StageEnd.{StageEnd}
-use Rattle.pnm_rings.specs.declared.stage_end.StageEnd.TheVariants.{Well, Broken, Fault, PeerGone}
-use Rattle.pnm_rings.specs.Rings.{IsEnded, EndsAtMostOnce}
+use Rattle.pnm_stages.specs.declared.stage.StageEnd.{StageEnd}
+use Rattle.pnm_stages.specs.declared.stage.StageEnd.TheVariants.{Well, Broken, Fault, PeerGone}
+use Rattle.pnm_stages.specs.Rings.{IsEnded, EndsAtMostOnce}
 
 -- ---- lists of ring ends, one for each lane
 
@@ -25,7 +25,7 @@ at_lane of (end ∷ ends) zero = of end
 at_lane of (end ∷ ends) (suc lane) = at_lane of ends lane
 
 -- the ends of the same rings, in the same order
-abbrev pub AreSameInputs : {A P : Type 0} → List (Consumer Message A P) → List (Consumer Message A P) → Type 0
+abbrev pub AreSameInputs : List Receiver → List Receiver → Type 0
 AreSameInputs [] [] = Unit {0}
 AreSameInputs [] (new ∷ news) = ⊥
 AreSameInputs (old ∷ olds) [] = ⊥

@@ -1,17 +1,17 @@
 -- The rings of a tool over several lanes: one to each lane, of which the thread before the lanes has the end to send on, and
 -- one from it, of which the thread behind them has the end to receive on.
-use Rattle.std.specs.Prelude.{◌≡◌, List, [], ◌∷◌}
-use Rattle.std.specs.Global.{Global}
-use Rattle.rtrb.specs.declared.producer.Producer.{Producer}
-use Rattle.rtrb.specs.declared.consumer.Consumer.{Consumer}
-use Rattle.rtrb.specs.Ring.{sent, received, IsPair}
+use Rattle.std.specs.Prelude.{◌≡◌, ◌≤◌, List, [], ◌∷◌, length, vec_capacity}
+use Rattle.pnm_stages.specs.declared.sender.Sender.{Sender}
+use Rattle.pnm_stages.specs.declared.receiver.Receiver.{Receiver}
+use Rattle.pnm_stages.specs.Rings.{sent, received, IsPair}
 use Rattle.pnm_image.specs.declared.message.Message.{Message}
-use Rattle.pnm_rings.specs.declared.ring.AnyMessage.{AnyMessage}
 use Rattle.pnm_stages.specs.declared.stage.StageDone.{StageDone}
 use Rattle.pnm_lanes.specs.declared.lane_rings.LaneEnds.{LaneEnds}
+use Rattle.pnm_lanes.specs.declared.lane_rings.LaneRings.{LaneRings}
+use Rattle.pnm_lanes.specs.Limits.{IsLaneCount}
 
 -- rings to and from each lane, over which nothing has passed
-abbrev pub AreUnused : List (Producer Message Global AnyMessage) → List LaneEnds → List (Consumer Message Global AnyMessage) → Type 0
+abbrev pub AreUnused : List Sender → List LaneEnds → List Receiver → Type 0
 AreUnused [] [] [] = Unit {0}
 AreUnused [] [] (r ∷ rs) = ⊥
 AreUnused [] (e ∷ es) rs = ⊥
@@ -21,10 +21,16 @@ AreUnused (s ∷ ss) (e ∷ es) (r ∷ rs) =
     IsPair s e.input × IsPair e.output r × ((sent s ≡ []) × (received e.input ≡ []) × (sent e.output ≡ []) × (received r ≡ [])) × AreUnused ss es rs
 
 -- the ends of the rings of lanes that have ended
-abbrev pub ArePairs : List (Producer Message Global AnyMessage) → List StageDone → List (Consumer Message Global AnyMessage) → Type 0
+abbrev pub ArePairs : List Sender → List StageDone → List Receiver → Type 0
 ArePairs [] [] [] = Unit {0}
 ArePairs [] [] (r ∷ rs) = ⊥
 ArePairs [] (d ∷ ds) rs = ⊥
 ArePairs (s ∷ ss) [] rs = ⊥
 ArePairs (s ∷ ss) (d ∷ ds) [] = ⊥
 ArePairs (s ∷ ss) (d ∷ ds) (r ∷ rs) = IsPair s d.input × IsPair d.output r × ArePairs ss ds rs
+
+-- unused rings of 1 to 8 lanes, and room for what comes back of these
+abbrev pub AreLaneRings : LaneRings → Type 0
+AreLaneRings rings =
+    AreUnused rings.outputs.items rings.lanes.items rings.inputs.items × IsLaneCount (length rings.lanes.items)
+    × ((rings.room.items ≡ []) × (length rings.lanes.items ≤ vec_capacity rings.room))

@@ -1,17 +1,18 @@
 -- What a row-wise tool over several lanes has received and sent once all of its threads have ended.
+use Rattle.std.specs.Global.{Vec}
 use Rattle.std.specs.Prelude.{◌≡◌, ◌⊎◌, ℕ, List, [], ◌∷◌, ◌++◌, length, vec_capacity}
-use Rattle.std.specs.Global.{Global}
-use Rattle.rtrb.specs.declared.producer.Producer.{Producer}
-use Rattle.rtrb.specs.declared.consumer.Consumer.{Consumer}
-use Rattle.rtrb.specs.Ring.{sent, received, known_items, SameProducer, SameConsumer}
+use Rattle.pnm_stages.specs.declared.sender.Sender.{Sender}
+use Rattle.pnm_stages.specs.declared.receiver.Receiver.{Receiver}
+use Rattle.pnm_stages.specs.Rings.{sent, received, known_items, SameProducer, SameConsumer}
 use Rattle.pnm_image.specs.declared.message.Message.{Message}
 use Rattle.pnm_tools.specs.declared.tool.Tool.{Tool}
-use Rattle.pnm_rings.specs.declared.ring.AnyMessage.{AnyMessage}
-use Rattle.pnm_rings.specs.declared.stage_end.StageEnd.{StageEnd}
-use Rattle.pnm_rings.specs.declared.stage_end.StageEnd.TheVariants.{Well, Broken, Fault, PeerGone}
-use Rattle.pnm_rings.specs.Rings.{IsEnded}
-use Rattle.pnm_rings.specs.Stages.{HasRunStage}
+use Rattle.pnm_stages.specs.declared.stage.StageEnd.{StageEnd}
+use Rattle.pnm_stages.specs.declared.stage.StageEnd.TheVariants.{Well, Broken, Fault, PeerGone}
+use Rattle.pnm_stages.specs.Rings.{IsEnded}
+use Rattle.pnm_stages.specs.Stages.{HasRunStage}
 use Rattle.pnm_stages.specs.declared.stage.StageDone.{StageDone}
+use Rattle.pnm_lanes.specs.declared.dealing.DealDone.{DealDone}
+use Rattle.pnm_lanes.specs.declared.gathering.GatherDone.{GatherDone}
 use Rattle.pnm_lanes.specs.declared.joining.LanesDone.{LanesDone}
 use Rattle.pnm_lanes.specs.declared.lane_rings.LaneEnds.{LaneEnds}
 use Rattle.pnm_lanes.specs.declared.lanes.OuterEnds.{OuterEnds}
@@ -50,10 +51,28 @@ pub record HasRunLanes (tool : Tool) (end : StageEnd) (received_old received_new
 -- ---- its parts
 
 -- a lane has ended
-abbrev pub IsLaneRun : Tool → Consumer Message Global AnyMessage → Producer Message Global AnyMessage → StageDone → Type 0
+abbrev pub IsLaneRun : Tool → Receiver → Sender → StageDone → Type 0
 IsLaneRun tool input output done =
     SameConsumer input done.input × SameProducer output done.output
     × HasRunStage tool done.end (received input) (received done.input) (known_items done.input) (sent output) (sent done.output)
+
+-- the thread that dealt has
+abbrev pub IsDealerRun : Receiver → List Sender → DealDone → Type 0
+IsDealerRun input outputs done =
+    SameConsumer input done.input
+    × HasDealt done.end (received input) (received done.input) (known_items done.input) outputs done.outputs.items
+
+-- the one that gathered has
+abbrev pub IsGathererRun : List Receiver → Sender → GatherDone → Type 0
+IsGathererRun inputs output done =
+    AreSameInputs inputs done.inputs.items × SameProducer output done.output
+    × HasGathered done.end (length inputs) (at_lane received inputs) (at_lane received done.inputs.items)
+    (at_lane known_items done.inputs.items) (sent output) (sent done.output)
+
+-- both have, and the room for the lanes is as before
+abbrev pub HaveDealtAndGathered : OuterEnds → Vec StageDone → LanesDone → Type 0
+HaveDealtAndGathered outer room done =
+    IsDealerRun outer.input outer.outputs.items done.dealt × IsGathererRun outer.inputs.items outer.output done.gathered × (done.lanes ≡ room)
 
 -- each lane has
 abbrev pub AreLanesRun : Tool → List LaneEnds → List StageDone → Type 0

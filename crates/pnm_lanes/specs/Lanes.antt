@@ -12,11 +12,11 @@ use Rattle.pnm_tools.specs.declared.fault.ToolFault.{ToolFault}
 use Rattle.pnm_tools.specs.declared.fault.ToolFault.TheVariants.{CutOutside, ChannelOutside, TooLarge, OutOfOrder, Memory}
 use Rattle.pnm_tools.specs.declared.tool.Tool.{Tool}
 use Rattle.pnm_tools.specs.Tools.{IsLawfulTool, is_row_wise, AreTaken, result_head, output_due}
-use Rattle.pnm_rings.specs.declared.stage_end.StageEnd.{StageEnd}
-use Rattle.pnm_rings.specs.declared.stage_end.StageEnd.TheVariants.{Well, Broken, Fault, PeerGone}
-use Rattle.pnm_rings.specs.Fronts.{IsFrontOfDue}
-use Rattle.pnm_rings.specs.Rings.{IsEnded, EndsAtMostOnce}
-use Rattle.pnm_rings.specs.Stages.{HasEndedWell, HasBrokenOff, IsStage}
+use Rattle.pnm_stages.specs.declared.stage.StageEnd.{StageEnd}
+use Rattle.pnm_stages.specs.declared.stage.StageEnd.TheVariants.{Well, Broken, Fault, PeerGone}
+use Rattle.pnm_stages.specs.Fronts.{IsFrontOfDue}
+use Rattle.pnm_stages.specs.Rings.{IsEnded, EndsAtMostOnce}
+use Rattle.pnm_stages.specs.Stages.{HasEndedWell, HasBrokenOff, IsStage}
 use Rattle.pnm_lanes.specs.Deals.{HasReceivedSo, HasSentSo, IsFrontOfDealt}
 use Rattle.pnm_lanes.specs.Gathers.{IsGathered, IsStopped}
 

@@ -5,8 +5,8 @@ ghost use Rattle.pnm_tools.specs.Dealing.{dealt_height};
 ghost use Rattle.pnm_image.specs.Heads.{with_height};
 ghost use Rattle.pnm_lanes.specs.GatherParts.{height_in, AreAlike, IsTogether, AreNotTogether, AreDealtHeights};
 
-use crate::heights::dealt_height;
-use crate::limits::MAX_LANES;
+use crate::dealing::dealt_height;
+use crate::lane::MAX_LANES;
 use pnm_image::limits::MAX_SIDE;
 use pnm_image::{Head, Message, Shape};
 

@@ -1,18 +1,17 @@
 //! Dealing: the rows of each image go to lanes in turn, and each lane gets a stream of images of its own.
 
 ghost use Rattle.std.specs.Prelude.{◌≡◌, ◌<◌, ◌≤◌, ◌∷◌, [], length, IfSome};
-ghost use Rattle.rtrb.specs.Ring.{sent, received, known_items, SameProducer, SameConsumer};
+ghost use Rattle.pnm_stages.specs.Rings.{sent, received, known_items, SameProducer, SameConsumer};
 ghost use Rattle.pnm_image.specs.Places.{Accepts};
+ghost use Rattle.pnm_tools.specs.Dealing.{dealt_height};
 ghost use Rattle.pnm_lanes.specs.Limits.{IsLaneCount};
 ghost use Rattle.pnm_lanes.specs.Deals.{HasDealt};
 ghost use Rattle.pnm_lanes.specs.DealParts.{IsRow, part_at, row_part, lane_part, HasSentParts};
 ghost use Rattle.pnm_lanes.specs.DealParts.{HasBrokenOffAfter};
-ghost use Rattle.pnm_lanes.specs.declared.limits.TheConstants.{MAX_LANES};
+ghost use Rattle.pnm_lanes.specs.declared.lane.TheConstants.{MAX_LANES};
 
-use crate::heights::dealt_height;
-use crate::lane_rings::SideWakers;
 use pnm_image::{Message, Place, Samples};
-use pnm_rings::{Backoff, Ending, Input, Output, StageEnd, Wakers, drain_after, give, take};
+use pnm_stages::{Backoff, Ending, Receiver, Sender, StageEnd};
 use pnm_tools::ToolFault;
 use std::alloc::Global;
 use std::sync::Wait;
@@ -21,9 +20,9 @@ use std::sync::Wait;
 #[derive(Drop)]
 pub struct DealDone {
     /// The end that it received on.
-    pub input: Input,
+    pub input: Receiver,
     /// The ends that it sent on, one for each lane.
-    pub outputs: Vec<Output>,
+    pub outputs: Vec<Sender>,
     /// How it has ended.
     pub end: StageEnd,
 }
@@ -38,22 +37,16 @@ pub struct DealDone {
 /// and the input is drained.
 ///
 /// A copy of a head is made by the head's own allocator: `_alloc` says that memory is taken.
-pub fn deal<R: Wait>(rt: &R, _alloc: Global, input: Input, outputs: Vec<Output>) -> DealDone
+pub fn deal<R: Wait>(rt: &R, _alloc: Global, input: Receiver, outputs: Vec<Sender>) -> DealDone
     requires { IsLaneCount (length outputs.items) }
     ensures input { SameConsumer input result.input }
     ensures count { length result.outputs.items ≡ length outputs.items }
     ensures dealt { HasDealt result.end (received input) (received result.input) (known_items result.input)
         outputs.items result.outputs.items }
 {
-    let (before, behind) = (Wakers::of_one_end(), Wakers::of_one_end());
-    let wakers = SideWakers {
-        outer: &before,
-        lanes: &[],
-        others: &behind,
-    };
     let mut input = input;
     let mut outputs = outputs;
-    let end = deal_all(rt, &mut input, outputs.as_mut_slice(), wakers);
+    let end = deal_all(rt, &mut input, outputs.as_mut_slice());
     DealDone {
         input,
         outputs,
@@ -61,13 +54,8 @@ pub fn deal<R: Wait>(rt: &R, _alloc: Global, input: Input, outputs: Vec<Output>)
     }
 }
 
-/// Deals all messages through to the end of the stream, beside neighbours that wake it and are woken.
-pub fn deal_all<R: Wait>(
-    rt: &R,
-    input: &mut Input,
-    outputs: &mut [Output],
-    wakers: SideWakers<'_>,
-) -> StageEnd
+/// Deals all messages through to the end of the stream.
+fn deal_all<R: Wait>(rt: &R, input: &mut Receiver, outputs: &mut [Sender]) -> StageEnd
     requires { IsLaneCount (length outputs.old) }
     ensures input { SameConsumer input.old input.new }
     ensures dealt { HasDealt result (received input.old) (received input.new) (known_items input.new)
@@ -76,21 +64,21 @@ pub fn deal_all<R: Wait>(
     let mut place = Place::new();
     let backoff = &mut Backoff::new();
     for _ in rt.forever() {
-        let Some(message) = take(rt, input, wakers.outer, backoff) else {
-            send_each(rt, &Message::Stop, outputs, wakers, backoff);
+        let Some(message) = input.receive(rt, backoff) else {
+            send_each(rt, &Message::Stop, outputs, backoff);
             return StageEnd::PeerGone;
         };
         let ending = Ending::of(&message);
         if !place.accepts(&message) {
             drop(message);
             let end = StageEnd::Fault(ToolFault::OutOfOrder);
-            return break_off(rt, end, ending, input, outputs, wakers, backoff);
+            return break_off(rt, end, ending, input, outputs, backoff);
         }
         let here = place;
         place.step(&message);
-        if let Some(end) = send_parts(rt, here, message, outputs, wakers, backoff) {
+        if let Some(end) = send_parts(rt, here, message, outputs, backoff) {
             match ending {
-                Ending::More => return break_off(rt, end, ending, input, outputs, wakers, backoff),
+                Ending::More => return break_off(rt, end, ending, input, outputs, backoff),
                 Ending::Whole | Ending::BrokenOff => return StageEnd::PeerGone,
             }
         }
@@ -109,8 +97,7 @@ fn send_parts<R: Wait>(
     rt: &R,
     place: Place,
     message: Message,
-    outputs: &mut [Output],
-    wakers: SideWakers<'_>,
+    outputs: &mut [Sender],
     backoff: &mut Backoff,
 ) -> Option<StageEnd>
     requires lanes { IsLaneCount (length outputs.old) }
@@ -122,12 +109,12 @@ fn send_parts<R: Wait>(
             let Place::Inside(_, y) = place else {
                 unreachable!();
             };
-            send_row(rt, y, row, outputs, wakers, backoff)
+            send_row(rt, y, row, outputs, backoff)
         }
-        Message::Begin(head) => send_each(rt, &Message::Begin(head), outputs, wakers, backoff),
-        Message::ImageEnd => send_each(rt, &Message::ImageEnd, outputs, wakers, backoff),
-        Message::StreamEnd => send_each(rt, &Message::StreamEnd, outputs, wakers, backoff),
-        Message::Stop => send_each(rt, &Message::Stop, outputs, wakers, backoff),
+        Message::Begin(head) => send_each(rt, &Message::Begin(head), outputs, backoff),
+        Message::ImageEnd => send_each(rt, &Message::ImageEnd, outputs, backoff),
+        Message::StreamEnd => send_each(rt, &Message::StreamEnd, outputs, backoff),
+        Message::Stop => send_each(rt, &Message::Stop, outputs, backoff),
     }
 }
 
@@ -136,16 +123,14 @@ fn send_row<R: Wait>(
     rt: &R,
     y: u32,
     row: Samples,
-    outputs: &mut [Output],
-    wakers: SideWakers<'_>,
+    outputs: &mut [Sender],
     backoff: &mut Backoff,
 ) -> Option<StageEnd>
     requires { IsLaneCount (length outputs.old) }
     ensures { HasSentParts (row_part (length outputs.old) y row) result outputs.old outputs.new }
 {
     let lane = y as usize % outputs.len();
-    let wakers = wakers.to(lane);
-    if give(rt, &mut outputs[lane], Message::Row(row), wakers, backoff) {
+    if outputs[lane].send(rt, Message::Row(row), backoff) {
         None
     } else {
         Some(StageEnd::PeerGone)
@@ -156,8 +141,7 @@ fn send_row<R: Wait>(
 fn send_each<R: Wait>(
     rt: &R,
     message: &Message,
-    outputs: &mut [Output],
-    wakers: SideWakers<'_>,
+    outputs: &mut [Sender],
     backoff: &mut Backoff,
 ) -> Option<StageEnd>
     requires lanes { IsLaneCount (length outputs.old) }
@@ -170,8 +154,7 @@ fn send_each<R: Wait>(
         let Some(part) = part_of(message, lane, lanes) else {
             return Some(StageEnd::Fault(ToolFault::Memory));
         };
-        let wakers = wakers.to(lane);
-        if !give(rt, &mut outputs[lane], part, wakers, backoff) {
+        if !outputs[lane].send(rt, part, backoff) {
             unsent = Some(StageEnd::PeerGone);
         }
     }
@@ -199,15 +182,27 @@ fn part_of(message: &Message, lane: usize, lanes: usize) -> Option<Message>
     }
 }
 
+/// How many rows of an image of this height the lane gets, where row y goes to lane y mod `lanes`, all counted from 0.
+pub fn dealt_height(height: u32, lane: u32, lanes: u32) -> u32
+    requires { lane < lanes }
+    ensures { result ≡ dealt_height lane lanes height }
+{
+    let rounds = height / lanes;
+    if lane < height % lanes {
+        rounds + 1
+    } else {
+        rounds
+    }
+}
+
 /// Ends the dealing so, after a message with this ending: sends each lane Stop, and drops what comes through to the end
 /// of the stream.
 fn break_off<R: Wait>(
     rt: &R,
     end: StageEnd,
     ending: Ending,
-    input: &mut Input,
-    outputs: &mut [Output],
-    wakers: SideWakers<'_>,
+    input: &mut Receiver,
+    outputs: &mut [Sender],
     backoff: &mut Backoff,
 ) -> StageEnd
     requires { IsLaneCount (length outputs.old) }
@@ -215,8 +210,8 @@ fn break_off<R: Wait>(
     ensures broken { HasBrokenOffAfter end ending result
         (received input.old) (received input.new) (known_items input.new) outputs.old outputs.new }
 {
-    let untold = send_each(rt, &Message::Stop, outputs, wakers, backoff);
-    let drained = drain_after(rt, ending, input, wakers.outer, backoff);
+    let untold = send_each(rt, &Message::Stop, outputs, backoff);
+    let drained = input.drain_after(rt, ending, backoff);
     if untold.is_none() && drained {
         end
     } else {

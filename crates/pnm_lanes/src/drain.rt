@@ -1,48 +1,50 @@
 //! What is done with lanes whose messages are no longer wanted: they are taken and dropped, from whichever lane has some.
 
 ghost use Rattle.std.specs.Prelude.{◌≡◌, ◌≢◌, ℕ, ◌<◌, ◌≤◌, length, IfSome, IfNone, IsTrue};
-ghost use Rattle.rtrb.specs.Ring.{received, known_items, SameConsumer};
+ghost use Rattle.pnm_stages.specs.Rings.{received, known_items, SameConsumer};
 ghost use Rattle.pnm_image.specs.Messages.{IsMessage};
 ghost use Rattle.pnm_lanes.specs.Gathers.{at_lane, AreSameInputs};
 ghost use Rattle.pnm_lanes.specs.GatherParts.{HasDrainedOne, CarriesOn, HasDrainedAll, AreDone, ending_state};
 
 use crate::lane::LaneState;
-use crate::lane_rings::SideWakers;
 use pnm_image::Message;
-use pnm_rings::{Backoff, Ending, Input, Wakers, wake_sender};
+use pnm_stages::{Backoff, Ending, Receiver};
 use std::sync::Wait;
 
 /// Takes and drops what comes from the lanes that haven't ended, each through the end of its stream or Stop. It tries them in
 /// turn, and waits for none of them alone. False where a lane's other end was seen dropped before.
-pub fn drain_all<R: Wait>(
-    rt: &R,
-    inputs: &mut [Input],
-    states: &mut [LaneState],
-    wakers: SideWakers<'_>,
-) -> bool
+pub fn drain_all<R: Wait>(rt: &R, inputs: &mut [Receiver], states: &mut [LaneState]) -> bool
     requires some { 1 ≤ length inputs.old }
     requires states { length inputs.old ≡ length states.old }
     ensures inputs { AreSameInputs inputs.old inputs.new }
     ensures drained { HasDrainedAll (length inputs.old) result states.old states.new (at_lane received inputs.old)
         (at_lane received inputs.new) (at_lane known_items inputs.old) (at_lane known_items inputs.new) }
 {
-    let mut backoff = Backoff::new().among_several();
+    let mut backoff = Backoff::among_several();
     for _ in rt.forever() {
-        let has_moved = drain_round(inputs, states, wakers);
+        let has_moved = drain_round(inputs, states);
         if let Some(have_ended) = outcome(states) {
             return have_ended;
         }
         if has_moved {
             backoff.reset();
         } else {
-            backoff.wait_to_receive(rt, wakers.from(first_open(states)));
+            wait(rt, inputs, states, &mut backoff);
         }
     }
     unreachable!()
 }
 
+/// One turn of waiting for a message of the first lane that is open.
+fn wait<R: Wait>(rt: &R, inputs: &[Receiver], states: &[LaneState], backoff: &mut Backoff) {
+    let first_open = states.iter().position(|state| *state == LaneState::Open);
+    if let Some(input) = first_open.and_then(|lane| inputs.get(lane)) {
+        input.wait(rt, backoff);
+    }
+}
+
 /// Tries each lane that hasn't ended once; whether one had a message, or was seen to have lost its other end.
-fn drain_round(inputs: &mut [Input], states: &mut [LaneState], wakers: SideWakers<'_>) -> bool
+fn drain_round(inputs: &mut [Receiver], states: &mut [LaneState]) -> bool
     requires { length inputs.old ≡ length states.old }
     ensures inputs { AreSameInputs inputs.old inputs.new }
     ensures carried { CarriesOn (length inputs.old) states.old states.new (at_lane received inputs.old)
@@ -50,18 +52,13 @@ fn drain_round(inputs: &mut [Input], states: &mut [LaneState], wakers: SideWaker
 {
     let mut has_moved = false;
     for lane in 0..inputs.len() {
-        has_moved = drain_lane(inputs, states, lane, wakers) || has_moved;
+        has_moved = drain_lane(inputs, states, lane) || has_moved;
     }
     has_moved
 }
 
 /// Tries a lane once, unless it has ended; whether it had a message, or was seen to have lost its other end.
-fn drain_lane(
-    inputs: &mut [Input],
-    states: &mut [LaneState],
-    lane: usize,
-    wakers: SideWakers<'_>,
-) -> bool
+fn drain_lane(inputs: &mut [Receiver], states: &mut [LaneState], lane: usize) -> bool
     requires lane { lane < length inputs.old }
     requires states { length inputs.old ≡ length states.old }
     ensures inputs { AreSameInputs inputs.old inputs.new }
@@ -71,7 +68,7 @@ fn drain_lane(
     if states[lane] != LaneState::Open {
         return false;
     }
-    match drain_one(&mut inputs[lane], wakers.from(lane)) {
+    match drain_one(&mut inputs[lane]) {
         Some(state) => {
             states[lane] = state;
             true
@@ -82,22 +79,21 @@ fn drain_lane(
 
 /// Takes and drops the next message, where there is one; the lane's state then, or `Gone` where the ring is empty and its
 /// other end was seen dropped.
-fn drain_one(input: &mut Input, wakers: &Wakers) -> Option<LaneState>
+fn drain_one(input: &mut Receiver) -> Option<LaneState>
     ensures ring { SameConsumer input.old input.new }
     ensures drained { HasDrainedOne result (received input.old) (received input.new) (known_items input.new) }
 {
-    if let Ok(message) = input.pop() {
-        wake_sender(input, wakers);
-        return Some(state_after(&message));
+    if input.has_message() {
+        return Some(state_after(&input.receive_known()));
     }
     if !input.is_abandoned() {
         return None;
     }
-    // What was pushed before the end was dropped is still there.
-    match input.pop() {
-        Ok(message) => Some(state_after(&message)),
-        Err(_) => Some(LaneState::Gone),
+    // What was sent before the end was dropped is still there.
+    if input.has_message() {
+        return Some(state_after(&input.receive_known()));
     }
+    Some(LaneState::Gone)
 }
 
 /// The state of a lane after its message.
@@ -112,14 +108,6 @@ fn state_after(message: &Message) -> LaneState
         Ending::More => LaneState::Open,
         Ending::Whole | Ending::BrokenOff => LaneState::Ended,
     }
-}
-
-/// The first lane that is open, by whose waker the thread sleeps; or how many lanes there are.
-fn first_open(states: &[LaneState]) -> usize {
-    states
-        .iter()
-        .position(|state| *state == LaneState::Open)
-        .unwrap_or(states.len())
 }
 
 /// Once no lane is open any more: whether all have ended.

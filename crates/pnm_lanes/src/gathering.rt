@@ -1,27 +1,25 @@
 //! Gathering: the messages of lanes put together again, as those of the images whose rows were dealt to the lanes.
 
 ghost use Rattle.std.specs.Prelude.{◌≡◌, ◌≤◌, length};
-ghost use Rattle.rtrb.specs.Ring.{sent, received, known_items, SameProducer};
+ghost use Rattle.pnm_stages.specs.Rings.{sent, received, known_items, SameProducer};
 ghost use Rattle.pnm_lanes.specs.Limits.{IsLaneCount};
 ghost use Rattle.pnm_lanes.specs.Gathers.{at_lane, AreSameInputs, HasGathered};
 ghost use Rattle.pnm_lanes.specs.GatherParts.{HasBrokenOffAll};
 
 use crate::drain::drain_all;
-use crate::lane::LaneState;
-use crate::lane_rings::SideWakers;
-use crate::limits::MAX_LANES;
+use crate::lane::{LaneState, MAX_LANES};
 use crate::next::take_next;
 use pnm_image::{Message, Place};
-use pnm_rings::{Backoff, Ending, Input, Output, StageEnd, Wakers, give};
+use pnm_stages::{Backoff, Ending, Receiver, Sender, StageEnd};
 use std::sync::Wait;
 
 /// The ring ends of a gatherer that has ended, and how it did.
 #[derive(Drop)]
 pub struct GatherDone {
     /// The ends that it received on, one for each lane.
-    pub inputs: Vec<Input>,
+    pub inputs: Vec<Receiver>,
     /// The end that it sent on.
-    pub output: Output,
+    pub output: Sender,
     /// How it has ended.
     pub end: StageEnd,
 }
@@ -32,22 +30,16 @@ pub struct GatherDone {
 /// out of place. After these two Stop is sent, and all lanes are drained, tried in turn and none waited for alone. Where
 /// the other end of a ring was seen dropped it ends by `PeerGone`, and has sent Stop, where there is someone to take it, and
 /// drained the lanes. No memory is taken.
-pub fn gather<R: Wait>(rt: &R, inputs: Vec<Input>, output: Output) -> GatherDone
+pub fn gather<R: Wait>(rt: &R, inputs: Vec<Receiver>, output: Sender) -> GatherDone
     requires { IsLaneCount (length inputs.items) }
     ensures inputs { AreSameInputs inputs.items result.inputs.items }
     ensures output { SameProducer output result.output }
     ensures gathered { HasGathered result.end (length inputs.items) (at_lane received inputs.items)
         (at_lane received result.inputs.items) (at_lane known_items result.inputs.items) (sent output) (sent result.output) }
 {
-    let (before, behind) = (Wakers::of_one_end(), Wakers::of_one_end());
-    let wakers = SideWakers {
-        outer: &behind,
-        lanes: &[],
-        others: &before,
-    };
     let mut inputs = inputs;
     let mut output = output;
-    let end = gather_all(rt, inputs.as_mut_slice(), &mut output, wakers);
+    let end = gather_all(rt, inputs.as_mut_slice(), &mut output);
     GatherDone {
         inputs,
         output,
@@ -55,13 +47,8 @@ pub fn gather<R: Wait>(rt: &R, inputs: Vec<Input>, output: Output) -> GatherDone
     }
 }
 
-/// Puts all messages together, through the end of the stream, beside neighbours that wake it and are woken.
-pub fn gather_all<R: Wait>(
-    rt: &R,
-    inputs: &mut [Input],
-    output: &mut Output,
-    wakers: SideWakers<'_>,
-) -> StageEnd
+/// Puts all messages together, through the end of the stream.
+fn gather_all<R: Wait>(rt: &R, inputs: &mut [Receiver], output: &mut Sender) -> StageEnd
     requires some { 1 ≤ length inputs.old }
     requires few { length inputs.old ≤ MAX_LANES }
     ensures inputs { AreSameInputs inputs.old inputs.new }
@@ -74,14 +61,14 @@ pub fn gather_all<R: Wait>(
     for _ in rt.forever() {
         let mut lanes = [LaneState::Open; MAX_LANES];
         let states = &mut lanes[..inputs.len()];
-        let message = match take_next(rt, inputs, states, place, wakers, backoff) {
+        let message = match take_next(rt, inputs, states, place, backoff) {
             Ok(message) => message,
-            Err(end) => return break_off(rt, end, inputs, states, output, wakers, backoff),
+            Err(end) => return break_off(rt, end, inputs, states, output, backoff),
         };
         let ending = Ending::of(&message);
         place.step(&message);
-        if !give(rt, output, message, wakers.outer, backoff) {
-            drain_all(rt, inputs, states, wakers);
+        if !output.send(rt, message, backoff) {
+            drain_all(rt, inputs, states);
             return StageEnd::PeerGone;
         }
         match ending {
@@ -98,10 +85,9 @@ pub fn gather_all<R: Wait>(
 fn break_off<R: Wait>(
     rt: &R,
     end: StageEnd,
-    inputs: &mut [Input],
+    inputs: &mut [Receiver],
     states: &mut [LaneState],
-    output: &mut Output,
-    wakers: SideWakers<'_>,
+    output: &mut Sender,
     backoff: &mut Backoff,
 ) -> StageEnd
     requires some { 1 ≤ length inputs.old }
@@ -112,8 +98,8 @@ fn break_off<R: Wait>(
         (at_lane received inputs.new) (at_lane known_items inputs.old) (at_lane known_items inputs.new) (sent output.old)
         (sent output.new) }
 {
-    let told = give(rt, output, Message::Stop, wakers.outer, backoff);
-    let drained = drain_all(rt, inputs, states, wakers);
+    let told = output.send(rt, Message::Stop, backoff);
+    let drained = drain_all(rt, inputs, states);
     if told && drained {
         end
     } else {

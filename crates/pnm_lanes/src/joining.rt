@@ -1,7 +1,7 @@
 //! The threads of a tool over several lanes once all have ended: what is left in their rings, and the end of all.
 
 ghost use Rattle.std.specs.Prelude.{◌≡◌, ◌<◌, ℕ, List, true, length};
-ghost use Rattle.rtrb.specs.Ring.{sent, received, known_items};
+ghost use Rattle.pnm_stages.specs.Rings.{sent, received, known_items};
 ghost use Rattle.pnm_tools.specs.declared.tool.Tool.{Tool};
 ghost use Rattle.pnm_tools.specs.Tools.{IsLawfulTool, is_row_wise};
 ghost use Rattle.pnm_lanes.specs.declared.lane_rings.LaneEnds.{LaneEnds};
@@ -11,8 +11,7 @@ ghost use Rattle.pnm_lanes.specs.LaneRuns.{end_of_both, HaveRun, HasRunLanes};
 
 use crate::dealing::DealDone;
 use crate::gathering::GatherDone;
-use pnm_rings::StageEnd;
-use pnm_stages::StageDone;
+use pnm_stages::{StageDone, StageEnd};
 
 /// The threads of a tool over several lanes, each of which has ended.
 #[derive(Drop)]
@@ -60,8 +59,8 @@ pub fn joined(done: LanesDone) -> StageDone
             unreachable!();
         };
         // What is left in the rings is known now.
-        lane.input.slots_beside(&mut sender);
-        receiver.slots_beside(&mut lane.output);
+        lane.input.look_beside(&mut sender);
+        receiver.look_beside(&mut lane.output);
         end = end_of_both(lane.end, end);
     }
     StageDone {

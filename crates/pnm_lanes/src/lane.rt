@@ -1,14 +1,16 @@
 //! A lane whose messages are gathered: what is taken of it, and whether it has ended.
 
 ghost use Rattle.std.specs.Prelude.{◌<◌, ◌≤◌, length};
-ghost use Rattle.rtrb.specs.Ring.{received, known_items};
+ghost use Rattle.pnm_stages.specs.Rings.{received, known_items};
 ghost use Rattle.pnm_lanes.specs.Gathers.{at_lane, AreSameInputs};
 ghost use Rattle.pnm_lanes.specs.GatherParts.{HasTakenFrom};
 
-use crate::lane_rings::SideWakers;
 use pnm_image::Message;
-use pnm_rings::{Backoff, Ending, Input, StageEnd, take};
+use pnm_stages::{Backoff, Ending, Receiver, StageEnd};
 use std::sync::Wait;
+
+/// The most lanes of a tool.
+pub const MAX_LANES: usize = 8;
 
 /// What is known of a lane.
 #[derive(Clone, Copy, Debug, PartialEq, Eq)]
@@ -25,10 +27,9 @@ pub enum LaneState {
 /// other end was seen dropped.
 pub fn take_from<R: Wait>(
     rt: &R,
-    inputs: &mut [Input],
+    inputs: &mut [Receiver],
     states: &mut [LaneState],
     lane: usize,
-    wakers: SideWakers<'_>,
     backoff: &mut Backoff,
 ) -> Result<Message, StageEnd>
     requires lane { lane < length inputs.old }
@@ -37,7 +38,7 @@ pub fn take_from<R: Wait>(
     ensures taken { HasTakenFrom lane result states.old states.new (at_lane received inputs.old)
         (at_lane received inputs.new) }
 {
-    let Some(message) = take(rt, &mut inputs[lane], wakers.from(lane), backoff) else {
+    let Some(message) = inputs[lane].receive(rt, backoff) else {
         return Err(StageEnd::PeerGone);
     };
     let ending = Ending::of(&message);

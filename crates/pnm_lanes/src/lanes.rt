@@ -3,21 +3,22 @@
 
 ghost use Rattle.std.specs.Prelude.{◌≡◌, ◌≤◌, [], true, length, vec_capacity, IfOk, IfErr, IfSome};
 ghost use Rattle.std.specs.Thread.{IsSync};
-ghost use Rattle.rtrb.specs.Ring.{sent, received, known_items, SameProducer, SameConsumer};
 ghost use Rattle.pnm_tools.specs.Tools.{IsLawfulTool, is_row_wise};
-ghost use Rattle.pnm_rings.specs.Limits.{IsRingCapacity};
+ghost use Rattle.pnm_stages.specs.Limits.{IsRingCapacity};
+ghost use Rattle.pnm_stages.specs.Rings.{sent, received, known_items, SameProducer, SameConsumer};
 ghost use Rattle.pnm_stages.specs.Starts.{IsUntouched};
-ghost use Rattle.pnm_lanes.specs.Deals.{HasDealt};
-ghost use Rattle.pnm_lanes.specs.Gathers.{at_lane, AreSameInputs, HasGathered};
 ghost use Rattle.pnm_lanes.specs.Limits.{IsLaneCount};
-ghost use Rattle.pnm_lanes.specs.LaneRuns.{HasRunLanes, HaveRun, IsLaneRun, AreAround};
+ghost use Rattle.pnm_lanes.specs.LaneRuns.{HasRunLanes, HaveRun, HaveDealtAndGathered, IsLaneRun, IsDealerRun, IsGathererRun, AreAround};
+ghost use Rattle.pnm_lanes.specs.LaneRings.{AreLaneRings};
 
-use crate::dealing::{DealDone, deal_all};
-use crate::gathering::{GatherDone, gather_all};
+use crate::dealing::{DealDone, deal};
+use crate::gathering::{GatherDone, gather};
 use crate::joining::{LanesDone, joined};
-use crate::lane_rings::{LaneEnds, LaneRings, LaneWakers, SideWakers, lane_wakers};
-use pnm_rings::{Input, Output, Wakers};
-use pnm_stages::{Gate, NoStart, StageDone, StageWakers, at_once, run_lane_by};
+use crate::lane_rings::{LaneEnds, LaneRings};
+use pnm_stages::{
+    Call, Gate, Idle, NoStart, Receiver, Sender, StageDone, Task, row_stage_of, run_both,
+    run_filter,
+};
 use pnm_tools::Tool;
 use std::alloc::Global;
 use std::sync::Wait;
@@ -27,17 +28,17 @@ use std::thread::Threads;
 #[derive(Drop)]
 pub struct OuterEnds {
     /// The end that the dealer receives on.
-    pub input: Input,
+    pub input: Receiver,
     /// Those that it sends on, one for each lane.
-    pub outputs: Vec<Output>,
+    pub outputs: Vec<Sender>,
     /// Those that the gatherer receives on, one for each lane.
-    pub inputs: Vec<Input>,
+    pub inputs: Vec<Receiver>,
     /// The end that it sends on.
-    pub output: Output,
+    pub output: Sender,
 }
 
 /// Passes what comes on `input` through a row-wise tool to `output`, over 1 to 8 lanes: a thread deals the rows, row y to
-/// lane y mod their number; in a thread of its own each lane does the tool's work on the images that it sees; and this
+/// lane y mod their number; in a thread of its own each lane does the tool's work on the images that it sees; and another
 /// thread gathers the rows. The rings to and from the lanes hold so many messages each, 1 to 1,024. Each lane calls the gate
 /// with the tool's number and its own, from 0, before it takes its first message; the threads that deal and gather don't.
 ///
@@ -52,8 +53,8 @@ pub fn run_lanes<R: Threads + Wait + Sync, G: Gate>(
     lanes: usize,
     capacity: usize,
     gate: &G,
-    input: Input,
-    output: Output,
+    input: Receiver,
+    output: Sender,
 ) -> Result<StageDone, NoStart>
     requires lawful { IsLawfulTool tool.now }
     requires row_wise { is_row_wise tool.now ≡ true }
@@ -65,53 +66,47 @@ pub fn run_lanes<R: Threads + Wait + Sync, G: Gate>(
         (sent output) (sent done.output)) }
     ensures not_started { IfErr result (λ refused. IfSome refused.ends (IsUntouched input output)) }
 {
-    let (before, behind) = (Wakers::of_one_end(), Wakers::of_one_end());
-    let wakers = StageWakers {
-        input: &before,
-        output: &behind,
-    };
-    run_lanes_by(
-        rt, alloc, tool, number, lanes, capacity, gate, input, output, wakers,
-    )
-}
-
-/// The same, beside neighbours that wake its threads and are woken.
-pub fn run_lanes_by<R: Threads + Wait + Sync, G: Gate>(
-    rt: &R,
-    alloc: Global,
-    tool: &Tool,
-    number: usize,
-    lanes: usize,
-    capacity: usize,
-    gate: &G,
-    input: Input,
-    output: Output,
-    wakers: StageWakers<'_>,
-) -> Result<StageDone, NoStart>
-    requires shared { IsSync R.row × IsSync G.row }
-    requires lawful { IsLawfulTool tool.now }
-    requires row_wise { is_row_wise tool.now ≡ true }
-    requires lanes { IsLaneCount lanes }
-    requires capacity { IsRingCapacity capacity }
-    ensures input { IfOk result (λ done. SameConsumer input done.input) }
-    ensures output { IfOk result (λ done. SameProducer output done.output) }
-    ensures ran { IfOk result (λ done. HasRunLanes tool.now done.end (received input) (received done.input) (known_items done.input)
-        (sent output) (sent done.output)) }
-    ensures not_started { IfErr result (λ refused. IfSome refused.ends (IsUntouched input output)) }
-{
-    let (Some(rings), Some(lane_wakers), Ok(room)) = (
-        LaneRings::new(alloc, lanes, capacity),
-        lane_wakers(alloc, lanes),
-        Vec::with_capacity(alloc, lanes),
-    ) else {
+    let Some(rings) = LaneRings::new(alloc, lanes, capacity) else {
         return Err(NoStart {
             ends: Some((input, output)),
         });
     };
+    match run_lanes_beside(rt, alloc, tool, number, rings, gate, input, output, Idle) {
+        Some((done, ())) => Ok(done),
+        None => Err(NoStart { ends: None }),
+    }
+}
+
+/// Passes what comes on `input` through a row-wise tool to `output`, as `run_lanes` does, over the lanes of these rings. Once each
+/// of its threads is started, other work is done in this one. None where a thread can't be started: that work isn't done then, and
+/// the threads that were started have ended.
+pub fn run_lanes_beside<R: Threads + Wait + Sync, G: Gate, T: Task<Output = B> + Drop, B: Drop>(
+    rt: &R,
+    alloc: Global,
+    tool: &Tool,
+    number: usize,
+    rings: LaneRings,
+    gate: &G,
+    input: Receiver,
+    output: Sender,
+    beside: T,
+) -> Option<(StageDone, B)>
+    requires shared { IsSync R.row × IsSync G.row }
+    requires lawful { IsLawfulTool tool.now }
+    requires row_wise { is_row_wise tool.now ≡ true }
+    requires rings { AreLaneRings rings }
+    requires beside { T.can_run beside }
+    ensures input { IfSome result (λ r. SameConsumer input r.0.input) }
+    ensures output { IfSome result (λ r. SameProducer output r.0.output) }
+    ensures ran { IfSome result (λ r. HasRunLanes tool.now r.0.end (received input) (received r.0.input) (known_items r.0.input)
+        (sent output) (sent r.0.output)) }
+    ensures beside { IfSome result (λ r. T.run_gives beside r.1) }
+{
     let LaneRings {
         outputs,
         lanes,
         inputs,
+        room,
     } = rings;
     let outer = OuterEnds {
         input,
@@ -119,27 +114,47 @@ pub fn run_lanes_by<R: Threads + Wait + Sync, G: Gate>(
         inputs,
         output,
     };
-    let lane_wakers = lane_wakers.as_slice();
-    match run_threads(
-        rt,
-        alloc,
-        tool,
-        number,
-        gate,
-        lanes,
-        outer,
-        room,
-        wakers,
-        lane_wakers,
-    ) {
-        Some(done) => Ok(joined(done)),
-        None => Err(NoStart { ends: None }),
+    let (done, beside) = run_threads(rt, alloc, tool, number, gate, lanes, outer, room, beside)?;
+    Some((joined(done), beside))
+}
+
+/// The work of one lane.
+#[derive(Drop)]
+struct Lane<'a, R, G> {
+    rt: &'a R,
+    alloc: Global,
+    tool: &'a Tool,
+    number: usize,
+    lane: usize,
+    gate: &'a G,
+    ends: LaneEnds,
+}
+
+impl<'a, R: Wait, G: Gate> Task for Lane<'a, R, G> {
+    type Output = StageDone;
+
+    ghost can_run = { λ l. IsLawfulTool l.tool.now × (is_row_wise l.tool.now ≡ true) };
+
+    ghost run_gives = { λ l done. IsLaneRun l.tool.now l.ends.input l.ends.output done };
+
+    fn run(self) -> StageDone {
+        let Lane {
+            rt,
+            alloc,
+            tool,
+            number,
+            lane,
+            gate,
+            ends,
+        } = self;
+        gate.arrive(number, lane);
+        run_filter(rt, row_stage_of(alloc, tool), ends.input, ends.output)
     }
 }
 
-/// The threads of these lanes, the last in a thread of its own beside those before it, and of those that deal and gather;
-/// none where one can't be started, and then all that were have ended.
-fn run_threads<R: Threads + Wait + Sync, G: Gate>(
+/// The threads of these lanes, from the last one on, and of those that deal and gather; then the work beside them. None where
+/// one can't be started: all that were have ended then.
+fn run_threads<R: Threads + Wait + Sync, G: Gate, T: Task<Output = B> + Drop, B: Drop>(
     rt: &R,
     alloc: Global,
     tool: &Tool,
@@ -148,98 +163,119 @@ fn run_threads<R: Threads + Wait + Sync, G: Gate>(
     lanes: Vec<LaneEnds>,
     outer: OuterEnds,
     room: Vec<StageDone>,
-    wakers: StageWakers<'_>,
-    lane_wakers: &[LaneWakers],
-) -> Option<LanesDone>
+    beside: T,
+) -> Option<(LanesDone, B)>
     requires shared { IsSync R.row × IsSync G.row }
     requires tool { IsLawfulTool tool.now × (is_row_wise tool.now ≡ true) }
     requires outer { AreAround outer }
-    requires wakers { length lanes.items ≤ length lane_wakers.now }
     requires room { (room.items ≡ []) × (length lanes.items ≤ vec_capacity room) }
-    ensures { IfSome result (HaveRun tool.now lanes.items outer (vec_capacity room)) }
+    requires beside { T.can_run beside }
+    ensures ran { IfSome result (λ r. HaveRun tool.now lanes.items outer (vec_capacity room) r.0) }
+    ensures beside { IfSome result (λ r. T.run_gives beside r.1) }
 {
     let mut others = lanes;
-    let Some(last) = others.pop() else {
-        return deal_and_gather(rt, outer, room, wakers, lane_wakers);
+    let Some(ends) = others.pop() else {
+        return deal_and_gather(rt, alloc, outer, room, beside);
     };
-    let lane = others.len();
-    let LaneEnds { input, output } = last;
-    // The closures take the wakers one by one: a clause of a closure that takes the struct whole isn't known to its caller.
-    let StageWakers {
-        input: before,
-        output: behind,
-    } = wakers;
-    let own = &lane_wakers[lane];
-    let both = at_once(
+    let last = Lane {
         rt,
-        move || -> StageDone
-            requires { IsLawfulTool tool.now × (is_row_wise tool.now ≡ true) }
-            ensures { IsLaneRun tool.entry.now input output result }
-        {
-            let wakers = StageWakers {
-                input: &own.dealt,
-                output: &own.gathered,
-            };
-            run_lane_by(rt, alloc, tool, number, lane, gate, input, output, wakers)
-        },
-        move || -> Option<LanesDone>
+        alloc,
+        tool,
+        number,
+        lane: others.len(),
+        gate,
+        ends,
+    };
+    let rest = Call(
+        move || -> Option<(LanesDone, B)>
             requires { (IsSync R.row × IsSync G.row)
                 × (IsLawfulTool tool.now × (is_row_wise tool.now ≡ true)) × AreAround outer
-                × (length others.items ≤ length lane_wakers.now)
-                × ((room.items ≡ []) × (length others.items ≤ vec_capacity room)) }
-            ensures { IfSome result (HaveRun tool.entry.now others.items outer (vec_capacity room)) }
-        {
-            let wakers = StageWakers {
-                input: before,
-                output: behind,
-            };
-            // Where they weren't started, their ring ends go here, before the last lane is waited for, which looks for that
-            // once it is woken.
-            let done = run_threads(
-                rt,
-                alloc,
-                tool,
-                number,
-                gate,
-                others,
-                outer,
-                room,
-                wakers,
-                lane_wakers,
-            );
-            own.dealt.wake_receiver();
-            own.gathered.wake_sender();
-            done
-        },
+                × ((room.items ≡ []) × (length others.items ≤ vec_capacity room)) × T.can_run beside }
+            ensures { IfSome result (λ r. HaveRun tool.entry.now others.items outer (vec_capacity room) r.0
+                × T.run_gives beside r.1) }
+        { run_threads(rt, alloc, tool, number, gate, others, outer, room, beside) },
     );
-    let Some((done, rest)) = both else {
-        return None;
-    };
-    let Some(mut all) = rest else {
-        return None;
-    };
+    let (done, rest) = run_both(rt, last, rest)?;
+    let (mut all, beside) = rest?;
     all.lanes.push_reserved(done);
-    Some(all)
+    Some((all, beside))
 }
 
-/// The thread that deals, and beside it the one that gathers, which is this one.
-fn deal_and_gather<R: Threads + Wait + Sync>(
+/// The work of the thread that deals.
+#[derive(Drop)]
+struct Dealer<'a, R> {
+    rt: &'a R,
+    alloc: Global,
+    input: Receiver,
+    outputs: Vec<Sender>,
+}
+
+impl<'a, R: Wait> Task for Dealer<'a, R> {
+    type Output = DealDone;
+
+    ghost can_run = { λ d. IsLaneCount (length d.outputs.items) };
+
+    ghost run_gives = { λ d done. IsDealerRun d.input d.outputs.items done };
+
+    fn run(self) -> DealDone {
+        deal(self.rt, self.alloc, self.input, self.outputs)
+    }
+}
+
+/// The work of the thread that gathers.
+#[derive(Drop)]
+struct Gatherer<'a, R> {
+    rt: &'a R,
+    inputs: Vec<Receiver>,
+    output: Sender,
+}
+
+impl<'a, R: Wait> Task for Gatherer<'a, R> {
+    type Output = GatherDone;
+
+    ghost can_run = { λ g. IsLaneCount (length g.inputs.items) };
+
+    ghost run_gives = { λ g done. IsGathererRun g.inputs.items g.output done };
+
+    fn run(self) -> GatherDone {
+        gather(self.rt, self.inputs, self.output)
+    }
+}
+
+/// The work of the thread that deals, and the work that is done beside it.
+#[derive(Drop)]
+struct Dealing<'a, R, T> {
+    rt: &'a R,
+    dealer: Dealer<'a, R>,
+    beside: T,
+}
+
+impl<'a, R: Threads + Wait + Sync, T: Task<Output = B> + Drop, B: Drop> Task for Dealing<'a, R, T> {
+    type Output = Option<(DealDone, B)>;
+
+    ghost can_run = { λ d. IsSync R.row × IsLaneCount (length d.dealer.outputs.items) × T.can_run d.beside };
+
+    ghost run_gives = { λ d r. IfSome r (λ r. IsDealerRun d.dealer.input d.dealer.outputs.items r.0 × T.run_gives d.beside r.1) };
+
+    fn run(self) -> Option<(DealDone, B)> {
+        let Dealing { rt, dealer, beside } = self;
+        run_both(rt, dealer, beside)
+    }
+}
+
+/// The thread that gathers, and the one that deals; then the work beside them.
+fn deal_and_gather<R: Threads + Wait + Sync, T: Task<Output = B> + Drop, B: Drop>(
     rt: &R,
+    alloc: Global,
     outer: OuterEnds,
     room: Vec<StageDone>,
-    wakers: StageWakers<'_>,
-    lane_wakers: &[LaneWakers],
-) -> Option<LanesDone>
+    beside: T,
+) -> Option<(LanesDone, B)>
+    requires shared { IsSync R.row }
     requires outer { AreAround outer }
-    ensures dealt { IfSome result (λ done. SameConsumer outer.input done.dealt.input
-        × HasDealt done.dealt.end (received outer.input) (received done.dealt.input) (known_items done.dealt.input)
-        outer.outputs.items done.dealt.outputs.items) }
-    ensures gathered { IfSome result (λ done. AreSameInputs outer.inputs.items done.gathered.inputs.items
-        × SameProducer outer.output done.gathered.output
-        × HasGathered done.gathered.end (length outer.inputs.items) (at_lane received outer.inputs.items)
-        (at_lane received done.gathered.inputs.items) (at_lane known_items done.gathered.inputs.items)
-        (sent outer.output) (sent done.gathered.output)) }
-    ensures room { IfSome result (λ done. done.lanes ≡ room) }
+    requires beside { T.can_run beside }
+    ensures ran { IfSome result (λ r. HaveDealtAndGathered outer room r.0) }
+    ensures beside { IfSome result (λ r. T.run_gives beside r.1) }
 {
     let OuterEnds {
         input,
@@ -247,59 +283,23 @@ fn deal_and_gather<R: Threads + Wait + Sync>(
         inputs,
         output,
     } = outer;
-    let StageWakers {
-        input: before,
-        output: behind,
-    } = wakers;
-    // The rings of a lane that has no wakers: there are none.
-    let others = &Wakers::of_one_end();
-    let both = at_once(
+    let gatherer = Gatherer { rt, inputs, output };
+    let dealing = Dealing {
         rt,
-        move || -> DealDone
-            requires { IsLaneCount (length outputs.items) }
-            ensures { SameConsumer input result.input
-                × HasDealt result.end (received input) (received result.input) (known_items result.input)
-                outputs.items result.outputs.items }
-        {
-            let wakers = SideWakers {
-                outer: before,
-                lanes: lane_wakers,
-                others,
-            };
-            let mut input = input;
-            let mut outputs = outputs;
-            let end = deal_all(rt, &mut input, outputs.as_mut_slice(), wakers);
-            DealDone {
-                input,
-                outputs,
-                end,
-            }
+        dealer: Dealer {
+            rt,
+            alloc,
+            input,
+            outputs,
         },
-        move || -> GatherDone
-            requires { IsLaneCount (length inputs.items) }
-            ensures { AreSameInputs inputs.items result.inputs.items × SameProducer output result.output
-                × HasGathered result.end (length inputs.items) (at_lane received inputs.items)
-                (at_lane received result.inputs.items) (at_lane known_items result.inputs.items) (sent output) (sent result.output) }
-        {
-            let wakers = SideWakers {
-                outer: behind,
-                lanes: lane_wakers,
-                others,
-            };
-            let mut inputs = inputs;
-            let mut output = output;
-            let end = gather_all(rt, inputs.as_mut_slice(), &mut output, wakers);
-            GatherDone {
-                inputs,
-                output,
-                end,
-            }
-        },
-    );
-    let (dealt, gathered) = both?;
-    Some(LanesDone {
+        beside,
+    };
+    let (gathered, rest) = run_both(rt, gatherer, dealing)?;
+    let (dealt, beside) = rest?;
+    let done = LanesDone {
         dealt,
         lanes: room,
         gathered,
-    })
+    };
+    Some((done, beside))
 }

@@ -1,16 +1,14 @@
 //! The next message of the whole stream, taken of the lanes: a row of one lane, or a message of each.
 
 ghost use Rattle.std.specs.Prelude.{◌≡◌, ℕ, ◌<◌, ◌≤◌, length, slice_index_or};
-ghost use Rattle.rtrb.specs.Ring.{received};
+ghost use Rattle.pnm_stages.specs.Rings.{received};
 ghost use Rattle.pnm_lanes.specs.Gathers.{at_lane, AreSameInputs};
 ghost use Rattle.pnm_lanes.specs.GatherParts.{AreOpen, AwaitsNoRow, HasTakenNext};
 
 use crate::agreement::{are_alike, height_of, together};
-use crate::lane::{LaneState, take_from};
-use crate::lane_rings::SideWakers;
-use crate::limits::MAX_LANES;
+use crate::lane::{LaneState, MAX_LANES, take_from};
 use pnm_image::{Message, Place, Shape};
-use pnm_rings::{Backoff, Input, StageEnd};
+use pnm_stages::{Backoff, Receiver, StageEnd};
 use pnm_tools::ToolFault;
 use std::sync::Wait;
 
@@ -21,10 +19,9 @@ const OUT_OF_ORDER: StageEnd = StageEnd::Fault(ToolFault::OutOfOrder);
 /// is out of place; `PeerGone` where a lane's other end was seen dropped before.
 pub fn take_next<R: Wait>(
     rt: &R,
-    inputs: &mut [Input],
+    inputs: &mut [Receiver],
     states: &mut [LaneState],
     place: Place,
-    wakers: SideWakers<'_>,
     backoff: &mut Backoff,
 ) -> Result<Message, StageEnd>
     requires some { 1 ≤ length inputs.old }
@@ -37,20 +34,19 @@ pub fn take_next<R: Wait>(
 {
     match place {
         Place::Inside(shape, y) if y < shape.height => {
-            take_row(rt, inputs, states, shape, y, wakers, backoff)
+            take_row(rt, inputs, states, shape, y, backoff)
         }
-        _ => take_of_each(rt, inputs, states, place, wakers, backoff),
+        _ => take_of_each(rt, inputs, states, place, backoff),
     }
 }
 
 /// The row of this number, of an image of this shape that has more rows: its lane's next message.
 fn take_row<R: Wait>(
     rt: &R,
-    inputs: &mut [Input],
+    inputs: &mut [Receiver],
     states: &mut [LaneState],
     shape: Shape,
     y: u32,
-    wakers: SideWakers<'_>,
     backoff: &mut Backoff,
 ) -> Result<Message, StageEnd>
     requires some { 1 ≤ length inputs.old }
@@ -62,7 +58,7 @@ fn take_row<R: Wait>(
         (at_lane received inputs.new) }
 {
     let lane = y as usize % inputs.len();
-    let message = take_from(rt, inputs, states, lane, wakers, backoff)?;
+    let message = take_from(rt, inputs, states, lane, backoff)?;
     if !Place::Inside(shape, y).accepts(&message) {
         return Err(OUT_OF_ORDER);
     }
@@ -72,10 +68,9 @@ fn take_row<R: Wait>(
 /// The next message at a place where none is a row: one of each lane, put together.
 fn take_of_each<R: Wait>(
     rt: &R,
-    inputs: &mut [Input],
+    inputs: &mut [Receiver],
     states: &mut [LaneState],
     place: Place,
-    wakers: SideWakers<'_>,
     backoff: &mut Backoff,
 ) -> Result<Message, StageEnd>
     requires some { 1 ≤ length inputs.old }
@@ -87,14 +82,14 @@ fn take_of_each<R: Wait>(
     ensures taken { HasTakenNext (length inputs.old) place result states.new (at_lane received inputs.old)
         (at_lane received inputs.new) }
 {
-    let first = take_from(rt, inputs, states, 0, wakers, backoff)?;
+    let first = take_from(rt, inputs, states, 0, backoff)?;
     if !place.accepts(&first) {
         return Err(OUT_OF_ORDER);
     }
     let mut heights = [0; MAX_LANES];
     heights[0] = height_of(&first);
     for lane in 1..inputs.len() {
-        let message = take_from(rt, inputs, states, lane, wakers, backoff)?;
+        let message = take_from(rt, inputs, states, lane, backoff)?;
         if !are_alike(&first, &message) {
             return Err(OUT_OF_ORDER);
         }

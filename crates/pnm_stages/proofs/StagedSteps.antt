@@ -13,23 +13,23 @@ use Rattle.pnm_tools.specs.declared.tool.Tool.{Tool}
 use Rattle.pnm_tools.specs.Answers.{Ending, More, Whole, BrokenOff, ending_of, EndsBy, AnswersInFull}
 use Rattle.pnm_tools.specs.ChainAnswers.{HasRefused, IsRefusedNext}
 use Rattle.pnm_tools.proofs.FullAnswers.{full_answer_is_the_stream}
-use Rattle.pnm_rings.specs.declared.ending.Ending.{Ending as Answered}
-use Rattle.pnm_rings.specs.declared.ending.Ending.TheVariants.{More as AnsweredMore, Whole as AnsweredWhole, BrokenOff as AnsweredBrokenOff}
+use Rattle.pnm_stages.specs.declared.ending.Ending.{Ending as Answered}
+use Rattle.pnm_stages.specs.declared.ending.Ending.TheVariants.{More as AnsweredMore, Whole as AnsweredWhole, BrokenOff as AnsweredBrokenOff}
 use Rattle.pnm_stages.specs.declared.serial_stage.SerialStage.{SerialStage}
 use Rattle.pnm_stages.specs.declared.serial_stage.SerialStage.TheVariants.{AtWork, Refused}
-use Rattle.pnm_rings.specs.declared.stage_end.StageEnd.{StageEnd}
-use Rattle.pnm_rings.specs.declared.stage_end.StageEnd.TheVariants.{Well, Broken, PeerGone}
-use Rattle.pnm_rings.specs.Rings.{ending_by, IsEnded, EndsAtMostOnce, HasDrainedAfter}
+use Rattle.pnm_stages.specs.declared.stage.StageEnd.{StageEnd}
+use Rattle.pnm_stages.specs.declared.stage.StageEnd.TheVariants.{Well, Broken, PeerGone}
+use Rattle.pnm_stages.specs.Rings.{ending_by, IsEnded, EndsAtMostOnce, HasDrainedAfter}
 use Rattle.pnm_stages.specs.SerialStages.{StageAt, StageBusy, refusal_in}
-use Rattle.pnm_rings.specs.Fronts.{IsFrontOfDue}
-use Rattle.pnm_rings.specs.Stages.{HasEndedSo, HasRunStage}
+use Rattle.pnm_stages.specs.Fronts.{IsFrontOfDue}
+use Rattle.pnm_stages.specs.Stages.{HasEndedSo, HasRunStage}
 use Rattle.pnm_stages.specs.StageParts.{HasAnsweredPart, HasSentAnswers, HasBrokenOffAfter}
 use Rattle.pnm_tools.specs.Tools.{output_due}
 use Rattle.pnm_tools.proofs.InFullLaws.{ends_after}
 use Rattle.pnm_tools.proofs.SoundLaws.{both_all}
-use Rattle.pnm_rings.proofs.RingSteps.{ends_nothing, ends_with}
-use Rattle.pnm_rings.proofs.EndingLaws.{front_goes_on, ends_stream}
-use Rattle.pnm_rings.proofs.FrontLaws.{due_with_stop, due_goes_on}
+use Rattle.pnm_stages.proofs.RingSteps.{ends_nothing, ends_with}
+use Rattle.pnm_stages.proofs.EndingLaws.{front_goes_on, ends_stream}
+use Rattle.pnm_stages.proofs.FrontLaws.{due_with_stop, due_goes_on}
 
 -- ---- what is due
 
@@ -76,6 +76,12 @@ passes_one at all_given stopped first old fed new m r r1 r2 s s1 s2 passing adde
 -- the stream goes on after it
 pub still_going : {F : Type 0} (at : F → Tool → List Message → List Message → Type 0) (all_given : F → Bool) (stopped : F → Option ToolFault) (e : Ending) (first now : SerialStage F) (r r' s s' : List Message) → IsPassing at all_given stopped e first now r r' s s' → e ≡ More → IsPassing at all_given stopped More first now r r' s s'
 still_going at all_given stopped e first now r r' s s' passing more = subst (λ (x : Ending). IsPassing at all_given stopped x first now r r' s s') more passing
+
+-- nothing was sent since
+pub still_sent : {F : Type 0} {at : F → Tool → List Message → List Message → Type 0} {all_given : F → Bool} {stopped : F → Option ToolFault} {e : Ending} {first now : SerialStage F} {r r' s s' s2 : List Message}
+    → IsPassing at all_given stopped e first now r r' s s' → s2 ≡ s' → IsPassing at all_given stopped e first now r r' s s2
+still_sent {at = at} {all_given = all_given} {stopped = stopped} {e = e} {first = first} {now = now} {r = r} {r' = r'} {s = s} passing same =
+    subst (λ (x : List Message). IsPassing at all_given stopped e first now r r' s x) (sym same) passing
 
 -- ---- the other end was seen dropped
 

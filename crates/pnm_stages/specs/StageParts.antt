@@ -5,11 +5,11 @@ use Rattle.pnm_image.specs.declared.message.Message.TheVariants.{Stop}
 use Rattle.pnm_tools.specs.declared.fault.ToolFault.{ToolFault}
 use Rattle.pnm_tools.specs.declared.tool.Tool.{Tool}
 use Rattle.pnm_tools.specs.Answers.{Answers}
-use Rattle.pnm_rings.specs.declared.ending.Ending.{Ending}
+use Rattle.pnm_stages.specs.declared.ending.Ending.{Ending}
 use Rattle.pnm_stages.specs.declared.serial_stage.SerialStage.{SerialStage}
-use Rattle.pnm_rings.specs.declared.stage_end.StageEnd.{StageEnd}
-use Rattle.pnm_rings.specs.declared.stage_end.StageEnd.TheVariants.{Fault, PeerGone}
-use Rattle.pnm_rings.specs.Rings.{HasDrainedAfter}
+use Rattle.pnm_stages.specs.declared.stage.StageEnd.{StageEnd}
+use Rattle.pnm_stages.specs.declared.stage.StageEnd.TheVariants.{Fault, PeerGone}
+use Rattle.pnm_stages.specs.Rings.{HasDrainedAfter}
 use Rattle.pnm_stages.specs.SerialStages.{StageAt, StageBusy}
 
 -- what was given answers a front of what was received

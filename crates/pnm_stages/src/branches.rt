@@ -2,6 +2,8 @@
 
 ghost use Rattle.std.specs.Prelude.{◌≡◌, IfSome};
 
+use crate::receiver::Receiver;
+use crate::sender::Sender;
 use std::snapshot::Snapshot;
 use std::sync::Wait;
 use std::thread;
@@ -30,22 +32,6 @@ struct Gives<S>(Snapshot<S>);
 
 impl<S: Task<Output = A>, A> Promise<A> for Gives<S> {
     ghost kept_by = { λ p r. S.run_gives p.0.value r };
-}
-
-/// A closure as a task.
-#[derive(Drop)]
-pub struct Call<F>(pub F);
-
-impl<A, F: FnOnce() -> A> Task for Call<F> {
-    type Output = A;
-
-    ghost can_run = { λ c. F.pre c.0 };
-
-    ghost run_gives = { λ c r. F.post c.0 r };
-
-    fn run(self) -> A {
-        (self.0)()
-    }
 }
 
 /// Runs the first task in a thread of its own and the second here; none where the thread couldn't be started, and then
@@ -86,18 +72,42 @@ pub fn run_both<
     )
 }
 
-/// Runs the first closure in a thread of its own and the second here; none where the thread couldn't be started, and then
-/// neither is run.
-pub fn at_once<
-    R: Threads + Wait + Sync,
-    F: FnOnce() -> A + Send + Drop,
-    G: FnOnce() -> B + Send + Drop,
-    A: Send + Drop,
-    B: Send + Drop,
->(rt: &R, f: F, g: G) -> Option<(A, B)>
-    requires { F.pre f × G.pre g }
-    ensures first { IfSome result (λ r. F.post f r.0) }
-    ensures second { IfSome result (λ r. G.post g r.1) }
-{
-    run_both(rt, Call(f), Call(g))
+/// A closure as a task: for a function that starts itself again beside other work, since a cycle of calls can't go through a
+/// struct that is a task.
+#[derive(Drop)]
+pub struct Call<F>(pub F);
+
+impl<A, F: FnOnce() -> A> Task for Call<F> {
+    type Output = A;
+
+    ghost can_run = { λ c. F.pre c.0 };
+
+    ghost run_gives = { λ c r. F.post c.0 r };
+
+    fn run(self) -> A {
+        (self.0)()
+    }
+}
+
+/// No work.
+#[derive(Clone, Copy, Debug)]
+pub struct Idle;
+
+impl Task for Idle {
+    type Output = ();
+
+    ghost can_run = { λ _. Unit {0} };
+
+    ghost run_gives = { λ _ _. Unit {0} };
+
+    fn run(self) {}
+}
+
+/// Work over threads that wasn't started whole: there was no memory for a ring or a list, or a thread couldn't be
+/// started.
+#[derive(Drop)]
+pub struct NoStart {
+    /// The ends of the outer rings, where no thread was to be started yet; nothing was sent or received
+    /// then. None once a start was tried, and then all threads that were started have ended.
+    pub ends: Option<(Receiver, Sender)>,
 }

@@ -1,14 +1,23 @@
-//! Stages: a tool in a thread of its own, between two rings; and what threads side by side are started with.
+//! Stages: a tool in a thread of its own, between two rings of messages; the rings, how a thread waits for its neighbours,
+//! and what threads side by side are started with.
 #![tactic(auto)]
 
+mod backoff;
 mod branches;
-mod gate;
-mod no_start;
+mod ending;
+pub mod laws;
+mod receiver;
+mod ring;
+mod sender;
 mod serial_stage;
 mod stage;
+mod wakers;
 
-pub use branches::{Call, Task, at_once, run_both};
-pub use gate::{Gate, OpenGate};
-pub use no_start::NoStart;
+pub use backoff::Backoff;
+pub use branches::{Call, Idle, NoStart, Task, run_both};
+pub use ending::{Ending, ends_image};
+pub use receiver::Receiver;
+pub use ring::{AnyMessage, MAX_RING_CAPACITY, new_ring};
+pub use sender::Sender;
 pub use serial_stage::{SerialStage, row_stage_of, stage_of};
-pub use stage::{StageDone, StageWakers, run_lane_by, run_stage, run_stage_by};
+pub use stage::{Gate, OpenGate, StageDone, StageEnd, run_filter, run_stage};

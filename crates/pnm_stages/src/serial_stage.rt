@@ -1,6 +1,6 @@
 //! A tool at work: what it is fed, what it gives, and its refusal.
 
-ghost use Rattle.std.specs.Prelude.{◌≡◌, ◌<◌, ◌∷◌, ◌++◌, [], List, true, IfSome, IfNone};
+ghost use Rattle.std.specs.Prelude.{◌≡◌, ◌<◌, ◌∷◌, ◌++◌, [], List, true, IfSome, IfNone, IsTrue, IsFalse};
 ghost use Rattle.pnm_image.specs.declared.message.Message.{Message as MessageValue};
 ghost use Rattle.pnm_tools.specs.declared.tool.Tool.{Tool as ToolValue};
 ghost use Rattle.pnm_tools.specs.Tools.{IsLawfulTool, is_row_wise};
@@ -61,6 +61,18 @@ impl<F: Filter + Drop> SerialStage<F> {
                 *self = SerialStage::Refused(fault);
                 None
             }
+        }
+    }
+
+    /// Whether the tool has given all, or refused, as far as a look shows. Where it answers false `next` tells.
+    pub fn gave_all(&mut self) -> bool
+        ensures full { IsTrue result → (tool : ToolValue) (l g : List MessageValue)
+            → StageBusy F.at F.stopped self.old tool l g → StageAt F.at F.all_given F.stopped self.new tool l g }
+        ensures unknown { IsFalse result → self.new ≡ self.old }
+    {
+        match self {
+            SerialStage::AtWork(filter) => filter.gave_all(),
+            SerialStage::Refused(_) => true,
         }
     }
 }

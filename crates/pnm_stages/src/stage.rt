@@ -1,39 +1,62 @@
 //! A stage of a chain: a tool in a thread of its own, between two rings.
 
-ghost use Rattle.std.specs.Prelude.{◌≡◌, [], ◌++◌, List, true};
-ghost use Rattle.rtrb.specs.Ring.{sent, received, known_items, SameProducer, SameConsumer};
+ghost use Rattle.std.specs.Prelude.{◌≡◌, [], ◌++◌, List};
 ghost use Rattle.pnm_tools.specs.declared.tool.Tool.{Tool as ToolValue};
-ghost use Rattle.pnm_tools.specs.Tools.{IsLawfulTool, is_row_wise};
+ghost use Rattle.pnm_tools.specs.Tools.{IsLawfulTool};
+ghost use Rattle.pnm_stages.specs.Rings.{sent, received, known_items, SameProducer, SameConsumer};
 ghost use Rattle.pnm_stages.specs.SerialStages.{StageAt};
-ghost use Rattle.pnm_rings.specs.Stages.{HasRunStage};
+ghost use Rattle.pnm_stages.specs.Stages.{HasRunStage};
 ghost use Rattle.pnm_stages.specs.StageParts.{HasSentAnswers, HasBrokenOffAfter};
 
-use crate::gate::Gate;
-use crate::serial_stage::{SerialStage, row_stage_of, stage_of};
+use crate::backoff::Backoff;
+use crate::ending::Ending;
+use crate::receiver::Receiver;
+use crate::sender::Sender;
+use crate::serial_stage::{SerialStage, stage_of};
 use pnm_image::Message;
-use pnm_rings::{Backoff, Ending, Input, Output, StageEnd, Wakers, drain_after, give, take};
 use pnm_tools::{Filter, Tool, ToolFault};
 use std::alloc::Global;
 use std::sync::Wait;
+
+/// What each thread that runs a tool calls once, before it takes its first message. Tests hold a
+/// thread back by it.
+pub trait Gate: Sync {
+    /// The thread of the tool of this number, from 1, in this lane, from 0, has come to the gate.
+    fn arrive(&self, stage: usize, lane: usize);
+}
+
+/// The gate that holds nobody back.
+#[derive(Clone, Copy, Debug)]
+pub struct OpenGate;
+
+impl Gate for OpenGate {
+    fn arrive(&self, _stage: usize, _lane: usize) {}
+}
+
+/// How a stage has ended.
+#[derive(Clone, Copy, Debug, PartialEq, Eq)]
+pub enum StageEnd {
+    /// The end of the stream was taken, and the tool's was sent.
+    Well,
+    /// Stop was taken, and sent.
+    Broken,
+    /// The tool refused so; Stop was sent, and the input was taken and dropped through its end or its
+    /// Stop.
+    Fault(ToolFault),
+    /// The other end of a ring was seen dropped. Where it was the output's, the input was drained
+    /// first; where it was the input's, Stop was sent.
+    PeerGone,
+}
 
 /// The ring ends of a stage that has ended, and how it did.
 #[derive(Drop)]
 pub struct StageDone {
     /// The end that it received on.
-    pub input: Input,
+    pub input: Receiver,
     /// The end that it sent on.
-    pub output: Output,
+    pub output: Sender,
     /// How it has ended.
     pub end: StageEnd,
-}
-
-/// The wakers of the two rings that a stage stands between.
-#[derive(Clone, Copy)]
-pub struct StageWakers<'a> {
-    /// Those of the ring that it receives on.
-    pub input: &'a Wakers,
-    /// Those of the ring that it sends on.
-    pub output: &'a Wakers,
 }
 
 /// Passes what comes on `input` through the tool to `output`, message by message, until the stream
@@ -46,33 +69,8 @@ pub fn run_stage<R: Wait, G: Gate>(
     tool: &Tool,
     number: usize,
     gate: &G,
-    input: Input,
-    output: Output,
-) -> StageDone
-    requires { IsLawfulTool tool.now }
-    ensures input { SameConsumer input result.input }
-    ensures output { SameProducer output result.output }
-    ensures ran { HasRunStage tool.now result.end (received input) (received result.input) (known_items result.input)
-        (sent output) (sent result.output) }
-{
-    let (before, behind) = (Wakers::of_one_end(), Wakers::of_one_end());
-    let wakers = StageWakers {
-        input: &before,
-        output: &behind,
-    };
-    run_stage_by(rt, alloc, tool, number, gate, input, output, wakers)
-}
-
-/// The same, beside neighbours that wake it and are woken.
-pub fn run_stage_by<R: Wait, G: Gate>(
-    rt: &R,
-    alloc: Global,
-    tool: &Tool,
-    number: usize,
-    gate: &G,
-    input: Input,
-    output: Output,
-    wakers: StageWakers<'_>,
+    input: Receiver,
+    output: Sender,
 ) -> StageDone
     requires { IsLawfulTool tool.now }
     ensures input { SameConsumer input result.input }
@@ -81,39 +79,15 @@ pub fn run_stage_by<R: Wait, G: Gate>(
         (sent output) (sent result.output) }
 {
     gate.arrive(number, 0);
-    run_filter(rt, stage_of(alloc, tool), input, output, wakers)
+    run_filter(rt, stage_of(alloc, tool), input, output)
 }
 
-/// The same for one lane of a row-wise tool, on what the lane sees; the gate is called with this lane.
-pub fn run_lane_by<R: Wait, G: Gate>(
-    rt: &R,
-    alloc: Global,
-    tool: &Tool,
-    number: usize,
-    lane: usize,
-    gate: &G,
-    input: Input,
-    output: Output,
-    wakers: StageWakers<'_>,
-) -> StageDone
-    requires lawful { IsLawfulTool tool.now }
-    requires row_wise { is_row_wise tool.now ≡ true }
-    ensures input { SameConsumer input result.input }
-    ensures output { SameProducer output result.output }
-    ensures ran { HasRunStage tool.now result.end (received input) (received result.input) (known_items result.input)
-        (sent output) (sent result.output) }
-{
-    gate.arrive(number, lane);
-    run_filter(rt, row_stage_of(alloc, tool), input, output, wakers)
-}
-
-/// Passes what comes on `input` through a tool at work, or one that has refused, to `output`.
-fn run_filter<R: Wait, F: Filter + Drop>(
+/// Passes what comes on `input` through a tool at work, or one that has refused, to `output`, as `run_stage` does behind its gate.
+pub fn run_filter<R: Wait, F: Filter + Drop>(
     rt: &R,
     stage: SerialStage<F>,
-    input: Input,
-    output: Output,
-    wakers: StageWakers<'_>,
+    input: Receiver,
+    output: Sender,
 ) -> StageDone
     ensures input { SameConsumer input result.input }
     ensures output { SameProducer output result.output }
@@ -124,15 +98,8 @@ fn run_filter<R: Wait, F: Filter + Drop>(
     let mut stage = stage;
     let mut input = input;
     let mut output = output;
-    let mut backoff = Backoff::new().with_rows(output.capacity());
-    let end = pass_all(
-        rt,
-        &mut stage,
-        &mut input,
-        &mut output,
-        wakers,
-        &mut backoff,
-    );
+    output.hold_back();
+    let end = pass_all(rt, &mut stage, &mut input, &mut output);
     StageDone { input, output, end }
 }
 
@@ -140,10 +107,8 @@ fn run_filter<R: Wait, F: Filter + Drop>(
 fn pass_all<R: Wait, F: Filter + Drop>(
     rt: &R,
     stage: &mut SerialStage<F>,
-    input: &mut Input,
-    output: &mut Output,
-    wakers: StageWakers<'_>,
-    backoff: &mut Backoff,
+    input: &mut Receiver,
+    output: &mut Sender,
 ) -> StageEnd
     ensures input { SameConsumer input.old input.new }
     ensures output { SameProducer output.old output.new }
@@ -151,23 +116,24 @@ fn pass_all<R: Wait, F: Filter + Drop>(
         → HasRunStage tool result (received input.old) (received input.new) (known_items input.new)
         (sent output.old) (sent output.new) }
 {
+    let backoff = &mut Backoff::new();
     if let Some(fault) = stage.fault() {
-        return break_off(rt, fault, Ending::More, input, output, wakers, backoff);
+        return break_off(rt, fault, Ending::More, input, output, backoff);
     }
     for _ in rt.forever() {
-        tell_of_rows(input, wakers.output, backoff);
-        let Some(message) = take(rt, input, wakers.input, backoff) else {
-            give(rt, output, Message::Stop, wakers.output, backoff);
+        tell_before_wait(input, output);
+        let Some(message) = input.receive(rt, backoff) else {
+            output.send(rt, Message::Stop, backoff);
             return StageEnd::PeerGone;
         };
         let ending = Ending::of(&message);
         stage.feed(message);
-        if !send_answers(rt, stage, output, wakers, backoff) {
-            drain_after(rt, ending, input, wakers.input, backoff);
+        if !send_answers(rt, stage, output, backoff) {
+            input.drain_after(rt, ending, backoff);
             return StageEnd::PeerGone;
         }
         if let Some(fault) = stage.fault() {
-            return break_off(rt, fault, ending, input, output, wakers, backoff);
+            return break_off(rt, fault, ending, input, output, backoff);
         }
         match ending {
             Ending::More => {}
@@ -178,11 +144,13 @@ fn pass_all<R: Wait, F: Filter + Drop>(
     unreachable!()
 }
 
-/// Before the next message is taken: where none is left of those that were seen, and the stage may have to wait for it, the
-/// thread behind is told of all that was sent.
-fn tell_of_rows(input: &Input, wakers: &Wakers, backoff: &mut Backoff) {
-    if input.cached_slots() == 0 {
-        backoff.tell(wakers);
+/// Where the stage may have to wait for its next message, the thread behind is told first of all that was sent.
+fn tell_before_wait(input: &Receiver, output: &mut Sender)
+    ensures output { SameProducer output.old output.new }
+    ensures sent { sent output.new ≡ sent output.old }
+{
+    if !input.has_seen_message() {
+        output.tell();
     }
 }
 
@@ -191,16 +159,18 @@ fn tell_of_rows(input: &Input, wakers: &Wakers, backoff: &mut Backoff) {
 fn send_answers<R: Wait, F: Filter + Drop>(
     rt: &R,
     stage: &mut SerialStage<F>,
-    output: &mut Output,
-    wakers: StageWakers<'_>,
+    output: &mut Sender,
     backoff: &mut Backoff,
 ) -> bool
     ensures output { SameProducer output.old output.new }
     ensures sent { HasSentAnswers F.at F.all_given F.stopped result stage.old stage.new (sent output.old) (sent output.new) }
 {
     while let Some(answer) = stage.next() {
-        if !give(rt, output, answer, wakers.output, backoff) {
+        if !output.send(rt, answer, backoff) {
             return false;
+        }
+        if stage.gave_all() {
+            return true;
         }
     }
     true
@@ -212,9 +182,8 @@ fn break_off<R: Wait>(
     rt: &R,
     fault: ToolFault,
     ending: Ending,
-    input: &mut Input,
-    output: &mut Output,
-    wakers: StageWakers<'_>,
+    input: &mut Receiver,
+    output: &mut Sender,
     backoff: &mut Backoff,
 ) -> StageEnd
     ensures input { SameConsumer input.old input.new }
@@ -222,8 +191,8 @@ fn break_off<R: Wait>(
     ensures broken { HasBrokenOffAfter fault ending result (received input.old) (received input.new) (known_items input.new)
         (sent output.old) (sent output.new) }
 {
-    let told = give(rt, output, Message::Stop, wakers.output, backoff);
-    let drained = drain_after(rt, ending, input, wakers.input, backoff);
+    let told = output.send(rt, Message::Stop, backoff);
+    let drained = input.drain_after(rt, ending, backoff);
     if told && drained {
         StageEnd::Fault(fault)
     } else {

@@ -10,8 +10,8 @@ use Rattle.clap.specs.declared.builder.value_parser.ValueParser.TheVariants.{Sig
 use Rattle.clap.specs.declared.error.kind.ErrorKind.{ErrorKind}
 use Rattle.clap.specs.declared.error.kind.ErrorKind.TheVariants.{DisplayHelp, OutOfMemory}
 use Rattle.pnm_chain.specs.ChainText.{SpellsChain}
-use Rattle.pnm_lanes.specs.declared.limits.TheConstants.{MAX_LANES}
-use Rattle.pnm_rings.specs.declared.limits.TheConstants.{MAX_RING_CAPACITY}
+use Rattle.pnm_lanes.specs.declared.lane.TheConstants.{MAX_LANES}
+use Rattle.pnm_stages.specs.declared.ring.TheConstants.{MAX_RING_CAPACITY}
 use Rattle.pnm_flow.specs.Jobs.{Job, job_of}
 use Rattle.pnm_flow.specs.Runs.{Change}
 use Rattle.pnm_flow.specs.ThreadedRuns.{HasRunOverThreads}

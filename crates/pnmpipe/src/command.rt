@@ -7,7 +7,7 @@ ghost use Rattle.pnmpipe.specs.CommandLine.{AsksForHelp, HasRunTools, HasRunWord
 ghost use Rattle.pnm_flow.specs.Jobs.{job_of};
 ghost use Rattle.pnm_flow.specs.Runs.{change};
 ghost use Rattle.pnm_lanes.specs.Limits.{IsLaneCount};
-ghost use Rattle.pnm_rings.specs.Limits.{IsRingCapacity};
+ghost use Rattle.pnm_stages.specs.Limits.{IsRingCapacity};
 ghost use Rattle.pnm_tools.specs.Chains.{IsChain};
 
 use crate::command_line::{CommandLineFault, read_words};

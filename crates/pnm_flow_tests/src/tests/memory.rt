@@ -1,10 +1,10 @@
 //! Want of memory. `scripts/refused.py tests` refuses each allocation of these tests in turn.
 
 use super::chains::{LAST_COLUMN, are_lawful, channel};
-use super::rings::{IMAGE, Input, Part, Unmade, holds, is_made_of, ring, send_all};
+use super::rings::{IMAGE, Part, Unmade, holds, is_made_of, ring, send_all};
 use super::threads::{INVERTED, chain};
 use super::ways::{Way, run_by};
-use pnm_flow::{OpenGate, RunFault, StageEnd, Summary};
+use pnm_flow::{OpenGate, Receiver, RunFault, StageEnd, Summary};
 use pnm_image::{Device, Form};
 use pnm_read::InputFault;
 use pnm_tools::{FlipWay, Tool, ToolFault};
@@ -159,11 +159,12 @@ fn writes_plain_with_memory(rt: HostRuntime) {
 }
 
 /// Whether Stop is the last that the ring holds. Before it there is a front of these, and after it nothing.
-fn ends_by_stop(rt: &impl Abort, input: &mut Input, whole: &[Part<'_>]) -> bool {
+fn ends_by_stop(rt: &impl Abort, input: &mut Receiver, whole: &[Part<'_>]) -> bool {
     for part in whole {
-        let Ok(message) = input.pop() else {
+        if !input.has_message() {
             return false;
-        };
+        }
+        let message = input.receive_known();
         if is_made_of(&message, Part::Stop) {
             holds(rt, input, &[], "nothing after Stop");
             return true;

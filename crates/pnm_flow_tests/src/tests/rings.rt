@@ -1,16 +1,9 @@
 //! Rings of messages, and what they hold.
 
-use pnm_flow::{AnyMessage, StageEnd};
+use pnm_flow::{Receiver, Sender, StageEnd, new_ring};
 use pnm_image::{Head, HeadFault, Kind, Message, Samples, Shape};
-use rtrb::{Consumer, Producer, RingBuffer};
 use std::alloc::{AllocError, Global};
 use std::process::Abort;
-
-/// The receiving end of a ring of messages.
-pub type Input = Consumer<Message, Global, AnyMessage>;
-
-/// The sending end of a ring of messages.
-pub type Output = Producer<Message, Global, AnyMessage>;
 
 /// What a message of gray images is made of.
 #[derive(Clone, Copy, Debug)]
@@ -100,40 +93,39 @@ fn has_samples(row: &Samples, samples: &[u16]) -> bool {
 }
 
 /// A ring for so many messages.
-pub fn ring(alloc: Global, capacity: usize) -> Result<(Output, Input), Unmade> {
-    Ok(RingBuffer::with_protocol::<Global, AnyMessage>(alloc, capacity)?)
+pub fn ring(alloc: Global, capacity: usize) -> Result<(Sender, Receiver), Unmade> {
+    new_ring(alloc, capacity).ok_or(Unmade)
 }
 
 /// Sends these, for which there is room.
-pub fn send_all(alloc: Global, output: &mut Output, parts: &[Part<'_>]) -> Result<(), Unmade> {
+pub fn send_all(alloc: Global, output: &mut Sender, parts: &[Part<'_>]) -> Result<(), Unmade> {
     for part in parts {
-        if output.push(message(alloc, *part)?).is_err() {
+        let message = message(alloc, *part)?;
+        if !output.has_room() {
             return Err(Unmade);
         }
+        output.send_reserved(message);
     }
     Ok(())
 }
 
 /// Takes a message from the ring, which has to be made of this.
-fn takes(rt: &impl Abort, input: &mut Input, part: Part<'_>, what: &str) {
-    let is_right = match input.pop() {
-        Ok(message) => is_made_of(&message, part),
-        Err(_) => false,
-    };
+fn takes(rt: &impl Abort, input: &mut Receiver, part: Part<'_>, what: &str) {
+    let is_right = input.has_message() && is_made_of(&input.receive_known(), part);
     assert!(rt; is_right, "{part:?}: {what}");
 }
 
 /// Takes these from the ring, which has to hold them.
-pub fn begins_with(rt: &impl Abort, input: &mut Input, parts: &[Part<'_>], what: &str) {
+pub fn begins_with(rt: &impl Abort, input: &mut Receiver, parts: &[Part<'_>], what: &str) {
     for part in parts {
         takes(rt, input, *part, what);
     }
 }
 
 /// The ring holds these, and nothing more.
-pub fn holds(rt: &impl Abort, input: &mut Input, parts: &[Part<'_>], what: &str) {
+pub fn holds(rt: &impl Abort, input: &mut Receiver, parts: &[Part<'_>], what: &str) {
     begins_with(rt, input, parts, what);
-    let is_empty = input.pop().is_err();
+    let is_empty = !input.has_message();
     assert!(rt; is_empty, "nothing more: {what}");
 }
 

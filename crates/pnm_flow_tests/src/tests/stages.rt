@@ -1,8 +1,8 @@
 //! A stage over rings: how it ends, and what it sends.
 
 use super::chains::FROM_SECOND;
-use super::rings::{IMAGE, Input, Output, Part, begins_with, holds, is_end, ring, send_all};
-use pnm_flow::{OpenGate, StageDone, StageEnd, run_stage};
+use super::rings::{IMAGE, Part, begins_with, holds, is_end, ring, send_all};
+use pnm_flow::{OpenGate, Receiver, Sender, StageDone, StageEnd, run_stage};
 use pnm_tools::{Tool, ToolFault};
 use std::alloc::Global;
 use std::process::Abort;
@@ -17,8 +17,8 @@ fn stage(
     rt: &(impl Wait + Abort),
     alloc: Global,
     tool: &Tool,
-    input: Input,
-    output: Output,
+    input: Receiver,
+    output: Sender,
 ) -> StageDone {
     assert!(rt; tool.is_lawful());
     run_stage(rt, alloc, tool, 1, &OpenGate, input, output)

@@ -2,13 +2,11 @@
 
 use super::chains::{FROM_SECOND, are_lawful};
 use super::rings::{
-    IMAGE, Input, Output, Part, Unmade, begins_with, holds, is_end, is_made_of, message, ring,
-    send_all,
+    IMAGE, Part, Unmade, begins_with, holds, is_end, is_made_of, message, ring, send_all,
 };
-use pnm_flow::{ChainDone, Gate, NoStart, OpenGate, StageEnd, run_chain};
+use pnm_flow::{ChainDone, Gate, NoStart, OpenGate, Receiver, Sender, StageEnd, run_chain};
 use pnm_image::Message;
 use pnm_tools::{Tool, ToolFault};
-use rtrb::PushError;
 use std::alloc::Global;
 use std::cmp::Ordering;
 use std::process::Abort;
@@ -49,8 +47,8 @@ pub fn chain<R: Threads + Wait + Abort + Sync>(
     capacity: usize,
     lanes: usize,
     gate: &impl Gate,
-    input: Input,
-    output: Output,
+    input: Receiver,
+    output: Sender,
 ) -> Result<ChainDone, NoStart> {
     assert!(rt; 1 <= tools.len() && tools.len() <= 64 && are_lawful(tools));
     assert!(rt; 1 <= capacity && capacity <= 1024 && 1 <= lanes && lanes <= 8);
@@ -274,12 +272,11 @@ fn gives_each_tool_a_thread(rt: HostRuntime) -> Result<(), Fail> {
 }
 
 /// Sends a message, by a counted number of tries.
-fn sends(producer: &mut Output, message: Message) -> bool {
-    let mut message = message;
+fn sends(producer: &mut Sender, message: Message) -> bool {
     for _ in 0..TURNS {
-        match producer.push(message) {
-            Ok(()) => return true,
-            Err(PushError::Full(back)) => message = back,
+        if producer.has_room() {
+            producer.send_reserved(message);
+            return true;
         }
         thread::yield_now();
     }
@@ -287,10 +284,10 @@ fn sends(producer: &mut Output, message: Message) -> bool {
 }
 
 /// The next message, by a counted number of tries.
-fn takes(consumer: &mut Input) -> Option<Message> {
+fn takes(consumer: &mut Receiver) -> Option<Message> {
     for _ in 0..TURNS {
-        if let Ok(message) = consumer.pop() {
-            return Some(message);
+        if consumer.has_message() {
+            return Some(consumer.receive_known());
         }
         thread::yield_now();
     }
@@ -322,8 +319,8 @@ const DOUBLED: &[Step<'static>] = &[
 /// Sends each message only once all that comes of the one before was taken; whether it all came.
 fn one_by_one(
     alloc: Global,
-    producer: &mut Output,
-    consumer: &mut Input,
+    producer: &mut Sender,
+    consumer: &mut Receiver,
     steps: &[Step<'_>],
 ) -> Result<bool, Unmade> {
     for (part, answers) in steps {

@@ -2,7 +2,7 @@
 
 use super::rings::{Part, Unmade, comes, holds, is_end, ring, send_all, sends};
 use pnm_lanes::{DealDone, deal};
-use pnm_rings::{Input, Output, StageEnd};
+use pnm_stages::{Receiver, Sender, StageEnd};
 use pnm_tools::ToolFault;
 use std::alloc::Global;
 use std::process::Abort;
@@ -38,8 +38,8 @@ type Case<'a> = (&'a str, &'a [Part<'a>], &'a [&'a [Part<'a>]], StageEnd);
 pub fn dealt(
     rt: &(impl Wait + Abort),
     alloc: Global,
-    input: Input,
-    outputs: Vec<Output>,
+    input: Receiver,
+    outputs: Vec<Sender>,
 ) -> DealDone {
     assert!(rt; 1 <= outputs.len() && outputs.len() <= 8);
     deal(rt, alloc, input, outputs)
@@ -50,7 +50,7 @@ pub fn rings(
     alloc: Global,
     count: usize,
     capacity: usize,
-) -> Result<(Vec<Output>, Vec<Input>), Fail> {
+) -> Result<(Vec<Sender>, Vec<Receiver>), Fail> {
     let mut outputs = Vec::with_capacity(alloc, count)?;
     let mut inputs = Vec::with_capacity(alloc, count)?;
     for _ in 0..count {
@@ -323,7 +323,7 @@ fn rows_of(height: u32, lane: usize, lanes: usize) -> u32 {
 }
 
 /// Whether each lane gets this next.
-fn each_gets(lanes: &mut [Input], part: Part<'_>) -> bool {
+fn each_gets(lanes: &mut [Receiver], part: Part<'_>) -> bool {
     for lane in lanes.iter_mut() {
         if !comes(lane, part) {
             return false;
@@ -335,8 +335,8 @@ fn each_gets(lanes: &mut [Input], part: Part<'_>) -> bool {
 /// Sends an image of this height, each message only once its parts have come to the lanes.
 fn one_by_one(
     alloc: Global,
-    producer: &mut Output,
-    lanes: &mut [Input],
+    producer: &mut Sender,
+    lanes: &mut [Receiver],
     height: u16,
 ) -> Result<bool, Unmade> {
     let count = lanes.len();

@@ -3,7 +3,7 @@
 use super::deals::{dealt, rings};
 use super::rings::{Part, Unmade, comes, holds, is_end, ring, send_all, sends};
 use pnm_lanes::{GatherDone, gather};
-use pnm_rings::{Input, Output, StageEnd};
+use pnm_stages::{Receiver, Sender, StageEnd};
 use pnm_tools::ToolFault;
 use std::alloc::Global;
 use std::process::Abort;
@@ -17,7 +17,7 @@ const OUT_OF_ORDER: StageEnd = StageEnd::Fault(ToolFault::OutOfOrder);
 type Case<'a> = (&'a str, &'a [&'a [Part<'a>]], &'a [Part<'a>], StageEnd);
 
 /// Gathers from the inputs, of which there have to be 1 to 8.
-fn gathered(rt: &(impl Wait + Abort), inputs: Vec<Input>, output: Output) -> GatherDone {
+fn gathered(rt: &(impl Wait + Abort), inputs: Vec<Receiver>, output: Sender) -> GatherDone {
     assert!(rt; 1 <= inputs.len() && inputs.len() <= 8);
     gather(rt, inputs, output)
 }
@@ -216,8 +216,8 @@ fn drains_where_nobody_takes(rt: HostRuntime) -> Result<(), Fail> {
 /// Sends an image of this height, each message only once the one before it has come at the other end.
 fn passes(
     alloc: Global,
-    producer: &mut Output,
-    consumer: &mut Input,
+    producer: &mut Sender,
+    consumer: &mut Receiver,
     height: u16,
 ) -> Result<bool, Unmade> {
     let begin = Part::Begin(1, u32::from(height));

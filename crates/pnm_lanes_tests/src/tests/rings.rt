@@ -1,8 +1,7 @@
 //! Rings of messages, and what they hold.
 
 use pnm_image::{Head, HeadFault, Kind, Message, Samples, Shape};
-use pnm_rings::{Input, Output, StageEnd, new_ring};
-use rtrb::PushError;
+use pnm_stages::{Receiver, Sender, StageEnd, new_ring};
 use std::alloc::{AllocError, Global};
 use std::process::Abort;
 use std::thread;
@@ -92,35 +91,34 @@ fn has_samples(row: &Samples, samples: &[u16]) -> bool {
 }
 
 /// A ring for so many messages.
-pub fn ring(alloc: Global, capacity: usize) -> Result<(Output, Input), Unmade> {
+pub fn ring(alloc: Global, capacity: usize) -> Result<(Sender, Receiver), Unmade> {
     new_ring(alloc, capacity).ok_or(Unmade)
 }
 
 /// Sends these, for which there is room.
-pub fn send_all(alloc: Global, output: &mut Output, parts: &[Part<'_>]) -> Result<(), Unmade> {
+pub fn send_all(alloc: Global, output: &mut Sender, parts: &[Part<'_>]) -> Result<(), Unmade> {
     for part in parts {
-        if output.push(message(alloc, *part)?).is_err() {
+        let message = message(alloc, *part)?;
+        if !output.has_room() {
             return Err(Unmade);
         }
+        output.send_reserved(message);
     }
     Ok(())
 }
 
 /// Takes a message from the ring, which has to be made of this.
-fn takes(rt: &impl Abort, input: &mut Input, part: Part<'_>, what: &str) {
-    let is_right = match input.pop() {
-        Ok(message) => is_made_of(&message, part),
-        Err(_) => false,
-    };
+fn takes(rt: &impl Abort, input: &mut Receiver, part: Part<'_>, what: &str) {
+    let is_right = input.has_message() && is_made_of(&input.receive_known(), part);
     assert!(rt; is_right, "{part:?}: {what}");
 }
 
 /// The ring holds these, and nothing more.
-pub fn holds(rt: &impl Abort, input: &mut Input, parts: &[Part<'_>], what: &str) {
+pub fn holds(rt: &impl Abort, input: &mut Receiver, parts: &[Part<'_>], what: &str) {
     for part in parts {
         takes(rt, input, *part, what);
     }
-    let is_empty = input.pop().is_err();
+    let is_empty = !input.has_message();
     assert!(rt; is_empty, "nothing more: {what}");
 }
 
@@ -130,12 +128,12 @@ pub fn is_end(rt: &impl Abort, end: StageEnd, want: StageEnd, what: &str) {
 }
 
 /// Sends a message to a thread that takes it, by a counted number of tries.
-pub fn sends(alloc: Global, output: &mut Output, part: Part<'_>) -> Result<bool, Unmade> {
-    let mut message = message(alloc, part)?;
+pub fn sends(alloc: Global, output: &mut Sender, part: Part<'_>) -> Result<bool, Unmade> {
+    let message = message(alloc, part)?;
     for _ in 0..TURNS {
-        match output.push(message) {
-            Ok(()) => return Ok(true),
-            Err(PushError::Full(back)) => message = back,
+        if output.has_room() {
+            output.send_reserved(message);
+            return Ok(true);
         }
         thread::yield_now();
     }
@@ -143,10 +141,10 @@ pub fn sends(alloc: Global, output: &mut Output, part: Part<'_>) -> Result<bool,
 }
 
 /// Whether the next message that comes, by a counted number of tries, is made of this.
-pub fn comes(input: &mut Input, part: Part<'_>) -> bool {
+pub fn comes(input: &mut Receiver, part: Part<'_>) -> bool {
     for _ in 0..TURNS {
-        if let Ok(message) = input.pop() {
-            return is_made_of(&message, part);
+        if input.has_message() {
+            return is_made_of(&input.receive_known(), part);
         }
         thread::yield_now();
     }

@@ -3,8 +3,7 @@
 use super::deals::TWO_ROWS;
 use super::rings::{Part, holds, is_end, ring, send_all};
 use pnm_lanes::run_lanes;
-use pnm_rings::StageEnd;
-use pnm_stages::OpenGate;
+use pnm_stages::{OpenGate, StageEnd};
 use pnm_tools::Tool;
 use std::test::Fail;
 

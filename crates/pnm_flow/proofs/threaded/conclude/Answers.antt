@@ -1,5 +1,5 @@
 use Rattle.std.proofs.Common.{◌≡◌, List, [], ◌++◌, refl, sym, ap, ◌∙◌}
-use Rattle.rtrb.specs.Ring.{sent, known_items}
+use Rattle.pnm_stages.specs.Rings.{sent, known_items}
 use Rattle.pnm_image.specs.declared.message.Message.{Message}
 use Rattle.pnm_image.specs.Messages.{without_stop}
 use Rattle.pnm_flow.specs.Feeders.{waiting}
@@ -16,9 +16,9 @@ finish-writer-requires g c =
 pub returns-clause-ran : goal.returns-clause-ran
 returns-clause-ran g c = λ first start lanes job lawful feeding collecting ran.
     let collected = c.take_rest.ensures.collecting job.form start [] collecting in
-    let fed : sent c.args.feeder.output ≡ ran.took ++ known_items c.slots_beside.new.self =
-    ap (λ (p : _). sent p) (sym c.into_parts-reader.ensures.1) ∙ sym c.slots_beside.ensures.producer.1 ∙ sym c.slots_beside.ensures.fifo
-    ∙ ap (λ (x : List Message). x ++ known_items c.slots_beside.new.self) (c.slots_beside.ensures.looked.1 ∙ ran.input) in
+    let fed : sent c.args.feeder.output ≡ ran.took ++ known_items c.look_beside.new.self =
+    ap (λ (p : _). sent p) (sym c.into_parts-reader.ensures.1) ∙ sym c.look_beside.ensures.sender.1 ∙ sym c.look_beside.ensures.in_order
+    ∙ ap (λ (x : List Message). x ++ known_items c.look_beside.new.self) (c.look_beside.ensures.looked.1 ∙ ran.input) in
     let came : ran.gave ≡ collected.took ++ known_items c.take_rest.new.self.input =
     sym ran.output ∙ sym c.take_rest.ensures.sender.1 ∙ sym c.take_rest.ensures.in_order ∙ ap (λ (x : List Message). x ++ known_items c.take_rest.new.self.input) collected.came in
     let over : Over g.R.BytesIn.left g.R.BytesIn.failures g.W.BytesOut.held g.W.BytesOut.failures first c.args.feeder.source start c.finish-writer.result.0 lanes job c.args.chain.ends.items c.args.feeder.input c.take_rest.new.self.has_ended c.finish-writer.result.1 = record {
@@ -30,7 +30,7 @@ returns-clause-ran g c = λ first start lanes job lawful feeding collecting ran.
       passed = feeding.passed;
       none_waits = λ is. ap waiting (feeding.none_waits is);
       took = ran.took;
-      untaken = known_items c.slots_beside.new.self;
+      untaken = known_items c.look_beside.new.self;
       received = fed;
       links = c.args.chain.links.items;
       gave = ran.gave;

@@ -1,5 +1,5 @@
 use Rattle.std.proofs.Common.{length}
-use Rattle.rtrb.specs.Ring.{received, SameConsumer}
+use Rattle.pnm_stages.specs.Rings.{received, SameConsumer}
 use Rattle.pnm_tools.specs.Answers.{More}
 use Rattle.pnm_lanes.specs.Limits.{IsLaneCount}
 use Rattle.pnm_lanes.proofs.DealSteps.{IsDealing}

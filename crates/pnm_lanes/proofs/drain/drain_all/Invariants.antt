@@ -1,5 +1,5 @@
 use Rattle.std.proofs.Common.{length}
-use Rattle.rtrb.specs.Ring.{received, known_items}
+use Rattle.pnm_stages.specs.Rings.{received, known_items}
 use Rattle.pnm_lanes.specs.Gathers.{at_lane, AreSameInputs}
 use Rattle.pnm_lanes.specs.GatherParts.{CarriesOn}
 use Rattle.pnm_lanes.proofs.drain.drain_all.Given as goal

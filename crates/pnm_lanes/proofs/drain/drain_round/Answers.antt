@@ -1,5 +1,5 @@
 use Rattle.std.proofs.Common.{length}
-use Rattle.rtrb.specs.Ring.{received, known_items}
+use Rattle.pnm_stages.specs.Rings.{received, known_items}
 use Rattle.pnm_lanes.specs.Gathers.{at_lane}
 use Rattle.pnm_lanes.proofs.LaneLists.{are_themselves}
 use Rattle.pnm_lanes.proofs.DrainSteps.{carries_nothing, tried_both}

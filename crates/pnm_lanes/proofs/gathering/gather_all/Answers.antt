@@ -1,10 +1,10 @@
 use Rattle.std.proofs.Common.{ℕ, length, refl, sym, ap, subst, ◌∙◌}
-use Rattle.rtrb.specs.Ring.{sent, received, known_items}
-use Rattle.pnm_rings.specs.Rings.{ending_by}
+use Rattle.pnm_stages.specs.Rings.{sent, received, known_items}
+use Rattle.pnm_stages.specs.Rings.{ending_by}
 use Rattle.pnm_lanes.specs.Gathers.{at_lane}
 use Rattle.pnm_lanes.specs.GatherParts.{HasBrokenOffAll, HasDrainedAll}
 use Rattle.pnm_lanes.proofs.LaneLists.{are_themselves, same_inputs, as_many}
-use Rattle.pnm_rings.proofs.RingSteps.{itself_output, same_output}
+use Rattle.pnm_stages.proofs.RingSteps.{itself_output, same_output}
 use Rattle.pnm_lanes.proofs.GatherSteps.{nothing_yet, goes_further, says_more}
 use Rattle.pnm_lanes.proofs.GatherEnds.{broken_off, not_told, ends_well}
 use Rattle.pnm_lanes.proofs.gathering.gather_all.Goals as goal
@@ -29,19 +29,19 @@ returns-in-Err-clause-gathered g c =
     (at_lane known_items c.take_next.new.inputs) (at_lane known_items c.break_off.new.inputs) (sent c.loop.output) (sent c.break_off.new.output))
     (as_many c.loop.inputs c.take_next.new.inputs c.take_next.ensures.inputs) c.break_off.ensures.broken)
 
-pub returns-then-not-give-clause-inputs : goal.returns-then-not-give-clause-inputs
-returns-then-not-give-clause-inputs g c =
+pub returns-then-not-send-clause-inputs : goal.returns-then-not-send-clause-inputs
+returns-then-not-send-clause-inputs g c =
     same_inputs c.args.inputs.now c.take_next.new.inputs c.drain_all.new.inputs (same_inputs c.args.inputs.now c.loop.inputs c.take_next.new.inputs c.loop.invariant.0 c.take_next.ensures.inputs) c.drain_all.ensures.inputs
 
-pub returns-then-not-give-clause-output : goal.returns-then-not-give-clause-output
-returns-then-not-give-clause-output g c = same_output c.args.output.now c.loop.output c.give.new.output c.loop.invariant.1 c.give.ensures.ring
+pub returns-then-not-send-clause-output : goal.returns-then-not-send-clause-output
+returns-then-not-send-clause-output g c = same_output c.args.output.now c.loop.output c.send.new.self c.loop.invariant.1 c.send.ensures.ring
 
-pub returns-then-not-give-clause-gathered : goal.returns-then-not-give-clause-gathered
-returns-then-not-give-clause-gathered g c =
+pub returns-then-not-send-clause-gathered : goal.returns-then-not-send-clause-gathered
+returns-then-not-send-clause-gathered g c =
     let count = as_many c.args.inputs.now c.loop.inputs c.loop.invariant.0 in
     not_told (length c.args.inputs.now) (length c.loop.inputs) c.loop.place c.in-Ok.message c.drain_all.result c.take_next.new.states c.drain_all.new.states
     (at_lane received c.args.inputs.now) (at_lane received c.loop.inputs) (at_lane received c.take_next.new.inputs) (at_lane received c.drain_all.new.inputs) (at_lane known_items c.take_next.new.inputs) (at_lane known_items c.drain_all.new.inputs)
-    (sent c.args.output.now) (sent c.loop.output) (sent c.give.new.output) c.loop.invariant.2 c.requires.some count c.in-Ok.ensures.taken (c.if-not-give.ensures.gone refl)
+    (sent c.args.output.now) (sent c.loop.output) (sent c.send.new.self) c.loop.invariant.2 c.requires.some count c.in-Ok.ensures.taken (c.if-not-send.ensures.gone refl)
     (subst (λ (n : ℕ). HasDrainedAll n c.drain_all.result c.take_next.new.states c.drain_all.new.states (at_lane received c.take_next.new.inputs) (at_lane received c.drain_all.new.inputs)
     (at_lane known_items c.take_next.new.inputs) (at_lane known_items c.drain_all.new.inputs))
     (as_many c.loop.inputs c.take_next.new.inputs c.take_next.ensures.inputs) c.drain_all.ensures.drained)
@@ -50,22 +50,22 @@ pub returns-in-Whole-clause-inputs : goal.returns-in-Whole-clause-inputs
 returns-in-Whole-clause-inputs g c = same_inputs c.args.inputs.now c.loop.inputs c.take_next.new.inputs c.loop.invariant.0 c.take_next.ensures.inputs
 
 pub returns-in-Whole-clause-output : goal.returns-in-Whole-clause-output
-returns-in-Whole-clause-output g c = same_output c.args.output.now c.loop.output c.give.new.output c.loop.invariant.1 c.give.ensures.ring
+returns-in-Whole-clause-output g c = same_output c.args.output.now c.loop.output c.send.new.self c.loop.invariant.1 c.send.ensures.ring
 
 pub returns-in-Whole-clause-gathered : goal.returns-in-Whole-clause-gathered
 returns-in-Whole-clause-gathered g c =
     let count = as_many c.args.inputs.now c.loop.inputs c.loop.invariant.0 in
     ends_well (length c.args.inputs.now) (length c.loop.inputs) c.loop.place c.in-Ok.message c.take_next.new.states
     (at_lane received c.args.inputs.now) (at_lane received c.loop.inputs) (at_lane received c.take_next.new.inputs) (at_lane known_items c.take_next.new.inputs)
-    (sent c.args.output.now) (sent c.loop.output) (sent c.give.new.output) c.loop.invariant.2 c.requires.some count c.in-Ok.ensures.taken (c.if-not-give.ensures.given refl)
+    (sent c.args.output.now) (sent c.loop.output) (sent c.send.new.self) c.loop.invariant.2 c.requires.some count c.in-Ok.ensures.taken (c.if-not-send.ensures.given refl)
     (sym c.of-ending.ensures ∙ ap ending_by c.in-Whole.is)
 
 pub loop-preserved : goal.loop-preserved
 loop-preserved g c = (
   same_inputs c.args.inputs.now c.loop.inputs c.take_next.new.inputs c.loop.invariant.0 c.take_next.ensures.inputs,
-  same_output c.args.output.now c.loop.output c.give.new.output c.loop.invariant.1 c.give.ensures.ring,
+  same_output c.args.output.now c.loop.output c.send.new.self c.loop.invariant.1 c.send.ensures.ring,
   goes_further (length c.args.inputs.now) (length c.loop.inputs) c.loop.place c.step.new.self c.in-Ok.message c.take_next.new.states
-      (at_lane received c.args.inputs.now) (at_lane received c.loop.inputs) (at_lane received c.take_next.new.inputs) (sent c.args.output.now) (sent c.loop.output) (sent c.give.new.output)
-      c.loop.invariant.2 (as_many c.args.inputs.now c.loop.inputs c.loop.invariant.0) c.in-Ok.ensures.taken (c.if-not-give.ensures.given refl) c.step.ensures
+      (at_lane received c.args.inputs.now) (at_lane received c.loop.inputs) (at_lane received c.take_next.new.inputs) (sent c.args.output.now) (sent c.loop.output) (sent c.send.new.self)
+      c.loop.invariant.2 (as_many c.args.inputs.now c.loop.inputs c.loop.invariant.0) c.in-Ok.ensures.taken (c.if-not-send.ensures.given refl) c.step.ensures
       (says_more c.of-ending.result c.in-Ok.message c.of-ending.ensures c.in-More.is c.in-Ok.ensures.taken.is),
 )

@@ -1,5 +1,5 @@
 use Rattle.std.proofs.Common.{length}
-use Rattle.rtrb.specs.Ring.{sent, received, SameProducer}
+use Rattle.pnm_stages.specs.Rings.{sent, received, SameProducer}
 use Rattle.pnm_lanes.specs.Gathers.{at_lane, AreSameInputs}
 use Rattle.pnm_lanes.proofs.GatherSteps.{IsGoing}
 use Rattle.pnm_lanes.proofs.gathering.gather_all.Given as goal

@@ -1,7 +1,8 @@
-use Rattle.std.proofs.Common.{◌++◌, sym, ap, ◌∙◌, arith}
-use Rattle.rtrb.specs.Ring.{known_items}
+use Rattle.std.proofs.Common.{◌++◌, refl, sym, ap, ◌∙◌, arith}
+use Rattle.std.proofs.lemmas.Bool.{false≢true}
+use Rattle.pnm_stages.specs.Rings.{known_items}
 use Rattle.pnm_lanes.specs.LaneRuns.{end_of_both}
-use Rattle.pnm_lanes.proofs.JoinSteps.{joins_none, taken_pairs, joins_one, joins_all}
+use Rattle.pnm_lanes.proofs.JoinSteps.{as_many_pairs, joins_none, taken_pairs, joins_one, joins_all}
 use Rattle.pnm_lanes.proofs.LaneNumbers.{lanes_have_run}
 use Rattle.pnm_lanes.proofs.LaneRunSteps.{as_many_run}
 use Rattle.pnm_lanes.proofs.joining.joined.Goals as goal
@@ -9,14 +10,21 @@ use Rattle.pnm_lanes.proofs.joining.joined.Goals as goal
 pub loop-lane-init : goal.loop-lane-init
 loop-lane-init c = joins_none c.args.done.dealt.outputs.items c.args.done.lanes.items c.args.done.gathered.inputs.items c.args.done.gathered.end c.requires.rings
 
-pub slots_beside-requires : goal.slots_beside-requires
-slots_beside-requires c =
+-- each lane that is left has a ring from it
+pub unreachable-requires-in_default-pop-2 : goal.unreachable-requires-in_default-pop-2
+unreachable-requires-in_default-pop-2 c =
+    let pairs = as_many_pairs c.loop-lane.outputs.items c.loop-lane.lanes.items c.loop-lane.inputs.items c.loop-lane.invariant.pairs in
+    let some = c.in-Some.ensures.variant.0 refl in
+    false≢true (c.in_default-pop-2.ensures.variant.1 (omega (arith, pairs.1, some, c.loop-lane.lanes.ok, c.loop-lane.inputs.ok)))
+
+pub look_beside-requires : goal.look_beside-requires
+look_beside-requires c =
     (taken_pairs c.args.done.dealt.outputs.items c.args.done.lanes.items c.args.done.gathered.inputs.items c.args.done.gathered.end c.loop-lane.outputs.items c.pop-in-Some.new.self.items c.loop-lane.lanes.items c.pop.new.self.items
     c.loop-lane.inputs.items c.pop-in-Some-2.new.self.items c.loop-lane.end c.in-Some-pop.sender c.in-Some.lane c.in-Some-pop-2.receiver c.loop-lane.invariant
     (record { sender = c.in-Some-pop.ensures.items; lane = c.in-Some.ensures.items; receiver = c.in-Some-pop-2.ensures.items })).1
 
-pub slots_beside-requires-in-Some : goal.slots_beside-requires-in-Some
-slots_beside-requires-in-Some c =
+pub look_beside-requires-in-Some : goal.look_beside-requires-in-Some
+look_beside-requires-in-Some c =
     (taken_pairs c.args.done.dealt.outputs.items c.args.done.lanes.items c.args.done.gathered.inputs.items c.args.done.gathered.end c.loop-lane.outputs.items c.pop-in-Some.new.self.items c.loop-lane.lanes.items c.pop.new.self.items
     c.loop-lane.inputs.items c.pop-in-Some-2.new.self.items c.loop-lane.end c.in-Some-pop.sender c.in-Some.lane c.in-Some-pop-2.receiver c.loop-lane.invariant
     (record { sender = c.in-Some-pop.ensures.items; lane = c.in-Some.ensures.items; receiver = c.in-Some-pop-2.ensures.items })).2
@@ -26,8 +34,8 @@ loop-lane-preserved c =
     joins_one c.args.done.dealt.outputs.items c.args.done.lanes.items c.args.done.gathered.inputs.items c.args.done.gathered.end c.loop-lane.outputs.items c.pop-in-Some.new.self.items c.loop-lane.lanes.items c.pop.new.self.items
     c.loop-lane.inputs.items c.pop-in-Some-2.new.self.items c.loop-lane.end c.end_of_both-end.result c.in-Some-pop.sender c.in-Some.lane c.in-Some-pop-2.receiver c.loop-lane.invariant
     (record { sender = c.in-Some-pop.ensures.items; lane = c.in-Some.ensures.items; receiver = c.in-Some-pop-2.ensures.items })
-    (known_items c.slots_beside.new.self, sym (ap (λ (x : _). x ++ known_items c.slots_beside.new.self) (sym c.slots_beside.ensures.looked.1) ∙ c.slots_beside.ensures.fifo ∙ c.slots_beside.ensures.producer.1))
-    (known_items c.slots_beside-in-Some.new.self, sym (ap (λ (x : _). x ++ known_items c.slots_beside-in-Some.new.self) (sym c.slots_beside-in-Some.ensures.looked.1) ∙ c.slots_beside-in-Some.ensures.fifo ∙ c.slots_beside-in-Some.ensures.producer.1))
+    (known_items c.look_beside.new.self, sym (ap (λ (x : _). x ++ known_items c.look_beside.new.self) (sym c.look_beside.ensures.looked.1) ∙ c.look_beside.ensures.in_order ∙ c.look_beside.ensures.sender.1))
+    (known_items c.look_beside-in-Some.new.self, sym (ap (λ (x : _). x ++ known_items c.look_beside-in-Some.new.self) (sym c.look_beside-in-Some.ensures.looked.1) ∙ c.look_beside-in-Some.ensures.in_order ∙ c.look_beside-in-Some.ensures.sender.1))
     c.end_of_both-end.ensures
 
 pub returns-clause-ran : goal.returns-clause-ran

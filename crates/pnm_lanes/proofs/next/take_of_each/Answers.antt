@@ -2,7 +2,7 @@ use Rattle.std.proofs.Common.{length, refl, ◌∙◌, arith}
 use Rattle.std.proofs.lemmas.Bool.{false≢true}
 use Rattle.std.proofs.lemmas.List.{length-set}
 use Rattle.std.proofs.lemmas.Result.{err_from_is_err_and}
-use Rattle.rtrb.specs.Ring.{received}
+use Rattle.pnm_stages.specs.Rings.{received}
 use Rattle.pnm_lanes.specs.Gathers.{at_lane}
 use Rattle.pnm_lanes.proofs.LaneLists.{same_inputs}
 use Rattle.pnm_lanes.proofs.EachSteps.{next_taken, first_failed, first_refused, each_failed, each_differs, each_ends}

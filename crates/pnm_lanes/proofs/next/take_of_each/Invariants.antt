@@ -1,5 +1,5 @@
 use Rattle.std.proofs.Common.{◌≡◌, length}
-use Rattle.rtrb.specs.Ring.{received}
+use Rattle.pnm_stages.specs.Rings.{received}
 use Rattle.pnm_lanes.specs.Gathers.{at_lane, AreSameInputs}
 use Rattle.pnm_lanes.proofs.EachSteps.{IsTakingEach}
 use Rattle.pnm_lanes.proofs.next.take_of_each.Given as goal

@@ -1,7 +1,7 @@
 use Rattle.std.proofs.Common.{rules, length}
 use Rattle.std.proofs.lemmas.Bool.{false≢true}
 use Rattle.std.proofs.lemmas.Result.{err_from_is_err_and}
-use Rattle.rtrb.specs.Ring.{received}
+use Rattle.pnm_stages.specs.Rings.{received}
 use Rattle.pnm_lanes.specs.Gathers.{at_lane}
 use Rattle.pnm_lanes.proofs.RowSteps.{row_refused, row_failed}
 use Rattle.pnm_lanes.proofs.next.take_row.Goals as goal

@@ -1,5 +1,5 @@
 use Rattle.std.proofs.Common.{◌≡◌, None}
-use Rattle.rtrb.specs.Ring.{sent, received, SameProducer, SameConsumer}
+use Rattle.pnm_stages.specs.Rings.{sent, received, SameProducer, SameConsumer}
 use Rattle.pnm_tools.specs.Answers.{More}
 use Rattle.pnm_stages.specs.SerialStages.{refusal_in}
 use Rattle.pnm_stages.proofs.StagedSteps.{IsPassing}

@@ -1,4 +1,4 @@
-use Rattle.rtrb.specs.Ring.{sent, SameProducer}
+use Rattle.pnm_stages.specs.Rings.{sent, SameProducer}
 use Rattle.pnm_stages.specs.SerialStages.{waiting_at}
 use Rattle.pnm_stages.proofs.SendingSteps.{IsSending}
 use Rattle.pnm_stages.proofs.stage.send_answers.Given as goal

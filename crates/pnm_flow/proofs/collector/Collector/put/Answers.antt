@@ -3,7 +3,7 @@ use Rattle.pnm_image.specs.declared.message.Message.{Message}
 use Rattle.pnm_image.specs.Messages.{without_stop}
 use Rattle.pnm_tools.specs.Answers.{More, Whole}
 use Rattle.pnm_flow.specs.Downstreams.{HasTaken}
-use Rattle.pnm_rings.specs.Rings.{ending_by}
+use Rattle.pnm_stages.specs.Rings.{ending_by}
 use Rattle.pnm_flow.proofs.CollectorSteps.{ends_more, ends_whole, ends_broken_off, keeps_last, cuts_last}
 use Rattle.pnm_flow.proofs.collector.Collector.put.Goals as goal
 

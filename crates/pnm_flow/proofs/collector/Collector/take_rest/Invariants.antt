@@ -1,5 +1,5 @@
 use Rattle.std.proofs.Common.{◌≡◌, List, ◌++◌, length}
-use Rattle.rtrb.specs.Ring.{sent, received, known_items, SameConsumer}
+use Rattle.pnm_stages.specs.Rings.{sent, received, known_items, SameConsumer}
 use Rattle.pnm_image.specs.declared.format.Form.{Form}
 use Rattle.pnm_image.specs.declared.message.Message.{Message}
 use Rattle.pnm_flow.specs.Downstreams.{output_of}

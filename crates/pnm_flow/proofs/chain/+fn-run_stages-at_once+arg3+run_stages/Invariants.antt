@@ -1,8 +1,0 @@
-use Rattle.std.proofs.Common.{◌+◌, ◌*◌, length}
-use Rattle.pnm_flow.proofs.chain.+fn-run_stages-at_once+arg3+run_stages.Given as goal
-
-abbrev pub decreases-at_once+arg3 : goal.decreases-at_once+arg3
-decreases-at_once+arg3 g l = 2 * length l.others.now + 1
-
-abbrev pub decreases-run_stages : goal.decreases-run_stages
-decreases-run_stages g l = 2 * length l.tools.now

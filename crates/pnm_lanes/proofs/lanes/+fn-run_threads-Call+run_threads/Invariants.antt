@@ -1,0 +1,8 @@
+use Rattle.std.proofs.Common.{◌+◌, ◌*◌, length}
+use Rattle.pnm_lanes.proofs.lanes.+fn-run_threads-Call+run_threads.Given as goal
+
+abbrev pub decreases-Call : goal.decreases-Call
+decreases-Call g l = 2 * length l.others.items + 1
+
+abbrev pub decreases-run_threads : goal.decreases-run_threads
+decreases-run_threads g l = 2 * length l.lanes.items

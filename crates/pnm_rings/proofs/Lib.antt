@@ -1,4 +1,0 @@
-pub mod RingSteps
-pub mod EndingLaws
-pub mod FrontLaws
-mod LongestFronts

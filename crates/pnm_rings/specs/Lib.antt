@@ -1,4 +1,0 @@
-pub mod Rings
-pub mod Fronts
-pub mod Stages
-pub mod Limits

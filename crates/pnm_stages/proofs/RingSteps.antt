@@ -1,0 +1,67 @@
+-- What a ring has passed, message by message.
+use Rattle.std.proofs.Common.{◌≡◌, ◌⊎◌, inl, inr, List, [], ◌∷◌, ◌++◌, refl, sym, ap, subst, ◌∙◌, append_assoc}
+use Rattle.pnm_image.specs.declared.message.Message.{Message}
+use Rattle.pnm_image.specs.Messages.{IsMessage}
+use Rattle.pnm_image.proofs.Lists.{each-push}
+use Rattle.pnm_tools.specs.Answers.{Ending, More, Whole, BrokenOff, ending_of, EndsBy}
+use Rattle.pnm_stages.specs.declared.sender.Sender.{Sender}
+use Rattle.pnm_stages.specs.declared.receiver.Receiver.{Receiver}
+use Rattle.pnm_tools.proofs.InFullLaws.{EndNothing, ends_after}
+use Rattle.pnm_stages.specs.declared.ending.Ending.{Ending as Answered}
+use Rattle.pnm_stages.specs.declared.ending.Ending.TheVariants.{Whole as AnsweredWhole, BrokenOff as AnsweredBrokenOff}
+use Rattle.pnm_stages.specs.Rings.{ending_by, Extends, IsEnded, IsPair, SameProducer, SameConsumer}
+
+-- no message of a list that goes on ends it
+pub ends_nothing : (l : List Message) → EndsBy More l → EndNothing l
+ends_nothing [] more = tt
+ends_nothing (m ∷ []) more = (more, tt)
+ends_nothing (m ∷ n ∷ l) more = (more.0, ends_nothing (n ∷ l) more.1)
+
+-- the next message ends a list as it does
+pub ends_with : (l : List Message) (m : Message) → EndsBy More l → EndsBy (ending_of m) (l ++ m ∷ [])
+ends_with l m more = ends_after (ending_of m) l (m ∷ []) (ends_nothing l more) refl
+
+pub ends_as : (e : Ending) (l : List Message) (m : Message) → EndsBy More l → ending_of m ≡ e → EndsBy e (l ++ m ∷ [])
+ends_as e l m more same = subst (λ (x : Ending). EndsBy x (l ++ m ∷ [])) same (ends_with l m more)
+
+-- a message was added
+extends_by_one : (P : List Message → Type 0) (l now new : List Message) (m : Message) (extends : Extends l now (EndsBy More)) → new ≡ now ++ m ∷ [] → IsMessage m → P (extends.more ++ m ∷ []) → Extends l new P
+extends_by_one P l now new m extends added is holds = record {
+  more = extends.more ++ m ∷ [];
+  added = added ∙ ap (λ (x : List Message). x ++ m ∷ []) extends.added ∙ append_assoc l extends.more (m ∷ []);
+  messages = each-push IsMessage extends.more m extends.messages is;
+  holds = holds;
+}
+
+pub goes_on : (e : Ending) (l now new : List Message) (m : Message) → Extends l now (EndsBy More) → new ≡ now ++ m ∷ [] → IsMessage m → ending_of m ≡ e → Extends l new (EndsBy e)
+goes_on e l now new m extends added is same = extends_by_one (EndsBy e) l now new m extends added is (ends_as e extends.more m extends.holds same)
+
+pub drains_to_end : (l now new : List Message) (m : Message) → Extends l now (EndsBy More) → new ≡ now ++ m ∷ [] → IsMessage m → (ending_of m ≡ Whole) ⊎ (ending_of m ≡ BrokenOff) → Extends l new IsEnded
+drains_to_end l now new m extends added is (inl whole) = extends_by_one IsEnded l now new m extends added is (inl (ends_as Whole extends.more m extends.holds whole))
+drains_to_end l now new m extends added is (inr broken) = extends_by_one IsEnded l now new m extends added is (inr (ends_as BrokenOff extends.more m extends.holds broken))
+
+-- by how a message ends the stream, as a function answers it
+pub says_end : (a : Answered) (m : Message) → ending_by a ≡ ending_of m → (a ≡ AnsweredWhole) ⊎ (a ≡ AnsweredBrokenOff) → (ending_of m ≡ Whole) ⊎ (ending_of m ≡ BrokenOff)
+says_end a m says (inl whole) = inl (sym says ∙ ap ending_by whole)
+says_end a m says (inr broken) = inr (sym says ∙ ap ending_by broken)
+
+-- both ends of one ring, still
+pub same_input : (a b c : Receiver) → SameConsumer a b → SameConsumer b c → SameConsumer a c
+same_input a b c first second = ((second.0.0 ∙ first.0.0, second.0.1 ∙ first.0.1, second.0.2 ∙ first.0.2, second.0.3 ∙ first.0.3), second.1 ∙ first.1)
+
+pub same_output : (a b c : Sender) → SameProducer a b → SameProducer b c → SameProducer a c
+same_output a b c first second = ((second.0.0 ∙ first.0.0, second.0.1 ∙ first.0.1, second.0.2 ∙ first.0.2, second.0.3 ∙ first.0.3), second.1 ∙ first.1)
+
+pub itself_input : (a : Receiver) → SameConsumer a a
+itself_input a = ((refl, refl, refl, refl), refl)
+
+pub itself_output : (a : Sender) → SameProducer a a
+itself_output a = ((refl, refl, refl, refl), refl)
+
+pub still_pair : (p p' : Sender) (c c' : Receiver) → IsPair p c → SameProducer p p' → SameConsumer c c' → IsPair p' c'
+still_pair p p' c c' pair first second = (
+  second.0.0 ∙ pair.0 ∙ sym first.0.0,
+  second.0.1 ∙ pair.1 ∙ sym first.0.1,
+  second.0.2 ∙ pair.2 ∙ sym first.0.2,
+  second.0.3 ∙ pair.3 ∙ sym first.0.3,
+)

@@ -1,0 +1,8 @@
+use Rattle.pnm_stages.specs.Rings.{received, SameConsumer}
+use Rattle.pnm_tools.specs.Answers.{More, EndsBy}
+use Rattle.pnm_stages.specs.Rings.{Extends}
+use Rattle.pnm_stages.proofs.receiver.Receiver.drain.Given as goal
+
+-- what was received hasn't ended
+abbrev pub invariant-loop : goal.invariant-loop
+invariant-loop g l = SameConsumer l.fn.self l.self × Extends (received l.fn.self) (received l.self) (EndsBy More)

@@ -1,0 +1,73 @@
+-- What has passed over a ring, and how the messages that were received or sent end.
+use Rattle.std.specs.Prelude.{◌≡◌, ◌⊎◌, ℕ, Bool, true, false, List, [], ◌++◌}
+use Rattle.std.specs.List.{AllByRecursion}
+use Rattle.pnm_image.specs.declared.message.Message.{Message}
+use Rattle.pnm_image.specs.Messages.{IsMessage}
+use Rattle.pnm_tools.specs.Answers.{Ending, More, Whole, BrokenOff, EndsBy}
+use Rattle.rtrb.specs.Ring.{sent as sent_on, received as received_on, known_items as known_items_on, known_free as known_free_on, IsPair as AreEndsOfRing, SameProducer as IsSameSendingEnd, SameConsumer as IsSameReceivingEnd}
+use Rattle.pnm_stages.specs.declared.sender.Sender.{Sender}
+use Rattle.pnm_stages.specs.declared.receiver.Receiver.{Receiver}
+use Rattle.pnm_stages.specs.declared.ending.Ending.{Ending as Answered}
+use Rattle.pnm_stages.specs.declared.ending.Ending.TheVariants.{More as AnsweredMore, Whole as AnsweredWhole, BrokenOff as AnsweredBrokenOff}
+
+-- ---- the two ends of a ring
+
+-- all that was sent by this end, and the room that it knows of
+abbrev pub sent : Sender → List Message
+sent s = sent_on s.ring
+
+abbrev pub known_free : Sender → ℕ
+known_free s = known_free_on s.ring
+
+-- all that was received by this end, and what it has seen in the ring and not received
+abbrev pub received : Receiver → List Message
+received r = received_on r.ring
+
+abbrev pub known_items : Receiver → List Message
+known_items r = known_items_on r.ring
+
+-- the two ends of one ring
+abbrev pub IsPair : Sender → Receiver → Type 0
+IsPair s r = AreEndsOfRing s.ring r.ring
+
+-- an end of the same ring
+abbrev pub SameProducer : Sender → Sender → Type 0
+SameProducer a b = IsSameSendingEnd a.ring b.ring
+
+abbrev pub SameConsumer : Receiver → Receiver → Type 0
+SameConsumer a b = IsSameReceivingEnd a.ring b.ring
+
+-- ---- what passes over it
+
+-- how a message ends a stream, by the answer of a function
+abbrev pub ending_by : Answered → Ending
+ending_by AnsweredMore = More
+ending_by AnsweredWhole = Whole
+ending_by AnsweredBrokenOff = BrokenOff
+
+-- the last message ends the stream, whole or broken off, and no other does
+abbrev pub IsEnded : List Message → Type 0
+IsEnded l = EndsBy Whole l ⊎ EndsBy BrokenOff l
+
+-- none but the last message ends the stream
+abbrev pub EndsAtMostOnce : List Message → Type 0
+EndsAtMostOnce l = (e : Ending) × EndsBy e l
+
+-- a list was extended by these messages
+pub record Extends (old new : List Message) (P : List Message → Type 0) : Type 0 where
+  pub more : List Message
+  pub added : new ≡ old ++ more
+  pub messages : AllByRecursion IsMessage more
+  pub holds : P more
+
+-- messages were taken through the end of the stream; or none of those that were taken ends it, and no message is left of
+-- those that the receiving end has seen. Whether there are more, one end of a ring alone doesn't know.
+abbrev pub HasDrained : Bool → List Message → List Message → List Message → Type 0
+HasDrained true old new seen = Extends old new IsEnded
+HasDrained false old new seen = Extends old new (EndsBy More) × (seen ≡ [])
+
+-- the same after a message with this ending: after one that ends the stream nothing is drained
+abbrev pub HasDrainedAfter : Answered → Bool → List Message → List Message → List Message → Type 0
+HasDrainedAfter AnsweredMore drained old new seen = HasDrained drained old new seen
+HasDrainedAfter AnsweredWhole drained old new seen = (drained ≡ true) × (new ≡ old)
+HasDrainedAfter AnsweredBrokenOff drained old new seen = (drained ≡ true) × (new ≡ old)

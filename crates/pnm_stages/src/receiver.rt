@@ -1,0 +1,168 @@
+//! The receiving end of a ring of messages.
+
+ghost use Rattle.std.specs.Prelude.{◌≡◌, ◌<◌, [], ◌∷◌, ◌++◌, length, IfSome, IfNone, IsTrue, IsFalse};
+ghost use Rattle.pnm_image.specs.Messages.{IsMessage};
+ghost use Rattle.pnm_stages.specs.Rings.{sent, received, known_items, IsPair, SameProducer, SameConsumer, HasDrained, HasDrainedAfter};
+
+use crate::backoff::Backoff;
+use crate::ending::Ending;
+use crate::ring::AnyMessage;
+use crate::sender::Sender;
+use crate::wakers::ReceiverWaker;
+use pnm_image::Message;
+use rtrb::Consumer;
+use std::alloc::Global;
+use std::sync::Wait;
+
+/// The receiving end of a ring of messages. Once it goes, the thread at the sending end is woken, and sees that.
+#[derive(Drop)]
+pub struct Receiver {
+    /// The end itself. It comes first, since it has to be gone before the other thread is woken.
+    pub(crate) ring: Consumer<Message, Global, AnyMessage>,
+    waker: ReceiverWaker,
+}
+
+impl Receiver {
+    /// The end of this ring, with what it has of the ring's wakers.
+    pub(crate) fn new(ring: Consumer<Message, Global, AnyMessage>, waker: ReceiverWaker) -> Receiver
+        ensures { result.ring ≡ ring }
+    {
+        Receiver { ring, waker }
+    }
+
+    /// Whether a message is there.
+    pub fn has_message(&mut self) -> bool
+        ensures ring { SameConsumer self.old self.new }
+        ensures received { received self.new ≡ received self.old }
+        ensures some { IsTrue result → 0 < length (known_items self.new) }
+        ensures none { IsFalse result → known_items self.new ≡ [] }
+    {
+        !self.ring.is_empty()
+    }
+
+    /// Whether a message was seen in the ring that is still there: the next one is received at once then.
+    pub fn has_seen_message(&self) -> bool
+        ensures some { IsTrue result → 0 < length (known_items self.now) }
+        ensures none { IsFalse result → known_items self.now ≡ [] }
+    {
+        self.ring.cached_slots() > 0
+    }
+
+    /// Whether the sending end was dropped. What was sent before is still there.
+    pub fn is_abandoned(&mut self) -> bool
+        ensures ring { SameConsumer self.old self.new }
+        ensures received { received self.new ≡ received self.old }
+    {
+        self.ring.is_abandoned()
+    }
+
+    /// The next message, which is there. It wakes the thread at the sending end on the edge: where none is left of the messages
+    /// that were seen, or half a ring of them. So that one is woken once after it found no room, and seldom while it finds some.
+    pub fn receive_known(&mut self) -> Message
+        requires { 0 < length (known_items self.old) }
+        ensures ring { SameConsumer self.old self.new }
+        ensures received { received self.new ≡ received self.old ++ result ∷ [] }
+        ensures seen { known_items self.old ≡ result ∷ known_items self.new }
+        ensures message { IsMessage result }
+    {
+        let message = self.ring.pop_known();
+        let left = self.ring.cached_slots();
+        if left == 0 || left == self.ring.capacity() / 2 {
+            self.waker.wake_sender();
+        }
+        recognised(message)
+    }
+
+    /// The next message, if one is there.
+    pub fn try_receive(&mut self) -> Option<Message>
+        ensures ring { SameConsumer self.old self.new }
+        ensures taken { IfSome result (λ m. received self.new ≡ received self.old ++ m ∷ []) }
+        ensures message { IfSome result IsMessage }
+        ensures none_seen { IfNone result ((received self.new ≡ received self.old) × (known_items self.new ≡ [])) }
+    {
+        if self.has_message() {
+            Some(self.receive_known())
+        } else {
+            None
+        }
+    }
+
+    /// What was received, and what is left of the messages then, are all that was sent, since both ends of the ring are here.
+    pub fn look_beside(&mut self, sender: &mut Sender)
+        requires { IsPair sender.old self.old }
+        ensures looked { SameConsumer self.old self.new × (received self.new ≡ received self.old) }
+        ensures sender { SameProducer sender.old sender.new × (sent sender.new ≡ sent sender.old) }
+        ensures in_order { received self.new ++ known_items self.new ≡ sent sender.new }
+    {
+        self.ring.slots_beside(&mut sender.ring);
+    }
+
+    /// The next message, once there is one; none once the ring is empty and its other end was seen dropped. That it is empty is
+    /// known only of the messages that this end has seen in it.
+    pub fn receive<R: Wait>(&mut self, rt: &R, backoff: &mut Backoff) -> Option<Message>
+        ensures ring { SameConsumer self.old self.new }
+        ensures taken { IfSome result (λ m. received self.new ≡ received self.old ++ m ∷ []) }
+        ensures message { IfSome result IsMessage }
+        ensures none_seen { IfNone result ((received self.new ≡ received self.old) × (known_items self.new ≡ [])) }
+    {
+        backoff.reset();
+        for _ in rt.forever() {
+            if self.has_message() {
+                return Some(self.receive_known());
+            }
+            // What was sent before the end was dropped is still there.
+            if self.is_abandoned() {
+                return self.try_receive();
+            }
+            self.wait(rt, backoff);
+        }
+        unreachable!()
+    }
+
+    /// Receives and drops what comes, through the end of the stream or Stop; false where the sending end was seen dropped before.
+    pub fn drain<R: Wait>(&mut self, rt: &R, backoff: &mut Backoff) -> bool
+        ensures ring { SameConsumer self.old self.new }
+        ensures drained { HasDrained result (received self.old) (received self.new) (known_items self.new) }
+    {
+        for _ in rt.forever() {
+            let Some(message) = self.receive(rt, backoff) else {
+                return false;
+            };
+            let ending = Ending::of(&message);
+            drop(message);
+            match ending {
+                Ending::More => {}
+                Ending::Whole | Ending::BrokenOff => return true,
+            }
+        }
+        unreachable!()
+    }
+
+    /// After a message with this ending, receives and drops what comes through to the end of the stream; false where the sending
+    /// end was seen dropped before.
+    pub fn drain_after<R: Wait>(&mut self, rt: &R, ending: Ending, backoff: &mut Backoff) -> bool
+        ensures ring { SameConsumer self.old self.new }
+        ensures drained { HasDrainedAfter ending result (received self.old) (received self.new) (known_items self.new) }
+    {
+        match ending {
+            Ending::More => self.drain(rt, backoff),
+            Ending::Whole | Ending::BrokenOff => true,
+        }
+    }
+
+    /// One turn of waiting for a message. It looks again after each.
+    pub fn wait<R: Wait>(&self, rt: &R, backoff: &mut Backoff) {
+        backoff.wait(rt, self.waker.parker());
+    }
+}
+
+/// The message itself. A proof learns that the head of an image keeps the rules of heads.
+fn recognised(message: Message) -> Message
+    ensures same { result ≡ message }
+    ensures message { IsMessage result }
+{
+    if let Message::Begin(head) = &message {
+        let _ = head.shape();
+    }
+    message
+}
