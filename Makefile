@@ -41,7 +41,7 @@ check: toolchain
 	rm -f bin/gate-failed
 	(RT_JOBS=$${RT_JOBS:-$$(nproc)} rt ci || touch bin/gate-failed) | tee bin/gate
 	test ! -e bin/gate-failed
-	python3 scripts/refused.py growth start tests --program $(PROGRAM)/out/pnmpipe
+	python3 scripts/refused.py growth start silent tests --program $(PROGRAM)/out/pnmpipe
 	python3 scripts/idle.py --program $(PROGRAM)/out/pnmpipe
 	$(MAKE) --no-print-directory scripts BUILT=$(PROGRAM)/out/pnmpipe
 	python3 scripts/cases.py
@@ -125,7 +125,7 @@ controls: toolchain
 # each allocation and each start of a thread refused in turn, of the program that make has left and of tests
 refused: toolchain
 	for crate in $(REFUSED); do (cd crates/$$crate && rt test) || exit 1; done
-	python3 scripts/refused.py growth start tests
+	python3 scripts/refused.py growth start silent tests
 
 # random chains over random streams, in one thread and over threads between slow devices
 soak: toolchain

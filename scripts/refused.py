@@ -457,7 +457,7 @@ def refuse_by_room(program, seconds):
 
 def main():
     parser = argparse.ArgumentParser(description=__doc__.split("\n")[0])
-    kinds = "growth, start, silent or tests; by default growth and start"
+    kinds = "growth, start, silent or tests; by default growth, start and silent"
     parser.add_argument("what", nargs="*", metavar="WHAT", help=kinds)
     parser.add_argument("--program", default=os.path.join(ROOT, "bin/pnmpipe"))
     parser.add_argument("--seconds", type=float, default=20, help="how long a run may take")
@@ -466,7 +466,7 @@ def main():
     args = parser.parse_args()
     if set(args.what) - {"growth", "start", "silent", "tests"}:
         parser.error("WHAT is growth, start, silent or tests")
-    args.what = args.what or ["growth", "start"]
+    args.what = args.what or ["growth", "start", "silent"]
     args.program = os.path.abspath(args.program)
     if set(args.what) != {"tests"} and not os.path.exists(args.program):
         sys.exit(f"refused: there is no {args.program}: make builds it")
