@@ -56,4 +56,4 @@ def tests_of(crates, name):
     own = [it for it in (f"{name}_tests", f"{name}_cases") if it in crates]
     if own:
         return own + [it for it in ("pnm_memory_tests",) if name in crates.get(it, ())]
-    return [it for it in crates if it.endswith("_tests") and name in crates[it]] or [name]
+    return [it for it in crates if it.endswith(("_tests", "_cases")) and name in crates[it]] or [name]

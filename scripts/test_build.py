@@ -25,7 +25,7 @@ top: longest right
 pnmpipe: top right clap
 top_tests: top
 right_tests: right
-right_cases: right
+right_cases: right low
 """
 
 # FAULT is the crate, or the command of rt, that fails; SECONDS how long a proof takes, but of the lowest crate
@@ -200,6 +200,11 @@ class Changing(Repository):
         calls += ["run (right_cases)", "proves low in the checkout", "proves right in the checkout"]
         calls += [f"check ({name})" for name in ("right_tests", "right_cases", "top", "pnmpipe", "top_tests")]
         self.assertCountEqual(self.notes(), calls)
+
+    def test_near_runs_the_programs_that_name_a_crate_without_tests_of_its_name(self):
+        status, printed = self.run_script("change.py", "near", "low")
+        self.assertEqual(status, 0, printed)
+        self.assertIn("run (right_cases)", self.notes())
 
     def test_near_wants_what_is_stored(self):
         for stored in ("GIVE", "GIVEN\n", "given"):
