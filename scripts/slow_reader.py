@@ -1,7 +1,9 @@
 """What a text says as a stream of images, worked out slowly from the formats' description. The limits on the lengths
 of headers, tuple types and gaps are left out. Numbers of answers are as the programs of cases tell them."""
 
+import sys
 import zlib
+from array import array
 
 FORMATS = {
     b"1": ("Bit", True),
@@ -214,7 +216,8 @@ def plain_sample(raster, kinds, at, kind, maxval):
 
 def tell_bytes(text):
     """A text as it is written."""
-    return "".join(chr(it) if 32 <= it <= 126 else "\\n" if it == 10 else f"\\x{it:02x}" for it in text)
+    escapes = {10: "\\n", 92: "\\\\"}
+    return "".join(escapes.get(it) or (chr(it) if 32 <= it <= 126 else f"\\x{it:02x}") for it in text)
 
 
 def tell_text(text):
@@ -234,8 +237,10 @@ def tell_row(row):
     """The samples of a row, or how many there are and the CRC-32 of them, each of two bytes."""
     if len(row) <= 64:
         return f" [{' '.join(map(str, row))}]"
-    samples = b"".join(sample.to_bytes(2, "big") for sample in row)
-    return f" [{len(row)} samples {zlib.crc32(samples):08x}]"
+    samples = array("H", row)
+    if sys.byteorder == "little":
+        samples.byteswap()
+    return f" [{len(row)} samples {zlib.crc32(samples.tobytes()):08x}]"
 
 
 def tell(given):

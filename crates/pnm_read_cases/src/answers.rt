@@ -2,7 +2,7 @@
 
 use pnm_image::{BytesIn, Device, Message, SampleSlice};
 use pnm_read::{InputFault, Source};
-use pnm_test_devices::{Drips, FailsOnce, tell_change, tell_message};
+use pnm_test_devices::{Drips, FailsOnce, ReadOut, tell_change, tell_message};
 use std::alloc::{AllocError, Global};
 
 /// More answers than there are to any case.
@@ -62,16 +62,18 @@ pub fn tell_whole(alloc: Global, text: &[u8], told: &mut String) -> Result<(), A
     tell_answers(&mut source, told)
 }
 
-/// Whether the answers are these where a read gives up to so many bytes.
+/// Whether the answers are these where a read gives up to so many bytes, and no read follows one that gave none.
 fn are_told_by(alloc: Global, text: &[u8], most: usize, whole: &str) -> Result<bool, AllocError> {
-    let drips = Drips::new(text, most, FailsOnce::never());
-    let mut source = source_of(alloc, Device::new(drips))?;
+    let mut reader = ReadOut::new(Drips::new(text, most, FailsOnce::never()));
+    let mut source = source_of(alloc, Device::new(&mut reader))?;
     let mut told = String::new(alloc);
     tell_answers(&mut source, &mut told)?;
-    Ok(told.as_str() == whole)
+    let _ = source.into_reader();
+    Ok(told.as_str() == whole && !reader.is_read_on())
 }
 
-/// Adds the answers to a text, and of these numbers of bytes a read those by which they are others.
+/// Adds the answers to a text, and of these numbers of bytes a read those by which they are others, or by which it is read
+/// on after its end.
 pub fn tell_text(
     alloc: Global,
     text: &[u8],

@@ -3,7 +3,7 @@
 //!
 //! | Line | What is told |
 //! |---|---|
-//! | `text TEXT` | the answers, which are the same however few bytes a read gives |
+//! | `text TEXT` | the answers, which are the same however few bytes a read gives, and no read follows one that gave none |
 //! | `long TEXT` | the same of a long text, whole and 4,097 bytes a read |
 //! | `cuts TEXT` | the answers to each front of the text, by the length from which on they are those |
 //! | `fails TEXT` | the same where a read of a byte each fails, by its number |

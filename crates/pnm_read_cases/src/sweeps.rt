@@ -19,12 +19,13 @@ pub fn add_text(alloc: Global, sweep: &mut Sweep, text: &[u8]) -> Result<(), All
     Ok(())
 }
 
-/// The bytes of a set: all, by default.
+/// The bytes of a set.
 fn set_of(alloc: Global, word: &[u8]) -> Result<Vec<u8>, AllocError> {
-    match word.first() {
-        Some(b't') => Vec::from_slice(alloc, TELLING),
-        Some(b'p') => Vec::from_slice(alloc, PLAIN),
-        _ => (0..=u8::MAX).collect(alloc),
+    match word {
+        b"telling" => Vec::from_slice(alloc, TELLING),
+        b"plain" => Vec::from_slice(alloc, PLAIN),
+        b"all" => (0..=u8::MAX).collect(alloc),
+        _ => Err(AllocError),
     }
 }
 

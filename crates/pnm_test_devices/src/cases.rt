@@ -31,7 +31,7 @@ pub fn tell_lines<H: AllocGlobal + Input + Print, T: Teller>(
     Ok(())
 }
 
-/// What is told of a line.
+/// What is told of a line, which is ` no case` where it isn't one, or can't be made.
 fn told_of<T: Teller>(alloc: Global, teller: &mut T, line: &str) -> Result<String, Unmade> {
     let mut told = String::new(alloc);
     if line.as_bytes().first() == Some(&b'#') {
@@ -40,6 +40,8 @@ fn told_of<T: Teller>(alloc: Global, teller: &mut T, line: &str) -> Result<Strin
     }
     let (word, written) = cut_word(line.as_bytes());
     let text = text_of(alloc, written)?;
-    teller.tell(alloc, word, text.as_slice(), &mut told)?;
+    if let Err(Unmade) = teller.tell(alloc, word, text.as_slice(), &mut told) {
+        told.push_str(" no case")?;
+    }
     Ok(told)
 }

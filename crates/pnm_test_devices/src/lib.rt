@@ -12,7 +12,7 @@ mod telling;
 mod writing;
 
 pub use cases::{Teller, tell_lines};
-pub use devices::{Drips, FailsOnce, NeverFlushes, Recorded, Sips};
+pub use devices::{Drips, FailsOnce, NeverFlushes, ReadOut, Recorded, Sips};
 pub use digest::Crc32;
 pub use messages::{Unmade, cut_head, cut_messages, head_of, held, narrowest, number_of};
 pub use parts::{Part, is_made_of, message};

@@ -81,7 +81,7 @@ fn add_rows(
     let mut samples = Vec::new(alloc);
     for k in 0..count {
         let turned = k.wrapping_mul(step).checked_rem(modulus).unwrap_or(0);
-        samples.push((first.wrapping_add(turned) % 65_536) as u16)?;
+        samples.push(sample_of(first.wrapping_add(turned))?)?;
     }
     for row in samples.as_slice().chunks(length.max(1)) {
         add_row(alloc, row, is_narrow, messages)?;
@@ -106,7 +106,7 @@ fn add_row(
 }
 
 /// The samples that are written one after another.
-fn samples_of(alloc: Global, written: &[u8]) -> Result<Vec<u16>, AllocError> {
+fn samples_of(alloc: Global, written: &[u8]) -> Result<Vec<u16>, Unmade> {
     let mut samples = Vec::new(alloc);
     let mut rest = written;
     for _ in 0..written.len() {
@@ -114,7 +114,7 @@ fn samples_of(alloc: Global, written: &[u8]) -> Result<Vec<u16>, AllocError> {
             break;
         }
         let (sample, after) = cut_number(rest);
-        samples.push((sample % 65_536) as u16)?;
+        samples.push(sample_of(sample)?)?;
         rest = after;
     }
     Ok(samples)
@@ -132,7 +132,7 @@ pub fn cut_head(alloc: Global, line: &[u8]) -> Result<(Head, &[u8]), Unmade> {
         _ => ([].as_slice(), rest),
     };
     let shape = Shape {
-        kind: kind_of(word),
+        kind: kind_of(word)?,
         width: number_of(width),
         height: number_of(height),
         depth: number_of(depth),
@@ -141,13 +141,22 @@ pub fn cut_head(alloc: Global, line: &[u8]) -> Result<(Head, &[u8]), Unmade> {
     Ok((head_of(alloc, shape, tuple_type)?, rest))
 }
 
-/// The kind that begins as a word does.
-fn kind_of(word: &[u8]) -> Kind {
-    match word.first() {
-        Some(b'B') => Kind::Bit,
-        Some(b'G') => Kind::Gray,
-        Some(b'C') => Kind::Color,
-        _ => Kind::Pam,
+/// The kind of this name.
+fn kind_of(word: &[u8]) -> Result<Kind, Unmade> {
+    match word {
+        b"Bit" => Ok(Kind::Bit),
+        b"Gray" => Ok(Kind::Gray),
+        b"Color" => Ok(Kind::Color),
+        b"Pam" => Ok(Kind::Pam),
+        _ => Err(Unmade),
+    }
+}
+
+/// The number, where it is a sample.
+fn sample_of(number: usize) -> Result<u16, Unmade> {
+    match u16::try_from(number) {
+        Ok(sample) => Ok(sample),
+        Err(_) => Err(Unmade),
     }
 }
 

@@ -32,10 +32,11 @@ pub fn tell_head(told: &mut String, head: &Head) -> Result<(), AllocError> {
     Ok(())
 }
 
-/// Adds bytes as they are written: a line feed, and what isn't printed, with escapes.
+/// Adds bytes as they are written: a backslash, a line feed, and what isn't printed, with escapes.
 fn tell_bytes(told: &mut String, bytes: &[u8]) -> Result<(), AllocError> {
     for byte in bytes {
         match *byte {
+            b'\\' => told.push_str("\\\\")?,
             b' '..=b'~' => told.push(char::from(*byte))?,
             b'\n' => told.push_str("\\n")?,
             _ => write!(told, "\\x{byte:02x}")?,
