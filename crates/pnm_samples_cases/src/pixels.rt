@@ -10,7 +10,8 @@ fn tell_row(alloc: Global, bits: &Bits, told: &mut String) -> Result<(), AllocEr
     let count = bits.len();
     write!(told, " {count} ")?;
     for at in 0..bits.len() {
-        told.push(if bits.pixel(at) == 0 { '0' } else { '1' })?;
+        let pixel = bits.pixel(at);
+        write!(told, "{pixel}")?;
     }
     let widened = bits.widened(alloc)?;
     for at in 0..bits.len() {

@@ -9,12 +9,13 @@ use std::alloc::{AllocError, Global};
 const WHOLE: usize = 20;
 
 /// A made-up row of bits, bytes or words, as a word says.
-fn made(alloc: Global, word: &[u8], count: usize) -> Result<SampleVec, AllocError> {
-    Ok(match word.first() {
-        Some(b'w') => SampleVec::Words(words_of(alloc, count)?),
-        Some(_) if word == b"bytes".as_slice() => SampleVec::Bytes(bytes_of(alloc, count)?),
-        _ => SampleVec::Bits(bits_of(alloc, 3, count)?),
-    })
+fn made(alloc: Global, word: &[u8], count: usize) -> Result<SampleVec, Unmade> {
+    match word {
+        b"bits" => Ok(SampleVec::Bits(bits_of(alloc, 3, count)?)),
+        b"bytes" => Ok(SampleVec::Bytes(bytes_of(alloc, count)?)),
+        b"words" => Ok(SampleVec::Words(words_of(alloc, count)?)),
+        _ => Err(Unmade),
+    }
 }
 
 fn words_of(alloc: Global, count: usize) -> Result<Vec<u16>, AllocError> {
