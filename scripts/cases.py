@@ -1,6 +1,8 @@
 #!/usr/bin/env python3
 """Works out slowly, from the manual pages, what the programs of cases have to tell, and wants their stored output to
-say that: each text, cut and sweep of pnm_read_cases, each sweep of pnm_tools_cases and of pnm_write_cases.
+say that: all of pnm_samples_cases; of the others each sweep, whatever else is told by a CRC-32, and each text and cut
+of pnm_read_cases. What is left is worked out by hand, as pnm_chain_cases is. A line that begins with an unknown word,
+or has no line of output, is a fault.
 
 With --each the answers of a sweep's cases are printed one by one, for a line that is given with its crate's name.
 """
@@ -11,7 +13,9 @@ import os
 import re
 import sys
 import zlib
+from array import array
 
+import slow_rows
 from slow_reader import answers, tell, tell_head, tell_row, tell_text
 
 ROOT = os.path.dirname(os.path.dirname(os.path.abspath(__file__)))
@@ -33,16 +37,64 @@ class Sweep(list):
         return f" {len(self)} cases {zlib.crc32(''.join(self).encode()):08x}"
 
 
+class Front(str):
+    """What a line begins to tell; what follows is worked out by hand."""
+
+
+# told by a CRC-32, which nobody works out by hand
+LONG = re.compile(r"\d (samples|bytes) [0-9a-f]{8}")
+
+ESCAPE = re.compile(r"\\(?:#(\d+),(\d+),(\d+),(\d+),(\d+);|(\d+)\(((?:\\.|[^)])*)\)|x(..)|(.))")
+
+
 def text_of(written):
-    """The bytes that a written text stands for, whatever is repeated or counted left out: none of those is here."""
+    """The bytes that a written text stands for."""
 
-    def byte_of(found):
-        escape = found.group(1)
-        if escape[0] == "x":
-            return chr(int(escape[1:], 16))
-        return ESCAPES.get(escape, escape.encode()).decode("latin-1")
+    def meant(found):
+        *numbers, times, part, code, mark = found.groups()
+        if code:
+            return chr(int(code, 16))
+        if mark:
+            return ESCAPES.get(mark, mark.encode()).decode("latin-1")
+        if times:
+            return int(times) * ESCAPE.sub(meant, part)
+        count, first, step, modulus, size = map(int, numbers)
+        counted = (first + k * step % modulus for k in range(count))
+        if not size:
+            return "".join(f"{number} " for number in counted)
+        return b"".join(number.to_bytes(size, "big") for number in counted).decode("latin-1")
 
-    return re.sub(r"\\(x..|.)", byte_of, written).encode("latin-1")
+    return ESCAPE.sub(meant, written).encode("latin-1")
+
+
+ROW = r"\[[^]]*\] "
+IMAGE = re.compile(rf"(\w+) (\d+) (\d+) (\d+) (\d+) (?:\(([^)]*)\) )?((?:{ROW})+)ImageEnd ?")
+
+
+def samples_in(rows):
+    """All samples of written rows."""
+    samples = array("H")
+    for row in re.findall(r"\[([^]]*)\]", rows):
+        if row.startswith("#"):
+            count, first, step, modulus, _ = numbers_in(row)
+            samples.extend(first + k * step % modulus for k in range(count))
+        else:
+            samples.extend(numbers_in(row))
+    return samples
+
+
+def images_in(written):
+    """The whole images that written messages begin with, each with its tuple type and its samples; and what follows."""
+    text, images, at = text_of(written).decode("latin-1") + " ", [], 0
+    while found := IMAGE.match(text, at):
+        kind, *numbers, tuple_type, rows = found.groups()
+        width, height, depth, maxval = map(int, numbers)
+        samples = samples_in(rows)
+        if len(samples) != width * height * depth:
+            break
+        images.append((kind, maxval, width, height, depth, (tuple_type or "").encode("latin-1"), samples))
+        at = found.end()
+    return images, text[at:].strip()
 
 
 def changes(told):
@@ -71,13 +123,14 @@ def replaced(words, text, count):
     )
 
 
-def read_line(line, images):
-    """What is told of a line; none where that isn't worked out here."""
+def read_line(line, images, stored_line):
+    """What is told of a line; none where that is worked out by hand."""
     word, _, rest = line.partition(" ")
-    if re.search(r"\\[0-9#]", rest):
-        return None
-    if word == "text":
+    if word == "text" or word == "long" and LONG.search(stored_line):
         return said(text_of(rest))
+    if word == "reads":
+        _, failing, text = rest.split(" ", 2)
+        return Front(f"{said(text_of(text))} by ") if failing == "0" else None
     if word == "cuts":
         text = text_of(rest)
         return changes([said(text[:length]) for length in range(len(text) + 1)])
@@ -95,7 +148,13 @@ def read_line(line, images):
     if word == "after":
         text = text_of(rest)
         return Sweep(said(front + text) for image in images for front in (image, image + image))
-    return None
+    return by_hand(word, ("long", "fails", "ahead", "held", "width", "names"))
+
+
+def by_hand(word, words):
+    """None, where the word is one of these."""
+    if word not in words:
+        raise ValueError("no such word")
 
 
 # --- pnm_tools_cases
@@ -127,21 +186,29 @@ def numbers_in(text):
     return [int(word) for word in re.findall(r"\d+", text)]
 
 
-def result(tool, kind, maxval, width, height, depth):
-    """What the manual page of a tool says of the made image."""
+def made_image(kind, maxval, width, height, depth):
+    """A made image, as `images_in` gives one."""
+    places = [(x, y, plane) for y in range(height) for x in range(width) for plane in range(depth)]
+    tuple_type = b"A B" if kind == "Pam" else b""
+    return kind, maxval, width, height, depth, tuple_type, array("H", (made_sample(maxval, *it) for it in places))
+
+
+def result(tool, kind, maxval, width, height, depth, tuple_type, samples):
+    """What the manual page of a tool says of an image."""
     name, _, options = tool.partition(" ")
     numbers = numbers_in(options)
-    sizes, planes, shown, rescaled = (width, height), range(depth), lambda x, y: (x, y), lambda sample: sample
-    made_kind, made_maxval, tuple_type = kind, maxval, b"A B" if kind == "Pam" else b""
+    sizes, planes, shown, change = (width, height), depth, lambda x, y: (x, y), lambda pixel: pixel
+    made_kind, made_maxval = kind, maxval
     if name == "invert":
-        rescaled = lambda sample: maxval - sample
+        change = lambda pixel: [maxval - sample for sample in pixel]
     elif name == "depth":
         made_maxval = numbers[0]
-        rescaled = lambda sample: (2 * sample * made_maxval + maxval) // (2 * maxval)
+        change = lambda pixel: [(2 * sample * made_maxval + maxval) // (2 * maxval) for sample in pixel]
         made_kind = "Gray" if kind == "Bit" and made_maxval != 1 else kind
     elif name == "planes":
         made_kind, tuple_type = "Pam", options[options.index("(") + 1 : -1].encode()
-        planes = numbers_in(options[: options.index("(")])
+        picked = numbers_in(options[: options.index("(")])
+        planes, change = len(picked), lambda pixel: [pixel[plane] for plane in picked]
     elif name == "cut":
         sizes, shown = (width - numbers[0], height), lambda x, y: (x + numbers[0], y)
     elif name == "enlarge":
@@ -151,10 +218,14 @@ def result(tool, kind, maxval, width, height, depth):
     elif name == "flip":
         shown = lambda x, y: FLIPS[options](width, height, x, y)
         sizes = (height, width) if options in ("transpose", "r90", "r270") else sizes
-    told = tell_head(made_kind, *sizes, len(planes), made_maxval, tuple_type)
+    told = tell_head(made_kind, *sizes, planes, made_maxval, tuple_type)
     for y in range(sizes[1]):
-        places = [shown(x, y) for x in range(sizes[0])]
-        told += tell_row([rescaled(made_sample(maxval, *place, plane)) for place in places for plane in planes])
+        row = array("H")
+        for x in range(sizes[0]):
+            column, line = shown(x, y)
+            at = (line * width + column) * depth
+            row.extend(change(samples[at : at + depth]))
+        told += tell_row(row)
     return f"{told} ImageEnd"
 
 
@@ -184,17 +255,26 @@ def sweep_tool(tool, word, rest):
     numbers = numbers_in(rest)
     if word == "images":
         sizes = [numbers[at : at + 3] for at in range(0, len(numbers), 3)]
-        return Sweep(result(tool, "Pam", 65_535, *size) for size in sizes)
+        return Sweep(result(tool, *made_image("Pam", 65_535, *size)) for size in sizes)
     return Sweep(
-        result(tool, kind, maxval, width, height, depth) + " StreamEnd"
+        result(tool, *made_image(kind, maxval, width, height, depth)) + " StreamEnd"
         for width in range(numbers[2], numbers[3] + 1)
         for height in range(numbers[4], numbers[5] + 1)
         for kind, maxval, depth in TYPES[numbers[0] : numbers[1] + 1]
     )
 
 
-def tools_line(line, tools, axes):
-    """What is told of a line; none where that isn't worked out here."""
+def run_of(tools, rest):
+    """What a tool gives for the whole images that a run begins with."""
+    images, behind = images_in(rest)
+    if len(tools) != 1 or not images:
+        raise ValueError("a long row that isn't worked out")
+    told = "".join(result(tools[0], *image) for image in images)
+    return Front(f"{told} ") if behind else told
+
+
+def tools_line(line, tools, axes, stored_line):
+    """What is told of a line; none where that is worked out by hand."""
     word, _, rest = line.partition(" ")
     if word == "none":
         tools.clear()
@@ -206,8 +286,10 @@ def tools_line(line, tools, axes):
     if word == "axes":
         short = [axis for axis in axes if axis[0] <= 5]
         return Sweep(cut_image(across, down) for across in short for down in short)
+    if word in ("run", "lane") and LONG.search(stored_line):
+        return run_of(tools, rest)
     if word not in ("images", "types"):
-        return None
+        return by_hand(word, ("judge", "copy", "tool", "head", "run", "lane", "held", "axis", "names"))
     sweeps = [sweep_tool(tool, word, rest) for tool in tools]
     if len(sweeps) == 1 and word == "types":
         return sweeps[0]
@@ -217,6 +299,8 @@ def tools_line(line, tools, axes):
 
 
 # --- pnm_write_cases
+
+RAW = {"Bit": "P4", "Gray": "P5", "Color": "P6"}
 
 NUMBERS = [7, 65_535, 42, 255, 0, 4096, 10, 999, 9, 10_000, 100, 256, 1000]
 
@@ -233,9 +317,33 @@ def lines_of(words):
     return "\n".join(lines) + "\n"
 
 
-def write_line(line):
-    """What is told of a line; none where that isn't worked out here."""
+def raw_row(kind, maxval, row):
+    """A row in raw form."""
+    if kind == "Bit":
+        return slow_rows.packed(row)
+    return b"".join(sample.to_bytes(1 if maxval < 256 else 2, "big") for sample in row)
+
+
+def raw_image(kind, maxval, width, height, depth, tuple_type, samples):
+    """An image in raw form."""
+    if kind == "Pam":
+        named = b"TUPLTYPE " + tuple_type + b"\n" if tuple_type else b""
+        head = f"P7\nWIDTH {width}\nHEIGHT {height}\nDEPTH {depth}\nMAXVAL {maxval}\n".encode() + named + b"ENDHDR\n"
+    else:
+        last = "" if kind == "Bit" else f"{maxval}\n"
+        head = f"{RAW[kind]}\n{width} {height}\n{last}".encode()
+    wide = width * depth
+    return head + b"".join(raw_row(kind, maxval, samples[y * wide : (y + 1) * wide]) for y in range(height))
+
+
+def write_line(line, stored_line):
+    """What is told of a line; none where that is worked out by hand."""
     word, _, rest = line.partition(" ")
+    if word == "raw" and LONG.search(stored_line):
+        images, behind = images_in(rest)
+        if behind not in ("", "StreamEnd"):
+            raise ValueError("a long text that isn't worked out")
+        return f" end{tell_text(b''.join(raw_image(*image) for image in images))}"
     numbers, told = numbers_in(rest), Sweep()
     if word == "numbers":
         maxval, planes = numbers[0], 3 if rest.startswith("Color") else 1
@@ -252,9 +360,12 @@ def write_line(line):
             while len(pixels) < width:
                 pixels += f"{byte:08b}"
                 byte = (5 * byte + first) % 256
-            told += [tell_text(f"P1\n{width} 1\n{lines_of(pixels[:width])}".encode())] * 3
+            text = f"P1\n{width} 1\n{lines_of(pixels[:width])}"
+            told += [tell_text(text.encode())] * 3
         return told
-    return None
+    if word in ("raw", "plain", "sips") and LONG.search(stored_line):
+        raise ValueError("a long text that isn't worked out")
+    return by_hand(word, ("raw", "plain", "sips", "names"))
 
 
 # --- all of them
@@ -269,19 +380,32 @@ def judge(crate):
     """The lines that are worked out, and those of which something else is stored."""
     images, tools, axes = [], [], []
     count, faults = 0, []
-    for number, (line, told) in enumerate(zip(stored(crate, "stdin"), stored(crate, "stdout")), 1):
-        want = work_out(crate, line, images, tools, axes)
-        if want is not None:
-            count += 1
-            if str(want) != told:
-                faults.append(f"{crate}: line {number}: {line}\n  {told}\n  is stored in place of\n  {want}")
+    lines, tells = stored(crate, "stdin"), stored(crate, "stdout")
+    if len(lines) != len(tells):
+        faults.append(f"{crate}: {len(lines)} lines of stdin and {len(tells)} of stdout")
+    for number, (line, told) in enumerate(zip(lines, tells), 1):
+        try:
+            want = work_out(crate, line, images, tools, axes, told)
+        except ValueError as fault:
+            faults.append(f"{crate}: line {number}: {line}\n  {fault}")
+            continue
+        count += want is not None and not line.startswith("#")
+        if want is not None and str(want) != (told[: len(want)] if isinstance(want, Front) else told):
+            faults.append(f"{crate}: line {number}: {line}\n  {told}\n  is stored in place of\n  {want}")
     return count, faults
 
 
-def work_out(crate, line, images, tools, axes):
+def work_out(crate, line, images, tools, axes, told=""):
+    """What is told of a line; none where that is worked out by hand."""
+    if line.startswith("#"):
+        return line
     if crate == "pnm_read_cases":
-        return read_line(line, images)
-    return tools_line(line, tools, axes) if crate == "pnm_tools_cases" else write_line(line)
+        return read_line(line, images, told)
+    if crate == "pnm_samples_cases":
+        word, _, rest = line.partition(" ")
+        want = slow_rows.tell_line(word, rest, text_of(rest))
+        return Sweep(want) if isinstance(want, list) else want
+    return tools_line(line, tools, axes, told) if crate == "pnm_tools_cases" else write_line(line, told)
 
 
 def main():
@@ -294,7 +418,7 @@ def main():
         for number, answer in enumerate(told if isinstance(told, list) else [told]):
             print(f"{number}:{answer}")
         return 0
-    crates = ["pnm_tools_cases", "pnm_read_cases", "pnm_write_cases"]
+    crates = ["pnm_tools_cases", "pnm_read_cases", "pnm_samples_cases", "pnm_write_cases"]
     with concurrent.futures.ProcessPoolExecutor() as pool:
         found = list(pool.map(judge, crates))
     for fault in (fault for _, faults in found for fault in faults):
