@@ -3,7 +3,7 @@
 
 `scripts/refused.c`, compiled here and loaded before the program, refuses the Nth one that the program itself asks
 for; N goes upward from 1, once with that one alone refused and once with all after it too. A run that met a refusal
-has to say so by the line that fits and to have written a front of the whole output: nothing where the status is 2 or
+has to say so by the line that fits and to have written a prefix of the whole output: nothing where the status is 2 or
 a thread couldn't be started. It has to end in time, and with no thread left. Where the input is silent (`silent`),
 each refused start has to be answered before the silence ends. Tests of crates are refused each allocation too, since
 they reach what no command does. Where there is no C compiler, the stored run alone is refused, by the toolchain,
@@ -254,7 +254,7 @@ def judge(command, answer):
     if answer.left != 0:
         raise Fault(f"threads are left: {answer.left}; status {answer.status}, {answer.printed!r}")
     if not command.whole.startswith(answer.written):
-        raise Fault(f"what is written is no front of the output: {answer.written!r}")
+        raise Fault(f"what is written is no prefix of the output: {answer.written!r}")
     made = (answer.status, answer.written, answer.printed)
     is_whole = made == (1 if command.line else 0, command.whole, command.line)
     if not answer.refusals:

@@ -15,17 +15,21 @@ use Rattle.pnm_chain.specs.declared.chain_text.ChainKind.TheVariants.{Empty, Too
 use Rattle.pnm_chain.specs.declared.options.ToolName.{ToolName}
 use Rattle.pnm_chain.specs.Options.{tool_named}
 use Rattle.pnm_chain.specs.Items.{items_of, meant_by}
-use Rattle.pnm_chain.specs.ChainText.{SpellsTool, SpellTools, SpellsChain, stage_texts, named_fault, words_fault, stage_fault, fault_from, whole, chain_fault_of, IsOneChainOrOneFault}
+use Rattle.pnm_chain.specs.ChainText.{SpellsTool, SpellTools, SpellsChain, stage_texts, named_fault, words_fault, stage_fault, fault_from, whole_fault}
+use Rattle.pnm_chain.specs.ChainText.{chain_fault_of, IsOneChainOrOneFault}
 use Rattle.pnm_chain.proofs.ItemLaws.{items_mean, meaning_has_no_fault}
 use Rattle.pnm_chain.specs.declared.chain_text.TheConstants.{MAX_TEXT_LENGTH}
 use Rattle.pnm_tools.specs.declared.limits.TheConstants.{MAX_TOOLS}
 
 -- ---- a stage
 
-named_spells : (stage first : List ℕ) (others : List (List ℕ)) (name : Option ToolName) → words stage ≡ first ∷ others → tool_named first ≡ name → named_fault name others ≡ None → (tool : Tool) × SpellsTool stage tool
+named_spells : (stage first : List ℕ) (others : List (List ℕ)) (name : Option ToolName) → words stage ≡ first ∷ others → tool_named first ≡ name
+    → named_fault name others ≡ None → (tool : Tool) × SpellsTool stage tool
 named_spells stage first others None is named e = absurd cc
-named_spells stage first others (Some name) is named e =
-    (meant_by name (items_of name others), record { name = first; others = others; tool_name = name; words_are = is; named = named; meant = items_mean name (items_of name others) e })
+named_spells stage first others (Some name) is named e = (
+  meant_by name (items_of name others),
+  record { name = first; others = others; tool_name = name; words_are = is; named = named; meant = items_mean name (items_of name others) e },
+)
 
 words_spell : (stage : List ℕ) (found : List (List ℕ)) → words stage ≡ found → words_fault found ≡ None → (tool : Tool) × SpellsTool stage tool
 words_spell stage [] is e = absurd cc
@@ -77,7 +81,8 @@ from_free : (number : ℕ) (fault : Option ChainKind) (others : Option ChainFaul
 from_free number (Some kind) others e = absurd cc
 from_free number None others e = (refl, e)
 
-pub fault_from-cons : (number : ℕ) (stage : List ℕ) (stages : List (List ℕ)) → fault_from number (stage ∷ stages) ≡ from_by number (stage_fault stage) (fault_from (suc number) stages)
+pub fault_from-cons : (number : ℕ) (stage : List ℕ) (stages : List (List ℕ)) → fault_from number (stage ∷ stages) ≡ from_by number (stage_fault stage)
+    (fault_from (suc number) stages)
 unfolding fault_from
 fault_from-cons number stage stages = refl
 
@@ -142,12 +147,13 @@ blank_spells_nothing text tools e h = one_blank text tools e (subst (λ (l : Lis
 
 abbrev pub chain_fault_by : Bool → Bool → Bool → Option ChainFault → Option ChainFault
 chain_fault_by long blank many others =
-    if long then Some (whole TooLong)
-    else if blank then Some (whole Empty)
-    else if many then Some (whole TooMany)
+    if long then Some (whole_fault TooLong)
+    else if blank then Some (whole_fault Empty)
+    else if many then Some (whole_fault TooMany)
     else others
 
-pub chain_fault_is : (text : List ℕ) → chain_fault_of text ≡ chain_fault_by (nat_lt MAX_TEXT_LENGTH (length text)) (list_all is_white text) (nat_lt MAX_TOOLS (length (stage_texts text))) (fault_from 1 (stage_texts text))
+pub chain_fault_is : (text : List ℕ) → chain_fault_of text ≡ chain_fault_by (nat_lt MAX_TEXT_LENGTH (length text)) (list_all is_white text)
+    (nat_lt MAX_TOOLS (length (stage_texts text))) (fault_from 1 (stage_texts text))
 unfolding chain_fault_of
 chain_fault_is text = refl
 
@@ -168,13 +174,21 @@ chain_fits long blank many others h = rw (h.short, h.not_blank, h.not_many) h.no
 
 pub chain_spelled : (text : List ℕ) → chain_fault_of text ≡ None → (tools : List Tool) × SpellsChain text tools
 chain_spelled text e =
-    let free = chain_free (nat_lt MAX_TEXT_LENGTH (length text)) (list_all is_white text) (nat_lt MAX_TOOLS (length (stage_texts text))) (fault_from 1 (stage_texts text)) (sym (chain_fault_is text) ∙ e) in
-    let found = stages_spell 1 (stage_texts text) free.no_fault in
-    (found.0, record { short = ltb-false MAX_TEXT_LENGTH (length text) free.short; not_many = ltb-false MAX_TOOLS (length (stage_texts text)) free.not_many; spelled = found.1 })
+    let free = chain_free (nat_lt MAX_TEXT_LENGTH (length text)) (list_all is_white text) (nat_lt MAX_TOOLS (length (stage_texts text)))
+    (fault_from 1 (stage_texts text)) (sym (chain_fault_is text) ∙ e) in
+    let found = stages_spell 1 (stage_texts text) free.no_fault in (
+      found.0,
+      record {
+        short = ltb-false MAX_TEXT_LENGTH (length text) free.short;
+        not_many = ltb-false MAX_TOOLS (length (stage_texts text)) free.not_many;
+        spelled = found.1;
+      },
+    )
 
 pub spelled_chain_has_no_fault : (text : List ℕ) (tools : List Tool) → SpellsChain text tools → chain_fault_of text ≡ None
 spelled_chain_has_no_fault text tools h =
-    chain_fault_is text ∙ chain_fits (nat_lt MAX_TEXT_LENGTH (length text)) (list_all is_white text) (nat_lt MAX_TOOLS (length (stage_texts text))) (fault_from 1 (stage_texts text)) (record {
+    chain_fault_is text ∙ chain_fits (nat_lt MAX_TEXT_LENGTH (length text)) (list_all is_white text) (nat_lt MAX_TOOLS (length (stage_texts text)))
+    (fault_from 1 (stage_texts text)) (record {
       short = le-ltb MAX_TEXT_LENGTH (length text) h.short;
       not_blank = false_from_ne_true (list_all is_white text) (λ blank. blank_spells_nothing text tools blank h.spelled);
       not_many = le-ltb MAX_TOOLS (length (stage_texts text)) h.not_many;

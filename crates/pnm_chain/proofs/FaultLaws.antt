@@ -1,5 +1,6 @@
 -- The faults of chains' texts: each is of the whole text or of a stage by its number, and none is want of memory.
-use Rattle.std.proofs.Common.{◌≡◌, ◌≤◌, ◌<◌, inl, inr, ℕ, suc, ◌+◌, Bool, true, false, Option, Some, None, IfSome, List, [], ◌∷◌, ◌++◌, length, refl, sym, subst, arith}
+use Rattle.std.proofs.Common.{◌≡◌, ◌≤◌, ◌<◌, inl, inr, ℕ, suc, ◌+◌, Bool, true, false, Option, Some, None, IfSome, List, [], ◌∷◌, ◌++◌, length, refl, sym}
+use Rattle.std.proofs.Common.{subst, arith}
 use Rattle.std.specs.Prelude.{nat_le, nat_lt, ◌≢◌}
 use Rattle.std.specs.List.{list_all}
 use Rattle.std.proofs.lemmas.Bool.{ltb-false}
@@ -10,7 +11,8 @@ use Rattle.pnm_chain.specs.declared.chain_text.ChainKind.TheVariants.{Empty, Too
 use Rattle.pnm_chain.specs.declared.options.ToolName.{ToolName}
 use Rattle.pnm_chain.specs.declared.options.ToolOption.{ToolOption}
 use Rattle.pnm_chain.specs.Options.{tool_named, wants_value, takes_value, most_arguments, takes_argument}
-use Rattle.pnm_chain.specs.Items.{Item, Argument, Given, Unknown, items_of, arguments_of, is_there, value_fault, is_conflict, is_missing, item_fault, fault_after}
+use Rattle.pnm_chain.specs.Items.{Item, Argument, Given, Unknown, items_of, arguments_of, is_there, value_fault, is_conflict, is_missing, item_fault}
+use Rattle.pnm_chain.specs.Items.{fault_after}
 use Rattle.pnm_chain.specs.ChainText.{stage_texts, named_fault, words_fault, stage_fault, fault_from, chain_fault_of, is_of_stage, IsPlaced}
 use Rattle.pnm_chain.proofs.ItemLaws.{argument_by, option_by, value_by, missing_by, end_by, after_by, fault_after-cons, fault_after-nil}
 use Rattle.pnm_chain.proofs.ChainLaws.{from_by, fault_from-cons, fault_from-nil, chain_fault_by, chain_fault_is}
@@ -61,7 +63,8 @@ of_items : (tool : ToolName) (before items : List Item) → IsOfStage (fault_aft
 of_items tool before [] = subst IsOfStage (sym (fault_after-nil tool before)) (of_end (is_conflict tool before) (is_missing tool before))
 of_items tool before (item ∷ items) =
     subst IsOfStage (sym (fault_after-cons tool before item items))
-    (of_either (item_fault tool before item) (fault_after tool (before ++ item ∷ []) items) (of_item tool before item) (of_items tool (before ++ item ∷ []) items))
+    (of_either (item_fault tool before item) (fault_after tool (before ++ item ∷ []) items) (of_item tool before item)
+    (of_items tool (before ++ item ∷ []) items))
 
 of_named : (tool : Option ToolName) (others : List (List ℕ)) → IsOfStage (named_fault tool others)
 of_named None others = refl
@@ -81,7 +84,8 @@ within_more : (number count : ℕ) (fault : Option ChainFault) → IsWithin (suc
 within_more number count None h = cc
 within_more number count (Some fault) h = (h.0, omega arith, omega arith)
 
-of_stage : (number count : ℕ) (fault : Option ChainKind) (others : Option ChainFault) → IsOfStage fault → IsWithin (suc number) count others → IsWithin number (suc count) (from_by number fault others)
+of_stage : (number count : ℕ) (fault : Option ChainKind) (others : Option ChainFault) → IsOfStage fault → IsWithin (suc number) count others
+    → IsWithin number (suc count) (from_by number fault others)
 of_stage number count (Some kind) others h k = (h, omega arith, omega arith)
 of_stage number count None others h k = within_more number count others k
 
@@ -106,7 +110,8 @@ placed_within : (count : ℕ) (fault : Option ChainFault) → count ≤ MAX_TOOL
 placed_within count None few h = cc
 placed_within count (Some fault) few h = inl (h.0, h.1, omega arith)
 
-placed_by : (long blank many : Bool) (count : ℕ) (others : Option ChainFault) → (many ≡ false → count ≤ MAX_TOOLS) → IsWithin 1 count others → IfSome (chain_fault_by long blank many others) IsPlaced
+placed_by : (long blank many : Bool) (count : ℕ) (others : Option ChainFault) → (many ≡ false → count ≤ MAX_TOOLS) → IsWithin 1 count others
+    → IfSome (chain_fault_by long blank many others) IsPlaced
 placed_by true blank many count others few h = inr (refl, too_long_is_no_memory, refl)
 placed_by false true many count others few h = inr (refl, empty_is_no_memory, refl)
 placed_by false false true count others few h = inr (refl, too_many_is_no_memory, refl)
@@ -115,7 +120,8 @@ placed_by false false false count others few h = placed_within count others (few
 placed : (text : List ℕ) → IfSome (chain_fault_of text) IsPlaced
 placed text =
     subst (λ (fault : Option ChainFault). IfSome fault IsPlaced) (sym (chain_fault_is text))
-    (placed_by (nat_lt MAX_TEXT_LENGTH (length text)) (list_all is_white text) (nat_lt MAX_TOOLS (length (stage_texts text))) (length (stage_texts text)) (fault_from 1 (stage_texts text))
+    (placed_by (nat_lt MAX_TEXT_LENGTH (length text)) (list_all is_white text) (nat_lt MAX_TOOLS (length (stage_texts text))) (length (stage_texts text))
+    (fault_from 1 (stage_texts text))
     (λ e. ltb-false MAX_TOOLS (length (stage_texts text)) e) (of_stages 1 (stage_texts text)))
 
 pub chain_faults_are_placed : (text : List ℕ) (fault : ChainFault) → chain_fault_of text ≡ Some fault → IsPlaced fault

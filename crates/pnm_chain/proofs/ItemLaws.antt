@@ -1,5 +1,6 @@
 -- Items without a fault mean one tool, and items that mean a tool have no fault.
-use Rattle.std.proofs.Common.{◌≡◌, ◌≤◌, ℕ, ◌+◌, ◌==◌, ◌||◌, Bool, true, false, not, if◌then◌else◌, Option, Some, None, is_some, unwrap_or, List, [], ◌∷◌, ◌++◌, length, refl, sym, ap, subst, ◌∙◌, append-nil, append_assoc, arith}
+use Rattle.std.proofs.Common.{◌≡◌, ◌≤◌, ℕ, ◌+◌, ◌==◌, ◌||◌, Bool, true, false, not, if◌then◌else◌, Option, Some, None, is_some, unwrap_or, List, [], ◌∷◌, ◌++◌}
+use Rattle.std.proofs.Common.{length, refl, sym, ap, subst, ◌∙◌, append-nil, append_assoc, arith}
 use Rattle.std.specs.List.{AllByRecursion, IsDistinct}
 use Rattle.std.specs.Prelude.{nat_le}
 use Rattle.std.proofs.lemmas.List.{length-append}
@@ -13,7 +14,8 @@ use Rattle.pnm_chain.specs.declared.chain_text.ChainKind.TheVariants.{BadValue, 
 use Rattle.pnm_chain.specs.declared.options.ToolName.{ToolName}
 use Rattle.pnm_chain.specs.declared.options.ToolOption.{ToolOption}
 use Rattle.pnm_chain.specs.Options.{most_arguments, takes_argument, takes_value, wants_value, slot_of, excludes}
-use Rattle.pnm_chain.specs.Items.{Item, Argument, Given, Unknown, arguments_of, is_there, value_of, options_of, value_fault, IsFormed, is_conflict, is_missing, Means, meant_by, item_fault, end_fault, fault_after}
+use Rattle.pnm_chain.specs.Items.{Item, Argument, Given, Unknown, arguments_of, is_there, option_value, options_of, value_fault, IsFormed, is_conflict}
+use Rattle.pnm_chain.specs.Items.{is_missing, Means, meant_by, item_fault, end_fault, fault_after}
 
 -- ---- arguments of items that follow others
 
@@ -40,14 +42,15 @@ there_by : (same : Bool) (value : List ℕ) (others : Option (List ℕ)) → is_
 there_by true value others = refl
 there_by false value others = refl
 
-there_after : (option other : ToolOption) (value : Option (List ℕ)) (before : List Item) → is_there option (before ++ Given other value ∷ []) ≡ (is_there option before || excludes option other)
+there_after : (option other : ToolOption) (value : Option (List ℕ)) (before : List Item)
+    → is_there option (before ++ Given other value ∷ []) ≡ (is_there option before || excludes option other)
 there_after option other value [] = there_by (excludes option other) (unwrap_or value []) None ∙ or-false (excludes option other)
 there_after option other value (Argument word ∷ before) = there_after option other value before
 there_after option other value (Given third given ∷ before) =
-    there_by (excludes option third) (unwrap_or given []) (value_of option (before ++ Given other value ∷ []))
+    there_by (excludes option third) (unwrap_or given []) (option_value option (before ++ Given other value ∷ []))
     ∙ ap (λ (b : Bool). excludes option third || b) (there_after option other value before)
     ∙ sym (or_assoc (excludes option third) (is_there option before) (excludes option other))
-    ∙ ap (λ (b : Bool). b || excludes option other) (sym (there_by (excludes option third) (unwrap_or given []) (value_of option before)))
+    ∙ ap (λ (b : Bool). b || excludes option other) (sym (there_by (excludes option third) (unwrap_or given []) (option_value option before)))
 there_after option other value (Unknown ∷ before) = there_after option other value before
 
 turned : (a b : ℕ) → (a == b) ≡ (b == a)
@@ -69,35 +72,42 @@ parted other value before (option ∷ options) h =
     let rest = parted other value before options h.1 in
     ((both.0, rest.0), (same_turned other option ∙ both.1, rest.1))
 
-joined : (other : ToolOption) (value : Option (List ℕ)) (before : List Item) (options : List ToolOption) → NoneThere before options → AllByRecursion (λ option. excludes other option ≡ false) options
+joined : (other : ToolOption) (value : Option (List ℕ)) (before : List Item) (options : List ToolOption) → NoneThere before options
+    → AllByRecursion (λ option. excludes other option ≡ false) options
     → NoneThere (before ++ Given other value ∷ []) options
 joined other value before [] h k = cc
-joined other value before (option ∷ options) h k =
-    (there_after option other value before ∙ or_from (is_there option before) (excludes option other) h.0 (same_turned option other ∙ k.0), joined other value before options h.1 k.1)
+joined other value before (option ∷ options) h k = (
+  there_after option other value before ∙ or_from (is_there option before) (excludes option other) h.0 (same_turned option other ∙ k.0),
+  joined other value before options h.1 k.1,
+)
 
 not_there : (option : ToolOption) (item : Item) → options_of (item ∷ []) ≡ [] → is_there option (item ∷ []) ≡ false
 not_there option (Argument word) none = refl
 not_there option (Given other value) none = absurd cc
 not_there option Unknown none = refl
 
-others_there : (option : ToolOption) (item : Item) (before : List Item) → options_of (item ∷ []) ≡ [] → is_there option (before ++ item ∷ []) ≡ is_there option before
+others_there : (option : ToolOption) (item : Item) (before : List Item) → options_of (item ∷ []) ≡ []
+    → is_there option (before ++ item ∷ []) ≡ is_there option before
 others_there option item [] none = not_there option item none
 others_there option item (Argument word ∷ before) none = others_there option item before none
 others_there option item (Given other given ∷ before) none =
-    there_by (excludes option other) (unwrap_or given []) (value_of option (before ++ item ∷ []))
+    there_by (excludes option other) (unwrap_or given []) (option_value option (before ++ item ∷ []))
     ∙ ap (λ (b : Bool). excludes option other || b) (others_there option item before none)
-    ∙ sym (there_by (excludes option other) (unwrap_or given []) (value_of option before))
+    ∙ sym (there_by (excludes option other) (unwrap_or given []) (option_value option before))
 others_there option item (Unknown ∷ before) none = others_there option item before none
 
-same_there : (item : Item) (before : List Item) (options : List ToolOption) → options_of (item ∷ []) ≡ [] → NoneThere (before ++ item ∷ []) options → NoneThere before options
+same_there : (item : Item) (before : List Item) (options : List ToolOption) → options_of (item ∷ []) ≡ [] → NoneThere (before ++ item ∷ []) options
+    → NoneThere before options
 same_there item before [] none h = cc
 same_there item before (option ∷ options) none h = (sym (others_there option item before none) ∙ h.0, same_there item before options none h.1)
 
-still_there : (item : Item) (before : List Item) (options : List ToolOption) → options_of (item ∷ []) ≡ [] → NoneThere before options → NoneThere (before ++ item ∷ []) options
+still_there : (item : Item) (before : List Item) (options : List ToolOption) → options_of (item ∷ []) ≡ [] → NoneThere before options
+    → NoneThere (before ++ item ∷ []) options
 still_there item before [] none h = cc
 still_there item before (option ∷ options) none h = (others_there option item before none ∙ h.0, still_there item before options none h.1)
 
-distinct-head : (option : ToolOption) (options : List ToolOption) → IsDistinct excludes (option ∷ options) → AllByRecursion (λ other. excludes option other ≡ false) options × IsDistinct excludes options
+distinct-head : (option : ToolOption) (options : List ToolOption) → IsDistinct excludes (option ∷ options)
+    → AllByRecursion (λ other. excludes option other ≡ false) options × IsDistinct excludes options
 unfolding IsDistinct
 distinct-head option options h = h
 
@@ -121,10 +131,14 @@ new_are_distinct before (Unknown ∷ items) h =
 
 distinct_are_new : (before items : List Item) → NoneThere before (options_of items) → IsDistinct excludes (options_of items) → AreNewAfter before items
 distinct_are_new before [] h k = cc
-distinct_are_new before (Argument word ∷ items) h k = (refl, distinct_are_new (before ++ Argument word ∷ []) items (still_there (Argument word) before (options_of items) refl h) k)
+distinct_are_new before (Argument word ∷ items) h k =
+    (refl, distinct_are_new (before ++ Argument word ∷ []) items (still_there (Argument word) before (options_of items) refl h) k)
 distinct_are_new before (Given option value ∷ items) h k =
-    let parts = distinct-head option (options_of items) k in
-    (ap (λ (b : Bool). not b) h.0, distinct_are_new (before ++ Given option value ∷ []) items (joined option value before (options_of items) h.1 parts.0) parts.1)
+    let parts = distinct-head option (options_of items) k in (
+      ap (λ (b : Bool). not b) h.0,
+      distinct_are_new (before ++ Given option value ∷ []) items (joined option value before (options_of items) h.1 parts.0)
+          parts.1,
+    )
 distinct_are_new before (Unknown ∷ items) h k = (refl, distinct_are_new (before ++ Unknown ∷ []) items (still_there Unknown before (options_of items) refl h) k)
 
 none_there_yet : (options : List ToolOption) → NoneThere [] options
@@ -183,24 +197,33 @@ pub record FitsAfter (tool : ToolName) (before : List Item) (item : Item) : Type
   pub is_new_one : is_new before item ≡ true
   pub not_many : length (arguments_of (before ++ item ∷ [])) ≤ most_arguments tool
 
-no_more : (before : List Item) (words : List (List ℕ)) (item : Item) (most : ℕ) → arguments_of (item ∷ []) ≡ [] → length (arguments_of before) ≤ most → length (arguments_of (before ++ item ∷ [])) ≤ most
+no_more : (before : List Item) (words : List (List ℕ)) (item : Item) (most : ℕ) → arguments_of (item ∷ []) ≡ [] → length (arguments_of before) ≤ most
+    → length (arguments_of (before ++ item ∷ [])) ≤ most
 no_more before words item most none low =
-    subst (λ (args : List (List ℕ)). length args ≤ most) (sym (arguments_of-append before (item ∷ []) ∙ ap (λ (more : List (List ℕ)). arguments_of before ++ more) none ∙ append-nil (arguments_of before))) low
+    subst (λ (args : List (List ℕ)). length args ≤ most)
+    (sym (arguments_of-append before (item ∷ []) ∙ ap (λ (more : List (List ℕ)). arguments_of before ++ more) none ∙ append-nil (arguments_of before))) low
 
 one_more : (before : List Item) (word : List ℕ) → length (arguments_of (before ++ Argument word ∷ [])) ≡ length (arguments_of before) + 1
-one_more before word = ap (λ (args : List (List ℕ)). length args) (arguments_of-append before (Argument word ∷ [])) ∙ length-append (arguments_of before) (word ∷ [])
+one_more before word = ap (λ (args : List (List ℕ)). length args) (arguments_of-append before (Argument word ∷ []))
+    ∙ length-append (arguments_of before) (word ∷ [])
 
-pub fits : (tool : ToolName) (before : List Item) (item : Item) → item_fault tool before item ≡ None → length (arguments_of before) ≤ most_arguments tool → FitsAfter tool before item
+pub fits : (tool : ToolName) (before : List Item) (item : Item) → item_fault tool before item ≡ None → length (arguments_of before) ≤ most_arguments tool
+    → FitsAfter tool before item
 fits tool before (Argument word) e low =
     let free = argument_free (nat_le (most_arguments tool) (length (arguments_of before))) (takes_argument tool word) e in
     record {
       formed = free.1;
       is_new_one = refl;
-      not_many = subst (λ (n : ℕ). n ≤ most_arguments tool) (sym (one_more before word)) (omega (arith, leb-false (most_arguments tool) (length (arguments_of before)) free.0));
+      not_many = subst (λ (n : ℕ). n ≤ most_arguments tool) (sym (one_more before word))
+          (omega (arith, leb-false (most_arguments tool) (length (arguments_of before)) free.0));
     }
 fits tool before (Given option value) e low =
     let free = option_free (is_there option before) (value_fault option value) e in
-    record { formed = formed_value tool option value free.1; is_new_one = free.0; not_many = no_more before [] (Given option value) (most_arguments tool) refl low }
+    record {
+      formed = formed_value tool option value free.1;
+      is_new_one = free.0;
+      not_many = no_more before [] (Given option value) (most_arguments tool) refl low;
+    }
 fits tool before Unknown e low = absurd cc
 
 pub no_fault : (tool : ToolName) (before : List Item) (item : Item) → FitsAfter tool before item → item_fault tool before item ≡ None
@@ -208,7 +231,8 @@ no_fault tool before (Argument word) h =
     argument_fits (nat_le (most_arguments tool) (length (arguments_of before))) (takes_argument tool word)
     (lt-leb (most_arguments tool) (length (arguments_of before)) (omega (arith, subst (λ (n : ℕ). n ≤ most_arguments tool) (one_more before word) h.not_many)))
     h.formed
-no_fault tool before (Given option value) h = option_fits (is_there option before) (value_fault option value) h.is_new_one (value_has_no_fault tool option value h.formed)
+no_fault tool before (Given option value) h = option_fits (is_there option before) (value_fault option value) h.is_new_one
+    (value_has_no_fault tool option value h.formed)
 no_fault tool before Unknown h = absurd h.formed
 
 -- ---- items that follow others
@@ -229,7 +253,8 @@ after_free : (fault others : Option ChainKind) → after_by fault others ≡ Non
 after_free (Some kind) others e = absurd cc
 after_free None others e = (refl, e)
 
-pub fault_after-cons : (tool : ToolName) (before : List Item) (item : Item) (items : List Item) → fault_after tool before (item ∷ items) ≡ after_by (item_fault tool before item) (fault_after tool (before ++ item ∷ []) items)
+pub fault_after-cons : (tool : ToolName) (before : List Item) (item : Item) (items : List Item)
+    → fault_after tool before (item ∷ items) ≡ after_by (item_fault tool before item) (fault_after tool (before ++ item ∷ []) items)
 unfolding fault_after
 fault_after-cons tool before item items = refl
 
@@ -237,7 +262,8 @@ pub fault_after-nil : (tool : ToolName) (before : List Item) → fault_after too
 unfolding fault_after
 fault_after-nil tool before = refl
 
-pub fit : (tool : ToolName) (before items : List Item) → fault_after tool before items ≡ None → length (arguments_of before) ≤ most_arguments tool → FitAfter tool before items
+pub fit : (tool : ToolName) (before items : List Item) → fault_after tool before items ≡ None → length (arguments_of before) ≤ most_arguments tool
+    → FitAfter tool before items
 fit tool before [] e low =
     let all : before ++ [] ≡ before = append-nil before in
     record {
@@ -267,7 +293,8 @@ pub fit_fault : (tool : ToolName) (before items : List Item) → FitAfter tool b
 fit_fault tool before [] h = fault_after-nil tool before ∙ subst (λ (l : List Item). end_fault tool l ≡ None) (append-nil before) h.ended
 fit_fault tool before (item ∷ items) h =
     let all : before ++ item ∷ [] ++ items ≡ before ++ item ∷ items = append_assoc before (item ∷ []) items in
-    let many : length (arguments_of (before ++ item ∷ [] ++ items)) ≤ most_arguments tool = subst (λ (l : List Item). length (arguments_of l) ≤ most_arguments tool) (sym all) h.not_many in
+    let many : length (arguments_of (before ++ item ∷ [] ++ items)) ≤ most_arguments tool =
+    subst (λ (l : List Item). length (arguments_of l) ≤ most_arguments tool) (sym all) h.not_many in
     let least : length (arguments_of (before ++ item ∷ [])) ≤ length (arguments_of (before ++ item ∷ [] ++ items)) = fewer (before ++ item ∷ []) items in
     let one : item_fault tool before item ≡ None = no_fault tool before item (record { formed = h.formed.0; is_new_one = h.once.0; not_many = omega arith }) in
     let others : fault_after tool (before ++ item ∷ []) items ≡ None = fit_fault tool (before ++ item ∷ []) items (record {
@@ -297,8 +324,21 @@ pub items_mean : (tool : ToolName) (items : List Item) → fault_after tool [] i
 items_mean tool items e =
     let all = fit tool [] items e (omega arith) in
     let ended = end_free (is_conflict tool items) (is_missing tool items) all.ended in
-    record { formed = all.formed; once = (new_are_distinct [] items all.once).1; not_many = all.not_many; together = ended.0; enough = ended.1; meaning_is = refl }
+    record {
+      formed = all.formed;
+      once = (new_are_distinct [] items all.once).1;
+      not_many = all.not_many;
+      together = ended.0;
+      enough = ended.1;
+      meaning_is = refl;
+    }
 
 pub meaning_has_no_fault : (tool : ToolName) (items : List Item) (meaning : Tool) → Means tool items meaning → fault_after tool [] items ≡ None
 meaning_has_no_fault tool items meaning h =
-    fit_fault tool [] items (record { formed = h.formed; once = distinct_are_new [] items (none_there_yet (options_of items)) h.once; not_many = h.not_many; ended = end_fits (is_conflict tool items) (is_missing tool items) h.together h.enough })
+    fit_fault tool [] items
+    (record {
+      formed = h.formed;
+      once = distinct_are_new [] items (none_there_yet (options_of items)) h.once;
+      not_many = h.not_many;
+      ended = end_fits (is_conflict tool items) (is_missing tool items) h.together h.enough;
+    })

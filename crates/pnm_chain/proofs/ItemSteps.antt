@@ -1,5 +1,6 @@
 -- An option's word taken apart, and the item that words begin with.
-use Rattle.std.proofs.Common.{◌≡◌, ◌⊎◌, inl, inr, ℕ, ◌+◌, ◌-◌, ◌≤◌, ◌==◌, Bool, true, false, not, ◌&&◌, cond, if◌then◌else◌, Option, Some, None, is_some, List, [], ◌∷◌, length, take, drop, nat_eq, refl, sym, ap, ◌∙◌, arith}
+use Rattle.std.proofs.Common.{◌≡◌, ◌⊎◌, inl, inr, ℕ, ◌+◌, ◌-◌, ◌≤◌, ◌==◌, Bool, true, false, not, ◌&&◌, cond, if◌then◌else◌, Option, Some, None, is_some, List}
+use Rattle.std.proofs.Common.{[], ◌∷◌, length, take, drop, nat_eq, refl, sym, ap, ◌∙◌, arith}
 use Rattle.std.specs.Prelude.{nat_lt}
 use Rattle.std.specs.List.{list_any, position_or_len, position, before_first, after_first, starts_with}
 use Rattle.std.specs.Option.{option_or, option_map_or}
@@ -36,11 +37,13 @@ name_before text word at is found =
     let place = cond_some (nat_lt (position_or_len (λ b. b == 61) text) (length text)) (position_or_len (λ b. b == 61) text) at (sym found) in
     ap (λ (n : ℕ). take n text) (sym place.1) ∙ ap (before_first (λ b. b == 61)) is
 
-pub value_after : (text word : List ℕ) (at : ℕ) → text ≡ without_dashes word → Some at ≡ equals_place text → Some (take (length text - (at + 1)) (drop (at + 1) text)) ≡ value_in word
+pub value_after : (text word : List ℕ) (at : ℕ) → text ≡ without_dashes word → Some at ≡ equals_place text
+    → Some (take (length text - (at + 1)) (drop (at + 1) text)) ≡ value_in word
 value_after text word at is found =
     let place = cond_some (nat_lt (position_or_len (λ b. b == 61) text) (length text)) (position_or_len (λ b. b == 61) text) at (sym found) in
     let there = position-Some (λ b. b == 61) text at 0 (sym found) in
-    let all : take (length text - (at + 1)) (drop (at + 1) text) ≡ drop (at + 1) text = take_all (length text - (at + 1)) (drop (at + 1) text) (omega (arith, length-drop (at + 1) text)) in
+    let all : take (length text - (at + 1)) (drop (at + 1) text) ≡ drop (at + 1) text =
+    take_all (length text - (at + 1)) (drop (at + 1) text) (omega (arith, length-drop (at + 1) text)) in
     ap (λ (value : List ℕ). Some value) (all ∙ ap (λ (n : ℕ). drop (n + 1) text) (sym place.1))
     ∙ ap (λ (t : Bool). if t then Some (after_first (λ b. b == 61) text) else None) (sym (list_any_at (λ b. b == 61) text at 0 there.0 there.1))
     ∙ ap (λ (t : List ℕ). if list_any (λ b. b == 61) t then Some (after_first (λ b. b == 61) t) else None) is
@@ -48,12 +51,14 @@ value_after text word at is found =
 pub name_alone : (text word : List ℕ) → text ≡ without_dashes word → None ≡ equals_place text → text ≡ name_in word
 name_alone text word is found =
     let far = place_none (nat_lt (position_or_len (λ b. b == 61) text) (length text)) (position_or_len (λ b. b == 61) text) found in
-    sym (take_all (position_or_len (λ b. b == 61) text) text (ltb-false (position_or_len (λ b. b == 61) text) (length text) far)) ∙ ap (before_first (λ b. b == 61)) is
+    sym (take_all (position_or_len (λ b. b == 61) text) text (ltb-false (position_or_len (λ b. b == 61) text) (length text) far))
+    ∙ ap (before_first (λ b. b == 61)) is
 
 pub no_value : (text word : List ℕ) → text ≡ without_dashes word → None ≡ equals_place text → None ≡ value_in word
 no_value text word is found =
     let far = place_none (nat_lt (position_or_len (λ b. b == 61) text) (length text)) (position_or_len (λ b. b == 61) text) found in
-    ap (λ (t : Bool). if t then Some (after_first (λ b. b == 61) text) else None) (sym (none_passes (λ b. b == 61) text (ltb-false (position_or_len (λ b. b == 61) text) (length text) far)))
+    ap (λ (t : Bool). if t then Some (after_first (λ b. b == 61) text) else None)
+    (sym (none_passes (λ b. b == 61) text (ltb-false (position_or_len (λ b. b == 61) text) (length text) far)))
     ∙ ap (λ (t : List ℕ). if list_any (λ b. b == 61) t then Some (after_first (λ b. b == 61) t) else None) is
 
 -- ---- the item that words begin with
@@ -70,21 +75,26 @@ abbrev items_by : Bool → Item → List Item → Item → List Item → List It
 items_by takes long after_both short after_one = if takes then long ∷ after_both else short ∷ after_one
 
 items_of-two : (tool : ToolName) (word next : List ℕ) (words : List (List ℕ))
-    → items_of tool (word ∷ next ∷ words) ≡ items_by (takes_next tool word) (item_of tool word (Some next)) (items_of tool words) (item_of tool word None) (items_of tool (next ∷ words))
+    → items_of tool (word ∷ next ∷ words) ≡ items_by (takes_next tool word) (item_of tool word (Some next)) (items_of tool words) (item_of tool word None)
+    (items_of tool (next ∷ words))
 unfolding items_of
 items_of-two tool word next words = refl
 
 -- a word that takes no other, or that none follows
-alone : (tool : ToolName) (word : List ℕ) (words : List (List ℕ)) → (takes_next tool word ≡ false) ⊎ (words ≡ []) → items_of tool (word ∷ words) ≡ item_of tool word None ∷ items_of tool words
+alone : (tool : ToolName) (word : List ℕ) (words : List (List ℕ)) → (takes_next tool word ≡ false) ⊎ (words ≡ [])
+    → items_of tool (word ∷ words) ≡ item_of tool word None ∷ items_of tool words
 alone tool word [] h = items_of-one tool word ∙ ap (λ (items : List Item). item_of tool word None ∷ items) (sym (items_of-nil tool))
 alone tool word (next ∷ words) (inl e) =
-    items_of-two tool word next words ∙ ap (λ (takes : Bool). items_by takes (item_of tool word (Some next)) (items_of tool words) (item_of tool word None) (items_of tool (next ∷ words))) e
+    items_of-two tool word next words
+    ∙ ap (λ (takes : Bool). items_by takes (item_of tool word (Some next)) (items_of tool words) (item_of tool word None) (items_of tool (next ∷ words))) e
 alone tool word (next ∷ words) (inr e) = absurd cc
 
 -- a word that takes the next
-with_next : (tool : ToolName) (word next : List ℕ) (words : List (List ℕ)) → takes_next tool word ≡ true → items_of tool (word ∷ next ∷ words) ≡ item_of tool word (Some next) ∷ items_of tool words
+with_next : (tool : ToolName) (word next : List ℕ) (words : List (List ℕ)) → takes_next tool word ≡ true
+    → items_of tool (word ∷ next ∷ words) ≡ item_of tool word (Some next) ∷ items_of tool words
 with_next tool word next words e =
-    items_of-two tool word next words ∙ ap (λ (takes : Bool). items_by takes (item_of tool word (Some next)) (items_of tool words) (item_of tool word None) (items_of tool (next ∷ words))) e
+    items_of-two tool word next words
+    ∙ ap (λ (takes : Bool). items_by takes (item_of tool word (Some next)) (items_of tool words) (item_of tool word None) (items_of tool (next ∷ words))) e
 
 -- ---- kinds of words
 
@@ -101,7 +111,8 @@ pub record IsOptionWord (tool : ToolName) (word : List ℕ) (option : Option Too
 abbrev takes_by : Bool → Option ToolOption → Option (List ℕ) → Bool
 takes_by begins option value = begins && (option_map_or wants_value option false && not (is_some value))
 
-takes_next_is : (tool : ToolName) (word : List ℕ) (option : Option ToolOption) (value : Option (List ℕ)) → IsOptionWord tool word option value → takes_next tool word ≡ takes_by true option value
+takes_next_is : (tool : ToolName) (word : List ℕ) (option : Option ToolOption) (value : Option (List ℕ)) → IsOptionWord tool word option value
+    → takes_next tool word ≡ takes_by true option value
 takes_next_is tool word option value h =
     ap (λ (begins : Bool). takes_by begins (option_named tool (name_in word)) (value_in word)) h.begins
     ∙ ap (λ (o : Option ToolOption). takes_by true o (value_in word)) h.named
@@ -110,7 +121,8 @@ takes_next_is tool word option value h =
 abbrev item_by : Bool → List ℕ → Option ToolOption → Option (List ℕ) → Option (List ℕ) → Item
 item_by begins word option value next = if begins then given_as option (option_or value next) else Argument word
 
-item_is : (tool : ToolName) (word : List ℕ) (option : Option ToolOption) (value next : Option (List ℕ)) → IsOptionWord tool word option value → item_of tool word next ≡ given_as option (option_or value next)
+item_is : (tool : ToolName) (word : List ℕ) (option : Option ToolOption) (value next : Option (List ℕ)) → IsOptionWord tool word option value
+    → item_of tool word next ≡ given_as option (option_or value next)
 item_is tool word option value next h =
     ap (λ (begins : Bool). item_by begins word (option_named tool (name_in word)) (value_in word) next) h.begins
     ∙ ap (λ (o : Option ToolOption). item_by true word o (value_in word) next) h.named
@@ -118,7 +130,8 @@ item_is tool word option value next h =
 
 -- an option's word, by what was found in it
 pub option_word : (tool : ToolName) (word name : List ℕ) (option : Option ToolOption) (value : Option (List ℕ)) (starts : Bool)
-    → starts ≡ starts_with nat_eq word (45 ∷ []) → starts ≡ true → name ≡ name_in word → option ≡ option_named tool name → value ≡ value_in word → IsOptionWord tool word option value
+    → starts ≡ starts_with nat_eq word (45 ∷ []) → starts ≡ true → name ≡ name_in word → option ≡ option_named tool name → value ≡ value_in word
+    → IsOptionWord tool word option value
 option_word tool word name option value starts tested begins is named valued = record {
   begins = sym (starts_with_dash word) ∙ sym tested ∙ begins;
   named = sym (named ∙ ap (option_named tool) is);
@@ -143,7 +156,8 @@ unknown_first tool word value found others is h =
     ∙ ap (λ (item : Item). item ∷ items_of tool others) (item_is tool word None value None h)
 
 pub next_value_first : (tool : ToolName) (word next : List ℕ) (option : ToolOption) (value : Option (List ℕ)) (found others after : List (List ℕ))
-    → found ≡ word ∷ others → others ≡ next ∷ after → IsOptionWord tool word (Some option) value → is_some value ≡ false → wants_value option ≡ true → items_of tool found ≡ Given option (Some next) ∷ items_of tool after
+    → found ≡ word ∷ others → others ≡ next ∷ after → IsOptionWord tool word (Some option) value → is_some value ≡ false → wants_value option ≡ true
+    → items_of tool found ≡ Given option (Some next) ∷ items_of tool after
 next_value_first tool word next option None found others after is goes_on h none wants =
     ap (items_of tool) (is ∙ ap (λ (l : List (List ℕ)). word ∷ l) goes_on)
     ∙ with_next tool word next after (takes_next_is tool word (Some option) None h ∙ ap (λ (w : Bool). w && true) wants)
@@ -154,9 +168,12 @@ next_value_first tool word next option (Some value) found others after is goes_o
 abbrev pub HasNoNext : ToolOption → Option (List ℕ) → List (List ℕ) → Type 0
 HasNoNext option value others = (is_some value ≡ true) ⊎ (wants_value option ≡ false) ⊎ (others ≡ [])
 
-takes_none : (tool : ToolName) (word : List ℕ) (option : ToolOption) (value : Option (List ℕ)) (others : List (List ℕ)) → IsOptionWord tool word (Some option) value → HasNoNext option value others → (takes_next tool word ≡ false) ⊎ (others ≡ [])
-takes_none tool word option value others h (inl some) = inl (takes_next_is tool word (Some option) value h ∙ and_right (wants_value option) (not (is_some value)) (not_from_true (is_some value) some))
-takes_none tool word option value others h (inr (inl wants)) = inl (takes_next_is tool word (Some option) value h ∙ ap (λ (w : Bool). w && not (is_some value)) wants)
+takes_none : (tool : ToolName) (word : List ℕ) (option : ToolOption) (value : Option (List ℕ)) (others : List (List ℕ))
+    → IsOptionWord tool word (Some option) value → HasNoNext option value others → (takes_next tool word ≡ false) ⊎ (others ≡ [])
+takes_none tool word option value others h (inl some) =
+    inl (takes_next_is tool word (Some option) value h ∙ and_right (wants_value option) (not (is_some value)) (not_from_true (is_some value) some))
+takes_none tool word option value others h (inr (inl wants)) =
+    inl (takes_next_is tool word (Some option) value h ∙ ap (λ (w : Bool). w && not (is_some value)) wants)
 takes_none tool word option value others h (inr (inr none)) = inr none
 
 pub or_none : {T : Type 0} (one : Option T) → option_or one None ≡ one
@@ -164,11 +181,13 @@ or_none None = refl
 or_none (Some x) = refl
 
 pub own_value_first : (tool : ToolName) (word : List ℕ) (option : ToolOption) (value : Option (List ℕ)) (found others : List (List ℕ))
-    → found ≡ word ∷ others → IsOptionWord tool word (Some option) value → HasNoNext option value others → items_of tool found ≡ Given option value ∷ items_of tool others
+    → found ≡ word ∷ others → IsOptionWord tool word (Some option) value → HasNoNext option value others
+    → items_of tool found ≡ Given option value ∷ items_of tool others
 own_value_first tool word option value found others is h no_next =
     ap (items_of tool) is
     ∙ alone tool word others (takes_none tool word option value others h no_next)
-    ∙ ap (λ (item : Item). item ∷ items_of tool others) (item_is tool word (Some option) value None h ∙ ap (λ (v : Option (List ℕ)). Given option v) (or_none value))
+    ∙ ap (λ (item : Item). item ∷ items_of tool others) (item_is tool word (Some option) value None h
+    ∙ ap (λ (v : Option (List ℕ)). Given option v) (or_none value))
 
 -- ---- a value as it was read
 

@@ -1,5 +1,6 @@
 -- The tools that a text spells are a chain that can be run: 1 to MAX_TOOLS, with options in their ranges.
-use Rattle.std.proofs.Common.{◌≡◌, ◌≤◌, ℕ, zero, suc, ◌+◌, ◌-◌, ◌==◌, ◌&&◌, Bool, true, false, not, if◌then◌else◌, ℤ, pos, Option, Some, None, is_some, option_map, unwrap_or, IfSome, IsSome, List, [], ◌∷◌, length, map, drop, refl, sym, ap, subst, ◌∙◌, arith}
+use Rattle.std.proofs.Common.{◌≡◌, ◌≤◌, ℕ, zero, suc, ◌+◌, ◌-◌, ◌==◌, ◌&&◌, Bool, true, false, not, if◌then◌else◌, ℤ, pos, Option, Some, None, is_some}
+use Rattle.std.proofs.Common.{option_map, unwrap_or, IfSome, IsSome, List, [], ◌∷◌, length, map, drop, refl, sym, ap, subst, ◌∙◌, arith}
 use Rattle.std.specs.Prelude.{◌≢◌, nat_le, nat_lt, slice_index, slice_index_or, neg_ℤ, unsigned_abs, All}
 use Rattle.std.specs.Option.{option_or}
 use Rattle.std.specs.List.{AllByRecursion, list_all, list_any, after_first, position_or_len}
@@ -20,8 +21,10 @@ use Rattle.pnm_chain.specs.declared.options.ToolName.{ToolName}
 use Rattle.pnm_chain.specs.declared.options.ToolName.TheVariants.{Invert, Cut, Depth, Channel, Enlarge, Flip, Tile}
 use Rattle.pnm_chain.specs.declared.options.ToolOption.{ToolOption}
 use Rattle.pnm_chain.specs.declared.options.ToolOption.TheVariants.{Left, Right, Top, Bottom, Width, Height, TupleType, XScale, YScale, Way}
-use Rattle.pnm_chain.specs.Options.{option_named, wants_value, takes_value, slot_of, excludes, takes_argument, most_arguments, is_numeral, spells_number, spells_offset, offset_value, begins_with_dash, without_dash}
-use Rattle.pnm_chain.specs.Items.{Item, Argument, Given, Unknown, without_dashes, name_in, value_in, takes_next, given_as, item_of, items_of, arguments_of, value_of, is_there, factor_by, meant_by, IsFormed, is_conflict, is_missing}
+use Rattle.pnm_chain.specs.Options.{option_named, wants_value, takes_value, slot_of, excludes, takes_argument, most_arguments, is_numeral, spells_number}
+use Rattle.pnm_chain.specs.Options.{spells_offset, offset_value, begins_with_dash, without_dash}
+use Rattle.pnm_chain.specs.Items.{Item, Argument, Given, Unknown, without_dashes, name_in, value_in, takes_next, given_as, item_of, items_of, arguments_of}
+use Rattle.pnm_chain.specs.Items.{option_value, is_there, factor_by, meant_by, IsFormed, is_conflict, is_missing}
 use Rattle.pnm_chain.specs.ChainText.{SpellsTool, SpellTools, SpellsChain, stage_texts}
 use Rattle.pnm_tools.specs.declared.limits.TheConstants.{MAX_EXTENT, MAX_TOOLS}
 
@@ -64,25 +67,29 @@ same_option one other wants e =
 
 -- ---- values of formed items
 
-taken_value : (tool : ToolName) (option : ToolOption) (value : Option (List ℕ)) → wants_value option ≡ true → IsFormed tool (Given option value) → takes_value option (unwrap_or value []) ≡ true
+taken_value : (tool : ToolName) (option : ToolOption) (value : Option (List ℕ)) → wants_value option ≡ true → IsFormed tool (Given option value)
+    → takes_value option (unwrap_or value []) ≡ true
 taken_value tool option None wants e = absurd (both_ways (wants_value option) e wants)
 taken_value tool option (Some word) wants e = e
 
-given_value : (tool : ToolName) (option other : ToolOption) (value : Option (List ℕ)) (rest : Option (List ℕ)) (same : Bool) → excludes option other ≡ same → wants_value option ≡ true → IsFormed tool (Given other value)
+given_value : (tool : ToolName) (option other : ToolOption) (value : Option (List ℕ)) (rest : Option (List ℕ)) (same : Bool) → excludes option other ≡ same
+    → wants_value option ≡ true → IsFormed tool (Given other value)
     → IfSome rest (λ word. takes_value option word ≡ true) → IfSome (if same then Some (unwrap_or value []) else rest) (λ word. takes_value option word ≡ true)
 given_value tool option other value rest true is wants e others =
     let equal : option ≡ other = same_option option other wants is in
     taken_value tool option value wants (subst (λ (o : ToolOption). IsFormed tool (Given o value)) (sym equal) e)
 given_value tool option other value rest false is wants e others = others
 
-values_taken : (tool : ToolName) (option : ToolOption) (items : List Item) → wants_value option ≡ true → AllByRecursion (IsFormed tool) items → IfSome (value_of option items) (λ word. takes_value option word ≡ true)
+values_taken : (tool : ToolName) (option : ToolOption) (items : List Item) → wants_value option ≡ true → AllByRecursion (IsFormed tool) items
+    → IfSome (option_value option items) (λ word. takes_value option word ≡ true)
 values_taken tool option [] wants formed = cc
 values_taken tool option (Argument word ∷ items) wants formed = values_taken tool option items wants formed.1
 values_taken tool option (Given other value ∷ items) wants formed =
-    given_value tool option other value (value_of option items) (excludes option other) refl wants formed.0 (values_taken tool option items wants formed.1)
+    given_value tool option other value (option_value option items) (excludes option other) refl wants formed.0 (values_taken tool option items wants formed.1)
 values_taken tool option (Unknown ∷ items) wants formed = values_taken tool option items wants formed.1
 
-arguments_taken : (tool : ToolName) (items : List Item) → AllByRecursion (IsFormed tool) items → AllByRecursion (λ word. takes_argument tool word ≡ true) (arguments_of items)
+arguments_taken : (tool : ToolName) (items : List Item) → AllByRecursion (IsFormed tool) items
+    → AllByRecursion (λ word. takes_argument tool word ≡ true) (arguments_of items)
 arguments_taken tool [] formed = cc
 arguments_taken tool (Argument word ∷ items) formed = (formed.0, arguments_taken tool items formed.1)
 arguments_taken tool (Given option value ∷ items) formed = arguments_taken tool items formed.1
@@ -104,19 +111,22 @@ abs_offset : (dash : Bool) (n : ℕ) → unsigned_abs (if dash then neg_ℤ (pos
 abs_offset true n = abs_neg n
 abs_offset false n = refl
 
-offset_by_dash : (dash : Bool) (b : ℕ) (word : List ℕ) → (if dash then neg_ℤ (pos (decimal_value (if dash then word else b ∷ word))) else pos (decimal_value (b ∷ word)))
+offset_by_dash : (dash : Bool) (b : ℕ) (word : List ℕ)
+    → (if dash then neg_ℤ (pos (decimal_value (if dash then word else b ∷ word))) else pos (decimal_value (b ∷ word)))
     ≡ (if dash then neg_ℤ (pos (decimal_value (if dash then word else b ∷ word))) else pos (decimal_value (if dash then word else b ∷ word)))
 offset_by_dash true b word = refl
 offset_by_dash false b word = refl
 
-offset_by : (word : List ℕ) → offset_value word ≡ (if begins_with_dash word then neg_ℤ (pos (decimal_value (without_dash word))) else pos (decimal_value (without_dash word)))
+offset_by : (word : List ℕ)
+    → offset_value word ≡ (if begins_with_dash word then neg_ℤ (pos (decimal_value (without_dash word))) else pos (decimal_value (without_dash word)))
 offset_by [] = refl
 offset_by (b ∷ word) = offset_by_dash (b == 45) b word
 
 edge_in_range : (word : List ℕ) → spells_offset word ≡ true → IsEdge (offset_value word)
 edge_in_range word e =
     let range = in_range 0 MAX_EXTENT (without_dash word) e in
-    let size : unsigned_abs (offset_value word) ≡ decimal_value (without_dash word) = ap (λ (z : ℤ). unsigned_abs z) (offset_by word) ∙ abs_offset (begins_with_dash word) (decimal_value (without_dash word)) in
+    let size : unsigned_abs (offset_value word) ≡ decimal_value (without_dash word) = ap (λ (z : ℤ). unsigned_abs z) (offset_by word)
+    ∙ abs_offset (begins_with_dash word) (decimal_value (without_dash word)) in
     subst (λ (n : ℕ). n ≤ MAX_EXTENT) (sym size) range.1
 
 -- ---- pamcut
@@ -129,15 +139,19 @@ some_size : (o : Option (List ℕ)) → IfSome o (λ word. spells_number 1 MAX_E
 some_size None h = h
 some_size (Some word) h = in_range 1 MAX_EXTENT word h
 
-not_three : (start end size : Option (List ℕ)) → (is_some start && (is_some end && is_some size)) ≡ false → IsSome (option_map offset_value start) × IsSome (option_map offset_value end) × IsSome (option_map decimal_value size) → ⊥
+not_three : (start end size : Option (List ℕ)) → (is_some start && (is_some end && is_some size)) ≡ false → IsSome (option_map offset_value start)
+    × IsSome (option_map offset_value end) × IsSome (option_map decimal_value size) → ⊥
 not_three None end size e h = false≢true h.0
 not_three (Some start) None size e h = false≢true h.1
 not_three (Some start) (Some end) None e h = false≢true h.2
 not_three (Some start) (Some end) (Some size) e h = absurd cc
 
-axis : (start end size : Option (List ℕ)) → IfSome start (λ word. spells_offset word ≡ true) → IfSome end (λ word. spells_offset word ≡ true) → IfSome size (λ word. spells_number 1 MAX_EXTENT word ≡ true)
-    → (is_some start && (is_some end && is_some size)) ≡ false → IsLawfulAxis (option_map offset_value start) (option_map offset_value end) (option_map decimal_value size)
-axis start end size s e z three = record { start_edge = some_edge start s; end_edge = some_edge end e; one_size = some_size size z; one_free = λ h. not_three start end size three h }
+axis : (start end size : Option (List ℕ)) → IfSome start (λ word. spells_offset word ≡ true) → IfSome end (λ word. spells_offset word ≡ true)
+    → IfSome size (λ word. spells_number 1 MAX_EXTENT word ≡ true)
+    → (is_some start && (is_some end && is_some size)) ≡ false → IsLawfulAxis (option_map offset_value start) (option_map offset_value end)
+    (option_map decimal_value size)
+axis start end size s e z three =
+    record { start_edge = some_edge start s; end_edge = some_edge end e; one_size = some_size size z; one_free = λ h. not_three start end size three h }
 
 -- ---- arguments
 
@@ -159,14 +173,18 @@ second_of_two (word ∷ other ∷ args) all e = in_range 1 MAX_EXTENT other all.
 
 planes_in_range : (args : List (List ℕ)) → AllByRecursion (λ word. spells_number 0 255 word ≡ true) args → All (λ number. number ≤ 255) (map decimal_value args)
 planes_in_range [] all = All-nil (λ number. number ≤ 255)
-planes_in_range (word ∷ args) all = All-cons (λ number. number ≤ 255) (decimal_value word) (map decimal_value args) (in_range 0 255 word all.0).1 (planes_in_range args all.1)
+planes_in_range (word ∷ args) all = All-cons (λ number. number ≤ 255) (decimal_value word) (map decimal_value args) (in_range 0 255 word all.0).1
+    (planes_in_range args all.1)
 
-scale_in_range : (scale : Option (List ℕ)) → IfSome scale (λ word. spells_number 1 MAX_EXTENT word ≡ true) → (1 ≤ unwrap_or (option_map decimal_value scale) 1) × (unwrap_or (option_map decimal_value scale) 1 ≤ MAX_EXTENT)
+scale_in_range : (scale : Option (List ℕ)) → IfSome scale (λ word. spells_number 1 MAX_EXTENT word ≡ true) → (1 ≤ unwrap_or (option_map decimal_value scale) 1)
+    × (unwrap_or (option_map decimal_value scale) 1 ≤ MAX_EXTENT)
 scale_in_range None h = (omega arith, omega arith)
 scale_in_range (Some word) h = in_range 1 MAX_EXTENT word h
 
-factor_in_range : (args : List (List ℕ)) (scale : Option (List ℕ)) → AllByRecursion (λ word. spells_number 1 MAX_EXTENT word ≡ true) args → IfSome scale (λ word. spells_number 1 MAX_EXTENT word ≡ true)
-    → (1 ≤ factor_by (map decimal_value args) (option_map decimal_value scale)) × (factor_by (map decimal_value args) (option_map decimal_value scale) ≤ MAX_EXTENT)
+factor_in_range : (args : List (List ℕ)) (scale : Option (List ℕ)) → AllByRecursion (λ word. spells_number 1 MAX_EXTENT word ≡ true) args
+    → IfSome scale (λ word. spells_number 1 MAX_EXTENT word ≡ true)
+    → (1 ≤ factor_by (map decimal_value args) (option_map decimal_value scale))
+    × (factor_by (map decimal_value args) (option_map decimal_value scale) ≤ MAX_EXTENT)
 factor_in_range [] scale all h = scale_in_range scale h
 factor_in_range (word ∷ args) scale all h = in_range 1 MAX_EXTENT word all.0
 
@@ -193,12 +211,13 @@ by_byte false false b others e h = (and_from (not (is_white b)) true (black b fa
 
 words_have_no_white : (text : List ℕ) → AreWords (words text)
 words_have_no_white [] = subst AreWords (sym words-nil) cc
-words_have_no_white (b ∷ text) = subst AreWords (sym (words-cons b text)) (by_byte (is_white b) (begins_in_word text) b (words text) refl (words_have_no_white text))
+words_have_no_white (b ∷ text) =
+    subst AreWords (sym (words-cons b text)) (by_byte (is_white b) (begins_in_word text) b (words text) refl (words_have_no_white text))
 
-without_front : (n : ℕ) (word : List ℕ) → no_white word ≡ true → no_white (drop n word) ≡ true
-without_front zero word e = e
-without_front (suc n) [] e = refl
-without_front (suc n) (b ∷ word) e = without_front n word (and_parts (not (is_white b)) (no_white word) e).1
+without_prefix : (n : ℕ) (word : List ℕ) → no_white word ≡ true → no_white (drop n word) ≡ true
+without_prefix zero word e = e
+without_prefix (suc n) [] e = refl
+without_prefix (suc n) (b ∷ word) e = without_prefix n word (and_parts (not (is_white b)) (no_white word) e).1
 
 dash_by : (dash : Bool) (b : ℕ) (word : List ℕ) → no_white (b ∷ word) ≡ true → no_white (if dash then word else b ∷ word) ≡ true
 dash_by true b word e = (and_parts (not (is_white b)) (no_white word) e).1
@@ -208,8 +227,9 @@ undashed : (word : List ℕ) → no_white word ≡ true → no_white (without_da
 undashed [] e = refl
 undashed (b ∷ word) e = dash_by (b == 45) b word e
 
-value_by : (any : Bool) (word : List ℕ) → no_white word ≡ true → IfSome (if any then Some (after_first (λ b. b == 61) word) else None) (λ value. no_white value ≡ true)
-value_by true word e = without_front (position_or_len (λ b. b == 61) word + 1) word e
+value_by : (any : Bool) (word : List ℕ) → no_white word ≡ true
+    → IfSome (if any then Some (after_first (λ b. b == 61) word) else None) (λ value. no_white value ≡ true)
+value_by true word e = without_prefix (position_or_len (λ b. b == 61) word + 1) word e
 value_by false word e = cc
 
 value_has_no_white : (word : List ℕ) → no_white word ≡ true → IfSome (value_in word) (λ value. no_white value ≡ true)
@@ -222,7 +242,8 @@ HasNoWhite (Argument word) = no_white word ≡ true
 HasNoWhite (Given option value) = IfSome value (λ word. no_white word ≡ true)
 HasNoWhite Unknown = Unit {0}
 
-among : (value next : Option (List ℕ)) → IfSome value (λ word. no_white word ≡ true) → IfSome next (λ word. no_white word ≡ true) → IfSome (option_or value next) (λ word. no_white word ≡ true)
+among : (value next : Option (List ℕ)) → IfSome value (λ word. no_white word ≡ true) → IfSome next (λ word. no_white word ≡ true)
+    → IfSome (option_or value next) (λ word. no_white word ≡ true)
 among None next h k = k
 among (Some value) next h k = h
 
@@ -230,18 +251,22 @@ given_clear : (option : Option ToolOption) (value : Option (List ℕ)) → IfSom
 given_clear None value h = cc
 given_clear (Some option) value h = h
 
-item_by : (dash : Bool) (option : Option ToolOption) (value : Option (List ℕ)) (word : List ℕ) → no_white word ≡ true → IfSome value (λ w. no_white w ≡ true) → HasNoWhite (if dash then given_as option value else Argument word)
+item_by : (dash : Bool) (option : Option ToolOption) (value : Option (List ℕ)) (word : List ℕ) → no_white word ≡ true → IfSome value (λ w. no_white w ≡ true)
+    → HasNoWhite (if dash then given_as option value else Argument word)
 item_by true option value word e h = given_clear option value h
 item_by false option value word e h = e
 
-item_clear : (tool : ToolName) (word : List ℕ) (next : Option (List ℕ)) → no_white word ≡ true → IfSome next (λ w. no_white w ≡ true) → HasNoWhite (item_of tool word next)
-item_clear tool word next e h = item_by (begins_with_dash word) (option_named tool (name_in word)) (option_or (value_in word) next) word e (among (value_in word) next (value_has_no_white word e) h)
+item_clear : (tool : ToolName) (word : List ℕ) (next : Option (List ℕ)) → no_white word ≡ true → IfSome next (λ w. no_white w ≡ true)
+    → HasNoWhite (item_of tool word next)
+item_clear tool word next e h = item_by (begins_with_dash word) (option_named tool (name_in word)) (option_or (value_in word) next) word e
+    (among (value_in word) next (value_has_no_white word e) h)
 
 abbrev items_by : Bool → ToolName → List ℕ → List ℕ → List Item → List Item → List Item
 items_by takes tool word next after_next after_word = if takes then item_of tool word (Some next) ∷ after_next else item_of tool word None ∷ after_word
 
 items_clear_by : (takes : Bool) (tool : ToolName) (word next : List ℕ) (after_next after_word : List Item) → no_white word ≡ true → no_white next ≡ true
-    → AllByRecursion HasNoWhite after_next → AllByRecursion HasNoWhite after_word → AllByRecursion HasNoWhite (items_by takes tool word next after_next after_word)
+    → AllByRecursion HasNoWhite after_next → AllByRecursion HasNoWhite after_word
+    → AllByRecursion HasNoWhite (items_by takes tool word next after_next after_word)
 items_clear_by true tool word next after_next after_word e f h k = (item_clear tool word (Some next) e f, h)
 items_clear_by false tool word next after_next after_word e f h k = (item_clear tool word None e cc, k)
 
@@ -250,20 +275,22 @@ unfolding items_of
 items_clear tool [] h = cc
 items_clear tool (word ∷ []) h = (item_clear tool word None h.0 cc, cc)
 items_clear tool (word ∷ next ∷ found) h =
-    items_clear_by (takes_next tool word) tool word next (items_of tool found) (items_of tool (next ∷ found)) h.0 h.1.0 (items_clear tool found h.1.1) (items_clear tool (next ∷ found) h.1)
+    items_clear_by (takes_next tool word) tool word next (items_of tool found) (items_of tool (next ∷ found)) h.0 h.1.0 (items_clear tool found h.1.1)
+    (items_clear tool (next ∷ found) h.1)
 
 clear_value : (value : Option (List ℕ)) → IfSome value (λ word. no_white word ≡ true) → no_white (unwrap_or value []) ≡ true
 clear_value None h = refl
 clear_value (Some word) h = h
 
-clear_by : (same : Bool) (value rest : Option (List ℕ)) → IfSome value (λ word. no_white word ≡ true) → IfSome rest (λ word. no_white word ≡ true) → IfSome (if same then Some (unwrap_or value []) else rest) (λ word. no_white word ≡ true)
+clear_by : (same : Bool) (value rest : Option (List ℕ)) → IfSome value (λ word. no_white word ≡ true) → IfSome rest (λ word. no_white word ≡ true)
+    → IfSome (if same then Some (unwrap_or value []) else rest) (λ word. no_white word ≡ true)
 clear_by true value rest h k = clear_value value h
 clear_by false value rest h k = k
 
-value_clear : (option : ToolOption) (items : List Item) → AllByRecursion HasNoWhite items → IfSome (value_of option items) (λ word. no_white word ≡ true)
+value_clear : (option : ToolOption) (items : List Item) → AllByRecursion HasNoWhite items → IfSome (option_value option items) (λ word. no_white word ≡ true)
 value_clear option [] h = cc
 value_clear option (Argument word ∷ items) h = value_clear option items h.1
-value_clear option (Given other value ∷ items) h = clear_by (excludes option other) value (value_of option items) h.0 (value_clear option items h.1)
+value_clear option (Given other value ∷ items) h = clear_by (excludes option other) value (option_value option items) h.0 (value_clear option items h.1)
 value_clear option (Unknown ∷ items) h = value_clear option items h.1
 
 -- ---- a tuple type
@@ -290,31 +317,36 @@ is_tuple_type word e short =
       last = λ some. no_blank (slice_index word (length word - 1)) (all (length word - 1) 0 (omega arith));
     }
 
-some_tuple_type : (value : Option (List ℕ)) → IfSome value (λ word. takes_value TupleType word ≡ true) → IfSome value (λ word. no_white word ≡ true) → IsTupleType (unwrap_or value [])
+some_tuple_type : (value : Option (List ℕ)) → IfSome value (λ word. takes_value TupleType word ≡ true) → IfSome value (λ word. no_white word ≡ true)
+    → IsTupleType (unwrap_or value [])
 some_tuple_type None h k = is_tuple_type [] refl (omega arith)
 some_tuple_type (Some word) h k = is_tuple_type word k (leb-true (length word) 255 h)
 
 -- ---- a tool
 
-lawful : (tool : ToolName) (items : List Item) → AllByRecursion HasNoWhite items → AllByRecursion (IsFormed tool) items → length (arguments_of items) ≤ most_arguments tool
+lawful : (tool : ToolName) (items : List Item) → AllByRecursion HasNoWhite items → AllByRecursion (IsFormed tool) items
+    → length (arguments_of items) ≤ most_arguments tool
     → is_conflict tool items ≡ false → is_missing tool items ≡ false → IsLawfulTool (meant_by tool items)
 lawful Invert items clear formed many together more = cc
 lawful Cut items clear formed many together more =
-    let free = or_parts (is_there Left items && (is_there Right items && is_there Width items)) (is_there Top items && (is_there Bottom items && is_there Height items)) together in
+    let free = or_parts (is_there Left items && (is_there Right items && is_there Width items))
+    (is_there Top items && (is_there Bottom items && is_there Height items)) together in
     record {
-      columns = axis (value_of Left items) (value_of Right items) (value_of Width items) (values_taken Cut Left items refl formed) (values_taken Cut Right items refl formed) (values_taken Cut Width items refl formed) free.0;
-      rows = axis (value_of Top items) (value_of Bottom items) (value_of Height items) (values_taken Cut Top items refl formed) (values_taken Cut Bottom items refl formed) (values_taken Cut Height items refl formed) free.1;
+      columns = axis (option_value Left items) (option_value Right items) (option_value Width items) (values_taken Cut Left items refl formed)
+          (values_taken Cut Right items refl formed) (values_taken Cut Width items refl formed) free.0;
+      rows = axis (option_value Top items) (option_value Bottom items) (option_value Height items) (values_taken Cut Top items refl formed)
+          (values_taken Cut Bottom items refl formed) (values_taken Cut Height items refl formed) free.1;
     }
 lawful Depth items clear formed many together more = first_in_range 1 65535 (arguments_of items) (arguments_taken Depth items formed) more
 lawful Channel items clear formed many together more = record {
   some = subst (λ (n : ℕ). 1 ≤ n) (sym (length-map (arguments_of items) decimal_value)) (ltb-false (length (arguments_of items)) 1 more);
   not_many = subst (λ (n : ℕ). n ≤ 256) (sym (length-map (arguments_of items) decimal_value)) many;
   in_range = planes_in_range (arguments_of items) (arguments_taken Channel items formed);
-  tuple_type = some_tuple_type (value_of TupleType items) (values_taken Channel TupleType items refl formed) (value_clear TupleType items clear);
+  tuple_type = some_tuple_type (option_value TupleType items) (values_taken Channel TupleType items refl formed) (value_clear TupleType items clear);
 }
 lawful Enlarge items clear formed many together more = (
-  factor_in_range (arguments_of items) (value_of XScale items) (arguments_taken Enlarge items formed) (values_taken Enlarge XScale items refl formed),
-  factor_in_range (arguments_of items) (value_of YScale items) (arguments_taken Enlarge items formed) (values_taken Enlarge YScale items refl formed),
+  factor_in_range (arguments_of items) (option_value XScale items) (arguments_taken Enlarge items formed) (values_taken Enlarge XScale items refl formed),
+  factor_in_range (arguments_of items) (option_value YScale items) (arguments_taken Enlarge items formed) (values_taken Enlarge YScale items refl formed),
 )
 lawful Flip items clear formed many together more = cc
 lawful Tile items clear formed many together more =
@@ -326,7 +358,8 @@ rest_clear stage first others e = (subst AreWords e (words_have_no_white stage))
 pub spelled_is_lawful : (stage : List ℕ) (tool : Tool) → SpellsTool stage tool → IsLawfulTool tool
 spelled_is_lawful stage tool h =
     subst IsLawfulTool (sym h.meant.meaning_is)
-    (lawful h.tool_name (items_of h.tool_name h.others) (items_clear h.tool_name h.others (rest_clear stage h.name h.others h.words_are)) h.meant.formed h.meant.not_many h.meant.together h.meant.enough)
+    (lawful h.tool_name (items_of h.tool_name h.others) (items_clear h.tool_name h.others (rest_clear stage h.name h.others h.words_are)) h.meant.formed
+    h.meant.not_many h.meant.together h.meant.enough)
 
 -- ---- a chain
 

@@ -1,5 +1,6 @@
 -- The first word of a text, and the words after it.
-use Rattle.std.proofs.Common.{◌≡◌, ◌⊎◌, inl, inr, ℕ, ◌+◌, ◌-◌, ◌<◌, ◌≤◌, Bool, true, false, not, ◌&&◌, List, [], ◌∷◌, ◌++◌, length, take, drop, get_or, sym, ap, ◌∙◌, arith}
+use Rattle.std.proofs.Common.{◌≡◌, ◌⊎◌, inl, inr, ℕ, ◌+◌, ◌-◌, ◌<◌, ◌≤◌, Bool, true, false, not, ◌&&◌, List, [], ◌∷◌, ◌++◌, length, take, drop, get_or, sym, ap}
+use Rattle.std.proofs.Common.{◌∙◌, arith}
 use Rattle.std.specs.List.{list_all}
 use Rattle.std.proofs.lemmas.List.Folds.{list_all_more}
 use Rattle.std.proofs.lemmas.List.{drop_more, drop_all, take-append-drop, length-take, length-drop}
@@ -44,9 +45,11 @@ no_word_begins text n (inr h) = ap begins_in_word (drop_more text n 0 h.0) ∙ a
 -- ---- the first word
 
 -- the words of a word, and of a text after it that doesn't go on with that word
-words_after_word : (b : ℕ) (word text : List ℕ) → is_white b ≡ false → list_all (λ c. not (is_white c)) word ≡ true → begins_in_word text ≡ false → words (b ∷ word ++ text) ≡ (b ∷ word) ∷ words text
+words_after_word : (b : ℕ) (word text : List ℕ) → is_white b ≡ false → list_all (λ c. not (is_white c)) word ≡ true → begins_in_word text ≡ false
+    → words (b ∷ word ++ text) ≡ (b ∷ word) ∷ words text
 words_after_word b [] text e all end =
-    words-cons b text ∙ ap (λ (white : Bool). words_by white (begins_in_word text) b (words text)) e ∙ ap (λ (begins : Bool). words_by false begins b (words text)) end
+    words-cons b text ∙ ap (λ (white : Bool). words_by white (begins_in_word text) b (words text)) e
+    ∙ ap (λ (begins : Bool). words_by false begins b (words text)) end
 words_after_word b (c ∷ word) text e all end =
     let both = not_and_parts (is_white c) (list_all (λ d. not (is_white d)) word) all in
     words-cons b (c ∷ word ++ text)
@@ -54,14 +57,16 @@ words_after_word b (c ∷ word) text e all end =
     ∙ ap (λ (white : Bool). words_by false (not white) b (words (c ∷ word ++ text))) both.0
     ∙ ap (onto_first b) (words_after_word c word text both.0 both.1 end)
 
-words_of_parts : (word text : List ℕ) → 0 < length word → list_all (λ b. not (is_white b)) word ≡ true → begins_in_word text ≡ false → words (word ++ text) ≡ word ∷ words text
+words_of_parts : (word text : List ℕ) → 0 < length word → list_all (λ b. not (is_white b)) word ≡ true → begins_in_word text ≡ false
+    → words (word ++ text) ≡ word ∷ words text
 words_of_parts [] text some all end = absurd (omega arith)
 words_of_parts (b ∷ word) text some all end =
     let both = not_and_parts (is_white b) (list_all (λ c. not (is_white c)) word) all in words_after_word b word text both.0 both.1 end
 
 pub first_word_is : (text : List ℕ) (n : ℕ) → IsInWord text n → 0 < n → IsWordEnd text n → words text ≡ take n text ∷ words (drop n text)
 first_word_is text n h some end =
-    ap words (sym (take-append-drop n text)) ∙ words_of_parts (take n text) (drop n text) (omega (arith, h.within, length-take n text)) h.no_white (no_word_begins text n end)
+    ap words (sym (take-append-drop n text)) ∙ words_of_parts (take n text) (drop n text) (omega (arith, h.within, length-take n text)) h.no_white
+    (no_word_begins text n end)
 
 -- ---- no word
 
@@ -76,4 +81,5 @@ empty_has_none (b ∷ text) lt = absurd (omega arith)
 pub no_word_is : (text : List ℕ) (n : ℕ) → n ≡ 0 → IsAtWord text → IsWordEnd text n → words text ≡ []
 no_word_is text n e (inl lt) end = empty_has_none text lt
 no_word_is text n e (inr begins) (inl le) = empty_has_none text (omega arith)
-no_word_is text n e (inr begins) (inr h) = absurd (let white : is_white (get_or text 0 0) ≡ true = sym (ap (λ (k : ℕ). is_white (get_or text k 0)) e) ∙ h.1 in cc)
+no_word_is text n e (inr begins) (inr h) = absurd (let white : is_white (get_or text 0 0) ≡ true = sym (ap (λ (k : ℕ). is_white (get_or text k 0)) e) ∙ h.1 in
+    cc)

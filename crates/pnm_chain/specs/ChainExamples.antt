@@ -6,7 +6,9 @@ use Rattle.pnm_tools.specs.declared.tool.Tool.TheVariants as tools
 use Rattle.pnm_tools.specs.Channel.{picks}
 use Rattle.pnm_chain.specs.declared.chain_text.ChainFault.{ChainFault}
 use Rattle.pnm_chain.specs.declared.chain_text.ChainKind.{ChainKind}
-use Rattle.pnm_chain.specs.declared.chain_text.ChainKind.TheVariants.{Empty, TooMany, EmptyStage, UnknownTool, UnknownOption, MissingValue, BadValue, Conflict, MissingArgument, ExtraArgument}
+use Rattle.pnm_chain.specs.declared.chain_text.ChainKind.TheVariants.{Empty, TooMany, EmptyStage, UnknownTool}
+use Rattle.pnm_chain.specs.declared.chain_text.ChainKind.TheVariants.{UnknownOption, MissingValue, BadValue, Conflict}
+use Rattle.pnm_chain.specs.declared.chain_text.ChainKind.TheVariants.{MissingArgument, ExtraArgument}
 use Rattle.pnm_chain.specs.declared.options.ToolName.TheVariants.{Cut, Channel, Enlarge, Flip}
 use Rattle.pnm_chain.specs.Items.{items_of, meant_by}
 use Rattle.pnm_chain.specs.ChainText.{chain_fault_of}
@@ -18,8 +20,10 @@ pub record ChainTextsHold : Type 0 where
   pub inverts : chain_fault_of (codes "pnminvert") ≡ None
   pub empty : chain_fault_of [] ≡ at_stage 0 Empty
   pub blank : chain_fault_of (codes " \t ") ≡ at_stage 0 Empty
-  pub too_many : chain_fault_of (codes "||||||||||||||||||||||||||||||||||||||||||||||||||||||||||||||||") ≡ at_stage 0 TooMany
-  pub many_without_words : chain_fault_of (codes "|||||||||||||||||||||||||||||||||||||||||||||||||||||||||||||||") ≡ at_stage 1 EmptyStage
+  pub too_many : chain_fault_of (codes "||||||||||||||||||||||||||||||||||||||||||||||||||||||||||||||||")
+      ≡ at_stage 0 TooMany
+  pub many_without_words : chain_fault_of (codes "|||||||||||||||||||||||||||||||||||||||||||||||||||||||||||||||")
+      ≡ at_stage 1 EmptyStage
   pub empty_stage : chain_fault_of (codes "pnminvert | | pnminvert") ≡ at_stage 2 EmptyStage
   pub unknown_tool : chain_fault_of (codes "pnmscale 2") ≡ at_stage 1 UnknownTool
   pub unknown_option : chain_fault_of (codes "pamcut -pad") ≡ at_stage 1 UnknownOption
@@ -50,7 +54,8 @@ pub record ChainTextsHold : Type 0 where
     width = None;
     height = Some 7;
   })
-  pub planes : meant_by Channel (items_of Channel (words (codes "2 -tupletype a=b 0"))) ≡ tools.Channel (picks (2 ∷ 0 ∷ []) (codes "a=b"))
+  pub planes : meant_by Channel (items_of Channel (words (codes "2 -tupletype a=b 0")))
+      ≡ tools.Channel (picks (2 ∷ 0 ∷ []) (codes "a=b"))
   pub across : meant_by Enlarge (items_of Enlarge (words (codes "-xscale=3"))) ≡ tools.Enlarge 3 1
   pub mirrored : meant_by Flip (items_of Flip (words (codes "-leftright"))) ≡ tools.Flip LeftRight
   pub turned : meant_by Flip (items_of Flip (words (codes "-r90"))) ≡ tools.Flip Rotate90

@@ -1,5 +1,6 @@
 -- The text of a chain: which texts spell which tools, and what is wrong with every other text.
-use Rattle.std.specs.Prelude.{◌≡◌, ◌≢◌, ◌≤◌, ◌↔◌, ◌⊎◌, ℕ, suc, Bool, true, false, nat_lt, ◌==◌, if◌then◌else◌, Option, Some, None, List, [], ◌∷◌, length}
+use Rattle.std.specs.Prelude.{◌≡◌, ◌≢◌, ◌≤◌, ◌↔◌, ◌⊎◌, ℕ, suc, Bool, true, false, nat_lt, ◌==◌, if◌then◌else◌, Option}
+use Rattle.std.specs.Prelude.{Some, None, List, [], ◌∷◌, length}
 use Rattle.std.specs.List.{slice_split, list_all}
 use Rattle.pnm_chain.specs.declared.chain_text.TheConstants.{MAX_TEXT_LENGTH}
 use Rattle.pnm_tools.specs.declared.limits.TheConstants.{MAX_TOOLS}
@@ -7,7 +8,9 @@ use Rattle.pnm_image.specs.Texts.{is_white, words}
 use Rattle.pnm_tools.specs.declared.tool.Tool.{Tool}
 use Rattle.pnm_chain.specs.declared.chain_text.ChainFault.{ChainFault}
 use Rattle.pnm_chain.specs.declared.chain_text.ChainKind.{ChainKind}
-use Rattle.pnm_chain.specs.declared.chain_text.ChainKind.TheVariants.{Empty, TooLong, TooMany, EmptyStage, UnknownTool, UnknownOption, MissingValue, BadValue, Conflict, MissingArgument, ExtraArgument, Memory}
+use Rattle.pnm_chain.specs.declared.chain_text.ChainKind.TheVariants.{Empty, TooLong, TooMany, EmptyStage, UnknownTool}
+use Rattle.pnm_chain.specs.declared.chain_text.ChainKind.TheVariants.{UnknownOption, MissingValue, BadValue, Conflict}
+use Rattle.pnm_chain.specs.declared.chain_text.ChainKind.TheVariants.{MissingArgument, ExtraArgument, Memory}
 use Rattle.pnm_chain.specs.declared.options.ToolName.{ToolName}
 use Rattle.pnm_chain.specs.Options.{tool_named}
 use Rattle.pnm_chain.specs.Items.{items_of, Means, fault_after}
@@ -19,7 +22,8 @@ use Rattle.pnm_tools.specs.Chains.{IsChain}
 abbrev pub stage_texts : List ℕ → List (List ℕ)
 stage_texts text = slice_split (λ b. b == 124) text
 
--- a stage's text is a tool's name and what stands after it; its words are the longest runs of bytes that aren't white space
+-- a stage's text is a tool's name and what stands after it; its words are the longest runs of bytes that aren't white
+-- space
 pub record SpellsTool (text : List ℕ) (tool : Tool) : Type 0 where
   pub name : List ℕ
   pub others : List (List ℕ)
@@ -66,14 +70,14 @@ fault_from number (text ∷ texts) = elim (stage_fault text) [
 ]
 
 -- no stage is at fault, but the whole text
-abbrev pub whole : ChainKind → ChainFault
-whole kind = record { stage = 0; kind = kind }
+abbrev pub whole_fault : ChainKind → ChainFault
+whole_fault kind = record { stage = 0; kind = kind }
 
 unfoldable pub chain_fault_of : List ℕ → Option ChainFault
 chain_fault_of text =
-    if nat_lt MAX_TEXT_LENGTH (length text) then Some (whole TooLong)
-    else if list_all is_white text then Some (whole Empty)
-    else if nat_lt MAX_TOOLS (length (stage_texts text)) then Some (whole TooMany)
+    if nat_lt MAX_TEXT_LENGTH (length text) then Some (whole_fault TooLong)
+    else if list_all is_white text then Some (whole_fault Empty)
+    else if nat_lt MAX_TOOLS (length (stage_texts text)) then Some (whole_fault TooMany)
     else fault_from 1 (stage_texts text)
 
 -- ---- each text is a chain or has a fault
@@ -101,7 +105,8 @@ is_of_stage ExtraArgument = true
 is_of_stage Memory = false
 
 abbrev pub IsPlaced : ChainFault → Type 0
-IsPlaced fault = ((is_of_stage fault.kind ≡ true) × (1 ≤ fault.stage) × (fault.stage ≤ MAX_TOOLS)) ⊎ ((is_of_stage fault.kind ≡ false) × (fault.kind ≢ Memory) × (fault.stage ≡ 0))
+IsPlaced fault = ((is_of_stage fault.kind ≡ true) × (1 ≤ fault.stage) × (fault.stage ≤ MAX_TOOLS))
+    ⊎ ((is_of_stage fault.kind ≡ false) × (fault.kind ≢ Memory) × (fault.stage ≡ 0))
 
 abbrev pub ChainFaultsArePlaced : Type 0
 ChainFaultsArePlaced = (text : List ℕ) (fault : ChainFault) → chain_fault_of text ≡ Some fault → IsPlaced fault

@@ -1,5 +1,6 @@
 -- What stands in a stage of a chain after the tool's name, and the tool that it means.
-use Rattle.std.specs.Prelude.{◌≡◌, ◌≤◌, ℕ, Bool, true, false, not, ◌==◌, ◌&&◌, ◌||◌, nat_le, nat_lt, if◌then◌else◌, Option, Some, None, is_some, option_map, unwrap_or, List, [], ◌∷◌, ◌++◌, length, map}
+use Rattle.std.specs.Prelude.{◌≡◌, ◌≤◌, ℕ, Bool, true, false, not, ◌==◌, ◌&&◌, ◌||◌, nat_le, nat_lt, if◌then◌else◌}
+use Rattle.std.specs.Prelude.{Option, Some, None, is_some, option_map, unwrap_or, List, [], ◌∷◌, ◌++◌, length, map}
 use Rattle.std.specs.Option.{option_map_or, option_or}
 use Rattle.std.specs.List.{before_first, after_first, list_any, slice_index_or, AllByRecursion, IsDistinct}
 use Rattle.pnm_image.specs.Texts.{decimal_value}
@@ -10,12 +11,15 @@ use Rattle.pnm_tools.specs.declared.tool.Tool.{Tool}
 use Rattle.pnm_tools.specs.declared.tool.Tool.TheVariants as tools
 use Rattle.pnm_tools.specs.Channel.{picks}
 use Rattle.pnm_chain.specs.declared.chain_text.ChainKind.{ChainKind}
-use Rattle.pnm_chain.specs.declared.chain_text.ChainKind.TheVariants.{UnknownOption, MissingValue, BadValue, Conflict, MissingArgument, ExtraArgument}
+use Rattle.pnm_chain.specs.declared.chain_text.ChainKind.TheVariants.{UnknownOption, MissingValue, BadValue, Conflict}
+use Rattle.pnm_chain.specs.declared.chain_text.ChainKind.TheVariants.{MissingArgument, ExtraArgument}
 use Rattle.pnm_chain.specs.declared.options.ToolName.{ToolName}
 use Rattle.pnm_chain.specs.declared.options.ToolName.TheVariants.{Invert, Cut, Depth, Channel, Enlarge, Flip, Tile}
 use Rattle.pnm_chain.specs.declared.options.ToolOption.{ToolOption}
-use Rattle.pnm_chain.specs.declared.options.ToolOption.TheVariants.{Left, Right, Top, Bottom, Width, Height, TupleType, XScale, YScale}
-use Rattle.pnm_chain.specs.Options.{option_named, way_in, wants_value, takes_value, excludes, most_arguments, takes_argument, offset_value, begins_with_dash, without_dash}
+use Rattle.pnm_chain.specs.declared.options.ToolOption.TheVariants.{Left, Right, Top, Bottom, Width, Height, TupleType}
+use Rattle.pnm_chain.specs.declared.options.ToolOption.TheVariants.{XScale, YScale}
+use Rattle.pnm_chain.specs.Options.{option_named, way_in, wants_value, takes_value, excludes, most_arguments}
+use Rattle.pnm_chain.specs.Options.{takes_argument, offset_value, begins_with_dash, without_dash}
 
 -- an argument; an option of the tool, with the value that it is given, if it is; or an option that the tool hasn't
 pub data Item : Type 0 where
@@ -33,13 +37,16 @@ name_in word = before_first (λ b. b == 61) (without_dashes word)
 
 abbrev pub value_in : List ℕ → Option (List ℕ)
 value_in word =
-    if list_any (λ b. b == 61) (without_dashes word) then Some (after_first (λ b. b == 61) (without_dashes word)) else None
+    if list_any (λ b. b == 61) (without_dashes word) then Some
+    (after_first (λ b. b == 61) (without_dashes word)) else None
 
 -- ---- items
 
 -- the word is an option whose value is the next word, whatever that begins with
 abbrev pub takes_next : ToolName → List ℕ → Bool
-takes_next tool word = begins_with_dash word && (option_map_or wants_value (option_named tool (name_in word)) false && not (is_some (value_in word)))
+takes_next tool word =
+    begins_with_dash word
+    && (option_map_or wants_value (option_named tool (name_in word)) false && not (is_some (value_in word)))
 
 abbrev pub given_as : Option ToolOption → Option (List ℕ) → Item
 given_as None value = Unknown
@@ -47,7 +54,8 @@ given_as (Some option) value = Given option value
 
 -- the item of a word, with the value in it, or else the next word, where it takes that
 abbrev pub item_of : ToolName → List ℕ → Option (List ℕ) → Item
-item_of tool word next = if begins_with_dash word then given_as (option_named tool (name_in word)) (option_or (value_in word) next) else Argument word
+item_of tool word next = if begins_with_dash word then given_as (option_named tool (name_in word))
+    (option_or (value_in word) next) else Argument word
 
 unfoldable pub items_of : ToolName → List (List ℕ) → List Item
 items_of tool [] = []
@@ -64,15 +72,16 @@ arguments_of (Given option value ∷ items) = arguments_of items
 arguments_of (Unknown ∷ items) = arguments_of items
 
 -- the value that an option is given, empty where it has none
-abbrev pub value_of : ToolOption → List Item → Option (List ℕ)
-value_of option [] = None
-value_of option (Argument word ∷ items) = value_of option items
-value_of option (Given other value ∷ items) = if excludes option other then Some (unwrap_or value []) else value_of option items
-value_of option (Unknown ∷ items) = value_of option items
+abbrev pub option_value : ToolOption → List Item → Option (List ℕ)
+option_value option [] = None
+option_value option (Argument word ∷ items) = option_value option items
+option_value option (Given other value ∷ items) =
+    if excludes option other then Some (unwrap_or value []) else option_value option items
+option_value option (Unknown ∷ items) = option_value option items
 
 -- the option, or one that excludes it, is among the items
 abbrev pub is_there : ToolOption → List Item → Bool
-is_there option items = is_some (value_of option items)
+is_there option items = is_some (option_value option items)
 
 -- the first way to flip
 abbrev pub way_of : List Item → Option FlipWay
@@ -83,18 +92,18 @@ way_of (Unknown ∷ items) = way_of items
 
 -- ---- the tool that items mean
 
-abbrev pub number_of : ToolOption → List Item → Option ℕ
-number_of option items = option_map decimal_value (value_of option items)
+abbrev pub option_number : ToolOption → List Item → Option ℕ
+option_number option items = option_map decimal_value (option_value option items)
 
 -- the edges and sizes of pamcut
 abbrev pub box_of : List Item → CutBox
 box_of items = record {
-  left = option_map offset_value (value_of Left items);
-  right = option_map offset_value (value_of Right items);
-  top = option_map offset_value (value_of Top items);
-  bottom = option_map offset_value (value_of Bottom items);
-  width = number_of Width items;
-  height = number_of Height items;
+  left = option_map offset_value (option_value Left items);
+  right = option_map offset_value (option_value Right items);
+  top = option_map offset_value (option_value Top items);
+  bottom = option_map offset_value (option_value Bottom items);
+  width = option_number Width items;
+  height = option_number Height items;
 }
 
 abbrev pub numbers_of : List Item → List ℕ
@@ -107,7 +116,8 @@ factor_by (factor ∷ numbers) scale = factor
 
 -- ---- which items mean a tool
 
--- an argument is one that the tool takes; an option is one of the tool's, and has a value that it takes just where it wants one
+-- an argument is one that the tool takes; an option is one of the tool's, and has a value that it takes just where it
+-- wants one
 abbrev pub IsFormed : ToolName → Item → Type 0
 IsFormed tool (Argument word) = takes_argument tool word ≡ true
 IsFormed tool (Given option None) = wants_value option ≡ false
@@ -151,23 +161,30 @@ meaning_rule Cut = record {
   missing = never;
   meant = λ items. tools.Cut (box_of items);
 }
-meaning_rule Depth = record { conflict = never; missing = fewer_than 1; meant = λ items. tools.Depth (number_at 0 items) }
+meaning_rule Depth =
+    record { conflict = never; missing = fewer_than 1; meant = λ items. tools.Depth (number_at 0 items) }
 meaning_rule Channel = record {
   conflict = never;
   missing = fewer_than 1;
-  meant = λ items. tools.Channel (picks (numbers_of items) (unwrap_or (value_of TupleType items) []));
+  meant = λ items. tools.Channel (picks (numbers_of items) (unwrap_or (option_value TupleType items) []));
 }
 meaning_rule Enlarge = record {
   conflict = λ items. nat_lt 0 (length (arguments_of items)) && has_scale items;
   missing = λ items. fewer_than 1 items && not (has_scale items);
-  meant = λ items. tools.Enlarge (factor_by (numbers_of items) (number_of XScale items)) (factor_by (numbers_of items) (number_of YScale items));
+  meant = λ items. tools.Enlarge (factor_by (numbers_of items) (option_number XScale items))
+      (factor_by (numbers_of items) (option_number YScale items));
 }
 meaning_rule Flip = record {
   conflict = never;
   missing = λ items. not (is_some (way_of items));
   meant = λ items. tools.Flip (unwrap_or (way_of items) Null);
 }
-meaning_rule Tile = record { conflict = never; missing = fewer_than 2; meant = λ items. tools.Tile (number_at 0 items) (number_at 1 items) }
+meaning_rule Tile =
+    record {
+      conflict = never;
+      missing = fewer_than 2;
+      meant = λ items. tools.Tile (number_at 0 items) (number_at 1 items);
+    }
 
 abbrev pub is_conflict : ToolName → List Item → Bool
 is_conflict tool items = (meaning_rule tool).conflict items
@@ -182,7 +199,8 @@ meant_by tool items = (meaning_rule tool).meant items
 
 -- ---- the items that a tool is called by
 
--- the items are what this tool is called by: each formed, no option twice, and neither too few nor such as can't stand together
+-- the items are what this tool is called by: each formed, no option twice, and neither too few nor such as can't stand
+-- together
 pub record Means (tool : ToolName) (items : List Item) (meaning : Tool) : Type 0 where
   pub formed : AllByRecursion (IsFormed tool) items
   pub once : IsDistinct excludes (options_of items)

@@ -1,6 +1,8 @@
--- The tools of a chain and their options, by the names that their manual pages give them, and what each takes: pnminvert(1),
--- pamcut(1), pamdepth(1), pamchannel(1), pamenlarge(1), pamflip(1) and pnmtile(1). Names are exact, and case counts.
-use Rattle.std.specs.Prelude.{ℕ, Bool, false, not, ◌==◌, ◌&&◌, ◌-◌, nat_le, if◌then◌else◌, ℤ, pos, neg_ℤ, Option, Some, None, is_some, List, [], ◌∷◌, length, codes}
+-- The tools of a chain and their options, by the names that their manual pages give them, and what each takes:
+-- pnminvert(1), pamcut(1), pamdepth(1), pamchannel(1), pamenlarge(1), pamflip(1) and pnmtile(1). Names are exact, and
+-- case counts.
+use Rattle.std.specs.Prelude.{ℕ, Bool, false, not, ◌==◌, ◌&&◌, ◌-◌, nat_le, if◌then◌else◌, ℤ, pos, neg_ℤ, Option, Some}
+use Rattle.std.specs.Prelude.{None, is_some, List, [], ◌∷◌, length, codes}
 use Rattle.std.specs.List.{list_all}
 use Rattle.std.specs.Option.{option_or}
 use Rattle.std.specs.Str.{bytes_eq}
@@ -8,11 +10,13 @@ use Rattle.pnm_image.specs.declared.limits.TheConstants.{MAX_DEPTH, MAX_MAXVAL, 
 use Rattle.pnm_tools.specs.declared.limits.TheConstants.{MAX_EXTENT}
 use Rattle.pnm_image.specs.Texts.{is_digit, decimal_value}
 use Rattle.pnm_tools.specs.declared.flip.FlipWay.{FlipWay}
-use Rattle.pnm_tools.specs.declared.flip.FlipWay.TheVariants.{Null, LeftRight, TopBottom, Transpose, Rotate90, Rotate180, Rotate270}
+use Rattle.pnm_tools.specs.declared.flip.FlipWay.TheVariants.{Null, LeftRight, TopBottom, Transpose, Rotate90}
+use Rattle.pnm_tools.specs.declared.flip.FlipWay.TheVariants.{Rotate180, Rotate270}
 use Rattle.pnm_chain.specs.declared.options.ToolName.{ToolName}
 use Rattle.pnm_chain.specs.declared.options.ToolName.TheVariants.{Invert, Cut, Depth, Channel, Enlarge, Flip, Tile}
 use Rattle.pnm_chain.specs.declared.options.ToolOption.{ToolOption}
-use Rattle.pnm_chain.specs.declared.options.ToolOption.TheVariants.{Left, Right, Top, Bottom, Width, Height, TupleType, XScale, YScale, Way}
+use Rattle.pnm_chain.specs.declared.options.ToolOption.TheVariants.{Left, Right, Top, Bottom, Width, Height, TupleType}
+use Rattle.pnm_chain.specs.declared.options.ToolOption.TheVariants.{XScale, YScale, Way}
 
 -- ---- names
 
@@ -73,7 +77,8 @@ is_numeral (b ∷ word) = is_digit b && list_all is_digit word
 
 -- the word spells a number from the least to the most
 abbrev pub spells_number : ℕ → ℕ → List ℕ → Bool
-spells_number least most word = is_numeral word && (nat_le least (decimal_value word) && nat_le (decimal_value word) most)
+spells_number least most word =
+    is_numeral word && (nat_le least (decimal_value word) && nat_le (decimal_value word) most)
 
 abbrev pub spells_maxval : List ℕ → Bool
 spells_maxval word = spells_number 1 MAX_MAXVAL word
@@ -100,7 +105,8 @@ abbrev pub spells_offset : List ℕ → Bool
 spells_offset word = spells_number 0 MAX_EXTENT (without_dash word)
 
 abbrev pub offset_value : List ℕ → ℤ
-offset_value word = if begins_with_dash word then neg_ℤ (pos (decimal_value (without_dash word))) else pos (decimal_value word)
+offset_value word = if begins_with_dash word then neg_ℤ (pos (decimal_value (without_dash word))) else pos
+    (decimal_value word)
 
 -- ---- options
 
@@ -158,17 +164,18 @@ pub record ToolRule : Type 0 where
 abbrev no_option : List ℕ → Option ToolOption
 no_option name = None
 
-abbrev no_argument : List ℕ → Bool
-no_argument word = false
+abbrev takes_none : List ℕ → Bool
+takes_none word = false
 
 -- the arguments are a maxval, the numbers of planes, a factor, or columns and rows to fill
 abbrev pub tool_rule : ToolName → ToolRule
-tool_rule Invert = record { option = no_option; most = 0; takes = no_argument }
-tool_rule Cut = record { option = cut_option; most = 0; takes = no_argument }
+tool_rule Invert = record { option = no_option; most = 0; takes = takes_none }
+tool_rule Cut = record { option = cut_option; most = 0; takes = takes_none }
 tool_rule Depth = record { option = no_option; most = 1; takes = spells_maxval }
 tool_rule Channel = record { option = channel_option; most = MAX_DEPTH; takes = spells_plane }
 tool_rule Enlarge = record { option = enlarge_option; most = 1; takes = spells_extent }
-tool_rule Flip = record { option = λ name. option_or (flip_option name) (turn_option name); most = 0; takes = no_argument }
+tool_rule Flip =
+    record { option = λ name. option_or (flip_option name) (turn_option name); most = 0; takes = takes_none }
 tool_rule Tile = record { option = no_option; most = 2; takes = spells_extent }
 
 -- the tool's option of this name

@@ -1,5 +1,6 @@
 -- What the parser of a chain's text holds while it reads: of a stage its settings, and of the chain its tools.
-use Rattle.std.specs.Prelude.{◌≡◌, ℕ, ℤ, Bool, true, false, ◌&&◌, ◌||◌, nat_le, if◌then◌else◌, Option, Some, None, is_some, option_map, slice_get, unwrap_or, List, [], ◌∷◌, ◌++◌, ◌+◌, length, take, drop}
+use Rattle.std.specs.Prelude.{◌≡◌, ℕ, ℤ, Bool, true, false, ◌&&◌, ◌||◌, nat_le, if◌then◌else◌, Option, Some, None}
+use Rattle.std.specs.Prelude.{is_some, option_map, slice_get, unwrap_or, List, [], ◌∷◌, ◌++◌, ◌+◌, length, take, drop}
 use Rattle.pnm_image.specs.declared.limits.TheConstants.{MAX_DEPTH}
 use Rattle.pnm_image.specs.Texts.{decimal_value, words}
 use denote.Ref.{Bor}
@@ -7,16 +8,19 @@ use Rattle.pnm_tools.specs.declared.cut.CutBox.{CutBox}
 use Rattle.pnm_tools.specs.declared.tool.Tool.{Tool}
 use Rattle.pnm_tools.specs.declared.tool.Tool.TheVariants as tools
 use Rattle.pnm_chain.specs.declared.chain_text.ChainKind.{ChainKind}
-use Rattle.pnm_chain.specs.declared.chain_text.ChainKind.TheVariants.{BadValue, Conflict, ExtraArgument, MissingArgument}
+use Rattle.pnm_chain.specs.declared.chain_text.ChainKind.TheVariants.{BadValue, Conflict, ExtraArgument}
+use Rattle.pnm_chain.specs.declared.chain_text.ChainKind.TheVariants.{MissingArgument}
 use Rattle.pnm_chain.specs.declared.items.Item.{Item as ItemRead}
 use Rattle.pnm_chain.specs.declared.items.Item.TheVariants as read
 use Rattle.pnm_chain.specs.declared.options.ToolName.{ToolName}
 use Rattle.pnm_chain.specs.declared.options.ToolName.TheVariants.{Invert, Cut, Depth, Channel, Enlarge, Flip, Tile}
 use Rattle.pnm_chain.specs.declared.options.ToolOption.{ToolOption}
-use Rattle.pnm_chain.specs.declared.options.ToolOption.TheVariants.{Left, Right, Top, Bottom, Width, Height, TupleType, XScale, YScale, Way}
+use Rattle.pnm_chain.specs.declared.options.ToolOption.TheVariants.{Left, Right, Top, Bottom, Width, Height, TupleType}
+use Rattle.pnm_chain.specs.declared.options.ToolOption.TheVariants.{XScale, YScale, Way}
 use Rattle.pnm_chain.specs.declared.settings.Settings.{Settings}
 use Rattle.pnm_chain.specs.Options.{offset_value, takes_argument}
-use Rattle.pnm_chain.specs.Items.{Item, Argument, Given, Unknown, value_of, number_of, box_of, numbers_of, way_of, items_of, fault_after}
+use Rattle.pnm_chain.specs.Items.{Item, Argument, Given, Unknown, option_value, option_number, box_of, numbers_of}
+use Rattle.pnm_chain.specs.Items.{way_of, items_of, fault_after}
 use Rattle.pnm_chain.specs.ChainText.{SpellTools, fault_from}
 
 -- ---- items
@@ -31,8 +35,8 @@ item_read read.Unknown = Unknown
 
 -- ---- settings
 
--- how settings hold arguments: that they hold those of these numbers, that they hold as many as the tool takes, and that the
--- new ones hold a word's number more than the old
+-- how settings hold arguments: that they hold those of these numbers, that they hold as many as the tool takes, and
+-- that the new ones hold a word's number more than the old
 pub record ArgumentRule : Type 1 where
   pub are : List ℕ → Settings → Type 0
   pub all : Settings → Bool
@@ -67,7 +71,8 @@ abbrev plane_arguments : ArgumentRule
 plane_arguments = record {
   are = λ numbers s. s.planes.items ≡ numbers;
   all = λ s. has_all_planes s.planes.items;
-  more = λ old word new. (new ≡ record old { planes = new.planes }) × (new.planes.items ≡ old.planes.items ++ decimal_value word ∷ []);
+  more = λ old word new. (new ≡ record old { planes = new.planes })
+      × (new.planes.items ≡ old.planes.items ++ decimal_value word ∷ []);
 }
 
 abbrev pub argument_rule : ToolName → ArgumentRule
@@ -92,9 +97,9 @@ IsWithArgument tool old word new = (argument_rule tool).more old word new
 pub record AreSettingsOf (tool : ToolName) (items : List Item) (s : Settings) : Type 0 where
   pub tool_is : s.tool ≡ tool
   pub box_is : s.cut ≡ box_of items
-  pub tuple_type_is : value_read s.tuple_type ≡ value_of TupleType items
-  pub across_is : s.across ≡ number_of XScale items
-  pub down_is : s.down ≡ number_of YScale items
+  pub tuple_type_is : value_read s.tuple_type ≡ option_value TupleType items
+  pub across_is : s.across ≡ option_number XScale items
+  pub down_is : s.down ≡ option_number YScale items
   pub way_is : s.way ≡ way_of items
   pub arguments_are : AreArgumentsOf tool (numbers_of items) s
 
@@ -111,14 +116,39 @@ pub record HolderRule : Type 0 where
   pub given : Settings → Option (Bor (List ℕ)) → Settings
 
 abbrev pub holder_rule : ToolOption → HolderRule
-holder_rule Left = record { there = λ s. is_some s.cut.left; given = λ s value. record s { cut = record s.cut { left = offset_read value } } }
-holder_rule Right = record { there = λ s. is_some s.cut.right; given = λ s value. record s { cut = record s.cut { right = offset_read value } } }
-holder_rule Top = record { there = λ s. is_some s.cut.top; given = λ s value. record s { cut = record s.cut { top = offset_read value } } }
-holder_rule Bottom = record { there = λ s. is_some s.cut.bottom; given = λ s value. record s { cut = record s.cut { bottom = offset_read value } } }
-holder_rule Width = record { there = λ s. is_some s.cut.width; given = λ s value. record s { cut = record s.cut { width = number_read value } } }
-holder_rule Height = record { there = λ s. is_some s.cut.height; given = λ s value. record s { cut = record s.cut { height = number_read value } } }
+holder_rule Left =
+    record {
+      there = λ s. is_some s.cut.left;
+      given = λ s value. record s { cut = record s.cut { left = offset_read value } };
+    }
+holder_rule Right =
+    record {
+      there = λ s. is_some s.cut.right;
+      given = λ s value. record s { cut = record s.cut { right = offset_read value } };
+    }
+holder_rule Top =
+    record {
+      there = λ s. is_some s.cut.top;
+      given = λ s value. record s { cut = record s.cut { top = offset_read value } };
+    }
+holder_rule Bottom =
+    record {
+      there = λ s. is_some s.cut.bottom;
+      given = λ s value. record s { cut = record s.cut { bottom = offset_read value } };
+    }
+holder_rule Width =
+    record {
+      there = λ s. is_some s.cut.width;
+      given = λ s value. record s { cut = record s.cut { width = number_read value } };
+    }
+holder_rule Height =
+    record {
+      there = λ s. is_some s.cut.height;
+      given = λ s value. record s { cut = record s.cut { height = number_read value } };
+    }
 holder_rule TupleType = record { there = λ s. is_some s.tuple_type; given = λ s value. record s { tuple_type = value } }
-holder_rule XScale = record { there = λ s. is_some s.across; given = λ s value. record s { across = number_read value } }
+holder_rule XScale =
+    record { there = λ s. is_some s.across; given = λ s value. record s { across = number_read value } }
 holder_rule YScale = record { there = λ s. is_some s.down; given = λ s value. record s { down = number_read value } }
 holder_rule (Way way) = record { there = λ s. is_some s.way; given = λ s value. record s { way = Some way } }
 

@@ -2,7 +2,8 @@
 
 ghost use Rattle.std.specs.Prelude.{◌≡◌, ◌⊎◌, ◌+◌, IfOk, IfErr, Some, None, length};
 ghost use Rattle.pnm_chain.specs.declared.chain_text.ChainKind.TheVariants.{Memory};
-ghost use Rattle.pnm_chain.specs.ChainText.{IsRefusal, SpellsChain, SpellsTool, chain_fault_of, stage_fault, stage_texts, whole};
+ghost use Rattle.pnm_chain.specs.ChainText.{IsRefusal, SpellsChain, SpellsTool, chain_fault_of, stage_fault};
+ghost use Rattle.pnm_chain.specs.ChainText.{stage_texts, whole_fault};
 ghost use Rattle.pnm_tools.specs.Chains.{IsChain};
 
 use crate::items::split_item;
@@ -87,7 +88,7 @@ pub struct ChainFault {
 }
 
 impl<T: Drop> From<AllocFailed<T>> for ChainFault {
-    ghost from_gives = { λ _ result. result ≡ whole Memory };
+    ghost from_gives = { λ _ result. result ≡ whole_fault Memory };
 
     fn from(_error: AllocFailed<T>) -> ChainFault {
         ChainFault::whole(ChainKind::Memory)
@@ -97,7 +98,7 @@ impl<T: Drop> From<AllocFailed<T>> for ChainFault {
 impl ChainFault {
     /// The whole text is at fault, and no stage.
     fn whole(kind: ChainKind) -> ChainFault
-        ensures { result ≡ whole kind }
+        ensures { result ≡ whole_fault kind }
     {
         ChainFault { stage: 0, kind }
     }
@@ -109,7 +110,7 @@ impl ChainFault {
 pub fn parse_chain(alloc: Global, text: &str) -> Result<Vec<Tool>, ChainFault>
     ensures spelled { IfOk result (λ tools. SpellsChain text.now tools.items) }
     ensures lawful { IfOk result (λ tools. IsChain tools.items) }
-    ensures refused { IfErr result (λ fault. (fault ≡ whole Memory) ⊎ (chain_fault_of text.now ≡ Some fault)) }
+    ensures refused { IfErr result (λ fault. (fault ≡ whole_fault Memory) ⊎ (chain_fault_of text.now ≡ Some fault)) }
 {
     if text.len() > MAX_TEXT_LENGTH {
         return Err(ChainFault::whole(ChainKind::TooLong));
@@ -144,7 +145,7 @@ fn count_bars(text: &[u8]) -> usize
 /// The tool of the stage of this number.
 fn read_numbered(alloc: Global, number: usize, stage: &[u8]) -> Result<Tool, ChainFault>
     ensures spelled { IfOk result (λ tool. (stage_fault stage.now ≡ None) × SpellsTool stage.now tool) }
-    ensures refused { IfErr result (λ fault. (fault ≡ whole Memory)
+    ensures refused { IfErr result (λ fault. (fault ≡ whole_fault Memory)
         ⊎ ((stage_fault stage.now ≡ Some fault.kind) × (fault.stage ≡ number))) }
 {
     match read_stage(alloc, stage) {

@@ -210,7 +210,8 @@ fn fill(argument: &mut Option<u32>, word: &[u8], most: u32) -> Result<(), ChainK
 fn add_plane(planes: &mut Vec<u16>, word: &[u8]) -> Result<(), ChainKind>
     ensures added { OnOk result ((has_all_planes planes.old.items ≡ false) × (spells_plane word.now ≡ true)
         × (planes.new.items ≡ planes.old.items ++ decimal_value word.now ∷ [])) }
-    ensures refused { IfErr result (λ kind. (kind ≡ Memory) ⊎ IsNoArgument (has_all_planes planes.old.items) (spells_plane word.now) kind) }
+    ensures refused { IfErr result
+        (λ kind. (kind ≡ Memory) ⊎ IsNoArgument (has_all_planes planes.old.items) (spells_plane word.now) kind) }
 {
     if planes.len() >= MAX_DEPTH as usize {
         return Err(ChainKind::ExtraArgument);

@@ -1,6 +1,6 @@
 //! Tells what the texts of chains name. A line of standard input is `chain` and a text with its escapes
-//! (`pnm_test_devices`), or `names`, of which the faults are told as they are printed. Of a text the tools are told, or the
-//! number of the stage at fault and the fault. A line that begins with `#` is given back.
+//! (`pnm_test_devices`), or `names`, of which the faults are told as they are printed. Of a text the tools are told, or
+//! the number of the stage at fault and the fault. A line that begins with `#` is given back.
 #![tactic(auto)]
 
 use pnm_chain::{ChainKind, parse_chain};

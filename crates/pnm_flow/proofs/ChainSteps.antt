@@ -1,5 +1,6 @@
 -- The stages of a chain: one more, what is left between them, and what the chain has answered.
-use Rattle.std.proofs.Common.{◌≡◌, ◌≢◌, ℕ, suc, ◌+◌, ◌≤◌, ◌<◌, List, [], ◌∷◌, ◌++◌, length, Option, Some, Result, Ok, Err, refl, sym, ap, subst, ◌∙◌, append_assoc, append-nil, arith}
+use Rattle.std.proofs.Common.{◌≡◌, ◌≢◌, ℕ, suc, ◌+◌, ◌≤◌, ◌<◌, List, [], ◌∷◌, ◌++◌, length, Option, Some, Result, Ok, Err, refl, sym, ap, subst, ◌∙◌}
+use Rattle.std.proofs.Common.{append_assoc, append-nil, arith}
 use Rattle.std.specs.Prelude.{IfOk, IfSome, vec_capacity}
 use Rattle.std.specs.List.{AllByRecursion}
 use Rattle.pnm_stages.specs.declared.sender.Sender.{Sender}
@@ -8,13 +9,13 @@ use Rattle.pnm_stages.specs.Rings.{sent, received, known_items, SameProducer, Sa
 use Rattle.pnm_image.specs.declared.message.Message.{Message}
 use Rattle.pnm_image.specs.Images.{Image, messages_of_stream}
 use Rattle.pnm_image.specs.Messages.{without_stop}
-use Rattle.pnm_image.specs.Completion.{IsFrontOf, IsStreamOf}
+use Rattle.pnm_image.specs.Completion.{IsPrefixOf, IsStreamOf}
 use Rattle.pnm_tools.specs.declared.tool.Tool.{Tool}
 use Rattle.pnm_tools.specs.Answers.{AreResults}
 use Rattle.pnm_tools.specs.Chains.{AreLawfulTools, AreResultsInTurn, due_in_turn}
 use Rattle.pnm_tools.specs.Tools.{IsLawfulTool, output_due}
-use Rattle.pnm_tools.proofs.FrontLaws.{nothing_changes, front_by_results}
-use Rattle.pnm_tools.proofs.FullLaws.{front_of_front}
+use Rattle.pnm_tools.proofs.PrefixLaws.{nothing_changes, prefix_by_results}
+use Rattle.pnm_tools.proofs.FullLaws.{prefix_of_prefix}
 use Rattle.pnm_tools.proofs.RefusalLaws.{results_are_images, same_in_turn, results_in_turn}
 use Rattle.pnm_flow.specs.declared.chain.ChainDone.{ChainDone}
 use Rattle.pnm_stages.specs.declared.branches.NoStart.{NoStart}
@@ -22,21 +23,23 @@ use Rattle.pnm_stages.specs.declared.stage.StageDone.{StageDone}
 use Rattle.pnm_flow.specs.declared.chain.Link.{Link}
 use Rattle.pnm_stages.specs.declared.stage.StageEnd.{StageEnd}
 use Rattle.pnm_stages.specs.declared.stage.StageEnd.TheVariants.{Well, PeerGone}
-use Rattle.pnm_stages.specs.Fronts.{IsFrontOfDue}
+use Rattle.pnm_stages.specs.Prefixes.{IsPrefixOfDue}
 use Rattle.pnm_stages.specs.Rings.{IsEnded}
 use Rattle.pnm_flow.specs.Links.{IsWhole, IsDrained}
 use Rattle.pnm_flow.specs.Chains.{IsStageOver, HasRunTool, FirstIsThere, AreStages, HasAnsweredStream, HasRunStages, HasRunChain, HasRunBetween}
 use Rattle.pnm_flow.specs.ThreadedRuns.{HasEndedOver}
 use Rattle.pnm_stages.proofs.EndingLaws.{nothing_follows}
-use Rattle.pnm_stages.proofs.FrontLaws.{front_without_stop}
+use Rattle.pnm_stages.proofs.PrefixLaws.{prefix_without_stop}
 use Rattle.pnm_flow.proofs.ToolOverLaws.{stage_ended, ended_well, received_ended, sent_ended, stage_due}
 
 -- ---- what is left between two stages
 
-drained_between : (lanes : ℕ) (tool next : Tool) (end after : StageEnd) (link : Link) (l g : List Message) → IsStageOver lanes tool end l (sent link.producer) → IsWhole link → IsStageOver lanes next after (received link.consumer) g → end ≢ PeerGone → after ≢ PeerGone
+drained_between : (lanes : ℕ) (tool next : Tool) (end after : StageEnd) (link : Link) (l g : List Message) → IsStageOver lanes tool end l (sent link.producer)
+    → IsWhole link → IsStageOver lanes next after (received link.consumer) g → end ≢ PeerGone → after ≢ PeerGone
     → IsDrained link
 drained_between lanes tool next end after link l g first whole second there also =
-    nothing_follows (received link.consumer) (known_items link.consumer) (received_ended lanes next after (received link.consumer) g (stage_ended lanes next after (received link.consumer) g second) also)
+    nothing_follows (received link.consumer) (known_items link.consumer)
+    (received_ended lanes next after (received link.consumer) g (stage_ended lanes next after (received link.consumer) g second) also)
     (subst IsEnded whole.in_order (sent_ended lanes tool end l (sent link.producer) (stage_ended lanes tool end l (sent link.producer) first) there))
 
 -- ---- one stage more
@@ -45,20 +48,25 @@ no_stages : (lanes : ℕ) (tools : List Tool) (links : List Link) (took gave : L
 no_stages lanes [] links took gave are = are
 no_stages lanes (t ∷ tools) links took gave are = are
 
-pub add_stage : (lanes : ℕ) (tools : List Tool) (ends : List StageEnd) (links : List Link) (tool : Tool) (end : StageEnd) (link : Link) (took gave : List Message)
-    → AreStages lanes tools ends links took (sent link.producer) → IsWhole link → IsStageOver lanes tool end (received link.consumer) gave → AreStages lanes (tools ++ tool ∷ []) (ends ++ end ∷ []) (links ++ link ∷ []) took gave
+pub add_stage : (lanes : ℕ) (tools : List Tool) (ends : List StageEnd) (links : List Link) (tool : Tool) (end : StageEnd) (link : Link)
+    (took gave : List Message)
+    → AreStages lanes tools ends links took (sent link.producer) → IsWhole link → IsStageOver lanes tool end (received link.consumer) gave
+    → AreStages lanes (tools ++ tool ∷ []) (ends ++ end ∷ []) (links ++ link ∷ []) took gave
 add_stage lanes [] ends links tool end link took gave are whole is = absurd are
 add_stage lanes (t ∷ tools) [] links tool end link took gave are whole is = absurd are
-add_stage lanes (t ∷ []) (e ∷ []) [] tool end link took gave are whole is = (are.2, whole, (λ there also. drained_between lanes t tool e end link took gave are.2 whole is there also), (refl, refl, is))
+add_stage lanes (t ∷ []) (e ∷ []) [] tool end link took gave are whole is =
+    (are.2, whole, (λ there also. drained_between lanes t tool e end link took gave are.2 whole is there also), (refl, refl, is))
 add_stage lanes (t ∷ []) (e ∷ e2 ∷ ends) [] tool end link took gave are whole is = let none = are.1 in absurd cc
 add_stage lanes (t ∷ t2 ∷ tools) (e ∷ ends) [] tool end link took gave are whole is = let none = are.0 in absurd cc
-add_stage lanes (t ∷ tools) (e ∷ []) (l ∷ links) tool end link took gave are whole is = absurd (no_stages lanes tools links (received l.consumer) (sent link.producer) are.3)
+add_stage lanes (t ∷ tools) (e ∷ []) (l ∷ links) tool end link took gave are whole is =
+    absurd (no_stages lanes tools links (received l.consumer) (sent link.producer) are.3)
 add_stage lanes (t ∷ tools) (e ∷ e2 ∷ ends) (l ∷ links) tool end link took gave are whole is =
     (are.0, are.1, are.2, add_stage lanes tools (e2 ∷ ends) links tool end link (received l.consumer) gave are.3 whole is)
 
 -- ---- how many
 
-pub count : (lanes : ℕ) (tools : List Tool) (ends : List StageEnd) (links : List Link) (took gave : List Message) → AreStages lanes tools ends links took gave → (length ends ≡ length tools) × (length links + 1 ≡ length tools)
+pub count : (lanes : ℕ) (tools : List Tool) (ends : List StageEnd) (links : List Link) (took gave : List Message) → AreStages lanes tools ends links took gave
+    → (length ends ≡ length tools) × (length links + 1 ≡ length tools)
 count lanes [] ends links took gave are = absurd are
 count lanes (t ∷ tools) [] links took gave are = absurd are
 count lanes (t ∷ []) (e ∷ []) [] took gave are = (refl, refl)
@@ -70,16 +78,20 @@ count lanes (t ∷ tools) (e ∷ ends) (l ∷ links) took gave are =
 
 -- ---- where no stage saw a neighbour's end dropped
 
-first_is_there : (lanes : ℕ) (tools : List Tool) (ends : List StageEnd) (links : List Link) (took gave : List Message) → AreStages lanes tools ends links took gave → AllByRecursion (λ end. end ≢ PeerGone) ends → FirstIsThere ends
+first_is_there : (lanes : ℕ) (tools : List Tool) (ends : List StageEnd) (links : List Link) (took gave : List Message)
+    → AreStages lanes tools ends links took gave → AllByRecursion (λ end. end ≢ PeerGone) ends → FirstIsThere ends
 first_is_there lanes tools [] links took gave are all = absurd (no_stages lanes tools links took gave are)
 first_is_there lanes tools (e ∷ ends) links took gave are all = all.0
 
-all_drained : (lanes : ℕ) (tools : List Tool) (ends : List StageEnd) (links : List Link) (took gave : List Message) → AreStages lanes tools ends links took gave → AllByRecursion (λ end. end ≢ PeerGone) ends → AllByRecursion IsDrained links
+all_drained : (lanes : ℕ) (tools : List Tool) (ends : List StageEnd) (links : List Link) (took gave : List Message) → AreStages lanes tools ends links took gave
+    → AllByRecursion (λ end. end ≢ PeerGone) ends → AllByRecursion IsDrained links
 all_drained lanes tools ends [] took gave are all = tt
 all_drained lanes [] ends (l ∷ links) took gave are all = absurd are
 all_drained lanes (t ∷ tools) [] (l ∷ links) took gave are all = absurd are
-all_drained lanes (t ∷ tools) (e ∷ ends) (l ∷ links) took gave are all =
-    (are.2 all.0 (first_is_there lanes tools ends links (received l.consumer) gave are.3 all.1), all_drained lanes tools ends links (received l.consumer) gave are.3 all.1)
+all_drained lanes (t ∷ tools) (e ∷ ends) (l ∷ links) took gave are all = (
+  are.2 all.0 (first_is_there lanes tools ends links (received l.consumer) gave are.3 all.1),
+  all_drained lanes tools ends links (received l.consumer) gave are.3 all.1,
+)
 
 -- ---- where all ended well
 
@@ -87,10 +99,19 @@ none_gone : (ends : List StageEnd) → AllByRecursion (λ end. end ≡ Well) end
 none_gone [] all = tt
 none_gone (e ∷ ends) all = ((λ gone. let well = all.0 in absurd cc), none_gone ends all.1)
 
-one_well : (tool : Tool) (l g : List Message) (images results : List Image) → IsStreamOf l images → AreResults tool images results → g ≡ messages_of_stream results → HasAnsweredStream (tool ∷ []) l g
-one_well tool l g images results stream made answer = record { images = images; results = results; stream = stream; made = results_in_turn tool [] images results results made (same_in_turn results); answer = answer }
+one_well : (tool : Tool) (l g : List Message) (images results : List Image) → IsStreamOf l images → AreResults tool images results
+    → g ≡ messages_of_stream results → HasAnsweredStream (tool ∷ []) l g
+one_well tool l g images results stream made answer =
+    record {
+      images = images;
+      results = results;
+      stream = stream;
+      made = results_in_turn tool [] images results results made (same_in_turn results);
+      answer = answer;
+    }
 
-pub all_well : (lanes : ℕ) (tools : List Tool) (ends : List StageEnd) (links : List Link) (took gave : List Message) → AreLawfulTools tools → AreStages lanes tools ends links took gave → AllByRecursion (λ end. end ≡ Well) ends → HasAnsweredStream tools took gave
+pub all_well : (lanes : ℕ) (tools : List Tool) (ends : List StageEnd) (links : List Link) (took gave : List Message) → AreLawfulTools tools
+    → AreStages lanes tools ends links took gave → AllByRecursion (λ end. end ≡ Well) ends → HasAnsweredStream tools took gave
 all_well lanes [] ends links took gave lawful are all = absurd are
 all_well lanes (t ∷ tools) [] links took gave lawful are all = absurd are
 all_well lanes (t ∷ []) (e ∷ ends) [] took gave lawful are all =
@@ -98,38 +119,46 @@ all_well lanes (t ∷ []) (e ∷ ends) [] took gave lawful are all =
     one_well t took gave ended.images ended.results ended.stream ended.made ended.answer
 all_well lanes (t ∷ t2 ∷ tools) (e ∷ ends) [] took gave lawful are all = let none = are.0 in absurd cc
 all_well lanes (t ∷ tools) (e ∷ ends) (l ∷ links) took gave lawful are all =
-    let ended = ended_well lanes t took (sent l.producer) (subst (λ (x : StageEnd). HasEndedOver lanes t x took (sent l.producer)) all.0 (stage_ended lanes t e took (sent l.producer) are.0)) in
+    let ended =
+    ended_well lanes t took (sent l.producer)
+    (subst (λ (x : StageEnd). HasEndedOver lanes t x took (sent l.producer)) all.0 (stage_ended lanes t e took (sent l.producer) are.0)) in
     let there = none_gone (e ∷ ends) all in
     let none_left = are.2 there.0 (first_is_there lanes tools ends links (received l.consumer) gave are.3 there.1) in
-    let passed : received l.consumer ≡ messages_of_stream ended.results = sym (append-nil (received l.consumer)) ∙ ap (λ (x : List Message). received l.consumer ++ x) (sym none_left) ∙ sym are.1.in_order ∙ ended.answer in
+    let passed : received l.consumer ≡ messages_of_stream ended.results = sym (append-nil (received l.consumer))
+    ∙ ap (λ (x : List Message). received l.consumer ++ x) (sym none_left) ∙ sym are.1.in_order ∙ ended.answer in
     let others = all_well lanes tools ends links (received l.consumer) gave lawful.1 are.3 all.1 in
-    let same : ended.results ≡ others.images = others.stream.only ended.results (results_are_images t ended.images ended.results lawful.0 ended.stream.images ended.made) passed in
+    let same : ended.results ≡ others.images =
+    others.stream.only ended.results (results_are_images t ended.images ended.results lawful.0 ended.stream.images ended.made) passed in
     record {
       images = ended.images;
       results = others.results;
       stream = ended.stream;
-      made = results_in_turn t tools ended.images ended.results others.results ended.made (subst (λ (x : List Image). AreResultsInTurn tools x others.results) (sym same) others.made);
+      made = results_in_turn t tools ended.images ended.results others.results ended.made
+          (subst (λ (x : List Image). AreResultsInTurn tools x others.results) (sym same) others.made);
       answer = others.answer;
     }
 
 -- ---- however they ended
 
-one_due : (tool : Tool) (l g : List Message) → IsLawfulTool tool → IsFrontOfDue (output_due tool) l g → IsFrontOfDue (due_in_turn (tool ∷ [])) l g
+one_due : (tool : Tool) (l g : List Message) → IsLawfulTool tool → IsPrefixOfDue (output_due tool) l g → IsPrefixOfDue (due_in_turn (tool ∷ [])) l g
 one_due tool l g lawful due = record {
   accepted = due.accepted;
   rest = due.rest;
   parts = due.parts;
   lawful = due.lawful;
-  front = λ is completes. front_by_results tool [] is (without_stop g) (without_stop g) lawful completes.images (due.front is completes)
-      (λ js are front. subst (IsFrontOf (without_stop g)) (sym (nothing_changes js)) front);
+  prefix = λ is completes. prefix_by_results tool [] is (without_stop g) (without_stop g) lawful completes.images (due.prefix is completes)
+      (λ js are prefix. subst (IsPrefixOf (without_stop g)) (sym (nothing_changes js)) prefix);
 }
 
--- what was accepted of what was received, without a last Stop, is a front of what was sent
-accepted_of_sent : (accepted rest received left sent : List Message) → received ≡ accepted ++ rest → sent ≡ received ++ left → IsFrontOf (without_stop accepted) (without_stop sent)
+-- what was accepted of what was received, without a last Stop, is a prefix of what was sent
+accepted_of_sent : (accepted rest received left sent : List Message) → received ≡ accepted ++ rest → sent ≡ received ++ left
+    → IsPrefixOf (without_stop accepted) (without_stop sent)
 accepted_of_sent accepted rest received left sent parts whole =
-    subst (λ (x : List Message). IsFrontOf (without_stop accepted) (without_stop x)) (sym (whole ∙ ap (λ (x : List Message). x ++ left) parts ∙ append_assoc accepted rest left)) (front_without_stop accepted (rest ++ left))
+    subst (λ (x : List Message). IsPrefixOf (without_stop accepted) (without_stop x))
+    (sym (whole ∙ ap (λ (x : List Message). x ++ left) parts ∙ append_assoc accepted rest left)) (prefix_without_stop accepted (rest ++ left))
 
-pub all_due : (lanes : ℕ) (tools : List Tool) (ends : List StageEnd) (links : List Link) (took gave : List Message) → AreLawfulTools tools → AreStages lanes tools ends links took gave → IsFrontOfDue (due_in_turn tools) took gave
+pub all_due : (lanes : ℕ) (tools : List Tool) (ends : List StageEnd) (links : List Link) (took gave : List Message) → AreLawfulTools tools
+    → AreStages lanes tools ends links took gave → IsPrefixOfDue (due_in_turn tools) took gave
 all_due lanes [] ends links took gave lawful are = absurd are
 all_due lanes (t ∷ tools) [] links took gave lawful are = absurd are
 all_due lanes (t ∷ []) (e ∷ ends) [] took gave lawful are = one_due t took gave lawful.0 (stage_due lanes t e took gave are.2)
@@ -142,15 +171,17 @@ all_due lanes (t ∷ tools) (e ∷ ends) (l ∷ links) took gave lawful are =
       rest = first.rest;
       parts = first.parts;
       lawful = first.lawful;
-      front = λ is completes. front_by_results t tools is (without_stop others.accepted) (without_stop gave) lawful.0 completes.images
-          (front_of_front (without_stop others.accepted) (without_stop (sent l.producer)) (output_due t is)
-          (accepted_of_sent others.accepted others.rest (received l.consumer) (known_items l.consumer) (sent l.producer) others.parts are.1.in_order) (first.front is completes))
-          (λ js images front. others.front js (record { images = images; front = front }));
+      prefix = λ is completes. prefix_by_results t tools is (without_stop others.accepted) (without_stop gave) lawful.0 completes.images
+          (prefix_of_prefix (without_stop others.accepted) (without_stop (sent l.producer)) (output_due t is)
+          (accepted_of_sent others.accepted others.rest (received l.consumer) (known_items l.consumer) (sent l.producer) others.parts are.1.in_order)
+          (first.prefix is completes))
+          (λ js images prefix. others.prefix js (record { images = images; prefix = prefix }));
     }
 
 -- ---- the chain
 
-pub chain_has_run : (lanes : ℕ) (tools : List Tool) (ends : List StageEnd) (links : List Link) (r r' s s' : List Message) → AreLawfulTools tools → HasRunStages lanes tools ends links r r' s s' → HasRunChain lanes tools ends links r r' s s'
+pub chain_has_run : (lanes : ℕ) (tools : List Tool) (ends : List StageEnd) (links : List Link) (r r' s s' : List Message) → AreLawfulTools tools
+    → HasRunStages lanes tools ends links r r' s s' → HasRunChain lanes tools ends links r r' s s'
 chain_has_run lanes tools ends links r r' s s' lawful run =
     let counts = count lanes tools ends links run.took run.gave run.stages in
     record {
@@ -167,12 +198,16 @@ chain_has_run lanes tools ends links r r' s s' lawful run =
     }
 
 -- a chain of one
-pub one_stage : (lanes : ℕ) (tool : Tool) (end : StageEnd) (r r' left s s' : List Message) → HasRunTool lanes tool end r r' left s s' → HasRunStages lanes (tool ∷ []) (end ∷ []) [] r r' s s'
-one_stage lanes tool end r r' left s s' run = record { took = run.took; gave = run.gave; input = run.input; output = run.output; stages = (refl, refl, run.stage) }
+pub one_stage : (lanes : ℕ) (tool : Tool) (end : StageEnd) (r r' left s s' : List Message) → HasRunTool lanes tool end r r' left s s'
+    → HasRunStages lanes (tool ∷ []) (end ∷ []) [] r r' s s'
+one_stage lanes tool end r r' left s s' run =
+    record { took = run.took; gave = run.gave; input = run.input; output = run.output; stages = (refl, refl, run.stage) }
 
 -- a chain, and a stage after it, over a ring that had passed nothing before
-stages_after : (lanes : ℕ) (tools : List Tool) (ends : List StageEnd) (links : List Link) (tool : Tool) (end : StageEnd) (link : Link) (r r' s s' left p p' c c' : List Message)
-    → p ≡ [] → c ≡ [] → HasRunStages lanes tools ends links r r' p p' → HasRunTool lanes tool end c c' left s s' → IsWhole link → sent link.producer ≡ p' → received link.consumer ≡ c'
+stages_after : (lanes : ℕ) (tools : List Tool) (ends : List StageEnd) (links : List Link) (tool : Tool) (end : StageEnd) (link : Link)
+    (r r' s s' left p p' c c' : List Message)
+    → p ≡ [] → c ≡ [] → HasRunStages lanes tools ends links r r' p p' → HasRunTool lanes tool end c c' left s s' → IsWhole link → sent link.producer ≡ p'
+    → received link.consumer ≡ c'
     → HasRunStages lanes (tools ++ tool ∷ []) (ends ++ end ∷ []) (links ++ link ∷ []) r r' s s'
 stages_after lanes tools ends links tool end link r r' s s' left p p' c c' no_p no_c run last whole sends receives =
     let gave : p' ≡ run.gave = run.output ∙ ap (λ (x : List Message). x ++ run.gave) no_p in
@@ -182,13 +217,17 @@ stages_after lanes tools ends links tool end link r r' s s' left p p' c c' no_p 
       gave = last.gave;
       input = run.input;
       output = last.output;
-      stages = add_stage lanes tools ends links tool end link run.took last.gave (subst (AreStages lanes tools ends links run.took) (sym (sends ∙ gave)) run.stages) whole (subst (λ (x : List Message). IsStageOver lanes tool end x last.gave) (sym (receives ∙ took)) last.stage);
+      stages = add_stage lanes tools ends links tool end link run.took last.gave
+          (subst (AreStages lanes tools ends links run.took) (sym (sends ∙ gave)) run.stages) whole
+          (subst (λ (x : List Message). IsStageOver lanes tool end x last.gave) (sym (receives ∙ took)) last.stage);
     }
 
 -- the lists that came of it
-pub stages_joined : (lanes : ℕ) (tools all : List Tool) (ends all_ends : List StageEnd) (links all_links : List Link) (tool : Tool) (end : StageEnd) (r r' s s' left p p' c c' : List Message)
+pub stages_joined : (lanes : ℕ) (tools all : List Tool) (ends all_ends : List StageEnd) (links all_links : List Link) (tool : Tool) (end : StageEnd)
+    (r r' s s' left p p' c c' : List Message)
     → p ≡ [] → c ≡ [] → HasRunStages lanes tools ends links r r' p p' → HasRunTool lanes tool end c c' left s s'
-    → all ≡ tools ++ tool ∷ [] → all_ends ≡ ends ++ end ∷ [] → (link : Link) × (all_links ≡ links ++ link ∷ []) × IsWhole link × (sent link.producer ≡ p') × (received link.consumer ≡ c')
+    → all ≡ tools ++ tool ∷ [] → all_ends ≡ ends ++ end ∷ [] → (link : Link) × (all_links ≡ links ++ link ∷ []) × IsWhole link × (sent link.producer ≡ p')
+    × (received link.consumer ≡ c')
     → HasRunStages lanes all all_ends all_links r r' s s'
 stages_joined lanes tools all ends all_ends links all_links tool end r r' s s' left p p' c c' no_p no_c run last parts end_last link =
     let joined = stages_after lanes tools ends links tool end link.0 r r' s s' left p p' c c' no_p no_c run last link.2 link.3 link.4 in
@@ -197,26 +236,30 @@ stages_joined lanes tools all ends all_ends links all_links tool end r r' s s' l
     (subst (λ (x : List Link). HasRunStages lanes (tools ++ tool ∷ []) (ends ++ end ∷ []) x r r' s s') (sym link.1) joined))
 
 -- a chain that came back
-pub came_back : {B : Type 0} (lanes : ℕ) (tools : List Tool) (links_room ends_room : ℕ) (input : Receiver) (output : Sender) (P : B → Type 0) (result : Option (ChainDone × B)) (done : ChainDone) (b : B)
-    → IfSome result (λ r. HasRunBetween lanes tools links_room ends_room input output r.0 × P r.1) → result ≡ Some (done, b)
-    → HasRunBetween lanes tools links_room ends_room input output done × P b
-came_back {B = B} lanes tools links_room ends_room input output P result done b has is =
-    subst (λ (x : Option (ChainDone × B)). IfSome x (λ r. HasRunBetween lanes tools links_room ends_room input output r.0 × P r.1)) is has
+pub came_back : {B : Type 0} (lanes : ℕ) (tools : List Tool) (links_reserved ends_reserved : ℕ) (input : Receiver) (output : Sender) (P : B → Type 0)
+    (result : Option (ChainDone × B)) (done : ChainDone) (b : B)
+    → IfSome result (λ r. HasRunBetween lanes tools links_reserved ends_reserved input output r.0 × P r.1) → result ≡ Some (done, b)
+    → HasRunBetween lanes tools links_reserved ends_reserved input output done × P b
+came_back {B = B} lanes tools links_reserved ends_reserved input output P result done b has is =
+    subst (λ (x : Option (ChainDone × B)). IfSome x (λ r. HasRunBetween lanes tools links_reserved ends_reserved input output r.0 × P r.1)) is has
 
 -- what a tool of a chain has passed between these ring ends, which came back
 abbrev pub HasRunToolBetween : ℕ → Tool → Receiver → Sender → StageDone → Type 0
 HasRunToolBetween lanes tool input output done =
-    SameConsumer input done.input × SameProducer output done.output × HasRunTool lanes tool done.end (received input) (received done.input) (known_items done.input) (sent output) (sent done.output)
+    SameConsumer input done.input × SameProducer output done.output × HasRunTool lanes tool done.end (received input) (received done.input)
+    (known_items done.input) (sent output) (sent done.output)
 
 -- a tool that came back
-pub tool_came_back : (lanes : ℕ) (tool : Tool) (input : Receiver) (output : Sender) (result : Option StageDone) (done : StageDone) → IfSome result (HasRunToolBetween lanes tool input output) → result ≡ Some done
+pub tool_came_back : (lanes : ℕ) (tool : Tool) (input : Receiver) (output : Sender) (result : Option StageDone) (done : StageDone)
+    → IfSome result (HasRunToolBetween lanes tool input output) → result ≡ Some done
     → HasRunToolBetween lanes tool input output done
 tool_came_back lanes tool input output result done has is = subst (λ (x : Option StageDone). IfSome x (HasRunToolBetween lanes tool input output)) is has
 
 -- there is still room for a link and an end
-pub has_room : (count lanes : ℕ) (tools : List Tool) (links_room ends_room : ℕ) (input : Receiver) (output : Sender) (done : ChainDone) → HasRunBetween lanes tools links_room ends_room input output done → length tools + 1 ≤ count → count ≤ links_room → count ≤ ends_room
+pub has_reserved : (count lanes : ℕ) (tools : List Tool) (links_reserved ends_reserved : ℕ) (input : Receiver) (output : Sender) (done : ChainDone)
+    → HasRunBetween lanes tools links_reserved ends_reserved input output done → length tools + 1 ≤ count → count ≤ links_reserved → count ≤ ends_reserved
     → (length done.links.items < vec_capacity done.links) × (length done.ends.items < vec_capacity done.ends)
-has_room most lanes tools links_room ends_room input output done has few links ends =
+has_reserved most lanes tools links_reserved ends_reserved input output done has few links ends =
     let counts = count lanes tools done.ends.items done.links.items has.ran.took has.ran.gave has.ran.stages in
     (omega (arith, counts.1, has.for_links), omega (arith, counts.0, has.for_ends))
 
@@ -230,8 +273,10 @@ lawful_last (t ∷ tools) tool lawful =
 pub last_is_lawful : (all tools : List Tool) (tool : Tool) → all ≡ tools ++ tool ∷ [] → AreLawfulTools all → IsLawfulTool tool × AreLawfulTools tools
 last_is_lawful all tools tool parts lawful = lawful_last tools tool (subst AreLawfulTools parts lawful)
 
-pub chain_came_back : {B : Type 0} (lanes : ℕ) (tools : List Tool) (links_room ends_room : ℕ) (input : Receiver) (output : Sender) (result : Result (ChainDone × B) NoStart) → AreLawfulTools tools
-    → IfOk result (λ r. HasRunBetween lanes tools links_room ends_room input output r.0)
+pub chain_came_back : {B : Type 0} (lanes : ℕ) (tools : List Tool) (links_reserved ends_reserved : ℕ) (input : Receiver) (output : Sender)
+    (result : Result (ChainDone × B) NoStart) → AreLawfulTools tools
+    → IfOk result (λ r. HasRunBetween lanes tools links_reserved ends_reserved input output r.0)
     → IfOk result (λ r. HasRunChain lanes tools r.0.ends.items r.0.links.items (received input) (received r.0.input) (sent output) (sent r.0.output))
-chain_came_back lanes tools links_room ends_room input output (Ok (done, b)) lawful has = chain_has_run lanes tools done.ends.items done.links.items (received input) (received done.input) (sent output) (sent done.output) lawful has.ran
-chain_came_back lanes tools links_room ends_room input output (Err refused) lawful has = tt
+chain_came_back lanes tools links_reserved ends_reserved input output (Ok (done, b)) lawful has =
+    chain_has_run lanes tools done.ends.items done.links.items (received input) (received done.input) (sent output) (sent done.output) lawful has.ran
+chain_came_back lanes tools links_reserved ends_reserved input output (Err refused) lawful has = tt

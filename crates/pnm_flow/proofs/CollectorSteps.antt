@@ -8,9 +8,9 @@ use Rattle.pnm_image.specs.Messages.{without_stop}
 use Rattle.pnm_tools.specs.Answers.{Ending, More, Whole, BrokenOff, ending_of}
 use Rattle.pnm_tools.proofs.SoundLaws.{IsUnbroken, unbroken_keeps_all}
 use Rattle.pnm_flow.specs.declared.collector.Collector.{Collector}
-use Rattle.pnm_flow.specs.Collectors.{EndedBy, HasPut, IsCollecting}
+use Rattle.pnm_flow.specs.Collectors.{EndedBy, HasCollected, IsCollecting}
 use Rattle.pnm_stages.proofs.RingSteps.{ends_as}
-use Rattle.pnm_stages.proofs.FrontLaws.{stop_is_cut}
+use Rattle.pnm_stages.proofs.PrefixLaws.{stop_is_cut}
 
 -- ---- whether messages have ended, with one more
 
@@ -29,7 +29,8 @@ ends_broken_off false l m going ended same = inr (ends_as BrokenOff l m ended sa
 -- ---- what is written of them
 
 -- every message but Stop is
-pub keeps_last : (e : Ending) (b : Bool) (l : List Message) (m : Message) → IsUnbroken e → b ≡ false → EndedBy b l → ending_of m ≡ e → without_stop l ++ m ∷ [] ≡ without_stop (l ++ m ∷ [])
+pub keeps_last : (e : Ending) (b : Bool) (l : List Message) (m : Message) → IsUnbroken e → b ≡ false → EndedBy b l → ending_of m ≡ e
+    → without_stop l ++ m ∷ [] ≡ without_stop (l ++ m ∷ [])
 keeps_last e true l m unbroken going ended same = absurd cc
 keeps_last e false l m unbroken going ended same =
     ap (λ (x : List Message). x ++ m ∷ []) (unbroken_keeps_all More l tt ended) ∙ sym (unbroken_keeps_all e (l ++ m ∷ []) unbroken (ends_as e l m ended same))
@@ -44,9 +45,10 @@ cuts_last false l Stop going ended same = unbroken_keeps_all More l tt ended ∙
 
 -- ---- what came from the ring
 
-pub collects_one : {W : Type 0} (held : W → Option (List ℕ)) (failures : W → ℕ) (form : Form) (start : W) (before : List Message) (m : Message) (old new : Collector W)
+pub collects_one : {W : Type 0} (held : W → Option (List ℕ)) (failures : W → ℕ) (form : Form) (start : W) (before : List Message) (m : Message)
+    (old new : Collector W)
     → received new.input ≡ received old.input ++ m ∷ []
-    → ((l : List Message) → HasPut held failures form start l old → HasPut held failures form start (l ++ m ∷ []) new)
+    → ((l : List Message) → HasCollected held failures form start l old → HasCollected held failures form start (l ++ m ∷ []) new)
     → IsCollecting held failures form start before old → IsCollecting held failures form start before new
 collects_one held failures form start before m old new added puts was = record {
   took = was.took ++ m ∷ [];

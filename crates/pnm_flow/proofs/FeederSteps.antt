@@ -11,7 +11,7 @@ use Rattle.pnm_read.specs.Sources.{reader_of, stopped_by, MayGive, SeesEnd, Tell
 use Rattle.pnm_read.proofs.Consumed.{consumes_then}
 use Rattle.pnm_read.proofs.Turns.{no_fault}
 use Rattle.pnm_flow.specs.declared.feeder.Feeder.{Feeder}
-use Rattle.pnm_flow.specs.Feeders.{HasAsked, HasAskedAll, HasAskedBy, IsFeeding, closing, waiting}
+use Rattle.pnm_flow.specs.Feeders.{HasAsked, HasAskedAll, HasAskedBy, IsFeeding, closing_messages, waiting_messages}
 use Rattle.pnm_flow.proofs.FeedingSteps.{may_give, IsUnreadAfter, unread_after, read_failure, fault_answer, given_is_sound, open_in_call, failed_in_call}
 
 -- ---- the source
@@ -45,7 +45,8 @@ asked_all left failures first source next given asked t unread count = record {
   consumed = consumes_then (left (reader_of first)) (left (reader_of source)) (left (reader_of next)) asked.read t.more asked.consumed t.consumed;
   sound = given_is_sound source asked.read given asked.told;
   told = λ rest may.
-      let still = may_give left failures first next (Ok tt) rest (unread_after left source next asked.end unread) (λ failed. absurd (no_fault tt ReadFailed failed.0)) may in
+      let still = may_give left failures first next (Ok tt) rest (unread_after left source next asked.end unread)
+      (λ failed. absurd (no_fault tt ReadFailed failed.0)) may in
       (t.told asked.read given asked.told).1 rest still;
   count = λ not. count ∙ asked.count;
   read_failed = λ e. absurd cc;
@@ -70,8 +71,10 @@ asked_until left failures first source next given fault asked t unread anything 
       (λ is. open_in_call source next asked.read given asked.told (anything (read_failure fault _ refl is.0))) may in
       t.told asked.read given asked.told rest still;
   count = λ not. count (λ e. not (ap Err (read_failure fault _ refl e))) ∙ asked.count;
-  read_failed = λ e. failed_in_call source asked.read given (failures (reader_of source)) (failures (reader_of next)) (failures (reader_of first)) asked.told asked.count (failed cc);
-  after_failed_read = λ e rest. t.told asked.read given asked.told rest (open_in_call source next asked.read given asked.told (anything (read_failure fault _ refl e)) rest);
+  read_failed = λ e. failed_in_call source asked.read given (failures (reader_of source)) (failures (reader_of next)) (failures (reader_of first)) asked.told
+      asked.count (failed cc);
+  after_failed_read =
+      λ e rest. t.told asked.read given asked.told rest (open_in_call source next asked.read given asked.told (anything (read_failure fault _ refl e)) rest);
 }
 
 -- ---- the feeder
@@ -80,8 +83,8 @@ asked_until left failures first source next given fault asked t unread anything 
 sent_so_far : {R : Type 0} (left : R → Option (List ℕ)) (failures : R → ℕ) (first : Source R) (before : List Message) (f : Feeder R)
     → f.held ≡ None → f.input ≡ None → (feeding : IsFeeding left failures first before f) → sent f.output ≡ before ++ feeding.given
 sent_so_far left failures first before f held input feeding =
-    sym (append-nil (sent f.output)) ∙ ap (λ h. sent f.output ++ waiting h) (sym held) ∙ feeding.passed
-    ∙ ap (λ i. before ++ (feeding.given ++ closing i)) input ∙ ap (λ g. before ++ g) (append-nil feeding.given)
+    sym (append-nil (sent f.output)) ∙ ap (λ h. sent f.output ++ waiting_messages h) (sym held) ∙ feeding.passed
+    ∙ ap (λ i. before ++ (feeding.given ++ closing_messages i)) input ∙ ap (λ g. before ++ g) (append-nil feeding.given)
 
 -- the source hasn't ended
 asked_of : {R : Type 0} (left : R → Option (List ℕ)) (failures : R → ℕ) (first : Source R) (before : List Message) (f : Feeder R)
@@ -89,7 +92,8 @@ asked_of : {R : Type 0} (left : R → Option (List ℕ)) (failures : R → ℕ) 
 asked_of left failures first before f input feeding = subst (HasAskedBy left failures first f.source feeding.given) input feeding.asked
 
 -- a message was given, and waits for room
-pub feeds_more : {R : Type 0} (left : R → Option (List ℕ)) (failures : R → ℕ) (first : Source R) (before : List Message) (f : Feeder R) (next : Source R) (m : Message)
+pub feeds_more : {R : Type 0} (left : R → Option (List ℕ)) (failures : R → ℕ) (first : Source R) (before : List Message) (f : Feeder R) (next : Source R)
+    (m : Message)
     → f.held ≡ None → f.input ≡ None
     → Tells left f.source (Ok (Some m)) next
     → (SeesEnd left f.source → SeesEnd left next)
@@ -104,7 +108,8 @@ feeds_more left failures first before f next m held input t end unread count fee
       given = feeding.given ++ m ∷ [];
       asked = subst (HasAskedBy left failures first next (feeding.given ++ m ∷ [])) (sym input) asked;
       passed = ap (λ s. s ++ m ∷ []) (sent_so_far left failures first before f held input feeding) ∙ append_assoc before feeding.given (m ∷ [])
-          ∙ ap (λ g. before ++ g) (sym (append-nil (feeding.given ++ m ∷ []))) ∙ ap (λ i. before ++ ((feeding.given ++ m ∷ []) ++ closing i)) (sym input);
+          ∙ ap (λ g. before ++ g) (sym (append-nil (feeding.given ++ m ∷ []))) ∙ ap (λ i. before ++ ((feeding.given ++ m ∷ []) ++ closing_messages i))
+          (sym input);
       none_waits = λ e. absurd cc;
     }
 
@@ -115,16 +120,18 @@ pub feeds_all : {R : Type 0} (left : R → Option (List ℕ)) (failures : R → 
     → IsUnreadAfter left f.source next
     → failures (reader_of next) ≡ failures (reader_of f.source)
     → IsFeeding left failures first before f
-    → IsFeeding left failures first before (record { source = next; output = f.output; held = f.held; input = Some (Ok tt); is_gone = f.is_gone; images = f.images })
+    → IsFeeding left failures first before
+    (record { source = next; output = f.output; held = f.held; input = Some (Ok tt); is_gone = f.is_gone; images = f.images })
 feeds_all left failures first before f next held input t unread count feeding = record {
   given = feeding.given;
   asked = asked_all left failures first f.source next feeding.given (asked_of left failures first before f input feeding) t unread count;
-  passed = feeding.passed ∙ ap (λ i. before ++ (feeding.given ++ closing i)) input;
+  passed = feeding.passed ∙ ap (λ i. before ++ (feeding.given ++ closing_messages i)) input;
   none_waits = λ e. held;
 }
 
 -- the input had a fault, and Stop waits for room
-pub feeds_until : {R : Type 0} (left : R → Option (List ℕ)) (failures : R → ℕ) (first : Source R) (before : List Message) (f : Feeder R) (next : Source R) (fault : InputFault)
+pub feeds_until : {R : Type 0} (left : R → Option (List ℕ)) (failures : R → ℕ) (first : Source R) (before : List Message) (f : Feeder R) (next : Source R)
+    (fault : InputFault)
     → f.held ≡ None → f.input ≡ None
     → Tells left f.source (Err fault) next
     → IsUnreadAfter left f.source next
@@ -132,10 +139,12 @@ pub feeds_until : {R : Type 0} (left : R → Option (List ℕ)) (failures : R �
     → (fault ≡ ReadFailed → (stopped_by f.source ≡ Some ReadFailed) ⊎ Failed (failures (reader_of f.source)) (failures (reader_of next)))
     → ((fault_answer fault ≡ Err ReadFailed → ⊥) → failures (reader_of next) ≡ failures (reader_of f.source))
     → IsFeeding left failures first before f
-    → IsFeeding left failures first before (record { source = next; output = f.output; held = Some Stop; input = Some (Err fault); is_gone = f.is_gone; images = f.images })
+    → IsFeeding left failures first before
+    (record { source = next; output = f.output; held = Some Stop; input = Some (Err fault); is_gone = f.is_gone; images = f.images })
 feeds_until left failures first before f next fault held input t unread anything failed count feeding = record {
   given = feeding.given;
-  asked = asked_until left failures first f.source next feeding.given fault (asked_of left failures first before f input feeding) t unread anything failed count;
+  asked = asked_until left failures first f.source next feeding.given fault (asked_of left failures first before f input feeding) t unread anything failed
+      count;
   passed = ap (λ s. s ++ Stop ∷ []) (sent_so_far left failures first before f held input feeding) ∙ append_assoc before feeding.given (Stop ∷ []);
   none_waits = λ e. absurd cc;
 }

@@ -9,11 +9,14 @@ use Rattle.pnm_write.proofs.FormLaws.{first_of_two, form_fault_of-more, taken_if
 use Rattle.pnm_write.proofs.MessageLaws.{written_all}
 
 -- nothing is written of a last message where one is refused
-not_written : (form : Form) (ms : List Message) (m : Message) (fault : SinkFault) → form_fault_of form (ms ++ m ∷ []) ≡ Some fault → written_of form (ms ++ m ∷ []) ≡ written_of form ms
-not_written form ms m fault refused = ap (bytes_of form) (taken_by-more form ms m ∙ ap (λ (o : Option SinkFault). taken_if o (taken_by form ms) (ms ++ m ∷ [])) refused)
+not_written : (form : Form) (ms : List Message) (m : Message) (fault : SinkFault) → form_fault_of form (ms ++ m ∷ []) ≡ Some fault
+    → written_of form (ms ++ m ∷ []) ≡ written_of form ms
+not_written form ms m fault refused =
+    ap (bytes_of form) (taken_by-more form ms m ∙ ap (λ (o : Option SinkFault). taken_if o (taken_by form ms) (ms ++ m ∷ [])) refused)
 
 -- the last is the first that is refused
-pub refused_last : (form : Form) (ms : List Message) (m : Message) (fault : SinkFault) → form_fault_of form ms ≡ None → form_fault form (has_begun_by false ms) m ≡ Some fault
+pub refused_last : (form : Form) (ms : List Message) (m : Message) (fault : SinkFault) → form_fault_of form ms ≡ None
+    → form_fault form (has_begun_by false ms) m ≡ Some fault
     → (form_fault_of form (ms ++ m ∷ []) ≡ Some fault) × (written_of form (ms ++ m ∷ []) ≡ bytes_of form ms)
 refused_last form ms m fault none is =
     let refused = form_fault_of-more form ms m ∙ ap (λ (o : Option SinkFault). first_of_two o (form_fault form (has_begun_by false ms) m)) none ∙ is in

@@ -4,43 +4,55 @@ use Rattle.pnm_image.specs.declared.message.Message.{Message}
 use Rattle.pnm_image.specs.declared.message.Message.TheVariants.{Begin}
 use Rattle.pnm_image.specs.declared.place.Place.TheVariants.{Between}
 use Rattle.pnm_image.specs.Places.{IsLawful}
-use Rattle.pnm_image.proofs.Places.{lawful_front, next_may_come}
+use Rattle.pnm_image.proofs.Places.{lawful_prefix, next_may_come}
 use Rattle.pnm_tools.specs.declared.fault.ToolFault.{ToolFault}
 use Rattle.pnm_tools.specs.declared.fault.ToolFault.TheVariants.{CutOutside, ChannelOutside, TooLarge, OutOfOrder, Memory}
 use Rattle.pnm_tools.specs.declared.tool.Tool.{Tool}
-use Rattle.pnm_tools.specs.Answering.{answered_from}
+use Rattle.pnm_tools.specs.Answering.{answers_from}
 use Rattle.pnm_tools.specs.Answers.{AnswersInFull}
 use Rattle.pnm_tools.specs.ChainAnswers.{HasRefused, IsRefusedNext}
 use Rattle.pnm_tools.specs.Tools.{IsLawfulTool}
 use Rattle.pnm_tools.proofs.FullLaws.{answering_in_full}
 use Rattle.pnm_tools.proofs.ToolLaws.{tool_answers_images}
-use Rattle.pnm_lanes.specs.Lanes.{IsFirstRefusal, IsFaultOf}
+use Rattle.pnm_lanes.specs.Lanes.{IsFirstRefusedHead, IsFaultOf}
 use Rattle.pnm_flow.proofs.EndSteps.{not_started}
 
 -- the answers to the messages before the first head that is refused
-before_refusal : (tool : Tool) (fault : ToolFault) (l : List Message) → IsLawfulTool tool → IsLawful l → (found : IsFirstRefusal tool fault l) → AnswersInFull tool found.front (answered_from tool Between [] found.front)
+before_refusal : (tool : Tool) (fault : ToolFault) (l : List Message) → IsLawfulTool tool → IsLawful l → (found : IsFirstRefusedHead tool fault l)
+    → AnswersInFull tool found.prefix (answers_from tool Between [] found.prefix)
 before_refusal tool fault l of_range lawful found =
-    answering_in_full tool found.front (answered_from tool Between [] found.front) (tool_answers_images tool of_range) (record {
-      lawful = lawful_front Between found.front (Begin found.head ∷ found.rest) (subst IsLawful found.parts lawful);
+    answering_in_full tool found.prefix (answers_from tool Between [] found.prefix) (tool_answers_images tool of_range) (record {
+      lawful = lawful_prefix Between found.prefix (Begin found.head ∷ found.rest) (subst IsLawful found.parts lawful);
       taken = found.taken;
-      given = sym (append-nil (answered_from tool Between [] found.front));
+      given = sym (append-nil (answers_from tool Between [] found.prefix));
     })
 
 -- a tool that answers them, and then refuses that head
-refused_at : (tool : Tool) (fault : ToolFault) (l : List Message) → IsLawfulTool tool → IsLawful l → (found : IsFirstRefusal tool fault l) → IsRefusedNext tool fault found.front (Begin found.head ∷ found.rest)
+refused_at : (tool : Tool) (fault : ToolFault) (l : List Message) → IsLawfulTool tool → IsLawful l → (found : IsFirstRefusedHead tool fault l)
+    → IsRefusedNext tool fault found.prefix (Begin found.head ∷ found.rest)
     → (given : List Message) × HasRefused tool fault l given
 refused_at tool fault l of_range lawful found next =
     let full = before_refusal tool fault l of_range lawful found in (
-      answered_from tool Between [] found.front,
-      record { accepted = found.front; rest = Begin found.head ∷ found.rest; parts = found.parts; taken = found.taken; answers = full.answers; refused = inr (full, next) },
+      answers_from tool Between [] found.prefix,
+      record {
+        accepted = found.prefix;
+        rest = Begin found.head ∷ found.rest;
+        parts = found.parts;
+        taken = found.taken;
+        answers = full.answers;
+        refused = inr (full, next);
+      },
     )
 
 -- a fault of lanes is a refusal of the tool, if the messages are in order
-pub refused_in_lanes : (tool : Tool) (fault : ToolFault) (l : List Message) → IsLawfulTool tool → IsLawful l → IsFaultOf tool fault l → (given : List Message) × HasRefused tool fault l given
+pub refused_in_lanes : (tool : Tool) (fault : ToolFault) (l : List Message) → IsLawfulTool tool → IsLawful l → IsFaultOf tool fault l → (given : List Message)
+    × HasRefused tool fault l given
 refused_in_lanes tool CutOutside l of_range lawful found = absurd found
 refused_in_lanes tool ChannelOutside l of_range lawful (whole, found) =
-    refused_at tool ChannelOutside l of_range lawful found ((refl, next_may_come Between found.front (Begin found.head) found.rest (subst IsLawful found.parts lawful)), found.refused)
+    refused_at tool ChannelOutside l of_range lawful found
+    ((refl, next_may_come Between found.prefix (Begin found.head) found.rest (subst IsLawful found.parts lawful)), found.refused)
 refused_in_lanes tool TooLarge l of_range lawful (whole, found) =
-    refused_at tool TooLarge l of_range lawful found ((refl, next_may_come Between found.front (Begin found.head) found.rest (subst IsLawful found.parts lawful)), found.refused)
+    refused_at tool TooLarge l of_range lawful found
+    ((refl, next_may_come Between found.prefix (Begin found.head) found.rest (subst IsLawful found.parts lawful)), found.refused)
 refused_in_lanes tool OutOfOrder l of_range lawful found = absurd (found lawful)
 refused_in_lanes tool Memory l of_range lawful found = ([], not_started tool l)

@@ -17,6 +17,7 @@ pub mod ToolOverLaws
 pub mod ChainSteps
 pub mod StageEndLaws
 pub mod ThreadedRunSteps
+pub mod ThreadedAnswerSteps
 pub mod FeederSteps
 pub mod CollectorSteps
 pub mod TurnSteps

@@ -4,28 +4,28 @@ use Rattle.pnm_image.specs.declared.format.Form.{Form}
 use Rattle.pnm_image.specs.declared.message.Message.{Message}
 use Rattle.pnm_image.specs.declared.place.Place.TheVariants.{Between}
 use Rattle.pnm_image.specs.Places.{place_of}
-use Rattle.pnm_image.proofs.Places.{lawful_front, next_may_come}
-use Rattle.pnm_image.proofs.Lists.{all_of_front, each-middle}
+use Rattle.pnm_image.proofs.Places.{lawful_prefix, next_may_come}
+use Rattle.pnm_image.proofs.Lists.{all_of_prefix, each-middle}
 use Rattle.pnm_write.specs.Encoding.{bytes_from, bytes_of}
 use Rattle.pnm_write.specs.Sinks.{HasRows, IsInOrder}
 use Rattle.pnm_write.proofs.MessageLaws.{bytes_from-append}
-use Rattle.pnm_flow.specs.Counts.{images_after, rows_after, images_in, rows_in}
+use Rattle.pnm_flow.specs.Counts.{image_count_after, row_count_after, images_in, rows_in}
 use Rattle.pnm_flow.specs.Downstreams.{AreWritable}
 
-pub images_in-push : (images : ℕ) (ms : List Message) (m : Message) → images_in images (ms ++ m ∷ []) ≡ images_after (images_in images ms) m
+pub images_in-push : (images : ℕ) (ms : List Message) (m : Message) → images_in images (ms ++ m ∷ []) ≡ image_count_after (images_in images ms) m
 images_in-push images [] m = refl
-images_in-push images (n ∷ ms) m = images_in-push (images_after images n) ms m
+images_in-push images (n ∷ ms) m = images_in-push (image_count_after images n) ms m
 
-pub rows_in-push : (rows : ℕ) (ms : List Message) (m : Message) → rows_in rows (ms ++ m ∷ []) ≡ rows_after (rows_in rows ms) m
+pub rows_in-push : (rows : ℕ) (ms : List Message) (m : Message) → rows_in rows (ms ++ m ∷ []) ≡ row_count_after (rows_in rows ms) m
 rows_in-push rows [] m = refl
-rows_in-push rows (n ∷ ms) m = rows_in-push (rows_after rows n) ms m
+rows_in-push rows (n ∷ ms) m = rows_in-push (row_count_after rows n) ms m
 
--- the bytes of messages are a front of the bytes of these and more
+-- the bytes of messages are a prefix of the bytes of these and more
 pub bytes_of-append : (form : Form) (ms ns : List Message) → (more : List ℕ) × (bytes_of form (ms ++ ns) ≡ bytes_of form ms ++ more)
 bytes_of-append form ms ns = (bytes_from form (place_of Between ms) ns, bytes_from-append form Between ms ns)
 
-pub front_is_writable : (ms ns : List Message) → AreWritable (ms ++ ns) → AreWritable ms
-front_is_writable ms ns writable = (lawful_front Between ms ns writable.0, all_of_front HasRows ms ns writable.1)
+pub prefix_is_writable : (ms ns : List Message) → AreWritable (ms ++ ns) → AreWritable ms
+prefix_is_writable ms ns writable = (lawful_prefix Between ms ns writable.0, all_of_prefix HasRows ms ns writable.1)
 
 -- the last of messages that may be written comes in order where those before it lead
 pub last_is_in_order : (ms : List Message) (m : Message) → AreWritable (ms ++ m ∷ []) → IsInOrder (place_of Between ms) m

@@ -61,7 +61,8 @@ chain_results number (tool ∷ tools) is none =
 
 -- its reason is one that a form has
 plain_reason : (kind : Kind) (more : List Image) (fault : SinkFault)
-    → (elim (plain_kind_fault kind) [ Some found ↦ Some found | None ↦ elim more [ [] ↦ None | next ∷ others ↦ Some SecondPlain ] ]) ≡ Some fault → IsFormFault Plain fault
+    → (elim (plain_kind_fault kind) [ Some found ↦ Some found | None ↦ elim more [ [] ↦ None | next ∷ others ↦ Some SecondPlain ] ]) ≡ Some fault
+    → IsFormFault Plain fault
 plain_reason Bit [] fault is = absurd cc
 plain_reason Bit (next ∷ more) fault is = let same : SecondPlain ≡ fault = cc in subst (IsFormFault Plain) same tt
 plain_reason Gray [] fault is = absurd cc

@@ -27,13 +27,16 @@ sent_whole : (tool : Tool) (took gave : List Message) → HasEndedWell tool took
 sent_whole tool took gave ended = subst (EndsBy Whole) (sym ended.answer) (stream_ends_whole ended.results)
 
 -- the next one received it all
-received_all : (lanes : ℕ) (end : StageEnd) (ends : List StageEnd) (tools : List Tool) (link : Link) (links : List Link) (tool : Tool) (took gave : List Message) → end ≡ Well → FirstIsThere ends → AreStages lanes (tool ∷ tools) (end ∷ ends) (link ∷ links) took gave → received link.consumer ≡ sent link.producer
+received_all : (lanes : ℕ) (end : StageEnd) (ends : List StageEnd) (tools : List Tool) (link : Link) (links : List Link) (tool : Tool)
+    (took gave : List Message) → end ≡ Well → FirstIsThere ends → AreStages lanes (tool ∷ tools) (end ∷ ends) (link ∷ links) took gave
+    → received link.consumer ≡ sent link.producer
 received_all lanes end ends tools link links tool took gave well there are =
     let here : end ≢ PeerGone = λ gone. absurd cc in
     sym (append-nil (received link.consumer)) ∙ ap (λ (x : List Message). received link.consumer ++ x) (sym (are.2 here there)) ∙ sym are.1.in_order
 
 -- the first stage behind saw no end dropped, where that isn't the first fault
-pub next_is_there : (lanes : ℕ) (from number : ℕ) (fault : ToolFault) (tools : List Tool) (ends : List StageEnd) (links : List Link) (took gave : List Message) → AreStages lanes tools ends links took gave → first_fault_from from ends ≡ Some (OfTool number fault) → FirstIsThere ends
+pub next_is_there : (lanes : ℕ) (from number : ℕ) (fault : ToolFault) (tools : List Tool) (ends : List StageEnd) (links : List Link) (took gave : List Message)
+    → AreStages lanes tools ends links took gave → first_fault_from from ends ≡ Some (OfTool number fault) → FirstIsThere ends
 next_is_there lanes from number fault [] ends links took gave are first = absurd are
 next_is_there lanes from number fault (t ∷ tools) [] links took gave are first = absurd are
 next_is_there lanes from number fault (t ∷ tools) (Well ∷ ends) links took gave are first = λ gone. absurd cc
@@ -41,7 +44,8 @@ next_is_there lanes from number fault (t ∷ tools) (Broken ∷ ends) links took
 next_is_there lanes from number fault (t ∷ tools) (Fault other ∷ ends) links took gave are first = λ gone. absurd cc
 next_is_there lanes from number fault (t ∷ tools) (PeerGone ∷ ends) links took gave are first = absurd cc
 
-pub next_is_well : (lanes : ℕ) (from : ℕ) (tools : List Tool) (ends : List StageEnd) (links : List Link) (took gave : List Message) → AreStages lanes tools ends links took gave → first_fault_from from ends ≡ None → FirstIsThere ends
+pub next_is_well : (lanes : ℕ) (from : ℕ) (tools : List Tool) (ends : List StageEnd) (links : List Link) (took gave : List Message)
+    → AreStages lanes tools ends links took gave → first_fault_from from ends ≡ None → FirstIsThere ends
 next_is_well lanes from [] ends links took gave are first = absurd are
 next_is_well lanes from (t ∷ tools) [] links took gave are first = absurd are
 next_is_well lanes from (t ∷ tools) (Well ∷ ends) links took gave are first = λ gone. absurd cc
@@ -58,11 +62,15 @@ pub record AllAnswered (tools : List Tool) (took gave : List Message) : Type 0 w
   pub well : AreWell faults
   pub ends : EndsBy Whole gave
 
-pub all_answered : (lanes : ℕ) (from : ℕ) (tools : List Tool) (ends : List StageEnd) (links : List Link) (took gave : List Message) → AreStages lanes tools ends links took gave → EndsBy Whole took → first_fault_from from ends ≡ None → AllAnswered tools took gave
+pub all_answered : (lanes : ℕ) (from : ℕ) (tools : List Tool) (ends : List StageEnd) (links : List Link) (took gave : List Message)
+    → AreStages lanes tools ends links took gave → EndsBy Whole took → first_fault_from from ends ≡ None → AllAnswered tools took gave
 all_answered lanes from [] ends links took gave are whole first = absurd are
 all_answered lanes from (t ∷ tools) [] links took gave are whole first = absurd are
-all_answered lanes from (t ∷ tools) (Broken ∷ ends) [] took gave are whole first = let two = one_ending Whole BrokenOff took whole (ended_broken lanes t took gave (stage_ended lanes t Broken took gave are.2)).ends in absurd cc
-all_answered lanes from (t ∷ tools) (Broken ∷ ends) (l ∷ links) took gave are whole first = let two = one_ending Whole BrokenOff took whole (ended_broken lanes t took (sent l.producer) (stage_ended lanes t Broken took (sent l.producer) are.0)).ends in absurd cc
+all_answered lanes from (t ∷ tools) (Broken ∷ ends) [] took gave are whole first = let two =
+    one_ending Whole BrokenOff took whole (ended_broken lanes t took gave (stage_ended lanes t Broken took gave are.2)).ends in absurd cc
+all_answered lanes from (t ∷ tools) (Broken ∷ ends) (l ∷ links) took gave are whole first = let two =
+    one_ending Whole BrokenOff took whole (ended_broken lanes t took (sent l.producer) (stage_ended lanes t Broken took (sent l.producer) are.0)).ends in
+    absurd cc
 all_answered lanes from (t ∷ tools) (Fault fault ∷ ends) links took gave are whole first = absurd cc
 all_answered lanes from (t ∷ tools) (PeerGone ∷ ends) links took gave are whole first = absurd cc
 all_answered lanes from (t ∷ []) (Well ∷ []) [] took gave are whole first =
@@ -91,12 +99,16 @@ pub record AnsweredUntil (tools : List Tool) (took : List Message) (from number 
 untold : (tools : List Tool) (received : List Message) (t : Tool) → HaveAnswered (t ∷ tools) (Some Memory ∷ map (λ tool. Some Memory) tools) received []
 untold tools received t = ([], not_started t received, none_started tools)
 
-pub answered_until : (lanes : ℕ) (from : ℕ) (tools : List Tool) (ends : List StageEnd) (links : List Link) (took gave : List Message) (number : ℕ) (fault : ToolFault) → AreLawfulTools tools → IsLawful took → AreStages lanes tools ends links took gave → EndsBy Whole took
+pub answered_until : (lanes : ℕ) (from : ℕ) (tools : List Tool) (ends : List StageEnd) (links : List Link) (took gave : List Message) (number : ℕ)
+    (fault : ToolFault) → AreLawfulTools tools → IsLawful took → AreStages lanes tools ends links took gave → EndsBy Whole took
     → first_fault_from from ends ≡ Some (OfTool number fault) → AnsweredUntil tools took from number fault
 answered_until lanes from [] ends links took gave number fault lawful in_order are whole first = absurd are
 answered_until lanes from (t ∷ tools) [] links took gave number fault lawful in_order are whole first = absurd are
-answered_until lanes from (t ∷ tools) (Broken ∷ ends) [] took gave number fault lawful in_order are whole first = let two = one_ending Whole BrokenOff took whole (ended_broken lanes t took gave (stage_ended lanes t Broken took gave are.2)).ends in absurd cc
-answered_until lanes from (t ∷ tools) (Broken ∷ ends) (l ∷ links) took gave number fault lawful in_order are whole first = let two = one_ending Whole BrokenOff took whole (ended_broken lanes t took (sent l.producer) (stage_ended lanes t Broken took (sent l.producer) are.0)).ends in absurd cc
+answered_until lanes from (t ∷ tools) (Broken ∷ ends) [] took gave number fault lawful in_order are whole first = let two =
+    one_ending Whole BrokenOff took whole (ended_broken lanes t took gave (stage_ended lanes t Broken took gave are.2)).ends in absurd cc
+answered_until lanes from (t ∷ tools) (Broken ∷ ends) (l ∷ links) took gave number fault lawful in_order are whole first = let two =
+    one_ending Whole BrokenOff took whole (ended_broken lanes t took (sent l.producer) (stage_ended lanes t Broken took (sent l.producer) are.0)).ends in
+    absurd cc
 answered_until lanes from (t ∷ tools) (PeerGone ∷ ends) links took gave number fault lawful in_order are whole first = absurd cc
 answered_until lanes from (t ∷ []) (Fault other ∷ ends) [] took gave number fault lawful in_order are whole first =
     let refused = ended_refused lanes t other took gave lawful.0 in_order (stage_ended lanes t (Fault other) took gave are.2) in
@@ -105,7 +117,12 @@ answered_until lanes from (t ∷ t2 ∷ tools) (Fault other ∷ ends) [] took ga
 answered_until lanes from (t ∷ []) (Fault other ∷ ends) (l ∷ links) took gave number fault lawful in_order are whole first = absurd are.3
 answered_until lanes from (t ∷ t2 ∷ tools) (Fault other ∷ ends) (l ∷ links) took gave number fault lawful in_order are whole first =
     let refused = ended_refused lanes t other took (sent l.producer) lawful.0 in_order (stage_ended lanes t (Fault other) took (sent l.producer) are.0) in
-    record { faults = Some other ∷ Some Memory ∷ map (λ tool. Some Memory) tools; last = []; answered = (refused.0, refused.1, untold tools refused.0 t2); first = (cc, cc) }
+    record {
+      faults = Some other ∷ Some Memory ∷ map (λ tool. Some Memory) tools;
+      last = [];
+      answered = (refused.0, refused.1, untold tools refused.0 t2);
+      first = (cc, cc);
+    }
 answered_until lanes from (t ∷ []) (Well ∷ []) [] took gave number fault lawful in_order are whole first = absurd cc
 answered_until lanes from (t ∷ []) (Well ∷ e2 ∷ ends) [] took gave number fault lawful in_order are whole first = let none = are.1 in absurd cc
 answered_until lanes from (t ∷ t2 ∷ tools) (Well ∷ ends) [] took gave number fault lawful in_order are whole first = let none = are.0 in absurd cc
@@ -114,5 +131,6 @@ answered_until lanes from (t ∷ tools) (Well ∷ ends) (l ∷ links) took gave 
     let there = next_is_there lanes (from + 1) number fault tools ends links (received l.consumer) gave are.3 first in
     let all = received_all lanes Well ends tools l links t took gave refl there are in
     let next = subst (λ (x : List Message). AreStages lanes tools ends links x gave) all are.3 in
-    let others = answered_until lanes (from + 1) tools ends links (sent l.producer) gave number fault lawful.1 (sent_in_order t took (sent l.producer) lawful.0 ended) next (sent_whole t took (sent l.producer) ended) first in
+    let others = answered_until lanes (from + 1) tools ends links (sent l.producer) gave number fault lawful.1
+    (sent_in_order t took (sent l.producer) lawful.0 ended) next (sent_whole t took (sent l.producer) ended) first in
     record { faults = None ∷ others.faults; last = others.last; answered = (sent l.producer, ended.full, others.answered); first = others.first }

@@ -1,19 +1,19 @@
 -- What a run over threads knows once all have ended, and what follows of it for its answer.
-use Rattle.std.proofs.Common.{◌≡◌, ◌≢◌, ◌⊎◌, inl, inr, ℕ, suc, drop, get_or, ◌+◌, ◌≤◌, ◌<◌, Bool, true, false, List, [], ◌∷◌, ◌++◌, length, Option, Some, None, Result, Ok, Err, refl, sym, ap, subst, ◌∙◌, append_assoc, append-nil, arith}
-use Rattle.std.proofs.Math.Seq.{drop-cons}
+use Rattle.std.proofs.Common.{◌≡◌, ◌≢◌, ◌⊎◌, inl, inr, ℕ, ◌+◌, ◌≤◌, ◌<◌, Bool, true, false, List, [], ◌∷◌, ◌++◌, length, Option, Some, None, Result, Ok, Err}
+use Rattle.std.proofs.Common.{refl, sym, ap, subst, ◌∙◌, append_assoc, append-nil}
 use Rattle.std.specs.Io.KnownBytes.{Consumes, Keeps}
-use Rattle.pnm_stages.specs.Rings.{sent, received, known_items}
+use Rattle.pnm_stages.specs.Rings.{sent, received, known_items, IsEnded}
 use Rattle.pnm_image.specs.Devices.{Failed}
 use Rattle.pnm_image.specs.declared.message.Message.{Message}
 use Rattle.pnm_image.specs.Images.{Image, messages_of_stream}
 use Rattle.pnm_image.specs.Messages.{without_stop}
-use Rattle.pnm_image.specs.Completion.{IsFrontOf, Completes}
+use Rattle.pnm_image.specs.Completion.{IsPrefixOf, Completes}
 use Rattle.pnm_read.specs.declared.fault.InputFault.{InputFault}
-use Rattle.pnm_read.specs.declared.fault.InputFault.TheVariants.{ReadFailed, Memory as NoMemoryToRead}
+use Rattle.pnm_read.specs.declared.fault.InputFault.TheVariants.{ReadFailed}
 use Rattle.pnm_read.specs.declared.source.Source.{Source}
 use Rattle.pnm_read.specs.Said.{said_of}
 use Rattle.pnm_read.specs.Sources.{reader_of}
-use Rattle.pnm_read.proofs.StreamLaws.{given_is_front}
+use Rattle.pnm_read.proofs.StreamLaws.{given_is_prefix}
 use Rattle.pnm_read.proofs.TextLaws.{said_text_is_spelled}
 use Rattle.pnm_read.proofs.Turns.{no_fault}
 use Rattle.pnm_tools.specs.declared.fault.ToolFault.{ToolFault}
@@ -21,13 +21,13 @@ use Rattle.pnm_tools.specs.declared.tool.Tool.{Tool}
 use Rattle.pnm_tools.specs.Answers.{Whole, EndsBy}
 use Rattle.pnm_tools.specs.ChainAnswers.{AreSound}
 use Rattle.pnm_tools.specs.Chains.{AreLawfulTools, due_in_turn}
-use Rattle.pnm_tools.proofs.ChainLaws.{front_of_due_is_sound}
-use Rattle.pnm_tools.proofs.FullLaws.{front_of_front}
+use Rattle.pnm_tools.proofs.ChainLaws.{prefix_of_due_is_sound}
+use Rattle.pnm_tools.proofs.FullLaws.{prefix_of_prefix}
 use Rattle.pnm_tools.proofs.SoundLaws.{sound_keeps_all, unbroken_keeps_all}
 use Rattle.pnm_write.specs.declared.fault.SinkFault.{SinkFault}
 use Rattle.pnm_flow.specs.declared.downstream.Downstream.{Downstream}
 use Rattle.pnm_flow.specs.declared.fault.RunFault.{RunFault}
-use Rattle.pnm_flow.specs.declared.fault.RunFault.TheVariants.{NoStart, Input, Tool as OfTool, Output, PeerGone as Gone}
+use Rattle.pnm_flow.specs.declared.fault.RunFault.TheVariants.{Tool as OfTool, PeerGone as Gone}
 use Rattle.pnm_flow.specs.declared.chain.Link.{Link}
 use Rattle.pnm_stages.specs.declared.stage.StageEnd.{StageEnd}
 use Rattle.pnm_stages.specs.declared.stage.StageEnd.TheVariants.{Well, Broken, Fault, PeerGone}
@@ -35,18 +35,17 @@ use Rattle.pnm_flow.specs.declared.summary.Summary.{Summary}
 use Rattle.pnm_flow.specs.Chains.{IsStageOver, FirstIsThere, AreStages}
 use Rattle.pnm_flow.specs.Collectors.{EndedBy}
 use Rattle.pnm_flow.specs.Downstreams.{output_of, HasTaken, AnswersFlushes}
-use Rattle.pnm_flow.specs.Feeders.{HasAskedBy, closing}
-use Rattle.pnm_stages.specs.Rings.{IsEnded}
+use Rattle.pnm_flow.specs.Feeders.{HasAskedBy, closing_messages}
 use Rattle.pnm_flow.specs.Jobs.{Job}
-use Rattle.pnm_flow.specs.Runs.{Change, change, MayFollow}
-use Rattle.pnm_stages.specs.Fronts.{IsFrontOfDue}
-use Rattle.pnm_flow.specs.ThreadedRuns.{fault_of_end, first_fault_from, answer_over, HasEndedOver, HaveEnded, FitEnds, IsAllSent, IsFrontWhatever, HasRunOverThreads}
+use Rattle.pnm_flow.specs.Runs.{change, MayFollowRead}
+use Rattle.pnm_stages.specs.Prefixes.{IsPrefixOfDue}
+use Rattle.pnm_flow.specs.ThreadedRuns.{first_fault_from, HasEndedOver, HaveEnded, FitEnds, IsAllSent, HasRunOverThreads}
 use Rattle.pnm_flow.proofs.ToolOverLaws.{stage_ended, received_ended, sent_ended}
 use Rattle.pnm_stages.proofs.EndingLaws.{nothing_follows, stream_ends_whole}
-use Rattle.pnm_stages.proofs.FrontLaws.{front_without_stop, stop_is_cut}
-use Rattle.pnm_flow.proofs.EndSteps.{Ended, HaveEnded as StagesAnswered, ended_has_run, ended_without_reading, rest_follows}
+use Rattle.pnm_stages.proofs.PrefixLaws.{prefix_without_stop, stop_is_cut}
+use Rattle.pnm_flow.proofs.EndSteps.{Ended, HaveEnded as StagesAnswered, rest_follows}
 use Rattle.pnm_flow.proofs.FeedingSteps.{given_is_sound, may_give, rest_of}
-use Rattle.pnm_flow.proofs.RunSteps.{Ran, said_front, run_front, output_all, sound_is_writable}
+use Rattle.pnm_flow.proofs.RunSteps.{Ran, run_prefix, output_all, sound_is_writable}
 use Rattle.pnm_flow.proofs.StageEndLaws.{all_answered, answered_until, next_is_well, next_is_there}
 
 -- ---- what each tool has ended for
@@ -60,23 +59,30 @@ whole_list : (all l left : List Message) → all ≡ l ++ left → left ≡ [] �
 whole_list all l left parts none = parts ∙ ap (λ (x : List Message). l ++ x) none ∙ append-nil l
 
 -- a stage that received a part has ended so for all of it, unless it saw an end dropped
-ended_for : (lanes : ℕ) (tool : Tool) (end : StageEnd) (all took left gave : List Message) → IsStageOver lanes tool end took gave → all ≡ took ++ left → IsEnded all ⊎ (left ≡ []) → end ≢ PeerGone → HasEndedOver lanes tool end all gave
+ended_for : (lanes : ℕ) (tool : Tool) (end : StageEnd) (all took left gave : List Message) → IsStageOver lanes tool end took gave → all ≡ took ++ left
+    → IsEnded all ⊎ (left ≡ []) → end ≢ PeerGone → HasEndedOver lanes tool end all gave
 ended_for lanes tool end all took left gave is parts whole there =
-    let none = left_nothing took left (subst (λ (x : List Message). IsEnded x ⊎ (left ≡ [])) parts whole) (received_ended lanes tool end took gave (stage_ended lanes tool end took gave is) there) in
+    let none = left_nothing took left (subst (λ (x : List Message). IsEnded x ⊎ (left ≡ [])) parts whole)
+    (received_ended lanes tool end took gave (stage_ended lanes tool end took gave is) there) in
     subst (λ (x : List Message). HasEndedOver lanes tool end x gave) (sym (whole_list all took left parts none)) (stage_ended lanes tool end took gave is)
 
 -- the last stage sent all that was taken of it
-last_ended : (lanes : ℕ) (tool : Tool) (end : StageEnd) (all took left gave got rest : List Message) → IsStageOver lanes tool end took gave → all ≡ took ++ left → IsEnded all ⊎ (left ≡ []) → gave ≡ got ++ rest → IsEnded got ⊎ (rest ≡ []) → end ≢ PeerGone → HasEndedOver lanes tool end all got
+last_ended : (lanes : ℕ) (tool : Tool) (end : StageEnd) (all took left gave got rest : List Message) → IsStageOver lanes tool end took gave → all ≡ took ++ left
+    → IsEnded all ⊎ (left ≡ []) → gave ≡ got ++ rest → IsEnded got ⊎ (rest ≡ []) → end ≢ PeerGone → HasEndedOver lanes tool end all got
 last_ended lanes tool end all took left gave got rest is parts whole came (inl ended) there =
     let none = nothing_follows got rest ended (subst IsEnded came (sent_ended lanes tool end took gave (stage_ended lanes tool end took gave is) there)) in
     subst (HasEndedOver lanes tool end all) (whole_list gave got rest came none) (ended_for lanes tool end all took left gave is parts whole there)
 last_ended lanes tool end all took left gave got rest is parts whole came (inr none) there =
     subst (HasEndedOver lanes tool end all) (whole_list gave got rest came none) (ended_for lanes tool end all took left gave is parts whole there)
 
-one_ended : (lanes : ℕ) (tool : Tool) (end : StageEnd) (all took left gave got rest : List Message) → IsStageOver lanes tool end took gave → all ≡ took ++ left → IsEnded all ⊎ (left ≡ []) → gave ≡ got ++ rest → IsEnded got ⊎ (rest ≡ []) → HasEndedOver lanes tool end all got
-one_ended lanes tool Well all took left gave got rest is parts whole came ends = last_ended lanes tool Well all took left gave got rest is parts whole came ends (λ gone. absurd cc)
-one_ended lanes tool Broken all took left gave got rest is parts whole came ends = last_ended lanes tool Broken all took left gave got rest is parts whole came ends (λ gone. absurd cc)
-one_ended lanes tool (Fault fault) all took left gave got rest is parts whole came ends = last_ended lanes tool (Fault fault) all took left gave got rest is parts whole came ends (λ gone. absurd cc)
+one_ended : (lanes : ℕ) (tool : Tool) (end : StageEnd) (all took left gave got rest : List Message) → IsStageOver lanes tool end took gave → all ≡ took ++ left
+    → IsEnded all ⊎ (left ≡ []) → gave ≡ got ++ rest → IsEnded got ⊎ (rest ≡ []) → HasEndedOver lanes tool end all got
+one_ended lanes tool Well all took left gave got rest is parts whole came ends = last_ended lanes tool Well all took left gave got rest is parts whole came ends
+    (λ gone. absurd cc)
+one_ended lanes tool Broken all took left gave got rest is parts whole came ends =
+    last_ended lanes tool Broken all took left gave got rest is parts whole came ends (λ gone. absurd cc)
+one_ended lanes tool (Fault fault) all took left gave got rest is parts whole came ends =
+    last_ended lanes tool (Fault fault) all took left gave got rest is parts whole came ends (λ gone. absurd cc)
 one_ended lanes tool PeerGone all took left gave got rest is parts whole came ends = stage_ended lanes tool PeerGone took gave is
 
 -- what a stage sent, as its neighbour may have received it: all, unless the stage saw an end dropped
@@ -87,7 +93,9 @@ record SentOn (lanes : ℕ) (tool : Tool) (end : StageEnd) (all : List Message) 
   parts : middle ≡ received link.consumer ++ left
   whole : IsEnded middle ⊎ (left ≡ [])
 
-sent_all_on : (lanes : ℕ) (tool : Tool) (end : StageEnd) (all took left : List Message) (link : Link) → IsStageOver lanes tool end took (sent link.producer) → sent link.producer ≡ received link.consumer ++ known_items link.consumer → all ≡ took ++ left → IsEnded all ⊎ (left ≡ []) → end ≢ PeerGone → SentOn lanes tool end all link
+sent_all_on : (lanes : ℕ) (tool : Tool) (end : StageEnd) (all took left : List Message) (link : Link) → IsStageOver lanes tool end took (sent link.producer)
+    → sent link.producer ≡ received link.consumer ++ known_items link.consumer → all ≡ took ++ left → IsEnded all ⊎ (left ≡ []) → end ≢ PeerGone
+    → SentOn lanes tool end all link
 sent_all_on lanes tool end all took left link is in_order parts whole there = record {
   middle = sent link.producer;
   left = known_items link.consumer;
@@ -96,16 +104,29 @@ sent_all_on lanes tool end all took left link is in_order parts whole there = re
   whole = inl (sent_ended lanes tool end took (sent link.producer) (stage_ended lanes tool end took (sent link.producer) is) there);
 }
 
-sent_on : (lanes : ℕ) (tool : Tool) (end : StageEnd) (all took left : List Message) (link : Link) → IsStageOver lanes tool end took (sent link.producer) → sent link.producer ≡ received link.consumer ++ known_items link.consumer → all ≡ took ++ left → IsEnded all ⊎ (left ≡ []) → SentOn lanes tool end all link
+sent_on : (lanes : ℕ) (tool : Tool) (end : StageEnd) (all took left : List Message) (link : Link) → IsStageOver lanes tool end took (sent link.producer)
+    → sent link.producer ≡ received link.consumer ++ known_items link.consumer → all ≡ took ++ left → IsEnded all ⊎ (left ≡ []) → SentOn lanes tool end all link
 sent_on lanes tool Well all took left link is in_order parts whole = sent_all_on lanes tool Well all took left link is in_order parts whole (λ gone. absurd cc)
-sent_on lanes tool Broken all took left link is in_order parts whole = sent_all_on lanes tool Broken all took left link is in_order parts whole (λ gone. absurd cc)
-sent_on lanes tool (Fault fault) all took left link is in_order parts whole = sent_all_on lanes tool (Fault fault) all took left link is in_order parts whole (λ gone. absurd cc)
-sent_on lanes tool PeerGone all took left link is in_order parts whole = record { middle = received link.consumer; left = []; ended = stage_ended lanes tool PeerGone took (sent link.producer) is; parts = sym (append-nil (received link.consumer)); whole = inr refl }
+sent_on lanes tool Broken all took left link is in_order parts whole = sent_all_on lanes tool Broken all took left link is in_order parts whole
+    (λ gone. absurd cc)
+sent_on lanes tool (Fault fault) all took left link is in_order parts whole = sent_all_on lanes tool (Fault fault) all took left link is in_order parts whole
+    (λ gone. absurd cc)
+sent_on lanes tool PeerGone all took left link is in_order parts whole =
+    record {
+      middle = received link.consumer;
+      left = [];
+      ended = stage_ended lanes tool PeerGone took (sent link.producer) is;
+      parts = sym (append-nil (received link.consumer));
+      whole = inr refl;
+    }
 
-have_ended : (lanes : ℕ) (tools : List Tool) (ends : List StageEnd) (links : List Link) (all took left gave got rest : List Message) → AreStages lanes tools ends links took gave → all ≡ took ++ left → IsEnded all ⊎ (left ≡ []) → gave ≡ got ++ rest → IsEnded got ⊎ (rest ≡ []) → HaveEnded lanes tools ends all got
+have_ended : (lanes : ℕ) (tools : List Tool) (ends : List StageEnd) (links : List Link) (all took left gave got rest : List Message)
+    → AreStages lanes tools ends links took gave → all ≡ took ++ left → IsEnded all ⊎ (left ≡ []) → gave ≡ got ++ rest → IsEnded got ⊎ (rest ≡ [])
+    → HaveEnded lanes tools ends all got
 have_ended lanes [] ends links all took left gave got rest are parts whole came ended = absurd are
 have_ended lanes (t ∷ tools) [] links all took left gave got rest are parts whole came ended = absurd are
-have_ended lanes (t ∷ []) (e ∷ []) [] all took left gave got rest are parts whole came ended = (got, one_ended lanes t e all took left gave got rest are.2 parts whole came ended, refl)
+have_ended lanes (t ∷ []) (e ∷ []) [] all took left gave got rest are parts whole came ended =
+    (got, one_ended lanes t e all took left gave got rest are.2 parts whole came ended, refl)
 have_ended lanes (t ∷ []) (e ∷ e2 ∷ ends) [] all took left gave got rest are parts whole came ended = let none = are.1 in absurd cc
 have_ended lanes (t ∷ t2 ∷ tools) (e ∷ ends) [] all took left gave got rest are parts whole came ended = let none = are.0 in absurd cc
 have_ended lanes (t ∷ tools) (e ∷ ends) (l ∷ links) all took left gave got rest are parts whole came ended =
@@ -116,14 +137,16 @@ have_ended lanes (t ∷ tools) (e ∷ ends) (l ∷ links) all took left gave got
 
 -- What is known once all have ended: what the source gave and how it ended, how much of it the first tool received, how
 -- the tools ended, how much of what the last one sent was taken, and what the sink took of it.
-pub record Over {R W : Type 0} (left : R → Option (List ℕ)) (reader_failures : R → ℕ) (held : W → Option (List ℕ)) (failures : W → ℕ) (first source : Source R) (start done : W)
-    (lanes : ℕ) (job : Job) (ends : List StageEnd) (input : Option (Result (Unit {0}) InputFault)) (has_ended : Bool) (output : Result Summary SinkFault) : Type 0 where
+pub record Over {R W : Type 0} (left : R → Option (List ℕ)) (reader_failures : R → ℕ) (held : W → Option (List ℕ)) (failures : W → ℕ) (first source : Source R)
+    (start done : W)
+    (lanes : ℕ) (job : Job) (ends : List StageEnd) (input : Option (Result (Unit {0}) InputFault)) (has_ended : Bool)
+    (output : Result Summary SinkFault) : Type 0 where
   pub lawful : AreLawfulTools job.tools
   pub given : List Message
   pub asked : HasAskedBy left reader_failures first source given input
   pub fed : List Message
   pub unfed : List Message
-  pub passed : fed ++ unfed ≡ given ++ closing input
+  pub passed : fed ++ unfed ≡ given ++ closing_messages input
   pub none_waits : input ≡ Some (Ok tt) → unfed ≡ []
   pub took : List Message
   pub untaken : List Message
@@ -131,7 +154,7 @@ pub record Over {R W : Type 0} (left : R → Option (List ℕ)) (reader_failures
   pub links : List Link
   pub gave : List Message
   pub stages : AreStages lanes job.tools ends links took gave
-  pub due : IsFrontOfDue (due_in_turn job.tools) took gave
+  pub due : IsPrefixOfDue (due_in_turn job.tools) took gave
   pub got : List Message
   pub rest : List Message
   pub came : gave ≡ got ++ rest
@@ -143,47 +166,63 @@ pub record Over {R W : Type 0} (left : R → Option (List ℕ)) (reader_failures
   pub broken : (fault : SinkFault) → sink.output ≡ Err fault → (output ≡ Err fault) × (done ≡ output_of sink)
   pub well : sink.output ≡ Ok tt → AnswersFlushes failures sink done output
 
-given_sound : {R : Type 0} (left : R → Option (List ℕ)) (failures : R → ℕ) (first source : Source R) (given : List Message) (input : Option (Result (Unit {0}) InputFault)) → HasAskedBy left failures first source given input → AreSound given
+given_sound : {R : Type 0} (left : R → Option (List ℕ)) (failures : R → ℕ) (first source : Source R) (given : List Message)
+    (input : Option (Result (Unit {0}) InputFault)) → HasAskedBy left failures first source given input → AreSound given
 given_sound left failures first source given None asked = given_is_sound source asked.read given asked.told
 given_sound left failures first source given (Some result) asked = asked.sound
 
 -- the messages of the source are what was sent, but for Stop after a fault
-closing_is_cut : (given : List Message) (input : Option (Result (Unit {0}) InputFault)) → AreSound given → without_stop (given ++ closing input) ≡ given
+closing_is_cut : (given : List Message) (input : Option (Result (Unit {0}) InputFault)) → AreSound given
+    → without_stop (given ++ closing_messages input) ≡ given
 closing_is_cut given None sound = ap without_stop (append-nil given) ∙ sound_keeps_all given sound.sound
 closing_is_cut given (Some (Ok x)) sound = ap without_stop (append-nil given) ∙ sound_keeps_all given sound.sound
 closing_is_cut given (Some (Err fault)) sound = stop_is_cut given
 
 -- images that complete what the source gave complete what was accepted of it
-accepted_completed : (given closed accepted a b c fed took : List Message) (is : List Image) → AreSound given → without_stop closed ≡ given → fed ++ c ≡ closed → fed ≡ took ++ b → took ≡ accepted ++ a → Completes is given → Completes is accepted
+accepted_completed : (given closed accepted a b c fed took : List Message) (is : List Image) → AreSound given → without_stop closed ≡ given → fed ++ c ≡ closed
+    → fed ≡ took ++ b → took ≡ accepted ++ a → Completes is given → Completes is accepted
 accepted_completed given closed accepted a b c fed took is sound cut passed received parts completes =
     let whole : accepted ++ (a ++ (b ++ c)) ≡ closed =
-    sym (append_assoc accepted a (b ++ c)) ∙ sym (append_assoc (accepted ++ a) b c) ∙ ap (λ (x : List Message). (x ++ b) ++ c) (sym parts) ∙ ap (λ (x : List Message). x ++ c) (sym received) ∙ passed in
-    let front = subst (IsFrontOf (without_stop accepted)) (ap without_stop whole ∙ cut) (front_without_stop accepted (a ++ (b ++ c))) in
-    let of_given = subst (λ (x : List Message). IsFrontOf x (messages_of_stream is)) (sound_keeps_all given sound.sound) completes.front in
-    record { images = completes.images; front = front_of_front (without_stop accepted) given (messages_of_stream is) front of_given }
+    sym (append_assoc accepted a (b ++ c)) ∙ sym (append_assoc (accepted ++ a) b c) ∙ ap (λ (x : List Message). (x ++ b) ++ c) (sym parts)
+    ∙ ap (λ (x : List Message). x ++ c) (sym received) ∙ passed in
+    let prefix = subst (IsPrefixOf (without_stop accepted)) (ap without_stop whole ∙ cut) (prefix_without_stop accepted (a ++ (b ++ c))) in
+    let of_given = subst (λ (x : List Message). IsPrefixOf x (messages_of_stream is)) (sound_keeps_all given sound.sound) completes.prefix in
+    record { images = completes.images; prefix = prefix_of_prefix (without_stop accepted) given (messages_of_stream is) prefix of_given }
 
-ran_over : {R W : Type 0} (left : R → Option (List ℕ)) (reader_failures : R → ℕ) (held : W → Option (List ℕ)) (failures : W → ℕ) (first source : Source R) (start done : W) (lanes : ℕ) (job : Job) (ends : List StageEnd) (input : Option (Result (Unit {0}) InputFault)) (has_ended : Bool) (output : Result Summary SinkFault)
-    → (over : Over left reader_failures held failures first source start done lanes job ends input has_ended output) → Ran held failures start job over.given (without_stop over.got) over.sink
+pub ran_over : {R W : Type 0} (left : R → Option (List ℕ)) (reader_failures : R → ℕ) (held : W → Option (List ℕ)) (failures : W → ℕ) (first source : Source R)
+    (start done : W) (lanes : ℕ) (job : Job) (ends : List StageEnd) (input : Option (Result (Unit {0}) InputFault)) (has_ended : Bool)
+    (output : Result Summary SinkFault)
+    → (over : Over left reader_failures held failures first source start done lanes job ends input has_ended output)
+    → Ran held failures start job over.given (without_stop over.got) over.sink
 ran_over left reader_failures held failures first source start done lanes job ends input has_ended output over =
     let sound = given_sound left reader_failures first source over.given input over.asked in
-    let front = subst (λ (x : List Message). IsFrontOf (without_stop over.got) (without_stop x)) (sym over.came) (front_without_stop over.got over.rest) in
-    let due : (is : List Image) → Completes is over.given → IsFrontOf (without_stop over.got) (due_in_turn job.tools is) = λ is completes.
-    front_of_front (without_stop over.got) (without_stop over.gave) (due_in_turn job.tools is) front
-    (over.due.front is (accepted_completed over.given (over.given ++ closing input) over.due.accepted over.due.rest over.untaken over.unfed over.fed over.took is sound
+    let prefix = subst (λ (x : List Message). IsPrefixOf (without_stop over.got) (without_stop x)) (sym over.came) (prefix_without_stop over.got over.rest) in
+    let due : (is : List Image) → Completes is over.given → IsPrefixOf (without_stop over.got) (due_in_turn job.tools is) = λ is completes.
+    prefix_of_prefix (without_stop over.got) (without_stop over.gave) (due_in_turn job.tools is) prefix
+    (over.due.prefix is (accepted_completed over.given (over.given ++ closing_messages input) over.due.accepted over.due.rest over.untaken over.unfed over.fed
+    over.took is sound
     (closing_is_cut over.given input sound) over.passed over.received over.due.parts completes)) in
-    record { lawful = over.lawful; sound = sound; writable = sound_is_writable (without_stop over.got) (front_of_due_is_sound job.tools over.given (without_stop over.got) over.lawful sound due); due = due; taken = over.taken }
+    record {
+      lawful = over.lawful;
+      sound = sound;
+      writable = sound_is_writable (without_stop over.got) (prefix_of_due_is_sound job.tools over.given (without_stop over.got) over.lawful sound due);
+      due = due;
+      taken = over.taken;
+    }
 
 -- ---- an end that was dropped
 
--- what the source gave is a front of what is said, however it ended
-said_by : {R : Type 0} (left : R → Option (List ℕ)) (failures : R → ℕ) (first source : Source R) (given : List Message) (input : Option (Result (Unit {0}) InputFault)) → (input ≡ None) ⊎ (input ≡ Some (Ok tt)) → HasAskedBy left failures first source given input
+-- what the source gave is a prefix of what is said, however it ended
+said_by : {R : Type 0} (left : R → Option (List ℕ)) (failures : R → ℕ) (first source : Source R) (given : List Message)
+    (input : Option (Result (Unit {0}) InputFault)) → (input ≡ None) ⊎ (input ≡ Some (Ok tt)) → HasAskedBy left failures first source given input
     → (read : List ℕ) × Consumes (left (reader_of first)) (left (reader_of source)) read × (failures (reader_of source) ≡ failures (reader_of first))
-    × ((rest : List ℕ) → MayFollow (Ok tt) (change left failures (reader_of first) (reader_of source)) rest → IsFrontOf given (said_of (read ++ rest)))
+    × ((rest : List ℕ) → MayFollowRead (Ok tt) (change left failures (reader_of first) (reader_of source)) rest → IsPrefixOf given (said_of (read ++ rest)))
 said_by left failures first source given None well asked = (
   asked.read,
   asked.consumed,
   asked.count,
-  λ rest may. given_is_front source asked.read given rest asked.told (may_give left failures first source (Ok tt) rest asked.unread (λ failed. absurd (no_fault tt ReadFailed failed.0)) may),
+  λ rest may. given_is_prefix source asked.read given rest asked.told
+      (may_give left failures first source (Ok tt) rest asked.unread (λ failed. absurd (no_fault tt ReadFailed failed.0)) may),
 )
 said_by left failures first source given (Some (Ok x)) well asked =
     (asked.read, asked.consumed, asked.count (no_fault tt ReadFailed), λ rest may. ([], (asked.told rest may).0 ∙ sym (append-nil given)))
@@ -191,8 +230,12 @@ said_by left failures first source given (Some (Err fault)) (inl none) asked = a
 said_by left failures first source given (Some (Err fault)) (inr well) asked = absurd cc
 
 -- a run in which a ring's other end was seen dropped
-gone_has_run : {R W : Type 0} (left : R → Option (List ℕ)) (reader_failures : R → ℕ) (held : W → Option (List ℕ)) (failures : W → ℕ) (first source : Source R) (start done : W) (lanes : ℕ) (job : Job) (ends : List StageEnd) (input : Option (Result (Unit {0}) InputFault)) (has_ended : Bool) (output : Result Summary SinkFault) (number : ℕ)
-    → (over : Over left reader_failures held failures first source start done lanes job ends input has_ended output) → (input ≡ None) ⊎ (input ≡ Some (Ok tt)) → number ≤ length job.tools + 1
+pub gone_has_run : {R W : Type 0} (left : R → Option (List ℕ)) (reader_failures : R → ℕ) (held : W → Option (List ℕ)) (failures : W → ℕ)
+    (first source : Source R)
+    (start done : W) (lanes : ℕ) (job : Job) (ends : List StageEnd) (input : Option (Result (Unit {0}) InputFault)) (has_ended : Bool)
+    (output : Result Summary SinkFault) (number : ℕ)
+    → (over : Over left reader_failures held failures first source start done lanes job ends input has_ended output) → (input ≡ None) ⊎ (input ≡ Some (Ok tt))
+    → number ≤ length job.tools + 1
     → HasRunOverThreads lanes job (Err (Gone number)) (change left reader_failures (reader_of first) (reader_of source)) (change held failures start done)
 gone_has_run left reader_failures held failures first source start done lanes job ends input has_ended output number over well within =
     let reader = change left reader_failures (reader_of first) (reader_of source) in
@@ -212,11 +255,17 @@ gone_has_run left reader_failures held failures first source start done lanes jo
         output_last = λ text is. tt;
         before_refused = λ text is. tt;
         verdict = λ text is. inl tt;
-        front = λ text is.
+        prefix = λ text is.
             let rest = rest_of reader.old reader.new said.0 text said.1 is in
-            let front = subst (λ (l : List ℕ). IsFrontOf over.given (said_of l)) (sym rest.2) (said.3 rest.0 (rest_follows (Ok tt) reader rest.0 rest.1)) in
-            run_front held failures start done job over.given out over.sink text ran front over.kept;
-        front_for_each = record { read = said.0; consumed = said.1; front = λ rest may. run_front held failures start done job over.given out over.sink (said.0 ++ rest) ran (said.3 rest may) over.kept };
+            let prefix = subst (λ (l : List ℕ). IsPrefixOf over.given (said_of l)) (sym rest.2) (said.3 rest.0 (rest_follows (Ok tt) reader rest.0 rest.1)) in
+            run_prefix held failures start done job over.given out over.sink text ran prefix over.kept;
+        prefix_for_each =
+            record {
+              read = said.0;
+              consumed = said.1;
+              prefix = λ rest may. run_prefix held failures start done job over.given out over.sink (said.0 ++ rest)
+                  ran (said.3 rest may) over.kept;
+            };
       };
       all_written = λ text is has sound. absurd has;
       read_failed = tt;
@@ -225,9 +274,12 @@ gone_has_run left reader_failures held failures first source start done lanes jo
 
 -- ---- the other answers
 
-ended_over : {R W : Type 0} (left : R → Option (List ℕ)) (reader_failures : R → ℕ) (held : W → Option (List ℕ)) (failures : W → ℕ) (first source : Source R) (start done : W) (lanes : ℕ) (job : Job) (ends : List StageEnd) (result : Result (Unit {0}) InputFault) (has_ended : Bool) (output : Result Summary SinkFault)
+pub ended_over : {R W : Type 0} (left : R → Option (List ℕ)) (reader_failures : R → ℕ) (held : W → Option (List ℕ)) (failures : W → ℕ) (first source : Source R)
+    (start done : W) (lanes : ℕ) (job : Job) (ends : List StageEnd) (result : Result (Unit {0}) InputFault) (has_ended : Bool)
+    (output : Result Summary SinkFault)
     (refused : Option (ℕ × ToolFault)) (faults : List (Option ToolFault))
-    → (over : Over left reader_failures held failures first source start done lanes job ends (Some result) has_ended output) → (result ≡ Ok tt → StagesAnswered job.tools faults over.given (without_stop over.got) refused)
+    → (over : Over left reader_failures held failures first source start done lanes job ends (Some result) has_ended output)
+    → (result ≡ Ok tt → StagesAnswered job.tools faults over.given (without_stop over.got) refused)
     → Ended (change left reader_failures (reader_of first) (reader_of source)) held failures start done job result refused output
 ended_over left reader_failures held failures first source start done lanes job ends result has_ended output refused faults over stages = record {
   faults = faults;
@@ -247,37 +299,46 @@ ended_over left reader_failures held failures first source start done lanes job 
 }
 
 -- the first stage has received a list that has ended
-first_received : (lanes : ℕ) (tools : List Tool) (ends : List StageEnd) (links : List Link) (took gave : List Message) → AreStages lanes tools ends links took gave → FirstIsThere ends → IsEnded took
+first_received : (lanes : ℕ) (tools : List Tool) (ends : List StageEnd) (links : List Link) (took gave : List Message)
+    → AreStages lanes tools ends links took gave → FirstIsThere ends → IsEnded took
 first_received lanes [] ends links took gave are there = absurd are
 first_received lanes (t ∷ tools) [] links took gave are there = absurd are
 first_received lanes (t ∷ tools) (e ∷ ends) [] took gave are there = received_ended lanes t e took gave (stage_ended lanes t e took gave are.2) there
-first_received lanes (t ∷ tools) (e ∷ ends) (l ∷ links) took gave are there = received_ended lanes t e took (sent l.producer) (stage_ended lanes t e took (sent l.producer) are.0) there
+first_received lanes (t ∷ tools) (e ∷ ends) (l ∷ links) took gave are there =
+    received_ended lanes t e took (sent l.producer) (stage_ended lanes t e took (sent l.producer) are.0) there
 
 -- the source gave a whole stream
-given_whole : {R : Type 0} (left : R → Option (List ℕ)) (failures : R → ℕ) (first source : Source R) (given : List Message) → HasAskedBy left failures first source given (Some (Ok tt)) → EndsBy Whole given
+given_whole : {R : Type 0} (left : R → Option (List ℕ)) (failures : R → ℕ) (first source : Source R) (given : List Message)
+    → HasAskedBy left failures first source given (Some (Ok tt)) → EndsBy Whole given
 given_whole left failures first source given asked =
     let said = asked.told [] (inl refl) in
     let found = said_text_is_spelled (asked.read ++ []) said.1 in
     subst (EndsBy Whole) (sym found.2 ∙ said.0) (stream_ends_whole found.0)
 
 -- and the first tool received it all
-took_all : {R W : Type 0} (left : R → Option (List ℕ)) (reader_failures : R → ℕ) (held : W → Option (List ℕ)) (failures : W → ℕ) (first source : Source R) (start done : W) (lanes : ℕ) (job : Job) (ends : List StageEnd) (has_ended : Bool) (output : Result Summary SinkFault)
-    → (over : Over left reader_failures held failures first source start done lanes job ends (Some (Ok tt)) has_ended output) → FirstIsThere ends → (EndsBy Whole over.given) × (over.took ≡ over.given)
+took_all : {R W : Type 0} (left : R → Option (List ℕ)) (reader_failures : R → ℕ) (held : W → Option (List ℕ)) (failures : W → ℕ) (first source : Source R)
+    (start done : W) (lanes : ℕ) (job : Job) (ends : List StageEnd) (has_ended : Bool) (output : Result Summary SinkFault)
+    → (over : Over left reader_failures held failures first source start done lanes job ends (Some (Ok tt)) has_ended output) → FirstIsThere ends
+    → (EndsBy Whole over.given) × (over.took ≡ over.given)
 took_all left reader_failures held failures first source start done lanes job ends has_ended output over there =
     let whole = given_whole left reader_failures first source over.given over.asked in
-    let all : over.fed ≡ over.given = sym (append-nil over.fed) ∙ ap (λ (x : List Message). over.fed ++ x) (sym (over.none_waits refl)) ∙ over.passed ∙ append-nil over.given in
+    let all : over.fed ≡ over.given = sym (append-nil over.fed) ∙ ap (λ (x : List Message). over.fed ++ x) (sym (over.none_waits refl)) ∙ over.passed
+    ∙ append-nil over.given in
     let ended = first_received lanes job.tools ends over.links over.took over.gave over.stages there in
     let none = nothing_follows over.took over.untaken ended (subst IsEnded (sym all ∙ over.received) (inl whole)) in
     (whole, sym (whole_list over.fed over.took over.untaken over.received none) ∙ all)
 
 -- no stage is at fault, and the end of the stream was taken
-well_stages : {R W : Type 0} (left : R → Option (List ℕ)) (reader_failures : R → ℕ) (held : W → Option (List ℕ)) (failures : W → ℕ) (first source : Source R) (start done : W) (lanes : ℕ) (job : Job) (ends : List StageEnd) (output : Result Summary SinkFault)
+pub well_stages : {R W : Type 0} (left : R → Option (List ℕ)) (reader_failures : R → ℕ) (held : W → Option (List ℕ)) (failures : W → ℕ)
+    (first source : Source R)
+    (start done : W) (lanes : ℕ) (job : Job) (ends : List StageEnd) (output : Result Summary SinkFault)
     → (over : Over left reader_failures held failures first source start done lanes job ends (Some (Ok tt)) true output) → first_fault_from 1 ends ≡ None
     → (faults : List (Option ToolFault)) × StagesAnswered job.tools faults over.given (without_stop over.got) None
 well_stages left reader_failures held failures first source start done lanes job ends output over none =
     let there = next_is_well lanes 1 job.tools ends over.links over.took over.gave over.stages none in
     let took = took_all left reader_failures held failures first source start done lanes job ends true output over there in
-    let answered = all_answered lanes 1 job.tools ends over.links over.given over.gave (subst (λ (x : List Message). AreStages lanes job.tools ends over.links x over.gave) took.1 over.stages) took.0 none in
+    let answered = all_answered lanes 1 job.tools ends over.links over.given over.gave
+    (subst (λ (x : List Message). AreStages lanes job.tools ends over.links x over.gave) took.1 over.stages) took.0 none in
     let nothing = nothing_follows over.got over.rest over.ended (subst IsEnded over.came (inl answered.ends)) in
     let all = whole_list over.gave over.got over.rest over.came nothing in (
       answered.faults,
@@ -290,13 +351,18 @@ well_stages left reader_failures held failures first source start done lanes job
     )
 
 -- a tool is at fault
-refused_stages : {R W : Type 0} (left : R → Option (List ℕ)) (reader_failures : R → ℕ) (held : W → Option (List ℕ)) (failures : W → ℕ) (first source : Source R) (start done : W) (lanes : ℕ) (job : Job) (ends : List StageEnd) (has_ended : Bool) (output : Result Summary SinkFault) (number : ℕ) (fault : ToolFault)
-    → (over : Over left reader_failures held failures first source start done lanes job ends (Some (Ok tt)) has_ended output) → first_fault_from 1 ends ≡ Some (OfTool number fault)
+pub refused_stages : {R W : Type 0} (left : R → Option (List ℕ)) (reader_failures : R → ℕ) (held : W → Option (List ℕ)) (failures : W → ℕ)
+    (first source : Source R)
+    (start done : W) (lanes : ℕ) (job : Job) (ends : List StageEnd) (has_ended : Bool) (output : Result Summary SinkFault) (number : ℕ) (fault : ToolFault)
+    → (over : Over left reader_failures held failures first source start done lanes job ends (Some (Ok tt)) has_ended output)
+    → first_fault_from 1 ends ≡ Some (OfTool number fault)
     → (faults : List (Option ToolFault)) × StagesAnswered job.tools faults over.given (without_stop over.got) (Some (number, fault))
 refused_stages left reader_failures held failures first source start done lanes job ends has_ended output number fault over is =
     let there = next_is_there lanes 1 number fault job.tools ends over.links over.took over.gave over.stages is in
     let took = took_all left reader_failures held failures first source start done lanes job ends has_ended output over there in
-    let answered = answered_until lanes 1 job.tools ends over.links over.given over.gave number fault over.lawful (given_sound left reader_failures first source over.given (Some (Ok tt)) over.asked).lawful (subst (λ (x : List Message). AreStages lanes job.tools ends over.links x over.gave) took.1 over.stages) took.0 is in
+    let answered = answered_until lanes 1 job.tools ends over.links over.given over.gave number fault over.lawful
+    (given_sound left reader_failures first source over.given (Some (Ok tt)) over.asked).lawful
+    (subst (λ (x : List Message). AreStages lanes job.tools ends over.links x over.gave) took.1 over.stages) took.0 is in
     (answered.faults, record { last = answered.last; answered = answered.answered; first = answered.first; all = λ none. absurd cc })
 
 -- what was taken has ended, or it is all
@@ -306,144 +372,27 @@ got_ended rest false got ended (inl is) = absurd cc
 got_ended rest false got ended (inr none) = inr none
 
 -- all that was sent was written, unless the writer failed
-all_sent : {R W : Type 0} (left : R → Option (List ℕ)) (reader_failures : R → ℕ) (held : W → Option (List ℕ)) (failures : W → ℕ) (first source : Source R) (start done : W) (lanes : ℕ) (job : Job) (ends : List StageEnd) (has_ended : Bool) (output : Result Summary SinkFault) (answer : Result Summary RunFault)
+pub all_sent : {R W : Type 0} (left : R → Option (List ℕ)) (reader_failures : R → ℕ) (held : W → Option (List ℕ)) (failures : W → ℕ) (first source : Source R)
+    (start done : W) (lanes : ℕ) (job : Job) (ends : List StageEnd) (has_ended : Bool) (output : Result Summary SinkFault) (answer : Result Summary RunFault)
     → Over left reader_failures held failures first source start done lanes job ends (Some (Ok tt)) has_ended output → FitEnds answer ends
-    → (text : List ℕ) → left (reader_of first) ≡ Some text → ¬ Failed (failures start) (failures done) → IsAllSent text lanes job answer (held start) (held done)
+    → (text : List ℕ) → left (reader_of first) ≡ Some text → ¬ Failed (failures start) (failures done)
+    → IsAllSent text lanes job answer (held start) (held done)
 all_sent left reader_failures held failures first source start done lanes job ends has_ended output answer over fit text is sound =
     let reader = change left reader_failures (reader_of first) (reader_of source) in
     let rest = rest_of reader.old reader.new over.asked.read text over.asked.consumed is in
     let said = over.asked.told rest.0 (rest_follows (Ok tt) reader rest.0 rest.1) in
     let text_is : said_of text ≡ over.given = ap said_of rest.2 ∙ said.0 in
     let whole = given_whole left reader_failures first source over.given over.asked in
-    let fed : over.given ≡ over.took ++ over.untaken = sym (append-nil over.given) ∙ sym over.passed ∙ ap (λ (x : List Message). over.fed ++ x) (over.none_waits refl) ∙ append-nil over.fed ∙ over.received in
+    let fed : over.given ≡ over.took ++ over.untaken = sym (append-nil over.given) ∙ sym over.passed
+    ∙ ap (λ (x : List Message). over.fed ++ x) (over.none_waits refl) ∙ append-nil over.fed ∙ over.received in
     let ran = ran_over left reader_failures held failures first source start done lanes job ends (Some (Ok tt)) has_ended output over in
     record {
       ends = ends;
       given = over.got;
       fit = fit;
-      ended = subst (λ (x : List Message). HaveEnded lanes job.tools ends x over.got) (sym text_is) (have_ended lanes job.tools ends over.links over.given over.took over.untaken over.gave over.got over.rest over.stages fed (inl (inl whole)) over.came (got_ended over.rest has_ended over.got over.ended over.all));
-      written = output_all held failures job.form start done (without_stop over.got) over.sink over.sink.output ran.writable ran.taken (λ fault e. (over.broken fault e).1) over.kept sound;
+      ended = subst (λ (x : List Message). HaveEnded lanes job.tools ends x over.got) (sym text_is)
+          (have_ended lanes job.tools ends over.links over.given over.took over.untaken over.gave over.got over.rest over.stages fed (inl (inl whole)) over.came
+          (got_ended over.rest has_ended over.got over.ended over.all));
+      written = output_all held failures job.form start done (without_stop over.got) over.sink over.sink.output ran.writable ran.taken
+          (λ fault e. (over.broken fault e).1) over.kept sound;
     }
-
--- ---- the answer
-
--- the number of a stage that saw an end dropped is one of theirs
-gone_within : (from number : ℕ) (ends : List StageEnd) → first_fault_from from ends ≡ Some (Gone number) → number < from + length ends
-gone_within from number [] is = absurd cc
-gone_within from number (Well ∷ ends) is = let next = gone_within (from + 1) number ends is in omega arith
-gone_within from number (Broken ∷ ends) is = let next = gone_within (from + 1) number ends is in omega arith
-gone_within from number (Fault fault ∷ ends) is = absurd cc
-gone_within from number (PeerGone ∷ ends) is = let same : from ≡ number = cc in omega (arith, same)
-
--- stages are answered by nothing else
-abbrev IsOfStage : RunFault → Type 0
-IsOfStage NoStart = ⊥
-IsOfStage (Input fault) = ⊥
-IsOfStage (OfTool number fault) = Unit {0}
-IsOfStage (Output fault) = ⊥
-IsOfStage (Gone number) = Unit {0}
-
-of_stage : (from : ℕ) (ends : List StageEnd) (fault : RunFault) → first_fault_from from ends ≡ Some fault → IsOfStage fault
-of_stage from [] fault is = absurd cc
-of_stage from (Well ∷ ends) fault is = of_stage (from + 1) ends fault is
-of_stage from (Broken ∷ ends) fault is = of_stage (from + 1) ends fault is
-of_stage from (Fault other ∷ ends) fault is = let same : OfTool from other ≡ fault = cc in subst IsOfStage same tt
-of_stage from (PeerGone ∷ ends) fault is = let same : Gone from ≡ fault = cc in subst IsOfStage same tt
-
--- after a failed read anything may come
-front_whatever : {R W : Type 0} (left : R → Option (List ℕ)) (reader_failures : R → ℕ) (held : W → Option (List ℕ)) (failures : W → ℕ) (first source : Source R) (start done : W) (lanes : ℕ) (job : Job) (ends : List StageEnd) (fault : InputFault) (has_ended : Bool) (output : Result Summary SinkFault)
-    → Over left reader_failures held failures first source start done lanes job ends (Some (Err fault)) has_ended output → fault ≡ ReadFailed → IsFrontWhatever job (change left reader_failures (reader_of first) (reader_of source)) (change held failures start done)
-front_whatever left reader_failures held failures first source start done lanes job ends fault has_ended output over is =
-    let ran = ran_over left reader_failures held failures first source start done lanes job ends (Some (Err fault)) has_ended output over in
-    record {
-      read = over.asked.read;
-      consumed = over.asked.consumed;
-      front = λ rest.
-          let text = over.asked.read ++ rest in
-          run_front held failures start done job over.given (without_stop over.got) over.sink text ran (said_front text over.given (Err fault) (over.asked.after_failed_read (ap Err is) rest)) over.kept;
-    }
-
-pub over_has_run : {R W : Type 0} (left : R → Option (List ℕ)) (reader_failures : R → ℕ) (held : W → Option (List ℕ)) (failures : W → ℕ) (first source : Source R) (start done : W) (lanes : ℕ) (job : Job) (ends : List StageEnd) (input : Option (Result (Unit {0}) InputFault)) (found : Option RunFault) (has_ended : Bool) (output : Result Summary SinkFault)
-    → Over left reader_failures held failures first source start done lanes job ends input has_ended output → length ends ≡ length job.tools → first_fault_from 1 ends ≡ found
-    → HasRunOverThreads lanes job (answer_over input found has_ended (length ends + 1) output) (change left reader_failures (reader_of first) (reader_of source)) (change held failures start done)
-over_has_run left reader_failures held failures first source start done lanes job ends None found has_ended output over many is =
-    gone_has_run left reader_failures held failures first source start done lanes job ends None has_ended output 0 over (inl refl) (omega arith)
-over_has_run left reader_failures held failures first source start done lanes job ends (Some (Err fault)) found has_ended output over many is =
-    let ended = ended_over left reader_failures held failures first source start done lanes job ends (Err fault) has_ended output None [] over (λ well. absurd cc) in
-    record {
-      run = ended_has_run (change left reader_failures (reader_of first) (reader_of source)) held failures start done job (Err fault) None output ⊥ ended;
-      all_written = λ text has no sound. absurd no;
-      read_failed = λ is. (over.asked.read_failed (ap Err is), front_whatever left reader_failures held failures first source start done lanes job ends fault has_ended output over is);
-      gone = tt;
-    }
-over_has_run left reader_failures held failures first source start done lanes job ends (Some (Ok tt)) (Some NoStart) has_ended output over many is = absurd (of_stage 1 ends NoStart is)
-over_has_run left reader_failures held failures first source start done lanes job ends (Some (Ok tt)) (Some (Input fault)) has_ended output over many is = absurd (of_stage 1 ends (Input fault) is)
-over_has_run left reader_failures held failures first source start done lanes job ends (Some (Ok tt)) (Some (Output fault)) has_ended output over many is = absurd (of_stage 1 ends (Output fault) is)
-over_has_run left reader_failures held failures first source start done lanes job ends (Some (Ok tt)) (Some (OfTool number fault)) has_ended output over many is =
-    let stages = refused_stages left reader_failures held failures first source start done lanes job ends has_ended output number fault over is in
-    let ended = ended_over left reader_failures held failures first source start done lanes job ends (Ok tt) has_ended output (Some (number, fault)) stages.0 over (λ well. stages.1) in
-    record {
-      run = ended_has_run (change left reader_failures (reader_of first) (reader_of source)) held failures start done job (Ok tt) (Some (number, fault)) output ⊥ ended;
-      read_failed = tt;
-      all_written = λ text has tools_are sound. all_sent left reader_failures held failures first source start done lanes job ends has_ended output (Err (OfTool number fault)) over is text has sound;
-      gone = tt;
-    }
-over_has_run left reader_failures held failures first source start done lanes job ends (Some (Ok tt)) (Some (Gone number)) has_ended output over many is =
-    gone_has_run left reader_failures held failures first source start done lanes job ends (Some (Ok tt)) has_ended output number over (inr refl) (let within = gone_within 1 number ends is in omega (arith, many))
-over_has_run left reader_failures held failures first source start done lanes job ends (Some (Ok tt)) None false output over many is =
-    gone_has_run left reader_failures held failures first source start done lanes job ends (Some (Ok tt)) false output (length ends + 1) over (inr refl) (omega (arith, many))
-over_has_run left reader_failures held failures first source start done lanes job ends (Some (Ok tt)) None true (Err fault) over many is =
-    let stages = well_stages left reader_failures held failures first source start done lanes job ends (Err fault) over is in
-    let ended = ended_over left reader_failures held failures first source start done lanes job ends (Ok tt) true (Err fault) None stages.0 over (λ well. stages.1) in
-    record {
-      run = ended_has_run (change left reader_failures (reader_of first) (reader_of source)) held failures start done job (Ok tt) None (Err fault) ⊥ ended;
-      read_failed = tt;
-      all_written = λ text has tools_are sound. all_sent left reader_failures held failures first source start done lanes job ends true (Err fault) (Err (Output fault)) over is text has sound;
-      gone = tt;
-    }
-over_has_run left reader_failures held failures first source start done lanes job ends (Some (Ok tt)) None true (Ok summary) over many is =
-    let stages = well_stages left reader_failures held failures first source start done lanes job ends (Ok summary) over is in
-    let ended = ended_over left reader_failures held failures first source start done lanes job ends (Ok tt) true (Ok summary) None stages.0 over (λ well. stages.1) in
-    record {
-      run = ended_has_run (change left reader_failures (reader_of first) (reader_of source)) held failures start done job (Ok tt) None (Ok summary) ⊥ ended;
-      read_failed = tt;
-      all_written = λ text has tools_are sound. all_sent left reader_failures held failures first source start done lanes job ends true (Ok summary) (Ok summary) over is text has sound;
-      gone = tt;
-    }
-
--- ---- the first fault
-
--- the stages from this one on
-pub from_this : (ends : List StageEnd) (index : ℕ) (other end : StageEnd) → index < length ends → get_or ends index other ≡ end → first_fault_from (index + 1) (drop index ends) ≡ first_fault_from (index + 1) (end ∷ drop (suc index) ends)
-from_this ends index other end within is = ap (first_fault_from (index + 1)) (drop-cons ends index other within ∙ ap (λ (x : StageEnd). x ∷ drop (suc index) ends) is)
-
--- a stage that has none, and one that has
-pub passed_over : (from : ℕ) (end : StageEnd) (rest : List StageEnd) → fault_of_end from end ≡ None → first_fault_from from (end ∷ rest) ≡ first_fault_from (from + 1) rest
-passed_over from Well rest none = refl
-passed_over from Broken rest none = refl
-passed_over from (Fault fault) rest none = absurd cc
-passed_over from PeerGone rest none = absurd cc
-
-pub found_here : (from : ℕ) (end : StageEnd) (rest : List StageEnd) (fault : RunFault) → fault_of_end from end ≡ Some fault → first_fault_from from (end ∷ rest) ≡ Some fault
-found_here from Well rest fault is = absurd cc
-found_here from Broken rest fault is = absurd cc
-found_here from (Fault other) rest fault is = is
-found_here from PeerGone rest fault is = is
-
--- it isn't that the run couldn't be started
-started_by : (input : Option (Result (Unit {0}) InputFault)) (found : Option RunFault) (has_ended : Bool) (behind : ℕ) (output : Result Summary SinkFault) → ((fault : RunFault) → found ≡ Some fault → IsOfStage fault) → answer_over input found has_ended behind output ≢ Err NoStart
-started_by None found has_ended behind output of = λ is. absurd cc
-started_by (Some (Err fault)) found has_ended behind output of = λ is. absurd cc
-started_by (Some (Ok tt)) (Some fault) has_ended behind output of = λ is. let same : fault ≡ NoStart = cc in subst IsOfStage same (of fault refl)
-started_by (Some (Ok tt)) None false behind output of = λ is. absurd cc
-started_by (Some (Ok tt)) None true behind (Err fault) of = λ is. absurd cc
-started_by (Some (Ok tt)) None true behind (Ok summary) of = λ is. absurd cc
-
-pub was_started : (input : Option (Result (Unit {0}) InputFault)) (ends : List StageEnd) (has_ended : Bool) (behind : ℕ) (output : Result Summary SinkFault) → answer_over input (first_fault_from 1 ends) has_ended behind output ≢ Err NoStart
-was_started input ends has_ended behind output = started_by input (first_fault_from 1 ends) has_ended behind output (λ fault is. of_stage 1 ends fault is)
-
--- ---- before the first message
-
--- there is no memory to read
-pub unread_has_run : (lanes : ℕ) (job : Job) (reader writer : Change) → reader.new ≡ reader.old → reader.failures_new ≡ reader.failures_old → writer.new ≡ writer.old → HasRunOverThreads lanes job (Err (Input NoMemoryToRead)) reader writer
-unread_has_run lanes job reader writer read same_count written = record { run = (ended_without_reading job ⊥ reader writer read same_count written).run; all_written = λ text is has sound. absurd has; read_failed = λ is. absurd cc; gone = tt }

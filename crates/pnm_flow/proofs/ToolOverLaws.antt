@@ -12,7 +12,7 @@ use Rattle.pnm_tools.specs.Tools.{IsLawfulTool, output_due}
 use Rattle.pnm_tools.proofs.RefusalLaws.{results_are_images}
 use Rattle.pnm_stages.specs.declared.stage.StageEnd.{StageEnd}
 use Rattle.pnm_stages.specs.declared.stage.StageEnd.TheVariants.{Well, Broken, Fault, PeerGone}
-use Rattle.pnm_stages.specs.Fronts.{IsFrontOfDue}
+use Rattle.pnm_stages.specs.Prefixes.{IsPrefixOfDue}
 use Rattle.pnm_stages.specs.Rings.{IsEnded}
 use Rattle.pnm_stages.specs.Stages.{HasEndedWell, HasBrokenOff}
 use Rattle.pnm_stages.proofs.EndingLaws.{stream_ends_whole}
@@ -36,7 +36,8 @@ ended_broken lanes tool l g (inl several) = several.1
 ended_broken lanes tool l g (inr one) = one.1
 
 -- what was refused, if the messages are in order
-pub ended_refused : (lanes : ℕ) (tool : Tool) (fault : ToolFault) (l g : List Message) → IsLawfulTool tool → IsLawful l → HasEndedOver lanes tool (Fault fault) l g → (given : List Message) × HasRefused tool fault l given
+pub ended_refused : (lanes : ℕ) (tool : Tool) (fault : ToolFault) (l g : List Message) → IsLawfulTool tool → IsLawful l
+    → HasEndedOver lanes tool (Fault fault) l g → (given : List Message) × HasRefused tool fault l given
 ended_refused lanes tool fault l g of_range lawful (inl several) = refused_in_lanes tool fault l of_range lawful several.1.of_input
 ended_refused lanes tool fault l g of_range lawful (inr one) = (one.1.given, one.1.refused)
 
@@ -46,7 +47,8 @@ failed_received lanes tool fault l g (inl several) = several.1.ends
 failed_received lanes tool fault l g (inr one) = one.1.ends
 
 pub received_ended : (lanes : ℕ) (tool : Tool) (end : StageEnd) (l g : List Message) → HasEndedOver lanes tool end l g → end ≢ PeerGone → IsEnded l
-received_ended lanes tool Well l g ended there = let well = ended_well lanes tool l g ended in inl (subst (EndsBy Whole) (sym well.stream.messages) (stream_ends_whole well.images))
+received_ended lanes tool Well l g ended there = let well = ended_well lanes tool l g ended in
+    inl (subst (EndsBy Whole) (sym well.stream.messages) (stream_ends_whole well.images))
 received_ended lanes tool Broken l g ended there = inr (ended_broken lanes tool l g ended).ends
 received_ended lanes tool (Fault fault) l g ended there = failed_received lanes tool fault l g ended
 received_ended lanes tool PeerGone l g ended there = absurd (there refl)
@@ -56,7 +58,8 @@ failed_sent lanes tool fault l g (inl several) = let stopped = several.1.answer 
 failed_sent lanes tool fault l g (inr one) = subst (EndsBy BrokenOff) (sym one.1.answer) (ends_with one.1.given Stop one.1.unbroken)
 
 pub sent_ended : (lanes : ℕ) (tool : Tool) (end : StageEnd) (l g : List Message) → HasEndedOver lanes tool end l g → end ≢ PeerGone → IsEnded g
-sent_ended lanes tool Well l g ended there = let well = ended_well lanes tool l g ended in inl (subst (EndsBy Whole) (sym well.answer) (stream_ends_whole well.results))
+sent_ended lanes tool Well l g ended there = let well = ended_well lanes tool l g ended in
+    inl (subst (EndsBy Whole) (sym well.answer) (stream_ends_whole well.results))
 sent_ended lanes tool Broken l g ended there = let broken = ended_broken lanes tool l g ended in inr (broken.full.ends BrokenOff broken.ends)
 sent_ended lanes tool (Fault fault) l g ended there = inr (failed_sent lanes tool fault l g ended)
 sent_ended lanes tool PeerGone l g ended there = absurd (there refl)
@@ -64,10 +67,11 @@ sent_ended lanes tool PeerGone l g ended there = absurd (there refl)
 -- what a tool sent that ended well is in order
 pub sent_in_order : (tool : Tool) (l g : List Message) → IsLawfulTool tool → HasEndedWell tool l g → IsLawful g
 sent_in_order tool l g of_range ended =
-    subst IsLawful (sym ended.answer) (stream_is_lawful ended.results (results_are_images tool ended.images ended.results of_range ended.stream.images ended.made))
+    subst IsLawful (sym ended.answer)
+    (stream_is_lawful ended.results (results_are_images tool ended.images ended.results of_range ended.stream.images ended.made))
 
 -- ---- however it ended
 
-pub stage_due : (lanes : ℕ) (tool : Tool) (end : StageEnd) (l g : List Message) → IsStageOver lanes tool end l g → IsFrontOfDue (output_due tool) l g
+pub stage_due : (lanes : ℕ) (tool : Tool) (end : StageEnd) (l g : List Message) → IsStageOver lanes tool end l g → IsPrefixOfDue (output_due tool) l g
 stage_due lanes tool end l g (inl several) = several.1.due
 stage_due lanes tool end l g (inr one) = one.1.due

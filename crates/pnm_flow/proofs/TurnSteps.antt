@@ -8,8 +8,10 @@ use Rattle.pnm_flow.specs.Turns.{HaveTurned}
 use Rattle.pnm_stages.proofs.RingSteps.{same_input, same_output}
 
 -- one turn more
-pub turned_more : {R W : Type 0} (left : R → Option (List ℕ)) (reader_failures : R → ℕ) (same_reader : R → R → Type 0) (held : W → Option (List ℕ)) (writer_failures : W → ℕ) (same_writer : W → W → Type 0) (f f1 f2 : Feeder R) (c c1 c2 : Collector W)
-    → HaveTurned left reader_failures same_reader held writer_failures same_writer f c f1 c1 → HaveTurned left reader_failures same_reader held writer_failures same_writer f1 c1 f2 c2
+pub turned_more : {R W : Type 0} (left : R → Option (List ℕ)) (reader_failures : R → ℕ) (same_reader : R → R → Type 0) (held : W → Option (List ℕ))
+    (writer_failures : W → ℕ) (same_writer : W → W → Type 0) (f f1 f2 : Feeder R) (c c1 c2 : Collector W)
+    → HaveTurned left reader_failures same_reader held writer_failures same_writer f c f1 c1
+    → HaveTurned left reader_failures same_reader held writer_failures same_writer f1 c1 f2 c2
     → same_reader (reader_of f.source) (reader_of f2.source) → same_writer (output_of c.downstream) (output_of c2.downstream)
     → HaveTurned left reader_failures same_reader held writer_failures same_writer f c f2 c2
 turned_more left reader_failures same_reader held writer_failures same_writer f f1 f2 c c1 c2 before turned reader writer = record {
@@ -22,10 +24,12 @@ turned_more left reader_failures same_reader held writer_failures same_writer f 
 }
 
 -- one thing after another
-pub turned_on : {R W : Type 0} (left : R → Option (List ℕ)) (reader_failures : R → ℕ) (same_reader : R → R → Type 0) (held : W → Option (List ℕ)) (writer_failures : W → ℕ) (same_writer : W → W → Type 0)
+pub turned_on : {R W : Type 0} (left : R → Option (List ℕ)) (reader_failures : R → ℕ) (same_reader : R → R → Type 0) (held : W → Option (List ℕ))
+    (writer_failures : W → ℕ) (same_writer : W → W → Type 0)
     → ((a b d : R) → same_reader a b → same_reader b d → same_reader a d) → ((a b d : W) → same_writer a b → same_writer b d → same_writer a d)
     → (f f1 f2 : Feeder R) (c c1 c2 : Collector W)
-    → HaveTurned left reader_failures same_reader held writer_failures same_writer f c f1 c1 → HaveTurned left reader_failures same_reader held writer_failures same_writer f1 c1 f2 c2
+    → HaveTurned left reader_failures same_reader held writer_failures same_writer f c f1 c1
+    → HaveTurned left reader_failures same_reader held writer_failures same_writer f1 c1 f2 c2
     → HaveTurned left reader_failures same_reader held writer_failures same_writer f c f2 c2
 turned_on left reader_failures same_reader held writer_failures same_writer reader_later writer_later f f1 f2 c c1 c2 before turned =
     turned_more left reader_failures same_reader held writer_failures same_writer f f1 f2 c c1 c2 before turned

@@ -42,7 +42,8 @@ named tool head TooLarge rows is = (λ e. absurd cc, λ e. absurd cc)
 named tool head OutOfOrder rows is = absurd (omega (arith, is.1))
 named tool head Memory rows is = absurd is
 
-by_head : (tool : Tool) (i : Image) (r : Result HeadValue ToolFault) (fault : ToolFault) → result_head tool i.head ≡ r → HasRows i → applied_by (λ h. image_by h (result_sample tool i)) r ≡ Err fault → IsNamed fault
+by_head : (tool : Tool) (i : Image) (r : Result HeadValue ToolFault) (fault : ToolFault) → result_head tool i.head ≡ r → HasRows i
+    → applied_by (λ h. image_by h (result_sample tool i)) r ≡ Err fault → IsNamed fault
 by_head tool i (Ok head) fault e rows refused = absurd cc
 by_head tool i (Err other) fault e rows refused =
     let same : other ≡ fault = cc in
@@ -84,7 +85,8 @@ by_outcome : (number : ℕ) (tools : List Tool) (r : Result (List Image) ToolFau
 by_outcome number tools (Ok js) refusal are later is = later js are.0 are.1 is
 by_outcome number tools (Err fault) refusal are later is = subst IsNamed (ap (fault_or fault) is) are
 
-chain_refusal : (number : ℕ) (tools : List Tool) (is : List Image) (refusal : Refusal) → AreLawfulTools tools → AreImages is → AllByRecursion HasRows is → refusal_from number tools is ≡ Some refusal → IsNamed refusal.fault
+chain_refusal : (number : ℕ) (tools : List Tool) (is : List Image) (refusal : Refusal) → AreLawfulTools tools → AreImages is → AllByRecursion HasRows is
+    → refusal_from number tools is ≡ Some refusal → IsNamed refusal.fault
 chain_refusal number [] is refusal lawful images rows refused = absurd cc
 chain_refusal number (tool ∷ tools) is refusal lawful images rows refused =
     by_outcome number tools (results_of tool is) refusal (outcomes tool is lawful.0 images rows)
@@ -108,6 +110,10 @@ verdict_is_of_text text job (OfTool number fault) lawful is =
     let is_named = text_refusal text job.tools number fault lawful is in
     (is_named.0, λ other e. let same : fault ≡ OutOfOrder = cc in is_named.1 same, λ out e. absurd cc)
 verdict_is_of_text text job (Output fault) lawful is =
-    let of_form = reason_is_of_form job.form is.results fault is.fit in
-    (λ failed. no_write_fault job.form (subst (IsFormFault job.form) failed of_form), λ number e. absurd cc, λ out e. let same : fault ≡ out = cc in subst (IsFormFault job.form) same of_form)
+    let of_form = reason_is_of_form job.form is.results fault is.fit in (
+      λ failed. no_write_fault job.form (subst (IsFormFault job.form) failed of_form),
+      λ number e. absurd cc,
+      λ out e. let same : fault ≡ out = cc in
+          subst (IsFormFault job.form) same of_form,
+    )
 verdict_is_of_text text job (PeerGone number) lawful is = absurd is

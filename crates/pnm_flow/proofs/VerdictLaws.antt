@@ -4,7 +4,7 @@ use Rattle.pnm_image.specs.Devices.{Failed}
 use Rattle.pnm_image.specs.Images.{Image}
 use Rattle.pnm_read.specs.declared.fault.InputFault.{InputFault}
 use Rattle.pnm_read.specs.Said.{fault_of}
-use Rattle.pnm_read.specs.Inputs.{IsOutsideFault}
+use Rattle.pnm_read.specs.BufferedReaders.{IsOutsideFault}
 use Rattle.pnm_read.specs.Spelling.{Spells}
 use Rattle.pnm_read.specs.TextLaws.{IsAtFault}
 use Rattle.pnm_read.proofs.TextLaws.{one_list_or_one_fault, spelled_text_is_said}
@@ -14,7 +14,7 @@ use Rattle.pnm_tools.specs.declared.tool.Tool.{Tool}
 use Rattle.pnm_tools.specs.Answers.{AreResults}
 use Rattle.pnm_tools.specs.Tools.{applied}
 use Rattle.pnm_tools.specs.Chains.{AreResultsInTurn, applied_in_turn, Refusal, refusal_from, refusal_of}
-use Rattle.pnm_tools.proofs.FrontLaws.{rest_in_turn}
+use Rattle.pnm_tools.proofs.PrefixLaws.{rest_in_turn}
 use Rattle.pnm_tools.proofs.RefusalLaws.{refusal_by, results_are}
 use Rattle.pnm_write.specs.declared.fault.SinkFault.{SinkFault}
 use Rattle.pnm_write.specs.declared.fault.SinkFault.TheVariants.{WriteFailed}
@@ -31,11 +31,13 @@ use Rattle.pnm_flow.proofs.ResultSteps.{chain_results}
 -- ---- the results of a chain
 
 -- the first tool's result of an image, of which the others make this one
-first_result : (tools : List Tool) (r : Result Image ToolFault) (k : Image) → rest_in_turn tools r ≡ Ok k → (j : Image) × (r ≡ Ok j) × (applied_in_turn tools j ≡ Ok k)
+first_result : (tools : List Tool) (r : Result Image ToolFault) (k : Image) → rest_in_turn tools r ≡ Ok k → (j : Image) × (r ≡ Ok j)
+    × (applied_in_turn tools j ≡ Ok k)
 first_result tools (Ok j) k is = (j, refl, is)
 first_result tools (Err fault) k is = absurd cc
 
-first_results : (tool : Tool) (tools : List Tool) (is ks : List Image) → AreResultsInTurn (tool ∷ tools) is ks → (js : List Image) × AreResults tool is js × AreResultsInTurn tools js ks
+first_results : (tool : Tool) (tools : List Tool) (is ks : List Image) → AreResultsInTurn (tool ∷ tools) is ks → (js : List Image) × AreResults tool is js
+    × AreResultsInTurn tools js ks
 first_results tool tools [] [] are = ([], tt, tt)
 first_results tool tools [] (k ∷ ks) are = absurd are
 first_results tool tools (i ∷ is) [] are = absurd are
@@ -71,7 +73,8 @@ images_are_one text images others one other =
       | inr found ↦ absurd (found.1.not_spelled images one)
     ]
 
-refusals_are_one : (text : List ℕ) (tools : List Tool) (images others : List Image) (one other : Option Refusal) → Spells text images → Spells text others → refusal_of tools images ≡ one → refusal_of tools others ≡ other → one ≡ other
+refusals_are_one : (text : List ℕ) (tools : List Tool) (images others : List Image) (one other : Option Refusal) → Spells text images → Spells text others
+    → refusal_of tools images ≡ one → refusal_of tools others ≡ other → one ≡ other
 refusals_are_one text tools images others one other spelled spelled_too is is_too =
     sym is ∙ ap (refusal_of tools) (images_are_one text images others spelled spelled_too) ∙ is_too
 
@@ -92,7 +95,8 @@ reasons_are_one text job one other is is_too =
     sym is.fit ∙ ap (images_fault job.form) (results_are_one job.tools is_too.images is.results is_too.results made is_too.made) ∙ is_too.fit
 
 -- a text whose images no tool refuses isn't one of which a tool refuses an image
-never_refused : (text : List ℕ) (job : Job) (found : Option SinkFault) (number : ℕ) (fault : ToolFault) → HasResults text job found → IsRefusedBy text job.tools number fault → ⊥
+never_refused : (text : List ℕ) (job : Job) (found : Option SinkFault) (number : ℕ) (fault : ToolFault) → HasResults text job found
+    → IsRefusedBy text job.tools number fault → ⊥
 never_refused text job found number fault is refused =
     let same = refusals_are_one text job.tools is.images refused.0 None _ is.spelled refused.1 is.taken refused.2 in absurd cc
 
@@ -109,7 +113,8 @@ verdicts_are_one text job None (Some NoStart) is is_too = absurd is_too
 verdicts_are_one text job None (Some (Output fault)) is is_too = ap verdict_of_form (reasons_are_one text job None (Some fault) is is_too)
 verdicts_are_one text job None (Some (PeerGone number)) is is_too = absurd is_too
 verdicts_are_one text job (Some (Input fault)) None is is_too = absurd (never_at_fault text is_too.images fault is_too.spelled is)
-verdicts_are_one text job (Some (Input fault)) (Some (Input fault_too)) is is_too = let same : fault ≡ fault_too = cc in ap (λ (f : InputFault). Some (Input f)) same
+verdicts_are_one text job (Some (Input fault)) (Some (Input fault_too)) is is_too = let same : fault ≡ fault_too = cc in
+    ap (λ (f : InputFault). Some (Input f)) same
 verdicts_are_one text job (Some (Input fault)) (Some (OfTool number fault_too)) is is_too = absurd (never_at_fault text is_too.0 fault is_too.1 is)
 verdicts_are_one text job (Some (Input fault)) (Some NoStart) is is_too = absurd is_too
 verdicts_are_one text job (Some (Input fault)) (Some (Output fault_too)) is is_too = absurd (never_at_fault text is_too.images fault is_too.spelled is)
@@ -119,14 +124,17 @@ verdicts_are_one text job (Some (OfTool number fault)) (Some (Input fault_too)) 
 verdicts_are_one text job (Some (OfTool number fault)) (Some (OfTool number_too fault_too)) is is_too =
     ap fault_of_refusal (refusals_are_one text job.tools is.0 is_too.0 _ _ is.1 is_too.1 is.2 is_too.2)
 verdicts_are_one text job (Some (OfTool number fault)) (Some NoStart) is is_too = absurd is_too
-verdicts_are_one text job (Some (OfTool number fault)) (Some (Output fault_too)) is is_too = absurd (never_refused text job (Some fault_too) number fault is_too is)
+verdicts_are_one text job (Some (OfTool number fault)) (Some (Output fault_too)) is is_too =
+    absurd (never_refused text job (Some fault_too) number fault is_too is)
 verdicts_are_one text job (Some (OfTool number fault)) (Some (PeerGone number_too)) is is_too = absurd is_too
 verdicts_are_one text job (Some NoStart) other is is_too = absurd is
 verdicts_are_one text job (Some (Output fault)) None is is_too = ap verdict_of_form (reasons_are_one text job (Some fault) None is is_too)
 verdicts_are_one text job (Some (Output fault)) (Some (Input fault_too)) is is_too = absurd (never_at_fault text is.images fault_too is.spelled is_too)
-verdicts_are_one text job (Some (Output fault)) (Some (OfTool number fault_too)) is is_too = absurd (never_refused text job (Some fault) number fault_too is is_too)
+verdicts_are_one text job (Some (Output fault)) (Some (OfTool number fault_too)) is is_too =
+    absurd (never_refused text job (Some fault) number fault_too is is_too)
 verdicts_are_one text job (Some (Output fault)) (Some NoStart) is is_too = absurd is_too
-verdicts_are_one text job (Some (Output fault)) (Some (Output fault_too)) is is_too = ap verdict_of_form (reasons_are_one text job (Some fault) (Some fault_too) is is_too)
+verdicts_are_one text job (Some (Output fault)) (Some (Output fault_too)) is is_too =
+    ap verdict_of_form (reasons_are_one text job (Some fault) (Some fault_too) is is_too)
 verdicts_are_one text job (Some (Output fault)) (Some (PeerGone number)) is is_too = absurd is_too
 verdicts_are_one text job (Some (PeerGone number)) other is is_too = absurd is
 
@@ -137,7 +145,8 @@ by_form : (text : List ℕ) (job : Job) (found : Option SinkFault) → HasResult
 by_form text job None is = has_one text job None is
 by_form text job (Some fault) is = has_one text job (Some (Output fault)) is
 
-by_refusal : (text : List ℕ) (job : Job) (images : List Image) (found : Option Refusal) → Spells text images → refusal_of job.tools images ≡ found → HasOneVerdict text job
+by_refusal : (text : List ℕ) (job : Job) (images : List Image) (found : Option Refusal) → Spells text images → refusal_of job.tools images ≡ found
+    → HasOneVerdict text job
 by_refusal text job images None spelled is =
     let found = chain_results 1 job.tools images is in
     by_form text job (images_fault job.form found.0) (record { images = images; results = found.0; spelled = spelled; taken = is; made = found.1; fit = refl })
@@ -157,7 +166,8 @@ pub verdict_follows : (text : List ℕ) (job : Job) (answer : Result Summary Run
     → IfOk answer (EndedWell text job writer.old writer.new)
     → IfInput answer (λ fault. IsOutsideFault fault ⊎ IsAtFault text fault)
     → IfTool answer (λ number fault. ((fault ≡ Memory) × (number ≡ 1) × unread) ⊎ IsStoppedBy text job.tools number fault)
-    → IfOutput answer (λ fault. (((fault ≡ WriteFailed) × Failed writer.failures_old writer.failures_new) ⊎ IsFormFault job.form fault) × (reader.failures_new ≡ reader.failures_old))
+    → IfOutput answer (λ fault. (((fault ≡ WriteFailed) × Failed writer.failures_old writer.failures_new) ⊎ IsFormFault job.form fault)
+    × (reader.failures_new ≡ reader.failures_old))
     → IfOutput answer (λ fault. IsFormFault job.form fault → HasResults text job (Some fault))
     → AnswersVerdict text job answer
 verdict_follows text job (Ok summary) unread reader writer well input refusal output form = record {
@@ -185,22 +195,28 @@ verdict_follows text job (Err (Output fault)) unread reader writer well input re
 verdict_follows text job (Err (PeerGone number)) unread reader writer well input refusal output form = inl tt
 
 -- two runs that ended well have the same summary
-summaries_are_one : (text : List ℕ) (job : Job) (old new old_too new_too : Option (List ℕ)) (one other : Summary) → EndedWell text job old new one → EndedWell text job old_too new_too other → one ≡ other
+summaries_are_one : (text : List ℕ) (job : Job) (old new old_too new_too : Option (List ℕ)) (one other : Summary) → EndedWell text job old new one
+    → EndedWell text job old_too new_too other → one ≡ other
 summaries_are_one text job old new old_too new_too one other well well_too =
     let images = images_are_one text well.images well_too.images well.spelled well_too.spelled in
     let made = subst (λ (is : List Image). AreResultsInTurn job.tools is well.results) images well.output.made in
     well.counts ∙ ap summary_of (results_are_one job.tools well_too.images well.results well_too.results made well_too.output.made) ∙ sym well_too.counts
 
 -- a fault that isn't from outside is the verdict
-fault_inside : (text : List ℕ) (job : Job) (fault : RunFault) → IsFromOutside fault ⊎ IsVerdict text job (Some fault) → ¬ IsFromOutside fault → IsVerdict text job (Some fault)
+fault_inside : (text : List ℕ) (job : Job) (fault : RunFault) → IsFromOutside fault ⊎ IsVerdict text job (Some fault) → ¬ IsFromOutside fault
+    → IsVerdict text job (Some fault)
 fault_inside text job fault (inl outside) inside = absurd (inside outside)
 fault_inside text job fault (inr verdict) inside = verdict
 
 pub one_answer : OneAnswerForEachText
-one_answer text job (Ok summary) (Ok summary_too) writer writer_too is is_too = ap Ok (summaries_are_one text job writer.old writer.new writer_too.old writer_too.new summary summary_too is.well is_too.well)
-one_answer text job (Ok summary) (Err fault) writer writer_too is is_too = let same = verdicts_are_one text job None (Some fault) is.verdict (fault_inside text job fault is_too.verdict is_too.inside) in absurd cc
-one_answer text job (Err fault) (Ok summary) writer writer_too is is_too = let same = verdicts_are_one text job None (Some fault) is_too.verdict (fault_inside text job fault is.verdict is.inside) in absurd cc
+one_answer text job (Ok summary) (Ok summary_too) writer writer_too is is_too =
+    ap Ok (summaries_are_one text job writer.old writer.new writer_too.old writer_too.new summary summary_too is.well is_too.well)
+one_answer text job (Ok summary) (Err fault) writer writer_too is is_too = let same =
+    verdicts_are_one text job None (Some fault) is.verdict (fault_inside text job fault is_too.verdict is_too.inside) in absurd cc
+one_answer text job (Err fault) (Ok summary) writer writer_too is is_too = let same =
+    verdicts_are_one text job None (Some fault) is_too.verdict (fault_inside text job fault is.verdict is.inside) in absurd cc
 one_answer text job (Err fault) (Err fault_too) writer writer_too is is_too =
-    let same = verdicts_are_one text job (Some fault) (Some fault_too) (fault_inside text job fault is.verdict is.inside) (fault_inside text job fault_too is_too.verdict is_too.inside) in
+    let same = verdicts_are_one text job (Some fault) (Some fault_too) (fault_inside text job fault is.verdict is.inside)
+    (fault_inside text job fault_too is_too.verdict is_too.inside) in
     let fault_is : fault ≡ fault_too = cc in
     ap Err fault_is

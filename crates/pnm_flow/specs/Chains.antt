@@ -1,5 +1,5 @@
--- What a chain of tools has received and sent once all have ended: each in a thread of its own, or over lanes, with a ring
--- between it and the next.
+-- What a chain of tools has received and sent once all have ended: each in a thread of its own, or over lanes, with a
+-- ring between it and the next.
 use Rattle.std.specs.Prelude.{◌≡◌, ◌≢◌, ◌⊎◌, ◌<◌, ◌≤◌, ℕ, ◌+◌, true, length, List, [], ◌∷◌, ◌++◌}
 use Rattle.std.specs.Prelude.{vec_capacity}
 use Rattle.std.specs.List.{AllByRecursion}
@@ -20,7 +20,7 @@ use Rattle.pnm_stages.specs.declared.stage.StageDone.{StageDone}
 use Rattle.pnm_stages.specs.declared.stage.StageEnd.{StageEnd}
 use Rattle.pnm_stages.specs.declared.stage.StageEnd.TheVariants.{Well, PeerGone}
 use Rattle.pnm_flow.specs.Links.{IsWhole, IsDrained}
-use Rattle.pnm_stages.specs.Fronts.{IsFrontOfDue}
+use Rattle.pnm_stages.specs.Prefixes.{IsPrefixOfDue}
 use Rattle.pnm_stages.specs.Rings.{IsEnded}
 use Rattle.pnm_stages.specs.Stages.{IsStage, HasRunStage}
 use Rattle.pnm_lanes.specs.LaneRings.{AreLaneRings}
@@ -41,9 +41,10 @@ ByLanes lanes tool Several One = (RunsInLanes lanes tool × Several) ⊎ ((RunsI
 abbrev pub IsStageOver : ℕ → Tool → StageEnd → List Message → List Message → Type 0
 IsStageOver lanes tool end l g = ByLanes lanes tool (IsStageOfLanes tool end l g) (IsStage tool end l g)
 
--- a tool of a chain has ended so, by the messages that its two rings had passed before and have passed now, and those of the
--- first that its end has seen and not received: none, or the end of the stream was received
-pub record HasRunTool (lanes : ℕ) (tool : Tool) (end : StageEnd) (received_old received_new seen sent_old sent_new : List Message) : Type 0 where
+-- a tool of a chain has ended so, by the messages that its two rings had passed before and have passed now, and those
+-- of the first that its end has seen and not received: none, or the end of the stream was received
+pub record HasRunTool (lanes : ℕ) (tool : Tool) (end : StageEnd)
+    (received_old received_new seen sent_old sent_new : List Message) : Type 0 where
   pub took : List Message
   pub gave : List Message
   pub input : received_new ≡ received_old ++ took
@@ -55,19 +56,22 @@ pub record HasRunTool (lanes : ℕ) (tool : Tool) (end : StageEnd) (received_old
 abbrev pub IsToolRun : ℕ → Tool → Receiver → Sender → StageDone → Type 0
 IsToolRun lanes tool input output done =
     SameConsumer input done.input × SameProducer output done.output
-    × HasRunTool lanes tool done.end (received input) (received done.input) (known_items done.input) (sent output) (sent done.output)
+    × HasRunTool lanes tool done.end (received input) (received done.input) (known_items done.input) (sent output)
+    (sent done.output)
 
 -- as one stage
 abbrev pub IsOneStageRun : Tool → Receiver → Sender → StageDone → Type 0
 IsOneStageRun tool input output done =
     SameConsumer input done.input × SameProducer output done.output
-    × HasRunStage tool done.end (received input) (received done.input) (known_items done.input) (sent output) (sent done.output)
+    × HasRunStage tool done.end (received input) (received done.input) (known_items done.input) (sent output)
+    (sent done.output)
 
 -- over several lanes
 abbrev pub IsLanesRun : Tool → Receiver → Sender → StageDone → Type 0
 IsLanesRun tool input output done =
     SameConsumer input done.input × SameProducer output done.output
-    × HasRunLanes tool done.end (received input) (received done.input) (known_items done.input) (sent output) (sent done.output)
+    × HasRunLanes tool done.end (received input) (received done.input) (known_items done.input) (sent output)
+    (sent done.output)
 
 -- what the tool works over: one stage, or the rings of its lanes
 abbrev pub IsAcross : ℕ → Tool → Across → Type 0
@@ -81,18 +85,21 @@ abbrev pub FirstIsThere : List StageEnd → Type 0
 FirstIsThere [] = ⊥
 FirstIsThere (end ∷ ends) = end ≢ PeerGone
 
--- each tool has ended so with the messages of its two rings: the first received these, the last sent those, and the ring
--- between a tool and the next is whole, and drained unless one of the two saw a neighbour's end dropped
+-- each tool has ended so with the messages of its two rings: the first received these, the last sent those, and the
+-- ring between a tool and the next is whole, and drained unless one of the two saw a neighbour's end dropped
 abbrev pub AreStages : ℕ → List Tool → List StageEnd → List Link → List Message → List Message → Type 0
 AreStages lanes [] ends links took gave = ⊥
 AreStages lanes (tool ∷ tools) [] links took gave = ⊥
-AreStages lanes (tool ∷ tools) (end ∷ ends) [] took gave = (tools ≡ []) × (ends ≡ []) × IsStageOver lanes tool end took gave
+AreStages lanes (tool ∷ tools) (end ∷ ends) [] took gave = (tools ≡ []) × (ends ≡ [])
+    × IsStageOver lanes tool end took gave
 AreStages lanes (tool ∷ tools) (end ∷ ends) (link ∷ links) took gave =
-    IsStageOver lanes tool end took (sent link.producer) × IsWhole link × (end ≢ PeerGone → FirstIsThere ends → IsDrained link)
+    IsStageOver lanes tool end took (sent link.producer) × IsWhole link
+    × (end ≢ PeerGone → FirstIsThere ends → IsDrained link)
     × AreStages lanes tools ends links (received link.consumer) gave
 
 -- the stages of a chain, by the messages that its two outer rings had passed before and have passed now
-pub record HasRunStages (lanes : ℕ) (tools : List Tool) (ends : List StageEnd) (links : List Link) (received_old received_new sent_old sent_new : List Message) : Type 0 where
+pub record HasRunStages (lanes : ℕ) (tools : List Tool) (ends : List StageEnd) (links : List Link)
+    (received_old received_new sent_old sent_new : List Message) : Type 0 where
   pub took : List Message
   pub gave : List Message
   pub input : received_new ≡ received_old ++ took
@@ -108,7 +115,8 @@ pub record HasAnsweredStream (tools : List Tool) (took gave : List Message) : Ty
   pub answer : gave ≡ messages_of_stream results
 
 -- a chain has ended so, by the messages that its two outer rings had passed before and have passed now
-pub record HasRunChain (lanes : ℕ) (tools : List Tool) (ends : List StageEnd) (links : List Link) (received_old received_new sent_old sent_new : List Message) : Type 0 where
+pub record HasRunChain (lanes : ℕ) (tools : List Tool) (ends : List StageEnd) (links : List Link)
+    (received_old received_new sent_old sent_new : List Message) : Type 0 where
   pub took : List Message
   pub gave : List Message
   pub input : received_new ≡ received_old ++ took
@@ -121,22 +129,25 @@ pub record HasRunChain (lanes : ℕ) (tools : List Tool) (ends : List StageEnd) 
   pub drained : AllByRecursion (λ end. end ≢ PeerGone) ends → AllByRecursion IsDrained links
   -- Where all ended well, the results of all images were sent.
   pub well : AllByRecursion (λ end. end ≡ Well) ends → HasAnsweredStream tools took gave
-  -- However they ended, what was sent is a front of what is due.
-  pub due : IsFrontOfDue (due_in_turn tools) took gave
+  -- However they ended, what was sent is a prefix of what is due.
+  pub due : IsPrefixOfDue (due_in_turn tools) took gave
 
 -- the stages of a chain between these ring ends, which came back; the lists still have so much room
-pub record HasRunBetween (lanes : ℕ) (tools : List Tool) (links_room ends_room : ℕ) (input : Receiver) (output : Sender) (done : ChainDone) : Type 0 where
+pub record HasRunBetween (lanes : ℕ) (tools : List Tool) (links_reserved ends_reserved : ℕ) (input : Receiver)
+    (output : Sender) (done : ChainDone) : Type 0 where
   pub same_input : SameConsumer input done.input
   pub same_output : SameProducer output done.output
-  pub ran : HasRunStages lanes tools done.ends.items done.links.items (received input) (received done.input) (sent output) (sent done.output)
-  pub for_links : vec_capacity done.links ≡ links_room
-  pub for_ends : vec_capacity done.ends ≡ ends_room
+  pub ran : HasRunStages lanes tools done.ends.items done.links.items (received input) (received done.input)
+      (sent output) (sent done.output)
+  pub for_links : vec_capacity done.links ≡ links_reserved
+  pub for_ends : vec_capacity done.ends ≡ ends_reserved
 
 -- ---- before a chain has started
 
 -- two lists without members have room for the links and the ends of so many tools
-pub record HasRoom (count : ℕ) (links : List Link) (links_room : ℕ) (ends : List StageEnd) (ends_room : ℕ) : Type 0 where
+pub record IsReserved (count : ℕ) (links : List Link) (links_reserved : ℕ) (ends : List StageEnd)
+    (ends_reserved : ℕ) : Type 0 where
   pub no_links : links ≡ []
   pub no_ends : ends ≡ []
-  pub for_links : count ≤ links_room
-  pub for_ends : count ≤ ends_room
+  pub for_links : count ≤ links_reserved
+  pub for_ends : count ≤ ends_reserved

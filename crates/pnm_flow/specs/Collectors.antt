@@ -15,20 +15,22 @@ EndedBy true l = IsEnded l
 EndedBy false l = EndsBy More l
 
 -- these messages were taken, and written but for Stop
-pub record HasPut {W : Type 0} (held : W → Option (List ℕ)) (failures : W → ℕ) (form : Form) (start : W) (l : List Message) (c : Collector W) : Type 0 where
+pub record HasCollected {W : Type 0} (held : W → Option (List ℕ)) (failures : W → ℕ) (form : Form) (start : W)
+    (l : List Message) (c : Collector W) : Type 0 where
   pub ended : EndedBy c.has_ended l
   pub taken : HasTaken held failures form start (without_stop l) c.downstream
 
 -- so were those that came after the ones which had been received before
-pub record IsCollecting {W : Type 0} (held : W → Option (List ℕ)) (failures : W → ℕ) (form : Form) (start : W) (before : List Message) (c : Collector W) : Type 0 where
+pub record IsCollecting {W : Type 0} (held : W → Option (List ℕ)) (failures : W → ℕ) (form : Form) (start : W)
+    (before : List Message) (c : Collector W) : Type 0 where
   pub took : List Message
   pub came : received c.input ≡ before ++ took
-  pub put : HasPut held failures form start took c
+  pub put : HasCollected held failures form start took c
 
 -- no more is to be taken, or can be
-abbrev pub is_over_of : Bool → Bool → Bool
-is_over_of true is_gone = true
-is_over_of false is_gone = is_gone
+abbrev pub collecting_is_over : Bool → Bool → Bool
+collecting_is_over true is_gone = true
+collecting_is_over false is_gone = is_gone
 
-abbrev pub is_over_by : {W : Type 0} → Collector W → Bool
-is_over_by c = is_over_of c.has_ended c.is_gone
+abbrev pub collector_is_over : {W : Type 0} → Collector W → Bool
+collector_is_over c = collecting_is_over c.has_ended c.is_gone

@@ -4,29 +4,29 @@ use Rattle.pnm_image.specs.declared.message.Message.{Message}
 use Rattle.pnm_image.specs.declared.message.Message.TheVariants.{Begin, Row, ImageEnd, StreamEnd, Stop}
 
 -- a count that stays at the greatest u64
-abbrev pub counted : ℕ → ℕ
-counted n = min n (2 ^ 64 - 1)
+abbrev pub saturate_u64 : ℕ → ℕ
+saturate_u64 n = min n (2 ^ 64 - 1)
 
 -- the images that have ended, after a message
-abbrev pub images_after : ℕ → Message → ℕ
-images_after images (Begin head) = images
-images_after images (Row row) = images
-images_after images ImageEnd = counted (images + 1)
-images_after images StreamEnd = images
-images_after images Stop = images
+abbrev pub image_count_after : ℕ → Message → ℕ
+image_count_after images (Begin head) = images
+image_count_after images (Row row) = images
+image_count_after images ImageEnd = saturate_u64 (images + 1)
+image_count_after images StreamEnd = images
+image_count_after images Stop = images
 
 -- the rows that have passed, after a message
-abbrev pub rows_after : ℕ → Message → ℕ
-rows_after rows (Begin head) = rows
-rows_after rows (Row row) = counted (rows + 1)
-rows_after rows ImageEnd = rows
-rows_after rows StreamEnd = rows
-rows_after rows Stop = rows
+abbrev pub row_count_after : ℕ → Message → ℕ
+row_count_after rows (Begin head) = rows
+row_count_after rows (Row row) = saturate_u64 (rows + 1)
+row_count_after rows ImageEnd = rows
+row_count_after rows StreamEnd = rows
+row_count_after rows Stop = rows
 
 abbrev pub images_in : ℕ → List Message → ℕ
 images_in images [] = images
-images_in images (m ∷ ms) = images_in (images_after images m) ms
+images_in images (m ∷ ms) = images_in (image_count_after images m) ms
 
 abbrev pub rows_in : ℕ → List Message → ℕ
 rows_in rows [] = rows
-rows_in rows (m ∷ ms) = rows_in (rows_after rows m) ms
+rows_in rows (m ∷ ms) = rows_in (row_count_after rows m) ms

@@ -12,10 +12,11 @@ use Rattle.pnm_read.specs.Sources.{reader_of, MayGive, SeesEnd, HasGiven}
 use Rattle.pnm_tools.specs.ChainAnswers.{AreSound}
 use Rattle.pnm_flow.specs.declared.feeder.Feeder.{Feeder}
 use Rattle.pnm_flow.specs.Feeding.{IsSaidOf}
-use Rattle.pnm_flow.specs.Runs.{change, HasMore, MayFollow}
+use Rattle.pnm_flow.specs.Runs.{change, HasMore, MayFollowRead}
 
 -- the source has read bytes and given these messages, and hasn't ended
-pub record HasAsked {R : Type 0} (left : R → Option (List ℕ)) (failures : R → ℕ) (first source : Source R) (given : List Message) : Type 0 where
+pub record HasAsked {R : Type 0} (left : R → Option (List ℕ)) (failures : R → ℕ) (first source : Source R)
+    (given : List Message) : Type 0 where
   pub read : List ℕ
   pub consumed : Consumes (left (reader_of first)) (left (reader_of source)) read
   pub told : HasGiven source read given
@@ -24,43 +25,47 @@ pub record HasAsked {R : Type 0} (left : R → Option (List ℕ)) (failures : R 
   pub count : failures (reader_of source) ≡ failures (reader_of first)
 
 -- the source has read bytes and given these messages, and has ended so
-pub record HasAskedAll {R : Type 0} (left : R → Option (List ℕ)) (failures : R → ℕ) (first source : Source R) (given : List Message) (result : Result (Unit {0}) InputFault) : Type 0 where
+pub record HasAskedAll {R : Type 0} (left : R → Option (List ℕ)) (failures : R → ℕ) (first source : Source R)
+    (given : List Message) (result : Result (Unit {0}) InputFault) : Type 0 where
   pub read : List ℕ
   pub consumed : Consumes (left (reader_of first)) (left (reader_of source)) read
   pub sound : AreSound given
-  pub told : (rest : List ℕ) → MayFollow result (change left failures (reader_of first) (reader_of source)) rest → IsSaidOf (read ++ rest) given result
+  pub told : (rest : List ℕ) → MayFollowRead result (change left failures (reader_of first) (reader_of source)) rest
+      → IsSaidOf (read ++ rest) given result
   pub count : (result ≡ Err ReadFailed → ⊥) → failures (reader_of source) ≡ failures (reader_of first)
   pub read_failed : result ≡ Err ReadFailed → Failed (failures (reader_of first)) (failures (reader_of source))
   pub after_failed_read : result ≡ Err ReadFailed → (rest : List ℕ) → IsSaidOf (read ++ rest) given result
 
-abbrev pub HasAskedBy : {R : Type 0} → (R → Option (List ℕ)) → (R → ℕ) → Source R → Source R → List Message → Option (Result (Unit {0}) InputFault) → Type 0
+abbrev pub HasAskedBy : {R : Type 0} → (R → Option (List ℕ)) → (R → ℕ) → Source R → Source R → List Message
+    → Option (Result (Unit {0}) InputFault) → Type 0
 HasAskedBy left failures first source given None = HasAsked left failures first source given
 HasAskedBy left failures first source given (Some result) = HasAskedAll left failures first source given result
 
 -- what is sent after the messages of the source: Stop after its fault
-abbrev pub closing : Option (Result (Unit {0}) InputFault) → List Message
-closing None = []
-closing (Some (Ok _)) = []
-closing (Some (Err fault)) = Stop ∷ []
+abbrev pub closing_messages : Option (Result (Unit {0}) InputFault) → List Message
+closing_messages None = []
+closing_messages (Some (Ok _)) = []
+closing_messages (Some (Err fault)) = Stop ∷ []
 
 -- the message that waits for room
-abbrev pub waiting : Option Message → List Message
-waiting None = []
-waiting (Some m) = m ∷ []
+abbrev pub waiting_messages : Option Message → List Message
+waiting_messages None = []
+waiting_messages (Some m) = m ∷ []
 
 -- what the source gave, and after its fault Stop, was sent after what had been sent before, but for what waits for room
-pub record IsFeeding {R : Type 0} (left : R → Option (List ℕ)) (failures : R → ℕ) (first : Source R) (before : List Message) (f : Feeder R) : Type 0 where
+pub record IsFeeding {R : Type 0} (left : R → Option (List ℕ)) (failures : R → ℕ) (first : Source R)
+    (before : List Message) (f : Feeder R) : Type 0 where
   pub given : List Message
   pub asked : HasAskedBy left failures first f.source given f.input
-  pub passed : sent f.output ++ waiting f.held ≡ before ++ (given ++ closing f.input)
+  pub passed : sent f.output ++ waiting_messages f.held ≡ before ++ (given ++ closing_messages f.input)
   pub none_waits : f.input ≡ Some (Ok tt) → f.held ≡ None
 
 -- no more is to be sent, or can be
-abbrev pub is_over_of : Bool → Option Message → Option (Result (Unit {0}) InputFault) → Bool
-is_over_of true held input = true
-is_over_of false None None = false
-is_over_of false None (Some result) = true
-is_over_of false (Some m) input = false
+abbrev pub feeding_is_over : Bool → Option Message → Option (Result (Unit {0}) InputFault) → Bool
+feeding_is_over true held input = true
+feeding_is_over false None None = false
+feeding_is_over false None (Some result) = true
+feeding_is_over false (Some m) input = false
 
-abbrev pub is_over_by : {R : Type 0} → Feeder R → Bool
-is_over_by f = is_over_of f.is_gone f.held f.input
+abbrev pub feeder_is_over : {R : Type 0} → Feeder R → Bool
+feeder_is_over f = feeding_is_over f.is_gone f.held f.input

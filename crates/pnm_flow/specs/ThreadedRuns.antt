@@ -1,5 +1,6 @@
 -- What a run over threads answers, reads and writes.
-use Rattle.std.specs.Prelude.{◌≡◌, ◌≤◌, ℕ, ◌+◌, Bool, true, false, length, List, [], ◌∷◌, ◌++◌, Option, Some, None, Result, Ok, Err}
+use Rattle.std.specs.Prelude.{◌≡◌, ◌≤◌, ℕ, ◌+◌, Bool, true, false, length, List, [], ◌∷◌, ◌++◌, Option, Some, None}
+use Rattle.std.specs.Prelude.{Result, Ok, Err}
 use Rattle.std.specs.Io.KnownBytes.{Appends, Consumes}
 use Rattle.pnm_image.specs.Devices.{Failed}
 use Rattle.pnm_image.specs.declared.message.Message.{Message}
@@ -16,7 +17,7 @@ use Rattle.pnm_stages.specs.declared.stage.StageEnd.{StageEnd}
 use Rattle.pnm_stages.specs.declared.stage.StageEnd.TheVariants.{Well, Broken, Fault, PeerGone}
 use Rattle.pnm_flow.specs.declared.summary.Summary.{Summary}
 use Rattle.pnm_flow.specs.Jobs.{Job}
-use Rattle.pnm_flow.specs.Runs.{Change, IfInput, IsFrontOfDue, HasRun}
+use Rattle.pnm_flow.specs.Runs.{Change, IfInput, IsPrefixOfBytesDue, HasRun}
 use Rattle.pnm_stages.specs.Stages.{HasEndedSo}
 use Rattle.pnm_lanes.specs.Lanes.{HaveLanesEndedSo}
 use Rattle.pnm_flow.specs.Chains.{ByLanes}
@@ -38,9 +39,10 @@ first_fault_from number (end ∷ ends) = elim (fault_of_end number end) [
   | None ↦ first_fault_from (number + 1) ends
 ]
 
--- The fault of the input comes first, then that the ring before the first tool lost its other end, then the first fault of
--- the tools, then that the ring behind the last one lost its other end, then the output's.
-abbrev pub answer_over : Option (Result (Unit {0}) InputFault) → Option RunFault → Bool → ℕ → Result Summary SinkFault → Result Summary RunFault
+-- The fault of the input comes first, then that the ring before the first tool lost its other end, then the first fault
+-- of the tools, then that the ring behind the last one lost its other end, then the output's.
+abbrev pub answer_over : Option (Result (Unit {0}) InputFault) → Option RunFault → Bool → ℕ → Result Summary SinkFault
+    → Result Summary RunFault
 answer_over None found has_ended behind output = Err (Gone 0)
 answer_over (Some (Err fault)) found has_ended behind output = Err (Input fault)
 answer_over (Some (Ok _)) (Some fault) has_ended behind output = Err fault
@@ -59,7 +61,8 @@ abbrev pub HaveEnded : ℕ → List Tool → List StageEnd → List Message → 
 HaveEnded lanes [] [] took gave = gave ≡ took
 HaveEnded lanes [] (end ∷ ends) took gave = ⊥
 HaveEnded lanes (tool ∷ tools) [] took gave = ⊥
-HaveEnded lanes (tool ∷ tools) (end ∷ ends) took gave = (middle : List Message) × HasEndedOver lanes tool end took middle × HaveEnded lanes tools ends middle gave
+HaveEnded lanes (tool ∷ tools) (end ∷ ends) took gave = (middle : List Message)
+    × HasEndedOver lanes tool end took middle × HaveEnded lanes tools ends middle gave
 
 -- the ends of the tools, as far as the answer tells them
 abbrev pub FitEnds : {A : Type 0} → Result A RunFault → List StageEnd → Type 0
@@ -79,9 +82,10 @@ IsOfTools (Err (OfTool number fault)) = Unit {0}
 IsOfTools (Err (Output fault)) = Unit {0}
 IsOfTools (Err (Gone number)) = ⊥
 
--- the tools have ended so for all that is said of the text, and what the last one sent was written, as far as the form takes
--- it
-pub record IsAllSent {A : Type 0} (text : List ℕ) (lanes : ℕ) (job : Job) (answer : Result A RunFault) (old new : Option (List ℕ)) : Type 0 where
+-- the tools have ended so for all that is said of the text, and what the last one sent was written, as far as the form
+-- takes it
+pub record IsAllSent {A : Type 0} (text : List ℕ) (lanes : ℕ) (job : Job) (answer : Result A RunFault)
+    (old new : Option (List ℕ)) : Type 0 where
   pub ends : List StageEnd
   pub given : List Message
   pub fit : FitEnds answer ends
@@ -99,17 +103,20 @@ IfGone (Err (OfTool number fault)) P = Unit {0}
 IfGone (Err (Output fault)) P = Unit {0}
 IfGone (Err (Gone number)) P = P number
 
--- these bytes were read; and whatever comes after them, what was written is a front of what is due for that text
-pub record IsFrontWhatever (job : Job) (reader writer : Change) : Type 0 where
+-- these bytes were read; and whatever comes after them, what was written is a prefix of what is due for that text
+pub record IsPrefixWhatever (job : Job) (reader writer : Change) : Type 0 where
   pub read : List ℕ
   pub consumed : Consumes reader.old reader.new read
-  pub front : (rest : List ℕ) → IsFrontOfDue (read ++ rest) job writer.old writer.new
+  pub prefix : (rest : List ℕ) → IsPrefixOfBytesDue (read ++ rest) job writer.old writer.new
 
--- a run over threads that was started: what holds of one in one thread, and what its stages did. There is no list of tools
--- for which memory could be missing, and no number of messages ends it: where a failed read is answered the reader failed,
--- and anything may come after the bytes that were read.
-pub record HasRunOverThreads (lanes : ℕ) (job : Job) (answer : Result Summary RunFault) (reader writer : Change) : Type 0 where
+-- a run over threads that was started: what holds of one in one thread, and what its stages did. There is no list of
+-- tools for which memory could be missing, and no number of messages ends it: where a failed read is answered the
+-- reader failed, and anything may come after the bytes that were read.
+pub record HasRunOverThreads (lanes : ℕ) (job : Job) (answer : Result Summary RunFault)
+    (reader writer : Change) : Type 0 where
   pub run : HasRun job answer ⊥ reader writer
-  pub all_written : (text : List ℕ) → reader.old ≡ Some text → IsOfTools answer → ¬ Failed writer.failures_old writer.failures_new → IsAllSent text lanes job answer writer.old writer.new
-  pub read_failed : IfInput answer (λ fault. fault ≡ ReadFailed → Failed reader.failures_old reader.failures_new × IsFrontWhatever job reader writer)
+  pub all_written : (text : List ℕ) → reader.old ≡ Some text → IsOfTools answer
+      → ¬ Failed writer.failures_old writer.failures_new → IsAllSent text lanes job answer writer.old writer.new
+  pub read_failed : IfInput answer (λ fault. fault ≡ ReadFailed → Failed reader.failures_old reader.failures_new
+      × IsPrefixWhatever job reader writer)
   pub gone : IfGone answer (λ number. number ≤ length job.tools + 1)

@@ -9,7 +9,7 @@ ghost use Rattle.pnm_stages.specs.Rings.{sent, received, IsPair, SameProducer, S
 ghost use Rattle.pnm_stages.specs.Starts.{IsUntouched};
 ghost use Rattle.pnm_lanes.specs.Limits.{IsLaneCount};
 ghost use Rattle.pnm_flow.specs.Links.{IsWhole};
-ghost use Rattle.pnm_flow.specs.Chains.{HasRunBetween, HasRunChain, HasRoom};
+ghost use Rattle.pnm_flow.specs.Chains.{HasRunBetween, HasRunChain, IsReserved};
 
 use crate::tool_run::{Across, run_tool};
 use pnm_stages::{
@@ -43,11 +43,11 @@ pub struct ChainDone {
     pub ends: Vec<StageEnd>,
 }
 
-/// Passes what comes on `input` through the tools to `output`, each tool a stage in a thread of its own. Where there are several
-/// lanes, 8 at most, a row-wise tool works over so many in its place: it has a thread for each lane, one that deals the rows to
-/// them, and one that gathers what they make. All rings hold so many messages each, 1 to 1,024.
-/// The gate is called by each stage with its tool's number, from 1, and lane 0, and by each lane with that
-/// number and its own, from 0.
+/// Passes what comes on `input` through the tools to `output`, each tool a stage in a thread of its own. Where there
+/// are several lanes, 8 at most, a row-wise tool works over so many in its place: it has a thread for each lane, one
+/// that deals the rows to them, and one that gathers what they make. All rings hold so many messages each, 1 to 1,024.
+/// The gate is called by each stage with its tool's number, from 1, and lane 0, and by each lane with that number and
+/// its own, from 0.
 ///
 /// It returns once all tools have ended, which they do when the end of the stream or Stop has come, or the
 /// input's other end is dropped; that the output's other end is dropped is seen only where its ring is
@@ -78,8 +78,8 @@ pub fn run_chain<R: Threads + Wait + Sync, G: Gate>(
     }
 }
 
-/// Passes what comes on `input` through the tools to `output`, as `run_chain` does. Once each of its threads is started, other work is
-/// done in this one. At `NoStart` that work isn't done.
+/// Passes what comes on `input` through the tools to `output`, as `run_chain` does. Once each of its threads is
+/// started, other work is done in this one. At `NoStart` that work isn't done.
 pub fn run_chain_beside<R: Threads + Wait + Sync, G: Gate, T: Task<Output = B> + Drop, B: Drop>(
     rt: &R,
     alloc: Global,
@@ -103,34 +103,36 @@ pub fn run_chain_beside<R: Threads + Wait + Sync, G: Gate, T: Task<Output = B> +
     ensures beside { IfOk result (λ r. T.run_gives beside r.1) }
     ensures not_started { IfErr result (λ refused. IfSome refused.ends (IsUntouched input output)) }
 {
-    let Some(room) = Room::new(alloc, tools.len()) else {
+    let Some(reserved) = Reserved::new(alloc, tools.len()) else {
         return Err(not_started(input, output));
     };
     run_stages(
-        rt, alloc, tools, capacity, lanes, gate, input, output, room, beside,
+        rt, alloc, tools, capacity, lanes, gate, input, output, reserved, beside,
     )
 }
 
-/// Room for what a chain gives back, made before any thread is started.
+/// What a chain gives back, reserved before any thread is started.
 #[derive(Drop)]
-struct Room {
+struct Reserved {
     links: Vec<Link>,
     ends: Vec<StageEnd>,
 }
 
-impl Room {
-    /// Room for so many tools; none where there is no memory.
-    fn new(alloc: Global, count: usize) -> Option<Room>
-        ensures { IfSome result (λ room. HasRoom count room.links.items (vec_capacity room.links) room.ends.items (vec_capacity room.ends)) }
+impl Reserved {
+    /// For so many tools; none where there is no memory.
+    fn new(alloc: Global, count: usize) -> Option<Reserved>
+        ensures { IfSome result
+            (λ reserved. IsReserved count reserved.links.items (vec_capacity reserved.links) reserved.ends.items
+            (vec_capacity reserved.ends)) }
     {
         let links = Vec::with_capacity(alloc, count).ok()?;
         let ends = Vec::with_capacity(alloc, count).ok()?;
-        Some(Room { links, ends })
+        Some(Reserved { links, ends })
     }
 }
 
-/// Starts the tools, at least one, from the last one on, each in threads of its own, and does the work beside them once all are
-/// started.
+/// Starts the tools, at least one, from the last one on, each in threads of its own, and does the work beside them once
+/// all are started.
 fn run_stages<R: Threads + Wait + Sync, G: Gate, T: Task<Output = B> + Drop, B: Drop>(
     rt: &R,
     alloc: Global,
@@ -140,16 +142,19 @@ fn run_stages<R: Threads + Wait + Sync, G: Gate, T: Task<Output = B> + Drop, B: 
     gate: &G,
     input: Receiver,
     output: Sender,
-    room: Room,
+    reserved: Reserved,
     beside: T,
 ) -> Result<(ChainDone, B), NoStart>
     requires shared { IsSync R.row × IsSync G.row }
     requires tools { AreLawfulTools tools.now × (1 ≤ length tools.now) }
     requires capacity { IsRingCapacity capacity }
     requires lanes { IsLaneCount lanes }
-    requires room { HasRoom (length tools.now) room.links.items (vec_capacity room.links) room.ends.items (vec_capacity room.ends) }
+    requires reserved { IsReserved (length tools.now) reserved.links.items (vec_capacity reserved.links)
+        reserved.ends.items (vec_capacity reserved.ends) }
     requires beside { T.can_run beside }
-    ensures ran { IfOk result (λ r. HasRunBetween lanes tools.now (vec_capacity room.links) (vec_capacity room.ends) input output r.0) }
+    ensures ran { IfOk result
+        (λ r. HasRunBetween lanes tools.now (vec_capacity reserved.links) (vec_capacity reserved.ends) input output
+        r.0) }
     ensures beside { IfOk result (λ r. T.run_gives beside r.1) }
     ensures not_started { IfErr result (λ refused. IfSome refused.ends (IsUntouched input output)) }
 {
@@ -163,7 +168,7 @@ fn run_stages<R: Threads + Wait + Sync, G: Gate, T: Task<Output = B> + Drop, B: 
             rt, alloc, last, number, lanes, across, gate, input, output, beside,
         );
         return match all {
-            Some((done, beside)) => Ok((only(done, room), beside)),
+            Some((done, beside)) => Ok((only(done, reserved), beside)),
             None => Err(NoStart { ends: None }),
         };
     }
@@ -175,12 +180,15 @@ fn run_stages<R: Threads + Wait + Sync, G: Gate, T: Task<Output = B> + Drop, B: 
             requires { (IsSync R.row × IsSync G.row)
                 × (AreLawfulTools others.now × (1 ≤ length others.now)) × IsLaneCount lanes
                 × IsRingCapacity capacity × T.can_run beside
-                × HasRoom (length others.now) room.links.items (vec_capacity room.links) room.ends.items (vec_capacity room.ends) }
-            ensures { IfSome result (λ r. HasRunBetween lanes others.entry.now (vec_capacity room.links) (vec_capacity room.ends) input producer r.0
+                × IsReserved (length others.now) reserved.links.items (vec_capacity reserved.links) reserved.ends.items
+                (vec_capacity reserved.ends) }
+            ensures { IfSome result
+                (λ r. HasRunBetween lanes others.entry.now (vec_capacity reserved.links) (vec_capacity reserved.ends)
+                input producer r.0
                 × T.run_gives beside r.1) }
         {
             run_stages(
-                rt, alloc, others, capacity, lanes, gate, input, producer, room, beside,
+                rt, alloc, others, capacity, lanes, gate, input, producer, reserved, beside,
             )
             .ok()
         },
@@ -220,14 +228,16 @@ fn last_and_others(tools: &[Tool]) -> (&Tool, &[Tool])
 }
 
 /// A chain of one stage.
-fn only(done: StageDone, room: Room) -> ChainDone
-    requires { HasRoom 1 room.links.items (vec_capacity room.links) room.ends.items (vec_capacity room.ends) }
+fn only(done: StageDone, reserved: Reserved) -> ChainDone
+    requires { IsReserved 1 reserved.links.items (vec_capacity reserved.links) reserved.ends.items
+        (vec_capacity reserved.ends) }
     ensures ends { (result.input ≡ done.input) × (result.output ≡ done.output) }
     ensures lists { (result.links.items ≡ []) × (result.ends.items ≡ done.end ∷ []) }
-    ensures room { (vec_capacity result.links ≡ vec_capacity room.links) × (vec_capacity result.ends ≡ vec_capacity room.ends) }
+    ensures reserved { (vec_capacity result.links ≡ vec_capacity reserved.links)
+        × (vec_capacity result.ends ≡ vec_capacity reserved.ends) }
 {
     let StageDone { input, output, end } = done;
-    let Room { links, mut ends } = room;
+    let Reserved { links, mut ends } = reserved;
     ends.push_reserved(end);
     ChainDone {
         input,
@@ -240,13 +250,15 @@ fn only(done: StageDone, room: Room) -> ChainDone
 /// A chain and the stage after it.
 fn joined(chain: ChainDone, done: StageDone) -> ChainDone
     requires ring { IsPair chain.output done.input }
-    requires room { (length chain.links.items < vec_capacity chain.links) × (length chain.ends.items < vec_capacity chain.ends) }
+    requires reserved { (length chain.links.items < vec_capacity chain.links)
+        × (length chain.ends.items < vec_capacity chain.ends) }
     ensures input { result.input ≡ chain.input }
     ensures output { result.output ≡ done.output }
     ensures link { (link : _) × (result.links.items ≡ chain.links.items ++ link ∷ []) × IsWhole link
         × (sent link.producer ≡ sent chain.output) × (received link.consumer ≡ received done.input) }
     ensures end { result.ends.items ≡ chain.ends.items ++ done.end ∷ [] }
-    ensures room { (vec_capacity result.links ≡ vec_capacity chain.links) × (vec_capacity result.ends ≡ vec_capacity chain.ends) }
+    ensures reserved { (vec_capacity result.links ≡ vec_capacity chain.links)
+        × (vec_capacity result.ends ≡ vec_capacity chain.ends) }
 {
     let ChainDone {
         input,

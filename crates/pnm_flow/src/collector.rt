@@ -25,7 +25,7 @@ pub struct Collector<W> {
 }
 
 impl<W: BytesOut + Drop> Collector<W> {
-    ghost use Rattle.pnm_flow.specs.Collectors.{IsCollecting, HasPut, is_over_by};
+    ghost use Rattle.pnm_flow.specs.Collectors.{IsCollecting, HasCollected, collector_is_over};
 
     /// A collector that has taken nothing yet, and is to write in this form.
     pub fn new(input: Receiver, writer: W, form: Form) -> Collector<W>
@@ -43,7 +43,7 @@ impl<W: BytesOut + Drop> Collector<W> {
 
     /// Whether no more is to be taken: the end of the stream or Stop was, or the ring's other end was seen dropped.
     pub fn is_over(&self) -> bool
-        ensures { result ≡ is_over_by self.now }
+        ensures { result ≡ collector_is_over self.now }
     {
         self.has_ended || self.is_gone
     }
@@ -55,7 +55,7 @@ impl<W: BytesOut + Drop> Collector<W> {
 
     /// Takes a message, if one is there, and writes it. False where none is, and the ring's other end is still there.
     pub fn turn(&mut self) -> bool
-        requires going { is_over_by self.old ≡ false }
+        requires going { collector_is_over self.old ≡ false }
         ensures collecting { (form : FormValue) (start : W) (before : List MessageValue)
             → IsCollecting W.held W.failures form start before self.old
             → IsCollecting W.held W.failures form start before self.new }
@@ -78,7 +78,8 @@ impl<W: BytesOut + Drop> Collector<W> {
         self.input.wait(rt, backoff);
     }
 
-    /// Takes what is left in the ring, both of whose ends are here: what was pushed before the other end was seen dropped.
+    /// Takes what is left in the ring, both of whose ends are here: what was pushed before the other end was seen
+    /// dropped.
     pub fn take_rest(&mut self, sender: &mut Sender)
         requires one_ring { IsPair sender.old self.old.input }
         ensures collecting { (form : FormValue) (start : W) (before : List MessageValue)
@@ -100,8 +101,9 @@ impl<W: BytesOut + Drop> Collector<W> {
     /// Writes the message, unless it is Stop.
     fn put(&mut self, message: Message)
         requires going { self.old.has_ended ≡ false }
-        ensures put { (form : FormValue) (start : W) (l : List MessageValue) → HasPut W.held W.failures form start l self.old
-            → HasPut W.held W.failures form start (l ++ message ∷ []) self.new }
+        ensures put { (form : FormValue) (start : W) (l : List MessageValue)
+            → HasCollected W.held W.failures form start l self.old
+            → HasCollected W.held W.failures form start (l ++ message ∷ []) self.new }
         ensures ring { (self.new.input ≡ self.old.input) × (self.new.is_gone ≡ self.old.is_gone) }
         ensures same_device { W.same (output_of self.old.downstream) (output_of self.new.downstream) }
     {

@@ -3,7 +3,7 @@
 ghost use Rattle.std.specs.Prelude.{◌≡◌, List, Bool, false, Some, None};
 ghost use Rattle.pnm_stages.specs.Rings.{sent, SameProducer};
 ghost use Rattle.pnm_image.specs.declared.message.Message.{Message as MessageValue};
-ghost use Rattle.pnm_read.specs.Sources.{reader_of, IsFresh as IsUnread};
+ghost use Rattle.pnm_read.specs.Sources.{reader_of, IsFreshSource as IsUnread};
 
 use pnm_image::{BytesIn, Message};
 use pnm_read::{InputFault, Source};
@@ -26,13 +26,14 @@ pub struct Feeder<R> {
 }
 
 impl<R: BytesIn + Drop> Feeder<R> {
-    ghost use Rattle.pnm_flow.specs.Feeders.{IsFeeding, is_over_by};
+    ghost use Rattle.pnm_flow.specs.Feeders.{IsFeeding, feeder_is_over};
 
     /// A feeder that has sent nothing yet. Of short rows it sends a few before it wakes the first tool (`tell`).
     pub fn new(source: Source<R>, output: Sender) -> Feeder<R>
         requires { IsUnread (reader_of source) source }
         ensures feeding { IsFeeding R.left R.failures source (sent output) result }
-        ensures parts { (result.source ≡ source) × SameProducer output result.output × (sent result.output ≡ sent output) }
+        ensures parts { (result.source ≡ source) × SameProducer output result.output
+            × (sent result.output ≡ sent output) }
     {
         let mut output = output;
         output.hold_back();
@@ -46,10 +47,10 @@ impl<R: BytesIn + Drop> Feeder<R> {
         }
     }
 
-    /// Whether there is no more to be sent: the end of the stream was, or Stop after a fault of the input; or the ring's
-    /// other end was seen dropped.
+    /// Whether there is no more to be sent: the end of the stream was, or Stop after a fault of the input; or the
+    /// ring's other end was seen dropped.
     pub fn is_over(&self) -> bool
-        ensures { result ≡ is_over_by self.now }
+        ensures { result ≡ feeder_is_over self.now }
     {
         self.is_gone || (self.held.is_none() && self.input.is_some())
     }
@@ -71,18 +72,20 @@ impl<R: BytesIn + Drop> Feeder<R> {
 
     /// Wakes the first tool's thread, where something was sent that it wasn't woken for.
     pub fn tell(&mut self)
-        ensures feeding { (first : Source R) (before : List MessageValue) → IsFeeding R.left R.failures first before self.old
+        ensures feeding { (first : Source R) (before : List MessageValue)
+            → IsFeeding R.left R.failures first before self.old
             → IsFeeding R.left R.failures first before self.new }
         ensures ring { SameProducer self.old.output self.new.output }
         ensures same_device { R.same (reader_of self.old.source) (reader_of self.new.source) }
-        ensures over { is_over_by self.new ≡ is_over_by self.old }
+        ensures over { feeder_is_over self.new ≡ feeder_is_over self.old }
     {
         self.output.tell();
     }
 
     /// One turn of waiting for room in the ring.
     pub fn wait<H: Wait>(&mut self, rt: &H, backoff: &mut Backoff)
-        ensures feeding { (first : Source R) (before : List MessageValue) → IsFeeding R.left R.failures first before self.old
+        ensures feeding { (first : Source R) (before : List MessageValue)
+            → IsFeeding R.left R.failures first before self.old
             → IsFeeding R.left R.failures first before self.new }
         ensures ring { SameProducer self.old.output self.new.output }
         ensures same_device { R.same (reader_of self.old.source) (reader_of self.new.source) }
@@ -90,10 +93,12 @@ impl<R: BytesIn + Drop> Feeder<R> {
         self.output.wait(rt, backoff);
     }
 
-    /// Asks the source for a message, where none waits for room in the ring, and sends it. False where there is no room.
+    /// Asks the source for a message, where none waits for room in the ring, and sends it. False where there is no
+    /// room.
     pub fn turn(&mut self) -> bool
-        requires going { is_over_by self.old ≡ false }
-        ensures feeding { (first : Source R) (before : List MessageValue) → IsFeeding R.left R.failures first before self.old
+        requires going { feeder_is_over self.old ≡ false }
+        ensures feeding { (first : Source R) (before : List MessageValue)
+            → IsFeeding R.left R.failures first before self.old
             → IsFeeding R.left R.failures first before self.new }
         ensures ring { SameProducer self.old.output self.new.output }
         ensures same_device { R.same (reader_of self.old.source) (reader_of self.new.source) }
@@ -106,7 +111,8 @@ impl<R: BytesIn + Drop> Feeder<R> {
 
     /// Sends the message that waits, if any. False where there is no room in the ring.
     fn send(&mut self) -> bool
-        ensures feeding { (first : Source R) (before : List MessageValue) → IsFeeding R.left R.failures first before self.old
+        ensures feeding { (first : Source R) (before : List MessageValue)
+            → IsFeeding R.left R.failures first before self.old
             → IsFeeding R.left R.failures first before self.new }
         ensures ring { SameProducer self.old.output self.new.output }
         ensures same_device { R.same (reader_of self.old.source) (reader_of self.new.source) }
@@ -127,7 +133,8 @@ impl<R: BytesIn + Drop> Feeder<R> {
     /// Asks the source for the next message. After its fault, Stop is to be sent.
     fn ask(&mut self)
         requires going { (self.old.held ≡ None) × (self.old.input ≡ None) }
-        ensures feeding { (first : Source R) (before : List MessageValue) → IsFeeding R.left R.failures first before self.old
+        ensures feeding { (first : Source R) (before : List MessageValue)
+            → IsFeeding R.left R.failures first before self.old
             → IsFeeding R.left R.failures first before self.new }
         ensures ring { self.new.output ≡ self.old.output }
         ensures same_device { R.same (reader_of self.old.source) (reader_of self.new.source) }
@@ -142,7 +149,8 @@ impl<R: BytesIn + Drop> Feeder<R> {
         }
     }
 
-    /// The reader, the ring's end, and how the source has ended; none where the ring's other end was seen dropped before.
+    /// The reader, the ring's end, and how the source has ended; none where the ring's other end was seen dropped
+    /// before.
     pub fn into_parts(self) -> (R, Sender, Option<Result<(), InputFault>>)
         ensures { (result.0 ≡ reader_of self.source) × (result.1 ≡ self.output) × (result.2 ≡ self.input) }
     {

@@ -1,7 +1,7 @@
 //! Laws of what is answered and of what is due for a text. Each stands over the definitions alone, as
 //! the contract of a function that does nothing.
 
-ghost use Rattle.pnm_flow.specs.Examples.{ExamplesHold, ResultBeforeRefusalIsWritten};
+ghost use Rattle.pnm_flow.specs.Examples.{RunExamplesHold, ResultBeforeRefusalIsWritten};
 ghost use Rattle.pnm_flow.specs.RunLaws.{OneAnswerForEachText};
 ghost use Rattle.pnm_flow.specs.Verdicts.{OneVerdictForEachText, VerdictsAreOfTexts};
 
@@ -26,7 +26,7 @@ pub fn one_answer_for_each_text()
 /// Small texts, the images that are said of them, and the bytes due for these from small chains, as
 /// the definitions compute them.
 pub fn examples_hold()
-    ensures { ExamplesHold }
+    ensures { RunExamplesHold }
 {}
 
 /// Where a tool refuses the second image and all that was due was written, the result of the first

@@ -5,12 +5,12 @@ ghost use Rattle.pnm_flow.specs.SerialChains.{FeedsThrough};
 
 use crate::downstream::Downstream;
 use pnm_image::{BytesOut, Message};
-use pnm_stages::SerialStage;
+use pnm_stages::FusedFilter;
 use pnm_tools::Filter;
 
 /// Passes a message through the stages, and writes what the last of them gives.
 pub fn feed_through<F: Filter + Drop, W: BytesOut + Drop>(
-    stages: &mut [SerialStage<F>],
+    stages: &mut [FusedFilter<F>],
     message: Message,
     downstream: &mut Downstream<W>,
 )

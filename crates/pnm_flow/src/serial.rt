@@ -1,7 +1,7 @@
 //! A run in one thread: read, pass through the tools, write.
 
 ghost use Rattle.std.specs.Prelude.{◌≡◌, [], Err, IfOk, IfErr};
-ghost use Rattle.pnm_read.specs.Sources.{reader_of, IsFresh as IsUnread};
+ghost use Rattle.pnm_read.specs.Sources.{reader_of, IsFreshSource as IsUnread};
 ghost use Rattle.pnm_tools.specs.declared.fault.ToolFault.TheVariants.{Memory as NoMemory};
 ghost use Rattle.pnm_tools.specs.Chains.{AreLawfulTools, IsChain};
 ghost use Rattle.pnm_flow.specs.Downstreams.{output_of};
@@ -16,7 +16,7 @@ use crate::passing::feed_through;
 use crate::summary::Summary;
 use pnm_image::{BytesIn, BytesOut, Form};
 use pnm_read::{InputFault, ReadBuffer, Source};
-use pnm_stages::{SerialStage, stage_of};
+use pnm_stages::{FusedFilter, filter_of};
 use pnm_tools::{Filter, Tool, ToolFault, ToolState};
 use pnm_write::SinkFault;
 use std::alloc::Global;
@@ -78,20 +78,20 @@ fn answer(
 
 /// Each tool at work, as a stage; one for which there is no memory has refused. The only fault is
 /// `Memory`, for the list.
-fn stages_of(alloc: Global, tools: &[Tool]) -> Result<Vec<SerialStage<ToolState>>, ToolFault>
+fn stages_of(alloc: Global, tools: &[Tool]) -> Result<Vec<FusedFilter<ToolState>>, ToolFault>
     requires { AreLawfulTools tools.now }
     ensures fresh { IfOk result (λ stages. AreFresh stages.items tools.now) }
     ensures refused { IfErr result (λ fault. fault ≡ NoMemory) }
 {
     let mut stages = Vec::with_capacity(alloc, tools.len())?;
     for tool in tools {
-        stages.push(stage_of(alloc, tool))?;
+        stages.push(filter_of(alloc, tool))?;
     }
     Ok(stages)
 }
 
 /// The number and the fault of the first stage that has refused.
-fn first_fault<F: Filter + Drop>(stages: &[SerialStage<F>]) -> Option<(usize, ToolFault)>
+fn first_fault<F: Filter + Drop>(stages: &[FusedFilter<F>]) -> Option<(usize, ToolFault)>
     ensures { IsFirstRefusal (refusals_in stages.now) result }
 {
     for (index, stage) in stages.iter().enumerate() {
@@ -106,7 +106,7 @@ fn first_fault<F: Filter + Drop>(stages: &[SerialStage<F>]) -> Option<(usize, To
 /// it answers `ReadFailed`.
 fn feed_all<R: BytesIn, F: Filter + Drop, W: BytesOut + Drop>(
     source: &mut Source<R>,
-    stages: &mut [SerialStage<F>],
+    stages: &mut [FusedFilter<F>],
     downstream: &mut Downstream<W>,
 ) -> Result<(), InputFault>
     requires unread { IsUnread (reader_of source.old) source.old }

@@ -1,7 +1,7 @@
 //! What a run wrote.
 
 ghost use Rattle.std.specs.Prelude.{◌≡◌};
-ghost use Rattle.pnm_flow.specs.Counts.{images_after, rows_after};
+ghost use Rattle.pnm_flow.specs.Counts.{image_count_after, row_count_after};
 
 use pnm_image::Message;
 
@@ -17,8 +17,8 @@ pub struct Summary {
 impl Summary {
     /// Counts a message that was written.
     pub fn count(&mut self, message: &Message)
-        ensures images { self.new.images ≡ images_after self.old.images message.now }
-        ensures rows { self.new.rows ≡ rows_after self.old.rows message.now }
+        ensures images { self.new.images ≡ image_count_after self.old.images message.now }
+        ensures rows { self.new.rows ≡ row_count_after self.old.rows message.now }
     {
         match message {
             Message::Row(_) => self.rows = self.rows.saturating_add(1),

@@ -1,4 +1,5 @@
-//! A run over threads: the caller reads and writes, and each tool works in a thread of its own, or over lanes in several.
+//! A run over threads: the caller reads and writes, and each tool works in a thread of its own, or over lanes in
+//! several.
 
 ghost use Rattle.std.specs.Prelude.{◌≡◌, ◌≢◌, ◌⊎◌, ◌≤◌, ◌+◌, ℕ, [], List, length, Some, Err, IfSome};
 ghost use Rattle.std.specs.Thread.{IsSync};
@@ -35,14 +36,14 @@ use std::alloc::Global;
 use std::sync::Wait;
 use std::thread::Threads;
 
-/// Reads the images of the reader, passes them through the tools and writes what comes out in the form, with the answers
-/// and the bytes of `run_serial`. This thread reads and writes, and each tool works in a thread of its own, which passes
-/// the gate with its number, from 1, and lane 0. Where there are several lanes, 8 at most, each row-wise tool has a thread
-/// for each of them, which passes the gate with the tool's number and its lane, from 0, and two more that deal the rows and
-/// gather them. All rings hold so many messages each, 1 to 1,024.
+/// Reads the images of the reader, passes them through the tools and writes what comes out in the form, with the
+/// answers and the bytes of `run_serial`. This thread reads and writes, and each tool works in a thread of its own,
+/// which passes the gate with its number, from 1, and lane 0. Where there are several lanes, 8 at most, each row-wise
+/// tool has a thread for each of them, which passes the gate with the tool's number and its lane, from 0, and two more
+/// that deal the rows and gather them. All rings hold so many messages each, 1 to 1,024.
 ///
-/// `NoStart` is answered where there is no memory for a ring or a list, or a thread can't be started. Where a source waits
-/// for its reader, all that had come from the last tool by then was written before.
+/// `NoStart` is answered where there is no memory for a ring or a list, or a thread can't be started. Where a source
+/// waits for its reader, all that had come from the last tool by then was written before.
 pub fn run<H: Threads + Wait + Sync, R: BytesIn, W: BytesOut, G: Gate>(
     rt: &H,
     alloc: Global,
@@ -110,7 +111,8 @@ fn beside_chain<H: Threads + Wait + Sync, R: BytesIn + Drop, W: BytesOut + Drop,
     ensures output { IfSome result (λ r. SameProducer output r.0.output) }
     ensures ran { IfSome result (λ r. HasRunChain lanes tools.now r.0.ends.items r.0.links.items
         (received input) (received r.0.input) (sent output) (sent r.0.output)) }
-    ensures turned { IfSome result (λ r. HaveTurned R.left R.failures R.same W.held W.failures W.same feeder collector r.1 r.2) }
+    ensures turned { IfSome result
+        (λ r. HaveTurned R.left R.failures R.same W.held W.failures W.same feeder collector r.1 r.2) }
 {
     let turns = Turns::new(rt, alloc, feeder, collector)?;
     let all = match run_chain_beside(
@@ -135,8 +137,10 @@ fn conclude<R: BytesIn + Drop, W: BytesOut + Drop>(
     requires taken { (form : FormValue) × (start : W) × IsCollecting W.held W.failures form start [] collector }
     ensures ran { (first : SourceValue R) (start : W) (lanes : ℕ) (job : Job) → AreLawfulTools job.tools
         → IsFeeding R.left R.failures first [] feeder → IsCollecting W.held W.failures job.form start [] collector
-        → HasRunChain lanes job.tools chain.ends.items chain.links.items [] (received chain.input) [] (sent chain.output)
-        → HasRunOverThreads lanes job result.2 (change R.left R.failures (reader_of first) result.0) (change W.held W.failures start result.1) }
+        → HasRunChain lanes job.tools chain.ends.items chain.links.items [] (received chain.input) []
+        (sent chain.output)
+        → HasRunOverThreads lanes job result.2 (change R.left R.failures (reader_of first) result.0)
+        (change W.held W.failures start result.1) }
     ensures started { result.2 ≢ Err NotStarted }
     ensures reader { result.0 ≡ reader_of feeder.source }
     ensures same_writer { W.same (output_of collector.downstream) result.1 }

@@ -12,8 +12,8 @@ ghost use Rattle.pnm_flow.specs.Chains.{RunsInLanes, IsToolRun, IsOneStageRun, I
 use pnm_image::Message;
 use pnm_lanes::{LaneRings, run_lanes_beside};
 use pnm_stages::{
-    Backoff, Call, Gate, Receiver, Sender, StageDone, Task, new_ring, run_both, run_filter,
-    stage_of,
+    Backoff, Call, Gate, Receiver, Sender, StageDone, Task, filter_of, new_ring, run_both,
+    run_filter,
 };
 use pnm_tools::Tool;
 use std::alloc::Global;
@@ -30,8 +30,8 @@ pub enum Across {
 }
 
 impl Across {
-    /// What this tool works over, where there are so many lanes for the tools that can have them, with rings for so many messages
-    /// each; none where there is no memory.
+    /// What this tool works over, where there are so many lanes for the tools that can have them, with rings for so
+    /// many messages each; none where there is no memory.
     pub fn new(alloc: Global, tool: &Tool, lanes: usize, capacity: usize) -> Option<Across>
         requires lanes { IsLaneCount lanes }
         requires capacity { IsRingCapacity capacity }
@@ -47,7 +47,8 @@ impl Across {
     }
 }
 
-/// Whether the tool works over several lanes, where there are so many: one thread receives for it then, and another sends.
+/// Whether the tool works over several lanes, where there are so many: one thread receives for it then, and another
+/// sends.
 pub fn runs_in_lanes(tool: &Tool, lanes: usize) -> bool
     ensures { IsTrue result ↔ RunsInLanes lanes tool.now }
 {
@@ -84,7 +85,7 @@ impl<'a, R: Wait, G: Gate> Task for Stage<'a, R, G> {
             output,
         } = self;
         gate.arrive(number, 0);
-        run_filter(rt, stage_of(alloc, tool), input, output)
+        run_filter(rt, filter_of(alloc, tool), input, output)
     }
 }
 
@@ -108,7 +109,8 @@ impl<'a, R: Wait> Task for Told<'a, R> {
     }
 }
 
-/// Work that begins once a message tells that the threads of a tool are started; none where its ring's other end goes before.
+/// Work that begins once a message tells that the threads of a tool are started; none where its ring's other end goes
+/// before.
 #[derive(Drop)]
 struct Hearing<'a, R, T> {
     rt: &'a R,
@@ -134,8 +136,9 @@ impl<'a, R: Wait, T: Task<Output = B> + Drop, B: Drop> Task for Hearing<'a, R, T
     }
 }
 
-/// Passes what comes on `input` through the tool to `output`, in threads of its own; once these are started, other work is done in
-/// this one. None where a thread can't be started: that work isn't done then, and the threads that were started have ended.
+/// Passes what comes on `input` through the tool to `output`, in threads of its own; once these are started, other work
+/// is done in this one. None where a thread can't be started: that work isn't done then, and the threads that were
+/// started have ended.
 pub fn run_tool<R: Threads + Wait + Sync, G: Gate, T: Task<Output = B> + Drop, B: Drop>(
     rt: &R,
     alloc: Global,

@@ -1,7 +1,7 @@
 //! What the caller of a run over threads does while the tools work: it writes what it takes, and sends what it reads.
 
 ghost use Rattle.std.specs.Prelude.{◌≡◌, IsTrue, IfSome, false};
-ghost use Rattle.pnm_flow.specs.Feeders.{is_over_by};
+ghost use Rattle.pnm_flow.specs.Feeders.{feeder_is_over};
 ghost use Rattle.pnm_flow.specs.Turns.{HaveTurned};
 
 use crate::collector::Collector;
@@ -11,8 +11,8 @@ use pnm_stages::{Backoff, Task};
 use std::alloc::Global;
 use std::sync::Wait;
 
-/// The turns of the caller, until all is sent and taken. Both ends are boxed, since each level of a chain's starts hands the task
-/// on to the next.
+/// The turns of the caller, until all is sent and taken. Both ends are boxed, since each level of a chain's starts
+/// hands the task on to the next.
 #[derive(Drop)]
 pub struct Turns<'a, H, R, W> {
     pub rt: &'a H,
@@ -45,7 +45,8 @@ impl<'a, H: Wait, R: BytesIn + Drop, W: BytesOut + Drop> Task for Turns<'a, H, R
 
     ghost can_run = { λ t. Unit {0} };
 
-    ghost run_gives = { λ t r. HaveTurned R.left R.failures R.same W.held W.failures W.same t.feeder.value t.collector.value r.0.value r.1.value };
+    ghost run_gives = { λ t r. HaveTurned R.left R.failures R.same W.held W.failures W.same t.feeder.value
+        t.collector.value r.0.value r.1.value };
 
     fn run(self) -> (Box<Feeder<R>>, Box<Collector<W>>) {
         let Turns {
@@ -64,7 +65,8 @@ fn take_turns<H: Wait, R: BytesIn + Drop, W: BytesOut + Drop>(
     feeder: &mut Feeder<R>,
     collector: &mut Collector<W>,
 )
-    ensures turned { HaveTurned R.left R.failures R.same W.held W.failures W.same feeder.old collector.old feeder.new collector.new }
+    ensures turned { HaveTurned R.left R.failures R.same W.held W.failures W.same feeder.old collector.old feeder.new
+        collector.new }
 {
     let mut backoff = Backoff::among_several();
     let mut takes = false;
@@ -82,15 +84,16 @@ fn take_turns<H: Wait, R: BytesIn + Drop, W: BytesOut + Drop>(
     unreachable!()
 }
 
-/// One turn of waiting for both rings: at the first where a message waits for room there, since the tools have enough to do then
-/// that something comes of it, and else at the last.
+/// One turn of waiting for both rings: at the first where a message waits for room there, since the tools have enough
+/// to do then that something comes of it, and else at the last.
 fn wait<H: Wait, R: BytesIn + Drop, W: BytesOut + Drop>(
     rt: &H,
     feeder: &mut Feeder<R>,
     collector: &Collector<W>,
     backoff: &mut Backoff,
 )
-    ensures turned { HaveTurned R.left R.failures R.same W.held W.failures W.same feeder.old collector.now feeder.new collector.now }
+    ensures turned { HaveTurned R.left R.failures R.same W.held W.failures W.same feeder.old collector.now feeder.new
+        collector.now }
 {
     if feeder.waits_for_room() {
         feeder.wait(rt, backoff);
@@ -100,14 +103,15 @@ fn wait<H: Wait, R: BytesIn + Drop, W: BytesOut + Drop>(
     }
 }
 
-/// Whether a message is taken first, if one is there: where one was taken in the turn before, or where the source would have to wait
-/// for its reader. The first tool is told of all that was sent then.
+/// Whether a message is taken first, if one is there: where one was taken in the turn before, or where the source would
+/// have to wait for its reader. The first tool is told of all that was sent then.
 fn tell_before_taking<R: BytesIn + Drop, W: BytesOut + Drop>(
     feeder: &mut Feeder<R>,
     collector: &Collector<W>,
     takes: bool,
 ) -> bool
-    ensures turned { HaveTurned R.left R.failures R.same W.held W.failures W.same feeder.old collector.now feeder.new collector.now }
+    ensures turned { HaveTurned R.left R.failures R.same W.held W.failures W.same feeder.old collector.now feeder.new
+        collector.now }
 {
     let takes_first = takes || feeder.would_read();
     if takes_first {
@@ -116,15 +120,17 @@ fn tell_before_taking<R: BytesIn + Drop, W: BytesOut + Drop>(
     takes_first
 }
 
-/// Goes on with what was done in the turn before, to take and write a message or to send one, as long as that can be done,
-/// and then does the other: so the caller looks at a ring for many messages at once. False where nothing can be done.
+/// Goes on with what was done in the turn before, to take and write a message or to send one, as long as that can be
+/// done, and then does the other: so the caller looks at a ring for many messages at once. False where nothing can be
+/// done.
 fn turn<R: BytesIn + Drop, W: BytesOut + Drop>(
     feeder: &mut Feeder<R>,
     collector: &mut Collector<W>,
     takes_first: bool,
     takes: &mut bool,
 ) -> bool
-    ensures turned { HaveTurned R.left R.failures R.same W.held W.failures W.same feeder.old collector.old feeder.new collector.new }
+    ensures turned { HaveTurned R.left R.failures R.same W.held W.failures W.same feeder.old collector.old feeder.new
+        collector.new }
 {
     if takes_first {
         if !collector.is_over() && collector.turn() {
@@ -139,13 +145,13 @@ fn turn<R: BytesIn + Drop, W: BytesOut + Drop>(
     !collector.is_over() && collector.turn()
 }
 
-/// Whether there is more to be sent. Where the result of an image that was sent is still to be written, it isn't what the
-/// source may have to wait for.
+/// Whether there is more to be sent. Where the result of an image that was sent is still to be written, it isn't what
+/// the source may have to wait for.
 fn may_feed<R: BytesIn + Drop, W: BytesOut + Drop>(
     feeder: &Feeder<R>,
     collector: &Collector<W>,
 ) -> bool
-    ensures { IsTrue result → is_over_by feeder.now ≡ false }
+    ensures { IsTrue result → feeder_is_over feeder.now ≡ false }
 {
     !feeder.is_over()
         && (collector.is_over() || feeder.images() <= collector.images() || !feeder.would_read())

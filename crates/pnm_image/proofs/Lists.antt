@@ -5,10 +5,10 @@ use Rattle.std.proofs.lemmas.List.{take_all}
 
 -- ---- what holds of each element
 
--- what holds of each element holds of each of a front
-pub all_of_front : {A : Type 0} (P : A → Type 0) (a b : List A) → AllByRecursion P (a ++ b) → AllByRecursion P a
-all_of_front P [] b all = tt
-all_of_front P (x ∷ a) b all = (all.0, all_of_front P a b all.1)
+-- what holds of each element holds of each of a prefix
+pub all_of_prefix : {A : Type 0} (P : A → Type 0) (a b : List A) → AllByRecursion P (a ++ b) → AllByRecursion P a
+all_of_prefix P [] b all = tt
+all_of_prefix P (x ∷ a) b all = (all.0, all_of_prefix P a b all.1)
 
 -- and of the one in the middle
 pub each-middle : {A : Type 0} (P : A → Type 0) (earlier : List A) (x : A) (later : List A) → AllByRecursion P (earlier ++ x ∷ later) → P x

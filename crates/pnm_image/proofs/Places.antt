@@ -1,13 +1,13 @@
--- Lawful lists of messages: the place after them, their fronts, and one message more.
+-- Lawful lists of messages: the place after them, their prefixes, and one message more.
 use Rattle.std.proofs.Common.{◌≡◌, List, [], ◌∷◌, ◌++◌, refl}
 use Rattle.pnm_image.specs.declared.message.Message.{Message}
 use Rattle.pnm_image.specs.declared.place.Place.{Place}
 use Rattle.pnm_image.specs.Places.{Accepts, IsLawfulFrom, place_after, place_of}
 
--- a front of a lawful list
-pub lawful_front : (place : Place) (a b : List Message) → IsLawfulFrom place (a ++ b) → IsLawfulFrom place a
-lawful_front place [] b lawful = tt
-lawful_front place (m ∷ a) b lawful = (lawful.0, lawful_front (place_after place m) a b lawful.1)
+-- a prefix of a lawful list
+pub lawful_prefix : (place : Place) (a b : List Message) → IsLawfulFrom place (a ++ b) → IsLawfulFrom place a
+lawful_prefix place [] b lawful = tt
+lawful_prefix place (m ∷ a) b lawful = (lawful.0, lawful_prefix (place_after place m) a b lawful.1)
 
 -- one message more
 pub lawful_more : (place : Place) (l : List Message) (m : Message) → IsLawfulFrom place l → Accepts (place_of place l) m → IsLawfulFrom place (l ++ m ∷ [])

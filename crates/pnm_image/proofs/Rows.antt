@@ -32,8 +32,10 @@ AreRowsOf-cut_rows s zero samples h range = tt
 AreRowsOf-cut_rows s (suc count) samples h range =
     let each : ℕ = row_length s in
     let first : length (take each samples) ≡ each = omega (arith, length-take each samples, suc-mul count each) in
-    let rest : length (drop each samples) ≡ count * each = omega (arith, length-drop each samples, suc-mul count each) in
-    (record { count = first; range = All-take (λ sample. sample ≤ s.maxval) each samples range }, AreRowsOf-cut_rows s count (drop each samples) rest (All-drop (λ sample. sample ≤ s.maxval) each samples range))
+    let rest : length (drop each samples) ≡ count * each = omega (arith, length-drop each samples, suc-mul count each) in (
+      record { count = first; range = All-take (λ sample. sample ≤ s.maxval) each samples range },
+      AreRowsOf-cut_rows s count (drop each samples) rest (All-drop (λ sample. sample ≤ s.maxval) each samples range),
+    )
 
 -- rows of a shape have its row length
 lengths_of_rows : (s : Shape) (rows : List (List ℕ)) → AreRowsOf s rows → AllByRecursion (λ row. length row ≡ row_length s) rows
@@ -55,7 +57,8 @@ abbrev pub image_of : HeadValue → List (List ℕ) → Image
 image_of head rows = record { head = head; samples = concat rows }
 
 -- all rows of a head's shape make an image
-pub IsImage-image_of : (head : HeadValue) (rows : List (List ℕ)) → IsHead head → length rows ≡ head.shape.height → AreRowsOf head.shape rows → IsImage (image_of head rows)
+pub IsImage-image_of : (head : HeadValue) (rows : List (List ℕ)) → IsHead head → length rows ≡ head.shape.height → AreRowsOf head.shape rows
+    → IsImage (image_of head rows)
 IsImage-image_of head rows h count are = record {
   head = h;
   count = length-concat (row_length head.shape) rows (lengths_of_rows head.shape rows are) ∙ ap (λ (n : ℕ). n * row_length head.shape) count;
@@ -63,13 +66,16 @@ IsImage-image_of head rows h count are = record {
 }
 
 -- the rows of the image of a head and rows are these rows
-pub rows_of-image_of : (head : HeadValue) (rows : List (List ℕ)) → length rows ≡ head.shape.height → AreRowsOf head.shape rows → rows_of (image_of head rows) ≡ rows
+pub rows_of-image_of : (head : HeadValue) (rows : List (List ℕ)) → length rows ≡ head.shape.height → AreRowsOf head.shape rows
+    → rows_of (image_of head rows) ≡ rows
 rows_of-image_of head rows count are =
-    ap (λ (n : ℕ). cut_rows n (row_length head.shape) (concat rows)) (sym count) ∙ cut_rows-concat (row_length head.shape) rows (lengths_of_rows head.shape rows are)
+    ap (λ (n : ℕ). cut_rows n (row_length head.shape) (concat rows)) (sym count)
+    ∙ cut_rows-concat (row_length head.shape) rows (lengths_of_rows head.shape rows are)
 
 -- an image is the image of its head and its rows
 pub image_of-rows_of : (i : Image) → IsImage i → image_of i.head (rows_of i) ≡ i
-image_of-rows_of i h = ap (λ (samples : List ℕ). record { head = i.head; samples = samples }) (concat-cut_rows i.head.shape.height (row_length i.head.shape) i.samples h.count)
+image_of-rows_of i h = ap (λ (samples : List ℕ). record { head = i.head; samples = samples })
+    (concat-cut_rows i.head.shape.height (row_length i.head.shape) i.samples h.count)
 
 -- the rows of an image are as many as its height
 pub length-rows_of : (i : Image) → length (rows_of i) ≡ i.head.shape.height

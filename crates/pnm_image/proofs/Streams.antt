@@ -12,7 +12,7 @@ use Rattle.pnm_image.specs.Heads.{HeadValue, IsHead, row_length}
 use Rattle.pnm_image.specs.Messages.{IsMessage, EndsStream, without_stop}
 use Rattle.pnm_image.specs.Places.{IsRowOf, IsLawfulFrom, IsLawful}
 use Rattle.pnm_image.specs.Images.{Image, AreImages, rows_of, messages_of_stream}
-use Rattle.pnm_image.specs.Completion.{IsFrontOf, IsStreamOf}
+use Rattle.pnm_image.specs.Completion.{IsPrefixOf, IsStreamOf}
 use Rattle.pnm_image.proofs.Rows.{AreRowsOf, image_of, IsImage-image_of, rows_of-image_of, image_of-rows_of, length-rows_of, AreRowsOf-rows_of}
 
 -- the rows of an image that are still to come, its end, and what follows the image
@@ -22,14 +22,16 @@ rest_of_image rows rest = (map Row rows ++ ImageEnd ∷ []) ++ rest
 -- the messages of the image of a head and rows, and of more images
 pub stream_of_image : (head : HeadValue) (rows : List (List ℕ)) (is : List Image) → length rows ≡ head.shape.height → AreRowsOf head.shape rows
     → messages_of_stream (image_of head rows ∷ is) ≡ Begin head ∷ rest_of_image rows (messages_of_stream is)
-stream_of_image head rows is count are = ap (λ (rs : List (List ℕ)). Begin head ∷ rest_of_image rs (messages_of_stream is)) (rows_of-image_of head rows count are)
+stream_of_image head rows is count are = ap (λ (rs : List (List ℕ)). Begin head ∷ rest_of_image rs (messages_of_stream is))
+    (rows_of-image_of head rows count are)
 
 -- ---- a lawful list that ends the stream is the messages of images
 
 -- what a list of messages holds that ends the stream, from a place on
 abbrev IsRestOfStream : Place → List Message → Type 0
 IsRestOfStream Between l = (is : List Image) × AreImages is × (l ≡ messages_of_stream is)
-IsRestOfStream (Inside s y) l = (rows : List (List ℕ)) × (is : List Image) × (length rows + y ≡ s.height) × AreRowsOf s rows × AreImages is × (l ≡ rest_of_image rows (messages_of_stream is))
+IsRestOfStream (Inside s y) l = (rows : List (List ℕ)) × (is : List Image) × (length rows + y ≡ s.height) × AreRowsOf s rows × AreImages is
+    × (l ≡ rest_of_image rows (messages_of_stream is))
 IsRestOfStream After l = ⊥
 
 -- no message comes after the end
@@ -40,11 +42,16 @@ nothing_after (m ∷ ms) lawful = absurd lawful.0
 -- an image begins: its rows are those that come, and the images are one more
 begin_rest : (head : HeadValue) (ms : List Message) → IsHead head → IsRestOfStream (Inside head.shape 0) ms → IsRestOfStream Between (Begin head ∷ ms)
 begin_rest head ms h r =
-    let count : length r.0 ≡ head.shape.height = omega (arith, r.2) in
-    (image_of head r.0 ∷ r.1, (IsImage-image_of head r.0 h count r.3, r.4), ap (λ (rest : List Message). Begin head ∷ rest) r.5 ∙ sym (stream_of_image head r.0 r.1 count r.3))
+    let count : length r.0 ≡ head.shape.height = omega (arith, r.2) in (
+      image_of head r.0 ∷ r.1,
+      (IsImage-image_of head r.0 h count r.3, r.4),
+      ap (λ (rest : List Message). Begin head ∷ rest) r.5
+          ∙ sym (stream_of_image head r.0 r.1 count r.3),
+    )
 
 -- a row comes: the rows are one more
-row_rest : (s : Shape) (y : ℕ) (row : List ℕ) (ms : List Message) → IsRowOf s row → IsRestOfStream (Inside s (y + 1)) ms → IsRestOfStream (Inside s y) (Row row ∷ ms)
+row_rest : (s : Shape) (y : ℕ) (row : List ℕ) (ms : List Message) → IsRowOf s row → IsRestOfStream (Inside s (y + 1)) ms
+    → IsRestOfStream (Inside s y) (Row row ∷ ms)
 row_rest s y row ms h r = (row ∷ r.0, r.1, omega (arith, r.2), (h, r.3), r.4, ap (λ (rest : List Message). Row row ∷ rest) r.5)
 
 -- the image ends: no rows are left, and images follow
@@ -69,7 +76,8 @@ rest_of_stream After (m ∷ ms) are lawful ends = absurd lawful.0
 -- ---- a list is the messages of no other images
 
 -- where the rest of a stream has two forms, the rows are the same, and so is what follows the image
-same_rest_of_image : (rows others : List (List ℕ)) (rest more : List Message) → rest_of_image rows rest ≡ rest_of_image others more → (rows ≡ others) × (rest ≡ more)
+same_rest_of_image : (rows others : List (List ℕ)) (rest more : List Message) → rest_of_image rows rest ≡ rest_of_image others more
+    → (rows ≡ others) × (rest ≡ more)
 same_rest_of_image [] [] rest more e = (refl, cc)
 same_rest_of_image [] (other ∷ others) rest more e = absurd cc
 same_rest_of_image (row ∷ rows) [] rest more e = absurd cc
@@ -100,7 +108,8 @@ is_stream_of l are lawful ends =
 -- ---- the messages of images are a lawful list that ends the stream
 
 -- rows up to the height, and the image's end, may come where so many rows have passed
-lawful_rows : (s : Shape) (y : ℕ) (rows : List (List ℕ)) (rest : List Message) → length rows + y ≡ s.height → AreRowsOf s rows → IsLawful rest → IsLawfulFrom (Inside s y) (rest_of_image rows rest)
+lawful_rows : (s : Shape) (y : ℕ) (rows : List (List ℕ)) (rest : List Message) → length rows + y ≡ s.height → AreRowsOf s rows → IsLawful rest
+    → IsLawfulFrom (Inside s y) (rest_of_image rows rest)
 lawful_rows s y [] rest count are lawful = (omega arith, lawful)
 lawful_rows s y (row ∷ rows) rest count are lawful = ((omega arith, are.0), lawful_rows s (y + 1) rows rest (omega arith) are.1 lawful)
 
@@ -122,8 +131,11 @@ stream_is_messages (i ∷ is) are = (are.0.head, messages_of_rows (rows_of i) (m
 -- the messages of images are lawful
 pub stream_is_lawful : (is : List Image) → AreImages is → IsLawful (messages_of_stream is)
 stream_is_lawful [] are = (tt, tt)
-stream_is_lawful (i ∷ is) are =
-    (tt, lawful_rows i.head.shape 0 (rows_of i) (messages_of_stream is) (omega (arith, length-rows_of i)) (AreRowsOf-rows_of i are.0) (stream_is_lawful is are.1))
+stream_is_lawful (i ∷ is) are = (
+  tt,
+  lawful_rows i.head.shape 0 (rows_of i) (messages_of_stream is) (omega (arith, length-rows_of i)) (AreRowsOf-rows_of i are.0)
+      (stream_is_lawful is are.1),
+)
 
 -- the messages of images end the stream
 pub stream_ends : (is : List Image) → EndsStream (messages_of_stream is)
@@ -132,10 +144,11 @@ stream_ends (i ∷ is) = ends_after_rows (rows_of i) (messages_of_stream is) (st
 
 -- ---- a lawful list can be completed
 
--- images that a list of messages is the front of, from a place on
+-- images that a list of messages is the prefix of, from a place on
 abbrev HasCompletion : Place → List Message → Type 0
-HasCompletion Between l = (is : List Image) × AreImages is × IsFrontOf (without_stop l) (messages_of_stream is)
-HasCompletion (Inside s y) l = (rows : List (List ℕ)) × (is : List Image) × (length rows + y ≡ s.height) × AreRowsOf s rows × AreImages is × IsFrontOf (without_stop l) (rest_of_image rows (messages_of_stream is))
+HasCompletion Between l = (is : List Image) × AreImages is × IsPrefixOf (without_stop l) (messages_of_stream is)
+HasCompletion (Inside s y) l = (rows : List (List ℕ)) × (is : List Image) × (length rows + y ≡ s.height) × AreRowsOf s rows × AreImages is
+    × IsPrefixOf (without_stop l) (rest_of_image rows (messages_of_stream is))
 HasCompletion After l = Unit {0}
 
 -- no more rows have passed than the image has
@@ -145,8 +158,8 @@ IsReached (Inside s y) = y ≤ s.height
 IsReached After = Unit {0}
 
 -- one message more before both
-front_more : (m : Message) (front whole : List Message) → IsFrontOf front whole → IsFrontOf (m ∷ front) (m ∷ whole)
-front_more m front whole f = (f.0, ap (λ (rest : List Message). m ∷ rest) f.1)
+prefix_more : (m : Message) (prefix whole : List Message) → IsPrefixOf prefix whole → IsPrefixOf (m ∷ prefix) (m ∷ whole)
+prefix_more m prefix whole f = (f.0, ap (λ (rest : List Message). m ∷ rest) f.1)
 
 -- a row of zeros
 zeros_are_row : (s : Shape) → IsRowOf s (replicate (row_length s) 0)
@@ -158,7 +171,8 @@ complete_here Between reached = ([], tt, (StreamEnd ∷ [], refl))
 complete_here (Inside s y) reached =
     let zeros : List (List ℕ) = replicate (s.height - y) (replicate (row_length s) 0) in
     let count : length zeros ≡ s.height - y = length-replicate (s.height - y) (replicate (row_length s) 0) in
-    let are : AreRowsOf s zeros = recursion_from_All (IsRowOf s) zeros (All-replicate (IsRowOf s) (s.height - y) (replicate (row_length s) 0) (zeros_are_row s)) in
+    let are : AreRowsOf s zeros =
+    recursion_from_All (IsRowOf s) zeros (All-replicate (IsRowOf s) (s.height - y) (replicate (row_length s) 0) (zeros_are_row s)) in
     (zeros, [], omega arith, are, tt, (rest_of_image zeros (StreamEnd ∷ []), refl))
 complete_here After reached = tt
 
@@ -166,25 +180,30 @@ complete_here After reached = tt
 complete_begin : (head : HeadValue) (ms : List Message) → IsHead head → HasCompletion (Inside head.shape 0) ms → HasCompletion Between (Begin head ∷ ms)
 complete_begin head ms h r =
     let count : length r.0 ≡ head.shape.height = omega (arith, r.2) in
-    let f = front_more (Begin head) (without_stop ms) (rest_of_image r.0 (messages_of_stream r.1)) r.5 in
+    let f = prefix_more (Begin head) (without_stop ms) (rest_of_image r.0 (messages_of_stream r.1)) r.5 in
     (image_of head r.0 ∷ r.1, (IsImage-image_of head r.0 h count r.3, r.4), (f.0, stream_of_image head r.0 r.1 count r.3 ∙ f.1))
 
 -- a row comes: the rows are one more
-complete_row : (s : Shape) (y : ℕ) (row : List ℕ) (ms : List Message) → IsRowOf s row → HasCompletion (Inside s (y + 1)) ms → HasCompletion (Inside s y) (Row row ∷ ms)
-complete_row s y row ms h r = (row ∷ r.0, r.1, omega (arith, r.2), (h, r.3), r.4, front_more (Row row) (without_stop ms) (rest_of_image r.0 (messages_of_stream r.1)) r.5)
+complete_row : (s : Shape) (y : ℕ) (row : List ℕ) (ms : List Message) → IsRowOf s row → HasCompletion (Inside s (y + 1)) ms
+    → HasCompletion (Inside s y) (Row row ∷ ms)
+complete_row s y row ms h r =
+    (row ∷ r.0, r.1, omega (arith, r.2), (h, r.3), r.4, prefix_more (Row row) (without_stop ms) (rest_of_image r.0 (messages_of_stream r.1)) r.5)
 
 -- the image ends: no rows are left, and images follow
 complete_end : (s : Shape) (y : ℕ) (ms : List Message) → y ≡ s.height → HasCompletion Between ms → HasCompletion (Inside s y) (ImageEnd ∷ ms)
-complete_end s y ms h r = ([], r.0, omega (arith, h), tt, r.1, front_more ImageEnd (without_stop ms) (messages_of_stream r.0) r.2)
+complete_end s y ms h r = ([], r.0, omega (arith, h), tt, r.1, prefix_more ImageEnd (without_stop ms) (messages_of_stream r.0) r.2)
 
 -- a lawful list from a place on can be completed
 completion_from : (place : Place) (l : List Message) → IsReached place → AllByRecursion IsMessage l → IsLawfulFrom place l → HasCompletion place l
 completion_from place [] reached are lawful = complete_here place reached
-completion_from Between (Begin head ∷ ms) reached are lawful = complete_begin head ms are.0 (completion_from (Inside head.shape 0) ms (omega arith) are.1 lawful.1)
+completion_from Between (Begin head ∷ ms) reached are lawful =
+    complete_begin head ms are.0 (completion_from (Inside head.shape 0) ms (omega arith) are.1 lawful.1)
 completion_from Between (Row row ∷ ms) reached are lawful = absurd lawful.0
 completion_from Between (ImageEnd ∷ ms) reached are lawful = absurd lawful.0
-completion_from Between (StreamEnd ∷ ms) reached are lawful = subst (λ (rest : List Message). HasCompletion Between (StreamEnd ∷ rest)) (sym (nothing_after ms lawful.1)) ([], tt, ([], refl))
-completion_from Between (Stop ∷ ms) reached are lawful = subst (λ (rest : List Message). HasCompletion Between (Stop ∷ rest)) (sym (nothing_after ms lawful.1)) (complete_here Between reached)
+completion_from Between (StreamEnd ∷ ms) reached are lawful = subst (λ (rest : List Message). HasCompletion Between (StreamEnd ∷ rest))
+    (sym (nothing_after ms lawful.1)) ([], tt, ([], refl))
+completion_from Between (Stop ∷ ms) reached are lawful = subst (λ (rest : List Message). HasCompletion Between (Stop ∷ rest)) (sym (nothing_after ms lawful.1))
+    (complete_here Between reached)
 completion_from (Inside s y) (Begin head ∷ ms) reached are lawful = absurd lawful.0
 completion_from (Inside s y) (Row row ∷ ms) reached are lawful =
     let below : y < s.height = lawful.0.0 in
@@ -196,5 +215,6 @@ completion_from (Inside s y) (Stop ∷ ms) reached are lawful =
 completion_from After (m ∷ ms) reached are lawful = absurd lawful.0
 
 -- every lawful list can be completed
-pub completion : (l : List Message) → AllByRecursion IsMessage l → IsLawful l → (is : List Image) × AreImages is × IsFrontOf (without_stop l) (messages_of_stream is)
+pub completion : (l : List Message) → AllByRecursion IsMessage l → IsLawful l → (is : List Image) × AreImages is
+    × IsPrefixOf (without_stop l) (messages_of_stream is)
 completion l are lawful = completion_from Between l tt are lawful

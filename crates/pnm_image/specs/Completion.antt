@@ -6,14 +6,14 @@ use Rattle.pnm_image.specs.Messages.{IsMessage, EndsStream, without_stop}
 use Rattle.pnm_image.specs.Places.{IsLawful}
 use Rattle.pnm_image.specs.Images.{Image, AreImages, messages_of_stream}
 
--- the first list is the front of the second
-abbrev pub IsFrontOf : List Message → List Message → Type 0
-IsFrontOf front whole = (rest : List Message) × (whole ≡ front ++ rest)
+-- the first list is the prefix of the second
+abbrev pub IsPrefixOf : List Message → List Message → Type 0
+IsPrefixOf prefix whole = (rest : List Message) × (whole ≡ prefix ++ rest)
 
--- the images complete the messages: without a last Stop, these are the front of the images' messages
+-- the images complete the messages: without a last Stop, these are the prefix of the images' messages
 pub record Completes (is : List Image) (l : List Message) : Type 0 where
   pub images : AreImages is
-  pub front : IsFrontOf (without_stop l) (messages_of_stream is)
+  pub prefix : IsPrefixOf (without_stop l) (messages_of_stream is)
 
 -- the messages are those of these images, and of no others
 pub record IsStreamOf (l : List Message) (is : List Image) : Type 0 where
@@ -29,7 +29,8 @@ LawfulListsAreStreams =
 -- the messages of a stream of images are a lawful list that ends the stream
 abbrev pub StreamsAreLawful : Type 0
 StreamsAreLawful =
-    (is : List Image) → AreImages is → AllByRecursion IsMessage (messages_of_stream is) × IsLawful (messages_of_stream is) × EndsStream (messages_of_stream is)
+    (is : List Image) → AreImages is → AllByRecursion IsMessage (messages_of_stream is)
+    × IsLawful (messages_of_stream is) × EndsStream (messages_of_stream is)
 
 -- every lawful list can be completed
 abbrev pub LawfulListsCanBeCompleted : Type 0

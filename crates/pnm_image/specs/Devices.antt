@@ -19,10 +19,10 @@ device_inner d = d.inner
 abbrev pub device_failures : {D : Type 0} → Device D → ℕ
 device_failures d = d.failures
 
--- known bytes grow by a front of these
-abbrev pub AppendsFront : Option (List ℕ) → Option (List ℕ) → List ℕ → Type 0
-AppendsFront old new bytes = (n : ℕ) × Appends old new (take n bytes)
+-- known bytes grow by a prefix of these
+abbrev pub AppendsPrefix : Option (List ℕ) → Option (List ℕ) → List ℕ → Type 0
+AppendsPrefix old new bytes = (n : ℕ) × Appends old new (take n bytes)
 
--- the writer failed, and a front of the bytes was written
+-- the writer failed, and a prefix of the bytes was written
 abbrev pub FailsIn : List ℕ → Option (List ℕ) → Option (List ℕ) → ℕ → ℕ → Type 0
-FailsIn bytes old new failures_old failures_new = AppendsFront old new bytes × Failed failures_old failures_new
+FailsIn bytes old new failures_old failures_new = AppendsPrefix old new bytes × Failed failures_old failures_new

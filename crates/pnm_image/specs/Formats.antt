@@ -1,6 +1,7 @@
 -- The seven formats, from pbm(5), pgm(5), ppm(5) and pam(5), by the magic that each begins with.
 use Rattle.std.specs.Prelude.{ℕ, Bool, true, false, ◌==◌, if◌then◌else◌, List, Option, Some, None, codes}
-use Rattle.pnm_image.specs.Characters.{digit_one, digit_two, digit_three, digit_four, digit_five, digit_six, digit_seven}
+use Rattle.pnm_image.specs.Characters.{digit_one, digit_two, digit_three, digit_four, digit_five, digit_six}
+use Rattle.pnm_image.specs.Characters.{digit_seven}
 use Rattle.pnm_image.specs.declared.shape.Kind.{Kind}
 use Rattle.pnm_image.specs.declared.shape.Kind.TheVariants.{Bit, Gray, Color, Pam}
 use Rattle.pnm_image.specs.declared.format.Form.{Form}

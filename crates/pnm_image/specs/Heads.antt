@@ -1,7 +1,9 @@
 -- Heads: the kind, the sizes and the maxval of an image, and the tuple type of a PAM image.
-use Rattle.std.specs.Prelude.{◌≡◌, ◌≢◌, ℕ, ◌*◌, ◌-◌, ◌<◌, ◌≤◌, Bool, false, List, [], length, slice_index, All, Option, Some, None, nat_lt, ◌==◌, ◌||◌, if◌then◌else◌}
+use Rattle.std.specs.Prelude.{◌≡◌, ◌≢◌, ℕ, ◌*◌, ◌-◌, ◌<◌, ◌≤◌, Bool, false, List, [], length, slice_index, All, Option}
+use Rattle.std.specs.Prelude.{Some, None, nat_lt, ◌==◌, ◌||◌, if◌then◌else◌}
 use Rattle.pnm_image.specs.Characters.{line_feed}
-use Rattle.pnm_image.specs.declared.limits.TheConstants.{MAX_DEPTH, MAX_MAXVAL, MAX_ROW_LENGTH, MAX_SIDE, MAX_TUPLE_TYPE_LENGTH}
+use Rattle.pnm_image.specs.declared.limits.TheConstants.{MAX_DEPTH, MAX_MAXVAL, MAX_ROW_LENGTH, MAX_SIDE}
+use Rattle.pnm_image.specs.declared.limits.TheConstants.{MAX_TUPLE_TYPE_LENGTH}
 use Rattle.pnm_image.specs.Texts.{is_blank}
 use Rattle.pnm_image.specs.declared.shape.Kind.{Kind}
 use Rattle.pnm_image.specs.declared.shape.Kind.TheVariants.{Bit, Gray, Color, Pam}
@@ -22,7 +24,7 @@ row_length s = s.width * s.depth
 abbrev pub head_value : Shape → List ℕ → HeadValue
 head_value shape tuple_type = record { shape = shape; tuple_type = tuple_type }
 
--- the same head with another height
+-- a head with another height
 abbrev pub with_height : HeadValue → ℕ → HeadValue
 with_height h height = record h { shape = record h.shape { height = height } }
 
@@ -58,7 +60,8 @@ pub record IsHead (h : HeadValue) : Type 0 where
 
 -- a size is beyond the limits
 abbrev pub is_too_large : Shape → Bool
-is_too_large s = nat_lt MAX_SIDE s.width || nat_lt MAX_SIDE s.height || nat_lt MAX_DEPTH s.depth || nat_lt MAX_ROW_LENGTH (row_length s)
+is_too_large s = nat_lt MAX_SIDE s.width || nat_lt MAX_SIDE s.height || nat_lt MAX_DEPTH s.depth || nat_lt
+    MAX_ROW_LENGTH (row_length s)
 
 -- what is wrong with a new head's numbers: the first of the faults in their order
 abbrev pub shape_fault : Shape → Option HeadFault

@@ -1,4 +1,5 @@
--- How the samples of a raw row lie in its bytes. From pbm(5), pgm(5), ppm(5) and pam(5), 'The layout' of the raw formats.
+-- How the samples of a raw row lie in its bytes. From pbm(5), pgm(5), ppm(5) and pam(5), 'The layout' of the raw
+-- formats.
 use Rattle.std.specs.Prelude.{ℕ, nat_lt, if◌then◌else◌}
 use Rattle.pnm_image.specs.declared.sample_width.SampleWidth.{SampleWidth}
 use Rattle.pnm_image.specs.declared.sample_width.SampleWidth.TheVariants.{Bits, Bytes, Words}

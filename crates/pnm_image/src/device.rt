@@ -25,11 +25,11 @@ pub trait BytesIn {
     /// The two are one device at two moments.
     ghost same: { Self → Self → Type 0 };
 
-    /// Reads into the front of the room, and answers how many bytes came: 0 only at the end, or
-    /// where there is no room. A failed call takes no byte.
-    fn read(&mut self, room: &mut [u8]) -> Result<usize, DeviceFailed>
-        ensures bound { ReadsAtMost result room.new }
-        ensures bytes { ReadConsumes (left self.old) (left self.new) result room.new }
+    /// Reads into the front of the buffer, and answers how many bytes came: 0 only at the end, or
+    /// where the buffer is empty. A failed call takes no byte.
+    fn read(&mut self, buffer: &mut [u8]) -> Result<usize, DeviceFailed>
+        ensures bound { ReadsAtMost result buffer.new }
+        ensures bytes { ReadConsumes (left self.old) (left self.new) result buffer.new }
         ensures count { CountsFailure (failures self.old) (failures self.new) result }
         ensures same_device { same self.old self.new };
 
@@ -49,7 +49,7 @@ pub trait BytesOut {
     /// The two are one device at two moments.
     ghost same: { Self → Self → Type 0 };
 
-    /// Writes from the front of the bytes, and answers how many it took: at least one, where there
+    /// Writes from the prefix of the bytes, and answers how many it took: at least one, where there
     /// is one. A failed call takes no byte.
     fn write(&mut self, bytes: &[u8]) -> Result<usize, DeviceFailed>
         ensures bound { WritesAtMost result bytes.now }
@@ -80,8 +80,8 @@ impl<R: BytesIn> BytesIn for &mut R {
 
     ghost same_later = { λ a b c p q. (q.0 ∙ p.0, R.same_later a.now b.now c.now p.1 q.1) };
 
-    fn read(&mut self, room: &mut [u8]) -> Result<usize, DeviceFailed> {
-        (**self).read(room)
+    fn read(&mut self, buffer: &mut [u8]) -> Result<usize, DeviceFailed> {
+        (**self).read(buffer)
     }
 }
 
@@ -149,8 +149,8 @@ impl<D: Read> BytesIn for Device<D> {
 
     ghost same_later = { λ _ _ _ _ _. tt };
 
-    fn read(&mut self, room: &mut [u8]) -> Result<usize, DeviceFailed> {
-        match self.inner.read(room) {
+    fn read(&mut self, buffer: &mut [u8]) -> Result<usize, DeviceFailed> {
+        match self.inner.read(buffer) {
             Ok(count) => Ok(count),
             Err(_) => Err(self.fail()),
         }
@@ -184,7 +184,7 @@ impl<D: Write> BytesOut for Device<D> {
     }
 }
 
-/// Writes all the bytes. Where a write fails, what was taken before it is a front of them.
+/// Writes all the bytes. Where a write fails, what was taken before it is a prefix of them.
 pub fn write_all<W: BytesOut>(writer: &mut W, bytes: &[u8]) -> Result<(), DeviceFailed>
     ensures written { OnOk result (Appends (W.held writer.old) (W.held writer.new) bytes.now) }
     ensures failed { OnErr result

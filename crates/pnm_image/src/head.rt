@@ -93,7 +93,7 @@ impl Head {
         }
     }
 
-    /// The same head with another height, which may be 0 inside a program.
+    /// This head with another height, which may be 0 inside a program.
     pub fn with_height(self, height: u32) -> Head
         requires { height ≤ MAX_SIDE }
         ensures { result ≡ with_height self height }

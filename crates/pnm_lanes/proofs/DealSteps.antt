@@ -1,5 +1,6 @@
 -- What has been dealt so far, and how the dealing ends.
-use Rattle.std.proofs.Common.{◌≡◌, inl, inr, ℕ, Bool, true, false, List, [], ◌∷◌, ◌++◌, length, Option, None, Some, refl, sym, ap, subst, ◌∙◌, append_assoc, append-nil}
+use Rattle.std.proofs.Common.{◌≡◌, inl, inr, ℕ, Bool, true, false, List, [], ◌∷◌, ◌++◌, length, Option, None, Some, refl, sym, ap, subst, ◌∙◌, append_assoc}
+use Rattle.std.proofs.Common.{append-nil}
 use Rattle.std.specs.List.{AllByRecursion}
 use Rattle.pnm_stages.specs.declared.sender.Sender.{Sender}
 use Rattle.pnm_stages.specs.Rings.{sent, SameProducer}
@@ -9,20 +10,20 @@ use Rattle.pnm_image.specs.declared.place.Place.{Place}
 use Rattle.pnm_image.specs.declared.place.Place.TheVariants.{Between}
 use Rattle.pnm_image.specs.Messages.{IsMessage, without_stop}
 use Rattle.pnm_image.specs.Places.{Accepts, IsLawful, place_after, place_of}
-use Rattle.pnm_image.specs.Completion.{IsFrontOf}
+use Rattle.pnm_image.specs.Completion.{IsPrefixOf}
 use Rattle.pnm_image.proofs.Lists.{each-push}
 use Rattle.pnm_image.proofs.Places.{lawful_more, place_of-append}
 use Rattle.pnm_tools.specs.Answers.{Ending, More, Whole, BrokenOff, ending_of, EndsBy}
 use Rattle.pnm_tools.specs.Dealing.{dealt_message, dealt}
-use Rattle.pnm_tools.proofs.FullLaws.{front_of_front}
+use Rattle.pnm_tools.proofs.FullLaws.{prefix_of_prefix}
 use Rattle.pnm_stages.specs.declared.stage.StageEnd.{StageEnd}
 use Rattle.pnm_stages.specs.declared.stage.StageEnd.TheVariants.{Well, Broken, PeerGone}
 use Rattle.pnm_stages.proofs.RingSteps.{ends_as, same_output, itself_output}
-use Rattle.pnm_stages.proofs.FrontLaws.{stop_is_cut}
-use Rattle.pnm_lanes.specs.Deals.{AtEach, HasSentSo, IsFrontOfDealt, HasLane, HasDealt}
+use Rattle.pnm_stages.proofs.PrefixLaws.{stop_is_cut}
+use Rattle.pnm_lanes.specs.Deals.{AtEach, HasSentSo, IsPrefixOfDealt, HasLane, HasDealt}
 use Rattle.pnm_lanes.specs.DealParts.{part_at, IsSentPart, HasSentParts}
 use Rattle.pnm_lanes.proofs.EachLaws.{each-map, each-itself, each-then, each-count}
-use Rattle.pnm_lanes.proofs.DealtLaws.{dealt_more, dealt_goes_on, dealt_part_goes_on, itself_front, before_stop_front}
+use Rattle.pnm_lanes.proofs.DealtLaws.{dealt_more, dealt_goes_on, dealt_part_goes_on, itself_prefix, before_stop_prefix}
 
 -- ---- what has been dealt
 
@@ -53,24 +54,28 @@ deals_nothing l outputs = record {
 }
 
 -- the parts of the lanes, by the number of lanes at the beginning
-pub parts_of : (place : Place) (m : Message) (olds nows news : List Sender) (took : List Message) (unsent : Option StageEnd) → AtEach (HasAll (length olds) took) olds nows
+pub parts_of : (place : Place) (m : Message) (olds nows news : List Sender) (took : List Message) (unsent : Option StageEnd)
+    → AtEach (HasAll (length olds) took) olds nows
     → HasSentParts (part_at (length nows) place m) unsent nows news → HasSentParts (part_at (length olds) place m) unsent nows news
 parts_of place m olds nows news took unsent all parts =
     subst (λ (n : ℕ). HasSentParts (part_at n place m) unsent nows news) (each-count (HasAll (length olds) took) 0 olds nows all) parts
 
 -- a lane was sent all, and its part of one more
-one_more_lane : (place : Place) (lanes : ℕ) (took : List Message) (m : Message) (unsent : Option StageEnd) → unsent ≡ None → place ≡ place_of Between took → (lane : ℕ) (old now new : Sender)
+one_more_lane : (place : Place) (lanes : ℕ) (took : List Message) (m : Message) (unsent : Option StageEnd) → unsent ≡ None → place ≡ place_of Between took
+    → (lane : ℕ) (old now new : Sender)
     → HasAll lanes took lane old now → IsSentPart (part_at lanes place m) unsent lane now new → HasAll lanes (took ++ m ∷ []) lane old new
 one_more_lane place lanes took m unsent none here lane old now new all (same, inl is) = (
   same_output old now new all.0 same,
-  is ∙ ap (λ (x : List Message). x ++ dealt_message lane lanes place m) all.1 ∙ append_assoc (sent old) (dealt lane lanes took) (dealt_message lane lanes place m)
+  is ∙ ap (λ (x : List Message). x ++ dealt_message lane lanes place m) all.1
+      ∙ append_assoc (sent old) (dealt lane lanes took) (dealt_message lane lanes place m)
       ∙ ap (λ (x : List Message). sent old ++ x) (sym (dealt_more lane lanes place took m here)),
 )
 one_more_lane place lanes took m None none here lane old now new all (same, inr lost) = let lost_one = lost.1 in absurd cc
 one_more_lane place lanes took m (Some end) none here lane old now new all (same, inr lost) = absurd cc
 
 -- a message was dealt
-pub deals_on : (ending : Ending) (place : Place) (received_old received_now received_new : List Message) (olds nows news : List Sender) (m : Message) (unsent : Option StageEnd)
+pub deals_on : (ending : Ending) (place : Place) (received_old received_now received_new : List Message) (olds nows news : List Sender) (m : Message)
+    (unsent : Option StageEnd)
     → IsDealing More place received_old received_now olds nows → received_new ≡ received_now ++ m ∷ [] → IsMessage m → Accepts place m → ending_of m ≡ ending
     → HasSentParts (part_at (length nows) place m) unsent nows news → unsent ≡ None → IsDealing ending (place_after place m) received_old received_new olds news
 deals_on ending place received_old received_now received_new olds nows news m unsent dealing added is accepts ends sent_parts none =
@@ -83,23 +88,26 @@ deals_on ending place received_old received_now received_new olds nows news m un
       ends = ends_as ending took m dealing.ends ends;
       here = ap (λ (p : Place). place_after p m) dealing.here ∙ sym (place_of-append Between took (m ∷ []));
       lanes = each-then (HasAll (length olds) took) (IsSentPart (part_at (length olds) place m) unsent) (HasAll (length olds) (took ++ m ∷ [])) 0 olds nows news
-          (one_more_lane place (length olds) took m unsent none dealing.here) dealing.lanes (parts_of place m olds nows news took unsent dealing.lanes sent_parts).lanes;
+          (one_more_lane place (length olds) took m unsent none dealing.here) dealing.lanes
+          (parts_of place m olds nows news took unsent dealing.lanes sent_parts).lanes;
     }
 
 -- ---- the end of the stream
 
 -- all was dealt to the lane
-whole_lane : (end : StageEnd) (lanes : ℕ) (took : List Message) → IsLawful took → ((lane : ℕ) → HasSentSo end lane lanes took (dealt lane lanes took)) → (lane : ℕ) (old new : Sender)
+whole_lane : (end : StageEnd) (lanes : ℕ) (took : List Message) → IsLawful took → ((lane : ℕ) → HasSentSo end lane lanes took (dealt lane lanes took))
+    → (lane : ℕ) (old new : Sender)
     → HasAll lanes took lane old new → HasLane end lanes took lane old new
 whole_lane end lanes took lawful so lane old new all = record {
   ring = all.0;
   gave = dealt lane lanes took;
   output = all.1;
   ended = so lane;
-  front = record { accepted = took; rest = []; parts = sym (append-nil took); lawful = lawful; front = before_stop_front (dealt lane lanes took) };
+  prefix = record { accepted = took; rest = []; parts = sym (append-nil took); lawful = lawful; prefix = before_stop_prefix (dealt lane lanes took) };
 }
 
-pub ends_whole : (place : Place) (received_old received_new left : List Message) (olds news : List Sender) → IsDealing Whole place received_old received_new olds news → HasDealt Well received_old received_new left olds news
+pub ends_whole : (place : Place) (received_old received_new left : List Message) (olds news : List Sender)
+    → IsDealing Whole place received_old received_new olds news → HasDealt Well received_old received_new left olds news
 ends_whole place received_old received_new left olds news dealing = record {
   took = dealing.took;
   input = dealing.input;
@@ -107,10 +115,12 @@ ends_whole place received_old received_new left olds news dealing = record {
   messages = dealing.messages;
   once = (Whole, dealing.ends);
   ended = (dealing.lawful, dealing.ends);
-  lanes = each-map (HasAll (length olds) dealing.took) (HasLane Well (length olds) dealing.took) 0 olds news (whole_lane Well (length olds) dealing.took dealing.lawful (λ lane. refl)) dealing.lanes;
+  lanes = each-map (HasAll (length olds) dealing.took) (HasLane Well (length olds) dealing.took) 0 olds news
+      (whole_lane Well (length olds) dealing.took dealing.lawful (λ lane. refl)) dealing.lanes;
 }
 
-pub ends_broken : (place : Place) (received_old received_new left : List Message) (olds news : List Sender) → IsDealing BrokenOff place received_old received_new olds news → HasDealt Broken received_old received_new left olds news
+pub ends_broken : (place : Place) (received_old received_new left : List Message) (olds news : List Sender)
+    → IsDealing BrokenOff place received_old received_new olds news → HasDealt Broken received_old received_new left olds news
 ends_broken place received_old received_new left olds news dealing = record {
   took = dealing.took;
   input = dealing.input;
@@ -118,36 +128,49 @@ ends_broken place received_old received_new left olds news dealing = record {
   messages = dealing.messages;
   once = (BrokenOff, dealing.ends);
   ended = (dealing.lawful, dealing.ends);
-  lanes = each-map (HasAll (length olds) dealing.took) (HasLane Broken (length olds) dealing.took) 0 olds news (whole_lane Broken (length olds) dealing.took dealing.lawful (λ lane. refl)) dealing.lanes;
+  lanes = each-map (HasAll (length olds) dealing.took) (HasLane Broken (length olds) dealing.took) 0 olds news
+      (whole_lane Broken (length olds) dealing.took dealing.lawful (λ lane. refl)) dealing.lanes;
 }
 
 -- ---- a lane that is sent Stop
 
--- a lane was sent a front, which goes on, of what is dealt to it of these messages, and all of it where that is said
-abbrev pub HasFront : Bool → ℕ → List Message → ℕ → Sender → Sender → Type 0
-HasFront all lanes accepted lane old now = SameProducer old now × ((g : List Message) × (sent now ≡ sent old ++ g) × EndsBy More g × IsFrontOf g (dealt lane lanes accepted) × (all ≡ true → g ≡ dealt lane lanes accepted))
+-- a lane was sent a prefix, which goes on, of what is dealt to it of these messages, and all of it where that is said
+abbrev pub HasPrefix : Bool → ℕ → List Message → ℕ → Sender → Sender → Type 0
+HasPrefix all lanes accepted lane old now = SameProducer old now
+    × ((g : List Message) × (sent now ≡ sent old ++ g) × EndsBy More g × IsPrefixOf g (dealt lane lanes accepted)
+    × (all ≡ true → g ≡ dealt lane lanes accepted))
 
--- all that is dealt is a front of itself
-pub all_is_front : (lanes : ℕ) (took : List Message) → EndsBy More took → (lane : ℕ) (old now : Sender) → HasAll lanes took lane old now → HasFront true lanes took lane old now
-all_is_front lanes took more lane old now all = (all.0, (dealt lane lanes took, all.1, dealt_goes_on lane lanes took more, itself_front (dealt lane lanes took), λ e. refl))
+-- all that is dealt is a prefix of itself
+pub all_is_prefix : (lanes : ℕ) (took : List Message) → EndsBy More took → (lane : ℕ) (old now : Sender) → HasAll lanes took lane old now
+    → HasPrefix true lanes took lane old now
+all_is_prefix lanes took more lane old now all =
+    (all.0, (dealt lane lanes took, all.1, dealt_goes_on lane lanes took more, itself_prefix (dealt lane lanes took), λ e. refl))
 
 -- with its part of one more, or without it
-pub part_is_front : (place : Place) (lanes : ℕ) (took : List Message) (m : Message) (unsent : Option StageEnd) → EndsBy More took → ending_of m ≡ More → place ≡ place_of Between took → (lane : ℕ) (old now new : Sender)
-    → HasAll lanes took lane old now → IsSentPart (part_at lanes place m) unsent lane now new → HasFront false lanes (took ++ m ∷ []) lane old new
-part_is_front place lanes took m unsent more goes here lane old now new all (same, inl is) =
+pub part_is_prefix : (place : Place) (lanes : ℕ) (took : List Message) (m : Message) (unsent : Option StageEnd) → EndsBy More took → ending_of m ≡ More
+    → place ≡ place_of Between took → (lane : ℕ) (old now new : Sender)
+    → HasAll lanes took lane old now → IsSentPart (part_at lanes place m) unsent lane now new → HasPrefix false lanes (took ++ m ∷ []) lane old new
+part_is_prefix place lanes took m unsent more goes here lane old now new all (same, inl is) =
     let more_dealt = dealt_more lane lanes place took m here in (
       same_output old now new all.0 same,
       (
         dealt lane lanes took ++ dealt_message lane lanes place m,
-        is ∙ ap (λ (x : List Message). x ++ dealt_message lane lanes place m) all.1 ∙ append_assoc (sent old) (dealt lane lanes took) (dealt_message lane lanes place m),
+        is ∙ ap (λ (x : List Message). x ++ dealt_message lane lanes place m) all.1
+            ∙ append_assoc (sent old) (dealt lane lanes took) (dealt_message lane lanes place m),
         dealt_part_goes_on lane lanes place took m more goes,
         ([], more_dealt ∙ sym (append-nil (dealt lane lanes took ++ dealt_message lane lanes place m))),
         λ e. absurd cc,
       ),
     )
-part_is_front place lanes took m unsent more goes here lane old now new all (same, inr lost) = (
+part_is_prefix place lanes took m unsent more goes here lane old now new all (same, inr lost) = (
   same_output old now new all.0 same,
-  (dealt lane lanes took, lost.0 ∙ all.1, dealt_goes_on lane lanes took more, (dealt_message lane lanes place m, dealt_more lane lanes place took m here), λ e. absurd cc),
+  (
+    dealt lane lanes took,
+    lost.0 ∙ all.1,
+    dealt_goes_on lane lanes took more,
+    (dealt_message lane lanes place m, dealt_more lane lanes place took m here),
+    λ e. absurd cc,
+  ),
 )
 
 -- what was accepted of what was received
@@ -163,34 +186,42 @@ accepted_more accepted took more is = record {
   lawful = is.lawful;
 }
 
-pub front_of_dealt : (lane lanes : ℕ) (accepted l g : List Message) → IsAccepted accepted l → IsFrontOf (without_stop g) (dealt lane lanes accepted) → IsFrontOfDealt lane lanes l g
-front_of_dealt lane lanes accepted l g is front = record { accepted = accepted; rest = is.rest; parts = is.parts; lawful = is.lawful; front = front }
+pub prefix_of_dealt : (lane lanes : ℕ) (accepted l g : List Message) → IsAccepted accepted l → IsPrefixOf (without_stop g) (dealt lane lanes accepted)
+    → IsPrefixOfDealt lane lanes l g
+prefix_of_dealt lane lanes accepted l g is prefix = record { accepted = accepted; rest = is.rest; parts = is.parts; lawful = is.lawful; prefix = prefix }
 
 -- the lane was sent Stop
-stopped_lane : (end : StageEnd) (all : Bool) (lanes : ℕ) (accepted l : List Message) → IsAccepted accepted l → ((lane : ℕ) (g : List Message) → EndsBy More g → (all ≡ true → g ≡ dealt lane lanes accepted) → HasSentSo end lane lanes l (g ++ Stop ∷ [])) → (lane : ℕ) (old now new : Sender)
-    → HasFront all lanes accepted lane old now → SameProducer now new → sent new ≡ sent now ++ Stop ∷ [] → HasLane end lanes l lane old new
-stopped_lane end all lanes accepted l is so lane old now new (same_now, (g, output, more, front, full)) same added = record {
+stopped_lane : (end : StageEnd) (all : Bool) (lanes : ℕ) (accepted l : List Message) → IsAccepted accepted l
+    → ((lane : ℕ) (g : List Message) → EndsBy More g → (all ≡ true → g ≡ dealt lane lanes accepted) → HasSentSo end lane lanes l (g ++ Stop ∷ []))
+    → (lane : ℕ) (old now new : Sender)
+    → HasPrefix all lanes accepted lane old now → SameProducer now new → sent new ≡ sent now ++ Stop ∷ [] → HasLane end lanes l lane old new
+stopped_lane end all lanes accepted l is so lane old now new (same_now, (g, output, more, prefix, full)) same added = record {
   ring = same_output old now new same_now same;
   gave = g ++ Stop ∷ [];
   output = added ∙ ap (λ (x : List Message). x ++ Stop ∷ []) output ∙ append_assoc (sent old) g (Stop ∷ []);
   ended = so lane g more full;
-  front = front_of_dealt lane lanes accepted l (g ++ Stop ∷ []) is (subst (λ (x : List Message). IsFrontOf x (dealt lane lanes accepted)) (sym (stop_is_cut g)) front);
+  prefix = prefix_of_dealt lane lanes accepted l (g ++ Stop ∷ []) is
+      (subst (λ (x : List Message). IsPrefixOf x (dealt lane lanes accepted)) (sym (stop_is_cut g)) prefix);
 }
 
-pub told_lane : (end : StageEnd) (all : Bool) (lanes : ℕ) (accepted l : List Message) (untold : Option StageEnd) → untold ≡ None → IsAccepted accepted l → ((lane : ℕ) (g : List Message) → EndsBy More g → (all ≡ true → g ≡ dealt lane lanes accepted) → HasSentSo end lane lanes l (g ++ Stop ∷ [])) → (lane : ℕ) (old now new : Sender)
-    → HasFront all lanes accepted lane old now → IsSentPart (λ n. Stop ∷ []) untold lane now new → HasLane end lanes l lane old new
-told_lane end all lanes accepted l untold none is so lane old now new front (same, inl added) = stopped_lane end all lanes accepted l is so lane old now new front same added
-told_lane end all lanes accepted l None none is so lane old now new front (same, inr lost) = let lost_one = lost.1 in absurd cc
-told_lane end all lanes accepted l (Some e) none is so lane old now new front (same, inr lost) = absurd cc
+pub told_lane : (end : StageEnd) (all : Bool) (lanes : ℕ) (accepted l : List Message) (untold : Option StageEnd) → untold ≡ None → IsAccepted accepted l
+    → ((lane : ℕ) (g : List Message) → EndsBy More g → (all ≡ true → g ≡ dealt lane lanes accepted) → HasSentSo end lane lanes l (g ++ Stop ∷ []))
+    → (lane : ℕ) (old now new : Sender)
+    → HasPrefix all lanes accepted lane old now → IsSentPart (λ n. Stop ∷ []) untold lane now new → HasLane end lanes l lane old new
+told_lane end all lanes accepted l untold none is so lane old now new prefix (same, inl added) =
+    stopped_lane end all lanes accepted l is so lane old now new prefix same added
+told_lane end all lanes accepted l None none is so lane old now new prefix (same, inr lost) = let lost_one = lost.1 in absurd cc
+told_lane end all lanes accepted l (Some e) none is so lane old now new prefix (same, inr lost) = absurd cc
 
 -- or wasn't, where the other end of a ring was seen dropped
 pub lost_lane : (all : Bool) (lanes : ℕ) (accepted l : List Message) (untold : Option StageEnd) → IsAccepted accepted l → (lane : ℕ) (old now new : Sender)
-    → HasFront all lanes accepted lane old now → IsSentPart (λ n. Stop ∷ []) untold lane now new → HasLane PeerGone lanes l lane old new
-lost_lane all lanes accepted l untold is lane old now new front (same, inl added) = stopped_lane PeerGone all lanes accepted l is (λ n g more full. tt) lane old now new front same added
-lost_lane all lanes accepted l untold is lane old now new (same_now, (g, output, more, front, full)) (same, inr lost) = record {
+    → HasPrefix all lanes accepted lane old now → IsSentPart (λ n. Stop ∷ []) untold lane now new → HasLane PeerGone lanes l lane old new
+lost_lane all lanes accepted l untold is lane old now new prefix (same, inl added) =
+    stopped_lane PeerGone all lanes accepted l is (λ n g more full. tt) lane old now new prefix same added
+lost_lane all lanes accepted l untold is lane old now new (same_now, (g, output, more, prefix, full)) (same, inr lost) = record {
   ring = same_output old now new same_now same;
   gave = g;
   output = lost.0 ∙ output;
   ended = tt;
-  front = front_of_dealt lane lanes accepted l g is (front_of_front (without_stop g) g (dealt lane lanes accepted) (before_stop_front g) front);
+  prefix = prefix_of_dealt lane lanes accepted l g is (prefix_of_prefix (without_stop g) g (dealt lane lanes accepted) (before_stop_prefix g) prefix);
 }

@@ -1,4 +1,4 @@
--- Messages that are dealt to a lane: one after another, how they end, and their fronts.
+-- Messages that are dealt to a lane: one after another, how they end, and their prefixes.
 use Rattle.std.proofs.Common.{◌≡◌, ℕ, Bool, true, false, ◌%◌, List, [], ◌∷◌, ◌++◌, map, refl, sym, ap, subst, ◌∙◌, append_assoc, append-nil}
 use Rattle.std.specs.Prelude.{◌==◌, if◌then◌else◌}
 use Rattle.pnm_image.specs.declared.message.Message.{Message}
@@ -7,32 +7,35 @@ use Rattle.pnm_image.specs.declared.place.Place.{Place}
 use Rattle.pnm_image.specs.declared.place.Place.TheVariants.{Between, Inside, After}
 use Rattle.pnm_image.specs.Messages.{without_stop}
 use Rattle.pnm_image.specs.Places.{place_after, place_of}
-use Rattle.pnm_image.specs.Completion.{IsFrontOf}
+use Rattle.pnm_image.specs.Completion.{IsPrefixOf}
 use Rattle.pnm_tools.specs.Answers.{More, ending_of, EndsBy}
 use Rattle.pnm_tools.specs.Dealing.{dealt_message, dealt_from, dealt}
-use Rattle.pnm_tools.proofs.FullLaws.{front_of_front}
+use Rattle.pnm_tools.proofs.FullLaws.{prefix_of_prefix}
 use Rattle.pnm_tools.proofs.InFullLaws.{EndNothing, ends_after}
-use Rattle.pnm_stages.specs.Fronts.{IsLongestLawfulFront}
+use Rattle.pnm_stages.specs.Prefixes.{IsLongestLawfulPrefix}
 use Rattle.pnm_stages.proofs.RingSteps.{ends_nothing}
-use Rattle.pnm_stages.proofs.FrontLaws.{stop_is_cut, front_without_stop, lawful_front_of_longest}
-use Rattle.pnm_lanes.specs.Deals.{IsFrontOfDealt}
+use Rattle.pnm_stages.proofs.PrefixLaws.{stop_is_cut, prefix_without_stop, lawful_prefix_of_longest}
+use Rattle.pnm_lanes.specs.Deals.{IsPrefixOfDealt}
 
 -- ---- one after another
 
-pub dealt_from-append : (lane lanes : ℕ) (place : Place) (a b : List Message) → dealt_from lane lanes place (a ++ b) ≡ dealt_from lane lanes place a ++ dealt_from lane lanes (place_of place a) b
+pub dealt_from-append : (lane lanes : ℕ) (place : Place) (a b : List Message) → dealt_from lane lanes place (a ++ b) ≡ dealt_from lane lanes place a
+    ++ dealt_from lane lanes (place_of place a) b
 dealt_from-append lane lanes place [] b = refl
 dealt_from-append lane lanes place (m ∷ a) b =
     ap (λ (l : List Message). dealt_message lane lanes place m ++ l) (dealt_from-append lane lanes (place_after place m) a b)
     ∙ sym (append_assoc (dealt_message lane lanes place m) (dealt_from lane lanes (place_after place m) a) (dealt_from lane lanes (place_of place (m ∷ a)) b))
 
 -- one message more
-pub dealt_from-push : (lane lanes : ℕ) (place : Place) (l : List Message) (m : Message) → dealt_from lane lanes place (l ++ m ∷ []) ≡ dealt_from lane lanes place l ++ dealt_message lane lanes (place_of place l) m
+pub dealt_from-push : (lane lanes : ℕ) (place : Place) (l : List Message) (m : Message)
+    → dealt_from lane lanes place (l ++ m ∷ []) ≡ dealt_from lane lanes place l ++ dealt_message lane lanes (place_of place l) m
 dealt_from-push lane lanes place l m =
     dealt_from-append lane lanes place l (m ∷ [])
     ∙ ap (λ (x : List Message). dealt_from lane lanes place l ++ x) (append-nil (dealt_message lane lanes (place_of place l) m))
 
 -- at this place
-pub dealt_more : (lane lanes : ℕ) (place : Place) (l : List Message) (m : Message) → place ≡ place_of Between l → dealt lane lanes (l ++ m ∷ []) ≡ dealt lane lanes l ++ dealt_message lane lanes place m
+pub dealt_more : (lane lanes : ℕ) (place : Place) (l : List Message) (m : Message) → place ≡ place_of Between l
+    → dealt lane lanes (l ++ m ∷ []) ≡ dealt lane lanes l ++ dealt_message lane lanes place m
 dealt_more lane lanes place l m here =
     dealt_from-push lane lanes Between l m ∙ ap (λ (p : Place). dealt lane lanes l ++ dealt_message lane lanes p m) (sym here)
 
@@ -59,7 +62,8 @@ both_end_nothing (m ∷ a) b first second = (first.0, both_end_nothing a b first
 dealt_ends_nothing : (lane lanes : ℕ) (place : Place) (l : List Message) → EndNothing l → EndNothing (dealt_from lane lanes place l)
 dealt_ends_nothing lane lanes place [] ends = tt
 dealt_ends_nothing lane lanes place (m ∷ l) ends =
-    both_end_nothing (dealt_message lane lanes place m) (dealt_from lane lanes (place_after place m) l) (part_ends_nothing lane lanes place m ends.0) (dealt_ends_nothing lane lanes (place_after place m) l ends.1)
+    both_end_nothing (dealt_message lane lanes place m) (dealt_from lane lanes (place_after place m) l) (part_ends_nothing lane lanes place m ends.0)
+    (dealt_ends_nothing lane lanes (place_after place m) l ends.1)
 
 pub nothing_goes_on : (l : List Message) → EndNothing l → EndsBy More l
 nothing_goes_on l ends = subst (EndsBy More) (append-nil l) (ends_after More l [] ends refl)
@@ -69,29 +73,33 @@ pub dealt_goes_on : (lane lanes : ℕ) (l : List Message) → EndsBy More l → 
 dealt_goes_on lane lanes l more = nothing_goes_on (dealt lane lanes l) (dealt_ends_nothing lane lanes Between l (ends_nothing l more))
 
 -- and with the next part, if that ends nothing
-pub dealt_part_goes_on : (lane lanes : ℕ) (place : Place) (l : List Message) (m : Message) → EndsBy More l → ending_of m ≡ More → EndsBy More (dealt lane lanes l ++ dealt_message lane lanes place m)
+pub dealt_part_goes_on : (lane lanes : ℕ) (place : Place) (l : List Message) (m : Message) → EndsBy More l → ending_of m ≡ More
+    → EndsBy More (dealt lane lanes l ++ dealt_message lane lanes place m)
 dealt_part_goes_on lane lanes place l m more goes =
     nothing_goes_on (dealt lane lanes l ++ dealt_message lane lanes place m)
-    (both_end_nothing (dealt lane lanes l) (dealt_message lane lanes place m) (dealt_ends_nothing lane lanes Between l (ends_nothing l more)) (part_ends_nothing lane lanes place m goes))
+    (both_end_nothing (dealt lane lanes l) (dealt_message lane lanes place m) (dealt_ends_nothing lane lanes Between l (ends_nothing l more))
+    (part_ends_nothing lane lanes place m goes))
 
--- ---- fronts
+-- ---- prefixes
 
-pub itself_front : (l : List Message) → IsFrontOf l l
-itself_front l = ([], sym (append-nil l))
+pub itself_prefix : (l : List Message) → IsPrefixOf l l
+itself_prefix l = ([], sym (append-nil l))
 
 -- what is before a last Stop
-pub before_stop_front : (l : List Message) → IsFrontOf (without_stop l) l
-before_stop_front l = subst (IsFrontOf (without_stop l)) (stop_is_cut l) (front_without_stop l (Stop ∷ []))
+pub before_stop_prefix : (l : List Message) → IsPrefixOf (without_stop l) l
+before_stop_prefix l = subst (IsPrefixOf (without_stop l)) (stop_is_cut l) (prefix_without_stop l (Stop ∷ []))
 
--- what is dealt of a front is a front
-pub dealt_front : (lane lanes : ℕ) (a b : List Message) → IsFrontOf a b → IsFrontOf (dealt lane lanes a) (dealt lane lanes b)
-dealt_front lane lanes a b front = (
-  dealt_from lane lanes (place_of Between a) front.0,
-  ap (dealt lane lanes) front.1 ∙ dealt_from-append lane lanes Between a front.0,
+-- what is dealt of a prefix is a prefix
+pub dealt_prefix : (lane lanes : ℕ) (a b : List Message) → IsPrefixOf a b → IsPrefixOf (dealt lane lanes a) (dealt lane lanes b)
+dealt_prefix lane lanes a b prefix = (
+  dealt_from lane lanes (place_of Between a) prefix.0,
+  ap (dealt lane lanes) prefix.1 ∙ dealt_from-append lane lanes Between a prefix.0,
 )
 
--- what is dealt of a lawful front is a front of what is dealt of the longest
-pub longest_front_is_dealt : (lane lanes : ℕ) (l g front : List Message) → IsFrontOfDealt lane lanes l g → IsLongestLawfulFront front l → IsFrontOf (without_stop g) (dealt lane lanes front)
-longest_front_is_dealt lane lanes l g front of_dealt longest =
-    front_of_front (without_stop g) (dealt lane lanes of_dealt.accepted) (dealt lane lanes front) of_dealt.front
-    (dealt_front lane lanes of_dealt.accepted front (lawful_front_of_longest of_dealt.accepted of_dealt.rest front l of_dealt.parts of_dealt.lawful longest))
+-- what is dealt of a lawful prefix is a prefix of what is dealt of the longest
+pub longest_prefix_is_dealt : (lane lanes : ℕ) (l g prefix : List Message) → IsPrefixOfDealt lane lanes l g → IsLongestLawfulPrefix prefix l
+    → IsPrefixOf (without_stop g) (dealt lane lanes prefix)
+longest_prefix_is_dealt lane lanes l g prefix of_dealt longest =
+    prefix_of_prefix (without_stop g) (dealt lane lanes of_dealt.accepted) (dealt lane lanes prefix) of_dealt.prefix
+    (dealt_prefix lane lanes of_dealt.accepted prefix
+    (lawful_prefix_of_longest of_dealt.accepted of_dealt.rest prefix l of_dealt.parts of_dealt.lawful longest))

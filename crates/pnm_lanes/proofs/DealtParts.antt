@@ -6,7 +6,7 @@ use Rattle.pnm_image.specs.declared.message.Message.{Message}
 use Rattle.pnm_image.specs.declared.message.Message.TheVariants.{Begin, Row, ImageEnd, StreamEnd, Stop}
 use Rattle.pnm_image.specs.declared.place.Place.{Place}
 use Rattle.pnm_image.specs.declared.place.Place.TheVariants.{Between, Inside, After}
-use Rattle.pnm_image.specs.Completion.{IsFrontOf}
+use Rattle.pnm_image.specs.Completion.{IsPrefixOf}
 use Rattle.pnm_image.proofs.Lists.{same_first, same_rest}
 use Rattle.pnm_image.specs.Images.{Image, AreImages, rows_of, messages_of_stream}
 use Rattle.pnm_image.specs.Messages.{IsMessage, without_stop}
@@ -76,10 +76,12 @@ dealt_one lane lanes (Inside s y) StreamEnd is = (tt, tt)
 dealt_one lane lanes After StreamEnd is = (tt, tt)
 dealt_one lane lanes place Stop is = absurd is
 
-pub dealt_of_stream : (lane lanes : ℕ) (place : Place) (l : List Message) → AllByRecursion IsOfStream l → AllByRecursion IsOfStream (dealt_from lane lanes place l)
+pub dealt_of_stream : (lane lanes : ℕ) (place : Place) (l : List Message) → AllByRecursion IsOfStream l
+    → AllByRecursion IsOfStream (dealt_from lane lanes place l)
 dealt_of_stream lane lanes place [] are = tt
 dealt_of_stream lane lanes place (m ∷ l) are =
-    all_of_both IsOfStream (dealt_message lane lanes place m) (dealt_from lane lanes (place_after place m) l) (dealt_one lane lanes place m are.0) (dealt_of_stream lane lanes (place_after place m) l are.1)
+    all_of_both IsOfStream (dealt_message lane lanes place m) (dealt_from lane lanes (place_after place m) l) (dealt_one lane lanes place m are.0)
+    (dealt_of_stream lane lanes (place_after place m) l are.1)
 
 row_goes_on : (b : Bool) (row : List ℕ) → EndNothing (map Row (if b then row ∷ [] else []))
 row_goes_on true row = (refl, tt)
@@ -99,7 +101,8 @@ one_goes_on lane lanes place Stop more = absurd cc
 dealt_nothing : (lane lanes : ℕ) (place : Place) (l : List Message) → EndNothing l → EndNothing (dealt_from lane lanes place l)
 dealt_nothing lane lanes place [] none = tt
 dealt_nothing lane lanes place (m ∷ l) none =
-    both_nothing (dealt_message lane lanes place m) (dealt_from lane lanes (place_after place m) l) (one_goes_on lane lanes place m none.0) (dealt_nothing lane lanes (place_after place m) l none.1)
+    both_nothing (dealt_message lane lanes place m) (dealt_from lane lanes (place_after place m) l) (one_goes_on lane lanes place m none.0)
+    (dealt_nothing lane lanes (place_after place m) l none.1)
 
 -- of messages that go on
 pub dealt_goes_on : (lane lanes : ℕ) (place : Place) (l : List Message) → EndsBy More l → EndsBy More (dealt_from lane lanes place l)
@@ -132,7 +135,8 @@ gets_part lane lanes place Stop is = absurd is
 
 -- ---- the messages of images
 
-rows_of_stream : (rows : List (List ℕ)) (rest : List Message) → AllByRecursion IsOfStream rest → AllByRecursion IsOfStream ((map Row rows ++ ImageEnd ∷ []) ++ rest)
+rows_of_stream : (rows : List (List ℕ)) (rest : List Message) → AllByRecursion IsOfStream rest
+    → AllByRecursion IsOfStream ((map Row rows ++ ImageEnd ∷ []) ++ rest)
 rows_of_stream [] rest are = (tt, are)
 rows_of_stream (row ∷ rows) rest are = (tt, rows_of_stream rows rest are)
 
@@ -140,17 +144,19 @@ pub images_of_stream : (is : List Image) → AreImages is → AllByRecursion IsO
 images_of_stream [] are = (tt, tt)
 images_of_stream (i ∷ is) are = (are.0.head, rows_of_stream (rows_of i) (messages_of_stream is) (images_of_stream is are.1))
 
--- ---- two fronts of one list
+-- ---- two prefixes of one list
 
-later : (m n : Message) (a c : List Message) → m ≡ n → IsFrontOf c a ⊎ ((x : Message) × (xs : List Message) × (c ≡ a ++ x ∷ xs)) → IsFrontOf (n ∷ c) (m ∷ a) ⊎ ((x : Message) × (xs : List Message) × (n ∷ c ≡ (m ∷ a) ++ x ∷ xs))
-later m n a c same (inl front) = inl (front.0, ap (λ (x : Message). x ∷ a) same ∙ ap (λ (l : List Message). n ∷ l) front.1)
+later : (m n : Message) (a c : List Message) → m ≡ n → IsPrefixOf c a ⊎ ((x : Message) × (xs : List Message) × (c ≡ a ++ x ∷ xs)) → IsPrefixOf (n ∷ c) (m ∷ a)
+    ⊎ ((x : Message) × (xs : List Message) × (n ∷ c ≡ (m ∷ a) ++ x ∷ xs))
+later m n a c same (inl prefix) = inl (prefix.0, ap (λ (x : Message). x ∷ a) same ∙ ap (λ (l : List Message). n ∷ l) prefix.1)
 later m n a c same (inr more) = inr (more.0, more.1, ap (λ (x : Message). x ∷ c) (sym same) ∙ ap (λ (l : List Message). m ∷ l) more.2)
 
 -- the second goes no further than the first, or goes on after it
-pub fronts_in_order : (a b c d : List Message) → a ++ b ≡ c ++ d → IsFrontOf c a ⊎ ((x : Message) × (xs : List Message) × (c ≡ a ++ x ∷ xs))
-fronts_in_order a b [] d same = inl (a, refl)
-fronts_in_order [] b (n ∷ c) d same = inr (n, c, refl)
-fronts_in_order (m ∷ a) b (n ∷ c) d same = later m n a c (same_first m n (a ++ b) (c ++ d) same) (fronts_in_order a b c d (same_rest m n (a ++ b) (c ++ d) same))
+pub prefixes_in_order : (a b c d : List Message) → a ++ b ≡ c ++ d → IsPrefixOf c a ⊎ ((x : Message) × (xs : List Message) × (c ≡ a ++ x ∷ xs))
+prefixes_in_order a b [] d same = inl (a, refl)
+prefixes_in_order [] b (n ∷ c) d same = inr (n, c, refl)
+prefixes_in_order (m ∷ a) b (n ∷ c) d same =
+    later m n a c (same_first m n (a ++ b) (c ++ d) same) (prefixes_in_order a b c d (same_rest m n (a ++ b) (c ++ d) same))
 
 -- what is left of a list that ends by a message does so
 pub last_stays : (a : List Message) (m x : Message) (xs l : List Message) → l ++ m ∷ [] ≡ a ++ x ∷ xs → (ys : List Message) × (x ∷ xs ≡ ys ++ m ∷ [])
@@ -158,7 +164,7 @@ last_stays [] m x xs l same = (l, sym same)
 last_stays (n ∷ a) m x xs [] same = absurd (omega (arith, ap length same, length-append a (x ∷ xs)))
 last_stays (n ∷ a) m x xs (k ∷ l) same = last_stays a m x xs l (same_rest k n (l ++ m ∷ []) (a ++ x ∷ xs) same)
 
--- nothing but Stop is a front of Stop alone
-pub not_before_stop : (a : List Message) (m : Message) → m ≢ Stop → IsFrontOf (a ++ m ∷ []) (Stop ∷ []) → ⊥
-not_before_stop [] m differ front = differ (begins_so m Stop [] [] front)
-not_before_stop (n ∷ a) m differ front = absurd (omega (arith, ap length front.1, length-append (a ++ m ∷ []) front.0, length-append a (m ∷ [])))
+-- nothing but Stop is a prefix of Stop alone
+pub not_before_stop : (a : List Message) (m : Message) → m ≢ Stop → IsPrefixOf (a ++ m ∷ []) (Stop ∷ []) → ⊥
+not_before_stop [] m differ prefix = differ (begins_so m Stop [] [] prefix)
+not_before_stop (n ∷ a) m differ prefix = absurd (omega (arith, ap length prefix.1, length-append (a ++ m ∷ []) prefix.0, length-append a (m ∷ [])))

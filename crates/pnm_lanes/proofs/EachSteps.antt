@@ -1,5 +1,6 @@
 -- A message of each lane, and the message of the whole stream that they are.
-use Rattle.std.proofs.Common.{◌≡◌, ◌≢◌, inl, inr, ℕ, ◌+◌, ◌<◌, ◌≤◌, List, [], ◌∷◌, ◌++◌, length, get_or, set, take, refl, sym, ap, subst, ◌∙◌, arith, le_refl, Err, Option, Some, None}
+use Rattle.std.proofs.Common.{◌≡◌, ◌≢◌, inl, inr, ℕ, ◌+◌, ◌<◌, ◌≤◌, List, [], ◌∷◌, ◌++◌, length, get_or, set, take, refl, sym, ap, subst, ◌∙◌, arith, le_refl}
+use Rattle.std.proofs.Common.{Err, Option, Some, None}
 use Rattle.std.specs.Prelude.{nat_lt, if◌then◌else◌}
 use Rattle.std.specs.List.{AllByRecursion}
 use Rattle.std.specs.Option.{IfSome, IfNone, ok_or}
@@ -10,7 +11,7 @@ use Rattle.pnm_image.specs.declared.message.Message.{Message}
 use Rattle.pnm_image.specs.declared.message.Message.TheVariants.{Begin, Row, ImageEnd, StreamEnd, Stop}
 use Rattle.pnm_image.specs.declared.place.Place.{Place}
 use Rattle.pnm_image.specs.declared.place.Place.TheVariants.{Between, Inside, After}
-use Rattle.pnm_image.specs.Completion.{IsFrontOf}
+use Rattle.pnm_image.specs.Completion.{IsPrefixOf}
 use Rattle.pnm_image.specs.Heads.{HeadValue, IsHead, with_height}
 use Rattle.pnm_image.specs.declared.limits.TheConstants.{MAX_SIDE}
 use Rattle.pnm_image.specs.Places.{Accepts, IsLawfulFrom, place_after}
@@ -21,9 +22,11 @@ use Rattle.pnm_stages.specs.declared.stage.StageEnd.{StageEnd}
 use Rattle.pnm_stages.specs.declared.stage.StageEnd.TheVariants.{Fault}
 use Rattle.pnm_lanes.specs.declared.lane.LaneState.{LaneState}
 use Rattle.pnm_lanes.specs.declared.lane.LaneState.TheVariants.{Open}
-use Rattle.pnm_lanes.specs.GatherParts.{IsOfStream, HasGiven, HasTakenFrom, state_at, AreOpen, AwaitsNoRow, HasTakenParts, HasTakenWhole, HasTakenNone, HasTakenNext, BeginsNone, IsTogether, AreNotTogether, AreDealtHeights, AreAlike, height_in}
-use Rattle.pnm_lanes.proofs.PartLaws.{begins_so, no_front, same_begin}
-use Rattle.pnm_lanes.proofs.TakenParts.{one_more_of, more_here, more_there, one_of_stream, message_of_stream, state_stays, none_taken, taken_more, taken_same, taken_none}
+use Rattle.pnm_lanes.specs.GatherParts.{IsOfStream, LaneHasGiven, HasTakenFrom, state_at, AreOpen, AwaitsNoRow, HasTakenParts, HasTakenWhole, HasTakenNone}
+use Rattle.pnm_lanes.specs.GatherParts.{HasTakenNext, BeginsNone, IsTogether, AreNotTogether, AreDealtHeights, AreAlike, height_in}
+use Rattle.pnm_lanes.proofs.PartLaws.{begins_so, no_prefix, same_begin}
+use Rattle.pnm_lanes.proofs.TakenParts.{one_more_of, more_here, more_there, one_of_stream, message_of_stream, state_stays, none_taken, taken_more, taken_same}
+use Rattle.pnm_lanes.proofs.TakenParts.{taken_none}
 
 -- ---- what a lane gets of a message that is no row
 
@@ -34,7 +37,8 @@ part_for lane lanes ImageEnd = ImageEnd
 part_for lane lanes StreamEnd = StreamEnd
 part_for lane lanes Stop = Stop
 
-pub dealt_is_part : (lane lanes : ℕ) (place : Place) (m : Message) → AwaitsNoRow place → Accepts place m → dealt_message lane lanes place m ≡ part_for lane lanes m ∷ []
+pub dealt_is_part : (lane lanes : ℕ) (place : Place) (m : Message) → AwaitsNoRow place → Accepts place m
+    → dealt_message lane lanes place m ≡ part_for lane lanes m ∷ []
 dealt_is_part lane lanes Between (Begin head) none may = refl
 dealt_is_part lane lanes Between (Row row) none may = absurd may
 dealt_is_part lane lanes Between ImageEnd none may = refl
@@ -52,16 +56,18 @@ pub record NextPart (lanes : ℕ) (place : Place) (rest : List Message) : Type 0
   pub next : Message
   pub may : Accepts place next
   pub is : IsOfStream next
-  pub parts : (lane : ℕ) (m : Message) → IsFrontOf (m ∷ []) (dealt_from lane lanes place rest) → m ≡ part_for lane lanes next
+  pub parts : (lane : ℕ) (m : Message) → IsPrefixOf (m ∷ []) (dealt_from lane lanes place rest) → m ≡ part_for lane lanes next
 
-next_part : (lanes : ℕ) (place : Place) (rest : List Message) (lane : ℕ) (m : Message) → AwaitsNoRow place → IsLawfulFrom place rest → AllByRecursion IsOfStream rest → IsFrontOf (m ∷ []) (dealt_from lane lanes place rest) → NextPart lanes place rest
-next_part lanes place [] lane m none lawful are front = absurd (no_front m [] front)
-next_part lanes place (n ∷ rest) lane m none lawful are front = record {
+next_part : (lanes : ℕ) (place : Place) (rest : List Message) (lane : ℕ) (m : Message) → AwaitsNoRow place → IsLawfulFrom place rest
+    → AllByRecursion IsOfStream rest → IsPrefixOf (m ∷ []) (dealt_from lane lanes place rest) → NextPart lanes place rest
+next_part lanes place [] lane m none lawful are prefix = absurd (no_prefix m [] prefix)
+next_part lanes place (n ∷ rest) lane m none lawful are prefix = record {
   next = n;
   may = lawful.0;
   is = are.0;
   parts = λ other k begins. begins_so k (part_for other lanes n) [] (dealt_from other lanes (place_after place n) rest)
-      (subst (λ (l : List Message). IsFrontOf (k ∷ []) (l ++ dealt_from other lanes (place_after place n) rest)) (dealt_is_part other lanes place n none lawful.0) begins);
+      (subst (λ (l : List Message). IsPrefixOf (k ∷ []) (l ++ dealt_from other lanes (place_after place n) rest))
+      (dealt_is_part other lanes place n none lawful.0) begins);
 }
 
 -- ---- messages that may not come
@@ -76,13 +82,15 @@ part_may_come lane lanes place StreamEnd may = may
 part_may_come lane lanes place Stop may = may
 
 -- the first lane's message is out of place
-pub first_out_of_place : (lanes : ℕ) (place : Place) (first : Message) (taken : ℕ → List Message) → 0 < lanes → AwaitsNoRow place → ¬ Accepts place first → taken 0 ≡ first ∷ [] → BeginsNone lanes place taken
-first_out_of_place lanes place first taken some none refused given rest lawful are fronts =
-    let front = subst (λ (l : List Message). IsFrontOf l (dealt_from 0 lanes place rest)) given (fronts 0 some) in
-    let next = next_part lanes place rest 0 first none lawful are front in
-    refused (subst (Accepts place) (sym (next.parts 0 first front)) (part_may_come 0 lanes place next.next next.may))
+pub first_out_of_place : (lanes : ℕ) (place : Place) (first : Message) (taken : ℕ → List Message) → 0 < lanes → AwaitsNoRow place → ¬ Accepts place first
+    → taken 0 ≡ first ∷ [] → BeginsNone lanes place taken
+first_out_of_place lanes place first taken some none refused given rest lawful are prefixes =
+    let prefix = subst (λ (l : List Message). IsPrefixOf l (dealt_from 0 lanes place rest)) given (prefixes 0 some) in
+    let next = next_part lanes place rest 0 first none lawful are prefix in
+    refused (subst (Accepts place) (sym (next.parts 0 first prefix)) (part_may_come 0 lanes place next.next next.may))
 
-parts_are_alike : (lane lanes : ℕ) (place : Place) (m : Message) → AwaitsNoRow place → Accepts place m → IsOfStream m → AreAlike (part_for 0 lanes m) (part_for lane lanes m)
+parts_are_alike : (lane lanes : ℕ) (place : Place) (m : Message) → AwaitsNoRow place → Accepts place m → IsOfStream m
+    → AreAlike (part_for 0 lanes m) (part_for lane lanes m)
 parts_are_alike lane lanes place (Begin head) none may is = refl
 parts_are_alike lane lanes Between (Row row) none may is = absurd may
 parts_are_alike lane lanes (Inside s y) (Row row) none may is = let below = may.0 in absurd (omega (arith, below, none))
@@ -92,13 +100,14 @@ parts_are_alike lane lanes place StreamEnd none may is = tt
 parts_are_alike lane lanes place Stop none may is = absurd is
 
 -- another lane's message isn't like the first lane's
-pub not_alike : (lanes lane : ℕ) (place : Place) (first m : Message) (taken : ℕ → List Message) → 0 < lanes → lane < lanes → AwaitsNoRow place → ¬ AreAlike first m → taken 0 ≡ first ∷ [] → taken lane ≡ m ∷ [] → BeginsNone lanes place taken
-not_alike lanes lane place first m taken some below none differ given other rest lawful are fronts =
-    let front = subst (λ (l : List Message). IsFrontOf l (dealt_from 0 lanes place rest)) given (fronts 0 some) in
-    let front_here = subst (λ (l : List Message). IsFrontOf l (dealt_from lane lanes place rest)) other (fronts lane below) in
-    let next = next_part lanes place rest 0 first none lawful are front in
-    differ (subst (λ (x : Message). AreAlike x m) (sym (next.parts 0 first front))
-    (subst (AreAlike (part_for 0 lanes next.next)) (sym (next.parts lane m front_here)) (parts_are_alike lane lanes place next.next none next.may next.is)))
+pub not_alike : (lanes lane : ℕ) (place : Place) (first m : Message) (taken : ℕ → List Message) → 0 < lanes → lane < lanes → AwaitsNoRow place
+    → ¬ AreAlike first m → taken 0 ≡ first ∷ [] → taken lane ≡ m ∷ [] → BeginsNone lanes place taken
+not_alike lanes lane place first m taken some below none differ given other rest lawful are prefixes =
+    let prefix = subst (λ (l : List Message). IsPrefixOf l (dealt_from 0 lanes place rest)) given (prefixes 0 some) in
+    let prefix_here = subst (λ (l : List Message). IsPrefixOf l (dealt_from lane lanes place rest)) other (prefixes lane below) in
+    let next = next_part lanes place rest 0 first none lawful are prefix in
+    differ (subst (λ (x : Message). AreAlike x m) (sym (next.parts 0 first prefix))
+    (subst (AreAlike (part_for 0 lanes next.next)) (sym (next.parts lane m prefix_here)) (parts_are_alike lane lanes place next.next none next.may next.is)))
 
 -- ---- messages that are alike
 
@@ -166,13 +175,15 @@ like_of_stream Stop height is within = absurd is
 abbrev pub until : ℕ → Message → List ℕ → ℕ → List Message
 until lane first heights other = if nat_lt other lane then like first (get_or heights other 0) ∷ [] else []
 
-until_before : (lane : ℕ) (first : Message) (heights : List ℕ) (other : ℕ) → other < lane → until lane first heights other ≡ like first (get_or heights other 0) ∷ []
+until_before : (lane : ℕ) (first : Message) (heights : List ℕ) (other : ℕ) → other < lane → until lane first heights other ≡ like first (get_or heights other 0)
+    ∷ []
 until_before lane first heights other below = grind (arith, nat_tests)
 
 until_from : (lane : ℕ) (first : Message) (heights : List ℕ) (other : ℕ) → lane ≤ other → until lane first heights other ≡ []
 until_from lane first heights other reached = grind (arith, nat_tests)
 
-pub record IsTakingEach (lanes : ℕ) (place : Place) (first : Message) (heights : List ℕ) (lane : ℕ) (states : List LaneState) (start now : ℕ → List Message) : Type 0 where
+pub record IsTakingEach (lanes : ℕ) (place : Place) (first : Message) (heights : List ℕ) (lane : ℕ) (states : List LaneState)
+    (start now : ℕ → List Message) : Type 0 where
   pub parts : HasTakenParts lanes states start now (until lane first heights)
   pub others : (other : ℕ) → lane ≤ other → other < lanes → state_at states other ≡ Open
   pub may : Accepts place first
@@ -185,86 +196,117 @@ pub record IsTakingEach (lanes : ℕ) (place : Place) (first : Message) (heights
 like_first : (m : Message) (heights : List ℕ) → get_or heights 0 0 ≡ height_in m → like m (get_or heights 0 0) ≡ m
 like_first m heights same = ap (like m) same ∙ like_itself m
 
-other_until : (lane : ℕ) (first : Message) (heights new : List ℕ) (other : ℕ) → other ≢ lane → get_or new other 0 ≡ get_or heights other 0 → until lane first heights other ≡ until (lane + 1) first new other
+other_until : (lane : ℕ) (first : Message) (heights new : List ℕ) (other : ℕ) → other ≢ lane → get_or new other 0 ≡ get_or heights other 0
+    → until lane first heights other ≡ until (lane + 1) first new other
 other_until lane first heights new other differ same = grind (arith, nat_tests, ap (λ (h : ℕ). like first h ∷ []) same)
 
 -- the next one
-next_until : (lane : ℕ) (first m : Message) (heights : List ℕ) (other : ℕ) → lane < length heights → AreAlike first m → one_more_of lane m (until lane first heights) other ≡ until (lane + 1) first (set heights lane (height_in m)) other
+next_until : (lane : ℕ) (first m : Message) (heights : List ℕ) (other : ℕ) → lane < length heights → AreAlike first m
+    → one_more_of lane m (until lane first heights) other ≡ until (lane + 1) first (set heights lane (height_in m)) other
 next_until lane first m heights other below alike =
     let new : List ℕ = set heights lane (height_in m) in
     elim (cases_eq other lane) [
       | inl same ↦ subst (λ (o : ℕ). one_more_of lane m (until lane first heights) o ≡ until (lane + 1) first new o) (sym same)
-          (more_here lane m (until lane first heights) ∙ ap (λ (x : Message). x ∷ []) (is_like first m alike ∙ ap (like first) (sym (get_or-set_same heights lane (height_in m) 0 below)))
+          (more_here lane m (until lane first heights)
+          ∙ ap (λ (x : Message). x ∷ []) (is_like first m alike ∙ ap (like first) (sym (get_or-set_same heights lane (height_in m) 0 below)))
           ∙ sym (until_before (lane + 1) first new lane (omega arith)))
-      | inr differ ↦ more_there lane m (until lane first heights) other differ ∙ other_until lane first heights new other differ (get_or-set_other heights lane other (height_in m) 0 differ)
+      | inr differ ↦ more_there lane m (until lane first heights) other differ
+          ∙ other_until lane first heights new other differ (get_or-set_other heights lane other (height_in m) 0 differ)
     ]
 
 -- none of them is Stop
-until_of_stream : (lane : ℕ) (first : Message) (heights : List ℕ) → IsOfStream first → ((other : ℕ) → get_or heights other 0 ≤ MAX_SIDE) → (other : ℕ) → AllByRecursion IsOfStream (until lane first heights other)
+until_of_stream : (lane : ℕ) (first : Message) (heights : List ℕ) → IsOfStream first → ((other : ℕ) → get_or heights other 0 ≤ MAX_SIDE) → (other : ℕ)
+    → AllByRecursion IsOfStream (until lane first heights other)
 until_of_stream lane first heights is within other = elim (cases_lt other lane) [
-  | inl before ↦ subst (AllByRecursion IsOfStream) (sym (until_before lane first heights other before)) (like_of_stream first (get_or heights other 0) is (within other), tt)
+  | inl before ↦ subst (AllByRecursion IsOfStream) (sym (until_before lane first heights other before))
+      (like_of_stream first (get_or heights other 0) is (within other), tt)
   | inr reached ↦ subst (AllByRecursion IsOfStream) (sym (until_from lane first heights other reached)) tt
 ]
 
 -- ---- what was taken so far
 
-set_within : (heights : List ℕ) (lane height other : ℕ) → ((l : ℕ) → get_or heights l 0 ≤ MAX_SIDE) → height ≤ MAX_SIDE → lane < length heights → get_or (set heights lane height) other 0 ≤ MAX_SIDE
+set_within : (heights : List ℕ) (lane height other : ℕ) → ((l : ℕ) → get_or heights l 0 ≤ MAX_SIDE) → height ≤ MAX_SIDE → lane < length heights
+    → get_or (set heights lane height) other 0 ≤ MAX_SIDE
 set_within heights lane height other within here below = elim (cases_eq other lane) [
-  | inl same ↦ let new : get_or (set heights lane height) other 0 ≡ height = ap (λ (o : ℕ). get_or (set heights lane height) o 0) same ∙ get_or-set_same heights lane height 0 below in omega (arith, new, here)
-  | inr differ ↦ let old : get_or (set heights lane height) other 0 ≡ get_or heights other 0 = get_or-set_other heights lane other height 0 differ in omega (arith, old, within other)
+  | inl same ↦ let new : get_or (set heights lane height) other 0 ≡ height = ap (λ (o : ℕ). get_or (set heights lane height) o 0) same
+      ∙ get_or-set_same heights lane height 0 below in omega (arith, new, here)
+  | inr differ ↦ let old : get_or (set heights lane height) other 0 ≡ get_or heights other 0 = get_or-set_other heights lane other height 0 differ in
+      omega (arith, old, within other)
 ]
 
-pub next_taken : (lanes lane height : ℕ) (place : Place) (first m : Message) (heights : List ℕ) (states_old states_new : List LaneState) (start old new : ℕ → List Message)
+pub next_taken : (lanes lane height : ℕ) (place : Place) (first m : Message) (heights : List ℕ) (states_old states_new : List LaneState)
+    (start old new : ℕ → List Message)
     → IsTakingEach lanes place first heights lane states_old start old → lane < lanes → lane < length heights → lanes ≤ length states_old → AreAlike first m
-    → IsOfStream m × HasGiven lane m states_old states_new old new → height ≡ height_in m → height ≤ MAX_SIDE
+    → IsOfStream m × LaneHasGiven lane m states_old states_new old new → height ≡ height_in m → height ≤ MAX_SIDE
     → IsTakingEach lanes place first (set heights lane height) (lane + 1) states_new start new
-next_taken lanes lane height place first m heights states_old states_new start old new taking below room enough alike from is_height within = record {
+next_taken lanes lane height place first m heights states_old states_new start old new taking below reserved enough alike from is_height within = record {
   parts = taken_same lanes states_new start new (one_more_of lane m (until lane first heights)) (until (lane + 1) first (set heights lane height))
-      (λ other b. next_until lane first m heights other room alike ∙ ap (λ (h : ℕ). until (lane + 1) first (set heights lane h) other) (sym is_height))
-      (taken_more lanes lane states_old states_new start old new (until lane first heights) m (omega arith) (taking.others lane (le_refl lane) below) (until_from lane first heights lane (le_refl lane)) (message_of_stream m from.0) taking.parts below from.1);
-  others = λ other reached b. ap (λ (s : List LaneState). state_at s other) from.1.states ∙ state_stays states_old lane other (ending_of m) (λ e. absurd (omega (arith, e))) ∙ taking.others other (omega arith) b;
+      (λ other b. next_until lane first m heights other reserved alike ∙ ap (λ (h : ℕ). until (lane + 1) first (set heights lane h) other) (sym is_height))
+      (taken_more lanes lane states_old states_new start old new (until lane first heights) m (omega arith) (taking.others lane (le_refl lane) below)
+      (until_from lane first heights lane (le_refl lane)) (message_of_stream m from.0) taking.parts below from.1);
+  others = λ other reached b. ap (λ (s : List LaneState). state_at s other) from.1.states
+      ∙ state_stays states_old lane other (ending_of m) (λ e. absurd (omega (arith, e))) ∙ taking.others other (omega arith) b;
   may = taking.may;
   is = taking.is;
   height = get_or-set_other heights lane 0 height 0 (λ e. absurd (omega (arith, e, taking.some))) ∙ taking.height;
-  within = λ other. set_within heights lane height other taking.within within room;
+  within = λ other. set_within heights lane height other taking.within within reserved;
   some = omega arith;
 }
 
 -- ---- there is no next message
 
-pub first_failed : (lanes : ℕ) (place : Place) (end : StageEnd) (states_old states_new : List LaneState) (old new : ℕ → List Message) → 1 ≤ lanes → lanes ≤ length states_old → AreOpen states_old
+pub first_failed : (lanes : ℕ) (place : Place) (end : StageEnd) (states_old states_new : List LaneState) (old new : ℕ → List Message) → 1 ≤ lanes
+    → lanes ≤ length states_old → AreOpen states_old
     → HasTakenFrom 0 (Err end) states_old states_new old new → HasTakenNone lanes place end states_new old new
 first_failed lanes place end states_old states_new old new some enough opens from =
-    taken_none lanes 0 place end states_old states_new old old new (λ lane. []) (omega arith) (opens 0 (omega arith)) refl (omega arith) (none_taken lanes states_old old enough opens) from
+    taken_none lanes 0 place end states_old states_new old old new (λ lane. []) (omega arith) (opens 0 (omega arith)) refl (omega arith)
+    (none_taken lanes states_old old enough opens) from
 
-pub first_refused : (lanes : ℕ) (place : Place) (first : Message) (states_old states_new : List LaneState) (old new : ℕ → List Message) → 1 ≤ lanes → lanes ≤ length states_old → AreOpen states_old → AwaitsNoRow place → ¬ Accepts place first
-    → IsOfStream first × HasGiven 0 first states_old states_new old new → HasTakenNone lanes place (Fault OutOfOrder) states_new old new
+pub first_refused : (lanes : ℕ) (place : Place) (first : Message) (states_old states_new : List LaneState) (old new : ℕ → List Message) → 1 ≤ lanes
+    → lanes ≤ length states_old → AreOpen states_old → AwaitsNoRow place → ¬ Accepts place first
+    → IsOfStream first × LaneHasGiven 0 first states_old states_new old new → HasTakenNone lanes place (Fault OutOfOrder) states_new old new
 first_refused lanes place first states_old states_new old new some enough opens none refused from =
     let taken : ℕ → List Message = one_more_of 0 first (λ lane. []) in
     record {
       taken = taken;
-      parts = taken_more lanes 0 states_old states_new old old new (λ lane. []) first (omega arith) (opens 0 (omega arith)) refl (message_of_stream first from.0) (none_taken lanes states_old old enough opens) (omega arith) from.1;
-      cause = (refl, λ lane below. one_of_stream 0 first (λ l. []) from.0 (λ l. tt) lane, first_out_of_place lanes place first taken (omega arith) none refused (more_here 0 first (λ lane. [])));
+      parts = taken_more lanes 0 states_old states_new old old new (λ lane. []) first (omega arith) (opens 0 (omega arith)) refl
+          (message_of_stream first from.0) (none_taken lanes states_old old enough opens) (omega arith) from.1;
+      cause = (
+        refl,
+        λ lane below. one_of_stream 0 first (λ l. []) from.0 (λ l. tt) lane,
+        first_out_of_place lanes place first taken (omega arith) none refused
+            (more_here 0 first (λ lane. [])),
+      );
     }
 
-pub each_failed : (lanes lane : ℕ) (place : Place) (first : Message) (heights : List ℕ) (end : StageEnd) (states_old states_new : List LaneState) (start old new : ℕ → List Message)
-    → IsTakingEach lanes place first heights lane states_old start old → lane < lanes → lanes ≤ length states_old → HasTakenFrom lane (Err end) states_old states_new old new → HasTakenNone lanes place end states_new start new
+pub each_failed : (lanes lane : ℕ) (place : Place) (first : Message) (heights : List ℕ) (end : StageEnd) (states_old states_new : List LaneState)
+    (start old new : ℕ → List Message)
+    → IsTakingEach lanes place first heights lane states_old start old → lane < lanes → lanes ≤ length states_old
+    → HasTakenFrom lane (Err end) states_old states_new old new → HasTakenNone lanes place end states_new start new
 each_failed lanes lane place first heights end states_old states_new start old new taking below enough from =
-    taken_none lanes lane place end states_old states_new start old new (until lane first heights) (omega arith) (taking.others lane (le_refl lane) below) (until_from lane first heights lane (le_refl lane)) below taking.parts from
+    taken_none lanes lane place end states_old states_new start old new (until lane first heights) (omega arith) (taking.others lane (le_refl lane) below)
+    (until_from lane first heights lane (le_refl lane)) below taking.parts from
 
-pub each_differs : (lanes lane : ℕ) (place : Place) (first m : Message) (heights : List ℕ) (states_old states_new : List LaneState) (start old new : ℕ → List Message)
+pub each_differs : (lanes lane : ℕ) (place : Place) (first m : Message) (heights : List ℕ) (states_old states_new : List LaneState)
+    (start old new : ℕ → List Message)
     → IsTakingEach lanes place first heights lane states_old start old → lane < lanes → lanes ≤ length states_old → AwaitsNoRow place → ¬ AreAlike first m
-    → IsOfStream m × HasGiven lane m states_old states_new old new → HasTakenNone lanes place (Fault OutOfOrder) states_new start new
+    → IsOfStream m × LaneHasGiven lane m states_old states_new old new → HasTakenNone lanes place (Fault OutOfOrder) states_new start new
 each_differs lanes lane place first m heights states_old states_new start old new taking below enough none differ from =
     let before : ℕ → List Message = until lane first heights in
     let taken : ℕ → List Message = one_more_of lane m before in
     let some = taking.some in
     let first_lane : taken 0 ≡ first ∷ [] =
-    more_there lane m before 0 (λ e. absurd (omega (arith, e, some))) ∙ until_before lane first heights 0 (omega arith) ∙ ap (λ (x : Message). x ∷ []) (like_first first heights taking.height) in
+    more_there lane m before 0 (λ e. absurd (omega (arith, e, some))) ∙ until_before lane first heights 0 (omega arith)
+    ∙ ap (λ (x : Message). x ∷ []) (like_first first heights taking.height) in
     record {
       taken = taken;
-      parts = taken_more lanes lane states_old states_new start old new before m (omega arith) (taking.others lane (le_refl lane) below) (until_from lane first heights lane (le_refl lane)) (message_of_stream m from.0) taking.parts below from.1;
-      cause = (refl, λ other b. one_of_stream lane m before from.0 (until_of_stream lane first heights taking.is taking.within) other, not_alike lanes lane place first m taken (omega arith) below none differ first_lane (more_here lane m before));
+      parts = taken_more lanes lane states_old states_new start old new before m (omega arith) (taking.others lane (le_refl lane) below)
+          (until_from lane first heights lane (le_refl lane)) (message_of_stream m from.0) taking.parts below from.1;
+      cause = (
+        refl,
+        λ other b. one_of_stream lane m before from.0 (until_of_stream lane first heights taking.is taking.within) other,
+        not_alike lanes lane place first m taken (omega arith) below none differ first_lane (more_here lane m before),
+      );
     }
 
 -- ---- all lanes have given one
@@ -275,84 +317,118 @@ accepts_begin (Inside s y) head other may = may
 accepts_begin After head other may = may
 
 -- the lanes' heads are those of a head
-heads_dealt : (lanes : ℕ) (head : HeadValue) (heights : List ℕ) (n : Message) → 0 < lanes → ((lane : ℕ) → lane < lanes → Begin (with_height head (get_or heights lane 0)) ≡ part_for lane lanes n) → IsOfStream n
+heads_dealt : (lanes : ℕ) (head : HeadValue) (heights : List ℕ) (n : Message) → 0 < lanes
+    → ((lane : ℕ) → lane < lanes → Begin (with_height head (get_or heights lane 0)) ≡ part_for lane lanes n) → IsOfStream n
     → (height : ℕ) × (height ≤ MAX_SIDE) × ((lane : ℕ) → lane < lanes → get_or heights lane 0 ≡ dealt_height lane lanes height)
-heads_dealt lanes head heights (Begin whole) some parts is =
-    (whole.shape.height, is.limits.height_high, λ lane below. ap (λ (h : HeadValue). h.shape.height) (same_begin (with_height head (get_or heights lane 0)) (dealt_head lane lanes whole) (parts lane below)))
+heads_dealt lanes head heights (Begin whole) some parts is = (
+  whole.shape.height,
+  is.limits.height_high,
+  λ lane below. ap (λ (h : HeadValue). h.shape.height)
+      (same_begin (with_height head (get_or heights lane 0)) (dealt_head lane lanes whole) (parts lane below)),
+)
 heads_dealt lanes head heights (Row row) some parts is = let first = parts 0 some in absurd cc
 heads_dealt lanes head heights ImageEnd some parts is = let first = parts 0 some in absurd cc
 heads_dealt lanes head heights StreamEnd some parts is = let first = parts 0 some in absurd cc
 heads_dealt lanes head heights Stop some parts is = absurd is
 
 -- of a list that is longer
-dealt_in_front : (lanes height : ℕ) (heights : List ℕ) → lanes ≤ length heights → ((lane : ℕ) → lane < lanes → get_or heights lane 0 ≡ dealt_height lane lanes height) → AreDealtHeights (take lanes heights) height
-dealt_in_front lanes height heights room dealt =
-    let count : length (take lanes heights) ≡ lanes = length-take-le lanes heights room in
-    subst (λ (n : ℕ). (lane : ℕ) → lane < n → get_or (take lanes heights) lane 0 ≡ dealt_height lane n height) (sym count) (λ lane below. get_or-take lanes heights lane 0 below ∙ dealt lane below)
+dealt_in_prefix : (lanes height : ℕ) (heights : List ℕ) → lanes ≤ length heights
+    → ((lane : ℕ) → lane < lanes → get_or heights lane 0 ≡ dealt_height lane lanes height) → AreDealtHeights (take lanes heights) height
+dealt_in_prefix lanes height heights reserved dealt =
+    let count : length (take lanes heights) ≡ lanes = length-take-le lanes heights reserved in
+    subst (λ (n : ℕ). (lane : ℕ) → lane < n → get_or (take lanes heights) lane 0 ≡ dealt_height lane n height) (sym count)
+    (λ lane below. get_or-take lanes heights lane 0 below ∙ dealt lane below)
 
-dealt_of_front : (lanes height : ℕ) (heights : List ℕ) → lanes ≤ length heights → AreDealtHeights (take lanes heights) height → (lane : ℕ) → lane < lanes → get_or heights lane 0 ≡ dealt_height lane lanes height
-dealt_of_front lanes height heights room dealt lane below =
-    let count : length (take lanes heights) ≡ lanes = length-take-le lanes heights room in
+dealt_of_prefix : (lanes height : ℕ) (heights : List ℕ) → lanes ≤ length heights → AreDealtHeights (take lanes heights) height → (lane : ℕ) → lane < lanes
+    → get_or heights lane 0 ≡ dealt_height lane lanes height
+dealt_of_prefix lanes height heights reserved dealt lane below =
+    let count : length (take lanes heights) ≡ lanes = length-take-le lanes heights reserved in
     let all = subst (λ (n : ℕ). (l : ℕ) → l < n → get_or (take lanes heights) l 0 ≡ dealt_height l n height) count dealt in
     sym (get_or-take lanes heights lane 0 below) ∙ all lane below
 
-none_together : (lanes : ℕ) (place : Place) (first : Message) (heights : List ℕ) → 0 < lanes → lanes ≤ length heights → AwaitsNoRow place → AreNotTogether first (take lanes heights) → BeginsNone lanes place (until lanes first heights)
-none_together lanes place (Begin head) heights some room none not rest lawful are fronts =
-    let front_of : (lane : ℕ) → lane < lanes → IsFrontOf (Begin (with_height head (get_or heights lane 0)) ∷ []) (dealt_from lane lanes place rest) = λ lane below.
-    subst (λ (l : List Message). IsFrontOf l (dealt_from lane lanes place rest)) (until_before lanes (Begin head) heights lane below) (fronts lane below) in
-    let next = next_part lanes place rest 0 (Begin (with_height head (get_or heights 0 0))) none lawful are (front_of 0 some) in
-    let dealt = heads_dealt lanes head heights next.next some (λ lane below. next.parts lane (Begin (with_height head (get_or heights lane 0))) (front_of lane below)) next.is in
-    not dealt.0 dealt.1 (dealt_in_front lanes dealt.0 heights room dealt.2)
-none_together lanes place (Row row) heights some room none not rest lawful are fronts = absurd not
-none_together lanes place ImageEnd heights some room none not rest lawful are fronts = absurd not
-none_together lanes place StreamEnd heights some room none not rest lawful are fronts = absurd not
-none_together lanes place Stop heights some room none not rest lawful are fronts = absurd not
+none_together : (lanes : ℕ) (place : Place) (first : Message) (heights : List ℕ) → 0 < lanes → lanes ≤ length heights → AwaitsNoRow place
+    → AreNotTogether first (take lanes heights) → BeginsNone lanes place (until lanes first heights)
+none_together lanes place (Begin head) heights some reserved none not rest lawful are prefixes =
+    let prefix_of : (lane : ℕ) → lane < lanes → IsPrefixOf (Begin (with_height head (get_or heights lane 0)) ∷ []) (dealt_from lane lanes place rest) =
+    λ lane below.
+    subst (λ (l : List Message). IsPrefixOf l (dealt_from lane lanes place rest)) (until_before lanes (Begin head) heights lane below) (prefixes lane below) in
+    let next = next_part lanes place rest 0 (Begin (with_height head (get_or heights 0 0))) none lawful are (prefix_of 0 some) in
+    let dealt =
+    heads_dealt lanes head heights next.next some (λ lane below. next.parts lane (Begin (with_height head (get_or heights lane 0))) (prefix_of lane below))
+    next.is in
+    not dealt.0 dealt.1 (dealt_in_prefix lanes dealt.0 heights reserved dealt.2)
+none_together lanes place (Row row) heights some reserved none not rest lawful are prefixes = absurd not
+none_together lanes place ImageEnd heights some reserved none not rest lawful are prefixes = absurd not
+none_together lanes place StreamEnd heights some reserved none not rest lawful are prefixes = absurd not
+none_together lanes place Stop heights some reserved none not rest lawful are prefixes = absurd not
 
 pub each_not_together : (lanes : ℕ) (place : Place) (first : Message) (heights : List ℕ) (states : List LaneState) (start now : ℕ → List Message)
-    → IsTakingEach lanes place first heights lanes states start now → lanes ≤ length heights → AwaitsNoRow place → AreNotTogether first (take lanes heights) → HasTakenNone lanes place (Fault OutOfOrder) states start now
-each_not_together lanes place first heights states start now taking room none not =
+    → IsTakingEach lanes place first heights lanes states start now → lanes ≤ length heights → AwaitsNoRow place → AreNotTogether first (take lanes heights)
+    → HasTakenNone lanes place (Fault OutOfOrder) states start now
+each_not_together lanes place first heights states start now taking reserved none not =
     let some = taking.some in
     record {
       taken = until lanes first heights;
       parts = taking.parts;
-      cause = (refl, λ lane below. until_of_stream lanes first heights taking.is taking.within lane, none_together lanes place first heights (omega arith) room none not);
+      cause = (
+        refl,
+        λ lane below. until_of_stream lanes first heights taking.is taking.within lane,
+        none_together lanes place first heights (omega arith) reserved none not,
+      );
     }
 
 -- the message of the whole stream
-is_together : (lanes : ℕ) (place : Place) (first m : Message) (heights : List ℕ) → lanes ≤ length heights → Accepts place first → IsOfStream first → IsTogether first (take lanes heights) m
+is_together : (lanes : ℕ) (place : Place) (first m : Message) (heights : List ℕ) → lanes ≤ length heights → Accepts place first → IsOfStream first
+    → IsTogether first (take lanes heights) m
     → Accepts place m × IsOfStream m × ((lane : ℕ) → lane < lanes → like first (get_or heights lane 0) ≡ part_for lane lanes m)
-is_together lanes place (Begin head) m heights room may is together =
+is_together lanes place (Begin head) m heights reserved may is together =
     let whole : HeadValue = with_height head together.0 in
-    subst (λ (x : Message). Accepts place x × IsOfStream x × ((lane : ℕ) → lane < lanes → Begin (with_height head (get_or heights lane 0)) ≡ part_for lane lanes x)) (sym together.3) (
+    subst (λ (x : Message). Accepts place x × IsOfStream x
+    × ((lane : ℕ) → lane < lanes → Begin (with_height head (get_or heights lane 0)) ≡ part_for lane lanes x)) (sym together.3) (
       accepts_begin place head whole may,
       head_of_height head together.0 is together.1,
-      λ lane below. ap (λ (h : ℕ). Begin (with_height head h)) (dealt_of_front lanes together.0 heights room together.2 lane below),
+      λ lane below. ap (λ (h : ℕ). Begin (with_height head h)) (dealt_of_prefix lanes together.0 heights reserved together.2 lane below),
     )
-is_together lanes place (Row row) m heights room may is together = subst (λ (x : Message). Accepts place x × IsOfStream x × ((lane : ℕ) → lane < lanes → Row row ≡ part_for lane lanes x)) (sym together) (may, tt, λ lane below. refl)
-is_together lanes place ImageEnd m heights room may is together = subst (λ (x : Message). Accepts place x × IsOfStream x × ((lane : ℕ) → lane < lanes → ImageEnd ≡ part_for lane lanes x)) (sym together) (may, tt, λ lane below. refl)
-is_together lanes place StreamEnd m heights room may is together = subst (λ (x : Message). Accepts place x × IsOfStream x × ((lane : ℕ) → lane < lanes → StreamEnd ≡ part_for lane lanes x)) (sym together) (may, tt, λ lane below. refl)
-is_together lanes place Stop m heights room may is together = absurd is
+is_together lanes place (Row row) m heights reserved may is together =
+    subst (λ (x : Message). Accepts place x × IsOfStream x × ((lane : ℕ) → lane < lanes → Row row ≡ part_for lane lanes x)) (sym together)
+    (may, tt, λ lane below. refl)
+is_together lanes place ImageEnd m heights reserved may is together =
+    subst (λ (x : Message). Accepts place x × IsOfStream x × ((lane : ℕ) → lane < lanes → ImageEnd ≡ part_for lane lanes x)) (sym together)
+    (may, tt, λ lane below. refl)
+is_together lanes place StreamEnd m heights reserved may is together =
+    subst (λ (x : Message). Accepts place x × IsOfStream x × ((lane : ℕ) → lane < lanes → StreamEnd ≡ part_for lane lanes x)) (sym together)
+    (may, tt, λ lane below. refl)
+is_together lanes place Stop m heights reserved may is together = absurd is
 
 pub each_together : (lanes : ℕ) (place : Place) (first m : Message) (heights : List ℕ) (states : List LaneState) (start now : ℕ → List Message)
-    → IsTakingEach lanes place first heights lanes states start now → lanes ≤ length heights → AwaitsNoRow place → IsTogether first (take lanes heights) m → HasTakenWhole lanes place m states start now
-each_together lanes place first m heights states start now taking room none together =
-    let all = is_together lanes place first m heights room taking.may taking.is together in
+    → IsTakingEach lanes place first heights lanes states start now → lanes ≤ length heights → AwaitsNoRow place → IsTogether first (take lanes heights) m
+    → HasTakenWhole lanes place m states start now
+each_together lanes place first m heights states start now taking reserved none together =
+    let all = is_together lanes place first m heights reserved taking.may taking.is together in
     record {
       may = all.0;
       is = all.1;
       parts = taken_same lanes states start now (until lanes first heights) (λ lane. dealt_message lane lanes place m)
-          (λ lane below. until_before lanes first heights lane below ∙ ap (λ (x : Message). x ∷ []) (all.2 lane below) ∙ sym (dealt_is_part lane lanes place m none all.0)) taking.parts;
+          (λ lane below. until_before lanes first heights lane below ∙ ap (λ (x : Message). x ∷ []) (all.2 lane below)
+          ∙ sym (dealt_is_part lane lanes place m none all.0)) taking.parts;
     }
 
 ends_so : (lanes : ℕ) (place : Place) (first : Message) (heights : List ℕ) (states : List LaneState) (start now : ℕ → List Message) (found : Option Message)
-    → IsTakingEach lanes place first heights lanes states start now → lanes ≤ length heights → AwaitsNoRow place → IfSome found (λ m. IsTogether first (take lanes heights) m) → IfNone found (AreNotTogether first (take lanes heights))
+    → IsTakingEach lanes place first heights lanes states start now → lanes ≤ length heights → AwaitsNoRow place
+    → IfSome found (λ m. IsTogether first (take lanes heights) m) → IfNone found (AreNotTogether first (take lanes heights))
     → HasTakenNext lanes place (ok_or found (Fault OutOfOrder)) states start now
-ends_so lanes place first heights states start now (Some m) taking room none there missing = each_together lanes place first m heights states start now taking room none there
-ends_so lanes place first heights states start now None taking room none there missing = each_not_together lanes place first heights states start now taking room none missing
+ends_so lanes place first heights states start now (Some m) taking reserved none there missing =
+    each_together lanes place first m heights states start now taking reserved none there
+ends_so lanes place first heights states start now None taking reserved none there missing =
+    each_not_together lanes place first heights states start now taking reserved none missing
 
-pub each_ends : (lanes lane count : ℕ) (place : Place) (first : Message) (heights : List ℕ) (states : List LaneState) (start now : ℕ → List Message) (found : Option Message)
+pub each_ends : (lanes lane count : ℕ) (place : Place) (first : Message) (heights : List ℕ) (states : List LaneState) (start now : ℕ → List Message)
+    (found : Option Message)
     → IsTakingEach lanes place first heights lane states start now → lane ≡ lanes → count ≡ lanes → lanes ≤ length heights → AwaitsNoRow place
-    → IfSome found (λ m. IsTogether first (take count heights) m) → IfNone found (AreNotTogether first (take count heights)) → HasTakenNext lanes place (ok_or found (Fault OutOfOrder)) states start now
-each_ends lanes lane count place first heights states start now found taking at_end all room none there missing =
-    ends_so lanes place first heights states start now found (subst (λ (l : ℕ). IsTakingEach lanes place first heights l states start now) at_end taking) room none
-    (subst (λ (n : ℕ). IfSome found (λ m. IsTogether first (take n heights) m)) all there) (subst (λ (n : ℕ). IfNone found (AreNotTogether first (take n heights))) all missing)
+    → IfSome found (λ m. IsTogether first (take count heights) m) → IfNone found (AreNotTogether first (take count heights))
+    → HasTakenNext lanes place (ok_or found (Fault OutOfOrder)) states start now
+each_ends lanes lane count place first heights states start now found taking at_end all reserved none there missing =
+    ends_so lanes place first heights states start now found (subst (λ (l : ℕ). IsTakingEach lanes place first heights l states start now) at_end taking)
+    reserved none
+    (subst (λ (n : ℕ). IfSome found (λ m. IsTogether first (take n heights) m)) all there)
+    (subst (λ (n : ℕ). IfNone found (AreNotTogether first (take n heights))) all missing)

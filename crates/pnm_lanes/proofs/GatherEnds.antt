@@ -1,5 +1,6 @@
 -- How a gatherer ends.
-use Rattle.std.proofs.Common.{◌≡◌, ◌⊎◌, inl, inr, ℕ, ◌<◌, Bool, true, false, List, [], ◌∷◌, ◌++◌, length, drop, refl, sym, ap, subst, ◌∙◌, append_assoc, append-nil}
+use Rattle.std.proofs.Common.{◌≡◌, ◌⊎◌, inl, inr, ℕ, ◌<◌, Bool, true, false, List, [], ◌∷◌, ◌++◌, length, drop, refl, sym, ap, subst, ◌∙◌, append_assoc}
+use Rattle.std.proofs.Common.{append-nil}
 use Rattle.std.specs.List.{AllByRecursion}
 use Rattle.std.proofs.lemmas.Bool.{false≢true}
 use Rattle.std.proofs.lemmas.List.{drop_at}
@@ -7,7 +8,7 @@ use Rattle.pnm_image.specs.declared.message.Message.{Message}
 use Rattle.pnm_image.specs.declared.message.Message.TheVariants.{Stop}
 use Rattle.pnm_image.specs.declared.place.Place.{Place}
 use Rattle.pnm_image.specs.declared.place.Place.TheVariants.{Between}
-use Rattle.pnm_image.specs.Completion.{IsFrontOf}
+use Rattle.pnm_image.specs.Completion.{IsPrefixOf}
 use Rattle.pnm_image.specs.Images.{Image, messages_of_stream}
 use Rattle.pnm_image.specs.Messages.{IsMessage, without_stop}
 use Rattle.pnm_image.specs.Places.{IsLawful, IsLawfulFrom, place_of}
@@ -15,19 +16,21 @@ use Rattle.pnm_image.proofs.Lists.{each-push}
 use Rattle.pnm_image.proofs.Streams.{stream_is_lawful}
 use Rattle.pnm_tools.specs.Answers.{More, Whole, BrokenOff, ending_of, EndsBy}
 use Rattle.pnm_tools.specs.Dealing.{dealt, dealt_message, dealt_from}
-use Rattle.pnm_tools.proofs.FullLaws.{front_of_front}
+use Rattle.pnm_tools.proofs.FullLaws.{prefix_of_prefix}
 use Rattle.pnm_stages.specs.declared.stage.StageEnd.{StageEnd}
 use Rattle.pnm_stages.specs.declared.stage.StageEnd.TheVariants.{Well, Broken, Fault, PeerGone}
 use Rattle.pnm_stages.specs.Rings.{Extends, IsEnded, EndsAtMostOnce}
 use Rattle.pnm_stages.proofs.EndingLaws.{one_ending, nothing_follows, stream_ends_whole}
-use Rattle.pnm_stages.proofs.FrontLaws.{stop_is_cut, front_without_stop}
+use Rattle.pnm_stages.proofs.PrefixLaws.{stop_is_cut, prefix_without_stop}
 use Rattle.pnm_stages.proofs.RingSteps.{ends_as}
 use Rattle.pnm_lanes.specs.declared.lane.LaneState.{LaneState}
 use Rattle.pnm_lanes.specs.declared.lane.LaneState.TheVariants.{Open, Ended, Gone}
 use Rattle.pnm_lanes.specs.Gathers.{AreDealt, BeginsOrEnds, HasSentAll, HasPassedSo, HasGatheredSo, HasGathered}
-use Rattle.pnm_lanes.specs.GatherParts.{IsOfStream, state_at, HasTakenWhole, HasTakenNone, BeginsNone, IsCause, IsLane, AreLanes, CarriesOn, IsDone, HasStopped, HasBrokenOffAll, HasDrainedAll}
-use Rattle.pnm_lanes.proofs.PartLaws.{dealt_from-append, front_cancel, parts_tell_the_whole}
-use Rattle.pnm_lanes.proofs.DealtParts.{all_of_both, all_of_rest, all_messages, stream_keeps_all, lawful_rest, dealt_of_stream, dealt_goes_on, dealt_end, images_of_stream, gets_part, fronts_in_order, last_stays, not_before_stop}
+use Rattle.pnm_lanes.specs.GatherParts.{IsOfStream, state_at, HasTakenWhole, HasTakenNone, BeginsNone, IsCause, IsLane, AreLanes, CarriesOn, IsDone, HasStopped}
+use Rattle.pnm_lanes.specs.GatherParts.{HasBrokenOffAll, HasDrainedAll}
+use Rattle.pnm_lanes.proofs.PartLaws.{dealt_from-append, prefix_cancel, parts_tell_the_whole}
+use Rattle.pnm_lanes.proofs.DealtParts.{all_of_both, all_of_rest, all_messages, stream_keeps_all, lawful_rest, dealt_of_stream, dealt_goes_on, dealt_end}
+use Rattle.pnm_lanes.proofs.DealtParts.{images_of_stream, gets_part, prefixes_in_order, last_stays, not_before_stop}
 use Rattle.pnm_lanes.proofs.GatherSteps.{IsGoing, with_one_more, lanes_with_one, lawful_with_one, sent_with_one, lanes_after}
 
 -- ---- what was received of a lane in all
@@ -69,50 +72,61 @@ pub record HasLeft (lanes : ℕ) (gave : List Message) (taken took : ℕ → Lis
   pub drained : ℕ → List Message
   pub parts : (lane : ℕ) → lane < lanes → took lane ≡ (dealt lane lanes gave ++ taken lane) ++ drained lane
 
-has_left : (lanes : ℕ) (place : Place) (start now new final taken : ℕ → List Message) (sent_start sent_now : List Message) → (going : IsGoing lanes place start now sent_start sent_now)
-    → ((lane : ℕ) → lane < lanes → new lane ≡ now lane ++ taken lane) → ((lane : ℕ) → IsFrontOf (new lane) (final lane)) → HasLeft lanes going.gave taken (took_of start final)
-has_left lanes place start now new final taken sent_start sent_now going added fronts = record {
-  drained = λ lane. (fronts lane).0;
+has_left : (lanes : ℕ) (place : Place) (start now new final taken : ℕ → List Message) (sent_start sent_now : List Message)
+    → (going : IsGoing lanes place start now sent_start sent_now)
+    → ((lane : ℕ) → lane < lanes → new lane ≡ now lane ++ taken lane) → ((lane : ℕ) → IsPrefixOf (new lane) (final lane))
+    → HasLeft lanes going.gave taken (took_of start final)
+has_left lanes place start now new final taken sent_start sent_now going added prefixes = record {
+  drained = λ lane. (prefixes lane).0;
   parts = λ lane below.
       let here : List Message = dealt lane lanes going.gave in
-      let rest : List Message = (fronts lane).0 in
+      let rest : List Message = (prefixes lane).0 in
       let all : final lane ≡ start lane ++ ((here ++ taken lane) ++ rest) =
-      (fronts lane).1 ∙ ap (λ (l : List Message). l ++ rest) (added lane below ∙ ap (λ (l : List Message). l ++ taken lane) (going.lanes_are lane below) ∙ append_assoc (start lane) here (taken lane)) ∙ append_assoc (start lane) (here ++ taken lane) rest in
+      (prefixes lane).1 ∙ ap (λ (l : List Message). l ++ rest) (added lane below ∙ ap (λ (l : List Message). l ++ taken lane) (going.lanes_are lane below)
+      ∙ append_assoc (start lane) here (taken lane)) ∙ append_assoc (start lane) (here ++ taken lane) rest in
       ap (drop (length (start lane))) all ∙ drop_at (start lane) ((here ++ taken lane) ++ rest) (length (start lane)) refl;
 }
 
-kept_front : (a b took : List Message) → AllByRecursion IsOfStream a → took ≡ a ++ b → IsFrontOf a (without_stop took)
-kept_front a b took are same =
-    subst (λ (l : List Message). IsFrontOf a (without_stop l)) (sym same) (subst (λ (l : List Message). IsFrontOf l (without_stop (a ++ b))) (stream_keeps_all a are) (front_without_stop a b))
+kept_prefix : (a b took : List Message) → AllByRecursion IsOfStream a → took ≡ a ++ b → IsPrefixOf a (without_stop took)
+kept_prefix a b took are same =
+    subst (λ (l : List Message). IsPrefixOf a (without_stop l)) (sym same)
+    (subst (λ (l : List Message). IsPrefixOf l (without_stop (a ++ b))) (stream_keeps_all a are) (prefix_without_stop a b))
 
--- what was sent is a front of the stream of the images that were dealt
-pub front_of_images : (lanes : ℕ) (gave : List Message) (taken took : ℕ → List Message) (is : List Image) → 0 < lanes → IsLawful gave → AllByRecursion IsOfStream gave → HasLeft lanes gave taken took → AreDealt is lanes took → IsFrontOf gave (messages_of_stream is)
-front_of_images lanes gave taken took is some lawful stream left are =
+-- what was sent is a prefix of the stream of the images that were dealt
+pub prefix_of_images : (lanes : ℕ) (gave : List Message) (taken took : ℕ → List Message) (is : List Image) → 0 < lanes → IsLawful gave
+    → AllByRecursion IsOfStream gave → HasLeft lanes gave taken took → AreDealt is lanes took → IsPrefixOf gave (messages_of_stream is)
+prefix_of_images lanes gave taken took is some lawful stream left are =
     parts_tell_the_whole lanes Between gave (messages_of_stream is) some lawful (stream_is_lawful is are.images) stream (images_of_stream is are.images)
-    (λ lane below. front_of_front (dealt lane lanes gave) (without_stop (took lane)) (dealt lane lanes (messages_of_stream is))
-    (kept_front (dealt lane lanes gave) (taken lane ++ left.drained lane) (took lane) (dealt_of_stream lane lanes Between gave stream) (left.parts lane below ∙ append_assoc (dealt lane lanes gave) (taken lane) (left.drained lane)))
-    (are.fronts lane below))
+    (λ lane below. prefix_of_prefix (dealt lane lanes gave) (without_stop (took lane)) (dealt lane lanes (messages_of_stream is))
+    (kept_prefix (dealt lane lanes gave) (taken lane ++ left.drained lane) (took lane) (dealt_of_stream lane lanes Between gave stream)
+    (left.parts lane below ∙ append_assoc (dealt lane lanes gave) (taken lane) (left.drained lane)))
+    (are.prefixes lane below))
 
 -- no images were dealt to lanes that don't agree
-pub no_images : (lanes : ℕ) (place : Place) (gave : List Message) (taken took : ℕ → List Message) (is : List Image) → 0 < lanes → IsLawful gave → AllByRecursion IsOfStream gave → place ≡ place_of Between gave
-    → HasLeft lanes gave taken took → ((lane : ℕ) → lane < lanes → AllByRecursion IsOfStream (taken lane)) → BeginsNone lanes place taken → AreDealt is lanes took → ⊥
+pub no_images : (lanes : ℕ) (place : Place) (gave : List Message) (taken took : ℕ → List Message) (is : List Image) → 0 < lanes → IsLawful gave
+    → AllByRecursion IsOfStream gave → place ≡ place_of Between gave
+    → HasLeft lanes gave taken took → ((lane : ℕ) → lane < lanes → AllByRecursion IsOfStream (taken lane)) → BeginsNone lanes place taken
+    → AreDealt is lanes took → ⊥
 no_images lanes place gave taken took is some lawful stream at_place left are_stream none are =
-    let front = front_of_images lanes gave taken took is some lawful stream left are in
+    let prefix = prefix_of_images lanes gave taken took is some lawful stream left are in
     let whole : List Message = messages_of_stream is in
-    let rest : List Message = front.0 in
-    let lawful_all : IsLawful (gave ++ rest) = subst IsLawful front.1 (stream_is_lawful is are.images) in
-    let stream_all : AllByRecursion IsOfStream (gave ++ rest) = subst (AllByRecursion IsOfStream) front.1 (images_of_stream is are.images) in
-    none rest (subst (λ (p : Place). IsLawfulFrom p rest) (sym at_place) (lawful_rest Between gave rest lawful_all)) (all_of_rest IsOfStream gave rest stream_all)
-    (λ lane below. subst (λ (p : Place). IsFrontOf (taken lane) (dealt_from lane lanes p rest)) (sym at_place)
-    (front_cancel (dealt lane lanes gave) (taken lane) (dealt_from lane lanes (place_of Between gave) rest)
-    (subst (IsFrontOf (dealt lane lanes gave ++ taken lane)) (ap (dealt lane lanes) front.1 ∙ dealt_from-append lane lanes Between gave rest)
-    (front_of_front (dealt lane lanes gave ++ taken lane) (without_stop (took lane)) (dealt lane lanes whole)
-    (kept_front (dealt lane lanes gave ++ taken lane) (left.drained lane) (took lane)
-    (all_of_both IsOfStream (dealt lane lanes gave) (taken lane) (dealt_of_stream lane lanes Between gave stream) (are_stream lane below)) (left.parts lane below))
-    (are.fronts lane below)))))
+    let rest : List Message = prefix.0 in
+    let lawful_all : IsLawful (gave ++ rest) = subst IsLawful prefix.1 (stream_is_lawful is are.images) in
+    let stream_all : AllByRecursion IsOfStream (gave ++ rest) = subst (AllByRecursion IsOfStream) prefix.1 (images_of_stream is are.images) in
+    none rest (subst (λ (p : Place). IsLawfulFrom p rest) (sym at_place) (lawful_rest Between gave rest lawful_all))
+    (all_of_rest IsOfStream gave rest stream_all)
+    (λ lane below. subst (λ (p : Place). IsPrefixOf (taken lane) (dealt_from lane lanes p rest)) (sym at_place)
+    (prefix_cancel (dealt lane lanes gave) (taken lane) (dealt_from lane lanes (place_of Between gave) rest)
+    (subst (IsPrefixOf (dealt lane lanes gave ++ taken lane)) (ap (dealt lane lanes) prefix.1 ∙ dealt_from-append lane lanes Between gave rest)
+    (prefix_of_prefix (dealt lane lanes gave ++ taken lane) (without_stop (took lane)) (dealt lane lanes whole)
+    (kept_prefix (dealt lane lanes gave ++ taken lane) (left.drained lane) (took lane)
+    (all_of_both IsOfStream (dealt lane lanes gave) (taken lane) (dealt_of_stream lane lanes Between gave stream) (are_stream lane below))
+    (left.parts lane below))
+    (are.prefixes lane below)))))
 
 -- a lane that gave Stop has given nothing else
-pub stopped_lane : (lanes lane : ℕ) (gave : List Message) (taken took : ℕ → List Message) → lane < lanes → EndsBy More gave → HasLeft lanes gave taken took → taken lane ≡ Stop ∷ [] → IsEnded (took lane)
+pub stopped_lane : (lanes lane : ℕ) (gave : List Message) (taken took : ℕ → List Message) → lane < lanes → EndsBy More gave → HasLeft lanes gave taken took
+    → taken lane ≡ Stop ∷ [] → IsEnded (took lane)
     → took lane ≡ dealt lane lanes gave ++ Stop ∷ []
 stopped_lane lanes lane gave taken took below more left stop ended =
     let here : List Message = dealt lane lanes gave in
@@ -123,26 +137,32 @@ stopped_lane lanes lane gave taken took below more left stop ended =
     all ∙ ap (λ (l : List Message). (here ++ Stop ∷ []) ++ l) none ∙ append-nil (here ++ Stop ∷ [])
 
 -- what begins or ends an image goes no further than what was sent, where a lane gave nothing more
-sent_before : (lanes lane : ℕ) (gave front : List Message) (m : Message) (took : ℕ → List Message) → BeginsOrEnds m → took lane ≡ dealt lane lanes gave ++ Stop ∷ [] → IsFrontOf (dealt lane lanes (front ++ m ∷ [])) (took lane)
-    → IsFrontOf (front ++ m ∷ []) gave ⊎ ((x : Message) × (xs : List Message) × (front ++ m ∷ [] ≡ gave ++ x ∷ xs)) → IsFrontOf (front ++ m ∷ []) gave
-sent_before lanes lane gave front m took is given fronts (inl before) = before
-sent_before lanes lane gave front m took is given fronts (inr more) =
+sent_before : (lanes lane : ℕ) (gave prefix : List Message) (m : Message) (took : ℕ → List Message) → BeginsOrEnds m
+    → took lane ≡ dealt lane lanes gave ++ Stop ∷ [] → IsPrefixOf (dealt lane lanes (prefix ++ m ∷ [])) (took lane)
+    → IsPrefixOf (prefix ++ m ∷ []) gave ⊎ ((x : Message) × (xs : List Message) × (prefix ++ m ∷ [] ≡ gave ++ x ∷ xs)) → IsPrefixOf (prefix ++ m ∷ []) gave
+sent_before lanes lane gave prefix m took is given prefixes (inl before) = before
+sent_before lanes lane gave prefix m took is given prefixes (inr more) =
     let here : List Message = dealt lane lanes gave in
     let place : Place = place_of Between gave in
-    let last = last_stays gave m more.0 more.1 front more.2 in
+    let last = last_stays gave m more.0 more.1 prefix more.2 in
     let part = gets_part lane lanes (place_of place last.0) m is in
-    let dealt_last : dealt lane lanes (front ++ m ∷ []) ≡ here ++ (dealt_from lane lanes place last.0 ++ part.part ∷ []) =
+    let dealt_last : dealt lane lanes (prefix ++ m ∷ []) ≡ here ++ (dealt_from lane lanes place last.0 ++ part.part ∷ []) =
     ap (dealt lane lanes) (more.2 ∙ ap (λ (l : List Message). gave ++ l) last.1) ∙ dealt_from-append lane lanes Between gave (last.0 ++ m ∷ [])
-    ∙ ap (λ (l : List Message). here ++ l) (dealt_from-append lane lanes place last.0 (m ∷ []) ∙ ap (λ (l : List Message). dealt_from lane lanes place last.0 ++ l) (append-nil (dealt_message lane lanes (place_of place last.0) m) ∙ part.gets)) in
-    let both = subst (λ (l : List Message). IsFrontOf l (here ++ Stop ∷ [])) dealt_last (subst (IsFrontOf (dealt lane lanes (front ++ m ∷ []))) given fronts) in
-    absurd (not_before_stop (dealt_from lane lanes place last.0) part.part part.is_part (front_cancel here (dealt_from lane lanes place last.0 ++ part.part ∷ []) (Stop ∷ []) both))
+    ∙ ap (λ (l : List Message). here ++ l) (dealt_from-append lane lanes place last.0 (m ∷ [])
+    ∙ ap (λ (l : List Message). dealt_from lane lanes place last.0 ++ l) (append-nil (dealt_message lane lanes (place_of place last.0) m) ∙ part.gets)) in
+    let both = subst (λ (l : List Message). IsPrefixOf l (here ++ Stop ∷ [])) dealt_last
+    (subst (IsPrefixOf (dealt lane lanes (prefix ++ m ∷ []))) given prefixes) in
+    absurd (not_before_stop (dealt_from lane lanes place last.0) part.part part.is_part
+    (prefix_cancel here (dealt_from lane lanes place last.0 ++ part.part ∷ []) (Stop ∷ []) both))
 
-pub has_sent_all : (lanes lane : ℕ) (gave : List Message) (taken took : ℕ → List Message) (is : List Image) → 0 < lanes → lane < lanes → IsLawful gave → AllByRecursion IsOfStream gave → HasLeft lanes gave taken took → AreDealt is lanes took
+pub has_sent_all : (lanes lane : ℕ) (gave : List Message) (taken took : ℕ → List Message) (is : List Image) → 0 < lanes → lane < lanes → IsLawful gave
+    → AllByRecursion IsOfStream gave → HasLeft lanes gave taken took → AreDealt is lanes took
     → took lane ≡ dealt lane lanes gave ++ Stop ∷ [] → HasSentAll is lanes took (gave ++ Stop ∷ [])
-has_sent_all lanes lane gave taken took is some below lawful stream left are given front m begins whole fronts =
-    let sent = front_of_images lanes gave taken took is some lawful stream left are in
-    let order = fronts_in_order gave sent.0 (front ++ m ∷ []) whole.0 (sym sent.1 ∙ whole.1) in
-    front_of_front (front ++ m ∷ []) gave (gave ++ Stop ∷ []) (sent_before lanes lane gave front m took begins given (fronts lane below) order) (Stop ∷ [], refl)
+has_sent_all lanes lane gave taken took is some below lawful stream left are given prefix m begins whole prefixes =
+    let sent = prefix_of_images lanes gave taken took is some lawful stream left are in
+    let order = prefixes_in_order gave sent.0 (prefix ++ m ∷ []) whole.0 (sym sent.1 ∙ whole.1) in
+    prefix_of_prefix (prefix ++ m ∷ []) gave (gave ++ Stop ∷ []) (sent_before lanes lane gave prefix m took begins given (prefixes lane below) order)
+    (Stop ∷ [], refl)
 
 -- ---- what was sent in the end: Stop after it, or nothing more
 
@@ -151,14 +171,16 @@ record IsLastSent (gave sent : List Message) : Type 0 where
   pub lawful : IsLawful sent
   pub not_whole : EndsBy Whole sent → ⊥
 
-with_stop : (lanes : ℕ) (place : Place) (start now : ℕ → List Message) (sent_start sent_now : List Message) → (going : IsGoing lanes place start now sent_start sent_now) → IsLastSent going.gave (going.gave ++ Stop ∷ [])
+with_stop : (lanes : ℕ) (place : Place) (start now : ℕ → List Message) (sent_start sent_now : List Message)
+    → (going : IsGoing lanes place start now sent_start sent_now) → IsLastSent going.gave (going.gave ++ Stop ∷ [])
 with_stop lanes place start now sent_start sent_now going = record {
   keeps = stop_is_cut going.gave;
   lawful = lawful_with_one lanes place Stop start now sent_start sent_now going going.stoppable;
   not_whole = λ whole. let two = one_ending BrokenOff Whole (going.gave ++ Stop ∷ []) (ends_as BrokenOff going.gave Stop going.more refl) whole in absurd cc;
 }
 
-without_more : (lanes : ℕ) (place : Place) (start now : ℕ → List Message) (sent_start sent_now : List Message) → (going : IsGoing lanes place start now sent_start sent_now) → IsLastSent going.gave going.gave
+without_more : (lanes : ℕ) (place : Place) (start now : ℕ → List Message) (sent_start sent_now : List Message)
+    → (going : IsGoing lanes place start now sent_start sent_now) → IsLastSent going.gave going.gave
 without_more lanes place start now sent_start sent_now going = record {
   keeps = stream_keeps_all going.gave going.stream;
   lawful = going.lawful;
@@ -166,12 +188,16 @@ without_more lanes place start now sent_start sent_now going = record {
 }
 
 -- all that is promised, where the lanes are done
-ends_so : (lanes : ℕ) (place : Place) (end : StageEnd) (ended : Bool) (states : List LaneState) (start now new final left taken : ℕ → List Message) (sent_start sent_now sent_new gave : List Message)
-    → (going : IsGoing lanes place start now sent_start sent_now) → 0 < lanes → HasLeft lanes going.gave taken (took_of start final) → AreLanes lanes states start final left → ((lane : ℕ) → lane < lanes → IsDone ended (state_at states lane))
-    → sent_new ≡ sent_start ++ gave → IsLastSent going.gave gave → HasPassedSo end lanes (took_of start final) gave → ((is : List Image) → AreDealt is lanes (took_of start final) → HasGatheredSo end is lanes (took_of start final) gave)
+ends_so : (lanes : ℕ) (place : Place) (end : StageEnd) (ended : Bool) (states : List LaneState) (start now new final left taken : ℕ → List Message)
+    (sent_start sent_now sent_new gave : List Message)
+    → (going : IsGoing lanes place start now sent_start sent_now) → 0 < lanes → HasLeft lanes going.gave taken (took_of start final)
+    → AreLanes lanes states start final left → ((lane : ℕ) → lane < lanes → IsDone ended (state_at states lane))
+    → sent_new ≡ sent_start ++ gave → IsLastSent going.gave gave → HasPassedSo end lanes (took_of start final) gave
+    → ((is : List Image) → AreDealt is lanes (took_of start final) → HasGatheredSo end is lanes (took_of start final) gave)
     → HasGathered end lanes start final left sent_start sent_new
 ends_so lanes place end ended states start now new final left taken sent_start sent_now sent_new gave going some left_so are done output last so images =
-    let all : (lane : ℕ) → lane < lanes → LaneEnded ended (start lane) (final lane) (left lane) = λ lane below. lane_ended ended (state_at states lane) (start lane) (final lane) (left lane) (done lane below) (are lane below) in
+    let all : (lane : ℕ) → lane < lanes → LaneEnded ended (start lane) (final lane) (left lane) =
+    λ lane below. lane_ended ended (state_at states lane) (start lane) (final lane) (left lane) (done lane below) (are lane below) in
     record {
       took = took_of start final;
       gave = gave;
@@ -183,11 +209,12 @@ ends_so lanes place end ended states start now new final left taken sent_start s
         messages = λ lane below. (all lane below).messages;
         once = λ lane below. (all lane below).once;
         lawful = last.lawful;
-        parts = λ lane below. subst (λ (l : List Message). IsFrontOf (dealt lane lanes l) (took_of start final lane)) (sym last.keeps)
+        parts = λ lane below. subst (λ (l : List Message). IsPrefixOf (dealt lane lanes l) (took_of start final lane)) (sym last.keeps)
             (taken lane ++ left_so.drained lane, left_so.parts lane below ∙ append_assoc (dealt lane lanes going.gave) (taken lane) (left_so.drained lane));
         whole = λ whole. absurd (last.not_whole whole);
         images = λ is dealt_so. record {
-          front = subst (λ (l : List Message). IsFrontOf l (messages_of_stream is)) (sym last.keeps) (front_of_images lanes going.gave taken (took_of start final) is some going.lawful going.stream left_so dealt_so);
+          prefix = subst (λ (l : List Message). IsPrefixOf l (messages_of_stream is)) (sym last.keeps)
+              (prefix_of_images lanes going.gave taken (took_of start final) is some going.lawful going.stream left_so dealt_so);
           so = images is dealt_so;
         };
       };
@@ -196,44 +223,55 @@ ends_so lanes place end ended states start now new final left taken sent_start s
 -- ---- Stop was sent
 
 -- by the cause
-stopped_so : (cause : StageEnd) (lanes : ℕ) (place : Place) (gave : List Message) (taken took : ℕ → List Message) → 0 < lanes → IsLawful gave → AllByRecursion IsOfStream gave → EndsBy More gave → place ≡ place_of Between gave
+stopped_so : (cause : StageEnd) (lanes : ℕ) (place : Place) (gave : List Message) (taken took : ℕ → List Message) → 0 < lanes → IsLawful gave
+    → AllByRecursion IsOfStream gave → EndsBy More gave → place ≡ place_of Between gave
     → HasLeft lanes gave taken took → ((lane : ℕ) → lane < lanes → IsEnded (took lane)) → IsCause cause lanes place taken
     → HasPassedSo cause lanes took (gave ++ Stop ∷ []) × ((is : List Image) → AreDealt is lanes took → HasGatheredSo cause is lanes took (gave ++ Stop ∷ []))
 stopped_so Well lanes place gave taken took some lawful stream more at_place left ended is = absurd is
 stopped_so Broken lanes place gave taken took some lawful stream more at_place left ended is =
     let given = stopped_lane lanes is.0 gave taken took is.1 more left is.2 (ended is.0 is.1) in
-    let broken : EndsBy BrokenOff (took is.0) = subst (EndsBy BrokenOff) (sym given) (ends_as BrokenOff (dealt is.0 lanes gave) Stop (dealt_goes_on is.0 lanes Between gave more) refl) in
+    let broken : EndsBy BrokenOff (took is.0) =
+    subst (EndsBy BrokenOff) (sym given) (ends_as BrokenOff (dealt is.0 lanes gave) Stop (dealt_goes_on is.0 lanes Between gave more) refl) in
     ((ended, (is.0, is.1, broken), (gave, refl, more)), λ images are. has_sent_all lanes is.0 gave taken took images some is.1 lawful stream left are given)
 stopped_so (Fault fault) lanes place gave taken took some lawful stream more at_place left ended is =
     ((is.0, ended, (gave, refl, more)), λ images are. no_images lanes place gave taken took images some lawful stream at_place left is.1 is.2 are)
 stopped_so PeerGone lanes place gave taken took some lawful stream more at_place left ended is = (tt, λ images are. tt)
 
 -- the gatherer was broken off
-broken_off_so : (lanes : ℕ) (place : Place) (cause end : StageEnd) (states done : List LaneState) (start now new final left_new left : ℕ → List Message) (sent_start sent_now sent_new : List Message)
-    → IsGoing lanes place start now sent_start sent_now → 0 < lanes → HasTakenNone lanes place cause states now new → CarriesOn lanes states done new final left_new left → HasStopped cause end lanes done sent_now sent_new
+broken_off_so : (lanes : ℕ) (place : Place) (cause end : StageEnd) (states done : List LaneState) (start now new final left_new left : ℕ → List Message)
+    (sent_start sent_now sent_new : List Message)
+    → IsGoing lanes place start now sent_start sent_now → 0 < lanes → HasTakenNone lanes place cause states now new
+    → CarriesOn lanes states done new final left_new left → HasStopped cause end lanes done sent_now sent_new
     → HasGathered end lanes start final left sent_start sent_new
 broken_off_so lanes place cause end states done start now new final left_new left sent_start sent_now sent_new going some none carried (inl told) =
     let took : ℕ → List Message = took_of start final in
-    let left_so = has_left lanes place start now new final none.taken sent_start sent_now going none.parts.added carried.fronts in
+    let left_so = has_left lanes place start now new final none.taken sent_start sent_now going none.parts.added carried.prefixes in
     let are = carried.lanes_are start (lanes_after lanes place states start now new left_new none.taken sent_start sent_now going none.parts) in
     let so = stopped_so cause lanes place going.gave none.taken took some going.lawful going.stream going.more going.at_place left_so
-    (λ lane below. (lane_ended true (state_at done lane) (start lane) (final lane) (left lane) (told.2 lane below) (are lane below)).has_ended refl) none.cause in
+    (λ lane below. (lane_ended true (state_at done lane) (start lane) (final lane) (left lane) (told.2 lane below) (are lane below)).has_ended refl)
+    none.cause in
     subst (λ (e : StageEnd). HasGathered e lanes start final left sent_start sent_new) (sym told.0)
-    (ends_so lanes place cause true done start now new final left none.taken sent_start sent_now sent_new (going.gave ++ Stop ∷ []) going some left_so are told.2
+    (ends_so lanes place cause true done start now new final left none.taken sent_start sent_now sent_new (going.gave ++ Stop ∷ []) going some left_so are
+    told.2
     (sent_with_one sent_start sent_now sent_new going.gave Stop going.output told.1) (with_stop lanes place start now sent_start sent_now going) so.0 so.1)
 broken_off_so lanes place cause end states done start now new final left_new left sent_start sent_now sent_new going some none carried (inr gone) =
-    let left_so = has_left lanes place start now new final none.taken sent_start sent_now going none.parts.added carried.fronts in
+    let left_so = has_left lanes place start now new final none.taken sent_start sent_now going none.parts.added carried.prefixes in
     let are = carried.lanes_are start (lanes_after lanes place states start now new left_new none.taken sent_start sent_now going none.parts) in
     subst (λ (e : StageEnd). HasGathered e lanes start final left sent_start sent_new) (sym gone.0)
     (elim gone.1 [
-      | inl stop ↦ ends_so lanes place PeerGone false done start now new final left none.taken sent_start sent_now sent_new (going.gave ++ Stop ∷ []) going some left_so are gone.2
-          (sent_with_one sent_start sent_now sent_new going.gave Stop going.output stop) (with_stop lanes place start now sent_start sent_now going) tt (λ is dealt_so. tt)
-      | inr same ↦ ends_so lanes place PeerGone false done start now new final left none.taken sent_start sent_now sent_new going.gave going some left_so are gone.2
+      | inl stop ↦ ends_so lanes place PeerGone false done start now new final left none.taken sent_start sent_now sent_new (going.gave ++ Stop ∷ []) going some
+          left_so are gone.2
+          (sent_with_one sent_start sent_now sent_new going.gave Stop going.output stop) (with_stop lanes place start now sent_start sent_now going) tt
+          (λ is dealt_so. tt)
+      | inr same ↦ ends_so lanes place PeerGone false done start now new final left none.taken sent_start sent_now sent_new going.gave going some left_so are
+          gone.2
           (same ∙ going.output) (without_more lanes place start now sent_start sent_now going) tt (λ is dealt_so. tt)
     ])
 
-pub broken_off : (lanes count : ℕ) (place : Place) (cause end : StageEnd) (states done : List LaneState) (start now new final left_new left : ℕ → List Message) (sent_start sent_now sent_new : List Message)
-    → IsGoing lanes place start now sent_start sent_now → 0 < lanes → count ≡ lanes → HasTakenNone count place cause states now new → HasBrokenOffAll cause end count states done new final left_new left sent_now sent_new
+pub broken_off : (lanes count : ℕ) (place : Place) (cause end : StageEnd) (states done : List LaneState) (start now new final left_new left : ℕ → List Message)
+    (sent_start sent_now sent_new : List Message)
+    → IsGoing lanes place start now sent_start sent_now → 0 < lanes → count ≡ lanes → HasTakenNone count place cause states now new
+    → HasBrokenOffAll cause end count states done new final left_new left sent_now sent_new
     → HasGathered end lanes start final left sent_start sent_new
 broken_off lanes count place cause end states done start now new final left_new left sent_start sent_now sent_new going some same none broken =
     broken_off_so lanes place cause end states done start now new final left_new left sent_start sent_now sent_new going some
@@ -243,22 +281,26 @@ broken_off lanes count place cause end states done start now new final left_new 
 
 -- ---- the message couldn't be sent
 
-pub not_told : (lanes count : ℕ) (place : Place) (m : Message) (ended : Bool) (states done : List LaneState) (start now new final left_new left : ℕ → List Message) (sent_start sent_now sent_new : List Message)
-    → IsGoing lanes place start now sent_start sent_now → 0 < lanes → count ≡ lanes → HasTakenWhole count place m states now new → sent_new ≡ sent_now → HasDrainedAll count ended states done new final left_new left
+pub not_told : (lanes count : ℕ) (place : Place) (m : Message) (ended : Bool) (states done : List LaneState) (start now new final left_new left : ℕ
+    → List Message) (sent_start sent_now sent_new : List Message)
+    → IsGoing lanes place start now sent_start sent_now → 0 < lanes → count ≡ lanes → HasTakenWhole count place m states now new → sent_new ≡ sent_now
+    → HasDrainedAll count ended states done new final left_new left
     → HasGathered PeerGone lanes start final left sent_start sent_new
 not_told lanes count place m ended states done start now new final left_new left sent_start sent_now sent_new going some same whole sent drained =
     let taken = subst (λ (n : ℕ). HasTakenWhole n place m states now new) same whole in
     let all = subst (λ (n : ℕ). HasDrainedAll n ended states done new final left_new left) same drained in
     let part : ℕ → List Message = λ lane. dealt_message lane lanes place m in
-    let left_so = has_left lanes place start now new final part sent_start sent_now going taken.parts.added all.carried.fronts in
+    let left_so = has_left lanes place start now new final part sent_start sent_now going taken.parts.added all.carried.prefixes in
     let are = all.carried.lanes_are start (lanes_after lanes place states start now new left_new part sent_start sent_now going taken.parts) in
     ends_so lanes place PeerGone ended done start now new final left part sent_start sent_now sent_new going.gave going some left_so are all.done
     (sent ∙ going.output) (without_more lanes place start now sent_start sent_now going) tt (λ is dealt_so. tt)
 
 -- ---- the end of the stream was sent
 
-pub ends_well : (lanes count : ℕ) (place : Place) (m : Message) (states : List LaneState) (start now new left : ℕ → List Message) (sent_start sent_now sent_new : List Message)
-    → IsGoing lanes place start now sent_start sent_now → 0 < lanes → count ≡ lanes → HasTakenWhole count place m states now new → sent_new ≡ sent_now ++ m ∷ [] → ending_of m ≡ Whole
+pub ends_well : (lanes count : ℕ) (place : Place) (m : Message) (states : List LaneState) (start now new left : ℕ → List Message)
+    (sent_start sent_now sent_new : List Message)
+    → IsGoing lanes place start now sent_start sent_now → 0 < lanes → count ≡ lanes → HasTakenWhole count place m states now new → sent_new ≡ sent_now ++ m ∷ []
+    → ending_of m ≡ Whole
     → HasGathered Well lanes start new left sent_start sent_new
 ends_well lanes count place m states start now new left sent_start sent_now sent_new going some same whole sent is_end =
     let taken = subst (λ (n : ℕ). HasTakenWhole n place m states now new) same whole in
@@ -268,11 +310,13 @@ ends_well lanes count place m states start now new left sent_start sent_now sent
     let lawful : IsLawful gave = lawful_with_one lanes place m start now sent_start sent_now going taken.may in
     let end_of : EndsBy Whole gave = ends_as Whole going.gave m going.more is_end in
     let parts : (lane : ℕ) → dealt lane lanes gave ≡ dealt lane lanes going.gave ++ m ∷ [] = λ lane.
-    with_one_more lane lanes going.gave m ∙ ap (λ (l : List Message). dealt lane lanes going.gave ++ l) (dealt_end lane lanes (place_of Between going.gave) m is_end) in
+    with_one_more lane lanes going.gave m
+    ∙ ap (λ (l : List Message). dealt lane lanes going.gave ++ l) (dealt_end lane lanes (place_of Between going.gave) m is_end) in
     let ends : (lane : ℕ) → EndsBy Whole (took lane) = λ lane.
     subst (EndsBy Whole) (sym (parts lane)) (ends_as Whole (dealt lane lanes going.gave) m (dealt_goes_on lane lanes Between going.gave going.more) is_end) in
     let keeps : without_stop gave ≡ gave = stream_keeps_all gave stream in
-    let left_so : HasLeft lanes gave (λ lane. []) took = record { drained = λ lane. []; parts = λ lane below. sym (append-nil (took lane ++ []) ∙ append-nil (took lane)) } in
+    let left_so : HasLeft lanes gave (λ lane. []) took =
+    record { drained = λ lane. []; parts = λ lane below. sym (append-nil (took lane ++ []) ∙ append-nil (took lane)) } in
     record {
       took = took;
       gave = gave;
@@ -287,11 +331,11 @@ ends_well lanes count place m states start now new left sent_start sent_now sent
         parts = λ lane below. ([], ap (dealt lane lanes) (sym keeps) ∙ sym (append-nil (dealt lane lanes (without_stop gave))));
         whole = λ w lane below. ends lane;
         images = λ is are.
-            let front = front_of_images lanes gave (λ lane. []) took is some lawful stream left_so are in
-            let none : front.0 ≡ [] = nothing_follows gave front.0 (inl end_of) (inl (subst (EndsBy Whole) front.1 (stream_ends_whole is))) in
+            let prefix = prefix_of_images lanes gave (λ lane. []) took is some lawful stream left_so are in
+            let none : prefix.0 ≡ [] = nothing_follows gave prefix.0 (inl end_of) (inl (subst (EndsBy Whole) prefix.1 (stream_ends_whole is))) in
             record {
-              front = subst (λ (l : List Message). IsFrontOf l (messages_of_stream is)) (sym keeps) front;
-              so = sym (front.1 ∙ ap (λ (l : List Message). gave ++ l) none ∙ append-nil gave);
+              prefix = subst (λ (l : List Message). IsPrefixOf l (messages_of_stream is)) (sym keeps) prefix;
+              so = sym (prefix.1 ∙ ap (λ (l : List Message). gave ++ l) none ∙ append-nil gave);
             };
       };
     }

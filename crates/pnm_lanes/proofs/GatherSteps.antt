@@ -1,4 +1,4 @@
--- Gathering, message by message: what was sent so far is a front of a stream, and each lane has given its part of it.
+-- Gathering, message by message: what was sent so far is a prefix of a stream, and each lane has given its part of it.
 use Rattle.std.proofs.Common.{◌≡◌, ◌⊎◌, inl, inr, ℕ, ◌<◌, List, [], ◌∷◌, ◌++◌, refl, sym, ap, subst, ◌∙◌, append_assoc, append-nil}
 use Rattle.std.specs.List.{AllByRecursion}
 use Rattle.pnm_image.specs.declared.message.Message.{Message}
@@ -48,9 +48,11 @@ nothing_yet lanes place start sent at_start = record {
 }
 
 -- what was sent with one message more
-pub with_one_more : (lane lanes : ℕ) (gave : List Message) (m : Message) → dealt lane lanes (gave ++ m ∷ []) ≡ dealt lane lanes gave ++ dealt_message lane lanes (place_of Between gave) m
+pub with_one_more : (lane lanes : ℕ) (gave : List Message) (m : Message) → dealt lane lanes (gave ++ m ∷ []) ≡ dealt lane lanes gave ++ dealt_message lane lanes
+    (place_of Between gave) m
 with_one_more lane lanes gave m =
-    dealt_from-append lane lanes Between gave (m ∷ []) ∙ ap (λ (l : List Message). dealt lane lanes gave ++ l) (append-nil (dealt_message lane lanes (place_of Between gave) m))
+    dealt_from-append lane lanes Between gave (m ∷ [])
+    ∙ ap (λ (l : List Message). dealt lane lanes gave ++ l) (append-nil (dealt_message lane lanes (place_of Between gave) m))
 
 -- a stream can be broken off after a message that goes on
 can_be_stopped : (place : Place) (m : Message) → Accepts place m → ending_of m ≡ More → Accepts (place_after place m) Stop
@@ -66,11 +68,13 @@ can_be_stopped place Stop may more = absurd cc
 
 -- the lanes' parts of one message more
 pub lanes_with_one : (lanes : ℕ) (place : Place) (m : Message) (states : List LaneState) (start now new : ℕ → List Message) (sent_start sent_now : List Message)
-    → (going : IsGoing lanes place start now sent_start sent_now) → HasTakenWhole lanes place m states now new → (lane : ℕ) → lane < lanes → new lane ≡ start lane ++ dealt lane lanes (going.gave ++ m ∷ [])
+    → (going : IsGoing lanes place start now sent_start sent_now) → HasTakenWhole lanes place m states now new → (lane : ℕ) → lane < lanes
+    → new lane ≡ start lane ++ dealt lane lanes (going.gave ++ m ∷ [])
 lanes_with_one lanes place m states start now new sent_start sent_now going taken lane below =
     let gave : List Message = going.gave in
     let here : List Message = dealt lane lanes gave in
-    let part : dealt_message lane lanes place m ≡ dealt_message lane lanes (place_of Between gave) m = ap (λ (p : Place). dealt_message lane lanes p m) going.at_place in
+    let part : dealt_message lane lanes place m ≡ dealt_message lane lanes (place_of Between gave) m =
+    ap (λ (p : Place). dealt_message lane lanes p m) going.at_place in
     taken.parts.added lane below
     ∙ ap (λ (l : List Message). l ++ dealt_message lane lanes place m) (going.lanes_are lane below)
     ∙ append_assoc (start lane) here (dealt_message lane lanes place m)
@@ -79,7 +83,8 @@ lanes_with_one lanes place m states start now new sent_start sent_now going take
 
 pub lawful_with_one : (lanes : ℕ) (place : Place) (m : Message) (start now : ℕ → List Message) (sent_start sent_now : List Message)
     → (going : IsGoing lanes place start now sent_start sent_now) → Accepts place m → IsLawful (going.gave ++ m ∷ [])
-lawful_with_one lanes place m start now sent_start sent_now going may = lawful_more Between going.gave m going.lawful (subst (λ (p : Place). Accepts p m) going.at_place may)
+lawful_with_one lanes place m start now sent_start sent_now going may =
+    lawful_more Between going.gave m going.lawful (subst (λ (p : Place). Accepts p m) going.at_place may)
 
 pub sent_with_one : (start now new gave : List Message) (m : Message) → now ≡ start ++ gave → new ≡ now ++ m ∷ [] → new ≡ start ++ (gave ++ m ∷ [])
 sent_with_one start now new gave m before added = added ∙ ap (λ (l : List Message). l ++ m ∷ []) before ∙ append_assoc start gave (m ∷ [])
@@ -97,8 +102,10 @@ says_more a m says (inl more) is = sym says ∙ ap ending_by more
 says_more a m says (inr broken) is = broken_off_by_none m (sym (ap ending_by broken) ∙ says) is
 
 -- the next message was taken and sent
-pub still_going : (lanes : ℕ) (place next : Place) (m : Message) (states : List LaneState) (start now new : ℕ → List Message) (sent_start sent_now sent_new : List Message)
-    → IsGoing lanes place start now sent_start sent_now → HasTakenWhole lanes place m states now new → sent_new ≡ sent_now ++ m ∷ [] → next ≡ place_after place m → ending_of m ≡ More
+pub still_going : (lanes : ℕ) (place next : Place) (m : Message) (states : List LaneState) (start now new : ℕ → List Message)
+    (sent_start sent_now sent_new : List Message)
+    → IsGoing lanes place start now sent_start sent_now → HasTakenWhole lanes place m states now new → sent_new ≡ sent_now ++ m ∷ []
+    → next ≡ place_after place m → ending_of m ≡ More
     → IsGoing lanes next start new sent_start sent_new
 still_going lanes place next m states start now new sent_start sent_now sent_new going taken added stepped more = record {
   gave = going.gave ++ m ∷ [];
@@ -113,7 +120,8 @@ still_going lanes place next m states start now new sent_start sent_now sent_new
 
 -- ---- once something was taken of each lane
 
-lane_after : (s : LaneState) (start old new given taken left : List Message) → old ≡ start ++ given → new ≡ old ++ taken → AllByRecursion IsMessage given → EndsBy More given → IsLeftBy s taken → IsLane s start new left
+lane_after : (s : LaneState) (start old new given taken left : List Message) → old ≡ start ++ given → new ≡ old ++ taken → AllByRecursion IsMessage given
+    → EndsBy More given → IsLeftBy s taken → IsLane s start new left
 lane_after Open start old new given taken left before added are more is = record {
   more = given ++ taken;
   added = added ∙ ap (λ (l : List Message). l ++ taken) before ∙ append_assoc start given taken;
@@ -134,11 +142,15 @@ pub lanes_after : (lanes : ℕ) (place : Place) (states : List LaneState) (start
 lanes_after lanes place states start now new left taken sent_start sent_now going parts lane below =
     let here : List Message = dealt lane lanes going.gave in
     lane_after (state_at states lane) (start lane) (now lane) (new lane) here (taken lane) (left lane) (going.lanes_are lane below) (parts.added lane below)
-    (all_messages here (dealt_of_stream lane lanes Between going.gave going.stream)) (dealt_goes_on lane lanes Between going.gave going.more) (parts.left lane below)
+    (all_messages here (dealt_of_stream lane lanes Between going.gave going.stream)) (dealt_goes_on lane lanes Between going.gave going.more)
+    (parts.left lane below)
 
--- the same, where the lanes are counted by another list
-pub goes_further : (lanes count : ℕ) (place next : Place) (m : Message) (states : List LaneState) (start now new : ℕ → List Message) (sent_start sent_now sent_new : List Message)
-    → IsGoing lanes place start now sent_start sent_now → count ≡ lanes → HasTakenWhole count place m states now new → sent_new ≡ sent_now ++ m ∷ [] → next ≡ place_after place m → ending_of m ≡ More
+-- what is gathered goes on where another list counts the lanes
+pub goes_further : (lanes count : ℕ) (place next : Place) (m : Message) (states : List LaneState) (start now new : ℕ → List Message)
+    (sent_start sent_now sent_new : List Message)
+    → IsGoing lanes place start now sent_start sent_now → count ≡ lanes → HasTakenWhole count place m states now new → sent_new ≡ sent_now ++ m ∷ []
+    → next ≡ place_after place m → ending_of m ≡ More
     → IsGoing lanes next start new sent_start sent_new
 goes_further lanes count place next m states start now new sent_start sent_now sent_new going same whole added stepped more =
-    still_going lanes place next m states start now new sent_start sent_now sent_new going (subst (λ (n : ℕ). HasTakenWhole n place m states now new) same whole) added stepped more
+    still_going lanes place next m states start now new sent_start sent_now sent_new going
+    (subst (λ (n : ℕ). HasTakenWhole n place m states now new) same whole) added stepped more

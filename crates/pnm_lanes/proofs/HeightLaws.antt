@@ -37,11 +37,13 @@ whole_rounds lane lanes zero lt =
 whole_rounds lane lanes (suc q) lt =
     let next : suc q * lanes ≡ q * lanes + lanes = grind arith in
     let got : in_round lane lanes ≡ 1 = grind (arith, nat_tests) in
-    let round : dealt_height lane lanes (q * lanes + lanes) ≡ q + in_round lane lanes = after_rounds lane lanes q lanes (omega arith) (whole_rounds lane lanes q lt) in
+    let round : dealt_height lane lanes (q * lanes + lanes) ≡ q + in_round lane lanes =
+    after_rounds lane lanes q lanes (omega arith) (whole_rounds lane lanes q lt) in
     ap (dealt_height lane lanes) next ∙ omega (arith, round, got)
 
 -- by a division
 pub height_by_division : (lane lanes height : ℕ) → lane < lanes → dealt_height lane lanes height ≡ height / lanes + in_round lane (height % lanes)
 height_by_division lane lanes height lt =
     let below : height % lanes < lanes = mod_below height lanes (omega arith) in
-    ap (dealt_height lane lanes) (sym (div-add-mod' height lanes)) ∙ after_rounds lane lanes (height / lanes) (height % lanes) (omega (arith, below)) (whole_rounds lane lanes (height / lanes) lt)
+    ap (dealt_height lane lanes) (sym (div-add-mod' height lanes)) ∙ after_rounds lane lanes (height / lanes) (height % lanes) (omega (arith, below))
+    (whole_rounds lane lanes (height / lanes) lt)

@@ -48,14 +48,16 @@ sum_same f g first zero same = refl
 sum_same f g first (suc n) same = omega (arith, same first (omega arith), sum_same f g (suc first) n (λ lane below. same lane (omega arith)))
 
 -- lanes whose images have the same heights are those of one height
-pub same_height : (lanes height other : ℕ) → 0 < lanes → ((lane : ℕ) → lane < lanes → dealt_height lane lanes height ≡ dealt_height lane lanes other) → height ≡ other
+pub same_height : (lanes height other : ℕ) → 0 < lanes → ((lane : ℕ) → lane < lanes → dealt_height lane lanes height ≡ dealt_height lane lanes other)
+    → height ≡ other
 same_height lanes height other some same =
     sym (heights_together lanes height some)
     ∙ sum_same (λ lane. dealt_height lane lanes height) (λ lane. dealt_height lane lanes other) 0 lanes (λ lane below. same lane (omega arith))
     ∙ heights_together lanes other some
 
 -- a list of a function's values
-sum_of_list : (f : ℕ → ℕ) (first : ℕ) (heights : List ℕ) → ((lane : ℕ) → lane < length heights → get_or heights lane 0 ≡ f (first + lane)) → sum heights ≡ sum_from f first (length heights)
+sum_of_list : (f : ℕ → ℕ) (first : ℕ) (heights : List ℕ) → ((lane : ℕ) → lane < length heights → get_or heights lane 0 ≡ f (first + lane))
+    → sum heights ≡ sum_from f first (length heights)
 sum_of_list f first [] same = refl
 sum_of_list f first (height ∷ heights) same =
     let here : height ≡ f first = same 0 (omega arith) ∙ ap f (omega arith) in
@@ -63,7 +65,9 @@ sum_of_list f first (height ∷ heights) same =
     omega (arith, here, others, sum_by-cons (λ (x : ℕ). x) height heights)
 
 -- heights that are dealt are together the height of which they are
-pub sum_of_dealt : (heights : List ℕ) (height : ℕ) → 0 < length heights → ((lane : ℕ) → lane < length heights → get_or heights lane 0 ≡ dealt_height lane (length heights) height) → sum heights ≡ height
+pub sum_of_dealt : (heights : List ℕ) (height : ℕ) → 0 < length heights
+    → ((lane : ℕ) → lane < length heights → get_or heights lane 0 ≡ dealt_height lane (length heights) height) → sum heights ≡ height
 sum_of_dealt heights height some dealt =
-    sum_of_list (λ lane. dealt_height lane (length heights) height) 0 heights (λ lane below. dealt lane below ∙ ap (λ (l : ℕ). dealt_height l (length heights) height) (omega arith))
+    sum_of_list (λ lane. dealt_height lane (length heights) height) 0 heights
+    (λ lane below. dealt lane below ∙ ap (λ (l : ℕ). dealt_height l (length heights) height) (omega arith))
     ∙ heights_together (length heights) height some

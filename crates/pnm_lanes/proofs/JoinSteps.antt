@@ -5,7 +5,7 @@ use Rattle.pnm_stages.specs.declared.sender.Sender.{Sender}
 use Rattle.pnm_stages.specs.declared.receiver.Receiver.{Receiver}
 use Rattle.pnm_stages.specs.Rings.{sent, received, IsPair}
 use Rattle.pnm_image.specs.declared.message.Message.{Message}
-use Rattle.pnm_image.specs.Completion.{IsFrontOf}
+use Rattle.pnm_image.specs.Completion.{IsPrefixOf}
 use Rattle.pnm_stages.specs.declared.stage.StageEnd.{StageEnd}
 use Rattle.pnm_stages.specs.declared.stage.StageDone.{StageDone}
 use Rattle.pnm_lanes.specs.declared.lane_rings.LaneEnds.{LaneEnds}
@@ -22,7 +22,8 @@ counted_more xs ys x n is count = ap length is ∙ one_more xs x ∙ omega (arit
 
 -- rings to and from one lane more
 pub unused_more : (ss : List Sender) (es : List LaneEnds) (rs : List Receiver) (s : Sender) (e : LaneEnds) (r : Receiver)
-    → AreUnused ss es rs → IsPair s e.input → IsPair e.output r → sent s ≡ [] → received e.input ≡ [] → sent e.output ≡ [] → received r ≡ [] → AreUnused (ss ++ s ∷ []) (es ++ e ∷ []) (rs ++ r ∷ [])
+    → AreUnused ss es rs → IsPair s e.input → IsPair e.output r → sent s ≡ [] → received e.input ≡ [] → sent e.output ≡ [] → received r ≡ []
+    → AreUnused (ss ++ s ∷ []) (es ++ e ∷ []) (rs ++ r ∷ [])
 unused_more [] [] [] s e r unused to from a b c d = (to, from, (a, b, c, d), tt)
 unused_more [] [] (y ∷ rs) s e r unused to from a b c d = absurd unused
 unused_more [] (x ∷ es) rs s e r unused to from a b c d = absurd unused
@@ -48,23 +49,26 @@ pub pairs_last : (ss : List Sender) (ds : List StageDone) (rs : List Receiver) (
     → ArePairs (ss ++ s ∷ []) (ds ++ d ∷ []) (rs ++ r ∷ []) → ArePairs ss ds rs × IsPair s d.input × IsPair d.output r
 pairs_last [] [] [] s d r pairs = (tt, pairs.0, pairs.1)
 pairs_last [] [] (y ∷ rs) s d r pairs = let many = as_many_pairs (s ∷ []) (d ∷ []) (y ∷ (rs ++ r ∷ [])) pairs in absurd (omega (arith, many.1, one_more rs r))
-pairs_last [] (x ∷ ds) rs s d r pairs = let many = as_many_pairs (s ∷ []) (x ∷ (ds ++ d ∷ [])) (rs ++ r ∷ []) pairs in absurd (omega (arith, many.0, one_more ds d))
-pairs_last (z ∷ ss) [] rs s d r pairs = let many = as_many_pairs (z ∷ (ss ++ s ∷ [])) (d ∷ []) (rs ++ r ∷ []) pairs in absurd (omega (arith, many.0, one_more ss s))
-pairs_last (z ∷ ss) (x ∷ ds) [] s d r pairs = let many = as_many_pairs (z ∷ (ss ++ s ∷ [])) (x ∷ (ds ++ d ∷ [])) (r ∷ []) pairs in absurd (omega (arith, many.1, one_more ds d))
+pairs_last [] (x ∷ ds) rs s d r pairs = let many = as_many_pairs (s ∷ []) (x ∷ (ds ++ d ∷ [])) (rs ++ r ∷ []) pairs in
+    absurd (omega (arith, many.0, one_more ds d))
+pairs_last (z ∷ ss) [] rs s d r pairs = let many = as_many_pairs (z ∷ (ss ++ s ∷ [])) (d ∷ []) (rs ++ r ∷ []) pairs in
+    absurd (omega (arith, many.0, one_more ss s))
+pairs_last (z ∷ ss) (x ∷ ds) [] s d r pairs = let many = as_many_pairs (z ∷ (ss ++ s ∷ [])) (x ∷ (ds ++ d ∷ [])) (r ∷ []) pairs in
+    absurd (omega (arith, many.1, one_more ds d))
 pairs_last (z ∷ ss) (x ∷ ds) (y ∷ rs) s d r pairs =
     let rest = pairs_last ss ds rs s d r pairs.2 in
     ((pairs.0, pairs.1, rest.0), rest.1, rest.2)
 
 -- ---- lane by lane
 
--- each lane received a front of what was sent to it, and a front of what it sent was received
+-- each lane received a prefix of what was sent to it, and a prefix of what it sent was received
 abbrev pub HavePassed : List Sender → List StageDone → List Receiver → Type 0
 HavePassed [] [] [] = Unit {0}
 HavePassed [] [] (r ∷ rs) = ⊥
 HavePassed [] (d ∷ ds) rs = ⊥
 HavePassed (s ∷ ss) [] rs = ⊥
 HavePassed (s ∷ ss) (d ∷ ds) [] = ⊥
-HavePassed (s ∷ ss) (d ∷ ds) (r ∷ rs) = IsFrontOf (received d.input) (sent s) × IsFrontOf (received r) (sent d.output) × HavePassed ss ds rs
+HavePassed (s ∷ ss) (d ∷ ds) (r ∷ rs) = IsPrefixOf (received d.input) (sent s) × IsPrefixOf (received r) (sent d.output) × HavePassed ss ds rs
 
 -- the end of lanes, and of the thread behind them
 abbrev pub end_of_lanes : List StageDone → StageEnd → StageEnd
@@ -82,7 +86,8 @@ pub record IsJoining (all_ss : List Sender) (all_ds : List StageDone) (all_rs : 
   pub passed : HavePassed to_lanes lanes from_lanes
   pub end_is : end ≡ end_of_lanes lanes gatherer
 
-pub joins_none : (ss : List Sender) (ds : List StageDone) (rs : List Receiver) (gatherer : StageEnd) → ArePairs ss ds rs → IsJoining ss ds rs gatherer ss ds rs gatherer
+pub joins_none : (ss : List Sender) (ds : List StageDone) (rs : List Receiver) (gatherer : StageEnd) → ArePairs ss ds rs
+    → IsJoining ss ds rs gatherer ss ds rs gatherer
 joins_none ss ds rs gatherer pairs = record {
   to_lanes = [];
   lanes = [];
@@ -99,8 +104,10 @@ pub record IsTaken (ss ss' : List Sender) (ds ds' : List StageDone) (rs rs' : Li
   pub lane : ds ≡ ds' ++ d ∷ []
   pub receiver : rs ≡ rs' ++ r ∷ []
 
-pub taken_pairs : (all_ss : List Sender) (all_ds : List StageDone) (all_rs : List Receiver) (gatherer : StageEnd) (ss ss' : List Sender) (ds ds' : List StageDone) (rs rs' : List Receiver) (end : StageEnd)
-    (s : Sender) (d : StageDone) (r : Receiver) → IsJoining all_ss all_ds all_rs gatherer ss ds rs end → IsTaken ss ss' ds ds' rs rs' s d r → ArePairs ss' ds' rs' × IsPair s d.input × IsPair d.output r
+pub taken_pairs : (all_ss : List Sender) (all_ds : List StageDone) (all_rs : List Receiver) (gatherer : StageEnd) (ss ss' : List Sender)
+    (ds ds' : List StageDone) (rs rs' : List Receiver) (end : StageEnd)
+    (s : Sender) (d : StageDone) (r : Receiver) → IsJoining all_ss all_ds all_rs gatherer ss ds rs end → IsTaken ss ss' ds ds' rs rs' s d r
+    → ArePairs ss' ds' rs' × IsPair s d.input × IsPair d.output r
 taken_pairs all_ss all_ds all_rs gatherer ss ss' ds ds' rs rs' end s d r joining taken =
     pairs_last ss' ds' rs' s d r
     (subst (λ (x : List Sender). ArePairs x (ds' ++ d ∷ []) (rs' ++ r ∷ [])) taken.sender
@@ -108,9 +115,11 @@ taken_pairs all_ss all_ds all_rs gatherer ss ss' ds ds' rs rs' end s d r joining
     (subst (ArePairs ss ds) taken.receiver joining.pairs)))
 
 -- and looked at
-pub joins_one : (all_ss : List Sender) (all_ds : List StageDone) (all_rs : List Receiver) (gatherer : StageEnd) (ss ss' : List Sender) (ds ds' : List StageDone) (rs rs' : List Receiver) (end next : StageEnd)
+pub joins_one : (all_ss : List Sender) (all_ds : List StageDone) (all_rs : List Receiver) (gatherer : StageEnd) (ss ss' : List Sender) (ds ds' : List StageDone)
+    (rs rs' : List Receiver) (end next : StageEnd)
     (s : Sender) (d : StageDone) (r : Receiver) → IsJoining all_ss all_ds all_rs gatherer ss ds rs end → IsTaken ss ss' ds ds' rs rs' s d r
-    → IsFrontOf (received d.input) (sent s) → IsFrontOf (received r) (sent d.output) → next ≡ end_of_both d.end end → IsJoining all_ss all_ds all_rs gatherer ss' ds' rs' next
+    → IsPrefixOf (received d.input) (sent s) → IsPrefixOf (received r) (sent d.output) → next ≡ end_of_both d.end end
+    → IsJoining all_ss all_ds all_rs gatherer ss' ds' rs' next
 joins_one all_ss all_ds all_rs gatherer ss ss' ds ds' rs rs' end next s d r joining taken to from is = record {
   to_lanes = s ∷ joining.to_lanes;
   lanes = d ∷ joining.lanes;
@@ -130,7 +139,8 @@ no_member : {X : Type 0} (xs : List X) → length xs ≡ 0 → xs ≡ []
 no_member [] none = refl
 no_member (x ∷ xs) none = absurd (omega (arith, none))
 
-pub joins_all : (all_ss : List Sender) (all_ds : List StageDone) (all_rs : List Receiver) (gatherer : StageEnd) (ss : List Sender) (ds : List StageDone) (rs : List Receiver) (end : StageEnd)
+pub joins_all : (all_ss : List Sender) (all_ds : List StageDone) (all_rs : List Receiver) (gatherer : StageEnd) (ss : List Sender) (ds : List StageDone)
+    (rs : List Receiver) (end : StageEnd)
     → IsJoining all_ss all_ds all_rs gatherer ss ds rs end → length ds ≡ 0 → HavePassed all_ss all_ds all_rs × (end ≡ end_of_lanes all_ds gatherer)
 joins_all all_ss all_ds all_rs gatherer ss ds rs end joining none =
     let many = as_many_pairs ss ds rs joining.pairs in

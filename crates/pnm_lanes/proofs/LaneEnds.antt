@@ -6,10 +6,10 @@ use Rattle.pnm_image.specs.declared.place.Place.TheVariants.{Between}
 use Rattle.pnm_image.specs.Images.{Image, messages_of_stream}
 use Rattle.pnm_image.specs.Messages.{without_stop}
 use Rattle.pnm_image.specs.Places.{IsLawful, place_of}
-use Rattle.pnm_image.specs.Completion.{IsFrontOf, Completes, IsStreamOf}
+use Rattle.pnm_image.specs.Completion.{IsPrefixOf, Completes, IsStreamOf}
 use Rattle.pnm_image.proofs.Streams.{is_stream_of}
 use Rattle.pnm_tools.specs.declared.tool.Tool.{Tool}
-use Rattle.pnm_tools.specs.Answers.{Ending, Whole, BrokenOff, EndsBy, AnswersInFull, AreResults, images_ended, begun_of, begun_in, owed}
+use Rattle.pnm_tools.specs.Answers.{Ending, Whole, BrokenOff, EndsBy, AnswersInFull, AreResults, images_ended, begun_of, begun_in, answers_owed}
 use Rattle.pnm_tools.specs.Dealing.{dealt}
 use Rattle.pnm_tools.specs.Tools.{IsLawfulTool, is_row_wise}
 use Rattle.pnm_tools.proofs.SoundLaws.{unbroken_keeps_all}
@@ -18,19 +18,20 @@ use Rattle.pnm_stages.specs.declared.stage.StageEnd.TheVariants.{Well, Broken, F
 use Rattle.pnm_stages.specs.Rings.{IsEnded}
 use Rattle.pnm_stages.specs.Stages.{HasEndedWell, HasBrokenOff, HasEndedSo}
 use Rattle.pnm_stages.proofs.EndingLaws.{one_ending, stream_ends_whole, ends_stream}
-use Rattle.pnm_stages.proofs.FrontLaws.{stop_is_cut}
+use Rattle.pnm_stages.proofs.PrefixLaws.{stop_is_cut}
 use Rattle.pnm_lanes.specs.Deals.{HasReceivedSo, HasSentSo}
 use Rattle.pnm_lanes.specs.Gathers.{HasSentAll}
 use Rattle.pnm_lanes.specs.LaneLaws.{results_before, dealt_images}
 use Rattle.pnm_lanes.specs.Lanes.{IsFine, HaveRunTogether}
-use Rattle.pnm_lanes.proofs.DealtLaws.{dealt_from-append, dealt_front}
+use Rattle.pnm_lanes.proofs.DealtLaws.{dealt_from-append, dealt_prefix}
 use Rattle.pnm_lanes.proofs.LaneDue.{dealt_ends}
 use Rattle.pnm_lanes.proofs.LaneHeads.{whole_is_taken}
 use Rattle.pnm_lanes.proofs.LaneLaws.{dealt_are_images, stream_is_dealt, results_are_dealt}
 use Rattle.pnm_lanes.proofs.LaneOwed.{dealt_ended, dealt_begun, owed_is_dealt}
 use Rattle.pnm_lanes.proofs.LanesTogether.{before_stop}
 use Rattle.pnm_lanes.proofs.LaneStream.{EndsAtImage, all_results, answered_in_full, owed_of_results}
-use Rattle.pnm_lanes.proofs.LaneStages.{all_of_ended, not_both, stopped_is_broken, completes_front, whole_lane, fine_is_there, together, results_dealt, together_due}
+use Rattle.pnm_lanes.proofs.LaneStages.{all_of_ended, not_both, stopped_is_broken, completes_prefix, whole_lane, fine_is_there, together, results_dealt}
+use Rattle.pnm_lanes.proofs.LaneStages.{together_due}
 
 -- ---- the dealer
 
@@ -40,17 +41,18 @@ pub record IsWholeDeal (dealer : StageEnd) (lane lanes : ℕ) (l d i : List Mess
   pub whole : EndsBy Whole l
   pub part : i ≡ dealt lane lanes l
 
-whole_deal : (dealer : StageEnd) (lane lanes : ℕ) (l d i : List Message) → IsFine dealer → HasReceivedSo dealer l → HasSentSo dealer lane lanes l d → IsFrontOf i d → EndsBy Whole i → IsWholeDeal dealer lane lanes l d i
-whole_deal Well lane lanes l d i fine input sent front whole = record {
+whole_deal : (dealer : StageEnd) (lane lanes : ℕ) (l d i : List Message) → IsFine dealer → HasReceivedSo dealer l → HasSentSo dealer lane lanes l d
+    → IsPrefixOf i d → EndsBy Whole i → IsWholeDeal dealer lane lanes l d i
+whole_deal Well lane lanes l d i fine input sent prefix whole = record {
   lawful = input.0;
   whole = input.1;
-  part = sym (all_of_ended i d front (inl whole) (inl (subst (EndsBy Whole) (sym sent) (dealt_ends Whole lane lanes l input.1)))) ∙ sent;
+  part = sym (all_of_ended i d prefix (inl whole) (inl (subst (EndsBy Whole) (sym sent) (dealt_ends Whole lane lanes l input.1)))) ∙ sent;
 }
-whole_deal Broken lane lanes l d i fine input sent front whole =
+whole_deal Broken lane lanes l d i fine input sent prefix whole =
     let broken : EndsBy BrokenOff d = subst (EndsBy BrokenOff) (sym sent) (dealt_ends BrokenOff lane lanes l input.1) in
-    not_both d (subst (EndsBy Whole) (sym (all_of_ended i d front (inl whole) (inr broken))) whole) broken
-whole_deal (Fault fault) lane lanes l d i fine input sent front whole = absurd fine
-whole_deal PeerGone lane lanes l d i fine input sent front whole = absurd fine
+    not_both d (subst (EndsBy Whole) (sym (all_of_ended i d prefix (inl whole) (inr broken))) whole) broken
+whole_deal (Fault fault) lane lanes l d i fine input sent prefix whole = absurd fine
+whole_deal PeerGone lane lanes l d i fine input sent prefix whole = absurd fine
 
 -- and where it received one that was broken off
 pub record IsBrokenDeal (dealer : StageEnd) (l : List Message) : Type 0 where
@@ -58,17 +60,19 @@ pub record IsBrokenDeal (dealer : StageEnd) (l : List Message) : Type 0 where
   pub lawful : IsLawful l
   pub broken : EndsBy BrokenOff l
 
-broken_deal : (dealer : StageEnd) (lane lanes : ℕ) (l d i : List Message) → IsFine dealer → HasReceivedSo dealer l → HasSentSo dealer lane lanes l d → IsFrontOf i d → EndsBy BrokenOff i → IsBrokenDeal dealer l
-broken_deal Well lane lanes l d i fine input sent front broken =
+broken_deal : (dealer : StageEnd) (lane lanes : ℕ) (l d i : List Message) → IsFine dealer → HasReceivedSo dealer l → HasSentSo dealer lane lanes l d
+    → IsPrefixOf i d → EndsBy BrokenOff i → IsBrokenDeal dealer l
+broken_deal Well lane lanes l d i fine input sent prefix broken =
     let whole : EndsBy Whole d = subst (EndsBy Whole) (sym sent) (dealt_ends Whole lane lanes l input.1) in
-    not_both d whole (subst (EndsBy BrokenOff) (sym (all_of_ended i d front (inr broken) (inl whole))) broken)
-broken_deal Broken lane lanes l d i fine input sent front broken = record { is_broken = refl; lawful = input.0; broken = input.1 }
-broken_deal (Fault fault) lane lanes l d i fine input sent front broken = absurd fine
-broken_deal PeerGone lane lanes l d i fine input sent front broken = absurd fine
+    not_both d whole (subst (EndsBy BrokenOff) (sym (all_of_ended i d prefix (inr broken) (inl whole))) broken)
+broken_deal Broken lane lanes l d i fine input sent prefix broken = record { is_broken = refl; lawful = input.0; broken = input.1 }
+broken_deal (Fault fault) lane lanes l d i fine input sent prefix broken = absurd fine
+broken_deal PeerGone lane lanes l d i fine input sent prefix broken = absurd fine
 
 -- ---- well
 
-pub together_well : {tool : Tool} {lanes : ℕ} {dealer : StageEnd} {e : ℕ → StageEnd} {l g : List Message} {d i o r : ℕ → List Message} → HaveRunTogether tool lanes dealer e Well l d i o r g
+pub together_well : {tool : Tool} {lanes : ℕ} {dealer : StageEnd} {e : ℕ → StageEnd} {l g : List Message} {d i o r : ℕ → List Message}
+    → HaveRunTogether tool lanes dealer e Well l d i o r g
     → 0 < lanes → IsLawfulTool tool → is_row_wise tool ≡ true → IsFine dealer → ((lane : ℕ) → lane < lanes → IsFine (e lane)) → HasEndedWell tool l g
 together_well {tool = tool} {lanes = lanes} {dealer = dealer} {e = e} {l = l} {g = g} {d = d} {i = i} {o = o} {r = r} run some lawful row_wise fine fines =
     let whole : EndsBy Whole (r 0) = subst (EndsBy Whole) (sym (run.gathered.ended.1 0 some)) (dealt_ends Whole 0 lanes g run.gathered.ended.0) in
@@ -80,13 +84,16 @@ together_well {tool = tool} {lanes = lanes} {dealer = dealer} {e = e} {l = l} {g
     let stream : IsStreamOf l is = found.1 in
     let part : i 0 ≡ messages_of_stream (dealt_images 0 lanes is) = deal.part ∙ ap (dealt 0 lanes) stream.messages ∙ stream_is_dealt 0 lanes is stream.images in
     let seen : dealt_images 0 lanes is ≡ lane.well.images = lane.well.stream.only (dealt_images 0 lanes is) (dealt_are_images 0 lanes is stream.images) part in
-    let made = results_are_dealt tool 0 lanes is lane.well.results lawful row_wise some stream.images (subst (λ (x : List Image). AreResults tool x lane.well.results) (sym seen) lane.well.made) in
+    let made = results_are_dealt tool 0 lanes is lane.well.results lawful row_wise some stream.images
+    (subst (λ (x : List Image). AreResults tool x lane.well.results) (sym seen) lane.well.made) in
     let completes : Completes is l = record {
       images = stream.images;
-      front = ([], sym (unbroken_keeps_all Whole l tt deal.whole ∙ stream.messages) ∙ sym (append-nil (without_stop l)));
+      prefix = ([], sym (unbroken_keeps_all Whole l tt deal.whole ∙ stream.messages) ∙ sym (append-nil (without_stop l)));
     } in
     let common = together run in
-    let gathered = run.gathered.images (results_before tool is) (results_dealt run lawful row_wise is (completes_front is l common.accepted common.rest common.parts completes)) in
+    let gathered =
+    run.gathered.images (results_before tool is)
+    (results_dealt run lawful row_wise is (completes_prefix is l common.accepted common.rest common.parts completes)) in
     let answer : g ≡ messages_of_stream made.0 = gathered.so ∙ ap messages_of_stream (all_results tool is made.0 made.1) in
     record {
       images = is;
@@ -106,16 +113,19 @@ pub record IsBrokenLane (tool : Tool) (lane lanes : ℕ) (l i o r : List Message
   pub all : r ≡ o
 
 -- the one that was broken off tells that the dealer was
-broken_tells : (tool : Tool) (dealer end : StageEnd) (lane lanes : ℕ) (l d i o r : List Message) → IsFine dealer → HasReceivedSo dealer l → HasSentSo dealer lane lanes l d → IsFrontOf i d → HasEndedSo tool end i o → IsFine end → IsFrontOf r o → EndsBy BrokenOff r → IsBrokenDeal dealer l
+broken_tells : (tool : Tool) (dealer end : StageEnd) (lane lanes : ℕ) (l d i o r : List Message) → IsFine dealer → HasReceivedSo dealer l
+    → HasSentSo dealer lane lanes l d → IsPrefixOf i d → HasEndedSo tool end i o → IsFine end → IsPrefixOf r o → EndsBy BrokenOff r → IsBrokenDeal dealer l
 broken_tells tool dealer Well lane lanes l d i o r fine input sent received ended fine_lane taken broken =
     let whole : EndsBy Whole o = subst (EndsBy Whole) (sym ended.answer) (stream_ends_whole ended.results) in
     not_both o whole (subst (EndsBy BrokenOff) (sym (all_of_ended r o taken (inr broken) (inl whole))) broken)
-broken_tells tool dealer Broken lane lanes l d i o r fine input sent received ended fine_lane taken broken = broken_deal dealer lane lanes l d i fine input sent received ended.ends
+broken_tells tool dealer Broken lane lanes l d i o r fine input sent received ended fine_lane taken broken =
+    broken_deal dealer lane lanes l d i fine input sent received ended.ends
 broken_tells tool dealer (Fault fault) lane lanes l d i o r fine input sent received ended fine_lane taken broken = absurd fine_lane
 broken_tells tool dealer PeerGone lane lanes l d i o r fine input sent received ended fine_lane taken broken = absurd fine_lane
 
 -- then each lane was
-broken_lane : (tool : Tool) (end : StageEnd) (lane lanes : ℕ) (l d i o r : List Message) → EndsBy BrokenOff l → d ≡ dealt lane lanes l → IsFrontOf i d → HasEndedSo tool end i o → IsFine end → IsFrontOf r o → IsEnded r → IsBrokenLane tool lane lanes l i o r
+broken_lane : (tool : Tool) (end : StageEnd) (lane lanes : ℕ) (l d i o r : List Message) → EndsBy BrokenOff l → d ≡ dealt lane lanes l → IsPrefixOf i d
+    → HasEndedSo tool end i o → IsFine end → IsPrefixOf r o → IsEnded r → IsBrokenLane tool lane lanes l i o r
 broken_lane tool Well lane lanes l d i o r broken sent received ended fine taken gathered =
     let stopped : EndsBy BrokenOff d = subst (EndsBy BrokenOff) (sym sent) (dealt_ends BrokenOff lane lanes l broken) in
     let whole : EndsBy Whole i = subst (EndsBy Whole) (sym ended.stream.messages) (stream_ends_whole ended.images) in
@@ -131,41 +141,54 @@ broken_lane tool (Fault fault) lane lanes l d i o r broken sent received ended f
 broken_lane tool PeerGone lane lanes l d i o r broken sent received ended fine taken gathered = absurd fine
 
 -- what a lane owes for images that complete what was broken off
-lane_owes : (tool : Tool) (lane lanes : ℕ) (l f o : List Message) (is : List Image) → IsLawfulTool tool → is_row_wise tool ≡ true → lane < lanes → l ≡ f ++ Stop ∷ [] → Completes is l → AnswersInFull tool (dealt lane lanes l) o
-    → IsFrontOf (dealt lane lanes (owed tool (images_ended l) (begun_in l) is)) o
+lane_owes : (tool : Tool) (lane lanes : ℕ) (l f o : List Message) (is : List Image) → IsLawfulTool tool → is_row_wise tool ≡ true → lane < lanes
+    → l ≡ f ++ Stop ∷ [] → Completes is l → AnswersInFull tool (dealt lane lanes l) o
+    → IsPrefixOf (dealt lane lanes (answers_owed tool (images_ended l) (begun_in l) is)) o
 lane_owes tool lane lanes l f o is lawful row_wise below parts completes full =
     let part : List Message = dealt lane lanes l in
     let cut : without_stop l ≡ f = ap without_stop parts ∙ stop_is_cut f in
     let split : part ≡ dealt lane lanes f ++ Stop ∷ [] = ap (dealt lane lanes) parts ∙ dealt_from-append lane lanes Between f (Stop ∷ []) in
     let cut_part : without_stop part ≡ dealt lane lanes f = ap without_stop split ∙ stop_is_cut (dealt lane lanes f) in
-    let seen : IsFrontOf (dealt lane lanes f) (messages_of_stream (dealt_images lane lanes is)) =
-    subst (IsFrontOf (dealt lane lanes f)) (stream_is_dealt lane lanes is completes.images)
-    (dealt_front lane lanes f (messages_of_stream is) (subst (λ (x : List Message). IsFrontOf x (messages_of_stream is)) cut completes.front)) in
-    let also : Completes (dealt_images lane lanes is) part = record { images = dealt_are_images lane lanes is completes.images; front = subst (λ (x : List Message). IsFrontOf x (messages_of_stream (dealt_images lane lanes is))) (sym cut_part) seen } in
-    let begun : begun_in part ≡ begun_in l = ap (λ (x : List Message). begun_of (place_of Between x)) cut_part ∙ dealt_begun lane lanes f ∙ ap (λ (x : List Message). begun_of (place_of Between x)) (sym cut) in
-    let same : owed tool (images_ended part) (begun_in part) (dealt_images lane lanes is) ≡ dealt lane lanes (owed tool (images_ended l) (begun_in l) is) =
-    ap (λ (n : ℕ). owed tool n (begun_in part) (dealt_images lane lanes is)) (dealt_ended lane lanes l)
-    ∙ ap (λ (b : _). owed tool (images_ended l) b (dealt_images lane lanes is)) begun
+    let seen : IsPrefixOf (dealt lane lanes f) (messages_of_stream (dealt_images lane lanes is)) =
+    subst (IsPrefixOf (dealt lane lanes f)) (stream_is_dealt lane lanes is completes.images)
+    (dealt_prefix lane lanes f (messages_of_stream is) (subst (λ (x : List Message). IsPrefixOf x (messages_of_stream is)) cut completes.prefix)) in
+    let also : Completes (dealt_images lane lanes is) part =
+    record {
+      images = dealt_are_images lane lanes is completes.images;
+      prefix = subst (λ (x : List Message). IsPrefixOf x (messages_of_stream (dealt_images lane lanes is))) (sym cut_part) seen;
+    } in
+    let begun : begun_in part ≡ begun_in l = ap (λ (x : List Message). begun_of (place_of Between x)) cut_part ∙ dealt_begun lane lanes f
+    ∙ ap (λ (x : List Message). begun_of (place_of Between x)) (sym cut) in
+    let same : answers_owed tool (images_ended part) (begun_in part) (dealt_images lane lanes is)
+    ≡ dealt lane lanes (answers_owed tool (images_ended l) (begun_in l) is) =
+    ap (λ (n : ℕ). answers_owed tool n (begun_in part) (dealt_images lane lanes is)) (dealt_ended lane lanes l)
+    ∙ ap (λ (b : _). answers_owed tool (images_ended l) b (dealt_images lane lanes is)) begun
     ∙ owed_is_dealt tool lane lanes (images_ended l) (begun_in l) is lawful row_wise below completes.images in
-    subst (λ (x : List Message). IsFrontOf x o) same (full.all (dealt_images lane lanes is) also)
+    subst (λ (x : List Message). IsPrefixOf x o) same (full.all (dealt_images lane lanes is) also)
 
 -- what ends with the beginning or the end of an image was sent
-sent_all : (js : List Image) (lanes : ℕ) (r : ℕ → List Message) (x g : List Message) → EndsAtImage x → IsFrontOf x (messages_of_stream js) → ((lane : ℕ) → lane < lanes → IsFrontOf (dealt lane lanes x) (r lane)) → HasSentAll js lanes r g → IsFrontOf x g
-sent_all js lanes r x g (inl none) front gave all = (g, ap (λ (y : List Message). y ++ g) (sym none))
-sent_all js lanes r x g (inr last) front gave all =
-    subst (λ (y : List Message). IsFrontOf y g) (sym last.3)
-    (all last.0 last.1 last.2 (subst (λ (y : List Message). IsFrontOf y (messages_of_stream js)) last.3 front)
-    (λ lane below. subst (λ (y : List Message). IsFrontOf (dealt lane lanes y) (r lane)) last.3 (gave lane below)))
+sent_all : (js : List Image) (lanes : ℕ) (r : ℕ → List Message) (x g : List Message) → EndsAtImage x → IsPrefixOf x (messages_of_stream js)
+    → ((lane : ℕ) → lane < lanes → IsPrefixOf (dealt lane lanes x) (r lane)) → HasSentAll js lanes r g → IsPrefixOf x g
+sent_all js lanes r x g (inl none) prefix gave all = (g, ap (λ (y : List Message). y ++ g) (sym none))
+sent_all js lanes r x g (inr last) prefix gave all =
+    subst (λ (y : List Message). IsPrefixOf y g) (sym last.3)
+    (all last.0 last.1 last.2 (subst (λ (y : List Message). IsPrefixOf y (messages_of_stream js)) last.3 prefix)
+    (λ lane below. subst (λ (y : List Message). IsPrefixOf (dealt lane lanes y) (r lane)) last.3 (gave lane below)))
 
-pub together_broken : {tool : Tool} {lanes : ℕ} {dealer : StageEnd} {e : ℕ → StageEnd} {l g : List Message} {d i o r : ℕ → List Message} → HaveRunTogether tool lanes dealer e Broken l d i o r g
+pub together_broken : {tool : Tool} {lanes : ℕ} {dealer : StageEnd} {e : ℕ → StageEnd} {l g : List Message} {d i o r : ℕ → List Message}
+    → HaveRunTogether tool lanes dealer e Broken l d i o r g
     → 0 < lanes → IsLawfulTool tool → is_row_wise tool ≡ true → IsFine dealer → ((lane : ℕ) → lane < lanes → IsFine (e lane)) → HasBrokenOff tool l g
 together_broken {tool = tool} {lanes = lanes} {dealer = dealer} {e = e} {l = l} {g = g} {d = d} {i = i} {o = o} {r = r} run some lawful row_wise fine fines =
     let stopped = run.gathered.ended.1 in
     let at : ℕ = stopped.0 in
-    let deal = broken_tells tool dealer (e at) at lanes l (d at) (i at) (o at) (r at) fine run.input (run.dealt at stopped.1) (run.received at stopped.1) (run.stages at stopped.1).ended (fines at stopped.1) (run.taken at stopped.1) stopped.2 in
+    let deal = broken_tells tool dealer (e at) at lanes l (d at) (i at) (o at) (r at) fine run.input (run.dealt at stopped.1) (run.received at stopped.1)
+    (run.stages at stopped.1).ended (fines at stopped.1) (run.taken at stopped.1) stopped.2 in
     let lane : (n : ℕ) → n < lanes → IsBrokenLane tool n lanes l (i n) (o n) (r n) = λ n below.
-    broken_lane tool (e n) n lanes l (d n) (i n) (o n) (r n) deal.broken (subst (λ (x : StageEnd). HasSentSo x n lanes l (d n)) deal.is_broken (run.dealt n below)) (run.received n below) (run.stages n below).ended (fines n below) (run.taken n below) (run.gathered.ended.0 n below) in
-    let part : (n : ℕ) (below : n < lanes) → AnswersInFull tool (dealt n lanes l) (o n) = λ n below. subst (λ (x : List Message). AnswersInFull tool x (o n)) (lane n below).part (lane n below).full in
+    broken_lane tool (e n) n lanes l (d n) (i n) (o n) (r n) deal.broken
+    (subst (λ (x : StageEnd). HasSentSo x n lanes l (d n)) deal.is_broken (run.dealt n below)) (run.received n below) (run.stages n below).ended
+    (fines n below) (run.taken n below) (run.gathered.ended.0 n below) in
+    let part : (n : ℕ) (below : n < lanes) → AnswersInFull tool (dealt n lanes l) (o n) = λ n below. subst (λ (x : List Message). AnswersInFull tool x (o n))
+    (lane n below).part (lane n below).full in
     let common = together run in
     let ends : EndsBy BrokenOff g = stopped_is_broken g run.gathered.ended.2 in
     let split = before_stop l deal.broken in
@@ -176,15 +199,18 @@ together_broken {tool = tool} {lanes = lanes} {dealer = dealer} {e = e} {l = l} 
       full = record {
         answers = record {
           lawful = deal.lawful;
-          front = λ is completes. due.front is (completes_front is l due.accepted due.rest due.parts completes);
-          stop = λ front is. deal.broken;
+          prefix = λ is completes. due.prefix is (completes_prefix is l due.accepted due.rest due.parts completes);
+          stop = λ prefix is. deal.broken;
         };
         taken = whole_is_taken tool 0 lanes l lawful row_wise some run.messages (part 0 some).taken;
         all = λ is completes.
             let owes = owed_of_results tool (images_ended l) (begun_in l) is in
-            let gathered = run.gathered.images (results_before tool is) (results_dealt run lawful row_wise is (completes_front is l common.accepted common.rest common.parts completes)) in
-            sent_all (results_before tool is) lanes r (owed tool (images_ended l) (begun_in l) is) g owes.1 owes.0
-            (λ n below. subst (IsFrontOf (dealt n lanes (owed tool (images_ended l) (begun_in l) is))) (sym (lane n below).all) (lane_owes tool n lanes l split.0 (o n) is lawful row_wise below split.2 completes (part n below)))
+            let gathered =
+            run.gathered.images (results_before tool is)
+            (results_dealt run lawful row_wise is (completes_prefix is l common.accepted common.rest common.parts completes)) in
+            sent_all (results_before tool is) lanes r (answers_owed tool (images_ended l) (begun_in l) is) g owes.1 owes.0
+            (λ n below. subst (IsPrefixOf (dealt n lanes (answers_owed tool (images_ended l) (begun_in l) is))) (sym (lane n below).all)
+            (lane_owes tool n lanes l split.0 (o n) is lawful row_wise below split.2 completes (part n below)))
             gathered.so;
         ends = λ end is. subst (λ (x : Ending). EndsBy x g) (one_ending BrokenOff end l deal.broken is) ends;
       };

@@ -8,9 +8,9 @@ use Rattle.pnm_image.specs.declared.place.Place.TheVariants.{Between, Inside, Af
 use Rattle.pnm_image.specs.Images.{Image}
 use Rattle.pnm_image.specs.Messages.{IsMessage, without_stop}
 use Rattle.pnm_image.specs.Places.{Accepts, IsLawful, place_of}
-use Rattle.pnm_image.specs.Completion.{IsFrontOf, Completes}
-use Rattle.pnm_image.proofs.Lists.{all_of_front}
-use Rattle.pnm_image.proofs.Places.{lawful_front, next_may_come}
+use Rattle.pnm_image.specs.Completion.{IsPrefixOf, Completes}
+use Rattle.pnm_image.proofs.Lists.{all_of_prefix}
+use Rattle.pnm_image.proofs.Places.{lawful_prefix, next_may_come}
 use Rattle.pnm_image.proofs.Streams.{completion, stream_is_lawful}
 use Rattle.pnm_tools.specs.declared.fault.ToolFault.{ToolFault}
 use Rattle.pnm_tools.specs.declared.fault.ToolFault.TheVariants.{CutOutside, ChannelOutside, TooLarge, OutOfOrder, Memory}
@@ -20,22 +20,22 @@ use Rattle.pnm_tools.specs.Answers.{More, Whole, BrokenOff, EndsBy, RefusesHead}
 use Rattle.pnm_tools.specs.ChainAnswers.{IsRefusedNext}
 use Rattle.pnm_tools.specs.Dealing.{dealt}
 use Rattle.pnm_tools.specs.Tools.{IsLawfulTool, is_row_wise, AreTaken}
-use Rattle.pnm_tools.proofs.FullLaws.{front_of_front}
+use Rattle.pnm_tools.proofs.FullLaws.{prefix_of_prefix}
 use Rattle.pnm_tools.proofs.HeadFaultLaws.{head_is_refused_by_name}
 use Rattle.pnm_stages.specs.declared.stage.StageEnd.{StageEnd}
 use Rattle.pnm_stages.specs.declared.stage.StageEnd.TheVariants.{Well, Broken, Fault, PeerGone}
 use Rattle.pnm_stages.specs.Rings.{IsEnded, EndsAtMostOnce}
 use Rattle.pnm_stages.specs.Stages.{HasFailed, HasEndedSo}
-use Rattle.pnm_stages.proofs.EndingLaws.{front_goes_on, stream_ends_whole}
+use Rattle.pnm_stages.proofs.EndingLaws.{prefix_goes_on, stream_ends_whole}
 use Rattle.pnm_stages.proofs.RingSteps.{ends_as}
 use Rattle.pnm_lanes.specs.Deals.{HasReceivedSo, HasSentSo}
 use Rattle.pnm_lanes.specs.Gathers.{HasGatheredSo, IsGathered}
 use Rattle.pnm_lanes.specs.LaneLaws.{results_before, dealt_images}
-use Rattle.pnm_lanes.specs.Lanes.{AreThere, IsFine, IsFirstOfThreads, IsFirstRefusal, IsFaultOf, HasFailedInLanes, HaveRunTogether}
+use Rattle.pnm_lanes.specs.Lanes.{AreThere, IsFine, IsFirstOfThreads, IsFirstRefusedHead, IsFaultOf, HasFailedInLanes, HaveRunTogether}
 use Rattle.pnm_lanes.proofs.LaneDue.{dealt_ends}
 use Rattle.pnm_lanes.proofs.LaneHeads.{refused_head_is_dealt}
 use Rattle.pnm_lanes.proofs.LaneLaws.{dealt_are_images, stream_is_dealt}
-use Rattle.pnm_lanes.proofs.LaneStages.{all_of_ended, not_both, cut_front, whole_lane, together, lane_receives, results_dealt}
+use Rattle.pnm_lanes.proofs.LaneStages.{all_of_ended, not_both, cut_prefix, whole_lane, together, lane_receives, results_dealt}
 
 -- ---- a message of a list that ends at most once
 
@@ -47,10 +47,10 @@ stays ImageEnd n l = refl
 stays StreamEnd n l = refl
 stays Stop n l = refl
 
-front_stays : (a : List Message) (m : Message) (b : List Message) → without_stop (a ++ m ∷ b) ≡ a ++ without_stop (m ∷ b)
-front_stays [] m b = refl
-front_stays (x ∷ []) m b = stays x m b
-front_stays (x ∷ y ∷ a) m b = stays x y (a ++ m ∷ b) ∙ ap (λ (l : List Message). x ∷ l) (front_stays (y ∷ a) m b)
+prefix_stays : (a : List Message) (m : Message) (b : List Message) → without_stop (a ++ m ∷ b) ≡ a ++ without_stop (m ∷ b)
+prefix_stays [] m b = refl
+prefix_stays (x ∷ []) m b = stays x m b
+prefix_stays (x ∷ y ∷ a) m b = stays x y (a ++ m ∷ b) ∙ ap (λ (l : List Message). x ∷ l) (prefix_stays (y ∷ a) m b)
 
 -- messages that go on don't lead behind the end of the stream
 not_after : (place : Place) (l : List Message) → place ≢ After → EndsBy More l → place_of place l ≢ After
@@ -76,18 +76,20 @@ stop_may_come (Inside s y) before = tt
 stop_may_come After before = absurd (before refl)
 
 -- each message of a list that is lawful without its last Stop is in order, where it ends at most once
-in_order : (a : List Message) (m : Message) (b : List Message) → IsLawful (without_stop (a ++ m ∷ b)) → EndsAtMostOnce (a ++ m ∷ b) → Accepts (place_of Between a) m
-in_order a Stop b lawful once = stop_may_come (place_of Between a) (not_after Between a (λ same. absurd cc) (front_goes_on once.0 a Stop b once.1))
-in_order a (Begin head) b lawful once = next_may_come Between a (Begin head) (without_stop b) (subst IsLawful (front_stays a (Begin head) b) lawful)
-in_order a (Row row) b lawful once = next_may_come Between a (Row row) (without_stop b) (subst IsLawful (front_stays a (Row row) b) lawful)
-in_order a ImageEnd b lawful once = next_may_come Between a ImageEnd (without_stop b) (subst IsLawful (front_stays a ImageEnd b) lawful)
-in_order a StreamEnd b lawful once = next_may_come Between a StreamEnd (without_stop b) (subst IsLawful (front_stays a StreamEnd b) lawful)
+in_order : (a : List Message) (m : Message) (b : List Message) → IsLawful (without_stop (a ++ m ∷ b)) → EndsAtMostOnce (a ++ m ∷ b)
+    → Accepts (place_of Between a) m
+in_order a Stop b lawful once = stop_may_come (place_of Between a) (not_after Between a (λ same. absurd cc) (prefix_goes_on once.0 a Stop b once.1))
+in_order a (Begin head) b lawful once = next_may_come Between a (Begin head) (without_stop b) (subst IsLawful (prefix_stays a (Begin head) b) lawful)
+in_order a (Row row) b lawful once = next_may_come Between a (Row row) (without_stop b) (subst IsLawful (prefix_stays a (Row row) b) lawful)
+in_order a ImageEnd b lawful once = next_may_come Between a ImageEnd (without_stop b) (subst IsLawful (prefix_stays a ImageEnd b) lawful)
+in_order a StreamEnd b lawful once = next_may_come Between a StreamEnd (without_stop b) (subst IsLawful (prefix_stays a StreamEnd b) lawful)
 
 -- ---- what a lane refuses
 
 -- never out of order, where the tool is row-wise
 no_head_out_of_order : (tool : Tool) (m : Message) → is_row_wise tool ≡ true → RefusesHead tool m OutOfOrder → ⊥
-no_head_out_of_order tool (Begin head) row_wise refused = let named = head_is_refused_by_name tool head OutOfOrder refused in let not = sym named.0 ∙ row_wise in absurd cc
+no_head_out_of_order tool (Begin head) row_wise refused = let named = head_is_refused_by_name tool head OutOfOrder refused in let not = sym named.0
+    ∙ row_wise in absurd cc
 no_head_out_of_order tool (Row row) row_wise refused = refused
 no_head_out_of_order tool ImageEnd row_wise refused = refused
 no_head_out_of_order tool StreamEnd row_wise refused = refused
@@ -107,19 +109,23 @@ no_head_cut_outside tool StreamEnd row_wise refused = refused
 no_head_cut_outside tool Stop row_wise refused = refused
 
 -- a head that a lane refuses is dealt from the first that the tool refuses
-head_of_all : (tool : Tool) (lane lanes : ℕ) (l front rest i before after : List Message) (m : Message) (fault : ToolFault) → IsLawfulTool tool → is_row_wise tool ≡ true → lane < lanes → AllByRecursion IsMessage l → l ≡ front ++ rest
-    → IsFrontOf (without_stop i) (dealt lane lanes front) → i ≡ before ++ m ∷ after → AreTaken tool before → RefusesHead tool m fault → IsFirstRefusal tool fault l
-head_of_all tool lane lanes l front rest i before after (Row row) fault lawful row_wise below messages parts gets is taken refused = absurd refused
-head_of_all tool lane lanes l front rest i before after ImageEnd fault lawful row_wise below messages parts gets is taken refused = absurd refused
-head_of_all tool lane lanes l front rest i before after StreamEnd fault lawful row_wise below messages parts gets is taken refused = absurd refused
-head_of_all tool lane lanes l front rest i before after Stop fault lawful row_wise below messages parts gets is taken refused = absurd refused
-head_of_all tool lane lanes l front rest i before after (Begin part) fault lawful row_wise below messages parts gets is taken refused =
+head_of_all : (tool : Tool) (lane lanes : ℕ) (l prefix rest i before after : List Message) (m : Message) (fault : ToolFault) → IsLawfulTool tool
+    → is_row_wise tool ≡ true → lane < lanes → AllByRecursion IsMessage l → l ≡ prefix ++ rest
+    → IsPrefixOf (without_stop i) (dealt lane lanes prefix) → i ≡ before ++ m ∷ after → AreTaken tool before → RefusesHead tool m fault
+    → IsFirstRefusedHead tool fault l
+head_of_all tool lane lanes l prefix rest i before after (Row row) fault lawful row_wise below messages parts gets is taken refused = absurd refused
+head_of_all tool lane lanes l prefix rest i before after ImageEnd fault lawful row_wise below messages parts gets is taken refused = absurd refused
+head_of_all tool lane lanes l prefix rest i before after StreamEnd fault lawful row_wise below messages parts gets is taken refused = absurd refused
+head_of_all tool lane lanes l prefix rest i before after Stop fault lawful row_wise below messages parts gets is taken refused = absurd refused
+head_of_all tool lane lanes l prefix rest i before after (Begin part) fault lawful row_wise below messages parts gets is taken refused =
     let more : List Message = without_stop after ++ gets.0 in
-    let whole : dealt lane lanes front ≡ before ++ Begin part ∷ more =
-    gets.1 ∙ ap (λ (x : List Message). without_stop x ++ gets.0) is ∙ ap (λ (x : List Message). x ++ gets.0) (front_stays before (Begin part) after) ∙ append_assoc before (Begin part ∷ without_stop after) gets.0 in
-    let found = refused_head_is_dealt tool lane lanes front before part more fault lawful row_wise below (all_of_front IsMessage front rest (subst (AllByRecursion IsMessage) parts messages)) whole taken refused in
+    let whole : dealt lane lanes prefix ≡ before ++ Begin part ∷ more =
+    gets.1 ∙ ap (λ (x : List Message). without_stop x ++ gets.0) is ∙ ap (λ (x : List Message). x ++ gets.0) (prefix_stays before (Begin part) after)
+    ∙ append_assoc before (Begin part ∷ without_stop after) gets.0 in
+    let found = refused_head_is_dealt tool lane lanes prefix before part more fault lawful row_wise below
+    (all_of_prefix IsMessage prefix rest (subst (AllByRecursion IsMessage) parts messages)) whole taken refused in
     record {
-      front = found.0;
+      prefix = found.0;
       head = found.1;
       rest = found.2 ++ rest;
       parts = parts ∙ ap (λ (x : List Message). x ++ rest) found.3 ∙ append_assoc found.0 (Begin found.1 ∷ found.2) rest;
@@ -128,25 +134,31 @@ head_of_all tool lane lanes l front rest i before after (Begin part) fault lawfu
     }
 
 -- what a fault of a lane says of all messages, where they are lawful
-lane_refused : (tool : Tool) (fault : ToolFault) (lane lanes : ℕ) (l front rest i before after : List Message) → IsLawfulTool tool → is_row_wise tool ≡ true → lane < lanes → AllByRecursion IsMessage l → IsLawful l → l ≡ front ++ rest
-    → IsFrontOf (without_stop i) (dealt lane lanes front) → IsLawful (without_stop i) → EndsAtMostOnce i → i ≡ before ++ after → AreTaken tool before → IsRefusedNext tool fault before after → IsFaultOf tool fault l
-lane_refused tool fault lane lanes l front rest i before [] lawful row_wise below messages whole parts gets ordered once is taken refused = absurd refused
-lane_refused tool CutOutside lane lanes l front rest i before (m ∷ after) lawful row_wise below messages whole parts gets ordered once is taken refused = absurd (no_head_cut_outside tool m row_wise refused.1)
-lane_refused tool ChannelOutside lane lanes l front rest i before (m ∷ after) lawful row_wise below messages whole parts gets ordered once is taken refused =
-    (whole, head_of_all tool lane lanes l front rest i before after m ChannelOutside lawful row_wise below messages parts gets is taken refused.1)
-lane_refused tool TooLarge lane lanes l front rest i before (m ∷ after) lawful row_wise below messages whole parts gets ordered once is taken refused =
-    (whole, head_of_all tool lane lanes l front rest i before after m TooLarge lawful row_wise below messages parts gets is taken refused.1)
-lane_refused tool Memory lane lanes l front rest i before (m ∷ after) lawful row_wise below messages whole parts gets ordered once is taken refused = tt
-lane_refused tool OutOfOrder lane lanes l front rest i before (m ∷ after) lawful row_wise below messages whole parts gets ordered once is taken (inl not) =
+lane_refused : (tool : Tool) (fault : ToolFault) (lane lanes : ℕ) (l prefix rest i before after : List Message) → IsLawfulTool tool → is_row_wise tool ≡ true
+    → lane < lanes → AllByRecursion IsMessage l → IsLawful l → l ≡ prefix ++ rest
+    → IsPrefixOf (without_stop i) (dealt lane lanes prefix) → IsLawful (without_stop i) → EndsAtMostOnce i → i ≡ before ++ after → AreTaken tool before
+    → IsRefusedNext tool fault before after → IsFaultOf tool fault l
+lane_refused tool fault lane lanes l prefix rest i before [] lawful row_wise below messages whole parts gets ordered once is taken refused = absurd refused
+lane_refused tool CutOutside lane lanes l prefix rest i before (m ∷ after) lawful row_wise below messages whole parts gets ordered once is taken refused =
+    absurd (no_head_cut_outside tool m row_wise refused.1)
+lane_refused tool ChannelOutside lane lanes l prefix rest i before (m ∷ after) lawful row_wise below messages whole parts gets ordered once is taken refused =
+    (whole, head_of_all tool lane lanes l prefix rest i before after m ChannelOutside lawful row_wise below messages parts gets is taken refused.1)
+lane_refused tool TooLarge lane lanes l prefix rest i before (m ∷ after) lawful row_wise below messages whole parts gets ordered once is taken refused =
+    (whole, head_of_all tool lane lanes l prefix rest i before after m TooLarge lawful row_wise below messages parts gets is taken refused.1)
+lane_refused tool Memory lane lanes l prefix rest i before (m ∷ after) lawful row_wise below messages whole parts gets ordered once is taken refused = tt
+lane_refused tool OutOfOrder lane lanes l prefix rest i before (m ∷ after) lawful row_wise below messages whole parts gets ordered once is taken (inl not) =
     absurd (not (refl, in_order before m after (subst (λ (x : List Message). IsLawful (without_stop x)) is ordered) (subst EndsAtMostOnce is once)))
-lane_refused tool OutOfOrder lane lanes l front rest i before (m ∷ after) lawful row_wise below messages whole parts gets ordered once is taken (inr refused) = absurd (no_head_out_of_order tool m row_wise refused)
+lane_refused tool OutOfOrder lane lanes l prefix rest i before (m ∷ after) lawful row_wise below messages whole parts gets ordered once is taken (inr refused) =
+    absurd (no_head_out_of_order tool m row_wise refused)
 
-lane_failed : (tool : Tool) (fault : ToolFault) (lane lanes : ℕ) (l front rest i o : List Message) → IsLawfulTool tool → is_row_wise tool ≡ true → lane < lanes → AllByRecursion IsMessage l → IsLawful l → l ≡ front ++ rest
-    → IsFrontOf (without_stop i) (dealt lane lanes front) → IsLawful (without_stop i) → EndsAtMostOnce i → HasFailed tool fault i o → IsFaultOf tool fault l
-lane_failed tool fault lane lanes l front rest i o lawful row_wise below messages whole parts gets ordered once failed =
+lane_failed : (tool : Tool) (fault : ToolFault) (lane lanes : ℕ) (l prefix rest i o : List Message) → IsLawfulTool tool → is_row_wise tool ≡ true → lane < lanes
+    → AllByRecursion IsMessage l → IsLawful l → l ≡ prefix ++ rest
+    → IsPrefixOf (without_stop i) (dealt lane lanes prefix) → IsLawful (without_stop i) → EndsAtMostOnce i → HasFailed tool fault i o → IsFaultOf tool fault l
+lane_failed tool fault lane lanes l prefix rest i o lawful row_wise below messages whole parts gets ordered once failed =
     elim failed.refused.refused [
       | inl memory ↦ subst (λ (f : ToolFault). IsFaultOf tool f l) (sym memory.0) tt
-      | inr next ↦ lane_refused tool fault lane lanes l front rest i failed.refused.accepted failed.refused.rest lawful row_wise below messages whole parts gets ordered once failed.refused.parts failed.refused.taken next.1
+      | inr next ↦ lane_refused tool fault lane lanes l prefix rest i failed.refused.accepted failed.refused.rest lawful row_wise below messages whole parts
+          gets ordered once failed.refused.parts failed.refused.taken next.1
     ]
 
 -- ---- what the dealer and the gatherer refuse
@@ -175,7 +187,8 @@ dealer_ended (Fault OutOfOrder) l there input = input.0
 dealer_ended (Fault Memory) l there input = input
 dealer_ended PeerGone l there input = absurd (there refl)
 
-never_failed : (gatherer : StageEnd) (fault : ToolFault) (js : List Image) (lanes : ℕ) (r : ℕ → List Message) (g : List Message) → gatherer ≡ Fault fault → HasGatheredSo gatherer js lanes r g → ⊥
+never_failed : (gatherer : StageEnd) (fault : ToolFault) (js : List Image) (lanes : ℕ) (r : ℕ → List Message) (g : List Message) → gatherer ≡ Fault fault
+    → HasGatheredSo gatherer js lanes r g → ⊥
 never_failed Well fault js lanes r g same so = absurd cc
 never_failed Broken fault js lanes r g same so = absurd cc
 never_failed (Fault other) fault js lanes r g same so = so
@@ -184,32 +197,42 @@ never_failed PeerGone fault js lanes r g same so = absurd cc
 -- ---- together
 
 -- images that complete what all lanes were dealt
-completed : {tool : Tool} {lanes : ℕ} {dealer : StageEnd} {e : ℕ → StageEnd} {gatherer : StageEnd} {l g : List Message} {d i o r : ℕ → List Message} (run : HaveRunTogether tool lanes dealer e gatherer l d i o r g) → (is : List Image) × Completes is (together run).accepted
+completed : {tool : Tool} {lanes : ℕ} {dealer : StageEnd} {e : ℕ → StageEnd} {gatherer : StageEnd} {l g : List Message} {d i o r : ℕ → List Message}
+    (run : HaveRunTogether tool lanes dealer e gatherer l d i o r g) → (is : List Image) × Completes is (together run).accepted
 completed {l = l} run =
     let common = together run in
-    let found = completion common.accepted (all_of_front IsMessage common.accepted common.rest (subst (AllByRecursion IsMessage) common.parts run.messages)) common.lawful in
-    (found.0, record { images = found.1; front = found.2 })
+    let found = completion common.accepted (all_of_prefix IsMessage common.accepted common.rest (subst (AllByRecursion IsMessage) common.parts run.messages))
+    common.lawful in
+    (found.0, record { images = found.1; prefix = found.2 })
 
 -- what a lane received is lawful without a last Stop
-lane_is_lawful : {tool : Tool} {lanes : ℕ} {dealer : StageEnd} {e : ℕ → StageEnd} {gatherer : StageEnd} {l g : List Message} {d i o r : ℕ → List Message} (run : HaveRunTogether tool lanes dealer e gatherer l d i o r g) (lane : ℕ) → lane < lanes → IsLawful (without_stop (i lane))
+lane_is_lawful : {tool : Tool} {lanes : ℕ} {dealer : StageEnd} {e : ℕ → StageEnd} {gatherer : StageEnd} {l g : List Message} {d i o r : ℕ → List Message}
+    (run : HaveRunTogether tool lanes dealer e gatherer l d i o r g) (lane : ℕ) → lane < lanes → IsLawful (without_stop (i lane))
 lane_is_lawful {lanes = lanes} {i = i} run lane below =
     let found = completed run in
-    let seen = subst (IsFrontOf (without_stop (i lane))) (stream_is_dealt lane lanes found.0 found.1.images) (lane_receives run found.0 found.1 lane below) in
-    lawful_front Between (without_stop (i lane)) seen.0 (subst IsLawful seen.1 (stream_is_lawful (dealt_images lane lanes found.0) (dealt_are_images lane lanes found.0 found.1.images)))
+    let seen = subst (IsPrefixOf (without_stop (i lane))) (stream_is_dealt lane lanes found.0 found.1.images) (lane_receives run found.0 found.1 lane below) in
+    lawful_prefix Between (without_stop (i lane)) seen.0
+    (subst IsLawful seen.1 (stream_is_lawful (dealt_images lane lanes found.0) (dealt_are_images lane lanes found.0 found.1.images)))
 
-lane_cause : {tool : Tool} {lanes : ℕ} {dealer : StageEnd} {e : ℕ → StageEnd} {gatherer : StageEnd} {l g : List Message} {d i o r : ℕ → List Message} (run : HaveRunTogether tool lanes dealer e gatherer l d i o r g) (fault : ToolFault) (lane : ℕ)
+lane_cause : {tool : Tool} {lanes : ℕ} {dealer : StageEnd} {e : ℕ → StageEnd} {gatherer : StageEnd} {l g : List Message} {d i o r : ℕ → List Message}
+    (run : HaveRunTogether tool lanes dealer e gatherer l d i o r g) (fault : ToolFault) (lane : ℕ)
     → IsLawfulTool tool → is_row_wise tool ≡ true → lane < lanes → IsLawful l → e lane ≡ Fault fault → IsFaultOf tool fault l
 lane_cause {tool = tool} {lanes = lanes} {l = l} {d = d} {i = i} {o = o} run fault lane lawful row_wise below whole is =
     let common = together run in
-    let gets = front_of_front (without_stop (i lane)) (without_stop (d lane)) (dealt lane lanes common.accepted) (cut_front (i lane) (d lane) (run.received lane below)) (common.sent lane below) in
-    lane_failed tool fault lane lanes l common.accepted common.rest (i lane) (o lane) lawful row_wise below run.messages whole common.parts gets (lane_is_lawful run lane below) (run.stages lane below).once
+    let gets = prefix_of_prefix (without_stop (i lane)) (without_stop (d lane)) (dealt lane lanes common.accepted)
+    (cut_prefix (i lane) (d lane) (run.received lane below)) (common.sent lane below) in
+    lane_failed tool fault lane lanes l common.accepted common.rest (i lane) (o lane) lawful row_wise below run.messages whole common.parts gets
+    (lane_is_lawful run lane below) (run.stages lane below).once
     (subst (λ (x : StageEnd). HasEndedSo tool x (i lane) (o lane)) is (run.stages lane below).ended)
 
 -- the cause of a fault
-cause_tells : {tool : Tool} {lanes : ℕ} {dealer : StageEnd} {e : ℕ → StageEnd} {gatherer : StageEnd} {l g : List Message} {d i o r : ℕ → List Message} (run : HaveRunTogether tool lanes dealer e gatherer l d i o r g) (fault : ToolFault)
+cause_tells : {tool : Tool} {lanes : ℕ} {dealer : StageEnd} {e : ℕ → StageEnd} {gatherer : StageEnd} {l g : List Message} {d i o r : ℕ → List Message}
+    (run : HaveRunTogether tool lanes dealer e gatherer l d i o r g) (fault : ToolFault)
     → IsLawfulTool tool → is_row_wise tool ≡ true → IsFirstOfThreads lanes dealer e gatherer fault → IsFaultOf tool fault l
-cause_tells {tool = tool} {l = l} run fault lawful row_wise (inl dealer) = dealer_failed tool fault l (subst (λ (x : StageEnd). HasReceivedSo x l) dealer run.input)
-cause_tells {dealer = dealer} {l = l} run fault lawful row_wise (inr (inl found)) = lane_cause run fault found.1.0 lawful row_wise found.1.1 (dealer_fine dealer l found.0 run.input) found.1.2
+cause_tells {tool = tool} {l = l} run fault lawful row_wise (inl dealer) =
+    dealer_failed tool fault l (subst (λ (x : StageEnd). HasReceivedSo x l) dealer run.input)
+cause_tells {dealer = dealer} {l = l} run fault lawful row_wise (inr (inl found)) =
+    lane_cause run fault found.1.0 lawful row_wise found.1.1 (dealer_fine dealer l found.0 run.input) found.1.2
 cause_tells {tool = tool} {lanes = lanes} {gatherer = gatherer} {g = g} {r = r} run fault lawful row_wise (inr (inr gathered)) =
     let found = completed run in
     let js : List Image = results_before tool found.0 in
@@ -217,9 +240,11 @@ cause_tells {tool = tool} {lanes = lanes} {gatherer = gatherer} {g = g} {r = r} 
 
 -- where the gatherer ended well none has failed
 whole_part : {lanes : ℕ} {g : List Message} {r : ℕ → List Message} → IsGathered Well lanes r g → (lane : ℕ) → lane < lanes → EndsBy Whole (r lane)
-whole_part {lanes = lanes} {g = g} gathered lane below = subst (EndsBy Whole) (sym (gathered.ended.1 lane below)) (dealt_ends Whole lane lanes g gathered.ended.0)
+whole_part {lanes = lanes} {g = g} gathered lane below =
+    subst (EndsBy Whole) (sym (gathered.ended.1 lane below)) (dealt_ends Whole lane lanes g gathered.ended.0)
 
-no_fault_well : {tool : Tool} {lanes : ℕ} {dealer : StageEnd} {e : ℕ → StageEnd} {l g : List Message} {d i o r : ℕ → List Message} (run : HaveRunTogether tool lanes dealer e Well l d i o r g) (fault : ToolFault)
+no_fault_well : {tool : Tool} {lanes : ℕ} {dealer : StageEnd} {e : ℕ → StageEnd} {l g : List Message} {d i o r : ℕ → List Message}
+    (run : HaveRunTogether tool lanes dealer e Well l d i o r g) (fault : ToolFault)
     → 0 < lanes → ((lane : ℕ) → lane < lanes → e lane ≢ PeerGone) → IsFirstOfThreads lanes dealer e Well fault → ⊥
 no_fault_well {tool = tool} {lanes = lanes} {e = e} {l = l} {d = d} {i = i} {o = o} {r = r} run fault some there (inl dealer) =
     let lane = whole_lane tool (e 0) (i 0) (o 0) (r 0) (run.stages 0 some).ended (there 0 some) (run.taken 0 some) (whole_part run.gathered 0 some) in
@@ -235,8 +260,10 @@ no_fault_well {tool = tool} {lanes = lanes} {e = e} {i = i} {o = o} {r = r} run 
     absurd cc
 no_fault_well run fault some there (inr (inr gathered)) = let not = gathered.2 in absurd cc
 
-pub together_failed : {tool : Tool} {lanes : ℕ} {dealer : StageEnd} {e : ℕ → StageEnd} {l g : List Message} {d i o r : ℕ → List Message} (gatherer : StageEnd) → HaveRunTogether tool lanes dealer e gatherer l d i o r g → (fault : ToolFault)
-    → 0 < lanes → IsLawfulTool tool → is_row_wise tool ≡ true → IsFirstOfThreads lanes dealer e gatherer fault → AreThere lanes dealer e gatherer → HasFailedInLanes tool fault l g
+pub together_failed : {tool : Tool} {lanes : ℕ} {dealer : StageEnd} {e : ℕ → StageEnd} {l g : List Message} {d i o r : ℕ → List Message} (gatherer : StageEnd)
+    → HaveRunTogether tool lanes dealer e gatherer l d i o r g → (fault : ToolFault)
+    → 0 < lanes → IsLawfulTool tool → is_row_wise tool ≡ true → IsFirstOfThreads lanes dealer e gatherer fault → AreThere lanes dealer e gatherer
+    → HasFailedInLanes tool fault l g
 together_failed {dealer = dealer} {l = l} Well run fault some lawful row_wise cause there = absurd (no_fault_well run fault some there.1 cause)
 together_failed {dealer = dealer} {l = l} Broken run fault some lawful row_wise cause there = record {
   of_input = cause_tells run fault lawful row_wise cause;

@@ -24,43 +24,53 @@ dealt_are_images lane lanes [] are = tt
 dealt_are_images lane lanes (i ∷ is) are = (dealt_image_is_image lane lanes i are.0, dealt_are_images lane lanes is are.1)
 
 -- the rows of an image from row y on and its end, dealt, and then more
-rows_are_dealt : (lane lanes : ℕ) (s : Shape) (y : ℕ) (rows : List (List ℕ)) (rest : List Message) → dealt_from lane lanes (Inside s y) ((map Row rows ++ ImageEnd ∷ []) ++ rest) ≡ (map Row (dealt_rows lane lanes y rows) ++ ImageEnd ∷ []) ++ dealt_from lane lanes Between rest
+rows_are_dealt : (lane lanes : ℕ) (s : Shape) (y : ℕ) (rows : List (List ℕ)) (rest : List Message)
+    → dealt_from lane lanes (Inside s y) ((map Row rows ++ ImageEnd ∷ []) ++ rest) ≡ (map Row (dealt_rows lane lanes y rows) ++ ImageEnd ∷ [])
+    ++ dealt_from lane lanes Between rest
 rows_are_dealt lane lanes s y [] rest = refl
 rows_are_dealt lane lanes s y (row ∷ rows) rest =
     let here : List Message = map Row (dealt_row lane lanes y row) in
     let others : List Message = map Row (dealt_rows lane lanes (y + 1) rows) in
     let more : List Message = dealt_from lane lanes Between rest in
-    let all : map Row (dealt_rows lane lanes y (row ∷ rows)) ≡ here ++ others = map-append Row (dealt_row lane lanes y row) (dealt_rows lane lanes (y + 1) rows) in
+    let all : map Row (dealt_rows lane lanes y (row ∷ rows)) ≡ here ++ others =
+    map-append Row (dealt_row lane lanes y row) (dealt_rows lane lanes (y + 1) rows) in
     ap (λ (x : List Message). here ++ x) (rows_are_dealt lane lanes s (y + 1) rows rest)
     ∙ sym (append_assoc here (others ++ ImageEnd ∷ []) more)
     ∙ ap (λ (x : List Message). x ++ more) (sym (append_assoc here others (ImageEnd ∷ [])))
     ∙ ap (λ (x : List Message). (x ++ ImageEnd ∷ []) ++ more) (sym all)
 
 -- an image, dealt, and then more
-pub image_is_dealt : (lane lanes : ℕ) (i : Image) (rest : List Message) → IsImage i → dealt lane lanes (messages_of_image i ++ rest) ≡ messages_of_image (dealt_image lane lanes i) ++ dealt lane lanes rest
+pub image_is_dealt : (lane lanes : ℕ) (i : Image) (rest : List Message) → IsImage i
+    → dealt lane lanes (messages_of_image i ++ rest) ≡ messages_of_image (dealt_image lane lanes i) ++ dealt lane lanes rest
 image_is_dealt lane lanes i rest is =
     ap (λ (x : List Message). Begin (dealt_head lane lanes i.head) ∷ x) (rows_are_dealt lane lanes i.head.shape 0 (rows_of i) rest)
-    ∙ ap (λ (rows : List (List ℕ)). Begin (dealt_head lane lanes i.head) ∷ ((map Row rows ++ ImageEnd ∷ []) ++ dealt lane lanes rest)) (sym (rows_of-dealt_image lane lanes i is))
+    ∙ ap (λ (rows : List (List ℕ)). Begin (dealt_head lane lanes i.head) ∷ ((map Row rows ++ ImageEnd ∷ []) ++ dealt lane lanes rest))
+    (sym (rows_of-dealt_image lane lanes i is))
 
-pub stream_is_dealt : (lane lanes : ℕ) (is : List Image) → AreImages is → dealt lane lanes (messages_of_stream is) ≡ messages_of_stream (dealt_images lane lanes is)
+pub stream_is_dealt : (lane lanes : ℕ) (is : List Image) → AreImages is
+    → dealt lane lanes (messages_of_stream is) ≡ messages_of_stream (dealt_images lane lanes is)
 stream_is_dealt lane lanes [] are = refl
 stream_is_dealt lane lanes (i ∷ is) are =
-    image_is_dealt lane lanes i (messages_of_stream is) are.0 ∙ ap (λ (x : List Message). messages_of_image (dealt_image lane lanes i) ++ x) (stream_is_dealt lane lanes is are.1)
+    image_is_dealt lane lanes i (messages_of_stream is) are.0 ∙ ap (λ (x : List Message). messages_of_image (dealt_image lane lanes i) ++ x)
+    (stream_is_dealt lane lanes is are.1)
 
 -- ---- what is due
 
 -- by what becomes of the first image
 due_by_is_dealt : (tool : Tool) (lane lanes : ℕ) (i : Image) (is : List Image) (r : Result Image ToolFault) → IsLawfulTool tool → IsImage i → applied tool i ≡ r
-    → output_due tool (dealt_images lane lanes is) ≡ dealt lane lanes (output_due tool is) → due_by tool (dealt_images lane lanes is) (dealt_result lane lanes r) ≡ dealt lane lanes (due_by tool is r)
+    → output_due tool (dealt_images lane lanes is) ≡ dealt lane lanes (output_due tool is)
+    → due_by tool (dealt_images lane lanes is) (dealt_result lane lanes r) ≡ dealt lane lanes (due_by tool is r)
 due_by_is_dealt tool lane lanes i is (Err fault) lawful image made others = refl
 due_by_is_dealt tool lane lanes i is (Ok j) lawful image made others =
-    ap (λ (x : List Message). messages_of_image (dealt_image lane lanes j) ++ x) others ∙ sym (image_is_dealt lane lanes j (output_due tool is) (result_is_image tool i j lawful image made))
+    ap (λ (x : List Message). messages_of_image (dealt_image lane lanes j) ++ x) others
+    ∙ sym (image_is_dealt lane lanes j (output_due tool is) (result_is_image tool i j lawful image made))
 
 nothing_due : (tool : Tool) (lane lanes : ℕ) → output_due tool [] ≡ dealt lane lanes (output_due tool [])
 unfolding output_due
 nothing_due tool lane lanes = refl
 
-pub due_is_dealt : (tool : Tool) (lane lanes : ℕ) (is : List Image) → IsLawfulTool tool → is_row_wise tool ≡ true → lane < lanes → AreImages is → output_due tool (dealt_images lane lanes is) ≡ dealt lane lanes (output_due tool is)
+pub due_is_dealt : (tool : Tool) (lane lanes : ℕ) (is : List Image) → IsLawfulTool tool → is_row_wise tool ≡ true → lane < lanes → AreImages is
+    → output_due tool (dealt_images lane lanes is) ≡ dealt lane lanes (output_due tool is)
 due_is_dealt tool lane lanes [] lawful row_wise below are = nothing_due tool lane lanes
 due_is_dealt tool lane lanes (i ∷ is) lawful row_wise below are =
     let commutes : IsRowWise tool = (row_wise_tools_commute tool lawful).0 row_wise in
@@ -71,7 +81,8 @@ due_is_dealt tool lane lanes (i ∷ is) lawful row_wise below are =
 
 -- ---- results
 
-result_is_dealt : (lane lanes : ℕ) (r : Result Image ToolFault) (k : Image) → dealt_result lane lanes r ≡ Ok k → (j : Image) × (r ≡ Ok j) × (k ≡ dealt_image lane lanes j)
+result_is_dealt : (lane lanes : ℕ) (r : Result Image ToolFault) (k : Image) → dealt_result lane lanes r ≡ Ok k → (j : Image) × (r ≡ Ok j)
+    × (k ≡ dealt_image lane lanes j)
 result_is_dealt lane lanes (Ok j) k e = (j, refl, let same : dealt_image lane lanes j ≡ k = cc in sym same)
 result_is_dealt lane lanes (Err fault) k e = absurd cc
 

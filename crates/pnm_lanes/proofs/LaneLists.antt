@@ -8,7 +8,8 @@ use Rattle.pnm_lanes.specs.Gathers.{at_lane, AreSameInputs}
 
 -- ---- what has passed in the ring of a lane
 
-pub at_lane-get : {X : Type 0} (of : X → List Message) (ends : List X) (lane : ℕ) (other : X) → lane < length ends → at_lane of ends lane ≡ of (get_or ends lane other)
+pub at_lane-get : {X : Type 0} (of : X → List Message) (ends : List X) (lane : ℕ) (other : X) → lane < length ends
+    → at_lane of ends lane ≡ of (get_or ends lane other)
 at_lane-get of [] lane other below = absurd (omega arith)
 at_lane-get of (end ∷ ends) zero other below = refl
 at_lane-get of (end ∷ ends) (suc lane) other below = at_lane-get of ends lane other (omega arith)
@@ -19,7 +20,8 @@ at_lane-set of [] lane new below = absurd (omega arith)
 at_lane-set of (end ∷ ends) zero new below = refl
 at_lane-set of (end ∷ ends) (suc lane) new below = at_lane-set of ends lane new (omega arith)
 
-pub at_lane-others : {X : Type 0} (of : X → List Message) (ends : List X) (lane : ℕ) (new : X) (other : ℕ) → other ≢ lane → at_lane of (set ends lane new) other ≡ at_lane of ends other
+pub at_lane-others : {X : Type 0} (of : X → List Message) (ends : List X) (lane : ℕ) (new : X) (other : ℕ) → other ≢ lane
+    → at_lane of (set ends lane new) other ≡ at_lane of ends other
 at_lane-others of [] lane new other differ = refl
 at_lane-others of (end ∷ ends) zero new zero differ = absurd (differ refl)
 at_lane-others of (end ∷ ends) zero new (suc other) differ = refl
@@ -32,7 +34,8 @@ pub are_themselves : (ends : List Receiver) → AreSameInputs ends ends
 are_themselves [] = tt
 are_themselves (end ∷ ends) = (itself_input end, are_themselves ends)
 
-pub one_changed : (ends : List Receiver) (lane : ℕ) (new other : Receiver) → lane < length ends → SameConsumer (get_or ends lane other) new → AreSameInputs ends (set ends lane new)
+pub one_changed : (ends : List Receiver) (lane : ℕ) (new other : Receiver) → lane < length ends → SameConsumer (get_or ends lane other) new
+    → AreSameInputs ends (set ends lane new)
 one_changed [] lane new other below same = tt
 one_changed (end ∷ ends) zero new other below same = (same, are_themselves ends)
 one_changed (end ∷ ends) (suc lane) new other below same = (itself_input end, one_changed ends lane new other (omega arith) same)

@@ -4,7 +4,7 @@ use Rattle.pnm_stages.specs.declared.sender.Sender.{Sender}
 use Rattle.pnm_stages.specs.declared.receiver.Receiver.{Receiver}
 use Rattle.pnm_stages.specs.Rings.{sent, received, known_items}
 use Rattle.pnm_image.specs.declared.message.Message.{Message}
-use Rattle.pnm_image.specs.Completion.{IsFrontOf}
+use Rattle.pnm_image.specs.Completion.{IsPrefixOf}
 use Rattle.pnm_tools.specs.declared.fault.ToolFault.{ToolFault}
 use Rattle.pnm_tools.specs.declared.tool.Tool.{Tool}
 use Rattle.pnm_tools.specs.Tools.{IsLawfulTool, is_row_wise}
@@ -16,7 +16,7 @@ use Rattle.pnm_stages.specs.declared.stage.StageDone.{StageDone}
 use Rattle.pnm_lanes.specs.declared.joining.LanesDone.{LanesDone}
 use Rattle.pnm_lanes.specs.declared.lane_rings.LaneEnds.{LaneEnds}
 use Rattle.pnm_lanes.specs.declared.lanes.OuterEnds.{OuterEnds}
-use Rattle.pnm_lanes.specs.Deals.{AtEachFrom, HasLane, HasSentSo, IsFrontOfDealt}
+use Rattle.pnm_lanes.specs.Deals.{AtEachFrom, HasLane, HasSentSo, IsPrefixOfDealt}
 use Rattle.pnm_lanes.specs.Gathers.{at_lane, AreSameInputs, IsGathered}
 use Rattle.pnm_lanes.specs.LaneRings.{AreUnused, ArePairs}
 use Rattle.pnm_lanes.specs.LaneRuns.{end_of_both, AreLanesRun, HaveRun, HasRunLanes}
@@ -37,7 +37,8 @@ as_many_unused (s ∷ ss) (e ∷ es) (r ∷ rs) unused =
     (ap suc rest.0, ap suc rest.1)
 
 -- they are still pairs once the threads have ended
-pub pairs_after : (tool : Tool) (end : StageEnd) (lanes n : ℕ) (l : List Message) (ss ss' : List Sender) (es : List LaneEnds) (ds : List StageDone) (rs rs' : List Receiver)
+pub pairs_after : (tool : Tool) (end : StageEnd) (lanes n : ℕ) (l : List Message) (ss ss' : List Sender) (es : List LaneEnds) (ds : List StageDone)
+    (rs rs' : List Receiver)
     → AreUnused ss es rs → AtEachFrom (HasLane end lanes l) n ss ss' → AreLanesRun tool es ds → AreSameInputs rs rs' → ArePairs ss' ds rs'
 pairs_after tool end lanes n l [] [] [] [] [] [] unused dealt run same = tt
 pairs_after tool end lanes n l [] (s' ∷ ss') es ds rs rs' unused dealt run same = absurd dealt
@@ -63,7 +64,8 @@ record NothingPassed (ss : List Sender) (es : List LaneEnds) (rs : List Receiver
   of_lanes : (lane : ℕ) → at_lane (λ (e : LaneEnds). sent e.output) es lane ≡ []
   from_lanes : (lane : ℕ) → at_lane received rs lane ≡ []
 
-first_or : {X : Type 0} (of : X → List Message) (x : X) (xs : List X) → of x ≡ [] → ((lane : ℕ) → at_lane of xs lane ≡ []) → (lane : ℕ) → at_lane of (x ∷ xs) lane ≡ []
+first_or : {X : Type 0} (of : X → List Message) (x : X) (xs : List X) → of x ≡ [] → ((lane : ℕ) → at_lane of xs lane ≡ []) → (lane : ℕ)
+    → at_lane of (x ∷ xs) lane ≡ []
 first_or of x xs one rest zero = one
 first_or of x xs one rest (suc lane) = rest lane
 
@@ -89,19 +91,20 @@ all_of_it old new more added none = sym (added ∙ ap (λ (x : List Message). x 
 -- ---- the lane of a number
 
 -- what was dealt to it
-dealt_of : (end : StageEnd) (lanes n : ℕ) (l : List Message) (ss ss' : List Sender) → ((lane : ℕ) → at_lane sent ss lane ≡ []) → AtEachFrom (HasLane end lanes l) n ss ss'
-    → (lane : ℕ) → lane < length ss → HasSentSo end (n + lane) lanes l (at_lane sent ss' lane) × IsFrontOfDealt (n + lane) lanes l (at_lane sent ss' lane)
+dealt_of : (end : StageEnd) (lanes n : ℕ) (l : List Message) (ss ss' : List Sender) → ((lane : ℕ) → at_lane sent ss lane ≡ [])
+    → AtEachFrom (HasLane end lanes l) n ss ss'
+    → (lane : ℕ) → lane < length ss → HasSentSo end (n + lane) lanes l (at_lane sent ss' lane) × IsPrefixOfDealt (n + lane) lanes l (at_lane sent ss' lane)
 dealt_of end lanes n l [] ss' none dealt lane below = absurd (omega (arith, below))
 dealt_of end lanes n l (s ∷ ss) [] none dealt lane below = absurd dealt
 dealt_of end lanes n l (s ∷ ss) (s' ∷ ss') none dealt zero below =
     let one = dealt.0 in
     let all : one.gave ≡ sent s' = all_of_it (sent s) (sent s') one.gave one.output (none 0) in
     let here : n ≡ n + 0 = omega arith in
-    subst (λ (k : ℕ). HasSentSo end k lanes l (sent s') × IsFrontOfDealt k lanes l (sent s')) here
-    (subst (λ (x : List Message). HasSentSo end n lanes l x × IsFrontOfDealt n lanes l x) all (one.ended, one.front))
+    subst (λ (k : ℕ). HasSentSo end k lanes l (sent s') × IsPrefixOfDealt k lanes l (sent s')) here
+    (subst (λ (x : List Message). HasSentSo end n lanes l x × IsPrefixOfDealt n lanes l x) all (one.ended, one.prefix))
 dealt_of end lanes n l (s ∷ ss) (s' ∷ ss') none dealt (suc lane) below =
     let there : n + 1 + lane ≡ n + suc lane = omega arith in
-    subst (λ (k : ℕ). HasSentSo end k lanes l (at_lane sent ss' lane) × IsFrontOfDealt k lanes l (at_lane sent ss' lane)) there
+    subst (λ (k : ℕ). HasSentSo end k lanes l (at_lane sent ss' lane) × IsPrefixOfDealt k lanes l (at_lane sent ss' lane)) there
     (dealt_of end lanes (n + 1) l ss ss' (λ k. none (suc k)) dealt.1 lane (omega (arith, below)))
 
 -- how it ended
@@ -111,20 +114,23 @@ end_at (d ∷ ds) zero = d.end
 end_at (d ∷ ds) (suc lane) = end_at ds lane
 
 -- what it received and sent
-stage_of : (tool : Tool) (es : List LaneEnds) (ds : List StageDone) → ((lane : ℕ) → at_lane (λ (e : LaneEnds). received e.input) es lane ≡ []) → ((lane : ℕ) → at_lane (λ (e : LaneEnds). sent e.output) es lane ≡ []) → AreLanesRun tool es ds
-    → (lane : ℕ) → lane < length es → IsStage tool (end_at ds lane) (at_lane (λ (d : StageDone). received d.input) ds lane) (at_lane (λ (d : StageDone). sent d.output) ds lane)
-stage_of tool [] ds no_input no_output run lane below = absurd (omega (arith, below))
-stage_of tool (e ∷ es) [] no_input no_output run lane below = absurd run
-stage_of tool (e ∷ es) (d ∷ ds) no_input no_output run zero below =
+filter_of : (tool : Tool) (es : List LaneEnds) (ds : List StageDone) → ((lane : ℕ) → at_lane (λ (e : LaneEnds). received e.input) es lane ≡ [])
+    → ((lane : ℕ) → at_lane (λ (e : LaneEnds). sent e.output) es lane ≡ []) → AreLanesRun tool es ds
+    → (lane : ℕ) → lane < length es → IsStage tool (end_at ds lane) (at_lane (λ (d : StageDone). received d.input) ds lane)
+    (at_lane (λ (d : StageDone). sent d.output) ds lane)
+filter_of tool [] ds no_input no_output run lane below = absurd (omega (arith, below))
+filter_of tool (e ∷ es) [] no_input no_output run lane below = absurd run
+filter_of tool (e ∷ es) (d ∷ ds) no_input no_output run zero below =
     let one = run.0.2 in
     subst (λ (x : List Message). IsStage tool d.end x (sent d.output)) (all_of_it (received e.input) (received d.input) one.took one.input (no_input 0))
     (subst (IsStage tool d.end one.took) (all_of_it (sent e.output) (sent d.output) one.gave one.output (no_output 0)) one.stage)
-stage_of tool (e ∷ es) (d ∷ ds) no_input no_output run (suc lane) below =
-    stage_of tool es ds (λ k. no_input (suc k)) (λ k. no_output (suc k)) run.1 lane (omega (arith, below))
+filter_of tool (e ∷ es) (d ∷ ds) no_input no_output run (suc lane) below =
+    filter_of tool es ds (λ k. no_input (suc k)) (λ k. no_output (suc k)) run.1 lane (omega (arith, below))
 
 -- what passed over its rings
 passed_of : (ss : List Sender) (ds : List StageDone) (rs : List Receiver) → HavePassed ss ds rs → (lane : ℕ) → lane < length ds
-    → IsFrontOf (at_lane (λ (d : StageDone). received d.input) ds lane) (at_lane sent ss lane) × IsFrontOf (at_lane received rs lane) (at_lane (λ (d : StageDone). sent d.output) ds lane)
+    → IsPrefixOf (at_lane (λ (d : StageDone). received d.input) ds lane) (at_lane sent ss lane)
+    × IsPrefixOf (at_lane received rs lane) (at_lane (λ (d : StageDone). sent d.output) ds lane)
 passed_of ss [] rs passed lane below = absurd (omega (arith, below))
 passed_of [] (d ∷ ds) rs passed lane below = absurd passed
 passed_of (s ∷ ss) (d ∷ ds) [] passed lane below = absurd passed
@@ -192,10 +198,13 @@ after_fine d ds gatherer (Fault fault) fine rest = (
 after_fine d ds gatherer PeerGone fine rest = tt
 
 -- and one that has a fault
-after_fault : (d : StageDone) (ds : List StageDone) (gatherer : StageEnd) (fault : _) → d.end ≡ Fault fault → LanesAreThere ds → gatherer ≢ PeerGone → IsEndOfRest (d ∷ ds) gatherer (Fault fault)
-after_fault d ds gatherer fault is there behind = (inl (0, omega arith, is, λ before below. absurd (omega (arith, below))), there_more d ds (λ gone. absurd cc) there, behind)
+after_fault : (d : StageDone) (ds : List StageDone) (gatherer : StageEnd) (fault : _) → d.end ≡ Fault fault → LanesAreThere ds → gatherer ≢ PeerGone
+    → IsEndOfRest (d ∷ ds) gatherer (Fault fault)
+after_fault d ds gatherer fault is there behind =
+    (inl (0, omega arith, is, λ before below. absurd (omega (arith, below))), there_more d ds (λ gone. absurd cc) there, behind)
 
-one_lane_before : (d : StageDone) (ds : List StageDone) (gatherer first end : StageEnd) → d.end ≡ first → IsEndOfRest ds gatherer end → IsEndOfRest (d ∷ ds) gatherer (end_of_both first end)
+one_lane_before : (d : StageDone) (ds : List StageDone) (gatherer first end : StageEnd) → d.end ≡ first → IsEndOfRest ds gatherer end
+    → IsEndOfRest (d ∷ ds) gatherer (end_of_both first end)
 one_lane_before d ds gatherer Well end is rest = after_fine d ds gatherer end (subst IsFine (sym is) tt) rest
 one_lane_before d ds gatherer Broken end is rest = after_fine d ds gatherer end (subst IsFine (sym is) tt) rest
 one_lane_before d ds gatherer PeerGone end is rest = tt
@@ -215,7 +224,8 @@ end_of_rest [] gatherer = nothing_before gatherer
 end_of_rest (d ∷ ds) gatherer = one_lane_before d ds gatherer d.end (end_of_lanes ds gatherer) refl (end_of_rest ds gatherer)
 
 -- the thread that dealt was fine
-dealt_fine : (dealer : StageEnd) (ds : List StageDone) (gatherer end : StageEnd) → IsFine dealer → IsEndOfRest ds gatherer end → IsEndOfAll (length ds) dealer (end_at ds) gatherer end
+dealt_fine : (dealer : StageEnd) (ds : List StageDone) (gatherer end : StageEnd) → IsFine dealer → IsEndOfRest ds gatherer end
+    → IsEndOfAll (length ds) dealer (end_at ds) gatherer end
 dealt_fine dealer ds gatherer Well fine rest = (rest.0, fine, rest.1)
 dealt_fine dealer ds gatherer Broken fine rest = (rest.0, fine, rest.1)
 dealt_fine dealer ds gatherer (Fault fault) fine rest = (
@@ -227,7 +237,8 @@ dealt_fine dealer ds gatherer (Fault fault) fine rest = (
 )
 dealt_fine dealer ds gatherer PeerGone fine rest = tt
 
-end_of_all_threads : (dealer : StageEnd) (ds : List StageDone) (gatherer end : StageEnd) → IsEndOfRest ds gatherer end → IsEndOfAll (length ds) dealer (end_at ds) gatherer (end_of_both dealer end)
+end_of_all_threads : (dealer : StageEnd) (ds : List StageDone) (gatherer end : StageEnd) → IsEndOfRest ds gatherer end
+    → IsEndOfAll (length ds) dealer (end_at ds) gatherer (end_of_both dealer end)
 end_of_all_threads Well ds gatherer end rest = dealt_fine Well ds gatherer end tt rest
 end_of_all_threads Broken ds gatherer end rest = dealt_fine Broken ds gatherer end tt rest
 end_of_all_threads PeerGone ds gatherer end rest = tt
@@ -239,11 +250,13 @@ end_of_all_threads (Fault fault) ds gatherer PeerGone rest = tt
 -- ---- all threads
 
 -- together they are a stage
-pub lanes_have_run : (tool : Tool) (es : List LaneEnds) (outer : OuterEnds) (room : ℕ) (done : LanesDone) (end : StageEnd) → AreUnused outer.outputs.items es outer.inputs.items → HaveRun tool es outer room done
-    → HavePassed done.dealt.outputs.items done.lanes.items done.gathered.inputs.items → end ≡ end_of_both done.dealt.end (end_of_lanes done.lanes.items done.gathered.end)
+pub lanes_have_run : (tool : Tool) (es : List LaneEnds) (outer : OuterEnds) (reserved : ℕ) (done : LanesDone) (end : StageEnd)
+    → AreUnused outer.outputs.items es outer.inputs.items → HaveRun tool es outer reserved done
+    → HavePassed done.dealt.outputs.items done.lanes.items done.gathered.inputs.items
+    → end ≡ end_of_both done.dealt.end (end_of_lanes done.lanes.items done.gathered.end)
     → 0 < length es → length done.lanes.items ≡ length es → IsLawfulTool tool → is_row_wise tool ≡ true
     → HasRunLanes tool end (received outer.input) (received done.dealt.input) (known_items done.dealt.input) (sent outer.output) (sent done.gathered.output)
-lanes_have_run tool es outer room done end unused run passed end_is some count lawful row_wise =
+lanes_have_run tool es outer reserved done end unused run passed end_is some count lawful row_wise =
     let ds = done.lanes.items in
     let many = as_many_unused outer.outputs.items es outer.inputs.items unused in
     let none = nothing_passed outer.outputs.items es outer.inputs.items unused in
@@ -253,30 +266,37 @@ lanes_have_run tool es outer room done end unused run passed end_is some count l
     let gatherer = done.gathered.end in
     let senders : length outer.outputs.items ≡ length ds = many.0 ∙ sym count in
     let receivers : length outer.inputs.items ≡ length ds = many.1 ∙ sym count in
-    let of_lane = subst (λ (n : ℕ). (lane : ℕ) → lane < length ds → HasSentSo dealer lane n dealt.took (at_lane sent done.dealt.outputs.items lane) × IsFrontOfDealt lane n dealt.took (at_lane sent done.dealt.outputs.items lane)) senders
-    (λ lane below. subst (λ (k : ℕ). HasSentSo dealer k (length outer.outputs.items) dealt.took (at_lane sent done.dealt.outputs.items lane) × IsFrontOfDealt k (length outer.outputs.items) dealt.took (at_lane sent done.dealt.outputs.items lane)) (omega arith)
-    (dealt_of dealer (length outer.outputs.items) 0 dealt.took outer.outputs.items done.dealt.outputs.items none.to_lanes dealt.lanes lane (omega (arith, below, senders)))) in
+    let of_lane = subst (λ (n : ℕ). (lane : ℕ) → lane < length ds → HasSentSo dealer lane n dealt.took (at_lane sent done.dealt.outputs.items lane)
+    × IsPrefixOfDealt lane n dealt.took (at_lane sent done.dealt.outputs.items lane)) senders
+    (λ lane below. subst (λ (k : ℕ). HasSentSo dealer k (length outer.outputs.items) dealt.took (at_lane sent done.dealt.outputs.items lane)
+    × IsPrefixOfDealt k (length outer.outputs.items) dealt.took (at_lane sent done.dealt.outputs.items lane)) (omega arith)
+    (dealt_of dealer (length outer.outputs.items) 0 dealt.took outer.outputs.items done.dealt.outputs.items none.to_lanes dealt.lanes lane
+    (omega (arith, below, senders)))) in
     let of_rings = passed_of done.dealt.outputs.items ds done.gathered.inputs.items passed in
-    let together : HaveRunTogether tool (length ds) dealer (end_at ds) gatherer dealt.took (at_lane sent done.dealt.outputs.items) (at_lane (λ (d : StageDone). received d.input) ds) (at_lane (λ (d : StageDone). sent d.output) ds) gathered.took gathered.gave = record {
+    let together : HaveRunTogether tool (length ds) dealer (end_at ds) gatherer dealt.took (at_lane sent done.dealt.outputs.items)
+    (at_lane (λ (d : StageDone). received d.input) ds) (at_lane (λ (d : StageDone). sent d.output) ds) gathered.took gathered.gave = record {
       messages = dealt.messages;
       once = dealt.once;
       input = dealt.ended;
       dealt = λ lane below. (of_lane lane below).0;
-      front = λ lane below. (of_lane lane below).1;
+      prefix = λ lane below. (of_lane lane below).1;
       received = λ lane below. (of_rings lane below).0;
-      stages = λ lane below. stage_of tool es ds none.by_lanes none.of_lanes run.lanes_run lane (omega (arith, below, count));
-      taken = λ lane below. subst (λ (x : List Message). IsFrontOf x (at_lane (λ (d : StageDone). sent d.output) ds lane))
-          (sym (all_of_it (at_lane received outer.inputs.items lane) (at_lane received done.gathered.inputs.items lane) (gathered.took lane) (gathered.inputs lane (omega (arith, below, receivers))) (none.from_lanes lane))) (of_rings lane below).1;
+      stages = λ lane below. filter_of tool es ds none.by_lanes none.of_lanes run.lanes_run lane (omega (arith, below, count));
+      taken = λ lane below. subst (λ (x : List Message). IsPrefixOf x (at_lane (λ (d : StageDone). sent d.output) ds lane))
+          (sym (all_of_it (at_lane received outer.inputs.items lane) (at_lane received done.gathered.inputs.items lane) (gathered.took lane)
+          (gathered.inputs lane (omega (arith, below, receivers))) (none.from_lanes lane))) (of_rings lane below).1;
       gathered = subst (λ (n : ℕ). IsGathered gatherer n gathered.took gathered.gave) receivers gathered.gathered;
     } in
-    let all = subst (IsEndOfAll (length ds) dealer (end_at ds) gatherer) (sym end_is) (end_of_all_threads dealer ds gatherer (end_of_lanes ds gatherer) (end_of_rest ds gatherer)) in
+    let all = subst (IsEndOfAll (length ds) dealer (end_at ds) gatherer) (sym end_is)
+    (end_of_all_threads dealer ds gatherer (end_of_lanes ds gatherer) (end_of_rest ds gatherer)) in
     record {
       took = dealt.took;
       gave = gathered.gave;
       input = dealt.input;
       output = gathered.output;
       seen_taken = dealt.seen_taken;
-      stage = lanes_are_a_stage tool (length ds) dealer (end_at ds) gatherer end dealt.took gathered.gave (at_lane sent done.dealt.outputs.items) (at_lane (λ (d : StageDone). received d.input) ds) (at_lane (λ (d : StageDone). sent d.output) ds) gathered.took
+      stage = lanes_are_a_stage tool (length ds) dealer (end_at ds) gatherer end dealt.took gathered.gave (at_lane sent done.dealt.outputs.items)
+          (at_lane (λ (d : StageDone). received d.input) ds) (at_lane (λ (d : StageDone). sent d.output) ds) gathered.took
           together (omega (arith, some, count)) lawful row_wise all;
       threads = record {
         lanes = length ds;

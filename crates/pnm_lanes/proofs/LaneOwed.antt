@@ -11,7 +11,7 @@ use Rattle.pnm_image.specs.Places.{place_after, place_of}
 use Rattle.pnm_image.proofs.Places.{place_of-append}
 use Rattle.pnm_tools.specs.declared.fault.ToolFault.{ToolFault}
 use Rattle.pnm_tools.specs.declared.tool.Tool.{Tool}
-use Rattle.pnm_tools.specs.Answers.{images_ended, begun_of, owed}
+use Rattle.pnm_tools.specs.Answers.{images_ended, begun_of, answers_owed}
 use Rattle.pnm_tools.specs.Dealing.{dealt_image, dealt_message, dealt_from, dealt, dealt_result, IsRowWise}
 use Rattle.pnm_tools.specs.Tools.{IsLawfulTool, is_row_wise, result_head, applied}
 use Rattle.pnm_tools.proofs.ResultLaws.{result_is_image}
@@ -26,7 +26,8 @@ rows_end_none : (b : Bool) (row : List ℕ) (rest : List Message) → images_end
 rows_end_none true row rest = refl
 rows_end_none false row rest = refl
 
-row_ends_none : (lane lanes : ℕ) (place : Place) (row : List ℕ) (rest : List Message) → images_ended (dealt_message lane lanes place (Row row) ++ rest) ≡ images_ended rest
+row_ends_none : (lane lanes : ℕ) (place : Place) (row : List ℕ) (rest : List Message) → images_ended (dealt_message lane lanes place (Row row) ++ rest)
+    ≡ images_ended rest
 row_ends_none lane lanes Between row rest = refl
 row_ends_none lane lanes (Inside s y) row rest = rows_end_none ((y % lanes) == lane) row rest
 row_ends_none lane lanes After row rest = refl
@@ -35,7 +36,8 @@ row_ends_none lane lanes After row rest = refl
 ended_from : (lane lanes : ℕ) (place : Place) (l : List Message) → images_ended (dealt_from lane lanes place l) ≡ images_ended l
 ended_from lane lanes place [] = refl
 ended_from lane lanes place (Begin head ∷ l) = ended_from lane lanes (place_after place (Begin head)) l
-ended_from lane lanes place (Row row ∷ l) = row_ends_none lane lanes place row (dealt_from lane lanes (place_after place (Row row)) l) ∙ ended_from lane lanes (place_after place (Row row)) l
+ended_from lane lanes place (Row row ∷ l) = row_ends_none lane lanes place row (dealt_from lane lanes (place_after place (Row row)) l)
+    ∙ ended_from lane lanes (place_after place (Row row)) l
 ended_from lane lanes place (ImageEnd ∷ l) = ap suc (ended_from lane lanes (place_after place ImageEnd) l)
 ended_from lane lanes place (StreamEnd ∷ l) = ended_from lane lanes (place_after place StreamEnd) l
 ended_from lane lanes place (Stop ∷ l) = ended_from lane lanes (place_after place Stop) l
@@ -53,7 +55,8 @@ rows_begin_none q true row = row_begins_none q row
 rows_begin_none q false row = refl
 
 -- one message does the same to both places
-begun_after : (lane lanes : ℕ) (place q : Place) (m : Message) → begun_of q ≡ begun_of place → begun_of (place_of q (dealt_message lane lanes place m)) ≡ begun_of (place_after place m)
+begun_after : (lane lanes : ℕ) (place q : Place) (m : Message) → begun_of q ≡ begun_of place → begun_of (place_of q (dealt_message lane lanes place m))
+    ≡ begun_of (place_after place m)
 begun_after lane lanes place q (Begin head) same = refl
 begun_after lane lanes Between q (Row row) same = same
 begun_after lane lanes (Inside s y) q (Row row) same = rows_begin_none q ((y % lanes) == lane) row ∙ same
@@ -62,7 +65,8 @@ begun_after lane lanes place q ImageEnd same = refl
 begun_after lane lanes place q StreamEnd same = refl
 begun_after lane lanes place q Stop same = refl
 
-begun_from : (lane lanes : ℕ) (place q : Place) (l : List Message) → begun_of q ≡ begun_of place → begun_of (place_of q (dealt_from lane lanes place l)) ≡ begun_of (place_of place l)
+begun_from : (lane lanes : ℕ) (place q : Place) (l : List Message) → begun_of q ≡ begun_of place → begun_of (place_of q (dealt_from lane lanes place l))
+    ≡ begun_of (place_of place l)
 begun_from lane lanes place q [] same = same
 begun_from lane lanes place q (m ∷ l) same =
     ap begun_of (place_of-append q (dealt_message lane lanes place m) (dealt_from lane lanes (place_after place m) l))
@@ -74,22 +78,23 @@ dealt_begun lane lanes l = begun_from lane lanes Between Between l refl
 
 -- ---- what is owed
 
-owes_nothing : (tool : Tool) (lane lanes n : ℕ) (b : Bool) → owed tool n b [] ≡ dealt lane lanes (owed tool n b [])
-unfolding owed
+owes_nothing : (tool : Tool) (lane lanes n : ℕ) (b : Bool) → answers_owed tool n b [] ≡ dealt lane lanes (answers_owed tool n b [])
+unfolding answers_owed
 owes_nothing tool lane lanes zero true = refl
 owes_nothing tool lane lanes zero false = refl
 owes_nothing tool lane lanes (suc n) true = refl
 owes_nothing tool lane lanes (suc n) false = refl
 
-owes_none : (tool : Tool) (lane lanes : ℕ) (i : Image) (is : List Image) → owed tool zero false (dealt_images lane lanes (i ∷ is)) ≡ dealt lane lanes (owed tool zero false (i ∷ is))
-unfolding owed
+owes_none : (tool : Tool) (lane lanes : ℕ) (i : Image) (is : List Image) → answers_owed tool zero false (dealt_images lane lanes (i ∷ is))
+    ≡ dealt lane lanes (answers_owed tool zero false (i ∷ is))
+unfolding answers_owed
 owes_none tool lane lanes i is = refl
 
 abbrev head_owed : Result HeadValue ToolFault → List Message
 head_owed r = elim r [ Ok head ↦ Begin head ∷ [] | Err fault ↦ [] ]
 
-owes_head : (tool : Tool) (i : Image) (is : List Image) → owed tool zero true (i ∷ is) ≡ head_owed (result_head tool i.head)
-unfolding owed
+owes_head : (tool : Tool) (i : Image) (is : List Image) → answers_owed tool zero true (i ∷ is) ≡ head_owed (result_head tool i.head)
+unfolding answers_owed
 owes_head tool i is = refl
 
 head_owed_is_dealt : (lane lanes : ℕ) (r : Result HeadValue ToolFault) → head_owed (dealt_head_result lane lanes r) ≡ dealt lane lanes (head_owed r)
@@ -97,20 +102,23 @@ head_owed_is_dealt lane lanes (Ok head) = refl
 head_owed_is_dealt lane lanes (Err fault) = refl
 
 abbrev image_owed : Tool → ℕ → Bool → List Image → Result Image ToolFault → List Message
-image_owed tool n b is r = elim r [ Ok j ↦ messages_of_image j ++ owed tool n b is | Err fault ↦ [] ]
+image_owed tool n b is r = elim r [ Ok j ↦ messages_of_image j ++ answers_owed tool n b is | Err fault ↦ [] ]
 
-owes_image : (tool : Tool) (n : ℕ) (b : Bool) (i : Image) (is : List Image) → owed tool (suc n) b (i ∷ is) ≡ image_owed tool n b is (applied tool i)
-unfolding owed
+owes_image : (tool : Tool) (n : ℕ) (b : Bool) (i : Image) (is : List Image) → answers_owed tool (suc n) b (i ∷ is) ≡ image_owed tool n b is (applied tool i)
+unfolding answers_owed
 owes_image tool n b i is = refl
 
-image_owed_is_dealt : (tool : Tool) (lane lanes n : ℕ) (b : Bool) (i : Image) (is : List Image) (r : Result Image ToolFault) → IsLawfulTool tool → IsImage i → applied tool i ≡ r → owed tool n b (dealt_images lane lanes is) ≡ dealt lane lanes (owed tool n b is)
+image_owed_is_dealt : (tool : Tool) (lane lanes n : ℕ) (b : Bool) (i : Image) (is : List Image) (r : Result Image ToolFault) → IsLawfulTool tool → IsImage i
+    → applied tool i ≡ r → answers_owed tool n b (dealt_images lane lanes is) ≡ dealt lane lanes (answers_owed tool n b is)
     → image_owed tool n b (dealt_images lane lanes is) (dealt_result lane lanes r) ≡ dealt lane lanes (image_owed tool n b is r)
 image_owed_is_dealt tool lane lanes n b i is (Ok j) lawful image made others =
-    ap (λ (x : List Message). messages_of_image (dealt_image lane lanes j) ++ x) others ∙ sym (image_is_dealt lane lanes j (owed tool n b is) (result_is_image tool i j lawful image made))
+    ap (λ (x : List Message). messages_of_image (dealt_image lane lanes j) ++ x) others
+    ∙ sym (image_is_dealt lane lanes j (answers_owed tool n b is) (result_is_image tool i j lawful image made))
 image_owed_is_dealt tool lane lanes n b i is (Err fault) lawful image made others = refl
 
 -- what a lane owes is what it gets of what is owed
-pub owed_is_dealt : (tool : Tool) (lane lanes n : ℕ) (b : Bool) (is : List Image) → IsLawfulTool tool → is_row_wise tool ≡ true → lane < lanes → AreImages is → owed tool n b (dealt_images lane lanes is) ≡ dealt lane lanes (owed tool n b is)
+pub owed_is_dealt : (tool : Tool) (lane lanes n : ℕ) (b : Bool) (is : List Image) → IsLawfulTool tool → is_row_wise tool ≡ true → lane < lanes → AreImages is
+    → answers_owed tool n b (dealt_images lane lanes is) ≡ dealt lane lanes (answers_owed tool n b is)
 owed_is_dealt tool lane lanes n b [] lawful row_wise below are = owes_nothing tool lane lanes n b
 owed_is_dealt tool lane lanes zero false (i ∷ is) lawful row_wise below are = owes_none tool lane lanes i is
 owed_is_dealt tool lane lanes zero true (i ∷ is) lawful row_wise below are =

@@ -7,35 +7,35 @@ use Rattle.pnm_image.specs.declared.place.Place.TheVariants.{Between}
 use Rattle.pnm_image.specs.Images.{Image, messages_of_stream}
 use Rattle.pnm_image.specs.Messages.{without_stop}
 use Rattle.pnm_image.specs.Places.{Accepts, IsLawful, IsLawfulFrom, place_after}
-use Rattle.pnm_image.specs.Completion.{IsFrontOf, Completes}
+use Rattle.pnm_image.specs.Completion.{IsPrefixOf, Completes}
 use Rattle.pnm_tools.specs.declared.tool.Tool.{Tool}
 use Rattle.pnm_tools.specs.Answers.{More, Whole, BrokenOff, ending_of, EndsBy}
 use Rattle.pnm_tools.specs.Dealing.{dealt}
 use Rattle.pnm_tools.specs.Tools.{IsLawfulTool, is_row_wise, output_due}
 use Rattle.pnm_tools.proofs.AtLaws.{StopsLast, lawful_stops, keeps_all}
-use Rattle.pnm_tools.proofs.FullLaws.{front_of_front}
+use Rattle.pnm_tools.proofs.FullLaws.{prefix_of_prefix}
 use Rattle.pnm_tools.proofs.SoundLaws.{unbroken_keeps_all}
 use Rattle.pnm_stages.specs.declared.stage.StageEnd.{StageEnd}
 use Rattle.pnm_stages.specs.declared.stage.StageEnd.TheVariants.{Well, Broken, Fault, PeerGone}
-use Rattle.pnm_stages.specs.Fronts.{IsFrontOfDue}
+use Rattle.pnm_stages.specs.Prefixes.{IsPrefixOfDue}
 use Rattle.pnm_stages.specs.Rings.{IsEnded}
 use Rattle.pnm_stages.specs.Stages.{HasEndedWell, HasEndedSo}
 use Rattle.pnm_stages.proofs.EndingLaws.{one_ending, nothing_follows, stream_ends_whole}
-use Rattle.pnm_stages.proofs.FrontLaws.{front_without_stop, stop_is_cut}
+use Rattle.pnm_stages.proofs.PrefixLaws.{prefix_without_stop, stop_is_cut}
 use Rattle.pnm_stages.proofs.RingSteps.{ends_as}
 use Rattle.pnm_lanes.specs.Gathers.{AreDealt, IsStopped}
 use Rattle.pnm_lanes.specs.LaneLaws.{results_before}
 use Rattle.pnm_lanes.specs.Lanes.{IsFine, HaveRunTogether}
-use Rattle.pnm_lanes.proofs.DealtLaws.{dealt_front}
+use Rattle.pnm_lanes.proofs.DealtLaws.{dealt_prefix}
 use Rattle.pnm_lanes.proofs.LaneDue.{lane_gives_due, lane_gives_results, results_before_are_images, gathered_is_due}
-use Rattle.pnm_lanes.proofs.LanesTogether.{lane_gets, IsCommonFront, common_front}
+use Rattle.pnm_lanes.proofs.LanesTogether.{lane_gets, IsCommonPrefix, common_prefix}
 
 -- ---- lists that have ended
 
 -- a list that has ended goes no further
-pub all_of_ended : (a b : List Message) → IsFrontOf a b → IsEnded a → IsEnded b → b ≡ a
-all_of_ended a b front first second =
-    front.1 ∙ ap (λ (x : List Message). a ++ x) (nothing_follows a front.0 first (subst IsEnded front.1 second)) ∙ append-nil a
+pub all_of_ended : (a b : List Message) → IsPrefixOf a b → IsEnded a → IsEnded b → b ≡ a
+all_of_ended a b prefix first second =
+    prefix.1 ∙ ap (λ (x : List Message). a ++ x) (nothing_follows a prefix.0 first (subst IsEnded prefix.1 second)) ∙ append-nil a
 
 pub not_both : {A : Type 0} (l : List Message) → EndsBy Whole l → EndsBy BrokenOff l → A
 not_both l whole broken = let same = one_ending Whole BrokenOff l whole broken in absurd cc
@@ -60,22 +60,22 @@ before_last place (x ∷ y ∷ l) m lawful = (one_goes_on x y place lawful.0 law
 whole_by : (l : List Message) → IsLawful l → StopsLast l → EndsBy Whole (without_stop l) → EndsBy Whole l
 whole_by l lawful (inl on) whole = subst (EndsBy Whole) (keeps_all l on) whole
 whole_by l lawful (inr cut) whole =
-    let front : without_stop l ≡ cut.0 = ap without_stop cut.1 ∙ stop_is_cut cut.0 in
-    not_yet cut.0 (before_last Between cut.0 Stop (subst IsLawful cut.1 lawful)) (subst (EndsBy Whole) front whole)
+    let prefix : without_stop l ≡ cut.0 = ap without_stop cut.1 ∙ stop_is_cut cut.0 in
+    not_yet cut.0 (before_last Between cut.0 Stop (subst IsLawful cut.1 lawful)) (subst (EndsBy Whole) prefix whole)
 
 pub stopped_is_broken : (l : List Message) → IsStopped l → EndsBy BrokenOff l
 stopped_is_broken l is = subst (EndsBy BrokenOff) (sym is.1) (ends_as BrokenOff is.0 Stop is.2 refl)
 
--- images complete each front of what they complete
-pub completes_front : (is : List Image) (l accepted rest : List Message) → l ≡ accepted ++ rest → Completes is l → Completes is accepted
-completes_front is l accepted rest parts completes = record {
+-- images complete each prefix of what they complete
+pub completes_prefix : (is : List Image) (l accepted rest : List Message) → l ≡ accepted ++ rest → Completes is l → Completes is accepted
+completes_prefix is l accepted rest parts completes = record {
   images = completes.images;
-  front = front_of_front (without_stop accepted) (without_stop l) (messages_of_stream is)
-      (subst (λ (x : List Message). IsFrontOf (without_stop accepted) (without_stop x)) (sym parts) (front_without_stop accepted rest)) completes.front;
+  prefix = prefix_of_prefix (without_stop accepted) (without_stop l) (messages_of_stream is)
+      (subst (λ (x : List Message). IsPrefixOf (without_stop accepted) (without_stop x)) (sym parts) (prefix_without_stop accepted rest)) completes.prefix;
 }
 
-pub cut_front : (a b : List Message) → IsFrontOf a b → IsFrontOf (without_stop a) (without_stop b)
-cut_front a b front = subst (λ (x : List Message). IsFrontOf (without_stop a) (without_stop x)) (sym front.1) (front_without_stop a front.0)
+pub cut_prefix : (a b : List Message) → IsPrefixOf a b → IsPrefixOf (without_stop a) (without_stop b)
+cut_prefix a b prefix = subst (λ (x : List Message). IsPrefixOf (without_stop a) (without_stop x)) (sym prefix.1) (prefix_without_stop a prefix.0)
 
 -- ---- one lane
 
@@ -93,20 +93,22 @@ pub record IsWholeLane (tool : Tool) (end : StageEnd) (i o r : List Message) : T
   pub all : o ≡ r
 
 -- ended otherwise than well
-not_whole : {A : Type 0} (tool : Tool) (end : StageEnd) (i o r : List Message) → HasEndedSo tool end i o → end ≢ PeerGone → end ≢ Well → IsFrontOf r o → EndsBy Whole r → A
-not_whole tool end i o r ended there other front whole =
+not_whole : {A : Type 0} (tool : Tool) (end : StageEnd) (i o r : List Message) → HasEndedSo tool end i o → end ≢ PeerGone → end ≢ Well → IsPrefixOf r o
+    → EndsBy Whole r → A
+not_whole tool end i o r ended there other prefix whole =
     let broken = sent_broken tool end i o ended there other in
-    not_both o (subst (EndsBy Whole) (sym (all_of_ended r o front (inl whole) (inr broken))) whole) broken
+    not_both o (subst (EndsBy Whole) (sym (all_of_ended r o prefix (inl whole) (inr broken))) whole) broken
 
-pub whole_lane : (tool : Tool) (end : StageEnd) (i o r : List Message) → HasEndedSo tool end i o → end ≢ PeerGone → IsFrontOf r o → EndsBy Whole r → IsWholeLane tool end i o r
-whole_lane tool Well i o r ended there front whole = record {
+pub whole_lane : (tool : Tool) (end : StageEnd) (i o r : List Message) → HasEndedSo tool end i o → end ≢ PeerGone → IsPrefixOf r o → EndsBy Whole r
+    → IsWholeLane tool end i o r
+whole_lane tool Well i o r ended there prefix whole = record {
   is_well = refl;
   well = ended;
-  all = all_of_ended r o front (inl whole) (inl (subst (EndsBy Whole) (sym ended.answer) (stream_ends_whole ended.results)));
+  all = all_of_ended r o prefix (inl whole) (inl (subst (EndsBy Whole) (sym ended.answer) (stream_ends_whole ended.results)));
 }
-whole_lane tool Broken i o r ended there front whole = not_whole tool Broken i o r ended there (λ same. absurd cc) front whole
-whole_lane tool (Fault fault) i o r ended there front whole = not_whole tool (Fault fault) i o r ended there (λ same. absurd cc) front whole
-whole_lane tool PeerGone i o r ended there front whole = absurd (there refl)
+whole_lane tool Broken i o r ended there prefix whole = not_whole tool Broken i o r ended there (λ same. absurd cc) prefix whole
+whole_lane tool (Fault fault) i o r ended there prefix whole = not_whole tool (Fault fault) i o r ended there (λ same. absurd cc) prefix whole
+whole_lane tool PeerGone i o r ended there prefix whole = absurd (there refl)
 
 pub fine_is_there : (end : StageEnd) → IsFine end → end ≢ PeerGone
 fine_is_there Well fine = λ same. absurd cc
@@ -117,35 +119,45 @@ fine_is_there PeerGone fine = absurd fine
 -- ---- what is due
 
 -- what all lanes were dealt
-pub together : {tool : Tool} {lanes : ℕ} {dealer : StageEnd} {e : ℕ → StageEnd} {gatherer : StageEnd} {l g : List Message} {d i o r : ℕ → List Message} → HaveRunTogether tool lanes dealer e gatherer l d i o r g → IsCommonFront lanes lanes l d
-together {lanes = lanes} {l = l} {d = d} run = common_front lanes lanes l d run.front
+pub together : {tool : Tool} {lanes : ℕ} {dealer : StageEnd} {e : ℕ → StageEnd} {gatherer : StageEnd} {l g : List Message} {d i o r : ℕ → List Message}
+    → HaveRunTogether tool lanes dealer e gatherer l d i o r g → IsCommonPrefix lanes lanes l d
+together {lanes = lanes} {l = l} {d = d} run = common_prefix lanes lanes l d run.prefix
 
 -- what a lane receives of what images complete
-pub lane_receives : {tool : Tool} {lanes : ℕ} {dealer : StageEnd} {e : ℕ → StageEnd} {gatherer : StageEnd} {l g : List Message} {d i o r : ℕ → List Message} (run : HaveRunTogether tool lanes dealer e gatherer l d i o r g)
-    → (is : List Image) → Completes is (together run).accepted → (lane : ℕ) → lane < lanes → IsFrontOf (without_stop (i lane)) (dealt lane lanes (messages_of_stream is))
+pub lane_receives : {tool : Tool} {lanes : ℕ} {dealer : StageEnd} {e : ℕ → StageEnd} {gatherer : StageEnd} {l g : List Message} {d i o r : ℕ → List Message}
+    (run : HaveRunTogether tool lanes dealer e gatherer l d i o r g)
+    → (is : List Image) → Completes is (together run).accepted → (lane : ℕ) → lane < lanes
+    → IsPrefixOf (without_stop (i lane)) (dealt lane lanes (messages_of_stream is))
 lane_receives {lanes = lanes} {d = d} {i = i} run is completes lane below =
     let common = together run in
-    let gets = lane_gets lane lanes common.accepted (d lane) (i lane) common.lawful (run.stages lane below).once (run.received lane below) (common.sent lane below) in
-    front_of_front (without_stop (i lane)) (dealt lane lanes (without_stop common.accepted)) (dealt lane lanes (messages_of_stream is)) gets
-    (dealt_front lane lanes (without_stop common.accepted) (messages_of_stream is) completes.front)
+    let gets = lane_gets lane lanes common.accepted (d lane) (i lane) common.lawful (run.stages lane below).once (run.received lane below)
+    (common.sent lane below) in
+    prefix_of_prefix (without_stop (i lane)) (dealt lane lanes (without_stop common.accepted)) (dealt lane lanes (messages_of_stream is)) gets
+    (dealt_prefix lane lanes (without_stop common.accepted) (messages_of_stream is) completes.prefix)
 
 -- what is gathered from a lane
-lane_is_due : {tool : Tool} {lanes : ℕ} {dealer : StageEnd} {e : ℕ → StageEnd} {gatherer : StageEnd} {l g : List Message} {d i o r : ℕ → List Message} (run : HaveRunTogether tool lanes dealer e gatherer l d i o r g)
-    → IsLawfulTool tool → is_row_wise tool ≡ true → (is : List Image) → Completes is (together run).accepted → (lane : ℕ) → lane < lanes → IsFrontOf (without_stop (r lane)) (dealt lane lanes (output_due tool is))
+lane_is_due : {tool : Tool} {lanes : ℕ} {dealer : StageEnd} {e : ℕ → StageEnd} {gatherer : StageEnd} {l g : List Message} {d i o r : ℕ → List Message}
+    (run : HaveRunTogether tool lanes dealer e gatherer l d i o r g)
+    → IsLawfulTool tool → is_row_wise tool ≡ true → (is : List Image) → Completes is (together run).accepted → (lane : ℕ) → lane < lanes
+    → IsPrefixOf (without_stop (r lane)) (dealt lane lanes (output_due tool is))
 lane_is_due {tool = tool} {lanes = lanes} {i = i} {o = o} {r = r} run lawful row_wise is completes lane below =
-    let gave = lane_gives_due tool lane lanes is (i lane) (o lane) lawful row_wise below completes.images (lane_receives run is completes lane below) (run.stages lane below).due in
-    front_of_front (without_stop (r lane)) (without_stop (o lane)) (dealt lane lanes (output_due tool is)) (cut_front (r lane) (o lane) (run.taken lane below)) gave
+    let gave = lane_gives_due tool lane lanes is (i lane) (o lane) lawful row_wise below completes.images (lane_receives run is completes lane below)
+    (run.stages lane below).due in
+    prefix_of_prefix (without_stop (r lane)) (without_stop (o lane)) (dealt lane lanes (output_due tool is))
+    (cut_prefix (r lane) (o lane) (run.taken lane below)) gave
 
-pub results_dealt : {tool : Tool} {lanes : ℕ} {dealer : StageEnd} {e : ℕ → StageEnd} {gatherer : StageEnd} {l g : List Message} {d i o r : ℕ → List Message} (run : HaveRunTogether tool lanes dealer e gatherer l d i o r g)
+pub results_dealt : {tool : Tool} {lanes : ℕ} {dealer : StageEnd} {e : ℕ → StageEnd} {gatherer : StageEnd} {l g : List Message} {d i o r : ℕ → List Message}
+    (run : HaveRunTogether tool lanes dealer e gatherer l d i o r g)
     → IsLawfulTool tool → is_row_wise tool ≡ true → (is : List Image) → Completes is (together run).accepted → AreDealt (results_before tool is) lanes r
 results_dealt {tool = tool} {lanes = lanes} {r = r} run lawful row_wise is completes = record {
   images = results_before_are_images tool is lawful completes.images;
-  fronts = λ lane below. lane_gives_results tool lane lanes is (without_stop (r lane)) (lane_is_due run lawful row_wise is completes lane below);
+  prefixes = λ lane below. lane_gives_results tool lane lanes is (without_stop (r lane)) (lane_is_due run lawful row_wise is completes lane below);
 }
 
--- what was sent is a front of what is due for a lawful front of what was received
-pub together_due : {tool : Tool} {lanes : ℕ} {dealer : StageEnd} {e : ℕ → StageEnd} {gatherer : StageEnd} {l g : List Message} {d i o r : ℕ → List Message} → HaveRunTogether tool lanes dealer e gatherer l d i o r g
-    → 0 < lanes → IsLawfulTool tool → is_row_wise tool ≡ true → IsFrontOfDue (output_due tool) l g
+-- what was sent is a prefix of what is due for a lawful prefix of what was received
+pub together_due : {tool : Tool} {lanes : ℕ} {dealer : StageEnd} {e : ℕ → StageEnd} {gatherer : StageEnd} {l g : List Message} {d i o r : ℕ → List Message}
+    → HaveRunTogether tool lanes dealer e gatherer l d i o r g
+    → 0 < lanes → IsLawfulTool tool → is_row_wise tool ≡ true → IsPrefixOfDue (output_due tool) l g
 together_due {tool = tool} {lanes = lanes} {g = g} {r = r} run some lawful row_wise =
     let common = together run in
     record {
@@ -153,9 +165,9 @@ together_due {tool = tool} {lanes = lanes} {g = g} {r = r} run some lawful row_w
       rest = common.rest;
       parts = common.parts;
       lawful = common.lawful;
-      front = λ is completes.
+      prefix = λ is completes.
           let images = run.gathered.images (results_before tool is) (results_dealt run lawful row_wise is completes) in
-          gathered_is_due tool 0 lanes is (without_stop (r 0)) (without_stop g) (lane_is_due run lawful row_wise is completes 0 some) images.front
+          gathered_is_due tool 0 lanes is (without_stop (r 0)) (without_stop g) (lane_is_due run lawful row_wise is completes 0 some) images.prefix
           (λ whole.
           let first = run.gathered.whole (whole_by g run.gathered.lawful (lawful_stops Between g run.gathered.lawful) whole) 0 some in
           subst (EndsBy Whole) (sym (unbroken_keeps_all Whole (r 0) tt first)) first);

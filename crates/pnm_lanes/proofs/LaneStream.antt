@@ -1,21 +1,22 @@
 -- A whole stream over lanes, and one that was broken off: what all lanes answer is what one tool answers.
-use Rattle.std.proofs.Common.{◌≡◌, ◌⊎◌, inl, inr, ℕ, zero, suc, Bool, true, false, List, [], ◌∷◌, ◌++◌, map, Result, Ok, Err, refl, sym, ap, subst, ◌∙◌, append_assoc, append-nil}
+use Rattle.std.proofs.Common.{◌≡◌, ◌⊎◌, inl, inr, ℕ, zero, suc, Bool, true, false, List, [], ◌∷◌, ◌++◌, map, Result, Ok, Err, refl, sym, ap, subst, ◌∙◌}
+use Rattle.std.proofs.Common.{append_assoc, append-nil}
 use Rattle.pnm_image.specs.declared.message.Message.{Message}
 use Rattle.pnm_image.specs.declared.message.Message.TheVariants.{Begin, Row, ImageEnd}
 use Rattle.pnm_image.specs.declared.place.Place.TheVariants.{Between}
 use Rattle.pnm_image.specs.Heads.{HeadValue}
 use Rattle.pnm_image.specs.Images.{Image, AreImages, rows_of, messages_of_image, messages_of_stream}
-use Rattle.pnm_image.specs.Completion.{IsFrontOf}
+use Rattle.pnm_image.specs.Completion.{IsPrefixOf}
 use Rattle.pnm_image.proofs.Streams.{stream_is_lawful}
 use Rattle.pnm_tools.specs.declared.fault.ToolFault.{ToolFault}
 use Rattle.pnm_tools.specs.declared.tool.Tool.{Tool}
-use Rattle.pnm_tools.specs.Answering.{answered_from}
-use Rattle.pnm_tools.specs.Answers.{AnswersInFull, AreResults, owed}
+use Rattle.pnm_tools.specs.Answering.{answers_from}
+use Rattle.pnm_tools.specs.Answers.{AnswersInFull, AreResults, answers_owed}
 use Rattle.pnm_tools.specs.Formulas.{image_by}
 use Rattle.pnm_tools.specs.Tools.{IsLawfulTool, result_head, result_sample, AreTaken, applied}
 use Rattle.pnm_tools.proofs.AnsweringLaws.{AnswersImages, answered_after_image}
 use Rattle.pnm_tools.proofs.FullLaws.{answering_in_full}
-use Rattle.pnm_tools.proofs.SoundLaws.{front_after}
+use Rattle.pnm_tools.proofs.SoundLaws.{prefix_after}
 use Rattle.pnm_tools.proofs.ToolLaws.{tool_answers_images}
 use Rattle.pnm_lanes.specs.Gathers.{BeginsOrEnds}
 use Rattle.pnm_lanes.specs.LaneLaws.{results_before}
@@ -28,15 +29,17 @@ all_results tool [] [] are = refl
 all_results tool [] (j ∷ js) are = absurd are
 all_results tool (i ∷ is) [] are = absurd are
 all_results tool (i ∷ is) (j ∷ js) are =
-    ap (λ (r : Result Image ToolFault). elim r [ Ok k ↦ k ∷ results_before tool is | Err fault ↦ [] ]) are.0 ∙ ap (λ (l : List Image). j ∷ l) (all_results tool is js are.1)
+    ap (λ (r : Result Image ToolFault). elim r [ Ok k ↦ k ∷ results_before tool is | Err fault ↦ [] ]) are.0
+    ∙ ap (λ (l : List Image). j ∷ l) (all_results tool is js are.1)
 
-stream_answered : (tool : Tool) (is js : List Image) → AnswersImages tool → AreImages is → AreResults tool is js → answered_from tool Between [] (messages_of_stream is) ≡ messages_of_stream js
+stream_answered : (tool : Tool) (is js : List Image) → AnswersImages tool → AreImages is → AreResults tool is js
+    → answers_from tool Between [] (messages_of_stream is) ≡ messages_of_stream js
 stream_answered tool [] [] answers images are = refl
 stream_answered tool [] (j ∷ js) answers images are = absurd are
 stream_answered tool (i ∷ is) [] answers images are = absurd are
 stream_answered tool (i ∷ is) (j ∷ js) answers images are =
     answered_after_image tool i (messages_of_stream is)
-    ∙ ap (λ (x : List Message). x ++ answered_from tool Between [] (messages_of_stream is)) (answers i j images.0 are.0)
+    ∙ ap (λ (x : List Message). x ++ answers_from tool Between [] (messages_of_stream is)) (answers i j images.0 are.0)
     ∙ ap (λ (x : List Message). messages_of_image j ++ x) (stream_answered tool is js answers images.1 are.1)
 
 abbrev made_by : (HeadValue → Image) → Result HeadValue ToolFault → Result Image ToolFault
@@ -53,10 +56,14 @@ rows_taken tool (row ∷ rows) more taken = rows_taken tool rows more taken
 stream_taken : (tool : Tool) (is js : List Image) → AreResults tool is js → AreTaken tool (messages_of_stream is)
 stream_taken tool [] js are = tt
 stream_taken tool (i ∷ is) [] are = absurd are
-stream_taken tool (i ∷ is) (j ∷ js) are = (head_taken (λ h. image_by h (result_sample tool i)) (result_head tool i.head) j are.0, rows_taken tool (rows_of i) (messages_of_stream is) (stream_taken tool is js are.1))
+stream_taken tool (i ∷ is) (j ∷ js) are = (
+  head_taken (λ h. image_by h (result_sample tool i)) (result_head tool i.head) j are.0,
+  rows_taken tool (rows_of i) (messages_of_stream is) (stream_taken tool is js are.1),
+)
 
 -- the stream of the results is a full answer
-stream_in_full : (tool : Tool) (is js : List Image) → IsLawfulTool tool → AreImages is → AreResults tool is js → AnswersInFull tool (messages_of_stream is) (messages_of_stream js)
+stream_in_full : (tool : Tool) (is js : List Image) → IsLawfulTool tool → AreImages is → AreResults tool is js
+    → AnswersInFull tool (messages_of_stream is) (messages_of_stream js)
 stream_in_full tool is js lawful images are =
     answering_in_full tool (messages_of_stream is) (messages_of_stream js) (tool_answers_images tool lawful) (record {
       lawful = stream_is_lawful is images;
@@ -65,19 +72,21 @@ stream_in_full tool is js lawful images are =
     })
 
 -- by what they are
-pub answered_in_full : (tool : Tool) (is js : List Image) (l g : List Message) → IsLawfulTool tool → AreImages is → AreResults tool is js → l ≡ messages_of_stream is → g ≡ messages_of_stream js → AnswersInFull tool l g
+pub answered_in_full : (tool : Tool) (is js : List Image) (l g : List Message) → IsLawfulTool tool → AreImages is → AreResults tool is js
+    → l ≡ messages_of_stream is → g ≡ messages_of_stream js → AnswersInFull tool l g
 answered_in_full tool is js l g lawful images are stream answer =
-    subst (λ (x : List Message). AnswersInFull tool x g) (sym stream) (subst (AnswersInFull tool (messages_of_stream is)) (sym answer) (stream_in_full tool is js lawful images are))
+    subst (λ (x : List Message). AnswersInFull tool x g) (sym stream)
+    (subst (AnswersInFull tool (messages_of_stream is)) (sym answer) (stream_in_full tool is js lawful images are))
 
 -- ---- what is owed
 
 -- nothing, or it ends with the beginning or the end of an image
 abbrev pub EndsAtImage : List Message → Type 0
-EndsAtImage l = (l ≡ []) ⊎ ((front : List Message) × (m : Message) × BeginsOrEnds m × (l ≡ front ++ m ∷ []))
+EndsAtImage l = (l ≡ []) ⊎ ((prefix : List Message) × (m : Message) × BeginsOrEnds m × (l ≡ prefix ++ m ∷ []))
 
--- and it is a front of the stream of the results
+-- and it is a prefix of the stream of the results
 abbrev pub IsOwedOf : List Message → List Image → Type 0
-IsOwedOf l js = IsFrontOf l (messages_of_stream js) × EndsAtImage l
+IsOwedOf l js = IsPrefixOf l (messages_of_stream js) × EndsAtImage l
 
 owes_nothing : (js : List Image) → IsOwedOf [] js
 owes_nothing js = ((messages_of_stream js, refl), inl refl)
@@ -86,10 +95,16 @@ image_ends : (j : Image) (more : List Message) → EndsAtImage more → EndsAtIm
 image_ends j more (inl none) =
     inr (Begin j.head ∷ map Row (rows_of j), ImageEnd, tt, ap (λ (x : List Message). messages_of_image j ++ x) none ∙ append-nil (messages_of_image j))
 image_ends j more (inr last) =
-    inr (messages_of_image j ++ last.0, last.1, last.2, ap (λ (x : List Message). messages_of_image j ++ x) last.3 ∙ sym (append_assoc (messages_of_image j) last.0 (last.1 ∷ [])))
+    inr (
+      messages_of_image j ++ last.0,
+      last.1,
+      last.2,
+      ap (λ (x : List Message). messages_of_image j ++ x) last.3
+          ∙ sym (append_assoc (messages_of_image j) last.0 (last.1 ∷ [])),
+    )
 
 after_image : (j : Image) (js : List Image) (more : List Message) → IsOwedOf more js → IsOwedOf (messages_of_image j ++ more) (j ∷ js)
-after_image j js more others = (front_after (messages_of_image j) more (messages_of_stream js) others.0, image_ends j more others.1)
+after_image j js more others = (prefix_after (messages_of_image j) more (messages_of_stream js) others.0, image_ends j more others.1)
 
 abbrev head_by : Result HeadValue ToolFault → List Message
 head_by r = elim r [ Ok head ↦ Begin head ∷ [] | Err fault ↦ [] ]
@@ -108,17 +123,18 @@ head_owed_by make others (Ok head) same = (
 )
 head_owed_by make others (Err fault) same = owes_nothing []
 
-image_owed_by : (tool : Tool) (n : ℕ) (b : Bool) (is : List Image) (r : Result Image ToolFault) → IsOwedOf (owed tool n b is) (results_before tool is)
-    → IsOwedOf (elim r [ Ok j ↦ messages_of_image j ++ owed tool n b is | Err fault ↦ [] ]) (images_by (results_before tool is) r)
-image_owed_by tool n b is (Ok j) others = after_image j (results_before tool is) (owed tool n b is) others
+image_owed_by : (tool : Tool) (n : ℕ) (b : Bool) (is : List Image) (r : Result Image ToolFault) → IsOwedOf (answers_owed tool n b is) (results_before tool is)
+    → IsOwedOf (elim r [ Ok j ↦ messages_of_image j ++ answers_owed tool n b is | Err fault ↦ [] ]) (images_by (results_before tool is) r)
+image_owed_by tool n b is (Ok j) others = after_image j (results_before tool is) (answers_owed tool n b is) others
 image_owed_by tool n b is (Err fault) others = owes_nothing []
 
-pub owed_of_results : (tool : Tool) (n : ℕ) (b : Bool) (is : List Image) → IsOwedOf (owed tool n b is) (results_before tool is)
-unfolding owed
+pub owed_of_results : (tool : Tool) (n : ℕ) (b : Bool) (is : List Image) → IsOwedOf (answers_owed tool n b is) (results_before tool is)
+unfolding answers_owed
 owed_of_results tool zero true [] = owes_nothing []
 owed_of_results tool zero false [] = owes_nothing []
 owed_of_results tool (suc n) true [] = owes_nothing []
 owed_of_results tool (suc n) false [] = owes_nothing []
 owed_of_results tool zero false (i ∷ is) = owes_nothing (results_before tool (i ∷ is))
-owed_of_results tool zero true (i ∷ is) = head_owed_by (λ h. image_by h (result_sample tool i)) (results_before tool is) (result_head tool i.head) (λ head. refl)
+owed_of_results tool zero true (i ∷ is) = head_owed_by (λ h. image_by h (result_sample tool i)) (results_before tool is) (result_head tool i.head)
+    (λ head. refl)
 owed_of_results tool (suc n) b (i ∷ is) = image_owed_by tool n b is (applied tool i) (owed_of_results tool n b is)

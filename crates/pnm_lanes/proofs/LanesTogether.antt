@@ -1,22 +1,22 @@
--- Lanes together: what all of them were dealt is a front of one stream, dealt, and so is what each gives.
+-- Lanes together: what all of them were dealt is a prefix of one stream, dealt, and so is what each gives.
 use Rattle.std.proofs.Common.{◌≡◌, ◌⊎◌, inl, inr, ℕ, zero, suc, ◌<◌, List, [], ◌∷◌, ◌++◌, refl, sym, ap, subst, ◌∙◌, arith}
 use Rattle.pnm_image.specs.declared.message.Message.{Message}
 use Rattle.pnm_image.specs.declared.message.Message.TheVariants.{Begin, Row, ImageEnd, StreamEnd, Stop}
 use Rattle.pnm_image.specs.declared.place.Place.TheVariants.{Between}
 use Rattle.pnm_image.specs.Messages.{without_stop}
 use Rattle.pnm_image.specs.Places.{IsLawful}
-use Rattle.pnm_image.specs.Completion.{IsFrontOf}
+use Rattle.pnm_image.specs.Completion.{IsPrefixOf}
 use Rattle.pnm_tools.specs.Answers.{Ending, More, Whole, BrokenOff, ending_of, EndsBy}
 use Rattle.pnm_tools.specs.Dealing.{dealt}
-use Rattle.pnm_tools.proofs.AnsweringLaws.{fronts}
+use Rattle.pnm_tools.proofs.AnsweringLaws.{prefixes}
 use Rattle.pnm_tools.proofs.AtLaws.{StopsLast, lawful_stops, keeps_all}
-use Rattle.pnm_tools.proofs.FullLaws.{front_of_front}
+use Rattle.pnm_tools.proofs.FullLaws.{prefix_of_prefix}
 use Rattle.pnm_tools.proofs.SoundLaws.{unbroken_keeps_all}
 use Rattle.pnm_stages.specs.Rings.{EndsAtMostOnce}
-use Rattle.pnm_stages.proofs.FrontLaws.{front_without_stop, stop_is_cut}
-use Rattle.pnm_lanes.specs.Deals.{IsFrontOfDealt}
-use Rattle.pnm_lanes.proofs.DealtLaws.{dealt_from-append, dealt_front}
-use Rattle.pnm_lanes.proofs.LaneDue.{front_or_all}
+use Rattle.pnm_stages.proofs.PrefixLaws.{prefix_without_stop, stop_is_cut}
+use Rattle.pnm_lanes.specs.Deals.{IsPrefixOfDealt}
+use Rattle.pnm_lanes.proofs.DealtLaws.{dealt_from-append, dealt_prefix}
+use Rattle.pnm_lanes.proofs.LaneDue.{prefix_or_all}
 
 -- ---- a last Stop
 
@@ -38,7 +38,7 @@ goes_on m [] here more = here
 goes_on m (n ∷ l) here more = (here, more)
 
 -- a list that was broken off goes on before its Stop
-pub before_stop : (l : List Message) → EndsBy BrokenOff l → (front : List Message) × EndsBy More front × (l ≡ front ++ Stop ∷ [])
+pub before_stop : (l : List Message) → EndsBy BrokenOff l → (prefix : List Message) × EndsBy More prefix × (l ≡ prefix ++ Stop ∷ [])
 before_stop [] broken = absurd cc
 before_stop (m ∷ []) broken = ([], refl, ap (λ (x : Message). x ∷ []) (stop_last m broken))
 before_stop (m ∷ n ∷ l) broken =
@@ -55,37 +55,43 @@ no_stop_left Whole l x ends same =
     absurd cc
 no_stop_left BrokenOff l x ends same =
     let cut = before_stop l ends in
-    let front : without_stop l ≡ cut.0 = ap without_stop cut.2 ∙ stop_is_cut cut.0 in
-    let tells = last_tells More x Stop (subst (EndsBy More) (sym front ∙ same) cut.1) in
+    let prefix : without_stop l ≡ cut.0 = ap without_stop cut.2 ∙ stop_is_cut cut.0 in
+    let tells = last_tells More x Stop (subst (EndsBy More) (sym prefix ∙ same) cut.1) in
     absurd cc
 
 -- ---- what a lane receives
 
--- where what it was dealt is a front of what it gets of a lawful list, so is what it receives without a last Stop
-got_by : (lane lanes : ℕ) (accepted i : List Message) → StopsLast accepted → EndsAtMostOnce i → IsFrontOf (without_stop i) (dealt lane lanes accepted) → IsFrontOf (without_stop i) (dealt lane lanes (without_stop accepted))
-got_by lane lanes accepted i (inl on) once front = subst (λ (x : List Message). IsFrontOf (without_stop i) (dealt lane lanes x)) (sym (keeps_all accepted on)) front
-got_by lane lanes accepted i (inr cut) once front =
-    let stopped : dealt lane lanes accepted ≡ dealt lane lanes cut.0 ++ Stop ∷ [] = ap (dealt lane lanes) cut.1 ∙ dealt_from-append lane lanes Between cut.0 (Stop ∷ []) in
+-- where what it was dealt is a prefix of what it gets of a lawful list, so is what it receives without a last Stop
+got_by : (lane lanes : ℕ) (accepted i : List Message) → StopsLast accepted → EndsAtMostOnce i → IsPrefixOf (without_stop i) (dealt lane lanes accepted)
+    → IsPrefixOf (without_stop i) (dealt lane lanes (without_stop accepted))
+got_by lane lanes accepted i (inl on) once prefix = subst (λ (x : List Message). IsPrefixOf (without_stop i) (dealt lane lanes x)) (sym (keeps_all accepted on))
+    prefix
+got_by lane lanes accepted i (inr cut) once prefix =
+    let stopped : dealt lane lanes accepted ≡ dealt lane lanes cut.0 ++ Stop ∷ [] = ap (dealt lane lanes) cut.1
+    ∙ dealt_from-append lane lanes Between cut.0 (Stop ∷ []) in
     let without : without_stop accepted ≡ cut.0 = ap without_stop cut.1 ∙ stop_is_cut cut.0 in
-    elim (front_or_all (without_stop i) (dealt lane lanes cut.0) Stop (subst (IsFrontOf (without_stop i)) stopped front)) [
-      | inl h ↦ subst (λ (x : List Message). IsFrontOf (without_stop i) (dealt lane lanes x)) (sym without) h
+    elim (prefix_or_all (without_stop i) (dealt lane lanes cut.0) Stop (subst (IsPrefixOf (without_stop i)) stopped prefix)) [
+      | inl h ↦ subst (λ (x : List Message). IsPrefixOf (without_stop i) (dealt lane lanes x)) (sym without) h
       | inr h ↦ absurd (no_stop_left once.0 i (dealt lane lanes cut.0) once.1 h)
     ]
 
-pub lane_gets : (lane lanes : ℕ) (accepted d i : List Message) → IsLawful accepted → EndsAtMostOnce i → IsFrontOf i d → IsFrontOf (without_stop d) (dealt lane lanes accepted) → IsFrontOf (without_stop i) (dealt lane lanes (without_stop accepted))
+pub lane_gets : (lane lanes : ℕ) (accepted d i : List Message) → IsLawful accepted → EndsAtMostOnce i → IsPrefixOf i d
+    → IsPrefixOf (without_stop d) (dealt lane lanes accepted) → IsPrefixOf (without_stop i) (dealt lane lanes (without_stop accepted))
 lane_gets lane lanes accepted d i lawful once took sent =
-    let cut : IsFrontOf (without_stop i) (without_stop d) = subst (λ (x : List Message). IsFrontOf (without_stop i) (without_stop x)) (sym took.1) (front_without_stop i took.0) in
-    got_by lane lanes accepted i (lawful_stops Between accepted lawful) once (front_of_front (without_stop i) (without_stop d) (dealt lane lanes accepted) cut sent)
+    let cut : IsPrefixOf (without_stop i) (without_stop d) = subst (λ (x : List Message). IsPrefixOf (without_stop i) (without_stop x)) (sym took.1)
+    (prefix_without_stop i took.0) in
+    got_by lane lanes accepted i (lawful_stops Between accepted lawful) once
+    (prefix_of_prefix (without_stop i) (without_stop d) (dealt lane lanes accepted) cut sent)
 
--- ---- the longest of the lawful fronts that the lanes were dealt
+-- ---- the longest of the lawful prefixes that the lanes were dealt
 
--- a lawful front of what was received, of which each of the first lanes was sent a front of what is dealt to it
-pub record IsCommonFront (lanes count : ℕ) (l : List Message) (d : ℕ → List Message) : Type 0 where
+-- a lawful prefix of what was received, of which each of the first lanes was sent a prefix of what is dealt to it
+pub record IsCommonPrefix (lanes count : ℕ) (l : List Message) (d : ℕ → List Message) : Type 0 where
   pub accepted : List Message
   pub rest : List Message
   pub parts : l ≡ accepted ++ rest
   pub lawful : IsLawful accepted
-  pub sent : (lane : ℕ) → lane < count → IsFrontOf (without_stop (d lane)) (dealt lane lanes accepted)
+  pub sent : (lane : ℕ) → lane < count → IsPrefixOf (without_stop (d lane)) (dealt lane lanes accepted)
 
 below_or_last : (lane count : ℕ) → lane < suc count → (lane < count) ⊎ (lane ≡ count)
 below_or_last zero zero below = inr refl
@@ -96,9 +102,10 @@ below_or_last (suc lane) (suc count) below = elim (below_or_last lane count (ome
   | inr last ↦ inr (ap suc last)
 ]
 
-one_lane_more : (lanes count : ℕ) (l : List Message) (d : ℕ → List Message) → IsCommonFront lanes count l d → IsFrontOfDealt count lanes l (d count) → IsCommonFront lanes (suc count) l d
+one_lane_more : (lanes count : ℕ) (l : List Message) (d : ℕ → List Message) → IsCommonPrefix lanes count l d → IsPrefixOfDealt count lanes l (d count)
+    → IsCommonPrefix lanes (suc count) l d
 one_lane_more lanes count l d common one =
-    elim (fronts common.accepted common.rest one.accepted one.rest (sym common.parts ∙ one.parts)) [
+    elim (prefixes common.accepted common.rest one.accepted one.rest (sym common.parts ∙ one.parts)) [
       | inl longer ↦ record {
         accepted = common.accepted;
         rest = common.rest;
@@ -106,8 +113,9 @@ one_lane_more lanes count l d common one =
         lawful = common.lawful;
         sent = λ lane below. elim (below_or_last lane count below) [
           | inl first ↦ common.sent lane first
-          | inr last ↦ subst (λ (n : ℕ). IsFrontOf (without_stop (d n)) (dealt n lanes common.accepted)) (sym last)
-              (front_of_front (without_stop (d count)) (dealt count lanes one.accepted) (dealt count lanes common.accepted) one.front (dealt_front count lanes one.accepted common.accepted (longer.0, longer.1)))
+          | inr last ↦ subst (λ (n : ℕ). IsPrefixOf (without_stop (d n)) (dealt n lanes common.accepted)) (sym last)
+              (prefix_of_prefix (without_stop (d count)) (dealt count lanes one.accepted) (dealt count lanes common.accepted) one.prefix
+              (dealt_prefix count lanes one.accepted common.accepted (longer.0, longer.1)))
         ];
       }
       | inr shorter ↦ record {
@@ -116,12 +124,15 @@ one_lane_more lanes count l d common one =
         parts = one.parts;
         lawful = one.lawful;
         sent = λ lane below. elim (below_or_last lane count below) [
-          | inl first ↦ front_of_front (without_stop (d lane)) (dealt lane lanes common.accepted) (dealt lane lanes one.accepted) (common.sent lane first) (dealt_front lane lanes common.accepted one.accepted (shorter.0, shorter.1))
-          | inr last ↦ subst (λ (n : ℕ). IsFrontOf (without_stop (d n)) (dealt n lanes one.accepted)) (sym last) one.front
+          | inl first ↦ prefix_of_prefix (without_stop (d lane)) (dealt lane lanes common.accepted) (dealt lane lanes one.accepted) (common.sent lane first)
+              (dealt_prefix lane lanes common.accepted one.accepted (shorter.0, shorter.1))
+          | inr last ↦ subst (λ (n : ℕ). IsPrefixOf (without_stop (d n)) (dealt n lanes one.accepted)) (sym last) one.prefix
         ];
       }
     ]
 
-pub common_front : (lanes count : ℕ) (l : List Message) (d : ℕ → List Message) → ((lane : ℕ) → lane < count → IsFrontOfDealt lane lanes l (d lane)) → IsCommonFront lanes count l d
-common_front lanes zero l d each = record { accepted = []; rest = l; parts = refl; lawful = tt; sent = λ lane below. absurd (omega (arith, below)) }
-common_front lanes (suc count) l d each = one_lane_more lanes count l d (common_front lanes count l d (λ lane below. each lane (omega (arith, below)))) (each count (omega arith))
+pub common_prefix : (lanes count : ℕ) (l : List Message) (d : ℕ → List Message) → ((lane : ℕ) → lane < count → IsPrefixOfDealt lane lanes l (d lane))
+    → IsCommonPrefix lanes count l d
+common_prefix lanes zero l d each = record { accepted = []; rest = l; parts = refl; lawful = tt; sent = λ lane below. absurd (omega (arith, below)) }
+common_prefix lanes (suc count) l d each = one_lane_more lanes count l d (common_prefix lanes count l d (λ lane below. each lane (omega (arith, below))))
+    (each count (omega arith))

@@ -6,58 +6,70 @@ use Rattle.pnm_image.specs.declared.message.Message.{Message}
 use Rattle.pnm_image.specs.declared.message.Message.TheVariants.{Begin, Row, ImageEnd, StreamEnd, Stop}
 use Rattle.pnm_image.specs.declared.place.Place.TheVariants.{Inside}
 use Rattle.pnm_image.specs.declared.shape.Shape.{Shape}
-use Rattle.pnm_image.specs.Completion.{IsFrontOf}
+use Rattle.pnm_image.specs.Completion.{IsPrefixOf}
 use Rattle.pnm_image.specs.Places.{Accepts, IsLawfulFrom, place_after}
 use Rattle.pnm_tools.specs.declared.fault.ToolFault.TheVariants.{OutOfOrder}
 use Rattle.pnm_tools.specs.Dealing.{dealt_from}
 use Rattle.pnm_stages.specs.declared.stage.StageEnd.{StageEnd}
 use Rattle.pnm_stages.specs.declared.stage.StageEnd.TheVariants.{Fault}
 use Rattle.pnm_lanes.specs.declared.lane.LaneState.{LaneState}
-use Rattle.pnm_lanes.specs.GatherParts.{IsOfStream, HasGiven, HasTakenFrom, AreOpen, HasTakenNone}
-use Rattle.pnm_lanes.proofs.PartLaws.{begins_so, no_front, own_message}
+use Rattle.pnm_lanes.specs.GatherParts.{IsOfStream, LaneHasGiven, HasTakenFrom, AreOpen, HasTakenNone}
+use Rattle.pnm_lanes.proofs.PartLaws.{begins_so, no_prefix, own_message}
 use Rattle.pnm_lanes.proofs.TakenParts.{one_more_of, more_here, one_of_stream, message_of_stream, none_taken, taken_more, taken_none}
 
 -- the next message of a stream is a row, too
-row_comes : (lanes y : ℕ) (s : Shape) (m : Message) (rest : List Message) → y < s.height → IsLawfulFrom (Inside s y) rest → AllByRecursion IsOfStream rest → IsFrontOf (m ∷ []) (dealt_from (y % lanes) lanes (Inside s y) rest) → Accepts (Inside s y) m
-row_comes lanes y s m [] below lawful are front = absurd (no_front m [] front)
-row_comes lanes y s m (Begin head ∷ rest) below lawful are front = absurd lawful.0
-row_comes lanes y s m (Row row ∷ rest) below lawful are front =
+row_comes : (lanes y : ℕ) (s : Shape) (m : Message) (rest : List Message) → y < s.height → IsLawfulFrom (Inside s y) rest → AllByRecursion IsOfStream rest
+    → IsPrefixOf (m ∷ []) (dealt_from (y % lanes) lanes (Inside s y) rest) → Accepts (Inside s y) m
+row_comes lanes y s m [] below lawful are prefix = absurd (no_prefix m [] prefix)
+row_comes lanes y s m (Begin head ∷ rest) below lawful are prefix = absurd lawful.0
+row_comes lanes y s m (Row row ∷ rest) below lawful are prefix =
     let others : List Message = dealt_from (y % lanes) lanes (place_after (Inside s y) (Row row)) rest in
-    let same = begins_so m (Row row) [] others (subst (λ (l : List Message). IsFrontOf (m ∷ []) (l ++ others)) (own_message lanes y s row) front) in
+    let same = begins_so m (Row row) [] others (subst (λ (l : List Message). IsPrefixOf (m ∷ []) (l ++ others)) (own_message lanes y s row) prefix) in
     subst (Accepts (Inside s y)) (sym same) lawful.0
-row_comes lanes y s m (ImageEnd ∷ rest) below lawful are front = let reached = lawful.0 in absurd (omega (arith, reached))
-row_comes lanes y s m (StreamEnd ∷ rest) below lawful are front = absurd lawful.0
-row_comes lanes y s m (Stop ∷ rest) below lawful are front = absurd are.0
+row_comes lanes y s m (ImageEnd ∷ rest) below lawful are prefix = let reached = lawful.0 in absurd (omega (arith, reached))
+row_comes lanes y s m (StreamEnd ∷ rest) below lawful are prefix = absurd lawful.0
+row_comes lanes y s m (Stop ∷ rest) below lawful are prefix = absurd are.0
 
-refused_at_own : (lanes y : ℕ) (s : Shape) (m : Message) (states_old states_new : List LaneState) (old new : ℕ → List Message) → 1 ≤ lanes → lanes ≤ length states_old → AreOpen states_old → y < s.height → ¬ Accepts (Inside s y) m
-    → IsOfStream m × HasGiven (y % lanes) m states_old states_new old new → HasTakenNone lanes (Inside s y) (Fault OutOfOrder) states_new old new
+refused_at_own : (lanes y : ℕ) (s : Shape) (m : Message) (states_old states_new : List LaneState) (old new : ℕ → List Message) → 1 ≤ lanes
+    → lanes ≤ length states_old → AreOpen states_old → y < s.height → ¬ Accepts (Inside s y) m
+    → IsOfStream m × LaneHasGiven (y % lanes) m states_old states_new old new → HasTakenNone lanes (Inside s y) (Fault OutOfOrder) states_new old new
 refused_at_own lanes y s m states_old states_new old new some enough opens below refused from =
     let lane : ℕ = y % lanes in
     let within : lane < lanes = mod_below y lanes some in
     record {
       taken = one_more_of lane m (λ l. []);
-      parts = taken_more lanes lane states_old states_new old old new (λ l. []) m (omega arith) (opens lane (omega arith)) refl (message_of_stream m from.0) (none_taken lanes states_old old enough opens) within from.1;
+      parts = taken_more lanes lane states_old states_new old old new (λ l. []) m (omega arith) (opens lane (omega arith)) refl (message_of_stream m from.0)
+          (none_taken lanes states_old old enough opens) within from.1;
       cause = (
         refl,
         λ l b. one_of_stream lane m (λ o. []) from.0 (λ o. tt) l,
-        λ rest lawful are fronts. refused (row_comes lanes y s m rest below lawful are (subst (λ (l : List Message). IsFrontOf l (dealt_from lane lanes (Inside s y) rest)) (more_here lane m (λ o. [])) (fronts lane within))),
+        λ rest lawful are prefixes.
+            refused (row_comes lanes y s m rest below lawful are
+            (subst (λ (l : List Message). IsPrefixOf l (dealt_from lane lanes (Inside s y) rest)) (more_here lane m (λ o. [])) (prefixes lane within))),
       );
     }
 
-failed_at_own : (lanes y : ℕ) (s : Shape) (end : StageEnd) (states_old states_new : List LaneState) (old new : ℕ → List Message) → 1 ≤ lanes → lanes ≤ length states_old → AreOpen states_old
+failed_at_own : (lanes y : ℕ) (s : Shape) (end : StageEnd) (states_old states_new : List LaneState) (old new : ℕ → List Message) → 1 ≤ lanes
+    → lanes ≤ length states_old → AreOpen states_old
     → HasTakenFrom (y % lanes) (Err end) states_old states_new old new → HasTakenNone lanes (Inside s y) end states_new old new
 failed_at_own lanes y s end states_old states_new old new some enough opens from =
     let lane : ℕ = y % lanes in
     let within : lane < lanes = mod_below y lanes some in
-    taken_none lanes lane (Inside s y) end states_old states_new old old new (λ l. []) (omega arith) (opens lane (omega arith)) refl within (none_taken lanes states_old old enough opens) from
+    taken_none lanes lane (Inside s y) end states_old states_new old old new (λ l. []) (omega arith) (opens lane (omega arith)) refl within
+    (none_taken lanes states_old old enough opens) from
 
 -- the row's own lane, however its number was found
-pub row_refused : (lanes y lane : ℕ) (s : Shape) (m : Message) (states_old states_new : List LaneState) (old new : ℕ → List Message) → 1 ≤ lanes → lanes ≤ length states_old → AreOpen states_old → y < s.height → ¬ Accepts (Inside s y) m
-    → IsOfStream m × HasGiven lane m states_old states_new old new → lane ≡ y % lanes → HasTakenNone lanes (Inside s y) (Fault OutOfOrder) states_new old new
+pub row_refused : (lanes y lane : ℕ) (s : Shape) (m : Message) (states_old states_new : List LaneState) (old new : ℕ → List Message) → 1 ≤ lanes
+    → lanes ≤ length states_old → AreOpen states_old → y < s.height → ¬ Accepts (Inside s y) m
+    → IsOfStream m × LaneHasGiven lane m states_old states_new old new → lane ≡ y % lanes
+    → HasTakenNone lanes (Inside s y) (Fault OutOfOrder) states_new old new
 row_refused lanes y lane s m states_old states_new old new some enough opens below refused from own =
-    refused_at_own lanes y s m states_old states_new old new some enough opens below refused (subst (λ (n : ℕ). IsOfStream m × HasGiven n m states_old states_new old new) own from)
+    refused_at_own lanes y s m states_old states_new old new some enough opens below refused
+    (subst (λ (n : ℕ). IsOfStream m × LaneHasGiven n m states_old states_new old new) own from)
 
-pub row_failed : (lanes y lane : ℕ) (s : Shape) (end : StageEnd) (states_old states_new : List LaneState) (old new : ℕ → List Message) → 1 ≤ lanes → lanes ≤ length states_old → AreOpen states_old
+pub row_failed : (lanes y lane : ℕ) (s : Shape) (end : StageEnd) (states_old states_new : List LaneState) (old new : ℕ → List Message) → 1 ≤ lanes
+    → lanes ≤ length states_old → AreOpen states_old
     → HasTakenFrom lane (Err end) states_old states_new old new → lane ≡ y % lanes → HasTakenNone lanes (Inside s y) end states_new old new
 row_failed lanes y lane s end states_old states_new old new some enough opens from own =
-    failed_at_own lanes y s end states_old states_new old new some enough opens (subst (λ (n : ℕ). HasTakenFrom n (Err end) states_old states_new old new) own from)
+    failed_at_own lanes y s end states_old states_new old new some enough opens
+    (subst (λ (n : ℕ). HasTakenFrom n (Err end) states_old states_new old new) own from)

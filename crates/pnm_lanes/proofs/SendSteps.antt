@@ -1,5 +1,6 @@
 -- How the lanes are sent their parts, one lane after another.
-use Rattle.std.proofs.Common.{◌≡◌, ◌⊎◌, inl, inr, ℕ, ◌+◌, ◌%◌, ◌<◌, ◌≤◌, Bool, true, false, List, [], ◌∷◌, ◌++◌, length, map, get_or, Option, None, Some, refl, sym, ap, subst, ◌∙◌, append-nil, arith}
+use Rattle.std.proofs.Common.{◌≡◌, ◌⊎◌, inl, inr, ℕ, ◌+◌, ◌%◌, ◌<◌, ◌≤◌, Bool, true, false, List, [], ◌∷◌, ◌++◌, length, map, get_or, Option, None, Some, refl}
+use Rattle.std.proofs.Common.{sym, ap, subst, ◌∙◌, append-nil, arith}
 use Rattle.std.specs.Prelude.{◌==◌, if◌then◌else◌, slice_set, IsSome, IfSome}
 use Rattle.std.proofs.lemmas.Bool.Decides.{nat_tests}
 use Rattle.pnm_stages.specs.declared.sender.Sender.{Sender}
@@ -18,7 +19,8 @@ use Rattle.pnm_lanes.proofs.EachLaws.{each-map, each-itself, each-below, each-se
 
 -- a lane was sent its part, or couldn't be, if its number is below this one; and else nothing yet
 abbrev pub IsSentBelow : ℕ → (ℕ → List Message) → Option StageEnd → ℕ → Sender → Sender → Type 0
-IsSentBelow next part unsent lane old now = SameProducer old now × (((lane < next) × ((sent now ≡ sent old ++ part lane) ⊎ ((sent now ≡ sent old) × IsSome unsent))) ⊎ ((next ≤ lane) × (sent now ≡ sent old)))
+IsSentBelow next part unsent lane old now = SameProducer old now
+    × (((lane < next) × ((sent now ≡ sent old ++ part lane) ⊎ ((sent now ≡ sent old) × IsSome unsent))) ⊎ ((next ≤ lane) × (sent now ≡ sent old)))
 
 pub record IsSending (next : ℕ) (part : ℕ → List Message) (unsent : Option StageEnd) (olds nows : List Sender) : Type 0 where
   pub lanes : AtEach (IsSentBelow next part unsent) olds nows
@@ -30,13 +32,15 @@ sends_nothing part outputs = record {
   reason = tt;
 }
 
-other_lane : (next : ℕ) (part : ℕ → List Message) (unsent still : Option StageEnd) → (IsSome unsent → IsSome still) → (lane : ℕ) (old now : Sender) → (lane ≡ next → ⊥)
+other_lane : (next : ℕ) (part : ℕ → List Message) (unsent still : Option StageEnd) → (IsSome unsent → IsSome still) → (lane : ℕ) (old now : Sender)
+    → (lane ≡ next → ⊥)
     → IsSentBelow next part unsent lane old now → IsSentBelow (next + 1) part still lane old now
 other_lane next part unsent still keeps lane old now other (same, inl (lt, inl is)) = (same, inl (omega (arith, lt), inl is))
 other_lane next part unsent still keeps lane old now other (same, inl (lt, inr lost)) = (same, inl (omega (arith, lt), inr (lost.0, keeps lost.1)))
 other_lane next part unsent still keeps lane old now other (same, inr (le, none)) = (same, inr (let e = other in grind arith, none))
 
-next_lane : (next : ℕ) (part : ℕ → List Message) (unsent still : Option StageEnd) (new : Sender) (m : List Message) (old now : Sender) → SameProducer now new → sent new ≡ sent now ++ m
+next_lane : (next : ℕ) (part : ℕ → List Message) (unsent still : Option StageEnd) (new : Sender) (m : List Message) (old now : Sender) → SameProducer now new
+    → sent new ≡ sent now ++ m
     → (m ≡ part next) ⊎ ((m ≡ []) × IsSome still) → IsSentBelow next part unsent next old now → IsSentBelow (next + 1) part still next old new
 next_lane next part unsent still new m old now same added is (same_now, inl (lt, sent_now)) = absurd (omega (arith, lt))
 next_lane next part unsent still new m old now same added (inl is) (same_now, inr (le, none)) = (
@@ -49,44 +53,54 @@ next_lane next part unsent still new m old now same added (inr is) (same_now, in
 )
 
 -- the next lane was sent its part
-pub sends_next : (next : ℕ) (part : ℕ → List Message) (unsent : Option StageEnd) (olds nows : List Sender) (was new other : Sender) (m : Message) → IsSending next part unsent olds nows → next < length nows
-    → was ≡ get_or nows next other → SameProducer was new → sent new ≡ sent was ++ m ∷ [] → part next ≡ m ∷ [] → IsSending (next + 1) part unsent olds (slice_set nows next new)
+pub sends_next : (next : ℕ) (part : ℕ → List Message) (unsent : Option StageEnd) (olds nows : List Sender) (was new other : Sender) (m : Message)
+    → IsSending next part unsent olds nows → next < length nows
+    → was ≡ get_or nows next other → SameProducer was new → sent new ≡ sent was ++ m ∷ [] → part next ≡ m ∷ []
+    → IsSending (next + 1) part unsent olds (slice_set nows next new)
 sends_next next part unsent olds nows was new other m sending lt is same added part_is = record {
   lanes = each-set (IsSentBelow next part unsent) (IsSentBelow (next + 1) part unsent) next 0 next olds nows other new (omega arith) lt
       (λ lane old now differs sent_now. other_lane next part unsent unsent (λ x. x) lane old now differs sent_now)
-      (λ old sent_now. next_lane next part unsent unsent new (m ∷ []) old was same added (inl (sym part_is)) (subst (λ (x : Sender). IsSentBelow next part unsent next old x) (sym is) sent_now)) sending.lanes;
+      (λ old sent_now. next_lane next part unsent unsent new (m ∷ []) old was same added (inl (sym part_is))
+      (subst (λ (x : Sender). IsSentBelow next part unsent next old x) (sym is) sent_now)) sending.lanes;
   reason = sending.reason;
 }
 
 -- or couldn't be sent it
-pub misses_next : (next : ℕ) (part : ℕ → List Message) (unsent : Option StageEnd) (olds nows : List Sender) (was new other : Sender) → IsSending next part unsent olds nows → next < length nows
+pub misses_next : (next : ℕ) (part : ℕ → List Message) (unsent : Option StageEnd) (olds nows : List Sender) (was new other : Sender)
+    → IsSending next part unsent olds nows → next < length nows
     → was ≡ get_or nows next other → SameProducer was new → sent new ≡ sent was → IsSending (next + 1) part (Some PeerGone) olds (slice_set nows next new)
 misses_next next part unsent olds nows was new other sending lt is same none = record {
   lanes = each-set (IsSentBelow next part unsent) (IsSentBelow (next + 1) part (Some PeerGone)) next 0 next olds nows other new (omega arith) lt
       (λ lane old now differs sent_now. other_lane next part unsent (Some PeerGone) (λ x. refl) lane old now differs sent_now)
-      (λ old sent_now. next_lane next part unsent (Some PeerGone) new [] old was same (none ∙ sym (append-nil (sent was))) (inr (refl, refl)) (subst (λ (x : Sender). IsSentBelow next part unsent next old x) (sym is) sent_now)) sending.lanes;
+      (λ old sent_now. next_lane next part unsent (Some PeerGone) new [] old was same (none ∙ sym (append-nil (sent was))) (inr (refl, refl))
+      (subst (λ (x : Sender). IsSentBelow next part unsent next old x) (sym is) sent_now)) sending.lanes;
   reason = inr refl;
 }
 
-done_lane : (next count : ℕ) (part : ℕ → List Message) (unsent : Option StageEnd) → count ≤ next → (lane : ℕ) (old now : Sender) → (lane < count) × IsSentBelow next part unsent lane old now → IsSentPart part unsent lane old now
+done_lane : (next count : ℕ) (part : ℕ → List Message) (unsent : Option StageEnd) → count ≤ next → (lane : ℕ) (old now : Sender)
+    → (lane < count) × IsSentBelow next part unsent lane old now → IsSentPart part unsent lane old now
 done_lane next count part unsent le lane old now (lt, (same, inl is)) = (same, is.1)
 done_lane next count part unsent le lane old now (lt, (same, inr is)) = absurd (omega (arith, le, lt, is.0))
 
 -- all lanes have been gone through
-pub sends_all : (next : ℕ) (part : ℕ → List Message) (unsent : Option StageEnd) (olds nows : List Sender) → IsSending next part unsent olds nows → length olds ≤ next → HasSentParts part unsent olds nows
+pub sends_all : (next : ℕ) (part : ℕ → List Message) (unsent : Option StageEnd) (olds nows : List Sender) → IsSending next part unsent olds nows
+    → length olds ≤ next → HasSentParts part unsent olds nows
 sends_all next part unsent olds nows sending le = record {
-  lanes = each-map (λ lane old now. (lane < length olds) × IsSentBelow next part unsent lane old now) (IsSentPart part unsent) 0 olds nows (done_lane next (length olds) part unsent le)
+  lanes = each-map (λ lane old now. (lane < length olds) × IsSentBelow next part unsent lane old now) (IsSentPart part unsent) 0 olds nows
+      (done_lane next (length olds) part unsent le)
       (each-below (IsSentBelow next part unsent) (length olds) 0 olds nows (omega arith) sending.lanes);
   reason = sending.reason;
 }
 
-some_lane : (next : ℕ) (part : ℕ → List Message) (unsent : Option StageEnd) (end : StageEnd) → (lane : ℕ) (old now : Sender) → IsSentBelow next part unsent lane old now → IsSentPart part (Some end) lane old now
+some_lane : (next : ℕ) (part : ℕ → List Message) (unsent : Option StageEnd) (end : StageEnd) → (lane : ℕ) (old now : Sender)
+    → IsSentBelow next part unsent lane old now → IsSentPart part (Some end) lane old now
 some_lane next part unsent end lane old now (same, inl (lt, inl is)) = (same, inl is)
 some_lane next part unsent end lane old now (same, inl (lt, inr lost)) = (same, inr (lost.0, refl))
 some_lane next part unsent end lane old now (same, inr is) = (same, inr (is.1, refl))
 
 -- there was no memory for a part
-pub leaves_off : (next : ℕ) (part : ℕ → List Message) (unsent : Option StageEnd) (olds nows : List Sender) → IsSending next part unsent olds nows → HasSentParts part (Some (Fault Memory)) olds nows
+pub leaves_off : (next : ℕ) (part : ℕ → List Message) (unsent : Option StageEnd) (olds nows : List Sender) → IsSending next part unsent olds nows
+    → HasSentParts part (Some (Fault Memory)) olds nows
 leaves_off next part unsent olds nows sending = record {
   lanes = each-map (IsSentBelow next part unsent) (IsSentPart part (Some (Fault Memory))) 0 olds nows (some_lane next part unsent (Fault Memory)) sending.lanes;
   reason = inl refl;
@@ -108,21 +122,28 @@ no_row lane lanes y row other =
     ap (λ (b : Bool). map Row (if b then row ∷ [] else [])) not_its
 
 pub sends_row : (lane y : ℕ) (row : List ℕ) (outputs : List Sender) (was new other : Sender) → lane ≡ y % length outputs → lane < length outputs
-    → was ≡ get_or outputs lane other → SameProducer was new → sent new ≡ sent was ++ Row row ∷ [] → HasSentParts (row_part (length outputs) y row) None outputs (slice_set outputs lane new)
+    → was ≡ get_or outputs lane other → SameProducer was new → sent new ≡ sent was ++ Row row ∷ []
+    → HasSentParts (row_part (length outputs) y row) None outputs (slice_set outputs lane new)
 sends_row lane y row outputs was new other here lt is same added = record {
   lanes = each-set IsSame (IsSentPart (row_part (length outputs) y row) None) lane 0 lane outputs outputs other new (omega arith) lt
-      (λ n old now differs unchanged. (unchanged.0, inl (unchanged.1 ∙ sym (append-nil (sent old)) ∙ ap (λ (x : List Message). sent old ++ x) (sym (no_row n (length outputs) y row (λ e. differs (e ∙ sym here)))))))
+      (λ n old now differs unchanged. (
+        unchanged.0,
+        inl (unchanged.1 ∙ sym (append-nil (sent old))
+            ∙ ap (λ (x : List Message). sent old ++ x) (sym (no_row n (length outputs) y row (λ e. differs (e ∙ sym here))))),
+      ))
       (λ old unchanged.
       let same_was : IsSame lane old was = subst (λ (x : Sender). IsSame lane old x) (sym is) unchanged in (
         same_output old was new same_was.0 same,
-        inl (added ∙ ap (λ (x : List Message). x ++ Row row ∷ []) same_was.1 ∙ ap (λ (x : List Message). sent old ++ x) (sym (its_row lane (length outputs) y row (sym here)))),
+        inl (added ∙ ap (λ (x : List Message). x ++ Row row ∷ []) same_was.1
+            ∙ ap (λ (x : List Message). sent old ++ x) (sym (its_row lane (length outputs) y row (sym here)))),
       ))
       (each-itself IsSame 0 outputs (λ n x. (itself_output x, refl)));
   reason = tt;
 }
 
 pub misses_row : (lane y : ℕ) (row : List ℕ) (outputs : List Sender) (was new other : Sender) → lane < length outputs
-    → was ≡ get_or outputs lane other → SameProducer was new → sent new ≡ sent was → HasSentParts (row_part (length outputs) y row) (Some PeerGone) outputs (slice_set outputs lane new)
+    → was ≡ get_or outputs lane other → SameProducer was new → sent new ≡ sent was
+    → HasSentParts (row_part (length outputs) y row) (Some PeerGone) outputs (slice_set outputs lane new)
 misses_row lane y row outputs was new other lt is same none = record {
   lanes = each-set IsSame (IsSentPart (row_part (length outputs) y row) (Some PeerGone)) lane 0 lane outputs outputs other new (omega arith) lt
       (λ n old now differs unchanged. (unchanged.0, inr (unchanged.1, refl)))

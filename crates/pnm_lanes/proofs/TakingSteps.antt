@@ -8,13 +8,13 @@ use Rattle.pnm_image.specs.Messages.{IsMessage}
 use Rattle.pnm_tools.specs.Answers.{Ending, More, Whole, BrokenOff, ending_of}
 use Rattle.pnm_lanes.specs.declared.lane.LaneState.{LaneState}
 use Rattle.pnm_lanes.specs.Gathers.{at_lane}
-use Rattle.pnm_lanes.specs.GatherParts.{IsOfStream, HasGiven, states_after}
+use Rattle.pnm_lanes.specs.GatherParts.{IsOfStream, LaneHasGiven, states_after}
 use Rattle.pnm_lanes.proofs.LaneLists.{at_lane-get, at_lane-set, at_lane-others}
 
 -- the lane has given a message
 pub has_given : (ends : List Receiver) (lane : ℕ) (new other : Receiver) (m : Message) (e : Ending) (states_old states_new : List LaneState)
     → lane < length ends → received new ≡ received (get_or ends lane other) ++ m ∷ [] → e ≡ ending_of m → states_new ≡ states_after states_old lane e
-    → HasGiven lane m states_old states_new (at_lane received ends) (at_lane received (set ends lane new))
+    → LaneHasGiven lane m states_old states_new (at_lane received ends) (at_lane received (set ends lane new))
 has_given ends lane new other m e states_old states_new below added so states = record {
   states = states ∙ ap (states_after states_old lane) so;
   given = at_lane-set received ends lane new below ∙ added ∙ ap (λ (l : List Message). l ++ m ∷ []) (sym (at_lane-get received ends lane other below));

@@ -35,7 +35,8 @@ lane_part lanes m lane = dealt_message lane lanes Between m
 
 -- a lane was sent its part, or nothing where not each lane could be sent its own
 abbrev pub IsSentPart : (ℕ → List Message) → Option StageEnd → ℕ → Sender → Sender → Type 0
-IsSentPart part unsent lane old new = SameProducer old new × ((sent new ≡ sent old ++ part lane) ⊎ ((sent new ≡ sent old) × IsSome unsent))
+IsSentPart part unsent lane old new = SameProducer old new
+    × ((sent new ≡ sent old ++ part lane) ⊎ ((sent new ≡ sent old) × IsSome unsent))
 
 -- a part for each lane was sent; where not each lane could be sent its own, there was no memory, or the other end of a
 -- ring was seen dropped
@@ -45,7 +46,8 @@ pub record HasSentParts (part : ℕ → List Message) (unsent : Option StageEnd)
 
 -- dealing was broken off after a message with this ending: each lane was sent Stop and the input was drained; or else
 -- the other end of a ring was seen dropped
-pub record HasBrokenOffAfter (end : StageEnd) (ending : Ending) (answer : StageEnd) (received_old received_new seen : List Message) (olds news : List Sender) : Type 0 where
+pub record HasBrokenOffDealing (end : StageEnd) (ending : Ending) (answer : StageEnd)
+    (received_old received_new seen : List Message) (olds news : List Sender) : Type 0 where
   pub untold : Option StageEnd
   pub drained : Bool
   pub lanes : AtEach (IsSentPart (λ lane. Stop ∷ []) untold) olds news

@@ -7,14 +7,15 @@ use Rattle.pnm_image.specs.declared.message.Message.{Message}
 use Rattle.pnm_image.specs.declared.message.Message.TheVariants.{Stop}
 use Rattle.pnm_image.specs.Messages.{IsMessage, without_stop}
 use Rattle.pnm_image.specs.Places.{IsLawful}
-use Rattle.pnm_image.specs.Completion.{IsFrontOf}
+use Rattle.pnm_image.specs.Completion.{IsPrefixOf}
 use Rattle.pnm_tools.specs.declared.fault.ToolFault.{ToolFault}
-use Rattle.pnm_tools.specs.declared.fault.ToolFault.TheVariants.{CutOutside, ChannelOutside, TooLarge, OutOfOrder, Memory}
+use Rattle.pnm_tools.specs.declared.fault.ToolFault.TheVariants.{CutOutside, ChannelOutside, TooLarge, OutOfOrder}
+use Rattle.pnm_tools.specs.declared.fault.ToolFault.TheVariants.{Memory}
 use Rattle.pnm_tools.specs.Answers.{More, Whole, BrokenOff, EndsBy}
 use Rattle.pnm_tools.specs.Dealing.{dealt}
 use Rattle.pnm_stages.specs.declared.stage.StageEnd.{StageEnd}
 use Rattle.pnm_stages.specs.declared.stage.StageEnd.TheVariants.{Well, Broken, Fault, PeerGone}
-use Rattle.pnm_stages.specs.Fronts.{IsLongestLawfulFront}
+use Rattle.pnm_stages.specs.Prefixes.{IsLongestLawfulPrefix}
 use Rattle.pnm_stages.specs.Rings.{IsEnded, EndsAtMostOnce}
 
 -- ---- lanes, numbered from 0
@@ -27,7 +28,7 @@ AtEachFrom P lane [] (new ∷ news) = ⊥
 AtEachFrom P lane (old ∷ olds) [] = ⊥
 AtEachFrom P lane (old ∷ olds) (new ∷ news) = P lane old new × AtEachFrom P (lane + 1) olds news
 
--- the same where the first has the number 0
+-- this holds of each two and of their number, the first having 0
 abbrev pub AtEach : {A : Type 0} → (ℕ → A → A → Type 0) → List A → List A → Type 0
 AtEach P olds news = AtEachFrom P 0 olds news
 
@@ -45,14 +46,14 @@ HasReceivedSo (Fault OutOfOrder) l = IsEnded l × (IsLawful l → ⊥)
 HasReceivedSo (Fault Memory) l = IsEnded l
 HasReceivedSo PeerGone l = Unit {0}
 
--- all that is dealt of the longest lawful front of what was received: what was sent to a lane before a fault, unless
+-- all that is dealt of the longest lawful prefix of what was received: what was sent to a lane before a fault, unless
 -- there was no memory
 abbrev pub IsAllBefore : ToolFault → ℕ → ℕ → List Message → List Message → Type 0
 IsAllBefore CutOutside lane lanes l given = ⊥
 IsAllBefore ChannelOutside lane lanes l given = ⊥
 IsAllBefore TooLarge lane lanes l given = ⊥
 IsAllBefore OutOfOrder lane lanes l given =
-    (front : List Message) × IsLongestLawfulFront front l × (given ≡ dealt lane lanes front)
+    (prefix : List Message) × IsLongestLawfulPrefix prefix l × (given ≡ dealt lane lanes prefix)
 IsAllBefore Memory lane lanes l given = Unit {0}
 
 -- and what was sent to a lane: all that is dealt to it; or, after a fault, messages that don't end the stream, and Stop
@@ -65,13 +66,13 @@ HasSentSo PeerGone lane lanes l g = Unit {0}
 
 -- ---- however it ended
 
--- what was sent to a lane is a front of what is dealt to it of a lawful front of what was received; a last Stop aside
-pub record IsFrontOfDealt (lane lanes : ℕ) (l g : List Message) : Type 0 where
+-- what was sent to a lane is a prefix of what is dealt to it of a lawful prefix of what was received; a last Stop aside
+pub record IsPrefixOfDealt (lane lanes : ℕ) (l g : List Message) : Type 0 where
   pub accepted : List Message
   pub rest : List Message
   pub parts : l ≡ accepted ++ rest
   pub lawful : IsLawful accepted
-  pub front : IsFrontOf (without_stop g) (dealt lane lanes accepted)
+  pub prefix : IsPrefixOf (without_stop g) (dealt lane lanes accepted)
 
 -- what a lane was sent, of so many, where these messages were received
 pub record HasLane (end : StageEnd) (lanes : ℕ) (l : List Message) (lane : ℕ) (old new : Sender) : Type 0 where
@@ -79,11 +80,13 @@ pub record HasLane (end : StageEnd) (lanes : ℕ) (l : List Message) (lane : ℕ
   pub gave : List Message
   pub output : sent new ≡ sent old ++ gave
   pub ended : HasSentSo end lane lanes l gave
-  pub front : IsFrontOfDealt lane lanes l gave
+  pub prefix : IsPrefixOfDealt lane lanes l gave
 
--- the dealing has ended so, by the messages that the input had passed before and has passed now and those that it has seen
--- and not received, and by the lanes' rings before and now: there are none of these, or the end of the stream was received
-pub record HasDealt (end : StageEnd) (received_old received_new seen : List Message) (olds news : List Sender) : Type 0 where
+-- the dealing has ended so, by the messages that the input had passed before and has passed now and those that it has
+-- seen and not received, and by the lanes' rings before and now: there are none of these, or the end of the stream was
+-- received
+pub record HasDealt (end : StageEnd) (received_old received_new seen : List Message)
+    (olds news : List Sender) : Type 0 where
   pub took : List Message
   pub input : received_new ≡ received_old ++ took
   pub seen_taken : IsEnded took ⊎ (seen ≡ [])
@@ -94,7 +97,8 @@ pub record HasDealt (end : StageEnd) (received_old received_new seen : List Mess
 
 -- ---- laws
 
--- what was sent to a lane is a front of what is dealt to it of the longest lawful front of what was received
-abbrev pub LongestFrontIsDealt : Type 0
-LongestFrontIsDealt = (lane lanes : ℕ) (l g front : List Message)
-    → IsFrontOfDealt lane lanes l g → IsLongestLawfulFront front l → IsFrontOf (without_stop g) (dealt lane lanes front)
+-- what was sent to a lane is a prefix of what is dealt to it of the longest lawful prefix of what was received
+abbrev pub LongestPrefixIsDealt : Type 0
+LongestPrefixIsDealt = (lane lanes : ℕ) (l g prefix : List Message)
+    → IsPrefixOfDealt lane lanes l g → IsLongestLawfulPrefix prefix l
+    → IsPrefixOf (without_stop g) (dealt lane lanes prefix)

@@ -1,11 +1,12 @@
 -- What the parts of the gatherer's work have received.
-use Rattle.std.specs.Prelude.{◌≡◌, ◌≢◌, ◌⊎◌, ◌<◌, ◌≤◌, ℕ, Bool, true, false, Option, Some, None, List, [], ◌∷◌, ◌++◌, length, slice_index, slice_index_or, slice_set, Result, Ok, Err}
+use Rattle.std.specs.Prelude.{◌≡◌, ◌≢◌, ◌⊎◌, ◌<◌, ◌≤◌, ℕ, Bool, true, false, Option, Some, None, List, [], ◌∷◌, ◌++◌}
+use Rattle.std.specs.Prelude.{length, slice_index, slice_index_or, slice_set, Result, Ok, Err}
 use Rattle.std.specs.List.{AllByRecursion}
 use Rattle.pnm_image.specs.declared.message.Message.{Message}
 use Rattle.pnm_image.specs.declared.message.Message.TheVariants.{Begin, Row, ImageEnd, StreamEnd, Stop}
 use Rattle.pnm_image.specs.declared.place.Place.{Place}
 use Rattle.pnm_image.specs.declared.place.Place.TheVariants.{Between, Inside, After}
-use Rattle.pnm_image.specs.Completion.{IsFrontOf}
+use Rattle.pnm_image.specs.Completion.{IsPrefixOf}
 use Rattle.pnm_image.specs.Heads.{IsHead, with_height}
 use Rattle.pnm_image.specs.declared.limits.TheConstants.{MAX_SIDE}
 use Rattle.pnm_image.specs.Messages.{IsMessage}
@@ -34,16 +35,20 @@ states_after states lane Whole = slice_set states lane Ended
 states_after states lane BrokenOff = slice_set states lane Ended
 
 -- a lane has given this message, and the others none
-pub record HasGiven (lane : ℕ) (m : Message) (states_old states_new : List LaneState) (old new : ℕ → List Message) : Type 0 where
+pub record LaneHasGiven (lane : ℕ) (m : Message) (states_old states_new : List LaneState)
+    (old new : ℕ → List Message) : Type 0 where
   pub states : states_new ≡ states_after states_old lane (ending_of m)
   pub given : new lane ≡ old lane ++ m ∷ []
   pub others : (other : ℕ) → other ≢ lane → new other ≡ old other
 
 -- what was taken of a lane: a message of the stream; or Stop, or nothing where the ring's other end is gone
-abbrev pub HasTakenFrom : ℕ → Result Message StageEnd → List LaneState → List LaneState → (ℕ → List Message) → (ℕ → List Message) → Type 0
-HasTakenFrom lane (Ok m) states_old states_new old new = IsOfStream m × HasGiven lane m states_old states_new old new
-HasTakenFrom lane (Err Broken) states_old states_new old new = HasGiven lane Stop states_old states_new old new
-HasTakenFrom lane (Err PeerGone) states_old states_new old new = (states_new ≡ states_old) × ((other : ℕ) → new other ≡ old other)
+abbrev pub HasTakenFrom : ℕ → Result Message StageEnd → List LaneState → List LaneState → (ℕ → List Message)
+    → (ℕ → List Message) → Type 0
+HasTakenFrom lane (Ok m) states_old states_new old new =
+    IsOfStream m × LaneHasGiven lane m states_old states_new old new
+HasTakenFrom lane (Err Broken) states_old states_new old new = LaneHasGiven lane Stop states_old states_new old new
+HasTakenFrom lane (Err PeerGone) states_old states_new old new = (states_new ≡ states_old)
+    × ((other : ℕ) → new other ≡ old other)
 HasTakenFrom lane (Err Well) states_old states_new old new = ⊥
 HasTakenFrom lane (Err (Fault fault)) states_old states_new old new = ⊥
 
@@ -66,11 +71,13 @@ AreAlike first other = ⊥
 
 -- the heights of the lanes' images are those of an image of this height, dealt
 abbrev pub AreDealtHeights : List ℕ → ℕ → Type 0
-AreDealtHeights heights height = (lane : ℕ) → lane < length heights → slice_index heights lane ≡ dealt_height lane (length heights) height
+AreDealtHeights heights height = (lane : ℕ) → lane < length heights
+    → slice_index heights lane ≡ dealt_height lane (length heights) height
 
 -- the message of the whole stream, where the lanes' images have these heights
 abbrev pub IsTogether : Message → List ℕ → Message → Type 0
-IsTogether (Begin first) heights m = (height : ℕ) × (height ≤ MAX_SIDE) × AreDealtHeights heights height × (m ≡ Begin (with_height first height))
+IsTogether (Begin first) heights m = (height : ℕ) × (height ≤ MAX_SIDE) × AreDealtHeights heights height
+    × (m ≡ Begin (with_height first height))
 IsTogether (Row row) heights m = m ≡ Row row
 IsTogether ImageEnd heights m = m ≡ ImageEnd
 IsTogether StreamEnd heights m = m ≡ StreamEnd
@@ -110,7 +117,8 @@ pub record HasTakenParts (lanes : ℕ) (states : List LaneState) (old new taken 
   pub left : (lane : ℕ) → lane < lanes → IsLeftBy (state_at states lane) (taken lane)
 
 -- the next message of the whole stream: each lane has given its part of it
-pub record HasTakenWhole (lanes : ℕ) (place : Place) (m : Message) (states : List LaneState) (old new : ℕ → List Message) : Type 0 where
+pub record HasTakenWhole (lanes : ℕ) (place : Place) (m : Message) (states : List LaneState)
+    (old new : ℕ → List Message) : Type 0 where
   pub may : Accepts place m
   pub is : IsOfStream m
   pub parts : HasTakenParts lanes states old new (λ lane. dealt_message lane lanes place m)
@@ -118,22 +126,26 @@ pub record HasTakenWhole (lanes : ℕ) (place : Place) (m : Message) (states : L
 -- what the lanes have given begins no stream from this place on
 abbrev pub BeginsNone : ℕ → Place → (ℕ → List Message) → Type 0
 BeginsNone lanes place taken =
-    (rest : List Message) → IsLawfulFrom place rest → AllByRecursion IsOfStream rest → ((lane : ℕ) → lane < lanes → IsFrontOf (taken lane) (dealt_from lane lanes place rest)) → ⊥
+    (rest : List Message) → IsLawfulFrom place rest → AllByRecursion IsOfStream rest
+    → ((lane : ℕ) → lane < lanes → IsPrefixOf (taken lane) (dealt_from lane lanes place rest)) → ⊥
 
 -- why there is no next message
 abbrev pub IsCause : StageEnd → ℕ → Place → (ℕ → List Message) → Type 0
 IsCause Well lanes place taken = ⊥
 IsCause Broken lanes place taken = (lane : ℕ) × (lane < lanes) × (taken lane ≡ Stop ∷ [])
-IsCause (Fault fault) lanes place taken = (fault ≡ OutOfOrder) × ((lane : ℕ) → lane < lanes → AllByRecursion IsOfStream (taken lane)) × BeginsNone lanes place taken
+IsCause (Fault fault) lanes place taken = (fault ≡ OutOfOrder)
+    × ((lane : ℕ) → lane < lanes → AllByRecursion IsOfStream (taken lane)) × BeginsNone lanes place taken
 IsCause PeerGone lanes place taken = Unit {0}
 
 -- there is none
-pub record HasTakenNone (lanes : ℕ) (place : Place) (end : StageEnd) (states : List LaneState) (old new : ℕ → List Message) : Type 0 where
+pub record HasTakenNone (lanes : ℕ) (place : Place) (end : StageEnd) (states : List LaneState)
+    (old new : ℕ → List Message) : Type 0 where
   pub taken : ℕ → List Message
   pub parts : HasTakenParts lanes states old new taken
   pub cause : IsCause end lanes place taken
 
-abbrev pub HasTakenNext : ℕ → Place → Result Message StageEnd → List LaneState → (ℕ → List Message) → (ℕ → List Message) → Type 0
+abbrev pub HasTakenNext : ℕ → Place → Result Message StageEnd → List LaneState → (ℕ → List Message) → (ℕ → List Message)
+    → Type 0
 HasTakenNext lanes place (Ok m) states old new = HasTakenWhole lanes place m states old new
 HasTakenNext lanes place (Err end) states old new = HasTakenNone lanes place end states old new
 
@@ -147,8 +159,8 @@ ending_state ImageEnd = Open
 ending_state StreamEnd = Ended
 ending_state Stop = Ended
 
--- one message more was taken of a lane, and leaves it in this state; or none was there; or the ring's other end was seen
--- dropped, and no message is left of those that were seen
+-- one message more was taken of a lane, and leaves it in this state; or none was there; or the ring's other end was
+-- seen dropped, and no message is left of those that were seen
 abbrev pub HasDrainedOne : Option LaneState → List Message → List Message → List Message → Type 0
 HasDrainedOne None old new seen = new ≡ old
 HasDrainedOne (Some Open) old new seen = Extends old new (λ more. IsLeftBy Open more)
@@ -162,12 +174,15 @@ IsLane Ended start now seen = Extends start now IsEnded
 IsLane Gone start now seen = Extends start now (EndsBy More) × (seen ≡ [])
 
 abbrev pub AreLanes : ℕ → List LaneState → (ℕ → List Message) → (ℕ → List Message) → (ℕ → List Message) → Type 0
-AreLanes lanes states start now seen = (lane : ℕ) → lane < lanes → IsLane (state_at states lane) (start lane) (now lane) (seen lane)
+AreLanes lanes states start now seen = (lane : ℕ) → lane < lanes
+    → IsLane (state_at states lane) (start lane) (now lane) (seen lane)
 
 -- whatever the states said from a start on, they still say, and messages were added alone
-pub record CarriesOn (lanes : ℕ) (states_old states_new : List LaneState) (old new seen_old seen_new : ℕ → List Message) : Type 0 where
-  pub lanes_are : (start : ℕ → List Message) → AreLanes lanes states_old start old seen_old → AreLanes lanes states_new start new seen_new
-  pub fronts : (lane : ℕ) → IsFrontOf (old lane) (new lane)
+pub record CarriesOn (lanes : ℕ) (states_old states_new : List LaneState)
+    (old new seen_old seen_new : ℕ → List Message) : Type 0 where
+  pub lanes_are : (start : ℕ → List Message) → AreLanes lanes states_old start old seen_old
+      → AreLanes lanes states_new start new seen_new
+  pub prefixes : (lane : ℕ) → IsPrefixOf (old lane) (new lane)
 
 -- no lane is open any more; whether all have ended
 abbrev pub IsDone : Bool → LaneState → Type 0
@@ -178,7 +193,8 @@ IsDone ended Gone = ended ≡ false
 abbrev pub AreDone : Bool → List LaneState → Type 0
 AreDone ended states = (lane : ℕ) → lane < length states → IsDone ended (state_at states lane)
 
-pub record HasDrainedAll (lanes : ℕ) (ended : Bool) (states_old states_new : List LaneState) (old new seen_old seen_new : ℕ → List Message) : Type 0 where
+pub record HasDrainedAll (lanes : ℕ) (ended : Bool) (states_old states_new : List LaneState)
+    (old new seen_old seen_new : ℕ → List Message) : Type 0 where
   pub carried : CarriesOn lanes states_old states_new old new seen_old seen_new
   pub done : (lane : ℕ) → lane < lanes → IsDone ended (state_at states_new lane)
 
@@ -187,9 +203,12 @@ pub record HasDrainedAll (lanes : ℕ) (ended : Bool) (states_old states_new : L
 -- Stop was sent and each lane has ended; or the other end of a ring was seen dropped, and Stop was sent or wasn't
 abbrev pub HasStopped : StageEnd → StageEnd → ℕ → List LaneState → List Message → List Message → Type 0
 HasStopped cause end lanes states sent_old sent_new =
-    ((end ≡ cause) × (sent_new ≡ sent_old ++ Stop ∷ []) × ((lane : ℕ) → lane < lanes → IsDone true (state_at states lane)))
-    ⊎ ((end ≡ PeerGone) × ((sent_new ≡ sent_old ++ Stop ∷ []) ⊎ (sent_new ≡ sent_old)) × ((lane : ℕ) → lane < lanes → IsDone false (state_at states lane)))
+    ((end ≡ cause) × (sent_new ≡ sent_old ++ Stop ∷ [])
+    × ((lane : ℕ) → lane < lanes → IsDone true (state_at states lane)))
+    ⊎ ((end ≡ PeerGone) × ((sent_new ≡ sent_old ++ Stop ∷ []) ⊎ (sent_new ≡ sent_old))
+    × ((lane : ℕ) → lane < lanes → IsDone false (state_at states lane)))
 
-pub record HasBrokenOffAll (cause end : StageEnd) (lanes : ℕ) (states_old states_new : List LaneState) (old new seen_old seen_new : ℕ → List Message) (sent_old sent_new : List Message) : Type 0 where
+pub record HasBrokenOffAll (cause end : StageEnd) (lanes : ℕ) (states_old states_new : List LaneState)
+    (old new seen_old seen_new : ℕ → List Message) (sent_old sent_new : List Message) : Type 0 where
   pub carried : CarriesOn lanes states_old states_new old new seen_old seen_new
   pub stopped : HasStopped cause end lanes states_new sent_old sent_new

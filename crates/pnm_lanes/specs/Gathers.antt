@@ -5,7 +5,7 @@ use Rattle.pnm_stages.specs.declared.receiver.Receiver.{Receiver}
 use Rattle.pnm_stages.specs.Rings.{SameConsumer}
 use Rattle.pnm_image.specs.declared.message.Message.{Message}
 use Rattle.pnm_image.specs.declared.message.Message.TheVariants.{Begin, Row, ImageEnd, StreamEnd, Stop}
-use Rattle.pnm_image.specs.Completion.{IsFrontOf}
+use Rattle.pnm_image.specs.Completion.{IsPrefixOf}
 use Rattle.pnm_image.specs.Images.{Image, AreImages, messages_of_stream}
 use Rattle.pnm_image.specs.Messages.{IsMessage, without_stop}
 use Rattle.pnm_image.specs.Places.{IsLawful}
@@ -37,20 +37,24 @@ AreSameInputs (old ∷ olds) (new ∷ news) = SameConsumer old new × AreSameInp
 abbrev pub IsStopped : List Message → Type 0
 IsStopped gave = (given : List Message) × (gave ≡ given ++ Stop ∷ []) × EndsBy More given
 
--- by its end. Well: a whole stream was sent, and each lane gave its part of it. Broken: each lane has ended, and one of them
--- by Stop. Fault: each lane has ended. Where the other end of a ring was seen dropped, no more is known than however it ended.
+-- by its end. Well: a whole stream was sent, and each lane gave its part of it. Broken: each lane has ended, and one of
+-- them by Stop. Fault: each lane has ended. Where the other end of a ring was seen dropped, no more is known than
+-- however it ended.
 abbrev pub HasPassedSo : StageEnd → ℕ → (ℕ → List Message) → List Message → Type 0
 HasPassedSo Well lanes took gave = EndsBy Whole gave × ((lane : ℕ) → lane < lanes → took lane ≡ dealt lane lanes gave)
-HasPassedSo Broken lanes took gave = ((lane : ℕ) → lane < lanes → IsEnded (took lane)) × ((lane : ℕ) × (lane < lanes) × EndsBy BrokenOff (took lane)) × IsStopped gave
-HasPassedSo (Fault fault) lanes took gave = (fault ≡ OutOfOrder) × ((lane : ℕ) → lane < lanes → IsEnded (took lane)) × IsStopped gave
+HasPassedSo Broken lanes took gave = ((lane : ℕ) → lane < lanes → IsEnded (took lane))
+    × ((lane : ℕ) × (lane < lanes) × EndsBy BrokenOff (took lane)) × IsStopped gave
+HasPassedSo (Fault fault) lanes took gave = (fault ≡ OutOfOrder) × ((lane : ℕ) → lane < lanes → IsEnded (took lane))
+    × IsStopped gave
 HasPassedSo PeerGone lanes took gave = Unit {0}
 
 -- ---- lanes to which the messages of images were dealt
 
--- each lane gave a front of its part of the stream of these images, but for a last Stop
+-- each lane gave a prefix of its part of the stream of these images, but for a last Stop
 pub record AreDealt (is : List Image) (lanes : ℕ) (took : ℕ → List Message) : Type 0 where
   pub images : AreImages is
-  pub fronts : (lane : ℕ) → lane < lanes → IsFrontOf (without_stop (took lane)) (dealt lane lanes (messages_of_stream is))
+  pub prefixes : (lane : ℕ) → lane < lanes
+      → IsPrefixOf (without_stop (took lane)) (dealt lane lanes (messages_of_stream is))
 
 -- a message that begins or ends an image
 abbrev pub BeginsOrEnds : Message → Type 0
@@ -63,8 +67,9 @@ BeginsOrEnds Stop = ⊥
 -- the beginning and the end of each image that all lanes gave were sent, with all that comes before them
 abbrev pub HasSentAll : List Image → ℕ → (ℕ → List Message) → List Message → Type 0
 HasSentAll is lanes took gave =
-    (front : List Message) (m : Message) → BeginsOrEnds m → IsFrontOf (front ++ m ∷ []) (messages_of_stream is)
-    → ((lane : ℕ) → lane < lanes → IsFrontOf (dealt lane lanes (front ++ m ∷ [])) (took lane)) → IsFrontOf (front ++ m ∷ []) gave
+    (prefix : List Message) (m : Message) → BeginsOrEnds m → IsPrefixOf (prefix ++ m ∷ []) (messages_of_stream is)
+    → ((lane : ℕ) → lane < lanes → IsPrefixOf (dealt lane lanes (prefix ++ m ∷ [])) (took lane))
+    → IsPrefixOf (prefix ++ m ∷ []) gave
 
 -- the end is never a fault then. Well: the stream of these images was sent. Broken: all that all lanes gave was.
 abbrev pub HasGatheredSo : StageEnd → List Image → ℕ → (ℕ → List Message) → List Message → Type 0
@@ -73,8 +78,9 @@ HasGatheredSo Broken is lanes took gave = HasSentAll is lanes took gave
 HasGatheredSo (Fault fault) is lanes took gave = ⊥
 HasGatheredSo PeerGone is lanes took gave = Unit {0}
 
-pub record HasGatheredImages (end : StageEnd) (is : List Image) (lanes : ℕ) (took : ℕ → List Message) (gave : List Message) : Type 0 where
-  pub front : IsFrontOf (without_stop gave) (messages_of_stream is)
+pub record HasGatheredImages (end : StageEnd) (is : List Image) (lanes : ℕ) (took : ℕ → List Message)
+    (gave : List Message) : Type 0 where
+  pub prefix : IsPrefixOf (without_stop gave) (messages_of_stream is)
   pub so : HasGatheredSo end is lanes took gave
 
 -- ---- however it ended
@@ -86,13 +92,14 @@ pub record IsGathered (end : StageEnd) (lanes : ℕ) (took : ℕ → List Messag
   pub messages : (lane : ℕ) → lane < lanes → AllByRecursion IsMessage (took lane)
   pub once : (lane : ℕ) → lane < lanes → EndsAtMostOnce (took lane)
   pub lawful : IsLawful gave
-  pub parts : (lane : ℕ) → lane < lanes → IsFrontOf (dealt lane lanes (without_stop gave)) (took lane)
+  pub parts : (lane : ℕ) → lane < lanes → IsPrefixOf (dealt lane lanes (without_stop gave)) (took lane)
   pub whole : EndsBy Whole gave → (lane : ℕ) → lane < lanes → EndsBy Whole (took lane)
   pub images : (is : List Image) → AreDealt is lanes took → HasGatheredImages end is lanes took gave
 
--- a gatherer has ended so, by the messages that its rings had passed before and have passed now, and those of the lanes' rings
--- that it has seen and not received: of each lane none, or it has ended
-pub record HasGathered (end : StageEnd) (lanes : ℕ) (received_old received_new seen : ℕ → List Message) (sent_old sent_new : List Message) : Type 0 where
+-- a gatherer has ended so, by the messages that its rings had passed before and have passed now, and those of the
+-- lanes' rings that it has seen and not received: of each lane none, or it has ended
+pub record HasGathered (end : StageEnd) (lanes : ℕ) (received_old received_new seen : ℕ → List Message)
+    (sent_old sent_new : List Message) : Type 0 where
   pub took : ℕ → List Message
   pub gave : List Message
   pub inputs : (lane : ℕ) → lane < lanes → received_new lane ≡ received_old lane ++ took lane

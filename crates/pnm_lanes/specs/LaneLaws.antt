@@ -9,9 +9,9 @@ use Rattle.pnm_image.specs.Heads.{HeadValue}
 use Rattle.pnm_image.specs.Messages.{IsMessage}
 use Rattle.pnm_image.specs.Places.{place_of}
 use Rattle.pnm_tools.specs.declared.fault.ToolFault.{ToolFault}
-use Rattle.pnm_image.specs.Completion.{IsFrontOf}
+use Rattle.pnm_image.specs.Completion.{IsPrefixOf}
 use Rattle.pnm_tools.specs.declared.tool.Tool.{Tool}
-use Rattle.pnm_tools.specs.Answers.{Whole, EndsBy, AreResults, images_ended, begun_of, owed}
+use Rattle.pnm_tools.specs.Answers.{Whole, EndsBy, AreResults, images_ended, begun_of, answers_owed}
 use Rattle.pnm_tools.specs.Dealing.{dealt_head, dealt_image, dealt}
 use Rattle.pnm_tools.specs.Tools.{IsLawfulTool, is_row_wise, result_head, AreTaken, applied, output_due}
 
@@ -35,36 +35,49 @@ dealt_head_result lane lanes (Err fault) = Err fault
 
 -- the messages of a stream, dealt, are those of the images that the lane sees
 abbrev pub StreamsAreDealt : Type 0
-StreamsAreDealt = (lane lanes : ℕ) (is : List Image) → AreImages is → dealt lane lanes (messages_of_stream is) ≡ messages_of_stream (dealt_images lane lanes is)
+StreamsAreDealt = (lane lanes : ℕ) (is : List Image) → AreImages is
+    → dealt lane lanes (messages_of_stream is) ≡ messages_of_stream (dealt_images lane lanes is)
 
 -- what is due from a row-wise tool for the images that a lane sees is what the lane gets of what is due for all rows
 abbrev pub DueIsDealt : Type 0
-DueIsDealt = (tool : Tool) (lane lanes : ℕ) (is : List Image) → IsLawfulTool tool → is_row_wise tool ≡ true → lane < lanes → AreImages is
+DueIsDealt = (tool : Tool) (lane lanes : ℕ) (is : List Image) → IsLawfulTool tool → is_row_wise tool ≡ true
+    → lane < lanes → AreImages is
     → output_due tool (dealt_images lane lanes is) ≡ dealt lane lanes (output_due tool is)
 
--- where no image that a lane sees is refused, none is, and the results that the lane makes are what it gets of the results
+-- where no image that a lane sees is refused, none is, and the results that the lane makes are what it gets of the
+-- results
 abbrev pub ResultsAreDealt : Type 0
-ResultsAreDealt = (tool : Tool) (lane lanes : ℕ) (is made : List Image) → IsLawfulTool tool → is_row_wise tool ≡ true → lane < lanes → AreImages is
-    → AreResults tool (dealt_images lane lanes is) made → (results : List Image) × AreResults tool is results × (made ≡ dealt_images lane lanes results)
+ResultsAreDealt = (tool : Tool) (lane lanes : ℕ) (is made : List Image) → IsLawfulTool tool → is_row_wise tool ≡ true
+    → lane < lanes → AreImages is
+    → AreResults tool (dealt_images lane lanes is) made → (results : List Image) × AreResults tool is results
+    × (made ≡ dealt_images lane lanes results)
 
--- where a lane gave a front of what it gets of what is due, and what was gathered is a front of the stream of the results before
--- the first refused image, whose end came only where that lane gave it, what was gathered is a front of what is due
+-- where a lane gave a prefix of what it gets of what is due, and what was gathered is a prefix of the stream of the
+-- results before the first refused image, whose end came only where that lane gave it, what was gathered is a prefix of
+-- what is due
 abbrev pub GatheredIsDue : Type 0
 GatheredIsDue = (tool : Tool) (lane lanes : ℕ) (is : List Image) (given gathered : List Message)
-    → IsFrontOf given (dealt lane lanes (output_due tool is)) → IsFrontOf gathered (messages_of_stream (results_before tool is)) → (EndsBy Whole gathered → EndsBy Whole given)
-    → IsFrontOf gathered (output_due tool is)
+    → IsPrefixOf given (dealt lane lanes (output_due tool is))
+    → IsPrefixOf gathered (messages_of_stream (results_before tool is))
+    → (EndsBy Whole gathered → EndsBy Whole given)
+    → IsPrefixOf gathered (output_due tool is)
 
--- the first head that a row-wise tool refuses of what a lane gets is dealt from the first that it refuses, by the same fault
+-- the first head that a row-wise tool refuses of what a lane gets is dealt from the first that it refuses, by the same
+-- fault
 abbrev pub RefusalsAreDealt : Type 0
-RefusalsAreDealt = (tool : Tool) (lane lanes : ℕ) (l before : List Message) (part : HeadValue) (after : List Message) (fault : ToolFault)
+RefusalsAreDealt = (tool : Tool) (lane lanes : ℕ) (l before : List Message) (part : HeadValue) (after : List Message)
+    (fault : ToolFault)
     → IsLawfulTool tool → is_row_wise tool ≡ true → lane < lanes → AllByRecursion IsMessage l
     → dealt lane lanes l ≡ before ++ Begin part ∷ after → AreTaken tool before → result_head tool part ≡ Err fault
-    → (front : List Message) × (head : HeadValue) × (rest : List Message) × (l ≡ front ++ Begin head ∷ rest) × AreTaken tool front × (result_head tool head ≡ Err fault)
+    → (prefix : List Message) × (head : HeadValue) × (rest : List Message) × (l ≡ prefix ++ Begin head ∷ rest)
+    × AreTaken tool prefix × (result_head tool head ≡ Err fault)
 
--- what is owed by a row-wise tool for the images that a lane sees, of which so many have ended, is what the lane gets of what
--- is owed for the images themselves; in what the lane gets as many have ended, and one has begun where it has
+-- what is owed by a row-wise tool for the images that a lane sees, of which so many have ended, is what the lane gets
+-- of what is owed for the images themselves; in what the lane gets as many have ended, and one has begun where it has
 pub record OwedIsDealt : Type 0 where
   pub ended : (lane lanes : ℕ) (l : List Message) → images_ended (dealt lane lanes l) ≡ images_ended l
-  pub begun : (lane lanes : ℕ) (l : List Message) → begun_of (place_of Between (dealt lane lanes l)) ≡ begun_of (place_of Between l)
-  pub owes : (tool : Tool) (lane lanes n : ℕ) (b : Bool) (is : List Image) → IsLawfulTool tool → is_row_wise tool ≡ true → lane < lanes → AreImages is
-      → owed tool n b (dealt_images lane lanes is) ≡ dealt lane lanes (owed tool n b is)
+  pub begun : (lane lanes : ℕ) (l : List Message)
+      → begun_of (place_of Between (dealt lane lanes l)) ≡ begun_of (place_of Between l)
+  pub owes : (tool : Tool) (lane lanes n : ℕ) (b : Bool) (is : List Image) → IsLawfulTool tool → is_row_wise tool ≡ true
+      → lane < lanes → AreImages is
+      → answers_owed tool n b (dealt_images lane lanes is) ≡ dealt lane lanes (answers_owed tool n b is)

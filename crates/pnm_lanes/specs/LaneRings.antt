@@ -1,5 +1,5 @@
--- The rings of a tool over several lanes: one to each lane, of which the thread before the lanes has the end to send on, and
--- one from it, of which the thread behind them has the end to receive on.
+-- The rings of a tool over several lanes: one to each lane, of which the thread before the lanes has the end to send
+-- on, and one from it, of which the thread behind them has the end to receive on.
 use Rattle.std.specs.Prelude.{◌≡◌, ◌≤◌, List, [], ◌∷◌, length, vec_capacity}
 use Rattle.pnm_stages.specs.declared.sender.Sender.{Sender}
 use Rattle.pnm_stages.specs.declared.receiver.Receiver.{Receiver}
@@ -18,7 +18,8 @@ AreUnused [] (e ∷ es) rs = ⊥
 AreUnused (s ∷ ss) [] rs = ⊥
 AreUnused (s ∷ ss) (e ∷ es) [] = ⊥
 AreUnused (s ∷ ss) (e ∷ es) (r ∷ rs) =
-    IsPair s e.input × IsPair e.output r × ((sent s ≡ []) × (received e.input ≡ []) × (sent e.output ≡ []) × (received r ≡ [])) × AreUnused ss es rs
+    IsPair s e.input × IsPair e.output r
+    × ((sent s ≡ []) × (received e.input ≡ []) × (sent e.output ≡ []) × (received r ≡ [])) × AreUnused ss es rs
 
 -- the ends of the rings of lanes that have ended
 abbrev pub ArePairs : List Sender → List StageDone → List Receiver → Type 0
@@ -33,4 +34,4 @@ ArePairs (s ∷ ss) (d ∷ ds) (r ∷ rs) = IsPair s d.input × IsPair d.output 
 abbrev pub AreLaneRings : LaneRings → Type 0
 AreLaneRings rings =
     AreUnused rings.outputs.items rings.lanes.items rings.inputs.items × IsLaneCount (length rings.lanes.items)
-    × ((rings.room.items ≡ []) × (length rings.lanes.items ≤ vec_capacity rings.room))
+    × ((rings.reserved.items ≡ []) × (length rings.lanes.items ≤ vec_capacity rings.reserved))

@@ -23,8 +23,8 @@ use Rattle.pnm_lanes.specs.Limits.{IsLaneCount}
 
 -- ---- the end
 
--- the end of two threads, of which the first comes before the other: that one of them saw the other end of a ring dropped;
--- else the first fault; else the other's end
+-- the end of two threads, of which the first comes before the other: that one of them saw the other end of a ring
+-- dropped; else the first fault; else the other's end
 abbrev pub end_of_both : StageEnd → StageEnd → StageEnd
 end_of_both PeerGone other = PeerGone
 end_of_both (Fault fault) PeerGone = PeerGone
@@ -36,10 +36,11 @@ end_of_both Broken other = other
 
 -- ---- the run
 
--- a tool over several lanes has ended so, by the messages that its two outer rings had passed before and have passed now, and
--- those of the first that its end has seen and not received: none, or the end of the stream was received. It is a stage of the tool, and its end is
--- that of its threads, in their order.
-pub record HasRunLanes (tool : Tool) (end : StageEnd) (received_old received_new seen sent_old sent_new : List Message) : Type 0 where
+-- a tool over several lanes has ended so, by the messages that its two outer rings had passed before and have passed
+-- now, and those of the first that its end has seen and not received: none, or the end of the stream was received. It
+-- is a stage of the tool, and its end is that of its threads, in their order.
+pub record HasRunLanes (tool : Tool) (end : StageEnd)
+    (received_old received_new seen sent_old sent_new : List Message) : Type 0 where
   pub took : List Message
   pub gave : List Message
   pub input : received_new ≡ received_old ++ took
@@ -54,7 +55,8 @@ pub record HasRunLanes (tool : Tool) (end : StageEnd) (received_old received_new
 abbrev pub IsLaneRun : Tool → Receiver → Sender → StageDone → Type 0
 IsLaneRun tool input output done =
     SameConsumer input done.input × SameProducer output done.output
-    × HasRunStage tool done.end (received input) (received done.input) (known_items done.input) (sent output) (sent done.output)
+    × HasRunStage tool done.end (received input) (received done.input) (known_items done.input) (sent output)
+    (sent done.output)
 
 -- the thread that dealt has
 abbrev pub IsDealerRun : Receiver → List Sender → DealDone → Type 0
@@ -71,26 +73,32 @@ IsGathererRun inputs output done =
 
 -- both have, and the room for the lanes is as before
 abbrev pub HaveDealtAndGathered : OuterEnds → Vec StageDone → LanesDone → Type 0
-HaveDealtAndGathered outer room done =
-    IsDealerRun outer.input outer.outputs.items done.dealt × IsGathererRun outer.inputs.items outer.output done.gathered × (done.lanes ≡ room)
+HaveDealtAndGathered outer reserved done =
+    IsDealerRun outer.input outer.outputs.items done.dealt × IsGathererRun outer.inputs.items outer.output done.gathered
+    × (done.lanes ≡ reserved)
 
 -- each lane has
 abbrev pub AreLanesRun : Tool → List LaneEnds → List StageDone → Type 0
 AreLanesRun tool [] [] = Unit {0}
 AreLanesRun tool [] (done ∷ dones) = ⊥
 AreLanesRun tool (ends ∷ lanes) [] = ⊥
-AreLanesRun tool (ends ∷ lanes) (done ∷ dones) = IsLaneRun tool ends.input ends.output done × AreLanesRun tool lanes dones
+AreLanesRun tool (ends ∷ lanes) (done ∷ dones) = IsLaneRun tool ends.input ends.output done
+    × AreLanesRun tool lanes dones
 
--- the dealer, these lanes and the gatherer have ended, each over its ring ends; the list of the lanes still has so much room
-pub record HaveRun (tool : Tool) (lanes : List LaneEnds) (outer : OuterEnds) (room : ℕ) (done : LanesDone) : Type 0 where
+-- the dealer, these lanes and the gatherer have ended, each over its ring ends; the list of the lanes still has so much
+-- room
+pub record HaveRun (tool : Tool) (lanes : List LaneEnds) (outer : OuterEnds) (reserved : ℕ)
+    (done : LanesDone) : Type 0 where
   pub input : SameConsumer outer.input done.dealt.input
-  pub dealt : HasDealt done.dealt.end (received outer.input) (received done.dealt.input) (known_items done.dealt.input) outer.outputs.items done.dealt.outputs.items
+  pub dealt : HasDealt done.dealt.end (received outer.input) (received done.dealt.input) (known_items done.dealt.input)
+      outer.outputs.items done.dealt.outputs.items
   pub lanes_run : AreLanesRun tool lanes done.lanes.items
   pub inputs : AreSameInputs outer.inputs.items done.gathered.inputs.items
   pub output : SameProducer outer.output done.gathered.output
-  pub gathered : HasGathered done.gathered.end (length outer.inputs.items) (at_lane received outer.inputs.items) (at_lane received done.gathered.inputs.items)
+  pub gathered : HasGathered done.gathered.end (length outer.inputs.items) (at_lane received outer.inputs.items)
+      (at_lane received done.gathered.inputs.items)
       (at_lane known_items done.gathered.inputs.items) (sent outer.output) (sent done.gathered.output)
-  pub for_lanes : vec_capacity done.lanes ≡ room
+  pub for_lanes : vec_capacity done.lanes ≡ reserved
 
 -- both threads beside the lanes have as many ring ends, 1 to 8
 abbrev pub AreAround : OuterEnds → Type 0

@@ -7,7 +7,7 @@ ghost use Rattle.pnm_tools.specs.Dealing.{dealt_height};
 ghost use Rattle.pnm_lanes.specs.Limits.{IsLaneCount};
 ghost use Rattle.pnm_lanes.specs.Deals.{HasDealt};
 ghost use Rattle.pnm_lanes.specs.DealParts.{IsRow, part_at, row_part, lane_part, HasSentParts};
-ghost use Rattle.pnm_lanes.specs.DealParts.{HasBrokenOffAfter};
+ghost use Rattle.pnm_lanes.specs.DealParts.{HasBrokenOffDealing};
 ghost use Rattle.pnm_lanes.specs.declared.lane.TheConstants.{MAX_LANES};
 
 use pnm_image::{Message, Place, Samples};
@@ -207,7 +207,7 @@ fn break_off<R: Wait>(
 ) -> StageEnd
     requires { IsLaneCount (length outputs.old) }
     ensures input { SameConsumer input.old input.new }
-    ensures broken { HasBrokenOffAfter end ending result
+    ensures broken { HasBrokenOffDealing end ending result
         (received input.old) (received input.new) (known_items input.new) outputs.old outputs.new }
 {
     let untold = send_each(rt, &Message::Stop, outputs, backoff);

@@ -1,4 +1,5 @@
-//! What is done with lanes whose messages are no longer wanted: they are taken and dropped, from whichever lane has some.
+//! What is done with lanes whose messages are no longer wanted: they are taken and dropped, from whichever lane has
+//! some.
 
 ghost use Rattle.std.specs.Prelude.{◌≡◌, ◌≢◌, ℕ, ◌<◌, ◌≤◌, length, IfSome, IfNone, IsTrue};
 ghost use Rattle.pnm_stages.specs.Rings.{received, known_items, SameConsumer};
@@ -11,8 +12,8 @@ use pnm_image::Message;
 use pnm_stages::{Backoff, Ending, Receiver};
 use std::sync::Wait;
 
-/// Takes and drops what comes from the lanes that haven't ended, each through the end of its stream or Stop. It tries them in
-/// turn, and waits for none of them alone. False where a lane's other end was seen dropped before.
+/// Takes and drops what comes from the lanes that haven't ended, each through the end of its stream or Stop. It tries
+/// them in turn, and waits for none of them alone. False where a lane's other end was seen dropped before.
 pub fn drain_all<R: Wait>(rt: &R, inputs: &mut [Receiver], states: &mut [LaneState]) -> bool
     requires some { 1 ≤ length inputs.old }
     requires states { length inputs.old ≡ length states.old }
@@ -77,8 +78,8 @@ fn drain_lane(inputs: &mut [Receiver], states: &mut [LaneState], lane: usize) ->
     }
 }
 
-/// Takes and drops the next message, where there is one; the lane's state then, or `Gone` where the ring is empty and its
-/// other end was seen dropped.
+/// Takes and drops the next message, where there is one; the lane's state then, or `Gone` where the ring is empty and
+/// its other end was seen dropped.
 fn drain_one(input: &mut Receiver) -> Option<LaneState>
     ensures ring { SameConsumer input.old input.new }
     ensures drained { HasDrainedOne result (received input.old) (received input.new) (known_items input.new) }

@@ -24,18 +24,19 @@ pub struct GatherDone {
     pub end: StageEnd,
 }
 
-/// Puts together what comes on `inputs`, one for each lane, and sends it on `output`: row y comes from lane y mod the number
-/// of lanes, and a head is that of each lane with the height of all. It ends `Well` with the end of the stream, which each
-/// lane gives; `Broken` where a lane gives Stop; and by `Fault(OutOfOrder)` where the lanes don't agree, or a message is
-/// out of place. After these two Stop is sent, and all lanes are drained, tried in turn and none waited for alone. Where
-/// the other end of a ring was seen dropped it ends by `PeerGone`, and has sent Stop, where there is someone to take it, and
-/// drained the lanes. No memory is taken.
+/// Puts together what comes on `inputs`, one for each lane, and sends it on `output`: row y comes from lane y mod the
+/// number of lanes, and a head is that of each lane with the height of all. It ends `Well` with the end of the stream,
+/// which each lane gives; `Broken` where a lane gives Stop; and by `Fault(OutOfOrder)` where the lanes don't agree, or
+/// a message is out of place. After these two Stop is sent, and all lanes are drained, tried in turn and none waited
+/// for alone. Where the other end of a ring was seen dropped it ends by `PeerGone`, and has sent Stop, where there is
+/// someone to take it, and drained the lanes. No memory is taken.
 pub fn gather<R: Wait>(rt: &R, inputs: Vec<Receiver>, output: Sender) -> GatherDone
     requires { IsLaneCount (length inputs.items) }
     ensures inputs { AreSameInputs inputs.items result.inputs.items }
     ensures output { SameProducer output result.output }
     ensures gathered { HasGathered result.end (length inputs.items) (at_lane received inputs.items)
-        (at_lane received result.inputs.items) (at_lane known_items result.inputs.items) (sent output) (sent result.output) }
+        (at_lane received result.inputs.items) (at_lane known_items result.inputs.items) (sent output)
+        (sent result.output) }
 {
     let mut inputs = inputs;
     let mut output = output;
@@ -53,7 +54,8 @@ fn gather_all<R: Wait>(rt: &R, inputs: &mut [Receiver], output: &mut Sender) -> 
     requires few { length inputs.old ≤ MAX_LANES }
     ensures inputs { AreSameInputs inputs.old inputs.new }
     ensures output { SameProducer output.old output.new }
-    ensures gathered { HasGathered result (length inputs.old) (at_lane received inputs.old) (at_lane received inputs.new)
+    ensures gathered { HasGathered result (length inputs.old) (at_lane received inputs.old)
+        (at_lane received inputs.new)
         (at_lane known_items inputs.new) (sent output.old) (sent output.new) }
 {
     let mut place = Place::new();
@@ -80,8 +82,8 @@ fn gather_all<R: Wait>(rt: &R, inputs: &mut [Receiver], output: &mut Sender) -> 
     unreachable!()
 }
 
-/// Ends the gatherer so, where there is no next message: sends Stop, and drains the lanes. `PeerGone` where the other end of a
-/// ring was seen dropped before.
+/// Ends the gatherer so, where there is no next message: sends Stop, and drains the lanes. `PeerGone` where the other
+/// end of a ring was seen dropped before.
 fn break_off<R: Wait>(
     rt: &R,
     end: StageEnd,
@@ -95,7 +97,8 @@ fn break_off<R: Wait>(
     ensures inputs { AreSameInputs inputs.old inputs.new }
     ensures output { SameProducer output.old output.new }
     ensures broken { HasBrokenOffAll end result (length inputs.old) states.old states.new (at_lane received inputs.old)
-        (at_lane received inputs.new) (at_lane known_items inputs.old) (at_lane known_items inputs.new) (sent output.old)
+        (at_lane received inputs.new) (at_lane known_items inputs.old) (at_lane known_items inputs.new)
+        (sent output.old)
         (sent output.new) }
 {
     let told = output.send(rt, Message::Stop, backoff);

@@ -24,14 +24,14 @@ pub struct LanesDone {
     pub gathered: GatherDone,
 }
 
-/// All threads as one stage. It ends by `PeerGone` where one of them did; else by the first fault, of the thread that dealt,
-/// of the lanes in their order and of the thread that gathered; else as this one did.
+/// All threads as one stage. It ends by `PeerGone` where one of them did; else by the first fault, of the thread that
+/// dealt, of the lanes in their order and of the thread that gathered; else as this one did.
 pub fn joined(done: LanesDone) -> StageDone
     requires rings { ArePairs done.dealt.outputs.items done.lanes.items done.gathered.inputs.items }
     ensures outer { (result.input ≡ done.dealt.input) × (result.output ≡ done.gathered.output) }
-    ensures ran { (tool : Tool) (lanes : List LaneEnds) (outer : OuterEnds) (room : ℕ)
+    ensures ran { (tool : Tool) (lanes : List LaneEnds) (outer : OuterEnds) (reserved : ℕ)
         → IsLawfulTool tool → is_row_wise tool ≡ true → 0 < length lanes
-        → AreUnused outer.outputs.items lanes outer.inputs.items → HaveRun tool lanes outer room done
+        → AreUnused outer.outputs.items lanes outer.inputs.items → HaveRun tool lanes outer reserved done
         → HasRunLanes tool result.end (received outer.input) (received result.input) (known_items result.input)
         (sent outer.output) (sent result.output) }
 {

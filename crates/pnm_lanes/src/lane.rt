@@ -23,8 +23,8 @@ pub enum LaneState {
     Gone,
 }
 
-/// The next message of a lane that hasn't ended. `Broken` where it is Stop; `PeerGone` once the lane's ring is empty and its
-/// other end was seen dropped.
+/// The next message of a lane that hasn't ended. `Broken` where it is Stop; `PeerGone` once the lane's ring is empty
+/// and its other end was seen dropped.
 pub fn take_from<R: Wait>(
     rt: &R,
     inputs: &mut [Receiver],

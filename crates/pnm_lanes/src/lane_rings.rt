@@ -25,7 +25,7 @@ pub struct LaneRings {
     /// Those that the thread behind the lanes receives on.
     pub inputs: Vec<Receiver>,
     /// A list that has room for the lanes once they have ended.
-    pub room: Vec<StageDone>,
+    pub reserved: Vec<StageDone>,
 }
 
 impl LaneRings {
@@ -33,12 +33,13 @@ impl LaneRings {
     pub fn new(alloc: Global, lanes: usize, capacity: usize) -> Option<LaneRings>
         ensures unused { IfSome result (λ rings. AreUnused rings.outputs.items rings.lanes.items rings.inputs.items) }
         ensures count { IfSome result (λ rings. length rings.lanes.items ≡ lanes) }
-        ensures room { IfSome result (λ rings. (rings.room.items ≡ []) × (lanes ≤ vec_capacity rings.room)) }
+        ensures reserved { IfSome result
+            (λ rings. (rings.reserved.items ≡ []) × (lanes ≤ vec_capacity rings.reserved)) }
     {
         let mut outputs = Vec::with_capacity(alloc, lanes).ok()?;
         let mut ends = Vec::with_capacity(alloc, lanes).ok()?;
         let mut inputs = Vec::with_capacity(alloc, lanes).ok()?;
-        let room = Vec::with_capacity(alloc, lanes).ok()?;
+        let reserved = Vec::with_capacity(alloc, lanes).ok()?;
         for _ in 0..lanes {
             let (sender, input) = new_ring(alloc, capacity)?;
             let (output, receiver) = new_ring(alloc, capacity)?;
@@ -50,7 +51,7 @@ impl LaneRings {
             outputs,
             lanes: ends,
             inputs,
-            room,
+            reserved,
         })
     }
 }

@@ -1,5 +1,5 @@
-//! A row-wise tool over several lanes: a thread that deals the rows, one for each lane, and one that gathers what they make,
-//! with a ring to each lane and one from it.
+//! A row-wise tool over several lanes: a thread that deals the rows, one for each lane, and one that gathers what they
+//! make, with a ring to each lane and one from it.
 
 ghost use Rattle.std.specs.Prelude.{◌≡◌, ◌≤◌, [], true, length, vec_capacity, IfOk, IfErr, IfSome};
 ghost use Rattle.std.specs.Thread.{IsSync};
@@ -8,7 +8,8 @@ ghost use Rattle.pnm_stages.specs.Limits.{IsRingCapacity};
 ghost use Rattle.pnm_stages.specs.Rings.{sent, received, known_items, SameProducer, SameConsumer};
 ghost use Rattle.pnm_stages.specs.Starts.{IsUntouched};
 ghost use Rattle.pnm_lanes.specs.Limits.{IsLaneCount};
-ghost use Rattle.pnm_lanes.specs.LaneRuns.{HasRunLanes, HaveRun, HaveDealtAndGathered, IsLaneRun, IsDealerRun, IsGathererRun, AreAround};
+ghost use Rattle.pnm_lanes.specs.LaneRuns.{HasRunLanes, HaveRun, HaveDealtAndGathered, IsLaneRun, IsDealerRun};
+ghost use Rattle.pnm_lanes.specs.LaneRuns.{IsGathererRun, AreAround};
 ghost use Rattle.pnm_lanes.specs.LaneRings.{AreLaneRings};
 
 use crate::dealing::{DealDone, deal};
@@ -16,7 +17,7 @@ use crate::gathering::{GatherDone, gather};
 use crate::joining::{LanesDone, joined};
 use crate::lane_rings::{LaneEnds, LaneRings};
 use pnm_stages::{
-    Call, Gate, Idle, NoStart, Receiver, Sender, StageDone, Task, row_stage_of, run_both,
+    Call, Gate, Idle, NoStart, Receiver, Sender, StageDone, Task, row_filter_of, run_both,
     run_filter,
 };
 use pnm_tools::Tool;
@@ -37,14 +38,15 @@ pub struct OuterEnds {
     pub output: Sender,
 }
 
-/// Passes what comes on `input` through a row-wise tool to `output`, over 1 to 8 lanes: a thread deals the rows, row y to
-/// lane y mod their number; in a thread of its own each lane does the tool's work on the images that it sees; and another
-/// thread gathers the rows. The rings to and from the lanes hold so many messages each, 1 to 1,024. Each lane calls the gate
-/// with the tool's number and its own, from 0, before it takes its first message; the threads that deal and gather don't.
+/// Passes what comes on `input` through a row-wise tool to `output`, over 1 to 8 lanes: a thread deals the rows, row y
+/// to lane y mod their number; in a thread of its own each lane does the tool's work on the images that it sees; and
+/// another thread gathers the rows. The rings to and from the lanes hold so many messages each, 1 to 1,024. Each lane
+/// calls the gate with the tool's number and its own, from 0, before it takes its first message; the threads that deal
+/// and gather don't.
 ///
-/// It ends as `run_stage` does, with the same messages in the same order. `PeerGone` is its end where it is that of one of its
-/// threads; else the first fault of the thread that deals, of the lanes in their order and of the one that gathers.
-/// `NoStart` is answered where there is no memory for a ring or a list, or a thread can't be started.
+/// It ends as `run_stage` does, with the same messages in the same order. `PeerGone` is its end where it is that of one
+/// of its threads; else the first fault of the thread that deals, of the lanes in their order and of the one that
+/// gathers. `NoStart` is answered where there is no memory for a ring or a list, or a thread can't be started.
 pub fn run_lanes<R: Threads + Wait + Sync, G: Gate>(
     rt: &R,
     alloc: Global,
@@ -62,7 +64,8 @@ pub fn run_lanes<R: Threads + Wait + Sync, G: Gate>(
     requires capacity { IsRingCapacity capacity }
     ensures input { IfOk result (λ done. SameConsumer input done.input) }
     ensures output { IfOk result (λ done. SameProducer output done.output) }
-    ensures ran { IfOk result (λ done. HasRunLanes tool.now done.end (received input) (received done.input) (known_items done.input)
+    ensures ran { IfOk result
+        (λ done. HasRunLanes tool.now done.end (received input) (received done.input) (known_items done.input)
         (sent output) (sent done.output)) }
     ensures not_started { IfErr result (λ refused. IfSome refused.ends (IsUntouched input output)) }
 {
@@ -77,9 +80,9 @@ pub fn run_lanes<R: Threads + Wait + Sync, G: Gate>(
     }
 }
 
-/// Passes what comes on `input` through a row-wise tool to `output`, as `run_lanes` does, over the lanes of these rings. Once each
-/// of its threads is started, other work is done in this one. None where a thread can't be started: that work isn't done then, and
-/// the threads that were started have ended.
+/// Passes what comes on `input` through a row-wise tool to `output`, as `run_lanes` does, over the lanes of these
+/// rings. Once each of its threads is started, other work is done in this one. None where a thread can't be started:
+/// that work isn't done then, and the threads that were started have ended.
 pub fn run_lanes_beside<R: Threads + Wait + Sync, G: Gate, T: Task<Output = B> + Drop, B: Drop>(
     rt: &R,
     alloc: Global,
@@ -98,7 +101,8 @@ pub fn run_lanes_beside<R: Threads + Wait + Sync, G: Gate, T: Task<Output = B> +
     requires beside { T.can_run beside }
     ensures input { IfSome result (λ r. SameConsumer input r.0.input) }
     ensures output { IfSome result (λ r. SameProducer output r.0.output) }
-    ensures ran { IfSome result (λ r. HasRunLanes tool.now r.0.end (received input) (received r.0.input) (known_items r.0.input)
+    ensures ran { IfSome result
+        (λ r. HasRunLanes tool.now r.0.end (received input) (received r.0.input) (known_items r.0.input)
         (sent output) (sent r.0.output)) }
     ensures beside { IfSome result (λ r. T.run_gives beside r.1) }
 {
@@ -106,7 +110,7 @@ pub fn run_lanes_beside<R: Threads + Wait + Sync, G: Gate, T: Task<Output = B> +
         outputs,
         lanes,
         inputs,
-        room,
+        reserved,
     } = rings;
     let outer = OuterEnds {
         input,
@@ -114,7 +118,9 @@ pub fn run_lanes_beside<R: Threads + Wait + Sync, G: Gate, T: Task<Output = B> +
         inputs,
         output,
     };
-    let (done, beside) = run_threads(rt, alloc, tool, number, gate, lanes, outer, room, beside)?;
+    let (done, beside) = run_threads(
+        rt, alloc, tool, number, gate, lanes, outer, reserved, beside,
+    )?;
     Some((joined(done), beside))
 }
 
@@ -148,12 +154,12 @@ impl<'a, R: Wait, G: Gate> Task for Lane<'a, R, G> {
             ends,
         } = self;
         gate.arrive(number, lane);
-        run_filter(rt, row_stage_of(alloc, tool), ends.input, ends.output)
+        run_filter(rt, row_filter_of(alloc, tool), ends.input, ends.output)
     }
 }
 
-/// The threads of these lanes, from the last one on, and of those that deal and gather; then the work beside them. None where
-/// one can't be started: all that were have ended then.
+/// The threads of these lanes, from the last one on, and of those that deal and gather; then the work beside them. None
+/// where one can't be started: all that were have ended then.
 fn run_threads<R: Threads + Wait + Sync, G: Gate, T: Task<Output = B> + Drop, B: Drop>(
     rt: &R,
     alloc: Global,
@@ -162,20 +168,20 @@ fn run_threads<R: Threads + Wait + Sync, G: Gate, T: Task<Output = B> + Drop, B:
     gate: &G,
     lanes: Vec<LaneEnds>,
     outer: OuterEnds,
-    room: Vec<StageDone>,
+    reserved: Vec<StageDone>,
     beside: T,
 ) -> Option<(LanesDone, B)>
     requires shared { IsSync R.row × IsSync G.row }
     requires tool { IsLawfulTool tool.now × (is_row_wise tool.now ≡ true) }
     requires outer { AreAround outer }
-    requires room { (room.items ≡ []) × (length lanes.items ≤ vec_capacity room) }
+    requires reserved { (reserved.items ≡ []) × (length lanes.items ≤ vec_capacity reserved) }
     requires beside { T.can_run beside }
-    ensures ran { IfSome result (λ r. HaveRun tool.now lanes.items outer (vec_capacity room) r.0) }
+    ensures ran { IfSome result (λ r. HaveRun tool.now lanes.items outer (vec_capacity reserved) r.0) }
     ensures beside { IfSome result (λ r. T.run_gives beside r.1) }
 {
     let mut others = lanes;
     let Some(ends) = others.pop() else {
-        return deal_and_gather(rt, alloc, outer, room, beside);
+        return deal_and_gather(rt, alloc, outer, reserved, beside);
     };
     let last = Lane {
         rt,
@@ -190,10 +196,14 @@ fn run_threads<R: Threads + Wait + Sync, G: Gate, T: Task<Output = B> + Drop, B:
         move || -> Option<(LanesDone, B)>
             requires { (IsSync R.row × IsSync G.row)
                 × (IsLawfulTool tool.now × (is_row_wise tool.now ≡ true)) × AreAround outer
-                × ((room.items ≡ []) × (length others.items ≤ vec_capacity room)) × T.can_run beside }
-            ensures { IfSome result (λ r. HaveRun tool.entry.now others.items outer (vec_capacity room) r.0
+                × ((reserved.items ≡ []) × (length others.items ≤ vec_capacity reserved)) × T.can_run beside }
+            ensures { IfSome result (λ r. HaveRun tool.entry.now others.items outer (vec_capacity reserved) r.0
                 × T.run_gives beside r.1) }
-        { run_threads(rt, alloc, tool, number, gate, others, outer, room, beside) },
+        {
+            run_threads(
+                rt, alloc, tool, number, gate, others, outer, reserved, beside,
+            )
+        },
     );
     let (done, rest) = run_both(rt, last, rest)?;
     let (mut all, beside) = rest?;
@@ -255,7 +265,8 @@ impl<'a, R: Threads + Wait + Sync, T: Task<Output = B> + Drop, B: Drop> Task for
 
     ghost can_run = { λ d. IsSync R.row × IsLaneCount (length d.dealer.outputs.items) × T.can_run d.beside };
 
-    ghost run_gives = { λ d r. IfSome r (λ r. IsDealerRun d.dealer.input d.dealer.outputs.items r.0 × T.run_gives d.beside r.1) };
+    ghost run_gives = { λ d r.
+        IfSome r (λ r. IsDealerRun d.dealer.input d.dealer.outputs.items r.0 × T.run_gives d.beside r.1) };
 
     fn run(self) -> Option<(DealDone, B)> {
         let Dealing { rt, dealer, beside } = self;
@@ -268,13 +279,13 @@ fn deal_and_gather<R: Threads + Wait + Sync, T: Task<Output = B> + Drop, B: Drop
     rt: &R,
     alloc: Global,
     outer: OuterEnds,
-    room: Vec<StageDone>,
+    reserved: Vec<StageDone>,
     beside: T,
 ) -> Option<(LanesDone, B)>
     requires shared { IsSync R.row }
     requires outer { AreAround outer }
     requires beside { T.can_run beside }
-    ensures ran { IfSome result (λ r. HaveDealtAndGathered outer room r.0) }
+    ensures ran { IfSome result (λ r. HaveDealtAndGathered outer reserved r.0) }
     ensures beside { IfSome result (λ r. T.run_gives beside r.1) }
 {
     let OuterEnds {
@@ -298,7 +309,7 @@ fn deal_and_gather<R: Threads + Wait + Sync, T: Task<Output = B> + Drop, B: Drop
     let (dealt, beside) = rest?;
     let done = LanesDone {
         dealt,
-        lanes: room,
+        lanes: reserved,
         gathered,
     };
     Some((done, beside))

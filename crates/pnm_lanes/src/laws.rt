@@ -1,13 +1,14 @@
 //! Laws of lanes. Each stands over the definitions alone, as the contract of a function that does nothing.
 
-ghost use Rattle.pnm_lanes.specs.Deals.{LongestFrontIsDealt};
+ghost use Rattle.pnm_lanes.specs.Deals.{LongestPrefixIsDealt};
 ghost use Rattle.pnm_lanes.specs.Lanes.{LanesAreAStage};
-ghost use Rattle.pnm_lanes.specs.LaneLaws.{StreamsAreDealt, DueIsDealt, ResultsAreDealt, GatheredIsDue, RefusalsAreDealt, OwedIsDealt};
+ghost use Rattle.pnm_lanes.specs.LaneLaws.{StreamsAreDealt, DueIsDealt, ResultsAreDealt, GatheredIsDue};
+ghost use Rattle.pnm_lanes.specs.LaneLaws.{RefusalsAreDealt, OwedIsDealt};
 
-/// What was sent to a lane is a front of what is dealt to it of the longest lawful front of the messages that were
+/// What was sent to a lane is a prefix of what is dealt to it of the longest lawful prefix of the messages that were
 /// received.
-pub fn longest_front_is_dealt()
-    ensures { LongestFrontIsDealt }
+pub fn longest_prefix_is_dealt()
+    ensures { LongestPrefixIsDealt }
 {}
 
 /// The messages of a stream, dealt to a lane, are those of the images that the lane sees.
@@ -27,7 +28,7 @@ pub fn results_are_dealt()
     ensures { ResultsAreDealt }
 {}
 
-/// What is gathered from the lanes of a tool is a front of what is due, where it is one of the stream of the results
+/// What is gathered from the lanes of a tool is a prefix of what is due, where it is one of the stream of the results
 /// and ends only as the lanes do.
 pub fn gathered_is_due()
     ensures { GatheredIsDue }
@@ -45,8 +46,8 @@ pub fn owed_is_dealt()
     ensures { OwedIsDealt }
 {}
 
-/// A thread that deals rows to lanes, a row-wise tool at work in each lane, and a thread that gathers what they make: what
-/// they have received and sent together is what one stage of the tool may have, by how they have ended.
+/// A thread that deals rows to lanes, a row-wise tool at work in each lane, and a thread that gathers what they make:
+/// what they have received and sent together is what one stage of the tool may have, by how they have ended.
 pub fn lanes_are_a_stage()
     ensures { LanesAreAStage }
 {}

@@ -15,8 +15,8 @@ use std::sync::Wait;
 /// The lanes don't agree, or a message is out of place.
 const OUT_OF_ORDER: StageEnd = StageEnd::Fault(ToolFault::OutOfOrder);
 
-/// The next message of the whole stream. `Broken` where a lane gives Stop; `Fault` where the lanes don't agree on it, or it
-/// is out of place; `PeerGone` where a lane's other end was seen dropped before.
+/// The next message of the whole stream. `Broken` where a lane gives Stop; `Fault` where the lanes don't agree on it,
+/// or it is out of place; `PeerGone` where a lane's other end was seen dropped before.
 pub fn take_next<R: Wait>(
     rt: &R,
     inputs: &mut [Receiver],
@@ -54,7 +54,8 @@ fn take_row<R: Wait>(
     requires all_open { AreOpen states.old }
     requires below { y < shape.height }
     ensures inputs { AreSameInputs inputs.old inputs.new }
-    ensures taken { HasTakenNext (length inputs.old) (Place.Inside shape y) result states.new (at_lane received inputs.old)
+    ensures taken { HasTakenNext (length inputs.old) (Place.Inside shape y) result states.new
+        (at_lane received inputs.old)
         (at_lane received inputs.new) }
 {
     let lane = y as usize % inputs.len();

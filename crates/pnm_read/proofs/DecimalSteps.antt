@@ -10,8 +10,8 @@ use Rattle.pnm_read.specs.Texts.{is_line_end, commented, commented_after, ends_i
 use Rattle.pnm_image.specs.Texts.{is_digit}
 use Rattle.pnm_read.specs.Items.{decimal_item}
 use Rattle.pnm_read.specs.Scans.{JudgesByte}
-use Rattle.pnm_read.specs.Saturation.{saturated, with_digit}
-use Rattle.pnm_read.specs.Scanners.{IsDecimalAfter, IsDecimalWhole, JudgesDecimal, PushesDecimal, is_numeral}
+use Rattle.pnm_read.specs.Saturation.{saturate_u32, with_digit}
+use Rattle.pnm_read.specs.Scanners.{IsDecimalAfter, IsDecimalWhole, JudgesDecimal, PushesDecimal, is_numeral_byte}
 use Rattle.pnm_read.proofs.CommentLaws.{commented_after-push}
 use Rattle.pnm_read.proofs.PieceLaws.{number_in-digit, number_in-other, ends_in_digit-push, DecimalTold, decimal_told}
 use Rattle.pnm_read.proofs.WordLaws.{digit_is_not_sharp}
@@ -30,21 +30,23 @@ numeral_is true b true e = rw (digit_ends_no_line b e) refl
 numeral_is false b true e = rw (digit_is_not_sharp b e) refl
 
 -- a number as a u32 with a digit more
-pub with_digit-saturated : (n d : ℕ) → with_digit (saturated n) d ≡ saturated (n * 10 + d)
-with_digit-saturated n d = omega arith
+pub with_digit-saturate_u32 : (n d : ℕ) → with_digit (saturate_u32 n) d ≡ saturate_u32 (n * 10 + d)
+with_digit-saturate_u32 n d = omega arith
 
-value_after : (t : Bool) (before : List ℕ) (b : ℕ) → is_numeral (ends_in_comment before) b ≡ t → (if t then with_digit (saturated (number_in before)) (b - 48) else saturated (number_in before)) ≡ saturated (number_in (before ++ b ∷ []))
+value_after : (t : Bool) (before : List ℕ) (b : ℕ) → is_numeral_byte (ends_in_comment before) b ≡ t
+    → (if t then with_digit (saturate_u32 (number_in before)) (b - 48) else saturate_u32 (number_in before)) ≡ saturate_u32 (number_in (before ++ b ∷ []))
 value_after true before b e =
     let parts = and_parts _ _ e in
-    with_digit-saturated (number_in before) (b - 48) ∙ ap saturated (sym (number_in-digit before b (not-true _ parts.0) parts.1))
-value_after false before b e = ap saturated (sym (number_in-other before b e))
+    with_digit-saturate_u32 (number_in before) (b - 48) ∙ ap saturate_u32 (sym (number_in-digit before b (not-true _ parts.0) parts.1))
+value_after false before b e = ap saturate_u32 (sym (number_in-other before b e))
 
-decimal_after : (old new : DecimalScanner) (b : ℕ) (before : List ℕ) → IsDecimalAfter old before → PushesDecimal old b new → IsDecimalAfter new (before ++ b ∷ [])
+decimal_after : (old new : DecimalScanner) (b : ℕ) (before : List ℕ) → IsDecimalAfter old before → PushesDecimal old b new
+    → IsDecimalAfter new (before ++ b ∷ [])
 decimal_after old new b before a p = record {
   length_is = p.length_is ∙ ap (λ n. n + 1) a.length_is ∙ sym (length-append before (b ∷ []));
   comment = p.comment ∙ ap (λ t. commented t b) a.comment ∙ sym (commented_after-push before b);
-  digit = p.digit ∙ ap (λ t. is_numeral t b) a.comment ∙ sym (numeral_is (ends_in_comment before) b (is_digit b) refl) ∙ sym (ends_in_digit-push before b);
-  value = p.value ∙ rw (a.comment, a.value) (value_after (is_numeral (ends_in_comment before) b) before b refl);
+  digit = p.digit ∙ ap (λ t. is_numeral_byte t b) a.comment ∙ sym (numeral_is (ends_in_comment before) b (is_digit b) refl) ∙ sym (ends_in_digit-push before b);
+  value = p.value ∙ rw (a.comment, a.value) (value_after (is_numeral_byte (ends_in_comment before) b) before b refl);
 }
 
 decimal_never_with : (before : List ℕ) (b : ℕ) → decimal_item before b ≡ EndsWith → ⊥

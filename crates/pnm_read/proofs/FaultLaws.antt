@@ -1,6 +1,7 @@
 -- What a text's fault can be: neither a failed read nor want of memory.
 use Rattle.pnm_image.specs.Formats.{is_plain_form}
-use Rattle.std.proofs.Common.{◌≡◌, ℕ, zero, suc, ◌*◌, ◌+◌, Bool, true, false, not, ◌&&◌, ◌||◌, if◌then◌else◌, List, [], ◌∷◌, length, take, Some, None, Result, Ok, Err, subst}
+use Rattle.std.proofs.Common.{◌≡◌, ℕ, zero, suc, ◌*◌, ◌+◌, Bool, true, false, not, ◌&&◌, ◌||◌, if◌then◌else◌, List, [], ◌∷◌, length, take, Some, None, Result}
+use Rattle.std.proofs.Common.{Ok, Err, subst}
 use Rattle.std.specs.Prelude.{nat_le}
 use Rattle.std.specs.List.{concat}
 use Rattle.pnm_image.specs.declared.shape.Shape.{Shape}
@@ -16,16 +17,20 @@ use Rattle.pnm_image.specs.declared.sample_width.SampleWidth.TheVariants.{Bits, 
 use Rattle.pnm_read.specs.Texts.{is_apart, begins_apart, ends_in_comment, number_in}
 use Rattle.pnm_image.specs.Texts.{is_digit}
 use Rattle.pnm_image.specs.SampleWidths.{sample_width_of}
-use Rattle.pnm_read.specs.Items.{◌>>=◌, piece_from, raw_item, ends_in_digit, is_complete, decimal_item, decimal_end, is_pixel, pixel_item, pixel_end, pixel_in, plain_pixel, sample_item, plain_decimal, plain_sample, after_last_item}
-use Rattle.pnm_read.specs.Said.{Said, in_turn, units_in_row, units_at, raw_row, plain_row, last_plain_row, row_by, row_at, end_said, rows_said, head_said, format_said, image_said, later_said_in, later_said, format_at, head_at, said, fault_of}
+use Rattle.pnm_read.specs.Items.{◌>>=◌, piece_from, raw_item, ends_in_digit, is_complete, decimal_item, decimal_end, is_pixel, pixel_item, pixel_end, pixel_in}
+use Rattle.pnm_read.specs.Items.{plain_pixel, sample_item, plain_decimal, plain_sample, after_last_item}
+use Rattle.pnm_read.specs.Said.{Said, in_turn, units_in_row, units_at, raw_row, plain_row, last_plain_row, row_in_form, row_at, end_said, rows_said, head_said}
+use Rattle.pnm_read.specs.Said.{format_said, image_said, later_said_in, later_said, format_at, head_at, text_said, fault_of}
 use Rattle.pnm_read.proofs.RowTurns.{said_from}
-use Rattle.pnm_read.proofs.HeaderFaults.{EndsByText, FailsByText, IsJudgedByText, bind_by_text, when_by_text, piece_by_text, three_by_text, format_by_text, head_by_text}
+use Rattle.pnm_read.proofs.HeaderFaults.{EndsByText, FailsByText, IsJudgedByText, bind_by_text, when_by_text, piece_by_text, three_by_text, format_by_text}
+use Rattle.pnm_read.proofs.HeaderFaults.{head_by_text}
 use Rattle.pnm_read.specs.declared.decimal.TheConstants.{GAP_LIMIT}
 
 -- ---- rows
 
 -- items in turn fail by a fault of the text, where each does
-turns_by_text : {A : Type 0} (item : List ℕ → Result (A × List ℕ) InputFault) (n : ℕ) (text : List ℕ) → ((t : List ℕ) → FailsByText (item t)) → FailsByText (in_turn item n text)
+turns_by_text : {A : Type 0} (item : List ℕ → Result (A × List ℕ) InputFault) (n : ℕ) (text : List ℕ) → ((t : List ℕ) → FailsByText (item t))
+    → FailsByText (in_turn item n text)
 unfolding in_turn
 turns_by_text item zero text each = tt
 turns_by_text item (suc n) text each =
@@ -46,11 +51,13 @@ raw_row_by_text : (s : Shape) (text : List ℕ) → FailsByText (raw_row s text)
 unfolding raw_row
 raw_row_by_text s text =
     let sample_width : SampleWidth = sample_width_of s.kind s.maxval in
-    bind_by_text (units_at s text) (λ units. Ok (take (row_length s) (concat units.0), units.1)) (turns_by_text (raw_item sample_width s.maxval) (units_in_row sample_width s) text (raw_item_by_text sample_width s.maxval)) (λ units. tt)
+    bind_by_text (units_at s text) (λ units. Ok (take (row_length s) (concat units.0), units.1))
+    (turns_by_text (raw_item sample_width s.maxval) (units_in_row sample_width s) text (raw_item_by_text sample_width s.maxval)) (λ units. tt)
 
 decimal_byte_by_text : (before : List ℕ) (b : ℕ) → IsJudgedByText (decimal_item before b)
 unfolding decimal_item
-decimal_byte_by_text before b = three_by_text (nat_le GAP_LIMIT (length before) && not (is_complete before b)) (not (ends_in_comment before) && not (is_digit b || is_apart b)) (is_complete before b) TooLong BadSample EndsBefore tt tt tt
+decimal_byte_by_text before b = three_by_text (nat_le GAP_LIMIT (length before) && not (is_complete before b))
+    (not (ends_in_comment before) && not (is_digit b || is_apart b)) (is_complete before b) TooLong BadSample EndsBefore tt tt tt
 
 decimal_end_by : (t : Bool) → EndsByText (if t then None else Some RasterCut)
 decimal_end_by true = tt
@@ -58,18 +65,21 @@ decimal_end_by false = tt
 
 pixel_byte_by_text : (before : List ℕ) (b : ℕ) → IsJudgedByText (pixel_item before b)
 unfolding pixel_item
-pixel_byte_by_text before b = three_by_text (nat_le GAP_LIMIT (length before)) (not (ends_in_comment before) && not (is_pixel b || is_apart b)) (not (ends_in_comment before) && is_pixel b) TooLong BadSample EndsWith tt tt tt
+pixel_byte_by_text before b = three_by_text (nat_le GAP_LIMIT (length before)) (not (ends_in_comment before) && not (is_pixel b || is_apart b))
+    (not (ends_in_comment before) && is_pixel b) TooLong BadSample EndsWith tt tt tt
 
 pixel_by_text : (text : List ℕ) → FailsByText (plain_pixel text)
 unfolding plain_pixel
-pixel_by_text text = bind_by_text (piece_from pixel_item pixel_end [] text) (λ piece. Ok (pixel_in piece.0, piece.1)) (piece_by_text pixel_item pixel_end [] text pixel_byte_by_text (λ front. tt)) (λ piece. tt)
+pixel_by_text text = bind_by_text (piece_from pixel_item pixel_end [] text) (λ piece. Ok (pixel_in piece.0, piece.1))
+    (piece_by_text pixel_item pixel_end [] text pixel_byte_by_text (λ prefix. tt)) (λ piece. tt)
 
 decimal_by_text : (maxval : ℕ) (text : List ℕ) → FailsByText (plain_decimal maxval text)
 unfolding plain_decimal
 decimal_by_text maxval text =
     bind_by_text (piece_from decimal_item decimal_end [] text) (λ piece. sample_item maxval (number_in piece.0) >>= λ sample. Ok (sample, piece.1))
-    (piece_by_text decimal_item decimal_end [] text decimal_byte_by_text (λ front. decimal_end_by (ends_in_digit front)))
-    (λ piece. bind_by_text (sample_item maxval (number_in piece.0)) (λ sample. Ok (sample, piece.1)) (when_by_text (nat_le (number_in piece.0) maxval) (number_in piece.0) SampleAboveMaxval tt) (λ sample. tt))
+    (piece_by_text decimal_item decimal_end [] text decimal_byte_by_text (λ prefix. decimal_end_by (ends_in_digit prefix)))
+    (λ piece. bind_by_text (sample_item maxval (number_in piece.0)) (λ sample. Ok (sample, piece.1))
+    (when_by_text (nat_le (number_in piece.0) maxval) (number_in piece.0) SampleAboveMaxval tt) (λ sample. tt))
 
 sample_by_text : (kind : Kind) (maxval : ℕ) (text : List ℕ) → FailsByText (plain_sample kind maxval text)
 sample_by_text Bit maxval text = pixel_by_text text
@@ -91,7 +101,7 @@ last_row_by_text s text =
     bind_by_text (plain_row s text) (λ row. after_last_item row.1 >>= λ rest. Ok (row.0, rest)) (plain_row_by_text s text)
     (λ row. bind_by_text (after_last_item row.1) (λ rest. Ok (row.0, rest)) (after_last_by_text row.1) (λ rest. tt))
 
-row_by_text : (is_plain : Bool) (s : Shape) (more : ℕ) (text : List ℕ) → FailsByText (row_by is_plain s more text)
+row_by_text : (is_plain : Bool) (s : Shape) (more : ℕ) (text : List ℕ) → FailsByText (row_in_form is_plain s more text)
 row_by_text false s more text = raw_row_by_text s text
 row_by_text true s zero text = last_row_by_text s text
 row_by_text true s (suc more) text = plain_row_by_text s text
@@ -107,20 +117,26 @@ unfolding end_said
 end_by_text later true text so = tt
 end_by_text later false text so = so text
 
-from_row_by_text : (later : List ℕ → Said) (format : Format) (s : Shape) (more : ℕ) (r : Result (List ℕ × List ℕ) InputFault) → FailsByText r → ((text : List ℕ) → EndsByText (rows_said later format s more text).fault) → EndsByText (said_from later format s more r).fault
+from_row_by_text : (later : List ℕ → Said) (format : Format) (s : Shape) (more : ℕ) (r : Result (List ℕ × List ℕ) InputFault) → FailsByText r
+    → ((text : List ℕ) → EndsByText (rows_said later format s more text).fault) → EndsByText (said_from later format s more r).fault
 from_row_by_text later format s more (Ok row) h others = others row.1
 from_row_by_text later format s more (Err fault) h others = h
 
-rows_by_text : (later : List ℕ → Said) (format : Format) (s : Shape) (more : ℕ) (text : List ℕ) → EndsSo later → EndsByText (rows_said later format s more text).fault
+rows_by_text : (later : List ℕ → Said) (format : Format) (s : Shape) (more : ℕ) (text : List ℕ) → EndsSo later
+    → EndsByText (rows_said later format s more text).fault
 unfolding rows_said
 rows_by_text later format s zero text so = end_by_text later (is_plain_form format.form) text so
-rows_by_text later format s (suc more) text so = from_row_by_text later format s more (row_at format s more text) (row_by_text (is_plain_form format.form) s more text) (λ rest. rows_by_text later format s more rest so)
+rows_by_text later format s (suc more) text so =
+    from_row_by_text later format s more (row_at format s more text) (row_by_text (is_plain_form format.form) s more text)
+    (λ rest. rows_by_text later format s more rest so)
 
-head_said_by_text : (later : List ℕ → Said) (format : Format) (found : Result (HeadValue × List ℕ) InputFault) → EndsSo later → FailsByText found → EndsByText (head_said later format found).fault
+head_said_by_text : (later : List ℕ → Said) (format : Format) (found : Result (HeadValue × List ℕ) InputFault) → EndsSo later → FailsByText found
+    → EndsByText (head_said later format found).fault
 head_said_by_text later format (Ok x) so h = rows_by_text later format x.0.shape x.0.shape.height x.1 so
 head_said_by_text later format (Err fault) so h = h
 
-format_said_by_text : (later : List ℕ → Said) (found : Result (Format × List ℕ) InputFault) → EndsSo later → FailsByText found → EndsByText (format_said later found).fault
+format_said_by_text : (later : List ℕ → Said) (found : Result (Format × List ℕ) InputFault) → EndsSo later → FailsByText found
+    → EndsByText (format_said later found).fault
 format_said_by_text later (Ok x) so h = head_said_by_text later x.0 (head_at x.0 x.1) so (head_by_text x.0 x.1)
 format_said_by_text later (Err fault) so h = h
 
@@ -141,7 +157,7 @@ later_by_text text = later_in_by_text (length text) text
 
 -- what is said of a text ends by a fault of the text, if by one
 pub said_by_text : (text : List ℕ) → EndsByText (fault_of text)
-unfolding said
+unfolding text_said
 said_by_text text = image_by_text later_said true text later_by_text
 
 -- the fault of a text is never one from outside

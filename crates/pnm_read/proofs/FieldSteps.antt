@@ -1,5 +1,6 @@
 -- The fields of a header, line by line.
-use Rattle.std.proofs.Common.{◌≡◌, ◌⊎◌, inl, inr, ℕ, ◌≤◌, Bool, true, false, not, ◌==◌, if◌then◌else◌, List, [], ◌∷◌, ◌++◌, length, Option, Some, None, refl, sym, ap, subst, ◌∙◌, arith}
+use Rattle.std.proofs.Common.{◌≡◌, ◌⊎◌, inl, inr, ℕ, ◌≤◌, Bool, true, false, not, ◌==◌, if◌then◌else◌, List, [], ◌∷◌, ◌++◌, length, Option, Some, None, refl}
+use Rattle.std.proofs.Common.{sym, ap, subst, ◌∙◌, arith}
 use Rattle.std.specs.Prelude.{nat_lt}
 use Rattle.std.specs.List.{list_all}
 use Rattle.std.proofs.lemmas.Bool.{ltb-false, ne_eqb}
@@ -11,10 +12,11 @@ use Rattle.pnm_read.specs.declared.line.Field.{Field}
 use Rattle.pnm_read.specs.declared.line.Field.TheVariants.{Width, Height, Depth, Maxval}
 use Rattle.pnm_read.specs.declared.line.LineKind.TheVariants.{Nothing, Number, TupleType, End}
 use Rattle.pnm_image.specs.Texts.{is_digit, decimal_value}
-use Rattle.pnm_read.specs.Saturation.{saturated}
+use Rattle.pnm_read.specs.Saturation.{saturate_u32}
 use Rattle.pnm_read.specs.PamLines.{after_first, second_token, value_of, line_kind, field_values, joined_with, tuple_type_in}
 use Rattle.pnm_read.specs.Items.{line_item, number_item, tuple_type_item}
-use Rattle.pnm_read.specs.PamScanners.{number_of, held_number, IsFields, TakesLine, JudgesLine, field_number, with_number, SetsNumber, IsWithTupleType, SetsTupleType, AddsTupleType}
+use Rattle.pnm_read.specs.PamScanners.{number_of, held_number, IsFields, TakesLine, JudgesLine, field_number, with_number, SetsNumber, IsWithTupleType}
+use Rattle.pnm_read.specs.PamScanners.{SetsTupleType, AddsTupleType}
 use Rattle.pnm_read.proofs.LineKinds.{is_number, is_type, values_same, values_first, type_same, type_joined}
 use Rattle.pnm_read.proofs.PamLineLaws.{line_is_judged}
 
@@ -26,7 +28,8 @@ no_fields s w h d m t = record { width = w; height = h; depth = d; maxval = m; t
 -- ---- a line that says nothing, and the last
 
 -- a line that has neither a number nor a part of the tuple type leaves the fields
-fields_same : (s : Fields) (lines : List (List ℕ)) (line : List ℕ) → ((field : Field) → is_number field (line_kind line) ≡ false) → is_type (line_kind line) ≡ false → IsFields s lines → IsFields s (lines ++ line ∷ [])
+fields_same : (s : Fields) (lines : List (List ℕ)) (line : List ℕ) → ((field : Field) → is_number field (line_kind line) ≡ false)
+    → is_type (line_kind line) ≡ false → IsFields s lines → IsFields s (lines ++ line ∷ [])
 fields_same s lines line number type f = record {
   width = f.width ∙ ap held_number (sym (values_same Width lines line (number Width)));
   height = f.height ∙ ap held_number (sym (values_same Height lines line (number Height)));
@@ -50,18 +53,21 @@ end_number Depth = refl
 end_number Maxval = refl
 
 -- a line was judged, and what it says was taken
-judges_so : (s : Fields) (lines : List (List ℕ)) (line : List ℕ) (j k : Judgement) → line_item lines line ≡ k → j ≡ k → TakesLine s k (lines ++ line ∷ []) → ((j ≡ line_item lines line) × TakesLine s j (lines ++ line ∷ [])) ⊎ (j ≡ Fails Memory)
+judges_so : (s : Fields) (lines : List (List ℕ)) (line : List ℕ) (j k : Judgement) → line_item lines line ≡ k → j ≡ k → TakesLine s k (lines ++ line ∷ [])
+    → ((j ≡ line_item lines line) × TakesLine s j (lines ++ line ∷ [])) ⊎ (j ≡ Fails Memory)
 judges_so s lines line j k item is t = inl (is ∙ sym item, subst (λ (k : Judgement). TakesLine s k (lines ++ line ∷ [])) (sym is) t)
 
 -- a line that says nothing
 pub line_of_nothing : (s : Fields) (line : List ℕ) → line_kind line ≡ Nothing → JudgesLine s line s GoesOn
 line_of_nothing s line e lines f =
-    judges_so s lines line GoesOn GoesOn (line_is_judged Nothing lines line e) refl (fields_same s lines line (λ field. ap (is_number field) e ∙ nothing_number field) (ap is_type e) f)
+    judges_so s lines line GoesOn GoesOn (line_is_judged Nothing lines line e) refl
+    (fields_same s lines line (λ field. ap (is_number field) e ∙ nothing_number field) (ap is_type e) f)
 
 -- the last line
 pub line_of_end : (s : Fields) (line : List ℕ) → line_kind line ≡ End → JudgesLine s line s EndsWith
 line_of_end s line e lines f =
-    judges_so s lines line EndsWith EndsWith (line_is_judged End lines line e) refl (fields_same s lines line (λ field. ap (is_number field) e ∙ end_number field) (ap is_type e) f)
+    judges_so s lines line EndsWith EndsWith (line_is_judged End lines line e) refl
+    (fields_same s lines line (λ field. ap (is_number field) e ∙ end_number field) (ap is_type e) f)
 
 -- ---- a number
 
@@ -73,7 +79,8 @@ held_is Depth s lines f = f.depth
 held_is Maxval s lines f = f.maxval
 
 -- the fields of the lines with one more, which has the first number of a field
-with_width : (old : Fields) (lines : List (List ℕ)) (line : List ℕ) → line_kind line ≡ Number Width → field_values Width lines ≡ [] → IsFields old lines → IsFields (with_number Width (saturated (decimal_value (second_token line))) old) (lines ++ line ∷ [])
+with_width : (old : Fields) (lines : List (List ℕ)) (line : List ℕ) → line_kind line ≡ Number Width → field_values Width lines ≡ [] → IsFields old lines
+    → IsFields (with_number Width (saturate_u32 (decimal_value (second_token line))) old) (lines ++ line ∷ [])
 with_width old lines line e none f = record {
   width = ap held_number (sym (values_first Width lines line (ap (is_number Width) e) none));
   height = f.height ∙ ap held_number (sym (values_same Height lines line (ap (is_number Height) e)));
@@ -83,7 +90,8 @@ with_width old lines line e none f = record {
   short = subst (λ (l : List ℕ). length l ≤ 255) (sym (type_same lines line (ap is_type e))) f.short;
 }
 
-with_height : (old : Fields) (lines : List (List ℕ)) (line : List ℕ) → line_kind line ≡ Number Height → field_values Height lines ≡ [] → IsFields old lines → IsFields (with_number Height (saturated (decimal_value (second_token line))) old) (lines ++ line ∷ [])
+with_height : (old : Fields) (lines : List (List ℕ)) (line : List ℕ) → line_kind line ≡ Number Height → field_values Height lines ≡ [] → IsFields old lines
+    → IsFields (with_number Height (saturate_u32 (decimal_value (second_token line))) old) (lines ++ line ∷ [])
 with_height old lines line e none f = record {
   width = f.width ∙ ap held_number (sym (values_same Width lines line (ap (is_number Width) e)));
   height = ap held_number (sym (values_first Height lines line (ap (is_number Height) e) none));
@@ -93,7 +101,8 @@ with_height old lines line e none f = record {
   short = subst (λ (l : List ℕ). length l ≤ 255) (sym (type_same lines line (ap is_type e))) f.short;
 }
 
-with_depth : (old : Fields) (lines : List (List ℕ)) (line : List ℕ) → line_kind line ≡ Number Depth → field_values Depth lines ≡ [] → IsFields old lines → IsFields (with_number Depth (saturated (decimal_value (second_token line))) old) (lines ++ line ∷ [])
+with_depth : (old : Fields) (lines : List (List ℕ)) (line : List ℕ) → line_kind line ≡ Number Depth → field_values Depth lines ≡ [] → IsFields old lines
+    → IsFields (with_number Depth (saturate_u32 (decimal_value (second_token line))) old) (lines ++ line ∷ [])
 with_depth old lines line e none f = record {
   width = f.width ∙ ap held_number (sym (values_same Width lines line (ap (is_number Width) e)));
   height = f.height ∙ ap held_number (sym (values_same Height lines line (ap (is_number Height) e)));
@@ -103,7 +112,8 @@ with_depth old lines line e none f = record {
   short = subst (λ (l : List ℕ). length l ≤ 255) (sym (type_same lines line (ap is_type e))) f.short;
 }
 
-with_maxval : (old : Fields) (lines : List (List ℕ)) (line : List ℕ) → line_kind line ≡ Number Maxval → field_values Maxval lines ≡ [] → IsFields old lines → IsFields (with_number Maxval (saturated (decimal_value (second_token line))) old) (lines ++ line ∷ [])
+with_maxval : (old : Fields) (lines : List (List ℕ)) (line : List ℕ) → line_kind line ≡ Number Maxval → field_values Maxval lines ≡ [] → IsFields old lines
+    → IsFields (with_number Maxval (saturate_u32 (decimal_value (second_token line))) old) (lines ++ line ∷ [])
 with_maxval old lines line e none f = record {
   width = f.width ∙ ap held_number (sym (values_same Width lines line (ap (is_number Width) e)));
   height = f.height ∙ ap held_number (sym (values_same Height lines line (ap (is_number Height) e)));
@@ -113,8 +123,9 @@ with_maxval old lines line e none f = record {
   short = subst (λ (l : List ℕ). length l ≤ 255) (sym (type_same lines line (ap is_type e))) f.short;
 }
 
--- the same of each field
-with_field : (field : Field) (old : Fields) (lines : List (List ℕ)) (line : List ℕ) → line_kind line ≡ Number field → field_values field lines ≡ [] → IsFields old lines → IsFields (with_number field (saturated (decimal_value (second_token line))) old) (lines ++ line ∷ [])
+-- each field is set so
+with_field : (field : Field) (old : Fields) (lines : List (List ℕ)) (line : List ℕ) → line_kind line ≡ Number field → field_values field lines ≡ []
+    → IsFields old lines → IsFields (with_number field (saturate_u32 (decimal_value (second_token line))) old) (lines ++ line ∷ [])
 with_field Width = with_width
 with_field Height = with_height
 with_field Depth = with_depth
@@ -143,8 +154,10 @@ pub some_values : (v : ℕ) (values : List ℕ) → (length (v ∷ values) == 0)
 some_values v values = ne_eqb (length (v ∷ values)) 0 (λ e. omega arith)
 
 -- a number's line was judged so, and taken
-number_by : (empty digits : Bool) (values : List ℕ) (number : ℕ) (field : Field) (old new : Fields) (j : Judgement) (lines : List (List ℕ)) → Sets empty (if digits then Some number else None) (held_number values) field old new j
-    → (new ≡ with_number field number old → values ≡ [] → IsFields new lines) → (j ≡ number_as empty digits (length values == 0)) × TakesLine new (number_as empty digits (length values == 0)) lines
+number_by : (empty digits : Bool) (values : List ℕ) (number : ℕ) (field : Field) (old new : Fields) (j : Judgement) (lines : List (List ℕ))
+    → Sets empty (if digits then Some number else None) (held_number values) field old new j
+    → (new ≡ with_number field number old → values ≡ [] → IsFields new lines) → (j ≡ number_as empty digits (length values == 0))
+    × TakesLine new (number_as empty digits (length values == 0)) lines
 number_by true digits values number field old new j lines s f = (s, tt)
 number_by false false values number field old new j lines s f = (s, tt)
 number_by false true [] number field old new j lines s f = (s.0, f s.1 refl)
@@ -153,19 +166,22 @@ number_by false true (v ∷ values) number field old new j lines s f =
     (s ∙ sym twice, subst (λ (k : Judgement). TakesLine new k lines) (sym twice) tt)
 
 -- the line of a number
-pub line_of_number : (field : Field) (old new : Fields) (line rest : List ℕ) (j : Judgement) → line_kind line ≡ Number field → rest ≡ after_first line → SetsNumber old field rest new j → JudgesLine old line new j
+pub line_of_number : (field : Field) (old new : Fields) (line rest : List ℕ) (j : Judgement) → line_kind line ≡ Number field → rest ≡ after_first line
+    → SetsNumber old field rest new j → JudgesLine old line new j
 line_of_number field old new line rest j e is s lines f =
     let sets : SetsNumber old field (after_first line) new j = subst (λ (l : List ℕ). SetsNumber old field l new j) is s in
     let held : Sets (length (second_token line) == 0) (number_of (second_token line)) (held_number (field_values field lines)) field old new j =
     subst (λ (h : Option ℕ). Sets (length (second_token line) == 0) (number_of (second_token line)) h field old new j) (held_is field old lines f) sets in
-    let p = number_by (length (second_token line) == 0) (list_all is_digit (second_token line)) (field_values field lines) (saturated (decimal_value (second_token line))) field old new j (lines ++ line ∷ []) held
+    let p = number_by (length (second_token line) == 0) (list_all is_digit (second_token line)) (field_values field lines)
+    (saturate_u32 (decimal_value (second_token line))) field old new j (lines ++ line ∷ []) held
     (λ same none. subst (λ (s : Fields). IsFields s (lines ++ line ∷ [])) (sym same) (with_field field old lines line e none f)) in
     judges_so new lines line j (number_item lines field line) (line_is_judged (Number field) lines line e) p.0 p.1
 
 -- ---- a part of the tuple type
 
 -- the fields of the lines with one more, which has a part of the tuple type
-with_type : (old new : Fields) (lines : List (List ℕ)) (line : List ℕ) → line_kind line ≡ TupleType → IsFields old lines → IsWithTupleType old new (tuple_type_in (lines ++ line ∷ [])) → length (tuple_type_in (lines ++ line ∷ [])) ≤ 255 → IsFields new (lines ++ line ∷ [])
+with_type : (old new : Fields) (lines : List (List ℕ)) (line : List ℕ) → line_kind line ≡ TupleType → IsFields old lines
+    → IsWithTupleType old new (tuple_type_in (lines ++ line ∷ [])) → length (tuple_type_in (lines ++ line ∷ [])) ≤ 255 → IsFields new (lines ++ line ∷ [])
 with_type old new lines line e f w short = record {
   width = w.width ∙ f.width ∙ ap held_number (sym (values_same Width lines line (ap (is_number Width) e)));
   height = w.height ∙ f.height ∙ ap held_number (sym (values_same Height lines line (ap (is_number Height) e)));
@@ -176,13 +192,15 @@ with_type old new lines line e f w short = record {
 }
 
 -- a line of the tuple type was judged so, and taken
-type_by : (long : Bool) (old new : Fields) (tuple_type : List ℕ) (j : Judgement) (lines : List (List ℕ)) → SetsTupleType long old tuple_type new j → (long ≡ false → IsWithTupleType old new tuple_type → IsFields new lines)
+type_by : (long : Bool) (old new : Fields) (tuple_type : List ℕ) (j : Judgement) (lines : List (List ℕ)) → SetsTupleType long old tuple_type new j
+    → (long ≡ false → IsWithTupleType old new tuple_type → IsFields new lines)
     → (j ≡ (if long then Fails TooLong else GoesOn)) × TakesLine new (if long then Fails TooLong else GoesOn) lines
 type_by true old new tuple_type j lines s f = (s, tt)
 type_by false old new tuple_type j lines s f = (s.0, f refl s.1)
 
 -- the line of a part of the tuple type
-pub line_of_type : (old new : Fields) (line text : List ℕ) (j : Judgement) → line_kind line ≡ TupleType → text ≡ value_of line → AddsTupleType old text new j → JudgesLine old line new j
+pub line_of_type : (old new : Fields) (line text : List ℕ) (j : Judgement) → line_kind line ≡ TupleType → text ≡ value_of line → AddsTupleType old text new j
+    → JudgesLine old line new j
 line_of_type old new line text j e is (inr memory) lines f = inr memory
 line_of_type old new line text j e is (inl s) lines f =
     let all : joined_with old.tuple_type.items text ≡ tuple_type_in (lines ++ line ∷ []) =

@@ -12,11 +12,11 @@ use Rattle.pnm_image.specs.Images.{Image, IsImage, rows_of}
 use Rattle.pnm_image.proofs.Rows.{AreRowsOf, image_of, IsImage-image_of, rows_of-image_of, AreRowsOf-rows_of, length-rows_of}
 use Rattle.pnm_image.specs.declared.format.Format.{Format}
 use Rattle.pnm_read.specs.Texts.{begins_apart}
-use Rattle.pnm_read.specs.Rasters.{MayFollow, SpellsRaw, SpellsPlain}
+use Rattle.pnm_read.specs.Rasters.{MayFollowSample, SpellsRaw, SpellsPlain}
 use Rattle.pnm_read.specs.Spelling.{SpellsRasterBy, SpellsRaster}
 use Rattle.pnm_read.specs.BeforeFaults.{MayFollowRows, BeginsWithRows}
 use Rattle.pnm_read.specs.Said.{Said, rows_said}
-use Rattle.pnm_read.proofs.PlainLaws.{SpellsOn, apart_follows, plain_rows_in_turn, spelled_front, plain_rows_are_read, last_row_ends}
+use Rattle.pnm_read.proofs.PlainLaws.{SpellsOn, apart_follows, plain_rows_in_turn, spelled_prefix, plain_rows_are_read, last_row_ends}
 use Rattle.pnm_read.proofs.RawLaws.{packable, raw_rows_have_bytes, raw_rows_are_read}
 use Rattle.pnm_read.proofs.SaidLaws.{row_is_row}
 use Rattle.pnm_read.proofs.RowTurns.{RowsRead, rows_count, read_rows_come_first}
@@ -24,10 +24,12 @@ use Rattle.pnm_read.proofs.RowTurns.{RowsRead, rows_count, read_rows_come_first}
 -- ---- images of some rows
 
 -- rows that were read are rows of the head's shape
-pub rows_are_rows : (format : Format) (head : HeadValue) (rows : List (List ℕ)) (n : ℕ) (text : List ℕ) (more : ℕ) (rest : List ℕ) → IsHead head → RowsRead format head.shape rows n text more rest → AreRowsOf head.shape rows
+pub rows_are_rows : (format : Format) (head : HeadValue) (rows : List (List ℕ)) (n : ℕ) (text : List ℕ) (more : ℕ) (rest : List ℕ) → IsHead head
+    → RowsRead format head.shape rows n text more rest → AreRowsOf head.shape rows
 rows_are_rows format head [] n text more rest h read = tt
 rows_are_rows format head (row ∷ rows) zero text more rest h read = absurd read
-rows_are_rows format head (row ∷ rows) (suc n) text more rest h read = (row_is_row (is_plain_form format.form) head n text (row, read.0) h read.1, rows_are_rows format head rows n read.0 more rest h read.2)
+rows_are_rows format head (row ∷ rows) (suc n) text more rest h read =
+    (row_is_row (is_plain_form format.form) head n text (row, read.0) h read.1, rows_are_rows format head rows n read.0 more rest h read.2)
 
 -- the image of some of a head's rows
 abbrev pub first_of : HeadValue → List (List ℕ) → Image
@@ -54,8 +56,10 @@ head_of_fewer head n h le = record {
   suits = h.suits;
 }
 
-first_is_image : (head : HeadValue) (rows : List (List ℕ)) → IsHead head → length rows ≤ head.shape.height → AreRowsOf head.shape rows → IsImage (first_of head rows)
-first_is_image head rows h le are = IsImage-image_of (with_height head (length rows)) rows (head_of_fewer head (length rows) h le) refl (rows_at_height head.shape (length rows) rows are)
+first_is_image : (head : HeadValue) (rows : List (List ℕ)) → IsHead head → length rows ≤ head.shape.height → AreRowsOf head.shape rows
+    → IsImage (first_of head rows)
+first_is_image head rows h le are = IsImage-image_of (with_height head (length rows)) rows (head_of_fewer head (length rows) h le) refl
+    (rows_at_height head.shape (length rows) rows are)
 
 pub rows_of-first_of : (head : HeadValue) (rows : List (List ℕ)) → AreRowsOf head.shape rows → rows_of (first_of head rows) ≡ rows
 rows_of-first_of head rows are = rows_of-image_of (with_height head (length rows)) rows refl (rows_at_height head.shape (length rows) rows are)
@@ -68,62 +72,73 @@ pub record RowsSpelled (format : Format) (head : HeadValue) (rows : List (List �
 
 -- ---- raw rows that are read are spelled
 
-raw_rows_are_spelled : (format : Format) (head : HeadValue) (rows : List (List ℕ)) (n : ℕ) (text : List ℕ) (more : ℕ) (rest : List ℕ) → is_plain_form format.form ≡ false → IsHead head → length rows ≤ head.shape.height → RowsRead format head.shape rows n text more rest
+raw_rows_are_spelled : (format : Format) (head : HeadValue) (rows : List (List ℕ)) (n : ℕ) (text : List ℕ) (more : ℕ) (rest : List ℕ)
+    → is_plain_form format.form ≡ false → IsHead head → length rows ≤ head.shape.height → RowsRead format head.shape rows n text more rest
     → RowsSpelled format head rows text rest
 raw_rows_are_spelled format head rows n text more rest raw h le read =
     let r = raw_rows_have_bytes format head rows n text more rest raw h read in
-    let spelled : SpellsRaw r.bytes (first_of head rows) = record { sound = first_is_image head rows h le r.are; count = r.count; rows = rows_of-first_of head rows r.are ∙ sym r.rows_are } in
+    let spelled : SpellsRaw r.bytes (first_of head rows) =
+    record { sound = first_is_image head rows h le r.are; count = r.count; rows = rows_of-first_of head rows r.are ∙ sym r.rows_are } in
     record { raster = r.bytes; whole = r.whole; raster_is = subst (λ (p : Bool). SpellsRasterBy p r.bytes (first_of head rows)) (sym raw) spelled }
 
 -- ---- plain rows that are read are spelled
 
 -- after samples comes what may follow one
-sample_ends : (kind : Kind) (text samples rest : List ℕ) → SpellsOn kind text samples rest → 0 < length samples → MayFollow kind rest
+sample_ends : (kind : Kind) (text samples rest : List ℕ) → SpellsOn kind text samples rest → 0 < length samples → MayFollowSample kind rest
 sample_ends kind text [] rest s some = absurd (omega arith)
-sample_ends kind text (sample ∷ []) rest s some = subst (MayFollow kind) s.5 s.4
+sample_ends kind text (sample ∷ []) rest s some = subst (MayFollowSample kind) s.5 s.4
 sample_ends kind text (sample ∷ next ∷ samples) rest s some = sample_ends kind s.1 (next ∷ samples) rest s.5 (omega arith)
 
-may_follow_rows : (kind : Kind) (rows more : ℕ) (rest : List ℕ) → (0 < rows → MayFollow kind rest) → (0 < rows → more ≡ 0 → begins_apart rest ≡ true) → MayFollowRows true kind rows more rest
+may_follow_rows : (kind : Kind) (rows more : ℕ) (rest : List ℕ) → (0 < rows → MayFollowSample kind rest) → (0 < rows → more ≡ 0 → begins_apart rest ≡ true)
+    → MayFollowRows true kind rows more rest
 may_follow_rows kind zero more rest follows last = tt
 may_follow_rows kind (suc rows) zero rest follows last = last (omega arith) refl
 may_follow_rows kind (suc rows) (suc more) rest follows last = follows (omega arith)
 
-plain_rows_end : (format : Format) (head : HeadValue) (rows : List (List ℕ)) (n : ℕ) (text : List ℕ) (more : ℕ) (rest : List ℕ) → is_plain_form format.form ≡ true → IsHead head → RowsRead format head.shape rows n text more rest
+plain_rows_end : (format : Format) (head : HeadValue) (rows : List (List ℕ)) (n : ℕ) (text : List ℕ) (more : ℕ) (rest : List ℕ)
+    → is_plain_form format.form ≡ true → IsHead head → RowsRead format head.shape rows n text more rest
     → MayFollowRows true head.shape.kind (length rows) more rest
 plain_rows_end format head rows n text more rest plain h read =
     let s : Shape = head.shape in
     let r = plain_rows_are_read format s rows n text more rest plain read in
     let each : 0 < row_length s = mul-pos {m = s.width} {n = s.depth} h.limits.width_low h.limits.depth_low in
     may_follow_rows s.kind (length rows) more rest
-    (λ some. sample_ends s.kind text (concat rows) rest r.spelled (let samples = mul-pos {m = length rows} {n = row_length s} some each in omega (arith, r.count, samples)))
+    (λ some. sample_ends s.kind text (concat rows) rest r.spelled (let samples = mul-pos {m = length rows} {n = row_length s} some each in
+    omega (arith, r.count, samples)))
     (λ some last. last_row_ends format s rows n text more rest plain read some last)
 
-plain_rows_are_spelled : (format : Format) (head : HeadValue) (rows : List (List ℕ)) (n : ℕ) (text : List ℕ) (more : ℕ) (rest : List ℕ) → is_plain_form format.form ≡ true → IsHead head → length rows ≤ head.shape.height → RowsRead format head.shape rows n text more rest
+plain_rows_are_spelled : (format : Format) (head : HeadValue) (rows : List (List ℕ)) (n : ℕ) (text : List ℕ) (more : ℕ) (rest : List ℕ)
+    → is_plain_form format.form ≡ true → IsHead head → length rows ≤ head.shape.height → RowsRead format head.shape rows n text more rest
     → RowsSpelled format head rows text rest
 plain_rows_are_spelled format head rows n text more rest plain h le read =
     let are = rows_are_rows format head rows n text more rest h read in
-    let f = spelled_front head.shape.kind text (concat rows) rest (plain_rows_are_read format head.shape rows n text more rest plain read).spelled in
+    let f = spelled_prefix head.shape.kind text (concat rows) rest (plain_rows_are_read format head.shape rows n text more rest plain read).spelled in
     let spelled : SpellsPlain f.0 (first_of head rows) = record { sound = first_is_image head rows h le are; samples = f.2 } in
     record { raster = f.0; whole = f.1; raster_is = subst (λ (p : Bool). SpellsRasterBy p f.0 (first_of head rows)) (sym plain) spelled }
 
 -- ---- rows that are read are the first of a raster
 
-rows_spelled_by : (is_plain : Bool) (format : Format) (head : HeadValue) (rows : List (List ℕ)) (n : ℕ) (text : List ℕ) (more : ℕ) (rest : List ℕ) → is_plain_form format.form ≡ is_plain → IsHead head → length rows ≤ head.shape.height
+rows_spelled_by : (is_plain : Bool) (format : Format) (head : HeadValue) (rows : List (List ℕ)) (n : ℕ) (text : List ℕ) (more : ℕ) (rest : List ℕ)
+    → is_plain_form format.form ≡ is_plain → IsHead head → length rows ≤ head.shape.height
     → RowsRead format head.shape rows n text more rest → RowsSpelled format head rows text rest
 rows_spelled_by false format head rows n text more rest e h le read = raw_rows_are_spelled format head rows n text more rest e h le read
 rows_spelled_by true format head rows n text more rest e h le read = plain_rows_are_spelled format head rows n text more rest e h le read
 
-pub read_rows_are_spelled : (format : Format) (head : HeadValue) (rows : List (List ℕ)) (text : List ℕ) (more : ℕ) (rest : List ℕ) → IsHead head → RowsRead format head.shape rows head.shape.height text more rest → RowsSpelled format head rows text rest
+pub read_rows_are_spelled : (format : Format) (head : HeadValue) (rows : List (List ℕ)) (text : List ℕ) (more : ℕ) (rest : List ℕ) → IsHead head
+    → RowsRead format head.shape rows head.shape.height text more rest → RowsSpelled format head rows text rest
 read_rows_are_spelled format head rows text more rest h read =
     let s : Shape = head.shape in
-    rows_spelled_by (is_plain_form format.form) format head rows s.height text more rest refl h (omega (arith, rows_count format s rows s.height text more rest read)) read
+    rows_spelled_by (is_plain_form format.form) format head rows s.height text more rest refl h
+    (omega (arith, rows_count format s rows s.height text more rest read)) read
 
-rows_end_by : (is_plain : Bool) (format : Format) (head : HeadValue) (rows : List (List ℕ)) (n : ℕ) (text : List ℕ) (more : ℕ) (rest : List ℕ) → is_plain_form format.form ≡ is_plain → IsHead head → RowsRead format head.shape rows n text more rest
+rows_end_by : (is_plain : Bool) (format : Format) (head : HeadValue) (rows : List (List ℕ)) (n : ℕ) (text : List ℕ) (more : ℕ) (rest : List ℕ)
+    → is_plain_form format.form ≡ is_plain → IsHead head → RowsRead format head.shape rows n text more rest
     → MayFollowRows is_plain head.shape.kind (length rows) more rest
 rows_end_by false format head rows n text more rest e h read = tt
 rows_end_by true format head rows n text more rest e h read = plain_rows_end format head rows n text more rest e h read
 
-pub read_rows_begin : (format : Format) (head : HeadValue) (rows : List (List ℕ)) (text : List ℕ) (more : ℕ) (rest : List ℕ) → IsHead head → RowsRead format head.shape rows head.shape.height text more rest → BeginsWithRows text format head (first_of head rows)
+pub read_rows_begin : (format : Format) (head : HeadValue) (rows : List (List ℕ)) (text : List ℕ) (more : ℕ) (rest : List ℕ) → IsHead head
+    → RowsRead format head.shape rows head.shape.height text more rest → BeginsWithRows text format head (first_of head rows)
 read_rows_begin format head rows text more rest h read =
     let s : Shape = head.shape in
     let r = read_rows_are_spelled format head rows text more rest h read in
@@ -140,7 +155,7 @@ read_rows_begin format head rows text more rest h read =
 -- ---- rows that are spelled are read
 
 -- what follows rows, as it follows a sample, and the last row
-follows_rows : (kind : Kind) (rows more : ℕ) (rest : List ℕ) → MayFollowRows true kind rows more rest → 0 < rows → MayFollow kind rest
+follows_rows : (kind : Kind) (rows more : ℕ) (rest : List ℕ) → MayFollowRows true kind rows more rest → 0 < rows → MayFollowSample kind rest
 follows_rows kind zero more rest f some = absurd (omega arith)
 follows_rows kind (suc rows) zero rest f some = apart_follows kind rest f
 follows_rows kind (suc rows) (suc more) rest f some = f
@@ -154,31 +169,47 @@ ends_rows kind (suc rows) (suc more) rest f some last = absurd (omega arith)
 abbrev taller : Image → ℕ → HeadValue
 taller image more = with_height image.head (image.head.shape.height + more)
 
-spelled_rows_by : (is_plain : Bool) (format : Format) (first : Image) (raster : List ℕ) (more : ℕ) (rest : List ℕ) → is_plain_form format.form ≡ is_plain → SpellsRasterBy is_plain raster first → IsHead (taller first more)
-    → MayFollowRows is_plain first.head.shape.kind first.head.shape.height more rest → RowsRead format (taller first more).shape (rows_of first) (taller first more).shape.height (raster ++ rest) more rest
+spelled_rows_by : (is_plain : Bool) (format : Format) (first : Image) (raster : List ℕ) (more : ℕ) (rest : List ℕ) → is_plain_form format.form ≡ is_plain
+    → SpellsRasterBy is_plain raster first → IsHead (taller first more)
+    → MayFollowRows is_plain first.head.shape.kind first.head.shape.height more rest
+    → RowsRead format (taller first more).shape (rows_of first) (taller first more).shape.height (raster ++ rest) more rest
 spelled_rows_by false format first raster more rest raw spelled h follows =
     let rows : ℕ = first.head.shape.height in
     let s : Shape = (taller first more).shape in
     let are : AreRowsOf s (rows_of first) = rows_at_height first.head.shape (rows + more) (rows_of first) (AreRowsOf-rows_of first spelled.sound) in
-    let read = raw_rows_are_read format s rows (rows + more) raster more rest raw (packable (taller first more) h) refl spelled.count (subst (AreRowsOf s) spelled.rows are) in
+    let read = raw_rows_are_read format s rows (rows + more) raster more rest raw (packable (taller first more) h) refl spelled.count
+    (subst (AreRowsOf s) spelled.rows are) in
     subst (λ (l : List (List ℕ)). RowsRead format s l (rows + more) (raster ++ rest) more rest) (sym spelled.rows) read
 spelled_rows_by true format first raster more rest plain spelled h follows =
     let rows : ℕ = first.head.shape.height in
     let kind : Kind = first.head.shape.kind in
-    plain_rows_in_turn format (taller first more).shape rows (rows + more) raster first.samples more rest plain refl spelled.sound.count spelled.samples spelled.sound.range (follows_rows kind rows more rest follows) (ends_rows kind rows more rest follows)
+    plain_rows_in_turn format (taller first more).shape rows (rows + more) raster first.samples more rest plain refl spelled.sound.count spelled.samples
+    spelled.sound.range (follows_rows kind rows more rest follows) (ends_rows kind rows more rest follows)
 
 -- the first rows of a raster are read in turn
-rows_that_begin : (format : Format) (head : HeadValue) (first : Image) (text : List ℕ) (b : BeginsWithRows text format head first) → IsHead head → RowsRead format head.shape (rows_of first) head.shape.height text b.more b.rest
+rows_that_begin : (format : Format) (head : HeadValue) (first : Image) (text : List ℕ) (b : BeginsWithRows text format head first) → IsHead head
+    → RowsRead format head.shape (rows_of first) head.shape.height text b.more b.rest
 rows_that_begin format head first text b h =
-    let Reads : HeadValue → Type 0 = λ x. IsHead x → MayFollowRows (is_plain_form format.form) x.shape.kind first.head.shape.height b.more b.rest → RowsRead format x.shape (rows_of first) x.shape.height (b.raster ++ b.rest) b.more b.rest in
-    let read = subst Reads (sym b.head_is) (λ is follows. spelled_rows_by (is_plain_form format.form) format first b.raster b.more b.rest refl b.raster_is is follows) h b.follows in
+    let Reads : HeadValue → Type 0 = λ x. IsHead x → MayFollowRows (is_plain_form format.form) x.shape.kind first.head.shape.height b.more b.rest
+    → RowsRead format x.shape (rows_of first) x.shape.height (b.raster ++ b.rest) b.more b.rest in
+    let read = subst Reads (sym b.head_is)
+    (λ is follows. spelled_rows_by (is_plain_form format.form) format first b.raster b.more b.rest refl b.raster_is is follows) h b.follows in
     subst (λ (t : List ℕ). RowsRead format head.shape (rows_of first) head.shape.height t b.more b.rest) (sym b.whole) read
 
 -- no more rows begin a text than are said of it
-pub no_more_rows : (later : List ℕ → Said) (format : Format) (head : HeadValue) (rows : List (List ℕ)) (text : List ℕ) (others : Image) → IsHead head → (rows_said later format head.shape head.shape.height text).messages ≡ map Row rows
+pub no_more_rows : (later : List ℕ → Said) (format : Format) (head : HeadValue) (rows : List (List ℕ)) (text : List ℕ) (others : Image) → IsHead head
+    → (rows_said later format head.shape head.shape.height text).messages ≡ map Row rows
     → BeginsWithRows text format head others → others.head.shape.height ≤ length rows
 no_more_rows later format head rows text others h said b =
     let s : Shape = head.shape in
     let after : List Message = (rows_said later format s b.more b.rest).messages in
-    let all : map Row rows ≡ map Row (rows_of others) ++ after = sym said ∙ read_rows_come_first later format s (rows_of others) s.height text b.more b.rest (rows_that_begin format head others text b h) in
-    omega (arith, ap (λ (l : List Message). length l) all, length-append (map Row (rows_of others)) after, length-map rows Row, length-map (rows_of others) Row, length-rows_of others)
+    let all : map Row rows ≡ map Row (rows_of others) ++ after = sym said ∙ read_rows_come_first later format s (rows_of others) s.height text b.more b.rest
+    (rows_that_begin format head others text b h) in
+    omega (
+      arith,
+      ap (λ (l : List Message). length l) all,
+      length-append (map Row (rows_of others)) after,
+      length-map rows Row,
+      length-map (rows_of others) Row,
+      length-rows_of others,
+    )

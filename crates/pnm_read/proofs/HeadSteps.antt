@@ -1,5 +1,6 @@
 -- The head that the numbers of a header of PBM, PGM or PPM make.
-use Rattle.std.proofs.Common.{◌≡◌, ◌⊎◌, inl, inr, ℕ, ◌+◌, ◌-◌, ◌<◌, ◌≤◌, List, [], length, map, drop, Some, None, Result, Ok, Err, refl, sym, ap, subst, ◌∙◌, arith}
+use Rattle.std.proofs.Common.{◌≡◌, ◌⊎◌, inl, inr, ℕ, ◌+◌, ◌-◌, ◌<◌, ◌≤◌, List, [], length, map, drop, Some, None, Result, Ok, Err, refl, sym, ap, subst, ◌∙◌}
+use Rattle.std.proofs.Common.{arith}
 use Rattle.std.specs.Prelude.{slice_index, MatchResult, IfOk, OnOk, IfErr, IsErrAnd}
 use Rattle.std.proofs.lemmas.List.{get_or-drop, get_or-map}
 use Rattle.pnm_image.specs.declared.shape.Shape.{Shape}
@@ -15,9 +16,9 @@ use Rattle.pnm_read.specs.Texts.{numbers_in}
 use Rattle.pnm_read.specs.Formats.{number_count, planes, maxval_of, shape_of}
 use Rattle.pnm_read.specs.Items.{◌>>=◌, piece_from, header_item, header_end, fault_of_head, numbers_item}
 use Rattle.pnm_read.specs.Said.{pnm_head_at}
-use Rattle.pnm_read.specs.Inputs.{IsOutsideFault, Finds}
+use Rattle.pnm_read.specs.BufferedReaders.{IsOutsideFault, Finds}
 use Rattle.pnm_read.specs.Scans.{ScansAfter, Scans}
-use Rattle.pnm_read.specs.Saturation.{saturated, IsNumbers, GivesInMemory}
+use Rattle.pnm_read.specs.Saturation.{saturate_u32, IsNumbers, GivesInMemory}
 use Rattle.pnm_read.specs.Scanners.{IsHeaderFresh, IsHeaderAfter, IsHeaderWhole}
 use Rattle.pnm_read.proofs.WordLaws.{numbers-white}
 use Rattle.pnm_read.proofs.HeaderLaws.{body_is_read, so_far_none, some_numbers, ended}
@@ -29,8 +30,10 @@ unfolding numbers_item
 numbers_item_is kind numbers = refl
 
 -- the head that was made of the shape, or what was wrong with it
-pub numbers_given : (kind : Kind) (numbers : List ℕ) (shape : Shape) (made : Result HeadValue HeadFault) (result : Result HeadValue InputFault) → shape ≡ saturated_shape (shape_of kind numbers)
-    → IfOk made (λ head. head ≡ head_value shape []) → OnOk made (shape_fault shape ≡ None) → IfErr made (λ e. (shape_fault shape ≡ Some e) ⊎ ((e ≡ heads.Memory) × (shape_fault shape ≡ None)))
+pub numbers_given : (kind : Kind) (numbers : List ℕ) (shape : Shape) (made : Result HeadValue HeadFault) (result : Result HeadValue InputFault)
+    → shape ≡ saturated_shape (shape_of kind numbers)
+    → IfOk made (λ head. head ≡ head_value shape []) → OnOk made (shape_fault shape ≡ None)
+    → IfErr made (λ e. (shape_fault shape ≡ Some e) ⊎ ((e ≡ heads.Memory) × (shape_fault shape ≡ None)))
     → MatchResult made (λ head. result ≡ Ok head) (λ e. IsErrAnd result (λ fault. fault ≡ fault_of_head e)) → GivesInMemory result (numbers_item kind numbers)
 numbers_given kind numbers shape made result same is sound refused cases =
     subst (GivesInMemory result) (sym (numbers_item_is kind numbers)) (head_given shape (shape_of kind numbers) [] made result same is sound refused cases)
@@ -38,16 +41,18 @@ numbers_given kind numbers shape made result same is sound refused cases =
 -- ---- the numbers that are held
 
 -- a number that is held, by the number that was found
-held_is : (k i : ℕ) (held found : List ℕ) → i < length found → drop k held ≡ map saturated found → slice_index held (k + i) ≡ saturated (slice_index found i)
-held_is k i held found lt e = sym (get_or-drop k held i 0) ∙ ap (λ (l : List ℕ). slice_index l i) e ∙ get_or-map saturated found i 0 0 lt
+held_is : (k i : ℕ) (held found : List ℕ) → i < length found → drop k held ≡ map saturate_u32 found
+    → slice_index held (k + i) ≡ saturate_u32 (slice_index found i)
+held_is k i held found lt e = sym (get_or-drop k held i 0) ∙ ap (λ (l : List ℕ). slice_index l i) e ∙ get_or-map saturate_u32 found i 0 0 lt
 
-few_planes : (kind : Kind) → saturated (planes kind) ≡ planes kind
+few_planes : (kind : Kind) → saturate_u32 (planes kind) ≡ planes kind
 few_planes Bit = refl
 few_planes Gray = refl
 few_planes Color = refl
 few_planes Pam = refl
 
-shape_by : (kind : Kind) (width height maxval depth : ℕ) (found : List ℕ) → width ≡ saturated (slice_index found 0) → height ≡ saturated (slice_index found 1) → maxval ≡ saturated (maxval_of kind found) → depth ≡ planes kind
+shape_by : (kind : Kind) (width height maxval depth : ℕ) (found : List ℕ) → width ≡ saturate_u32 (slice_index found 0)
+    → height ≡ saturate_u32 (slice_index found 1) → maxval ≡ saturate_u32 (maxval_of kind found) → depth ≡ planes kind
     → record { kind = kind; width = width; height = height; depth = depth; maxval = maxval } ≡ saturated_shape (shape_of kind found)
 shape_by kind width height maxval depth found w h m d = rw (w, h, m, d, few_planes kind) refl
 
@@ -56,25 +61,30 @@ abbrev pub shape_from : Kind → (ℕ × ℕ × ℕ) → ℕ → Shape
 shape_from kind sizes depth = record { kind = kind; width = sizes.0; height = sizes.1; depth = depth; maxval = sizes.2 }
 
 -- the shape of the last two numbers that are held
-pub shape_of_two : (kind : Kind) (sizes : ℕ × ℕ × ℕ) (depth : ℕ) (held found : List ℕ) → kind ≡ Bit → sizes ≡ (slice_index held 1, slice_index held 2, 1) → depth ≡ planes kind → IsNumbers (number_count kind) found held
+pub shape_of_two : (kind : Kind) (sizes : ℕ × ℕ × ℕ) (depth : ℕ) (held found : List ℕ) → kind ≡ Bit → sizes ≡ (slice_index held 1, slice_index held 2, 1)
+    → depth ≡ planes kind → IsNumbers (number_count kind) found held
     → shape_from kind sizes depth ≡ saturated_shape (shape_of kind found)
 shape_of_two Bit sizes depth held found e s d n =
     let count : length found ≡ 2 = n.count in
-    let last : drop 1 held ≡ map saturated found = rw count at n.last in
-    rw s (shape_by Bit (slice_index held 1) (slice_index held 2) 1 depth found (held_is 1 0 held found (omega arith) last) (held_is 1 1 held found (omega arith) last) refl d)
+    let last : drop 1 held ≡ map saturate_u32 found = rw count at n.last in
+    rw s (shape_by Bit (slice_index held 1) (slice_index held 2) 1 depth found (held_is 1 0 held found (omega arith) last)
+    (held_is 1 1 held found (omega arith) last) refl d)
 shape_of_two Gray sizes depth held found e s d n = absurd cc
 shape_of_two Color sizes depth held found e s d n = absurd cc
 shape_of_two Pam sizes depth held found e s d n = absurd cc
 
-shape_of_all : (kind : Kind) (depth : ℕ) (held found : List ℕ) → maxval_of kind found ≡ slice_index found 2 → length found ≡ 3 → depth ≡ planes kind → drop (3 - length found) held ≡ map saturated found
+shape_of_all : (kind : Kind) (depth : ℕ) (held found : List ℕ) → maxval_of kind found ≡ slice_index found 2 → length found ≡ 3 → depth ≡ planes kind
+    → drop (3 - length found) held ≡ map saturate_u32 found
     → shape_from kind (slice_index held 0, slice_index held 1, slice_index held 2) depth ≡ saturated_shape (shape_of kind found)
 shape_of_all kind depth held found third count d n =
-    let last : drop 0 held ≡ map saturated found = rw count at n in
-    shape_by kind (slice_index held 0) (slice_index held 1) (slice_index held 2) depth found (held_is 0 0 held found (omega arith) last) (held_is 0 1 held found (omega arith) last)
-    (held_is 0 2 held found (omega arith) last ∙ ap saturated (sym third)) d
+    let last : drop 0 held ≡ map saturate_u32 found = rw count at n in
+    shape_by kind (slice_index held 0) (slice_index held 1) (slice_index held 2) depth found (held_is 0 0 held found (omega arith) last)
+    (held_is 0 1 held found (omega arith) last)
+    (held_is 0 2 held found (omega arith) last ∙ ap saturate_u32 (sym third)) d
 
 -- the shape of the three numbers that are held
-pub shape_of_three : (kind : Kind) (sizes : ℕ × ℕ × ℕ) (depth : ℕ) (held found : List ℕ) → (kind ≡ Gray) ⊎ ((kind ≡ Color) ⊎ (kind ≡ Pam)) → sizes ≡ (slice_index held 0, slice_index held 1, slice_index held 2) → depth ≡ planes kind
+pub shape_of_three : (kind : Kind) (sizes : ℕ × ℕ × ℕ) (depth : ℕ) (held found : List ℕ) → (kind ≡ Gray) ⊎ ((kind ≡ Color) ⊎ (kind ≡ Pam))
+    → sizes ≡ (slice_index held 0, slice_index held 1, slice_index held 2) → depth ≡ planes kind
     → IsNumbers (number_count kind) found held → shape_from kind sizes depth ≡ saturated_shape (shape_of kind found)
 shape_of_three Bit sizes depth held found (inl e) s d n = absurd cc
 shape_of_three Bit sizes depth held found (inr (inl e)) s d n = absurd cc
@@ -97,7 +107,8 @@ abbrev head_with : List ℕ → Result HeadValue InputFault → Result (HeadValu
 head_with after read = read >>= λ head. Ok (head, after)
 
 -- the head of the numbers of a piece
-found_after : (kind : Kind) (result : Result HeadValue InputFault) (piece text after : List ℕ) → piece_from (header_item (number_count kind)) header_end [] text ≡ Ok (piece, after)
+found_after : (kind : Kind) (result : Result HeadValue InputFault) (piece text after : List ℕ) → piece_from (header_item (number_count kind)) header_end [] text
+    ≡ Ok (piece, after)
     → GivesInMemory result (numbers_item kind (numbers_in piece)) → Finds (pnm_head_at kind) result text after
 found_after kind (Ok head) piece text after p gives = head_at_is kind text ∙ ap (head_after kind) p ∙ ap (head_with after) gives
 found_after kind (Err fault) piece text after p gives =
@@ -107,7 +118,8 @@ found_after kind (Err fault) piece text after p gives =
     ]
 
 -- the numbers of a header are all there
-count_is : (kind : Kind) (text piece rest : List ℕ) → piece_from (header_item (number_count kind)) header_end [] text ≡ Ok (piece, rest) → length (numbers_in piece) ≡ number_count kind
+count_is : (kind : Kind) (text piece rest : List ℕ) → piece_from (header_item (number_count kind)) header_end [] text ≡ Ok (piece, rest)
+    → length (numbers_in piece) ≡ number_count kind
 count_is kind text piece rest e =
     let body = body_is_read (number_count kind) [] text piece rest (so_far_none (number_count kind) (some_numbers kind)) e in
     let end = ended (number_count kind) body.body body.delimiter body.ends in
@@ -120,37 +132,46 @@ few_numbers Color = omega arith
 few_numbers Pam = omega arith
 
 -- what a scanner says of the text that it was given from the header's first byte on
-fresh_scans : (kind : Kind) (wanted : ℕ) (old now : HeaderScanner) (result : Result (Unit {0}) InputFault) (text after : List ℕ) → IsHeaderFresh wanted old → wanted ≡ number_count kind → length old.numbers ≤ 3
-    → Scans (header_item old.wanted) header_end (IsHeaderAfter old) (IsHeaderWhole now) result text after → ScansAfter (header_item (number_count kind)) header_end (IsHeaderWhole now) result [] text after
+fresh_scans : (kind : Kind) (wanted : ℕ) (old now : HeaderScanner) (result : Result (Unit {0}) InputFault) (text after : List ℕ) → IsHeaderFresh wanted old
+    → wanted ≡ number_count kind → length old.numbers ≤ 3
+    → Scans (header_item old.wanted) header_end (IsHeaderAfter old) (IsHeaderWhole now) result text after
+    → ScansAfter (header_item (number_count kind)) header_end (IsHeaderWhole now) result [] text after
 fresh_scans kind wanted old now result text after fresh count three scans =
     let some = some_numbers kind in
     let few = few_numbers kind in
-    subst (λ (n : ℕ). ScansAfter (header_item n) header_end (IsHeaderWhole now) result [] text after) (fresh.wanted_is ∙ count) (scans [] (header_fresh wanted old fresh (omega arith) (omega arith) three))
+    subst (λ (n : ℕ). ScansAfter (header_item n) header_end (IsHeaderWhole now) result [] text after) (fresh.wanted_is ∙ count)
+    (scans [] (header_fresh wanted old fresh (omega arith) (omega arith) three))
 
 -- the numbers that a scanner found
-numbers_found : (kind : Kind) (now : HeaderScanner) (text piece after : List ℕ) → IsHeaderWhole now piece → piece_from (header_item (number_count kind)) header_end [] text ≡ Ok (piece, after) → IsNumbers (number_count kind) (numbers_in piece) now.numbers
+numbers_found : (kind : Kind) (now : HeaderScanner) (text piece after : List ℕ) → IsHeaderWhole now piece
+    → piece_from (header_item (number_count kind)) header_end [] text ≡ Ok (piece, after) → IsNumbers (number_count kind) (numbers_in piece) now.numbers
 numbers_found kind now text piece after whole p = record { count = count_is kind text piece after p; most = few_numbers kind; last = whole.last }
 
 -- a head of these numbers is given
 abbrev pub HeadOf : Kind → List ℕ → Result HeadValue InputFault → Type 0
 HeadOf kind held result = (found : List ℕ) → IsNumbers (number_count kind) found held → GivesInMemory result (numbers_item kind found)
 
-pub head_found : (kind : Kind) (wanted : ℕ) (old now : HeaderScanner) (result : Result HeadValue InputFault) (text after : List ℕ) → IsHeaderFresh wanted old → wanted ≡ number_count kind → length old.numbers ≤ 3 → HeadOf kind now.numbers result
+pub head_found : (kind : Kind) (wanted : ℕ) (old now : HeaderScanner) (result : Result HeadValue InputFault) (text after : List ℕ) → IsHeaderFresh wanted old
+    → wanted ≡ number_count kind → length old.numbers ≤ 3 → HeadOf kind now.numbers result
     → Scans (header_item old.wanted) header_end (IsHeaderAfter old) (IsHeaderWhole now) (Ok tt) text after → Finds (pnm_head_at kind) result text after
 head_found kind wanted old now result text after fresh count three gives scans =
     let s = fresh_scans kind wanted old now (Ok tt) text after fresh count three scans in
     found_after kind result s.0 text after s.2 (gives (numbers_in s.0) (numbers_found kind now text s.0 after s.1 s.2))
 
 -- the numbers' fault is none of the reader's
-pub head_of_text : (kind : Kind) (wanted : ℕ) (old now : HeaderScanner) (result : Result HeadValue InputFault) (text after : List ℕ) → IsHeaderFresh wanted old → wanted ≡ number_count kind → length old.numbers ≤ 3 → HeadOf kind now.numbers result
+pub head_of_text : (kind : Kind) (wanted : ℕ) (old now : HeaderScanner) (result : Result HeadValue InputFault) (text after : List ℕ) → IsHeaderFresh wanted old
+    → wanted ≡ number_count kind → length old.numbers ≤ 3 → HeadOf kind now.numbers result
     → Scans (header_item old.wanted) header_end (IsHeaderAfter old) (IsHeaderWhole now) (Ok tt) text after → result ≡ Err ReadFailed → ⊥
 head_of_text kind wanted old now result text after fresh count three gives scans =
     let s = fresh_scans kind wanted old now (Ok tt) text after fresh count three scans in
-    given_of_text (shape_of kind (numbers_in s.0)) [] result (subst (GivesInMemory result) (numbers_item_is kind (numbers_in s.0)) (gives (numbers_in s.0) (numbers_found kind now text s.0 after s.1 s.2)))
+    given_of_text (shape_of kind (numbers_in s.0)) [] result
+    (subst (GivesInMemory result) (numbers_item_is kind (numbers_in s.0)) (gives (numbers_in s.0) (numbers_found kind now text s.0 after s.1 s.2)))
 
 -- the header is at fault
-pub head_missed : (kind : Kind) (wanted : ℕ) (old now : HeaderScanner) (fault : InputFault) (text after : List ℕ) → IsHeaderFresh wanted old → wanted ≡ number_count kind → length old.numbers ≤ 3
-    → Scans (header_item old.wanted) header_end (IsHeaderAfter old) (IsHeaderWhole now) (Err fault) text after → (pnm_head_at kind text ≡ Err fault) ⊎ IsOutsideFault fault
+pub head_missed : (kind : Kind) (wanted : ℕ) (old now : HeaderScanner) (fault : InputFault) (text after : List ℕ) → IsHeaderFresh wanted old
+    → wanted ≡ number_count kind → length old.numbers ≤ 3
+    → Scans (header_item old.wanted) header_end (IsHeaderAfter old) (IsHeaderWhole now) (Err fault) text after → (pnm_head_at kind text ≡ Err fault)
+    ⊎ IsOutsideFault fault
 head_missed kind wanted old now fault text after fresh count three scans =
     elim (fresh_scans kind wanted old now (Err fault) text after fresh count three scans) [
       | inl text_fault ↦ inl (head_at_is kind text ∙ ap (head_after kind) text_fault)

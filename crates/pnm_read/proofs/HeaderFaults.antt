@@ -9,7 +9,8 @@ use Rattle.pnm_image.specs.declared.shape.Kind.TheVariants.{Bit, Gray, Color, Pa
 use Rattle.pnm_image.specs.declared.shape.Shape.{Shape}
 use Rattle.pnm_image.specs.Heads.{HeadValue, head_value, row_length, shape_fault}
 use Rattle.pnm_read.specs.declared.fault.InputFault.{InputFault}
-use Rattle.pnm_read.specs.declared.fault.InputFault.TheVariants.{BadMagic, TooLong, BadNumber, BadPamLine, DuplicateField, MissingField, PlainInStream, ReadFailed, Memory}
+use Rattle.pnm_read.specs.declared.fault.InputFault.TheVariants.{BadMagic, TooLong, BadNumber, BadPamLine, DuplicateField, MissingField, PlainInStream}
+use Rattle.pnm_read.specs.declared.fault.InputFault.TheVariants.{ReadFailed, Memory}
 use Rattle.pnm_image.specs.declared.format.Format.{Format}
 use Rattle.pnm_read.specs.declared.judgement.Judgement.{Judgement}
 use Rattle.pnm_read.specs.declared.judgement.Judgement.TheVariants.{GoesOn, EndsWith, EndsBefore, Fails}
@@ -21,7 +22,9 @@ use Rattle.pnm_image.specs.Texts.{is_digit}
 use Rattle.pnm_image.specs.Formats.{format_of, is_plain_form}
 use Rattle.pnm_read.specs.Formats.{number_count, shape_of}
 use Rattle.pnm_read.specs.PamLines.{ended_lines, last_line, second_token, line_kind, field_values, tuple_type_in}
-use Rattle.pnm_read.specs.Items.{◌>>=◌, piece_from, first_magic_item, second_magic_item, header_limit, is_bad_in_header, is_delimiter, header_item, header_end, fault_of_head, numbers_item, line_feed_item, pam_limit, number_item, tuple_type_item, line_item, pam_item, is_incomplete, shape_in, lines_item}
+use Rattle.pnm_read.specs.Items.{◌>>=◌, piece_from, first_magic_item, second_magic_item, header_limit, is_bad_in_header, is_delimiter, header_item, header_end}
+use Rattle.pnm_read.specs.Items.{fault_of_head, numbers_item, line_feed_item, pam_limit, number_item, tuple_type_item, line_item, pam_item, is_incomplete}
+use Rattle.pnm_read.specs.Items.{shape_in, lines_item}
 use Rattle.pnm_read.specs.Said.{format_at, pnm_head_at, pam_head_at, head_by, head_at}
 use Rattle.pnm_read.proofs.PamLineLaws.{line_by}
 use Rattle.pnm_image.specs.declared.limits.TheConstants.{MAX_DEPTH, MAX_MAXVAL, MAX_ROW_LENGTH, MAX_SIDE}
@@ -50,7 +53,8 @@ IsJudgedByText (Fails fault) = IsOfText fault
 IsJudgedByText judgement = Unit {0}
 
 -- one step after another fails by a fault of the text, where each does
-pub bind_by_text : {A B : Type 0} (r : Result A InputFault) (f : A → Result B InputFault) → FailsByText r → ((x : A) → FailsByText (f x)) → FailsByText (r >>= f)
+pub bind_by_text : {A B : Type 0} (r : Result A InputFault) (f : A → Result B InputFault) → FailsByText r → ((x : A) → FailsByText (f x))
+    → FailsByText (r >>= f)
 bind_by_text (Ok x) f h next = next x
 bind_by_text (Err fault) f h next = h
 
@@ -70,7 +74,8 @@ pieced item at_end judgement before b text = elim judgement [
   | GoesOn ↦ piece_from item at_end (before ++ b ∷ []) text
 ]
 
-pieced_by_text : (item : List ℕ → ℕ → Judgement) (at_end : List ℕ → Option InputFault) (judgement : Judgement) (before : List ℕ) (b : ℕ) (text : List ℕ) → IsJudgedByText judgement → FailsByText (piece_from item at_end (before ++ b ∷ []) text)
+pieced_by_text : (item : List ℕ → ℕ → Judgement) (at_end : List ℕ → Option InputFault) (judgement : Judgement) (before : List ℕ) (b : ℕ) (text : List ℕ)
+    → IsJudgedByText judgement → FailsByText (piece_from item at_end (before ++ b ∷ []) text)
     → FailsByText (pieced item at_end judgement before b text)
 pieced_by_text item at_end (Fails fault) before b text h more = h
 pieced_by_text item at_end EndsWith before b text h more = tt
@@ -89,14 +94,17 @@ ended_by_text None before h = tt
 ended_by_text (Some fault) before h = h
 
 -- a piece fails by a fault of the text, where its bytes and its end do
-pub piece_by_text : (item : List ℕ → ℕ → Judgement) (at_end : List ℕ → Option InputFault) (before text : List ℕ) → ((front : List ℕ) (b : ℕ) → IsJudgedByText (item front b)) → ((front : List ℕ) → EndsByText (at_end front))
+pub piece_by_text : (item : List ℕ → ℕ → Judgement) (at_end : List ℕ → Option InputFault) (before text : List ℕ)
+    → ((prefix : List ℕ) (b : ℕ) → IsJudgedByText (item prefix b)) → ((prefix : List ℕ) → EndsByText (at_end prefix))
     → FailsByText (piece_from item at_end before text)
 unfolding piece_from
 piece_by_text item at_end before [] judged ended = ended_by_text (at_end before) before (ended before)
-piece_by_text item at_end before (b ∷ text) judged ended = pieced_by_text item at_end (item before b) before b text (judged before b) (piece_by_text item at_end (before ++ b ∷ []) text judged ended)
+piece_by_text item at_end before (b ∷ text) judged ended = pieced_by_text item at_end (item before b) before b text (judged before b)
+    (piece_by_text item at_end (before ++ b ∷ []) text judged ended)
 
 -- three tests in turn
-pub three_by_text : (a b c : Bool) (fault other : InputFault) (last : Judgement) → IsOfText fault → IsOfText other → IsJudgedByText last → IsJudgedByText (if a then Fails fault else if b then Fails other else if c then last else GoesOn)
+pub three_by_text : (a b c : Bool) (fault other : InputFault) (last : Judgement) → IsOfText fault → IsOfText other → IsJudgedByText last
+    → IsJudgedByText (if a then Fails fault else if b then Fails other else if c then last else GoesOn)
 three_by_text true b c fault other last f o l = f
 three_by_text false true c fault other last f o l = o
 three_by_text false false true fault other last f o l = l
@@ -110,7 +118,8 @@ first_magic_by_text [] = tt
 first_magic_by_text (b ∷ text) = when_by_text (b == 80) text BadMagic tt
 
 -- a plain image after another is refused
-refused_by_text : (refused : Bool) (format : Format) (text : List ℕ) → FailsByText {A = Format × List ℕ} (if refused then Err PlainInStream else Ok (format, text))
+refused_by_text : (refused : Bool) (format : Format) (text : List ℕ)
+    → FailsByText {A = Format × List ℕ} (if refused then Err PlainInStream else Ok (format, text))
 refused_by_text true format text = tt
 refused_by_text false format text = tt
 
@@ -138,7 +147,8 @@ format_by_text is_first text = bind_by_text (first_magic_item text) (second_magi
 
 header_byte_by_text : (count : ℕ) (before : List ℕ) (b : ℕ) → IsJudgedByText (header_item count before b)
 unfolding header_item
-header_byte_by_text count before b = three_by_text (nat_le header_limit (length before)) (is_bad_in_header before b) (is_delimiter count before b) TooLong BadNumber EndsWith tt tt tt
+header_byte_by_text count before b = three_by_text (nat_le header_limit (length before)) (is_bad_in_header before b) (is_delimiter count before b) TooLong
+    BadNumber EndsWith tt tt tt
 
 -- a head, or its fault
 abbrev head_or_fault : Option HeadFault → HeadValue → Result HeadValue InputFault
@@ -148,14 +158,17 @@ head_or_fault fault head = elim fault [
 ]
 
 -- a head's fault is one of its numbers
-judged_by_text : (a b c : Bool) (head : HeadValue) → FailsByText (head_or_fault (if a then Some heads.ZeroSize else if b then Some heads.TooLarge else if c then Some heads.BadMaxval else None) head)
+judged_by_text : (a b c : Bool) (head : HeadValue)
+    → FailsByText (head_or_fault (if a then Some heads.ZeroSize else if b then Some heads.TooLarge else if c then Some heads.BadMaxval else None) head)
 judged_by_text true b c head = tt
 judged_by_text false true c head = tt
 judged_by_text false false true head = tt
 judged_by_text false false false head = tt
 
 shape_by_text : (s : Shape) (head : HeadValue) → FailsByText (head_or_fault (shape_fault s) head)
-shape_by_text s head = judged_by_text ((s.width == 0) || (s.height == 0) || (s.depth == 0)) (nat_lt MAX_SIDE s.width || nat_lt MAX_SIDE s.height || nat_lt MAX_DEPTH s.depth || nat_lt MAX_ROW_LENGTH (row_length s)) ((s.maxval == 0) || nat_lt MAX_MAXVAL s.maxval) head
+shape_by_text s head = judged_by_text ((s.width == 0) || (s.height == 0) || (s.depth == 0))
+    (nat_lt MAX_SIDE s.width || nat_lt MAX_SIDE s.height || nat_lt MAX_DEPTH s.depth || nat_lt MAX_ROW_LENGTH (row_length s))
+    ((s.maxval == 0) || nat_lt MAX_MAXVAL s.maxval) head
 
 numbers_by_text : (kind : Kind) (numbers : List ℕ) → FailsByText (numbers_item kind numbers)
 unfolding numbers_item
@@ -166,7 +179,7 @@ unfolding pnm_head_at
 pnm_head_by_text kind text =
     let count = number_count kind in
     bind_by_text (piece_from (header_item count) header_end [] text) (λ piece. numbers_item kind (numbers_in piece.0) >>= λ head. Ok (head, piece.1))
-    (piece_by_text (header_item count) header_end [] text (header_byte_by_text count) (λ front. tt))
+    (piece_by_text (header_item count) header_end [] text (header_byte_by_text count) (λ prefix. tt))
     (λ piece. bind_by_text (numbers_item kind (numbers_in piece.0)) (λ head. Ok (head, piece.1)) (numbers_by_text kind (numbers_in piece.0)) (λ head. tt))
 
 -- ---- the header of PAM
@@ -177,7 +190,8 @@ line_feed_by_text [] = tt
 line_feed_by_text (b ∷ text) = when_by_text (b == 10) text BadPamLine tt
 
 -- three tests that fail
-three_fail_by_text : (a b c : Bool) (first second third : InputFault) → IsOfText first → IsOfText second → IsOfText third → IsJudgedByText (if a then Fails first else if b then Fails second else if c then Fails third else GoesOn)
+three_fail_by_text : (a b c : Bool) (first second third : InputFault) → IsOfText first → IsOfText second → IsOfText third
+    → IsJudgedByText (if a then Fails first else if b then Fails second else if c then Fails third else GoesOn)
 three_fail_by_text true b c first second third f s t = f
 three_fail_by_text false true c first second third f s t = s
 three_fail_by_text false false true first second third f s t = t
@@ -189,7 +203,8 @@ one_fails_by_text true fault h = h
 one_fails_by_text false fault h = tt
 
 number_line_by_text : (lines : List (List ℕ)) (field : Field) (line : List ℕ) → IsJudgedByText (number_item lines field line)
-number_line_by_text lines field line = three_fail_by_text (length (second_token line) == 0) (not (list_all is_digit (second_token line))) (not (length (field_values field lines) == 0)) BadPamLine BadNumber DuplicateField tt tt tt
+number_line_by_text lines field line = three_fail_by_text (length (second_token line) == 0) (not (list_all is_digit (second_token line)))
+    (not (length (field_values field lines) == 0)) BadPamLine BadNumber DuplicateField tt tt tt
 
 tuple_type_by_text : (lines : List (List ℕ)) (line : List ℕ) → IsJudgedByText (tuple_type_item lines line)
 tuple_type_by_text lines line = one_fails_by_text (nat_lt 255 (length (tuple_type_in (lines ++ line ∷ [])))) TooLong tt
@@ -209,7 +224,8 @@ pam_byte_by false false line h = tt
 
 pub pam_item_by_text : (before : List ℕ) (b : ℕ) → IsJudgedByText (pam_item before b)
 unfolding pam_item
-pam_item_by_text before b = pam_byte_by (nat_le pam_limit (length before)) (b == 10) (line_item (ended_lines before) (last_line before)) (line_kind_by_text (line_kind (last_line before)) (ended_lines before) (last_line before))
+pam_item_by_text before b = pam_byte_by (nat_le pam_limit (length before)) (b == 10) (line_item (ended_lines before) (last_line before))
+    (line_kind_by_text (line_kind (last_line before)) (ended_lines before) (last_line before))
 
 -- lines without a number fail, and others make a head or its fault
 lines_by : (missing : Bool) (made : Result HeadValue InputFault) → FailsByText made → FailsByText {A = HeadValue} (if missing then Err MissingField else made)
@@ -222,14 +238,16 @@ lines_made lines = head_or_fault (shape_fault (shape_in lines)) (head_value (sha
 
 pub lines_item_by_text : (lines : List (List ℕ)) → FailsByText (lines_item lines)
 unfolding lines_item
-lines_item_by_text lines = lines_by (is_incomplete lines) (lines_made lines) (shape_by_text (shape_in lines) (head_value (shape_in lines) (tuple_type_in lines)))
+lines_item_by_text lines =
+    lines_by (is_incomplete lines) (lines_made lines) (shape_by_text (shape_in lines) (head_value (shape_in lines) (tuple_type_in lines)))
 
 pub pam_head_by_text : (text : List ℕ) → FailsByText (pam_head_at text)
 unfolding pam_head_at
 pam_head_by_text text =
-    bind_by_text (line_feed_item text) (λ rest. piece_from pam_item header_end [] rest >>= λ piece. lines_item (ended_lines piece.0) >>= λ head. Ok (head, piece.1)) (line_feed_by_text text)
+    bind_by_text (line_feed_item text) (λ rest. piece_from pam_item header_end [] rest >>= λ piece. lines_item (ended_lines piece.0) >>= λ head.
+    Ok (head, piece.1)) (line_feed_by_text text)
     (λ rest. bind_by_text (piece_from pam_item header_end [] rest) (λ piece. lines_item (ended_lines piece.0) >>= λ head. Ok (head, piece.1))
-    (piece_by_text pam_item header_end [] rest pam_item_by_text (λ front. tt))
+    (piece_by_text pam_item header_end [] rest pam_item_by_text (λ prefix. tt))
     (λ piece. bind_by_text (lines_item (ended_lines piece.0)) (λ head. Ok (head, piece.1)) (lines_item_by_text (ended_lines piece.0)) (λ head. tt)))
 
 -- ---- the header of any format

@@ -1,5 +1,7 @@
 -- The header of a text: how its bytes are judged, what is read of them, and that a header that is read is spelled.
-use Rattle.std.proofs.Common.{◌≡◌, ◌≢◌, ◌⊎◌, inl, inr, ℕ, ◌+◌, ◌-◌, ◌*◌, ◌<◌, ◌≤◌, Bool, true, false, not, ◌||◌, ◌&&◌, ◌==◌, if◌then◌else◌, List, [], ◌∷◌, ◌++◌, length, Option, Some, None, Result, Ok, Err, refl, sym, ap, subst, ◌∙◌, append_assoc, arith}
+pub use Rattle.pnm_read.proofs.ShapeLaws.{limits_of}
+use Rattle.std.proofs.Common.{◌≡◌, ◌≢◌, ◌⊎◌, inl, inr, ℕ, ◌+◌, ◌-◌, ◌*◌, ◌<◌, ◌≤◌, Bool, true, false, not, ◌||◌, ◌&&◌, ◌==◌, if◌then◌else◌, List, [], ◌∷◌, ◌++◌}
+use Rattle.std.proofs.Common.{length, Result, Ok, Err, refl, sym, ap, subst, ◌∙◌, append_assoc, arith}
 use Rattle.std.specs.Prelude.{nat_le, slice_index}
 use Rattle.std.specs.List.{AllPass}
 use Rattle.std.proofs.lemmas.Bool.{eqb-true, leb-false, eqb-false}
@@ -10,29 +12,26 @@ use Rattle.pnm_image.specs.declared.shape.Kind.{Kind}
 use Rattle.pnm_image.specs.declared.shape.Kind.TheVariants.{Bit, Gray, Color, Pam}
 use Rattle.pnm_image.specs.Heads.{HeadValue, IsHead, IsTupleType, Suits, head_value, shape_fault}
 use Rattle.pnm_read.specs.declared.fault.InputFault.{InputFault}
-use Rattle.pnm_read.specs.declared.fault.InputFault.TheVariants.{BadMagic, TooLong, BadNumber, PlainInStream}
-use Rattle.pnm_image.specs.declared.format.Format.{Format}
+use Rattle.pnm_read.specs.declared.fault.InputFault.TheVariants.{TooLong, BadNumber}
 use Rattle.pnm_read.specs.declared.judgement.Judgement.{Judgement}
 use Rattle.pnm_read.specs.declared.judgement.Judgement.TheVariants.{GoesOn, EndsWith, EndsBefore, Fails}
 use Rattle.pnm_read.specs.Texts.{is_apart, begins_apart, ends_in_comment, uncommented, uncommented_from, ends_in_word, numbers_in}
 use Rattle.pnm_image.specs.Texts.{is_white, is_digit, words}
-use Rattle.pnm_image.specs.Formats.{plain, raw, format_of, is_plain_form}
+use Rattle.pnm_image.specs.Formats.{plain}
 use Rattle.pnm_read.specs.Formats.{number_count, planes, shape_of, header_numbers}
-use Rattle.pnm_read.specs.Headers.{SpellsPnmHeader, SpellsHeaderBy, SpellsHeader}
-use Rattle.pnm_read.specs.Items.{◌>>=◌, piece_from, first_magic_item, second_magic_item, header_limit, is_bad_in_header, is_delimiter, header_item, header_end, numbers_item}
-use Rattle.pnm_read.specs.Said.{format_at, pnm_head_at, head_by, head_at}
-pub use Rattle.pnm_read.proofs.ShapeLaws.{limits_of}
+use Rattle.pnm_read.specs.Items.{◌>>=◌, piece_from, header_limit, is_bad_in_header, is_delimiter, header_item, header_end, numbers_item}
 use Rattle.pnm_read.proofs.ShapeLaws.{head_or_fault_ok}
-use Rattle.pnm_read.proofs.PieceLaws.{bind_ok, done, ok_is}
-use Rattle.pnm_read.proofs.PamLaws.{pam_head_is_spelled}
-use Rattle.pnm_read.proofs.WordLaws.{uncommented-plain, uncommented-comment, numbers-white, numbers-comment, numbers-first, numbers-next, ends_in_word-comment, ends_in_word-digit, white_is_not_sharp, digit_is_not_sharp}
+use Rattle.pnm_read.proofs.PieceLaws.{ok_is}
+use Rattle.pnm_read.proofs.WordLaws.{uncommented-plain, uncommented-comment, numbers-white, numbers-comment, numbers-first, numbers-next, ends_in_word-comment}
+use Rattle.pnm_read.proofs.WordLaws.{ends_in_word-digit, white_is_not_sharp, digit_is_not_sharp}
 
 -- ---- how a byte of a header is judged
 
 abbrev pub judged_by : Bool → Bool → Bool → Judgement
 judged_by long bad last = if long then Fails TooLong else if bad then Fails BadNumber else if last then EndsWith else GoesOn
 
-pub header_item_is : (count : ℕ) (before : List ℕ) (b : ℕ) → header_item count before b ≡ judged_by (nat_le header_limit (length before)) (is_bad_in_header before b) (is_delimiter count before b)
+pub header_item_is : (count : ℕ) (before : List ℕ) (b : ℕ) → header_item count before b ≡ judged_by (nat_le header_limit (length before))
+    (is_bad_in_header before b) (is_delimiter count before b)
 unfolding header_item
 header_item_is count before b = refl
 
@@ -55,10 +54,12 @@ never_before_by false false true e = cc
 never_before_by false false false e = cc
 
 -- what a byte is that can stand in a header
-pub bad_parts : (first apart comment decimal : Bool) → ((first && not apart) || (not comment && not decimal)) ≡ false → (first ≡ true → apart ≡ true) × (comment ≡ false → decimal ≡ true)
+pub bad_parts : (first apart comment decimal : Bool) → ((first && not apart) || (not comment && not decimal)) ≡ false → (first ≡ true → apart ≡ true)
+    × (comment ≡ false → decimal ≡ true)
 bad_parts first apart comment decimal e = (λ h. grind arith, λ h. grind arith)
 
-pub not_bad : (first apart comment decimal : Bool) → (first ≡ true → apart ≡ true) → (comment ≡ false → decimal ≡ true) → ((first && not apart) || (not comment && not decimal)) ≡ false
+pub not_bad : (first apart comment decimal : Bool) → (first ≡ true → apart ≡ true) → (comment ≡ false → decimal ≡ true)
+    → ((first && not apart) || (not comment && not decimal)) ≡ false
 not_bad true apart true decimal f g = rw (f refl) refl
 not_bad true apart false decimal f g = rw (f refl, g refl) refl
 not_bad false apart true decimal f g = refl
@@ -82,21 +83,26 @@ pub record SoFar (count : ℕ) (before : List ℕ) : Type 0 where
   pub counted : Counted count (length (numbers_in before)) (ends_in_word (uncommented before))
 
 -- one byte more, of three sorts
-begins_push : (before : List ℕ) (b : ℕ) → begins_apart before ≡ true → ((length before == 0) ≡ true → is_apart b ≡ true) → begins_apart (before ++ b ∷ []) ≡ true
+begins_push : (before : List ℕ) (b : ℕ) → begins_apart before ≡ true → ((length before == 0) ≡ true → is_apart b ≡ true)
+    → begins_apart (before ++ b ∷ []) ≡ true
 begins_push [] b e h = h refl
 begins_push (x ∷ before) b e h = e
 
-pub decimal_push : (before : List ℕ) (b : ℕ) → ends_in_comment before ≡ false → (b == 35) ≡ false → is_decimal b ≡ true → AllPass is_decimal (uncommented before) → AllPass is_decimal (uncommented (before ++ b ∷ []))
-decimal_push before b outside plain e h = subst (AllPass is_decimal) (sym (uncommented-plain before b outside plain)) (All-push (λ x. is_decimal x ≡ true) (uncommented before) b h e)
+pub decimal_push : (before : List ℕ) (b : ℕ) → ends_in_comment before ≡ false → (b == 35) ≡ false → is_decimal b ≡ true
+    → AllPass is_decimal (uncommented before) → AllPass is_decimal (uncommented (before ++ b ∷ []))
+decimal_push before b outside plain e h = subst (AllPass is_decimal) (sym (uncommented-plain before b outside plain))
+    (All-push (λ x. is_decimal x ≡ true) (uncommented before) b h e)
 
-so_far-comment : (count : ℕ) (before : List ℕ) (b : ℕ) → SoFar count before → (ends_in_comment before ≡ true) ⊎ (b ≡ 35) → begins_apart (before ++ b ∷ []) ≡ true → SoFar count (before ++ b ∷ [])
+so_far-comment : (count : ℕ) (before : List ℕ) (b : ℕ) → SoFar count before → (ends_in_comment before ≡ true) ⊎ (b ≡ 35)
+    → begins_apart (before ++ b ∷ []) ≡ true → SoFar count (before ++ b ∷ [])
 so_far-comment count before b s h begins = record {
   begins = begins;
   decimal = subst (AllPass is_decimal) (sym (uncommented-comment before b h)) s.decimal;
   counted = rw (numbers-comment before b h, ends_in_word-comment before b h) s.counted;
 }
 
-so_far-white : (count : ℕ) (before : List ℕ) (b : ℕ) → SoFar count before → ends_in_comment before ≡ false → is_white b ≡ true → (length (numbers_in before) == count) ≡ false → begins_apart (before ++ b ∷ []) ≡ true → SoFar count (before ++ b ∷ [])
+so_far-white : (count : ℕ) (before : List ℕ) (b : ℕ) → SoFar count before → ends_in_comment before ≡ false → is_white b ≡ true
+    → (length (numbers_in before) == count) ≡ false → begins_apart (before ++ b ∷ []) ≡ true → SoFar count (before ++ b ∷ [])
 so_far-white count before b s outside white others begins =
     let not_all : length (numbers_in before) ≡ count → ⊥ = eqb-false (length (numbers_in before)) count others in
     let within = s.counted.within in
@@ -107,7 +113,8 @@ so_far-white count before b s outside white others begins =
       counted = rw (numbers-white before b outside white) (record { within = s.counted.within; fewer = λ e. less });
     }
 
-digit_counted : (count : ℕ) (before : List ℕ) (b : ℕ) (goes_on : Bool) → ends_in_word (uncommented before) ≡ goes_on → Counted count (length (numbers_in before)) goes_on → ends_in_comment before ≡ false → is_digit b ≡ true → length (numbers_in (before ++ b ∷ [])) ≤ count
+digit_counted : (count : ℕ) (before : List ℕ) (b : ℕ) (goes_on : Bool) → ends_in_word (uncommented before) ≡ goes_on
+    → Counted count (length (numbers_in before)) goes_on → ends_in_comment before ≡ false → is_digit b ≡ true → length (numbers_in (before ++ b ∷ [])) ≤ count
 digit_counted count before b true e c outside digit =
     let n = numbers-next before b outside digit e in
     let old : length (numbers_in before) ≡ length n.0 + 1 = ap (λ (t : List ℕ). length t) n.2 ∙ length-append n.0 (n.1 ∷ []) in
@@ -115,15 +122,18 @@ digit_counted count before b true e c outside digit =
     let within = c.within in
     omega arith
 digit_counted count before b false e c outside digit =
-    let new : length (numbers_in (before ++ b ∷ [])) ≡ length (numbers_in before) + 1 = ap (λ (t : List ℕ). length t) (numbers-first before b outside digit e) ∙ length-append (numbers_in before) ((b - 48) ∷ []) in
+    let new : length (numbers_in (before ++ b ∷ [])) ≡ length (numbers_in before) + 1 = ap (λ (t : List ℕ). length t) (numbers-first before b outside digit e)
+    ∙ length-append (numbers_in before) ((b - 48) ∷ []) in
     let fewer = c.fewer refl in
     omega arith
 
-so_far-digit : (count : ℕ) (before : List ℕ) (b : ℕ) → SoFar count before → ends_in_comment before ≡ false → is_digit b ≡ true → begins_apart (before ++ b ∷ []) ≡ true → SoFar count (before ++ b ∷ [])
+so_far-digit : (count : ℕ) (before : List ℕ) (b : ℕ) → SoFar count before → ends_in_comment before ≡ false → is_digit b ≡ true
+    → begins_apart (before ++ b ∷ []) ≡ true → SoFar count (before ++ b ∷ [])
 so_far-digit count before b s outside digit begins = record {
   begins = begins;
   decimal = decimal_push before b outside (digit_is_not_sharp b digit) (grind (arith, digit)) s.decimal;
-  counted = rw (ends_in_word-digit before b outside digit) (record { within = digit_counted count before b (ends_in_word (uncommented before)) refl s.counted outside digit; fewer = λ e. absurd cc });
+  counted = rw (ends_in_word-digit before b outside digit)
+      (record { within = digit_counted count before b (ends_in_word (uncommented before)) refl s.counted outside digit; fewer = λ e. absurd cc });
 }
 
 -- white space outside comments that ends no header
@@ -134,17 +144,22 @@ not_last comment white all e c w = grind arith
 pub digit_left : (digit white sharp : Bool) → (digit || (white || sharp)) ≡ true → white ≡ false → sharp ≡ false → digit ≡ true
 digit_left digit white sharp e w s = grind arith
 
-so_far_by : (comment sharp white : Bool) (count : ℕ) (before : List ℕ) (b : ℕ) → ends_in_comment before ≡ comment → (b == 35) ≡ sharp → is_white b ≡ white → SoFar count before
-    → (ends_in_comment before ≡ false → (is_digit b || is_apart b) ≡ true) → is_delimiter count before b ≡ false → begins_apart (before ++ b ∷ []) ≡ true → SoFar count (before ++ b ∷ [])
+so_far_by : (comment sharp white : Bool) (count : ℕ) (before : List ℕ) (b : ℕ) → ends_in_comment before ≡ comment → (b == 35) ≡ sharp → is_white b ≡ white
+    → SoFar count before
+    → (ends_in_comment before ≡ false → (is_digit b || is_apart b) ≡ true) → is_delimiter count before b ≡ false → begins_apart (before ++ b ∷ []) ≡ true
+    → SoFar count (before ++ b ∷ [])
 so_far_by true sharp white count before b c h w s decimal last begins = so_far-comment count before b s (inl c) begins
 so_far_by false true white count before b c h w s decimal last begins = so_far-comment count before b s (inr (eqb-true b 35 h)) begins
-so_far_by false false true count before b c h w s decimal last begins = so_far-white count before b s c w (not_last (ends_in_comment before) (is_white b) (length (numbers_in before) == count) last c w) begins
-so_far_by false false false count before b c h w s decimal last begins = so_far-digit count before b s c (digit_left (is_digit b) (is_white b) (b == 35) (decimal c) w h) begins
+so_far_by false false true count before b c h w s decimal last begins =
+    so_far-white count before b s c w (not_last (ends_in_comment before) (is_white b) (length (numbers_in before) == count) last c w) begins
+so_far_by false false false count before b c h w s decimal last begins =
+    so_far-digit count before b s c (digit_left (is_digit b) (is_white b) (b == 35) (decimal c) w h) begins
 
 -- a byte more that went on
 so_far-push : (count : ℕ) (before : List ℕ) (b : ℕ) → SoFar count before → header_item count before b ≡ GoesOn → SoFar count (before ++ b ∷ [])
 so_far-push count before b s e =
-    let parts = goes_on_by (nat_le header_limit (length before)) (is_bad_in_header before b) (is_delimiter count before b) (sym (header_item_is count before b) ∙ e) in
+    let parts = goes_on_by (nat_le header_limit (length before)) (is_bad_in_header before b) (is_delimiter count before b) (sym (header_item_is count before b)
+    ∙ e) in
     let byte = bad_parts (length before == 0) (is_apart b) (ends_in_comment before) (is_digit b || is_apart b) parts.1 in
     so_far_by (ends_in_comment before) (b == 35) (is_white b) count before b refl refl refl s byte.1 parts.2 (begins_push before b s.begins byte.0)
 
@@ -172,24 +187,44 @@ pieced judgement count before b text = elim judgement [
   | GoesOn ↦ piece_from (header_item count) header_end (before ++ b ∷ []) text
 ]
 
-body_by : (judgement : Judgement) (count : ℕ) (before : List ℕ) (b : ℕ) (text piece rest : List ℕ) → header_item count before b ≡ judgement → SoFar count before → pieced judgement count before b text ≡ Ok (piece, rest)
-    → (SoFar count (before ++ b ∷ []) → piece_from (header_item count) header_end (before ++ b ∷ []) text ≡ Ok (piece, rest) → Body count (before ++ b ∷ []) text piece rest) → Body count before (b ∷ text) piece rest
+body_by : (judgement : Judgement) (count : ℕ) (before : List ℕ) (b : ℕ) (text piece rest : List ℕ) → header_item count before b ≡ judgement → SoFar count before
+    → pieced judgement count before b text ≡ Ok (piece, rest)
+    → (SoFar count (before ++ b ∷ []) → piece_from (header_item count) header_end (before ++ b ∷ []) text ≡ Ok (piece, rest)
+    → Body count (before ++ b ∷ []) text piece rest) → Body count before (b ∷ text) piece rest
 body_by (Fails fault) count before b text piece rest j s e more = absurd cc
 body_by EndsWith count before b text piece rest j s e more =
     let parts : (before ++ b ∷ [], text) ≡ (piece, rest) = ok_is (before ++ b ∷ [], text) (piece, rest) e in
-    let front : before ++ b ∷ [] ≡ piece = ap (λ (p : List ℕ × List ℕ). p.0) parts in
+    let prefix : before ++ b ∷ [] ≡ piece = ap (λ (p : List ℕ × List ℕ). p.0) parts in
     let back : text ≡ rest = ap (λ (p : List ℕ × List ℕ). p.1) parts in
-    record { body = before; delimiter = b; so_far = s; ends = j; piece_is = sym front; whole = sym (append_assoc before (b ∷ []) text) ∙ ap (λ (t : List ℕ). t ++ text) front ∙ ap (λ (t : List ℕ). piece ++ t) back }
+    record {
+      body = before;
+      delimiter = b;
+      so_far = s;
+      ends = j;
+      piece_is = sym prefix;
+      whole = sym (append_assoc before (b ∷ []) text)
+          ∙ ap (λ (t : List ℕ). t ++ text) prefix ∙ ap (λ (t : List ℕ). piece ++ t) back;
+    }
 body_by EndsBefore count before b text piece rest j s e more =
-    absurd (never_before_by (nat_le header_limit (length before)) (is_bad_in_header before b) (is_delimiter count before b) (sym (header_item_is count before b) ∙ j))
+    absurd (never_before_by (nat_le header_limit (length before)) (is_bad_in_header before b) (is_delimiter count before b) (sym (header_item_is count before b)
+    ∙ j))
 body_by GoesOn count before b text piece rest j s e more =
     let found = more (so_far-push count before b s j) e in
-    record { body = found.body; delimiter = found.delimiter; so_far = found.so_far; ends = found.ends; piece_is = found.piece_is; whole = sym (append_assoc before (b ∷ []) text) ∙ found.whole }
+    record {
+      body = found.body;
+      delimiter = found.delimiter;
+      so_far = found.so_far;
+      ends = found.ends;
+      piece_is = found.piece_is;
+      whole = sym (append_assoc before (b ∷ []) text) ∙ found.whole;
+    }
 
-pub body_is_read : (count : ℕ) (before text piece rest : List ℕ) → SoFar count before → piece_from (header_item count) header_end before text ≡ Ok (piece, rest) → Body count before text piece rest
+pub body_is_read : (count : ℕ) (before text piece rest : List ℕ) → SoFar count before → piece_from (header_item count) header_end before text ≡ Ok (piece, rest)
+    → Body count before text piece rest
 unfolding piece_from
 body_is_read count before [] piece rest s e = absurd cc
-body_is_read count before (b ∷ text) piece rest s e = body_by (header_item count before b) count before b text piece rest refl s e (λ t f. body_is_read count (before ++ b ∷ []) text piece rest t f)
+body_is_read count before (b ∷ text) piece rest s e = body_by (header_item count before b) count before b text piece rest refl s e
+    (λ t f. body_is_read count (before ++ b ∷ []) text piece rest t f)
 
 -- what is known of a body where the header ends with the byte after it
 last_parts : (comment white all : Bool) → (not comment && white && all) ≡ true → (comment ≡ false) × (white ≡ true) × (all ≡ true)
@@ -203,12 +238,14 @@ pub record Ended (count : ℕ) (body : List ℕ) (delimiter : ℕ) : Type 0 wher
 
 pub ended : (count : ℕ) (body : List ℕ) (delimiter : ℕ) → header_item count body delimiter ≡ EndsWith → Ended count body delimiter
 ended count body delimiter e =
-    let parts = ends_with_by (nat_le header_limit (length body)) (is_bad_in_header body delimiter) (is_delimiter count body delimiter) (sym (header_item_is count body delimiter) ∙ e) in
+    let parts = ends_with_by (nat_le header_limit (length body)) (is_bad_in_header body delimiter) (is_delimiter count body delimiter)
+    (sym (header_item_is count body delimiter) ∙ e) in
     let last = last_parts (ends_in_comment body) (is_white delimiter) (length (numbers_in body) == count) parts.2 in
     record { short = leb-false 65534 (length body) parts.0; outside = last.0; white = last.1; all = eqb-true (length (numbers_in body)) count last.2 }
 
 -- a body with all its numbers ends with the last
-ends_in_last : (count : ℕ) (body : List ℕ) (ends : Bool) → ends_in_word (uncommented body) ≡ ends → Counted count (length (numbers_in body)) (ends_in_word (uncommented body)) → length (numbers_in body) ≡ count → ends_in_word (uncommented body) ≡ true
+pub ends_in_last : (count : ℕ) (body : List ℕ) (ends : Bool) → ends_in_word (uncommented body) ≡ ends
+    → Counted count (length (numbers_in body)) (ends_in_word (uncommented body)) → length (numbers_in body) ≡ count → ends_in_word (uncommented body) ≡ true
 ends_in_last count body true e c all = e
 ends_in_last count body false e c all = let fewer = c.fewer e in absurd (omega arith)
 
@@ -228,7 +265,7 @@ three_numbers (a ∷ b ∷ []) e = absurd (omega arith)
 three_numbers (a ∷ b ∷ c ∷ []) e = refl
 three_numbers (a ∷ b ∷ c ∷ d ∷ numbers) e = absurd (omega arith)
 
-numbers_of_shape : (kind : Kind) (numbers : List ℕ) → length numbers ≡ number_count kind → header_numbers (shape_of kind numbers) ≡ numbers
+pub numbers_of_shape : (kind : Kind) (numbers : List ℕ) → length numbers ≡ number_count kind → header_numbers (shape_of kind numbers) ≡ numbers
 numbers_of_shape Bit numbers e = two_numbers numbers e
 numbers_of_shape Gray numbers e = three_numbers numbers e
 numbers_of_shape Color numbers e = three_numbers numbers e
@@ -255,209 +292,17 @@ suits_kind Color numbers = (refl, refl)
 suits_kind Pam numbers = no_tuple_type
 
 -- numbers that make a head
-record Made (kind : Kind) (numbers : List ℕ) (head : HeadValue) : Type 0 where
+pub record Made (kind : Kind) (numbers : List ℕ) (head : HeadValue) : Type 0 where
   pub head_is : head_value (shape_of kind numbers) [] ≡ head
   pub sound : IsHead head
   pub rows : 0 < head.shape.height
 
-numbers_make_head : (kind : Kind) (numbers : List ℕ) (head : HeadValue) → numbers_item kind numbers ≡ Ok head → Made kind numbers head
+pub numbers_make_head : (kind : Kind) (numbers : List ℕ) (head : HeadValue) → numbers_item kind numbers ≡ Ok head → Made kind numbers head
 unfolding numbers_item
 numbers_make_head kind numbers head e =
     let s : Shape = shape_of kind numbers in
     let good = head_or_fault_ok (shape_fault s) (head_value s []) head e in
     let limits = limits_of s good.0 in
-    let made : Made kind numbers (head_value s []) = record { head_is = refl; sound = record { limits = limits.0; suits = suits_kind kind numbers }; rows = limits.1 } in
+    let made : Made kind numbers (head_value s []) =
+    record { head_is = refl; sound = record { limits = limits.0; suits = suits_kind kind numbers }; rows = limits.1 } in
     subst (Made kind numbers) good.1 made
-
--- ---- the magic
-
-first_magic_by : (p : Bool) (b : ℕ) (text rest : List ℕ) → (b == 80) ≡ p → (if p then Ok text else Err BadMagic) ≡ done rest → b ∷ text ≡ 80 ∷ rest
-first_magic_by true b text rest h e = let first = eqb-true b 80 h in cc
-first_magic_by false b text rest h e = absurd cc
-
-first_magic_is_spelled : (text rest : List ℕ) → first_magic_item text ≡ Ok rest → text ≡ 80 ∷ rest
-unfolding first_magic_item
-first_magic_is_spelled [] rest e = absurd cc
-first_magic_is_spelled (b ∷ text) rest e = first_magic_by (b == 80) b text rest refl e
-
--- the second byte of a magic that was read
-record SecondMagic (text : List ℕ) (format : Format) (after : List ℕ) : Type 0 where
-  pub digit : ℕ
-  pub text_is : text ≡ digit ∷ after
-  pub format_is : format_of digit ≡ Some format
-
--- the format that a magic names; a plain one names none after another image
-abbrev pub second_magic : Bool → Option Format → List ℕ → Result (Format × List ℕ) InputFault
-second_magic is_first found text = elim found [
-  | Some format ↦ if is_plain_form format.form && not is_first then Err PlainInStream else Ok (format, text)
-  | None ↦ Err BadMagic
-]
-
-not_refused_by : (refused : Bool) (found expected : Format × List ℕ) → (if refused then Err PlainInStream else Ok found) ≡ done expected → found ≡ expected
-not_refused_by true found expected e = absurd cc
-not_refused_by false found expected e = ok_is found expected e
-
-second_magic_by : (is_first : Bool) (found : Option Format) (b : ℕ) (text : List ℕ) (format : Format) (after : List ℕ) → format_of b ≡ found → second_magic is_first found text ≡ Ok (format, after) → SecondMagic (b ∷ text) format after
-second_magic_by is_first None b text format after h e = absurd cc
-second_magic_by is_first (Some f) b text format after h e =
-    let parts : (f, text) ≡ (format, after) = not_refused_by (is_plain_form f.form && not is_first) (f, text) (format, after) e in
-    record { digit = b; text_is = ap (λ (p : Format × List ℕ). b ∷ p.1) parts; format_is = h ∙ ap (λ (p : Format × List ℕ). Some p.0) parts }
-
-second_magic_is_spelled : (is_first : Bool) (text : List ℕ) (format : Format) (after : List ℕ) → second_magic_item is_first text ≡ Ok (format, after) → SecondMagic text format after
-unfolding second_magic_item
-second_magic_is_spelled is_first [] format after e = absurd cc
-second_magic_is_spelled is_first (b ∷ text) format after e = second_magic_by is_first (format_of b) b text format after refl e
-
--- the magic that was read
-record Magic (text : List ℕ) (format : Format) (after : List ℕ) : Type 0 where
-  pub digit : ℕ
-  pub text_is : text ≡ 80 ∷ digit ∷ after
-  pub format_is : format_of digit ≡ Some format
-
-magic_is_spelled : (is_first : Bool) (text : List ℕ) (format : Format) (after : List ℕ) → format_at is_first text ≡ Ok (format, after) → Magic text format after
-unfolding format_at
-magic_is_spelled is_first text format after e =
-    let first = bind_ok (first_magic_item text) (second_magic_item is_first) (format, after) e in
-    let second = second_magic_is_spelled is_first first.0 format after first.2 in
-    record { digit = second.digit; text_is = first_magic_is_spelled text first.0 first.1 ∙ ap (λ (t : List ℕ). 80 ∷ t) second.text_is; format_is = second.format_is }
-
--- the kind of a format that is named
-abbrev kind_named : Option Format → Kind
-kind_named None = Bit
-kind_named (Some format) = format.kind
-
--- a digit that names PAM is 7
-named_other : (made : Kind) (format : Format) → made ≡ format.kind → (made ≡ Pam → ⊥) → format.kind ≡ Pam → ⊥
-named_other made format e other pam = other (e ∙ pam)
-
-pam_by : (a b c d e f g : Bool) (digit : ℕ) (format : Format) → (digit == 55) ≡ g
-    → (if a then plain Bit else if b then plain Gray else if c then plain Color else if d then raw Bit else if e then raw Gray else if f then raw Color else if g then raw Pam else None) ≡ Some format → format.kind ≡ Pam → digit ≡ 55
-pam_by true b c d e f g digit format s h k = absurd (named_other Bit format (ap kind_named h) (λ x. cc) k)
-pam_by false true c d e f g digit format s h k = absurd (named_other Gray format (ap kind_named h) (λ x. cc) k)
-pam_by false false true d e f g digit format s h k = absurd (named_other Color format (ap kind_named h) (λ x. cc) k)
-pam_by false false false true e f g digit format s h k = absurd (named_other Bit format (ap kind_named h) (λ x. cc) k)
-pam_by false false false false true f g digit format s h k = absurd (named_other Gray format (ap kind_named h) (λ x. cc) k)
-pam_by false false false false false true g digit format s h k = absurd (named_other Color format (ap kind_named h) (λ x. cc) k)
-pam_by false false false false false false true digit format s h k = eqb-true digit 55 s
-pam_by false false false false false false false digit format s h k = absurd cc
-
-pam_is : (digit : ℕ) (format : Format) → format_of digit ≡ Some format → format.kind ≡ Pam → digit ≡ 55
-pam_is digit format h k = pam_by (digit == 49) (digit == 50) (digit == 51) (digit == 52) (digit == 53) (digit == 54) (digit == 55) digit format refl h k
-
--- ---- the header that was read
-
--- the body, the delimiter and the head of a header that was read
-record HeadRead (kind : Kind) (after : List ℕ) (head : HeadValue) (rest : List ℕ) : Type 0 where
-  pub body : List ℕ
-  pub delimiter : ℕ
-  pub so_far : SoFar (number_count kind) body
-  pub ended : Ended (number_count kind) body delimiter
-  pub whole : after ≡ (body ++ delimiter ∷ []) ++ rest
-  pub made : Made kind (numbers_in body) head
-
-head_parts : (kind : Kind) (after : List ℕ) (head : HeadValue) (rest : List ℕ) → pnm_head_at kind after ≡ Ok (head, rest) → HeadRead kind after head rest
-unfolding pnm_head_at
-head_parts kind after head rest e =
-    let count = number_count kind in
-    let piece = bind_ok (piece_from (header_item count) header_end [] after) (λ found. numbers_item kind (numbers_in found.0) >>= λ made. Ok (made, found.1)) (head, rest) e in
-    let made = bind_ok (numbers_item kind (numbers_in piece.0.0)) (λ found. Ok (found, piece.0.1)) (head, rest) piece.2 in
-    let parts : (made.0, piece.0.1) ≡ (head, rest) = ok_is (made.0, piece.0.1) (head, rest) made.2 in
-    let read = body_is_read count [] after piece.0.0 piece.0.1 (so_far_none count (some_numbers kind)) piece.1 in
-    let end = ended count read.body read.delimiter read.ends in
-    let numbers : numbers_in piece.0.0 ≡ numbers_in read.body = ap numbers_in read.piece_is ∙ numbers-white read.body read.delimiter end.outside end.white in
-    record {
-      body = read.body;
-      delimiter = read.delimiter;
-      so_far = read.so_far;
-      ended = end;
-      whole = read.whole ∙ ap (λ (t : List ℕ). t ++ piece.0.1) read.piece_is ∙ ap (λ (p : HeadValue × List ℕ). (read.body ++ read.delimiter ∷ []) ++ p.1) parts;
-      made = subst (λ (p : HeadValue × List ℕ). Made kind (numbers_in read.body) p.0) parts (subst (λ (n : List ℕ). Made kind n made.0) numbers (numbers_make_head kind (numbers_in piece.0.0) made.0 made.1));
-    }
-
--- a header of a short body is short
-short_header : (digit delimiter : ℕ) (body : List ℕ) → length body < 65534 → length (80 ∷ digit ∷ (body ++ delimiter ∷ [])) ≤ 65536
-short_header digit delimiter body h = omega (arith, length-append body (delimiter ∷ []))
-
--- a header of PBM, PGM or PPM that is read is spelled
-pnm_header_is_spelled : (is_first : Bool) (text after rest : List ℕ) (format : Format) (head : HeadValue) → format_at is_first text ≡ Ok (format, after) → pnm_head_at format.kind after ≡ Ok (head, rest)
-    → (header : List ℕ) × (text ≡ header ++ rest) × SpellsPnmHeader header format head
-pnm_header_is_spelled is_first text after rest format head f h =
-    let magic = magic_is_spelled is_first text format after f in
-    let read = head_parts format.kind after head rest h in
-    let numbers : List ℕ = numbers_in read.body in
-    let shape : shape_of format.kind numbers ≡ head.shape = ap (λ (x : HeadValue). x.shape) read.made.head_is in (
-      80 ∷ magic.digit ∷ (read.body ++ read.delimiter ∷ []),
-      magic.text_is ∙ ap (λ (t : List ℕ). 80 ∷ magic.digit ∷ t) read.whole,
-      record {
-        digit = magic.digit;
-        body = read.body;
-        delimiter = read.delimiter;
-        whole = refl;
-        short = short_header magic.digit read.delimiter read.body read.ended.short;
-        format_is = magic.format_is;
-        begins = read.so_far.begins;
-        decimal = read.so_far.decimal;
-        numbers = sym (numbers_of_shape format.kind numbers read.ended.all) ∙ ap header_numbers shape;
-        ends = ends_in_last (number_count format.kind) read.body (ends_in_word (uncommented read.body)) refl read.so_far.counted read.ended.all;
-        outside = read.ended.outside;
-        delimiter_is = read.ended.white;
-        kind = sym (ap (λ (s : Shape). s.kind) shape);
-        sound = read.made.sound;
-        rows = read.made.rows;
-      },
-    )
-
--- a header of a kind that is read is spelled
-header_by : (kind : Kind) (is_first : Bool) (text after rest : List ℕ) (format : Format) (head : HeadValue) → format.kind ≡ kind → format_at is_first text ≡ Ok (format, after) → head_by kind after ≡ Ok (head, rest)
-    → (header : List ℕ) × (text ≡ header ++ rest) × SpellsHeaderBy kind header format head
-header_by Bit is_first text after rest format head k f h = pnm_header_is_spelled is_first text after rest format head f (ap (λ (x : Kind). pnm_head_at x after) k ∙ h)
-header_by Gray is_first text after rest format head k f h = pnm_header_is_spelled is_first text after rest format head f (ap (λ (x : Kind). pnm_head_at x after) k ∙ h)
-header_by Color is_first text after rest format head k f h = pnm_header_is_spelled is_first text after rest format head f (ap (λ (x : Kind). pnm_head_at x after) k ∙ h)
-header_by Pam is_first text after rest format head k f h =
-    let magic = magic_is_spelled is_first text format after f in
-    let seven : magic.digit ≡ 55 = pam_is magic.digit format magic.format_is k in
-    let found = pam_head_is_spelled after rest format head (ap format_of (sym seven) ∙ magic.format_is) h in
-    (found.0, magic.text_is ∙ ap (λ (d : ℕ). 80 ∷ d ∷ after) seven ∙ found.1, found.2)
-
--- a header that is read is spelled
-pub read_header_is_spelled : (is_first : Bool) (text after rest : List ℕ) (format : Format) (head : HeadValue) → format_at is_first text ≡ Ok (format, after) → head_at format after ≡ Ok (head, rest)
-    → (header : List ℕ) × (text ≡ header ++ rest) × SpellsHeader header format head
-read_header_is_spelled is_first text after rest format head f h = header_by format.kind is_first text after rest format head refl f h
-
--- ---- what holds of any header that is spelled
-
--- what is known of its head
-pub record IsSpelledHead (format : Format) (head : HeadValue) : Type 0 where
-  pub kind : head.shape.kind ≡ format.kind
-  pub sound : IsHead head
-  pub rows : 0 < head.shape.height
-
-spelled_head_by : (kind : Kind) (text : List ℕ) (format : Format) (head : HeadValue) → format.kind ≡ kind → SpellsHeaderBy kind text format head → IsSpelledHead format head
-spelled_head_by Bit text format head k s = record { kind = s.kind; sound = s.sound; rows = s.rows }
-spelled_head_by Gray text format head k s = record { kind = s.kind; sound = s.sound; rows = s.rows }
-spelled_head_by Color text format head k s = record { kind = s.kind; sound = s.sound; rows = s.rows }
-spelled_head_by Pam text format head k s = record { kind = s.kind ∙ sym k; sound = s.sound; rows = s.rows }
-
-pub spelled_head : (text : List ℕ) (format : Format) (head : HeadValue) → SpellsHeader text format head → IsSpelledHead format head
-spelled_head text format head s = spelled_head_by format.kind text format head refl s
-
--- it has some bytes
-longer_than : (text : List ℕ) (b : ℕ) (others : List ℕ) → text ≡ b ∷ others → 0 < length text
-longer_than text b others e = let lengths : length text ≡ length others + 1 = ap (λ (t : List ℕ). length t) e ∙ omega arith in omega arith
-
-bytes_by : (kind : Kind) (text : List ℕ) (format : Format) (head : HeadValue) → SpellsHeaderBy kind text format head → 0 < length text
-bytes_by Bit text format head s = longer_than text 80 (s.digit ∷ (s.body ++ s.delimiter ∷ [])) s.whole
-bytes_by Gray text format head s = longer_than text 80 (s.digit ∷ (s.body ++ s.delimiter ∷ [])) s.whole
-bytes_by Color text format head s = longer_than text 80 (s.digit ∷ (s.body ++ s.delimiter ∷ [])) s.whole
-bytes_by Pam text format head s = longer_than text 80 _ s.whole
-
-pub header_has_bytes : (header : List ℕ) (format : Format) (head : HeadValue) → SpellsHeader header format head → 0 < length header
-header_has_bytes header format head s = bytes_by format.kind header format head s
-
--- what follows a header that is read is shorter than the text
-pub header_shorter : (is_first : Bool) (text after : List ℕ) (format : Format) (found : HeadValue × List ℕ) → format_at is_first text ≡ Ok (format, after) → head_at format after ≡ Ok found → length found.1 < length text
-header_shorter is_first text after format found f h =
-    let header = read_header_is_spelled is_first text after found.1 format found.0 f h in
-    let some = header_has_bytes header.0 format found.0 header.2 in
-    let lengths : length text ≡ length header.0 + length found.1 = ap (λ (t : List ℕ). length t) header.1 ∙ length-append header.0 found.1 in
-    omega arith

@@ -6,8 +6,10 @@ use Rattle.pnm_read.specs.declared.judgement.Judgement.TheVariants.{GoesOn}
 use Rattle.pnm_read.specs.Items.{piece_from}
 
 -- where each byte of a body goes on, the piece goes on after it
-pub goes_on_through : (item : List ℕ → ℕ → Judgement) (at_end : List ℕ → Option InputFault) (body before back text : List ℕ) → before ++ back ≡ body → ((front : List ℕ) (b : ℕ) (others : List ℕ) → front ++ b ∷ others ≡ body → item front b ≡ GoesOn)
+pub goes_on_through : (item : List ℕ → ℕ → Judgement) (at_end : List ℕ → Option InputFault) (body before back text : List ℕ) → before ++ back ≡ body
+    → ((prefix : List ℕ) (b : ℕ) (others : List ℕ) → prefix ++ b ∷ others ≡ body → item prefix b ≡ GoesOn)
     → piece_from item at_end before (back ++ text) ≡ piece_from item at_end body text
 unfolding piece_from
 goes_on_through item at_end body before [] text e h = ap (λ (t : List ℕ). piece_from item at_end t text) (sym (append-nil before) ∙ e)
-goes_on_through item at_end body before (b ∷ back) text e h = rw (h before b back e) (goes_on_through item at_end body (before ++ b ∷ []) back text (append_assoc before (b ∷ []) back ∙ e) h)
+goes_on_through item at_end body before (b ∷ back) text e h =
+    rw (h before b back e) (goes_on_through item at_end body (before ++ b ∷ []) back text (append_assoc before (b ∷ []) back ∙ e) h)

@@ -6,10 +6,10 @@ use Rattle.pnm_image.specs.declared.sample_width.SampleWidth.{SampleWidth}
 use Rattle.pnm_image.specs.declared.sample_width.SampleWidth.TheVariants.{Words}
 use Rattle.pnm_image.specs.SampleWidths.{sample_width_of}
 use Rattle.pnm_read.specs.declared.fault.InputFault.TheVariants.{ReadFailed, SampleAboveMaxval, Memory}
-use Rattle.pnm_read.specs.declared.input.Input.{Input}
+use Rattle.pnm_read.specs.declared.buffered_reader.BufferedReader.{BufferedReader}
 use Rattle.pnm_read.specs.Items.{raw_item}
 use Rattle.pnm_read.specs.Said.{in_turn, units_in_row}
-use Rattle.pnm_read.specs.Inputs.{Turn, held_of}
+use Rattle.pnm_read.specs.BufferedReaders.{Turn, held_of}
 use Rattle.pnm_read.specs.RawParts.{FindsUnits}
 use Rattle.pnm_read.specs.Units.{samples_of_bytes, AreBytesWithin}
 use Rattle.pnm_read.proofs.UnitLaws.{bytes_are_units, bytes_are_at_fault}
@@ -17,7 +17,7 @@ use Rattle.pnm_read.proofs.RawSteps.{units_as}
 use Rattle.pnm_read.proofs.Turns.{no_fault, turn_ok_so, turn_taken, turn_seen}
 
 -- the row was taken
-pub row_held : {R B : Type 0} {left : R → Option (List ℕ)} {failures : R → ℕ} {same : R → R → Type 0} {old new : Input R}
+pub row_held : {R B : Type 0} {left : R → Option (List ℕ)} {failures : R → ℕ} {same : R → R → Type 0} {old new : BufferedReader R}
     (p : SampleWidth) (s : Shape) (count : ℕ) (view : B → List ℕ) (row : B) → ((a : R) → same a a)
     → new.reader ≡ old.reader → new.ended ≡ old.ended → held_of new ≡ drop count (held_of old) → count ≤ length (held_of old)
     → p ≡ sample_width_of s.kind s.maxval → count ≡ units_in_row p s → (p ≡ Words → ⊥) → AreBytesWithin p s.maxval (take count (held_of old))
@@ -31,13 +31,14 @@ row_held {B = B} {old = old} {new = new} p s count view row at_once reader ended
     (λ b a o.
     let units = bytes_are_units p s.maxval bytes a n within in (
       units.0,
-      units_as s p count b is_width is_all ∙ ap (in_turn (raw_item p s.maxval) count) o ∙ ap (λ (k : ℕ). in_turn (raw_item p s.maxval) k (bytes ++ a)) (sym size) ∙ units.2,
+      units_as s p count b is_width is_all ∙ ap (in_turn (raw_item p s.maxval) count) o
+          ∙ ap (λ (k : ℕ). in_turn (raw_item p s.maxval) k (bytes ++ a)) (sym size) ∙ units.2,
       is_row ∙ units.1,
     ))
     (turn_taken {A = B} {result = Ok row} bytes at_once (no_fault row ReadFailed) reader ended split)
 
 -- a sample of it is above the maxval
-pub row_above : {R B : Type 0} {left : R → Option (List ℕ)} {failures : R → ℕ} {same : R → R → Type 0} {input : Input R}
+pub row_above : {R B : Type 0} {left : R → Option (List ℕ)} {failures : R → ℕ} {same : R → R → Type 0} {input : BufferedReader R}
     (p : SampleWidth) (s : Shape) (count : ℕ) (view : B → List ℕ) → ((a : R) → same a a) → count ≤ length (held_of input)
     → p ≡ sample_width_of s.kind s.maxval → count ≡ units_in_row p s → (p ≡ Words → ⊥) → (AreBytesWithin p s.maxval (take count (held_of input)) → ⊥)
     → Turn {A = B} left failures same input input (Err SampleAboveMaxval) (FindsUnits view s (Err SampleAboveMaxval))
@@ -47,12 +48,15 @@ row_above {B = B} {input = input} p s count view at_once le is_width is_all n ab
     turn_ok_so {A = Unit {0}} {B = B} tt (Err SampleAboveMaxval) (λ e. absurd cc)
     (λ b a o.
     let rest : List ℕ = drop count (held_of input) ++ o.1.0 in
-    let begins : b ≡ bytes ++ rest = o.0 ∙ o.1.2 ∙ ap (λ (l : List ℕ). l ++ o.1.0) (sym (take-append-drop count (held_of input))) ∙ append_assoc bytes (drop count (held_of input)) o.1.0 in
-    inl (units_as s p count b is_width is_all ∙ ap (in_turn (raw_item p s.maxval) count) begins ∙ ap (λ (k : ℕ). in_turn (raw_item p s.maxval) k (bytes ++ rest)) (sym size) ∙ bytes_are_at_fault p s.maxval bytes rest n above))
+    let begins : b ≡ bytes ++ rest = o.0 ∙ o.1.2 ∙ ap (λ (l : List ℕ). l ++ o.1.0) (sym (take-append-drop count (held_of input)))
+    ∙ append_assoc bytes (drop count (held_of input)) o.1.0 in
+    inl (units_as s p count b is_width is_all ∙ ap (in_turn (raw_item p s.maxval) count) begins
+    ∙ ap (λ (k : ℕ). in_turn (raw_item p s.maxval) k (bytes ++ rest)) (sym size) ∙ bytes_are_at_fault p s.maxval bytes rest n above))
     (turn_seen (turn_taken {A = Unit {0}} {result = Ok tt} [] at_once (no_fault tt ReadFailed) refl refl refl))
 
 -- there is no memory for it
-pub row_unheld : {R B : Type 0} {left : R → Option (List ℕ)} {failures : R → ℕ} {same : R → R → Type 0} {input : Input R} (s : Shape) (view : B → List ℕ) → ((a : R) → same a a)
+pub row_unheld : {R B : Type 0} {left : R → Option (List ℕ)} {failures : R → ℕ} {same : R → R → Type 0} {input : BufferedReader R} (s : Shape)
+    (view : B → List ℕ) → ((a : R) → same a a)
     → Turn {A = B} left failures same input input (Err Memory) (FindsUnits view s (Err Memory))
 row_unheld {B = B} s view at_once =
     turn_ok_so {A = Unit {0}} {B = B} tt (Err Memory) (λ e. absurd cc) (λ b a o. inr (inr refl))

@@ -11,24 +11,24 @@ use Rattle.pnm_image.specs.Heads.{HeadValue, head_value, shape_fault}
 use Rattle.pnm_read.specs.declared.fault.InputFault.{InputFault}
 use Rattle.pnm_read.specs.declared.fault.InputFault.TheVariants.{ReadFailed, Memory}
 use Rattle.pnm_read.specs.Items.{fault_of_head}
-use Rattle.pnm_read.specs.Saturation.{saturated, GivesInMemory}
+use Rattle.pnm_read.specs.Saturation.{saturate_u32, GivesInMemory}
 use Rattle.pnm_read.proofs.ShapeLaws.{head_or_fault, limits_of}
 use Rattle.pnm_image.specs.declared.limits.TheConstants.{MAX_ROW_LENGTH, MAX_SIDE}
 
 -- a limit below the greatest u32 is passed by a number where it is passed by the u32
-saturated-limit : (limit n : ℕ) → limit < 4294967295 → nat_lt limit (saturated n) ≡ nat_lt limit n
-saturated-limit limit n below =
+saturate_u32-limit : (limit n : ℕ) → limit < 4294967295 → nat_lt limit (saturate_u32 n) ≡ nat_lt limit n
+saturate_u32-limit limit n below =
     elim (cases_lt limit n) [
-      | inl lt ↦ lt-ltb limit (saturated n) (omega arith) ∙ sym (lt-ltb limit n lt)
-      | inr le ↦ le-ltb limit (saturated n) (omega arith) ∙ sym (le-ltb limit n le)
+      | inl lt ↦ lt-ltb limit (saturate_u32 n) (omega arith) ∙ sym (lt-ltb limit n lt)
+      | inr le ↦ le-ltb limit (saturate_u32 n) (omega arith) ∙ sym (le-ltb limit n le)
     ]
 
 -- a number is 0 where the u32 is
-saturated-zero : (n : ℕ) → (saturated n == 0) ≡ (n == 0)
-saturated-zero n =
+saturate_u32-zero : (n : ℕ) → (saturate_u32 n == 0) ≡ (n == 0)
+saturate_u32-zero n =
     elim (cases_eq n 0) [
-      | inl is ↦ eq-eqb (saturated n) 0 (omega arith) ∙ sym (eq-eqb n 0 is)
-      | inr not ↦ ne_eqb (saturated n) 0 (λ is. not (omega arith)) ∙ sym (ne_eqb n 0 not)
+      | inl is ↦ eq-eqb (saturate_u32 n) 0 (omega arith) ∙ sym (eq-eqb n 0 is)
+      | inr not ↦ ne_eqb (saturate_u32 n) 0 (λ is. not (omega arith)) ∙ sym (ne_eqb n 0 not)
     ]
 
 -- a product with a factor that is too great for a u32 is great, unless the other is 0
@@ -40,48 +40,50 @@ great_row : (a b : ℕ) → 4294967295 ≤ a → 0 < b → nat_lt MAX_ROW_LENGTH
 great_row a b great some = let high = great_product a b great some in lt-ltb MAX_ROW_LENGTH (a * b) (omega arith)
 
 -- a row is too long where that of the u32s is, if a factor is too great for one
-great_rows : (a b : ℕ) → 4294967295 ≤ a → nat_lt MAX_ROW_LENGTH (saturated a * saturated b) ≡ nat_lt MAX_ROW_LENGTH (a * b)
+great_rows : (a b : ℕ) → 4294967295 ≤ a → nat_lt MAX_ROW_LENGTH (saturate_u32 a * saturate_u32 b) ≡ nat_lt MAX_ROW_LENGTH (a * b)
 great_rows a b great =
     elim (cases_eq b 0) [
-      | inl is ↦ ap (λ (k : ℕ). nat_lt MAX_ROW_LENGTH (saturated a * saturated k)) is ∙ ap (λ (k : ℕ). nat_lt MAX_ROW_LENGTH k) (omega arith) ∙ sym (ap (λ (k : ℕ). nat_lt MAX_ROW_LENGTH (a * k)) is)
-      | inr not ↦ let some = low_or_not b not in great_row (saturated a) (saturated b) (omega arith) (omega arith) ∙ sym (great_row a b great some)
+      | inl is ↦ ap (λ (k : ℕ). nat_lt MAX_ROW_LENGTH (saturate_u32 a * saturate_u32 k)) is ∙ ap (λ (k : ℕ). nat_lt MAX_ROW_LENGTH k) (omega arith)
+          ∙ sym (ap (λ (k : ℕ). nat_lt MAX_ROW_LENGTH (a * k)) is)
+      | inr not ↦ let some = low_or_not b not in great_row (saturate_u32 a) (saturate_u32 b) (omega arith) (omega arith) ∙ sym (great_row a b great some)
     ]
   where
     low_or_not : (b : ℕ) → (b ≡ 0 → ⊥) → 0 < b
     low_or_not b not = grind (arith, not)
 
 -- a row is too long where that of the u32s is
-saturated-row : (a b : ℕ) → nat_lt MAX_ROW_LENGTH (saturated a * saturated b) ≡ nat_lt MAX_ROW_LENGTH (a * b)
-saturated-row a b =
+saturate_u32-row : (a b : ℕ) → nat_lt MAX_ROW_LENGTH (saturate_u32 a * saturate_u32 b) ≡ nat_lt MAX_ROW_LENGTH (a * b)
+saturate_u32-row a b =
     elim (cases_lt a 4294967295) [
       | inr great ↦ great_rows a b great
       | inl few ↦ elim (cases_lt b 4294967295) [
         | inr great ↦ ap (λ (k : ℕ). nat_lt MAX_ROW_LENGTH k) (omega arith) ∙ great_rows b a great ∙ ap (λ (k : ℕ). nat_lt MAX_ROW_LENGTH k) (omega arith)
-        | inl less ↦ let same_a : saturated a ≡ a = omega arith in let same_b : saturated b ≡ b = omega arith in rw (same_a, same_b) refl
+        | inl less ↦ let same_a : saturate_u32 a ≡ a = omega arith in let same_b : saturate_u32 b ≡ b = omega arith in rw (same_a, same_b) refl
       ]
     ]
 
 -- the shape as its numbers are held
 abbrev pub saturated_shape : Shape → Shape
-saturated_shape s = record { kind = s.kind; width = saturated s.width; height = saturated s.height; depth = saturated s.depth; maxval = saturated s.maxval }
+saturated_shape s =
+    record { kind = s.kind; width = saturate_u32 s.width; height = saturate_u32 s.height; depth = saturate_u32 s.depth; maxval = saturate_u32 s.maxval }
 
--- the same is wrong with a shape as with it as it is held
+-- a shape and what is held of it have one fault
 same_fault : (s : Shape) → shape_fault (saturated_shape s) ≡ shape_fault s
 same_fault s =
     rw (
-      saturated-zero s.width,
-      saturated-zero s.height,
-      saturated-zero s.depth,
-      saturated-limit MAX_SIDE s.width (omega arith),
-      saturated-limit MAX_SIDE s.height (omega arith),
-      saturated-limit 256 s.depth (omega arith),
-      saturated-row s.width s.depth,
-      saturated-zero s.maxval,
-      saturated-limit 65535 s.maxval (omega arith),
+      saturate_u32-zero s.width,
+      saturate_u32-zero s.height,
+      saturate_u32-zero s.depth,
+      saturate_u32-limit MAX_SIDE s.width (omega arith),
+      saturate_u32-limit MAX_SIDE s.height (omega arith),
+      saturate_u32-limit 256 s.depth (omega arith),
+      saturate_u32-row s.width s.depth,
+      saturate_u32-zero s.maxval,
+      saturate_u32-limit 65535 s.maxval (omega arith),
     ) refl
 
 -- a small u32 is the number itself
-small_is : (n limit : ℕ) → saturated n ≤ limit → limit < 4294967295 → saturated n ≡ n
+small_is : (n limit : ℕ) → saturate_u32 n ≤ limit → limit < 4294967295 → saturate_u32 n ≡ n
 small_is n limit le lt = omega arith
 
 -- the shape of these numbers
@@ -92,13 +94,13 @@ shape_from kind width height depth maxval = record { kind = kind; width = width;
 same_shape : (s : Shape) → shape_fault (saturated_shape s) ≡ None → saturated_shape s ≡ s
 same_shape s e =
     let limits = (limits_of (saturated_shape s) e).0 in
-    let width : saturated s.width ≡ s.width = small_is s.width MAX_SIDE limits.width_high (omega arith) in
-    let height : saturated s.height ≡ s.height = small_is s.height MAX_SIDE limits.height_high (omega arith) in
-    let depth : saturated s.depth ≡ s.depth = small_is s.depth 256 limits.depth_high (omega arith) in
-    let maxval : saturated s.maxval ≡ s.maxval = small_is s.maxval 65535 limits.maxval_high (omega arith) in
-    ap (λ (n : ℕ). shape_from s.kind n (saturated s.height) (saturated s.depth) (saturated s.maxval)) width
-    ∙ ap (λ (n : ℕ). shape_from s.kind s.width n (saturated s.depth) (saturated s.maxval)) height
-    ∙ ap (λ (n : ℕ). shape_from s.kind s.width s.height n (saturated s.maxval)) depth
+    let width : saturate_u32 s.width ≡ s.width = small_is s.width MAX_SIDE limits.width_high (omega arith) in
+    let height : saturate_u32 s.height ≡ s.height = small_is s.height MAX_SIDE limits.height_high (omega arith) in
+    let depth : saturate_u32 s.depth ≡ s.depth = small_is s.depth 256 limits.depth_high (omega arith) in
+    let maxval : saturate_u32 s.maxval ≡ s.maxval = small_is s.maxval 65535 limits.maxval_high (omega arith) in
+    ap (λ (n : ℕ). shape_from s.kind n (saturate_u32 s.height) (saturate_u32 s.depth) (saturate_u32 s.maxval)) width
+    ∙ ap (λ (n : ℕ). shape_from s.kind s.width n (saturate_u32 s.depth) (saturate_u32 s.maxval)) height
+    ∙ ap (λ (n : ℕ). shape_from s.kind s.width s.height n (saturate_u32 s.maxval)) depth
     ∙ ap (λ (n : ℕ). shape_from s.kind s.width s.height s.depth n) maxval
 
 -- ---- the head of a shape
@@ -108,16 +110,21 @@ abbrev pub head_item : Shape → List ℕ → Result HeadValue InputFault
 head_item s tuple_type = head_or_fault (shape_fault s) (head_value s tuple_type)
 
 -- what a shape makes, by what is wrong with it as it is held
-head_as : (held s : Shape) (tuple_type : List ℕ) (fault : Option HeadFault) → held ≡ saturated_shape s → shape_fault held ≡ fault → head_item s tuple_type ≡ head_or_fault fault (head_value s tuple_type)
-head_as held s tuple_type fault same is = ap (λ (f : Option HeadFault). head_or_fault f (head_value s tuple_type)) (sym (same_fault s) ∙ ap shape_fault (sym same) ∙ is)
+head_as : (held s : Shape) (tuple_type : List ℕ) (fault : Option HeadFault) → held ≡ saturated_shape s → shape_fault held ≡ fault
+    → head_item s tuple_type ≡ head_or_fault fault (head_value s tuple_type)
+head_as held s tuple_type fault same is = ap (λ (f : Option HeadFault). head_or_fault f (head_value s tuple_type))
+    (sym (same_fault s) ∙ ap shape_fault (sym same) ∙ is)
 
 -- the head was made
-head_made : (held s : Shape) (tuple_type : List ℕ) (head : HeadValue) → held ≡ saturated_shape s → head ≡ head_value held tuple_type → shape_fault held ≡ None → head_item s tuple_type ≡ Ok head
+head_made : (held s : Shape) (tuple_type : List ℕ) (head : HeadValue) → held ≡ saturated_shape s → head ≡ head_value held tuple_type → shape_fault held ≡ None
+    → head_item s tuple_type ≡ Ok head
 head_made held s tuple_type head same made sound =
-    head_as held s tuple_type None same sound ∙ ap (λ (h : HeadValue). Ok h) (ap (λ (s : Shape). head_value s tuple_type) (sym (same ∙ same_shape s (ap shape_fault (sym same) ∙ sound))) ∙ sym made)
+    head_as held s tuple_type None same sound
+    ∙ ap (λ (h : HeadValue). Ok h) (ap (λ (s : Shape). head_value s tuple_type) (sym (same ∙ same_shape s (ap shape_fault (sym same) ∙ sound))) ∙ sym made)
 
 -- the head was refused, or memory ran out
-head_refused : (held s : Shape) (tuple_type : List ℕ) (e : HeadFault) (fault : InputFault) → held ≡ saturated_shape s → fault ≡ fault_of_head e → (shape_fault held ≡ Some e) ⊎ ((e ≡ heads.Memory) × (shape_fault held ≡ None))
+head_refused : (held s : Shape) (tuple_type : List ℕ) (e : HeadFault) (fault : InputFault) → held ≡ saturated_shape s → fault ≡ fault_of_head e
+    → (shape_fault held ≡ Some e) ⊎ ((e ≡ heads.Memory) × (shape_fault held ≡ None))
     → (fault ≡ Memory) ⊎ (head_item s tuple_type ≡ Err fault)
 head_refused held s tuple_type e fault same is why =
     elim why [
@@ -127,7 +134,8 @@ head_refused held s tuple_type e fault same is why =
 
 -- the head that was made of a shape and a tuple type, or what was wrong with it
 pub head_given : (held s : Shape) (tuple_type : List ℕ) (made : Result HeadValue HeadFault) (result : Result HeadValue InputFault) → held ≡ saturated_shape s
-    → IfOk made (λ head. head ≡ head_value held tuple_type) → OnOk made (shape_fault held ≡ None) → IfErr made (λ e. (shape_fault held ≡ Some e) ⊎ ((e ≡ heads.Memory) × (shape_fault held ≡ None)))
+    → IfOk made (λ head. head ≡ head_value held tuple_type) → OnOk made (shape_fault held ≡ None)
+    → IfErr made (λ e. (shape_fault held ≡ Some e) ⊎ ((e ≡ heads.Memory) × (shape_fault held ≡ None)))
     → MatchResult made (λ head. result ≡ Ok head) (λ e. IsErrAnd result (λ fault. fault ≡ fault_of_head e)) → GivesInMemory result (head_item s tuple_type)
 head_given held s tuple_type (Ok head) result same made sound refused is =
     subst (λ (r : Result HeadValue InputFault). GivesInMemory r (head_item s tuple_type)) (sym is) (head_made held s tuple_type head same made sound)
@@ -143,7 +151,8 @@ head_item_of_text (Some heads.Memory) head e = absurd cc
 head_item_of_text None head e = absurd cc
 
 -- nor is it so for what is given in memory
-pub given_of_text : (s : Shape) (tuple_type : List ℕ) (result : Result HeadValue InputFault) → GivesInMemory result (head_item s tuple_type) → result ≡ Err ReadFailed → ⊥
+pub given_of_text : (s : Shape) (tuple_type : List ℕ) (result : Result HeadValue InputFault) → GivesInMemory result (head_item s tuple_type)
+    → result ≡ Err ReadFailed → ⊥
 given_of_text s tuple_type (Ok head) gives e = absurd cc
 given_of_text s tuple_type (Err fault) (inl memory) e = absurd cc
 given_of_text s tuple_type (Err fault) (inr read) e = head_item_of_text (shape_fault s) (head_value s tuple_type) (read ∙ e)

@@ -1,5 +1,6 @@
 -- What is said after a raw image: the end of the stream, or what is said of the next image.
-use Rattle.std.proofs.Common.{◌≡◌, ℕ, zero, suc, ◌<◌, ◌≤◌, Bool, true, false, not, ◌&&◌, if◌then◌else◌, List, [], ◌∷◌, length, Option, Some, None, Result, Ok, Err, refl, sym, ap, ◌∙◌, arith}
+use Rattle.std.proofs.Common.{◌≡◌, ℕ, zero, suc, ◌<◌, ◌≤◌, Bool, true, false, not, ◌&&◌, if◌then◌else◌, List, [], ◌∷◌, length, Option, Some, None, Result, Ok}
+use Rattle.std.proofs.Common.{Err, refl, sym, ap, ◌∙◌, arith}
 use Rattle.pnm_image.specs.declared.shape.Shape.{Shape}
 use Rattle.pnm_image.specs.declared.message.Message.TheVariants.{Begin, Row, ImageEnd}
 use Rattle.pnm_image.specs.Heads.{HeadValue}
@@ -8,15 +9,17 @@ use Rattle.pnm_read.specs.declared.fault.InputFault.TheVariants.{BadMagic, Plain
 use Rattle.pnm_image.specs.declared.format.Format.{Format}
 use Rattle.pnm_image.specs.Formats.{format_of, is_plain_form}
 use Rattle.pnm_read.specs.Items.{first_magic_item, second_magic_item}
-use Rattle.pnm_read.specs.Said.{Said, then_said, ends_stream, format_at, head_at, row_by, row_at, end_said, rows_said, head_said, format_said, image_said, later_said_in, later_said}
-use Rattle.pnm_read.proofs.HeaderLaws.{header_shorter}
+use Rattle.pnm_read.specs.Said.{Said, then_said, ends_stream, format_at, head_at, row_in_form, row_at, end_said, rows_said, head_said, format_said, image_said}
+use Rattle.pnm_read.specs.Said.{later_said_in, later_said}
+use Rattle.pnm_read.proofs.ReadHeaderLaws.{header_shorter}
 use Rattle.pnm_read.proofs.RowTurns.{said_from}
 use Rattle.pnm_read.proofs.RawLaws.{raw_row_shorter}
 use Rattle.pnm_read.proofs.PieceLaws.{bind_ok}
 
 -- ---- a later image is raw
 
-raw_if : (plain : Bool) (format : Format) (text : List ℕ) (found : Format × List ℕ) → is_plain_form format.form ≡ plain → (if plain && not false then Err PlainInStream else Ok (format, text)) ≡ Ok found → is_plain_form found.0.form ≡ false
+raw_if : (plain : Bool) (format : Format) (text : List ℕ) (found : Format × List ℕ) → is_plain_form format.form ≡ plain
+    → (if plain && not false then Err PlainInStream else Ok (format, text)) ≡ Ok found → is_plain_form found.0.form ≡ false
 raw_if true format text found e h = absurd cc
 raw_if false format text found e h = let same : (format, text) ≡ found = cc in sym (ap (λ (f : Format × List ℕ). (is_plain_form f.0.form)) same) ∙ e
 
@@ -51,40 +54,50 @@ end_same f g true text same = refl
 end_same f g false text same = same text (omega arith)
 
 -- rows that were read, and what follows
-from_same : (f g : List ℕ → Said) (format : Format) (s : Shape) (more : ℕ) (r : Result (List ℕ × List ℕ) InputFault) → ((found : List ℕ × List ℕ) → r ≡ Ok found → rows_said f format s more found.1 ≡ rows_said g format s more found.1)
+from_same : (f g : List ℕ → Said) (format : Format) (s : Shape) (more : ℕ) (r : Result (List ℕ × List ℕ) InputFault)
+    → ((found : List ℕ × List ℕ) → r ≡ Ok found → rows_said f format s more found.1 ≡ rows_said g format s more found.1)
     → said_from f format s more r ≡ said_from g format s more r
 from_same f g format s more (Err fault) same = refl
 from_same f g format s more (Ok found) same = ap (then_said (Row found.0)) (same found refl)
 
 -- of a plain raster it is the same anyway
-plain_same : (f g : List ℕ → Said) (format : Format) (s : Shape) (n : ℕ) (text : List ℕ) → is_plain_form format.form ≡ true → rows_said f format s n text ≡ rows_said g format s n text
+plain_same : (f g : List ℕ → Said) (format : Format) (s : Shape) (n : ℕ) (text : List ℕ) → is_plain_form format.form ≡ true
+    → rows_said f format s n text ≡ rows_said g format s n text
 unfolding rows_said end_said
 plain_same f g format s zero text plain = rw plain refl
 plain_same f g format s (suc n) text plain = from_same f g format s n (row_at format s n text) (λ found e. plain_same f g format s n found.1 plain)
 
-raw_at : (format : Format) (s : Shape) (more : ℕ) (text : List ℕ) (found : List ℕ × List ℕ) → is_plain_form format.form ≡ false → row_at format s more text ≡ Ok found → length found.1 ≤ length text
-raw_at format s more text found raw e = raw_row_shorter s text found (sym (ap (λ (b : Bool). row_by b s more text) raw) ∙ e)
+raw_at : (format : Format) (s : Shape) (more : ℕ) (text : List ℕ) (found : List ℕ × List ℕ) → is_plain_form format.form ≡ false
+    → row_at format s more text ≡ Ok found → length found.1 ≤ length text
+raw_at format s more text found raw e = raw_row_shorter s text found (sym (ap (λ (b : Bool). row_in_form b s more text) raw) ∙ e)
 
-raw_same : (f g : List ℕ → Said) (format : Format) (s : Shape) (n : ℕ) (text : List ℕ) → is_plain_form format.form ≡ false → SameUpTo (length text) f g → rows_said f format s n text ≡ rows_said g format s n text
+raw_same : (f g : List ℕ → Said) (format : Format) (s : Shape) (n : ℕ) (text : List ℕ) → is_plain_form format.form ≡ false → SameUpTo (length text) f g
+    → rows_said f format s n text ≡ rows_said g format s n text
 unfolding rows_said
 raw_same f g format s zero text raw same = ap (then_said ImageEnd) (end_same f g (is_plain_form format.form) text same)
 raw_same f g format s (suc n) text raw same =
-    from_same f g format s n (row_at format s n text) (λ found e. let shorter = raw_at format s n text found raw e in raw_same f g format s n found.1 raw (λ t le. same t (omega arith)))
+    from_same f g format s n (row_at format s n text) (λ found e. let shorter = raw_at format s n text found raw e in
+    raw_same f g format s n found.1 raw (λ t le. same t (omega arith)))
 
-rows_same : (plain : Bool) (f g : List ℕ → Said) (format : Format) (s : Shape) (n : ℕ) (text : List ℕ) → is_plain_form format.form ≡ plain → SameUpTo (length text) f g → rows_said f format s n text ≡ rows_said g format s n text
+rows_same : (plain : Bool) (f g : List ℕ → Said) (format : Format) (s : Shape) (n : ℕ) (text : List ℕ) → is_plain_form format.form ≡ plain
+    → SameUpTo (length text) f g → rows_said f format s n text ≡ rows_said g format s n text
 rows_same true f g format s n text e same = plain_same f g format s n text e
 rows_same false f g format s n text e same = raw_same f g format s n text e same
 
-head_same : (f g : List ℕ → Said) (format : Format) (r : Result (HeadValue × List ℕ) InputFault) → ((found : HeadValue × List ℕ) → r ≡ Ok found → SameUpTo (length found.1) f g) → head_said f format r ≡ head_said g format r
+head_same : (f g : List ℕ → Said) (format : Format) (r : Result (HeadValue × List ℕ) InputFault)
+    → ((found : HeadValue × List ℕ) → r ≡ Ok found → SameUpTo (length found.1) f g) → head_said f format r ≡ head_said g format r
 head_same f g format (Err fault) same = refl
-head_same f g format (Ok found) same = ap (then_said (Begin found.0)) (rows_same (is_plain_form format.form) f g format found.0.shape found.0.shape.height found.1 refl (same found refl))
+head_same f g format (Ok found) same =
+    ap (then_said (Begin found.0)) (rows_same (is_plain_form format.form) f g format found.0.shape found.0.shape.height found.1 refl (same found refl))
 
-format_same : (f g : List ℕ → Said) (is_first : Bool) (text : List ℕ) (most : ℕ) (r : Result (Format × List ℕ) InputFault) → format_at is_first text ≡ r → length text ≤ suc most → SameUpTo most f g → format_said f r ≡ format_said g r
+format_same : (f g : List ℕ → Said) (is_first : Bool) (text : List ℕ) (most : ℕ) (r : Result (Format × List ℕ) InputFault) → format_at is_first text ≡ r
+    → length text ≤ suc most → SameUpTo most f g → format_said f r ≡ format_said g r
 format_same f g is_first text most (Err fault) e long same = refl
 format_same f g is_first text most (Ok found) e long same =
     head_same f g found.0 (head_at found.0 found.1) (λ head h t le. let less = header_shorter is_first text found.1 found.0 head e h in same t (omega arith))
 
-image_same : (f g : List ℕ → Said) (is_first : Bool) (text : List ℕ) (most : ℕ) → length text ≤ suc most → SameUpTo most f g → image_said f is_first text ≡ image_said g is_first text
+image_same : (f g : List ℕ → Said) (is_first : Bool) (text : List ℕ) (most : ℕ) → length text ≤ suc most → SameUpTo most f g
+    → image_said f is_first text ≡ image_said g is_first text
 unfolding image_said
 image_same f g is_first text most long same = format_same f g is_first text most (format_at is_first text) refl long same
 
@@ -99,7 +112,8 @@ enough (suc n) zero [] le lf = refl
 enough (suc n) (suc m) [] le lf = refl
 enough zero m (b ∷ text) le lf = absurd (omega arith)
 enough (suc n) zero (b ∷ text) le lf = absurd (omega arith)
-enough (suc n) (suc m) (b ∷ text) le lf = image_same (later_said_in n) (later_said_in m) false (b ∷ text) (length text) (omega arith) (λ t shorter. enough n m t (omega arith) (omega arith))
+enough (suc n) (suc m) (b ∷ text) le lf = image_same (later_said_in n) (later_said_in m) false (b ∷ text) (length text) (omega arith)
+    (λ t shorter. enough n m t (omega arith) (omega arith))
 
 pub later_said-nothing : later_said [] ≡ ends_stream
 unfolding later_said later_said_in
@@ -109,4 +123,5 @@ later_said-nothing = refl
 pub later_said-next : (text : List ℕ) → 0 < length text → later_said text ≡ image_said later_said false text
 unfolding later_said later_said_in
 later_said-next [] some = absurd (omega arith)
-later_said-next (b ∷ text) some = image_same (later_said_in (length text)) later_said false (b ∷ text) (length text) (omega arith) (λ t shorter. enough (length text) (length t) t shorter (omega arith))
+later_said-next (b ∷ text) some = image_same (later_said_in (length text)) later_said false (b ∷ text) (length text) (omega arith)
+    (λ t shorter. enough (length text) (length t) t shorter (omega arith))

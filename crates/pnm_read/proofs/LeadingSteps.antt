@@ -2,9 +2,9 @@
 use Rattle.std.proofs.Common.{◌≡◌, ℕ, ◌+◌, ◌-◌, ◌≤◌, List, ◌++◌, length, drop, Option, Ok, Err, inr, refl, sym, ap, ap₂, subst, ◌∙◌, length-append, arith}
 use Rattle.pnm_image.specs.declared.shape.Shape.{Shape}
 use Rattle.pnm_read.specs.declared.fault.InputFault.TheVariants.{ReadFailed, Memory}
-use Rattle.pnm_read.specs.declared.input.Input.{Input}
+use Rattle.pnm_read.specs.declared.buffered_reader.BufferedReader.{BufferedReader}
 use Rattle.pnm_read.specs.Said.{in_turn, plain_row}
-use Rattle.pnm_read.specs.Inputs.{Turn, Finds, held_of}
+use Rattle.pnm_read.specs.BufferedReaders.{Turn, Finds, held_of}
 use Rattle.pnm_read.specs.Leading.{TakesSamples}
 use Rattle.pnm_read.proofs.UnitLaws.{and_turns}
 use Rattle.pnm_read.proofs.PartLaws.{part_is_read}
@@ -12,19 +12,24 @@ use Rattle.pnm_read.proofs.Turns.{no_fault, turn_ok_so, turn_advance}
 use Rattle.pnm_read.proofs.PlainSteps.{sample_of, ReadingSamples}
 
 -- memory ran out
-pub reading_no_memory : {R : Type 0} {left : R → Option (List ℕ)} {failures : R → ℕ} {same : R → R → Type 0} {s : Shape} {all more : ℕ} {samples : List ℕ} {old now : Input R}
-    → ReadingSamples left failures same s all more samples old now → Turn {A = List ℕ} left failures same old now (Err Memory) (Finds (plain_row s) (Err Memory))
+pub reading_no_memory : {R : Type 0} {left : R → Option (List ℕ)} {failures : R → ℕ} {same : R → R → Type 0} {s : Shape} {all more : ℕ} {samples : List ℕ}
+    {old now : BufferedReader R}
+    → ReadingSamples left failures same s all more samples old now
+    → Turn {A = List ℕ} left failures same old now (Err Memory) (Finds (plain_row s) (Err Memory))
 reading_no_memory r = turn_ok_so {A = Unit {0}} {B = List ℕ} tt (Err Memory) (λ e. absurd cc) (λ b a o. inr (inr refl)) r.turn
 
 -- samples more were taken of the bytes that are held
-pub samples_taken : {R : Type 0} {left : R → Option (List ℕ)} {failures : R → ℕ} {same : R → R → Type 0} {s : Shape} {all more : ℕ} {samples : List ℕ} {old now new : Input R}
-    (bytes row : List ℕ) (taken fewer : ℕ) → ReadingSamples left failures same s all more samples old now → bytes ≡ held_of now → TakesSamples (sample_of s) bytes samples row taken → length row + fewer ≡ length samples + more
+pub samples_taken : {R : Type 0} {left : R → Option (List ℕ)} {failures : R → ℕ} {same : R → R → Type 0} {s : Shape} {all more : ℕ} {samples : List ℕ}
+    {old now new : BufferedReader R}
+    (bytes row : List ℕ) (taken fewer : ℕ) → ReadingSamples left failures same s all more samples old now → bytes ≡ held_of now
+    → TakesSamples (sample_of s) bytes samples row taken → length row + fewer ≡ length samples + more
     → new.reader ≡ now.reader → new.ended ≡ now.ended → held_of new ≡ drop taken (held_of now) → ReadingSamples left failures same s all fewer row old new
 samples_taken {s = s} {all = all} {more = more} {samples = samples} {now = now} bytes row taken fewer r is_held t count reader ended held =
     let longer : length row ≡ length samples + length t.samples = ap (λ (l : List ℕ). length l) t.appended ∙ length-append samples t.samples in
     let most : length t.samples ≤ more = omega arith in
     let is_fewer : more - length t.samples ≡ fewer = omega arith in
-    let read = subst (λ (l : List ℕ). (rest : List ℕ) → in_turn (sample_of s) (length t.samples) (l ++ rest) ≡ Ok (t.samples, drop taken l ++ rest)) is_held t.read in record {
+    let read = subst (λ (l : List ℕ). (rest : List ℕ) → in_turn (sample_of s) (length t.samples) (l ++ rest) ≡ Ok (t.samples, drop taken l ++ rest)) is_held
+    t.read in record {
       turn = turn_advance {A = Unit {0}} {B = Unit {0}} tt (Ok tt) taken (no_fault tt ReadFailed) reader ended held (λ b rest c o.
           part_is_read (sample_of s) all more (length t.samples) samples t.samples b (held_of now ++ rest) (drop taken (held_of now) ++ rest) most (read rest) o
           ∙ ap₂ (λ (n : ℕ) (l : List ℕ). and_turns (sample_of s) n l (drop taken (held_of now) ++ rest)) is_fewer (sym t.appended))

@@ -14,6 +14,7 @@ pub mod PamLineLaws
 pub mod PamHeads
 pub mod PamLaws
 pub mod HeaderLaws
+pub mod ReadHeaderLaws
 pub mod SpelledHeaders
 pub mod RawPartLaws
 pub mod DecimalSteps
@@ -49,4 +50,4 @@ pub mod SourceSteps
 pub mod GivenLaws
 pub mod RowTurns
 pub mod FirstRows
-pub mod FaultFronts
+pub mod FaultPrefixes

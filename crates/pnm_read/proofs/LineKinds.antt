@@ -7,7 +7,8 @@ use Rattle.pnm_read.specs.declared.line.Field.TheVariants.{Width, Height, Depth,
 use Rattle.pnm_read.specs.declared.line.LineKind.{LineKind}
 use Rattle.pnm_read.specs.declared.line.LineKind.TheVariants.{Nothing, Number, TupleType, End, Unknown}
 use Rattle.pnm_image.specs.Texts.{decimal_value}
-use Rattle.pnm_read.specs.PamLines.{first_token, second_token, value_of, name_of, begins_with, kind_of_token, line_kind, field_values, joined_with, tuple_type_in}
+use Rattle.pnm_read.specs.PamLines.{first_token, second_token, value_of, name_of, begins_with, kind_of_token, line_kind, field_values, joined_with}
+use Rattle.pnm_read.specs.PamLines.{tuple_type_in}
 use Rattle.pnm_read.proofs.LineLaws.{joined_with-nothing, field_values-append, tuple_type_in-append}
 
 -- ---- kinds
@@ -28,11 +29,13 @@ is_type kind = false
 -- the kinds by the tests of a token
 abbrev kind_by : Bool → Bool → Bool → Bool → Bool → Bool → Bool → LineKind
 kind_by sharp width height depth maxval type end =
-    if sharp then Nothing else if width then Number Width else if height then Number Height else if depth then Number Depth else if maxval then Number Maxval else if type then TupleType else if end then End else Unknown
+    if sharp then Nothing else if width then Number Width else if height then Number Height else if depth then Number Depth else if maxval then Number
+    Maxval else if type then TupleType else if end then End else Unknown
 
 -- the kind of a token, by its tests
 kind_is : (b : ℕ) (text : List ℕ) → kind_of_token (b ∷ text)
-    ≡ kind_by (b == 35) (bytes_eq (name_of Width) (b ∷ text)) (bytes_eq (name_of Height) (b ∷ text)) (bytes_eq (name_of Depth) (b ∷ text)) (bytes_eq (name_of Maxval) (b ∷ text)) (bytes_eq (codes "TUPLTYPE") (b ∷ text)) (bytes_eq (codes "ENDHDR") (b ∷ text))
+    ≡ kind_by (b == 35) (bytes_eq (name_of Width) (b ∷ text)) (bytes_eq (name_of Height) (b ∷ text)) (bytes_eq (name_of Depth) (b ∷ text))
+    (bytes_eq (name_of Maxval) (b ∷ text)) (bytes_eq (codes "TUPLTYPE") (b ∷ text)) (bytes_eq (codes "ENDHDR") (b ∷ text))
 unfolding kind_of_token
 kind_is b text = refl
 
@@ -123,14 +126,15 @@ names_by false field (b ∷ text) e = e ∙ sym (other_name field b text e)
 begins_is : (field : Field) (line : List ℕ) → begins_with (name_of field) line ≡ is_number field (line_kind line)
 begins_is field line = names_by (bytes_eq (name_of field) (first_token line)) field (first_token line) refl
 
--- the same of the tuple type
+-- the name of the tuple type is of its kind
 type_named : bytes_eq (codes "TUPLTYPE") (codes "TUPLTYPE") ≡ is_type (kind_of_token (codes "TUPLTYPE"))
 unfolding kind_of_token
 type_named = refl
 
 type_by : (test : Bool) (token : List ℕ) → bytes_eq (codes "TUPLTYPE") token ≡ test → bytes_eq (codes "TUPLTYPE") token ≡ is_type (kind_of_token token)
 unfolding kind_of_token
-type_by true token e = subst (λ (token : List ℕ). bytes_eq (codes "TUPLTYPE") token ≡ is_type (kind_of_token token)) (same_name (codes "TUPLTYPE") token e) type_named
+type_by true token e = subst (λ (token : List ℕ). bytes_eq (codes "TUPLTYPE") token ≡ is_type (kind_of_token token)) (same_name (codes "TUPLTYPE") token e)
+    type_named
 type_by false [] e = e
 type_by false (b ∷ text) e = e ∙ sym (rw (kind_is b text, e) (no_type _ _ _ _ _ _))
 
@@ -141,31 +145,40 @@ begins_type_is line = type_by (bytes_eq (codes "TUPLTYPE") (first_token line)) (
 -- ---- one line more
 
 -- the numbers of one line
-one_value : (field : Field) (line : List ℕ) (test : Bool) → begins_with (name_of field) line ≡ test → field_values field (line ∷ []) ≡ (if test then decimal_value (second_token line) ∷ [] else [])
+one_value : (field : Field) (line : List ℕ) (test : Bool) → begins_with (name_of field) line ≡ test
+    → field_values field (line ∷ []) ≡ (if test then decimal_value (second_token line) ∷ [] else [])
 unfolding field_values
 one_value field line test e = ap (λ (t : Bool). if t then decimal_value (second_token line) ∷ [] else []) e
 
 -- a line of another kind has no number of the field
-pub values_same : (field : Field) (lines : List (List ℕ)) (line : List ℕ) → is_number field (line_kind line) ≡ false → field_values field (lines ++ line ∷ []) ≡ field_values field lines
+pub values_same : (field : Field) (lines : List (List ℕ)) (line : List ℕ) → is_number field (line_kind line) ≡ false
+    → field_values field (lines ++ line ∷ []) ≡ field_values field lines
 values_same field lines line e =
-    field_values-append field lines (line ∷ []) ∙ ap (λ (l : List ℕ). field_values field lines ++ l) (one_value field line false (begins_is field line ∙ e)) ∙ append-nil (field_values field lines)
+    field_values-append field lines (line ∷ []) ∙ ap (λ (l : List ℕ). field_values field lines ++ l) (one_value field line false (begins_is field line ∙ e))
+    ∙ append-nil (field_values field lines)
 
 -- the first number of the field
-pub values_first : (field : Field) (lines : List (List ℕ)) (line : List ℕ) → is_number field (line_kind line) ≡ true → field_values field lines ≡ [] → field_values field (lines ++ line ∷ []) ≡ decimal_value (second_token line) ∷ []
+pub values_first : (field : Field) (lines : List (List ℕ)) (line : List ℕ) → is_number field (line_kind line) ≡ true → field_values field lines ≡ []
+    → field_values field (lines ++ line ∷ []) ≡ decimal_value (second_token line) ∷ []
 values_first field lines line e none =
-    field_values-append field lines (line ∷ []) ∙ ap (λ (l : List ℕ). l ++ field_values field (line ∷ [])) none ∙ one_value field line true (begins_is field line ∙ e)
+    field_values-append field lines (line ∷ []) ∙ ap (λ (l : List ℕ). l ++ field_values field (line ∷ [])) none
+    ∙ one_value field line true (begins_is field line ∙ e)
 
 -- the tuple type of one line
-one_type : (line : List ℕ) (test : Bool) → begins_with (codes "TUPLTYPE") line ≡ test → tuple_type_in (line ∷ []) ≡ (if test then joined_with (value_of line) [] else [])
+one_type : (line : List ℕ) (test : Bool) → begins_with (codes "TUPLTYPE") line ≡ test
+    → tuple_type_in (line ∷ []) ≡ (if test then joined_with (value_of line) [] else [])
 unfolding tuple_type_in
 one_type line test e = ap (λ (t : Bool). if t then joined_with (value_of line) [] else []) e
 
 -- a line of another kind leaves the tuple type
 pub type_same : (lines : List (List ℕ)) (line : List ℕ) → is_type (line_kind line) ≡ false → tuple_type_in (lines ++ line ∷ []) ≡ tuple_type_in lines
 type_same lines line e =
-    tuple_type_in-append lines (line ∷ []) ∙ ap (joined_with (tuple_type_in lines)) (one_type line false (begins_type_is line ∙ e)) ∙ joined_with-nothing (tuple_type_in lines)
+    tuple_type_in-append lines (line ∷ []) ∙ ap (joined_with (tuple_type_in lines)) (one_type line false (begins_type_is line ∙ e))
+    ∙ joined_with-nothing (tuple_type_in lines)
 
 -- a line of the tuple type joins its value to it
-pub type_joined : (lines : List (List ℕ)) (line : List ℕ) → is_type (line_kind line) ≡ true → tuple_type_in (lines ++ line ∷ []) ≡ joined_with (tuple_type_in lines) (value_of line)
+pub type_joined : (lines : List (List ℕ)) (line : List ℕ) → is_type (line_kind line) ≡ true
+    → tuple_type_in (lines ++ line ∷ []) ≡ joined_with (tuple_type_in lines) (value_of line)
 type_joined lines line e =
-    tuple_type_in-append lines (line ∷ []) ∙ ap (joined_with (tuple_type_in lines)) (one_type line true (begins_type_is line ∙ e) ∙ joined_with-nothing (value_of line))
+    tuple_type_in-append lines (line ∷ [])
+    ∙ ap (joined_with (tuple_type_in lines)) (one_type line true (begins_type_is line ∙ e) ∙ joined_with-nothing (value_of line))

@@ -1,14 +1,16 @@
 -- Lines of a PAM header that is read on by one byte, and what lines together have.
-use Rattle.std.proofs.Common.{◌≡◌, ℕ, Bool, true, false, not, ◌==◌, if◌then◌else◌, List, [], ◌∷◌, ◌++◌, refl, sym, ap, ◌∙◌, append_assoc, append-nil, arith, codes}
+use Rattle.std.proofs.Common.{◌≡◌, ℕ, Bool, true, false, not, ◌==◌, if◌then◌else◌, List, [], ◌∷◌, ◌++◌, refl, sym, ap, ◌∙◌, append_assoc, append-nil, arith}
+use Rattle.std.proofs.Common.{codes}
 use Rattle.std.specs.List.{AllByRecursion, flat_map}
 use Rattle.std.proofs.lemmas.Bool.Decides.{nat_tests}
 use Rattle.std.proofs.lemmas.List.Elements.{All-push}
 use Rattle.pnm_read.specs.declared.line.Field.{Field}
 use Rattle.pnm_image.specs.Texts.{decimal_value}
-use Rattle.pnm_read.specs.PamLines.{ended_after, ended_lines, last_after, last_line, second_token, value_of, name_of, begins_with, field_values, joined_with, tuple_type_in}
+use Rattle.pnm_read.specs.PamLines.{ended_after, ended_lines, last_after, last_line, second_token, value_of, name_of, begins_with, field_values, joined_with}
+use Rattle.pnm_read.specs.PamLines.{tuple_type_in}
 use Rattle.pnm_read.specs.Headers.{IsOneLine}
 
--- the same choice between equal values
+-- a choice between equal values is one choice
 pub same_if : {A : Type 0} {x y z w : A} (c : Bool) → x ≡ y → z ≡ w → (if c then x else z) ≡ (if c then y else w)
 same_if true p q = p
 same_if false p q = q
@@ -19,12 +21,14 @@ if_both P true p q = p
 if_both P false p q = q
 
 -- three choices by the same
-if_both_ways : {A B C : Type 0} (P : A → B → C → Type 0) {a b : A} {c d : B} {e f : C} (w : Bool) → P a c e → P b d f → P (if w then a else b) (if w then c else d) (if w then e else f)
+if_both_ways : {A B C : Type 0} (P : A → B → C → Type 0) {a b : A} {c d : B} {e f : C} (w : Bool) → P a c e → P b d f
+    → P (if w then a else b) (if w then c else d) (if w then e else f)
 if_both_ways P true p q = p
 if_both_ways P false p q = q
 
 -- two choices by the same, where it is known
-if_known : {A B : Type 0} (P : A → B → Type 0) {a b : A} {c d : B} (w : Bool) → (w ≡ true → P a c) → (w ≡ false → P b d) → P (if w then a else b) (if w then c else d)
+if_known : {A B : Type 0} (P : A → B → Type 0) {a b : A} {c d : B} (w : Bool) → (w ≡ true → P a c) → (w ≡ false → P b d)
+    → P (if w then a else b) (if w then c else d)
 if_known P true p q = p refl
 if_known P false p q = q refl
 
@@ -34,7 +38,8 @@ ended_after-lf : (line text : List ℕ) → ended_after line (text ++ 10 ∷ [])
 unfolding ended_after last_after
 ended_after-lf line [] = refl
 ended_after-lf line (c ∷ text) =
-    if_both_ways (λ (l m : List (List ℕ)) (n : List ℕ). l ≡ m ++ n ∷ []) (c == 10) (ap (λ (l : List (List ℕ)). line ∷ l) (ended_after-lf [] text)) (ended_after-lf (line ++ c ∷ []) text)
+    if_both_ways (λ (l m : List (List ℕ)) (n : List ℕ). l ≡ m ++ n ∷ []) (c == 10) (ap (λ (l : List (List ℕ)). line ∷ l) (ended_after-lf [] text))
+    (ended_after-lf (line ++ c ∷ []) text)
 
 last_after-lf : (line text : List ℕ) → last_after line (text ++ 10 ∷ []) ≡ []
 unfolding last_after
@@ -44,7 +49,8 @@ last_after-lf line (c ∷ text) = if_both (λ (l : List ℕ). l ≡ []) (c == 10
 ended_after-other : (line text : List ℕ) (b : ℕ) → (b == 10) ≡ false → ended_after line (text ++ b ∷ []) ≡ ended_after line text
 unfolding ended_after
 ended_after-other line [] b e = rw e refl
-ended_after-other line (c ∷ text) b e = same_if (c == 10) (ap (λ (l : List (List ℕ)). line ∷ l) (ended_after-other [] text b e)) (ended_after-other (line ++ c ∷ []) text b e)
+ended_after-other line (c ∷ text) b e = same_if (c == 10) (ap (λ (l : List (List ℕ)). line ∷ l) (ended_after-other [] text b e))
+    (ended_after-other (line ++ c ∷ []) text b e)
 
 last_after-other : (line text : List ℕ) (b : ℕ) → (b == 10) ≡ false → last_after line (text ++ b ∷ []) ≡ last_after line text ++ b ∷ []
 unfolding last_after
@@ -72,7 +78,8 @@ last_line-other text b e = last_after-other [] text b e
 abbrev pub with_feeds : List (List ℕ) → List ℕ
 with_feeds lines = flat_map (λ line. line ++ 10 ∷ []) lines
 
-feed_after : (line : List ℕ) (c : ℕ) (text : List ℕ) → text ≡ with_feeds (ended_after [] text) ++ last_after [] text → (c == 10) ≡ true → line ++ c ∷ text ≡ with_feeds (line ∷ ended_after [] text) ++ last_after [] text
+feed_after : (line : List ℕ) (c : ℕ) (text : List ℕ) → text ≡ with_feeds (ended_after [] text) ++ last_after [] text → (c == 10) ≡ true
+    → line ++ c ∷ text ≡ with_feeds (line ∷ ended_after [] text) ++ last_after [] text
 feed_after line c text is e =
     let feed : c ≡ 10 = grind (arith, nat_tests, e) in
     ap (λ k. line ++ k ∷ text) feed
@@ -109,7 +116,8 @@ last_after-is : (line text : List ℕ) → IsOneLine line → IsOneLine (last_af
 unfolding last_after
 last_after-is line [] one = one
 last_after-is line (c ∷ text) one =
-    if_known (λ (line : List ℕ) (none : List ℕ). IsOneLine line) {c = []} {d = []} (c == 10) (λ e. last_after-is [] text no_byte) (λ e. last_after-is (line ++ c ∷ []) text (one_line-push line c one e))
+    if_known (λ (line : List ℕ) (none : List ℕ). IsOneLine line) {c = []} {d = []} (c == 10) (λ e. last_after-is [] text no_byte)
+    (λ e. last_after-is (line ++ c ∷ []) text (one_line-push line c one e))
 
 -- no line has a LF
 pub ended_lines-are : (text : List ℕ) → AllByRecursion IsOneLine (ended_lines text)
@@ -143,4 +151,5 @@ unfolding tuple_type_in
 tuple_type_in-append [] ys = refl
 tuple_type_in-append (line ∷ xs) ys =
     if_known (λ (l m : List ℕ). l ≡ joined_with m (tuple_type_in ys)) (begins_with (codes "TUPLTYPE") line)
-    (λ e. ap (joined_with (value_of line)) (tuple_type_in-append xs ys) ∙ sym (joined_with-assoc (value_of line) (tuple_type_in xs) (tuple_type_in ys))) (λ e. tuple_type_in-append xs ys)
+    (λ e. ap (joined_with (value_of line)) (tuple_type_in-append xs ys) ∙ sym (joined_with-assoc (value_of line) (tuple_type_in xs) (tuple_type_in ys)))
+    (λ e. tuple_type_in-append xs ys)

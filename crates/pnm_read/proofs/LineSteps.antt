@@ -1,14 +1,15 @@
 -- What the functions on a line's bytes find.
-use Rattle.std.proofs.Common.{◌≡◌, ◌⊎◌, inl, inr, ℕ, ◌+◌, ◌-◌, ◌*◌, ◌<◌, ◌≤◌, Bool, true, false, ◌&&◌, if◌then◌else◌, List, [], ◌∷◌, ◌++◌, length, take, drop, get_or, Some, None, refl, sym, ap, ◌∙◌, append_assoc, append-nil, arith}
+use Rattle.std.proofs.Common.{◌≡◌, ◌⊎◌, inl, inr, ℕ, ◌+◌, ◌-◌, ◌*◌, ◌<◌, ◌≤◌, Bool, true, false, ◌&&◌, if◌then◌else◌, List, [], ◌∷◌, ◌++◌, length, take, drop}
+use Rattle.std.proofs.Common.{get_or, Some, None, refl, sym, ap, ◌∙◌, append_assoc, append-nil, arith}
 use Rattle.std.specs.List.{list_all}
 use Rattle.std.proofs.lemmas.Int.Digits.{digits_value_more}
 use Rattle.std.proofs.lemmas.List.Folds.{list_all_more, list_all_at}
 use Rattle.std.proofs.lemmas.List.{take_more, drop_more, take_all, drop_all}
 use Rattle.pnm_image.specs.Texts.{is_blank, is_digit, decimal_value}
 use Rattle.pnm_image.proofs.Lists.{first_and_rest}
-use Rattle.pnm_read.specs.Saturation.{saturated, with_digit}
+use Rattle.pnm_read.specs.Saturation.{saturate_u32, with_digit}
 use Rattle.pnm_read.specs.PamScanners.{number_of}
-use Rattle.pnm_read.proofs.DecimalSteps.{with_digit-saturated}
+use Rattle.pnm_read.proofs.DecimalSteps.{with_digit-saturate_u32}
 use Rattle.pnm_read.proofs.WordLaws.{digit_value_is}
 use Rattle.pnm_read.proofs.TupleTypeLaws.{trimmed_start-same, trimmed_end-same}
 use Rattle.pnm_read.specs.PamLines.{trimmed_start, trimmed_end, onto_trimmed, token_of, after_token}
@@ -21,7 +22,8 @@ unfolding trimmed_start
 start_blank b text e = rw e refl
 
 -- white space at the start
-pub start_more : (text : List ℕ) → 1 ≤ length text → is_blank (get_or text 0 0) ≡ true → trimmed_start (take (length text - 1) (drop 1 text)) ≡ trimmed_start text
+pub start_more : (text : List ℕ) → 1 ≤ length text → is_blank (get_or text 0 0) ≡ true → trimmed_start (take (length text - 1) (drop 1 text))
+    ≡ trimmed_start text
 start_more text le e = sym (start_blank (get_or text 0 0) (take (length text - 1) (drop 1 text)) e) ∙ ap trimmed_start (sym (first_and_rest text le))
 
 -- no white space at the start
@@ -35,8 +37,8 @@ start_stops [] le e = absurd (omega arith)
 start_stops (b ∷ text) le e = trimmed_start-same b text e
 
 -- a text and its last byte
-front_and_last : (text : List ℕ) → 1 ≤ length text → text ≡ take (length text - 1) text ++ get_or text (length text - 1) 0 ∷ []
-front_and_last text le =
+prefix_and_last : (text : List ℕ) → 1 ≤ length text → text ≡ take (length text - 1) text ++ get_or text (length text - 1) 0 ∷ []
+prefix_and_last text le =
     let one : length text - 1 + 1 ≡ length text = omega arith in
     sym (take_all (length text) text (omega arith)) ∙ ap (λ (n : ℕ). take n text) (sym one) ∙ take_more text (length text - 1) 0 (omega arith)
 
@@ -47,8 +49,9 @@ end_blank [] b e = rw e refl
 end_blank (c ∷ text) b e = ap (onto_trimmed c) (end_blank text b e)
 
 -- white space at the end
-pub end_more : (text : List ℕ) → 1 ≤ length text → is_blank (get_or text (length text - 1) 0) ≡ true → trimmed_end (take (length text - 1) text) ≡ trimmed_end text
-end_more text le e = sym (end_blank (take (length text - 1) text) (get_or text (length text - 1) 0) e) ∙ ap trimmed_end (sym (front_and_last text le))
+pub end_more : (text : List ℕ) → 1 ≤ length text → is_blank (get_or text (length text - 1) 0) ≡ true
+    → trimmed_end (take (length text - 1) text) ≡ trimmed_end text
+end_more text le e = sym (end_blank (take (length text - 1) text) (get_or text (length text - 1) 0) e) ∙ ap trimmed_end (sym (prefix_and_last text le))
 
 -- no white space at the end
 pub end_none : (text : List ℕ) → length text < 1 → trimmed_end text ≡ text
@@ -82,8 +85,10 @@ split_more text n s lt e =
     let place : drop n text ≡ get_or text n 0 ∷ drop (n + 1) text = drop_more text n 0 lt in
     record {
       within = omega arith;
-      token = s.token ∙ ap (λ (l : List ℕ). take n text ++ token_of l) place ∙ ap (λ (l : List ℕ). take n text ++ l) (token_other (get_or text n 0) (drop (n + 1) text) e)
-          ∙ sym (append_assoc (take n text) (get_or text n 0 ∷ []) (token_of (drop (n + 1) text))) ∙ ap (λ (l : List ℕ). l ++ token_of (drop (n + 1) text)) (sym (take_more text n 0 lt));
+      token = s.token ∙ ap (λ (l : List ℕ). take n text ++ token_of l) place
+          ∙ ap (λ (l : List ℕ). take n text ++ l) (token_other (get_or text n 0) (drop (n + 1) text) e)
+          ∙ sym (append_assoc (take n text) (get_or text n 0 ∷ []) (token_of (drop (n + 1) text)))
+          ∙ ap (λ (l : List ℕ). l ++ token_of (drop (n + 1) text)) (sym (take_more text n 0 lt));
       rest = s.rest ∙ ap after_token place ∙ after_other (get_or text n 0) (drop (n + 1) text) e;
     }
 
@@ -121,9 +126,11 @@ all_after text n (inr h) = ap after_token (drop_more text n 0 h.0) ∙ after_bla
 
 -- the token was found, and what follows it
 pub split_token_is : (text line : List ℕ) (n : ℕ) → text ≡ trimmed_start line → SplitAt text n → IsTokenEnd text n → take n text ≡ token_of (trimmed_start line)
-split_token_is text line n e s end = sym (append-nil (take n text)) ∙ ap (λ (l : List ℕ). take n text ++ l) (sym (no_token text n end)) ∙ sym s.token ∙ ap token_of e
+split_token_is text line n e s end = sym (append-nil (take n text)) ∙ ap (λ (l : List ℕ). take n text ++ l) (sym (no_token text n end)) ∙ sym s.token
+    ∙ ap token_of e
 
-pub split_rest_is : (text line : List ℕ) (n : ℕ) → text ≡ trimmed_start line → SplitAt text n → IsTokenEnd text n → drop n text ≡ after_token (trimmed_start line)
+pub split_rest_is : (text line : List ℕ) (n : ℕ) → text ≡ trimmed_start line → SplitAt text n → IsTokenEnd text n
+    → drop n text ≡ after_token (trimmed_start line)
 split_rest_is text line n e s end = sym (all_after text n end) ∙ sym s.rest ∙ ap after_token e
 
 -- ---- numbers
@@ -131,27 +138,28 @@ split_rest_is text line n e s end = sym (all_after text n end) ∙ sym s.rest �
 -- so many bytes of a token are digits, and spell this number
 pub record DigitsSo (token : List ℕ) (n number : ℕ) : Type 0 where
   pub digits : list_all is_digit (take n token) ≡ true
-  pub value : number ≡ saturated (decimal_value (take n token))
+  pub value : number ≡ saturate_u32 (decimal_value (take n token))
 
 -- no byte so far
 pub no_digits : (token : List ℕ) → DigitsSo token 0 0
 no_digits token = record { digits = refl; value = refl }
 
 -- one digit more
-pub digits_more : (token : List ℕ) (n old new : ℕ) → DigitsSo token n old → n < length token → is_digit (get_or token n 0) ≡ true → new ≡ with_digit old (get_or token n 0 - 48) → DigitsSo token (n + 1) new
+pub digits_more : (token : List ℕ) (n old new : ℕ) → DigitsSo token n old → n < length token → is_digit (get_or token n 0) ≡ true
+    → new ≡ with_digit old (get_or token n 0 - 48) → DigitsSo token (n + 1) new
 digits_more token n old new d lt e is = record {
   digits = list_all_more is_digit token n 0 lt ∙ ap (λ (t : Bool). t && is_digit (get_or token n 0)) d.digits ∙ e;
-  value = is ∙ ap (λ (k : ℕ). with_digit k (get_or token n 0 - 48)) d.value ∙ with_digit-saturated (decimal_value (take n token)) (get_or token n 0 - 48)
-      ∙ ap saturated (sym (digits_value_more 10 token n lt ∙ ap (λ (k : ℕ). decimal_value (take n token) * 10 + k) (digit_value_is (get_or token n 0) e)));
+  value = is ∙ ap (λ (k : ℕ). with_digit k (get_or token n 0 - 48)) d.value ∙ with_digit-saturate_u32 (decimal_value (take n token)) (get_or token n 0 - 48)
+      ∙ ap saturate_u32 (sym (digits_value_more 10 token n lt ∙ ap (λ (k : ℕ). decimal_value (take n token) * 10 + k) (digit_value_is (get_or token n 0) e)));
 }
 
 -- a byte is no digit
 pub number_none : (token : List ℕ) (n : ℕ) → n < length token → is_digit (get_or token n 0) ≡ false → None ≡ number_of token
-number_none token n lt e = ap (λ (t : Bool). if t then Some (saturated (decimal_value token)) else None) (sym (list_all_at is_digit token n 0 lt e))
+number_none token n lt e = ap (λ (t : Bool). if t then Some (saturate_u32 (decimal_value token)) else None) (sym (list_all_at is_digit token n 0 lt e))
 
 -- all bytes are digits
 pub number_is : (token : List ℕ) (n number : ℕ) → DigitsSo token n number → length token ≤ n → Some number ≡ number_of token
 number_is token n number d le =
     let all : take n token ≡ token = take_all n token le in
-    ap (λ (k : ℕ). Some k) (d.value ∙ ap (λ (l : List ℕ). saturated (decimal_value l)) all)
-    ∙ ap (λ (t : Bool). if t then Some (saturated (decimal_value token)) else None) (sym (sym (ap (λ (l : List ℕ). list_all is_digit l) all) ∙ d.digits))
+    ap (λ (k : ℕ). Some k) (d.value ∙ ap (λ (l : List ℕ). saturate_u32 (decimal_value l)) all)
+    ∙ ap (λ (t : Bool). if t then Some (saturate_u32 (decimal_value token)) else None) (sym (sym (ap (λ (l : List ℕ). list_all is_digit l) all) ∙ d.digits))

@@ -1,5 +1,6 @@
 -- What is read of the magic of an image.
-use Rattle.std.proofs.Common.{◌≡◌, inl, ℕ, Bool, true, false, not, ◌&&◌, ◌==◌, if◌then◌else◌, List, [], ◌∷◌, Option, Some, None, Result, Ok, Err, refl, sym, ap, subst, ◌∙◌}
+use Rattle.std.proofs.Common.{◌≡◌, inl, ℕ, Bool, true, false, not, ◌&&◌, ◌==◌, if◌then◌else◌, List, [], ◌∷◌, Option, Some, None, Result, Ok, Err, refl, sym, ap}
+use Rattle.std.proofs.Common.{subst, ◌∙◌}
 use Rattle.std.proofs.lemmas.Bool.{ne_eqb}
 use Rattle.pnm_read.specs.declared.fault.InputFault.{InputFault}
 use Rattle.pnm_read.specs.declared.fault.InputFault.TheVariants.{EmptyInput, BadMagic, HeaderCut, PlainInStream, ReadFailed}
@@ -8,7 +9,7 @@ use Rattle.pnm_image.specs.Formats.{format_of, is_plain_form}
 use Rattle.pnm_read.specs.Magics.{format_allowed, format_named}
 use Rattle.pnm_read.specs.Items.{first_magic_item, second_magic_item}
 use Rattle.pnm_read.specs.Said.{format_at}
-use Rattle.pnm_read.specs.Inputs.{IsByte, Finds}
+use Rattle.pnm_read.specs.BufferedReaders.{IsByte, Finds}
 
 -- a byte that was read
 pub byte_is : (found : Option ℕ) (byte : ℕ) (before after : List ℕ) → found ≡ Some byte → IsByte (Ok found) before after → before ≡ byte ∷ after
@@ -46,26 +47,31 @@ second_is : (is_first : Bool) (b : ℕ) (after : List ℕ) → format_at is_firs
 unfolding format_at first_magic_item second_magic_item
 second_is is_first b after = refl
 
-magic_is : (is_first : Bool) (text rest after : List ℕ) (b : ℕ) → text ≡ 80 ∷ rest → rest ≡ b ∷ after → format_at is_first text ≡ second_as is_first after (format_of b)
+magic_is : (is_first : Bool) (text rest after : List ℕ) (b : ℕ) → text ≡ 80 ∷ rest → rest ≡ b ∷ after
+    → format_at is_first text ≡ second_as is_first after (format_of b)
 magic_is is_first text rest after b e f = ap (format_at is_first) (e ∙ ap (λ (l : List ℕ). 80 ∷ l) f) ∙ second_is is_first b after
 
 -- a format that may come here or not
 abbrev allowed_if : Bool → Format → Result Format InputFault
 allowed_if refused format = if refused then Err PlainInStream else Ok format
 
-allowed_found : (refused : Bool) (is_first : Bool) (format : Format) (text after : List ℕ) → format_at is_first text ≡ (if refused then Err PlainInStream else Ok (format, after))
+allowed_found : (refused : Bool) (is_first : Bool) (format : Format) (text after : List ℕ)
+    → format_at is_first text ≡ (if refused then Err PlainInStream else Ok (format, after))
     → Finds (format_at is_first) (allowed_if refused format) text after
 allowed_found true is_first format text after e = inl e
 allowed_found false is_first format text after e = e
 
-format_found : (is_first : Bool) (found : Option Format) (text after : List ℕ) → format_at is_first text ≡ second_as is_first after found → Finds (format_at is_first) (format_allowed is_first found) text after
+format_found : (is_first : Bool) (found : Option Format) (text after : List ℕ) → format_at is_first text ≡ second_as is_first after found
+    → Finds (format_at is_first) (format_allowed is_first found) text after
 format_found is_first (Some format) text after e = allowed_found (is_plain_form format.form && not is_first) is_first format text after e
 format_found is_first None text after e = inl e
 
-pub magic_found : (is_first : Bool) (result : Result Format InputFault) (text rest after : List ℕ) (b : ℕ) → result ≡ format_named is_first b → text ≡ 80 ∷ rest → rest ≡ b ∷ after
+pub magic_found : (is_first : Bool) (result : Result Format InputFault) (text rest after : List ℕ) (b : ℕ) → result ≡ format_named is_first b → text ≡ 80 ∷ rest
+    → rest ≡ b ∷ after
     → Finds (format_at is_first) result text after
 magic_found is_first result text rest after b is e f =
-    subst (λ (r : Result Format InputFault). Finds (format_at is_first) r text after) (sym is) (format_found is_first (format_of b) text after (magic_is is_first text rest after b e f))
+    subst (λ (r : Result Format InputFault). Finds (format_at is_first) r text after) (sym is)
+    (format_found is_first (format_of b) text after (magic_is is_first text rest after b e f))
 
 allowed_of_text : (refused : Bool) (format : Format) → allowed_if refused format ≡ Err ReadFailed → ⊥
 allowed_of_text true format e = cc

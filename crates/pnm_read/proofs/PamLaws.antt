@@ -1,5 +1,6 @@
 -- The header of PAM: what is read is spelled, and what is spelled is read.
-use Rattle.std.proofs.Common.{◌≡◌, ℕ, ◌+◌, ◌<◌, ◌≤◌, Bool, true, false, not, ◌==◌, if◌then◌else◌, List, [], ◌∷◌, ◌++◌, length, Some, Ok, Err, refl, sym, ap, subst, ◌∙◌, append_assoc, append-nil, length-append, arith}
+use Rattle.std.proofs.Common.{◌≡◌, ℕ, ◌+◌, ◌<◌, ◌≤◌, Bool, true, false, not, ◌==◌, if◌then◌else◌, List, [], ◌∷◌, ◌++◌, length, Some, Ok, Err, refl, sym, ap}
+use Rattle.std.proofs.Common.{subst, ◌∙◌, append_assoc, append-nil, length-append, arith}
 use Rattle.std.specs.Prelude.{nat_le}
 use Rattle.std.specs.List.{AllByRecursion}
 use Rattle.std.proofs.lemmas.Bool.{eqb-true, leb-false, lt-leb, not-true}
@@ -29,7 +30,8 @@ use Rattle.pnm_read.proofs.PamLineLaws.{line_is_judged, line_ends, line_ends_wit
 abbrev pub pam_by : Bool → Bool → Judgement → Judgement
 pam_by long feed line = if long then Fails TooLong else if feed then line else GoesOn
 
-pub pam_item_is : (before : List ℕ) (b : ℕ) → pam_item before b ≡ pam_by (nat_le pam_limit (length before)) (b == 10) (line_item (ended_lines before) (last_line before))
+pub pam_item_is : (before : List ℕ) (b : ℕ) → pam_item before b ≡ pam_by (nat_le pam_limit (length before)) (b == 10)
+    (line_item (ended_lines before) (last_line before))
 unfolding pam_item
 pam_item_is before b = refl
 
@@ -51,15 +53,18 @@ ends_before_by false false line e = absurd cc
 -- ---- what is read is spelled
 
 -- a byte more that went on
-judged_by : (feed : Bool) (before : List ℕ) (b : ℕ) → (b == 10) ≡ feed → Judged (ended_lines before) → (feed ≡ true → line_item (ended_lines before) (last_line before) ≡ GoesOn) → Judged (ended_lines (before ++ b ∷ []))
+judged_by : (feed : Bool) (before : List ℕ) (b : ℕ) → (b == 10) ≡ feed → Judged (ended_lines before)
+    → (feed ≡ true → line_item (ended_lines before) (last_line before) ≡ GoesOn) → Judged (ended_lines (before ++ b ∷ []))
 judged_by true before b e j line =
-    let lines : ended_lines (before ++ b ∷ []) ≡ ended_lines before ++ last_line before ∷ [] = ap (λ (x : ℕ). ended_lines (before ++ x ∷ [])) (eqb-true b 10 e) ∙ ended_lines-lf before in
+    let lines : ended_lines (before ++ b ∷ []) ≡ ended_lines before ++ last_line before ∷ [] = ap (λ (x : ℕ). ended_lines (before ++ x ∷ [])) (eqb-true b 10 e)
+    ∙ ended_lines-lf before in
     subst Judged (sym lines) (judged-push (ended_lines before) (last_line before) j (line refl))
 judged_by false before b e j line = subst Judged (sym (ended_lines-other before b e)) j
 
 judged-byte : (before : List ℕ) (b : ℕ) → Judged (ended_lines before) → pam_item before b ≡ GoesOn → Judged (ended_lines (before ++ b ∷ []))
 judged-byte before b j e =
-    judged_by (b == 10) before b refl j (goes_on_by (nat_le pam_limit (length before)) (b == 10) (line_item (ended_lines before) (last_line before)) (sym (pam_item_is before b) ∙ e))
+    judged_by (b == 10) before b refl j (goes_on_by (nat_le pam_limit (length before)) (b == 10) (line_item (ended_lines before) (last_line before))
+    (sym (pam_item_is before b) ∙ e))
 
 -- the bytes of a header that was read, but for the last LF
 record PamBody (piece : List ℕ) : Type 0 where
@@ -69,11 +74,13 @@ record PamBody (piece : List ℕ) : Type 0 where
   pub short : length body < 65533
   pub piece_is : piece ≡ body ++ 10 ∷ []
 
-body_by : (judgement : Judgement) (before : List ℕ) (b : ℕ) (text : List ℕ) (found : List ℕ × List ℕ) → pam_item before b ≡ judgement → Judged (ended_lines before) → FoundBy pam_item header_end before b text found judgement
+body_by : (judgement : Judgement) (before : List ℕ) (b : ℕ) (text : List ℕ) (found : List ℕ × List ℕ) → pam_item before b ≡ judgement
+    → Judged (ended_lines before) → FoundBy pam_item header_end before b text found judgement
     → (Judged (ended_lines (before ++ b ∷ [])) → piece_from pam_item header_end (before ++ b ∷ []) text ≡ Ok found → PamBody found.0) → PamBody found.0
 body_by (Fails fault) before b text found e j h more = absurd h
 body_by EndsWith before b text found e j h more =
-    let parts = ends_with_by (nat_le pam_limit (length before)) (b == 10) (line_item (ended_lines before) (last_line before)) (sym (pam_item_is before b) ∙ e) in
+    let parts = ends_with_by (nat_le pam_limit (length before)) (b == 10) (line_item (ended_lines before) (last_line before))
+    (sym (pam_item_is before b) ∙ e) in
     record {
       body = before;
       judged = j;
@@ -82,13 +89,16 @@ body_by EndsWith before b text found e j h more =
       piece_is = ap (λ (f : List ℕ × List ℕ). f.0) (sym h) ∙ ap (λ (x : ℕ). before ++ x ∷ []) (eqb-true b 10 parts.1);
     }
 body_by EndsBefore before b text found e j h more =
-    absurd (line_ends_with (ended_lines before) (last_line before) (ends_before_by (nat_le pam_limit (length before)) (b == 10) (line_item (ended_lines before) (last_line before)) (sym (pam_item_is before b) ∙ e)))
+    absurd (line_ends_with (ended_lines before) (last_line before)
+    (ends_before_by (nat_le pam_limit (length before)) (b == 10) (line_item (ended_lines before) (last_line before)) (sym (pam_item_is before b) ∙ e)))
 body_by GoesOn before b text found e j h more = more (judged-byte before b j e) h
 
-body_is_read : (text before : List ℕ) (found : List ℕ × List ℕ) → Judged (ended_lines before) → piece_from pam_item header_end before text ≡ Ok found → PamBody found.0
+body_is_read : (text before : List ℕ) (found : List ℕ × List ℕ) → Judged (ended_lines before) → piece_from pam_item header_end before text ≡ Ok found
+    → PamBody found.0
 body_is_read [] before found j e = let none = (found_at_end pam_item header_end before found e).0 in absurd cc
 body_is_read (b ∷ text) before found j e =
-    body_by (pam_item before b) before b text found refl j (found_from pam_item header_end before b text found e) (λ on rest. body_is_read text (before ++ b ∷ []) found on rest)
+    body_by (pam_item before b) before b text found refl j (found_from pam_item header_end before b text found e)
+    (λ on rest. body_is_read text (before ++ b ∷ []) found on rest)
 
 no_lines : ended_lines [] ≡ []
 unfolding ended_after
@@ -113,10 +123,13 @@ record PamRead (text : List ℕ) (head : HeadValue) (rest : List ℕ) : Type 0 w
   pub made : MadeOf (ended_lines body) head
 
 -- the lines of a piece make what those of its body make
-lines_of_piece : (piece body : List ℕ) → piece ≡ body ++ 10 ∷ [] → line_kind (last_line body) ≡ End → lines_item (ended_lines piece) ≡ lines_item (ended_lines body)
-lines_of_piece piece body e ends = ap (λ (t : List ℕ). lines_item (ended_lines t)) e ∙ ap lines_item (ended_lines-lf body) ∙ lines_item-end (ended_lines body) (last_line body) ends
+lines_of_piece : (piece body : List ℕ) → piece ≡ body ++ 10 ∷ [] → line_kind (last_line body) ≡ End
+    → lines_item (ended_lines piece) ≡ lines_item (ended_lines body)
+lines_of_piece piece body e ends = ap (λ (t : List ℕ). lines_item (ended_lines t)) e ∙ ap lines_item (ended_lines-lf body)
+    ∙ lines_item-end (ended_lines body) (last_line body) ends
 
-whole_after : (text : List ℕ) (found : List ℕ × List ℕ) (body rest : List ℕ) → text ≡ found.0 ++ found.1 → found.0 ≡ body ++ 10 ∷ [] → found.1 ≡ rest → text ≡ (body ++ 10 ∷ []) ++ rest
+whole_after : (text : List ℕ) (found : List ℕ × List ℕ) (body rest : List ℕ) → text ≡ found.0 ++ found.1 → found.0 ≡ body ++ 10 ∷ [] → found.1 ≡ rest
+    → text ≡ (body ++ 10 ∷ []) ++ rest
 whole_after text found body rest whole piece back = whole ∙ ap (λ (t : List ℕ). t ++ found.1) piece ∙ ap (λ (t : List ℕ). (body ++ 10 ∷ []) ++ t) back
 
 -- a step has one head, and one rest
@@ -128,14 +141,18 @@ both_are made head after rest e =
 pam_parts : (text : List ℕ) (head : HeadValue) (rest : List ℕ) → pam_head_at text ≡ Ok (head, rest) → PamRead text head rest
 unfolding pam_head_at
 pam_parts text head rest e =
-    let feed = bind_ok (line_feed_item text) (λ after. piece_from pam_item header_end [] after >>= λ piece. lines_item (ended_lines piece.0) >>= λ made. Ok (made, piece.1)) (head, rest) e in
-    let piece = bind_ok (piece_from pam_item header_end [] feed.0) (λ found. lines_item (ended_lines found.0) >>= λ made. Ok (made, found.1)) (head, rest) feed.2 in
+    let feed = bind_ok (line_feed_item text) (λ after. piece_from pam_item header_end [] after >>= λ piece. lines_item (ended_lines piece.0) >>= λ made.
+    Ok (made, piece.1)) (head, rest) e in
+    let piece = bind_ok (piece_from pam_item header_end [] feed.0) (λ found. lines_item (ended_lines found.0) >>= λ made. Ok (made, found.1))
+    (head, rest) feed.2 in
     let made = bind_ok (lines_item (ended_lines piece.0.0)) (λ found. Ok (found, piece.0.1)) (head, rest) piece.2 in
     let parts = both_are made.0 head piece.0.1 rest made.2 in
     let read = body_is_read feed.0 [] piece.0 (subst Judged (sym no_lines) judged_none) piece.1 in
     let lines : lines_item (ended_lines piece.0.0) ≡ lines_item (ended_lines read.body) = lines_of_piece piece.0.0 read.body read.piece_is read.ends in
-    let whole : feed.0 ≡ (read.body ++ 10 ∷ []) ++ rest = whole_after feed.0 piece.0 read.body rest (found_is_whole pam_item header_end feed.0 [] piece.0 piece.1) read.piece_is parts.1 in
-    let found : MadeOf (ended_lines read.body) made.0 = lines_make_head (ended_lines read.body) made.0 read.judged (ended_lines-are read.body) (sym lines ∙ made.1) in
+    let whole : feed.0 ≡ (read.body ++ 10 ∷ []) ++ rest =
+    whole_after feed.0 piece.0 read.body rest (found_is_whole pam_item header_end feed.0 [] piece.0 piece.1) read.piece_is parts.1 in
+    let found : MadeOf (ended_lines read.body) made.0 = lines_make_head (ended_lines read.body) made.0 read.judged (ended_lines-are read.body)
+    (sym lines ∙ made.1) in
     record {
       body = read.body;
       ends = read.ends;
@@ -154,12 +171,14 @@ short_header : (body : List ℕ) → length body < 65533 → length (80 ∷ 55 �
 short_header body h = omega (arith, length-append body (10 ∷ []))
 
 -- a header that is read is spelled
-pub pam_head_is_spelled : (text rest : List ℕ) (format : Format) (head : HeadValue) → format_of 55 ≡ Some format → pam_head_at text ≡ Ok (head, rest) → (header : List ℕ) × (80 ∷ 55 ∷ text ≡ header ++ rest) × SpellsPamHeader header format head
+pub pam_head_is_spelled : (text rest : List ℕ) (format : Format) (head : HeadValue) → format_of 55 ≡ Some format → pam_head_at text ≡ Ok (head, rest)
+    → (header : List ℕ) × (80 ∷ 55 ∷ text ≡ header ++ rest) × SpellsPamHeader header format head
 pam_head_is_spelled text rest format head names e =
     let read = pam_parts text head rest e in
     let lines : List (List ℕ) = ended_lines read.body in
     let last : List ℕ = last_line read.body in
-    let body : read.body ++ 10 ∷ [] ≡ with_feeds lines ++ (last ++ 10 ∷ []) = ap (λ (t : List ℕ). t ++ 10 ∷ []) (text_of_lines read.body) ∙ append_assoc (with_feeds lines) last (10 ∷ []) in (
+    let body : read.body ++ 10 ∷ [] ≡ with_feeds lines ++ (last ++ 10 ∷ []) = ap (λ (t : List ℕ). t ++ 10 ∷ []) (text_of_lines read.body)
+    ∙ append_assoc (with_feeds lines) last (10 ∷ []) in (
       80 ∷ 55 ∷ 10 ∷ (read.body ++ 10 ∷ []),
       ap (λ (t : List ℕ). 80 ∷ 55 ∷ t) read.whole,
       record {
@@ -185,29 +204,34 @@ pam_head_is_spelled text rest format head names e =
 -- ---- what is spelled is read
 
 -- three choices by the same
-choices : (P : List (List ℕ) → List (List ℕ) → List ℕ → Type 0) {a b c d : List (List ℕ)} {e f : List ℕ} (t : Bool) → P a c e → P b d f → P (if t then a else b) (if t then c else d) (if t then e else f)
+choices : (P : List (List ℕ) → List (List ℕ) → List ℕ → Type 0) {a b c d : List (List ℕ)} {e f : List ℕ} (t : Bool) → P a c e → P b d f
+    → P (if t then a else b) (if t then c else d) (if t then e else f)
 choices P true p q = p
 choices P false p q = q
 
 -- the lines before a LF, the line that it ends, and those after
-ended_after-feed : (line front others : List ℕ) → ended_after line (front ++ 10 ∷ others) ≡ ended_after line front ++ last_after line front ∷ ended_after [] others
+ended_after-feed : (line prefix others : List ℕ) → ended_after line (prefix ++ 10 ∷ others) ≡ ended_after line prefix ++ last_after line prefix ∷ ended_after []
+    others
 unfolding ended_after last_after
 ended_after-feed line [] others = refl
-ended_after-feed line (c ∷ front) others =
-    choices (λ (l m : List (List ℕ)) (n : List ℕ). l ≡ m ++ n ∷ ended_after [] others) (c == 10) (ap (λ (l : List (List ℕ)). line ∷ l) (ended_after-feed [] front others)) (ended_after-feed (line ++ c ∷ []) front others)
+ended_after-feed line (c ∷ prefix) others =
+    choices (λ (l m : List (List ℕ)) (n : List ℕ). l ≡ m ++ n ∷ ended_after [] others) (c == 10)
+    (ap (λ (l : List (List ℕ)). line ∷ l) (ended_after-feed [] prefix others)) (ended_after-feed (line ++ c ∷ []) prefix others)
 
-ended_lines-feed : (front others : List ℕ) → ended_lines (front ++ 10 ∷ others) ≡ ended_lines front ++ last_line front ∷ ended_lines others
-ended_lines-feed front others = ended_after-feed [] front others
+ended_lines-feed : (prefix others : List ℕ) → ended_lines (prefix ++ 10 ∷ others) ≡ ended_lines prefix ++ last_line prefix ∷ ended_lines others
+ended_lines-feed prefix others = ended_after-feed [] prefix others
 
 -- a byte of such a body goes on
-byte_goes_on : (feed : Bool) (front : List ℕ) (b : ℕ) (others : List ℕ) → (b == 10) ≡ feed → Judged (ended_lines (front ++ b ∷ others)) → length (front ++ b ∷ others) < 65533 → pam_item front b ≡ GoesOn
-byte_goes_on true front b others e j short =
-    let long : nat_le pam_limit (length front) ≡ false = lt-leb 65533 (length front) (omega (arith, length-append front (b ∷ others))) in
-    let lines : ended_lines (front ++ b ∷ others) ≡ ended_lines front ++ last_line front ∷ ended_lines others = ap (λ (x : ℕ). ended_lines (front ++ x ∷ others)) (eqb-true b 10 e) ∙ ended_lines-feed front others in
-    pam_item_is front b ∙ rw (long, e) (line_goes_on (ended_lines front) (last_line front) (ended_lines others) (subst Judged lines j))
-byte_goes_on false front b others e j short =
-    let long : nat_le pam_limit (length front) ≡ false = lt-leb 65533 (length front) (omega (arith, length-append front (b ∷ others))) in
-    pam_item_is front b ∙ rw (long, e) refl
+byte_goes_on : (feed : Bool) (prefix : List ℕ) (b : ℕ) (others : List ℕ) → (b == 10) ≡ feed → Judged (ended_lines (prefix ++ b ∷ others))
+    → length (prefix ++ b ∷ others) < 65533 → pam_item prefix b ≡ GoesOn
+byte_goes_on true prefix b others e j short =
+    let long : nat_le pam_limit (length prefix) ≡ false = lt-leb 65533 (length prefix) (omega (arith, length-append prefix (b ∷ others))) in
+    let lines : ended_lines (prefix ++ b ∷ others) ≡ ended_lines prefix ++ last_line prefix ∷ ended_lines others =
+    ap (λ (x : ℕ). ended_lines (prefix ++ x ∷ others)) (eqb-true b 10 e) ∙ ended_lines-feed prefix others in
+    pam_item_is prefix b ∙ rw (long, e) (line_goes_on (ended_lines prefix) (last_line prefix) (ended_lines others) (subst Judged lines j))
+byte_goes_on false prefix b others e j short =
+    let long : nat_le pam_limit (length prefix) ≡ false = lt-leb 65533 (length prefix) (omega (arith, length-append prefix (b ∷ others))) in
+    pam_item_is prefix b ∙ rw (long, e) refl
 
 -- the LF after the line ENDHDR ends the piece
 last_feed_ends : (body : List ℕ) → length body < 65533 → line_kind (last_line body) ≡ End → pam_item body 10 ≡ EndsWith
@@ -216,10 +240,12 @@ last_feed_ends body short ends =
     pam_item_is body 10 ∙ rw long (line_is_judged End (ended_lines body) (last_line body) ends)
 
 -- the body and its LF are read as the header's piece
-body_is_piece : (body rest : List ℕ) → Judged (ended_lines body) → length body < 65533 → line_kind (last_line body) ≡ End → piece_from pam_item header_end [] (body ++ 10 ∷ rest) ≡ Ok (body ++ 10 ∷ [], rest)
+body_is_piece : (body rest : List ℕ) → Judged (ended_lines body) → length body < 65533 → line_kind (last_line body) ≡ End
+    → piece_from pam_item header_end [] (body ++ 10 ∷ rest) ≡ Ok (body ++ 10 ∷ [], rest)
 body_is_piece body rest j short ends =
     goes_on_through pam_item header_end body [] body (10 ∷ rest) refl
-    (λ front b others e. byte_goes_on (b == 10) front b others refl (subst (λ (t : List ℕ). Judged (ended_lines t)) (sym e) j) (subst (λ (t : List ℕ). length t < 65533) (sym e) short))
+    (λ prefix b others e. byte_goes_on (b == 10) prefix b others refl (subst (λ (t : List ℕ). Judged (ended_lines t)) (sym e) j)
+    (subst (λ (t : List ℕ). length t < 65533) (sym e) short))
     ∙ piece_step pam_item header_end body 10 rest EndsWith (last_feed_ends body short ends)
 
 -- ---- the lines of a header
@@ -229,18 +255,23 @@ ended_after-line : (line before text : List ℕ) → IsOneLine line → ended_af
 unfolding ended_after
 ended_after-line [] before text one = ap (λ (t : List ℕ). ended_after t text) (sym (append-nil before))
 ended_after-line (c ∷ line) before text one =
-    ap (λ (t : Bool). if t then before ∷ ended_after [] (line ++ text) else ended_after (before ++ c ∷ []) (line ++ text)) (not-true (c == 10) (All-head (λ x. not (x == 10) ≡ true) c line one))
-    ∙ ended_after-line line (before ++ c ∷ []) text (All-tail (λ x. not (x == 10) ≡ true) c line one) ∙ ap (λ (t : List ℕ). ended_after t text) (append_assoc before (c ∷ []) line)
+    ap (λ (t : Bool). if t then before ∷ ended_after [] (line ++ text) else ended_after (before ++ c ∷ []) (line ++ text))
+    (not-true (c == 10) (All-head (λ x. not (x == 10) ≡ true) c line one))
+    ∙ ended_after-line line (before ++ c ∷ []) text (All-tail (λ x. not (x == 10) ≡ true) c line one)
+    ∙ ap (λ (t : List ℕ). ended_after t text) (append_assoc before (c ∷ []) line)
 
 last_after-line : (line before text : List ℕ) → IsOneLine line → last_after before (line ++ text) ≡ last_after (before ++ line) text
 unfolding last_after
 last_after-line [] before text one = ap (λ (t : List ℕ). last_after t text) (sym (append-nil before))
 last_after-line (c ∷ line) before text one =
-    ap (λ (t : Bool). if t then last_after [] (line ++ text) else last_after (before ++ c ∷ []) (line ++ text)) (not-true (c == 10) (All-head (λ x. not (x == 10) ≡ true) c line one))
-    ∙ last_after-line line (before ++ c ∷ []) text (All-tail (λ x. not (x == 10) ≡ true) c line one) ∙ ap (λ (t : List ℕ). last_after t text) (append_assoc before (c ∷ []) line)
+    ap (λ (t : Bool). if t then last_after [] (line ++ text) else last_after (before ++ c ∷ []) (line ++ text))
+    (not-true (c == 10) (All-head (λ x. not (x == 10) ≡ true) c line one))
+    ∙ last_after-line line (before ++ c ∷ []) text (All-tail (λ x. not (x == 10) ≡ true) c line one)
+    ∙ ap (λ (t : List ℕ). last_after t text) (append_assoc before (c ∷ []) line)
 
 -- lines and their LFs, and a last line without one
-lines_of_text : (lines : List (List ℕ)) (last : List ℕ) → AllByRecursion IsPamLine lines → IsOneLine last → (ended_lines (with_feeds lines ++ last) ≡ lines) × (last_line (with_feeds lines ++ last) ≡ last)
+lines_of_text : (lines : List (List ℕ)) (last : List ℕ) → AllByRecursion IsPamLine lines → IsOneLine last → (ended_lines (with_feeds lines ++ last) ≡ lines)
+    × (last_line (with_feeds lines ++ last) ≡ last)
 unfolding ended_after last_after
 lines_of_text [] last are one = (
   ap ended_lines (sym (append-nil last)) ∙ ended_after-line last [] [] one,
@@ -248,7 +279,8 @@ lines_of_text [] last are one = (
 )
 lines_of_text (line ∷ lines) last are one =
     let others = lines_of_text lines last are.1 one in
-    let text : with_feeds (line ∷ lines) ++ last ≡ line ++ 10 ∷ (with_feeds lines ++ last) = append_assoc (line ++ 10 ∷ []) (with_feeds lines) last ∙ append_assoc line (10 ∷ []) (with_feeds lines ++ last) in (
+    let text : with_feeds (line ∷ lines) ++ last ≡ line ++ 10 ∷ (with_feeds lines ++ last) = append_assoc (line ++ 10 ∷ []) (with_feeds lines) last
+    ∙ append_assoc line (10 ∷ []) (with_feeds lines ++ last) in (
       ap ended_lines text ∙ ended_after-line line [] (10 ∷ (with_feeds lines ++ last)) are.0.one_line ∙ ap (λ (l : List (List ℕ)). line ∷ l) others.0,
       ap last_line text ∙ last_after-line line [] (10 ∷ (with_feeds lines ++ last)) are.0.one_line ∙ others.1,
     )
@@ -260,7 +292,8 @@ may_stand (line ∷ lines) are = (are.0.says, may_stand lines are.1)
 one_of : (values : List ℕ) (n : ℕ) → values ≡ n ∷ [] → length values ≤ 1
 one_of values n e = let lengths = ap (λ (l : List ℕ). length l) e in omega arith
 
-single_values : (text : List ℕ) (format : Format) (head : HeadValue) → (s : SpellsPamHeader text format head) (field : Field) → length (field_values field s.lines) ≤ 1
+single_values : (text : List ℕ) (format : Format) (head : HeadValue) → (s : SpellsPamHeader text format head) (field : Field)
+    → length (field_values field s.lines) ≤ 1
 single_values text format head s Width = one_of (field_values Width s.lines) head.shape.width s.width
 single_values text format head s Height = one_of (field_values Height s.lines) head.shape.height s.height
 single_values text format head s Depth = one_of (field_values Depth s.lines) head.shape.depth s.depth
@@ -281,7 +314,8 @@ short_body text body whole short =
     omega (arith, length-append body (10 ∷ []))
 
 -- the head is read of the body, its LF and what follows
-head_is_read : (body rest : List ℕ) (lines : List (List ℕ)) (last : List ℕ) (head : HeadValue) → ended_lines body ≡ lines → last_line body ≡ last → Judged lines → line_kind last ≡ End → length body < 65533 → MadeOf lines head
+head_is_read : (body rest : List ℕ) (lines : List (List ℕ)) (last : List ℕ) (head : HeadValue) → ended_lines body ≡ lines → last_line body ≡ last → Judged lines
+    → line_kind last ≡ End → length body < 65533 → MadeOf lines head
     → pam_head_at (10 ∷ (body ++ 10 ∷ rest)) ≡ Ok (head, rest)
 unfolding pam_head_at line_feed_item
 head_is_read body rest lines last head e l judged ends short made =
@@ -291,12 +325,24 @@ head_is_read body rest lines last head e l judged ends short made =
     rw (piece, found) refl
 
 -- a header that is spelled is read
-pub spelled_pam_is_head : (header rest : List ℕ) (format : Format) (head : HeadValue) → SpellsPamHeader header format head → (text : List ℕ) × (header ++ rest ≡ 80 ∷ 55 ∷ text) × (pam_head_at text ≡ Ok (head, rest))
+pub spelled_pam_is_head : (header rest : List ℕ) (format : Format) (head : HeadValue) → SpellsPamHeader header format head
+    → (text : List ℕ) × (header ++ rest ≡ 80 ∷ 55 ∷ text) × (pam_head_at text ≡ Ok (head, rest))
 spelled_pam_is_head header rest format head s =
     let body : List ℕ = with_feeds s.lines ++ s.last in
     let lines = lines_of_text s.lines s.last s.lines_are s.last_one_line in
-    let whole : header ≡ 80 ∷ 55 ∷ 10 ∷ (body ++ 10 ∷ []) = s.whole ∙ ap (λ (t : List ℕ). 80 ∷ 55 ∷ 10 ∷ t) (sym (append_assoc (with_feeds s.lines) s.last (10 ∷ []))) in
-    let made : MadeOf s.lines head = record { width = s.width; height = s.height; depth = s.depth; maxval = s.maxval; tuple_type = s.tuple_type; kind = s.kind; sound = s.sound; rows = s.rows } in (
+    let whole : header ≡ 80 ∷ 55 ∷ 10 ∷ (body ++ 10 ∷ []) = s.whole
+    ∙ ap (λ (t : List ℕ). 80 ∷ 55 ∷ 10 ∷ t) (sym (append_assoc (with_feeds s.lines) s.last (10 ∷ []))) in
+    let made : MadeOf s.lines head =
+    record {
+      width = s.width;
+      height = s.height;
+      depth = s.depth;
+      maxval = s.maxval;
+      tuple_type = s.tuple_type;
+      kind = s.kind;
+      sound = s.sound;
+      rows = s.rows;
+    } in (
       10 ∷ (body ++ 10 ∷ rest),
       ap (λ (t : List ℕ). t ++ rest) whole ∙ ap (λ (t : List ℕ). 80 ∷ 55 ∷ 10 ∷ t) (append_assoc body (10 ∷ []) rest),
       head_is_read body rest s.lines s.last head lines.0 lines.1 (judged_lines header format head s) s.last_ends (short_body header body whole s.short) made,

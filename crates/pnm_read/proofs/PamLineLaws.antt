@@ -1,5 +1,6 @@
 -- The lines of a PAM header: what a line says, which lines are judged to go on, and the head that they make.
-use Rattle.std.proofs.Common.{◌≡◌, ℕ, ◌+◌, ◌<◌, ◌≤◌, Bool, true, false, not, ◌==◌, if◌then◌else◌, List, [], ◌∷◌, ◌++◌, length, refl, sym, ap, subst, ◌∙◌, append_assoc, append-nil, length-append, arith, codes, pos_of_ne-zero}
+use Rattle.std.proofs.Common.{◌≡◌, ℕ, ◌+◌, ◌<◌, ◌≤◌, Bool, true, false, not, ◌==◌, if◌then◌else◌, List, [], ◌∷◌, ◌++◌, length, refl, sym, ap, subst, ◌∙◌}
+use Rattle.std.proofs.Common.{append_assoc, append-nil, length-append, arith, codes, pos_of_ne-zero}
 use Rattle.std.specs.Prelude.{nat_lt}
 use Rattle.std.specs.Str.{bytes_eq}
 use Rattle.std.specs.List.{AllPass, AllByRecursion, list_all}
@@ -16,7 +17,8 @@ use Rattle.pnm_read.specs.declared.line.LineKind.{LineKind}
 use Rattle.pnm_read.specs.declared.line.LineKind.TheVariants.{Nothing, Number, TupleType, End, Unknown}
 use Rattle.pnm_image.specs.Texts.{is_digit, decimal_value}
 use Rattle.pnm_image.proofs.Lists.{each-middle, each-push}
-use Rattle.pnm_read.specs.PamLines.{first_token, second_token, value_of, name_of, begins_with, kind_of_token, line_kind, field_values, joined_with, tuple_type_in}
+use Rattle.pnm_read.specs.PamLines.{first_token, second_token, value_of, name_of, begins_with, kind_of_token, line_kind, field_values, joined_with}
+use Rattle.pnm_read.specs.PamLines.{tuple_type_in}
 use Rattle.pnm_read.specs.Headers.{MaySay}
 use Rattle.pnm_read.specs.Items.{number_item, tuple_type_item, line_item}
 use Rattle.pnm_read.proofs.LineLaws.{joined_with-nothing, field_values-append, tuple_type_in-append}
@@ -53,7 +55,8 @@ number_is_tested : (made field : Field) (w h d m : Bool) → Number made ≡ Num
 number_is_tested made field w h d m e t = let same : made ≡ field = cc in subst (λ (f : Field). test_of f w h d m ≡ true) same t
 
 number_chosen : (sharp w h d m t e : Bool) (field : Field)
-    → (if sharp then Nothing else if w then Number Width else if h then Number Height else if d then Number Depth else if m then Number Maxval else if t then TupleType else if e then End else Unknown) ≡ Number field → test_of field w h d m ≡ true
+    → (if sharp then Nothing else if w then Number Width else if h then Number Height else if d then Number Depth else if m then Number
+    Maxval else if t then TupleType else if e then End else Unknown) ≡ Number field → test_of field w h d m ≡ true
 number_chosen true w h d m t e field k = absurd cc
 number_chosen false true h d m t e field k = number_is_tested Width field true h d m k refl
 number_chosen false false true d m t e field k = number_is_tested Height field false true d m k refl
@@ -63,7 +66,8 @@ number_chosen false false false false false true e field k = absurd cc
 number_chosen false false false false false false true field k = absurd cc
 number_chosen false false false false false false false field k = absurd cc
 
-test_is : (field : Field) (token : List ℕ) → test_of field (bytes_eq (name_of Width) token) (bytes_eq (name_of Height) token) (bytes_eq (name_of Depth) token) (bytes_eq (name_of Maxval) token) ≡ bytes_eq (name_of field) token
+test_is : (field : Field) (token : List ℕ) → test_of field (bytes_eq (name_of Width) token) (bytes_eq (name_of Height) token) (bytes_eq (name_of Depth) token)
+    (bytes_eq (name_of Maxval) token) ≡ bytes_eq (name_of field) token
 test_is Width token = refl
 test_is Height token = refl
 test_is Depth token = refl
@@ -74,7 +78,8 @@ unfolding kind_of_token
 number_token [] field e = absurd cc
 number_token (b ∷ text) field e =
     sym (test_is field (b ∷ text))
-    ∙ number_chosen (b == 35) (bytes_eq (name_of Width) (b ∷ text)) (bytes_eq (name_of Height) (b ∷ text)) (bytes_eq (name_of Depth) (b ∷ text)) (bytes_eq (name_of Maxval) (b ∷ text)) (bytes_eq (codes "TUPLTYPE") (b ∷ text)) (bytes_eq (codes "ENDHDR") (b ∷ text)) field e
+    ∙ number_chosen (b == 35) (bytes_eq (name_of Width) (b ∷ text)) (bytes_eq (name_of Height) (b ∷ text)) (bytes_eq (name_of Depth) (b ∷ text))
+    (bytes_eq (name_of Maxval) (b ∷ text)) (bytes_eq (codes "TUPLTYPE") (b ∷ text)) (bytes_eq (codes "ENDHDR") (b ∷ text)) field e
 
 -- a line of a number begins with the name of its field
 pub begins_with_name : (field : Field) (line : List ℕ) → line_kind line ≡ Number field → begins_with (name_of field) line ≡ true
@@ -82,11 +87,13 @@ begins_with_name field line e = number_token (first_token line) field e
 
 -- ---- what one line more adds
 
-pub values-here : (field : Field) (line : List ℕ) (lines : List (List ℕ)) → begins_with (name_of field) line ≡ true → field_values field (line ∷ lines) ≡ decimal_value (second_token line) ∷ field_values field lines
+pub values-here : (field : Field) (line : List ℕ) (lines : List (List ℕ)) → begins_with (name_of field) line ≡ true
+    → field_values field (line ∷ lines) ≡ decimal_value (second_token line) ∷ field_values field lines
 unfolding field_values
 values-here field line lines e = ap (λ (t : Bool). if t then decimal_value (second_token line) ∷ field_values field lines else field_values field lines) e
 
-values-not_here : (field : Field) (line : List ℕ) (lines : List (List ℕ)) → begins_with (name_of field) line ≡ false → field_values field (line ∷ lines) ≡ field_values field lines
+values-not_here : (field : Field) (line : List ℕ) (lines : List (List ℕ)) → begins_with (name_of field) line ≡ false
+    → field_values field (line ∷ lines) ≡ field_values field lines
 unfolding field_values
 values-not_here field line lines e = ap (λ (t : Bool). if t then decimal_value (second_token line) ∷ field_values field lines else field_values field lines) e
 
@@ -103,21 +110,28 @@ unfolding tuple_type_in
 tuple_type-not_here line lines e = ap (λ (t : Bool). if t then joined_with (value_of line) (tuple_type_in lines) else tuple_type_in lines) e
 
 -- a line of another kind leaves the numbers of a field
-values-other : (field : Field) (lines : List (List ℕ)) (line : List ℕ) → begins_with (name_of field) line ≡ false → field_values field (lines ++ line ∷ []) ≡ field_values field lines
+values-other : (field : Field) (lines : List (List ℕ)) (line : List ℕ) → begins_with (name_of field) line ≡ false
+    → field_values field (lines ++ line ∷ []) ≡ field_values field lines
 values-other field lines line e =
-    field_values-append field lines (line ∷ []) ∙ ap (λ (l : List ℕ). field_values field lines ++ l) (values-not_here field line [] e ∙ no_values field) ∙ append-nil (field_values field lines)
+    field_values-append field lines (line ∷ []) ∙ ap (λ (l : List ℕ). field_values field lines ++ l) (values-not_here field line [] e ∙ no_values field)
+    ∙ append-nil (field_values field lines)
 
 -- and the tuple type
-tuple_type-other : (lines : List (List ℕ)) (line : List ℕ) → begins_with (codes "TUPLTYPE") line ≡ false → tuple_type_in (lines ++ line ∷ []) ≡ tuple_type_in lines
+tuple_type-other : (lines : List (List ℕ)) (line : List ℕ) → begins_with (codes "TUPLTYPE") line ≡ false
+    → tuple_type_in (lines ++ line ∷ []) ≡ tuple_type_in lines
 tuple_type-other lines line e =
-    tuple_type_in-append lines (line ∷ []) ∙ ap (joined_with (tuple_type_in lines)) (tuple_type-not_here line [] e ∙ no_tuple_types) ∙ joined_with-nothing (tuple_type_in lines)
+    tuple_type_in-append lines (line ∷ []) ∙ ap (joined_with (tuple_type_in lines)) (tuple_type-not_here line [] e ∙ no_tuple_types)
+    ∙ joined_with-nothing (tuple_type_in lines)
 
 -- ENDHDR adds nothing
-pub values-end : (field : Field) (lines : List (List ℕ)) (line : List ℕ) → line_kind line ≡ End → field_values field (lines ++ line ∷ []) ≡ field_values field lines
-values-end field lines line k = values-other field lines line (false_from_ne_true (begins_with (name_of field) line) (λ e. let number = number_line field line e in cc))
+pub values-end : (field : Field) (lines : List (List ℕ)) (line : List ℕ) → line_kind line ≡ End
+    → field_values field (lines ++ line ∷ []) ≡ field_values field lines
+values-end field lines line k =
+    values-other field lines line (false_from_ne_true (begins_with (name_of field) line) (λ e. let number = number_line field line e in cc))
 
 pub tuple_type-end : (lines : List (List ℕ)) (line : List ℕ) → line_kind line ≡ End → tuple_type_in (lines ++ line ∷ []) ≡ tuple_type_in lines
-tuple_type-end lines line k = tuple_type-other lines line (false_from_ne_true (begins_with (codes "TUPLTYPE") line) (λ e. let tuple = tuple_type_line line e in cc))
+tuple_type-end lines line k =
+    tuple_type-other lines line (false_from_ne_true (begins_with (codes "TUPLTYPE") line) (λ e. let tuple = tuple_type_line line e in cc))
 
 -- ---- how a line is judged
 
@@ -168,7 +182,8 @@ zero_is n e = grind (arith, nat_tests)
 
 first_number : (lines : List (List ℕ)) (field : Field) (line : List ℕ) → number_item lines field line ≡ GoesOn → FirstNumber lines field line
 first_number lines field line e =
-    let tests = number_goes_on (length (second_token line) == 0) (not (list_all is_digit (second_token line))) (not (length (field_values field lines) == 0)) e in
+    let tests = number_goes_on (length (second_token line) == 0) (not (list_all is_digit (second_token line))) (not (length (field_values field lines) == 0))
+    e in
     record {
       some = pos_of_ne-zero (eqb-false (length (second_token line)) 0 tests.0);
       digits = AllPass-from_list_all is_digit (second_token line) (not-false (list_all is_digit (second_token line)) tests.1);
@@ -187,7 +202,8 @@ says_by Unknown lines line e = cc
 ends_by : (kind : LineKind) (lines : List (List ℕ)) (line : List ℕ) → line_by kind lines line ≡ EndsWith → kind ≡ End
 ends_by Nothing lines line e = absurd cc
 ends_by (Number field) lines line e =
-    absurd ((number_never_ends (length (second_token line) == 0) (not (list_all is_digit (second_token line))) (not (length (field_values field lines) == 0)) (line_by (Number field) lines line) refl).0 e)
+    absurd ((number_never_ends (length (second_token line) == 0) (not (list_all is_digit (second_token line))) (not (length (field_values field lines) == 0))
+    (line_by (Number field) lines line) refl).0 e)
 ends_by TupleType lines line e = absurd ((type_never_ends (nat_lt 255 (length (tuple_type_in (lines ++ line ∷ [])))) (line_by TupleType lines line) refl).0 e)
 ends_by End lines line e = refl
 ends_by Unknown lines line e = absurd cc
@@ -199,7 +215,8 @@ line_ends lines line e = ends_by (line_kind line) lines line e
 never_before : (kind : LineKind) (lines : List (List ℕ)) (line : List ℕ) → line_by kind lines line ≡ EndsBefore → ⊥
 never_before Nothing lines line e = cc
 never_before (Number field) lines line e =
-    (number_never_ends (length (second_token line) == 0) (not (list_all is_digit (second_token line))) (not (length (field_values field lines) == 0)) (line_by (Number field) lines line) refl).1 e
+    (number_never_ends (length (second_token line) == 0) (not (list_all is_digit (second_token line))) (not (length (field_values field lines) == 0))
+    (line_by (Number field) lines line) refl).1 e
 never_before TupleType lines line e = (type_never_ends (nat_lt 255 (length (tuple_type_in (lines ++ line ∷ [])))) (line_by TupleType lines line) refl).1 e
 never_before End lines line e = cc
 never_before Unknown lines line e = cc
@@ -218,9 +235,11 @@ pub record Judged (lines : List (List ℕ)) : Type 0 where
   pub short : length (tuple_type_in lines) ≤ 255
 
 one_value : (field : Field) (line : List ℕ) → begins_with (name_of field) line ≡ true → length (field_values field (line ∷ [])) ≡ 1
-one_value field line e = ap (λ (l : List ℕ). length l) (values-here field line [] e ∙ ap (λ (l : List ℕ). decimal_value (second_token line) ∷ l) (no_values field))
+one_value field line e =
+    ap (λ (l : List ℕ). length l) (values-here field line [] e ∙ ap (λ (l : List ℕ). decimal_value (second_token line) ∷ l) (no_values field))
 
-single_by : (begins : Bool) (field : Field) (lines : List (List ℕ)) (line : List ℕ) → begins_with (name_of field) line ≡ begins → line_item lines line ≡ GoesOn → length (field_values field lines) ≤ 1 → length (field_values field (lines ++ line ∷ [])) ≤ 1
+single_by : (begins : Bool) (field : Field) (lines : List (List ℕ)) (line : List ℕ) → begins_with (name_of field) line ≡ begins → line_item lines line ≡ GoesOn
+    → length (field_values field lines) ≤ 1 → length (field_values field (lines ++ line ∷ [])) ≤ 1
 single_by true field lines line b e single =
     let first = (first_number lines field line (sym (line_is_judged (Number field) lines line (number_line field line b)) ∙ e)).first in
     let one = one_value field line b in
@@ -229,9 +248,11 @@ single_by true field lines line b e single =
     omega arith
 single_by false field lines line b e single = let lengths = ap (λ (l : List ℕ). length l) (values-other field lines line b) in omega arith
 
-short_by : (begins : Bool) (lines : List (List ℕ)) (line : List ℕ) → begins_with (codes "TUPLTYPE") line ≡ begins → line_item lines line ≡ GoesOn → length (tuple_type_in lines) ≤ 255 → length (tuple_type_in (lines ++ line ∷ [])) ≤ 255
+short_by : (begins : Bool) (lines : List (List ℕ)) (line : List ℕ) → begins_with (codes "TUPLTYPE") line ≡ begins → line_item lines line ≡ GoesOn
+    → length (tuple_type_in lines) ≤ 255 → length (tuple_type_in (lines ++ line ∷ [])) ≤ 255
 short_by true lines line b e short =
-    let test = type_goes_on (nat_lt 255 (length (tuple_type_in (lines ++ line ∷ [])))) (sym (line_is_judged TupleType lines line (tuple_type_line line b)) ∙ e) in
+    let test = type_goes_on (nat_lt 255 (length (tuple_type_in (lines ++ line ∷ [])))) (sym (line_is_judged TupleType lines line (tuple_type_line line b))
+    ∙ e) in
     ltb-false 255 (length (tuple_type_in (lines ++ line ∷ []))) test
 short_by false lines line b e short = let lengths = ap (λ (l : List ℕ). length l) (tuple_type-other lines line b) in omega arith
 
@@ -261,15 +282,19 @@ some_test : (n : ℕ) → 0 < n → (n == 0) ≡ false
 some_test n e = grind (arith, nat_tests)
 
 -- no line before has its number
-first_of_field : (field : Field) (earlier : List (List ℕ)) (line : List ℕ) (later : List (List ℕ)) → begins_with (name_of field) line ≡ true → length (field_values field (earlier ++ line ∷ later)) ≤ 1 → length (field_values field earlier) ≡ 0
+first_of_field : (field : Field) (earlier : List (List ℕ)) (line : List ℕ) (later : List (List ℕ)) → begins_with (name_of field) line ≡ true
+    → length (field_values field (earlier ++ line ∷ later)) ≤ 1 → length (field_values field earlier) ≡ 0
 first_of_field field earlier line later b single =
-    let here : length (field_values field (line ∷ later)) ≡ length (field_values field later) + 1 = ap (λ (l : List ℕ). length l) (values-here field line later b) ∙ omega arith in
+    let here : length (field_values field (line ∷ later)) ≡ length (field_values field later) + 1 =
+    ap (λ (l : List ℕ). length l) (values-here field line later b) ∙ omega arith in
     let lengths : length (field_values field (earlier ++ line ∷ later)) ≡ length (field_values field earlier) + length (field_values field (line ∷ later)) =
-    ap (λ (l : List ℕ). length l) (field_values-append field earlier (line ∷ later)) ∙ length-append (field_values field earlier) (field_values field (line ∷ later)) in
+    ap (λ (l : List ℕ). length l) (field_values-append field earlier (line ∷ later))
+    ∙ length-append (field_values field earlier) (field_values field (line ∷ later)) in
     omega arith
 
 -- the tuple type so far is no longer than that of all lines
-tuple_type_so_far : (earlier : List (List ℕ)) (line : List ℕ) (later : List (List ℕ)) → length (tuple_type_in (earlier ++ line ∷ later)) ≤ 255 → length (tuple_type_in (earlier ++ line ∷ [])) ≤ 255
+tuple_type_so_far : (earlier : List (List ℕ)) (line : List ℕ) (later : List (List ℕ)) → length (tuple_type_in (earlier ++ line ∷ later)) ≤ 255
+    → length (tuple_type_in (earlier ++ line ∷ [])) ≤ 255
 tuple_type_so_far earlier line later short =
     let whole : tuple_type_in (earlier ++ line ∷ later) ≡ joined_with (tuple_type_in (earlier ++ line ∷ [])) (tuple_type_in later) =
     ap tuple_type_in (sym (append_assoc earlier (line ∷ []) later)) ∙ tuple_type_in-append (earlier ++ line ∷ []) later in
@@ -277,12 +302,14 @@ tuple_type_so_far earlier line later short =
     let longer = joined_with-longer (tuple_type_in (earlier ++ line ∷ [])) (tuple_type_in later) in
     omega arith
 
-goes_on_by : (kind : LineKind) (earlier : List (List ℕ)) (line : List ℕ) (later : List (List ℕ)) → line_kind line ≡ kind → MaySay kind line → Judged (earlier ++ line ∷ later) → line_by kind earlier line ≡ GoesOn
+goes_on_by : (kind : LineKind) (earlier : List (List ℕ)) (line : List ℕ) (later : List (List ℕ)) → line_kind line ≡ kind → MaySay kind line
+    → Judged (earlier ++ line ∷ later) → line_by kind earlier line ≡ GoesOn
 goes_on_by Nothing earlier line later k says j = refl
 goes_on_by (Number field) earlier line later k says j =
     let first = first_of_field field earlier line later (begins_with_name field line k) (j.single field) in
     rw (some_test (length (second_token line)) says.0, list_all-from_AllPass is_digit (second_token line) says.1, first) refl
-goes_on_by TupleType earlier line later k says j = rw (le-ltb 255 (length (tuple_type_in (earlier ++ line ∷ []))) (tuple_type_so_far earlier line later j.short)) refl
+goes_on_by TupleType earlier line later k says j =
+    rw (le-ltb 255 (length (tuple_type_in (earlier ++ line ∷ []))) (tuple_type_so_far earlier line later j.short)) refl
 goes_on_by End earlier line later k says j = absurd says
 goes_on_by Unknown earlier line later k says j = absurd says
 

@@ -1,5 +1,6 @@
 -- The head that the lines of a PAM header make.
-use Rattle.std.proofs.Common.{◌≡◌, ◌⊎◌, inl, inr, ℕ, Bool, true, false, ◌||◌, ◌==◌, if◌then◌else◌, List, [], ◌∷◌, length, Option, Some, None, Result, Ok, Err, refl, sym, ap, subst, ◌∙◌}
+use Rattle.std.proofs.Common.{◌≡◌, ◌⊎◌, inl, inr, ℕ, Bool, true, false, ◌||◌, ◌==◌, if◌then◌else◌, List, [], ◌∷◌, length, Option, Some, None, Result, Ok, Err}
+use Rattle.std.proofs.Common.{refl, sym, ap, subst, ◌∙◌}
 use Rattle.std.specs.Prelude.{slice_index, MatchResult, IfOk, OnOk, IfErr, IsErrAnd}
 use Rattle.pnm_image.specs.declared.shape.Shape.{Shape}
 use Rattle.pnm_image.specs.declared.shape.Kind.TheVariants.{Pam}
@@ -50,7 +51,8 @@ lacks_one (v ∷ w) (x ∷ h) (y ∷ d) [] e = rw (some_values v w, some_values 
 lacks_one (v ∷ w) (x ∷ h) (y ∷ d) (z ∷ m) e = absurd cc
 
 -- where a shape is held, no number is missing, and the shape is that of the numbers
-has_all : (w h d m : List ℕ) (s : Shape) → shape_by (held_number w) (held_number h) (held_number d) (held_number m) ≡ Some s → (lacks w h d m ≡ false) × (s ≡ saturated_shape (shape_of_first w h d m))
+has_all : (w h d m : List ℕ) (s : Shape) → shape_by (held_number w) (held_number h) (held_number d) (held_number m) ≡ Some s → (lacks w h d m ≡ false)
+    × (s ≡ saturated_shape (shape_of_first w h d m))
 has_all [] h d m s e = absurd cc
 has_all (v ∷ w) [] d m s e = absurd cc
 has_all (v ∷ w) (x ∷ h) [] m s e = absurd cc
@@ -59,12 +61,14 @@ has_all (v ∷ w) (x ∷ h) (y ∷ d) (z ∷ m) s e = (rw (some_values v w, some
 
 -- the shape that is held, by the numbers of the lines
 held_is : (fields : Fields) (lines : List (List ℕ)) → IsFields fields lines
-    → shape_held fields ≡ shape_by (held_number (field_values Width lines)) (held_number (field_values Height lines)) (held_number (field_values Depth lines)) (held_number (field_values Maxval lines))
+    → shape_held fields ≡ shape_by (held_number (field_values Width lines)) (held_number (field_values Height lines)) (held_number (field_values Depth lines))
+    (held_number (field_values Maxval lines))
 held_is fields lines f =
     ap (λ (o : Option ℕ). shape_by o fields.height fields.depth fields.maxval) f.width
     ∙ ap (λ (o : Option ℕ). shape_by (held_number (field_values Width lines)) o fields.depth fields.maxval) f.height
     ∙ ap (λ (o : Option ℕ). shape_by (held_number (field_values Width lines)) (held_number (field_values Height lines)) o fields.maxval) f.depth
-    ∙ ap (λ (o : Option ℕ). shape_by (held_number (field_values Width lines)) (held_number (field_values Height lines)) (held_number (field_values Depth lines)) o) f.maxval
+    ∙ ap (λ (o : Option ℕ). shape_by (held_number (field_values Width lines)) (held_number (field_values Height lines)) (held_number (field_values Depth lines))
+    o) f.maxval
 
 -- the head of lines, where a number may be missing
 abbrev lines_as : Bool → List (List ℕ) → Result HeadValue InputFault
@@ -76,17 +80,22 @@ unfolding lines_item
 lines_item_is lines = refl
 
 -- a number is missing
-pub lines_missing : (fields : Fields) (lines : List (List ℕ)) (found : Option Shape) → found ≡ shape_held fields → found ≡ None → IsFields fields lines → lines_item lines ≡ Err MissingField
+pub lines_missing : (fields : Fields) (lines : List (List ℕ)) (found : Option Shape) → found ≡ shape_held fields → found ≡ None → IsFields fields lines
+    → lines_item lines ≡ Err MissingField
 lines_missing fields lines found is none f =
-    let lacks = lacks_one (field_values Width lines) (field_values Height lines) (field_values Depth lines) (field_values Maxval lines) (sym (held_is fields lines f) ∙ sym is ∙ none) in
+    let lacks = lacks_one (field_values Width lines) (field_values Height lines) (field_values Depth lines) (field_values Maxval lines)
+    (sym (held_is fields lines f) ∙ sym is ∙ none) in
     lines_item_is lines ∙ ap (λ (t : Bool). lines_as t lines) lacks
 
 -- the head that was made of the shape and the tuple type, or what was wrong with it
-pub lines_given : (fields : Fields) (lines : List (List ℕ)) (found : Option Shape) (shape : Shape) (tuple_type : List ℕ) (made : Result HeadValue HeadFault) (result : Result HeadValue InputFault) → found ≡ shape_held fields → found ≡ Some shape → tuple_type ≡ fields.tuple_type.items → IsFields fields lines
-    → IfOk made (λ head. head ≡ head_value shape tuple_type) → OnOk made (shape_fault shape ≡ None) → IfErr made (λ e. (shape_fault shape ≡ Some e) ⊎ ((e ≡ heads.Memory) × (shape_fault shape ≡ None)))
+pub lines_given : (fields : Fields) (lines : List (List ℕ)) (found : Option Shape) (shape : Shape) (tuple_type : List ℕ) (made : Result HeadValue HeadFault)
+    (result : Result HeadValue InputFault) → found ≡ shape_held fields → found ≡ Some shape → tuple_type ≡ fields.tuple_type.items → IsFields fields lines
+    → IfOk made (λ head. head ≡ head_value shape tuple_type) → OnOk made (shape_fault shape ≡ None)
+    → IfErr made (λ e. (shape_fault shape ≡ Some e) ⊎ ((e ≡ heads.Memory) × (shape_fault shape ≡ None)))
     → MatchResult made (λ head. result ≡ Ok head) (λ e. IsErrAnd result (λ fault. fault ≡ fault_of_head e)) → GivesInMemory result (lines_item lines)
 lines_given fields lines found shape tuple_type made result is some type f head sound refused cases =
-    let all = has_all (field_values Width lines) (field_values Height lines) (field_values Depth lines) (field_values Maxval lines) shape (sym (held_is fields lines f) ∙ sym is ∙ some) in
+    let all = has_all (field_values Width lines) (field_values Height lines) (field_values Depth lines) (field_values Maxval lines) shape
+    (sym (held_is fields lines f) ∙ sym is ∙ some) in
     let item : lines_item lines ≡ head_item (shape_in lines) tuple_type =
     lines_item_is lines ∙ ap (λ (t : Bool). lines_as t lines) all.0 ∙ ap (head_item (shape_in lines)) (sym (type ∙ f.tuple_type)) in
     subst (GivesInMemory result) (sym item) (head_given shape (shape_in lines) tuple_type made result all.1 head sound refused cases)

@@ -14,8 +14,8 @@ use Rattle.pnm_read.specs.declared.pam.PamScanner.{PamScanner}
 use Rattle.pnm_read.specs.PamLines.{ended_after, ended_lines, last_after, last_line}
 use Rattle.pnm_read.specs.Items.{◌>>=◌, piece_from, pam_limit, line_item, pam_item, header_end, line_feed_item, lines_item}
 use Rattle.pnm_read.specs.Said.{pam_head_at}
-use Rattle.pnm_read.specs.Inputs.{Finds, Passes}
-use Rattle.pnm_read.specs.Scans.{Takes, JudgesByte, Scans}
+use Rattle.pnm_read.specs.BufferedReaders.{Finds, Passes}
+use Rattle.pnm_read.specs.Scans.{TakesJudged, JudgesByte, Scans}
 use Rattle.pnm_read.specs.Saturation.{GivesInMemory}
 use Rattle.pnm_read.specs.PamScanners.{IsFields, TakesLine, JudgesLine, IsPamAfter, IsPamWhole}
 use Rattle.pnm_read.proofs.LineLaws.{ended_lines-lf, last_line-lf, ended_lines-other, last_line-other, ended_lines-are}
@@ -35,14 +35,16 @@ is_short : (s : PamScanner) (before : List ℕ) → IsPamAfter s before → s.le
 is_short s before a lt = let same = a.length_is in grind (arith, nat_tests)
 
 -- a byte of a line
-pub pam_goes_on : (old new : PamScanner) (b : ℕ) → old.length < 65533 → (b ≡ 10 → ⊥) → new.length ≡ old.length + 1 → new.line.items ≡ old.line.items ++ b ∷ [] → new.fields ≡ old.fields
+pub pam_goes_on : (old new : PamScanner) (b : ℕ) → old.length < 65533 → (b ≡ 10 → ⊥) → new.length ≡ old.length + 1 → new.line.items ≡ old.line.items ++ b ∷ []
+    → new.fields ≡ old.fields
     → JudgesByte pam_item (IsPamAfter old) (IsPamAfter new) (IsPamWhole new) b GoesOn
 pam_goes_on old new b lt other l line fields before a =
     let no_feed : (b == 10) ≡ false = ne_eqb b 10 other in
     let after : IsPamAfter new (before ++ b ∷ []) = record {
       length_is = l ∙ ap (λ (n : ℕ). n + 1) a.length_is ∙ sym (length-append before (b ∷ []));
       line = line ∙ ap (λ (l : List ℕ). l ++ b ∷ []) a.line ∙ sym (last_line-other before b no_feed);
-      fields = subst (λ (f : Fields). IsFields f (ended_lines (before ++ b ∷ []))) (sym fields) (subst (IsFields old.fields) (sym (ended_lines-other before b no_feed)) a.fields);
+      fields = subst (λ (f : Fields). IsFields f (ended_lines (before ++ b ∷ []))) (sym fields)
+          (subst (IsFields old.fields) (sym (ended_lines-other before b no_feed)) a.fields);
     } in
     inl (
       sym (pam_item_is before b ∙ ap (λ (long : Bool). pam_by long (b == 10) (line_item (ended_lines before) (last_line before))) (is_short old before a lt)
@@ -51,7 +53,8 @@ pam_goes_on old new b lt other l line fields before a =
     )
 
 -- what is taken with a LF
-feed_taken : (new : PamScanner) (j : Judgement) (before : List ℕ) → new.length ≡ length before + 1 → new.line.items ≡ [] → TakesLine new.fields j (ended_lines before ++ last_line before ∷ []) → Takes (IsPamAfter new) (IsPamWhole new) j before 10
+feed_taken : (new : PamScanner) (j : Judgement) (before : List ℕ) → new.length ≡ length before + 1 → new.line.items ≡ []
+    → TakesLine new.fields j (ended_lines before ++ last_line before ∷ []) → TakesJudged (IsPamAfter new) (IsPamWhole new) j before 10
 feed_taken new GoesOn before l line t = record {
   length_is = l ∙ sym (length-append before (10 ∷ []));
   line = line ∙ sym (last_line-lf before);
@@ -62,27 +65,32 @@ feed_taken new EndsBefore before l line t = absurd t
 feed_taken new (Fails k) before l line t = tt
 
 -- the judgement of a LF is that of its line
-feed_judged : (old : PamScanner) (line : List ℕ) (j : Judgement) (before : List ℕ) → old.length < 65533 → line ≡ old.line.items → IsPamAfter old before → j ≡ line_item (ended_lines before) line → j ≡ pam_item before 10
+feed_judged : (old : PamScanner) (line : List ℕ) (j : Judgement) (before : List ℕ) → old.length < 65533 → line ≡ old.line.items → IsPamAfter old before
+    → j ≡ line_item (ended_lines before) line → j ≡ pam_item before 10
 feed_judged old line j before lt is a judged =
     judged ∙ ap (line_item (ended_lines before)) (is ∙ a.line)
     ∙ sym (pam_item_is before 10 ∙ ap (λ (long : Bool). pam_by long (10 == 10) (line_item (ended_lines before) (last_line before))) (is_short old before a lt))
 
 -- a LF was judged and taken
-feed : (old new : PamScanner) (line : List ℕ) (j : Judgement) → old.length < 65533 → new.length ≡ old.length + 1 → line ≡ old.line.items → new.line.items ≡ [] → JudgesLine old.fields line new.fields j
+feed : (old new : PamScanner) (line : List ℕ) (j : Judgement) → old.length < 65533 → new.length ≡ old.length + 1 → line ≡ old.line.items → new.line.items ≡ []
+    → JudgesLine old.fields line new.fields j
     → JudgesByte pam_item (IsPamAfter old) (IsPamAfter new) (IsPamWhole new) 10 j
 feed old new line j lt l is none judges before a =
     elim (judges (ended_lines before) a.fields) [
       | inl taken ↦ inl (
         feed_judged old line j before lt is a taken.0,
-        feed_taken new j before (l ∙ ap (λ (n : ℕ). n + 1) a.length_is) none (subst (λ (line : List ℕ). TakesLine new.fields j (ended_lines before ++ line ∷ [])) (is ∙ a.line) taken.1),
+        feed_taken new j before (l ∙ ap (λ (n : ℕ). n + 1) a.length_is) none
+            (subst (λ (line : List ℕ). TakesLine new.fields j (ended_lines before ++ line ∷ [])) (is ∙ a.line) taken.1),
       )
       | inr memory ↦ inr memory
     ]
 
 -- a LF, after which the line is judged
-pub pam_feed : (old new : PamScanner) (b : ℕ) (line : List ℕ) (j : Judgement) → old.length < 65533 → b ≡ 10 → new.length ≡ old.length + 1 → line ≡ old.line.items → new.line.items ≡ [] → JudgesLine old.fields line new.fields j
+pub pam_feed : (old new : PamScanner) (b : ℕ) (line : List ℕ) (j : Judgement) → old.length < 65533 → b ≡ 10 → new.length ≡ old.length + 1
+    → line ≡ old.line.items → new.line.items ≡ [] → JudgesLine old.fields line new.fields j
     → JudgesByte pam_item (IsPamAfter old) (IsPamAfter new) (IsPamWhole new) b j
-pam_feed old new b line j lt e l is none judges = subst (λ (b : ℕ). JudgesByte pam_item (IsPamAfter old) (IsPamAfter new) (IsPamWhole new) b j) (sym e) (feed old new line j lt l is none judges)
+pam_feed old new b line j lt e l is none judges = subst (λ (b : ℕ). JudgesByte pam_item (IsPamAfter old) (IsPamAfter new) (IsPamWhole new) b j) (sym e)
+    (feed old new line j lt l is none judges)
 
 -- ---- the head
 
@@ -109,7 +117,8 @@ pam_no_feed fault text after (inl e) = inl (head_at_is text ∙ ap head_from e)
 pam_no_feed fault text after (inr outside) = inr outside
 
 -- the header is at fault
-pub pam_missed : (old : PamScanner) (is_whole : List ℕ → Type 0) (fault : InputFault) (text rest after : List ℕ) → IsPamAfter old [] → line_feed_item text ≡ Ok rest → Scans pam_item header_end (IsPamAfter old) is_whole (Err fault) rest after
+pub pam_missed : (old : PamScanner) (is_whole : List ℕ → Type 0) (fault : InputFault) (text rest after : List ℕ) → IsPamAfter old []
+    → line_feed_item text ≡ Ok rest → Scans pam_item header_end (IsPamAfter old) is_whole (Err fault) rest after
     → Finds pam_head_at (Err fault) text after
 pam_missed old is_whole fault text rest after fresh feed scans =
     elim (scans [] fresh) [
@@ -118,7 +127,8 @@ pam_missed old is_whole fault text rest after fresh feed scans =
     ]
 
 -- the tuple type of a header that was taken
-pub pam_type : (old now : PamScanner) (rest after : List ℕ) → IsPamAfter old [] → Scans pam_item header_end (IsPamAfter old) (IsPamWhole now) (Ok tt) rest after → IsTupleType now.fields.tuple_type.items
+pub pam_type : (old now : PamScanner) (rest after : List ℕ) → IsPamAfter old [] → Scans pam_item header_end (IsPamAfter old) (IsPamWhole now) (Ok tt) rest after
+    → IsTupleType now.fields.tuple_type.items
 pam_type old now rest after fresh scans =
     let s = scans [] fresh in
     subst IsTupleType (sym s.1.tuple_type) (tuple_type_in-is (ended_lines s.0) (ended_lines-are s.0) s.1.short)
@@ -128,20 +138,23 @@ abbrev pub HeadOfFields : Fields → Result HeadValue InputFault → Type 0
 HeadOfFields fields result = (lines : List (List ℕ)) → IsFields fields lines → GivesInMemory result (lines_item lines)
 
 -- the head of the lines of a piece
-given_after : (result : Result HeadValue InputFault) (text rest piece after : List ℕ) → line_feed_item text ≡ Ok rest → piece_from pam_item header_end [] rest ≡ Ok (piece, after) → GivesInMemory result (lines_item (ended_lines piece))
+given_after : (result : Result HeadValue InputFault) (text rest piece after : List ℕ) → line_feed_item text ≡ Ok rest
+    → piece_from pam_item header_end [] rest ≡ Ok (piece, after) → GivesInMemory result (lines_item (ended_lines piece))
     → Finds pam_head_at result text after
 given_after (Ok head) text rest piece after feed p gives = head_at_is text ∙ ap head_from feed ∙ ap head_after p ∙ ap (head_with after) gives
 given_after (Err fault) text rest piece after feed p (inl memory) = inr (inr memory)
 given_after (Err fault) text rest piece after feed p (inr lines) = inl (head_at_is text ∙ ap head_from feed ∙ ap head_after p ∙ ap (head_with after) lines)
 
 -- the header was taken, and its head given
-pub pam_found : (old now : PamScanner) (result : Result HeadValue InputFault) (text rest after : List ℕ) → IsPamAfter old [] → HeadOfFields now.fields result → line_feed_item text ≡ Ok rest
+pub pam_found : (old now : PamScanner) (result : Result HeadValue InputFault) (text rest after : List ℕ) → IsPamAfter old [] → HeadOfFields now.fields result
+    → line_feed_item text ≡ Ok rest
     → Scans pam_item header_end (IsPamAfter old) (IsPamWhole now) (Ok tt) rest after → Finds pam_head_at result text after
 pam_found old now result text rest after fresh gives feed scans =
     let s = scans [] fresh in
     given_after result text rest s.0 after feed s.2 (gives (ended_lines s.0) s.1)
 
 -- its fault is none of the reader's
-pub pam_of_text : (old now : PamScanner) (result : Result HeadValue InputFault) (rest after : List ℕ) → IsPamAfter old [] → HeadOfFields now.fields result → Scans pam_item header_end (IsPamAfter old) (IsPamWhole now) (Ok tt) rest after
+pub pam_of_text : (old now : PamScanner) (result : Result HeadValue InputFault) (rest after : List ℕ) → IsPamAfter old [] → HeadOfFields now.fields result
+    → Scans pam_item header_end (IsPamAfter old) (IsPamWhole now) (Ok tt) rest after
     → result ≡ Err ReadFailed → ⊥
 pam_of_text old now result rest after fresh gives scans = let s = scans [] fresh in lines_of_text (ended_lines s.0) result (gives (ended_lines s.0) s.1)

@@ -10,30 +10,38 @@ pub all_are_left : {A : Type 0} (item : List ℕ → Result (A × List ℕ) Inpu
 all_are_left item n text = none_before (in_turn item n text)
 
 -- so many more were found
-some_are_read : {A : Type 0} (item : List ℕ → Result (A × List ℕ) InputFault) (n more : ℕ) (items found : List A) (text rest : List ℕ) → in_turn item n text ≡ Ok (found, rest)
+some_are_read : {A : Type 0} (item : List ℕ → Result (A × List ℕ) InputFault) (n more : ℕ) (items found : List A) (text rest : List ℕ)
+    → in_turn item n text ≡ Ok (found, rest)
     → and_turns item (n + more) items text ≡ and_turns item more (items ++ found) rest
 some_are_read item n more items found text rest e =
-    ap (λ r. r >>= λ others. turned (items ++ others.0) others.1) (in_turn-add item n more text ∙ ap (λ r. r >>= λ first. and_turns item more first.0 first.1) e)
+    ap (λ r. r >>= λ others. turned (items ++ others.0) others.1)
+    (in_turn-add item n more text ∙ ap (λ r. r >>= λ first. and_turns item more first.0 first.1) e)
     ∙ after_both items found (in_turn item more rest)
 
 -- one of them is at fault
-some_fail : {A : Type 0} (item : List ℕ → Result (A × List ℕ) InputFault) (n more : ℕ) (items : List A) (text : List ℕ) (k : InputFault) → in_turn item n text ≡ Err k → and_turns item (n + more) items text ≡ Err k
-some_fail item n more items text k e = ap (λ r. r >>= λ others. turned (items ++ others.0) others.1) (in_turn-add item n more text ∙ ap (λ r. r >>= λ first. and_turns item more first.0 first.1) e)
+some_fail : {A : Type 0} (item : List ℕ → Result (A × List ℕ) InputFault) (n more : ℕ) (items : List A) (text : List ℕ) (k : InputFault)
+    → in_turn item n text ≡ Err k → and_turns item (n + more) items text ≡ Err k
+some_fail item n more items text k e =
+    ap (λ r. r >>= λ others. turned (items ++ others.0) others.1)
+    (in_turn-add item n more text ∙ ap (λ r. r >>= λ first. and_turns item more first.0 first.1) e)
 
 -- all were read
-pub none_are_left : {A : Type 0} (item : List ℕ → Result (A × List ℕ) InputFault) (items : List A) (text : List ℕ) → and_turns item zero items text ≡ Ok (items, text)
+pub none_are_left : {A : Type 0} (item : List ℕ → Result (A × List ℕ) InputFault) (items : List A) (text : List ℕ)
+    → and_turns item zero items text ≡ Ok (items, text)
 unfolding in_turn
 none_are_left item items text = ap (λ l. turned l text) (append-nil items)
 
 -- ---- a part of the items that are left
 
-pub part_fails : {A : Type 0} (item : List ℕ → Result (A × List ℕ) InputFault) (all more n : ℕ) (items : List A) (text now : List ℕ) (k : InputFault) → n ≤ more → in_turn item n now ≡ Err k
+pub part_fails : {A : Type 0} (item : List ℕ → Result (A × List ℕ) InputFault) (all more n : ℕ) (items : List A) (text now : List ℕ) (k : InputFault) → n ≤ more
+    → in_turn item n now ≡ Err k
     → in_turn item all text ≡ and_turns item more items now → in_turn item all text ≡ Err k
 part_fails item all more n items text now k most e known =
     let split : more ≡ n + (more - n) = omega arith in
     known ∙ ap (λ (m : ℕ). and_turns item m items now) split ∙ some_fail item n (more - n) items now k e
 
-pub part_is_read : {A : Type 0} (item : List ℕ → Result (A × List ℕ) InputFault) (all more n : ℕ) (items found : List A) (text now rest : List ℕ) → n ≤ more → in_turn item n now ≡ Ok (found, rest)
+pub part_is_read : {A : Type 0} (item : List ℕ → Result (A × List ℕ) InputFault) (all more n : ℕ) (items found : List A) (text now rest : List ℕ) → n ≤ more
+    → in_turn item n now ≡ Ok (found, rest)
     → in_turn item all text ≡ and_turns item more items now → in_turn item all text ≡ and_turns item (more - n) (items ++ found) rest
 part_is_read item all more n items found text now rest most e known =
     let split : more ≡ n + (more - n) = omega arith in
@@ -41,7 +49,8 @@ part_is_read item all more n items found text now rest most e known =
 
 -- ---- one item
 
-pub one_is_read : {A : Type 0} (item : List ℕ → Result (A × List ℕ) InputFault) (found : A) (text rest : List ℕ) → item text ≡ Ok (found, rest) → in_turn item 1 text ≡ Ok (found ∷ [], rest)
+pub one_is_read : {A : Type 0} (item : List ℕ → Result (A × List ℕ) InputFault) (found : A) (text rest : List ℕ) → item text ≡ Ok (found, rest)
+    → in_turn item 1 text ≡ Ok (found ∷ [], rest)
 unfolding in_turn
 one_is_read item found text rest e = rw e refl
 

@@ -1,5 +1,6 @@
 -- The bytes of a plain sample's piece: how each is judged, what a step of the piece finds, and how the gap before the sample is gone over.
-use Rattle.std.proofs.Common.{◌≡◌, ℕ, ◌+◌, ◌-◌, ◌*◌, ◌<◌, ◌≤◌, Bool, true, false, not, cond, ◌&&◌, ◌||◌, List, [], ◌∷◌, ◌++◌, length, Option, Some, None, Result, Ok, Err, refl, sym, ap, ap₂, subst, ◌∙◌, append_assoc, append-nil, length-append, arith, inl, inr}
+use Rattle.std.proofs.Common.{◌≡◌, ℕ, ◌+◌, ◌-◌, ◌*◌, ◌<◌, ◌≤◌, Bool, true, false, not, cond, ◌&&◌, ◌||◌, List, [], ◌∷◌, ◌++◌, length, Option, Some, None}
+use Rattle.std.proofs.Common.{Result, Ok, Err, refl, sym, ap, ap₂, subst, ◌∙◌, append_assoc, append-nil, length-append, arith, inl, inr}
 use Rattle.std.specs.Prelude.{◌==◌, nat_le, if◌then◌else◌, filter}
 use Rattle.std.specs.List.{AllPass}
 use Rattle.std.proofs.lemmas.Bool.{lt-leb, eqb-true, and_right}
@@ -21,21 +22,26 @@ use Rattle.pnm_read.specs.declared.decimal.TheConstants.{GAP_LIMIT}
 -- ---- one byte more
 
 -- a digit outside comments is one more digit of the number
-pub number_in-digit : (before : List ℕ) (b : ℕ) → ends_in_comment before ≡ false → is_digit b ≡ true → number_in (before ++ b ∷ []) ≡ number_in before * 10 + (b - 48)
+pub number_in-digit : (before : List ℕ) (b : ℕ) → ends_in_comment before ≡ false → is_digit b ≡ true
+    → number_in (before ++ b ∷ []) ≡ number_in before * 10 + (b - 48)
 number_in-digit before b e h =
     let digits : List ℕ = filter is_digit (uncommented before) in
     let left : filter is_digit (uncommented (before ++ b ∷ [])) ≡ digits ++ b ∷ [] =
-    ap (λ (t : List ℕ). filter is_digit t) (uncommented-plain before b e (digit_is_not_sharp b h)) ∙ filter-append is_digit (uncommented before) (b ∷ []) ∙ ap (λ (t : Bool). digits ++ cond t (b ∷ []) []) h in
+    ap (λ (t : List ℕ). filter is_digit t) (uncommented-plain before b e (digit_is_not_sharp b h)) ∙ filter-append is_digit (uncommented before) (b ∷ [])
+    ∙ ap (λ (t : Bool). digits ++ cond t (b ∷ []) []) h in
     ap decimal_value left ∙ digits_value_push 10 digits b ∙ ap (λ (n : ℕ). number_in before * 10 + n) (digit_value_is b h)
 
 -- outside comments, a byte that is no digit leaves the digits
-digits_stay : (before : List ℕ) (b : ℕ) (mark : Bool) → ends_in_comment before ≡ false → (b == 35) ≡ mark → is_digit b ≡ false → filter is_digit (uncommented (before ++ b ∷ [])) ≡ filter is_digit (uncommented before)
+digits_stay : (before : List ℕ) (b : ℕ) (mark : Bool) → ends_in_comment before ≡ false → (b == 35) ≡ mark → is_digit b ≡ false
+    → filter is_digit (uncommented (before ++ b ∷ [])) ≡ filter is_digit (uncommented before)
 digits_stay before b true e m h = ap (λ (t : List ℕ). filter is_digit t) (uncommented-comment before b (inr (eqb-true b 35 m)))
 digits_stay before b false e m h =
     let digits : List ℕ = filter is_digit (uncommented before) in
-    ap (λ (t : List ℕ). filter is_digit t) (uncommented-plain before b e m) ∙ filter-append is_digit (uncommented before) (b ∷ []) ∙ ap (λ (t : Bool). digits ++ cond t (b ∷ []) []) h ∙ append-nil digits
+    ap (λ (t : List ℕ). filter is_digit t) (uncommented-plain before b e m) ∙ filter-append is_digit (uncommented before) (b ∷ [])
+    ∙ ap (λ (t : Bool). digits ++ cond t (b ∷ []) []) h ∙ append-nil digits
 
-number_by : (before : List ℕ) (b : ℕ) (inside : Bool) → ends_in_comment before ≡ inside → (not inside && is_digit b) ≡ false → number_in (before ++ b ∷ []) ≡ number_in before
+number_by : (before : List ℕ) (b : ℕ) (inside : Bool) → ends_in_comment before ≡ inside → (not inside && is_digit b) ≡ false
+    → number_in (before ++ b ∷ []) ≡ number_in before
 number_by before b true e h = ap (λ (t : List ℕ). decimal_value (filter is_digit t)) (uncommented-comment before b (inl e))
 number_by before b false e h = ap decimal_value (digits_stay before b (b == 35) e refl h)
 
@@ -73,7 +79,8 @@ piece_by item at_end before b text j = elim j [
 ]
 
 -- a piece from a byte on is as the byte is judged
-pub piece_step : (item : List ℕ → ℕ → Judgement) (at_end : List ℕ → Option InputFault) (before : List ℕ) (b : ℕ) (text : List ℕ) (j : Judgement) → item before b ≡ j
+pub piece_step : (item : List ℕ → ℕ → Judgement) (at_end : List ℕ → Option InputFault) (before : List ℕ) (b : ℕ) (text : List ℕ) (j : Judgement)
+    → item before b ≡ j
     → piece_from item at_end before (b ∷ text) ≡ piece_by item at_end before b text j
 unfolding piece_from
 piece_step item at_end before b text j e = ap (piece_by item at_end before b text) e
@@ -85,7 +92,8 @@ FoundBy item at_end before b text found EndsWith = (before ++ b ∷ [], text) �
 FoundBy item at_end before b text found EndsBefore = (before, b ∷ text) ≡ found
 FoundBy item at_end before b text found GoesOn = piece_from item at_end (before ++ b ∷ []) text ≡ Ok found
 
-found_by : (item : List ℕ → ℕ → Judgement) (at_end : List ℕ → Option InputFault) (before : List ℕ) (b : ℕ) (text : List ℕ) (found : List ℕ × List ℕ) (j : Judgement)
+found_by : (item : List ℕ → ℕ → Judgement) (at_end : List ℕ → Option InputFault) (before : List ℕ) (b : ℕ) (text : List ℕ) (found : List ℕ × List ℕ)
+    (j : Judgement)
     → piece_by item at_end before b text j ≡ Ok found → FoundBy item at_end before b text found j
 found_by item at_end before b text found (Fails fault) e = cc
 found_by item at_end before b text found EndsWith e = ok_is (before ++ b ∷ [], text) found e
@@ -103,31 +111,38 @@ abbrev pub piece_at_end : List ℕ → Option InputFault → Result (List ℕ ×
 piece_at_end before at_end = elim at_end [ Some fault ↦ Err fault | None ↦ Ok (before, []) ]
 
 -- where a text has ended and a piece was found, that is what came before
-ended_with : (at_end : Option InputFault) (before : List ℕ) (found : List ℕ × List ℕ) → piece_at_end before at_end ≡ Ok found → (at_end ≡ None) × ((before, []) ≡ found)
+ended_with : (at_end : Option InputFault) (before : List ℕ) (found : List ℕ × List ℕ) → piece_at_end before at_end ≡ Ok found
+    → (at_end ≡ None) × ((before, []) ≡ found)
 ended_with (Some fault) before found e = absurd cc
 ended_with None before found e = (refl, ok_is (before, []) found e)
 
-pub found_at_end : (item : List ℕ → ℕ → Judgement) (at_end : List ℕ → Option InputFault) (before : List ℕ) (found : List ℕ × List ℕ) → piece_from item at_end before [] ≡ Ok found → (at_end before ≡ None) × ((before, []) ≡ found)
+pub found_at_end : (item : List ℕ → ℕ → Judgement) (at_end : List ℕ → Option InputFault) (before : List ℕ) (found : List ℕ × List ℕ)
+    → piece_from item at_end before [] ≡ Ok found → (at_end before ≡ None) × ((before, []) ≡ found)
 unfolding piece_from
 found_at_end item at_end before found e = ended_with (at_end before) before found e
 
 -- a piece ends where the text does, if that is no fault
-pub piece_ends : (item : List ℕ → ℕ → Judgement) (at_end : List ℕ → Option InputFault) (before : List ℕ) → at_end before ≡ None → piece_from item at_end before [] ≡ Ok (before, [])
+pub piece_ends : (item : List ℕ → ℕ → Judgement) (at_end : List ℕ → Option InputFault) (before : List ℕ) → at_end before ≡ None
+    → piece_from item at_end before [] ≡ Ok (before, [])
 unfolding piece_from
 piece_ends item at_end before e = ap (piece_at_end before) e
 
 -- a piece and its rest are the whole text
-whole_by : (item : List ℕ → ℕ → Judgement) (at_end : List ℕ → Option InputFault) (before : List ℕ) (b : ℕ) (text : List ℕ) (found : List ℕ × List ℕ) (j : Judgement)
-    → (piece_from item at_end (before ++ b ∷ []) text ≡ Ok found → (before ++ b ∷ []) ++ text ≡ found.0 ++ found.1) → FoundBy item at_end before b text found j → before ++ b ∷ text ≡ found.0 ++ found.1
+whole_by : (item : List ℕ → ℕ → Judgement) (at_end : List ℕ → Option InputFault) (before : List ℕ) (b : ℕ) (text : List ℕ) (found : List ℕ × List ℕ)
+    (j : Judgement)
+    → (piece_from item at_end (before ++ b ∷ []) text ≡ Ok found → (before ++ b ∷ []) ++ text ≡ found.0 ++ found.1) → FoundBy item at_end before b text found j
+    → before ++ b ∷ text ≡ found.0 ++ found.1
 whole_by item at_end before b text found (Fails fault) on h = absurd h
 whole_by item at_end before b text found EndsWith on h = sym (append_assoc before (b ∷ []) text) ∙ ap (λ (f : List ℕ × List ℕ). f.0 ++ f.1) h
 whole_by item at_end before b text found EndsBefore on h = ap (λ (f : List ℕ × List ℕ). f.0 ++ f.1) h
 whole_by item at_end before b text found GoesOn on h = sym (append_assoc before (b ∷ []) text) ∙ on h
 
-pub found_is_whole : (item : List ℕ → ℕ → Judgement) (at_end : List ℕ → Option InputFault) (text before : List ℕ) (found : List ℕ × List ℕ) → piece_from item at_end before text ≡ Ok found → before ++ text ≡ found.0 ++ found.1
+pub found_is_whole : (item : List ℕ → ℕ → Judgement) (at_end : List ℕ → Option InputFault) (text before : List ℕ) (found : List ℕ × List ℕ)
+    → piece_from item at_end before text ≡ Ok found → before ++ text ≡ found.0 ++ found.1
 found_is_whole item at_end [] before found e = ap (λ (f : List ℕ × List ℕ). f.0 ++ f.1) (found_at_end item at_end before found e).1
 found_is_whole item at_end (b ∷ text) before found e =
-    whole_by item at_end before b text found (item before b) (found_is_whole item at_end text (before ++ b ∷ []) found) (found_from item at_end before b text found e)
+    whole_by item at_end before b text found (item before b) (found_is_whole item at_end text (before ++ b ∷ []) found)
+    (found_from item at_end before b text found e)
 
 -- ---- bytes of a gap
 
@@ -152,45 +167,56 @@ pub ends_in_digit-push : (before : List ℕ) (b : ℕ) → ends_in_digit (before
 ends_in_digit-push before b = ap₂ (λ (i d : Bool). not i && d) (commented_after-push before b) (ends_by-push is_digit before b)
 
 -- the first byte of a gap that goes on, outside comments
-outside_head : (t : Bool) (b : ℕ) (gap : List ℕ) → (b == 35) ≡ t → AllPass is_white (if t then uncommented_from (b == 35) gap else b ∷ uncommented_from false gap)
+outside_head : (t : Bool) (b : ℕ) (gap : List ℕ) → (b == 35) ≡ t
+    → AllPass is_white (if t then uncommented_from (b == 35) gap else b ∷ uncommented_from false gap)
     → (is_apart b ≡ true) × AllPass is_white (uncommented_from (b == 35) gap)
 outside_head true b gap e h = (grind (arith, nat_tests), h)
 outside_head false b gap e h =
-    let first : is_white b ≡ true = All-head (λ x. is_white x ≡ true) b (uncommented_from false gap) h in
-    (ap (λ (t : Bool). t || (b == 35)) first, subst (λ (t : Bool). AllPass is_white (uncommented_from t gap)) (sym e) (All-tail (λ x. is_white x ≡ true) b (uncommented_from false gap) h))
+    let first : is_white b ≡ true = All-head (λ x. is_white x ≡ true) b (uncommented_from false gap) h in (
+      ap (λ (t : Bool). t || (b == 35)) first,
+      subst (λ (t : Bool). AllPass is_white (uncommented_from t gap)) (sym e)
+          (All-tail (λ x. is_white x ≡ true) b (uncommented_from false gap) h),
+    )
 
 -- the first byte of a gap that goes on, and the gap after it
-gap_head : (inside : Bool) (b : ℕ) (gap : List ℕ) → AllPass is_white (uncommented_from inside (b ∷ gap)) → (in_gap inside b ≡ true) × AllPass is_white (uncommented_from (commented inside b) gap)
+gap_head : (inside : Bool) (b : ℕ) (gap : List ℕ) → AllPass is_white (uncommented_from inside (b ∷ gap)) → (in_gap inside b ≡ true)
+    × AllPass is_white (uncommented_from (commented inside b) gap)
 unfolding uncommented_from
 gap_head true b gap h = (refl, h)
 gap_head false b gap h = outside_head (b == 35) b gap refl h
 
 -- such a byte leaves what is not cut out white
-white-push : (t : Bool) (before : List ℕ) (b : ℕ) → (b == 35) ≡ t → ends_in_comment before ≡ false → is_apart b ≡ true → AllPass is_white (uncommented before) → AllPass is_white (uncommented (before ++ b ∷ []))
+white-push : (t : Bool) (before : List ℕ) (b : ℕ) → (b == 35) ≡ t → ends_in_comment before ≡ false → is_apart b ≡ true → AllPass is_white (uncommented before)
+    → AllPass is_white (uncommented (before ++ b ∷ []))
 white-push true before b e out h all = subst (AllPass is_white) (sym (uncommented-comment before b (inr (eqb-true b 35 e)))) all
 white-push false before b e out h all =
     let white : is_white b ≡ true = grind (arith, nat_tests) in
     subst (AllPass is_white) (sym (uncommented-plain before b out e)) (All-push (λ x. is_white x ≡ true) (uncommented before) b all white)
 
-white_by : (inside : Bool) (before : List ℕ) (b : ℕ) → ends_in_comment before ≡ inside → in_gap inside b ≡ true → AllPass is_white (uncommented before) → AllPass is_white (uncommented (before ++ b ∷ []))
+white_by : (inside : Bool) (before : List ℕ) (b : ℕ) → ends_in_comment before ≡ inside → in_gap inside b ≡ true → AllPass is_white (uncommented before)
+    → AllPass is_white (uncommented (before ++ b ∷ []))
 white_by true before b e h all = subst (AllPass is_white) (sym (uncommented-comment before b (inl e))) all
 white_by false before b e h all = white-push (b == 35) before b refl e h all
 
 -- a gap with one of its bytes more is white
-pub gap-push : (before : List ℕ) (b : ℕ) → in_gap (ends_in_comment before) b ≡ true → AllPass is_white (uncommented before) → AllPass is_white (uncommented (before ++ b ∷ []))
+pub gap-push : (before : List ℕ) (b : ℕ) → in_gap (ends_in_comment before) b ≡ true → AllPass is_white (uncommented before)
+    → AllPass is_white (uncommented (before ++ b ∷ []))
 gap-push before b h all = white_by (ends_in_comment before) before b refl h all
 
 -- ---- over a gap
 
 -- a byte of a gap lets the piece go on
 abbrev pub GoesOverGaps : (List ℕ → ℕ → Judgement) → Type 0
-GoesOverGaps item = (before : List ℕ) (b : ℕ) → length before < GAP_LIMIT → ends_in_digit before ≡ false → in_gap (ends_in_comment before) b ≡ true → item before b ≡ GoesOn
+GoesOverGaps item = (before : List ℕ) (b : ℕ) → length before < GAP_LIMIT → ends_in_digit before ≡ false → in_gap (ends_in_comment before) b ≡ true
+    → item before b ≡ GoesOn
 
 -- what holds after a gap: the piece goes on, and doesn't end in a digit
 abbrev pub AfterGap : (List ℕ → ℕ → Judgement) → (List ℕ → Option InputFault) → List ℕ → List ℕ → List ℕ → Type 0
-AfterGap item at_end before gap rest = (piece_from item at_end before (gap ++ rest) ≡ piece_from item at_end (before ++ gap) rest) × (ends_in_digit (before ++ gap) ≡ false)
+AfterGap item at_end before gap rest = (piece_from item at_end before (gap ++ rest) ≡ piece_from item at_end (before ++ gap) rest)
+    × (ends_in_digit (before ++ gap) ≡ false)
 
-pub over_gap : (item : List ℕ → ℕ → Judgement) (at_end : List ℕ → Option InputFault) → GoesOverGaps item → (gap before rest : List ℕ) → ends_in_digit before ≡ false
+pub over_gap : (item : List ℕ → ℕ → Judgement) (at_end : List ℕ → Option InputFault) → GoesOverGaps item → (gap before rest : List ℕ)
+    → ends_in_digit before ≡ false
     → AllPass is_white (uncommented_from (ends_in_comment before) gap) → length before + length gap ≤ GAP_LIMIT → AfterGap item at_end before gap rest
 over_gap item at_end on [] before rest out white short =
     let whole : before ++ [] ≡ before = append-nil before in
@@ -199,7 +225,8 @@ over_gap item at_end on (b ∷ gap) before rest out white short =
     let head = gap_head (ends_in_comment before) b gap white in
     let here : item before b ≡ GoesOn = on before b (omega arith) out head.0 in
     let no_digit : ends_in_digit (before ++ b ∷ []) ≡ false = ends_in_digit-push before b ∙ after_gap_byte (ends_in_comment before) b head.0 in
-    let left : AllPass is_white (uncommented_from (ends_in_comment (before ++ b ∷ [])) gap) = subst (λ (i : Bool). AllPass is_white (uncommented_from i gap)) (sym (commented_after-push before b)) head.1 in
+    let left : AllPass is_white (uncommented_from (ends_in_comment (before ++ b ∷ [])) gap) =
+    subst (λ (i : Bool). AllPass is_white (uncommented_from i gap)) (sym (commented_after-push before b)) head.1 in
     let long : length (before ++ b ∷ []) ≡ length before + 1 = length-append before (b ∷ []) in
     let more = over_gap item at_end on gap (before ++ b ∷ []) rest no_digit left (omega arith) in
     let whole : (before ++ b ∷ []) ++ gap ≡ before ++ b ∷ gap = append_assoc before (b ∷ []) gap in (
@@ -213,7 +240,8 @@ unfolding commented_after ends_by
 nothing_ends = refl
 
 -- a whole gap is gone over
-pub over_whole_gap : (item : List ℕ → ℕ → Judgement) (at_end : List ℕ → Option InputFault) → GoesOverGaps item → (gap rest : List ℕ) → IsGap gap → length gap ≤ GAP_LIMIT → AfterGap item at_end [] gap rest
+pub over_whole_gap : (item : List ℕ → ℕ → Judgement) (at_end : List ℕ → Option InputFault) → GoesOverGaps item → (gap rest : List ℕ) → IsGap gap
+    → length gap ≤ GAP_LIMIT → AfterGap item at_end [] gap rest
 unfolding commented_after
 over_whole_gap item at_end on gap rest g short = over_gap item at_end on gap [] rest nothing_ends g.white (omega arith)
 
@@ -227,19 +255,22 @@ decimal_by long bad complete = if long && not complete then Fails TooLong else i
 abbrev pub is_bad_in_decimal : Bool → ℕ → Bool
 is_bad_in_decimal inside b = not inside && not (is_digit b || is_apart b)
 
-pub decimal_item_is : (before : List ℕ) (b : ℕ) → decimal_item before b ≡ decimal_by (nat_le GAP_LIMIT (length before)) (is_bad_in_decimal (ends_in_comment before) b) (is_complete before b)
+pub decimal_item_is : (before : List ℕ) (b : ℕ)
+    → decimal_item before b ≡ decimal_by (nat_le GAP_LIMIT (length before)) (is_bad_in_decimal (ends_in_comment before) b) (is_complete before b)
 unfolding decimal_item
 decimal_item_is before b = refl
 
 -- each judgement, from the tests
-pub decimal_goes_on : (before : List ℕ) (b : ℕ) → length before < GAP_LIMIT → is_bad_in_decimal (ends_in_comment before) b ≡ false → is_complete before b ≡ false → decimal_item before b ≡ GoesOn
+pub decimal_goes_on : (before : List ℕ) (b : ℕ) → length before < GAP_LIMIT → is_bad_in_decimal (ends_in_comment before) b ≡ false
+    → is_complete before b ≡ false → decimal_item before b ≡ GoesOn
 decimal_goes_on before b short good more = decimal_item_is before b ∙ rw (lt-leb GAP_LIMIT (length before) short, good, more) refl
 
 ends_before_by : (long bad complete : Bool) → bad ≡ false → complete ≡ true → decimal_by long bad complete ≡ EndsBefore
 ends_before_by true bad complete b c = rw (b, c) refl
 ends_before_by false bad complete b c = rw (b, c) refl
 
-pub decimal_ends_before : (before : List ℕ) (b : ℕ) → is_bad_in_decimal (ends_in_comment before) b ≡ false → is_complete before b ≡ true → decimal_item before b ≡ EndsBefore
+pub decimal_ends_before : (before : List ℕ) (b : ℕ) → is_bad_in_decimal (ends_in_comment before) b ≡ false → is_complete before b ≡ true
+    → decimal_item before b ≡ EndsBefore
 decimal_ends_before before b good end =
     decimal_item_is before b ∙ ends_before_by (nat_le GAP_LIMIT (length before)) (is_bad_in_decimal (ends_in_comment before) b) (is_complete before b) good end
 
@@ -264,7 +295,9 @@ abbrev pub DecimalTold : List ℕ → ℕ → Judgement → Type 0
 DecimalTold before b j = DecimalTests (nat_le GAP_LIMIT (length before)) (is_bad_in_decimal (ends_in_comment before) b) (is_complete before b) j
 
 pub decimal_told : (before : List ℕ) (b : ℕ) → DecimalTold before b (decimal_item before b)
-decimal_told before b = subst (DecimalTold before b) (sym (decimal_item_is before b)) (decimal_tests (nat_le GAP_LIMIT (length before)) (is_bad_in_decimal (ends_in_comment before) b) (is_complete before b))
+decimal_told before b =
+    subst (DecimalTold before b) (sym (decimal_item_is before b))
+    (decimal_tests (nat_le GAP_LIMIT (length before)) (is_bad_in_decimal (ends_in_comment before) b) (is_complete before b))
 
 -- ---- bytes of a pixel
 
@@ -275,14 +308,17 @@ pixel_by long bad pixel = if long then Fails TooLong else if bad then Fails BadS
 abbrev pub is_bad_in_pixels : Bool → ℕ → Bool
 is_bad_in_pixels inside b = not inside && not (is_pixel b || is_apart b)
 
-pub pixel_item_is : (before : List ℕ) (b : ℕ) → pixel_item before b ≡ pixel_by (nat_le GAP_LIMIT (length before)) (is_bad_in_pixels (ends_in_comment before) b) (not (ends_in_comment before) && is_pixel b)
+pub pixel_item_is : (before : List ℕ) (b : ℕ) → pixel_item before b ≡ pixel_by (nat_le GAP_LIMIT (length before)) (is_bad_in_pixels (ends_in_comment before) b)
+    (not (ends_in_comment before) && is_pixel b)
 unfolding pixel_item
 pixel_item_is before b = refl
 
-pixel_goes_on : (before : List ℕ) (b : ℕ) → length before < GAP_LIMIT → is_bad_in_pixels (ends_in_comment before) b ≡ false → (not (ends_in_comment before) && is_pixel b) ≡ false → pixel_item before b ≡ GoesOn
+pixel_goes_on : (before : List ℕ) (b : ℕ) → length before < GAP_LIMIT → is_bad_in_pixels (ends_in_comment before) b ≡ false
+    → (not (ends_in_comment before) && is_pixel b) ≡ false → pixel_item before b ≡ GoesOn
 pixel_goes_on before b short good more = pixel_item_is before b ∙ rw (lt-leb GAP_LIMIT (length before) short, good, more) refl
 
-pub pixel_ends_with : (before : List ℕ) (b : ℕ) → length before < GAP_LIMIT → is_bad_in_pixels (ends_in_comment before) b ≡ false → (not (ends_in_comment before) && is_pixel b) ≡ true → pixel_item before b ≡ EndsWith
+pub pixel_ends_with : (before : List ℕ) (b : ℕ) → length before < GAP_LIMIT → is_bad_in_pixels (ends_in_comment before) b ≡ false
+    → (not (ends_in_comment before) && is_pixel b) ≡ true → pixel_item before b ≡ EndsWith
 pixel_ends_with before b short good end = pixel_item_is before b ∙ rw (lt-leb GAP_LIMIT (length before) short, good, end) refl
 
 abbrev PixelTests : Bool → Bool → Bool → Judgement → Type 0
@@ -299,10 +335,13 @@ pixel_tests false false false = (refl, refl, refl)
 
 -- what a judgement of a byte of a pixel's piece tells
 abbrev pub PixelTold : List ℕ → ℕ → Judgement → Type 0
-PixelTold before b j = PixelTests (nat_le GAP_LIMIT (length before)) (is_bad_in_pixels (ends_in_comment before) b) (not (ends_in_comment before) && is_pixel b) j
+PixelTold before b j = PixelTests (nat_le GAP_LIMIT (length before)) (is_bad_in_pixels (ends_in_comment before) b) (not (ends_in_comment before) && is_pixel b)
+    j
 
 pub pixel_told : (before : List ℕ) (b : ℕ) → PixelTold before b (pixel_item before b)
-pixel_told before b = subst (PixelTold before b) (sym (pixel_item_is before b)) (pixel_tests (nat_le GAP_LIMIT (length before)) (is_bad_in_pixels (ends_in_comment before) b) (not (ends_in_comment before) && is_pixel b))
+pixel_told before b =
+    subst (PixelTold before b) (sym (pixel_item_is before b))
+    (pixel_tests (nat_le GAP_LIMIT (length before)) (is_bad_in_pixels (ends_in_comment before) b) (not (ends_in_comment before) && is_pixel b))
 
 -- ---- gaps are gone over
 
@@ -323,4 +362,5 @@ decimals_go_over_gaps before b short out h =
     decimal_goes_on before b short (good_in_gap (ends_in_comment before) b h) (ap (λ (t : Bool). t && not (is_digit b)) out)
 
 pub pixels_go_over_gaps : GoesOverGaps pixel_item
-pixels_go_over_gaps before b short out h = pixel_goes_on before b short (good_among_pixels (ends_in_comment before) b h) (no_pixel_in_gap (ends_in_comment before) b h)
+pixels_go_over_gaps before b short out h = pixel_goes_on before b short (good_among_pixels (ends_in_comment before) b h)
+    (no_pixel_in_gap (ends_in_comment before) b h)

@@ -25,7 +25,8 @@ pixel_never_before : (before : List ℕ) (b : ℕ) → pixel_item before b ≡ E
 pixel_never_before before b e = subst (PixelTold before b) e (pixel_told before b)
 
 -- the character of a white pixel is 0
-white_or_black : (zero_is one_is : Bool) → (zero_is || one_is) ≡ true → (zero_is ≡ true → one_is ≡ false) → ◌≡◌ {A = ℕ} (if zero_is then 1 else 0) (if one_is then 0 else 1)
+white_or_black : (zero_is one_is : Bool) → (zero_is || one_is) ≡ true → (zero_is ≡ true → one_is ≡ false)
+    → ◌≡◌ {A = ℕ} (if zero_is then 1 else 0) (if one_is then 0 else 1)
 white_or_black true one_is e n = rw (n refl) refl
 white_or_black false true e n = refl
 white_or_black false false e n = absurd cc
@@ -33,7 +34,8 @@ white_or_black false false e n = absurd cc
 not_both : (b : ℕ) → (b == 48) ≡ true → (b == 49) ≡ false
 not_both b e = grind (arith, nat_tests)
 
-pub pixel_goes_on : (old new : PixelScanner) (b : ℕ) (j : Judgement) → j ≡ GoesOn → JudgesPixel old b j → new.length ≡ old.length + 1 → new.in_comment ≡ commented old.in_comment b
+pub pixel_goes_on : (old new : PixelScanner) (b : ℕ) (j : Judgement) → j ≡ GoesOn → JudgesPixel old b j → new.length ≡ old.length + 1
+    → new.in_comment ≡ commented old.in_comment b
     → JudgesByte pixel_item (IsPixelAfter old) (IsPixelAfter new) (IsPixelWhole new) b j
 pixel_goes_on old new b j is h l c before a =
     let after : IsPixelAfter new (before ++ b ∷ []) = record {
@@ -46,7 +48,8 @@ pub pixel_ends_with : (old new : PixelScanner) (b : ℕ) (j : Judgement) → j �
     → JudgesByte pixel_item (IsPixelAfter old) (IsPixelAfter new) (IsPixelWhole new) b j
 pixel_ends_with old new b j is h p before a =
     let character = pixel_ends before b (sym (h before a) ∙ is) in
-    let whole : IsPixelWhole new (before ++ b ∷ []) = p ∙ white_or_black (b == 48) (b == 49) character (not_both b) ∙ ap (λ (t : Bool). if t then 0 else 1) (sym (ends_by-push (λ b. b == 49) before b)) in
+    let whole : IsPixelWhole new (before ++ b ∷ []) = p ∙ white_or_black (b == 48) (b == 49) character (not_both b)
+    ∙ ap (λ (t : Bool). if t then 0 else 1) (sym (ends_by-push (λ b. b == 49) before b)) in
     inl (h before a, rw is whole)
 
 pub pixel_not_before : (old new : PixelScanner) (b : ℕ) (j : Judgement) → j ≡ EndsBefore → JudgesPixel old b j

@@ -1,6 +1,7 @@
 -- Plain rasters: of what spells an image its rows are said, and what is said without a fault spells an image.
 use Rattle.pnm_image.specs.Formats.{is_plain_form}
-use Rattle.std.proofs.Common.{◌≡◌, ℕ, zero, suc, ◌+◌, ◌*◌, ◌<◌, ◌≤◌, Bool, true, List, [], ◌∷◌, ◌++◌, length, take, drop, map, All, None, Result, Ok, Err, refl, sym, ap, subst, ◌∙◌, append_assoc, length-append, length-drop, arith, zero-mul, suc-mul}
+use Rattle.std.proofs.Common.{◌≡◌, ℕ, zero, suc, ◌+◌, ◌*◌, ◌<◌, ◌≤◌, Bool, true, List, [], ◌∷◌, ◌++◌, length, take, drop, map, All, None, Result, Ok, Err, refl}
+use Rattle.std.proofs.Common.{sym, ap, subst, ◌∙◌, append_assoc, length-append, length-drop, arith, zero-mul, suc-mul}
 use Rattle.std.specs.Prelude.{if◌then◌else◌}
 use Rattle.std.specs.List.{concat}
 use Rattle.std.proofs.lemmas.List.{nil_from_length}
@@ -16,9 +17,9 @@ use Rattle.pnm_read.specs.declared.fault.InputFault.{InputFault}
 use Rattle.pnm_read.specs.declared.fault.InputFault.TheVariants.{BadSample}
 use Rattle.pnm_image.specs.declared.format.Format.{Format}
 use Rattle.pnm_read.specs.Texts.{begins_apart}
-use Rattle.pnm_read.specs.Rasters.{SpellsPiece, MayFollow, SpellsPlainSamples, SpellsPlain}
+use Rattle.pnm_read.specs.Rasters.{SpellsPiece, MayFollowSample, SpellsPlainSamples, SpellsPlain}
 use Rattle.pnm_read.specs.Items.{◌>>=◌, plain_sample, after_last_item}
-use Rattle.pnm_read.specs.Said.{Said, then_said, end_said, in_turn, plain_row, last_plain_row, row_by, row_at, rows_said}
+use Rattle.pnm_read.specs.Said.{Said, then_said, end_said, in_turn, plain_row, last_plain_row, row_in_form, row_at, rows_said}
 use Rattle.pnm_read.specs.Sources.{after_messages}
 use Rattle.pnm_read.proofs.RowTurns.{RowsRead, rows_count, read_rows_are_said, all_read, no_more_to_come}
 use Rattle.pnm_read.proofs.PieceLaws.{bind_ok, done, ok_is, if_ok}
@@ -26,38 +27,39 @@ use Rattle.pnm_read.proofs.SampleLaws.{IsInRange, spelled_piece_is_read, read_pi
 
 -- ---- what may follow
 
-apart_more : (front rest : List ℕ) → begins_apart front ≡ true → begins_apart rest ≡ true → begins_apart (front ++ rest) ≡ true
+apart_more : (prefix rest : List ℕ) → begins_apart prefix ≡ true → begins_apart rest ≡ true → begins_apart (prefix ++ rest) ≡ true
 apart_more [] rest f r = r
-apart_more (b ∷ front) rest f r = f
+apart_more (b ∷ prefix) rest f r = f
 
 -- where more follows a text, the same may go before both as before the text
-follows_more : (kind : Kind) (front rest : List ℕ) → MayFollow kind front → MayFollow kind rest → MayFollow kind (front ++ rest)
-follows_more Bit front rest f r = tt
-follows_more Gray front rest f r = apart_more front rest f r
-follows_more Color front rest f r = apart_more front rest f r
-follows_more Pam front rest f r = apart_more front rest f r
+follows_more : (kind : Kind) (prefix rest : List ℕ) → MayFollowSample kind prefix → MayFollowSample kind rest → MayFollowSample kind (prefix ++ rest)
+follows_more Bit prefix rest f r = tt
+follows_more Gray prefix rest f r = apart_more prefix rest f r
+follows_more Color prefix rest f r = apart_more prefix rest f r
+follows_more Pam prefix rest f r = apart_more prefix rest f r
 
 -- white space and # may follow a sample of any kind
-pub apart_follows : (kind : Kind) (rest : List ℕ) → begins_apart rest ≡ true → MayFollow kind rest
+pub apart_follows : (kind : Kind) (rest : List ℕ) → begins_apart rest ≡ true → MayFollowSample kind rest
 apart_follows Bit rest r = tt
 apart_follows Gray rest r = r
 apart_follows Color rest r = r
 apart_follows Pam rest r = r
 
-apart_less : (front rest : List ℕ) → begins_apart (front ++ rest) ≡ true → begins_apart front ≡ true
+apart_less : (prefix rest : List ℕ) → begins_apart (prefix ++ rest) ≡ true → begins_apart prefix ≡ true
 apart_less [] rest f = refl
-apart_less (b ∷ front) rest f = f
+apart_less (b ∷ prefix) rest f = f
 
-follows_less : (kind : Kind) (front rest : List ℕ) → MayFollow kind (front ++ rest) → MayFollow kind front
-follows_less Bit front rest f = tt
-follows_less Gray front rest f = apart_less front rest f
-follows_less Color front rest f = apart_less front rest f
-follows_less Pam front rest f = apart_less front rest f
+follows_less : (kind : Kind) (prefix rest : List ℕ) → MayFollowSample kind (prefix ++ rest) → MayFollowSample kind prefix
+follows_less Bit prefix rest f = tt
+follows_less Gray prefix rest f = apart_less prefix rest f
+follows_less Color prefix rest f = apart_less prefix rest f
+follows_less Pam prefix rest f = apart_less prefix rest f
 
 -- ---- samples that are spelled are read
 
 -- two items in turn, the first of which was read
-first_read : (kind : Kind) (maxval n : ℕ) (text : List ℕ) (first : ℕ × List ℕ) (more : List ℕ × List ℕ) → plain_sample kind maxval text ≡ Ok first → in_turn (plain_sample kind maxval) n first.1 ≡ Ok more
+first_read : (kind : Kind) (maxval n : ℕ) (text : List ℕ) (first : ℕ × List ℕ) (more : List ℕ × List ℕ) → plain_sample kind maxval text ≡ Ok first
+    → in_turn (plain_sample kind maxval) n first.1 ≡ Ok more
     → in_turn (plain_sample kind maxval) (suc n) text ≡ Ok (first.0 ∷ more.0, more.1)
 unfolding in_turn
 first_read kind maxval n text first more e f =
@@ -69,7 +71,8 @@ abbrev ReadsSamples : Kind → ℕ → ℕ → List ℕ → List ℕ → List �
 ReadsSamples kind maxval n text samples rest =
     (left : List ℕ) × (in_turn (plain_sample kind maxval) n (text ++ rest) ≡ Ok (take n samples, left ++ rest)) × SpellsPlainSamples kind left (drop n samples)
 
-spelled_samples_are_read : (kind : Kind) (maxval n : ℕ) (text samples rest : List ℕ) → n ≤ length samples → SpellsPlainSamples kind text samples → All (λ sample. sample ≤ maxval) samples → MayFollow kind rest
+spelled_samples_are_read : (kind : Kind) (maxval n : ℕ) (text samples rest : List ℕ) → n ≤ length samples → SpellsPlainSamples kind text samples
+    → All (λ sample. sample ≤ maxval) samples → MayFollowSample kind rest
     → ReadsSamples kind maxval n text samples rest
 unfolding in_turn
 spelled_samples_are_read kind maxval zero text samples rest le s range follows = (text, refl, s)
@@ -90,13 +93,16 @@ abbrev pub rows_and_ends : List (List ℕ) → Said
 rows_and_ends rows = record { messages = map Row rows ++ ImageEnd ∷ StreamEnd ∷ []; fault = None }
 
 -- a last row that is read, with what may follow it
-last_row_is_read : (s : Shape) (text row rest : List ℕ) → in_turn (plain_sample s.kind s.maxval) (row_length s) text ≡ Ok (row, rest) → begins_apart rest ≡ true → last_plain_row s text ≡ Ok (row, rest)
+last_row_is_read : (s : Shape) (text row rest : List ℕ) → in_turn (plain_sample s.kind s.maxval) (row_length s) text ≡ Ok (row, rest) → begins_apart rest ≡ true
+    → last_plain_row s text ≡ Ok (row, rest)
 unfolding last_plain_row plain_row after_last_item
 last_row_is_read s text row rest e apart =
-    ap (λ (r : Result (List ℕ × List ℕ) InputFault). r >>= λ x. after_last_item x.1 >>= λ y. Ok (x.0, y)) e ∙ ap (λ (t : Bool). (if t then Ok rest else Err BadSample) >>= λ y. done (row, y)) apart
+    ap (λ (r : Result (List ℕ × List ℕ) InputFault). r >>= λ x. after_last_item x.1 >>= λ y. Ok (x.0, y)) e
+    ∙ ap (λ (t : Bool). (if t then Ok rest else Err BadSample) >>= λ y. done (row, y)) apart
 
 -- a row that is read
-row_is_read : (s : Shape) (text : List ℕ) (found : List ℕ × List ℕ) → in_turn (plain_sample s.kind s.maxval) (row_length s) text ≡ Ok found → plain_row s text ≡ Ok found
+row_is_read : (s : Shape) (text : List ℕ) (found : List ℕ × List ℕ) → in_turn (plain_sample s.kind s.maxval) (row_length s) text ≡ Ok found
+    → plain_row s text ≡ Ok found
 unfolding plain_row
 row_is_read s text found e = e
 
@@ -105,17 +111,20 @@ nothing_left : (kind : Kind) (text samples : List ℕ) → samples ≡ [] → Sp
 nothing_left kind text samples e s = subst (SpellsPlainSamples kind text) e s
 
 -- a row of a plain raster is a plain one
-row_at_plain : (format : Format) (s : Shape) (n : ℕ) (text : List ℕ) → is_plain_form format.form ≡ true → row_at format s n text ≡ row_by true s n text
-row_at_plain format s n text plain = ap (λ (b : Bool). row_by b s n text) plain
+row_at_plain : (format : Format) (s : Shape) (n : ℕ) (text : List ℕ) → is_plain_form format.form ≡ true → row_at format s n text ≡ row_in_form true s n text
+row_at_plain format s n text plain = ap (λ (b : Bool). row_in_form b s n text) plain
 
 -- a plain row whose samples are read in turn
-plain_row_by : (s : Shape) (n : ℕ) (text row left : List ℕ) → in_turn (plain_sample s.kind s.maxval) (row_length s) text ≡ Ok (row, left) → (n ≡ 0 → begins_apart left ≡ true) → row_by true s n text ≡ Ok (row, left)
+plain_row_by : (s : Shape) (n : ℕ) (text row left : List ℕ) → in_turn (plain_sample s.kind s.maxval) (row_length s) text ≡ Ok (row, left)
+    → (n ≡ 0 → begins_apart left ≡ true) → row_in_form true s n text ≡ Ok (row, left)
 plain_row_by s zero text row left e last = last_row_is_read s text row left e (last refl)
 plain_row_by s (suc n) text row left e last = row_is_read s text (row, left) e
 
 -- rows that are spelled are read in turn
-pub plain_rows_in_turn : (format : Format) (s : Shape) (rows n : ℕ) (text samples : List ℕ) (more : ℕ) (rest : List ℕ) → is_plain_form format.form ≡ true → n ≡ rows + more → length samples ≡ rows * row_length s → SpellsPlainSamples s.kind text samples
-    → All (λ sample. sample ≤ s.maxval) samples → (0 < rows → MayFollow s.kind rest) → (0 < rows → more ≡ 0 → begins_apart rest ≡ true) → RowsRead format s (cut_rows rows (row_length s) samples) n (text ++ rest) more rest
+pub plain_rows_in_turn : (format : Format) (s : Shape) (rows n : ℕ) (text samples : List ℕ) (more : ℕ) (rest : List ℕ) → is_plain_form format.form ≡ true
+    → n ≡ rows + more → length samples ≡ rows * row_length s → SpellsPlainSamples s.kind text samples
+    → All (λ sample. sample ≤ s.maxval) samples → (0 < rows → MayFollowSample s.kind rest) → (0 < rows → more ≡ 0 → begins_apart rest ≡ true)
+    → RowsRead format s (cut_rows rows (row_length s) samples) n (text ++ rest) more rest
 plain_rows_in_turn format s zero n text samples more rest plain count size spelled range follows last =
     let none : samples ≡ [] = nil_from_length samples (size ∙ zero-mul (row_length s)) in
     (omega arith, ap (λ (t : List ℕ). t ++ rest) (nothing_left s.kind text samples none spelled))
@@ -126,26 +135,32 @@ plain_rows_in_turn format s (suc rows) (suc n) text samples more rest plain coun
     let r = spelled_samples_are_read s.kind s.maxval each text samples rest (omega arith) spelled range (follows (omega arith)) in
     let left : length (drop each samples) ≡ rows * each = omega (arith, length-drop each samples) in
     let ends : n ≡ 0 → begins_apart (r.0 ++ rest) ≡ true = λ z.
-    let none : drop each samples ≡ [] = nil_from_length (drop each samples) (left ∙ ap (λ (k : ℕ). k * each) (let no_more : rows ≡ 0 = omega arith in no_more) ∙ zero-mul each) in
+    let none : drop each samples ≡ [] = nil_from_length (drop each samples) (left ∙ ap (λ (k : ℕ). k * each) (let no_more : rows ≡ 0 = omega arith in no_more)
+    ∙ zero-mul each) in
     ap (λ (t : List ℕ). begins_apart (t ++ rest)) (nothing_left s.kind r.0 (drop each samples) none r.2) ∙ last (omega arith) (omega arith) in (
       r.0 ++ rest,
       row_at_plain format s n (text ++ rest) plain ∙ plain_row_by s n (text ++ rest) (take each samples) (r.0 ++ rest) r.1 ends,
-      plain_rows_in_turn format s rows n r.0 (drop each samples) more rest plain (omega arith) left r.2 (All-drop (λ sample. sample ≤ s.maxval) each samples range) (λ some. follows (omega arith)) (λ some none. last (omega arith) none),
+      plain_rows_in_turn format s rows n r.0 (drop each samples) more rest plain (omega arith) left r.2
+          (All-drop (λ sample. sample ≤ s.maxval) each samples range) (λ some. follows (omega arith)) (λ some none. last (omega arith) none),
     )
 
 -- after all rows come the ends
-after_rows : (later : List ℕ → Said) (format : Format) (s : Shape) (rows : List (List ℕ)) (rest : List ℕ) → is_plain_form format.form ≡ true → after_messages (map Row rows) (rows_said later format s zero rest) ≡ rows_and_ends rows
+after_rows : (later : List ℕ → Said) (format : Format) (s : Shape) (rows : List (List ℕ)) (rest : List ℕ) → is_plain_form format.form ≡ true
+    → after_messages (map Row rows) (rows_said later format s zero rest) ≡ rows_and_ends rows
 unfolding rows_said end_said
 after_rows later format s [] rest plain = ap (λ (p : Bool). then_said ImageEnd (end_said later p rest)) plain
 after_rows later format s (row ∷ rows) rest plain = ap (then_said (Row row)) (after_rows later format s rows rest plain)
 
 -- of a raster that spells an image the rows are said, and the ends
-pub spelled_plain_is_said : (later : List ℕ → Said) (format : Format) (raster rest : List ℕ) (image : Image) → is_plain_form format.form ≡ true → image.head.shape.kind ≡ format.kind → 0 < image.head.shape.height → SpellsPlain raster image → begins_apart rest ≡ true
-    → rows_said later format image.head.shape image.head.shape.height (raster ++ rest) ≡ record { messages = map Row (rows_of image) ++ ImageEnd ∷ StreamEnd ∷ []; fault = None }
+pub spelled_plain_is_said : (later : List ℕ → Said) (format : Format) (raster rest : List ℕ) (image : Image) → is_plain_form format.form ≡ true
+    → image.head.shape.kind ≡ format.kind → 0 < image.head.shape.height → SpellsPlain raster image → begins_apart rest ≡ true
+    → rows_said later format image.head.shape image.head.shape.height (raster ++ rest)
+    ≡ record { messages = map Row (rows_of image) ++ ImageEnd ∷ StreamEnd ∷ []; fault = None }
 spelled_plain_is_said later format raster rest image plain kind some s apart =
     let shape : Shape = image.head.shape in
     let height : ℕ = shape.height in
-    let read = plain_rows_in_turn format shape height height raster image.samples zero rest plain (omega arith) s.sound.count s.samples s.sound.range (λ _. apart_follows shape.kind rest apart) (λ _ _. apart) in
+    let read = plain_rows_in_turn format shape height height raster image.samples zero rest plain (omega arith) s.sound.count s.samples s.sound.range
+    (λ _. apart_follows shape.kind rest apart) (λ _ _. apart) in
     read_rows_are_said later format shape (rows_of image) height (raster ++ rest) zero rest read ∙ after_rows later format shape (rows_of image) rest plain
 
 -- ---- samples that are read are spelled
@@ -153,20 +168,23 @@ spelled_plain_is_said later format raster rest image plain kind some s apart =
 -- the text spells the samples, and goes on with the rest
 abbrev pub SpellsOn : Kind → List ℕ → List ℕ → List ℕ → Type 0
 SpellsOn kind text [] rest = text ≡ rest
-SpellsOn kind text (sample ∷ samples) rest = (piece : List ℕ) × (left : List ℕ) × (text ≡ piece ++ left) × SpellsPiece kind piece sample × MayFollow kind left × SpellsOn kind left samples rest
+SpellsOn kind text (sample ∷ samples) rest = (piece : List ℕ) × (left : List ℕ) × (text ≡ piece ++ left) × SpellsPiece kind piece sample
+    × MayFollowSample kind left × SpellsOn kind left samples rest
 
 -- samples, and samples in the rest
-spells_on_append : (kind : Kind) (text xs middle ys rest : List ℕ) → SpellsOn kind text xs middle → SpellsOn kind middle ys rest → SpellsOn kind text (xs ++ ys) rest
+spells_on_append : (kind : Kind) (text xs middle ys rest : List ℕ) → SpellsOn kind text xs middle → SpellsOn kind middle ys rest
+    → SpellsOn kind text (xs ++ ys) rest
 spells_on_append kind text [] middle ys rest s t = subst (λ (u : List ℕ). SpellsOn kind u ys rest) (sym s) t
 spells_on_append kind text (x ∷ xs) middle ys rest s t = (s.0, s.1, s.2, s.3, s.4, spells_on_append kind s.1 xs middle ys rest s.5 t)
 
--- the front of the text spells the samples alone
-pub spelled_front : (kind : Kind) (text samples rest : List ℕ) → SpellsOn kind text samples rest → (front : List ℕ) × (text ≡ front ++ rest) × SpellsPlainSamples kind front samples
-spelled_front kind text [] rest s = ([], s, refl)
-spelled_front kind text (sample ∷ samples) rest s =
-    let more = spelled_front kind s.1 samples rest s.5 in
+-- the prefix of the text spells the samples alone
+pub spelled_prefix : (kind : Kind) (text samples rest : List ℕ) → SpellsOn kind text samples rest → (prefix : List ℕ) × (text ≡ prefix ++ rest)
+    × SpellsPlainSamples kind prefix samples
+spelled_prefix kind text [] rest s = ([], s, refl)
+spelled_prefix kind text (sample ∷ samples) rest s =
+    let more = spelled_prefix kind s.1 samples rest s.5 in
     let whole : text ≡ (s.0 ++ more.0) ++ rest = s.2 ∙ ap (λ (t : List ℕ). s.0 ++ t) more.1 ∙ sym (append_assoc s.0 more.0 rest) in
-    let follows : MayFollow kind more.0 = follows_less kind more.0 rest (subst (MayFollow kind) more.1 s.4) in
+    let follows : MayFollowSample kind more.0 = follows_less kind more.0 rest (subst (MayFollowSample kind) more.1 s.4) in
     (s.0 ++ more.0, whole, (s.0, more.0, refl, s.3, follows, more.2))
 
 -- samples that were read, and what they were read of
@@ -175,7 +193,8 @@ pub record IsRead (kind : Kind) (maxval n : ℕ) (text : List ℕ) (found : List
   pub range : All (IsInRange kind maxval) found.0
   pub spelled : SpellsOn kind text found.0 found.1
 
-read_samples_are_spelled : (kind : Kind) (maxval n : ℕ) (text : List ℕ) (found : List ℕ × List ℕ) → in_turn (plain_sample kind maxval) n text ≡ Ok found → IsRead kind maxval n text found
+read_samples_are_spelled : (kind : Kind) (maxval n : ℕ) (text : List ℕ) (found : List ℕ × List ℕ) → in_turn (plain_sample kind maxval) n text ≡ Ok found
+    → IsRead kind maxval n text found
 unfolding in_turn
 read_samples_are_spelled kind maxval zero text found e =
     let none : IsRead kind maxval zero text ([], text) = record { count = refl; range = All-nil (IsInRange kind maxval); spelled = refl } in
@@ -200,7 +219,8 @@ read_row : (s : Shape) (text : List ℕ) (row : List ℕ × List ℕ) → plain_
 unfolding plain_row
 read_row s text row e = read_samples_are_spelled s.kind s.maxval (row_length s) text row e
 
-read_last_row : (s : Shape) (text : List ℕ) (row : List ℕ × List ℕ) → last_plain_row s text ≡ Ok row → IsRead s.kind s.maxval (row_length s) text row × (begins_apart row.1 ≡ true)
+read_last_row : (s : Shape) (text : List ℕ) (row : List ℕ × List ℕ) → last_plain_row s text ≡ Ok row → IsRead s.kind s.maxval (row_length s) text row
+    × (begins_apart row.1 ≡ true)
 unfolding last_plain_row after_last_item
 read_last_row s text row e =
     let a = bind_ok (plain_row s text) (λ x. after_last_item x.1 >>= λ y. Ok (x.0, y)) row e in
@@ -210,13 +230,16 @@ read_last_row s text row e =
     (subst (IsRead s.kind s.maxval (row_length s) text) same (read_row s text a.0 a.1), subst (λ (f : List ℕ × List ℕ). begins_apart f.1 ≡ true) same c.0)
 
 -- a plain row that was read, and what follows the last one
-plain_row_is_read : (s : Shape) (n : ℕ) (text : List ℕ) (found : List ℕ × List ℕ) → row_by true s n text ≡ Ok found → IsRead s.kind s.maxval (row_length s) text found × (n ≡ 0 → begins_apart found.1 ≡ true)
+plain_row_is_read : (s : Shape) (n : ℕ) (text : List ℕ) (found : List ℕ × List ℕ) → row_in_form true s n text ≡ Ok found
+    → IsRead s.kind s.maxval (row_length s) text found × (n ≡ 0 → begins_apart found.1 ≡ true)
 plain_row_is_read s zero text found e = let r = read_last_row s text found e in (r.0, λ last. r.1)
 plain_row_is_read s (suc n) text found e = (read_row s text found e, λ last. absurd (omega arith))
 
-pub plain_rows_are_read : (format : Format) (s : Shape) (rows : List (List ℕ)) (n : ℕ) (text : List ℕ) (more : ℕ) (rest : List ℕ) → is_plain_form format.form ≡ true → RowsRead format s rows n text more rest
+pub plain_rows_are_read : (format : Format) (s : Shape) (rows : List (List ℕ)) (n : ℕ) (text : List ℕ) (more : ℕ) (rest : List ℕ)
+    → is_plain_form format.form ≡ true → RowsRead format s rows n text more rest
     → IsRead s.kind s.maxval (length rows * row_length s) text (concat rows, rest)
-plain_rows_are_read format s [] n text more rest plain read = record { count = sym (zero-mul (row_length s)); range = All-nil (IsInRange s.kind s.maxval); spelled = read.1 }
+plain_rows_are_read format s [] n text more rest plain read =
+    record { count = sym (zero-mul (row_length s)); range = All-nil (IsInRange s.kind s.maxval); spelled = read.1 }
 plain_rows_are_read format s (row ∷ rows) zero text more rest plain read = absurd read
 plain_rows_are_read format s (row ∷ rows) (suc n) text more rest plain read =
     let first = (plain_row_is_read s n text (row, read.0) (sym (row_at_plain format s n text plain) ∙ read.1)).0 in
@@ -228,41 +251,49 @@ plain_rows_are_read format s (row ∷ rows) (suc n) text more rest plain read =
     }
 
 -- after the last row of a plain raster the text ends, or white space or # follows
-pub last_row_ends : (format : Format) (s : Shape) (rows : List (List ℕ)) (n : ℕ) (text : List ℕ) (more : ℕ) (rest : List ℕ) → is_plain_form format.form ≡ true → RowsRead format s rows n text more rest → 0 < length rows → more ≡ 0 → begins_apart rest ≡ true
+pub last_row_ends : (format : Format) (s : Shape) (rows : List (List ℕ)) (n : ℕ) (text : List ℕ) (more : ℕ) (rest : List ℕ) → is_plain_form format.form ≡ true
+    → RowsRead format s rows n text more rest → 0 < length rows → more ≡ 0 → begins_apart rest ≡ true
 last_row_ends format s [] n text more rest plain read some last = absurd (omega arith)
 last_row_ends format s (row ∷ rows) zero text more rest plain read some last = absurd read
 last_row_ends format s (row ∷ []) (suc n) text more rest plain read some last =
     let first = plain_row_is_read s n text (row, read.0) (sym (row_at_plain format s n text plain) ∙ read.1) in
     let none : n ≡ more = read.2.0 in
     sym (ap begins_apart read.2.1) ∙ first.1 (omega arith)
-last_row_ends format s (row ∷ next ∷ rows) (suc n) text more rest plain read some last = last_row_ends format s (next ∷ rows) n read.0 more rest plain read.2 (omega arith) last
+last_row_ends format s (row ∷ next ∷ rows) (suc n) text more rest plain read some last = last_row_ends format s (next ∷ rows) n read.0 more rest plain read.2
+    (omega arith) last
 
 -- a sample in its kind's range is up to the maxval
-range_by : (kind : Kind) (depth maxval : ℕ) (tuple_type : List ℕ) (sample : ℕ) → Suits kind depth maxval tuple_type → IsInRange kind maxval sample → sample ≤ maxval
+range_by : (kind : Kind) (depth maxval : ℕ) (tuple_type : List ℕ) (sample : ℕ) → Suits kind depth maxval tuple_type → IsInRange kind maxval sample
+    → sample ≤ maxval
 range_by Bit depth maxval tuple_type sample suits h = let one : maxval ≡ 1 = suits.1 in omega (arith, h)
 range_by Gray depth maxval tuple_type sample suits h = h
 range_by Color depth maxval tuple_type sample suits h = h
 range_by Pam depth maxval tuple_type sample suits h = h
 
 -- samples that were read as a row are a row of a head's shape
-samples_are_row : (head : HeadValue) (text : List ℕ) (row : List ℕ × List ℕ) → IsHead head → IsRead head.shape.kind head.shape.maxval (row_length head.shape) text row → IsRowOf head.shape row.0
+samples_are_row : (head : HeadValue) (text : List ℕ) (row : List ℕ × List ℕ) → IsHead head
+    → IsRead head.shape.kind head.shape.maxval (row_length head.shape) text row → IsRowOf head.shape row.0
 samples_are_row head text row h r =
     let s : Shape = head.shape in
     record {
       count = r.count;
-      range = All-weaker (IsInRange s.kind s.maxval) (λ sample. sample ≤ s.maxval) (λ sample i. range_by s.kind s.depth s.maxval head.tuple_type sample h.suits i) row.0 r.range;
+      range = All-weaker (IsInRange s.kind s.maxval) (λ sample. sample ≤ s.maxval)
+          (λ sample i. range_by s.kind s.depth s.maxval head.tuple_type sample h.suits i) row.0 r.range;
     }
 
 -- a plain row that was read is a row of the head's shape
 pub plain_row_is_row : (head : HeadValue) (text : List ℕ) (row : List ℕ × List ℕ) → IsHead head → plain_row head.shape text ≡ Ok row → IsRowOf head.shape row.0
 plain_row_is_row head text row h e = samples_are_row head text row h (read_row head.shape text row e)
 
-pub last_plain_row_is_row : (head : HeadValue) (text : List ℕ) (row : List ℕ × List ℕ) → IsHead head → last_plain_row head.shape text ≡ Ok row → IsRowOf head.shape row.0
+pub last_plain_row_is_row : (head : HeadValue) (text : List ℕ) (row : List ℕ × List ℕ) → IsHead head → last_plain_row head.shape text ≡ Ok row
+    → IsRowOf head.shape row.0
 last_plain_row_is_row head text row h e = samples_are_row head text row h (read_last_row head.shape text row e).0
 
 -- a raster whose rows are said without a fault spells the image of these rows, and what may follow it
-pub said_plain_is_spelled : (later : List ℕ → Said) (format : Format) (head : HeadValue) (text : List ℕ) → is_plain_form format.form ≡ true → head.shape.kind ≡ format.kind → IsHead head → 0 < head.shape.height → (rows_said later format head.shape head.shape.height text).fault ≡ None
-    → (image : Image) × (raster : List ℕ) × (rest : List ℕ) × (text ≡ raster ++ rest) × (image.head ≡ head) × SpellsPlain raster image × (begins_apart rest ≡ true)
+pub said_plain_is_spelled : (later : List ℕ → Said) (format : Format) (head : HeadValue) (text : List ℕ) → is_plain_form format.form ≡ true
+    → head.shape.kind ≡ format.kind → IsHead head → 0 < head.shape.height → (rows_said later format head.shape head.shape.height text).fault ≡ None
+    → (image : Image) × (raster : List ℕ) × (rest : List ℕ) × (text ≡ raster ++ rest) × (image.head ≡ head) × SpellsPlain raster image
+    × (begins_apart rest ≡ true)
     × ((rows_said later format head.shape head.shape.height text).messages ≡ map Row (rows_of image) ++ ImageEnd ∷ StreamEnd ∷ [])
 said_plain_is_spelled later format head text plain kind h some e =
     let s : Shape = head.shape in
@@ -274,10 +305,12 @@ said_plain_is_spelled later format head text plain kind h some e =
     let apart = last_row_ends format s r.rows s.height text zero r.rest plain read (omega arith) refl in
     let samples : List ℕ = concat r.rows in
     let rest : List ℕ = r.rest in
-    let f = spelled_front s.kind text samples rest is.spelled in
+    let f = spelled_prefix s.kind text samples rest is.spelled in
     let range : All (λ sample. sample ≤ s.maxval) samples =
-    All-weaker (IsInRange s.kind s.maxval) (λ sample. sample ≤ s.maxval) (λ sample i. range_by s.kind s.depth s.maxval head.tuple_type sample h.suits i) samples is.range in
+    All-weaker (IsInRange s.kind s.maxval) (λ sample. sample ≤ s.maxval) (λ sample i. range_by s.kind s.depth s.maxval head.tuple_type sample h.suits i) samples
+    is.range in
     let image : Image = record { head = head; samples = samples } in
-    let spelled : SpellsPlain f.0 image = record { sound = record { head = h; count = is.count ∙ ap (λ (n : ℕ). n * row_length s) height; range = range }; samples = f.2 } in
+    let spelled : SpellsPlain f.0 image =
+    record { sound = record { head = h; count = is.count ∙ ap (λ (n : ℕ). n * row_length s) height; range = range }; samples = f.2 } in
     let said = ap (rows_said later format s s.height) f.1 ∙ spelled_plain_is_said later format f.0 rest image plain kind some spelled apart in
     (image, f.0, rest, f.1, refl, spelled, apart, ap (λ (x : Said). x.messages) said)

@@ -1,21 +1,23 @@
 -- How the samples of a plain raster are read from an input.
-use Rattle.std.proofs.Common.{◌≡◌, ℕ, zero, suc, ◌-◌, ◌<◌, ◌≤◌, Bool, true, if◌then◌else◌, List, [], ◌∷◌, ◌++◌, Option, Some, Result, Ok, Err, inl, inr, refl, sym, ap, ap₂, subst, ◌∙◌, arith}
+use Rattle.std.proofs.Common.{◌≡◌, ℕ, zero, suc, ◌-◌, ◌<◌, ◌≤◌, Bool, true, if◌then◌else◌, List, [], ◌∷◌, ◌++◌, Option, Some, Result, Ok, Err, inl, inr, refl}
+use Rattle.std.proofs.Common.{sym, ap, ap₂, subst, ◌∙◌, arith}
 use Rattle.std.specs.Prelude.{slice_get}
 use Rattle.std.proofs.lemmas.Bool.{le-leb, lt-leb}
 use Rattle.pnm_image.specs.declared.shape.Shape.{Shape}
 use Rattle.pnm_image.specs.Heads.{row_length}
 use Rattle.pnm_read.specs.declared.fault.InputFault.{InputFault}
 use Rattle.pnm_read.specs.declared.fault.InputFault.TheVariants.{ReadFailed, Memory, SampleAboveMaxval, BadSample}
-use Rattle.pnm_read.specs.declared.input.Input.{Input}
+use Rattle.pnm_read.specs.declared.buffered_reader.BufferedReader.{BufferedReader}
 use Rattle.pnm_read.specs.declared.decimal.DecimalScanner.{DecimalScanner}
 use Rattle.pnm_read.specs.declared.pixel.PixelScanner.{PixelScanner}
 use Rattle.pnm_read.specs.Texts.{is_apart, begins_apart, number_in}
-use Rattle.pnm_read.specs.Saturation.{saturated}
-use Rattle.pnm_read.specs.Items.{◌>>=◌, pixel_item, pixel_end, pixel_in, plain_pixel, decimal_item, decimal_end, sample_item, plain_decimal, plain_sample, after_last_item}
-use Rattle.pnm_read.specs.Said.{in_turn, plain_row, last_plain_row, row_by}
+use Rattle.pnm_read.specs.Saturation.{saturate_u32}
+use Rattle.pnm_read.specs.Items.{◌>>=◌, pixel_item, pixel_end, pixel_in, plain_pixel, decimal_item, decimal_end, sample_item, plain_decimal, plain_sample}
+use Rattle.pnm_read.specs.Items.{after_last_item}
+use Rattle.pnm_read.specs.Said.{in_turn, plain_row, last_plain_row, row_in_form}
 use Rattle.pnm_read.specs.Scans.{Scans, ScansAfter}
 use Rattle.pnm_read.specs.Scanners.{IsPixelAfter, IsPixelWhole, IsDecimalAfter, IsDecimalWhole}
-use Rattle.pnm_read.specs.Inputs.{Turn, Finds, Fills, Passes, held_of}
+use Rattle.pnm_read.specs.BufferedReaders.{Turn, Finds, Fills, Passes, held_of}
 use Rattle.pnm_read.proofs.UnitLaws.{and_turns}
 use Rattle.pnm_read.proofs.PartLaws.{all_are_left, part_is_read, part_fails, none_are_left, one_is_read, one_fails}
 use Rattle.pnm_read.proofs.Turns.{no_fault, turn_then, turn_ok_so, turn_err_so, turn_taken, turn_seen}
@@ -33,7 +35,8 @@ Piece = Result (List ℕ × List ℕ) InputFault
 abbrev pixel_of : Piece → Result (ℕ × List ℕ) InputFault
 pixel_of found = found >>= λ piece. sample_done (pixel_in piece.0) piece.1
 
-pub pixel_found : {R : Type 0} {left : R → Option (List ℕ)} {failures : R → ℕ} {same : R → R → Type 0} {old new : Input R} (fresh now : PixelScanner) (sample : ℕ) → IsPixelAfter fresh [] → sample ≡ now.pixel
+pub pixel_found : {R : Type 0} {left : R → Option (List ℕ)} {failures : R → ℕ} {same : R → R → Type 0} {old new : BufferedReader R} (fresh now : PixelScanner)
+    (sample : ℕ) → IsPixelAfter fresh [] → sample ≡ now.pixel
     → Turn {A = Unit {0}} left failures same old new (Ok tt) (Scans pixel_item pixel_end (IsPixelAfter fresh) (IsPixelWhole now) (Ok tt))
     → Turn {A = ℕ} left failures same old new (Ok sample) (Finds plain_pixel (Ok sample))
 unfolding plain_pixel
@@ -41,12 +44,14 @@ pixel_found fresh now sample is_fresh is_pixel t =
     turn_ok_so {A = Unit {0}} {B = ℕ} tt (Ok sample) (no_fault sample ReadFailed)
     (λ b a o. let piece = o [] is_fresh in ap pixel_of piece.2 ∙ ap (λ (n : ℕ). sample_done n a) (sym (is_pixel ∙ piece.1))) t
 
-no_pixel : (k : InputFault) (is_whole : List ℕ → Type 0) (b a : List ℕ) → ScansAfter pixel_item pixel_end is_whole (Err k) [] b a → Finds plain_pixel (Err k) b a
+no_pixel : (k : InputFault) (is_whole : List ℕ → Type 0) (b a : List ℕ) → ScansAfter pixel_item pixel_end is_whole (Err k) [] b a
+    → Finds plain_pixel (Err k) b a
 unfolding plain_pixel
 no_pixel k is_whole b a (inl e) = inl (ap pixel_of e)
 no_pixel k is_whole b a (inr outside) = inr outside
 
-pub pixel_fault : {R : Type 0} {left : R → Option (List ℕ)} {failures : R → ℕ} {same : R → R → Type 0} {old new : Input R} (fresh : PixelScanner) (is_whole : List ℕ → Type 0) (k : InputFault) → IsPixelAfter fresh []
+pub pixel_fault : {R : Type 0} {left : R → Option (List ℕ)} {failures : R → ℕ} {same : R → R → Type 0} {old new : BufferedReader R} (fresh : PixelScanner)
+    (is_whole : List ℕ → Type 0) (k : InputFault) → IsPixelAfter fresh []
     → Turn {A = Unit {0}} left failures same old new (Err k) (Scans pixel_item pixel_end (IsPixelAfter fresh) is_whole (Err k))
     → Turn {A = ℕ} left failures same old new (Err k) (Finds plain_pixel (Err k))
 pixel_fault fresh is_whole k is_fresh t = turn_err_so {A = Unit {0}} {B = ℕ} k (λ b a o. no_pixel k is_whole b a (o [] is_fresh)) t
@@ -60,15 +65,16 @@ number_of maxval found = found >>= λ piece. sample_item maxval (number_in piece
 abbrev number_if : Bool → ℕ → Result ℕ InputFault
 number_if within n = if within then Ok n else Err SampleAboveMaxval
 
-number_within : (maxval n value : ℕ) → maxval ≤ 65535 → value ≡ saturated n → value ≤ maxval → sample_item maxval n ≡ Ok value
+number_within : (maxval n value : ℕ) → maxval ≤ 65535 → value ≡ saturate_u32 n → value ≤ maxval → sample_item maxval n ≡ Ok value
 number_within maxval n value most is_value le =
     let same : n ≡ value = omega arith in
     ap (sample_item maxval) same ∙ ap (λ (t : Bool). number_if t value) (le-leb value maxval le)
 
-number_above : (maxval n value : ℕ) → value ≡ saturated n → maxval < value → sample_item maxval n ≡ Err SampleAboveMaxval
+number_above : (maxval n value : ℕ) → value ≡ saturate_u32 n → maxval < value → sample_item maxval n ≡ Err SampleAboveMaxval
 number_above maxval n value is_value above = ap (λ (t : Bool). number_if t n) (lt-leb n maxval (omega arith))
 
-pub number_found : {R : Type 0} {left : R → Option (List ℕ)} {failures : R → ℕ} {same : R → R → Type 0} {old new : Input R} (fresh now : DecimalScanner) (maxval sample : ℕ) → IsDecimalAfter fresh [] → sample ≡ now.value → maxval ≤ 65535 → sample ≤ maxval
+pub number_found : {R : Type 0} {left : R → Option (List ℕ)} {failures : R → ℕ} {same : R → R → Type 0} {old new : BufferedReader R}
+    (fresh now : DecimalScanner) (maxval sample : ℕ) → IsDecimalAfter fresh [] → sample ≡ now.value → maxval ≤ 65535 → sample ≤ maxval
     → Turn {A = Unit {0}} left failures same old new (Ok tt) (Scans decimal_item decimal_end (IsDecimalAfter fresh) (IsDecimalWhole now) (Ok tt))
     → Turn {A = ℕ} left failures same old new (Ok sample) (Finds (plain_decimal maxval) (Ok sample))
 unfolding plain_decimal
@@ -76,9 +82,11 @@ number_found fresh now maxval sample is_fresh is_value most le t =
     turn_ok_so {A = Unit {0}} {B = ℕ} tt (Ok sample) (no_fault sample ReadFailed)
     (λ b a o.
     let piece = o [] is_fresh in
-    ap (number_of maxval) piece.2 ∙ ap (λ (r : Result ℕ InputFault). r >>= λ n. sample_done n a) (number_within maxval (number_in piece.0) sample most (is_value ∙ piece.1) le)) t
+    ap (number_of maxval) piece.2
+    ∙ ap (λ (r : Result ℕ InputFault). r >>= λ n. sample_done n a) (number_within maxval (number_in piece.0) sample most (is_value ∙ piece.1) le)) t
 
-pub number_too_great : {R : Type 0} {left : R → Option (List ℕ)} {failures : R → ℕ} {same : R → R → Type 0} {old new : Input R} (fresh now : DecimalScanner) (maxval value : ℕ) → IsDecimalAfter fresh [] → value ≡ now.value → maxval < value
+pub number_too_great : {R : Type 0} {left : R → Option (List ℕ)} {failures : R → ℕ} {same : R → R → Type 0} {old new : BufferedReader R}
+    (fresh now : DecimalScanner) (maxval value : ℕ) → IsDecimalAfter fresh [] → value ≡ now.value → maxval < value
     → Turn {A = Unit {0}} left failures same old new (Ok tt) (Scans decimal_item decimal_end (IsDecimalAfter fresh) (IsDecimalWhole now) (Ok tt))
     → Turn {A = ℕ} left failures same old new (Err SampleAboveMaxval) (Finds (plain_decimal maxval) (Err SampleAboveMaxval))
 unfolding plain_decimal
@@ -86,14 +94,17 @@ number_too_great fresh now maxval value is_fresh is_value above t =
     turn_ok_so {A = Unit {0}} {B = ℕ} tt (Err SampleAboveMaxval) (λ e. absurd cc)
     (λ b a o.
     let piece = o [] is_fresh in
-    inl (ap (number_of maxval) piece.2 ∙ ap (λ (r : Result ℕ InputFault). r >>= λ n. sample_done n a) (number_above maxval (number_in piece.0) value (is_value ∙ piece.1) above))) t
+    inl (ap (number_of maxval) piece.2
+    ∙ ap (λ (r : Result ℕ InputFault). r >>= λ n. sample_done n a) (number_above maxval (number_in piece.0) value (is_value ∙ piece.1) above))) t
 
-no_number : (maxval : ℕ) (k : InputFault) (is_whole : List ℕ → Type 0) (b a : List ℕ) → ScansAfter decimal_item decimal_end is_whole (Err k) [] b a → Finds (plain_decimal maxval) (Err k) b a
+no_number : (maxval : ℕ) (k : InputFault) (is_whole : List ℕ → Type 0) (b a : List ℕ) → ScansAfter decimal_item decimal_end is_whole (Err k) [] b a
+    → Finds (plain_decimal maxval) (Err k) b a
 unfolding plain_decimal
 no_number maxval k is_whole b a (inl e) = inl (ap (number_of maxval) e)
 no_number maxval k is_whole b a (inr outside) = inr outside
 
-pub number_fault : {R : Type 0} {left : R → Option (List ℕ)} {failures : R → ℕ} {same : R → R → Type 0} {old new : Input R} (fresh : DecimalScanner) (is_whole : List ℕ → Type 0) (maxval : ℕ) (k : InputFault) → IsDecimalAfter fresh []
+pub number_fault : {R : Type 0} {left : R → Option (List ℕ)} {failures : R → ℕ} {same : R → R → Type 0} {old new : BufferedReader R} (fresh : DecimalScanner)
+    (is_whole : List ℕ → Type 0) (maxval : ℕ) (k : InputFault) → IsDecimalAfter fresh []
     → Turn {A = Unit {0}} left failures same old new (Err k) (Scans decimal_item decimal_end (IsDecimalAfter fresh) is_whole (Err k))
     → Turn {A = ℕ} left failures same old new (Err k) (Finds (plain_decimal maxval) (Err k))
 number_fault fresh is_whole maxval k is_fresh t = turn_err_so {A = Unit {0}} {B = ℕ} k (λ b a o. no_number maxval k is_whole b a (o [] is_fresh)) t
@@ -109,8 +120,10 @@ begins_by : (byte : ℕ) (bytes rest : List ℕ) → Some byte ≡ slice_get byt
 begins_by byte [] rest e = absurd cc
 begins_by byte (b ∷ bytes) rest e = let first : b ≡ byte = cc in ap is_apart first
 
-pub end_goes_on : {R : Type 0} {left : R → Option (List ℕ)} {failures : R → ℕ} {same : R → R → Type 0} {old mid : Input R} (byte : ℕ) (bytes : List ℕ) → bytes ≡ held_of mid → Some byte ≡ slice_get bytes 0 → is_apart byte ≡ true
-    → Turn {A = Unit {0}} left failures same old mid (Ok tt) (Fills (Ok tt)) → Turn {A = Unit {0}} left failures same old mid (Ok tt) (Passes after_last_item (Ok tt))
+pub end_goes_on : {R : Type 0} {left : R → Option (List ℕ)} {failures : R → ℕ} {same : R → R → Type 0} {old mid : BufferedReader R} (byte : ℕ) (bytes : List ℕ)
+    → bytes ≡ held_of mid → Some byte ≡ slice_get bytes 0 → is_apart byte ≡ true
+    → Turn {A = Unit {0}} left failures same old mid (Ok tt) (Fills (Ok tt))
+    → Turn {A = Unit {0}} left failures same old mid (Ok tt) (Passes after_last_item (Ok tt))
 unfolding after_last_item
 end_goes_on {mid = mid} byte bytes held first apart t =
     turn_ok_so {A = Unit {0}} {B = Unit {0}} tt (Ok tt) (no_fault tt ReadFailed) (λ b a o.
@@ -128,26 +141,33 @@ sample_of s = plain_sample s.kind s.maxval
 abbrev SamplesFrom : Shape → ℕ → ℕ → List ℕ → List ℕ → List ℕ → Type 0
 SamplesFrom s all more samples text left = in_turn (sample_of s) all text ≡ and_turns (sample_of s) more samples left
 
-pub record ReadingSamples {R : Type 0} (left : R → Option (List ℕ)) (failures : R → ℕ) (same : R → R → Type 0) (s : Shape) (all more : ℕ) (samples : List ℕ) (old now : Input R) : Type 0 where
+pub record ReadingSamples {R : Type 0} (left : R → Option (List ℕ)) (failures : R → ℕ) (same : R → R → Type 0) (s : Shape) (all more : ℕ) (samples : List ℕ)
+    (old now : BufferedReader R) : Type 0 where
   pub turn : Turn {A = Unit {0}} left failures same old now (Ok tt) (SamplesFrom s all more samples)
 
-pub samples_begin : {R : Type 0} {left : R → Option (List ℕ)} {failures : R → ℕ} {same : R → R → Type 0} (s : Shape) (all more : ℕ) (samples : List ℕ) (input : Input R) → ((a : R) → same a a) → more ≡ all → samples ≡ []
+pub samples_begin : {R : Type 0} {left : R → Option (List ℕ)} {failures : R → ℕ} {same : R → R → Type 0} (s : Shape) (all more : ℕ) (samples : List ℕ)
+    (input : BufferedReader R) → ((a : R) → same a a) → more ≡ all → samples ≡ []
     → ReadingSamples left failures same s all more samples input input
 samples_begin s all more samples input at_once is_all none = record {
   turn = turn_ok_so {A = Unit {0}} {B = Unit {0}} tt (Ok tt) (no_fault tt ReadFailed)
-      (λ b a e. ap (in_turn (sample_of s) all) e ∙ all_are_left (sample_of s) all a ∙ ap₂ (λ (n : ℕ) (l : List ℕ). and_turns (sample_of s) n l a) (sym is_all) (sym none))
+      (λ b a e. ap (in_turn (sample_of s) all) e ∙ all_are_left (sample_of s) all a ∙ ap₂ (λ (n : ℕ) (l : List ℕ). and_turns (sample_of s) n l a) (sym is_all)
+      (sym none))
       (turn_taken {A = Unit {0}} {result = Ok tt} [] at_once (no_fault tt ReadFailed) refl refl refl);
 }
 
-no_sample : (s : Shape) (more : ℕ) (samples : List ℕ) (k : InputFault) (b m a : List ℕ) → 0 < more → SamplesFrom s (row_length s) more samples b m → Finds (sample_of s) (Err k) m a
+no_sample : (s : Shape) (more : ℕ) (samples : List ℕ) (k : InputFault) (b m a : List ℕ) → 0 < more → SamplesFrom s (row_length s) more samples b m
+    → Finds (sample_of s) (Err k) m a
     → Finds (plain_row s) (Err k) b a
 unfolding plain_row
-no_sample s more samples k b m a some known (inl e) = inl (part_fails (sample_of s) (row_length s) more 1 samples b m k some (one_fails (sample_of s) m k e) known)
+no_sample s more samples k b m a some known (inl e) =
+    inl (part_fails (sample_of s) (row_length s) more 1 samples b m k some (one_fails (sample_of s) m k e) known)
 no_sample s more samples k b m a some known (inr outside) = inr outside
 
 -- a sample is at fault, or can't be read
-pub samples_fault : {R : Type 0} {left : R → Option (List ℕ)} {failures : R → ℕ} {same : R → R → Type 0} {s : Shape} {all more : ℕ} {samples : List ℕ} {old now new : Input R}
-    (k : InputFault) → ((a b c : R) → same a b → same b c → same a c) → ReadingSamples left failures same s all more samples old now → all ≡ row_length s → 0 < more
+pub samples_fault : {R : Type 0} {left : R → Option (List ℕ)} {failures : R → ℕ} {same : R → R → Type 0} {s : Shape} {all more : ℕ} {samples : List ℕ}
+    {old now new : BufferedReader R}
+    (k : InputFault) → ((a b c : R) → same a b → same b c → same a c) → ReadingSamples left failures same s all more samples old now → all ≡ row_length s
+    → 0 < more
     → Turn {A = ℕ} left failures same now new (Err k) (Finds (sample_of s) (Err k))
     → Turn {A = List ℕ} left failures same old new (Err k) (Finds (plain_row s) (Err k))
 samples_fault {s = s} {more = more} {samples = samples} k later r is_all some t =
@@ -156,15 +176,19 @@ samples_fault {s = s} {more = more} {samples = samples} k later r is_all some t 
     (turn_then {A = Unit {0}} {B = ℕ} tt later r.turn t)
 
 -- memory ran out
-pub samples_no_memory : {R : Type 0} {left : R → Option (List ℕ)} {failures : R → ℕ} {same : R → R → Type 0} {s : Shape} {all more : ℕ} {samples : List ℕ} {old now new : Input R}
+pub samples_no_memory : {R : Type 0} {left : R → Option (List ℕ)} {failures : R → ℕ} {same : R → R → Type 0} {s : Shape} {all more : ℕ} {samples : List ℕ}
+    {old now new : BufferedReader R}
     (sample : ℕ) → ((a b c : R) → same a b → same b c → same a c) → ReadingSamples left failures same s all more samples old now
     → Turn {A = ℕ} left failures same now new (Ok sample) (Finds (sample_of s) (Ok sample))
     → Turn {A = List ℕ} left failures same old new (Err Memory) (Finds (plain_row s) (Err Memory))
-samples_no_memory sample later r t = turn_ok_so {A = ℕ} {B = List ℕ} sample (Err Memory) (λ e. absurd cc) (λ b a o. inr (inr refl)) (turn_then {A = Unit {0}} {B = ℕ} tt later r.turn t)
+samples_no_memory sample later r t = turn_ok_so {A = ℕ} {B = List ℕ} sample (Err Memory) (λ e. absurd cc) (λ b a o. inr (inr refl))
+    (turn_then {A = Unit {0}} {B = ℕ} tt later r.turn t)
 
 -- a sample more was read
-pub samples_more : {R : Type 0} {left : R → Option (List ℕ)} {failures : R → ℕ} {same : R → R → Type 0} {s : Shape} {all more : ℕ} {samples : List ℕ} {old now new : Input R}
-    (sample fewer : ℕ) (others : List ℕ) → ((a b c : R) → same a b → same b c → same a c) → ReadingSamples left failures same s all more samples old now → 0 < more → fewer ≡ more - 1 → others ≡ samples ++ sample ∷ []
+pub samples_more : {R : Type 0} {left : R → Option (List ℕ)} {failures : R → ℕ} {same : R → R → Type 0} {s : Shape} {all more : ℕ} {samples : List ℕ}
+    {old now new : BufferedReader R}
+    (sample fewer : ℕ) (others : List ℕ) → ((a b c : R) → same a b → same b c → same a c) → ReadingSamples left failures same s all more samples old now
+    → 0 < more → fewer ≡ more - 1 → others ≡ samples ++ sample ∷ []
     → Turn {A = ℕ} left failures same now new (Ok sample) (Finds (sample_of s) (Ok sample))
     → ReadingSamples left failures same s all fewer others old new
 samples_more {s = s} {all = all} {more = more} {samples = samples} sample fewer others later r some is_fewer are_others t = record {
@@ -175,7 +199,8 @@ samples_more {s = s} {all = all} {more = more} {samples = samples} sample fewer 
 }
 
 -- all samples were read
-pub samples_read : {R : Type 0} {left : R → Option (List ℕ)} {failures : R → ℕ} {same : R → R → Type 0} {s : Shape} {all more : ℕ} {samples : List ℕ} {old now : Input R}
+pub samples_read : {R : Type 0} {left : R → Option (List ℕ)} {failures : R → ℕ} {same : R → R → Type 0} {s : Shape} {all more : ℕ} {samples : List ℕ}
+    {old now : BufferedReader R}
     (row : List ℕ) → ReadingSamples left failures same s all more samples old now → all ≡ row_length s → more ≡ 0 → row ≡ samples
     → Turn {A = List ℕ} left failures same old now (Ok row) (Finds (plain_row s) (Ok row))
 unfolding plain_row
@@ -203,42 +228,52 @@ abbrev last_of : Row → Row
 last_of found = found >>= λ row. row_then row.0 (after_last_item row.1)
 
 -- the last row is followed by the end
-last_row : (s : Shape) (more : ℕ) (text : List ℕ) → more ≡ 0 → row_by true s more text ≡ last_of (plain_row s text)
+last_row : (s : Shape) (more : ℕ) (text : List ℕ) → more ≡ 0 → row_in_form true s more text ≡ last_of (plain_row s text)
 unfolding last_plain_row
 last_row s zero text none = refl
 last_row s (suc more) text none = absurd (omega arith)
 
-earlier_row : (s : Shape) (more : ℕ) (text : List ℕ) → 0 < more → row_by true s more text ≡ plain_row s text
+earlier_row : (s : Shape) (more : ℕ) (text : List ℕ) → 0 < more → row_in_form true s more text ≡ plain_row s text
 earlier_row s zero text some = absurd (omega arith)
 earlier_row s (suc more) text some = refl
 
 -- a row at fault is so wherever it stands
-no_row : (s : Shape) (more : ℕ) (k : InputFault) (b a : List ℕ) → Finds (plain_row s) (Err k) b a → Finds (row_by true s more) (Err k) b a
+no_row : (s : Shape) (more : ℕ) (k : InputFault) (b a : List ℕ) → Finds (plain_row s) (Err k) b a → Finds (row_in_form true s more) (Err k) b a
 no_row s zero k b a (inl e) = inl (last_row s zero b refl ∙ ap last_of e)
 no_row s (suc more) k b a (inl e) = inl e
 no_row s more k b a (inr outside) = inr outside
 
-pub row_fault : {R : Type 0} {left : R → Option (List ℕ)} {failures : R → ℕ} {same : R → R → Type 0} {old new : Input R} (s : Shape) (more : ℕ) (k : InputFault)
-    → Turn {A = List ℕ} left failures same old new (Err k) (Finds (plain_row s) (Err k)) → Turn {A = List ℕ} left failures same old new (Err k) (Finds (row_by true s more) (Err k))
+pub row_fault : {R : Type 0} {left : R → Option (List ℕ)} {failures : R → ℕ} {same : R → R → Type 0} {old new : BufferedReader R} (s : Shape) (more : ℕ)
+    (k : InputFault)
+    → Turn {A = List ℕ} left failures same old new (Err k) (Finds (plain_row s) (Err k))
+    → Turn {A = List ℕ} left failures same old new (Err k) (Finds (row_in_form true s more) (Err k))
 row_fault s more k t = turn_err_so {A = List ℕ} {B = List ℕ} k (no_row s more k) t
 
-no_end : (s : Shape) (more : ℕ) (row : List ℕ) (k : InputFault) (b m a : List ℕ) → more ≡ 0 → plain_row s b ≡ row_done row m → Passes after_last_item (Err k) m a → Finds (row_by true s more) (Err k) b a
+no_end : (s : Shape) (more : ℕ) (row : List ℕ) (k : InputFault) (b m a : List ℕ) → more ≡ 0 → plain_row s b ≡ row_done row m
+    → Passes after_last_item (Err k) m a → Finds (row_in_form true s more) (Err k) b a
 no_end s more row k b m a none found (inl e) = inl (last_row s more b none ∙ ap last_of found ∙ ap (row_then row) e)
 no_end s more row k b m a none found (inr outside) = inr outside
 
 -- what comes after the last row is at fault, or can't be read
-pub end_fault : {R : Type 0} {left : R → Option (List ℕ)} {failures : R → ℕ} {same : R → R → Type 0} {old mid new : Input R} (s : Shape) (more : ℕ) (row : List ℕ) (k : InputFault) → ((a b c : R) → same a b → same b c → same a c) → more ≡ 0
-    → Turn {A = List ℕ} left failures same old mid (Ok row) (Finds (plain_row s) (Ok row)) → Turn {A = Unit {0}} left failures same mid new (Err k) (Passes after_last_item (Err k))
-    → Turn {A = List ℕ} left failures same old new (Err k) (Finds (row_by true s more) (Err k))
+pub end_fault : {R : Type 0} {left : R → Option (List ℕ)} {failures : R → ℕ} {same : R → R → Type 0} {old mid new : BufferedReader R} (s : Shape) (more : ℕ)
+    (row : List ℕ) (k : InputFault) → ((a b c : R) → same a b → same b c → same a c) → more ≡ 0
+    → Turn {A = List ℕ} left failures same old mid (Ok row) (Finds (plain_row s) (Ok row))
+    → Turn {A = Unit {0}} left failures same mid new (Err k) (Passes after_last_item (Err k))
+    → Turn {A = List ℕ} left failures same old new (Err k) (Finds (row_in_form true s more) (Err k))
 end_fault s more row k later none r t =
     turn_err_so {A = Unit {0}} {B = List ℕ} k (λ b a o. no_end s more row k b o.0 a none o.1 o.2) (turn_then {A = List ℕ} {B = Unit {0}} row later r t)
 
-pub last_row_found : {R : Type 0} {left : R → Option (List ℕ)} {failures : R → ℕ} {same : R → R → Type 0} {old mid new : Input R} (s : Shape) (more : ℕ) (row : List ℕ) → ((a b c : R) → same a b → same b c → same a c) → more ≡ 0
-    → Turn {A = List ℕ} left failures same old mid (Ok row) (Finds (plain_row s) (Ok row)) → Turn {A = Unit {0}} left failures same mid new (Ok tt) (Passes after_last_item (Ok tt))
-    → Turn {A = List ℕ} left failures same old new (Ok row) (Finds (row_by true s more) (Ok row))
+pub last_row_found : {R : Type 0} {left : R → Option (List ℕ)} {failures : R → ℕ} {same : R → R → Type 0} {old mid new : BufferedReader R} (s : Shape)
+    (more : ℕ) (row : List ℕ) → ((a b c : R) → same a b → same b c → same a c) → more ≡ 0
+    → Turn {A = List ℕ} left failures same old mid (Ok row) (Finds (plain_row s) (Ok row))
+    → Turn {A = Unit {0}} left failures same mid new (Ok tt) (Passes after_last_item (Ok tt))
+    → Turn {A = List ℕ} left failures same old new (Ok row) (Finds (row_in_form true s more) (Ok row))
 last_row_found s more row later none r t =
-    turn_ok_so {A = Unit {0}} {B = List ℕ} tt (Ok row) (no_fault row ReadFailed) (λ b a o. last_row s more b none ∙ ap last_of o.1 ∙ ap (row_then row) o.2) (turn_then {A = List ℕ} {B = Unit {0}} row later r t)
+    turn_ok_so {A = Unit {0}} {B = List ℕ} tt (Ok row) (no_fault row ReadFailed) (λ b a o. last_row s more b none ∙ ap last_of o.1 ∙ ap (row_then row) o.2)
+    (turn_then {A = List ℕ} {B = Unit {0}} row later r t)
 
-pub earlier_row_found : {R : Type 0} {left : R → Option (List ℕ)} {failures : R → ℕ} {same : R → R → Type 0} {old new : Input R} (s : Shape) (more : ℕ) (row : List ℕ) → 0 < more
-    → Turn {A = List ℕ} left failures same old new (Ok row) (Finds (plain_row s) (Ok row)) → Turn {A = List ℕ} left failures same old new (Ok row) (Finds (row_by true s more) (Ok row))
+pub earlier_row_found : {R : Type 0} {left : R → Option (List ℕ)} {failures : R → ℕ} {same : R → R → Type 0} {old new : BufferedReader R} (s : Shape) (more : ℕ)
+    (row : List ℕ) → 0 < more
+    → Turn {A = List ℕ} left failures same old new (Ok row) (Finds (plain_row s) (Ok row))
+    → Turn {A = List ℕ} left failures same old new (Ok row) (Finds (row_in_form true s more) (Ok row))
 earlier_row_found s more row some t = turn_ok_so {A = List ℕ} {B = List ℕ} row (Ok row) (no_fault row ReadFailed) (λ b a o. earlier_row s more b some ∙ o) t

@@ -1,8 +1,10 @@
 -- Raw rasters: the rows that one spells are said, and what is said without a fault is spelled.
 use Rattle.pnm_image.specs.Formats.{is_plain_form}
-use Rattle.std.proofs.Common.{◌≡◌, ℕ, zero, suc, ◌+◌, ◌*◌, ◌/◌, ◌<◌, ◌≤◌, Bool, true, false, leb, nat_lt, if◌then◌else◌, List, [], ◌∷◌, ◌++◌, length, get_or, take, drop, map, flat_map, All, None, Result, Ok, refl, sym, ap, append_assoc, ◌∙◌, ap₂, subst, arith, zero-mul, suc-mul}
+use Rattle.std.proofs.Common.{◌≡◌, ℕ, zero, suc, ◌+◌, ◌*◌, ◌/◌, ◌<◌, ◌≤◌, Bool, true, false, leb, nat_lt, if◌then◌else◌, List, [], ◌∷◌, ◌++◌, length, get_or}
+use Rattle.std.proofs.Common.{take, drop, map, flat_map, All, None, Result, Ok, refl, sym, ap, append_assoc, ◌∙◌, ap₂, subst, arith, zero-mul, suc-mul}
 use Rattle.std.specs.List.{concat}
-use Rattle.std.proofs.lemmas.List.{take_all, take_at, drop_at, take-append-le, drop-append-le, take-append-drop, length-take, length-take-le, length-drop, length-append, nil_from_length}
+use Rattle.std.proofs.lemmas.List.{take_all, take_at, drop_at, take-append-le, drop-append-le, take-append-drop, length-take, length-take-le, length-drop}
+use Rattle.std.proofs.lemmas.List.{length-append, nil_from_length}
 use Rattle.std.proofs.lemmas.List.Elements.{All-nil, All-append, All-take, All-map}
 use Rattle.pnm_image.specs.declared.shape.Shape.{Shape}
 use Rattle.pnm_image.specs.declared.shape.Kind.{Kind}
@@ -19,9 +21,10 @@ use Rattle.pnm_image.specs.declared.sample_width.SampleWidth.TheVariants.{Bits, 
 use Rattle.pnm_read.specs.Rasters.{bytes_in_row, pixel_at, pixels, wide_samples, raw_samples, SpellsRaw}
 use Rattle.pnm_image.specs.SampleWidths.{sample_width_of}
 use Rattle.pnm_read.specs.Items.{◌>>=◌, raw_item}
-use Rattle.pnm_read.specs.Said.{in_turn, units_in_row, units_at, raw_row, row_by, row_at, Said, then_said, end_said, rows_said}
+use Rattle.pnm_read.specs.Said.{in_turn, units_in_row, units_at, raw_row, row_in_form, row_at, Said, then_said, end_said, rows_said}
 use Rattle.pnm_read.proofs.PieceLaws.{bind_ok}
-use Rattle.pnm_read.proofs.UnitLaws.{unit_bytes, Turns, single, concat_singles, concat_pixels, are_within, are_within_all, all_are_within, unit_if, units_if, packed_units, narrow_units, wide_units}
+use Rattle.pnm_read.proofs.UnitLaws.{unit_bytes, Turns, single, concat_singles, concat_pixels, are_within, are_within_all, all_are_within, unit_if, units_if}
+use Rattle.pnm_read.proofs.UnitLaws.{packed_units, narrow_units, wide_units}
 use Rattle.pnm_read.specs.Sources.{after_messages}
 use Rattle.pnm_read.proofs.RowTurns.{RowsRead, rows_count, read_rows_are_said, ended_fault, all_read, no_more_to_come}
 
@@ -81,7 +84,8 @@ pixels_within maxval b low = All-map (λ sample. sample ≤ maxval) (λ bit. pix
 
 all_pixels_within : (maxval : ℕ) (bytes : List ℕ) → 0 < maxval → All (λ sample. sample ≤ maxval) (flat_map pixels bytes)
 all_pixels_within maxval [] low = All-nil (λ sample. sample ≤ maxval)
-all_pixels_within maxval (b ∷ bytes) low = All-append (λ sample. sample ≤ maxval) (pixels b) (flat_map pixels bytes) (pixels_within maxval b low) (all_pixels_within maxval bytes low)
+all_pixels_within maxval (b ∷ bytes) low = All-append (λ sample. sample ≤ maxval) (pixels b) (flat_map pixels bytes) (pixels_within maxval b low)
+    (all_pixels_within maxval bytes low)
 
 length-wide_samples : (n : ℕ) (bytes : List ℕ) → length bytes ≡ 2 * n → length (wide_samples bytes) ≡ n
 unfolding wide_samples
@@ -100,17 +104,20 @@ length-samples_by Bytes s bytes h e = e
 length-samples_by Words s bytes h e = length-wide_samples (row_length s) bytes e
 
 -- what units in turn give as a row
-after_units : (n : ℕ) (within : Bool) (units : List (List ℕ)) (rest : List ℕ) (r : Turns) → r ≡ units_if within units rest → (r >>= λ found. row_done (take n (concat found.0)) found.1) ≡ unit_if within (take n (concat units)) rest
+after_units : (n : ℕ) (within : Bool) (units : List (List ℕ)) (rest : List ℕ) (r : Turns) → r ≡ units_if within units rest
+    → (r >>= λ found. row_done (take n (concat found.0)) found.1) ≡ unit_if within (take n (concat units)) rest
 after_units n true units rest r e = rw e refl
 after_units n false units rest r e = rw e refl
 
 -- what the first so many bytes of a text give, by the width of its samples
-row_read_by : (p : SampleWidth) (s : Shape) (bytes rest : List ℕ) → IsPackable p s → length bytes ≡ bytes_by p s → row_in p s (bytes ++ rest) ≡ unit_if (are_within s.maxval (samples_by p s bytes)) (samples_by p s bytes) rest
+row_read_by : (p : SampleWidth) (s : Shape) (bytes rest : List ℕ) → IsPackable p s → length bytes ≡ bytes_by p s
+    → row_in p s (bytes ++ rest) ≡ unit_if (are_within s.maxval (samples_by p s bytes)) (samples_by p s bytes) rest
 row_read_by Bits s bytes rest h e =
     let units : in_turn (raw_item Bits s.maxval) ((s.width + 7) / 8) (bytes ++ rest) ≡ units_if true (map pixels bytes) rest =
     ap (λ (n : ℕ). in_turn (raw_item Bits s.maxval) n (bytes ++ rest)) (sym e) ∙ packed_units s.maxval bytes rest in
     let within : are_within s.maxval (take s.width (flat_map pixels bytes)) ≡ true =
-    are_within_all s.maxval (take s.width (flat_map pixels bytes)) (All-take (λ sample. sample ≤ s.maxval) s.width (flat_map pixels bytes) (all_pixels_within s.maxval bytes h.maxval_low)) in
+    are_within_all s.maxval (take s.width (flat_map pixels bytes))
+    (All-take (λ sample. sample ≤ s.maxval) s.width (flat_map pixels bytes) (all_pixels_within s.maxval bytes h.maxval_low)) in
     let long : row_length s ≡ s.width = omega (arith, ap (λ (d : ℕ). s.width * d) (h.one refl)) in
     after_units (row_length s) true (map pixels bytes) rest _ units
     ∙ ap₂ (λ (n : ℕ) (l : List ℕ). row_done (take n l) rest) long (concat_pixels bytes)
@@ -118,13 +125,15 @@ row_read_by Bits s bytes rest h e =
 row_read_by Bytes s bytes rest h e =
     let units = ap (λ (n : ℕ). in_turn (raw_item Bytes s.maxval) n (bytes ++ rest)) (sym e) ∙ narrow_units s.maxval bytes rest in
     after_units (row_length s) (are_within s.maxval bytes) (map single bytes) rest _ units
-    ∙ ap (λ (l : List ℕ). unit_if (are_within s.maxval bytes) l rest) (ap (take (row_length s)) (concat_singles bytes) ∙ take_all (row_length s) bytes (omega arith))
+    ∙ ap (λ (l : List ℕ). unit_if (are_within s.maxval bytes) l rest) (ap (take (row_length s)) (concat_singles bytes)
+    ∙ take_all (row_length s) bytes (omega arith))
 row_read_by Words s bytes rest h e =
     let units = wide_units s.maxval (row_length s) bytes rest (omega arith) in
     let samples : List ℕ = wide_samples bytes in
     let count : length samples ≡ row_length s = length-wide_samples (row_length s) bytes e in
     after_units (row_length s) (are_within s.maxval samples) (map single samples) rest _ units
-    ∙ ap (λ (l : List ℕ). unit_if (are_within s.maxval samples) l rest) (ap (take (row_length s)) (concat_singles samples) ∙ take_all (row_length s) samples (omega arith))
+    ∙ ap (λ (l : List ℕ). unit_if (are_within s.maxval samples) l rest) (ap (take (row_length s)) (concat_singles samples)
+    ∙ take_all (row_length s) samples (omega arith))
 
 -- what passed a test is left as it is
 pub row_if_ok : (t : Bool) (row rest : List ℕ) (found : List ℕ × List ℕ) → unit_if t row rest ≡ Ok found → (t ≡ true) × (found.1 ≡ rest)
@@ -132,7 +141,8 @@ row_if_ok true row rest found e = (refl, cc)
 row_if_ok false row rest found e = absurd cc
 
 -- a unit that was read has its bytes
-unit_length : (p : SampleWidth) (maxval : ℕ) (text : List ℕ) (found : List ℕ × List ℕ) → raw_item p maxval text ≡ Ok found → length text ≡ unit_bytes p + length found.1
+unit_length : (p : SampleWidth) (maxval : ℕ) (text : List ℕ) (found : List ℕ × List ℕ) → raw_item p maxval text ≡ Ok found
+    → length text ≡ unit_bytes p + length found.1
 unfolding raw_item
 unit_length Bits maxval [] found e = absurd cc
 unit_length Bits maxval (b ∷ text) found e = let left : text ≡ found.1 = cc in omega (arith, ap length left)
@@ -140,10 +150,12 @@ unit_length Bytes maxval [] found e = absurd cc
 unit_length Bytes maxval (b ∷ text) found e = let left = sym (row_if_ok (leb b maxval) (single b) text found e).1 in omega (arith, ap length left)
 unit_length Words maxval [] found e = absurd cc
 unit_length Words maxval (b ∷ []) found e = absurd cc
-unit_length Words maxval (b ∷ c ∷ text) found e = let left = sym (row_if_ok (leb (256 * b + c) maxval) (single (256 * b + c)) text found e).1 in omega (arith, ap length left)
+unit_length Words maxval (b ∷ c ∷ text) found e = let left = sym (row_if_ok (leb (256 * b + c) maxval) (single (256 * b + c)) text found e).1 in
+    omega (arith, ap length left)
 
 -- units that were read in turn have their bytes
-units_length : (p : SampleWidth) (maxval n : ℕ) (text : List ℕ) (found : List (List ℕ) × List ℕ) → in_turn (raw_item p maxval) n text ≡ Ok found → length text ≡ n * unit_bytes p + length found.1
+units_length : (p : SampleWidth) (maxval n : ℕ) (text : List ℕ) (found : List (List ℕ) × List ℕ) → in_turn (raw_item p maxval) n text ≡ Ok found
+    → length text ≡ n * unit_bytes p + length found.1
 unfolding in_turn
 units_length p maxval zero text found e = let left : text ≡ found.1 = cc in omega (arith, ap length left, zero-mul (unit_bytes p))
 units_length p maxval (suc n) text found e =
@@ -190,7 +202,8 @@ packable head h = record {
 
 -- the first row of a text that is long enough
 pub row_read : (s : Shape) (text : List ℕ) → IsPackable (sample_width_in s) s → bytes_in_row s ≤ length text
-    → raw_row s text ≡ unit_if (are_within s.maxval (raw_samples s (take (bytes_in_row s) text))) (raw_samples s (take (bytes_in_row s) text)) (drop (bytes_in_row s) text)
+    → raw_row s text ≡ unit_if (are_within s.maxval (raw_samples s (take (bytes_in_row s) text))) (raw_samples s (take (bytes_in_row s) text))
+    (drop (bytes_in_row s) text)
 unfolding raw_row
 row_read s text h long =
     ap (row_in (sample_width_in s) s) (sym (take-append-drop (bytes_in_row s) text))
@@ -211,17 +224,18 @@ rows_then rows s = record { messages = map Row rows ++ ImageEnd ∷ s.messages; 
 
 -- a row of a raw format is a raw row
 pub row_at_raw : (format : Format) (s : Shape) (more : ℕ) (text : List ℕ) → is_plain_form format.form ≡ false → row_at format s more text ≡ raw_row s text
-row_at_raw format s more text plain = ap (λ (b : Bool). row_by b s more text) plain
+row_at_raw format s more text plain = ap (λ (b : Bool). row_in_form b s more text) plain
 
 -- a row that a longer text begins with
-pub row_in_front : (s : Shape) (text rest : List ℕ) → IsPackable (sample_width_in s) s → bytes_in_row s ≤ length text → are_within s.maxval (raw_samples s (take (bytes_in_row s) text)) ≡ true
+pub row_in_prefix : (s : Shape) (text rest : List ℕ) → IsPackable (sample_width_in s) s → bytes_in_row s ≤ length text
+    → are_within s.maxval (raw_samples s (take (bytes_in_row s) text)) ≡ true
     → raw_row s (text ++ rest) ≡ unit_if true (raw_samples s (take (bytes_in_row s) text)) (drop (bytes_in_row s) text ++ rest)
-row_in_front s text rest h long within =
+row_in_prefix s text rest h long within =
     let each : ℕ = bytes_in_row s in
-    let front : take each (text ++ rest) ≡ take each text = take-append-le each text rest long in
+    let prefix : take each (text ++ rest) ≡ take each text = take-append-le each text rest long in
     let back : drop each (text ++ rest) ≡ drop each text ++ rest = drop-append-le each text rest long in
     row_read s (text ++ rest) h (omega (arith, length-append text rest))
-    ∙ ap (λ (l : List ℕ). unit_if (are_within s.maxval (raw_samples s l)) (raw_samples s l) (drop each (text ++ rest))) front
+    ∙ ap (λ (l : List ℕ). unit_if (are_within s.maxval (raw_samples s l)) (raw_samples s l) (drop each (text ++ rest))) prefix
     ∙ ap (λ (l : List ℕ). unit_if (are_within s.maxval (raw_samples s (take each text))) (raw_samples s (take each text)) l) back
     ∙ ap (λ (t : Bool). unit_if t (raw_samples s (take each text)) (drop each text ++ rest)) within
 
@@ -231,7 +245,8 @@ row_if_row true row rest found e = cc
 row_if_row false row rest found e = absurd cc
 
 -- a raw row that was read is a row of the head's shape
-pub raw_row_is_row : (head : HeadValue) (text : List ℕ) (found : List ℕ × List ℕ) → IsHead head → raw_row head.shape text ≡ Ok found → IsRowOf head.shape found.0
+pub raw_row_is_row : (head : HeadValue) (text : List ℕ) (found : List ℕ × List ℕ) → IsHead head → raw_row head.shape text ≡ Ok found
+    → IsRowOf head.shape found.0
 raw_row_is_row head text found h e =
     let s : Shape = head.shape in
     let each : ℕ = bytes_in_row s in
@@ -253,24 +268,27 @@ pub record RawBytes (s : Shape) (rows : List (List ℕ)) (text rest : List ℕ) 
   pub are : AreRowsOf s rows
 
 -- a row of bytes before others
-bytes_before : (s : Shape) (row : List ℕ) (rows : List (List ℕ)) (text left rest : List ℕ) → bytes_in_row s ≤ length text → raw_samples s (take (bytes_in_row s) text) ≡ row → left ≡ drop (bytes_in_row s) text → IsRowOf s row
+bytes_before : (s : Shape) (row : List ℕ) (rows : List (List ℕ)) (text left rest : List ℕ) → bytes_in_row s ≤ length text
+    → raw_samples s (take (bytes_in_row s) text) ≡ row → left ≡ drop (bytes_in_row s) text → IsRowOf s row
     → RawBytes s rows left rest → RawBytes s (row ∷ rows) text rest
 bytes_before s row rows text left rest long same after is others =
     let each : ℕ = bytes_in_row s in
     let first : List ℕ = take each text in
     let size : length first ≡ each = length-take-le each text long in
-    let front : take each (first ++ others.bytes) ≡ first = take_at first others.bytes each size in
+    let prefix : take each (first ++ others.bytes) ≡ first = take_at first others.bytes each size in
     let back : drop each (first ++ others.bytes) ≡ others.bytes = drop_at first others.bytes each size in
     record {
       bytes = first ++ others.bytes;
       whole = sym (take-append-drop each text) ∙ ap (λ (l : List ℕ). first ++ l) (sym after ∙ others.whole) ∙ sym (append_assoc first others.bytes rest);
       count = omega (arith, length-append first others.bytes, size, others.count, suc-mul (length rows) each);
-      rows_are = ap₂ (λ (x : List ℕ) (xs : List (List ℕ)). x ∷ xs) (ap (raw_samples s) front ∙ same) (ap (raw_rows s (length rows)) back ∙ others.rows_are);
+      rows_are = ap₂ (λ (x : List ℕ) (xs : List (List ℕ)). x ∷ xs) (ap (raw_samples s) prefix ∙ same) (ap (raw_rows s (length rows)) back ∙ others.rows_are);
       are = (is, others.are);
     }
 
-pub raw_rows_have_bytes : (format : Format) (head : HeadValue) (rows : List (List ℕ)) (n : ℕ) (text : List ℕ) (more : ℕ) (rest : List ℕ) → is_plain_form format.form ≡ false → IsHead head → RowsRead format head.shape rows n text more rest → RawBytes head.shape rows text rest
-raw_rows_have_bytes format head [] n text more rest raw h read = record { bytes = []; whole = read.1; count = sym (zero-mul (bytes_in_row head.shape)); rows_are = refl; are = tt }
+pub raw_rows_have_bytes : (format : Format) (head : HeadValue) (rows : List (List ℕ)) (n : ℕ) (text : List ℕ) (more : ℕ) (rest : List ℕ)
+    → is_plain_form format.form ≡ false → IsHead head → RowsRead format head.shape rows n text more rest → RawBytes head.shape rows text rest
+raw_rows_have_bytes format head [] n text more rest raw h read =
+    record { bytes = []; whole = read.1; count = sym (zero-mul (bytes_in_row head.shape)); rows_are = refl; are = tt }
 raw_rows_have_bytes format head (row ∷ rows) zero text more rest raw h read = absurd read
 raw_rows_have_bytes format head (row ∷ rows) (suc n) text more rest raw h read =
     let s : Shape = head.shape in
@@ -279,11 +297,13 @@ raw_rows_have_bytes format head (row ∷ rows) (suc n) text more rest raw h read
     let found : raw_row s text ≡ Ok (row, read.0) = sym (row_at_raw format s n text raw) ∙ read.1 in
     let long : each ≤ length text = row_long s text (row, read.0) found in
     let test : unit_if (are_within s.maxval samples) samples (drop each text) ≡ Ok (row, read.0) = sym (row_read s text (packable head h) long) ∙ found in
-    bytes_before s row rows text read.0 rest long (row_if_row (are_within s.maxval samples) samples (drop each text) (row, read.0) test) (row_if_ok (are_within s.maxval samples) samples (drop each text) (row, read.0) test).1 (raw_row_is_row head text (row, read.0) h found)
+    bytes_before s row rows text read.0 rest long (row_if_row (are_within s.maxval samples) samples (drop each text) (row, read.0) test)
+    (row_if_ok (are_within s.maxval samples) samples (drop each text) (row, read.0) test).1 (raw_row_is_row head text (row, read.0) h found)
     (raw_rows_have_bytes format head rows n read.0 more rest raw h read.2)
 
 -- rows that are spelled are read in turn
-pub raw_rows_are_read : (format : Format) (s : Shape) (rows n : ℕ) (text : List ℕ) (more : ℕ) (rest : List ℕ) → is_plain_form format.form ≡ false → IsPackable (sample_width_in s) s → n ≡ rows + more → length text ≡ rows * bytes_in_row s → AreRowsOf s (raw_rows s rows text)
+pub raw_rows_are_read : (format : Format) (s : Shape) (rows n : ℕ) (text : List ℕ) (more : ℕ) (rest : List ℕ) → is_plain_form format.form ≡ false
+    → IsPackable (sample_width_in s) s → n ≡ rows + more → length text ≡ rows * bytes_in_row s → AreRowsOf s (raw_rows s rows text)
     → RowsRead format s (raw_rows s rows text) n (text ++ rest) more rest
 raw_rows_are_read format s zero n text more rest raw h count size are =
     let nothing : text ≡ [] = nil_from_length text (size ∙ zero-mul (bytes_in_row s)) in
@@ -295,7 +315,7 @@ raw_rows_are_read format s (suc rows) (suc n) text more rest raw h count size ar
     let within = are_within_all s.maxval (raw_samples s (take each text)) are.0.range in
     let left : length (drop each text) ≡ rows * each = omega (arith, length-drop each text) in (
       drop each text ++ rest,
-      row_at_raw format s n (text ++ rest) raw ∙ row_in_front s text rest h (omega arith) within,
+      row_at_raw format s n (text ++ rest) raw ∙ row_in_prefix s text rest h (omega arith) within,
       raw_rows_are_read format s rows n (drop each text) more rest raw h (omega arith) left are.1,
     )
 
@@ -311,28 +331,35 @@ raw_row_shorter s text found e =
 -- ---- images
 
 -- after all rows come the image's end and what follows
-after_rows : (later : List ℕ → Said) (format : Format) (s : Shape) (rows : List (List ℕ)) (rest : List ℕ) → is_plain_form format.form ≡ false → after_messages (map Row rows) (rows_said later format s zero rest) ≡ rows_then rows (later rest)
+after_rows : (later : List ℕ → Said) (format : Format) (s : Shape) (rows : List (List ℕ)) (rest : List ℕ) → is_plain_form format.form ≡ false
+    → after_messages (map Row rows) (rows_said later format s zero rest) ≡ rows_then rows (later rest)
 unfolding rows_said end_said
 after_rows later format s [] rest raw = ap (λ (p : Bool). then_said ImageEnd (end_said later p rest)) raw
 after_rows later format s (row ∷ rows) rest raw = ap (then_said (Row row)) (after_rows later format s rows rest raw)
 
 -- of a raster that spells an image the rows are said, the image's end, and what follows
-pub spelled_raw_is_said : (later : List ℕ → Said) (format : Format) (raster rest : List ℕ) (image : Image) → is_plain_form format.form ≡ false → SpellsRaw raster image
+pub spelled_raw_is_said : (later : List ℕ → Said) (format : Format) (raster rest : List ℕ) (image : Image) → is_plain_form format.form ≡ false
+    → SpellsRaw raster image
     → rows_said later format image.head.shape image.head.shape.height (raster ++ rest) ≡ rows_then (rows_of image) (later rest)
 spelled_raw_is_said later format raster rest image raw h =
     let s : Shape = image.head.shape in
     let rows : List (List ℕ) = raw_rows s s.height raster in
-    let read = raw_rows_are_read format s s.height s.height raster zero rest raw (packable image.head h.sound.head) (omega arith) h.count (subst (AreRowsOf s) h.rows (AreRowsOf-rows_of image h.sound)) in
-    read_rows_are_said later format s rows s.height (raster ++ rest) zero rest read ∙ after_rows later format s rows rest raw ∙ ap (λ (l : List (List ℕ)). rows_then l (later rest)) (sym h.rows)
+    let read = raw_rows_are_read format s s.height s.height raster zero rest raw (packable image.head h.sound.head) (omega arith) h.count
+    (subst (AreRowsOf s) h.rows (AreRowsOf-rows_of image h.sound)) in
+    read_rows_are_said later format s rows s.height (raster ++ rest) zero rest read ∙ after_rows later format s rows rest raw
+    ∙ ap (λ (l : List (List ℕ)). rows_then l (later rest)) (sym h.rows)
 
 -- the fault after all rows of a raw image is that of what follows it
-raw_end_fault : (later : List ℕ → Said) (format : Format) (rest : List ℕ) → is_plain_form format.form ≡ false → (end_said later (is_plain_form format.form) rest).fault ≡ (later rest).fault
+raw_end_fault : (later : List ℕ → Said) (format : Format) (rest : List ℕ) → is_plain_form format.form ≡ false
+    → (end_said later (is_plain_form format.form) rest).fault ≡ (later rest).fault
 unfolding end_said
 raw_end_fault later format rest raw = ap (λ (p : Bool). (end_said later p rest).fault) raw
 
 -- a raster whose rows are said without a fault spells an image, and what follows has no fault
-pub said_raw_is_spelled : (later : List ℕ → Said) (format : Format) (head : HeadValue) (text : List ℕ) → is_plain_form format.form ≡ false → IsHead head → (rows_said later format head.shape head.shape.height text).fault ≡ None
-    → (image : Image) × (raster : List ℕ) × (rest : List ℕ) × (text ≡ raster ++ rest) × (image.head ≡ head) × SpellsRaw raster image × ((later rest).fault ≡ None)
+pub said_raw_is_spelled : (later : List ℕ → Said) (format : Format) (head : HeadValue) (text : List ℕ) → is_plain_form format.form ≡ false → IsHead head
+    → (rows_said later format head.shape head.shape.height text).fault ≡ None
+    → (image : Image) × (raster : List ℕ) × (rest : List ℕ) × (text ≡ raster ++ rest) × (image.head ≡ head) × SpellsRaw raster image
+    × ((later rest).fault ≡ None)
 said_raw_is_spelled later format head text raw h e =
     let s : Shape = head.shape in
     let r = all_read format s s.height text in

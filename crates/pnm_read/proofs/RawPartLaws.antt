@@ -1,5 +1,6 @@
 -- The samples of a raw row, and the bytes that they lie in.
-use Rattle.std.proofs.Common.{◌≡◌, ℕ, ◌+◌, ◌-◌, ◌*◌, ◌≤◌, ◌<◌, ◌↔◌, All, Bool, true, false, IsTrue, List, [], ◌∷◌, ◌++◌, length, get_or, take, drop, Result, Ok, Err, OnOk, is_err, refl, sym, ap, ◌∙◌, subst, arith}
+use Rattle.std.proofs.Common.{◌≡◌, ℕ, ◌+◌, ◌-◌, ◌*◌, ◌≤◌, ◌<◌, ◌↔◌, All, Bool, true, false, IsTrue, List, [], ◌∷◌, ◌++◌, length, get_or, take, drop, Result, Ok}
+use Rattle.std.proofs.Common.{Err, OnOk, is_err, refl, sym, ap, ◌∙◌, subst, arith}
 use Rattle.std.specs.declared.slice.ChunksExact.{ChunksExact}
 use Rattle.std.specs.Slice.Iter.{chunks_exact_steps, chunks_exact_rest, chunks_exact_size}
 use Rattle.std.proofs.lemmas.List.{take_all, drop_at, length-append}
@@ -27,7 +28,8 @@ within_of_appended old samples new n most within e count known =
     subst (λ (l : List ℕ). IsTrue within ↔ All (λ sample. sample ≤ most) l) (appended_end old samples new n e count) known
 
 -- what is refused isn't within the bound
-pub refused_not_within : (samples : List ℕ) (most : ℕ) (within : Bool) → within ≡ false → (IsTrue within ↔ All (λ sample. sample ≤ most) samples) → All (λ sample. sample ≤ most) samples → ⊥
+pub refused_not_within : (samples : List ℕ) (most : ℕ) (within : Bool) → within ≡ false → (IsTrue within ↔ All (λ sample. sample ≤ most) samples)
+    → All (λ sample. sample ≤ most) samples → ⊥
 refused_not_within samples most true refused known all = cc
 refused_not_within samples most false refused known all = let t : IsTrue false = known.1 all in cc
 

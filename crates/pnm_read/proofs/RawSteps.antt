@@ -1,19 +1,20 @@
 -- How the units of a raw row are read part by part.
-use Rattle.std.proofs.Common.{◌≡◌, ℕ, zero, suc, ◌+◌, ◌-◌, ◌*◌, ◌<◌, ◌≤◌, Bool, true, false, leb, List, [], ◌∷◌, ◌++◌, length, take, Option, Result, Ok, Err, ◌⊎◌, inl, inr, refl, sym, ap, ◌∙◌, ap₂, arith}
+use Rattle.std.proofs.Common.{◌≡◌, ℕ, zero, suc, ◌+◌, ◌-◌, ◌*◌, ◌<◌, ◌≤◌, Bool, true, false, leb, List, [], ◌∷◌, ◌++◌, length, take, Option, Result, Ok, Err}
+use Rattle.std.proofs.Common.{◌⊎◌, inl, inr, refl, sym, ap, ◌∙◌, ap₂, arith}
 use Rattle.std.specs.List.{concat}
 use Rattle.std.proofs.lemmas.List.Folds.{concat-append}
 use Rattle.pnm_image.specs.declared.shape.Shape.{Shape}
 use Rattle.pnm_image.specs.Heads.{row_length}
 use Rattle.pnm_read.specs.declared.fault.InputFault.{InputFault}
 use Rattle.pnm_read.specs.declared.fault.InputFault.TheVariants.{ReadFailed, RasterCut}
-use Rattle.pnm_read.specs.declared.input.Input.{Input}
+use Rattle.pnm_read.specs.declared.buffered_reader.BufferedReader.{BufferedReader}
 use Rattle.pnm_image.specs.declared.sample_width.SampleWidth.{SampleWidth}
 use Rattle.pnm_image.specs.declared.sample_width.SampleWidth.TheVariants.{Bits, Bytes, Words}
 use Rattle.pnm_image.specs.SampleWidths.{sample_width_of}
 use Rattle.pnm_read.specs.Items.{◌>>=◌, raw_item}
 use Rattle.pnm_read.specs.Said.{in_turn, units_in_row, units_at, raw_row}
 use Rattle.pnm_read.specs.RawParts.{FindsUnits, FindsPart}
-use Rattle.pnm_read.specs.Inputs.{Turn, Finds, IsOutsideFault}
+use Rattle.pnm_read.specs.BufferedReaders.{Turn, Finds, IsOutsideFault}
 use Rattle.pnm_read.proofs.UnitLaws.{unit_bytes, unit_if, turned, and_turns}
 use Rattle.pnm_read.proofs.PartLaws.{all_are_left, part_fails, part_is_read, none_are_left, one_fails}
 use Rattle.pnm_read.proofs.Turns.{no_fault, turn_then, turn_ok_so, turn_err_so, turn_taken}
@@ -49,11 +50,13 @@ unit_found Words maxval [] e = cc
 unit_found Words maxval (b ∷ []) e = cc
 unit_found Words maxval (b ∷ c ∷ text) e = unit_if_found (leb (256 * b + c) maxval) ((256 * b + c) ∷ []) text e
 
-others_found : (first : List ℕ) (r : Result (List (List ℕ) × List ℕ) InputFault) → (r ≡ Err ReadFailed → ⊥) → (r >>= λ more. turned (first ∷ more.0) more.1) ≡ Err ReadFailed → ⊥
+others_found : (first : List ℕ) (r : Result (List (List ℕ) × List ℕ) InputFault) → (r ≡ Err ReadFailed → ⊥)
+    → (r >>= λ more. turned (first ∷ more.0) more.1) ≡ Err ReadFailed → ⊥
 others_found first (Ok x) h e = cc
 others_found first (Err k) h e = h cc
 
-first_found : (item : List ℕ → Result (List ℕ × List ℕ) InputFault) (n : ℕ) (r : Result (List ℕ × List ℕ) InputFault) → (r ≡ Err ReadFailed → ⊥) → ((text : List ℕ) → in_turn item n text ≡ Err ReadFailed → ⊥)
+first_found : (item : List ℕ → Result (List ℕ × List ℕ) InputFault) (n : ℕ) (r : Result (List ℕ × List ℕ) InputFault) → (r ≡ Err ReadFailed → ⊥)
+    → ((text : List ℕ) → in_turn item n text ≡ Err ReadFailed → ⊥)
     → (r >>= λ first. in_turn item n first.1 >>= λ more. turned (first.0 ∷ more.0) more.1) ≡ Err ReadFailed → ⊥
 first_found item n (Ok x) h others e = others_found x.0 (in_turn item n x.1) (others x.1) e
 first_found item n (Err k) h others e = h cc
@@ -64,8 +67,10 @@ units_found p maxval zero text e = cc
 units_found p maxval (suc n) text e = first_found (raw_item p maxval) n (raw_item p maxval text) (unit_found p maxval text) (units_found p maxval n) e
 
 -- the units of a row, by the width of its samples and how many they are
-pub units_as : (s : Shape) (p : SampleWidth) (all : ℕ) (text : List ℕ) → p ≡ sample_width_of s.kind s.maxval → all ≡ units_in_row p s → units_at s text ≡ in_turn (raw_item p s.maxval) all text
-units_as s p all text is_width is_all = sym (ap₂ (λ (q : SampleWidth) (n : ℕ). in_turn (raw_item q s.maxval) n text) is_width (is_all ∙ ap (λ (q : SampleWidth). units_in_row q s) is_width))
+pub units_as : (s : Shape) (p : SampleWidth) (all : ℕ) (text : List ℕ) → p ≡ sample_width_of s.kind s.maxval → all ≡ units_in_row p s
+    → units_at s text ≡ in_turn (raw_item p s.maxval) all text
+units_as s p all text is_width is_all =
+    sym (ap₂ (λ (q : SampleWidth) (n : ℕ). in_turn (raw_item q s.maxval) n text) is_width (is_all ∙ ap (λ (q : SampleWidth). units_in_row q s) is_width))
 
 -- ---- steps
 
@@ -74,10 +79,12 @@ abbrev pub UnitsFrom : SampleWidth → ℕ → ℕ → ℕ → List ℕ → List
 UnitsFrom p maxval all more samples text left =
     (units : List (List ℕ)) × (samples ≡ concat units) × (in_turn (raw_item p maxval) all text ≡ and_turns (raw_item p maxval) more units left)
 
-pub record ReadingUnits {R : Type 0} (left : R → Option (List ℕ)) (failures : R → ℕ) (same : R → R → Type 0) (p : SampleWidth) (maxval all more : ℕ) (samples : List ℕ) (old now : Input R) : Type 0 where
+pub record ReadingUnits {R : Type 0} (left : R → Option (List ℕ)) (failures : R → ℕ) (same : R → R → Type 0) (p : SampleWidth) (maxval all more : ℕ)
+    (samples : List ℕ) (old now : BufferedReader R) : Type 0 where
   pub turn : Turn {A = Unit {0}} left failures same old now (Ok tt) (UnitsFrom p maxval all more samples)
 
-pub units_begin : {R : Type 0} {left : R → Option (List ℕ)} {failures : R → ℕ} {same : R → R → Type 0} (p : SampleWidth) (maxval all : ℕ) (samples : List ℕ) (input : Input R) → ((a : R) → same a a) → samples ≡ []
+pub units_begin : {R : Type 0} {left : R → Option (List ℕ)} {failures : R → ℕ} {same : R → R → Type 0} (p : SampleWidth) (maxval all : ℕ) (samples : List ℕ)
+    (input : BufferedReader R) → ((a : R) → same a a) → samples ≡ []
     → ReadingUnits left failures same p maxval all all samples input input
 units_begin {left = left} {failures = failures} {same = same} p maxval all samples input at_once none = record {
   turn = turn_ok_so {A = Unit {0}} {B = Unit {0}} tt (Ok tt) (no_fault tt ReadFailed)
@@ -86,8 +93,11 @@ units_begin {left = left} {failures = failures} {same = same} p maxval all sampl
 }
 
 -- a part of the units that are left was read
-pub part_read : {R : Type 0} {left : R → Option (List ℕ)} {failures : R → ℕ} {same : R → R → Type 0} {p : SampleWidth} {maxval all more : ℕ} {samples : List ℕ} {old now mid : Input R}
-    (most : ℕ) (part : List ℕ) (new : ℕ → List ℕ) (count : ℕ) (others : List ℕ) → ((a b c : R) → same a b → same b c → same a c) → ReadingUnits left failures same p maxval all more samples old now → Turn {A = ℕ} left failures same now mid (Ok count) (FindsPart p maxval most part new (Ok count))
+pub part_read : {R : Type 0} {left : R → Option (List ℕ)} {failures : R → ℕ} {same : R → R → Type 0} {p : SampleWidth} {maxval all more : ℕ} {samples : List ℕ}
+    {old now mid : BufferedReader R}
+    (most : ℕ) (part : List ℕ) (new : ℕ → List ℕ) (count : ℕ) (others : List ℕ) → ((a b c : R) → same a b → same b c → same a c)
+    → ReadingUnits left failures same p maxval all more samples old now
+    → Turn {A = ℕ} left failures same now mid (Ok count) (FindsPart p maxval most part new (Ok count))
     → most ≤ more → ((units : List (List ℕ)) → new count ≡ part ++ concat units → others ≡ samples ++ concat units)
     → ReadingUnits left failures same p maxval all (more - count) others old mid
 part_read {p = p} {maxval = maxval} {all = all} {more = more} {samples = samples} most part new count others later r t le f = record {
@@ -101,28 +111,39 @@ part_read {p = p} {maxval = maxval} {all = all} {more = more} {samples = samples
 }
 
 -- no unit's fault in a part is that of a reader
-part_fault_so : (p : SampleWidth) (maxval all more most : ℕ) (samples part : List ℕ) (new : ℕ → List ℕ) (s : Shape) (k : InputFault) → p ≡ sample_width_of s.kind s.maxval → all ≡ units_in_row p s → maxval ≡ s.maxval → most ≤ more
+part_fault_so : (p : SampleWidth) (maxval all more most : ℕ) (samples part : List ℕ) (new : ℕ → List ℕ) (s : Shape) (k : InputFault)
+    → p ≡ sample_width_of s.kind s.maxval → all ≡ units_in_row p s → maxval ≡ s.maxval → most ≤ more
     → (b m a : List ℕ) → UnitsFrom p maxval all more samples b m → FindsPart p maxval most part new (Err k) m a → (units_at s b ≡ Err k) ⊎ IsOutsideFault k
 part_fault_so p maxval all more most samples part new s k is_width is_all is_maxval le b m a from (inl found) =
     let fits : found.0 ≤ more = omega (arith, found.1, le) in
-    inl (units_as s p all b is_width is_all ∙ ap (λ (n : ℕ). in_turn (raw_item p n) all b) (sym is_maxval) ∙ part_fails (raw_item p maxval) all more found.0 from.0 b m k fits found.2 from.2)
+    inl (units_as s p all b is_width is_all ∙ ap (λ (n : ℕ). in_turn (raw_item p n) all b) (sym is_maxval)
+    ∙ part_fails (raw_item p maxval) all more found.0 from.0 b m k fits found.2 from.2)
 part_fault_so p maxval all more most samples part new s k is_width is_all is_maxval le b m a from (inr outside) = inr outside
 
-pub part_fault : {R B : Type 0} {left : R → Option (List ℕ)} {failures : R → ℕ} {same : R → R → Type 0} {p : SampleWidth} {all more : ℕ} {samples : List ℕ} {old now mid : Input R}
-    (most : ℕ) (part : List ℕ) (new : ℕ → List ℕ) (view : B → List ℕ) (s : Shape) (k : InputFault) → ((a b c : R) → same a b → same b c → same a c) → ReadingUnits left failures same p s.maxval all more samples old now → Turn {A = ℕ} left failures same now mid (Err k) (FindsPart p s.maxval most part new (Err k))
+pub part_fault : {R B : Type 0} {left : R → Option (List ℕ)} {failures : R → ℕ} {same : R → R → Type 0} {p : SampleWidth} {all more : ℕ} {samples : List ℕ}
+    {old now mid : BufferedReader R}
+    (most : ℕ) (part : List ℕ) (new : ℕ → List ℕ) (view : B → List ℕ) (s : Shape) (k : InputFault) → ((a b c : R) → same a b → same b c → same a c)
+    → ReadingUnits left failures same p s.maxval all more samples old now
+    → Turn {A = ℕ} left failures same now mid (Err k) (FindsPart p s.maxval most part new (Err k))
     → p ≡ sample_width_of s.kind s.maxval → all ≡ units_in_row p s → most ≤ more
     → Turn {A = B} left failures same old mid (Err k) (FindsUnits view s (Err k))
 part_fault {B = B} {p = p} {all = all} {more = more} {samples = samples} most part new view s k later r t is_width is_all le =
-    turn_err_so {A = ℕ} {B = B} k (λ b a o. part_fault_so p s.maxval all more most samples part new s k is_width is_all refl le b o.0 a o.1 o.2) (turn_then {A = Unit {0}} {B = ℕ} tt later r.turn t)
+    turn_err_so {A = ℕ} {B = B} k (λ b a o. part_fault_so p s.maxval all more most samples part new s k is_width is_all refl le b o.0 a o.1 o.2)
+    (turn_then {A = Unit {0}} {B = ℕ} tt later r.turn t)
 
 -- all units were read
-pub units_read : {R B : Type 0} {left : R → Option (List ℕ)} {failures : R → ℕ} {same : R → R → Type 0} {p : SampleWidth} {all more : ℕ} {samples : List ℕ} {old now : Input R}
-    (view : B → List ℕ) (s : Shape) (row : B) → ReadingUnits left failures same p s.maxval all more samples old now → p ≡ sample_width_of s.kind s.maxval → all ≡ units_in_row p s → more ≤ 0 → view row ≡ samples
+pub units_read : {R B : Type 0} {left : R → Option (List ℕ)} {failures : R → ℕ} {same : R → R → Type 0} {p : SampleWidth} {all more : ℕ} {samples : List ℕ}
+    {old now : BufferedReader R}
+    (view : B → List ℕ) (s : Shape) (row : B) → ReadingUnits left failures same p s.maxval all more samples old now → p ≡ sample_width_of s.kind s.maxval
+    → all ≡ units_in_row p s → more ≤ 0 → view row ≡ samples
     → Turn {A = B} left failures same old now (Ok row) (FindsUnits view s (Ok row))
 units_read {B = B} {p = p} {all = all} {more = more} view s row r is_width is_all done is_row =
     turn_ok_so {A = Unit {0}} {B = B} tt (Ok row) (no_fault row ReadFailed) (λ b a o.
-    let none : more ≡ 0 = omega arith in
-    (o.0, units_as s p all b is_width is_all ∙ o.2 ∙ ap (λ (m : ℕ). and_turns (raw_item p s.maxval) m o.0 a) none ∙ none_are_left (raw_item p s.maxval) o.0 a, is_row ∙ o.1))
+    let none : more ≡ 0 = omega arith in (
+      o.0,
+      units_as s p all b is_width is_all ∙ o.2 ∙ ap (λ (m : ℕ). and_turns (raw_item p s.maxval) m o.0 a) none ∙ none_are_left (raw_item p s.maxval) o.0 a,
+      is_row ∙ o.1,
+    ))
     r.turn
 
 -- ---- a row of units
@@ -135,8 +156,10 @@ row_done row rest = Ok (row, rest)
 abbrev row_of_units : Shape → Result (List (List ℕ) × List ℕ) InputFault → Result (List ℕ × List ℕ) InputFault
 row_of_units s units = units >>= λ found. row_done (take (row_length s) (concat found.0)) found.1
 
-pub row_found : {R A : Type 0} {left : R → Option (List ℕ)} {failures : R → ℕ} {same : R → R → Type 0} {old new : Input R} (view : A → List ℕ) (s : Shape) (units : A) (row : List ℕ) → row ≡ take (row_length s) (view units)
-    → Turn {A = A} left failures same old new (Ok units) (FindsUnits view s (Ok units)) → Turn {A = List ℕ} left failures same old new (Ok row) (Finds (raw_row s) (Ok row))
+pub row_found : {R A : Type 0} {left : R → Option (List ℕ)} {failures : R → ℕ} {same : R → R → Type 0} {old new : BufferedReader R} (view : A → List ℕ)
+    (s : Shape) (units : A) (row : List ℕ) → row ≡ take (row_length s) (view units)
+    → Turn {A = A} left failures same old new (Ok units) (FindsUnits view s (Ok units))
+    → Turn {A = List ℕ} left failures same old new (Ok row) (Finds (raw_row s) (Ok row))
 unfolding raw_row
 row_found {A = A} view s units row is_row t =
     turn_ok_so {A = A} {B = List ℕ} units (Ok row) (no_fault row ReadFailed)
@@ -147,6 +170,8 @@ unfolding raw_row
 fault_of_units view s k b a (inl e) = inl (ap (row_of_units s) e)
 fault_of_units view s k b a (inr outside) = inr outside
 
-pub row_fault : {R A : Type 0} {left : R → Option (List ℕ)} {failures : R → ℕ} {same : R → R → Type 0} {old new : Input R} (view : A → List ℕ) (s : Shape) (k : InputFault)
-    → Turn {A = A} left failures same old new (Err k) (FindsUnits view s (Err k)) → Turn {A = List ℕ} left failures same old new (Err k) (Finds (raw_row s) (Err k))
+pub row_fault : {R A : Type 0} {left : R → Option (List ℕ)} {failures : R → ℕ} {same : R → R → Type 0} {old new : BufferedReader R} (view : A → List ℕ)
+    (s : Shape) (k : InputFault)
+    → Turn {A = A} left failures same old new (Err k) (FindsUnits view s (Err k))
+    → Turn {A = List ℕ} left failures same old new (Err k) (Finds (raw_row s) (Err k))
 row_fault {A = A} view s k t = turn_err_so {A = A} {B = List ℕ} k (fault_of_units view s k) t

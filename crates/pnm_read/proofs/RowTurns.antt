@@ -16,7 +16,8 @@ RowsRead format s (row ∷ rows) zero text more rest = ⊥
 RowsRead format s (row ∷ rows) (suc n) text more rest = (left : List ℕ) × (row_at format s n text ≡ Ok (row, left)) × RowsRead format s rows n left more rest
 
 -- the rows that were read, and those that are still to come, are all
-pub rows_count : (format : Format) (s : Shape) (rows : List (List ℕ)) (n : ℕ) (text : List ℕ) (more : ℕ) (rest : List ℕ) → RowsRead format s rows n text more rest → n ≡ length rows + more
+pub rows_count : (format : Format) (s : Shape) (rows : List (List ℕ)) (n : ℕ) (text : List ℕ) (more : ℕ) (rest : List ℕ)
+    → RowsRead format s rows n text more rest → n ≡ length rows + more
 rows_count format s [] n text more rest read = let none : n ≡ more = read.0 in omega arith
 rows_count format s (row ∷ rows) zero text more rest read = absurd read
 rows_count format s (row ∷ rows) (suc n) text more rest read = omega (arith, rows_count format s rows n read.0 more rest read.2)
@@ -28,7 +29,8 @@ abbrev pub said_from : (List ℕ → Said) → Format → Shape → ℕ → Resu
 said_from later format s more r = elim r [ Err fault ↦ says_fault fault | Ok row ↦ then_said (Row row.0) (rows_said later format s more row.1) ]
 
 -- rows that are read are said, and then what is said of the rest
-pub read_rows_are_said : (later : List ℕ → Said) (format : Format) (s : Shape) (rows : List (List ℕ)) (n : ℕ) (text : List ℕ) (more : ℕ) (rest : List ℕ) → RowsRead format s rows n text more rest
+pub read_rows_are_said : (later : List ℕ → Said) (format : Format) (s : Shape) (rows : List (List ℕ)) (n : ℕ) (text : List ℕ) (more : ℕ) (rest : List ℕ)
+    → RowsRead format s rows n text more rest
     → rows_said later format s n text ≡ after_messages (map Row rows) (rows_said later format s more rest)
 unfolding rows_said
 read_rows_are_said later format s [] n text more rest read = ap₂ (λ (k : ℕ) (t : List ℕ). rows_said later format s k t) read.0 read.1
@@ -37,20 +39,25 @@ read_rows_are_said later format s (row ∷ rows) (suc n) text more rest read =
     ap (said_from later format s n) read.1 ∙ ap (then_said (Row row)) (read_rows_are_said later format s rows n read.0 more rest read.2)
 
 -- the messages of rows that are read come first
-pub read_rows_come_first : (later : List ℕ → Said) (format : Format) (s : Shape) (rows : List (List ℕ)) (n : ℕ) (text : List ℕ) (more : ℕ) (rest : List ℕ) → RowsRead format s rows n text more rest
+pub read_rows_come_first : (later : List ℕ → Said) (format : Format) (s : Shape) (rows : List (List ℕ)) (n : ℕ) (text : List ℕ) (more : ℕ) (rest : List ℕ)
+    → RowsRead format s rows n text more rest
     → (rows_said later format s n text).messages ≡ map Row rows ++ (rows_said later format s more rest).messages
 read_rows_come_first later format s rows n text more rest read =
-    ap (λ (x : Said). x.messages) (read_rows_are_said later format s rows n text more rest read) ∙ messages_after (map Row rows) (rows_said later format s more rest)
+    ap (λ (x : Said). x.messages) (read_rows_are_said later format s rows n text more rest read)
+    ∙ messages_after (map Row rows) (rows_said later format s more rest)
 
 -- where the next row is at fault, the messages are those of the rows that were read
-pub stopped_messages : (later : List ℕ → Said) (format : Format) (s : Shape) (rows : List (List ℕ)) (n : ℕ) (text : List ℕ) (more : ℕ) (rest : List ℕ) (fault : InputFault) → RowsRead format s rows n text (suc more) rest
+pub stopped_messages : (later : List ℕ → Said) (format : Format) (s : Shape) (rows : List (List ℕ)) (n : ℕ) (text : List ℕ) (more : ℕ) (rest : List ℕ)
+    (fault : InputFault) → RowsRead format s rows n text (suc more) rest
     → row_at format s more rest ≡ Err fault → (rows_said later format s n text).messages ≡ map Row rows
 unfolding rows_said
 stopped_messages later format s rows n text more rest fault read e =
-    read_rows_come_first later format s rows n text (suc more) rest read ∙ ap (λ (r : Result (List ℕ × List ℕ) InputFault). map Row rows ++ (said_from later format s more r).messages) e ∙ append-nil (map Row rows)
+    read_rows_come_first later format s rows n text (suc more) rest read
+    ∙ ap (λ (r : Result (List ℕ × List ℕ) InputFault). map Row rows ++ (said_from later format s more r).messages) e ∙ append-nil (map Row rows)
 
 -- where all rows were read, the fault is that of what follows the image
-pub ended_fault : (later : List ℕ → Said) (format : Format) (s : Shape) (rows : List (List ℕ)) (n : ℕ) (text rest : List ℕ) → RowsRead format s rows n text zero rest → (rows_said later format s n text).fault ≡ (end_said later (is_plain_form format.form) rest).fault
+pub ended_fault : (later : List ℕ → Said) (format : Format) (s : Shape) (rows : List (List ℕ)) (n : ℕ) (text rest : List ℕ)
+    → RowsRead format s rows n text zero rest → (rows_said later format s n text).fault ≡ (end_said later (is_plain_form format.form) rest).fault
 unfolding rows_said
 ended_fault later format s rows n text rest read =
     ap (λ (x : Said). x.fault) (read_rows_are_said later format s rows n text zero rest read) ∙ fault_after (map Row rows) (rows_said later format s zero rest)
@@ -70,7 +77,8 @@ pub record AllRead (format : Format) (s : Shape) (n : ℕ) (text : List ℕ) : T
   pub read : RowsRead format s rows n text more rest
   pub stop : Stops format s more rest
 
-one_more : (format : Format) (s : Shape) (n : ℕ) (text : List ℕ) (r : Result (List ℕ × List ℕ) InputFault) → row_at format s n text ≡ r → ((left : List ℕ) → AllRead format s n left) → AllRead format s (suc n) text
+one_more : (format : Format) (s : Shape) (n : ℕ) (text : List ℕ) (r : Result (List ℕ × List ℕ) InputFault) → row_at format s n text ≡ r
+    → ((left : List ℕ) → AllRead format s n left) → AllRead format s (suc n) text
 one_more format s n text (Err fault) e others = record { rows = []; more = suc n; rest = text; read = (refl, refl); stop = (fault, e) }
 one_more format s n text (Ok found) e others =
     let next : AllRead format s n found.1 = others found.1 in
@@ -82,12 +90,14 @@ all_read format s zero text = record { rows = []; more = zero; rest = text; read
 all_read format s (suc n) text = one_more format s n text (row_at format s n text) refl (λ left. all_read format s n left)
 
 -- where there is no fault, no more rows are to come
-pub no_more_to_come : (later : List ℕ → Said) (format : Format) (s : Shape) (rows : List (List ℕ)) (n : ℕ) (text : List ℕ) (more : ℕ) (rest : List ℕ) → RowsRead format s rows n text more rest → Stops format s more rest → (rows_said later format s n text).fault ≡ None
+pub no_more_to_come : (later : List ℕ → Said) (format : Format) (s : Shape) (rows : List (List ℕ)) (n : ℕ) (text : List ℕ) (more : ℕ) (rest : List ℕ)
+    → RowsRead format s rows n text more rest → Stops format s more rest → (rows_said later format s n text).fault ≡ None
     → more ≡ zero
 unfolding rows_said
 no_more_to_come later format s rows n text zero rest read stop e = refl
 no_more_to_come later format s rows n text (suc more) rest read stop e =
     let found : None ≡ Some stop.0 =
-    sym e ∙ ap (λ (x : Said). x.fault) (read_rows_are_said later format s rows n text (suc more) rest read) ∙ fault_after (map Row rows) (rows_said later format s (suc more) rest)
+    sym e ∙ ap (λ (x : Said). x.fault) (read_rows_are_said later format s rows n text (suc more) rest read)
+    ∙ fault_after (map Row rows) (rows_said later format s (suc more) rest)
     ∙ ap (λ (r : Result (List ℕ × List ℕ) InputFault). (said_from later format s more r).fault) stop.1 in
     absurd cc

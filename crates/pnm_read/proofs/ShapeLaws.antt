@@ -38,11 +38,25 @@ maxval_is_not_bad maxval e = (grind (arith, nat_tests), grind (arith, nat_tests)
 -- a shape without a fault is within the limits, and has rows
 pub limits_of : (s : Shape) → shape_fault s ≡ None → IsWithinLimits s × (0 < s.height)
 limits_of s e =
-    let tests = no_fault ((s.width == 0) || (s.height == 0) || (s.depth == 0)) (nat_lt MAX_SIDE s.width || nat_lt MAX_SIDE s.height || nat_lt MAX_DEPTH s.depth || nat_lt MAX_ROW_LENGTH (row_length s)) ((s.maxval == 0) || nat_lt MAX_MAXVAL s.maxval) heads.ZeroSize heads.TooLarge heads.BadMaxval e in
+    let tests =
+    no_fault ((s.width == 0) || (s.height == 0) || (s.depth == 0))
+    (nat_lt MAX_SIDE s.width || nat_lt MAX_SIDE s.height || nat_lt MAX_DEPTH s.depth || nat_lt MAX_ROW_LENGTH (row_length s))
+    ((s.maxval == 0) || nat_lt MAX_MAXVAL s.maxval) heads.ZeroSize heads.TooLarge heads.BadMaxval e in
     let low = sizes_are_not_zero s.width s.height s.depth tests.0 in
     let high = sizes_within s.width s.height s.depth (row_length s) tests.1 in
-    let maxval = maxval_is_not_bad s.maxval tests.2 in
-    (record { width_low = low.0; width_high = high.0; height_high = high.1; depth_low = low.2; depth_high = high.2; row_high = high.3; maxval_low = maxval.0; maxval_high = maxval.1 }, low.1)
+    let maxval = maxval_is_not_bad s.maxval tests.2 in (
+      record {
+        width_low = low.0;
+        width_high = high.0;
+        height_high = high.1;
+        depth_low = low.2;
+        depth_high = high.2;
+        row_high = high.3;
+        maxval_low = maxval.0;
+        maxval_high = maxval.1;
+      },
+      low.1,
+    )
 
 -- where no size is zero, the test for one fails
 not_zero_size : (width height depth : ℕ) → 0 < width → 0 < height → 0 < depth → ((width == 0) || (height == 0) || (depth == 0)) ≡ false
@@ -55,4 +69,9 @@ not_bad_maxval maxval low high = grind (arith, nat_tests)
 -- a shape within the limits has no fault
 pub no_shape_fault : (s : Shape) → IsWithinLimits s → 0 < s.height → shape_fault s ≡ None
 no_shape_fault s h rows =
-    rw (not_zero_size s.width s.height s.depth h.width_low rows h.depth_low, not_large_size s.width s.height s.depth (row_length s) h.width_high h.height_high h.depth_high h.row_high, not_bad_maxval s.maxval h.maxval_low h.maxval_high) refl
+    rw (
+      not_zero_size s.width s.height s.depth h.width_low rows h.depth_low,
+      not_large_size s.width s.height s.depth (row_length s) h.width_high h.height_high
+          h.depth_high h.row_high,
+      not_bad_maxval s.maxval h.maxval_low h.maxval_high,
+    ) refl

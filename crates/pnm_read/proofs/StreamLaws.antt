@@ -1,13 +1,14 @@
--- What a run over a source rests on: what a reader still has may come, the messages that a source gave are a front of
+-- What a run over a source rests on: what a reader still has may come, the messages that a source gave are a prefix of
 -- what is said, each image that begins in it has rows, and each head in it keeps the rules of heads.
 use Rattle.pnm_image.specs.Formats.{is_plain_form}
-use Rattle.std.proofs.Common.{◌≡◌, ℕ, zero, suc, ◌<◌, Bool, true, false, List, [], ◌∷◌, ◌++◌, length, Option, Some, None, Result, Ok, Err, inl, inr, refl, ap, ◌∙◌}
+use Rattle.std.proofs.Common.{◌≡◌, ℕ, zero, suc, ◌<◌, Bool, true, false, List, [], ◌∷◌, ◌++◌, length, Option, Some, None, Result, Ok, Err, inl, inr, refl, ap}
+use Rattle.std.proofs.Common.{◌∙◌}
 use Rattle.std.specs.List.{AllByRecursion}
 use Rattle.std.specs.Io.KnownBytes.{IsAtEnd}
 use Rattle.pnm_image.specs.declared.message.Message.{Message}
 use Rattle.pnm_image.specs.declared.message.Message.TheVariants.{Begin, Row, ImageEnd, StreamEnd, Stop}
 use Rattle.pnm_image.specs.Heads.{HeadValue}
-use Rattle.pnm_image.specs.Completion.{IsFrontOf}
+use Rattle.pnm_image.specs.Completion.{IsPrefixOf}
 use Rattle.pnm_image.specs.Messages.{IsMessage}
 use Rattle.pnm_image.specs.declared.shape.Shape.{Shape}
 use Rattle.pnm_read.specs.declared.fault.InputFault.{InputFault}
@@ -15,12 +16,13 @@ use Rattle.pnm_image.specs.declared.format.Format.{Format}
 use Rattle.pnm_read.specs.declared.source.Source.{Source}
 use Rattle.pnm_read.specs.declared.source.State.{State}
 use Rattle.pnm_read.specs.declared.source.State.TheVariants.{Awaits, Ended, Failed}
-use Rattle.pnm_read.specs.Inputs.{IsOutsideFault}
+use Rattle.pnm_read.specs.BufferedReaders.{IsOutsideFault}
 use Rattle.pnm_read.specs.Awaiting.{state_due, state_fault}
-use Rattle.pnm_read.specs.Said.{Said, row_at, end_said, format_at, head_at, rows_said, head_said, format_said, image_said, later_said_in, later_said, said, said_of, fault_of}
+use Rattle.pnm_read.specs.Said.{Said, row_at, end_said, format_at, head_at, rows_said, head_said, format_said, image_said, later_said_in, later_said, text_said}
+use Rattle.pnm_read.specs.Said.{said_of, fault_of}
 use Rattle.pnm_read.specs.Sources.{reader_of, stopped_by, due, MayGive, SeesEnd, MayGiveMore, HasGiven}
 use Rattle.pnm_read.proofs.FaultLaws.{fault_is_of_text}
-use Rattle.pnm_read.proofs.HeaderLaws.{read_header_is_spelled, spelled_head}
+use Rattle.pnm_read.proofs.ReadHeaderLaws.{read_header_is_spelled, spelled_head}
 use Rattle.pnm_read.proofs.RowTurns.{said_from}
 use Rattle.pnm_read.proofs.SaidLaws.{read_head_is_header}
 use Rattle.pnm_read.proofs.GivenLaws.{messages_after, fault_after}
@@ -48,10 +50,12 @@ nothing_may_come s ended = refl
 
 -- ---- what was given
 
--- what was given is a front of what is said
-pub given_is_front : {R : Type 0} (s : Source R) (read : List ℕ) (given : List Message) (rest : List ℕ) → HasGiven s read given → MayGive s rest → IsFrontOf given (said_of (read ++ rest))
+-- what was given is a prefix of what is said
+pub given_is_prefix : {R : Type 0} (s : Source R) (read : List ℕ) (given : List Message) (rest : List ℕ) → HasGiven s read given → MayGive s rest
+    → IsPrefixOf given (said_of (read ++ rest))
 unfolding HasGiven
-given_is_front s read given rest h may = ((due s rest).messages, ap (λ (said : Said). said.messages) (h rest may) ∙ messages_after given (due s rest))
+given_is_prefix s read given rest h may =
+    ((due s rest).messages, ap (λ (text_said : Said). text_said.messages) (h rest may) ∙ messages_after given (due s rest))
 
 -- after a fault, this fault is still to be said
 stopped_due : (state : State) (fault : InputFault) (text : List ℕ) → state_fault state ≡ Some fault → (state_due state text).fault ≡ Some fault
@@ -64,16 +68,19 @@ no_text_fault text fault e (inl read) = (fault_is_of_text text).0 (e ∙ ap (λ 
 no_text_fault text fault e (inr memory) = (fault_is_of_text text).1 (e ∙ ap (λ (f : InputFault). Some f) memory)
 
 -- a source that still tells what is said hasn't stopped with a fault from outside
-pub not_stopped : {R : Type 0} (s : Source R) (read : List ℕ) (given : List Message) (fault : InputFault) → HasGiven s read given → stopped_by s ≡ Some fault → IsOutsideFault fault → ⊥
+pub not_stopped : {R : Type 0} (s : Source R) (read : List ℕ) (given : List Message) (fault : InputFault) → HasGiven s read given → stopped_by s ≡ Some fault
+    → IsOutsideFault fault → ⊥
 unfolding HasGiven due
 not_stopped s read given fault h stopped outside =
-    no_text_fault (read ++ []) fault (ap (λ (said : Said). said.fault) (h [] (nothing_may_come s)) ∙ fault_after given (due s []) ∙ stopped_due s.state fault _ stopped) outside
+    no_text_fault (read ++ []) fault (ap (λ (text_said : Said). text_said.fault) (h [] (nothing_may_come s)) ∙ fault_after given (due s [])
+    ∙ stopped_due s.state fault _ stopped) outside
 
 -- ---- what holds of each message that is said
 
 -- a claim of messages that holds of each head that is read, and of each message that isn't a head
 pub record HoldsOfRead (Claim : Message → Type 0) : Type 0 where
-  pub head : (is_first : Bool) (text : List ℕ) (found : Format × List ℕ) (head : HeadValue × List ℕ) → format_at is_first text ≡ Ok found → head_at found.0 found.1 ≡ Ok head → Claim (Begin head.0)
+  pub head : (is_first : Bool) (text : List ℕ) (found : Format × List ℕ) (head : HeadValue × List ℕ) → format_at is_first text ≡ Ok found
+      → head_at found.0 found.1 ≡ Ok head → Claim (Begin head.0)
   pub row : (row : List ℕ) → Claim (Row row)
   pub image_end : Claim ImageEnd
   pub stream_end : Claim StreamEnd
@@ -82,32 +89,41 @@ pub record HoldsOfRead (Claim : Message → Type 0) : Type 0 where
 abbrev HoldsOf : (Message → Type 0) → (List ℕ → Said) → Type 0
 HoldsOf Claim later = (text : List ℕ) → AllByRecursion Claim (later text).messages
 
-holds_of_end : (Claim : Message → Type 0) (h : HoldsOfRead Claim) (later : List ℕ → Said) (is_plain : Bool) (text : List ℕ) → HoldsOf Claim later → AllByRecursion Claim (end_said later is_plain text).messages
+holds_of_end : (Claim : Message → Type 0) (h : HoldsOfRead Claim) (later : List ℕ → Said) (is_plain : Bool) (text : List ℕ) → HoldsOf Claim later
+    → AllByRecursion Claim (end_said later is_plain text).messages
 unfolding end_said
 holds_of_end Claim h later true text holds = (h.stream_end, tt)
 holds_of_end Claim h later false text holds = holds text
 
-holds_of_row : (Claim : Message → Type 0) (h : HoldsOfRead Claim) (later : List ℕ → Said) (format : Format) (s : Shape) (more : ℕ) (r : Result (List ℕ × List ℕ) InputFault)
+holds_of_row : (Claim : Message → Type 0) (h : HoldsOfRead Claim) (later : List ℕ → Said) (format : Format) (s : Shape) (more : ℕ)
+    (r : Result (List ℕ × List ℕ) InputFault)
     → ((text : List ℕ) → AllByRecursion Claim (rows_said later format s more text).messages) → AllByRecursion Claim (said_from later format s more r).messages
 holds_of_row Claim h later format s more (Err fault) others = tt
 holds_of_row Claim h later format s more (Ok found) others = (h.row found.0, others found.1)
 
-holds_of_rows : (Claim : Message → Type 0) (h : HoldsOfRead Claim) (later : List ℕ → Said) (format : Format) (s : Shape) (more : ℕ) (text : List ℕ) → HoldsOf Claim later → AllByRecursion Claim (rows_said later format s more text).messages
+holds_of_rows : (Claim : Message → Type 0) (h : HoldsOfRead Claim) (later : List ℕ → Said) (format : Format) (s : Shape) (more : ℕ) (text : List ℕ)
+    → HoldsOf Claim later → AllByRecursion Claim (rows_said later format s more text).messages
 unfolding rows_said
 holds_of_rows Claim h later format s zero text holds = (h.image_end, holds_of_end Claim h later (is_plain_form format.form) text holds)
-holds_of_rows Claim h later format s (suc more) text holds = holds_of_row Claim h later format s more (row_at format s more text) (λ rest. holds_of_rows Claim h later format s more rest holds)
+holds_of_rows Claim h later format s (suc more) text holds = holds_of_row Claim h later format s more (row_at format s more text)
+    (λ rest. holds_of_rows Claim h later format s more rest holds)
 
-holds_of_head : (Claim : Message → Type 0) (h : HoldsOfRead Claim) (later : List ℕ → Said) (format : Format) (r : Result (HeadValue × List ℕ) InputFault) → HoldsOf Claim later → ((found : HeadValue × List ℕ) → r ≡ Ok found → Claim (Begin found.0))
+holds_of_head : (Claim : Message → Type 0) (h : HoldsOfRead Claim) (later : List ℕ → Said) (format : Format) (r : Result (HeadValue × List ℕ) InputFault)
+    → HoldsOf Claim later → ((found : HeadValue × List ℕ) → r ≡ Ok found → Claim (Begin found.0))
     → AllByRecursion Claim (head_said later format r).messages
 holds_of_head Claim h later format (Err fault) holds head = tt
-holds_of_head Claim h later format (Ok found) holds head = (head found refl, holds_of_rows Claim h later format found.0.shape found.0.shape.height found.1 holds)
+holds_of_head Claim h later format (Ok found) holds head =
+    (head found refl, holds_of_rows Claim h later format found.0.shape found.0.shape.height found.1 holds)
 
-holds_of_format : (Claim : Message → Type 0) (h : HoldsOfRead Claim) (later : List ℕ → Said) (is_first : Bool) (text : List ℕ) (r : Result (Format × List ℕ) InputFault) → HoldsOf Claim later → format_at is_first text ≡ r
+holds_of_format : (Claim : Message → Type 0) (h : HoldsOfRead Claim) (later : List ℕ → Said) (is_first : Bool) (text : List ℕ)
+    (r : Result (Format × List ℕ) InputFault) → HoldsOf Claim later → format_at is_first text ≡ r
     → AllByRecursion Claim (format_said later r).messages
 holds_of_format Claim h later is_first text (Err fault) holds e = tt
-holds_of_format Claim h later is_first text (Ok found) holds e = holds_of_head Claim h later found.0 (head_at found.0 found.1) holds (λ head read. h.head is_first text found head e read)
+holds_of_format Claim h later is_first text (Ok found) holds e = holds_of_head Claim h later found.0 (head_at found.0 found.1) holds
+    (λ head read. h.head is_first text found head e read)
 
-holds_of_image : (Claim : Message → Type 0) (h : HoldsOfRead Claim) (later : List ℕ → Said) (is_first : Bool) (text : List ℕ) → HoldsOf Claim later → AllByRecursion Claim (image_said later is_first text).messages
+holds_of_image : (Claim : Message → Type 0) (h : HoldsOfRead Claim) (later : List ℕ → Said) (is_first : Bool) (text : List ℕ) → HoldsOf Claim later
+    → AllByRecursion Claim (image_said later is_first text).messages
 unfolding image_said
 holds_of_image Claim h later is_first text holds = holds_of_format Claim h later is_first text (format_at is_first text) holds refl
 
@@ -123,7 +139,7 @@ unfolding later_said
 holds_of_later Claim h text = holds_of_later_in Claim h (length text) text
 
 pub holds_of_said : (Claim : Message → Type 0) (h : HoldsOfRead Claim) (text : List ℕ) → AllByRecursion Claim (said_of text)
-unfolding said
+unfolding text_said
 holds_of_said Claim h text = holds_of_image Claim h later_said true text (holds_of_later Claim h)
 
 -- ---- heads that are said
@@ -136,7 +152,8 @@ BeginsRows ImageEnd = Unit {0}
 BeginsRows StreamEnd = Unit {0}
 BeginsRows Stop = Unit {0}
 
-pub read_head_has_rows : (is_first : Bool) (text : List ℕ) (found : Format × List ℕ) (head : HeadValue × List ℕ) → format_at is_first text ≡ Ok found → head_at found.0 found.1 ≡ Ok head → 0 < head.0.shape.height
+pub read_head_has_rows : (is_first : Bool) (text : List ℕ) (found : Format × List ℕ) (head : HeadValue × List ℕ) → format_at is_first text ≡ Ok found
+    → head_at found.0 found.1 ≡ Ok head → 0 < head.0.shape.height
 read_head_has_rows is_first text found head e h =
     let s = read_header_is_spelled is_first text found.1 head.1 found.0 head.0 e h in
     (spelled_head s.0 found.0 head.0 s.2).rows

@@ -1,6 +1,7 @@
 -- What a text spells is what is said of it, and it spells one list of images or has a fault.
 use Rattle.pnm_image.specs.Formats.{is_plain_form}
-use Rattle.std.proofs.Common.{◌≡◌, ◌⊎◌, ℕ, zero, suc, ◌+◌, ◌<◌, ◌≤◌, Bool, true, false, List, [], ◌∷◌, ◌++◌, length, map, Option, Some, None, Result, Ok, Err, inl, inr, refl, sym, ap, subst, ◌∙◌, append_assoc, arith}
+use Rattle.std.proofs.Common.{◌≡◌, ◌⊎◌, ℕ, zero, suc, ◌+◌, ◌<◌, ◌≤◌, Bool, true, false, List, [], ◌∷◌, ◌++◌, length, map, Option, Some, None, Result, Ok, Err}
+use Rattle.std.proofs.Common.{inl, inr, refl, sym, ap, subst, ◌∙◌, append_assoc, arith}
 use Rattle.std.proofs.lemmas.List.{length-append}
 use Rattle.std.proofs.lemmas.Bool.{both_ways}
 use Rattle.pnm_image.specs.declared.message.Message.{Message}
@@ -13,9 +14,10 @@ use Rattle.pnm_image.specs.declared.format.Format.{Format}
 use Rattle.pnm_read.specs.Headers.{SpellsHeader}
 use Rattle.pnm_read.specs.Rasters.{SpellsRaw, SpellsPlain}
 use Rattle.pnm_read.specs.Spelling.{SpellsRasterBy, SpellsImage, SpellsRawImage, SpellsRawImages, SpellsPlainAlone, Spells}
-use Rattle.pnm_read.specs.Said.{Said, then_said, ends_stream, format_at, head_at, rows_said, head_said, format_said, image_said, later_said, said, said_of, fault_of}
+use Rattle.pnm_read.specs.Said.{Said, then_said, ends_stream, format_at, head_at, rows_said, head_said, format_said, image_said, later_said, text_said, said_of}
+use Rattle.pnm_read.specs.Said.{fault_of}
 use Rattle.pnm_read.specs.TextLaws.{SpellsOnly, IsAtFault}
-use Rattle.pnm_read.proofs.HeaderLaws.{spelled_head, read_header_is_spelled, header_has_bytes}
+use Rattle.pnm_read.proofs.ReadHeaderLaws.{spelled_head, read_header_is_spelled, header_has_bytes}
 use Rattle.pnm_read.proofs.SpelledHeaders.{spelled_header_is_read}
 use Rattle.pnm_read.proofs.PlainLaws.{rows_and_ends, spelled_plain_is_said, said_plain_is_spelled}
 use Rattle.pnm_read.proofs.RawLaws.{rows_then, spelled_raw_is_said, said_raw_is_spelled}
@@ -33,10 +35,12 @@ image_then image s = record { messages = messages_of_image image ++ s.messages; 
 
 -- after its head come an image's rows and its end
 after_head : (image : Image) (s : Said) → then_said (Begin image.head) (rows_then (rows_of image) s) ≡ image_then image s
-after_head image s = ap (λ (l : List Message). record { messages = Begin image.head ∷ l; fault = s.fault }) (sym (append_assoc (map Row (rows_of image)) (ImageEnd ∷ []) s.messages))
+after_head image s = ap (λ (l : List Message). record { messages = Begin image.head ∷ l; fault = s.fault })
+    (sym (append_assoc (map Row (rows_of image)) (ImageEnd ∷ []) s.messages))
 
 -- of a text that begins with the header of an image, its head is said, and then the rows
-head_is_said : (later : List ℕ → Said) (is_first : Bool) (format : Format) (image : Image) (header rest : List ℕ) → (is_plain_form format.form ≡ true → is_first ≡ true) → SpellsHeader header format image.head
+head_is_said : (later : List ℕ → Said) (is_first : Bool) (format : Format) (image : Image) (header rest : List ℕ)
+    → (is_plain_form format.form ≡ true → is_first ≡ true) → SpellsHeader header format image.head
     → image_said later is_first (header ++ rest) ≡ then_said (Begin image.head) (rows_said later format image.head.shape image.head.shape.height rest)
 unfolding image_said
 head_is_said later is_first format image header rest first h =
@@ -44,13 +48,15 @@ head_is_said later is_first format image header rest first h =
     ap (format_said later) read.1 ∙ ap (head_said later format) read.2
 
 -- of a text that begins with a raw image its messages are said, and then what follows
-pub raw_image_is_said : (later : List ℕ → Said) (is_first : Bool) (text rest : List ℕ) (image : Image) → SpellsRawImage text image → image_said later is_first (text ++ rest) ≡ image_then image (later rest)
+pub raw_image_is_said : (later : List ℕ → Said) (is_first : Bool) (text rest : List ℕ) (image : Image) → SpellsRawImage text image
+    → image_said later is_first (text ++ rest) ≡ image_then image (later rest)
 raw_image_is_said later is_first text rest image s =
     let format : Format = s.0 in
     let spelled = s.2 in
     let raster : SpellsRaw spelled.raster image = subst (λ (p : Bool). SpellsRasterBy p spelled.raster image) s.1 spelled.raster_is in
     ap (image_said later is_first) (ap (λ (t : List ℕ). t ++ rest) spelled.whole ∙ append_assoc spelled.header spelled.raster rest)
-    ∙ head_is_said later is_first format image spelled.header (spelled.raster ++ rest) (λ plain. absurd (both_ways (is_plain_form format.form) s.1 plain)) spelled.header_is
+    ∙ head_is_said later is_first format image spelled.header (spelled.raster ++ rest) (λ plain. absurd (both_ways (is_plain_form format.form) s.1 plain))
+    spelled.header_is
     ∙ ap (then_said (Begin image.head)) (spelled_raw_is_said later format spelled.raster rest image s.1 raster)
     ∙ after_head image (later rest)
 
@@ -59,7 +65,8 @@ pub raw_image_has_bytes : (text : List ℕ) (image : Image) → SpellsRawImage t
 raw_image_has_bytes text image s =
     let spelled = s.2 in
     let some = header_has_bytes spelled.header s.0 image.head spelled.header_is in
-    let count : length text ≡ length spelled.header + length spelled.raster = ap (λ (t : List ℕ). length t) spelled.whole ∙ length-append spelled.header spelled.raster in
+    let count : length text ≡ length spelled.header + length spelled.raster = ap (λ (t : List ℕ). length t) spelled.whole
+    ∙ length-append spelled.header spelled.raster in
     omega arith
 
 -- of raw images in turn the messages are said
@@ -71,8 +78,8 @@ raw_images_are_said text (image ∷ images) s =
     later_said-next text (omega arith) ∙ ap (image_said later_said false) s.2 ∙ raw_image_is_said later_said false s.0 s.1 image s.3
     ∙ ap (image_then image) (raw_images_are_said s.1 images s.4)
 
-raw_text_is : (text : List ℕ) (images : List Image) → 0 < length images → SpellsRawImages text images → said text ≡ says_images images
-unfolding said
+raw_text_is : (text : List ℕ) (images : List Image) → 0 < length images → SpellsRawImages text images → text_said text ≡ says_images images
+unfolding text_said
 raw_text_is text [] some s = absurd (omega arith)
 raw_text_is text (image ∷ images) some s =
     ap (image_said later_said true) s.2 ∙ raw_image_is_said later_said true s.0 s.1 image s.3 ∙ ap (image_then image) (raw_images_are_said s.1 images s.4)
@@ -81,8 +88,8 @@ raw_text_is text (image ∷ images) some s =
 one_image : (image : Image) → then_said (Begin image.head) (rows_and_ends (rows_of image)) ≡ says_images (image ∷ [])
 one_image image = after_head image ends_stream
 
-plain_text_is : (text : List ℕ) (images : List Image) → SpellsPlainAlone text images → said text ≡ says_images images
-unfolding said
+plain_text_is : (text : List ℕ) (images : List Image) → SpellsPlainAlone text images → text_said text ≡ says_images images
+unfolding text_said
 plain_text_is text images s =
     let image : Image = s.image in
     let format : Format = s.image_is.0 in
@@ -91,11 +98,12 @@ plain_text_is text images s =
     let raster : SpellsPlain spelled.raster image = subst (λ (p : Bool). SpellsRasterBy p spelled.raster image) s.image_is.1 spelled.raster_is in
     ap (image_said later_said true) (s.whole ∙ ap (λ (t : List ℕ). t ++ s.rest) spelled.whole ∙ append_assoc spelled.header spelled.raster s.rest)
     ∙ head_is_said later_said true format image spelled.header (spelled.raster ++ s.rest) (λ plain. refl) spelled.header_is
-    ∙ ap (then_said (Begin image.head)) (spelled_plain_is_said later_said format spelled.raster s.rest image s.image_is.1 facts.kind facts.rows raster s.rest_is)
+    ∙ ap (then_said (Begin image.head))
+    (spelled_plain_is_said later_said format spelled.raster s.rest image s.image_is.1 facts.kind facts.rows raster s.rest_is)
     ∙ one_image image ∙ ap says_images (sym s.one)
 
 -- all that is said of a text that spells images
-spelled_text_is : (text : List ℕ) (images : List Image) → Spells text images → said text ≡ says_images images
+spelled_text_is : (text : List ℕ) (images : List Image) → Spells text images → text_said text ≡ says_images images
 spelled_text_is text images (inl s) = raw_text_is text images s.0 s.1
 spelled_text_is text images (inr s) = plain_text_is text images s
 
@@ -121,7 +129,8 @@ abbrev IsPlainAlone : List ℕ → Type 0
 IsPlainAlone text = (images : List Image) × SpellsPlainAlone text images
 
 -- a header, and the raster that was read after it
-pub image_of_parts : (text rest header raster : List ℕ) (format : Format) (head : HeadValue) (image : Image) → text ≡ header ++ raster → SpellsHeader header format head → image.head ≡ head → SpellsRasterBy (is_plain_form format.form) raster image → SpellsImage text format image
+pub image_of_parts : (text rest header raster : List ℕ) (format : Format) (head : HeadValue) (image : Image) → text ≡ header ++ raster
+    → SpellsHeader header format head → image.head ≡ head → SpellsRasterBy (is_plain_form format.form) raster image → SpellsImage text format image
 image_of_parts text rest header raster format head image whole h same r = record {
   header = header;
   raster = raster;
@@ -130,14 +139,16 @@ image_of_parts text rest header raster format head image whole h same r = record
   raster_is = r;
 }
 
-raw_raster_is_spelled : (later : List ℕ → Said) (text header after : List ℕ) (format : Format) (head : HeadValue) → is_plain_form format.form ≡ false → text ≡ header ++ after → SpellsHeader header format head
+raw_raster_is_spelled : (later : List ℕ → Said) (text header after : List ℕ) (format : Format) (head : HeadValue) → is_plain_form format.form ≡ false
+    → text ≡ header ++ after → SpellsHeader header format head
     → (rows_said later format head.shape head.shape.height after).fault ≡ None → RawAndRest later text None
 raw_raster_is_spelled later text header after format head raw whole h e =
     let facts = spelled_head header format head h in
     let r = said_raw_is_spelled later format head after raw facts.sound e in
     let image : Image = r.0 in
     let raster : List ℕ = r.1 in
-    let is = image_of_parts (header ++ raster) r.2 header raster format head image refl h r.4 (subst (λ (p : Bool). SpellsRasterBy p raster image) (sym raw) r.5) in
+    let is = image_of_parts (header ++ raster) r.2 header raster format head image refl h r.4
+    (subst (λ (p : Bool). SpellsRasterBy p raster image) (sym raw) r.5) in
     record {
       image = image;
       first = header ++ raster;
@@ -147,14 +158,16 @@ raw_raster_is_spelled later text header after format head raw whole h e =
       fault_is = r.6;
     }
 
-plain_raster_is_spelled : (later : List ℕ → Said) (text header after : List ℕ) (format : Format) (head : HeadValue) → is_plain_form format.form ≡ true → text ≡ header ++ after → SpellsHeader header format head
+plain_raster_is_spelled : (later : List ℕ → Said) (text header after : List ℕ) (format : Format) (head : HeadValue) → is_plain_form format.form ≡ true
+    → text ≡ header ++ after → SpellsHeader header format head
     → (rows_said later format head.shape head.shape.height after).fault ≡ None → IsPlainAlone text
 plain_raster_is_spelled later text header after format head plain whole h e =
     let facts = spelled_head header format head h in
     let r = said_plain_is_spelled later format head after plain facts.kind facts.sound facts.rows e in
     let image : Image = r.0 in
     let raster : List ℕ = r.1 in
-    let is = image_of_parts (header ++ raster) r.2 header raster format head image refl h r.4 (subst (λ (p : Bool). SpellsRasterBy p raster image) (sym plain) r.5) in (
+    let is = image_of_parts (header ++ raster) r.2 header raster format head image refl h r.4
+    (subst (λ (p : Bool). SpellsRasterBy p raster image) (sym plain) r.5) in (
       image ∷ [],
       record {
         image = image;
@@ -167,24 +180,31 @@ plain_raster_is_spelled later text header after format head plain whole h e =
       },
     )
 
-raster_is_spelled : (is_plain : Bool) (later : List ℕ → Said) (text header after : List ℕ) (format : Format) (head : HeadValue) → is_plain_form format.form ≡ is_plain → text ≡ header ++ after → SpellsHeader header format head
-    → (rows_said later format head.shape head.shape.height after).fault ≡ None → ((is_plain_form format.form ≡ false) × RawAndRest later text None) ⊎ ((is_plain_form format.form ≡ true) × IsPlainAlone text)
-raster_is_spelled false later text header after format head plain whole h e = inl (plain, raw_raster_is_spelled later text header after format head plain whole h e)
-raster_is_spelled true later text header after format head plain whole h e = inr (plain, plain_raster_is_spelled later text header after format head plain whole h e)
+raster_is_spelled : (is_plain : Bool) (later : List ℕ → Said) (text header after : List ℕ) (format : Format) (head : HeadValue)
+    → is_plain_form format.form ≡ is_plain → text ≡ header ++ after → SpellsHeader header format head
+    → (rows_said later format head.shape head.shape.height after).fault ≡ None → ((is_plain_form format.form ≡ false) × RawAndRest later text None)
+    ⊎ ((is_plain_form format.form ≡ true) × IsPlainAlone text)
+raster_is_spelled false later text header after format head plain whole h e =
+    inl (plain, raw_raster_is_spelled later text header after format head plain whole h e)
+raster_is_spelled true later text header after format head plain whole h e =
+    inr (plain, plain_raster_is_spelled later text header after format head plain whole h e)
 
 -- where an image is said without a fault, a format was read
-sound_format : (later : List ℕ → Said) (found : Result (Format × List ℕ) InputFault) → (format_said later found).fault ≡ None → (x : Format × List ℕ) × (found ≡ Ok x) × ((head_said later x.0 (head_at x.0 x.1)).fault ≡ None)
+sound_format : (later : List ℕ → Said) (found : Result (Format × List ℕ) InputFault) → (format_said later found).fault ≡ None → (x : Format × List ℕ)
+    × (found ≡ Ok x) × ((head_said later x.0 (head_at x.0 x.1)).fault ≡ None)
 sound_format later (Ok x) e = (x, refl, e)
 sound_format later (Err fault) e = absurd cc
 
 -- where an image of a format is said without a fault, a head was read
-sound_head : (later : List ℕ → Said) (format : Format) (found : Result (HeadValue × List ℕ) InputFault) → (head_said later format found).fault ≡ None → (x : HeadValue × List ℕ) × (found ≡ Ok x) × ((rows_said later format x.0.shape x.0.shape.height x.1).fault ≡ None)
+sound_head : (later : List ℕ → Said) (format : Format) (found : Result (HeadValue × List ℕ) InputFault) → (head_said later format found).fault ≡ None
+    → (x : HeadValue × List ℕ) × (found ≡ Ok x) × ((rows_said later format x.0.shape x.0.shape.height x.1).fault ≡ None)
 sound_head later format (Ok x) e = (x, refl, e)
 sound_head later format (Err fault) e = absurd cc
 
 -- an image that is said without a fault is spelled: a raw one and a rest, or a plain one
 image_is_spelled : (later : List ℕ → Said) (is_first : Bool) (text : List ℕ) → (image_said later is_first text).fault ≡ None
-    → (x : Format × List ℕ) × (format_at is_first text ≡ Ok x) × (((is_plain_form x.0.form ≡ false) × RawAndRest later text None) ⊎ ((is_plain_form x.0.form ≡ true) × IsPlainAlone text))
+    → (x : Format × List ℕ) × (format_at is_first text ≡ Ok x)
+    × (((is_plain_form x.0.form ≡ false) × RawAndRest later text None) ⊎ ((is_plain_form x.0.form ≡ true) × IsPlainAlone text))
 unfolding image_said
 image_is_spelled later is_first text e =
     let found = sound_format later (format_at is_first text) e in
@@ -213,7 +233,7 @@ later_is_spelled (suc most) (b ∷ text) le e =
 
 -- a text without a fault spells images
 sound_text_is_spelled : (text : List ℕ) → fault_of text ≡ None → (images : List Image) × Spells text images
-unfolding said
+unfolding text_said
 sound_text_is_spelled text e =
     let found = image_is_spelled later_said true text e in
     elim found.2 [
@@ -258,7 +278,8 @@ spelled_images_are_one text images others s o =
     stream.1.only others (spelled_are_images text others o) same ∙ sym (stream.1.only images are refl)
 
 -- a text without a fault spells one list of images, and a text with a fault spells none
-one_or_fault : (text : List ℕ) (fault : Option InputFault) → fault_of text ≡ fault → ((images : List Image) × SpellsOnly text images) ⊎ ((fault : InputFault) × IsAtFault text fault)
+one_or_fault : (text : List ℕ) (fault : Option InputFault) → fault_of text ≡ fault → ((images : List Image) × SpellsOnly text images)
+    ⊎ ((fault : InputFault) × IsAtFault text fault)
 one_or_fault text None e =
     let s = sound_text_is_spelled text e in
     inl (s.0, record { spelled = s.1; only = λ others o. spelled_images_are_one text s.0 others s.1 o; sound = e })

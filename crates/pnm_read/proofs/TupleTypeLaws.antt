@@ -1,5 +1,6 @@
 -- The tuple type that lines have together: one line, without white space at its ends.
-use Rattle.std.proofs.Common.{◌≡◌, ◌≢◌, ℕ, ◌-◌, ◌<◌, ◌≤◌, Bool, true, false, not, ◌&&◌, ◌==◌, if◌then◌else◌, List, [], ◌∷◌, ◌++◌, length, slice_index, get_or, suc, refl, ap, ◌∙◌, arith, codes, subst}
+use Rattle.std.proofs.Common.{◌≡◌, ◌≢◌, ℕ, ◌-◌, ◌<◌, ◌≤◌, Bool, true, false, not, ◌&&◌, ◌==◌, if◌then◌else◌, List, [], ◌∷◌, ◌++◌, length, slice_index, get_or}
+use Rattle.std.proofs.Common.{suc, refl, ap, ◌∙◌, arith, codes, subst}
 use Rattle.std.specs.List.{list_all, AllByRecursion}
 use Rattle.std.proofs.lemmas.Bool.{and_parts}
 use Rattle.std.proofs.lemmas.Bool.Decides.{nat_tests}
@@ -33,19 +34,22 @@ unfolding trimmed_start
 starts_trimmed [] = refl
 starts_trimmed (b ∷ text) = by_byte (is_blank b) b text refl (starts_trimmed text)
   where
-    by_byte : (w : Bool) (b : ℕ) (text : List ℕ) → is_blank b ≡ w → begins_blank (trimmed_start text) ≡ false → begins_blank (if w then trimmed_start text else b ∷ text) ≡ false
+    by_byte : (w : Bool) (b : ℕ) (text : List ℕ) → is_blank b ≡ w → begins_blank (trimmed_start text) ≡ false
+        → begins_blank (if w then trimmed_start text else b ∷ text) ≡ false
     by_byte true b text e h = h
     by_byte false b text e h = e
 
 one_line-start : (text : List ℕ) → list_all is_other text ≡ true → list_all is_other (trimmed_start text) ≡ true
 unfolding trimmed_start
 one_line-start [] h = refl
-one_line-start (b ∷ text) h = if_both (λ (l : List ℕ). list_all is_other l ≡ true) (is_blank b) (one_line-start text (and_parts (is_other b) (list_all is_other text) h).1) h
+one_line-start (b ∷ text) h =
+    if_both (λ (l : List ℕ). list_all is_other l ≡ true) (is_blank b) (one_line-start text (and_parts (is_other b) (list_all is_other text) h).1) h
 
 one_line-after : (text : List ℕ) → list_all is_other text ≡ true → list_all is_other (after_token text) ≡ true
 unfolding after_token
 one_line-after [] h = refl
-one_line-after (b ∷ text) h = if_both (λ (l : List ℕ). list_all is_other l ≡ true) (is_blank b) h (one_line-after text (and_parts (is_other b) (list_all is_other text) h).1)
+one_line-after (b ∷ text) h = if_both (λ (l : List ℕ). list_all is_other l ≡ true) (is_blank b) h
+    (one_line-after text (and_parts (is_other b) (list_all is_other text) h).1)
 
 -- ---- without white space at the end
 
@@ -74,7 +78,8 @@ ends_trimmed (b ∷ text) = onto_ends b (trimmed_end text) (ends_trimmed text)
 one_line-end : (text : List ℕ) → list_all is_other text ≡ true → list_all is_other (trimmed_end text) ≡ true
 unfolding trimmed_end
 one_line-end [] h = refl
-one_line-end (b ∷ text) h = let parts = and_parts (is_other b) (list_all is_other text) h in onto_one_line b (trimmed_end text) parts.0 (one_line-end text parts.1)
+one_line-end (b ∷ text) h = let parts = and_parts (is_other b) (list_all is_other text) h in
+    onto_one_line b (trimmed_end text) parts.0 (one_line-end text parts.1)
 
 begins-end : (text : List ℕ) → begins_blank text ≡ false → begins_blank (trimmed_end text) ≡ false
 unfolding trimmed_end
@@ -85,16 +90,17 @@ value_is_trimmed : (line : List ℕ) → list_all is_other line ≡ true → IsT
 value_is_trimmed line h = record {
   begins = begins-end (trimmed_start (after_token (trimmed_start line))) (starts_trimmed (after_token (trimmed_start line)));
   ends = ends_trimmed (trimmed_start (after_token (trimmed_start line)));
-  one_line = one_line-end (trimmed_start (after_token (trimmed_start line))) (one_line-start (after_token (trimmed_start line)) (one_line-after (trimmed_start line) (one_line-start line h)));
+  one_line = one_line-end (trimmed_start (after_token (trimmed_start line)))
+      (one_line-start (after_token (trimmed_start line)) (one_line-after (trimmed_start line) (one_line-start line h)));
 }
 
 -- ---- joined
 
-ends_by-append : (test : ℕ → Bool) (front : List ℕ) (b : ℕ) (back : List ℕ) → ends_by test (front ++ b ∷ back) ≡ ends_by test (b ∷ back)
+ends_by-append : (test : ℕ → Bool) (prefix : List ℕ) (b : ℕ) (back : List ℕ) → ends_by test (prefix ++ b ∷ back) ≡ ends_by test (b ∷ back)
 unfolding ends_by
 ends_by-append test [] b back = refl
 ends_by-append test (a ∷ []) b back = refl
-ends_by-append test (a ∷ c ∷ front) b back = ends_by-append test (c ∷ front) b back
+ends_by-append test (a ∷ c ∷ prefix) b back = ends_by-append test (c ∷ prefix) b back
 
 joined_is_trimmed : (x y : List ℕ) → IsTrimmed x → IsTrimmed y → IsTrimmed (joined_with x y)
 unfolding ends_by
@@ -114,7 +120,9 @@ type_is_trimmed : (lines : List (List ℕ)) → AllByRecursion IsOneLine lines �
 unfolding tuple_type_in
 type_is_trimmed [] one = nothing_is_trimmed
 type_is_trimmed (line ∷ lines) one =
-    if_both IsTrimmed (begins_with (codes "TUPLTYPE") line) (joined_is_trimmed (value_of line) (tuple_type_in lines) (value_is_trimmed line (list_all-from_AllPass is_other line one.0)) (type_is_trimmed lines one.1)) (type_is_trimmed lines one.1)
+    if_both IsTrimmed (begins_with (codes "TUPLTYPE") line)
+    (joined_is_trimmed (value_of line) (tuple_type_in lines) (value_is_trimmed line (list_all-from_AllPass is_other line one.0))
+    (type_is_trimmed lines one.1)) (type_is_trimmed lines one.1)
 
 -- ---- as heads want it
 

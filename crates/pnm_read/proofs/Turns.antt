@@ -5,8 +5,8 @@ use Rattle.pnm_image.specs.Devices.{Failed}
 use Rattle.pnm_image.proofs.Lists.{not_nil}
 use Rattle.pnm_read.specs.declared.fault.InputFault.{InputFault}
 use Rattle.pnm_read.specs.declared.fault.InputFault.TheVariants.{ReadFailed}
-use Rattle.pnm_read.specs.declared.input.Input.{Input}
-use Rattle.pnm_read.specs.Inputs.{Turn, held_of, CanCome}
+use Rattle.pnm_read.specs.declared.buffered_reader.BufferedReader.{BufferedReader}
+use Rattle.pnm_read.specs.BufferedReaders.{Turn, held_of, CanCome}
 use Rattle.pnm_read.proofs.Consumed.{consumes_nothing, consumes_then}
 
 -- an answer is no fault
@@ -14,26 +14,65 @@ pub no_fault : {A : Type 0} (x : A) (k : InputFault) → Ok x ≡ Err k → ⊥
 no_fault x k e = absurd cc
 
 -- what a call found follows from what another found in the same turn
-pub turn_ok_so : {R A B : Type 0} {left : R → Option (List ℕ)} {failures : R → ℕ} {same : R → R → Type 0} {old new : Input R} {o q : List ℕ → List ℕ → Type 0}
+pub turn_ok_so : {R A B : Type 0} {left : R → Option (List ℕ)} {failures : R → ℕ} {same : R → R → Type 0} {old new : BufferedReader R}
+    {o q : List ℕ → List ℕ → Type 0}
     (x : A) (result : Result B InputFault) → (result ≡ Err ReadFailed → ⊥) → ((b a : List ℕ) → o b a → q b a)
     → Turn left failures same old new (Ok x) o → Turn left failures same old new result q
-turn_ok_so x (Ok y) n f t = record { read = t.read; consumed = t.consumed; comes = t.comes; told = λ rest c. f _ _ (t.told rest c); end = t.end; same_device = t.same_device; count = λ _. t.count (no_fault x ReadFailed); read_failed = λ e. absurd (n e) }
-turn_ok_so x (Err k) n f t = record { read = t.read; consumed = t.consumed; comes = t.comes; told = λ rest c. f _ _ (t.told rest c); end = t.end; same_device = t.same_device; count = λ _. t.count (no_fault x ReadFailed); read_failed = λ e. absurd (n e) }
+turn_ok_so x (Ok y) n f t =
+    record {
+      read = t.read;
+      consumed = t.consumed;
+      comes = t.comes;
+      told = λ rest c. f _ _ (t.told rest c);
+      end = t.end;
+      same_device = t.same_device;
+      count = λ _. t.count (no_fault x ReadFailed);
+      read_failed = λ e. absurd (n e);
+    }
+turn_ok_so x (Err k) n f t =
+    record {
+      read = t.read;
+      consumed = t.consumed;
+      comes = t.comes;
+      told = λ rest c. f _ _ (t.told rest c);
+      end = t.end;
+      same_device = t.same_device;
+      count = λ _. t.count (no_fault x ReadFailed);
+      read_failed = λ e. absurd (n e);
+    }
 
-pub turn_err_so : {R A B : Type 0} {left : R → Option (List ℕ)} {failures : R → ℕ} {same : R → R → Type 0} {old new : Input R} {o q : List ℕ → List ℕ → Type 0}
+pub turn_err_so : {R A B : Type 0} {left : R → Option (List ℕ)} {failures : R → ℕ} {same : R → R → Type 0} {old new : BufferedReader R}
+    {o q : List ℕ → List ℕ → Type 0}
     (k : InputFault) → ((b a : List ℕ) → o b a → q b a)
     → Turn {A = A} left failures same old new (Err k) o → Turn {A = B} left failures same old new (Err k) q
-turn_err_so k f t = record { read = t.read; consumed = t.consumed; comes = t.comes; told = λ rest c. f _ _ (t.told rest c); end = t.end; same_device = t.same_device; count = λ n. t.count (λ e. n (let same : k ≡ ReadFailed = cc in ap (λ (k : InputFault). Err k) same)); read_failed = λ e. let same : k ≡ ReadFailed = cc in t.read_failed (ap (λ (k : InputFault). Err k) same) }
+turn_err_so k f t =
+    record {
+      read = t.read;
+      consumed = t.consumed;
+      comes = t.comes;
+      told = λ rest c. f _ _ (t.told rest c);
+      end = t.end;
+      same_device = t.same_device;
+      count = λ n. t.count (λ e. n (let same : k ≡ ReadFailed = cc in ap (λ (k : InputFault). Err k) same));
+      read_failed = λ e. let same : k ≡ ReadFailed = cc in
+          t.read_failed (ap (λ (k : InputFault). Err k) same);
+    }
 
 -- a turn after another
-pub turn_then : {R A B : Type 0} {left : R → Option (List ℕ)} {failures : R → ℕ} {same : R → R → Type 0} {old mid new : Input R} {o q : List ℕ → List ℕ → Type 0} {result : Result B InputFault}
+pub turn_then : {R A B : Type 0} {left : R → Option (List ℕ)} {failures : R → ℕ} {same : R → R → Type 0} {old mid new : BufferedReader R}
+    {o q : List ℕ → List ℕ → Type 0} {result : Result B InputFault}
     (x : A) → ((a b c : R) → same a b → same b c → same a c) → Turn left failures same old mid (Ok x) o → Turn left failures same mid new result q
     → Turn left failures same old new result (λ b a. (m : List ℕ) × o b m × q m a)
 turn_then {left = left} {failures = failures} {old = old} {mid = mid} {new = new} {o = o} {result = result} x later s t = record {
   read = s.read ++ t.read;
   consumed = consumes_then (left old.reader) (left mid.reader) (left new.reader) s.read t.read s.consumed t.consumed;
   comes = λ rest c. subst (CanCome old) (sym (append_assoc s.read t.read rest)) (s.comes (t.read ++ rest) (t.comes rest c));
-  told = λ rest c. (held_of mid ++ (t.read ++ rest), subst (λ (l : List ℕ). o (held_of old ++ l) (held_of mid ++ (t.read ++ rest))) (sym (append_assoc s.read t.read rest)) (s.told (t.read ++ rest) (t.comes rest c)), t.told rest c);
+  told = λ rest c. (
+    held_of mid ++ (t.read ++ rest),
+    subst (λ (l : List ℕ). o (held_of old ++ l) (held_of mid ++ (t.read ++ rest))) (sym (append_assoc s.read t.read rest))
+        (s.told (t.read ++ rest) (t.comes rest c)),
+    t.told rest c,
+  );
   end = λ e. t.end (s.end e);
   same_device = later old.reader mid.reader new.reader s.same_device t.same_device;
   count = λ n. t.count n ∙ s.count (no_fault x ReadFailed);
@@ -41,8 +80,10 @@ turn_then {left = left} {failures = failures} {old = old} {mid = mid} {new = new
 }
 
 -- nothing was read, and these bytes of what is held were taken
-pub turn_taken : {R A : Type 0} {left : R → Option (List ℕ)} {failures : R → ℕ} {same : R → R → Type 0} {old new : Input R} {result : Result A InputFault}
-    (taken : List ℕ) → ((a : R) → same a a) → (result ≡ Err ReadFailed → ⊥) → new.reader ≡ old.reader → new.ended ≡ old.ended → held_of old ≡ taken ++ held_of new
+pub turn_taken : {R A : Type 0} {left : R → Option (List ℕ)} {failures : R → ℕ} {same : R → R → Type 0} {old new : BufferedReader R}
+    {result : Result A InputFault}
+    (taken : List ℕ) → ((a : R) → same a a) → (result ≡ Err ReadFailed → ⊥) → new.reader ≡ old.reader → new.ended ≡ old.ended
+    → held_of old ≡ taken ++ held_of new
     → Turn left failures same old new result (λ b a. b ≡ taken ++ a)
 turn_taken {left = left} {failures = failures} {same = same} {old = old} {new = new} {result = result} taken at_once n reader ended held = record {
   read = [];
@@ -56,27 +97,41 @@ turn_taken {left = left} {failures = failures} {same = same} {old = old} {new = 
 }
 
 -- what is left is what is held and what may still come
-abbrev pub IsLeft : {R : Type 0} → Input R → List ℕ → Type 0
+abbrev pub IsLeft : {R : Type 0} → BufferedReader R → List ℕ → Type 0
 IsLeft input left = (rest : List ℕ) × CanCome input rest × (left ≡ held_of input ++ rest)
 
-pub turn_seen : {R A : Type 0} {left : R → Option (List ℕ)} {failures : R → ℕ} {same : R → R → Type 0} {old new : Input R} {o : List ℕ → List ℕ → Type 0} {result : Result A InputFault}
+pub turn_seen : {R A : Type 0} {left : R → Option (List ℕ)} {failures : R → ℕ} {same : R → R → Type 0} {old new : BufferedReader R}
+    {o : List ℕ → List ℕ → Type 0} {result : Result A InputFault}
     → Turn left failures same old new result o → Turn left failures same old new result (λ b a. o b a × IsLeft new a)
-turn_seen t = record { read = t.read; consumed = t.consumed; comes = t.comes; told = λ rest c. (t.told rest c, (rest, c, refl)); end = t.end; same_device = t.same_device; count = t.count; read_failed = t.read_failed }
+turn_seen t =
+    record {
+      read = t.read;
+      consumed = t.consumed;
+      comes = t.comes;
+      told = λ rest c. (t.told rest c, (rest, c, refl));
+      end = t.end;
+      same_device = t.same_device;
+      count = t.count;
+      read_failed = t.read_failed;
+    }
 
 -- nothing is left after the end
-pub nothing_left : {R : Type 0} (input : Input R) (left : List ℕ) → held_of input ≡ [] → input.ended ≡ true → IsLeft input left → left ≡ []
+pub nothing_left : {R : Type 0} (input : BufferedReader R) (left : List ℕ) → held_of input ≡ [] → input.ended ≡ true → IsLeft input left → left ≡ []
 nothing_left input left held ended s = s.2 ∙ ap (λ (l : List ℕ). l ++ s.0) held ∙ s.1 ended
 
 -- so many bytes of what is held were taken after a turn
-pub turn_advance : {R A B : Type 0} {left : R → Option (List ℕ)} {failures : R → ℕ} {same : R → R → Type 0} {old mid new : Input R} {o q : List ℕ → List ℕ → Type 0}
-    (x : A) (result : Result B InputFault) (n : ℕ) → (result ≡ Err ReadFailed → ⊥) → new.reader ≡ mid.reader → new.ended ≡ mid.ended → held_of new ≡ drop n (held_of mid)
+pub turn_advance : {R A B : Type 0} {left : R → Option (List ℕ)} {failures : R → ℕ} {same : R → R → Type 0} {old mid new : BufferedReader R}
+    {o q : List ℕ → List ℕ → Type 0}
+    (x : A) (result : Result B InputFault) (n : ℕ) → (result ≡ Err ReadFailed → ⊥) → new.reader ≡ mid.reader → new.ended ≡ mid.ended
+    → held_of new ≡ drop n (held_of mid)
     → ((b rest : List ℕ) → CanCome mid rest → o b (held_of mid ++ rest) → q b (drop n (held_of mid) ++ rest))
     → Turn left failures same old mid (Ok x) o → Turn left failures same old new result q
 turn_advance {left = left} {failures = failures} {same = same} {old = old} {mid = mid} {new = new} {q = q} x result n f reader ended held g t = record {
   read = t.read;
   consumed = subst (λ r. Consumes (left old.reader) (left r) t.read) (sym reader) t.consumed;
   comes = λ rest c. t.comes rest (λ e. c (ended ∙ e));
-  told = λ rest c. subst (λ (l : List ℕ). q (held_of old ++ (t.read ++ rest)) (l ++ rest)) (sym held) (g _ rest (λ e. c (ended ∙ e)) (t.told rest (λ e. c (ended ∙ e))));
+  told = λ rest c. subst (λ (l : List ℕ). q (held_of old ++ (t.read ++ rest)) (l ++ rest)) (sym held)
+      (g _ rest (λ e. c (ended ∙ e)) (t.told rest (λ e. c (ended ∙ e))));
   end = λ h e. subst (λ r. IsAtEnd (left r)) (sym reader) (t.end h (sym ended ∙ e));
   same_device = subst (λ r. same old.reader r) (sym reader) t.same_device;
   count = λ _. ap failures reader ∙ t.count (no_fault x ReadFailed);
@@ -84,6 +139,7 @@ turn_advance {left = left} {failures = failures} {same = same} {old = old} {mid 
 }
 
 -- the text goes on where a byte is held
-pub some_left : {R : Type 0} (input : Input R) (bytes left : List ℕ) → bytes ≡ held_of input → (length bytes == 0) ≡ false → IsLeft input left → left ≡ [] → ⊥
+pub some_left : {R : Type 0} (input : BufferedReader R) (bytes left : List ℕ) → bytes ≡ held_of input → (length bytes == 0) ≡ false → IsLeft input left
+    → left ≡ [] → ⊥
 some_left input [] left e n s none = absurd cc
 some_left input (b ∷ bytes) left e n s none = not_nil b (bytes ++ s.0) (ap (λ (l : List ℕ). l ++ s.0) e ∙ sym s.2 ∙ none)

@@ -1,5 +1,6 @@
 -- The units of a raw row in turn: what so many bytes give.
-use Rattle.std.proofs.Common.{◌≡◌, ℕ, zero, suc, ◌+◌, ◌*◌, ◌≤◌, Bool, true, false, leb, ◌&&◌, if◌then◌else◌, List, [], ◌∷◌, ◌++◌, length, map, flat_map, All, Result, Ok, Err, refl, sym, ap, ◌∙◌, arith, zero-add, suc-add, suc-mul, append_assoc}
+use Rattle.std.proofs.Common.{◌≡◌, ℕ, zero, suc, ◌+◌, ◌*◌, ◌≤◌, Bool, true, false, leb, ◌&&◌, if◌then◌else◌, List, [], ◌∷◌, ◌++◌, length, map, flat_map, All}
+use Rattle.std.proofs.Common.{Result, Ok, Err, refl, sym, ap, ◌∙◌, arith, zero-add, suc-add, suc-mul, append_assoc}
 use Rattle.std.specs.List.{concat, list_all}
 use Rattle.std.proofs.lemmas.Bool.{leb-true, le-leb}
 use Rattle.std.proofs.lemmas.List.Elements.{All-weaker}
@@ -64,18 +65,21 @@ after_both items found (Err fault) = refl
 
 -- an item before items in two parts
 one_before : {A : Type 0} (item : List ℕ → Result (A × List ℕ) InputFault) (b : ℕ) (first : A) (r : Result (List A × List ℕ) InputFault)
-    → ((r >>= λ items. and_turns item b items.0 items.1) >>= λ all. turned (first ∷ all.0) all.1) ≡ ((r >>= λ items. turned (first ∷ items.0) items.1) >>= λ items. and_turns item b items.0 items.1)
+    → ((r >>= λ items. and_turns item b items.0 items.1) >>= λ all. turned (first ∷ all.0) all.1)
+    ≡ ((r >>= λ items. turned (first ∷ items.0) items.1) >>= λ items. and_turns item b items.0 items.1)
 one_before item b first (Ok x) = after_both (first ∷ []) x.0 (in_turn item b x.1)
 one_before item b first (Err fault) = refl
 
 -- items in turn are so many, and then the others
 first_before : {A : Type 0} (item : List ℕ → Result (A × List ℕ) InputFault) (a b : ℕ) (r : Result (A × List ℕ) InputFault)
     → ((text : List ℕ) → in_turn item (a + b) text ≡ (in_turn item a text >>= λ items. and_turns item b items.0 items.1))
-    → (r >>= λ first. in_turn item (a + b) first.1 >>= λ more. turned (first.0 ∷ more.0) more.1) ≡ ((r >>= λ first. in_turn item a first.1 >>= λ more. turned (first.0 ∷ more.0) more.1) >>= λ items. and_turns item b items.0 items.1)
+    → (r >>= λ first. in_turn item (a + b) first.1 >>= λ more. turned (first.0 ∷ more.0) more.1)
+    ≡ ((r >>= λ first. in_turn item a first.1 >>= λ more. turned (first.0 ∷ more.0) more.1) >>= λ items. and_turns item b items.0 items.1)
 first_before item a b (Ok x) known = rw (known x.1) (one_before item b x.0 (in_turn item a x.1))
 first_before item a b (Err fault) known = refl
 
-pub in_turn-add : {A : Type 0} (item : List ℕ → Result (A × List ℕ) InputFault) (a b : ℕ) (text : List ℕ) → in_turn item (a + b) text ≡ (in_turn item a text >>= λ items. and_turns item b items.0 items.1)
+pub in_turn-add : {A : Type 0} (item : List ℕ → Result (A × List ℕ) InputFault) (a b : ℕ) (text : List ℕ)
+    → in_turn item (a + b) text ≡ (in_turn item a text >>= λ items. and_turns item b items.0 items.1)
 unfolding in_turn
 in_turn-add item zero b text = ap (λ (n : ℕ). in_turn item n text) (zero-add b) ∙ none_before (in_turn item b text)
 in_turn-add item (suc a) b text = ap (λ (n : ℕ). in_turn item n text) (suc-add a b) ∙ first_before item a b (item text) (in_turn-add item a b)
@@ -87,10 +91,13 @@ abbrev pub are_within : ℕ → List ℕ → Bool
 are_within maxval samples = list_all (λ sample. leb sample maxval) samples
 
 pub are_within_all : (maxval : ℕ) (samples : List ℕ) → All (λ sample. sample ≤ maxval) samples → are_within maxval samples ≡ true
-are_within_all maxval samples h = list_all-from_AllPass (λ sample. leb sample maxval) samples (All-weaker (λ sample. sample ≤ maxval) (λ sample. leb sample maxval ≡ true) (λ sample le. le-leb sample maxval le) samples h)
+are_within_all maxval samples h =
+    list_all-from_AllPass (λ sample. leb sample maxval) samples
+    (All-weaker (λ sample. sample ≤ maxval) (λ sample. leb sample maxval ≡ true) (λ sample le. le-leb sample maxval le) samples h)
 
 pub all_are_within : (maxval : ℕ) (samples : List ℕ) → are_within maxval samples ≡ true → All (λ sample. sample ≤ maxval) samples
-all_are_within maxval samples e = All-weaker (λ sample. leb sample maxval ≡ true) (λ sample. sample ≤ maxval) (λ sample t. leb-true sample maxval t) samples (AllPass-from_list_all (λ sample. leb sample maxval) samples e)
+all_are_within maxval samples e = All-weaker (λ sample. leb sample maxval ≡ true) (λ sample. sample ≤ maxval) (λ sample t. leb-true sample maxval t) samples
+    (AllPass-from_list_all (λ sample. leb sample maxval) samples e)
 
 -- these units, or the fault of a sample above the maxval
 abbrev pub units_if : Bool → List (List ℕ) → List ℕ → Turns
@@ -101,12 +108,15 @@ abbrev pub unit_if : Bool → List ℕ → List ℕ → Result (List ℕ × List
 unit_if within unit rest = if within then Ok (unit, rest) else Err SampleAboveMaxval
 
 -- a sample before others that were read in turn
-after_first : (within : Bool) (unit : List ℕ) (units : List (List ℕ)) (rest : List ℕ) → (units_if within units rest >>= λ others. Ok (unit ∷ others.0, others.1)) ≡ units_if within (unit ∷ units) rest
+after_first : (within : Bool) (unit : List ℕ) (units : List (List ℕ)) (rest : List ℕ)
+    → (units_if within units rest >>= λ others. Ok (unit ∷ others.0, others.1)) ≡ units_if within (unit ∷ units) rest
 after_first true unit units rest = refl
 after_first false unit units rest = refl
 
-first_by : (item : List ℕ → Result (List ℕ × List ℕ) InputFault) (n : ℕ) (first within : Bool) (unit : List ℕ) (units : List (List ℕ)) (more rest : List ℕ) → in_turn item n more ≡ units_if within units rest
-    → (unit_if first unit more >>= λ found. in_turn item n found.1 >>= λ others. Ok (found.0 ∷ others.0, others.1)) ≡ units_if (first && within) (unit ∷ units) rest
+first_by : (item : List ℕ → Result (List ℕ × List ℕ) InputFault) (n : ℕ) (first within : Bool) (unit : List ℕ) (units : List (List ℕ)) (more rest : List ℕ)
+    → in_turn item n more ≡ units_if within units rest
+    → (unit_if first unit more >>= λ found. in_turn item n found.1 >>= λ others. Ok (found.0 ∷ others.0, others.1)) ≡ units_if (first && within) (unit ∷ units)
+    rest
 first_by item n true within unit units more rest e = rw e (after_first within unit units rest)
 first_by item n false within unit units more rest e = refl
 
@@ -117,20 +127,24 @@ packed_units maxval [] rest = refl
 packed_units maxval (b ∷ bytes) rest = rw (packed_units maxval bytes rest) refl
 
 -- a byte a sample
-pub narrow_units : (maxval : ℕ) (bytes rest : List ℕ) → in_turn (raw_item Bytes maxval) (length bytes) (bytes ++ rest) ≡ units_if (are_within maxval bytes) (map single bytes) rest
+pub narrow_units : (maxval : ℕ) (bytes rest : List ℕ) → in_turn (raw_item Bytes maxval) (length bytes) (bytes ++ rest) ≡ units_if (are_within maxval bytes)
+    (map single bytes) rest
 unfolding in_turn raw_item
 narrow_units maxval [] rest = refl
-narrow_units maxval (b ∷ bytes) rest = first_by (raw_item Bytes maxval) (length bytes) (leb b maxval) (are_within maxval bytes) (single b) (map single bytes) (bytes ++ rest) rest (narrow_units maxval bytes rest)
+narrow_units maxval (b ∷ bytes) rest = first_by (raw_item Bytes maxval) (length bytes) (leb b maxval) (are_within maxval bytes) (single b) (map single bytes)
+    (bytes ++ rest) rest (narrow_units maxval bytes rest)
 
 -- two bytes a sample
-pub wide_units : (maxval n : ℕ) (bytes rest : List ℕ) → length bytes ≡ n * 2 → in_turn (raw_item Words maxval) n (bytes ++ rest) ≡ units_if (are_within maxval (wide_samples bytes)) (map single (wide_samples bytes)) rest
+pub wide_units : (maxval n : ℕ) (bytes rest : List ℕ) → length bytes ≡ n * 2
+    → in_turn (raw_item Words maxval) n (bytes ++ rest) ≡ units_if (are_within maxval (wide_samples bytes)) (map single (wide_samples bytes)) rest
 unfolding in_turn raw_item wide_samples
 wide_units maxval zero [] rest count = refl
 wide_units maxval zero (b ∷ bytes) rest count = absurd (omega arith)
 wide_units maxval (suc n) [] rest count = absurd (omega (arith, zero-add, suc-add, suc-mul n 2))
 wide_units maxval (suc n) (b ∷ []) rest count = absurd (omega (arith, zero-add, suc-add, suc-mul n 2))
 wide_units maxval (suc n) (b ∷ c ∷ bytes) rest count =
-    first_by (raw_item Words maxval) n (leb (256 * b + c) maxval) (are_within maxval (wide_samples bytes)) (single (256 * b + c)) (map single (wide_samples bytes)) (bytes ++ rest) rest
+    first_by (raw_item Words maxval) n (leb (256 * b + c) maxval) (are_within maxval (wide_samples bytes)) (single (256 * b + c))
+    (map single (wide_samples bytes)) (bytes ++ rest) rest
     (wide_units maxval n bytes rest (omega (arith, zero-add, suc-add, suc-mul n 2)))
 
 -- ---- units of a byte each
@@ -143,8 +157,12 @@ not_within maxval samples false e h = refl
 pub bytes_are_units : (p : SampleWidth) (maxval : ℕ) (bytes rest : List ℕ) → (p ≡ Words → ⊥) → AreBytesWithin p maxval bytes
     → (units : List (List ℕ)) × (samples_of_bytes p bytes ≡ concat units) × (in_turn (raw_item p maxval) (length bytes) (bytes ++ rest) ≡ Ok (units, rest))
 bytes_are_units Bits maxval bytes rest n h = (map pixels bytes, sym (concat_pixels bytes), packed_units maxval bytes rest)
-bytes_are_units Bytes maxval bytes rest n h =
-    (map single bytes, sym (concat_singles bytes), narrow_units maxval bytes rest ∙ ap (λ (t : Bool). units_if t (map single bytes) rest) (are_within_all maxval bytes h))
+bytes_are_units Bytes maxval bytes rest n h = (
+  map single bytes,
+  sym (concat_singles bytes),
+  narrow_units maxval bytes rest
+      ∙ ap (λ (t : Bool). units_if t (map single bytes) rest) (are_within_all maxval bytes h),
+)
 bytes_are_units Words maxval bytes rest n h = absurd (n refl)
 
 pub bytes_are_at_fault : (p : SampleWidth) (maxval : ℕ) (bytes rest : List ℕ) → (p ≡ Words → ⊥) → (AreBytesWithin p maxval bytes → ⊥)
@@ -167,4 +185,5 @@ words_are_units maxval n bytes old new rest count h = (
 pub words_are_at_fault : (maxval n : ℕ) (bytes rest : List ℕ) → length bytes ≡ n * 2 → (All (λ sample. sample ≤ maxval) (wide_samples bytes) → ⊥)
     → in_turn (raw_item Words maxval) n (bytes ++ rest) ≡ fails SampleAboveMaxval
 words_are_at_fault maxval n bytes rest count h =
-    wide_units maxval n bytes rest count ∙ ap (λ (t : Bool). units_if t (map single (wide_samples bytes)) rest) (not_within maxval (wide_samples bytes) (are_within maxval (wide_samples bytes)) refl h)
+    wide_units maxval n bytes rest count ∙ ap (λ (t : Bool). units_if t (map single (wide_samples bytes)) rest)
+    (not_within maxval (wide_samples bytes) (are_within maxval (wide_samples bytes)) refl h)

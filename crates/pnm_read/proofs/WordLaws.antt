@@ -1,5 +1,6 @@
 -- Words and numbers of a text that is read on by one byte, or split at white space.
-use Rattle.std.proofs.Common.{◌≡◌, ◌⊎◌, inl, inr, ℕ, ◌+◌, ◌-◌, ◌*◌, ◌<◌, Bool, true, false, not, ◌||◌, ◌==◌, List, [], ◌∷◌, ◌++◌, map, length, refl, sym, ap, subst, ◌∙◌, append_assoc, arith}
+use Rattle.std.proofs.Common.{◌≡◌, ◌⊎◌, inl, inr, ℕ, ◌+◌, ◌-◌, ◌*◌, ◌<◌, Bool, true, false, not, ◌||◌, ◌==◌, List, [], ◌∷◌, ◌++◌, map, length, refl, sym, ap}
+use Rattle.std.proofs.Common.{subst, ◌∙◌, append_assoc, arith}
 use Rattle.std.specs.Char.{digit_value}
 use Rattle.std.proofs.lemmas.Bool.Decides.{nat_tests}
 use Rattle.std.proofs.lemmas.List.{append-nil, map-append, length-append, length-map}
@@ -44,7 +45,8 @@ word_has_first false b others = (b ∷ [], others, refl)
 
 words_by_first : (white : Bool) (b : ℕ) (text : List ℕ) → is_white b ≡ white → not white ≡ true → HasFirst (words (b ∷ text))
 words_by_first true b text e h = absurd cc
-words_by_first false b text e h = subst HasFirst (sym (words-cons b text ∙ ap (λ (w : Bool). words_by w (begins_in_word text) b (words text)) e)) (word_has_first (begins_in_word text) b (words text))
+words_by_first false b text e h = subst HasFirst (sym (words-cons b text ∙ ap (λ (w : Bool). words_by w (begins_in_word text) b (words text)) e))
+    (word_has_first (begins_in_word text) b (words text))
 
 -- a text that begins in a word has a first word
 pub first_word : (text : List ℕ) → begins_in_word text ≡ true → HasFirst (words text)
@@ -52,10 +54,11 @@ first_word [] e = absurd cc
 first_word (b ∷ text) e = words_by_first (is_white b) b text refl e
 
 -- more words after those of a text with that first byte
-words_by-append : (white begins : Bool) (b : ℕ) (front back : List (List ℕ)) → (begins ≡ true → HasFirst front) → words_by white begins b (front ++ back) ≡ words_by white begins b front ++ back
-words_by-append true begins b front back h = refl
-words_by-append false true b front back h = let first = h refl in rw (first.2) refl
-words_by-append false false b front back h = refl
+words_by-append : (white begins : Bool) (b : ℕ) (prefix back : List (List ℕ)) → (begins ≡ true → HasFirst prefix)
+    → words_by white begins b (prefix ++ back) ≡ words_by white begins b prefix ++ back
+words_by-append true begins b prefix back h = refl
+words_by-append false true b prefix back h = let first = h refl in rw (first.2) refl
+words_by-append false false b prefix back h = refl
 
 -- white space begins no word
 begins_before_white : (a : List ℕ) (b : ℕ) (c : List ℕ) → is_white b ≡ true → begins_in_word (a ++ b ∷ c) ≡ begins_in_word a
@@ -81,7 +84,7 @@ words-white text b e = words-split text b [] e ∙ append-nil (words text)
 
 -- the text is empty, or ends with white space
 EndsOutside : List ℕ → Type 0
-EndsOutside text = (text ≡ []) ⊎ ((front : List ℕ) × (b : ℕ) × (is_white b ≡ true) × (text ≡ front ++ b ∷ []))
+EndsOutside text = (text ≡ []) ⊎ ((prefix : List ℕ) × (b : ℕ) × (is_white b ≡ true) × (text ≡ prefix ++ b ∷ []))
 
 ends_outside : (text : List ℕ) → ends_in_word text ≡ false → EndsOutside text
 unfolding ends_by EndsOutside
@@ -112,14 +115,16 @@ words-first text b h e = words-first_by text b h (ends_outside text e)
 
 -- the last word, and those before it, of a text that ends in a word; a byte more of a word goes onto the last
 abbrev pub GrowsLast : List (List ℕ) → List (List ℕ) → ℕ → Type 0
-GrowsLast found more b = (front : List (List ℕ)) × (last : List ℕ) × (found ≡ front ++ last ∷ []) × (more ≡ front ++ (last ++ b ∷ []) ∷ [])
+GrowsLast found more b = (prefix : List (List ℕ)) × (last : List ℕ) × (found ≡ prefix ++ last ∷ []) × (more ≡ prefix ++ (last ++ b ∷ []) ∷ [])
 
 -- a byte before the first of the words
-grows_last_onto : (x : ℕ) (front : List (List ℕ)) (last : List ℕ) (b : ℕ) → GrowsLast (onto_first x (front ++ last ∷ [])) (onto_first x (front ++ (last ++ b ∷ []) ∷ [])) b
+grows_last_onto : (x : ℕ) (prefix : List (List ℕ)) (last : List ℕ) (b : ℕ)
+    → GrowsLast (onto_first x (prefix ++ last ∷ [])) (onto_first x (prefix ++ (last ++ b ∷ []) ∷ [])) b
 grows_last_onto x [] last b = ([], x ∷ last, refl, refl)
-grows_last_onto x (word ∷ front) last b = ((x ∷ word) ∷ front, last, refl, refl)
+grows_last_onto x (word ∷ prefix) last b = ((x ∷ word) ∷ prefix, last, refl, refl)
 
-grows_last : (white begins : Bool) (x : ℕ) (found more : List (List ℕ)) (b : ℕ) → GrowsLast found more b → GrowsLast (words_by white begins x found) (words_by white begins x more) b
+grows_last : (white begins : Bool) (x : ℕ) (found more : List (List ℕ)) (b : ℕ) → GrowsLast found more b
+    → GrowsLast (words_by white begins x found) (words_by white begins x more) b
 grows_last true begins x found more b g = g
 grows_last false true x found more b g = rw (g.2, g.3) (grows_last_onto x g.0 g.1 b)
 grows_last false false x found more b g = ((x ∷ []) ∷ g.0, g.1, ap (λ (w : List (List ℕ)). (x ∷ []) ∷ w) g.2, ap (λ (w : List (List ℕ)). (x ∷ []) ∷ w) g.3)
@@ -129,17 +134,21 @@ pub words-next : (text : List ℕ) (b : ℕ) → is_white b ≡ false → ends_i
 unfolding words ends_by
 words-next [] b h e = absurd cc
 words-next (x ∷ []) b h e = let first : is_white x ≡ false = grind arith in rw (first, h) ([], x ∷ [], refl, refl)
-words-next (x ∷ y ∷ text) b h e = grows_last (is_white x) (begins_in_word (y ∷ text)) x (words (y ∷ text)) (words (y ∷ text ++ b ∷ [])) b (words-next (y ∷ text) b h e)
+words-next (x ∷ y ∷ text) b h e = grows_last (is_white x) (begins_in_word (y ∷ text)) x (words (y ∷ text)) (words (y ∷ text ++ b ∷ [])) b
+    (words-next (y ∷ text) b h e)
 
 -- ---- a byte more, outside comments and inside
 
 -- a text that goes on with a byte outside comments that begins none
-pub uncommented-split : (a : List ℕ) (b : ℕ) (c : List ℕ) → ends_in_comment a ≡ false → (b == 35) ≡ false → uncommented (a ++ b ∷ c) ≡ uncommented a ++ b ∷ uncommented c
+pub uncommented-split : (a : List ℕ) (b : ℕ) (c : List ℕ) → ends_in_comment a ≡ false → (b == 35) ≡ false
+    → uncommented (a ++ b ∷ c) ≡ uncommented a ++ b ∷ uncommented c
 unfolding uncommented_from
-uncommented-split a b c outside plain = uncommented_from-append false a (b ∷ c) ∙ ap (λ (i : Bool). uncommented a ++ uncommented_from i (b ∷ c)) outside ∙ rw plain refl
+uncommented-split a b c outside plain = uncommented_from-append false a (b ∷ c) ∙ ap (λ (i : Bool). uncommented a ++ uncommented_from i (b ∷ c)) outside
+    ∙ rw plain refl
 
 -- a byte outside comments that begins none
-pub uncommented-plain : (before : List ℕ) (b : ℕ) → ends_in_comment before ≡ false → (b == 35) ≡ false → uncommented (before ++ b ∷ []) ≡ uncommented before ++ b ∷ []
+pub uncommented-plain : (before : List ℕ) (b : ℕ) → ends_in_comment before ≡ false → (b == 35) ≡ false
+    → uncommented (before ++ b ∷ []) ≡ uncommented before ++ b ∷ []
 unfolding uncommented_from
 uncommented-plain before b outside plain = uncommented-split before b [] outside plain
 
@@ -153,10 +162,12 @@ comment_is_cut inside b h = comment_is_cut_by inside b (grind (arith, nat_tests)
 -- a byte inside a comment, or one that begins a comment
 pub uncommented-comment : (before : List ℕ) (b : ℕ) → (ends_in_comment before ≡ true) ⊎ (b ≡ 35) → uncommented (before ++ b ∷ []) ≡ uncommented before
 unfolding uncommented_from
-uncommented-comment before b h = uncommented_from-append false before (b ∷ []) ∙ ap (λ (t : List ℕ). uncommented before ++ t) (comment_is_cut (ends_in_comment before) b h) ∙ append-nil (uncommented before)
+uncommented-comment before b h = uncommented_from-append false before (b ∷ [])
+    ∙ ap (λ (t : List ℕ). uncommented before ++ t) (comment_is_cut (ends_in_comment before) b h) ∙ append-nil (uncommented before)
 
 pub numbers-white : (before : List ℕ) (b : ℕ) → ends_in_comment before ≡ false → is_white b ≡ true → numbers_in (before ++ b ∷ []) ≡ numbers_in before
-numbers-white before b outside white = ap (λ (t : List ℕ). map decimal_value (words t)) (uncommented-plain before b outside (white_is_not_sharp b white)) ∙ ap (map decimal_value) (words-white (uncommented before) b white)
+numbers-white before b outside white = ap (λ (t : List ℕ). map decimal_value (words t)) (uncommented-plain before b outside (white_is_not_sharp b white))
+    ∙ ap (map decimal_value) (words-white (uncommented before) b white)
 
 pub numbers-comment : (before : List ℕ) (b : ℕ) → (ends_in_comment before ≡ true) ⊎ (b ≡ 35) → numbers_in (before ++ b ∷ []) ≡ numbers_in before
 numbers-comment before b h = ap (λ (t : List ℕ). map decimal_value (words t)) (uncommented-comment before b h)
@@ -169,7 +180,8 @@ one_digit b e = omega (arith, digits_value_push 10 [] b, digit_value_is b e)
 digit_more : (digits : List ℕ) (b : ℕ) → is_digit b ≡ true → decimal_value (digits ++ b ∷ []) ≡ decimal_value digits * 10 + (b - 48)
 digit_more digits b e = digits_value_push 10 digits b ∙ ap (λ (n : ℕ). decimal_value digits * 10 + n) (digit_value_is b e)
 
-pub numbers-first : (before : List ℕ) (b : ℕ) → ends_in_comment before ≡ false → is_digit b ≡ true → ends_in_word (uncommented before) ≡ false → numbers_in (before ++ b ∷ []) ≡ numbers_in before ++ (b - 48) ∷ []
+pub numbers-first : (before : List ℕ) (b : ℕ) → ends_in_comment before ≡ false → is_digit b ≡ true → ends_in_word (uncommented before) ≡ false
+    → numbers_in (before ++ b ∷ []) ≡ numbers_in before ++ (b - 48) ∷ []
 numbers-first before b outside digit ends =
     ap (λ (t : List ℕ). map decimal_value (words t)) (uncommented-plain before b outside (digit_is_not_sharp b digit))
     ∙ ap (map decimal_value) (words-first (uncommented before) b (digit_is_not_white b digit) ends)
@@ -177,25 +189,29 @@ numbers-first before b outside digit ends =
     ∙ ap (λ (n : ℕ). numbers_in before ++ n ∷ []) (one_digit b digit)
 
 pub numbers-next : (before : List ℕ) (b : ℕ) → ends_in_comment before ≡ false → is_digit b ≡ true → ends_in_word (uncommented before) ≡ true
-    → (front : List ℕ) × (last : ℕ) × (numbers_in before ≡ front ++ last ∷ []) × (numbers_in (before ++ b ∷ []) ≡ front ++ (last * 10 + (b - 48)) ∷ [])
+    → (prefix : List ℕ) × (last : ℕ) × (numbers_in before ≡ prefix ++ last ∷ []) × (numbers_in (before ++ b ∷ []) ≡ prefix ++ (last * 10 + (b - 48)) ∷ [])
 numbers-next before b outside digit ends =
     let g = words-next (uncommented before) b (digit_is_not_white b digit) ends in (
       map decimal_value g.0,
       decimal_value g.1,
       ap (map decimal_value) g.2 ∙ map-append decimal_value g.0 (g.1 ∷ []),
-      ap (λ (t : List ℕ). map decimal_value (words t)) (uncommented-plain before b outside (digit_is_not_sharp b digit)) ∙ ap (map decimal_value) g.3 ∙ map-append decimal_value g.0 ((g.1 ++ b ∷ []) ∷ []) ∙ ap (λ (n : ℕ). map decimal_value g.0 ++ n ∷ []) (digit_more g.1 b digit),
+      ap (λ (t : List ℕ). map decimal_value (words t)) (uncommented-plain before b outside (digit_is_not_sharp b digit)) ∙ ap (map decimal_value) g.3
+          ∙ map-append decimal_value g.0 ((g.1 ++ b ∷ []) ∷ []) ∙ ap (λ (n : ℕ). map decimal_value g.0 ++ n ∷ []) (digit_more g.1 b digit),
     )
 
 -- ---- whether a text with one byte more ends in a word, comments cut out
 
 -- a byte outside comments that begins none
-pub ends_in_word-push : (before : List ℕ) (b : ℕ) → ends_in_comment before ≡ false → (b == 35) ≡ false → ends_in_word (uncommented (before ++ b ∷ [])) ≡ not (is_white b)
-ends_in_word-push before b outside plain = ap ends_in_word (uncommented-plain before b outside plain) ∙ ends_by-push (λ x. not (is_white x)) (uncommented before) b
+pub ends_in_word-push : (before : List ℕ) (b : ℕ) → ends_in_comment before ≡ false → (b == 35) ≡ false
+    → ends_in_word (uncommented (before ++ b ∷ [])) ≡ not (is_white b)
+ends_in_word-push before b outside plain = ap ends_in_word (uncommented-plain before b outside plain)
+    ∙ ends_by-push (λ x. not (is_white x)) (uncommented before) b
 
 pub ends_in_word-white : (before : List ℕ) (b : ℕ) → ends_in_comment before ≡ false → is_white b ≡ true → ends_in_word (uncommented (before ++ b ∷ [])) ≡ false
 ends_in_word-white before b outside white = ends_in_word-push before b outside (white_is_not_sharp b white) ∙ ap not white
 
-pub ends_in_word-comment : (before : List ℕ) (b : ℕ) → (ends_in_comment before ≡ true) ⊎ (b ≡ 35) → ends_in_word (uncommented (before ++ b ∷ [])) ≡ ends_in_word (uncommented before)
+pub ends_in_word-comment : (before : List ℕ) (b : ℕ) → (ends_in_comment before ≡ true) ⊎ (b ≡ 35)
+    → ends_in_word (uncommented (before ++ b ∷ [])) ≡ ends_in_word (uncommented before)
 ends_in_word-comment before b h = ap ends_in_word (uncommented-comment before b h)
 
 pub ends_in_word-digit : (before : List ℕ) (b : ℕ) → ends_in_comment before ≡ false → is_digit b ≡ true → ends_in_word (uncommented (before ++ b ∷ [])) ≡ true
@@ -220,14 +236,16 @@ pub some_word : (text : List ℕ) → ends_in_word text ≡ true → HasFirst (w
 unfolding ends_by
 some_word [] e = absurd cc
 some_word (x ∷ []) e = words_by_first (is_white x) x [] refl e
-some_word (x ∷ y ∷ text) e = subst HasFirst (sym (words-cons x (y ∷ text))) (words_by_some (is_white x) (begins_in_word (y ∷ text)) x (words (y ∷ text)) (some_word (y ∷ text) e))
+some_word (x ∷ y ∷ text) e =
+    subst HasFirst (sym (words-cons x (y ∷ text))) (words_by_some (is_white x) (begins_in_word (y ∷ text)) x (words (y ∷ text)) (some_word (y ∷ text) e))
 
--- a front of a text that ends in a word, before white space, has fewer words
+-- a prefix of a text that ends in a word, before white space, has fewer words
 pub fewer_words : (a : List ℕ) (b : ℕ) (c : List ℕ) → is_white b ≡ true → ends_in_word (a ++ b ∷ c) ≡ true → length (words a) < length (words (a ++ b ∷ c))
 fewer_words a b c white ends =
     let last : ends_in_word c ≡ true = sym (ends_by-split (λ x. not (is_white x)) a b c (ap not white)) ∙ ends in
     let some = some_word c last in
-    let split : length (words (a ++ b ∷ c)) ≡ length (words a) + length (words c) = ap (λ (w : List (List ℕ)). length w) (words-split a b c white) ∙ length-append (words a) (words c) in
+    let split : length (words (a ++ b ∷ c)) ≡ length (words a) + length (words c) = ap (λ (w : List (List ℕ)). length w) (words-split a b c white)
+    ∙ length-append (words a) (words c) in
     let more : length (words c) ≡ length (some.0 ∷ some.1) = ap (λ (w : List (List ℕ)). length w) some.2 in
     omega arith
 
@@ -235,10 +253,12 @@ fewer_words a b c white ends =
 pub length-numbers : (text : List ℕ) → length (numbers_in text) ≡ length (words (uncommented text))
 length-numbers text = length-map (words (uncommented text)) decimal_value
 
--- a front of a text that ends in a word, before white space outside comments, has fewer numbers
-pub fewer_numbers : (a : List ℕ) (b : ℕ) (c : List ℕ) → ends_in_comment a ≡ false → is_white b ≡ true → ends_in_word (uncommented (a ++ b ∷ c)) ≡ true → length (numbers_in a) < length (numbers_in (a ++ b ∷ c))
+-- a prefix of a text that ends in a word, before white space outside comments, has fewer numbers
+pub fewer_numbers : (a : List ℕ) (b : ℕ) (c : List ℕ) → ends_in_comment a ≡ false → is_white b ≡ true → ends_in_word (uncommented (a ++ b ∷ c)) ≡ true
+    → length (numbers_in a) < length (numbers_in (a ++ b ∷ c))
 fewer_numbers a b c outside white ends =
     let parts : uncommented (a ++ b ∷ c) ≡ uncommented a ++ b ∷ uncommented c = uncommented-split a b c outside (white_is_not_sharp b white) in
-    let fewer : length (words (uncommented a)) < length (words (uncommented a ++ b ∷ uncommented c)) = fewer_words (uncommented a) b (uncommented c) white (sym (ap ends_in_word parts) ∙ ends) in
+    let fewer : length (words (uncommented a)) < length (words (uncommented a ++ b ∷ uncommented c)) =
+    fewer_words (uncommented a) b (uncommented c) white (sym (ap ends_in_word parts) ∙ ends) in
     let same : length (words (uncommented (a ++ b ∷ c))) ≡ length (words (uncommented a ++ b ∷ uncommented c)) = ap (λ (t : List ℕ). length (words t)) parts in
     omega (arith, length-numbers a, length-numbers (a ++ b ∷ c))

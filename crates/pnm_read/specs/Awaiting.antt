@@ -9,8 +9,9 @@ use Rattle.pnm_read.specs.declared.source.Awaited.TheVariants.{FirstImage, RowOr
 use Rattle.pnm_read.specs.declared.source.State.{State}
 use Rattle.pnm_read.specs.declared.source.State.TheVariants.{Awaits, Ended, Failed}
 use Rattle.pnm_read.specs.declared.source.Step.{Step}
-use Rattle.pnm_read.specs.Said.{Said, said, later_said, ends_stream, says_nothing, says_fault, row_at, rows_said, image_said, then_said}
-use Rattle.pnm_read.specs.Inputs.{IsOutsideFault}
+use Rattle.pnm_read.specs.Said.{Said, text_said, later_said, ends_stream, says_nothing, says_fault, row_at, rows_said}
+use Rattle.pnm_read.specs.Said.{image_said, then_said}
+use Rattle.pnm_read.specs.BufferedReaders.{IsOutsideFault}
 
 -- what is awaited after an image, by whether it is plain: what follows a plain one is ignored
 abbrev pub awaited_after : Bool → Awaited
@@ -19,7 +20,7 @@ awaited_after false = ImageOrEnd
 
 -- what is still to be said of the rest of the text, where this is awaited
 abbrev pub due_at : Awaited → List ℕ → Said
-due_at FirstImage text = said text
+due_at FirstImage text = text_said text
 due_at (RowOrEnd raster) text = rows_said later_said raster.format raster.shape (raster.shape.height - raster.y) text
 due_at ImageOrEnd text = later_said text
 due_at End text = ends_stream
@@ -65,19 +66,24 @@ IfStreamEnd Stop state = ⊥
 
 -- what a step answers: the next of what was to be said, or the fault
 abbrev pub Steps : Awaited → Result Step InputFault → List ℕ → List ℕ → Type 0
-Steps awaited (Ok step) before after = (due_at awaited before ≡ then_said step.message (state_due step.state after)) × IfStreamEnd step.message step.state
+Steps awaited (Ok step) before after = (due_at awaited before ≡ then_said step.message (state_due step.state after))
+    × IfStreamEnd step.message step.state
 Steps awaited (Err fault) before after = (due_at awaited before ≡ says_fault fault) ⊎ IsOutsideFault fault
 
 -- what the start of an image answers
-abbrev pub Begins : Bool → Result Step InputFault → List ℕ → List ℕ → Type 0
-Begins is_first (Ok step) before after = (image_said later_said is_first before ≡ then_said step.message (state_due step.state after)) × IfStreamEnd step.message step.state
-Begins is_first (Err fault) before after = (image_said later_said is_first before ≡ says_fault fault) ⊎ IsOutsideFault fault
+abbrev pub StepsAtStart : Bool → Result Step InputFault → List ℕ → List ℕ → Type 0
+StepsAtStart is_first (Ok step) before after =
+    (image_said later_said is_first before ≡ then_said step.message (state_due step.state after))
+    × IfStreamEnd step.message step.state
+StepsAtStart is_first (Err fault) before after = (image_said later_said is_first before ≡ says_fault fault)
+    ⊎ IsOutsideFault fault
 
--- the same of an answer, and the state after it
-abbrev pub Answers : Awaited → Result (Option Message) InputFault → State → List ℕ → List ℕ → Type 0
-Answers awaited (Ok (Some m)) new before after = (due_at awaited before ≡ then_said m (state_due new after)) × IfStreamEnd m new
-Answers awaited (Ok None) new before after = ⊥
-Answers awaited (Err fault) new before after = (due_at awaited before ≡ says_fault fault) ⊎ IsOutsideFault fault
+-- what the next call answers, and the state after it
+abbrev pub AnswersNext : Awaited → Result (Option Message) InputFault → State → List ℕ → List ℕ → Type 0
+AnswersNext awaited (Ok (Some m)) new before after = (due_at awaited before ≡ then_said m (state_due new after))
+    × IfStreamEnd m new
+AnswersNext awaited (Ok None) new before after = ⊥
+AnswersNext awaited (Err fault) new before after = (due_at awaited before ≡ says_fault fault) ⊎ IsOutsideFault fault
 
 -- whether the text has ended; nothing was taken of it
 abbrev pub SeesText : Result Bool InputFault → List ℕ → List ℕ → Type 0

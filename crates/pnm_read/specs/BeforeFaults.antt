@@ -1,8 +1,9 @@
--- What a text spells before its fault: the images that ended, which are raw, and of the image that begins after them, if
--- one does, the header and the first rows. That image doesn't end: the text lacks a row of it, or has after a row what may
--- not follow one.
+-- What a text spells before its fault: the images that ended, which are raw, and of the image that begins after them,
+-- if one does, the header and the first rows. That image doesn't end: the text lacks a row of it, or has after a row
+-- what may not follow one.
 use Rattle.pnm_image.specs.Formats.{is_plain_form}
-use Rattle.std.specs.Prelude.{◌≡◌, ◌⊎◌, ℕ, zero, suc, ◌+◌, ◌<◌, ◌≤◌, Bool, true, false, List, [], ◌∷◌, ◌++◌, map, flat_map}
+use Rattle.std.specs.Prelude.{◌≡◌, ◌⊎◌, ℕ, zero, suc, ◌+◌, ◌<◌, ◌≤◌, Bool, true, false, List, [], ◌∷◌, ◌++◌, map}
+use Rattle.std.specs.Prelude.{flat_map}
 use Rattle.pnm_image.specs.declared.shape.Kind.{Kind}
 use Rattle.pnm_image.specs.declared.message.Message.{Message}
 use Rattle.pnm_image.specs.declared.message.Message.TheVariants.{Begin, Row}
@@ -11,7 +12,7 @@ use Rattle.pnm_image.specs.Images.{Image, rows_of, messages_of_image}
 use Rattle.pnm_image.specs.declared.format.Format.{Format}
 use Rattle.pnm_read.specs.Texts.{begins_apart}
 use Rattle.pnm_read.specs.Headers.{SpellsHeader}
-use Rattle.pnm_read.specs.Rasters.{MayFollow}
+use Rattle.pnm_read.specs.Rasters.{MayFollowSample}
 use Rattle.pnm_read.specs.Spelling.{SpellsRaster, SpellsRawImages}
 
 -- ---- the first rows of a raster
@@ -23,7 +24,7 @@ abbrev pub MayFollowRows : Bool → Kind → ℕ → ℕ → List ℕ → Type 0
 MayFollowRows false kind rows more rest = Unit {0}
 MayFollowRows true kind zero more rest = Unit {0}
 MayFollowRows true kind (suc rows) zero rest = begins_apart rest ≡ true
-MayFollowRows true kind (suc rows) (suc more) rest = MayFollow kind rest
+MayFollowRows true kind (suc rows) (suc more) rest = MayFollowSample kind rest
 
 -- The text begins with the first rows of a raster of this head. They are spelled as the raster of an image of as many
 -- rows; the head has so many more.
@@ -45,7 +46,8 @@ pub record BeginsImage (text : List ℕ) (format : Format) (head : HeadValue) (f
   pub whole : text ≡ header ++ rest
   pub header_is : SpellsHeader header format head
   pub rows_are : BeginsWithRows rest format head first
-  pub most : (others : Image) → BeginsWithRows rest format head others → others.head.shape.height ≤ first.head.shape.height
+  pub most : (others : Image) → BeginsWithRows rest format head others
+      → others.head.shape.height ≤ first.head.shape.height
   pub unended : first.head.shape.height < head.shape.height
 
 -- an image of this format may begin: a plain one as the first of a text alone
@@ -64,7 +66,8 @@ pub record SaysFirstRows (is_first : Bool) (text : List ℕ) (messages : List Me
 -- the text begins with no header of an image that may begin, and nothing is said
 pub record SaysNoImage (is_first : Bool) (text : List ℕ) (messages : List Message) : Type 0 where
   pub said : messages ≡ []
-  pub no_header : (header rest : List ℕ) (format : Format) (head : HeadValue) → MayBegin is_first format → text ≡ header ++ rest → SpellsHeader header format head → ⊥
+  pub no_header : (header rest : List ℕ) (format : Format) (head : HeadValue) → MayBegin is_first format
+      → text ≡ header ++ rest → SpellsHeader header format head → ⊥
 
 -- what is said of the rest of a text: of an image that begins and doesn't end, or nothing
 abbrev pub SaysUnended : Bool → List ℕ → List Message → Type 0
@@ -77,14 +80,14 @@ abbrev pub are_none : List Image → Bool
 are_none [] = true
 are_none (image ∷ images) = false
 
--- The text is a front that spells the images that ended, and a rest. The messages are those of these images, and then
+-- The text is a prefix that spells the images that ended, and a rest. The messages are those of these images, and then
 -- what is said of an image that begins in the rest and doesn't end.
 pub record SpellsUpToFault (text : List ℕ) (messages : List Message) : Type 0 where
   pub images : List Image
-  pub front : List ℕ
+  pub prefix : List ℕ
   pub rest : List ℕ
   pub last : List Message
-  pub whole : text ≡ front ++ rest
-  pub ended : SpellsRawImages front images
+  pub whole : text ≡ prefix ++ rest
+  pub ended : SpellsRawImages prefix images
   pub said : messages ≡ flat_map messages_of_image images ++ last
   pub unended : SaysUnended (are_none images) rest last

@@ -28,7 +28,13 @@ maxval_of Pam numbers = slice_index numbers 2
 -- the shape that a header's numbers make
 abbrev pub shape_of : Kind → List ℕ → Shape
 shape_of kind numbers =
-    record { kind = kind; width = slice_index numbers 0; height = slice_index numbers 1; depth = planes kind; maxval = maxval_of kind numbers }
+    record {
+      kind = kind;
+      width = slice_index numbers 0;
+      height = slice_index numbers 1;
+      depth = planes kind;
+      maxval = maxval_of kind numbers;
+    }
 
 -- the numbers that a header of this shape has
 abbrev pub header_numbers : Shape → List ℕ

@@ -1,5 +1,6 @@
 -- How a header is spelled. From pbm(5), pgm(5), ppm(5) and pam(5), 'The layout'.
-use Rattle.std.specs.Prelude.{◌≡◌, ℕ, ◌<◌, ◌≤◌, true, false, not, ◌==◌, ◌||◌, List, [], ◌∷◌, ◌++◌, length, flat_map, Some, codes}
+use Rattle.std.specs.Prelude.{◌≡◌, ℕ, ◌<◌, ◌≤◌, true, false, not, ◌==◌, ◌||◌, List, [], ◌∷◌, ◌++◌, length, flat_map}
+use Rattle.std.specs.Prelude.{Some, codes}
 use Rattle.std.specs.List.{AllPass, AllByRecursion}
 use Rattle.pnm_image.specs.Characters.{line_feed, digit_seven, letter_p}
 use Rattle.pnm_image.specs.declared.shape.Kind.{Kind}
@@ -15,9 +16,9 @@ use Rattle.pnm_image.specs.Formats.{format_of}
 use Rattle.pnm_read.specs.Formats.{header_numbers}
 use Rattle.pnm_read.specs.PamLines.{second_token, line_kind, field_values, tuple_type_in}
 
--- PBM, PGM and PPM: the magic, a body, and one byte of white space outside comments, the delimiter. The body begins with
--- white space or a comment; comments cut out, it is the numbers, each after white space (a comment is
--- enough before the first), and ends with the digits of the last.
+-- PBM, PGM and PPM: the magic, a body, and one byte of white space outside comments, the delimiter. The body begins
+-- with white space or a comment; comments cut out, it is the numbers, each after white space (a comment is enough
+-- before the first), and ends with the digits of the last.
 pub record SpellsPnmHeader (text : List ℕ) (format : Format) (head : HeadValue) : Type 0 where
   pub digit : ℕ
   pub body : List ℕ

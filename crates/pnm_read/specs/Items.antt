@@ -1,7 +1,8 @@
 -- The items that a text is cut into, and the faults of each in their order. A byte of a header, and of a
 -- plain raster, is judged by the bytes before it in the same piece: of a header those after the magic (of
 -- PAM after its LF), of a plain raster those since the last digit of the sample before.
-use Rattle.std.specs.Prelude.{ℕ, Bool, not, ◌==◌, nat_le, nat_lt, ◌*◌, ◌+◌, ◌&&◌, ◌||◌, if◌then◌else◌, List, [], ◌∷◌, ◌++◌, length, slice_index, Option, Some, None, Result, Ok, Err}
+use Rattle.std.specs.Prelude.{ℕ, Bool, not, ◌==◌, nat_le, nat_lt, ◌*◌, ◌+◌, ◌&&◌, ◌||◌, if◌then◌else◌, List, [], ◌∷◌}
+use Rattle.std.specs.Prelude.{◌++◌, length, slice_index, Option, Some, None, Result, Ok, Err}
 use Rattle.std.specs.List.{list_all}
 use Rattle.pnm_image.specs.Characters.{line_feed, digit_zero, digit_one, letter_p}
 use Rattle.pnm_image.specs.declared.shape.Shape.{Shape}
@@ -11,7 +12,10 @@ use Rattle.pnm_image.specs.declared.head.HeadFault.{HeadFault}
 use Rattle.pnm_image.specs.declared.head.HeadFault.TheVariants as heads
 use Rattle.pnm_image.specs.Heads.{HeadValue, head_value, shape_fault}
 use Rattle.pnm_read.specs.declared.fault.InputFault.{InputFault}
-use Rattle.pnm_read.specs.declared.fault.InputFault.TheVariants.{EmptyInput, BadMagic, HeaderCut, TooLong, BadNumber, ZeroSize, TooLarge, BadMaxval, BadPamLine, DuplicateField, MissingField, RasterCut, SampleAboveMaxval, BadSample, PlainInStream, Memory}
+use Rattle.pnm_read.specs.declared.fault.InputFault.TheVariants.{EmptyInput, BadMagic, HeaderCut, TooLong, BadNumber}
+use Rattle.pnm_read.specs.declared.fault.InputFault.TheVariants.{ZeroSize, TooLarge, BadMaxval, BadPamLine}
+use Rattle.pnm_read.specs.declared.fault.InputFault.TheVariants.{DuplicateField, MissingField, RasterCut}
+use Rattle.pnm_read.specs.declared.fault.InputFault.TheVariants.{SampleAboveMaxval, BadSample, PlainInStream, Memory}
 use Rattle.pnm_image.specs.declared.format.Format.{Format}
 use Rattle.pnm_read.specs.declared.line.Field.{Field}
 use Rattle.pnm_read.specs.declared.line.Field.TheVariants.{Width, Height, Depth, Maxval}
@@ -37,7 +41,8 @@ abbrev pub ◌>>=◌ : {A B : Type 0} → Result A InputFault → (A → Result 
 
 -- the piece that a text begins with, and the rest: its bytes are judged in turn, each by those before it;
 -- where the text ends first, at_end tells the fault, if that is one
-unfoldable pub piece_from : (List ℕ → ℕ → Judgement) → (List ℕ → Option InputFault) → List ℕ → List ℕ → Result (List ℕ × List ℕ) InputFault
+unfoldable pub piece_from : (List ℕ → ℕ → Judgement) → (List ℕ → Option InputFault) → List ℕ → List ℕ
+    → Result (List ℕ × List ℕ) InputFault
 piece_from item at_end before [] = elim (at_end before) [
   | Some fault ↦ Err fault
   | None ↦ Ok (before, [])
@@ -145,12 +150,13 @@ pam_item before b =
     else GoesOn
 
 -- none of the lines has the number
-abbrev pub is_missing : Field → List (List ℕ) → Bool
-is_missing field lines = length (field_values field lines) == 0
+abbrev pub is_field_missing : Field → List (List ℕ) → Bool
+is_field_missing field lines = length (field_values field lines) == 0
 
 -- one of the four numbers is missing
 abbrev pub is_incomplete : List (List ℕ) → Bool
-is_incomplete lines = is_missing Width lines || is_missing Height lines || is_missing Depth lines || is_missing Maxval lines
+is_incomplete lines = is_field_missing Width lines || is_field_missing Height lines || is_field_missing Depth lines
+    || is_field_missing Maxval lines
 
 -- the number of a field
 abbrev pub field_in : Field → List (List ℕ) → ℕ
@@ -159,7 +165,13 @@ field_in field lines = slice_index (field_values field lines) 0
 -- the shape that the lines make
 abbrev pub shape_in : List (List ℕ) → Shape
 shape_in lines =
-    record { kind = Pam; width = field_in Width lines; height = field_in Height lines; depth = field_in Depth lines; maxval = field_in Maxval lines }
+    record {
+      kind = Pam;
+      width = field_in Width lines;
+      height = field_in Height lines;
+      depth = field_in Depth lines;
+      maxval = field_in Maxval lines;
+    }
 
 -- the end of a header: the lines together
 unfoldable pub lines_item : List (List ℕ) → Result HeadValue InputFault
@@ -178,7 +190,8 @@ raw_item sample_width maxval [] = Err RasterCut
 raw_item Bits maxval (b ∷ text) = Ok (pixels b, text)
 raw_item Bytes maxval (b ∷ text) = if nat_le b maxval then Ok (b ∷ [], text) else Err SampleAboveMaxval
 raw_item Words maxval (b ∷ []) = Err RasterCut
-raw_item Words maxval (b ∷ c ∷ text) = if nat_le (256 * b + c) maxval then Ok ((256 * b + c) ∷ [], text) else Err SampleAboveMaxval
+raw_item Words maxval (b ∷ c ∷ text) =
+    if nat_le (256 * b + c) maxval then Ok ((256 * b + c) ∷ [], text) else Err SampleAboveMaxval
 
 -- ---- plain rasters
 

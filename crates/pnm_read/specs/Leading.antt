@@ -12,12 +12,14 @@ pub record IsNumberFirst (bytes : List ℕ) (number count : ℕ) : Type 0 where
   pub follows : is_white (slice_index bytes count) ≡ true
 
 -- whatever follows the bytes, a sample is read by this item, and so many of the bytes are taken
-pub record IsSampleFirst (item : List ℕ → Result (ℕ × List ℕ) InputFault) (bytes : List ℕ) (sample count : ℕ) : Type 0 where
+pub record IsSampleFirst (item : List ℕ → Result (ℕ × List ℕ) InputFault) (bytes : List ℕ)
+    (sample count : ℕ) : Type 0 where
   pub within : count ≤ length bytes
   pub read : (rest : List ℕ) → item (bytes ++ rest) ≡ Ok (sample, drop count bytes ++ rest)
 
 -- whatever follows the bytes, samples are read in turn, which were appended, and so many of the bytes are taken
-pub record TakesSamples (item : List ℕ → Result (ℕ × List ℕ) InputFault) (bytes old new : List ℕ) (taken : ℕ) : Type 0 where
+pub record TakesSamples (item : List ℕ → Result (ℕ × List ℕ) InputFault) (bytes old new : List ℕ)
+    (taken : ℕ) : Type 0 where
   pub samples : List ℕ
   pub within : taken ≤ length bytes
   pub appended : new ≡ old ++ samples

@@ -9,7 +9,7 @@ pub mod Items
 pub mod Said
 pub mod BeforeFaults
 pub mod TextLaws
-pub mod Inputs
+pub mod BufferedReaders
 pub mod Reads
 pub mod Scans
 pub mod Leading

@@ -7,7 +7,8 @@ use Rattle.pnm_image.specs.Formats.{format_of, is_plain_form}
 
 abbrev pub format_allowed : Bool → Option Format → Result Format InputFault
 format_allowed is_first None = Err BadMagic
-format_allowed is_first (Some format) = if is_plain_form format.form && not is_first then Err PlainInStream else Ok format
+format_allowed is_first (Some format) =
+    if is_plain_form format.form && not is_first then Err PlainInStream else Ok format
 
 abbrev pub format_named : Bool → ℕ → Result Format InputFault
 format_named is_first b = format_allowed is_first (format_of b)

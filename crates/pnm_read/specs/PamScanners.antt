@@ -1,5 +1,6 @@
 -- What the scanner of a PAM header holds after the bytes of a piece.
-use Rattle.std.specs.Prelude.{◌≡◌, ◌⊎◌, ℕ, ◌≤◌, ◌==◌, nat_lt, Bool, true, false, List, [], ◌∷◌, ◌++◌, length, if◌then◌else◌, Option, Some, None}
+use Rattle.std.specs.Prelude.{◌≡◌, ◌⊎◌, ℕ, ◌≤◌, ◌==◌, nat_lt, Bool, true, false, List, [], ◌∷◌, ◌++◌, length}
+use Rattle.std.specs.Prelude.{if◌then◌else◌, Option, Some, None}
 use Rattle.std.specs.List.{list_all}
 use Rattle.pnm_read.specs.declared.fault.InputFault.TheVariants.{BadPamLine, BadNumber, DuplicateField, TooLong, Memory}
 use Rattle.pnm_read.specs.declared.judgement.Judgement.{Judgement}
@@ -13,17 +14,17 @@ use Rattle.pnm_read.specs.declared.fields.Fields.{Fields}
 use Rattle.pnm_read.specs.declared.pam.PamScanner.{PamScanner}
 use Rattle.pnm_image.specs.Texts.{is_digit, decimal_value}
 use Rattle.pnm_read.specs.PamLines.{ended_lines, last_line, first_token, field_values, joined_with, tuple_type_in}
-use Rattle.pnm_read.specs.Saturation.{saturated}
+use Rattle.pnm_read.specs.Saturation.{saturate_u32}
 use Rattle.pnm_read.specs.Items.{line_item}
 
 -- the number that a token spells, as a u32; none where it isn't decimal
 abbrev pub number_of : List ℕ → Option ℕ
-number_of token = if list_all is_digit token then Some (saturated (decimal_value token)) else None
+number_of token = if list_all is_digit token then Some (saturate_u32 (decimal_value token)) else None
 
 -- the number of a field as it is held: the first, as a u32
 abbrev pub held_number : List ℕ → Option ℕ
 held_number [] = None
-held_number (number ∷ numbers) = Some (saturated number)
+held_number (number ∷ numbers) = Some (saturate_u32 number)
 
 -- the fields of these lines
 pub record IsFields (fields : Fields) (lines : List (List ℕ)) : Type 0 where
@@ -44,7 +45,9 @@ TakesLine new (Fails fault) lines = Unit {0}
 -- a line was judged by those before it, and taken, unless memory ran out
 abbrev pub JudgesLine : Fields → List ℕ → Fields → Judgement → Type 0
 JudgesLine old line new judgement =
-    (lines : List (List ℕ)) → IsFields old lines → ((judgement ≡ line_item lines line) × TakesLine new judgement (lines ++ line ∷ [])) ⊎ (judgement ≡ Fails Memory)
+    (lines : List (List ℕ)) → IsFields old lines
+    → ((judgement ≡ line_item lines line) × TakesLine new judgement (lines ++ line ∷ []))
+    ⊎ (judgement ≡ Fails Memory)
 
 -- the shape of the fields; none where a number is missing
 abbrev pub shape_held : Fields → Option Shape
@@ -111,7 +114,8 @@ SetsTupleType false old tuple_type new judgement = (judgement ≡ GoesOn) × IsW
 -- a text was joined to the tuple type, unless it is too long or memory ran out
 abbrev pub AddsTupleType : Fields → List ℕ → Fields → Judgement → Type 0
 AddsTupleType old text new judgement =
-    SetsTupleType (nat_lt 255 (length (joined_with old.tuple_type.items text))) old (joined_with old.tuple_type.items text) new judgement ⊎ (judgement ≡ Fails Memory)
+    SetsTupleType (nat_lt 255 (length (joined_with old.tuple_type.items text))) old
+    (joined_with old.tuple_type.items text) new judgement ⊎ (judgement ≡ Fails Memory)
 
 -- these bytes have come after the magic and its LF, and the header goes on
 pub record IsPamAfter (s : PamScanner) (before : List ℕ) : Type 0 where

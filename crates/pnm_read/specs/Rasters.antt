@@ -1,6 +1,7 @@
--- How a raster is spelled. From pbm(5), pgm(5), ppm(5) and pam(5), 'The layout', and of the plain formats 'Plain PBM' and
--- so on. There is no plain PAM: what is said of it under 'plain' means nothing.
-use Rattle.std.specs.Prelude.{◌≡◌, ℕ, ◌+◌, ◌*◌, ◌-◌, ◌/◌, ◌<◌, ◌≤◌, true, false, List, [], ◌∷◌, ◌++◌, length, take, map, flat_map}
+-- How a raster is spelled. From pbm(5), pgm(5), ppm(5) and pam(5), 'The layout', and of the plain formats 'Plain PBM'
+-- and so on. There is no plain PAM: what is said of it under 'plain' means nothing.
+use Rattle.std.specs.Prelude.{◌≡◌, ℕ, ◌+◌, ◌*◌, ◌-◌, ◌/◌, ◌<◌, ◌≤◌, true, false, List, [], ◌∷◌, ◌++◌, length, take, map}
+use Rattle.std.specs.Prelude.{flat_map}
 use Rattle.std.specs.List.{AllPass}
 use Rattle.pnm_image.specs.Characters.{digit_one}
 pub use Rattle.pnm_samples.specs.Pixels.{pixel_at}
@@ -44,7 +45,8 @@ raw_samples s bytes = elim (sample_width_of s.kind s.maxval) [
 pub record SpellsRaw (text : List ℕ) (image : Image) : Type 0 where
   pub sound : IsImage image
   pub count : length text ≡ image.head.shape.height * bytes_in_row image.head.shape
-  pub rows : rows_of image ≡ map (raw_samples image.head.shape) (cut_rows image.head.shape.height (bytes_in_row image.head.shape) text)
+  pub rows : rows_of image ≡ map (raw_samples image.head.shape)
+      (cut_rows image.head.shape.height (bytes_in_row image.head.shape) text)
 
 -- ---- plain
 
@@ -80,17 +82,18 @@ pub record SpellsPiece (kind : Kind) (text : List ℕ) (sample : ℕ) : Type 0 w
   pub short : length text ≤ GAP_LIMIT
 
 -- what may follow a sample: after a number its digits have ended; after a pixel anything
-abbrev pub MayFollow : Kind → List ℕ → Type 0
-MayFollow Bit rest = Unit {0}
-MayFollow Gray rest = begins_apart rest ≡ true
-MayFollow Color rest = begins_apart rest ≡ true
-MayFollow Pam rest = begins_apart rest ≡ true
+abbrev pub MayFollowSample : Kind → List ℕ → Type 0
+MayFollowSample Bit rest = Unit {0}
+MayFollowSample Gray rest = begins_apart rest ≡ true
+MayFollowSample Color rest = begins_apart rest ≡ true
+MayFollowSample Pam rest = begins_apart rest ≡ true
 
 -- the samples in order, through the last sample's last digit
 abbrev pub SpellsPlainSamples : Kind → List ℕ → List ℕ → Type 0
 SpellsPlainSamples kind text [] = text ≡ []
 SpellsPlainSamples kind text (sample ∷ samples) =
-    (piece : List ℕ) × (rest : List ℕ) × (text ≡ piece ++ rest) × SpellsPiece kind piece sample × MayFollow kind rest × SpellsPlainSamples kind rest samples
+    (piece : List ℕ) × (rest : List ℕ) × (text ≡ piece ++ rest) × SpellsPiece kind piece sample
+    × MayFollowSample kind rest × SpellsPlainSamples kind rest samples
 
 pub record SpellsPlain (text : List ℕ) (image : Image) : Type 0 where
   pub sound : IsImage image

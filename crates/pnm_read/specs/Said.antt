@@ -1,7 +1,8 @@
 -- What is said of a text: the messages of its images, and then the end or the first fault. The fault is that
 -- of the first item that has one.
 use Rattle.pnm_image.specs.Formats.{is_plain_form}
-use Rattle.std.specs.Prelude.{ℕ, zero, suc, ◌+◌, ◌/◌, Bool, true, false, List, [], ◌∷◌, length, take, Option, Some, None, Result, Ok, Err}
+use Rattle.std.specs.Prelude.{ℕ, zero, suc, ◌+◌, ◌/◌, Bool, true, false, List, [], ◌∷◌, length, take, Option, Some}
+use Rattle.std.specs.Prelude.{None, Result, Ok, Err}
 use Rattle.std.specs.List.{concat}
 use Rattle.pnm_image.specs.declared.shape.Kind.{Kind}
 use Rattle.pnm_image.specs.declared.shape.Kind.TheVariants.{Bit, Gray, Color, Pam}
@@ -17,10 +18,13 @@ use Rattle.pnm_read.specs.Texts.{numbers_in}
 use Rattle.pnm_read.specs.Formats.{number_count}
 use Rattle.pnm_image.specs.SampleWidths.{sample_width_of}
 use Rattle.pnm_read.specs.PamLines.{ended_lines}
-use Rattle.pnm_read.specs.Items.{◌>>=◌, piece_from, first_magic_item, second_magic_item, header_item, header_end, numbers_item, line_feed_item, pam_item, lines_item, raw_item, plain_sample, after_last_item}
+use Rattle.pnm_read.specs.Items.{◌>>=◌, piece_from, first_magic_item, second_magic_item, header_item, header_end}
+use Rattle.pnm_read.specs.Items.{numbers_item, line_feed_item, pam_item, lines_item, raw_item, plain_sample}
+use Rattle.pnm_read.specs.Items.{after_last_item}
 
 -- so many items in turn
-unfoldable pub in_turn : {A : Type 0} → (List ℕ → Result (A × List ℕ) InputFault) → ℕ → List ℕ → Result (List A × List ℕ) InputFault
+unfoldable pub in_turn : {A : Type 0} → (List ℕ → Result (A × List ℕ) InputFault) → ℕ → List ℕ
+    → Result (List A × List ℕ) InputFault
 in_turn item zero text = Ok ([], text)
 in_turn item (suc n) text = do
   first ← item text
@@ -64,7 +68,9 @@ units_in_row Bytes s = row_length s
 units_in_row Words s = row_length s
 
 abbrev pub units_at : Shape → List ℕ → Result (List (List ℕ) × List ℕ) InputFault
-units_at s text = in_turn (raw_item (sample_width_of s.kind s.maxval) s.maxval) (units_in_row (sample_width_of s.kind s.maxval) s) text
+units_at s text =
+    in_turn (raw_item (sample_width_of s.kind s.maxval) s.maxval) (units_in_row (sample_width_of s.kind s.maxval) s)
+    text
 
 -- a raw row; spare bits of the last byte of PBM mean nothing
 unfoldable pub raw_row : Shape → List ℕ → Result (List ℕ × List ℕ) InputFault
@@ -84,13 +90,13 @@ last_plain_row s text = do
   Ok (row.0, rest)
 
 -- a row after which so many others are to come
-abbrev pub row_by : Bool → Shape → ℕ → List ℕ → Result (List ℕ × List ℕ) InputFault
-row_by false s more text = raw_row s text
-row_by true s zero text = last_plain_row s text
-row_by true s (suc more) text = plain_row s text
+abbrev pub row_in_form : Bool → Shape → ℕ → List ℕ → Result (List ℕ × List ℕ) InputFault
+row_in_form false s more text = raw_row s text
+row_in_form true s zero text = last_plain_row s text
+row_in_form true s (suc more) text = plain_row s text
 
 abbrev pub row_at : Format → Shape → ℕ → List ℕ → Result (List ℕ × List ℕ) InputFault
-row_at format s more text = row_by (is_plain_form format.form) s more text
+row_at format s more text = row_in_form (is_plain_form format.form) s more text
 
 -- ---- messages, and how they end
 
@@ -126,7 +132,8 @@ rows_said later format s (suc more) text = elim (row_at format s more text) [
 
 abbrev pub head_said : (List ℕ → Said) → Format → Result (HeadValue × List ℕ) InputFault → Said
 head_said later format (Err fault) = says_fault fault
-head_said later format (Ok found) = then_said (Begin found.0) (rows_said later format found.0.shape found.0.shape.height found.1)
+head_said later format (Ok found) =
+    then_said (Begin found.0) (rows_said later format found.0.shape found.0.shape.height found.1)
 
 abbrev pub format_said : (List ℕ → Said) → Result (Format × List ℕ) InputFault → Said
 format_said later (Err fault) = says_fault fault
@@ -148,13 +155,13 @@ unfoldable pub later_said : List ℕ → Said
 later_said text = later_said_in (length text) text
 
 -- what is said of a whole text
-unfoldable pub said : List ℕ → Said
-said text = image_said later_said true text
+unfoldable pub text_said : List ℕ → Said
+text_said text = image_said later_said true text
 
 -- what is said before the fault, or before the end
 abbrev pub said_of : List ℕ → List Message
-said_of text = (said text).messages
+said_of text = (text_said text).messages
 
 -- the fault of a text, if it has one
 abbrev pub fault_of : List ℕ → Option InputFault
-fault_of text = (said text).fault
+fault_of text = (text_said text).fault

@@ -5,18 +5,18 @@ use Rattle.pnm_read.specs.declared.fault.InputFault.{InputFault}
 use Rattle.pnm_read.specs.declared.fault.InputFault.TheVariants.{Memory}
 
 -- a number as a u32
-abbrev pub saturated : ℕ → ℕ
-saturated n = min n (2 ^ 32 - 1)
+abbrev pub saturate_u32 : ℕ → ℕ
+saturate_u32 n = min n (2 ^ 32 - 1)
 
 -- the number with one digit more, as a u32
 abbrev pub with_digit : ℕ → ℕ → ℕ
-with_digit n digit = saturated (saturated (n * 10) + digit)
+with_digit n digit = saturate_u32 (saturate_u32 (n * 10) + digit)
 
 -- the last three numbers, as the scanner of a header holds them, of those that were found
 pub record IsNumbers (wanted : ℕ) (found : List ℕ) (held : List ℕ) : Type 0 where
   pub count : length found ≡ wanted
   pub most : wanted ≤ 3
-  pub last : drop (3 - length found) held ≡ map saturated found
+  pub last : drop (3 - length found) held ≡ map saturate_u32 found
 
 -- what a call found, or a fault of the text, unless memory ran out
 abbrev pub GivesInMemory : {A : Type 0} → Result A InputFault → Result A InputFault → Type 0

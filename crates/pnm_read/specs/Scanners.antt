@@ -1,5 +1,6 @@
 -- What the scanners of headers and of plain samples hold after the bytes of a piece.
-use Rattle.std.specs.Prelude.{◌≡◌, ℕ, ◌+◌, ◌-◌, ◌<◌, ◌≤◌, Bool, true, false, not, ◌==◌, ◌&&◌, ◌||◌, if◌then◌else◌, List, [], ◌∷◌, length, map, drop, slice_index}
+use Rattle.std.specs.Prelude.{◌≡◌, ℕ, ◌+◌, ◌-◌, ◌<◌, ◌≤◌, Bool, true, false, not, ◌==◌, ◌&&◌, ◌||◌, if◌then◌else◌, List}
+use Rattle.std.specs.Prelude.{[], ◌∷◌, length, map, drop, slice_index}
 use Rattle.std.specs.List.{AllPass}
 use Rattle.pnm_image.specs.Characters.{digit_zero}
 use Rattle.pnm_read.specs.declared.judgement.Judgement.{Judgement}
@@ -8,7 +9,7 @@ use Rattle.pnm_read.specs.declared.decimal.DecimalScanner.{DecimalScanner}
 use Rattle.pnm_read.specs.declared.pixel.PixelScanner.{PixelScanner}
 use Rattle.pnm_read.specs.Texts.{is_apart, commented, ends_in_comment, uncommented, ends_in_word, numbers_in, number_in}
 use Rattle.pnm_image.specs.Texts.{is_white, is_digit}
-use Rattle.pnm_read.specs.Saturation.{saturated, with_digit, IsNumbers}
+use Rattle.pnm_read.specs.Saturation.{saturate_u32, with_digit, IsNumbers}
 use Rattle.pnm_read.specs.Items.{header_item, decimal_item, pixel_item, ends_in_digit, pixel_in}
 
 -- ---- headers
@@ -30,14 +31,15 @@ pub record IsHeaderAfter (s : HeaderScanner) (before : List ℕ) : Type 0 where
   pub most : s.found ≤ s.wanted
   pub more : s.in_number ≡ false → s.found < s.wanted
   pub three : s.wanted ≤ 3
-  pub last : drop (3 - s.found) s.numbers ≡ map saturated (numbers_in before)
+  pub last : drop (3 - s.found) s.numbers ≡ map saturate_u32 (numbers_in before)
 
 -- the header has ended
 abbrev pub IsHeaderWhole : HeaderScanner → List ℕ → Type 0
 IsHeaderWhole s piece = IsNumbers s.wanted (numbers_in piece) s.numbers
 
 abbrev pub JudgesHeader : HeaderScanner → ℕ → Judgement → Type 0
-JudgesHeader s byte judgement = (before : List ℕ) → IsHeaderAfter s before → judgement ≡ header_item s.wanted before byte
+JudgesHeader s byte judgement = (before : List ℕ) → IsHeaderAfter s before
+    → judgement ≡ header_item s.wanted before byte
 
 -- this byte can't stand after them
 abbrev pub is_bad_after : HeaderScanner → ℕ → Bool
@@ -45,9 +47,10 @@ is_bad_after s byte =
     ((s.length == 0) && not (is_apart byte)) || (not s.in_comment && not (is_digit byte || is_apart byte))
 
 -- the last three numbers with a digit more: the next of a number, or the first of one
-abbrev pub pushed : Bool → List ℕ → ℕ → List ℕ
-pushed true held digit = slice_index held 0 ∷ slice_index held 1 ∷ with_digit (slice_index held 2) digit ∷ []
-pushed false held digit = slice_index held 1 ∷ slice_index held 2 ∷ with_digit 0 digit ∷ []
+abbrev pub numbers_with_digit : Bool → List ℕ → ℕ → List ℕ
+numbers_with_digit true held digit = slice_index held 0 ∷ slice_index held 1 ∷ with_digit (slice_index held 2) digit
+    ∷ []
+numbers_with_digit false held digit = slice_index held 1 ∷ slice_index held 2 ∷ with_digit 0 digit ∷ []
 
 -- a digit was taken
 pub record PushesDigit (old : HeaderScanner) (digit : ℕ) (new : HeaderScanner) : Type 0 where
@@ -56,20 +59,25 @@ pub record PushesDigit (old : HeaderScanner) (digit : ℕ) (new : HeaderScanner)
   pub comment : new.in_comment ≡ old.in_comment
   pub word : new.in_number ≡ true
   pub found : new.found ≡ (if old.in_number then old.found else old.found + 1)
-  pub numbers : new.numbers ≡ pushed old.in_number old.numbers digit
+  pub numbers : new.numbers ≡ numbers_with_digit old.in_number old.numbers digit
 
 -- a byte of a number outside comments
-abbrev pub is_numeral : Bool → ℕ → Bool
-is_numeral in_comment byte = not in_comment && is_digit byte
+abbrev pub is_numeral_byte : Bool → ℕ → Bool
+is_numeral_byte in_comment byte = not in_comment && is_digit byte
 
 -- a byte was taken
 pub record PushesHeader (old : HeaderScanner) (byte : ℕ) (new : HeaderScanner) : Type 0 where
   pub wanted : new.wanted ≡ old.wanted
   pub length_is : new.length ≡ old.length + 1
   pub comment : new.in_comment ≡ commented old.in_comment byte
-  pub word : new.in_number ≡ (if is_numeral old.in_comment byte then true else if not old.in_comment && is_white byte then false else old.in_number)
-  pub found : new.found ≡ (if is_numeral old.in_comment byte && not old.in_number then old.found + 1 else old.found)
-  pub numbers : new.numbers ≡ (if is_numeral old.in_comment byte then pushed old.in_number old.numbers (byte - digit_zero) else old.numbers)
+  pub word : new.in_number
+      ≡ (if is_numeral_byte old.in_comment byte then true else if not old.in_comment && is_white
+      byte then false else old.in_number)
+  pub found : new.found
+      ≡ (if is_numeral_byte old.in_comment byte && not old.in_number then old.found + 1 else old.found)
+  pub numbers : new.numbers
+      ≡ (if is_numeral_byte old.in_comment byte then numbers_with_digit old.in_number old.numbers
+      (byte - digit_zero) else old.numbers)
 
 -- ---- numbers of a plain raster
 
@@ -77,10 +85,10 @@ pub record IsDecimalAfter (s : DecimalScanner) (before : List ℕ) : Type 0 wher
   pub length_is : s.length ≡ length before
   pub comment : s.in_comment ≡ ends_in_comment before
   pub digit : s.in_number ≡ ends_in_digit before
-  pub value : s.value ≡ saturated (number_in before)
+  pub value : s.value ≡ saturate_u32 (number_in before)
 
 abbrev pub IsDecimalWhole : DecimalScanner → List ℕ → Type 0
-IsDecimalWhole s piece = s.value ≡ saturated (number_in piece)
+IsDecimalWhole s piece = s.value ≡ saturate_u32 (number_in piece)
 
 abbrev pub JudgesDecimal : DecimalScanner → ℕ → Judgement → Type 0
 JudgesDecimal s byte judgement = (before : List ℕ) → IsDecimalAfter s before → judgement ≡ decimal_item before byte
@@ -88,8 +96,9 @@ JudgesDecimal s byte judgement = (before : List ℕ) → IsDecimalAfter s before
 pub record PushesDecimal (old : DecimalScanner) (byte : ℕ) (new : DecimalScanner) : Type 0 where
   pub length_is : new.length ≡ old.length + 1
   pub comment : new.in_comment ≡ commented old.in_comment byte
-  pub digit : new.in_number ≡ is_numeral old.in_comment byte
-  pub value : new.value ≡ (if is_numeral old.in_comment byte then with_digit old.value (byte - digit_zero) else old.value)
+  pub digit : new.in_number ≡ is_numeral_byte old.in_comment byte
+  pub value : new.value
+      ≡ (if is_numeral_byte old.in_comment byte then with_digit old.value (byte - digit_zero) else old.value)
 
 -- ---- pixels of a plain raster
 

@@ -2,11 +2,11 @@
 use Rattle.std.specs.Prelude.{◌≡◌, ℕ, ◌⊎◌, Bool, List, [], ◌∷◌, ◌++◌, Option, Some, None, Result, Ok, Err}
 use Rattle.std.specs.Io.KnownBytes.{Consumes}
 use Rattle.pnm_image.specs.declared.message.Message.{Message}
-use Rattle.pnm_image.specs.Completion.{IsFrontOf}
+use Rattle.pnm_image.specs.Completion.{IsPrefixOf}
 use Rattle.pnm_read.specs.declared.fault.InputFault.{InputFault}
 use Rattle.pnm_read.specs.declared.source.Source.{Source}
-use Rattle.pnm_read.specs.Said.{Said, said, said_of, fault_of, then_said}
-use Rattle.pnm_read.specs.Inputs.{IsOutsideFault, held_of, CanCome, EndsRightly}
+use Rattle.pnm_read.specs.Said.{Said, text_said, said_of, fault_of, then_said}
+use Rattle.pnm_read.specs.BufferedReaders.{IsOutsideFault, held_of, CanCome, EndsRightly}
 use Rattle.pnm_read.specs.Awaiting.{state_due, state_fault, is_ended}
 
 abbrev pub reader_of : {R : Type 0} → Source R → R
@@ -34,7 +34,8 @@ SeesEnd left s = EndsRightly left s.input
 
 -- while the reader has a byte left, any bytes may come
 abbrev pub MayGiveMore : {R : Type 0} → (R → Option (List ℕ)) → Source R → Type 0
-MayGiveMore left s = (byte : ℕ) (more : List ℕ) → left (reader_of s) ≡ Some (byte ∷ more) → (rest : List ℕ) → MayGive s rest
+MayGiveMore left s = (byte : ℕ) (more : List ℕ) → left (reader_of s) ≡ Some (byte ∷ more) → (rest : List ℕ)
+    → MayGive s rest
 
 -- messages, and then what is said
 abbrev pub after_messages : List Message → Said → Said
@@ -44,10 +45,10 @@ after_messages (m ∷ ms) s = then_said m (after_messages ms s)
 -- A source has read these bytes and given these messages: whatever the reader gives after them, these are said
 -- of the text first, and then what the source has still to say.
 unfoldable pub HasGiven : {R : Type 0} → Source R → List ℕ → List Message → Type 0
-HasGiven s read given = (rest : List ℕ) → MayGive s rest → said (read ++ rest) ≡ after_messages given (due s rest)
+HasGiven s read given = (rest : List ℕ) → MayGive s rest → text_said (read ++ rest) ≡ after_messages given (due s rest)
 
 -- a new source over a reader has read nothing and given nothing
-pub record IsFresh {R : Type 0} (reader : R) (s : Source R) : Type 0 where
+pub record IsFreshSource {R : Type 0} (reader : R) (s : Source R) : Type 0 where
   pub reader_is : reader_of s ≡ reader
   pub nothing_given : HasGiven s [] []
   pub unread : (rest : List ℕ) → MayGive s rest
@@ -56,16 +57,20 @@ pub record IsFresh {R : Type 0} (reader : R) (s : Source R) : Type 0 where
 
 -- what an answer tells of a text, of which this is read, after the messages that were given: the next message;
 -- that they are all, and there is no fault; or that they are all before this fault. Before a fault from outside
--- they are a front of what is said.
+-- they are a prefix of what is said.
 abbrev pub AnswerTells : {R : Type 0} → Source R → List ℕ → List Message → Result (Option Message) InputFault → Type 0
 AnswerTells new read given (Ok (Some m)) = HasGiven new read (given ++ m ∷ [])
 AnswerTells new read given (Ok None) =
-    HasGiven new read given × ((rest : List ℕ) → MayGive new rest → (said_of (read ++ rest) ≡ given) × (fault_of (read ++ rest) ≡ None))
+    HasGiven new read given
+    × ((rest : List ℕ) → MayGive new rest → (said_of (read ++ rest) ≡ given) × (fault_of (read ++ rest) ≡ None))
 AnswerTells new read given (Err fault) =
-    (rest : List ℕ) → MayGive new rest → ((said_of (read ++ rest) ≡ given) × (fault_of (read ++ rest) ≡ Some fault)) ⊎ (IsOutsideFault fault × IsFrontOf given (said_of (read ++ rest)))
+    (rest : List ℕ) → MayGive new rest → ((said_of (read ++ rest) ≡ given) × (fault_of (read ++ rest) ≡ Some fault))
+    ⊎ (IsOutsideFault fault × IsPrefixOf given (said_of (read ++ rest)))
 
 -- A call read some bytes; and whatever was read and given before it, its answer tells what is said of the text.
-pub record Tells {R : Type 0} (left : R → Option (List ℕ)) (old : Source R) (result : Result (Option Message) InputFault) (new : Source R) : Type 0 where
+pub record Tells {R : Type 0} (left : R → Option (List ℕ)) (old : Source R)
+    (result : Result (Option Message) InputFault) (new : Source R) : Type 0 where
   pub more : List ℕ
   pub consumed : Consumes (left (reader_of old)) (left (reader_of new)) more
-  pub told : (read : List ℕ) (given : List Message) → HasGiven old read given → AnswerTells new (read ++ more) given result
+  pub told : (read : List ℕ) (given : List Message) → HasGiven old read given
+      → AnswerTells new (read ++ more) given result

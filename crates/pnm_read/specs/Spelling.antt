@@ -33,7 +33,8 @@ SpellsPlainImage text image = (format : Format) × (is_plain_form format.form �
 abbrev pub SpellsRawImages : List ℕ → List Image → Type 0
 SpellsRawImages text [] = text ≡ []
 SpellsRawImages text (image ∷ images) =
-    (first : List ℕ) × (rest : List ℕ) × (text ≡ first ++ rest) × SpellsRawImage first image × SpellsRawImages rest images
+    (first : List ℕ) × (rest : List ℕ) × (text ≡ first ++ rest) × SpellsRawImage first image
+    × SpellsRawImages rest images
 
 -- one plain image, and after it nothing, or white space or # and then anything
 pub record SpellsPlainAlone (text : List ℕ) (images : List Image) : Type 0 where

@@ -13,12 +13,14 @@ use Rattle.pnm_read.specs.BeforeFaults.{SpellsUpToFault}
 -- of a text that spells images their messages are said, without a fault
 abbrev pub SpelledIsSaid : Type 0
 SpelledIsSaid =
-    (text : List ℕ) (images : List Image) → Spells text images → (said_of text ≡ messages_of_stream images) × (fault_of text ≡ None)
+    (text : List ℕ) (images : List Image) → Spells text images → (said_of text ≡ messages_of_stream images)
+    × (fault_of text ≡ None)
 
 -- a text without a fault spells the images whose messages are said of it
 abbrev pub SaidIsSpelled : Type 0
 SaidIsSpelled =
-    (text : List ℕ) → fault_of text ≡ None → (images : List Image) × Spells text images × (said_of text ≡ messages_of_stream images)
+    (text : List ℕ) → fault_of text ≡ None → (images : List Image) × Spells text images
+    × (said_of text ≡ messages_of_stream images)
 
 -- the images that a text spells are images
 abbrev pub SpelledAreImages : Type 0
@@ -41,8 +43,8 @@ abbrev pub OneStreamOrOneFault : Type 0
 OneStreamOrOneFault =
     (text : List ℕ) → ((images : List Image) × SpellsOnly text images) ⊎ ((fault : InputFault) × IsAtFault text fault)
 
--- What is said of a text with a fault is spelled: it is a front that spells the images that ended, and a rest, and what
--- is said are the messages of these images, and then nothing, or the head of an image whose header the rest begins
+-- What is said of a text with a fault is spelled: it is a prefix that spells the images that ended, and a rest, and
+-- what is said are the messages of these images, and then nothing, or the head of an image whose header the rest begins
 -- with, and its first rows, as many as are spelled there.
 abbrev pub SaidBeforeFaultIsSpelled : Type 0
 SaidBeforeFaultIsSpelled =

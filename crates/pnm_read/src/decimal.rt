@@ -100,7 +100,7 @@ impl Scanner for DecimalScanner {
 
     ghost is_whole = { IsDecimalWhole };
 
-    ghost room = { λ s. GAP_LIMIT - s.length };
+    ghost remaining = { λ s. GAP_LIMIT - s.length };
 
     ghost keeps_bytes = { false };
 

@@ -8,13 +8,13 @@ ghost use Rattle.pnm_image.specs.Texts.{is_digit};
 ghost use Rattle.pnm_read.specs.Formats.{shape_of, number_count, planes};
 ghost use Rattle.pnm_read.specs.Items.{fault_of_head, numbers_item};
 ghost use Rattle.pnm_read.specs.Said.{format_at, pnm_head_at, head_at};
-ghost use Rattle.pnm_read.specs.Inputs.{Turn, Finds};
+ghost use Rattle.pnm_read.specs.BufferedReaders.{Turn, Finds};
 ghost use Rattle.pnm_read.specs.Magics.{format_named};
 ghost use Rattle.pnm_read.specs.Saturation.{IsNumbers, GivesInMemory};
 
+use crate::buffered_reader::BufferedReader;
 use crate::comments::{commented, is_apart};
 use crate::fault::InputFault;
-use crate::input::Input;
 use crate::judgement::Judgement;
 use crate::pam;
 use crate::scan::{Scanner, feed, scan};
@@ -26,7 +26,10 @@ use std::alloc::Global;
 const HEADER_LIMIT: usize = 65_534;
 
 /// The format that the input's magic names. A plain one may come first alone.
-pub fn read_format<R: BytesIn>(input: &mut Input<R>, is_first: bool) -> Result<Format, InputFault>
+pub fn read_format<R: BytesIn>(
+    input: &mut BufferedReader<R>,
+    is_first: bool,
+) -> Result<Format, InputFault>
     ensures { Turn R.left R.failures R.same input.old input.new result (Finds (format_at is_first) result) }
 {
     match input.next_byte()? {
@@ -54,7 +57,10 @@ fn format_named(byte: u8, is_first: bool) -> Result<Format, InputFault>
 }
 
 /// The head that follows the magic. It takes the header through its last byte.
-pub fn read_head<R: BytesIn>(input: &mut Input<R>, format: Format) -> Result<Head, InputFault>
+pub fn read_head<R: BytesIn>(
+    input: &mut BufferedReader<R>,
+    format: Format,
+) -> Result<Head, InputFault>
     ensures { Turn R.left R.failures R.same input.old input.new result (Finds (head_at format) result) }
 {
     match format.kind {
@@ -87,7 +93,7 @@ fn ends_within(kind: Kind, bytes: &[u8]) -> bool {
 }
 
 /// The head of PBM, PGM or PPM. It takes the header through its last byte, the delimiter.
-fn read_pnm_head<R: BytesIn>(input: &mut Input<R>, kind: Kind) -> Result<Head, InputFault>
+fn read_pnm_head<R: BytesIn>(input: &mut BufferedReader<R>, kind: Kind) -> Result<Head, InputFault>
     ensures { Turn R.left R.failures R.same input.old input.new result (Finds (pnm_head_at kind) result) }
 {
     let mut header = HeaderScanner::new(number_count(kind));
@@ -97,7 +103,8 @@ fn read_pnm_head<R: BytesIn>(input: &mut Input<R>, kind: Kind) -> Result<Head, I
 
 /// The head of these numbers, of which PBM has the last two alone, or what is wrong with them.
 fn head_of(alloc: Global, kind: Kind, numbers: [u32; 3]) -> Result<Head, InputFault>
-    ensures { (found : List ℕ) → IsNumbers (number_count kind) found numbers → GivesInMemory result (numbers_item kind found) }
+    ensures { (found : List ℕ) → IsNumbers (number_count kind) found numbers
+        → GivesInMemory result (numbers_item kind found) }
 {
     let [first, second, third] = numbers;
     let (width, height, maxval) = match kind {
@@ -232,7 +239,7 @@ impl Scanner for HeaderScanner {
 
     ghost is_whole = { IsHeaderWhole };
 
-    ghost room = { λ s. 65534 - s.length };
+    ghost remaining = { λ s. 65534 - s.length };
 
     ghost keeps_bytes = { false };
 

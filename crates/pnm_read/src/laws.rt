@@ -1,8 +1,10 @@
 //! Laws of texts. Each stands over the definitions alone, as the contract of a function that does
 //! nothing.
 
-ghost use Rattle.pnm_read.specs.Examples.{ExamplesHold};
-ghost use Rattle.pnm_read.specs.TextLaws.{SpelledIsSaid, SaidIsSpelled, SpelledAreImages, OneStreamOrOneFault, SaidBeforeFaultIsSpelled, SaidIsLawful, SaidAreMessages, EndIsSaidWithoutFault, FaultsAreOfTexts};
+ghost use Rattle.pnm_read.specs.Examples.{TextExamplesHold};
+ghost use Rattle.pnm_read.specs.TextLaws.{SpelledIsSaid, SaidIsSpelled, SpelledAreImages, OneStreamOrOneFault};
+ghost use Rattle.pnm_read.specs.TextLaws.{SaidBeforeFaultIsSpelled, SaidIsLawful, SaidAreMessages};
+ghost use Rattle.pnm_read.specs.TextLaws.{EndIsSaidWithoutFault, FaultsAreOfTexts};
 
 /// Of a text that spells images the messages of these images are said, without a fault.
 pub fn spelled_is_said()
@@ -24,7 +26,7 @@ pub fn one_stream_or_one_fault()
     ensures { OneStreamOrOneFault }
 {}
 
-/// What is said of a text before its fault is spelled: the images that ended, by a front of the text;
+/// What is said of a text before its fault is spelled: the images that ended, by a prefix of the text;
 /// and then, by the rest, nothing, or the header of an image and its first rows, as many as there are.
 pub fn what_is_said_before_a_fault_is_spelled()
     ensures { SaidBeforeFaultIsSpelled }
@@ -49,5 +51,5 @@ pub fn faults_are_of_texts()
 
 /// Small texts, as the definitions compute them.
 pub fn examples_hold()
-    ensures { ExamplesHold }
+    ensures { TextExamplesHold }
 {}

@@ -31,7 +31,8 @@ pub fn take_samples(
     row: &mut Vec<u16>,
 ) -> Result<usize, AllocError>
     requires { shape.maxval ≤ MAX_MAXVAL }
-    ensures taken { IfOk result (TakesSamples (plain_sample shape.kind shape.maxval) bytes.now row.old.items row.new.items) }
+    ensures taken { IfOk result
+        (TakesSamples (plain_sample shape.kind shape.maxval) bytes.now row.old.items row.new.items) }
     ensures most { IfOk result (λ _. length row.old.items ≤ wanted → length row.new.items ≤ wanted) }
 {
     // So no gap in them is too long.

@@ -4,12 +4,12 @@
 //! the one fault of the text. The formats are those of pbm(5), pgm(5), ppm(5) and pam(5).
 #![tactic(auto)]
 
+mod buffered_reader;
 mod comments;
 mod decimal;
 mod fault;
 mod fields;
 mod header;
-mod input;
 mod judgement;
 pub mod laws;
 mod leading;
@@ -23,6 +23,6 @@ mod scan;
 mod source;
 mod units;
 
+pub use buffered_reader::ReadBuffer;
 pub use fault::InputFault;
-pub use input::ReadBuffer;
 pub use source::Source;

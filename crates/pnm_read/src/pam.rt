@@ -3,11 +3,11 @@
 ghost use Rattle.std.specs.Prelude.{◌≡◌, ◌≤◌, ◌-◌, []};
 ghost use Rattle.pnm_read.specs.Items.{line_feed_item};
 ghost use Rattle.pnm_read.specs.Said.{pam_head_at};
-ghost use Rattle.pnm_read.specs.Inputs.{Turn, Finds, Passes};
+ghost use Rattle.pnm_read.specs.BufferedReaders.{Turn, Finds, Passes};
 
+use crate::buffered_reader::BufferedReader;
 use crate::fault::InputFault;
 use crate::fields::{Fields, head_of};
-use crate::input::Input;
 use crate::judgement::Judgement;
 use crate::scan::{Scanner, scan};
 use pnm_image::{BytesIn, Head};
@@ -18,7 +18,7 @@ const PAM_LIMIT: usize = 65_533;
 
 /// The head that follows the magic. It takes the header through the LF of its line ENDHDR.
 #[tactic(auto, unfolding(crate::specs::Said::pam_head_at))]
-pub fn read_head<R: BytesIn>(input: &mut Input<R>) -> Result<Head, InputFault>
+pub fn read_head<R: BytesIn>(input: &mut BufferedReader<R>) -> Result<Head, InputFault>
     ensures { Turn R.left R.failures R.same input.old input.new result (Finds pam_head_at result) }
 {
     read_line_feed(input)?;
@@ -37,7 +37,7 @@ pub fn has_last_line(bytes: &[u8]) -> bool {
 
 /// The LF after the magic.
 #[tactic(auto, unfolding(crate::specs::Items::line_feed_item))]
-fn read_line_feed<R: BytesIn>(input: &mut Input<R>) -> Result<(), InputFault>
+fn read_line_feed<R: BytesIn>(input: &mut BufferedReader<R>) -> Result<(), InputFault>
     ensures { Turn R.left R.failures R.same input.old input.new result (Passes line_feed_item result) }
 {
     match input.next_byte()? {
@@ -86,7 +86,7 @@ impl Scanner for PamScanner {
 
     ghost is_whole = { IsPamWhole };
 
-    ghost room = { λ s. 65533 - s.length };
+    ghost remaining = { λ s. 65533 - s.length };
 
     ghost keeps_bytes = { true };
 

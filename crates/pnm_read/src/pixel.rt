@@ -76,7 +76,7 @@ impl Scanner for PixelScanner {
 
     ghost is_whole = { IsPixelWhole };
 
-    ghost room = { λ s. GAP_LIMIT - s.length };
+    ghost remaining = { λ s. GAP_LIMIT - s.length };
 
     ghost keeps_bytes = { false };
 

@@ -4,13 +4,13 @@ ghost use Rattle.std.specs.Prelude.{◌≡◌, ◌≤◌, true};
 ghost use Rattle.pnm_image.specs.declared.limits.TheConstants.{MAX_MAXVAL};
 ghost use Rattle.pnm_image.specs.Heads.{row_length};
 ghost use Rattle.pnm_read.specs.Items.{plain_pixel, plain_decimal, plain_sample, after_last_item};
-ghost use Rattle.pnm_read.specs.Said.{plain_row, row_by};
-ghost use Rattle.pnm_read.specs.Inputs.{Turn, Finds, Passes};
+ghost use Rattle.pnm_read.specs.Said.{plain_row, row_in_form};
+ghost use Rattle.pnm_read.specs.BufferedReaders.{Turn, Finds, Passes};
 
+use crate::buffered_reader::BufferedReader;
 use crate::comments::is_apart;
 use crate::decimal::DecimalScanner;
 use crate::fault::InputFault;
-use crate::input::Input;
 use crate::leading::take_samples;
 use crate::pixel::PixelScanner;
 use crate::scan::scan;
@@ -19,12 +19,12 @@ use pnm_samples::greatest;
 
 /// The next row, after which so many others are to come.
 pub fn read_row<R: BytesIn>(
-    input: &mut Input<R>,
+    input: &mut BufferedReader<R>,
     shape: Shape,
     more: u32,
 ) -> Result<Samples, InputFault>
     requires { shape.maxval ≤ MAX_MAXVAL }
-    ensures { Turn R.left R.failures R.same input.old input.new result (Finds (row_by true shape more) result) }
+    ensures { Turn R.left R.failures R.same input.old input.new result (Finds (row_in_form true shape more) result) }
 {
     let row = read_samples(input, shape)?;
     if more == 0 {
@@ -35,7 +35,10 @@ pub fn read_row<R: BytesIn>(
 
 /// The samples of the next row: those that the bytes which are held tell by themselves, and the
 /// others by a scanner each.
-fn read_samples<R: BytesIn>(input: &mut Input<R>, shape: Shape) -> Result<Samples, InputFault>
+fn read_samples<R: BytesIn>(
+    input: &mut BufferedReader<R>,
+    shape: Shape,
+) -> Result<Samples, InputFault>
     requires { shape.maxval ≤ MAX_MAXVAL }
     ensures { Turn R.left R.failures R.same input.old input.new result (Finds (plain_row shape) result) }
 {
@@ -61,7 +64,11 @@ fn read_samples<R: BytesIn>(input: &mut Input<R>, shape: Shape) -> Result<Sample
 }
 
 /// The next sample.
-fn read_sample<R: BytesIn>(input: &mut Input<R>, kind: Kind, maxval: u32) -> Result<u16, InputFault>
+fn read_sample<R: BytesIn>(
+    input: &mut BufferedReader<R>,
+    kind: Kind,
+    maxval: u32,
+) -> Result<u16, InputFault>
     requires { maxval ≤ MAX_MAXVAL }
     ensures { Turn R.left R.failures R.same input.old input.new result (Finds (plain_sample kind maxval) result) }
 {
@@ -73,7 +80,7 @@ fn read_sample<R: BytesIn>(input: &mut Input<R>, kind: Kind, maxval: u32) -> Res
 
 /// The next pixel as a sample.
 #[tactic(auto, unfolding(crate::specs::Items::plain_pixel))]
-fn read_pixel<R: BytesIn>(input: &mut Input<R>) -> Result<u16, InputFault>
+fn read_pixel<R: BytesIn>(input: &mut BufferedReader<R>) -> Result<u16, InputFault>
     ensures { Turn R.left R.failures R.same input.old input.new result (Finds plain_pixel result) }
 {
     let mut pixel = PixelScanner::new();
@@ -83,7 +90,7 @@ fn read_pixel<R: BytesIn>(input: &mut Input<R>) -> Result<u16, InputFault>
 
 /// The next number, at most the maxval.
 #[tactic(auto, unfolding(crate::specs::Items::plain_decimal))]
-fn read_decimal<R: BytesIn>(input: &mut Input<R>, maxval: u32) -> Result<u16, InputFault>
+fn read_decimal<R: BytesIn>(input: &mut BufferedReader<R>, maxval: u32) -> Result<u16, InputFault>
     requires { maxval ≤ MAX_MAXVAL }
     ensures { Turn R.left R.failures R.same input.old input.new result (Finds (plain_decimal maxval) result) }
 {
@@ -98,7 +105,7 @@ fn read_decimal<R: BytesIn>(input: &mut Input<R>, maxval: u32) -> Result<u16, In
 
 /// After the last sample the input ends, or goes on with white space or a comment.
 #[tactic(auto, unfolding(crate::specs::Items::after_last_item))]
-fn check_end<R: BytesIn>(input: &mut Input<R>) -> Result<(), InputFault>
+fn check_end<R: BytesIn>(input: &mut BufferedReader<R>) -> Result<(), InputFault>
     ensures { Turn R.left R.failures R.same input.old input.new result (Passes after_last_item result) }
 {
     input.fill(1)?;

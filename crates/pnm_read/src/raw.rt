@@ -5,19 +5,19 @@ ghost use Rattle.pnm_image.specs.declared.limits.TheConstants.{MAX_SIDE};
 ghost use Rattle.pnm_image.specs.SampleWidths.{sample_width_of};
 ghost use Rattle.pnm_image.specs.declared.sample_width.SampleWidth.TheVariants.{Words};
 ghost use Rattle.pnm_read.specs.Said.{raw_row, units_in_row};
-ghost use Rattle.pnm_read.specs.Inputs.{Turn, Finds, held_of};
+ghost use Rattle.pnm_read.specs.BufferedReaders.{Turn, Finds, held_of};
 ghost use Rattle.pnm_read.specs.RawParts.{FindsUnits, FindsPart};
 ghost use Rattle.pnm_read.specs.Units.{samples_of_bytes, AreBytesWithin};
 
+use crate::buffered_reader::BufferedReader;
 use crate::fault::InputFault;
-use crate::input::Input;
 use crate::units::{append_wide, are_units_within, units_in_row};
 use pnm_image::{Bits, BytesIn, SampleVec, SampleWidth, Samples, Shape};
 
 /// The next row, held as it was read, without a copy. No sample is looked at again: none is above the
 /// maxval.
 pub fn read_row<R: BytesIn>(
-    input: &mut Input<R>,
+    input: &mut BufferedReader<R>,
     shape: Shape,
     units: usize,
     sample_width: SampleWidth,
@@ -57,7 +57,7 @@ pub fn bytes_of(units: usize, sample_width: SampleWidth) -> usize {
 
 /// The bytes of the next row, each of them a unit.
 fn read_bytes<R: BytesIn>(
-    input: &mut Input<R>,
+    input: &mut BufferedReader<R>,
     count: usize,
     shape: Shape,
     sample_width: SampleWidth,
@@ -65,7 +65,8 @@ fn read_bytes<R: BytesIn>(
     requires count { count ≡ units_in_row sample_width shape }
     requires sample_width { sample_width ≡ sample_width_of shape.kind shape.maxval }
     requires bytes { sample_width ≡ Words → ⊥ }
-    ensures found { Turn R.left R.failures R.same input.old input.new result (FindsUnits (λ row. samples_of_bytes sample_width row.items) shape result) }
+    ensures found { Turn R.left R.failures R.same input.old input.new result
+        (FindsUnits (λ row. samples_of_bytes sample_width row.items) shape result) }
     ensures within { IfOk result (λ row. AreBytesWithin sample_width shape.maxval row.items) }
 {
     if input.bytes().len() >= count {
@@ -78,7 +79,7 @@ fn read_bytes<R: BytesIn>(
 /// The bytes of the next row, so many units, part by part.
 #[inline(never)]
 fn read_parts<R: BytesIn>(
-    input: &mut Input<R>,
+    input: &mut BufferedReader<R>,
     count: usize,
     shape: Shape,
     sample_width: SampleWidth,
@@ -95,15 +96,15 @@ fn read_parts<R: BytesIn>(
     };
     let mut filled = 0;
     while filled < count {
-        let room = &mut row.as_mut_slice()[filled..];
-        filled += read_part(input, room, sample_width, shape.maxval)?;
+        let target = &mut row.as_mut_slice()[filled..];
+        filled += read_part(input, target, sample_width, shape.maxval)?;
     }
     Ok(row)
 }
 
 /// The bytes of the next row, so many units, where they are held.
 fn take_bytes<R: BytesIn>(
-    input: &mut Input<R>,
+    input: &mut BufferedReader<R>,
     count: usize,
     shape: Shape,
     sample_width: SampleWidth,
@@ -126,35 +127,40 @@ fn take_bytes<R: BytesIn>(
     Ok(row)
 }
 
-/// Takes units of a byte that come next into the front of the room, and answers how many.
+/// Takes units of a byte that come next into the front of the target, and answers how many.
 fn read_part<R: BytesIn>(
-    input: &mut Input<R>,
-    room: &mut [u8],
+    input: &mut BufferedReader<R>,
+    target: &mut [u8],
     sample_width: SampleWidth,
     maxval: u32,
 ) -> Result<usize, InputFault>
-    requires room { 0 < length room.old }
+    requires target { 0 < length target.old }
     requires bytes { sample_width ≡ Words → ⊥ }
     ensures found { Turn R.left R.failures R.same input.old input.new result
-        (FindsPart sample_width maxval (length room.old) [] (λ count. samples_of_bytes sample_width (take count room.new)) result) }
-    ensures count { IfOk result (λ count. (0 < count) × (count ≤ length room.new)) }
-    ensures within { IfOk result (λ count. AreBytesWithin sample_width maxval (take count room.new)) }
+        (FindsPart sample_width maxval (length target.old) []
+        (λ count. samples_of_bytes sample_width (take count target.new)) result) }
+    ensures count { IfOk result (λ count. (0 < count) × (count ≤ length target.new)) }
+    ensures within { IfOk result (λ count. AreBytesWithin sample_width maxval (take count target.new)) }
 {
-    let count = input.read(room)?;
+    let count = input.read(target)?;
     if count == 0 {
         return Err(InputFault::RasterCut);
     }
-    if !are_units_within(&room[..count], sample_width, maxval) {
+    if !are_units_within(&target[..count], sample_width, maxval) {
         return Err(InputFault::SampleAboveMaxval);
     }
     Ok(count)
 }
 
 /// The samples of two bytes of the next row.
-fn read_words<R: BytesIn>(input: &mut Input<R>, shape: Shape) -> Result<Vec<u16>, InputFault>
+fn read_words<R: BytesIn>(
+    input: &mut BufferedReader<R>,
+    shape: Shape,
+) -> Result<Vec<u16>, InputFault>
     requires width { shape.width ≤ MAX_SIDE }
     requires sample_width { Words ≡ sample_width_of shape.kind shape.maxval }
-    ensures found { Turn R.left R.failures R.same input.old input.new result (FindsUnits (λ row. row.items) shape result) }
+    ensures found { Turn R.left R.failures R.same input.old input.new result
+        (FindsUnits (λ row. row.items) shape result) }
     ensures within { IfOk result (λ row. All (λ sample. sample ≤ shape.maxval) row.items) }
 {
     let mut left = units_in_row(SampleWidth::Words, shape);
@@ -170,15 +176,17 @@ fn read_words<R: BytesIn>(input: &mut Input<R>, shape: Shape) -> Result<Vec<u16>
 /// Appends samples of two bytes that come next, at most so many, and answers how many. Safe code can't
 /// lend words as bytes to be read into, so these are joined out of the input's buffer.
 fn append_part<R: BytesIn>(
-    input: &mut Input<R>,
+    input: &mut BufferedReader<R>,
     most: usize,
     maxval: u32,
     row: &mut Vec<u16>,
 ) -> Result<usize, InputFault>
     requires { 0 < most }
-    ensures found { Turn R.left R.failures R.same input.old input.new result (FindsPart Words maxval most row.old.items (λ _. row.new.items) result) }
+    ensures found { Turn R.left R.failures R.same input.old input.new result
+        (FindsPart Words maxval most row.old.items (λ _. row.new.items) result) }
     ensures count { IfOk result (λ count. (0 < count) × (count ≤ most)) }
-    ensures within { All (λ sample. sample ≤ maxval) row.old.items → OnOk result (All (λ sample. sample ≤ maxval) row.new.items) }
+    ensures within { All (λ sample. sample ≤ maxval) row.old.items
+        → OnOk result (All (λ sample. sample ≤ maxval) row.new.items) }
 {
     input.fill(2)?;
     let bytes = input.bytes();

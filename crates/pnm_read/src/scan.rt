@@ -1,15 +1,16 @@
 //! Pieces of a text that are judged byte by byte: a header, or a sample of a plain raster.
 
-ghost use Rattle.std.specs.Prelude.{◌≡◌, ◌<◌, ◌≤◌, ◌+◌, ℕ, Bool, true, List, Option, IfOk, IfSome, IfNone, Some, Err, length};
+ghost use Rattle.std.specs.Prelude.{◌≡◌, ◌<◌, ◌≤◌, ◌+◌, ℕ, Bool, true, List, Option, IfOk, IfSome, IfNone, Some, Err};
+ghost use Rattle.std.specs.Prelude.{length};
 ghost use Rattle.pnm_read.specs.declared.fault.InputFault.{InputFault as Fault};
 ghost use Rattle.pnm_read.specs.declared.judgement.Judgement.{Judgement as Judged};
 ghost use Rattle.pnm_read.specs.declared.judgement.Judgement.TheVariants.{GoesOn, Fails};
 ghost use Rattle.pnm_read.specs.declared.fault.InputFault.TheVariants.{ReadFailed, Memory};
 ghost use Rattle.pnm_read.specs.Scans.{JudgesByte, JudgesEnd, Feeds, Scans};
-ghost use Rattle.pnm_read.specs.Inputs.{Turn};
+ghost use Rattle.pnm_read.specs.BufferedReaders.{Turn};
 
+use crate::buffered_reader::BufferedReader;
 use crate::fault::InputFault;
-use crate::input::Input;
 use crate::judgement::Judgement;
 use pnm_image::BytesIn;
 
@@ -28,17 +29,18 @@ pub trait Scanner {
     ghost is_whole: { Self → List ℕ → Type 0 };
 
     /// The bytes that can still come, at most.
-    ghost room: { Self → ℕ };
+    ghost remaining: { Self → ℕ };
 
     /// Whether it keeps bytes that it took, for which memory may run out.
     ghost keeps_bytes: { Bool };
 
     /// Judges the next byte, and takes it where it belongs to the piece.
     fn take(&mut self, byte: u8) -> Judgement
-        ensures judged { JudgesByte (item self.old) (is_after self.old) (is_after self.new) (is_whole self.new) byte result }
+        ensures judged { JudgesByte (item self.old) (is_after self.old) (is_after self.new) (is_whole self.new) byte
+            result }
         ensures same_items { item self.new ≡ item self.old }
         ensures same_end { at_end self.new ≡ at_end self.old }
-        ensures room { result ≡ GoesOn → room self.new < room self.old }
+        ensures remaining { result ≡ GoesOn → remaining self.new < remaining self.old }
         ensures of_text { result ≡ Fails ReadFailed → ⊥ }
         ensures memory { result ≡ Fails Memory → keeps_bytes ≡ true };
 
@@ -49,8 +51,12 @@ pub trait Scanner {
 }
 
 /// Gives the scanner bytes of the input until its piece ends; asks for more where they run out.
-pub fn scan<R: BytesIn, S: Scanner>(input: &mut Input<R>, scanner: &mut S) -> Result<(), InputFault>
-    ensures { Turn R.left R.failures R.same input.old input.new result (Scans (S.item scanner.old) (S.at_end scanner.old) (S.is_after scanner.old) (S.is_whole scanner.new) result) }
+pub fn scan<R: BytesIn, S: Scanner>(
+    input: &mut BufferedReader<R>,
+    scanner: &mut S,
+) -> Result<(), InputFault>
+    ensures { Turn R.left R.failures R.same input.old input.new result
+        (Scans (S.item scanner.old) (S.at_end scanner.old) (S.is_after scanner.old) (S.is_whole scanner.new) result) }
 {
     loop {
         input.fill(1)?;
@@ -75,12 +81,14 @@ pub fn scan<R: BytesIn, S: Scanner>(input: &mut Input<R>, scanner: &mut S) -> Re
 /// Gives the scanner these bytes until its piece ends. Answers how many it took; none where the
 /// piece goes on after them.
 pub fn feed<S: Scanner>(scanner: &mut S, bytes: &[u8]) -> Result<Option<usize>, InputFault>
-    ensures fed { Feeds (S.item scanner.old) (S.at_end scanner.old) (S.is_after scanner.old) (S.is_after scanner.new) (S.is_whole scanner.new) bytes.now result }
+    ensures fed { Feeds (S.item scanner.old) (S.at_end scanner.old) (S.is_after scanner.old) (S.is_after scanner.new)
+        (S.is_whole scanner.new) bytes.now result }
     ensures taken { IfOk result (λ ended. IfSome ended (λ taken. taken ≤ length bytes.now)) }
     ensures of_text { result ≡ Err ReadFailed → ⊥ }
     ensures same_items { S.item scanner.new ≡ S.item scanner.old }
     ensures same_end { S.at_end scanner.new ≡ S.at_end scanner.old }
-    ensures room { IfOk result (λ ended. IfNone ended (S.room scanner.new + length bytes.now ≤ S.room scanner.old)) }
+    ensures remaining { IfOk result
+        (λ ended. IfNone ended (S.remaining scanner.new + length bytes.now ≤ S.remaining scanner.old)) }
 {
     for (taken, byte) in bytes.iter().enumerate() {
         match scanner.take(*byte) {

@@ -1,18 +1,19 @@
 //! The source of a stream: the bytes of a reader as messages.
 
-ghost use Rattle.std.specs.Prelude.{◌≡◌, List, ℕ, ◌≤◌, ◌<◌, ◌-◌, ◌⊎◌, ◌↔◌, IsTrue, true, false, Some, None, Ok, Err, OnOk, IfOk, IfErr};
+ghost use Rattle.std.specs.Prelude.{◌≡◌, List, ℕ, ◌≤◌, ◌<◌, ◌-◌, ◌⊎◌, ◌↔◌, IsTrue, true, false, Some, None, Ok, Err};
+ghost use Rattle.std.specs.Prelude.{OnOk, IfOk, IfErr};
 ghost use Rattle.pnm_image.specs.Devices.{Failed};
 ghost use Rattle.pnm_image.specs.Formats.{is_plain_form};
 ghost use Rattle.pnm_image.specs.declared.message.Message.TheVariants.{ImageEnd, StreamEnd, Stop};
 ghost use Rattle.pnm_read.specs.declared.fault.InputFault.{InputFault as Fault};
 ghost use Rattle.pnm_read.specs.declared.fault.InputFault.TheVariants.{ReadFailed, Memory};
 ghost use Rattle.pnm_read.specs.declared.source.Awaited.{Awaited as AwaitedValue};
-ghost use Rattle.pnm_read.specs.Inputs.{Turn, Finds};
-ghost use Rattle.pnm_read.specs.Awaiting.{awaited_after, row_of, HasRow, Answers, Steps, Begins, SeesText};
+ghost use Rattle.pnm_read.specs.BufferedReaders.{Turn, Finds};
+ghost use Rattle.pnm_read.specs.Awaiting.{awaited_after, row_of, HasRow, AnswersNext, Steps, StepsAtStart, SeesText};
 
+use crate::buffered_reader::{BufferedReader, ReadBuffer};
 use crate::fault::InputFault;
 use crate::header::{is_told, read_format, read_head};
-use crate::input::{Input, ReadBuffer};
 use crate::raster::Raster;
 use crate::{plain, raw};
 use pnm_image::{BytesIn, Format, Message, Samples};
@@ -57,19 +58,20 @@ struct Step {
 /// At most 4,096 bytes and a row are held.
 #[derive(Debug, Drop)]
 pub struct Source<R> {
-    input: Input<R>,
+    input: BufferedReader<R>,
     state: State,
 }
 
 impl<R: BytesIn> Source<R> {
-    ghost use Rattle.pnm_read.specs.Sources.{IsFresh, Tells, MayGive, SeesEnd, MayGiveMore, stopped_by, has_ended, reader_of};
+    ghost use Rattle.pnm_read.specs.Sources.{IsFreshSource, Tells, MayGive, SeesEnd, MayGiveMore, stopped_by};
+    ghost use Rattle.pnm_read.specs.Sources.{has_ended, reader_of};
 
     /// A source over the reader, with a buffer of its own. It reads nothing. The only fault is
     /// `Memory`, and then the reader is gone: `with_buffer` keeps it.
     pub fn new(alloc: Global, reader: R) -> Result<Source<R>, InputFault>
     where
         R: Drop,
-        ensures made { IfOk result (λ source. IsFresh reader source) }
+        ensures made { IfOk result (λ source. IsFreshSource reader source) }
         ensures refused { IfErr result (λ fault. fault ≡ Memory) }
     {
         let buffer = ReadBuffer::new(alloc)?;
@@ -78,10 +80,10 @@ impl<R: BytesIn> Source<R> {
 
     /// A source over the reader that reads through this buffer. It reads nothing.
     pub fn with_buffer(buffer: ReadBuffer, reader: R) -> Source<R>
-        ensures { IsFresh reader result }
+        ensures { IsFreshSource reader result }
     {
         Source {
-            input: Input::new(buffer, reader),
+            input: BufferedReader::new(buffer, reader),
             state: State::Awaits(Awaited::FirstImage),
         }
     }
@@ -102,13 +104,17 @@ impl<R: BytesIn> Source<R> {
         ensures ended { result ≡ Ok (Some StreamEnd) → has_ended self.new ≡ true }
         ensures for_good { has_ended self.old ≡ true → (result ≡ Ok None) × (self.new ≡ self.old) }
         ensures stopped { IfErr result (λ fault. stopped_by self.new ≡ Some fault) }
-        ensures stays { (fault : Fault) → stopped_by self.old ≡ Some fault → (result ≡ Err fault) × (self.new ≡ self.old) }
+        ensures stays { (fault : Fault) → stopped_by self.old ≡ Some fault
+            → (result ≡ Err fault) × (self.new ≡ self.old) }
 
         // The reader.
         ensures same_device { R.same (reader_of self.old) (reader_of self.new) }
-        ensures count { (result ≡ Err ReadFailed → ⊥) → R.failures (reader_of self.new) ≡ R.failures (reader_of self.old) }
-        ensures read_failed { result ≡ Err ReadFailed → (stopped_by self.old ≡ Some ReadFailed) ⊎ Failed (R.failures (reader_of self.old)) (R.failures (reader_of self.new)) }
-        ensures not_at_end { result ≡ Err ReadFailed → (stopped_by self.old ≡ Some ReadFailed) ⊎ ((rest : List ℕ) → MayGive self.new rest) }
+        ensures count { (result ≡ Err ReadFailed → ⊥)
+            → R.failures (reader_of self.new) ≡ R.failures (reader_of self.old) }
+        ensures read_failed { result ≡ Err ReadFailed → (stopped_by self.old ≡ Some ReadFailed)
+            ⊎ Failed (R.failures (reader_of self.old)) (R.failures (reader_of self.new)) }
+        ensures not_at_end { result ≡ Err ReadFailed → (stopped_by self.old ≡ Some ReadFailed)
+            ⊎ ((rest : List ℕ) → MayGive self.new rest) }
     {
         match self.state {
             State::Awaits(awaited) => self.go_on(awaited),
@@ -117,8 +123,8 @@ impl<R: BytesIn> Source<R> {
         }
     }
 
-    /// Whether the next message is told by the bytes that are held, so that `next` makes no read. A header is where it is held
-    /// whole, and a row of a plain image where all that is left of the input is held.
+    /// Whether the next message is told by the bytes that are held, so that `next` makes no read. A header is where it
+    /// is held whole, and a row of a plain image where all that is left of the input is held.
     pub fn holds_next(&self) -> bool
         // After the end and after a fault nothing is read.
         ensures ended { has_ended self.now ≡ true → result ≡ true }
@@ -133,7 +139,8 @@ impl<R: BytesIn> Source<R> {
     /// The next message, before the end of the stream and any fault.
     fn go_on(&mut self, awaited: Awaited) -> Result<Option<Message>, InputFault>
         requires { self.old.state ≡ State.Awaits awaited }
-        ensures turn { Turn R.left R.failures R.same self.old.input self.new.input result (Answers awaited result self.new.state) }
+        ensures turn { Turn R.left R.failures R.same self.old.input self.new.input result
+            (AnswersNext awaited result self.new.state) }
         ensures stopped { IfErr result (λ fault. stopped_by self.new ≡ Some fault) }
     {
         if has_row(&self.state) {
@@ -156,7 +163,7 @@ impl<R: BytesIn> Source<R> {
         requires { HasRow self.old.state }
         ensures turn { (awaited : AwaitedValue) → self.old.state ≡ State.Awaits awaited
             → Turn R.left R.failures R.same self.old.input self.new.input result
-            (Answers awaited result self.new.state) }
+            (AnswersNext awaited result self.new.state) }
         ensures stopped { IfErr result (λ fault. stopped_by self.new ≡ Some fault) }
     {
         let State::Awaits(awaited) = self.state else {
@@ -197,7 +204,7 @@ fn has_row(state: &State) -> bool
 }
 
 /// The next message where this is awaited and no row is, and the state after it.
-fn step_at<R: BytesIn>(input: &mut Input<R>, awaited: Awaited) -> Result<Step, InputFault>
+fn step_at<R: BytesIn>(input: &mut BufferedReader<R>, awaited: Awaited) -> Result<Step, InputFault>
     requires { HasRow (State.Awaits awaited) → ⊥ }
     ensures { Turn R.left R.failures R.same input.old input.new result (Steps awaited result) }
 {
@@ -210,7 +217,7 @@ fn step_at<R: BytesIn>(input: &mut Input<R>, awaited: Awaited) -> Result<Step, I
 }
 
 /// Whether what is held tells the message that is awaited.
-fn holds_at<R: BytesIn>(input: &Input<R>, awaited: Awaited) -> bool {
+fn holds_at<R: BytesIn>(input: &BufferedReader<R>, awaited: Awaited) -> bool {
     match awaited {
         Awaited::FirstImage => input.holds(usize::MAX) || is_told(input.bytes(), true),
         Awaited::RowOrEnd(raster) if raster.y == raster.shape.height => true,
@@ -222,8 +229,8 @@ fn holds_at<R: BytesIn>(input: &Input<R>, awaited: Awaited) -> bool {
 }
 
 /// The head of an image, which is the first of the stream or comes after a raw one.
-fn begin<R: BytesIn>(input: &mut Input<R>, is_first: bool) -> Result<Step, InputFault>
-    ensures { Turn R.left R.failures R.same input.old input.new result (Begins is_first result) }
+fn begin<R: BytesIn>(input: &mut BufferedReader<R>, is_first: bool) -> Result<Step, InputFault>
+    ensures { Turn R.left R.failures R.same input.old input.new result (StepsAtStart is_first result) }
 {
     let format = read_format(input, is_first)?;
     let head = read_head(input, format)?;
@@ -257,7 +264,10 @@ fn after_image(format: Format) -> Awaited
 }
 
 /// The samples of the next row.
-fn read_row<R: BytesIn>(input: &mut Input<R>, raster: &Raster) -> Result<Samples, InputFault>
+fn read_row<R: BytesIn>(
+    input: &mut BufferedReader<R>,
+    raster: &Raster,
+) -> Result<Samples, InputFault>
     requires { raster.now.y < raster.now.shape.height }
     ensures { Turn R.left R.failures R.same input.old input.new result
         (Finds (row_of raster.now) result) }
@@ -270,7 +280,7 @@ fn read_row<R: BytesIn>(input: &mut Input<R>, raster: &Raster) -> Result<Samples
 }
 
 /// What follows a raw image: the next one, or the end of the stream where no byte is left.
-fn follow<R: BytesIn>(input: &mut Input<R>) -> Result<Step, InputFault>
+fn follow<R: BytesIn>(input: &mut BufferedReader<R>) -> Result<Step, InputFault>
     ensures { Turn R.left R.failures R.same input.old input.new result (Steps Awaited.ImageOrEnd result) }
 {
     if is_at_end(input)? {
@@ -291,7 +301,7 @@ fn stream_end() -> Step
 }
 
 /// Whether no byte is left.
-fn is_at_end<R: BytesIn>(input: &mut Input<R>) -> Result<bool, InputFault>
+fn is_at_end<R: BytesIn>(input: &mut BufferedReader<R>) -> Result<bool, InputFault>
     ensures { Turn R.left R.failures R.same input.old input.new result (SeesText result) }
 {
     input.fill(1)?;

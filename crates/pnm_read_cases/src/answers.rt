@@ -1,4 +1,4 @@
-//! What a source answers to a text, and to each front of it.
+//! What a source answers to a text, and to each prefix of it.
 
 use pnm_image::{BytesIn, Device, Message, SampleSlice};
 use pnm_read::{InputFault, Source};
@@ -72,8 +72,8 @@ fn are_told_by(alloc: Global, text: &[u8], most: usize, whole: &str) -> Result<b
     Ok(told.as_str() == whole && !reader.is_read_on())
 }
 
-/// Adds the answers to a text, and of these numbers of bytes a read those by which they are others, or by which it is read
-/// on after its end.
+/// Adds the answers to a text, and of these numbers of bytes a read those by which they are others, or by which it is
+/// read on after its end.
 pub fn tell_text(
     alloc: Global,
     text: &[u8],
@@ -89,7 +89,7 @@ pub fn tell_text(
     Ok(())
 }
 
-/// Adds the answers to each front of a text, a byte a read too, by the length from which on they are those.
+/// Adds the answers to each prefix of a text, a byte a read too, by the length from which on they are those.
 pub fn tell_cuts(alloc: Global, text: &[u8], told: &mut String) -> Result<(), AllocError> {
     let mut before = String::new(alloc);
     for length in 0..=text.len() {

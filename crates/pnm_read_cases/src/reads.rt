@@ -39,8 +39,8 @@ pub fn tell_reads(alloc: Global, line: &[u8], told: &mut String) -> Result<(), A
     Ok(())
 }
 
-/// Adds the answers where read 1, 2 and so on of a byte each fails, by the number from which on they are those, and each
-/// number of a read after which there was another.
+/// Adds the answers where read 1, 2 and so on of a byte each fails, by the number from which on they are those, and
+/// each number of a read after which there was another.
 pub fn tell_fails(alloc: Global, text: &[u8], told: &mut String) -> Result<(), AllocError> {
     let mut before = String::new(alloc);
     for read in 0..=text.len() {
@@ -54,7 +54,8 @@ pub fn tell_fails(alloc: Global, text: &[u8], told: &mut String) -> Result<(), A
     Ok(())
 }
 
-/// How many reads of up to so many bytes a source has made once it was asked so often, and whether it holds what comes next.
+/// How many reads of up to so many bytes a source has made once it was asked so often, and whether it holds what comes
+/// next.
 fn reads_of(
     alloc: Global,
     text: &[u8],

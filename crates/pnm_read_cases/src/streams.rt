@@ -13,7 +13,8 @@ fn joined(alloc: Global, texts: &[&[u8]]) -> Result<Vec<u8>, AllocError> {
     Ok(whole)
 }
 
-/// Adds what is answered to two of the images, the second one whole or cut, to two with a byte between them, and to three.
+/// Adds what is answered to two of the images, the second one whole or cut, to two with a byte between them, and to
+/// three.
 pub fn tell_streams(
     alloc: Global,
     images: &[Vec<u8>],
@@ -24,8 +25,8 @@ pub fn tell_streams(
     for first in images {
         for second in images {
             add_cuts(alloc, &mut cut, first.as_slice(), second.as_slice())?;
-            let (front, back) = (first.as_slice(), second.as_slice());
-            add_each(alloc, &mut parted, every.as_slice(), front, back)?;
+            let (prefix, back) = (first.as_slice(), second.as_slice());
+            add_each(alloc, &mut parted, every.as_slice(), prefix, back)?;
             for third in images {
                 let texts = [first.as_slice(), second.as_slice(), third.as_slice()];
                 add_text(alloc, &mut three, joined(alloc, &texts)?.as_slice())?;
@@ -37,7 +38,7 @@ pub fn tell_streams(
     three.tell(told)
 }
 
-/// Adds an image with each front of another after it.
+/// Adds an image with each prefix of another after it.
 fn add_cuts(
     alloc: Global,
     sweep: &mut Sweep,

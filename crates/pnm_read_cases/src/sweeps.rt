@@ -50,23 +50,23 @@ fn tell_sweep(
     let set = set_of(alloc, word)?;
     let mut sweep = Sweep::new();
     for at in 0..=text.len().saturating_sub(replaced) {
-        let (front, rest) = text.split_at(at.min(text.len()));
+        let (prefix, rest) = text.split_at(at.min(text.len()));
         let back = rest.get(replaced..).unwrap_or(&[]);
-        add_each(alloc, &mut sweep, set.as_slice(), front, back)?;
+        add_each(alloc, &mut sweep, set.as_slice(), prefix, back)?;
     }
     sweep.tell(told)
 }
 
-/// Adds the front and the back with each of these bytes between them.
+/// Adds the prefix and the back with each of these bytes between them.
 pub fn add_each(
     alloc: Global,
     sweep: &mut Sweep,
     set: &[u8],
-    front: &[u8],
+    prefix: &[u8],
     back: &[u8],
 ) -> Result<(), AllocError> {
     for byte in set {
-        let mut text = Vec::from_slice(alloc, front)?;
+        let mut text = Vec::from_slice(alloc, prefix)?;
         text.push(*byte)?;
         text.extend_from_slice(back)?;
         add_text(alloc, sweep, text.as_slice())?;

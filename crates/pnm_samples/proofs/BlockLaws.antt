@@ -1,5 +1,6 @@
 -- A bit of each of several bytes.
-use Rattle.std.proofs.Common.{◌≡◌, ℕ, zero, suc, ◌+◌, ◌-◌, ◌*◌, ◌/◌, ◌%◌, ◌^◌, ◌<◌, List, [], ◌∷◌, length, get_or, map, replicate, All, leb, cond, w8, refl, sym, ap, ap₂, subst, ◌∙◌, arith}
+use Rattle.std.proofs.Common.{◌≡◌, ℕ, zero, suc, ◌+◌, ◌-◌, ◌*◌, ◌/◌, ◌%◌, ◌^◌, ◌<◌, List, [], ◌∷◌, length, get_or, map, replicate, All, leb, cond, w8, refl}
+use Rattle.std.proofs.Common.{sym, ap, ap₂, subst, ◌∙◌, arith}
 use Rattle.std.specs.Int.{bit_at}
 use Rattle.std.proofs.Math.Nat.{pow-succ'}
 use lib.Lanes.{mask_l, top, zip2}
@@ -19,7 +20,8 @@ mask_of_highest (x ∷ xs) fit =
     ap₂ (λ a b. a + 2 * b) (highest_bit x (fit 0 0 (omega arith))) (mask_of_highest xs (λ k d lt. fit (suc k) d (omega arith)))
 
 -- and that mask is what `to_bitmask` gives, a number of 16 bits
-pub mask_of_sixteen : (xs : List ℕ) → length xs ≡ 16 → mask_l (map (top 7) (zip2 (λ a b. cond (leb a b) (2 ^ 8 - 1) 0) (replicate 16 128) xs)) % 2 ^ 64 ≡ mask_l (map (leb 128) xs)
+pub mask_of_sixteen : (xs : List ℕ) → length xs ≡ 16 → mask_l (map (top 7) (zip2 (λ a b. cond (leb a b) (2 ^ 8 - 1) 0) (replicate 16 128) xs)) % 2 ^ 64
+    ≡ mask_l (map (leb 128) xs)
 mask_of_sixteen xs count =
     ap (λ l. mask_l l % 2 ^ 64) (tops_compared w8 leb (replicate 16 128) xs ∙ zip2_splat_left leb 128 16 xs count)
     ∙ mask_l-mod (map (leb 128) xs) 64 (omega (arith, length-map xs (leb 128), count))
@@ -50,7 +52,8 @@ twice b p = omega arith
 one_more_place : (b k : ℕ) → (b * 2 ^ k % 256 + b * 2 ^ k % 256) % 256 ≡ b * 2 ^ (k + 1) % 256
 one_more_place b k = twice b (2 ^ k) ∙ ap (λ n. b * n % 256) (sym (pow-succ' 2 k) ∙ ap (λ n. 2 ^ n) (omega arith))
 
-pub places_more : (bs lanes : List ℕ) (k : ℕ) → lanes ≡ map (λ b. b * 2 ^ k % 256) bs → zip2 (λ x y. (x + y) % 256) lanes lanes ≡ map (λ b. b * 2 ^ (k + 1) % 256) bs
+pub places_more : (bs lanes : List ℕ) (k : ℕ) → lanes ≡ map (λ b. b * 2 ^ k % 256) bs
+    → zip2 (λ x y. (x + y) % 256) lanes lanes ≡ map (λ b. b * 2 ^ (k + 1) % 256) bs
 places_more bs lanes k e =
     zip2_of_maps (λ x y. (x + y) % 256) (λ b. b * 2 ^ k % 256) (λ b. b * 2 ^ k % 256) bs e e ∙ same bs
   where

@@ -4,7 +4,8 @@ use Rattle.std.proofs.lemmas.List.{take_all, get_or-take, length-take}
 use Rattle.std.proofs.lemmas.List.Elements.{All-more}
 
 -- a bound of one sample more
-pub greatest_more : (xs : List ℕ) (i g r : ℕ) → i < length xs → r ≡ max (get_or xs i 0) g → ((most : ℕ) → (g ≤ most) ↔ All (λ x. x ≤ most) (take i xs)) → (most : ℕ) → (r ≤ most) ↔ All (λ x. x ≤ most) (take (i + 1) xs)
+pub greatest_more : (xs : List ℕ) (i g r : ℕ) → i < length xs → r ≡ max (get_or xs i 0) g → ((most : ℕ) → (g ≤ most) ↔ All (λ x. x ≤ most) (take i xs))
+    → (most : ℕ) → (r ≤ most) ↔ All (λ x. x ≤ most) (take (i + 1) xs)
 greatest_more xs i g r lt e known most = (
   λ h. All-more (λ x. x ≤ most) xs i 0 lt ((known most).0 (omega arith)) (omega arith),
   λ all.
@@ -21,5 +22,6 @@ greatest_more xs i g r lt e known most = (
 )
 
 -- a bound of all samples
-pub greatest_all : (xs : List ℕ) (i g : ℕ) → length xs ≤ i → ((most : ℕ) → (g ≤ most) ↔ All (λ x. x ≤ most) (take i xs)) → (most : ℕ) → (g ≤ most) ↔ All (λ x. x ≤ most) xs
+pub greatest_all : (xs : List ℕ) (i g : ℕ) → length xs ≤ i → ((most : ℕ) → (g ≤ most) ↔ All (λ x. x ≤ most) (take i xs)) → (most : ℕ) → (g ≤ most)
+    ↔ All (λ x. x ≤ most) xs
 greatest_all xs i g le known most = subst (λ (ys : List ℕ). (g ≤ most) ↔ All (λ x. x ≤ most) ys) (take_all i xs le) (known most)

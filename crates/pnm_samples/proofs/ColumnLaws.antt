@@ -1,5 +1,6 @@
 -- The columns of rows of pixels, in bytes.
-use Rattle.std.proofs.Common.{Vec, ◌≡◌, ◌≤◌, ℕ, zero, suc, ◌+◌, ◌-◌, ◌*◌, ◌/◌, ◌%◌, ◌<◌, inl, inr, List, [], ◌∷◌, ◌++◌, length, get_or, take, drop, map, All, refl, sym, ap, ◌∙◌, arith}
+use Rattle.std.proofs.Common.{Vec, ◌≡◌, ◌≤◌, ℕ, zero, suc, ◌+◌, ◌-◌, ◌*◌, ◌/◌, ◌%◌, ◌<◌, inl, inr, List, [], ◌∷◌, ◌++◌, length, get_or, take, drop, map, All}
+use Rattle.std.proofs.Common.{refl, sym, ap, ◌∙◌, arith}
 use Rattle.std.proofs.lemmas.Bool.{cases_lt}
 use Rattle.std.proofs.Math.Seq.{take-append_seam}
 use Rattle.std.proofs.lemmas.List.{ext_get_or, get_or-drop, get_or-take, get_or_append_left, get_or-map, length-map, length-take, length-take-le, drop_more}
@@ -25,15 +26,18 @@ pixel_of_bytes bytes n r inside lt =
 -- what the bytes of a row hold
 pub byte_holds : (row bytes : List ℕ) (byte : ℕ) → byte < length bytes → row ≡ take (length row) (all_pixels bytes) → HoldsPixels byte row (get_or bytes byte 0)
 byte_holds row bytes byte inside is k lt within =
-    sym (pixel_of_bytes bytes byte k inside lt) ∙ sym (get_or-take (length row) (all_pixels bytes) (8 * byte + k) 0 within) ∙ ap (λ (l : List ℕ). get_or l (8 * byte + k) 0) (sym is)
+    sym (pixel_of_bytes bytes byte k inside lt) ∙ sym (get_or-take (length row) (all_pixels bytes) (8 * byte + k) 0 within)
+    ∙ ap (λ (l : List ℕ). get_or l (8 * byte + k) 0) (sym is)
 
 -- what the bytes of a row from one on hold, or none where it has no such byte
-pub bytes_from_hold : (row bytes : List ℕ) (byte from : ℕ) → length bytes ≡ (length row + 7) / 8 → row ≡ take (length row) (all_pixels bytes) → (byte < length bytes → from ≡ byte) → HoldsFrom byte row (take (length bytes - from) (drop from bytes))
+pub bytes_from_hold : (row bytes : List ℕ) (byte from : ℕ) → length bytes ≡ (length row + 7) / 8 → row ≡ take (length row) (all_pixels bytes)
+    → (byte < length bytes → from ≡ byte) → HoldsFrom byte row (take (length bytes - from) (drop from bytes))
 bytes_from_hold row bytes byte from count is start n k lt within =
     let inside : byte + n < length bytes = omega (arith, count) in
     let here : from ≡ byte = start (omega arith) in
     let place : from + n ≡ byte + n = omega arith in
-    ap (pixel_at (7 - k)) (get_or-take (length bytes - from) (drop from bytes) n 0 (omega arith) ∙ get_or-drop from bytes n 0 ∙ ap (λ (i : ℕ). get_or bytes i 0) place)
+    ap (pixel_at (7 - k)) (get_or-take (length bytes - from) (drop from bytes) n 0 (omega arith) ∙ get_or-drop from bytes n 0
+    ∙ ap (λ (i : ℕ). get_or bytes i 0) place)
     ∙ byte_holds row bytes (byte + n) inside is k lt within
 
 -- ---- the columns of sixteen rows
@@ -48,8 +52,10 @@ HoldEight byte rows first from lanes = (m : ℕ) → m < 8 → HoldsRow byte row
 
 -- what each of eight bytes holds
 pub eight_hold : (Q : ℕ → ℕ → Type 0) (first from : ℕ) (lanes : List ℕ)
-    → Q (first + (from + 0)) (get_or lanes (from + 7) 0) → Q (first + (from + 1)) (get_or lanes (from + 6) 0) → Q (first + (from + 2)) (get_or lanes (from + 5) 0) → Q (first + (from + 3)) (get_or lanes (from + 4) 0)
-    → Q (first + (from + 4)) (get_or lanes (from + 3) 0) → Q (first + (from + 5)) (get_or lanes (from + 2) 0) → Q (first + (from + 6)) (get_or lanes (from + 1) 0) → Q (first + (from + 7)) (get_or lanes (from + 0) 0)
+    → Q (first + (from + 0)) (get_or lanes (from + 7) 0) → Q (first + (from + 1)) (get_or lanes (from + 6) 0)
+    → Q (first + (from + 2)) (get_or lanes (from + 5) 0) → Q (first + (from + 3)) (get_or lanes (from + 4) 0)
+    → Q (first + (from + 4)) (get_or lanes (from + 3) 0) → Q (first + (from + 5)) (get_or lanes (from + 2) 0)
+    → Q (first + (from + 6)) (get_or lanes (from + 1) 0) → Q (first + (from + 7)) (get_or lanes (from + 0) 0)
     → (m : ℕ) → m < 8 → Q (first + (from + m)) (get_or lanes (from + (7 - m)) 0)
 eight_hold Q first from lanes a b c d e f g h zero lt = a
 eight_hold Q first from lanes a b c d e f g h (suc zero) lt = b
@@ -62,13 +68,15 @@ eight_hold Q first from lanes a b c d e f g h (suc (suc (suc (suc (suc (suc (suc
 eight_hold Q first from lanes a b c d e f g h (suc (suc (suc (suc (suc (suc (suc (suc m)))))))) lt = absurd (omega arith)
 
 -- the pixels in the two bytes of a column
-low_pixel : (lanes : List ℕ) (pair place m : ℕ) → length lanes ≡ 16 → pair ≡ bits_of place lanes → m < 8 → pixel_at (7 - m) (pair % 256) ≡ pixel_at place (get_or lanes (0 + (7 - m)) 0)
+low_pixel : (lanes : List ℕ) (pair place m : ℕ) → length lanes ≡ 16 → pair ≡ bits_of place lanes → m < 8
+    → pixel_at (7 - m) (pair % 256) ≡ pixel_at place (get_or lanes (0 + (7 - m)) 0)
 low_pixel lanes pair place m count is lt =
     let at : 7 - m ≡ 0 + (7 - m) = omega arith in
     ap (λ (n : ℕ). 1 - n) (bit_at-low_byte pair (7 - m) (omega arith) ∙ ap (λ (n : ℕ). bit_at n (7 - m)) is ∙ bit_of_bits place lanes (7 - m) (omega arith))
     ∙ ap (λ (i : ℕ). pixel_at place (get_or lanes i 0)) at
 
-high_pixel : (lanes : List ℕ) (pair place m : ℕ) → length lanes ≡ 16 → pair ≡ bits_of place lanes → m < 8 → pixel_at (7 - m) (pair / 256) ≡ pixel_at place (get_or lanes (8 + (7 - m)) 0)
+high_pixel : (lanes : List ℕ) (pair place m : ℕ) → length lanes ≡ 16 → pair ≡ bits_of place lanes → m < 8
+    → pixel_at (7 - m) (pair / 256) ≡ pixel_at place (get_or lanes (8 + (7 - m)) 0)
 high_pixel lanes pair place m count is lt =
     ap (λ (n : ℕ). 1 - n) (bit_at-shr pair 8 (7 - m) ∙ ap (λ (n : ℕ). bit_at n (8 + (7 - m))) is ∙ bit_of_bits place lanes (8 + (7 - m)) (omega arith))
 
@@ -82,13 +90,15 @@ pub record HoldsGroups (byte width total : ℕ) (rows : List (List ℕ)) (groups
       → pixel_at (7 - r % 8) (get_or (get_or columns k d).items (r / 8) 0) ≡ get_or (get_or rows r []) (8 * byte + k) 0
 
 -- the bytes of one of the eight columns that got some
-pair_at : (first at : ℕ) (pairs : List ℕ) (old new : List (Vec ℕ Global)) (k : ℕ) (d : Vec ℕ Global) → HavePairs 8 first at pairs old new → first ≤ k → k < first + 8 → HasPair at (get_or pairs (k - first) 0) (get_or old k d).items (get_or new k d).items
+pair_at : (first at : ℕ) (pairs : List ℕ) (old new : List (Vec ℕ Global)) (k : ℕ) (d : Vec ℕ Global) → HavePairs 8 first at pairs old new → first ≤ k
+    → k < first + 8 → HasPair at (get_or pairs (k - first) 0) (get_or old k d).items (get_or new k d).items
 pair_at first at pairs old new k d put le lt =
     let place : first + (k - first) ≡ k = omega arith in
     rw place at (put.put (k - first) d (omega arith))
 
 -- each column stays as long
-still_long : (count long first at : ℕ) (pairs : List ℕ) (old new : List (Vec ℕ Global)) → HavePairs 8 first at pairs old new → AreLong count long old → AreLong count long new
+still_long : (count long first at : ℕ) (pairs : List ℕ) (old new : List (Vec ℕ Global)) → HavePairs 8 first at pairs old new → AreLong count long old
+    → AreLong count long new
 still_long count long first at pairs old new put known = record {
   many = put.many ∙ known.many;
   each = λ k d lt. elim (cases_lt k first) [
@@ -101,7 +111,8 @@ still_long count long first at pairs old new put known = record {
 }
 
 -- a byte that was there before stays
-byte_stays : (first at : ℕ) (pairs : List ℕ) (old new : List (Vec ℕ Global)) (k i : ℕ) (d : Vec ℕ Global) → HavePairs 8 first at pairs old new → (first ≤ k → k < first + 8 → i < at) → get_or (get_or new k d).items i 0 ≡ get_or (get_or old k d).items i 0
+byte_stays : (first at : ℕ) (pairs : List ℕ) (old new : List (Vec ℕ Global)) (k i : ℕ) (d : Vec ℕ Global) → HavePairs 8 first at pairs old new
+    → (first ≤ k → k < first + 8 → i < at) → get_or (get_or new k d).items i 0 ≡ get_or (get_or old k d).items i 0
 byte_stays first at pairs old new k i d put early = elim (cases_lt k first) [
   | inl below ↦ ap (λ (v : Vec ℕ Global). get_or v.items i 0) (put.before k d below)
   | inr above ↦ elim (cases_lt k (first + 8)) [
@@ -112,7 +123,8 @@ byte_stays first at pairs old new k i d put early = elim (cases_lt k first) [
 
 -- the pixel of a row of the group, in a column that got its bytes
 pixel_got : (byte : ℕ) (rows : List (List ℕ)) (g n : ℕ) (pairs lanes : List ℕ) (old new : List (Vec ℕ Global)) (r k : ℕ) (d : Vec ℕ Global)
-    → length lanes ≡ 16 → ((j : ℕ) → j < 8 → get_or pairs j 0 ≡ bits_of (7 - j) lanes) → HoldEight (byte + n) rows (16 * g) 0 lanes → HoldEight (byte + n) rows (16 * g) 8 lanes
+    → length lanes ≡ 16 → ((j : ℕ) → j < 8 → get_or pairs j 0 ≡ bits_of (7 - j) lanes) → HoldEight (byte + n) rows (16 * g) 0 lanes
+    → HoldEight (byte + n) rows (16 * g) 8 lanes
     → HavePairs 8 (8 * n) (2 * g) pairs old new → r / 16 ≡ g → 8 * n ≤ k → k < 8 * n + 8 → r < length rows → 8 * byte + k < length (get_or rows r [])
     → pixel_at (7 - r % 8) (get_or (get_or new k d).items (r / 8) 0) ≡ get_or (get_or rows r []) (8 * byte + k) 0
 pixel_got byte rows g n pairs lanes old new r k d count are low high put group le lt below within =
@@ -136,8 +148,10 @@ pixel_got byte rows g n pairs lanes old new r k d count are low high put group l
 
 -- eight columns more
 pub eight_more : (byte width total : ℕ) (rows : List (List ℕ)) (g n : ℕ) (pairs lanes : List ℕ) (old new : List (Vec ℕ Global))
-    → length lanes ≡ 16 → ((j : ℕ) → j < 8 → get_or pairs j 0 ≡ bits_of (7 - j) lanes) → HoldEight (byte + n) rows (16 * g) 0 lanes → HoldEight (byte + n) rows (16 * g) 8 lanes
-    → HavePairs 8 (8 * n) (2 * g) pairs old new → n < width → width ≤ 32 → HoldsGroups byte width total rows g n old → HoldsGroups byte width total rows g (n + 1) new
+    → length lanes ≡ 16 → ((j : ℕ) → j < 8 → get_or pairs j 0 ≡ bits_of (7 - j) lanes) → HoldEight (byte + n) rows (16 * g) 0 lanes
+    → HoldEight (byte + n) rows (16 * g) 8 lanes
+    → HavePairs 8 (8 * n) (2 * g) pairs old new → n < width → width ≤ 32 → HoldsGroups byte width total rows g n old
+    → HoldsGroups byte width total rows g (n + 1) new
 eight_more byte width total rows g n pairs lanes old new count are low high put inside few known = record {
   long = still_long (8 * width) (2 * total) (8 * n) (2 * g) pairs old new put known.long;
   pixels = λ r k d below lt lk within. elim (cases_lt (256 * (r / 16) + k) (256 * g + 8 * n)) [
@@ -154,13 +168,16 @@ written_whole n new old e = ap (λ (k : ℕ). take k (new ++ drop (length new) o
 -- ---- the columns that are made
 
 -- a column, out of its bytes
-column_made : (byte count : ℕ) (rows : List (List ℕ)) (columns : List (Vec ℕ Global)) (k : ℕ) (d : Vec ℕ Global) → HoldColumns byte count rows columns → k < count → All (λ row. 8 * byte + k < length row) rows
+column_made : (byte count : ℕ) (rows : List (List ℕ)) (columns : List (Vec ℕ Global)) (k : ℕ) (d : Vec ℕ Global) → HoldColumns byte count rows columns
+    → k < count → All (λ row. 8 * byte + k < length row) rows
     → take (length rows) (all_pixels (get_or columns k d).items) ≡ column_at rows (8 * byte + k)
 column_made byte count rows columns k d known lk within =
     let bytes = (get_or columns k d).items in
     let enough = known.enough k d lk in
-    let made : length (take (length rows) (all_pixels bytes)) ≡ length rows = omega (arith, enough, length-take (length rows) (all_pixels bytes), length-all_pixels bytes) in
-    ext_get_or 0 (take (length rows) (all_pixels bytes)) (column_at rows (8 * byte + k)) (made ∙ sym (length-map rows (λ row. get_or row (8 * byte + k) 0))) (λ r below.
+    let made : length (take (length rows) (all_pixels bytes)) ≡ length rows =
+    omega (arith, enough, length-take (length rows) (all_pixels bytes), length-all_pixels bytes) in
+    ext_get_or 0 (take (length rows) (all_pixels bytes)) (column_at rows (8 * byte + k)) (made ∙ sym (length-map rows (λ row. get_or row (8 * byte + k) 0)))
+    (λ r below.
     let lt : r < length rows = omega (arith, made) in
     let place : r ≡ 8 * (r / 8) + r % 8 = omega arith in
     get_or-take (length rows) (all_pixels bytes) r 0 lt ∙ ap (λ (i : ℕ). get_or (all_pixels bytes) i 0) place
@@ -172,19 +189,24 @@ column_made byte count rows columns k d known lk within =
 abbrev pub pixels_of_column : ℕ → Vec ℕ Global → List ℕ
 pixels_of_column n column = take n (all_pixels column.items)
 
-made_by_number : (byte width count : ℕ) (rows : List (List ℕ)) (columns : List (Vec ℕ Global)) (d : Vec ℕ Global) → HoldColumns byte (8 * width) rows columns → count ≤ 8 * width → All (λ row. 8 * byte + count ≤ length row) rows
+made_by_number : (byte width count : ℕ) (rows : List (List ℕ)) (columns : List (Vec ℕ Global)) (d : Vec ℕ Global) → HoldColumns byte (8 * width) rows columns
+    → count ≤ 8 * width → All (λ row. 8 * byte + count ≤ length row) rows
     → map (pixels_of_column (length rows)) (take count columns) ≡ map (column_at rows) (range_with_len (8 * byte) count)
 made_by_number byte width count rows columns d known le within =
     let kept : length (take count columns) ≡ count = length-take-le count columns (omega (arith, known.many)) in
-    let many : length (map (pixels_of_column (length rows)) (take count columns)) ≡ count = length-map (take count columns) (pixels_of_column (length rows)) ∙ kept in
-    ext_get_or [] (map (pixels_of_column (length rows)) (take count columns)) (map (column_at rows) (range_with_len (8 * byte) count)) (many ∙ sym (length-map-range_with_len (column_at rows) (8 * byte) count)) (λ k below.
+    let many : length (map (pixels_of_column (length rows)) (take count columns)) ≡ count = length-map (take count columns) (pixels_of_column (length rows))
+    ∙ kept in
+    ext_get_or [] (map (pixels_of_column (length rows)) (take count columns)) (map (column_at rows) (range_with_len (8 * byte) count))
+    (many ∙ sym (length-map-range_with_len (column_at rows) (8 * byte) count)) (λ k below.
     let lt : k < count = omega (arith, many) in
     get_or-map (pixels_of_column (length rows)) (take count columns) k d [] (omega (arith, kept))
     ∙ ap (pixels_of_column (length rows)) (get_or-take count columns k d lt)
-    ∙ column_made byte (8 * width) rows columns k d known (omega arith) (All-weaker (λ row. 8 * byte + count ≤ length row) (λ row. 8 * byte + k < length row) (λ row h. omega arith) rows within)
+    ∙ column_made byte (8 * width) rows columns k d known (omega arith)
+    (All-weaker (λ row. 8 * byte + count ≤ length row) (λ row. 8 * byte + k < length row) (λ row h. omega arith) rows within)
     ∙ sym (get_or-map-range_with_len (column_at rows) (8 * byte) count k (8 * byte + k) [] lt refl))
 
-pub columns_made : (byte width count : ℕ) (rows : List (List ℕ)) (columns : List (Vec ℕ Global)) → HoldColumns byte (8 * width) rows columns → count ≤ 8 * width → All (λ row. 8 * byte + count ≤ length row) rows
+pub columns_made : (byte width count : ℕ) (rows : List (List ℕ)) (columns : List (Vec ℕ Global)) → HoldColumns byte (8 * width) rows columns → count ≤ 8 * width
+    → All (λ row. 8 * byte + count ≤ length row) rows
     → map (pixels_of_column (length rows)) (take count columns) ≡ map (column_at rows) (range_with_len (8 * byte) count)
 columns_made byte width count rows [] known le within =
     let none : count ≡ 0 = omega (arith, known.many) in

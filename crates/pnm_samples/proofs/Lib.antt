@@ -7,5 +7,6 @@ pub mod PackLaws
 pub mod PackedAgain
 pub mod PackedBytes
 pub mod PixelLaws
+pub mod PixelRowLaws
 pub mod RepeatLaws
 pub mod StretchLaws

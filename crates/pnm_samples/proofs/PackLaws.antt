@@ -1,5 +1,6 @@
 -- Pixels as bytes, group by group.
-use Rattle.std.proofs.Common.{◌≡◌, ℕ, zero, suc, ◌+◌, ◌-◌, ◌*◌, ◌/◌, ◌<◌, ◌≤◌, List, [], ◌∷◌, ◌++◌, length, get_or, set, take, drop, replicate, refl, sym, ap, ap₂, ◌∙◌, arith}
+use Rattle.std.proofs.Common.{◌≡◌, ℕ, zero, suc, ◌+◌, ◌-◌, ◌*◌, ◌/◌, ◌<◌, ◌≤◌, List, [], ◌∷◌, ◌++◌, length, get_or, set, take, drop, replicate, refl, sym, ap}
+use Rattle.std.proofs.Common.{ap₂, ◌∙◌, arith}
 use Rattle.std.proofs.lemmas.List.{length-map, take_all, take_more_set, take-take, drop-take, drop-drop, length-take, length-drop}
 use Rattle.pnm_samples.specs.Cuts.{cut_rows}
 use Rattle.pnm_samples.specs.Pixels.{packed_byte, packed_groups, packed_bytes}
@@ -8,12 +9,14 @@ use Rattle.pnm_samples.proofs.PackedBytes.{bits_before_white}
 
 -- ---- eight pixels
 
-eight_bits : (a b c d e f g h : ℕ) → 128 * a + (64 * b + (32 * c + (16 * d + (8 * e + (4 * f + (2 * g + (1 * h + 0))))))) ≡ 128 * a + 64 * b + 32 * c + 16 * d + 8 * e + 4 * f + 2 * g + h
+eight_bits : (a b c d e f g h : ℕ) → 128 * a + (64 * b + (32 * c + (16 * d + (8 * e + (4 * f + (2 * g + (1 * h + 0))))))) ≡ 128 * a + 64 * b + 32 * c + 16 * d
+    + 8 * e + 4 * f + 2 * g + h
 eight_bits a b c d e f g h = omega arith
 
 -- the byte of eight pixels
 pub byte_of_eight : (p : List ℕ) → length p ≡ 8
-    → packed_byte p ≡ 128 * (1 - get_or p 0 0) + 64 * (1 - get_or p 1 0) + 32 * (1 - get_or p 2 0) + 16 * (1 - get_or p 3 0) + 8 * (1 - get_or p 4 0) + 4 * (1 - get_or p 5 0) + 2 * (1 - get_or p 6 0) + (1 - get_or p 7 0)
+    → packed_byte p ≡ 128 * (1 - get_or p 0 0) + 64 * (1 - get_or p 1 0) + 32 * (1 - get_or p 2 0) + 16 * (1 - get_or p 3 0) + 8 * (1 - get_or p 4 0)
+    + 4 * (1 - get_or p 5 0) + 2 * (1 - get_or p 6 0) + (1 - get_or p 7 0)
 byte_of_eight [] e = absurd (omega arith)
 byte_of_eight (a ∷ []) e = absurd (omega arith)
 byte_of_eight (a ∷ b ∷ []) e = absurd (omega arith)
@@ -27,7 +30,7 @@ byte_of_eight (a ∷ b ∷ c ∷ d ∷ f ∷ g ∷ h ∷ i ∷ j ∷ p) e = absu
 
 -- ---- groups of pixels
 
--- the groups of a front, and those of the rest
+-- the groups of a prefix, and those of the rest
 groups_split : (k c n : ℕ) (xs : List ℕ) → n ≡ k + c → packed_groups n xs ≡ packed_groups k xs ++ packed_groups c (drop (8 * k) xs)
 groups_split zero c n xs e =
     let same : n ≡ c = omega arith in
@@ -37,32 +40,33 @@ groups_split (suc k) c (suc n) xs e =
     let less : n ≡ k + c = omega arith in
     let later : 8 + 8 * k ≡ 8 * suc k = omega arith in
     let rest : drop (8 * k) (drop 8 xs) ≡ drop (8 * suc k) xs = drop-drop (8 * k) 8 xs ∙ ap (λ (m : ℕ). drop m xs) later in
-    ap (λ (l : List ℕ). packed_byte (take 8 xs) ∷ l) (groups_split k c n (drop 8 xs) less ∙ ap (λ (l : List ℕ). packed_groups k (drop 8 xs) ++ packed_groups c l) rest)
+    ap (λ (l : List ℕ). packed_byte (take 8 xs) ∷ l) (groups_split k c n (drop 8 xs) less
+    ∙ ap (λ (l : List ℕ). packed_groups k (drop 8 xs) ++ packed_groups c l) rest)
 
 -- one group more
 groups_more : (i : ℕ) (xs : List ℕ) → packed_groups (i + 1) xs ≡ packed_groups i xs ++ packed_byte (take 8 (drop (8 * i) xs)) ∷ []
 groups_more i xs = groups_split i 1 (i + 1) xs refl
 
--- a front of whole groups
-groups_of_front : (k : ℕ) (xs : List ℕ) → packed_groups k (take (8 * k) xs) ≡ packed_groups k xs
-groups_of_front zero xs = refl
-groups_of_front (suc k) xs =
+-- a prefix of whole groups
+groups_of_prefix : (k : ℕ) (xs : List ℕ) → packed_groups k (take (8 * k) xs) ≡ packed_groups k xs
+groups_of_prefix zero xs = refl
+groups_of_prefix (suc k) xs =
     let more : 8 * suc k ≡ 8 + 8 * k = omega arith in
     let enough : 8 ≤ 8 * suc k = omega arith in
     let first : take 8 (take (8 * suc k) xs) ≡ take 8 xs = take-take 8 (8 * suc k) xs enough in
     let rest : drop 8 (take (8 * suc k) xs) ≡ take (8 * k) (drop 8 xs) = ap (λ (m : ℕ). drop 8 (take m xs)) more ∙ drop-take 8 (8 * k) xs in
     ap₂ (λ (p l : List ℕ). packed_byte p ∷ packed_groups k l) first rest
-    ∙ ap (λ (l : List ℕ). packed_byte (take 8 xs) ∷ l) (groups_of_front k (drop 8 xs))
+    ∙ ap (λ (l : List ℕ). packed_byte (take 8 xs) ∷ l) (groups_of_prefix k (drop 8 xs))
 
--- a front of whole groups, and the rest
+-- a prefix of whole groups, and the rest
 pub packed_parts : (k : ℕ) (xs : List ℕ) → 8 * k ≤ length xs → packed_bytes xs ≡ packed_bytes (take (8 * k) xs) ++ packed_bytes (drop (8 * k) xs)
 packed_parts k xs enough =
-    let front : length (take (8 * k) xs) ≡ 8 * k = omega (arith, length-take (8 * k) xs) in
+    let prefix : length (take (8 * k) xs) ≡ 8 * k = omega (arith, length-take (8 * k) xs) in
     let rest : length (drop (8 * k) xs) + 8 * k ≡ length xs = omega (arith, length-drop (8 * k) xs) in
     let count : (length (take (8 * k) xs) + 7) / 8 ≡ k = omega arith in
     let counts : (length xs + 7) / 8 ≡ k + (length (drop (8 * k) xs) + 7) / 8 = omega arith in
     groups_split k ((length (drop (8 * k) xs) + 7) / 8) ((length xs + 7) / 8) xs counts
-    ∙ ap (λ (l : List ℕ). l ++ packed_bytes (drop (8 * k) xs)) (sym (groups_of_front k xs) ∙ ap (λ (m : ℕ). packed_groups m (take (8 * k) xs)) (sym count))
+    ∙ ap (λ (l : List ℕ). l ++ packed_bytes (drop (8 * k) xs)) (sym (groups_of_prefix k xs) ∙ ap (λ (m : ℕ). packed_groups m (take (8 * k) xs)) (sym count))
 
 -- whole groups, and a last group with white pixels in place of those that are missing
 groups_and_last : (k n : ℕ) (xs rest last : List ℕ) → k ≡ length xs / 8 → rest ≡ drop (8 * k) xs → 0 < length rest → last ≡ rest ++ replicate n 1
@@ -72,20 +76,24 @@ groups_and_last k n xs rest last e after some filled =
     let count : (length xs + 7) / 8 ≡ k + 1 = omega arith in
     let short : length rest ≤ 8 = omega arith in
     let pixels : packed_byte (take 8 (drop (8 * k) xs)) ≡ packed_byte last =
-    ap (λ (l : List ℕ). packed_byte (take 8 l)) (sym after) ∙ ap packed_byte (take_all 8 rest short) ∙ sym (bits_before_white 128 n rest) ∙ ap packed_byte (sym filled) in
+    ap (λ (l : List ℕ). packed_byte (take 8 l)) (sym after) ∙ ap packed_byte (take_all 8 rest short) ∙ sym (bits_before_white 128 n rest)
+    ∙ ap packed_byte (sym filled) in
     ap (λ (m : ℕ). packed_groups m xs) count ∙ groups_more k xs ∙ ap (λ (b : ℕ). packed_groups k xs ++ b ∷ []) pixels
 
 -- the byte of one group more was stored
-pub groups_step : (i count byte : ℕ) (xs room : List ℕ) → take i room ≡ packed_groups i xs → i < length room → count ≡ 8 → byte ≡ packed_byte (take count (drop (8 * i) xs)) → take (i + 1) (set room i byte) ≡ packed_groups (i + 1) xs
-groups_step i count byte xs room known below eight e =
-    take_more_set room i byte below ∙ ap₂ (λ (l : List ℕ) (b : ℕ). l ++ b ∷ []) known (e ∙ ap (λ (m : ℕ). packed_byte (take m (drop (8 * i) xs))) eight) ∙ sym (groups_more i xs)
+pub groups_step : (i count byte : ℕ) (xs buffer : List ℕ) → take i buffer ≡ packed_groups i xs → i < length buffer → count ≡ 8
+    → byte ≡ packed_byte (take count (drop (8 * i) xs)) → take (i + 1) (set buffer i byte) ≡ packed_groups (i + 1) xs
+groups_step i count byte xs buffer known below eight e =
+    take_more_set buffer i byte below ∙ ap₂ (λ (l : List ℕ) (b : ℕ). l ++ b ∷ []) known (e ∙ ap (λ (m : ℕ). packed_byte (take m (drop (8 * i) xs))) eight)
+    ∙ sym (groups_more i xs)
 
 -- the byte of a last group was stored after the whole groups
-pub last_step : (i k n byte : ℕ) (xs room rest last : List ℕ) → i ≡ k → take i room ≡ packed_groups i xs → k < length room → k ≡ length xs / 8 → rest ≡ drop (8 * k) xs → 0 < length rest → last ≡ rest ++ replicate n 1 → byte ≡ packed_byte last
-    → take (k + 1) (set room k byte) ≡ packed_bytes xs
-last_step i k n byte xs room rest last same known below e after some filled b =
-    take_more_set room k byte below
-    ∙ ap₂ (λ (l : List ℕ) (v : ℕ). l ++ v ∷ []) (ap (λ (m : ℕ). take m room) (sym same) ∙ known ∙ ap (λ (m : ℕ). packed_groups m xs) same) b
+pub last_step : (i k n byte : ℕ) (xs buffer rest last : List ℕ) → i ≡ k → take i buffer ≡ packed_groups i xs → k < length buffer → k ≡ length xs / 8
+    → rest ≡ drop (8 * k) xs → 0 < length rest → last ≡ rest ++ replicate n 1 → byte ≡ packed_byte last
+    → take (k + 1) (set buffer k byte) ≡ packed_bytes xs
+last_step i k n byte xs buffer rest last same known below e after some filled b =
+    take_more_set buffer k byte below
+    ∙ ap₂ (λ (l : List ℕ) (v : ℕ). l ++ v ∷ []) (ap (λ (m : ℕ). take m buffer) (sym same) ∙ known ∙ ap (λ (m : ℕ). packed_groups m xs) same) b
     ∙ sym (groups_and_last k n xs rest last e after some filled)
 
 pub length-packed_bytes : (pixels : List ℕ) → length (packed_bytes pixels) ≡ (length pixels + 7) / 8

@@ -1,8 +1,10 @@
 -- Pixels that are packed into bytes are read again: eight a byte, the last byte with spare bits.
-use Rattle.std.proofs.Common.{◌≡◌, ℕ, zero, suc, ◌+◌, ◌-◌, ◌*◌, ◌/◌, ◌%◌, ◌<◌, ◌≤◌, inl, inr, List, [], ◌∷◌, ◌++◌, length, take, drop, replicate, flat_map, All, refl, sym, ap, ap₂, ◌∙◌, arith}
+use Rattle.std.proofs.Common.{◌≡◌, ℕ, zero, suc, ◌+◌, ◌-◌, ◌*◌, ◌/◌, ◌%◌, ◌<◌, ◌≤◌, inl, inr, List, [], ◌∷◌, ◌++◌, length, take, drop, replicate, flat_map, All}
+use Rattle.std.proofs.Common.{refl, sym, ap, ap₂, ◌∙◌, arith}
 use Rattle.std.proofs.Math.Seq.{take-append-add}
 use Rattle.std.proofs.lemmas.Bool.{cases_lt}
-use Rattle.std.proofs.lemmas.List.{take_at, take-append-le, take-append-drop, take_all, length-append, length-replicate, length-drop, length-take, nil_from_length}
+use Rattle.std.proofs.lemmas.List.{take_at, take-append-le, take-append-drop, take_all, length-append, length-replicate, length-drop, length-take}
+use Rattle.std.proofs.lemmas.List.{nil_from_length}
 use Rattle.std.proofs.lemmas.List.Elements.{All-take, All-drop, All-append, All-replicate}
 use Rattle.pnm_samples.specs.Pixels.{pixels, packed_byte, packed_groups}
 use Rattle.pnm_samples.proofs.PackedBytes.{bits_before_white}
@@ -100,7 +102,8 @@ pixels_of_eight (a ∷ b ∷ c ∷ d ∷ e ∷ []) n p = absurd (omega arith)
 pixels_of_eight (a ∷ b ∷ c ∷ d ∷ e ∷ f ∷ []) n p = absurd (omega arith)
 pixels_of_eight (a ∷ b ∷ c ∷ d ∷ e ∷ f ∷ g ∷ []) n p = absurd (omega arith)
 pixels_of_eight (a ∷ b ∷ c ∷ d ∷ e ∷ f ∷ g ∷ h ∷ []) n p =
-    eight_pixels a b c d e f g h (p 0 0 (omega arith)) (p 1 0 (omega arith)) (p 2 0 (omega arith)) (p 3 0 (omega arith)) (p 4 0 (omega arith)) (p 5 0 (omega arith)) (p 6 0 (omega arith)) (p 7 0 (omega arith))
+    eight_pixels a b c d e f g h (p 0 0 (omega arith)) (p 1 0 (omega arith)) (p 2 0 (omega arith)) (p 3 0 (omega arith)) (p 4 0 (omega arith))
+    (p 5 0 (omega arith)) (p 6 0 (omega arith)) (p 7 0 (omega arith))
 pixels_of_eight (a ∷ b ∷ c ∷ d ∷ e ∷ f ∷ g ∷ h ∷ i ∷ xs) n p = absurd (omega arith)
 
 -- the pixels of a byte of up to eight: these, and white ones
@@ -123,15 +126,16 @@ last_group xs more short p =
     ∙ take_at xs (replicate (8 - length xs) 1) (length xs) refl
 
 -- a whole group, and those after it
-whole_group : (n : ℕ) (xs more : List ℕ) → length xs ≡ 8 + n → ArePixels xs → take n more ≡ drop 8 xs → take (length xs) (pixels (packed_byte (take 8 xs)) ++ more) ≡ xs
+whole_group : (n : ℕ) (xs more : List ℕ) → length xs ≡ 8 + n → ArePixels xs → take n more ≡ drop 8 xs
+    → take (length xs) (pixels (packed_byte (take 8 xs)) ++ more) ≡ xs
 whole_group n xs more count p rest =
-    let front : List ℕ = take 8 xs in
-    let eight : length front ≡ 8 = omega (arith, length-take 8 xs) in
-    let same : pixels (packed_byte front) ≡ front = pixels_of_eight front eight (All-take (λ sample. sample ≤ 1) 8 xs p) in
-    let length_is : length xs ≡ length front + n = omega arith in
+    let prefix : List ℕ = take 8 xs in
+    let eight : length prefix ≡ 8 = omega (arith, length-take 8 xs) in
+    let same : pixels (packed_byte prefix) ≡ prefix = pixels_of_eight prefix eight (All-take (λ sample. sample ≤ 1) 8 xs p) in
+    let length_is : length xs ≡ length prefix + n = omega arith in
     ap₂ (λ (m : ℕ) (l : List ℕ). take m (l ++ more)) length_is same
-    ∙ take-append-add front more n
-    ∙ ap (λ (l : List ℕ). front ++ l) rest
+    ∙ take-append-add prefix more n
+    ∙ ap (λ (l : List ℕ). prefix ++ l) rest
     ∙ take-append-drop 8 xs
 
 -- the pixels of so many groups, without those of spare bits
@@ -142,5 +146,6 @@ pixels_of_groups (suc count) xs few p = elim (cases_lt (length xs) 8) [
   | inr long ↦
       let rest : length (drop 8 xs) + 8 ≡ length xs = omega (arith, length-drop 8 xs) in
       let few_left : length (drop 8 xs) ≤ 8 * count = omega arith in
-      whole_group (length (drop 8 xs)) xs (flat_map pixels (packed_groups count (drop 8 xs))) (omega arith) p (pixels_of_groups count (drop 8 xs) few_left (All-drop (λ sample. sample ≤ 1) 8 xs p))
+      whole_group (length (drop 8 xs)) xs (flat_map pixels (packed_groups count (drop 8 xs))) (omega arith) p
+      (pixels_of_groups count (drop 8 xs) few_left (All-drop (λ sample. sample ≤ 1) 8 xs p))
 ]

@@ -1,9 +1,11 @@
 -- The bytes of the pixels of a row.
-use Rattle.std.proofs.Common.{◌≡◌, ℕ, zero, suc, ◌+◌, ◌-◌, ◌*◌, ◌/◌, ◌<◌, List, [], ◌∷◌, ◌++◌, length, true, eqb, take, drop, replicate, refl, sym, ap, ap₂, ◌∙◌, arith}
+use Rattle.std.proofs.Common.{◌≡◌, ℕ, zero, suc, ◌+◌, ◌-◌, ◌*◌, ◌/◌, ◌<◌, List, [], ◌∷◌, ◌++◌, length, true, eqb, take, drop, replicate, refl, sym, ap, ap₂}
+use Rattle.std.proofs.Common.{◌∙◌, arith}
 use Rattle.std.proofs.lemmas.Bool.{agree_below_at, eqb-true}
 use Rattle.std.proofs.lemmas.List.{take_all, drop_all, take_at, drop_at, take-append-drop}
 use Rattle.pnm_samples.specs.Pixels.{pixels, all_pixels, ArePacked, AreBytes, pixel_bits, packed_byte, packed_groups, packed_bytes}
-use Rattle.pnm_samples.proofs.PixelLaws.{length-pixels, length_of_packed}
+use Rattle.pnm_samples.proofs.PixelLaws.{length-pixels}
+use Rattle.pnm_samples.proofs.PixelRowLaws.{length_of_packed}
 
 -- the byte of the pixels of a byte
 byte_of_pixels : (b : ℕ) → b < 256 → packed_byte (pixels b) ≡ b
@@ -31,30 +33,34 @@ pub bits_before_white : (weight n : ℕ) (p : List ℕ) → pixel_bits weight (p
 bits_before_white weight n [] = white_bits weight n
 bits_before_white weight n (sample ∷ p) = ap (λ (k : ℕ). weight * (1 - sample) + k) (bits_before_white (weight / 2) n p)
 
--- a front, and the rest, of a list with white pixels at its end
+-- a prefix, and the rest, of a list with white pixels at its end
 take_white : (k n : ℕ) (p : List ℕ) → (m : ℕ) × (take k (p ++ replicate n 1) ≡ take k p ++ replicate m 1)
 take_white zero n p = (0, refl)
 take_white (suc k) zero [] = (0, refl)
-take_white (suc k) (suc n) [] = let later = take_white k n [] in (suc later.0, ap (λ (l : List ℕ). 1 ∷ l) (later.1 ∙ ap (λ (l : List ℕ). l ++ replicate later.0 1) (take_all k [] (omega arith))))
+take_white (suc k) (suc n) [] = let later = take_white k n [] in
+    (suc later.0, ap (λ (l : List ℕ). 1 ∷ l) (later.1 ∙ ap (λ (l : List ℕ). l ++ replicate later.0 1) (take_all k [] (omega arith))))
 take_white (suc k) n (s ∷ p) = let later = take_white k n p in (later.0, ap (λ (l : List ℕ). s ∷ l) later.1)
 
 drop_white : (k n : ℕ) (p : List ℕ) → (m : ℕ) × (drop k (p ++ replicate n 1) ≡ drop k p ++ replicate m 1)
 drop_white zero n p = (n, refl)
 drop_white (suc k) zero [] = (0, refl)
-drop_white (suc k) (suc n) [] = let later = drop_white k n [] in (later.0, later.1 ∙ ap (λ (l : List ℕ). l ++ replicate later.0 1) (drop_all k [] (omega arith)))
+drop_white (suc k) (suc n) [] = let later = drop_white k n [] in
+    (later.0, later.1 ∙ ap (λ (l : List ℕ). l ++ replicate later.0 1) (drop_all k [] (omega arith)))
 drop_white (suc k) n (s ∷ p) = drop_white k n p
 
 groups_before_white : (count n : ℕ) (p : List ℕ) → packed_groups count (p ++ replicate n 1) ≡ packed_groups count p
 groups_before_white zero n p = refl
 groups_before_white (suc count) n p =
-    let front = take_white 8 n p in let rest = drop_white 8 n p in
-    ap₂ (λ (x : ℕ) (l : List ℕ). x ∷ l) (ap packed_byte front.1 ∙ bits_before_white 128 front.0 (take 8 p))
+    let prefix = take_white 8 n p in let rest = drop_white 8 n p in
+    ap₂ (λ (x : ℕ) (l : List ℕ). x ∷ l) (ap packed_byte prefix.1 ∙ bits_before_white 128 prefix.0 (take 8 p))
     (ap (packed_groups count) rest.1 ∙ groups_before_white count rest.0 (drop 8 p))
 
 -- the bytes of a row's pixels are its bytes
-pub packed_view : (count : ℕ) (bytes value : List ℕ) → ArePacked count bytes → AreBytes bytes → take count (all_pixels bytes) ≡ value → bytes ≡ packed_bytes value
+pub packed_view : (count : ℕ) (bytes value : List ℕ) → ArePacked count bytes → AreBytes bytes → take count (all_pixels bytes) ≡ value
+    → bytes ≡ packed_bytes value
 packed_view count bytes value h fit is =
     let size : (length value + 7) / 8 ≡ length bytes = ap (λ (n : ℕ). (n + 7) / 8) (ap length (sym is) ∙ length_of_packed count bytes h) ∙ sym h.enough in
-    let parts : all_pixels bytes ≡ value ++ replicate (8 * length bytes - count) 1 = sym (take-append-drop count (all_pixels bytes)) ∙ ap₂ (λ (a b : List ℕ). a ++ b) is h.spare in
+    let parts : all_pixels bytes ≡ value ++ replicate (8 * length bytes - count) 1 = sym (take-append-drop count (all_pixels bytes))
+    ∙ ap₂ (λ (a b : List ℕ). a ++ b) is h.spare in
     sym (groups_of_bytes bytes fit) ∙ ap (packed_groups (length bytes)) parts ∙ groups_before_white (length bytes) (8 * length bytes - count) value
     ∙ ap (λ (n : ℕ). packed_groups n value) (sym size)

@@ -1,11 +1,15 @@
 -- The pixels of bytes.
-use Rattle.std.proofs.Common.{◌≡◌, ℕ, zero, suc, ◌+◌, ◌-◌, ◌*◌, ◌/◌, ◌%◌, ◌^◌, ◌<◌, ◌≤◌, List, [], ◌∷◌, ◌++◌, length, get_or, set, min, inl, inr, take, drop, map, replicate, refl, sym, ap, ap₂, ◌∙◌, arith, lit<, length-append, take-add, All}
+use Rattle.std.proofs.Common.{◌≡◌, ℕ, zero, suc, ◌+◌, ◌-◌, ◌*◌, ◌/◌, ◌%◌, ◌^◌, ◌<◌, ◌≤◌, List, [], ◌∷◌, ◌++◌, length, get_or, set, min, inl, inr, take, drop}
+use Rattle.std.proofs.Common.{map, replicate, refl, sym, ap, ap₂, ◌∙◌, arith, lit<, length-append, take-add}
 use Rattle.std.specs.Prelude.{bit_and}
 use Rattle.std.specs.Int.{bit_at, w8}
 use Rattle.std.proofs.lemmas.Nat.{shr-shr, shr_split}
 use Rattle.std.proofs.lemmas.Nat.Bits.{bit_at_not, bit_at-lt, bit_at_and, bit_at_cat_low, bit_at_cat_high, bit_at_mask_inside, bit_at_mask_below}
 use Rattle.std.proofs.lemmas.Bool.{cases_lt}
-use Rattle.std.proofs.lemmas.List.{map-append, append-nil, take_all, drop_all, ext_get_or, length-drop, length-take, length-replicate, get_or_append_left, get_or-append_right, get_or-drop, get_or-take, get_or-replicate, set_split, set-get_or, take_at, drop_at, length-set, drop-drop, drop-append-le, take-append-le, drop_more, take_more_set, drop-take, take-take, length-take-le, take-append-drop, append_assoc, take-map, get_or_default, take_min}
+use Rattle.std.proofs.lemmas.List.{map-append, append-nil, take_all, drop_all, ext_get_or, length-drop, length-take, length-replicate, get_or_append_left}
+use Rattle.std.proofs.lemmas.List.{get_or-append_right, get_or-drop, get_or-take, get_or-replicate, set_split, set-get_or, take_at, drop_at, length-set}
+use Rattle.std.proofs.lemmas.List.{drop-drop, drop-append-le, take-append-le, drop_more, take_more_set, drop-take, take-take, length-take-le, take-append-drop}
+use Rattle.std.proofs.lemmas.List.{append_assoc}
 use borrow.Rule.Slice.PartMut.{put_mid}
 use Rattle.std.proofs.lemmas.Grind.{flat_map-append}
 use Rattle.std.proofs.Math.Seq.{take-append-add, drop-append-add}
@@ -25,8 +29,12 @@ pub pixels_of_complement : (b : ℕ) → b < 2 ^ 8 → pixels (255 - b) ≡ map 
 unfolding pixels
 pixels_of_complement b fits =
     let at : (i : ℕ) → i < 8 → pixel_at i (255 - b) ≡ 1 - pixel_at i b = λ i below. complement_at b i fits below in
-    ap₂ (λ (x : ℕ) (l : List ℕ). x ∷ l) (at 7 (lit< tt)) (ap₂ (λ (x : ℕ) (l : List ℕ). x ∷ l) (at 6 (lit< tt)) (ap₂ (λ (x : ℕ) (l : List ℕ). x ∷ l) (at 5 (lit< tt)) (ap₂ (λ (x : ℕ) (l : List ℕ). x ∷ l) (at 4 (lit< tt))
-    (ap₂ (λ (x : ℕ) (l : List ℕ). x ∷ l) (at 3 (lit< tt)) (ap₂ (λ (x : ℕ) (l : List ℕ). x ∷ l) (at 2 (lit< tt)) (ap₂ (λ (x : ℕ) (l : List ℕ). x ∷ l) (at 1 (lit< tt)) (ap₂ (λ (x : ℕ) (l : List ℕ). x ∷ l) (at 0 (lit< tt)) refl)))))))
+    ap₂ (λ (x : ℕ) (l : List ℕ). x ∷ l) (at 7 (lit< tt))
+    (ap₂ (λ (x : ℕ) (l : List ℕ). x ∷ l) (at 6 (lit< tt))
+    (ap₂ (λ (x : ℕ) (l : List ℕ). x ∷ l) (at 5 (lit< tt)) (ap₂ (λ (x : ℕ) (l : List ℕ). x ∷ l) (at 4 (lit< tt))
+    (ap₂ (λ (x : ℕ) (l : List ℕ). x ∷ l) (at 3 (lit< tt))
+    (ap₂ (λ (x : ℕ) (l : List ℕ). x ∷ l) (at 2 (lit< tt))
+    (ap₂ (λ (x : ℕ) (l : List ℕ). x ∷ l) (at 1 (lit< tt)) (ap₂ (λ (x : ℕ) (l : List ℕ). x ∷ l) (at 0 (lit< tt)) refl)))))))
 
 -- ---- many bytes
 
@@ -86,9 +94,10 @@ window_pixels high low s fits lt =
     let left_count : length left ≡ 8 - s = omega (arith, length-drop s (pixels high), length-pixels high) in
     let right_count : length right ≡ s = omega (arith, length-take s (pixels low), length-pixels low) in
     pixels_by (n / 2 ^ (8 - s) % 256) (left ++ right) (omega (arith, length-append left right)) (λ i below.
-    let bit : pixel_at (7 - i) (n / 2 ^ (8 - s) % 256) ≡ 1 - bit_at n ((8 - s) + (7 - i)) = ap (λ (b : ℕ). 1 - b) (bit_of_window high low s (7 - i) lt (omega arith)) in
+    let bit : pixel_at (7 - i) (n / 2 ^ (8 - s) % 256) ≡ 1 - bit_at n ((8 - s) + (7 - i)) =
+    ap (λ (b : ℕ). 1 - b) (bit_of_window high low s (7 - i) lt (omega arith)) in
     elim (cases_lt i (8 - s)) [
-      | inl front ↦
+      | inl prefix ↦
           let place : (8 - s) + (7 - i) - 8 ≡ 7 - (s + i) = omega arith in
           get_or_append_left left right 0 i (omega arith) ∙ get_or-drop s (pixels high) i 0 ∙ get_or-pixels high (s + i) (omega arith)
           ∙ ap (λ (k : ℕ). pixel_at k high) (sym place)
@@ -96,7 +105,8 @@ window_pixels high low s fits lt =
           ∙ sym bit
       | inr back ↦
           let place : (8 - s) + (7 - i) ≡ 7 - (i - (8 - s)) = omega arith in
-          get_or-append_right left right (8 - s) i 0 left_count back ∙ get_or-take s (pixels low) (i - (8 - s)) 0 (omega arith) ∙ get_or-pixels low (i - (8 - s)) (omega arith)
+          get_or-append_right left right (8 - s) i 0 left_count back ∙ get_or-take s (pixels low) (i - (8 - s)) 0 (omega arith)
+          ∙ get_or-pixels low (i - (8 - s)) (omega arith)
           ∙ ap (λ (k : ℕ). pixel_at k low) (sym place)
           ∙ ap (λ (b : ℕ). 1 - b) (sym (bit_at_cat_low high 8 low ((8 - s) + (7 - i)) (omega arith)))
           ∙ sym bit
@@ -108,13 +118,14 @@ whitened_pixels b k fits lt =
     let mask = 2 ^ 8 - 2 ^ (8 - k) in
     let left = take k (pixels b) in
     let left_count : length left ≡ k = omega (arith, length-take k (pixels b), length-pixels b) in
-    pixels_by (bit_and b mask) (left ++ replicate (8 - k) 1) (omega (arith, length-append left (replicate (8 - k) 1), length-replicate {A = ℕ} (8 - k) 1)) (λ i below.
+    pixels_by (bit_and b mask) (left ++ replicate (8 - k) 1) (omega (arith, length-append left (replicate (8 - k) 1), length-replicate {A = ℕ} (8 - k) 1))
+    (λ i below.
     let bit : bit_at (bit_and b mask) (7 - i) ≡ min (bit_at b (7 - i)) (bit_at mask (7 - i)) = bit_at_and b mask (7 - i) in
     elim (cases_lt i k) [
-      | inl front ↦
+      | inl prefix ↦
           let one : bit_at mask (7 - i) ≡ 1 = bit_at_mask_inside (8 - k) 8 (7 - i) (omega arith) (omega arith) in
           let same : pixel_at (7 - i) b ≡ pixel_at (7 - i) (bit_and b mask) = omega (arith, bit, one, bit_at-lt b (7 - i)) in
-          get_or_append_left left (replicate (8 - k) 1) 0 i (omega arith) ∙ get_or-take k (pixels b) i 0 front ∙ get_or-pixels b i below ∙ same
+          get_or_append_left left (replicate (8 - k) 1) 0 i (omega arith) ∙ get_or-take k (pixels b) i 0 prefix ∙ get_or-pixels b i below ∙ same
       | inr back ↦
           let none : bit_at mask (7 - i) ≡ 0 = bit_at_mask_below (8 - k) 8 (7 - i) (omega arith) in
           let white : 1 ≡ pixel_at (7 - i) (bit_and b mask) = omega (arith, bit, none) in
@@ -129,19 +140,20 @@ all_pixels-append a b = flat_map-append pixels a b
 pub all_pixels-single : (b : ℕ) → all_pixels (b ∷ []) ≡ pixels b
 all_pixels-single b = append-nil (pixels b)
 
-pub all_pixels-push : (front : List ℕ) (b : ℕ) → all_pixels (front ++ b ∷ []) ≡ all_pixels front ++ pixels b
-all_pixels-push front b = all_pixels-append front (b ∷ []) ∙ ap (λ (l : List ℕ). all_pixels front ++ l) (all_pixels-single b)
+pub all_pixels-push : (prefix : List ℕ) (b : ℕ) → all_pixels (prefix ++ b ∷ []) ≡ all_pixels prefix ++ pixels b
+all_pixels-push prefix b = all_pixels-append prefix (b ∷ []) ∙ ap (λ (l : List ℕ). all_pixels prefix ++ l) (all_pixels-single b)
 
 -- so many pixels of all bytes but the last, and some of the last one
-pub take_at_end : (front : List ℕ) (b count r : ℕ) → count ≡ 8 * length front + r → take count (all_pixels (front ++ b ∷ [])) ≡ all_pixels front ++ take r (pixels b)
-take_at_end front b count r e =
-    let whole : count ≡ length (all_pixels front) + r = omega (arith, length-all_pixels front) in
-    ap₂ (λ (n : ℕ) (l : List ℕ). take n l) whole (all_pixels-push front b) ∙ take-append-add (all_pixels front) (pixels b) r
+pub take_at_end : (prefix : List ℕ) (b count r : ℕ) → count ≡ 8 * length prefix + r → take count (all_pixels (prefix ++ b ∷ [])) ≡ all_pixels prefix ++ take r
+    (pixels b)
+take_at_end prefix b count r e =
+    let whole : count ≡ length (all_pixels prefix) + r = omega (arith, length-all_pixels prefix) in
+    ap₂ (λ (n : ℕ) (l : List ℕ). take n l) whole (all_pixels-push prefix b) ∙ take-append-add (all_pixels prefix) (pixels b) r
 
-pub drop_at_end : (front : List ℕ) (b count r : ℕ) → count ≡ 8 * length front + r → drop count (all_pixels (front ++ b ∷ [])) ≡ drop r (pixels b)
-drop_at_end front b count r e =
-    let whole : count ≡ length (all_pixels front) + r = omega (arith, length-all_pixels front) in
-    ap₂ (λ (n : ℕ) (l : List ℕ). drop n l) whole (all_pixels-push front b) ∙ drop-append-add (all_pixels front) (pixels b) r
+pub drop_at_end : (prefix : List ℕ) (b count r : ℕ) → count ≡ 8 * length prefix + r → drop count (all_pixels (prefix ++ b ∷ [])) ≡ drop r (pixels b)
+drop_at_end prefix b count r e =
+    let whole : count ≡ length (all_pixels prefix) + r = omega (arith, length-all_pixels prefix) in
+    ap₂ (λ (n : ℕ) (l : List ℕ). drop n l) whole (all_pixels-push prefix b) ∙ drop-append-add (all_pixels prefix) (pixels b) r
 
 -- a list whose last element is written
 pub set_last : (xs : List ℕ) (n b : ℕ) → length xs ≡ n + 1 → set xs n b ≡ take n xs ++ b ∷ []
@@ -151,15 +163,22 @@ last_apart : (xs : List ℕ) (n d : ℕ) → length xs ≡ n + 1 → xs ≡ take
 last_apart xs n d count = sym (set-get_or xs n d) ∙ set_last xs n (get_or xs n d) count
 
 -- the last byte is written, and its first pixels stay
-module _ (bytes : List ℕ) (count byte : ℕ) (enough : length bytes ≡ (count + 7) / 8) (left : count / 8 < length bytes) (kept : pixels byte ≡ take (count % 8) (pixels (get_or bytes (count / 8) 0)) ++ replicate (8 - count % 8) 1) where
+module _ (bytes : List ℕ) (count byte : ℕ) (enough : length bytes ≡ (count + 7) / 8) (left : count / 8 < length bytes)
+    (kept : pixels byte ≡ take (count % 8) (pixels (get_or bytes (count / 8) 0)) ++ replicate (8 - count % 8) 1) where
   whole : ℕ
   whole = count / 8
 
-  front : List ℕ
-  front = take whole bytes
+  prefix : List ℕ
+  prefix = take whole bytes
 
-  split : (length bytes ≡ count / 8 + 1) × (length (take (count / 8) bytes) ≡ count / 8) × (count ≡ 8 * (count / 8) + count % 8) × (length (take (count % 8) (pixels (get_or bytes (count / 8) 0))) ≡ count % 8)
-  split = (omega arith, omega (arith, length-take (count / 8) bytes), omega arith, omega (arith, length-take (count % 8) (pixels (get_or bytes (count / 8) 0)), length-pixels (get_or bytes (count / 8) 0)))
+  split : (length bytes ≡ count / 8 + 1) × (length (take (count / 8) bytes) ≡ count / 8) × (count ≡ 8 * (count / 8) + count % 8)
+      × (length (take (count % 8) (pixels (get_or bytes (count / 8) 0))) ≡ count % 8)
+  split = (
+    omega arith,
+    omega (arith, length-take (count / 8) bytes),
+    omega arith,
+    omega (arith, length-take (count % 8) (pixels (get_or bytes (count / 8) 0)), length-pixels (get_or bytes (count / 8) 0)),
+  )
 
   pub whitened_keeps : take count (all_pixels (set bytes (count / 8) byte)) ≡ take count (all_pixels bytes)
   whitened_keeps =
@@ -177,7 +196,8 @@ module _ (bytes : List ℕ) (count byte : ℕ) (enough : length bytes ≡ (count
       let spare : 8 - r ≡ 8 * length (set bytes n byte) - count = omega (arith, length-set bytes n byte, split.0, split.2) in
       record {
         enough = length-set bytes n byte ∙ enough;
-        spare = ap (λ (l : List ℕ). drop count (all_pixels l)) (set_last bytes n byte split.0) ∙ drop_at_end f byte count r e ∙ ap (drop r) kept ∙ drop_at (take r (pixels b)) (replicate (8 - r) 1) r split.3 ∙ ap (λ (k : ℕ). replicate k 1) spare;
+        spare = ap (λ (l : List ℕ). drop count (all_pixels l)) (set_last bytes n byte split.0) ∙ drop_at_end f byte count r e ∙ ap (drop r) kept
+            ∙ drop_at (take r (pixels b)) (replicate (8 - r) 1) r split.3 ∙ ap (λ (k : ℕ). replicate k 1) spare;
       }
 
 -- no byte is left after whole bytes
@@ -206,7 +226,8 @@ take-all_pixels zero bytes = refl
 take-all_pixels (suc n) [] = take_all (8 * suc n) [] (omega arith)
 take-all_pixels (suc n) (b ∷ bytes) =
     let more : 8 * suc n ≡ length (pixels b) + 8 * n = omega (arith, length-pixels b) in
-    ap (λ (k : ℕ). take k (pixels b ++ all_pixels bytes)) more ∙ take-append-add (pixels b) (all_pixels bytes) (8 * n) ∙ ap (λ (l : List ℕ). pixels b ++ l) (take-all_pixels n bytes)
+    ap (λ (k : ℕ). take k (pixels b ++ all_pixels bytes)) more ∙ take-append-add (pixels b) (all_pixels bytes) (8 * n)
+    ∙ ap (λ (l : List ℕ). pixels b ++ l) (take-all_pixels n bytes)
 
 -- pixels after a number of bytes and some pixels
 pub drop_within : (n s skipped : ℕ) (bytes : List ℕ) → skipped ≡ 8 * n + s → drop skipped (all_pixels bytes) ≡ drop s (all_pixels (drop n bytes))
@@ -224,37 +245,44 @@ two_bytes x y rest s le =
     ∙ ap (λ (l : List ℕ). left ++ l) (take-append-le s (pixels y) (all_pixels rest) (omega (arith, length-pixels y)))
 
 -- eight pixels that lie in two bytes
-pub window_at : (bytes : List ℕ) (i s : ℕ) → i + 1 < length bytes → s ≤ 8 → take 8 (drop s (all_pixels (drop i bytes))) ≡ drop s (pixels (get_or bytes i 0)) ++ take s (pixels (get_or bytes (i + 1) 0))
+pub window_at : (bytes : List ℕ) (i s : ℕ) → i + 1 < length bytes → s ≤ 8 → take 8 (drop s (all_pixels (drop i bytes))) ≡ drop s (pixels (get_or bytes i 0))
+    ++ take s (pixels (get_or bytes (i + 1) 0))
 window_at bytes i s lt le =
     let x = get_or bytes i 0 in let y = get_or bytes (i + 1) 0 in
     ap (λ (l : List ℕ). take 8 (drop s (all_pixels l))) (drop_more bytes i 0 (omega arith) ∙ ap (λ (l : List ℕ). x ∷ l) (drop_more bytes (i + 1) 0 lt))
     ∙ two_bytes x y (drop (i + 1 + 1) bytes) s le
 
 -- pixels that lie in one byte
-pub window_in_last : (bytes : List ℕ) (i s n : ℕ) → length bytes ≡ i + 1 → s + n ≤ 8 → take n (drop s (all_pixels (drop i bytes))) ≡ take n (drop s (pixels (get_or bytes i 0)))
+pub window_in_last : (bytes : List ℕ) (i s n : ℕ) → length bytes ≡ i + 1 → s + n ≤ 8
+    → take n (drop s (all_pixels (drop i bytes))) ≡ take n (drop s (pixels (get_or bytes i 0)))
 window_in_last bytes i s n last le =
     let x = get_or bytes i 0 in
     ap (λ (l : List ℕ). take n (drop s (all_pixels l))) (drop_more bytes i 0 (omega arith) ∙ ap (λ (l : List ℕ). x ∷ l) (drop_all (i + 1) bytes (omega arith)))
     ∙ ap (λ (l : List ℕ). take n (drop s l)) (append-nil (pixels x))
 
 -- one byte more was filled
-pub shift_step : (room part : List ℕ) (i s byte : ℕ) → i < length room → i + 1 < length part → s < 8 → all_pixels (take i room) ≡ take (8 * i) (drop s (all_pixels part)) → pixels byte ≡ drop s (pixels (get_or part i 0)) ++ take s (pixels (get_or part (i + 1) 0))
-    → all_pixels (take (i + 1) (set room i byte)) ≡ take (8 * (i + 1)) (drop s (all_pixels part))
-shift_step room part i s byte lt within below known e =
+pub shift_step : (buffer part : List ℕ) (i s byte : ℕ) → i < length buffer → i + 1 < length part → s < 8
+    → all_pixels (take i buffer) ≡ take (8 * i) (drop s (all_pixels part))
+    → pixels byte ≡ drop s (pixels (get_or part i 0)) ++ take s (pixels (get_or part (i + 1) 0))
+    → all_pixels (take (i + 1) (set buffer i byte)) ≡ take (8 * (i + 1)) (drop s (all_pixels part))
+shift_step buffer part i s byte lt within below known e =
     let whole = drop s (all_pixels part) in
-    let later : drop (8 * i) whole ≡ drop s (all_pixels (drop i part)) = drop-drop (8 * i) s (all_pixels part) ∙ drop_within i s (s + 8 * i) part (omega arith) in
-    ap all_pixels (take_more_set room i byte lt) ∙ all_pixels-push (take i room) byte
+    let later : drop (8 * i) whole ≡ drop s (all_pixels (drop i part)) = drop-drop (8 * i) s (all_pixels part)
+    ∙ drop_within i s (s + 8 * i) part (omega arith) in
+    ap all_pixels (take_more_set buffer i byte lt) ∙ all_pixels-push (take i buffer) byte
     ∙ ap₂ (λ (l r : List ℕ). l ++ r) known (e ∙ sym (window_at part i s (omega arith) (omega arith)) ∙ ap (take 8) (sym later))
     ∙ sym (take-add (8 * i) 8 whole) ∙ ap (λ (k : ℕ). take k whole) (omega arith)
 
 -- a run that begins with a byte
-pub aligned_run : (from : List ℕ) (start n m : ℕ) → start % 8 ≡ 0 → m ≡ n → all_pixels (take m (drop (start / 8) from)) ≡ take (8 * n) (drop start (all_pixels from))
+pub aligned_run : (from : List ℕ) (start n m : ℕ) → start % 8 ≡ 0 → m ≡ n
+    → all_pixels (take m (drop (start / 8) from)) ≡ take (8 * n) (drop start (all_pixels from))
 aligned_run from start n m aligned e =
     ap (λ (k : ℕ). all_pixels (take k (drop (start / 8) from))) e ∙ sym (take-all_pixels n (drop (start / 8) from))
     ∙ ap (take (8 * n)) (sym (drop_within (start / 8) 0 start from (omega arith)))
 
 -- a run that begins inside a byte
-pub shifted_run : (from : List ℕ) (start n m : ℕ) → m ≡ n + 1 → take (8 * n) (drop (start % 8) (all_pixels (take m (drop (start / 8) from)))) ≡ take (8 * n) (drop start (all_pixels from))
+pub shifted_run : (from : List ℕ) (start n m : ℕ) → m ≡ n + 1 → take (8 * n) (drop (start % 8) (all_pixels (take m (drop (start / 8) from))))
+    ≡ take (8 * n) (drop start (all_pixels from))
 shifted_run from start n m e =
     let s = start % 8 in let rest = drop (start / 8) from in let more = 8 * n + (8 - s) in
     let within : s < 8 = omega arith in
@@ -266,14 +294,17 @@ shifted_run from start n m e =
     ∙ ap (take (8 * n)) (sym (drop_within (start / 8) s start from (omega arith)))
 
 -- a byte after so many pixels, of two bytes or of the last one
-pub byte_of_two : (bytes : List ℕ) (skipped low byte n : ℕ) → skipped / 8 + 1 < length bytes → low ≡ get_or bytes (skipped / 8 + 1) 0 → pixels byte ≡ drop (skipped % 8) (pixels (get_or bytes (skipped / 8) 0)) ++ take (skipped % 8) (pixels low) → n ≤ 8
+pub byte_of_two : (bytes : List ℕ) (skipped low byte n : ℕ) → skipped / 8 + 1 < length bytes → low ≡ get_or bytes (skipped / 8 + 1) 0
+    → pixels byte ≡ drop (skipped % 8) (pixels (get_or bytes (skipped / 8) 0)) ++ take (skipped % 8) (pixels low) → n ≤ 8
     → take n (pixels byte) ≡ take n (drop skipped (all_pixels bytes))
 byte_of_two bytes skipped low byte n lt is known le =
     let at = skipped / 8 in let s = skipped % 8 in let run = drop s (all_pixels (drop at bytes)) in
-    let window : pixels byte ≡ take 8 run = known ∙ ap (λ (k : ℕ). drop s (pixels (get_or bytes at 0)) ++ take s (pixels k)) is ∙ sym (window_at bytes at s lt (omega arith)) in
+    let window : pixels byte ≡ take 8 run = known ∙ ap (λ (k : ℕ). drop s (pixels (get_or bytes at 0)) ++ take s (pixels k)) is
+    ∙ sym (window_at bytes at s lt (omega arith)) in
     ap (take n) window ∙ take-take n 8 run le ∙ ap (take n) (sym (drop_within at s skipped bytes (omega arith)))
 
-pub byte_of_last : (bytes : List ℕ) (skipped low byte n : ℕ) → length bytes ≡ skipped / 8 + 1 → pixels byte ≡ drop (skipped % 8) (pixels (get_or bytes (skipped / 8) 0)) ++ take (skipped % 8) (pixels low) → skipped + n ≤ 8 * length bytes
+pub byte_of_last : (bytes : List ℕ) (skipped low byte n : ℕ) → length bytes ≡ skipped / 8 + 1
+    → pixels byte ≡ drop (skipped % 8) (pixels (get_or bytes (skipped / 8) 0)) ++ take (skipped % 8) (pixels low) → skipped + n ≤ 8 * length bytes
     → take n (pixels byte) ≡ take n (drop skipped (all_pixels bytes))
 byte_of_last bytes skipped low byte n last known le =
     let at = skipped / 8 in let s = skipped % 8 in let x = get_or bytes at 0 in
@@ -281,44 +312,52 @@ byte_of_last bytes skipped low byte n last known le =
     ∙ sym (window_in_last bytes at s n last (omega arith)) ∙ ap (take n) (sym (drop_within at s skipped bytes (omega arith)))
 
 -- a run of whole bytes, and some pixels of one byte more
-pub run_filled : (from room filled : List ℕ) (start count byte : ℕ) → length room ≡ (count + 7) / 8 → count / 8 < length (filled ++ drop (count / 8) room) → length filled ≡ count / 8 → all_pixels filled ≡ take (8 * (count / 8)) (drop start (all_pixels from))
-    → take (count % 8) (pixels byte) ≡ take (count % 8) (drop (start + 8 * (count / 8)) (all_pixels from)) → take count (all_pixels (set (filled ++ drop (count / 8) room) (count / 8) byte)) ≡ take count (drop start (all_pixels from))
-run_filled from room filled start count byte enough lt counted known last =
+pub run_filled : (from buffer filled : List ℕ) (start count byte : ℕ) → length buffer ≡ (count + 7) / 8 → count / 8 < length (filled ++ drop (count / 8) buffer)
+    → length filled ≡ count / 8 → all_pixels filled ≡ take (8 * (count / 8)) (drop start (all_pixels from))
+    → take (count % 8) (pixels byte) ≡ take (count % 8) (drop (start + 8 * (count / 8)) (all_pixels from))
+    → take count (all_pixels (set (filled ++ drop (count / 8) buffer) (count / 8) byte)) ≡ take count (drop start (all_pixels from))
+run_filled from buffer filled start count byte enough lt counted known last =
     let n = count / 8 in let r = count % 8 in let run = drop start (all_pixels from) in
-    let sizes : length (filled ++ drop n room) ≡ n + 1 = omega (arith, length-append filled (drop n room), length-drop n room) in
-    let stored : set (filled ++ drop n room) n byte ≡ filled ++ byte ∷ [] = set_last (filled ++ drop n room) n byte sizes ∙ ap (λ (l : List ℕ). l ++ byte ∷ []) (take_at filled (drop n room) n counted) in
+    let sizes : length (filled ++ drop n buffer) ≡ n + 1 = omega (arith, length-append filled (drop n buffer), length-drop n buffer) in
+    let stored : set (filled ++ drop n buffer) n byte ≡ filled ++ byte ∷ [] = set_last (filled ++ drop n buffer) n byte sizes
+    ∙ ap (λ (l : List ℕ). l ++ byte ∷ []) (take_at filled (drop n buffer) n counted) in
     ap (λ (l : List ℕ). take count (all_pixels l)) stored ∙ take_at_end filled byte count r (omega arith)
     ∙ ap₂ (λ (a b : List ℕ). a ++ b) known (last ∙ ap (take r) (sym (drop-drop (8 * n) start (all_pixels from))))
     ∙ sym (take-add (8 * n) r run) ∙ ap (λ (k : ℕ). take k run) (omega arith)
 
-pub run_of_whole_bytes : (from room filled : List ℕ) (start count : ℕ) → length room ≡ (count + 7) / 8 → length (filled ++ drop (count / 8) room) ≤ count / 8 → length filled ≡ count / 8 → all_pixels filled ≡ take (8 * (count / 8)) (drop start (all_pixels from))
-    → take count (all_pixels (filled ++ drop (count / 8) room)) ≡ take count (drop start (all_pixels from))
-run_of_whole_bytes from room filled start count enough le counted known =
+pub run_of_whole_bytes : (from buffer filled : List ℕ) (start count : ℕ) → length buffer ≡ (count + 7) / 8
+    → length (filled ++ drop (count / 8) buffer) ≤ count / 8 → length filled ≡ count / 8
+    → all_pixels filled ≡ take (8 * (count / 8)) (drop start (all_pixels from))
+    → take count (all_pixels (filled ++ drop (count / 8) buffer)) ≡ take count (drop start (all_pixels from))
+run_of_whole_bytes from buffer filled start count enough le counted known =
     let n = count / 8 in
-    let none : drop n room ≡ [] = drop_all n room (omega (arith, length-append filled (drop n room), length-drop n room)) in
-    let whole : 8 * n ≡ count = omega (arith, length-append filled (drop n room), length-drop n room) in
-    let front : length (all_pixels filled) ≤ count = omega (arith, length-all_pixels filled) in
+    let none : drop n buffer ≡ [] = drop_all n buffer (omega (arith, length-append filled (drop n buffer), length-drop n buffer)) in
+    let whole : 8 * n ≡ count = omega (arith, length-append filled (drop n buffer), length-drop n buffer) in
+    let prefix : length (all_pixels filled) ≤ count = omega (arith, length-all_pixels filled) in
     ap (λ (l : List ℕ). take count (all_pixels (filled ++ l))) none ∙ ap (λ (l : List ℕ). take count (all_pixels l)) (append-nil filled)
-    ∙ take_all count (all_pixels filled) front ∙ known ∙ ap (λ (k : ℕ). take k (drop start (all_pixels from))) whole
+    ∙ take_all count (all_pixels filled) prefix ∙ known ∙ ap (λ (k : ℕ). take k (drop start (all_pixels from))) whole
 
 -- ---- pixels after those that are held
 
 -- a part up to the end was written
 pub written_to_end : (a : ℕ) (xs ys : List ℕ) → put_mid a (length xs - a) xs ys ≡ take a xs ++ ys
-written_to_end a xs ys = ap (λ (l : List ℕ). take a xs ++ (ys ++ l)) (drop_all (length xs - a) (drop a xs) (omega (arith, length-drop a xs))) ∙ ap (λ (l : List ℕ). take a xs ++ l) (append-nil ys)
+written_to_end a xs ys = ap (λ (l : List ℕ). take a xs ++ (ys ++ l)) (drop_all (length xs - a) (drop a xs) (omega (arith, length-drop a xs)))
+    ∙ ap (λ (l : List ℕ). take a xs ++ l) (append-nil ys)
 
 -- after whole bytes
-pub placed_after_bytes : (room from filled : List ℕ) (held start count : ℕ) → held % 8 ≡ 0 → length room ≡ (held + count + 7) / 8 → take count (all_pixels filled) ≡ take count (drop start (all_pixels from))
-    → take (held + count) (all_pixels (put_mid (held / 8) (length room - held / 8) room filled)) ≡ take held (all_pixels room) ++ take count (drop start (all_pixels from))
-placed_after_bytes room from filled held start count aligned enough known =
-    let n = held / 8 in let front = take n room in
-    let size : length front ≡ n = length-take-le n room (omega arith) in
-    let whole : held + count ≡ length (all_pixels front) + count = omega (arith, length-all_pixels front) in
+pub placed_after_bytes : (buffer from filled : List ℕ) (held start count : ℕ) → held % 8 ≡ 0 → length buffer ≡ (held + count + 7) / 8
+    → take count (all_pixels filled) ≡ take count (drop start (all_pixels from))
+    → take (held + count) (all_pixels (put_mid (held / 8) (length buffer - held / 8) buffer filled)) ≡ take held (all_pixels buffer) ++ take count
+    (drop start (all_pixels from))
+placed_after_bytes buffer from filled held start count aligned enough known =
+    let n = held / 8 in let prefix = take n buffer in
+    let size : length prefix ≡ n = length-take-le n buffer (omega arith) in
+    let whole : held + count ≡ length (all_pixels prefix) + count = omega (arith, length-all_pixels prefix) in
     let bytes : 8 * n ≡ held = omega arith in
-    ap (λ (l : List ℕ). take (held + count) (all_pixels l)) (written_to_end n room filled)
-    ∙ ap₂ (λ (k : ℕ) (l : List ℕ). take k l) whole (all_pixels-append front filled)
-    ∙ take-append-add (all_pixels front) (all_pixels filled) count
-    ∙ ap₂ (λ (a b : List ℕ). a ++ b) (sym (take-all_pixels n room) ∙ ap (λ (k : ℕ). take k (all_pixels room)) bytes) known
+    ap (λ (l : List ℕ). take (held + count) (all_pixels l)) (written_to_end n buffer filled)
+    ∙ ap₂ (λ (k : ℕ) (l : List ℕ). take k l) whole (all_pixels-append prefix filled)
+    ∙ take-append-add (all_pixels prefix) (all_pixels filled) count
+    ∙ ap₂ (λ (a b : List ℕ). a ++ b) (sym (take-all_pixels n buffer) ∙ ap (λ (k : ℕ). take k (all_pixels buffer)) bytes) known
 
 -- the first pixels of a byte, which were moved to the right
 moved_right : (b used : ℕ) → used ≤ 8 → drop (8 - used) (pixels (b / 2 ^ (8 - used))) ≡ take used (pixels b)
@@ -334,115 +373,71 @@ moved_right b used le =
     ∙ sym (get_or-pixels b i (omega arith)) ∙ sym (get_or-take used (pixels b) i 0 inside))
 
 -- the byte that isn't full is filled up
-pub filled_up : (x y byte used : ℕ) → used < 8 → pixels byte ≡ drop (8 - used) (pixels (x / 2 ^ (8 - used))) ++ take (8 - used) (pixels y) → pixels byte ≡ take used (pixels x) ++ take (8 - used) (pixels y)
+pub filled_up : (x y byte used : ℕ) → used < 8 → pixels byte ≡ drop (8 - used) (pixels (x / 2 ^ (8 - used))) ++ take (8 - used) (pixels y)
+    → pixels byte ≡ take used (pixels x) ++ take (8 - used) (pixels y)
 filled_up x y byte used lt known = known ∙ ap (λ (l : List ℕ). l ++ take (8 - used) (pixels y)) (moved_right x used (omega arith))
 
 -- pixels of bytes with one byte apart
-take_across : (front rest : List ℕ) (b count more : ℕ) → count ≡ 8 * length front + more → take count (all_pixels (front ++ b ∷ rest)) ≡ all_pixels front ++ take more (pixels b ++ all_pixels rest)
-take_across front rest b count more e =
-    let whole : count ≡ length (all_pixels front) + more = omega (arith, length-all_pixels front) in
-    ap₂ (λ (n : ℕ) (l : List ℕ). take n l) whole (all_pixels-append front (b ∷ rest)) ∙ take-append-add (all_pixels front) (pixels b ++ all_pixels rest) more
+take_across : (prefix rest : List ℕ) (b count more : ℕ) → count ≡ 8 * length prefix + more → take count (all_pixels (prefix ++ b ∷ rest)) ≡ all_pixels prefix
+    ++ take more (pixels b ++ all_pixels rest)
+take_across prefix rest b count more e =
+    let whole : count ≡ length (all_pixels prefix) + more = omega (arith, length-all_pixels prefix) in
+    ap₂ (λ (n : ℕ) (l : List ℕ). take n l) whole (all_pixels-append prefix (b ∷ rest)) ∙ take-append-add (all_pixels prefix) (pixels b ++ all_pixels rest) more
 
 -- the pixels that are held, where the last of them lie in one byte
-pub held_before : (room : List ℕ) (held : ℕ) → held / 8 < length room → take held (all_pixels room) ≡ all_pixels (take (held / 8) room) ++ take (held % 8) (pixels (get_or room (held / 8) 0))
-held_before room held lt =
-    let n = held / 8 in let r = held % 8 in let front = take n room in let x = get_or room n 0 in let rest = drop (n + 1) room in
-    let size : length front ≡ n = length-take-le n room (omega arith) in
-    let parts : room ≡ front ++ x ∷ rest = sym (take-append-drop n room) ∙ ap (λ (l : List ℕ). front ++ l) (drop_more room n 0 lt) in
-    ap (λ (l : List ℕ). take held (all_pixels l)) parts ∙ take_across front rest x held r (omega arith)
-    ∙ ap (λ (l : List ℕ). all_pixels front ++ l) (take-append-le r (pixels x) (all_pixels rest) (omega (arith, length-pixels x)))
+pub held_before : (buffer : List ℕ) (held : ℕ) → held / 8 < length buffer → take held (all_pixels buffer) ≡ all_pixels (take (held / 8) buffer)
+    ++ take (held % 8) (pixels (get_or buffer (held / 8) 0))
+held_before buffer held lt =
+    let n = held / 8 in let r = held % 8 in let prefix = take n buffer in let x = get_or buffer n 0 in let rest = drop (n + 1) buffer in
+    let size : length prefix ≡ n = length-take-le n buffer (omega arith) in
+    let parts : buffer ≡ prefix ++ x ∷ rest = sym (take-append-drop n buffer) ∙ ap (λ (l : List ℕ). prefix ++ l) (drop_more buffer n 0 lt) in
+    ap (λ (l : List ℕ). take held (all_pixels l)) parts ∙ take_across prefix rest x held r (omega arith)
+    ∙ ap (λ (l : List ℕ). all_pixels prefix ++ l) (take-append-le r (pixels x) (all_pixels rest) (omega (arith, length-pixels x)))
 
 -- into the byte that isn't full, and beyond it
-module _ (room from : List ℕ) (held start count byte y : ℕ) (some : 0 < held % 8) (enough : length room ≡ (held + count + 7) / 8) (lt : held / 8 < length room)
-    (known : pixels byte ≡ take (held % 8) (pixels (get_or room (held / 8) 0)) ++ take (8 - held % 8) (pixels y))
+module _ (buffer from : List ℕ) (held start count byte y : ℕ) (some : 0 < held % 8) (enough : length buffer ≡ (held + count + 7) / 8)
+    (lt : held / 8 < length buffer)
+    (known : pixels byte ≡ take (held % 8) (pixels (get_or buffer (held / 8) 0)) ++ take (8 - held % 8) (pixels y))
     (first : (n : ℕ) → n ≤ 8 → start + n ≤ 8 * length from → take n (pixels y) ≡ take n (drop start (all_pixels from)))
     (within : start + count ≤ 8 * length from) where
-  pub placed_beyond : (filled : List ℕ) → 8 - held % 8 < count → take (count - (8 - held % 8)) (all_pixels filled) ≡ take (count - (8 - held % 8)) (drop (start + (8 - held % 8)) (all_pixels from))
-      → take (held + count) (all_pixels (put_mid (held / 8 + 1) (length (set room (held / 8) byte) - (held / 8 + 1)) (set room (held / 8) byte) filled)) ≡ take held (all_pixels room) ++ take count (drop start (all_pixels from))
+  pub placed_beyond : (filled : List ℕ) → 8 - held % 8 < count → take (count - (8 - held % 8)) (all_pixels filled) ≡ take (count - (8 - held % 8))
+      (drop (start + (8 - held % 8)) (all_pixels from))
+      → take (held + count) (all_pixels (put_mid (held / 8 + 1) (length (set buffer (held / 8) byte) - (held / 8 + 1)) (set buffer (held / 8) byte) filled))
+      ≡ take held (all_pixels buffer) ++ take count (drop start (all_pixels from))
   placed_beyond filled more rest =
-      let n = held / 8 in let r = held % 8 in let free = 8 - r in let front = take n room in let x = get_or room n 0 in let run = drop start (all_pixels from) in
-      let size : length front ≡ n = length-take-le n room (omega arith) in
-      let stored : take (n + 1) (set room n byte) ≡ front ++ byte ∷ [] = take_more_set room n byte lt in
+      let n = held / 8 in let r = held % 8 in let free = 8 - r in let prefix = take n buffer in let x = get_or buffer n 0 in let run =
+      drop start (all_pixels from) in
+      let size : length prefix ≡ n = length-take-le n buffer (omega arith) in
+      let stored : take (n + 1) (set buffer n byte) ≡ prefix ++ byte ∷ [] = take_more_set buffer n byte lt in
       let over : r + count ≡ length (pixels byte) + (count - free) = omega (arith, length-pixels byte) in
       let whole : free + (count - free) ≡ count = omega arith in
-      ap (λ (l : List ℕ). take (held + count) (all_pixels l)) (written_to_end (n + 1) (set room n byte) filled ∙ ap (λ (l : List ℕ). l ++ filled) stored ∙ append_assoc front (byte ∷ []) filled)
-      ∙ take_across front filled byte (held + count) (r + count) (omega arith)
-      ∙ ap (λ (l : List ℕ). all_pixels front ++ l)
+      ap (λ (l : List ℕ). take (held + count) (all_pixels l)) (written_to_end (n + 1) (set buffer n byte) filled ∙ ap (λ (l : List ℕ). l ++ filled) stored
+      ∙ append_assoc prefix (byte ∷ []) filled)
+      ∙ take_across prefix filled byte (held + count) (r + count) (omega arith)
+      ∙ ap (λ (l : List ℕ). all_pixels prefix ++ l)
       (ap (λ (k : ℕ). take k (pixels byte ++ all_pixels filled)) over ∙ take-append-add (pixels byte) (all_pixels filled) (count - free)
-      ∙ ap₂ (λ (a b : List ℕ). a ++ b) known rest ∙ append_assoc (take r (pixels x)) (take free (pixels y)) (take (count - free) (drop (start + free) (all_pixels from)))
+      ∙ ap₂ (λ (a b : List ℕ). a ++ b) known rest
+      ∙ append_assoc (take r (pixels x)) (take free (pixels y)) (take (count - free) (drop (start + free) (all_pixels from)))
       ∙ ap (λ (l : List ℕ). take r (pixels x) ++ l)
       (ap₂ (λ (a b : List ℕ). a ++ take (count - free) b) (first free (omega arith) (omega arith)) (sym (drop-drop free start (all_pixels from)))
       ∙ sym (take-add free (count - free) run) ∙ ap (λ (k : ℕ). take k run) whole))
-      ∙ sym (append_assoc (all_pixels front) (take r (pixels x)) (take count run))
-      ∙ ap (λ (l : List ℕ). l ++ take count run) (sym (held_before room held lt))
+      ∙ sym (append_assoc (all_pixels prefix) (take r (pixels x)) (take count run))
+      ∙ ap (λ (l : List ℕ). l ++ take count run) (sym (held_before buffer held lt))
 
-  pub placed_in_byte : count ≤ 8 - held % 8 → take (held + count) (all_pixels (set room (held / 8) byte)) ≡ take held (all_pixels room) ++ take count (drop start (all_pixels from))
+  pub placed_in_byte : count ≤ 8 - held % 8 → take (held + count) (all_pixels (set buffer (held / 8) byte)) ≡ take held (all_pixels buffer) ++ take count
+      (drop start (all_pixels from))
   placed_in_byte few =
-      let n = held / 8 in let r = held % 8 in let free = 8 - r in let front = take n room in let x = get_or room n 0 in let run = drop start (all_pixels from) in let tail = drop (suc n) room in
-      let size : length front ≡ n = length-take-le n room (omega arith) in
+      let n = held / 8 in let r = held % 8 in let free = 8 - r in let prefix = take n buffer in let x = get_or buffer n 0 in let run =
+      drop start (all_pixels from) in let tail = drop (suc n) buffer in
+      let size : length prefix ≡ n = length-take-le n buffer (omega arith) in
       let fits : r + count ≤ length (pixels byte) = omega (arith, length-pixels byte) in
       let left : length (take r (pixels x)) ≡ r = omega (arith, length-take r (pixels x), length-pixels x) in
       let over : r + count ≡ length (take r (pixels x)) + count = omega arith in
-      ap (λ (l : List ℕ). take (held + count) (all_pixels l)) (set_split room n byte lt)
-      ∙ take_across front tail byte (held + count) (r + count) (omega arith)
-      ∙ ap (λ (l : List ℕ). all_pixels front ++ l)
+      ap (λ (l : List ℕ). take (held + count) (all_pixels l)) (set_split buffer n byte lt)
+      ∙ take_across prefix tail byte (held + count) (r + count) (omega arith)
+      ∙ ap (λ (l : List ℕ). all_pixels prefix ++ l)
       (take-append-le (r + count) (pixels byte) (all_pixels tail) fits ∙ ap₂ (λ (k : ℕ) (l : List ℕ). take k l) over known
       ∙ take-append-add (take r (pixels x)) (take free (pixels y)) count
       ∙ ap (λ (l : List ℕ). take r (pixels x) ++ l) (take-take count free (pixels y) few ∙ first count (omega arith) within))
-      ∙ sym (append_assoc (all_pixels front) (take r (pixels x)) (take count run))
-      ∙ ap (λ (l : List ℕ). l ++ take count run) (sym (held_before room held lt))
-
--- ---- a row
-
--- the pixels of a row are as many as it says
-pub length_of_packed : (count : ℕ) (bytes : List ℕ) → ArePacked count bytes → length (take count (all_pixels bytes)) ≡ count
-length_of_packed count bytes h = omega (arith, length-take count (all_pixels bytes), length-all_pixels bytes, h.enough)
-
--- a row that was inverted
-pub inverted_view : (count : ℕ) (bytes complement cleared value : List ℕ) → take count (all_pixels cleared) ≡ take count (all_pixels complement) → all_pixels complement ≡ map (λ s. 1 - s) (all_pixels bytes) → take count (all_pixels bytes) ≡ value
-    → take count (all_pixels cleared) ≡ map (λ s. 1 - s) value
-inverted_view count bytes complement cleared value kept known is =
-    kept ∙ ap (take count) known ∙ take-map (λ s. 1 - s) count (all_pixels bytes) ∙ ap (map (λ s. 1 - s)) is
-
--- a run of a row
-pub run_of_row : (from value : List ℕ) (start count held : ℕ) → start + count ≤ held → take held (all_pixels from) ≡ value → take count (drop start (all_pixels from)) ≡ take count (drop start value)
-run_of_row from value start count held within is =
-    let rest = held - start in
-    let whole : start + rest ≡ held = omega arith in
-    sym (take-take count rest (drop start (all_pixels from)) (omega arith))
-    ∙ ap (take count) (sym (drop-take start rest (all_pixels from)) ∙ ap (λ (k : ℕ). drop start (take k (all_pixels from))) whole ∙ ap (drop start) is)
-
--- a row with a run of another one appended
-pub appended_view : (held start count other : ℕ) (bytes grown placed cleared from value run : List ℕ) → take (held + count) (all_pixels cleared) ≡ take (held + count) (all_pixels placed)
-    → take (held + count) (all_pixels placed) ≡ take held (all_pixels grown) ++ take count (drop start (all_pixels from)) → (rest : List ℕ) → grown ≡ bytes ++ rest → held ≤ 8 * length bytes → take held (all_pixels bytes) ≡ value
-    → start + count ≤ other → take other (all_pixels from) ≡ run → take (held + count) (all_pixels cleared) ≡ value ++ take count (drop start run)
-appended_view held start count other bytes grown placed cleared from value run kept known rest more enough is within of =
-    let front : take held (all_pixels grown) ≡ value = ap (λ (l : List ℕ). take held (all_pixels l)) more ∙ ap (take held) (all_pixels-append bytes rest) ∙ take-append-le held (all_pixels bytes) (all_pixels rest) (omega (arith, length-all_pixels bytes)) ∙ is in
-    kept ∙ known ∙ ap₂ (λ (a b : List ℕ). a ++ b) front (run_of_row from run start count other within of)
-
--- ---- a pixel of a row
-
-pub pixel_of_row : (count at : ℕ) (bytes value : List ℕ) → at < count → ArePacked count bytes → take count (all_pixels bytes) ≡ value → get_or value at 0 ≡ pixel_at (7 - at % 8) (get_or bytes (at / 8) 0)
-pixel_of_row count at bytes value lt h is =
-    let n = at / 8 in let r = at % 8 in let x = get_or bytes n 0 in let rest = all_pixels (drop (n + 1) bytes) in
-    let inside : n < length bytes = omega (arith, h.enough) in
-    let place : at ≡ 8 * n + r = omega arith in
-    ap (λ (l : List ℕ). get_or l at 0) (sym is) ∙ get_or-take count (all_pixels bytes) at 0 lt ∙ ap (λ (k : ℕ). get_or (all_pixels bytes) k 0) place
-    ∙ sym (get_or-drop (8 * n) (all_pixels bytes) r 0)
-    ∙ ap (λ (l : List ℕ). get_or l r 0) (drop-all_pixels n bytes ∙ ap all_pixels (drop_more bytes n 0 inside))
-    ∙ get_or_append_left (pixels x) rest 0 r (omega (arith, length-pixels x)) ∙ get_or-pixels x r (omega arith)
-
--- no pixel is above 1
-pub pixels_within : (count : ℕ) (bytes value : List ℕ) (most : ℕ) → 0 < most → ArePacked count bytes → take count (all_pixels bytes) ≡ value → All (λ sample. sample ≤ most) value
-pixels_within count bytes value most some h is k d lt =
-    let size : length value ≡ count = ap length (sym is) ∙ length_of_packed count bytes h in
-    let at = pixel_of_row count k bytes value (omega arith) h is in
-    let small : get_or value k 0 ≤ most = omega (arith, at) in
-    rw (get_or_default value k d 0 lt) small
-
--- so many pixels of the bytes that they take
-pub front_of_bytes : (bytes cleared : List ℕ) (count kept m : ℕ) → kept ≡ min count (8 * length bytes) → kept ≤ 8 * m → take kept (all_pixels cleared) ≡ take kept (all_pixels (take m bytes)) → take kept (all_pixels cleared) ≡ take count (all_pixels bytes)
-front_of_bytes bytes cleared count kept m e enough known =
-    let size : min count (8 * length bytes) ≡ min count (length (all_pixels bytes)) = ap (min count) (sym (length-all_pixels bytes)) in
-    known ∙ ap (take kept) (sym (take-all_pixels m bytes)) ∙ take-take kept (8 * m) (all_pixels bytes) enough
-    ∙ ap (λ (k : ℕ). take k (all_pixels bytes)) (e ∙ size) ∙ take_min count (all_pixels bytes)
+      ∙ sym (append_assoc (all_pixels prefix) (take r (pixels x)) (take count run))
+      ∙ ap (λ (l : List ℕ). l ++ take count run) (sym (held_before buffer held lt))

@@ -1,5 +1,6 @@
 -- Pixels that stand several times.
-use Rattle.std.proofs.Common.{◌≡◌, ℕ, zero, suc, ◌+◌, ◌*◌, ◌/◌, ◌%◌, ◌<◌, true, List, [], ◌∷◌, ◌++◌, length, get_or, take, replicate, refl, sym, ap, ap₂, ◌∙◌, arith}
+use Rattle.std.proofs.Common.{◌≡◌, ℕ, zero, suc, ◌+◌, ◌*◌, ◌/◌, ◌%◌, ◌<◌, true, List, [], ◌∷◌, ◌++◌, length, get_or, take, replicate, refl, sym, ap, ap₂, ◌∙◌}
+use Rattle.std.proofs.Common.{arith}
 use Rattle.std.specs.Prelude.{bit_and, bit_or}
 use Rattle.std.specs.Int.{w16, to_be_bytes}
 use Rattle.std.specs.List.{flat_map}
@@ -28,7 +29,8 @@ spread b =
 pub doubled_pixels : (b : ℕ) → b < 256 → all_pixels (to_be_bytes w16 (spread b)) ≡ repeated 2 (pixels b)
 unfolding pixels
 doubled_pixels b lt =
-    same_from_test (all_pixels (to_be_bytes w16 (spread b))) (repeated 2 (pixels b)) (agree_below_at (λ n. same_list (all_pixels (to_be_bytes w16 (spread n))) (repeated 2 (pixels n))) (λ _. true) 256 b refl lt)
+    same_from_test (all_pixels (to_be_bytes w16 (spread b))) (repeated 2 (pixels b))
+    (agree_below_at (λ n. same_list (all_pixels (to_be_bytes w16 (spread n))) (repeated 2 (pixels n))) (λ _. true) 256 b refl lt)
 
 -- ---- any number of times
 
@@ -44,10 +46,12 @@ take_repeated times zero xs =
 take_repeated times (suc k) [] = take_all (suc k * times) [] (omega arith)
 take_repeated times (suc k) (x ∷ xs) =
     let more : suc k * times ≡ length (replicate times x) + k * times = omega (arith, length-replicate times x) in
-    ap (λ (m : ℕ). take m (replicate times x ++ repeated times xs)) more ∙ take-append-add (replicate times x) (repeated times xs) (k * times) ∙ ap (λ (l : List ℕ). replicate times x ++ l) (take_repeated times k xs)
+    ap (λ (m : ℕ). take m (replicate times x ++ repeated times xs)) more ∙ take-append-add (replicate times x) (repeated times xs) (k * times)
+    ∙ ap (λ (l : List ℕ). replicate times x ++ l) (take_repeated times k xs)
 
 -- so many pixels of a row, each so many times
-pub repeated_view : (times count : ℕ) (bytes value : List ℕ) → take count (all_pixels bytes) ≡ value → take (count * times) (repeated times (all_pixels bytes)) ≡ repeated times value
+pub repeated_view : (times count : ℕ) (bytes value : List ℕ) → take count (all_pixels bytes) ≡ value → take (count * times) (repeated times (all_pixels bytes))
+    ≡ repeated times value
 repeated_view times count bytes value is = take_repeated times count (all_pixels bytes) ∙ ap (repeated times) is
 
 -- pixels of one colour
@@ -66,7 +70,8 @@ unfolding pixels
 white_byte = refl
 
 -- one pixel more
-pub repeated_step : (row next value : List ℕ) (i times s : ℕ) → i < length value → get_or value i 0 ≡ s → row ≡ repeated times (take i value) → next ≡ row ++ replicate times s → next ≡ repeated times (take (i + 1) value)
+pub repeated_step : (row next value : List ℕ) (i times s : ℕ) → i < length value → get_or value i 0 ≡ s → row ≡ repeated times (take i value)
+    → next ≡ row ++ replicate times s → next ≡ repeated times (take (i + 1) value)
 repeated_step row next value i times s lt at known more =
     more ∙ ap₂ (λ (l : List ℕ) (x : ℕ). l ++ replicate times x) known (sym at)
     ∙ ap (λ (l : List ℕ). repeated times (take i value) ++ l) (sym (append-nil (replicate times (get_or value i 0))))

@@ -9,7 +9,8 @@ column_at rows x = map (λ row. get_or row x 0) rows
 
 -- a byte holds the pixels of a row that lie in the byte of this number, as many as there are
 abbrev pub HoldsPixels : ℕ → List ℕ → ℕ → Type 0
-HoldsPixels byte row held = (k : ℕ) → k < 8 → 8 * byte + k < length row → pixel_at (7 - k) held ≡ get_or row (8 * byte + k) 0
+HoldsPixels byte row held = (k : ℕ) → k < 8 → 8 * byte + k < length row
+    → pixel_at (7 - k) held ≡ get_or row (8 * byte + k) 0
 
 -- bytes hold the pixels of a row from the byte of this number on, as many as there are
 abbrev pub HoldsFrom : ℕ → List ℕ → List ℕ → Type 0
@@ -30,7 +31,8 @@ pub record HasPair (at pair : ℕ) (old new : List ℕ) : Type 0 where
 -- so many columns, from this one on, have got two bytes each, and the others are as they were
 pub record HavePairs (count first at : ℕ) (pairs : List ℕ) (old new : List (Vec ℕ Global)) : Type 0 where
   pub many : length new ≡ length old
-  pub put : (k : ℕ) (d : Vec ℕ Global) → k < count → HasPair at (get_or pairs k 0) (get_or old (first + k) d).items (get_or new (first + k) d).items
+  pub put : (k : ℕ) (d : Vec ℕ Global) → k < count
+      → HasPair at (get_or pairs k 0) (get_or old (first + k) d).items (get_or new (first + k) d).items
   pub before : (k : ℕ) (d : Vec ℕ Global) → k < first → get_or new k d ≡ get_or old k d
   pub behind : (k : ℕ) (d : Vec ℕ Global) → first + count ≤ k → get_or new k d ≡ get_or old k d
 
@@ -39,4 +41,6 @@ pub record HoldColumns (byte count : ℕ) (rows : List (List ℕ)) (columns : Li
   pub many : length columns ≡ count
   pub enough : (k : ℕ) (d : Vec ℕ Global) → k < count → (length rows + 7) / 8 ≤ length (get_or columns k d).items
   pub pixels :
-      (r k : ℕ) (d : Vec ℕ Global) → r < length rows → k < count → 8 * byte + k < length (get_or rows r []) → pixel_at (7 - r % 8) (get_or (get_or columns k d).items (r / 8) 0) ≡ get_or (get_or rows r []) (8 * byte + k) 0
+      (r k : ℕ) (d : Vec ℕ Global) → r < length rows → k < count → 8 * byte + k < length (get_or rows r [])
+      → pixel_at (7 - r % 8) (get_or (get_or columns k d).items (r / 8) 0) ≡ get_or (get_or rows r [])
+      (8 * byte + k) 0

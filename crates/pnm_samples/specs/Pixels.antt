@@ -12,7 +12,8 @@ pixel_at bit byte = 1 - bit_at byte bit
 -- the pixels of a byte
 unfoldable pub pixels : ℕ → List ℕ
 pixels byte =
-    pixel_at 7 byte ∷ pixel_at 6 byte ∷ pixel_at 5 byte ∷ pixel_at 4 byte ∷ pixel_at 3 byte ∷ pixel_at 2 byte ∷ pixel_at 1 byte ∷ pixel_at 0 byte ∷ []
+    pixel_at 7 byte ∷ pixel_at 6 byte ∷ pixel_at 5 byte ∷ pixel_at 4 byte ∷ pixel_at 3 byte ∷ pixel_at 2 byte
+    ∷ pixel_at 1 byte ∷ pixel_at 0 byte ∷ []
 
 -- the pixels of bytes
 abbrev pub all_pixels : List ℕ → List ℕ

@@ -3,7 +3,8 @@ use Rattle.std.specs.Prelude.{ℕ, List}
 use Rattle.pnm_samples.specs.declared.samples.SampleVec.{SampleVec}
 use Rattle.pnm_samples.specs.declared.samples.SampleVec.TheVariants.{Bits, Bytes, Words}
 use Rattle.pnm_samples.specs.declared.samples.SampleSlice.{SampleSlice}
-use Rattle.pnm_samples.specs.declared.samples.SampleSlice.TheVariants.{Bits as SliceBits, Bytes as SliceBytes, Words as SliceWords}
+use Rattle.pnm_samples.specs.declared.samples.SampleSlice.TheVariants.{Bits as SliceBits, Bytes as SliceBytes}
+use Rattle.pnm_samples.specs.declared.samples.SampleSlice.TheVariants.{Words as SliceWords}
 
 abbrev pub samples_of : SampleVec → List ℕ
 samples_of (Bits bits) = bits

@@ -1,6 +1,7 @@
 //! A row of pixels of one bit, as they lie in a file.
 
-ghost use Rattle.std.specs.Prelude.{◌≡◌, ℕ, ◌+◌, ◌-◌, ◌*◌, ◌/◌, ◌%◌, ◌^◌, ◌<◌, ◌≤◌, List, [], ◌∷◌, ◌++◌, length, take, drop, map, replicate, OnOk, OnErr, IfOk, IsTrue, ◌↔◌, All, slice_index};
+ghost use Rattle.std.specs.Prelude.{◌≡◌, ℕ, ◌+◌, ◌-◌, ◌*◌, ◌/◌, ◌%◌, ◌^◌, ◌<◌, ◌≤◌, List, [], ◌∷◌, ◌++◌, length, take};
+ghost use Rattle.std.specs.Prelude.{drop, map, replicate, OnOk, OnErr, IfOk, IsTrue, ◌↔◌, All, slice_index};
 ghost use Rattle.pnm_samples.specs.Pixels.{pixel_at, pixels, all_pixels, ArePacked, AreBytes, packed_bytes};
 
 use crate::widths::widened;
@@ -185,7 +186,7 @@ fn bytes_of(bytes: &[u8]) -> &[u8]
     bytes
 }
 
-/// The samples of all pixels of bytes. The room is there first, and the stores of each byte's
+/// The samples of all pixels of bytes. The buffer is there first, and the stores of each byte's
 /// pixels then grow nothing.
 fn all_samples(alloc: Global, bytes: &[u8]) -> Result<Vec<u8>, AllocError>
     ensures { IfOk result (λ samples. samples.items ≡ all_pixels bytes.now) }
@@ -266,14 +267,14 @@ fn clear_spare(bytes: &mut [u8], count: usize)
     }
 }
 
-/// Fills the room with the pixels of the part that come after so many. The part is a byte longer.
-fn shift_into(room: &mut [u8], part: &[u8], skipped: u32)
+/// Fills the buffer with the pixels of the part that come after so many. The part is a byte longer.
+fn shift_into(buffer: &mut [u8], part: &[u8], skipped: u32)
     requires skipped { skipped < 8 }
-    requires part { length part.now ≡ length room.old + 1 }
-    ensures { all_pixels room.new ≡ take (8 * length room.old) (drop skipped (all_pixels part.now)) }
+    requires part { length part.now ≡ length buffer.old + 1 }
+    ensures { all_pixels buffer.new ≡ take (8 * length buffer.old) (drop skipped (all_pixels part.now)) }
 {
-    for i in 0..room.len() {
-        room[i] = window(part[i], part[i + 1], skipped);
+    for i in 0..buffer.len() {
+        buffer[i] = window(part[i], part[i + 1], skipped);
     }
 }
 
@@ -281,7 +282,8 @@ fn shift_into(room: &mut [u8], part: &[u8], skipped: u32)
 #[inline]
 fn byte_after(bytes: &[u8], skipped: usize) -> u8
     requires { skipped < 8 * length bytes.now }
-    ensures { (n : ℕ) → n ≤ 8 → skipped + n ≤ 8 * length bytes.now → take n (pixels result) ≡ take n (drop skipped (all_pixels bytes.now)) }
+    ensures { (n : ℕ) → n ≤ 8 → skipped + n ≤ 8 * length bytes.now
+        → take n (pixels result) ≡ take n (drop skipped (all_pixels bytes.now)) }
 {
     let at = skipped / 8;
     let low = if at + 1 < bytes.len() {
@@ -292,61 +294,63 @@ fn byte_after(bytes: &[u8], skipped: usize) -> u8
     window(bytes[at], low, (skipped % 8) as u32)
 }
 
-/// Fills the room with pixels from the start on.
-fn fill_whole(room: &mut [u8], from: &[u8], start: usize)
-    requires { start + 8 * length room.old ≤ 8 * length from.now }
-    ensures { all_pixels room.new ≡ take (8 * length room.old) (drop start (all_pixels from.now)) }
+/// Fills the buffer with pixels from the start on.
+fn fill_whole(buffer: &mut [u8], from: &[u8], start: usize)
+    requires { start + 8 * length buffer.old ≤ 8 * length from.now }
+    ensures { all_pixels buffer.new ≡ take (8 * length buffer.old) (drop start (all_pixels from.now)) }
 {
     let first = start / 8;
     if start % 8 == 0 {
-        room.copy_from_slice(&from[first..first + room.len()]);
+        buffer.copy_from_slice(&from[first..first + buffer.len()]);
     } else {
-        let part = &from[first..first + room.len() + 1];
-        shift_into(room, part, (start % 8) as u32);
+        let part = &from[first..first + buffer.len() + 1];
+        shift_into(buffer, part, (start % 8) as u32);
     }
 }
 
-/// Fills the room with a run of so many pixels, from the start on.
-fn fill_run(room: &mut [u8], from: &[u8], start: usize, count: usize)
-    requires room { length room.old ≡ (count + 7) / 8 }
+/// Fills the buffer with a run of so many pixels, from the start on.
+fn fill_run(buffer: &mut [u8], from: &[u8], start: usize, count: usize)
+    requires buffer { length buffer.old ≡ (count + 7) / 8 }
     requires run { start + count ≤ 8 * length from.now }
     requires fits { start + count < 2 ^ 64 }
-    ensures { take count (all_pixels room.new) ≡ take count (drop start (all_pixels from.now)) }
+    ensures { take count (all_pixels buffer.new) ≡ take count (drop start (all_pixels from.now)) }
 {
     let whole = count / 8;
-    fill_whole(&mut room[..whole], from, start);
-    if whole < room.len() {
-        room[whole] = byte_after(from, start + 8 * whole);
+    fill_whole(&mut buffer[..whole], from, start);
+    if whole < buffer.len() {
+        buffer[whole] = byte_after(from, start + 8 * whole);
     }
 }
 
 /// Places a run of so many pixels, from the start on, after the pixels that are held, the last of
 /// them in a byte that isn't full.
-fn place_within(room: &mut [u8], held: usize, from: &[u8], start: usize, count: usize)
+fn place_within(buffer: &mut [u8], held: usize, from: &[u8], start: usize, count: usize)
     requires within { (0 < held % 8) × (0 < count) }
-    requires room { length room.old ≡ (held + count + 7) / 8 }
+    requires buffer { length buffer.old ≡ (held + count + 7) / 8 }
     requires run { start + count ≤ 8 * length from.now }
     requires fits { (start + count < 2 ^ 63) × (held < 2 ^ 63) }
-    ensures { take (held + count) (all_pixels room.new) ≡ take held (all_pixels room.old) ++ take count (drop start (all_pixels from.now)) }
+    ensures { take (held + count) (all_pixels buffer.new) ≡ take held (all_pixels buffer.old) ++ take count
+        (drop start (all_pixels from.now)) }
 {
     let last = held / 8;
     let free = 8 - held % 8;
-    room[last] = window(room[last] >> free, byte_after(from, start), free as u32);
+    buffer[last] = window(buffer[last] >> free, byte_after(from, start), free as u32);
     if free < count {
-        fill_run(&mut room[last + 1..], from, start + free, count - free);
+        fill_run(&mut buffer[last + 1..], from, start + free, count - free);
     }
 }
 
 /// Places a run of so many pixels, from the start on, after the pixels that are held.
-fn place_run(room: &mut [u8], held: usize, from: &[u8], start: usize, count: usize)
-    requires room { length room.old ≡ (held + count + 7) / 8 }
+fn place_run(buffer: &mut [u8], held: usize, from: &[u8], start: usize, count: usize)
+    requires buffer { length buffer.old ≡ (held + count + 7) / 8 }
     requires run { start + count ≤ 8 * length from.now }
     requires fits { (start + count < 2 ^ 63) × (held < 2 ^ 63) }
-    ensures { take (held + count) (all_pixels room.new) ≡ take held (all_pixels room.old) ++ take count (drop start (all_pixels from.now)) }
+    ensures { take (held + count) (all_pixels buffer.new) ≡ take held (all_pixels buffer.old) ++ take count
+        (drop start (all_pixels from.now)) }
 {
     if held % 8 == 0 {
-        fill_run(&mut room[held / 8..], from, start, count);
+        fill_run(&mut buffer[held / 8..], from, start, count);
     } else if count > 0 {
-        place_within(room, held, from, start, count);
+        place_within(buffer, held, from, start, count);
     }
 }

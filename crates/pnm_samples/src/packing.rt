@@ -3,16 +3,16 @@
 ghost use Rattle.std.specs.Prelude.{◌≡◌, ◌≤◌, ◌*◌, ◌-◌, length, take};
 ghost use Rattle.pnm_samples.specs.Pixels.{packed_byte, packed_bytes};
 
-/// Writes the bytes of pixels, eight a byte, to the front of the room, and answers how many they
+/// Writes the bytes of pixels, eight a byte, to the front of the buffer, and answers how many they
 /// are. Spare bits of the last byte are 0.
-pub fn pack(samples: &[u16], room: &mut [u8]) -> usize
-    requires { length samples.now ≤ 8 * length room.old }
-    ensures within { result ≤ length room.new }
-    ensures bytes { take result room.new ≡ packed_bytes samples.now }
+pub fn pack(samples: &[u16], buffer: &mut [u8]) -> usize
+    requires { length samples.now ≤ 8 * length buffer.old }
+    ensures within { result ≤ length buffer.new }
+    ensures bytes { take result buffer.new ≡ packed_bytes samples.now }
 {
     let whole = samples.len() / 8;
     for i in 0..whole {
-        room[i] = packed_byte(&samples[8 * i..8 * i + 8]);
+        buffer[i] = packed_byte(&samples[8 * i..8 * i + 8]);
     }
     let (_, rest) = samples.split_at(8 * whole);
     if rest.is_empty() {
@@ -21,7 +21,7 @@ pub fn pack(samples: &[u16], room: &mut [u8]) -> usize
     // The spare bits are those of white pixels.
     let mut last = [1; 8];
     last[..rest.len()].copy_from_slice(rest);
-    room[whole] = packed_byte(&last);
+    buffer[whole] = packed_byte(&last);
     whole + 1
 }
 

@@ -21,7 +21,7 @@ pub enum SampleVec {
     Words(Vec<u16>),
 }
 
-/// The same, lent.
+/// Samples that are lent, as wide as they are held.
 #[derive(Clone, Copy, Debug)]
 pub enum SampleSlice<'a> {
     /// Each is 0 or 1.
@@ -118,14 +118,14 @@ impl Samples {
         }
     }
 
-    /// Fills the room with samples, from one on.
-    pub fn copy_to(&self, start: usize, room: &mut [u16])
-        requires { start + length room.old ≤ length self.now }
-        ensures { room.new ≡ take (length room.old) (drop start self.now) }
+    /// Fills the buffer with samples, from one on.
+    pub fn copy_to(&self, start: usize, buffer: &mut [u16])
+        requires { start + length buffer.old ≤ length self.now }
+        ensures { buffer.new ≡ take (length buffer.old) (drop start self.now) }
     {
         let _ = self.len();
-        for i in 0..room.len() {
-            room[i] = self.sample(start + i);
+        for i in 0..buffer.len() {
+            buffer[i] = self.sample(start + i);
         }
     }
 

@@ -16,7 +16,7 @@ pub fn narrowed(alloc: Global, words: &[u16]) -> Result<Vec<u8>, AllocError>
     Ok(bytes)
 }
 
-/// Bytes as words. The room is there first, so that nothing is asked for again where there is none.
+/// Bytes as words. The buffer is there first, so that nothing is asked for again where there is none.
 pub fn widened(alloc: Global, bytes: &[u8]) -> Result<Vec<u16>, AllocError>
     ensures { IfOk result (λ words. words.items ≡ bytes.now) }
 {

@@ -52,7 +52,8 @@ fn tell_all(samples: &[u16], told: &mut String) -> Result<(), AllocError> {
     Ok(())
 }
 
-/// Adds a row: how it is held, its samples one by one, and all at once; the same of its copy; and of what it is made of.
+/// Adds a row: how it is held, its samples one by one, and all at once; the same of its copy; and of what it is made
+/// of.
 fn tell_row(alloc: Global, row: Samples, told: &mut String) -> Result<(), AllocError> {
     tell_width(&row, told)?;
     for at in 0..row.len() {

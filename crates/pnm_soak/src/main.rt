@@ -1,9 +1,9 @@
-//! Runs a chain over the images of standard input twice, in one thread and over threads between slow devices, and wants the
-//! same answer and the same bytes. `scripts/soak.py` calls it with random ones.
+//! Runs a chain over the images of standard input twice, in one thread and over threads between slow devices, and wants
+//! the same answer and the same bytes. `scripts/soak.py` calls it with random ones.
 //!
 //! The words are the rings' capacity, the number of lanes, a seed for the devices, `raw` or `plain`, and the chain. The
-//! status is 0 where both runs agree, 1 where they don't, and 2 where the words are no such ones or memory ran out before
-//! the runs.
+//! status is 0 where both runs agree, 1 where they don't, and 2 where the words are no such ones or memory ran out
+//! before the runs.
 #![tactic(auto)]
 
 mod slow;

@@ -52,10 +52,10 @@ impl<'a, H: Clock, D> Slow<'a, H, D> {
 }
 
 impl<H: Clock, D: Read> Read for Slow<'_, H, D> {
-    fn read(&mut self, room: &mut [u8]) -> io::Result<usize> {
+    fn read(&mut self, buffer: &mut [u8]) -> io::Result<usize> {
         self.wait();
-        let most = room.len().min(self.portion);
-        self.inner.read(&mut room[..most])
+        let most = buffer.len().min(self.portion);
+        self.inner.read(&mut buffer[..most])
     }
 }
 

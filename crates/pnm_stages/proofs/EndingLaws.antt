@@ -9,10 +9,10 @@ use Rattle.pnm_tools.proofs.InFullLaws.{ends_after, end_ends_nothing}
 use Rattle.pnm_stages.specs.Rings.{IsEnded}
 
 -- what comes before a message goes on
-pub front_goes_on : (e : Ending) (a : List Message) (m : Message) (b : List Message) → EndsBy e (a ++ m ∷ b) → EndsBy More a
-front_goes_on e [] m b ends = refl
-front_goes_on e (x ∷ []) m b ends = ends.0
-front_goes_on e (x ∷ y ∷ a) m b ends = (ends.0, front_goes_on e (y ∷ a) m b ends.1)
+pub prefix_goes_on : (e : Ending) (a : List Message) (m : Message) (b : List Message) → EndsBy e (a ++ m ∷ b) → EndsBy More a
+prefix_goes_on e [] m b ends = refl
+prefix_goes_on e (x ∷ []) m b ends = ends.0
+prefix_goes_on e (x ∷ y ∷ a) m b ends = (ends.0, prefix_goes_on e (y ∷ a) m b ends.1)
 
 -- a list ends in one way
 pub one_ending : (a b : Ending) (l : List Message) → EndsBy a l → EndsBy b l → a ≡ b
@@ -23,10 +23,10 @@ one_ending a b (m ∷ n ∷ l) first second = one_ending a b (n ∷ l) first.1 s
 -- nothing follows a list that has ended
 pub nothing_follows : (l left : List Message) → IsEnded l → IsEnded (l ++ left) → left ≡ []
 nothing_follows l [] ended whole = refl
-nothing_follows l (m ∷ left) (inl first) (inl whole) = let same = one_ending More Whole l (front_goes_on Whole l m left whole) first in absurd cc
-nothing_follows l (m ∷ left) (inl first) (inr whole) = let same = one_ending More Whole l (front_goes_on BrokenOff l m left whole) first in absurd cc
-nothing_follows l (m ∷ left) (inr first) (inl whole) = let same = one_ending More BrokenOff l (front_goes_on Whole l m left whole) first in absurd cc
-nothing_follows l (m ∷ left) (inr first) (inr whole) = let same = one_ending More BrokenOff l (front_goes_on BrokenOff l m left whole) first in absurd cc
+nothing_follows l (m ∷ left) (inl first) (inl whole) = let same = one_ending More Whole l (prefix_goes_on Whole l m left whole) first in absurd cc
+nothing_follows l (m ∷ left) (inl first) (inr whole) = let same = one_ending More Whole l (prefix_goes_on BrokenOff l m left whole) first in absurd cc
+nothing_follows l (m ∷ left) (inr first) (inl whole) = let same = one_ending More BrokenOff l (prefix_goes_on Whole l m left whole) first in absurd cc
+nothing_follows l (m ∷ left) (inr first) (inr whole) = let same = one_ending More BrokenOff l (prefix_goes_on BrokenOff l m left whole) first in absurd cc
 
 pub stream_ends_whole : (is : List Image) → EndsBy Whole (messages_of_stream is)
 stream_ends_whole [] = refl

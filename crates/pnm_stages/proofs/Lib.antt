@@ -1,7 +1,7 @@
 pub mod RingSteps
 pub mod EndingLaws
-pub mod FrontLaws
-mod LongestFronts
+pub mod PrefixLaws
+mod LongestPrefixes
 pub mod StageSteps
 pub mod ToolSteps
 pub mod SendingSteps

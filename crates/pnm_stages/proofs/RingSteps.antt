@@ -25,7 +25,8 @@ pub ends_as : (e : Ending) (l : List Message) (m : Message) → EndsBy More l �
 ends_as e l m more same = subst (λ (x : Ending). EndsBy x (l ++ m ∷ [])) same (ends_with l m more)
 
 -- a message was added
-extends_by_one : (P : List Message → Type 0) (l now new : List Message) (m : Message) (extends : Extends l now (EndsBy More)) → new ≡ now ++ m ∷ [] → IsMessage m → P (extends.more ++ m ∷ []) → Extends l new P
+extends_by_one : (P : List Message → Type 0) (l now new : List Message) (m : Message) (extends : Extends l now (EndsBy More)) → new ≡ now ++ m ∷ []
+    → IsMessage m → P (extends.more ++ m ∷ []) → Extends l new P
 extends_by_one P l now new m extends added is holds = record {
   more = extends.more ++ m ∷ [];
   added = added ∙ ap (λ (x : List Message). x ++ m ∷ []) extends.added ∙ append_assoc l extends.more (m ∷ []);
@@ -33,15 +34,20 @@ extends_by_one P l now new m extends added is holds = record {
   holds = holds;
 }
 
-pub goes_on : (e : Ending) (l now new : List Message) (m : Message) → Extends l now (EndsBy More) → new ≡ now ++ m ∷ [] → IsMessage m → ending_of m ≡ e → Extends l new (EndsBy e)
+pub goes_on : (e : Ending) (l now new : List Message) (m : Message) → Extends l now (EndsBy More) → new ≡ now ++ m ∷ [] → IsMessage m → ending_of m ≡ e
+    → Extends l new (EndsBy e)
 goes_on e l now new m extends added is same = extends_by_one (EndsBy e) l now new m extends added is (ends_as e extends.more m extends.holds same)
 
-pub drains_to_end : (l now new : List Message) (m : Message) → Extends l now (EndsBy More) → new ≡ now ++ m ∷ [] → IsMessage m → (ending_of m ≡ Whole) ⊎ (ending_of m ≡ BrokenOff) → Extends l new IsEnded
-drains_to_end l now new m extends added is (inl whole) = extends_by_one IsEnded l now new m extends added is (inl (ends_as Whole extends.more m extends.holds whole))
-drains_to_end l now new m extends added is (inr broken) = extends_by_one IsEnded l now new m extends added is (inr (ends_as BrokenOff extends.more m extends.holds broken))
+pub drains_to_end : (l now new : List Message) (m : Message) → Extends l now (EndsBy More) → new ≡ now ++ m ∷ [] → IsMessage m → (ending_of m ≡ Whole)
+    ⊎ (ending_of m ≡ BrokenOff) → Extends l new IsEnded
+drains_to_end l now new m extends added is (inl whole) =
+    extends_by_one IsEnded l now new m extends added is (inl (ends_as Whole extends.more m extends.holds whole))
+drains_to_end l now new m extends added is (inr broken) =
+    extends_by_one IsEnded l now new m extends added is (inr (ends_as BrokenOff extends.more m extends.holds broken))
 
 -- by how a message ends the stream, as a function answers it
-pub says_end : (a : Answered) (m : Message) → ending_by a ≡ ending_of m → (a ≡ AnsweredWhole) ⊎ (a ≡ AnsweredBrokenOff) → (ending_of m ≡ Whole) ⊎ (ending_of m ≡ BrokenOff)
+pub says_end : (a : Answered) (m : Message) → ending_by a ≡ ending_of m → (a ≡ AnsweredWhole) ⊎ (a ≡ AnsweredBrokenOff) → (ending_of m ≡ Whole)
+    ⊎ (ending_of m ≡ BrokenOff)
 says_end a m says (inl whole) = inl (sym says ∙ ap ending_by whole)
 says_end a m says (inr broken) = inr (sym says ∙ ap ending_by broken)
 

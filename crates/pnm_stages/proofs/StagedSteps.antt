@@ -1,6 +1,7 @@
 -- A stage, message by message, and how it ends.
 use Rattle.std.specs.Prelude.{IsTrue, IsFalse}
-use Rattle.std.proofs.Common.{◌≡◌, ◌⊎◌, inl, inr, Bool, true, false, List, [], ◌∷◌, ◌++◌, Option, Some, None, refl, sym, ap, subst, ◌∙◌, append_assoc, append-nil}
+use Rattle.std.proofs.Common.{◌≡◌, ◌⊎◌, inl, inr, Bool, true, false, List, [], ◌∷◌, ◌++◌, Option, Some, None, refl, sym, ap, subst, ◌∙◌, append_assoc}
+use Rattle.std.proofs.Common.{append-nil}
 use Rattle.std.specs.List.{AllByRecursion}
 use Rattle.pnm_image.specs.declared.message.Message.{Message}
 use Rattle.pnm_image.specs.declared.message.Message.TheVariants.{Stop}
@@ -15,32 +16,34 @@ use Rattle.pnm_tools.specs.ChainAnswers.{HasRefused, IsRefusedNext}
 use Rattle.pnm_tools.proofs.FullAnswers.{full_answer_is_the_stream}
 use Rattle.pnm_stages.specs.declared.ending.Ending.{Ending as Answered}
 use Rattle.pnm_stages.specs.declared.ending.Ending.TheVariants.{More as AnsweredMore, Whole as AnsweredWhole, BrokenOff as AnsweredBrokenOff}
-use Rattle.pnm_stages.specs.declared.serial_stage.SerialStage.{SerialStage}
-use Rattle.pnm_stages.specs.declared.serial_stage.SerialStage.TheVariants.{AtWork, Refused}
+use Rattle.pnm_stages.specs.declared.fused_filter.FusedFilter.{FusedFilter}
+use Rattle.pnm_stages.specs.declared.fused_filter.FusedFilter.TheVariants.{AtWork, Refused}
 use Rattle.pnm_stages.specs.declared.stage.StageEnd.{StageEnd}
 use Rattle.pnm_stages.specs.declared.stage.StageEnd.TheVariants.{Well, Broken, PeerGone}
 use Rattle.pnm_stages.specs.Rings.{ending_by, IsEnded, EndsAtMostOnce, HasDrainedAfter}
-use Rattle.pnm_stages.specs.SerialStages.{StageAt, StageBusy, refusal_in}
-use Rattle.pnm_stages.specs.Fronts.{IsFrontOfDue}
+use Rattle.pnm_stages.specs.FusedFilters.{StageAt, StageBusy, refusal_in}
+use Rattle.pnm_stages.specs.Prefixes.{IsPrefixOfDue}
 use Rattle.pnm_stages.specs.Stages.{HasEndedSo, HasRunStage}
 use Rattle.pnm_stages.specs.StageParts.{HasAnsweredPart, HasSentAnswers, HasBrokenOffAfter}
 use Rattle.pnm_tools.specs.Tools.{output_due}
 use Rattle.pnm_tools.proofs.InFullLaws.{ends_after}
 use Rattle.pnm_tools.proofs.SoundLaws.{both_all}
 use Rattle.pnm_stages.proofs.RingSteps.{ends_nothing, ends_with}
-use Rattle.pnm_stages.proofs.EndingLaws.{front_goes_on, ends_stream}
-use Rattle.pnm_stages.proofs.FrontLaws.{due_with_stop, due_goes_on}
+use Rattle.pnm_stages.proofs.EndingLaws.{prefix_goes_on, ends_stream}
+use Rattle.pnm_stages.proofs.PrefixLaws.{due_with_stop, due_goes_on}
 
 -- ---- what is due
 
-pub due_by_part : (tool : Tool) (l g : List Message) → HasAnsweredPart tool l g → IsFrontOfDue (output_due tool) l g
-due_by_part tool l g part = record { accepted = part.accepted; rest = part.rest; parts = part.parts; lawful = part.answers.lawful; front = part.answers.front }
+pub due_by_part : (tool : Tool) (l g : List Message) → HasAnsweredPart tool l g → IsPrefixOfDue (output_due tool) l g
+due_by_part tool l g part =
+    record { accepted = part.accepted; rest = part.rest; parts = part.parts; lawful = part.answers.lawful; prefix = part.answers.prefix }
 
 -- ---- message by message
 
 -- what a stage has passed so far, from the first of its states to the last; the last message that it received ends the
 -- stream so
-pub record IsPassing {F : Type 0} (at : F → Tool → List Message → List Message → Type 0) (all_given : F → Bool) (stopped : F → Option ToolFault) (e : Ending) (first now : SerialStage F) (r r' s s' : List Message) : Type 0 where
+pub record IsPassing {F : Type 0} (at : F → Tool → List Message → List Message → Type 0) (all_given : F → Bool) (stopped : F → Option ToolFault) (e : Ending)
+    (first now : FusedFilter F) (r r' s s' : List Message) : Type 0 where
   pub took : List Message
   pub gave : List Message
   pub received : r' ≡ r ++ took
@@ -49,8 +52,10 @@ pub record IsPassing {F : Type 0} (at : F → Tool → List Message → List Mes
   pub ends : EndsBy e took
   pub stage : (tool : Tool) → StageAt at all_given stopped first tool [] [] → StageAt at all_given stopped now tool took gave
 
-pub passes_nothing : {F : Type 0} (at : F → Tool → List Message → List Message → Type 0) (all_given : F → Bool) (stopped : F → Option ToolFault) (stage : SerialStage F) (r s : List Message) → IsPassing at all_given stopped More stage stage r r s s
-passes_nothing at all_given stopped stage r s = record { took = []; gave = []; received = sym (append-nil r); sent = sym (append-nil s); messages = tt; ends = refl; stage = λ tool is. is }
+pub passes_nothing : {F : Type 0} (at : F → Tool → List Message → List Message → Type 0) (all_given : F → Bool) (stopped : F → Option ToolFault)
+    (stage : FusedFilter F) (r s : List Message) → IsPassing at all_given stopped More stage stage r r s s
+passes_nothing at all_given stopped stage r s =
+    record { took = []; gave = []; received = sym (append-nil r); sent = sym (append-nil s); messages = tt; ends = refl; stage = λ tool is. is }
 
 one_longer : (a b c d : List Message) (m : Message) → b ≡ a ++ c → d ≡ b ++ m ∷ [] → d ≡ a ++ (c ++ m ∷ [])
 one_longer a b c d m before added = added ∙ ap (λ (x : List Message). x ++ m ∷ []) before ∙ append_assoc a c (m ∷ [])
@@ -59,7 +64,8 @@ longer_by : (a b c d more : List Message) → b ≡ a ++ c → d ≡ b ++ more �
 longer_by a b c d more before added = added ∙ ap (λ (x : List Message). x ++ more) before ∙ append_assoc a c more
 
 -- a message was received, and all its answers were sent
-pub passes_one : {F : Type 0} (at : F → Tool → List Message → List Message → Type 0) (all_given : F → Bool) (stopped : F → Option ToolFault) (first old fed new : SerialStage F) (m : Message) (r r1 r2 s s1 s2 : List Message)
+pub passes_one : {F : Type 0} (at : F → Tool → List Message → List Message → Type 0) (all_given : F → Bool) (stopped : F → Option ToolFault)
+    (first old fed new : FusedFilter F) (m : Message) (r r1 r2 s s1 s2 : List Message)
     → IsPassing at all_given stopped More first old r r1 s s1 → r2 ≡ r1 ++ m ∷ [] → IsMessage m
     → ((tool : Tool) (l g : List Message) → StageAt at all_given stopped old tool l g → StageBusy at stopped fed tool (l ++ m ∷ []) g)
     → HasSentAnswers at all_given stopped true fed new s1 s2 → IsPassing at all_given stopped (ending_of m) first new r r2 s s2
@@ -74,24 +80,30 @@ passes_one at all_given stopped first old fed new m r r1 r2 s s1 s2 passing adde
 }
 
 -- the stream goes on after it
-pub still_going : {F : Type 0} (at : F → Tool → List Message → List Message → Type 0) (all_given : F → Bool) (stopped : F → Option ToolFault) (e : Ending) (first now : SerialStage F) (r r' s s' : List Message) → IsPassing at all_given stopped e first now r r' s s' → e ≡ More → IsPassing at all_given stopped More first now r r' s s'
+pub still_going : {F : Type 0} (at : F → Tool → List Message → List Message → Type 0) (all_given : F → Bool) (stopped : F → Option ToolFault) (e : Ending)
+    (first now : FusedFilter F) (r r' s s' : List Message) → IsPassing at all_given stopped e first now r r' s s' → e ≡ More
+    → IsPassing at all_given stopped More first now r r' s s'
 still_going at all_given stopped e first now r r' s s' passing more = subst (λ (x : Ending). IsPassing at all_given stopped x first now r r' s s') more passing
 
 -- nothing was sent since
-pub still_sent : {F : Type 0} {at : F → Tool → List Message → List Message → Type 0} {all_given : F → Bool} {stopped : F → Option ToolFault} {e : Ending} {first now : SerialStage F} {r r' s s' s2 : List Message}
+pub still_sent : {F : Type 0} {at : F → Tool → List Message → List Message → Type 0} {all_given : F → Bool} {stopped : F → Option ToolFault} {e : Ending}
+    {first now : FusedFilter F} {r r' s s' s2 : List Message}
     → IsPassing at all_given stopped e first now r r' s s' → s2 ≡ s' → IsPassing at all_given stopped e first now r r' s s2
 still_sent {at = at} {all_given = all_given} {stopped = stopped} {e = e} {first = first} {now = now} {r = r} {r' = r'} {s = s} passing same =
     subst (λ (x : List Message). IsPassing at all_given stopped e first now r r' s x) (sym same) passing
 
 -- ---- the other end was seen dropped
 
-part_at : {F : Type 0} (at : F → Tool → List Message → List Message → Type 0) (all_given : F → Bool) (stopped : F → Option ToolFault) (stage : SerialStage F) (tool : Tool) (l g : List Message) → StageAt at all_given stopped stage tool l g → HasAnsweredPart tool l g
+part_at : {F : Type 0} (at : F → Tool → List Message → List Message → Type 0) (all_given : F → Bool) (stopped : F → Option ToolFault) (stage : FusedFilter F)
+    (tool : Tool) (l g : List Message) → StageAt at all_given stopped stage tool l g → HasAnsweredPart tool l g
 part_at at all_given stopped (AtWork filter) tool l g idle = record { accepted = l; rest = []; parts = sym (append-nil l); answers = idle.full.answers }
 part_at at all_given stopped (Refused fault) tool l g has = record { accepted = has.accepted; rest = has.rest; parts = has.parts; answers = has.answers }
 
 -- the input is gone, and Stop was sent if the output wasn't
-pub input_gone : {F : Type 0} (at : F → Tool → List Message → List Message → Type 0) (all_given : F → Bool) (stopped : F → Option ToolFault) (first now : SerialStage F) (told : Bool) (r r1 r2 left s s1 s2 : List Message) (tool : Tool)
-    → IsPassing at all_given stopped More first now r r1 s s1 → (r2 ≡ r1) × (left ≡ []) → (IsTrue told → s2 ≡ s1 ++ Stop ∷ []) → (IsFalse told → s2 ≡ s1) → refusal_in now ≡ None
+pub input_gone : {F : Type 0} (at : F → Tool → List Message → List Message → Type 0) (all_given : F → Bool) (stopped : F → Option ToolFault)
+    (first now : FusedFilter F) (told : Bool) (r r1 r2 left s s1 s2 : List Message) (tool : Tool)
+    → IsPassing at all_given stopped More first now r r1 s s1 → (r2 ≡ r1) × (left ≡ []) → (IsTrue told → s2 ≡ s1 ++ Stop ∷ []) → (IsFalse told → s2 ≡ s1)
+    → refusal_in now ≡ None
     → StageAt at all_given stopped first tool [] [] → HasRunStage tool PeerGone r r2 left s s2
 input_gone at all_given stopped first (Refused fault) told r r1 r2 left s s1 s2 tool passing same given gone none fresh = absurd cc
 input_gone at all_given stopped first (AtWork filter) true r r1 r2 left s s1 s2 tool passing same given gone none fresh =
@@ -103,7 +115,12 @@ input_gone at all_given stopped first (AtWork filter) true r r1 r2 left s s1 s2 
       input = same.0 ∙ passing.received;
       output = longer_by s s1 passing.gave s2 (Stop ∷ []) passing.sent (given refl);
       seen_taken = inr same.1;
-      stage = record { ended = tt; messages = passing.messages; once = (More, passing.ends); due = due_with_stop (output_due tool) passing.took passing.gave (idle.full.ends More passing.ends) due };
+      stage = record {
+        ended = tt;
+        messages = passing.messages;
+        once = (More, passing.ends);
+        due = due_with_stop (output_due tool) passing.took passing.gave (idle.full.ends More passing.ends) due;
+      };
     }
 input_gone at all_given stopped first (AtWork filter) false r r1 r2 left s s1 s2 tool passing same given gone none fresh =
     let idle = passing.stage tool fresh in record {
@@ -112,7 +129,12 @@ input_gone at all_given stopped first (AtWork filter) false r r1 r2 left s s1 s2
       input = same.0 ∙ passing.received;
       output = gone refl ∙ passing.sent;
       seen_taken = inr same.1;
-      stage = record { ended = tt; messages = passing.messages; once = (More, passing.ends); due = due_by_part tool passing.took passing.gave (part_at at all_given stopped (AtWork filter) tool passing.took passing.gave idle) };
+      stage = record {
+        ended = tt;
+        messages = passing.messages;
+        once = (More, passing.ends);
+        due = due_by_part tool passing.took passing.gave (part_at at all_given stopped (AtWork filter) tool passing.took passing.gave idle);
+      };
     }
 
 -- what was drained after a message with this ending
@@ -137,17 +159,26 @@ nothing_more a drained took r1 r2 left ended same =
     let still : IsEnded (took ++ []) = subst IsEnded (sym (append-nil took)) ended in
     record { rest = []; added = same ∙ sym (append-nil r1); messages = tt; once = at_most_once (took ++ []) still; ended = λ is. still; all = inl still }
 
-drained_by : (a : Answered) (drained : Bool) (took r1 r2 left : List Message) → EndsBy (ending_by a) took → HasDrainedAfter a drained r1 r2 left → IsDrainedBy a drained took r1 r2 left
+drained_by : (a : Answered) (drained : Bool) (took r1 r2 left : List Message) → EndsBy (ending_by a) took → HasDrainedAfter a drained r1 r2 left
+    → IsDrainedBy a drained took r1 r2 left
 drained_by AnsweredMore true took r1 r2 left ends has =
     let ended = ended_after took has.more ends has.holds in
     record { rest = has.more; added = has.added; messages = has.messages; once = at_most_once (took ++ has.more) ended; ended = λ is. ended; all = inl ended }
 drained_by AnsweredMore false took r1 r2 left ends has =
-    record { rest = has.0.more; added = has.0.added; messages = has.0.messages; once = (More, ends_after More took has.0.more (ends_nothing took ends) has.0.holds); ended = λ is. absurd cc; all = inr has.1 }
+    record {
+      rest = has.0.more;
+      added = has.0.added;
+      messages = has.0.messages;
+      once = (More, ends_after More took has.0.more (ends_nothing took ends) has.0.holds);
+      ended = λ is. absurd cc;
+      all = inr has.1;
+    }
 drained_by AnsweredWhole drained took r1 r2 left ends has = nothing_more AnsweredWhole drained took r1 r2 left (inl ends) has.1
 drained_by AnsweredBrokenOff drained took r1 r2 left ends has = nothing_more AnsweredBrokenOff drained took r1 r2 left (inr ends) has.1
 
 -- the output is gone, and the input was drained
-pub output_gone : {F : Type 0} (at : F → Tool → List Message → List Message → Type 0) (all_given : F → Bool) (stopped : F → Option ToolFault) (first old fed new : SerialStage F) (m : Message) (a : Answered) (drained : Bool) (r r1 r2 r3 left s s1 s2 : List Message) (tool : Tool)
+pub output_gone : {F : Type 0} (at : F → Tool → List Message → List Message → Type 0) (all_given : F → Bool) (stopped : F → Option ToolFault)
+    (first old fed new : FusedFilter F) (m : Message) (a : Answered) (drained : Bool) (r r1 r2 r3 left s s1 s2 : List Message) (tool : Tool)
     → IsPassing at all_given stopped More first old r r1 s s1 → r2 ≡ r1 ++ m ∷ [] → IsMessage m
     → ((tool : Tool) (l g : List Message) → StageAt at all_given stopped old tool l g → StageBusy at stopped fed tool (l ++ m ∷ []) g)
     → HasSentAnswers at all_given stopped false fed new s1 s2 → ending_by a ≡ ending_of m → HasDrainedAfter a drained r2 r3 left
@@ -173,22 +204,26 @@ output_gone at all_given stopped first old fed new m a drained r r1 r2 r3 left s
 
 -- ---- the tool refused
 
-refused_at : {F : Type 0} (at : F → Tool → List Message → List Message → Type 0) (all_given : F → Bool) (stopped : F → Option ToolFault) (stage : SerialStage F) (fault : ToolFault) (tool : Tool) (l g : List Message) → refusal_in stage ≡ Some fault → StageAt at all_given stopped stage tool l g → HasRefused tool fault l g
+refused_at : {F : Type 0} (at : F → Tool → List Message → List Message → Type 0) (all_given : F → Bool) (stopped : F → Option ToolFault) (stage : FusedFilter F)
+    (fault : ToolFault) (tool : Tool) (l g : List Message) → refusal_in stage ≡ Some fault → StageAt at all_given stopped stage tool l g
+    → HasRefused tool fault l g
 refused_at at all_given stopped (AtWork filter) fault tool l g is stage = absurd cc
 refused_at at all_given stopped (Refused other) fault tool l g is stage =
     let same : other ≡ fault = cc in
     subst (λ (f : ToolFault). HasRefused tool f l g) same stage
 
 -- what a tool that refused has given goes on
-refusal_by : (tool : Tool) (fault : ToolFault) (e : Ending) (accepted rest g : List Message) → EndsBy e (accepted ++ rest) → ((fault ≡ Memory) × EndsBy More g) ⊎ (AnswersInFull tool accepted g × IsRefusedNext tool fault accepted rest) → EndsBy More g
+refusal_by : (tool : Tool) (fault : ToolFault) (e : Ending) (accepted rest g : List Message) → EndsBy e (accepted ++ rest) → ((fault ≡ Memory) × EndsBy More g)
+    ⊎ (AnswersInFull tool accepted g × IsRefusedNext tool fault accepted rest) → EndsBy More g
 refusal_by tool fault e accepted rest g ends (inl memory) = memory.1
 refusal_by tool fault e accepted [] g ends (inr refused) = absurd refused.1
-refusal_by tool fault e accepted (m ∷ rest) g ends (inr refused) = refused.0.ends More (front_goes_on e accepted m rest ends)
+refusal_by tool fault e accepted (m ∷ rest) g ends (inr refused) = refused.0.ends More (prefix_goes_on e accepted m rest ends)
 
 refusal_goes_on : (tool : Tool) (fault : ToolFault) (e : Ending) (l g : List Message) → EndsBy e l → HasRefused tool fault l g → EndsBy More g
 refusal_goes_on tool fault e l g ends has = refusal_by tool fault e has.accepted has.rest g (subst (EndsBy e) has.parts ends) has.refused
 
-next_stays : (tool : Tool) (fault : ToolFault) (accepted rest more : List Message) → IsRefusedNext tool fault accepted rest → IsRefusedNext tool fault accepted (rest ++ more)
+next_stays : (tool : Tool) (fault : ToolFault) (accepted rest more : List Message) → IsRefusedNext tool fault accepted rest
+    → IsRefusedNext tool fault accepted (rest ++ more)
 next_stays tool fault accepted [] more refused = absurd refused
 next_stays tool fault accepted (m ∷ rest) more refused = refused
 
@@ -212,10 +247,14 @@ record IsBroken (tool : Tool) (fault : ToolFault) (took gave : List Message) : T
   refused : HasRefused tool fault took gave
   unbroken : EndsBy More gave
 
-broken_due : (tool : Tool) (fault : ToolFault) (took gave rest : List Message) → HasRefused tool fault took gave → IsFrontOfDue (output_due tool) (took ++ rest) gave
-broken_due tool fault took gave rest has = due_goes_on (output_due tool) took gave rest (due_by_part tool took gave (record { accepted = has.accepted; rest = has.rest; parts = has.parts; answers = has.answers }))
+broken_due : (tool : Tool) (fault : ToolFault) (took gave rest : List Message) → HasRefused tool fault took gave
+    → IsPrefixOfDue (output_due tool) (took ++ rest) gave
+broken_due tool fault took gave rest has =
+    due_goes_on (output_due tool) took gave rest
+    (due_by_part tool took gave (record { accepted = has.accepted; rest = has.rest; parts = has.parts; answers = has.answers }))
 
-broken_off : (tool : Tool) (fault : ToolFault) (a : Answered) (end : StageEnd) (took gave r r1 r2 left s s1 s2 : List Message) → IsBroken tool fault took gave → EndsBy (ending_by a) took → r1 ≡ r ++ took → s1 ≡ s ++ gave
+broken_off : (tool : Tool) (fault : ToolFault) (a : Answered) (end : StageEnd) (took gave r r1 r2 left s s1 s2 : List Message) → IsBroken tool fault took gave
+    → EndsBy (ending_by a) took → r1 ≡ r ++ took → s1 ≡ s ++ gave
     → HasBrokenOffAfter fault a end r1 r2 left s1 s2 → HasRunStage tool end r r2 left s s2
 broken_off tool fault a end took gave r r1 r2 left s s1 s2 is ends received sent (inl faulted) =
     let by = drained_by a true took r1 r2 left ends faulted.2 in
@@ -226,7 +265,14 @@ broken_off tool fault a end took gave r r1 r2 left s s1 s2 is ends received sent
       output = longer_by s s1 gave s2 (Stop ∷ []) sent faulted.1;
       seen_taken = by.all;
       stage = record {
-        ended = subst (λ (e : StageEnd). HasEndedSo tool e (took ++ by.rest) (gave ++ Stop ∷ [])) (sym faulted.0) (record { given = gave; refused = drops_more tool fault took gave by.rest is.refused; unbroken = is.unbroken; answer = refl; ends = by.ended refl });
+        ended = subst (λ (e : StageEnd). HasEndedSo tool e (took ++ by.rest) (gave ++ Stop ∷ [])) (sym faulted.0)
+            (record {
+              given = gave;
+              refused = drops_more tool fault took gave by.rest is.refused;
+              unbroken = is.unbroken;
+              answer = refl;
+              ends = by.ended refl;
+            });
         messages = both_all IsMessage took by.rest is.messages by.messages;
         once = by.once;
         due = due_with_stop (output_due tool) (took ++ by.rest) gave is.unbroken (broken_due tool fault took gave by.rest is.refused);
@@ -264,42 +310,59 @@ broken_off tool fault a end took gave r r1 r2 left s s1 s2 is ends received sent
     }
 
 -- the tool refused at the last message, or at its start
-pub breaks_off : {F : Type 0} (at : F → Tool → List Message → List Message → Type 0) (all_given : F → Bool) (stopped : F → Option ToolFault) (e : Ending) (first now : SerialStage F) (fault : ToolFault) (a : Answered) (end : StageEnd) (r r1 r2 left s s1 s2 : List Message) (tool : Tool)
+pub breaks_off : {F : Type 0} (at : F → Tool → List Message → List Message → Type 0) (all_given : F → Bool) (stopped : F → Option ToolFault) (e : Ending)
+    (first now : FusedFilter F) (fault : ToolFault) (a : Answered) (end : StageEnd) (r r1 r2 left s s1 s2 : List Message) (tool : Tool)
     → IsPassing at all_given stopped e first now r r1 s s1 → ending_by a ≡ e → refusal_in now ≡ Some fault → HasBrokenOffAfter fault a end r1 r2 left s1 s2
     → StageAt at all_given stopped first tool [] [] → HasRunStage tool end r r2 left s s2
 breaks_off at all_given stopped e first now fault a end r r1 r2 left s s1 s2 tool passing says is broken fresh =
     let refused = refused_at at all_given stopped now fault tool passing.took passing.gave is (passing.stage tool fresh) in
     let unbroken = refusal_goes_on tool fault e passing.took passing.gave passing.ends refused in
-    broken_off tool fault a end passing.took passing.gave r r1 r2 left s s1 s2 (record { messages = passing.messages; refused = refused; unbroken = unbroken }) (subst (λ (x : Ending). EndsBy x passing.took) (sym says) passing.ends) passing.received passing.sent broken
+    broken_off tool fault a end passing.took passing.gave r r1 r2 left s s1 s2 (record { messages = passing.messages; refused = refused; unbroken = unbroken })
+    (subst (λ (x : Ending). EndsBy x passing.took) (sym says) passing.ends) passing.received passing.sent broken
 
 -- ---- the stream has ended
 
-idle_at : {F : Type 0} (at : F → Tool → List Message → List Message → Type 0) (all_given : F → Bool) (stopped : F → Option ToolFault) (stage : SerialStage F) (tool : Tool) (l g : List Message) → refusal_in stage ≡ None → StageAt at all_given stopped stage tool l g → AnswersInFull tool l g
+idle_at : {F : Type 0} (at : F → Tool → List Message → List Message → Type 0) (all_given : F → Bool) (stopped : F → Option ToolFault) (stage : FusedFilter F)
+    (tool : Tool) (l g : List Message) → refusal_in stage ≡ None → StageAt at all_given stopped stage tool l g → AnswersInFull tool l g
 idle_at at all_given stopped (AtWork filter) tool l g none idle = idle.full
 idle_at at all_given stopped (Refused fault) tool l g none has = absurd cc
 
-ended_by : (tool : Tool) (end : StageEnd) (e : Ending) (l g r r1 left s s1 : List Message) → IsEnded l → HasEndedSo tool end l g → AnswersInFull tool l g → AllByRecursion IsMessage l → r1 ≡ r ++ l → s1 ≡ s ++ g → HasRunStage tool end r r1 left s s1
+ended_by : (tool : Tool) (end : StageEnd) (e : Ending) (l g r r1 left s s1 : List Message) → IsEnded l → HasEndedSo tool end l g → AnswersInFull tool l g
+    → AllByRecursion IsMessage l → r1 ≡ r ++ l → s1 ≡ s ++ g → HasRunStage tool end r r1 left s s1
 ended_by tool end e l g r r1 left s s1 is ended full messages received sent = record {
   took = l;
   gave = g;
   input = received;
   output = sent;
   seen_taken = inl is;
-  stage = record { ended = ended; messages = messages; once = at_most_once l is; due = due_by_part tool l g (record { accepted = l; rest = []; parts = sym (append-nil l); answers = full.answers }) };
+  stage = record {
+    ended = ended;
+    messages = messages;
+    once = at_most_once l is;
+    due = due_by_part tool l g (record { accepted = l; rest = []; parts = sym (append-nil l); answers = full.answers });
+  };
 }
 
-pub ends_well : {F : Type 0} (at : F → Tool → List Message → List Message → Type 0) (all_given : F → Bool) (stopped : F → Option ToolFault) (e : Ending) (first now : SerialStage F) (r r1 left s s1 : List Message) (tool : Tool)
-    → IsPassing at all_given stopped e first now r r1 s s1 → Whole ≡ e → refusal_in now ≡ None → StageAt at all_given stopped first tool [] [] → HasRunStage tool Well r r1 left s s1
+pub ends_well : {F : Type 0} (at : F → Tool → List Message → List Message → Type 0) (all_given : F → Bool) (stopped : F → Option ToolFault) (e : Ending)
+    (first now : FusedFilter F) (r r1 left s s1 : List Message) (tool : Tool)
+    → IsPassing at all_given stopped e first now r r1 s s1 → Whole ≡ e → refusal_in now ≡ None → StageAt at all_given stopped first tool [] []
+    → HasRunStage tool Well r r1 left s s1
 ends_well at all_given stopped e first now r r1 left s s1 tool passing says none fresh =
     let full = idle_at at all_given stopped now tool passing.took passing.gave none (passing.stage tool fresh) in
     let whole : EndsBy Whole passing.took = subst (λ (x : Ending). EndsBy x passing.took) (sym says) passing.ends in
     let stream = is_stream_of passing.took passing.messages full.answers.lawful (ends_stream passing.took whole) in
-    let answered = full_answer_is_the_stream tool stream.0 passing.gave stream.1.images (subst (λ (x : List Message). AnswersInFull tool x passing.gave) stream.1.messages full) in
-    ended_by tool Well Whole passing.took passing.gave r r1 left s s1 (inl whole) (record { images = stream.0; results = answered.0; stream = stream.1; made = answered.1; answer = answered.2; full = full }) full passing.messages passing.received passing.sent
+    let answered = full_answer_is_the_stream tool stream.0 passing.gave stream.1.images
+    (subst (λ (x : List Message). AnswersInFull tool x passing.gave) stream.1.messages full) in
+    ended_by tool Well Whole passing.took passing.gave r r1 left s s1 (inl whole)
+    (record { images = stream.0; results = answered.0; stream = stream.1; made = answered.1; answer = answered.2; full = full }) full passing.messages
+    passing.received passing.sent
 
-pub ends_broken : {F : Type 0} (at : F → Tool → List Message → List Message → Type 0) (all_given : F → Bool) (stopped : F → Option ToolFault) (e : Ending) (first now : SerialStage F) (r r1 left s s1 : List Message) (tool : Tool)
-    → IsPassing at all_given stopped e first now r r1 s s1 → BrokenOff ≡ e → refusal_in now ≡ None → StageAt at all_given stopped first tool [] [] → HasRunStage tool Broken r r1 left s s1
+pub ends_broken : {F : Type 0} (at : F → Tool → List Message → List Message → Type 0) (all_given : F → Bool) (stopped : F → Option ToolFault) (e : Ending)
+    (first now : FusedFilter F) (r r1 left s s1 : List Message) (tool : Tool)
+    → IsPassing at all_given stopped e first now r r1 s s1 → BrokenOff ≡ e → refusal_in now ≡ None → StageAt at all_given stopped first tool [] []
+    → HasRunStage tool Broken r r1 left s s1
 ends_broken at all_given stopped e first now r r1 left s s1 tool passing says none fresh =
     let full = idle_at at all_given stopped now tool passing.took passing.gave none (passing.stage tool fresh) in
     let broken : EndsBy BrokenOff passing.took = subst (λ (x : Ending). EndsBy x passing.took) (sym says) passing.ends in
-    ended_by tool Broken BrokenOff passing.took passing.gave r r1 left s s1 (inr broken) (record { lawful = full.answers.lawful; ends = broken; full = full }) full passing.messages passing.received passing.sent
+    ended_by tool Broken BrokenOff passing.took passing.gave r r1 left s s1 (inr broken) (record { lawful = full.answers.lawful; ends = broken; full = full })
+    full passing.messages passing.received passing.sent

@@ -1,7 +1,7 @@
 pub mod Rings
 pub mod Limits
-pub mod Fronts
+pub mod Prefixes
 pub mod Stages
-pub mod SerialStages
+pub mod FusedFilters
 pub mod StageParts
 pub mod Starts

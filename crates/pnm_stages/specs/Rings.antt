@@ -4,11 +4,14 @@ use Rattle.std.specs.List.{AllByRecursion}
 use Rattle.pnm_image.specs.declared.message.Message.{Message}
 use Rattle.pnm_image.specs.Messages.{IsMessage}
 use Rattle.pnm_tools.specs.Answers.{Ending, More, Whole, BrokenOff, EndsBy}
-use Rattle.rtrb.specs.Ring.{sent as sent_on, received as received_on, known_items as known_items_on, known_free as known_free_on, IsPair as AreEndsOfRing, SameProducer as IsSameSendingEnd, SameConsumer as IsSameReceivingEnd}
+use Rattle.rtrb.specs.Ring.{sent as sent_on, received as received_on, known_items as known_items_on}
+use Rattle.rtrb.specs.Ring.{known_free as known_free_on, IsPair as AreEndsOfRing, SameProducer as IsSameSendingEnd}
+use Rattle.rtrb.specs.Ring.{SameConsumer as IsSameReceivingEnd}
 use Rattle.pnm_stages.specs.declared.sender.Sender.{Sender}
 use Rattle.pnm_stages.specs.declared.receiver.Receiver.{Receiver}
 use Rattle.pnm_stages.specs.declared.ending.Ending.{Ending as Answered}
-use Rattle.pnm_stages.specs.declared.ending.Ending.TheVariants.{More as AnsweredMore, Whole as AnsweredWhole, BrokenOff as AnsweredBrokenOff}
+use Rattle.pnm_stages.specs.declared.ending.Ending.TheVariants.{More as AnsweredMore, Whole as AnsweredWhole}
+use Rattle.pnm_stages.specs.declared.ending.Ending.TheVariants.{BrokenOff as AnsweredBrokenOff}
 
 -- ---- the two ends of a ring
 
@@ -60,13 +63,13 @@ pub record Extends (old new : List Message) (P : List Message → Type 0) : Type
   pub messages : AllByRecursion IsMessage more
   pub holds : P more
 
--- messages were taken through the end of the stream; or none of those that were taken ends it, and no message is left of
--- those that the receiving end has seen. Whether there are more, one end of a ring alone doesn't know.
+-- messages were taken through the end of the stream; or none of those that were taken ends it, and no message is left
+-- of those that the receiving end has seen. Whether there are more, one end of a ring alone doesn't know.
 abbrev pub HasDrained : Bool → List Message → List Message → List Message → Type 0
 HasDrained true old new seen = Extends old new IsEnded
 HasDrained false old new seen = Extends old new (EndsBy More) × (seen ≡ [])
 
--- the same after a message with this ending: after one that ends the stream nothing is drained
+-- messages were drained after one with this ending: after one that ends the stream nothing is
 abbrev pub HasDrainedAfter : Answered → Bool → List Message → List Message → List Message → Type 0
 HasDrainedAfter AnsweredMore drained old new seen = HasDrained drained old new seen
 HasDrainedAfter AnsweredWhole drained old new seen = (drained ≡ true) × (new ≡ old)

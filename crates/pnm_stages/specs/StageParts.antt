@@ -6,13 +6,13 @@ use Rattle.pnm_tools.specs.declared.fault.ToolFault.{ToolFault}
 use Rattle.pnm_tools.specs.declared.tool.Tool.{Tool}
 use Rattle.pnm_tools.specs.Answers.{Answers}
 use Rattle.pnm_stages.specs.declared.ending.Ending.{Ending}
-use Rattle.pnm_stages.specs.declared.serial_stage.SerialStage.{SerialStage}
+use Rattle.pnm_stages.specs.declared.fused_filter.FusedFilter.{FusedFilter}
 use Rattle.pnm_stages.specs.declared.stage.StageEnd.{StageEnd}
 use Rattle.pnm_stages.specs.declared.stage.StageEnd.TheVariants.{Fault, PeerGone}
 use Rattle.pnm_stages.specs.Rings.{HasDrainedAfter}
-use Rattle.pnm_stages.specs.SerialStages.{StageAt, StageBusy}
+use Rattle.pnm_stages.specs.FusedFilters.{StageAt, StageBusy}
 
--- what was given answers a front of what was received
+-- what was given answers a prefix of what was received
 pub record HasAnsweredPart (tool : Tool) (received given : List Message) : Type 0 where
   pub accepted : List Message
   pub rest : List Message
@@ -20,16 +20,23 @@ pub record HasAnsweredPart (tool : Tool) (received given : List Message) : Type 
   pub answers : Answers tool accepted given
 
 -- a tool has sent answers: all that it owed, or until the other end was seen dropped
-pub record HasSentAnswers {F : Type 0} (at : F → Tool → List Message → List Message → Type 0) (all_given : F → Bool) (stopped : F → Option ToolFault) (all : Bool) (old new : SerialStage F) (sent_old sent_new : List Message) : Type 0 where
+pub record HasSentAnswers {F : Type 0} (at : F → Tool → List Message → List Message → Type 0) (all_given : F → Bool)
+    (stopped : F → Option ToolFault) (all : Bool) (old new : FusedFilter F)
+    (sent_old sent_new : List Message) : Type 0 where
   pub more : List Message
   pub added : sent_new ≡ sent_old ++ more
-  pub full : all ≡ true → (tool : Tool) (l g : List Message) → StageBusy at stopped old tool l g → StageAt at all_given stopped new tool l (g ++ more)
+  pub full : all ≡ true → (tool : Tool) (l g : List Message) → StageBusy at stopped old tool l g
+      → StageAt at all_given stopped new tool l (g ++ more)
   pub part : (tool : Tool) (l g : List Message) → StageBusy at stopped old tool l g → HasAnsweredPart tool l (g ++ more)
 
--- a stage was broken off after a message with this ending: Stop was sent and the input was drained; or Stop wasn't sent, or
--- the input wasn't drained, since the other end of a ring was seen dropped
-abbrev pub HasBrokenOffAfter : ToolFault → Ending → StageEnd → List Message → List Message → List Message → List Message → List Message → Type 0
+-- a stage was broken off after a message with this ending: Stop was sent and the input was drained; or Stop wasn't
+-- sent, or the input wasn't drained, since the other end of a ring was seen dropped
+abbrev pub HasBrokenOffAfter : ToolFault → Ending → StageEnd → List Message → List Message → List Message → List Message
+    → List Message → Type 0
 HasBrokenOffAfter fault ending end received_old received_new seen sent_old sent_new =
-    ((end ≡ Fault fault) × (sent_new ≡ sent_old ++ Stop ∷ []) × HasDrainedAfter ending true received_old received_new seen)
-    ⊎ ((end ≡ PeerGone) × (sent_new ≡ sent_old ++ Stop ∷ []) × HasDrainedAfter ending false received_old received_new seen)
-    ⊎ ((end ≡ PeerGone) × (sent_new ≡ sent_old) × ((drained : Bool) × HasDrainedAfter ending drained received_old received_new seen))
+    ((end ≡ Fault fault) × (sent_new ≡ sent_old ++ Stop ∷ [])
+    × HasDrainedAfter ending true received_old received_new seen)
+    ⊎ ((end ≡ PeerGone) × (sent_new ≡ sent_old ++ Stop ∷ [])
+    × HasDrainedAfter ending false received_old received_new seen)
+    ⊎ ((end ≡ PeerGone) × (sent_new ≡ sent_old)
+    × ((drained : Bool) × HasDrainedAfter ending drained received_old received_new seen))

@@ -14,7 +14,7 @@ use Rattle.pnm_tools.specs.ChainAnswers.{HasRefused}
 use Rattle.pnm_tools.specs.Tools.{output_due}
 use Rattle.pnm_stages.specs.declared.stage.StageEnd.{StageEnd}
 use Rattle.pnm_stages.specs.declared.stage.StageEnd.TheVariants.{Well, Broken, Fault, PeerGone}
-use Rattle.pnm_stages.specs.Fronts.{IsFrontOfDue}
+use Rattle.pnm_stages.specs.Prefixes.{IsPrefixOfDue}
 use Rattle.pnm_stages.specs.Rings.{IsEnded, EndsAtMostOnce}
 
 -- ---- how it ended
@@ -57,11 +57,12 @@ pub record IsStage (tool : Tool) (end : StageEnd) (l g : List Message) : Type 0 
   pub ended : HasEndedSo tool end l g
   pub messages : AllByRecursion IsMessage l
   pub once : EndsAtMostOnce l
-  pub due : IsFrontOfDue (output_due tool) l g
+  pub due : IsPrefixOfDue (output_due tool) l g
 
--- a stage has ended so, by the messages that its two rings had passed before and have passed now, and those of the first
--- that its end has seen and not received: none, or the end of the stream was received
-pub record HasRunStage (tool : Tool) (end : StageEnd) (received_old received_new seen sent_old sent_new : List Message) : Type 0 where
+-- a stage has ended so, by the messages that its two rings had passed before and have passed now, and those of the
+-- first that its end has seen and not received: none, or the end of the stream was received
+pub record HasRunStage (tool : Tool) (end : StageEnd)
+    (received_old received_new seen sent_old sent_new : List Message) : Type 0 where
   pub took : List Message
   pub gave : List Message
   pub input : received_new ≡ received_old ++ took

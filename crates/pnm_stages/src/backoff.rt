@@ -1,4 +1,5 @@
-//! How a thread waits at one end of a ring: it yields for some turns, and then sleeps until the other end's thread wakes it.
+//! How a thread waits at one end of a ring: it yields for some turns, and then sleeps until the other end's thread
+//! wakes it.
 
 use std::sync::Wait;
 use std::thread;
@@ -11,14 +12,15 @@ const MOST_YIELDS: u32 = 100;
 /// And so many at least, where the last waits have yielded in vain.
 const LEAST_YIELDS: u32 = 4;
 
-/// The first sleep of a thread that waits for several rings, in microseconds. Each later one is twice as long, so often: the
-/// last ones are short enough to be over within 2 milliseconds, and long enough to take less than a hundredth of a processor.
+/// The first sleep of a thread that waits for several rings, in microseconds. Each later one is twice as long, so
+/// often: the last ones are short enough to be over within 2 milliseconds, and long enough to take less than a
+/// hundredth of a processor.
 const FIRST_SLEEP: u64 = 28;
 
 const DOUBLINGS: u32 = 6;
 
-/// A sleep that a neighbour ends, in milliseconds: it lasts so long only where nothing moves, and bounds what it would cost
-/// if nobody did.
+/// A sleep that a neighbour ends, in milliseconds: it lasts so long only where nothing moves, and bounds what it would
+/// cost if nobody did.
 const LONG_SLEEP: u64 = 400;
 
 /// How a thread waits, and what it has learnt of its last waits.
@@ -47,7 +49,8 @@ impl Backoff {
         }
     }
 
-    /// Of a thread that waits for several rings at once. It sleeps by the waker of one of them, for 1.8 ms at most each time.
+    /// Of a thread that waits for several rings at once. It sleeps by the waker of one of them, for 1.8 ms at most each
+    /// time.
     pub fn among_several() -> Backoff {
         Backoff {
             is_brief: true,

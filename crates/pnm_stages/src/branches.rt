@@ -72,8 +72,8 @@ pub fn run_both<
     )
 }
 
-/// A closure as a task: for a function that starts itself again beside other work, since a cycle of calls can't go through a
-/// struct that is a task.
+/// A closure as a task: for a function that starts itself again beside other work, since a cycle of calls can't go
+/// through a struct that is a task.
 #[derive(Drop)]
 pub struct Call<F>(pub F);
 

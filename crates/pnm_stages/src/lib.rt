@@ -1,23 +1,23 @@
-//! Stages: a tool in a thread of its own, between two rings of messages; the rings, how a thread waits for its neighbours,
-//! and what threads side by side are started with.
+//! Stages: a tool in a thread of its own, between two rings of messages; the rings, how a thread waits for its
+//! neighbours, and what threads side by side are started with.
 #![tactic(auto)]
 
 mod backoff;
 mod branches;
 mod ending;
+mod fused_filter;
 pub mod laws;
 mod receiver;
 mod ring;
 mod sender;
-mod serial_stage;
 mod stage;
 mod wakers;
 
 pub use backoff::Backoff;
 pub use branches::{Call, Idle, NoStart, Task, run_both};
 pub use ending::{Ending, ends_image};
+pub use fused_filter::{FusedFilter, filter_of, row_filter_of};
 pub use receiver::Receiver;
 pub use ring::{AnyMessage, MAX_RING_CAPACITY, new_ring};
 pub use sender::Sender;
-pub use serial_stage::{SerialStage, row_stage_of, stage_of};
 pub use stage::{Gate, OpenGate, StageDone, StageEnd, run_filter, run_stage};

@@ -2,7 +2,8 @@
 
 ghost use Rattle.std.specs.Prelude.{◌≡◌, ◌<◌, [], ◌∷◌, ◌++◌, length, IfSome, IfNone, IsTrue, IsFalse};
 ghost use Rattle.pnm_image.specs.Messages.{IsMessage};
-ghost use Rattle.pnm_stages.specs.Rings.{sent, received, known_items, IsPair, SameProducer, SameConsumer, HasDrained, HasDrainedAfter};
+ghost use Rattle.pnm_stages.specs.Rings.{sent, received, known_items, IsPair, SameProducer, SameConsumer, HasDrained};
+ghost use Rattle.pnm_stages.specs.Rings.{HasDrainedAfter};
 
 use crate::backoff::Backoff;
 use crate::ending::Ending;
@@ -56,8 +57,9 @@ impl Receiver {
         self.ring.is_abandoned()
     }
 
-    /// The next message, which is there. It wakes the thread at the sending end on the edge: where none is left of the messages
-    /// that were seen, or half a ring of them. So that one is woken once after it found no room, and seldom while it finds some.
+    /// The next message, which is there. It wakes the thread at the sending end on the edge: where none is left of the
+    /// messages that were seen, or half a ring of them. So that one is woken once after it found no room, and seldom
+    /// while it finds some.
     pub fn receive_known(&mut self) -> Message
         requires { 0 < length (known_items self.old) }
         ensures ring { SameConsumer self.old self.new }
@@ -87,7 +89,8 @@ impl Receiver {
         }
     }
 
-    /// What was received, and what is left of the messages then, are all that was sent, since both ends of the ring are here.
+    /// What was received, and what is left of the messages then, are all that was sent, since both ends of the ring are
+    /// here.
     pub fn look_beside(&mut self, sender: &mut Sender)
         requires { IsPair sender.old self.old }
         ensures looked { SameConsumer self.old self.new × (received self.new ≡ received self.old) }
@@ -97,8 +100,8 @@ impl Receiver {
         self.ring.slots_beside(&mut sender.ring);
     }
 
-    /// The next message, once there is one; none once the ring is empty and its other end was seen dropped. That it is empty is
-    /// known only of the messages that this end has seen in it.
+    /// The next message, once there is one; none once the ring is empty and its other end was seen dropped. That it is
+    /// empty is known only of the messages that this end has seen in it.
     pub fn receive<R: Wait>(&mut self, rt: &R, backoff: &mut Backoff) -> Option<Message>
         ensures ring { SameConsumer self.old self.new }
         ensures taken { IfSome result (λ m. received self.new ≡ received self.old ++ m ∷ []) }
@@ -119,7 +122,8 @@ impl Receiver {
         unreachable!()
     }
 
-    /// Receives and drops what comes, through the end of the stream or Stop; false where the sending end was seen dropped before.
+    /// Receives and drops what comes, through the end of the stream or Stop; false where the sending end was seen
+    /// dropped before.
     pub fn drain<R: Wait>(&mut self, rt: &R, backoff: &mut Backoff) -> bool
         ensures ring { SameConsumer self.old self.new }
         ensures drained { HasDrained result (received self.old) (received self.new) (known_items self.new) }
@@ -138,8 +142,8 @@ impl Receiver {
         unreachable!()
     }
 
-    /// After a message with this ending, receives and drops what comes through to the end of the stream; false where the sending
-    /// end was seen dropped before.
+    /// After a message with this ending, receives and drops what comes through to the end of the stream; false where
+    /// the sending end was seen dropped before.
     pub fn drain_after<R: Wait>(&mut self, rt: &R, ending: Ending, backoff: &mut Backoff) -> bool
         ensures ring { SameConsumer self.old self.new }
         ensures drained { HasDrainedAfter ending result (received self.old) (received self.new) (known_items self.new) }

@@ -11,8 +11,8 @@ use rtrb::Producer;
 use std::alloc::Global;
 use std::sync::Wait;
 
-/// How many short rows at most are sent before the thread at the receiving end is woken for them: an eighth of an exchange a
-/// row is next to nothing, and so few are soon made.
+/// How many short rows at most are sent before the thread at the receiving end is woken for them: an eighth of an
+/// exchange a row is next to nothing, and so few are soon made.
 const MOST_ROWS: usize = 8;
 
 /// A row with fewer samples is short: some of them are made in less time than a sleeping thread takes to wake.
@@ -30,7 +30,8 @@ pub struct Sender {
 }
 
 impl Sender {
-    /// The end of this ring, with what it has of the ring's wakers. Each message that it sends wakes the other end's thread.
+    /// The end of this ring, with what it has of the ring's wakers. Each message that it sends wakes the other end's
+    /// thread.
     pub(crate) fn new(ring: Producer<Message, Global, AnyMessage>, waker: SenderWaker) -> Sender
         ensures { result.ring ≡ ring }
     {
@@ -42,8 +43,8 @@ impl Sender {
         }
     }
 
-    /// From now on the thread at the receiving end is woken once for several short rows, for a quarter of the ring at most. So
-    /// this one has to tell it of them (`tell`) before it waits for anything but room in this ring.
+    /// From now on the thread at the receiving end is woken once for several short rows, for a quarter of the ring at
+    /// most. So this one has to tell it of them (`tell`) before it waits for anything but room in this ring.
     pub fn hold_back(&mut self)
         ensures ring { SameProducer self.old self.new }
         ensures sent { sent self.new ≡ sent self.old }
@@ -94,8 +95,8 @@ impl Sender {
         }
     }
 
-    /// Sends the message, once there is room; false, and the message is lost, where there is none and the receiving end was
-    /// seen dropped.
+    /// Sends the message, once there is room; false, and the message is lost, where there is none and the receiving end
+    /// was seen dropped.
     pub fn send<R: Wait>(&mut self, rt: &R, message: Message, backoff: &mut Backoff) -> bool
         ensures ring { SameProducer self.old self.new }
         ensures given { IsTrue result → sent self.new ≡ sent self.old ++ message ∷ [] }

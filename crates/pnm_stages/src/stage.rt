@@ -4,15 +4,15 @@ ghost use Rattle.std.specs.Prelude.{◌≡◌, [], ◌++◌, List};
 ghost use Rattle.pnm_tools.specs.declared.tool.Tool.{Tool as ToolValue};
 ghost use Rattle.pnm_tools.specs.Tools.{IsLawfulTool};
 ghost use Rattle.pnm_stages.specs.Rings.{sent, received, known_items, SameProducer, SameConsumer};
-ghost use Rattle.pnm_stages.specs.SerialStages.{StageAt};
+ghost use Rattle.pnm_stages.specs.FusedFilters.{StageAt};
 ghost use Rattle.pnm_stages.specs.Stages.{HasRunStage};
 ghost use Rattle.pnm_stages.specs.StageParts.{HasSentAnswers, HasBrokenOffAfter};
 
 use crate::backoff::Backoff;
 use crate::ending::Ending;
+use crate::fused_filter::{FusedFilter, filter_of};
 use crate::receiver::Receiver;
 use crate::sender::Sender;
-use crate::serial_stage::{SerialStage, stage_of};
 use pnm_image::Message;
 use pnm_tools::{Filter, Tool, ToolFault};
 use std::alloc::Global;
@@ -79,13 +79,14 @@ pub fn run_stage<R: Wait, G: Gate>(
         (sent output) (sent result.output) }
 {
     gate.arrive(number, 0);
-    run_filter(rt, stage_of(alloc, tool), input, output)
+    run_filter(rt, filter_of(alloc, tool), input, output)
 }
 
-/// Passes what comes on `input` through a tool at work, or one that has refused, to `output`, as `run_stage` does behind its gate.
+/// Passes what comes on `input` through a tool at work, or one that has refused, to `output`, as `run_stage` does
+/// behind its gate.
 pub fn run_filter<R: Wait, F: Filter + Drop>(
     rt: &R,
-    stage: SerialStage<F>,
+    stage: FusedFilter<F>,
     input: Receiver,
     output: Sender,
 ) -> StageDone
@@ -106,7 +107,7 @@ pub fn run_filter<R: Wait, F: Filter + Drop>(
 /// Passes on all messages through to the end of the stream.
 fn pass_all<R: Wait, F: Filter + Drop>(
     rt: &R,
-    stage: &mut SerialStage<F>,
+    stage: &mut FusedFilter<F>,
     input: &mut Receiver,
     output: &mut Sender,
 ) -> StageEnd
@@ -158,12 +159,13 @@ fn tell_before_wait(input: &Receiver, output: &mut Sender)
 /// was seen dropped before.
 fn send_answers<R: Wait, F: Filter + Drop>(
     rt: &R,
-    stage: &mut SerialStage<F>,
+    stage: &mut FusedFilter<F>,
     output: &mut Sender,
     backoff: &mut Backoff,
 ) -> bool
     ensures output { SameProducer output.old output.new }
-    ensures sent { HasSentAnswers F.at F.all_given F.stopped result stage.old stage.new (sent output.old) (sent output.new) }
+    ensures sent { HasSentAnswers F.at F.all_given F.stopped result stage.old stage.new (sent output.old)
+        (sent output.new) }
 {
     while let Some(answer) = stage.next() {
         if !output.send(rt, answer, backoff) {
@@ -188,7 +190,8 @@ fn break_off<R: Wait>(
 ) -> StageEnd
     ensures input { SameConsumer input.old input.new }
     ensures output { SameProducer output.old output.new }
-    ensures broken { HasBrokenOffAfter fault ending result (received input.old) (received input.new) (known_items input.new)
+    ensures broken { HasBrokenOffAfter fault ending result (received input.old) (received input.new)
+        (known_items input.new)
         (sent output.old) (sent output.new) }
 {
     let told = output.send(rt, Message::Stop, backoff);

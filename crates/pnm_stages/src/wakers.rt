@@ -4,8 +4,8 @@ use std::alloc::Global;
 use std::sync::Arc;
 use std::thread::Parker;
 
-/// What the thread at one end of a ring sleeps by. The thread at the other end alone wakes it: so to wake a thread at work
-/// costs an exchange on a cache line that no other thread writes, since it shares that with nothing.
+/// What the thread at one end of a ring sleeps by. The thread at the other end alone wakes it: so to wake a thread at
+/// work costs an exchange on a cache line that no other thread writes, since it shares that with nothing.
 #[derive(Drop)]
 struct Waker {
     _before: [u64; 7],

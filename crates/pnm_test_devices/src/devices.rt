@@ -61,10 +61,10 @@ impl<'a> Drips<'a> {
 }
 
 impl Read for Drips<'_> {
-    fn read(&mut self, room: &mut [u8]) -> io::Result<usize> {
+    fn read(&mut self, buffer: &mut [u8]) -> io::Result<usize> {
         self.reads.call()?;
-        let most = room.len().min(self.most);
-        self.rest.read(&mut room[..most])
+        let most = buffer.len().min(self.most);
+        self.rest.read(&mut buffer[..most])
     }
 }
 
@@ -167,13 +167,13 @@ impl<R: Read + Drop> Recorded<R> {
 }
 
 impl<R: Read + Drop> Read for Recorded<R> {
-    fn read(&mut self, room: &mut [u8]) -> io::Result<usize> {
-        let given = self.reader.read(&mut *room);
+    fn read(&mut self, buffer: &mut [u8]) -> io::Result<usize> {
+        let given = self.reader.read(&mut *buffer);
         let count = match &given {
             Ok(count) => *count,
             Err(_) => 0,
         };
-        self.calls.push((room.len(), count))?;
+        self.calls.push((buffer.len(), count))?;
         given
     }
 }
@@ -203,9 +203,9 @@ impl<R: Read + Drop> ReadOut<R> {
 }
 
 impl<R: Read + Drop> Read for ReadOut<R> {
-    fn read(&mut self, room: &mut [u8]) -> io::Result<usize> {
+    fn read(&mut self, buffer: &mut [u8]) -> io::Result<usize> {
         self.is_read_on = self.is_read_on || self.has_ended;
-        let given = self.reader.read(room);
+        let given = self.reader.read(buffer);
         if let Ok(0) = &given {
             self.has_ended = true;
         }

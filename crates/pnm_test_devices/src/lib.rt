@@ -1,5 +1,5 @@
-//! What tests share: devices that give and take few bytes a call, or fail; what messages are made of; and, of the programs
-//! that tell what comes of written cases, how a case is written and how an answer is told.
+//! What tests share: devices that give and take few bytes a call, or fail; what messages are made of; and, of the
+//! programs that tell what comes of written cases, how a case is written and how an answer is told.
 #![tactic(auto)]
 
 mod cases;

@@ -33,9 +33,9 @@ impl From<io::Error> for Unmade {
     }
 }
 
-/// Adds the message that a line begins with, its row in as few bits as hold its samples, or in words. Gives what follows
-/// it. `[#COUNT,FIRST,STEP,MODULUS,LENGTH]` stands for rows of so many samples: in all COUNT, FIRST plus k times STEP
-/// modulo MODULUS.
+/// Adds the message that a line begins with, its row in as few bits as hold its samples, or in words. Gives what
+/// follows it. `[#COUNT,FIRST,STEP,MODULUS,LENGTH]` stands for rows of so many samples: in all COUNT, FIRST plus k
+/// times STEP modulo MODULUS.
 pub fn cut_messages<'a>(
     alloc: Global,
     line: &'a [u8],

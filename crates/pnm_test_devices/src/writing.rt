@@ -33,10 +33,10 @@ pub fn cut_number(line: &[u8]) -> (usize, &[u8]) {
     (number, rest)
 }
 
-/// The bytes that a written text stands for. A byte stands for itself, but for a backslash: `\n`, `\t`, `\r` and `\xHH` are
-/// the byte that they are in Rust, and any other byte after it is itself. `\N(PART)` stands for the part so many times,
-/// and `\#COUNT,FIRST,STEP,MODULUS,BYTES;` for so many numbers, FIRST plus k times STEP modulo MODULUS, of so many bytes
-/// each, or in decimal with a blank after each where that is 0.
+/// The bytes that a written text stands for. A byte stands for itself, but for a backslash: `\n`, `\t`, `\r` and `\xHH`
+/// are the byte that they are in Rust, and any other byte after it is itself. `\N(PART)` stands for the part so many
+/// times, and `\#COUNT,FIRST,STEP,MODULUS,BYTES;` for so many numbers, FIRST plus k times STEP modulo MODULUS, of so
+/// many bytes each, or in decimal with a blank after each where that is 0.
 pub fn text_of(alloc: Global, written: &[u8]) -> Result<Vec<u8>, AllocError> {
     let mut text = Vec::new(alloc);
     let mut rest = written;

@@ -8,14 +8,14 @@ use Rattle.pnm_image.specs.Heads.{HeadValue}
 use Rattle.pnm_image.specs.Messages.{without_stop}
 use Rattle.pnm_image.specs.Places.{IsLawfulFrom, IsLawful, place_after}
 use Rattle.pnm_image.specs.Images.{Image}
-use Rattle.pnm_image.specs.Completion.{IsFrontOf, Completes}
+use Rattle.pnm_image.specs.Completion.{IsPrefixOf, Completes}
 use Rattle.pnm_tools.specs.declared.fault.ToolFault.{ToolFault}
 use Rattle.pnm_tools.specs.declared.tool.Tool.{Tool}
 use Rattle.pnm_tools.specs.Tools.{AreTaken, result_head, row_answer, end_answer, output_due}
 use Rattle.pnm_tools.specs.Answers.{More, BrokenOff, ending_of, EndsBy, Answers}
-use Rattle.pnm_tools.specs.Answering.{answered, answered_from}
+use Rattle.pnm_tools.specs.Answering.{answers_at, answers_from}
 use Rattle.pnm_tools.specs.States.{IsAnswering}
-use Rattle.pnm_tools.proofs.AnsweringLaws.{AnswersImages, answered_from-append, answers_are_due}
+use Rattle.pnm_tools.proofs.AnsweringLaws.{AnswersImages, answers_from-append, answers_are_due}
 
 -- no message is Stop
 abbrev pub GoOn : List Message → Type 0
@@ -66,7 +66,7 @@ cuts_stop (Stop ∷ a) p = absurd p
 
 -- a lawful list goes on, or does but for a last Stop
 abbrev pub StopsLast : List Message → Type 0
-StopsLast l = GoOn l ⊎ ((front : List Message) × (l ≡ front ++ Stop ∷ []) × GoOn front)
+StopsLast l = GoOn l ⊎ ((prefix : List Message) × (l ≡ prefix ++ Stop ∷ []) × GoOn prefix)
 
 more_stops : (m : Message) (l : List Message) → ((a : List Message) → GoOn a → GoOn (m ∷ a)) → StopsLast l → StopsLast (m ∷ l)
 more_stops m l on (inl p) = inl (on l p)
@@ -86,29 +86,34 @@ head_goes_on : (r : Result HeadValue ToolFault) → GoOn (elim r [ Ok result ↦
 head_goes_on (Ok result) = tt
 head_goes_on (Err fault) = tt
 
-pub answers_go_on : (tool : Tool) (place : Place) (rows : List (List ℕ)) (l : List Message) → GoOn l → GoOn (answered_from tool place rows l)
+pub answers_go_on : (tool : Tool) (place : Place) (rows : List (List ℕ)) (l : List Message) → GoOn l → GoOn (answers_from tool place rows l)
 answers_go_on tool place rows [] p = tt
-answers_go_on tool place rows (Begin head ∷ l) p = both_go_on (answered tool place rows (Begin head)) (answered_from tool (place_after place (Begin head)) [] l) (head_goes_on (result_head tool head)) (answers_go_on tool (place_after place (Begin head)) [] l p)
+answers_go_on tool place rows (Begin head ∷ l) p =
+    both_go_on (answers_at tool place rows (Begin head)) (answers_from tool (place_after place (Begin head)) [] l) (head_goes_on (result_head tool head))
+    (answers_go_on tool (place_after place (Begin head)) [] l p)
 answers_go_on tool Between rows (Row row ∷ l) p = answers_go_on tool Between (rows ++ row ∷ []) l p
-answers_go_on tool (Inside s y) rows (Row row ∷ l) p = both_go_on (map Row (row_answer tool s y row)) (answered_from tool (Inside s (y + 1)) (rows ++ row ∷ []) l) (rows_go_on (row_answer tool s y row)) (answers_go_on tool (Inside s (y + 1)) (rows ++ row ∷ []) l p)
+answers_go_on tool (Inside s y) rows (Row row ∷ l) p =
+    both_go_on (map Row (row_answer tool s y row)) (answers_from tool (Inside s (y + 1)) (rows ++ row ∷ []) l) (rows_go_on (row_answer tool s y row))
+    (answers_go_on tool (Inside s (y + 1)) (rows ++ row ∷ []) l p)
 answers_go_on tool After rows (Row row ∷ l) p = answers_go_on tool After (rows ++ row ∷ []) l p
 answers_go_on tool Between rows (ImageEnd ∷ l) p = answers_go_on tool Between [] l p
-answers_go_on tool (Inside s y) rows (ImageEnd ∷ l) p = both_go_on (map Row (end_answer tool s rows) ++ ImageEnd ∷ []) (answered_from tool Between [] l) (both_go_on (map Row (end_answer tool s rows)) (ImageEnd ∷ []) (rows_go_on (end_answer tool s rows)) tt) (answers_go_on tool Between [] l p)
+answers_go_on tool (Inside s y) rows (ImageEnd ∷ l) p = both_go_on (map Row (end_answer tool s rows) ++ ImageEnd ∷ []) (answers_from tool Between [] l)
+    (both_go_on (map Row (end_answer tool s rows)) (ImageEnd ∷ []) (rows_go_on (end_answer tool s rows)) tt) (answers_go_on tool Between [] l p)
 answers_go_on tool After rows (ImageEnd ∷ l) p = answers_go_on tool Between [] l p
 answers_go_on tool place rows (StreamEnd ∷ l) p = answers_go_on tool After [] l p
 answers_go_on tool place rows (Stop ∷ l) p = absurd p
 
 -- ---- the relation of a state with what it accepted and gave
 
-taken_front : (tool : Tool) (a b : List Message) → AreTaken tool (a ++ b) → AreTaken tool a
-taken_front tool [] b t = tt
-taken_front tool (Begin head ∷ a) b t = (t.0, taken_front tool a b t.1)
-taken_front tool (Row row ∷ a) b t = taken_front tool a b t
-taken_front tool (ImageEnd ∷ a) b t = taken_front tool a b t
-taken_front tool (StreamEnd ∷ a) b t = taken_front tool a b t
-taken_front tool (Stop ∷ a) b t = taken_front tool a b t
+taken_prefix : (tool : Tool) (a b : List Message) → AreTaken tool (a ++ b) → AreTaken tool a
+taken_prefix tool [] b t = tt
+taken_prefix tool (Begin head ∷ a) b t = (t.0, taken_prefix tool a b t.1)
+taken_prefix tool (Row row ∷ a) b t = taken_prefix tool a b t
+taken_prefix tool (ImageEnd ∷ a) b t = taken_prefix tool a b t
+taken_prefix tool (StreamEnd ∷ a) b t = taken_prefix tool a b t
+taken_prefix tool (Stop ∷ a) b t = taken_prefix tool a b t
 
--- a front of a list with one message more is all of it, or a front of the list
+-- a prefix of a list with one message more is all of it, or a prefix of the list
 abbrev IsWithin : List Message → Message → List Message → Type 0
 IsWithin a x g = (g ≡ a ++ x ∷ []) ⊎ ((more : List Message) × (a ≡ g ++ more))
 
@@ -124,27 +129,30 @@ within (k ∷ a) x (m ∷ g) waiting e =
       | inr h ↦ inr (h.0, ap (λ (l : List Message). k ∷ l) h.1 ∙ ap (λ (j : Message). j ∷ (g ++ h.0)) first)
     ]
 
--- what was given goes on, and is a front of what is due
-front_on : (due a g waiting r : List Message) → GoOn a → a ≡ g ++ waiting → due ≡ a ++ r → IsFrontOf (without_stop g) due
-front_on due a g waiting r on e d =
+-- what was given goes on, and is a prefix of what is due
+prefix_on : (due a g waiting r : List Message) → GoOn a → a ≡ g ++ waiting → due ≡ a ++ r → IsPrefixOf (without_stop g) due
+prefix_on due a g waiting r on e d =
     let goes : GoOn g = first_goes_on g waiting (subst GoOn e on) in
     (waiting ++ r, d ∙ ap (λ (l : List Message). l ++ r) e ∙ append_assoc g waiting r ∙ ap (λ (l : List Message). l ++ (waiting ++ r)) (sym (keeps_all g goes)))
 
-front_stop : (due a g r : List Message) → GoOn a → due ≡ a ++ r → IsWithin a Stop g → IsFrontOf (without_stop g) due
-front_stop due a g r on d (inl all) = (r, d ∙ ap (λ (l : List Message). l ++ r) (sym (cuts_stop a on) ∙ ap without_stop (sym all)))
-front_stop due a g r on d (inr h) = front_on due a g h.0 r on h.1 d
+prefix_stop : (due a g r : List Message) → GoOn a → due ≡ a ++ r → IsWithin a Stop g → IsPrefixOf (without_stop g) due
+prefix_stop due a g r on d (inl all) = (r, d ∙ ap (λ (l : List Message). l ++ r) (sym (cuts_stop a on) ∙ ap without_stop (sym all)))
+prefix_stop due a g r on d (inr h) = prefix_on due a g h.0 r on h.1 d
 
-front_of_due : (tool : Tool) (l g waiting : List Message) (is : List Image) → AnswersImages tool → IsAnswering tool l g waiting → StopsLast l → Completes is l → IsFrontOf (without_stop g) (output_due tool is)
-front_of_due tool l g waiting is answers at (inl on) c =
-    let due = answers_are_due tool is l c.front.0 answers c.images (c.front.1 ∙ ap (λ (x : List Message). x ++ c.front.0) (keeps_all l on)) at.taken in
-    front_on (output_due tool is) (answered_from tool Between [] l) g waiting due.0 (answers_go_on tool Between [] l on) at.given due.1
-front_of_due tool l g waiting is answers at (inr h) c =
-    let front : List Message = h.0 in
-    let taken : AreTaken tool front = taken_front tool front (Stop ∷ []) (subst (AreTaken tool) h.1 at.taken) in
-    let cut : without_stop l ≡ front = ap without_stop h.1 ∙ cuts_stop front h.2 in
-    let due = answers_are_due tool is front c.front.0 answers c.images (c.front.1 ∙ ap (λ (x : List Message). x ++ c.front.0) cut) taken in
-    let parts : answered_from tool Between [] front ++ Stop ∷ [] ≡ g ++ waiting = sym (ap (answered_from tool Between []) h.1 ∙ answered_from-append tool Between [] front (Stop ∷ [])) ∙ at.given in
-    front_stop (output_due tool is) (answered_from tool Between [] front) g due.0 (answers_go_on tool Between [] front h.2) due.1 (within (answered_from tool Between [] front) Stop g waiting parts)
+prefix_of_due : (tool : Tool) (l g waiting : List Message) (is : List Image) → AnswersImages tool → IsAnswering tool l g waiting → StopsLast l → Completes is l
+    → IsPrefixOf (without_stop g) (output_due tool is)
+prefix_of_due tool l g waiting is answers at (inl on) c =
+    let due = answers_are_due tool is l c.prefix.0 answers c.images (c.prefix.1 ∙ ap (λ (x : List Message). x ++ c.prefix.0) (keeps_all l on)) at.taken in
+    prefix_on (output_due tool is) (answers_from tool Between [] l) g waiting due.0 (answers_go_on tool Between [] l on) at.given due.1
+prefix_of_due tool l g waiting is answers at (inr h) c =
+    let prefix : List Message = h.0 in
+    let taken : AreTaken tool prefix = taken_prefix tool prefix (Stop ∷ []) (subst (AreTaken tool) h.1 at.taken) in
+    let cut : without_stop l ≡ prefix = ap without_stop h.1 ∙ cuts_stop prefix h.2 in
+    let due = answers_are_due tool is prefix c.prefix.0 answers c.images (c.prefix.1 ∙ ap (λ (x : List Message). x ++ c.prefix.0) cut) taken in
+    let parts : answers_from tool Between [] prefix ++ Stop ∷ [] ≡ g ++ waiting =
+    sym (ap (answers_from tool Between []) h.1 ∙ answers_from-append tool Between [] prefix (Stop ∷ [])) ∙ at.given in
+    prefix_stop (output_due tool is) (answers_from tool Between [] prefix) g due.0 (answers_go_on tool Between [] prefix h.2) due.1
+    (within (answers_from tool Between [] prefix) Stop g waiting parts)
 
 -- what goes on isn't broken off
 pub not_broken : (g : List Message) → GoOn g → EndsBy BrokenOff g → ⊥
@@ -160,36 +168,41 @@ not_broken (ImageEnd ∷ n ∷ g) on e = not_broken (n ∷ g) on e.1
 not_broken (StreamEnd ∷ n ∷ g) on e = not_broken (n ∷ g) on e.1
 
 -- a lawful list with a last Stop is broken off
-more_broken : (m : Message) (front : List Message) → ending_of m ≡ More → EndsBy BrokenOff (front ++ Stop ∷ []) → EndsBy BrokenOff (m ∷ (front ++ Stop ∷ []))
+more_broken : (m : Message) (prefix : List Message) → ending_of m ≡ More → EndsBy BrokenOff (prefix ++ Stop ∷ []) → EndsBy BrokenOff (m ∷ (prefix ++ Stop ∷ []))
 more_broken m [] e b = (e, b)
-more_broken m (n ∷ front) e b = (e, b)
+more_broken m (n ∷ prefix) e b = (e, b)
 
-after_nothing : (front : List Message) → IsLawfulFrom After (front ++ Stop ∷ []) → ⊥
+after_nothing : (prefix : List Message) → IsLawfulFrom After (prefix ++ Stop ∷ []) → ⊥
 after_nothing [] h = h.0
-after_nothing (m ∷ front) h = h.0
+after_nothing (m ∷ prefix) h = h.0
 
-is_broken : (place : Place) (front : List Message) → IsLawfulFrom place (front ++ Stop ∷ []) → EndsBy BrokenOff (front ++ Stop ∷ [])
+is_broken : (place : Place) (prefix : List Message) → IsLawfulFrom place (prefix ++ Stop ∷ []) → EndsBy BrokenOff (prefix ++ Stop ∷ [])
 is_broken place [] h = refl
-is_broken place (Begin head ∷ front) h = more_broken (Begin head) front refl (is_broken (place_after place (Begin head)) front h.1)
-is_broken place (Row row ∷ front) h = more_broken (Row row) front refl (is_broken (place_after place (Row row)) front h.1)
-is_broken place (ImageEnd ∷ front) h = more_broken ImageEnd front refl (is_broken (place_after place ImageEnd) front h.1)
-is_broken place (StreamEnd ∷ front) h = absurd (after_nothing front h.1)
-is_broken place (Stop ∷ front) h = absurd (after_nothing front h.1)
+is_broken place (Begin head ∷ prefix) h = more_broken (Begin head) prefix refl (is_broken (place_after place (Begin head)) prefix h.1)
+is_broken place (Row row ∷ prefix) h = more_broken (Row row) prefix refl (is_broken (place_after place (Row row)) prefix h.1)
+is_broken place (ImageEnd ∷ prefix) h = more_broken ImageEnd prefix refl (is_broken (place_after place ImageEnd) prefix h.1)
+is_broken place (StreamEnd ∷ prefix) h = absurd (after_nothing prefix h.1)
+is_broken place (Stop ∷ prefix) h = absurd (after_nothing prefix h.1)
 
-no_last_stop : (front : List Message) → GoOn (front ++ Stop ∷ []) → ⊥
+no_last_stop : (prefix : List Message) → GoOn (prefix ++ Stop ∷ []) → ⊥
 no_last_stop [] on = on
-no_last_stop (Begin head ∷ front) on = no_last_stop front on
-no_last_stop (Row row ∷ front) on = no_last_stop front on
-no_last_stop (ImageEnd ∷ front) on = no_last_stop front on
-no_last_stop (StreamEnd ∷ front) on = no_last_stop front on
-no_last_stop (Stop ∷ front) on = on
+no_last_stop (Begin head ∷ prefix) on = no_last_stop prefix on
+no_last_stop (Row row ∷ prefix) on = no_last_stop prefix on
+no_last_stop (ImageEnd ∷ prefix) on = no_last_stop prefix on
+no_last_stop (StreamEnd ∷ prefix) on = no_last_stop prefix on
+no_last_stop (Stop ∷ prefix) on = on
 
-stops_so : (tool : Tool) (l g waiting front : List Message) → IsAnswering tool l g waiting → StopsLast l → g ≡ front ++ Stop ∷ [] → EndsBy BrokenOff l
-stops_so tool l g waiting front at (inl on) e = absurd (no_last_stop front (subst GoOn e (first_goes_on g waiting (subst GoOn at.given (answers_go_on tool Between [] l on)))))
-stops_so tool l g waiting front at (inr h) e = subst (EndsBy BrokenOff) (sym h.1) (is_broken Between h.0 (subst IsLawful h.1 at.lawful))
+stops_so : (tool : Tool) (l g waiting prefix : List Message) → IsAnswering tool l g waiting → StopsLast l → g ≡ prefix ++ Stop ∷ [] → EndsBy BrokenOff l
+stops_so tool l g waiting prefix at (inl on) e =
+    absurd (no_last_stop prefix (subst GoOn e (first_goes_on g waiting (subst GoOn at.given (answers_go_on tool Between [] l on)))))
+stops_so tool l g waiting prefix at (inr h) e = subst (EndsBy BrokenOff) (sym h.1) (is_broken Between h.0 (subst IsLawful h.1 at.lawful))
 
 -- the relation implies that what was given are answers
 pub answering_answers : (tool : Tool) (l g waiting : List Message) → AnswersImages tool → IsAnswering tool l g waiting → Answers tool l g
 answering_answers tool l g waiting answers at =
     let last = lawful_stops Between l at.lawful in
-    record { lawful = at.lawful; front = λ is c. front_of_due tool l g waiting is answers at last c; stop = λ before e. stops_so tool l g waiting before at last e }
+    record {
+      lawful = at.lawful;
+      prefix = λ is c. prefix_of_due tool l g waiting is answers at last c;
+      stop = λ before e. stops_so tool l g waiting before at last e;
+    }

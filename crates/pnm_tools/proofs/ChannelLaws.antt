@@ -1,5 +1,6 @@
 -- The picked image is what the rows of an image, each picked, are the messages of.
-use Rattle.std.proofs.Common.{◌≡◌, ℕ, suc, ◌+◌, ◌*◌, ◌<◌, ◌≤◌, Bool, true, false, List, map, length, slice_index, take, drop, Ok, Err, refl, sym, ap, subst, ◌∙◌, arith, append-nil, mul_assoc, add-mul, mul-le-mul, suc-mul}
+use Rattle.std.proofs.Common.{◌≡◌, ℕ, suc, ◌+◌, ◌*◌, ◌<◌, ◌≤◌, Bool, true, false, List, map, length, slice_index, take, drop, Ok, Err, refl, sym, ap, subst}
+use Rattle.std.proofs.Common.{◌∙◌, arith, append-nil, mul_assoc, add-mul, mul-le-mul, suc-mul}
 use Rattle.std.specs.Prelude.{All, slice_index_or, if◌then◌else◌, nat_lt}
 use Rattle.std.specs.List.{range_with_len, list_all}
 use Rattle.std.proofs.lemmas.Bool.{ltb-true}
@@ -30,11 +31,16 @@ pub record IsPicked (planes : Picks) (head result : HeadValue) : Type 0 where
   pub limits : is_too_large result.shape ≡ false
   pub result_is : result ≡ picked_head_value planes head
 
-picked_by : (all : Bool) (planes : Picks) (head result : HeadValue) → list_all (λ number. nat_lt number head.shape.depth) planes.numbers ≡ all → (if all then within_limits (picked_head_value planes head) else Err ChannelOutside) ≡ Ok result → IsPicked planes head result
+picked_by : (all : Bool) (planes : Picks) (head result : HeadValue) → list_all (λ number. nat_lt number head.shape.depth) planes.numbers ≡ all
+    → (if all then within_limits (picked_head_value planes head) else Err ChannelOutside) ≡ Ok result → IsPicked planes head result
 picked_by true planes head result is e =
     let passed = AllPass-from_list_all (λ number. nat_lt number head.shape.depth) planes.numbers is in
     let within = is_within (picked_head_value planes head) result e in
-    record { has_planes = λ k d lt. ltb-true (slice_index_or planes.numbers k d) head.shape.depth (passed k d lt); limits = subst (λ (h : HeadValue). is_too_large h.shape ≡ false) within.result_is within.limits; result_is = sym within.result_is }
+    record {
+      has_planes = λ k d lt. ltb-true (slice_index_or planes.numbers k d) head.shape.depth (passed k d lt);
+      limits = subst (λ (h : HeadValue). is_too_large h.shape ≡ false) within.result_is within.limits;
+      result_is = sym within.result_is;
+    }
 picked_by false planes head result is e = absurd cc
 
 pub is_picked : (planes : Picks) (head result : HeadValue) → result_head (Channel planes) head ≡ Ok result → IsPicked planes head result
@@ -44,17 +50,20 @@ is_picked planes head result e = picked_by (list_all (λ number. nat_lt number h
 -- ---- one row
 
 -- the planes of one column
-planes_picked : (g h : ℕ → ℕ) (numbers : List ℕ) (d : ℕ) → All (λ number. number < d) numbers → ((n : ℕ) → n < d → g n ≡ h n) → map (λ p. g (slice_index numbers p)) (range_with_len 0 (length numbers)) ≡ map h numbers
+planes_picked : (g h : ℕ → ℕ) (numbers : List ℕ) (d : ℕ) → All (λ number. number < d) numbers → ((n : ℕ) → n < d → g n ≡ h n)
+    → map (λ p. g (slice_index numbers p)) (range_with_len 0 (length numbers)) ≡ map h numbers
 planes_picked g h numbers d all same =
     let count : ℕ = length numbers in
-    same_lists (map (λ p. g (slice_index numbers p)) (range_with_len 0 count)) (map h numbers) (length-map-range_with_len (λ p. g (slice_index numbers p)) 0 count ∙ sym (length-map numbers h)) (λ i e lt.
+    same_lists (map (λ p. g (slice_index numbers p)) (range_with_len 0 count)) (map h numbers)
+    (length-map-range_with_len (λ p. g (slice_index numbers p)) 0 count ∙ sym (length-map numbers h)) (λ i e lt.
     let below : i < count = omega (arith, length-map-range_with_len (λ p. g (slice_index numbers p)) 0 count) in
     get_or-map-range_with_len (λ p. g (slice_index numbers p)) 0 count i i e below (omega arith)
     ∙ same (slice_index numbers i) (all i 0 below)
     ∙ sym (get_or-map h numbers i 0 e below))
 
 -- a sample by its row
-sample_of_row : (xs : List ℕ) (w d y x n : ℕ) → x < w → n < d → slice_index xs ((y * w + x) * d + n) ≡ slice_index (take (w * d) (drop (y * (w * d)) xs)) (x * d + n)
+sample_of_row : (xs : List ℕ) (w d y x n : ℕ) → x < w → n < d → slice_index xs ((y * w + x) * d + n) ≡ slice_index (take (w * d) (drop (y * (w * d)) xs))
+    (x * d + n)
 sample_of_row xs w d y x n column plane =
     let each : ℕ = w * d in
     let below : suc x * d ≤ w * d = mul-le-mul {n₁ = suc x} {m₁ = d} {n₂ = w} {m₂ = d} (omega arith) (omega arith) in
@@ -62,25 +71,32 @@ sample_of_row xs w d y x n column plane =
     ap (slice_index xs) at
     ∙ sym (get_or-take each (drop (y * each) xs) (x * d + n) 0 (omega (arith, below, suc-mul x d)) ∙ get_or-drop (y * each) xs (x * d + n) 0)
 
-row_picked : (planes : Picks) (i : Image) (y : ℕ) → HasPlanes planes i.head.shape → columns 0 i.head.shape.width (length planes.numbers) (λ x p. picked_sample planes i x y p) ≡ picked_row planes i.head.shape (row_at i y)
+row_picked : (planes : Picks) (i : Image) (y : ℕ) → HasPlanes planes i.head.shape
+    → columns 0 i.head.shape.width (length planes.numbers) (λ x p. picked_sample planes i x y p) ≡ picked_row planes i.head.shape (row_at i y)
 row_picked planes i y has =
     let s : Shape = i.head.shape in
-    pieces_alike (λ x. map (λ p. picked_sample planes i x y p) (range_with_len 0 (length planes.numbers))) (λ x. map (λ number. slice_index (row_at i y) (x * s.depth + number)) planes.numbers) 0 s.width (λ x lt.
-    planes_picked (λ n. slice_index i.samples ((y * s.width + x) * s.depth + n)) (λ n. slice_index (row_at i y) (x * s.depth + n)) planes.numbers s.depth has (λ n below. sample_of_row i.samples s.width s.depth y x n (omega arith) below))
+    pieces_alike (λ x. map (λ p. picked_sample planes i x y p) (range_with_len 0 (length planes.numbers)))
+    (λ x. map (λ number. slice_index (row_at i y) (x * s.depth + number)) planes.numbers) 0 s.width (λ x lt.
+    planes_picked (λ n. slice_index i.samples ((y * s.width + x) * s.depth + n)) (λ n. slice_index (row_at i y) (x * s.depth + n)) planes.numbers s.depth has
+    (λ n below. sample_of_row i.samples s.width s.depth y x n (omega arith) below))
 
 -- ---- the whole image
 
-picked_rows : (planes : Picks) (i : Image) → HasPlanes planes i.head.shape → rows_of (image_by (picked_head_value planes i.head) (picked_sample planes i)) ≡ map (picked_row planes i.head.shape) (rows_of i)
+picked_rows : (planes : Picks) (i : Image) → HasPlanes planes i.head.shape → rows_of (image_by (picked_head_value planes i.head) (picked_sample planes i))
+    ≡ map (picked_row planes i.head.shape) (rows_of i)
 picked_rows planes i has =
     let s : Shape = i.head.shape in
     rows_of-image_by (picked_head_value planes i.head) (picked_sample planes i)
-    ∙ range_alike (λ y. columns 0 s.width (length planes.numbers) (λ x p. picked_sample planes i x y p)) (λ y. picked_row planes s (row_at i y)) 0 s.height (λ y lt. row_picked planes i y has)
+    ∙ range_alike (λ y. columns 0 s.width (length planes.numbers) (λ x p. picked_sample planes i x y p)) (λ y. picked_row planes s (row_at i y)) 0 s.height
+    (λ y lt. row_picked planes i y has)
     ∙ sym (map-map (picked_row planes s) (row_at i) (range_with_len 0 s.height))
     ∙ ap (map (picked_row planes s)) (sym (rows_are i))
 
-answer_is : (planes : Picks) (i : Image) (result : HeadValue) → IsPicked planes i.head result → map (picked_row planes i.head.shape) (rows_of i) ≡ rows_of (image_by result (result_sample (Channel planes) i))
+answer_is : (planes : Picks) (i : Image) (result : HeadValue) → IsPicked planes i.head result
+    → map (picked_row planes i.head.shape) (rows_of i) ≡ rows_of (image_by result (result_sample (Channel planes) i))
 unfolding result_sample
-answer_is planes i result picked = sym (picked_rows planes i picked.has_planes) ∙ ap (λ (h : HeadValue). rows_of (image_by h (picked_sample planes i))) (sym picked.result_is)
+answer_is planes i result picked = sym (picked_rows planes i picked.has_planes) ∙ ap (λ (h : HeadValue). rows_of (image_by h (picked_sample planes i)))
+    (sym picked.result_is)
 
 pub channel_answers_images : (planes : Picks) → IsLawfulPick planes → AnswersImages (Channel planes)
 channel_answers_images planes lawful i j is e =

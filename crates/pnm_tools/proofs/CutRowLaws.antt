@@ -1,5 +1,7 @@
 -- The columns and rows that are kept.
-use Rattle.std.proofs.Common.{◌≡◌, ◌⊎◌, inl, inr, ℕ, ◌+◌, ◌-◌, ◌*◌, ◌≤◌, ◌<◌, ℤ, pos, negsuc, Bool, true, false, nat_le, nat_lt, ◌&&◌, if◌then◌else◌, Option, Some, None, Result, Ok, Err, ◌==◌, List, [], ◌∷◌, ◌++◌, All, mul-le-mul, add-mul, length, take, drop, refl, sym, ap, ◌∙◌, subst, arith, length-take-le, length-drop}
+use Rattle.std.proofs.Common.{◌≡◌, ◌⊎◌, inl, inr, ℕ, ◌+◌, ◌-◌, ◌*◌, ◌≤◌, ◌<◌, ℤ, pos, negsuc, Bool, true, false, nat_le, nat_lt, ◌&&◌, if◌then◌else◌, Option}
+use Rattle.std.proofs.Common.{Some, None, Result, Ok, Err, ◌==◌, List, [], ◌∷◌, ◌++◌, All, mul-le-mul, add-mul, length, take, drop, refl, sym, ap, ◌∙◌, subst}
+use Rattle.std.proofs.Common.{arith, length-take-le, length-drop}
 use Rattle.std.specs.List.{copy_within}
 use Rattle.std.proofs.Math.Seq.{paste}
 use Rattle.std.proofs.lemmas.Bool.{leb-true, ltb-true, le-leb, lt-leb, ne_eqb, and_parts, and_right}
@@ -13,7 +15,8 @@ use Rattle.pnm_tools.specs.declared.cut.Span.{Span}
 use Rattle.pnm_tools.specs.declared.fault.ToolFault.{ToolFault}
 use Rattle.pnm_tools.specs.declared.fault.ToolFault.TheVariants.{OutOfOrder}
 use Rattle.pnm_tools.specs.declared.tool.Tool.TheVariants.{Cut}
-use Rattle.pnm_tools.specs.Cut.{KeepsWithin, columns_of_row, first_kept, last_kept, span_within, columns_kept, rows_kept, rows_of_spans, head_of_spans, span_count}
+use Rattle.pnm_tools.specs.Cut.{KeepsWithin, columns_of_row, first_kept, last_kept, span_within, columns_kept, rows_kept, rows_of_spans, head_of_spans}
+use Rattle.pnm_tools.specs.Cut.{span_count}
 use Rattle.pnm_tools.specs.Limits.{within_limits}
 use Rattle.pnm_tools.specs.Tools.{result_head, row_answer}
 use Rattle.pnm_tools.proofs.HeadLaws.{head_of_cut, small_sizes, small_head}
@@ -27,10 +30,12 @@ both_parts first last depth le =
     let e : last + 1 ≡ first + count = omega arith in
     ap (λ (n : ℕ). n * depth) e ∙ omega arith
 
--- what is left of the front behind its first samples
-pub rest_is_kept : {X : Type 0} (columns : Span) (depth : ℕ) (row : List X) → KeepsWithin columns depth row → drop (columns.first * depth) (take ((columns.last + 1) * depth) row) ≡ columns_of_row columns depth row
+-- what is left of the prefix behind its first samples
+pub rest_is_kept : {X : Type 0} (columns : Span) (depth : ℕ) (row : List X) → KeepsWithin columns depth row
+    → drop (columns.first * depth) (take ((columns.last + 1) * depth) row) ≡ columns_of_row columns depth row
 rest_is_kept columns depth row h =
-    ap (λ (n : ℕ). drop (columns.first * depth) (take n row)) (both_parts columns.first columns.last depth h.0) ∙ drop-take (columns.first * depth) (((columns.last + 1) - columns.first) * depth) row
+    ap (λ (n : ℕ). drop (columns.first * depth) (take n row)) (both_parts columns.first columns.last depth h.0)
+    ∙ drop-take (columns.first * depth) (((columns.last + 1) - columns.first) * depth) row
 
 -- the rest of a list, moved to its front
 moved : {X : Type 0} (xs : List X) (f m : ℕ) → length xs ≡ m → f ≤ m → take (m - f) (copy_within xs f m 0) ≡ drop f xs
@@ -40,24 +45,27 @@ moved xs f m long le =
     let on : n ≡ 0 + n = omega arith in
     ap (λ (k : ℕ). take k (paste xs 0 (drop f xs) n)) on ∙ take-paste xs 0 (drop f xs) n (omega arith) (omega arith) ∙ take_all n (drop f xs) (omega arith)
 
--- the front is cut off, and what is kept moved there
-pub kept_in_place : {X : Type 0} (columns : Span) (depth : ℕ) (row front copied new : List X) (count m : ℕ) → KeepsWithin columns depth row → front ≡ take m row → m ≡ (columns.last + 1) * depth → count ≡ length front
-    → copied ≡ copy_within front (columns.first * depth) count 0 → new ≡ take (count - columns.first * depth) copied → new ≡ columns_of_row columns depth row
-kept_in_place columns depth row front copied new count m h is size counted copy end =
+-- the prefix is cut off, and what is kept moved there
+pub kept_in_place : {X : Type 0} (columns : Span) (depth : ℕ) (row prefix copied new : List X) (count m : ℕ) → KeepsWithin columns depth row
+    → prefix ≡ take m row → m ≡ (columns.last + 1) * depth → count ≡ length prefix
+    → copied ≡ copy_within prefix (columns.first * depth) count 0 → new ≡ take (count - columns.first * depth) copied → new ≡ columns_of_row columns depth row
+kept_in_place columns depth row prefix copied new count m h is size counted copy end =
     let f : ℕ = columns.first * depth in
-    let fronts : front ≡ take ((columns.last + 1) * depth) row = is ∙ ap (λ (n : ℕ). take n row) size in
+    let prefixes : prefix ≡ take ((columns.last + 1) * depth) row = is ∙ ap (λ (n : ℕ). take n row) size in
     let within : f ≤ (columns.last + 1) * depth = omega (arith, both_parts columns.first columns.last depth h.0) in
-    let long : length front ≡ (columns.last + 1) * depth = ap length fronts ∙ length-take-le ((columns.last + 1) * depth) row h.1 in
-    end ∙ ap (take (count - f)) copy ∙ moved front f count (sym counted) (omega arith) ∙ ap (drop f) fronts ∙ rest_is_kept columns depth row h
+    let long : length prefix ≡ (columns.last + 1) * depth = ap length prefixes ∙ length-take-le ((columns.last + 1) * depth) row h.1 in
+    end ∙ ap (take (count - f)) copy ∙ moved prefix f count (sym counted) (omega arith) ∙ ap (drop f) prefixes ∙ rest_is_kept columns depth row h
 
 -- where nothing lies before what is kept
-pub kept_at_front : {X : Type 0} (columns : Span) (depth : ℕ) (row new : List X) (m : ℕ) → KeepsWithin columns depth row → new ≡ take m row → m ≡ (columns.last + 1) * depth → columns.first * depth ≤ 0 → new ≡ columns_of_row columns depth row
+pub kept_at_front : {X : Type 0} (columns : Span) (depth : ℕ) (row new : List X) (m : ℕ) → KeepsWithin columns depth row → new ≡ take m row
+    → m ≡ (columns.last + 1) * depth → columns.first * depth ≤ 0 → new ≡ columns_of_row columns depth row
 kept_at_front columns depth row new m h is size none =
     let zero_first : 0 ≡ columns.first * depth = omega arith in
     is ∙ ap (λ (n : ℕ). take n row) size ∙ ap (λ (n : ℕ). drop n (take ((columns.last + 1) * depth) row)) zero_first ∙ rest_is_kept columns depth row h
 
 -- a row of which all columns are kept
-pub all_kept : {X : Type 0} (columns : Span) (depth count : ℕ) (row : List X) → KeepsWithin columns depth row → count ≡ (columns.last - columns.first + 1) * depth → count ≡ length row → row ≡ columns_of_row columns depth row
+pub all_kept : {X : Type 0} (columns : Span) (depth count : ℕ) (row : List X) → KeepsWithin columns depth row
+    → count ≡ (columns.last - columns.first + 1) * depth → count ≡ length row → row ≡ columns_of_row columns depth row
 all_kept {X = X} columns depth count row h size all =
     let n : ℕ = columns.last - columns.first + 1 in
     let parts : columns.last + 1 ≡ columns.first + n = omega (arith, h.0) in
@@ -68,14 +76,16 @@ all_kept {X = X} columns depth count row h size all =
     sym (ap (λ (k : ℕ). take (span_count columns * depth) (drop k row)) none ∙ take_all (span_count columns * depth) row (omega arith))
 
 -- what is kept of samples within a maxval, appended to none
-pub kept_within : (maxval first count : ℕ) (row before new : List ℕ) → before ≡ [] → new ≡ before ++ take count (drop first row) → All (λ sample. sample ≤ maxval) row → All (λ sample. sample ≤ maxval) new
+pub kept_within : (maxval first count : ℕ) (row before new : List ℕ) → before ≡ [] → new ≡ before ++ take count (drop first row)
+    → All (λ sample. sample ≤ maxval) row → All (λ sample. sample ≤ maxval) new
 kept_within maxval first count row before new none is h =
     let P : ℕ → Type 0 = λ sample. sample ≤ maxval in
     subst (All P) (sym (is ∙ ap (λ (l : List ℕ). l ++ take count (drop first row)) none)) (All-take P count (drop first row) (All-drop P first row h))
 
 -- ---- spans
 
-span_if : (first last count : ℕ) (b : Bool) (span : Span) → (nat_le first last && nat_lt last count) ≡ b → Some span ≡ (if b then Some (record { first = first; last = last }) else None) → (span.first ≤ span.last) × (span.last < count)
+span_if : (first last count : ℕ) (b : Bool) (span : Span) → (nat_le first last && nat_lt last count) ≡ b
+    → Some span ≡ (if b then Some (record { first = first; last = last }) else None) → (span.first ≤ span.last) × (span.last < count)
 span_if first last count true span t e =
     let same : span ≡ record { first = first; last = last } = cc in
     let both = and_parts (nat_le first last) (nat_lt last count) t in
@@ -100,12 +110,15 @@ rows_lie box s span e = span_lies s.height (first_kept s.height box.top box.bott
 
 -- ---- rows
 
-pub cut_row_by : (box : CutBox) (s : Shape) (y : ℕ) (row : List ℕ) (a b : Option Span) → a ≡ columns_kept box s → b ≡ rows_kept box s → row_answer (Cut box) s y row ≡ rows_of_spans a b s.depth y row
+pub cut_row_by : (box : CutBox) (s : Shape) (y : ℕ) (row : List ℕ) (a b : Option Span) → a ≡ columns_kept box s → b ≡ rows_kept box s
+    → row_answer (Cut box) s y row ≡ rows_of_spans a b s.depth y row
 cut_row_by box s y row a b columns rows =
-    row_of_cut box s y row ∙ ap (λ (x : Option Span). rows_of_spans x (rows_kept box s) s.depth y row) (sym columns) ∙ ap (λ (x : Option Span). rows_of_spans a x s.depth y row) (sym rows)
+    row_of_cut box s y row ∙ ap (λ (x : Option Span). rows_of_spans x (rows_kept box s) s.depth y row) (sym columns)
+    ∙ ap (λ (x : Option Span). rows_of_spans a x s.depth y row) (sym rows)
 
 -- a row before the first that is kept, or after the last
-pub row_outside : (columns rows : Span) (depth y : ℕ) (row : List ℕ) → (y < rows.first) ⊎ ((rows.first ≤ y) × (rows.last < y)) → rows_of_spans (Some columns) (Some rows) depth y row ≡ []
+pub row_outside : (columns rows : Span) (depth y : ℕ) (row : List ℕ) → (y < rows.first) ⊎ ((rows.first ≤ y) × (rows.last < y))
+    → rows_of_spans (Some columns) (Some rows) depth y row ≡ []
 row_outside columns rows depth y row (inl h) =
     ap (λ (b : Bool). if b && nat_le y rows.last then columns_of_row columns depth row ∷ [] else []) (lt-leb rows.first y h)
 row_outside columns rows depth y row (inr h) =
@@ -113,29 +126,34 @@ row_outside columns rows depth y row (inr h) =
     ∙ ap (λ (b : Bool). if b then columns_of_row columns depth row ∷ [] else []) (and_right (nat_le rows.first y) false refl)
 
 -- a row that is kept
-pub row_inside : (columns rows : Span) (depth y : ℕ) (row : List ℕ) → rows.first ≤ y → y ≤ rows.last → rows_of_spans (Some columns) (Some rows) depth y row ≡ columns_of_row columns depth row ∷ []
+pub row_inside : (columns rows : Span) (depth y : ℕ) (row : List ℕ) → rows.first ≤ y → y ≤ rows.last → rows_of_spans (Some columns) (Some rows) depth y row
+    ≡ columns_of_row columns depth row ∷ []
 row_inside columns rows depth y row low high =
     ap (λ (b : Bool). if b && nat_le y rows.last then columns_of_row columns depth row ∷ [] else []) (le-leb rows.first y low)
     ∙ ap (λ (b : Bool). if b then columns_of_row columns depth row ∷ [] else []) (le-leb y rows.last high)
 
 -- the columns that are kept lie in each row
-pub keeps_within : (box : CutBox) (s : Shape) (span : Span) (row samples : List ℕ) → Some span ≡ columns_kept box s → samples ≡ row → length row ≡ row_length s → KeepsWithin span s.depth samples
+pub keeps_within : (box : CutBox) (s : Shape) (span : Span) (row samples : List ℕ) → Some span ≡ columns_kept box s → samples ≡ row → length row ≡ row_length s
+    → KeepsWithin span s.depth samples
 keeps_within box s span row samples e same count =
     let lies = columns_lie box s span e in
-    let below : (span.last + 1) * s.depth ≤ s.width * s.depth = mul-le-mul {n₁ = span.last + 1} {m₁ = s.depth} {n₂ = s.width} {m₂ = s.depth} (omega (arith, lies.1)) (omega arith) in
+    let below : (span.last + 1) * s.depth ≤ s.width * s.depth = mul-le-mul {n₁ = span.last + 1} {m₁ = s.depth} {n₂ = s.width} {m₂ = s.depth}
+    (omega (arith, lies.1)) (omega arith) in
     (lies.0, omega (arith, below, count, ap length same))
 
 -- ---- heads
 
 -- an image without rows
 pub cut_without_rows : (box : CutBox) (head : HeadValue) → head.shape.height ≡ 0 → result_head (Cut box) head ≡ Err OutOfOrder
-cut_without_rows box head e = head_of_cut box head ∙ ap (λ (n : ℕ). if n == 0 then Err OutOfOrder else head_of_spans head (columns_kept box head.shape) (rows_kept box head.shape)) e
+cut_without_rows box head e = head_of_cut box head
+    ∙ ap (λ (n : ℕ). if n == 0 then Err OutOfOrder else head_of_spans head (columns_kept box head.shape) (rows_kept box head.shape)) e
 
 -- an image that has rows, by the spans that were found
 abbrev cut_by : HeadValue → Option Span → Option Span → Bool → Result HeadValue ToolFault
 cut_by head columns rows b = if b then Err OutOfOrder else head_of_spans head columns rows
 
-pub cut_head_by : (box : CutBox) (head : HeadValue) (s : Shape) (columns rows : Option Span) → s ≡ head.shape → (s.height ≡ 0 → ⊥) → columns ≡ columns_kept box s → rows ≡ rows_kept box s → result_head (Cut box) head ≡ head_of_spans head columns rows
+pub cut_head_by : (box : CutBox) (head : HeadValue) (s : Shape) (columns rows : Option Span) → s ≡ head.shape → (s.height ≡ 0 → ⊥)
+    → columns ≡ columns_kept box s → rows ≡ rows_kept box s → result_head (Cut box) head ≡ head_of_spans head columns rows
 cut_head_by box head s columns rows same some a b =
     let height : (head.shape.height == 0) ≡ false = ne_eqb head.shape.height 0 (λ e. some (ap (λ (z : Shape). z.height) same ∙ e)) in
     head_of_cut box head
@@ -144,14 +162,17 @@ cut_head_by box head s columns rows same some a b =
     ∙ ap (λ (x : Option Span). head_of_spans head x (rows_kept box s)) (sym a) ∙ ap (head_of_spans head columns) (sym b)
 
 -- what is kept is within the limits
-pub cut_is_small : (s : Shape) (width height : ℕ) → IsWithinLimits s → width ≤ s.width → height ≤ s.height → is_too_large (record s { width = width; height = height }) ≡ false
+pub cut_is_small : (s : Shape) (width height : ℕ) → IsWithinLimits s → width ≤ s.width → height ≤ s.height
+    → is_too_large (record s { width = width; height = height }) ≡ false
 cut_is_small s width height h w y =
     let below : width * s.depth ≤ s.width * s.depth = mul-le-mul {n₁ = width} {m₁ = s.depth} {n₂ = s.width} {m₂ = s.depth} w (omega arith) in
     let row : width * s.depth ≤ MAX_ROW_LENGTH = omega (arith, below, h.row_high) in
     small_sizes (record s { width = width; height = height }) (omega (arith, h.width_high)) (omega (arith, h.height_high)) h.depth_high row
 
-pub cut_head_made : (box : CutBox) (head : HeadValue) (s : Shape) (columns rows : Span) (width height : ℕ) (t : List ℕ) → s ≡ head.shape → IsWithinLimits head.shape → (s.height ≡ 0 → ⊥) → Some columns ≡ columns_kept box s → Some rows ≡ rows_kept box s
-    → width ≡ span_count columns → height ≡ span_count rows → t ≡ head.tuple_type → result_head (Cut box) head ≡ within_limits (head_value (record s { width = width; height = height }) t)
+pub cut_head_made : (box : CutBox) (head : HeadValue) (s : Shape) (columns rows : Span) (width height : ℕ) (t : List ℕ) → s ≡ head.shape
+    → IsWithinLimits head.shape → (s.height ≡ 0 → ⊥) → Some columns ≡ columns_kept box s → Some rows ≡ rows_kept box s
+    → width ≡ span_count columns → height ≡ span_count rows → t ≡ head.tuple_type
+    → result_head (Cut box) head ≡ within_limits (head_value (record s { width = width; height = height }) t)
 cut_head_made box head s columns rows width height t same sound some a b wide high type =
     let x : HeadValue = head_value (record s { width = width; height = height }) t in
     let whole : record head { shape = record head.shape { width = span_count columns; height = span_count rows } } ≡ x =
@@ -165,5 +186,6 @@ cut_head_made box head s columns rows width height t same sound some a b wide hi
     cut_head_by box head s (Some columns) (Some rows) same some a b ∙ ap (λ (h : HeadValue). Ok h) whole ∙ sym (small_head x small)
 
 -- the span of an axis that is within the limits lies within them
-pub counts_within : (columns : Span) (count most : ℕ) → (columns.first ≤ columns.last) × (columns.last < count) → count ≤ most → (columns.first ≤ columns.last) × (columns.last < most)
+pub counts_within : (columns : Span) (count most : ℕ) → (columns.first ≤ columns.last) × (columns.last < count) → count ≤ most → (columns.first ≤ columns.last)
+    × (columns.last < most)
 counts_within columns count most lies le = (lies.0, omega (arith, lies.1))

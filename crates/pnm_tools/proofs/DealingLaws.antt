@@ -25,7 +25,8 @@ one_or_none true row = refl
 one_or_none false row = refl
 
 -- of rows from row y on a lane gets as many as its height grows by
-pub length-dealt_rows : (lane lanes y : ℕ) (rows : List (List ℕ)) → dealt_height lane lanes (y + length rows) ≡ dealt_height lane lanes y + length (dealt_rows lane lanes y rows)
+pub length-dealt_rows : (lane lanes y : ℕ) (rows : List (List ℕ)) → dealt_height lane lanes (y + length rows) ≡ dealt_height lane lanes y + length
+    (dealt_rows lane lanes y rows)
 length-dealt_rows lane lanes y [] =
     let same : y + 0 ≡ y = omega arith in
     let height : dealt_height lane lanes (y + 0) ≡ dealt_height lane lanes y = ap (dealt_height lane lanes) same in
@@ -45,7 +46,8 @@ length-dealt_rows lane lanes y (row ∷ rows) =
 -- a lane gets of an image as many rows as its head says
 pub length-dealt : (lane lanes : ℕ) (i : Image) → length (dealt_rows lane lanes 0 (rows_of i)) ≡ dealt_height lane lanes i.head.shape.height
 length-dealt lane lanes i =
-    let all : dealt_height lane lanes (0 + length (rows_of i)) ≡ 0 + length (dealt_rows lane lanes 0 (rows_of i)) = length-dealt_rows lane lanes 0 (rows_of i) in
+    let all : dealt_height lane lanes (0 + length (rows_of i)) ≡ 0 + length (dealt_rows lane lanes 0 (rows_of i)) =
+    length-dealt_rows lane lanes 0 (rows_of i) in
     let same : dealt_height lane lanes (0 + length (rows_of i)) ≡ dealt_height lane lanes i.head.shape.height =
     let count : 0 + length (rows_of i) ≡ i.head.shape.height = omega (arith, length-rows_of i) in
     ap (dealt_height lane lanes) count in
@@ -53,15 +55,18 @@ length-dealt lane lanes i =
 
 -- ---- which rows
 
-row_is_dealt : (s t : Shape) (b : Bool) (row : List ℕ) (rows : List (List ℕ)) → IsRowOf t row → AreRowsOf t rows → AreRowsOf t ((if b then row ∷ [] else []) ++ rows)
+row_is_dealt : (s t : Shape) (b : Bool) (row : List ℕ) (rows : List (List ℕ)) → IsRowOf t row → AreRowsOf t rows
+    → AreRowsOf t ((if b then row ∷ [] else []) ++ rows)
 row_is_dealt s t true row rows is are = (is, are)
 row_is_dealt s t false row rows is are = are
 
 -- the rows that a lane gets are rows of the same shape, whatever the height
-pub dealt_are_rows : (lane lanes height y : ℕ) (s : Shape) (rows : List (List ℕ)) → AreRowsOf s rows → AreRowsOf (record s { height = height }) (dealt_rows lane lanes y rows)
+pub dealt_are_rows : (lane lanes height y : ℕ) (s : Shape) (rows : List (List ℕ)) → AreRowsOf s rows
+    → AreRowsOf (record s { height = height }) (dealt_rows lane lanes y rows)
 dealt_are_rows lane lanes height y s [] are = tt
 dealt_are_rows lane lanes height y s (row ∷ rows) are =
-    row_is_dealt s (record s { height = height }) ((y % lanes) == lane) row (dealt_rows lane lanes (y + 1) rows) (record { count = are.0.count; range = are.0.range }) (dealt_are_rows lane lanes height (y + 1) s rows are.1)
+    row_is_dealt s (record s { height = height }) ((y % lanes) == lane) row (dealt_rows lane lanes (y + 1) rows)
+    (record { count = are.0.count; range = are.0.range }) (dealt_are_rows lane lanes height (y + 1) s rows are.1)
 
 -- the head of what a lane gets is a head
 pub dealt_head_is_head : (lane lanes : ℕ) (head : HeadValue) → IsHead head → IsHead (dealt_head lane lanes head)
@@ -90,7 +95,8 @@ rows_of-dealt_image lane lanes i is =
 -- what a lane sees is an image
 pub dealt_image_is_image : (lane lanes : ℕ) (i : Image) → IsImage i → IsImage (dealt_image lane lanes i)
 dealt_image_is_image lane lanes i is =
-    IsImage-image_of (dealt_head lane lanes i.head) (dealt_rows lane lanes 0 (rows_of i)) (dealt_head_is_head lane lanes i.head is.head) (length-dealt lane lanes i)
+    IsImage-image_of (dealt_head lane lanes i.head) (dealt_rows lane lanes 0 (rows_of i)) (dealt_head_is_head lane lanes i.head is.head)
+    (length-dealt lane lanes i)
     (dealt_are_rows lane lanes (dealt_height lane lanes i.head.shape.height) 0 i.head.shape (rows_of i) (AreRowsOf-rows_of i is))
 
 -- ---- rows that are changed one by one
@@ -100,7 +106,8 @@ row_changed f true row = refl
 row_changed f false row = refl
 
 -- a lane gets the same of rows that are changed one by one as changes of what it gets
-pub dealt_rows-map : (f : List ℕ → List ℕ) (lane lanes y : ℕ) (rows : List (List ℕ)) → dealt_rows lane lanes y (map f rows) ≡ map f (dealt_rows lane lanes y rows)
+pub dealt_rows-map : (f : List ℕ → List ℕ) (lane lanes y : ℕ) (rows : List (List ℕ))
+    → dealt_rows lane lanes y (map f rows) ≡ map f (dealt_rows lane lanes y rows)
 dealt_rows-map f lane lanes y [] = refl
 dealt_rows-map f lane lanes y (row ∷ rows) =
     ap (λ (l : List (List ℕ)). l ++ dealt_rows lane lanes (y + 1) (map f rows)) (row_changed f ((y % lanes) == lane) row)

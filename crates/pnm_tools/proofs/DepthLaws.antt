@@ -21,7 +21,8 @@ unfolding result_head
 new_head_is new head result e = cc
 
 -- the rows of the rescaled image
-rescaled_rows : (new : ℕ) (i : Image) (result : HeadValue) → IsImage i → result ≡ new_head new i.head → rows_of (image_by result (result_sample (Depth new) i)) ≡ map (rescaled_row new i.head.shape) (rows_of i)
+rescaled_rows : (new : ℕ) (i : Image) (result : HeadValue) → IsImage i → result ≡ new_head new i.head → rows_of (image_by result (result_sample (Depth new) i))
+    ≡ map (rescaled_row new i.head.shape) (rows_of i)
 unfolding result_sample
 rescaled_rows new i result is same =
     ap (λ (h : HeadValue). rows_of (image_by h (rescaled_sample new i))) same
@@ -45,5 +46,6 @@ whole_part share each q some e =
     (rw e low, rw e high)
 
 -- the rescaled sample is nearest to the same share of the new maxval; of two as near it is the greater
-pub nearest_sample_is_nearest : (new old sample q : ℕ) → 0 < old → q ≡ nearest_sample new old sample → (2 * old * q ≤ 2 * sample * new + old) × (2 * sample * new + old < 2 * old * q + 2 * old)
+pub nearest_sample_is_nearest : (new old sample q : ℕ) → 0 < old → q ≡ nearest_sample new old sample → (2 * old * q ≤ 2 * sample * new + old)
+    × (2 * sample * new + old < 2 * old * q + 2 * old)
 nearest_sample_is_nearest new old sample q some e = whole_part (2 * sample * new + old) (2 * old) q (omega arith) e

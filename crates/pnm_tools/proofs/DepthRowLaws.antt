@@ -7,12 +7,16 @@ use Rattle.pnm_tools.specs.Depth.{nearest_sample}
 use Rattle.pnm_tools.proofs.ResultLaws.{nearest_in_range}
 
 -- rescaled samples are within the new maxval
-pub rescaled_within : (new old : ℕ) (row made : List ℕ) → 0 < old → made ≡ map (nearest_sample new old) row → All (λ sample. sample ≤ old) row → All (λ sample. sample ≤ new) made
+pub rescaled_within : (new old : ℕ) (row made : List ℕ) → 0 < old → made ≡ map (nearest_sample new old) row → All (λ sample. sample ≤ old) row
+    → All (λ sample. sample ≤ new) made
 rescaled_within new old row made some is h =
-    subst (All (λ sample. sample ≤ new)) (sym is) (All-map (λ sample. sample ≤ new) (nearest_sample new old) row (λ k d lt. nearest_in_range new old (get_or row k d) some (h k d lt)))
+    subst (All (λ sample. sample ≤ new)) (sym is)
+    (All-map (λ sample. sample ≤ new) (nearest_sample new old) row (λ k d lt. nearest_in_range new old (get_or row k d) some (h k d lt)))
 
 -- so are those of a table
-pub table_within : (new old most : ℕ) (table : List ℕ) → 0 < old → new ≤ most → table ≡ map (nearest_sample new old) (range_with_len 0 (old + 1)) → All (λ sample. sample ≤ most) table
+pub table_within : (new old most : ℕ) (table : List ℕ) → 0 < old → new ≤ most → table ≡ map (nearest_sample new old) (range_with_len 0 (old + 1))
+    → All (λ sample. sample ≤ most) table
 table_within new old most table some le is k d lt =
-    let all = rescaled_within new old (range_with_len 0 (old + 1)) table some is (λ i e below. let inside : i < old + 1 = omega (arith, length-range_with_len 0 (old + 1)) in omega (arith, get_or-range_with_len 0 (old + 1) i e inside)) in
+    let all = rescaled_within new old (range_with_len 0 (old + 1)) table some is (λ i e below. let inside : i < old + 1 =
+    omega (arith, length-range_with_len 0 (old + 1)) in omega (arith, get_or-range_with_len 0 (old + 1) i e inside)) in
     omega (arith, all k d lt)

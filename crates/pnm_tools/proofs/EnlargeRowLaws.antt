@@ -1,16 +1,18 @@
 -- A row whose pixels are repeated.
-use Rattle.std.proofs.Common.{◌≡◌, ℕ, zero, suc, ◌+◌, ◌-◌, ◌*◌, ◌≤◌, ◌<◌, List, [], ◌∷◌, ◌++◌, length, take, drop, get_or, set, replicate, All, refl, sym, ap, subst, ◌∙◌, arith, mul-le-mul}
+use Rattle.std.proofs.Common.{◌≡◌, ℕ, zero, suc, ◌+◌, ◌-◌, ◌*◌, ◌≤◌, ◌<◌, List, [], ◌∷◌, ◌++◌, length, take, drop, get_or, set, replicate, All, refl, sym, ap}
+use Rattle.std.proofs.Common.{subst, ◌∙◌, arith, mul-le-mul}
 use borrow.Rule.Slice.PartMut.{put_mid}
 use Rattle.std.specs.List.{flat_map, range_with_len}
 use Rattle.std.proofs.Math.ListN.{length-set}
-use Rattle.std.proofs.lemmas.List.{append_assoc, append-nil, take_all, take_more, take_more_set, drop_more, length-take, length-drop, drop-drop, drop-take, take-take}
+use Rattle.std.proofs.lemmas.List.{append_assoc, append-nil, take_all, take_more, take_more_set, drop_more, length-take, length-drop, drop-drop, drop-take}
+use Rattle.std.proofs.lemmas.List.{take-take}
 use Rattle.std.proofs.lemmas.List.Elements.{All-take, All-drop, All-append}
 use Rattle.std.proofs.Math.Seq.{take-add}
 use Rattle.std.proofs.lemmas.Slice.{take-put_mid}
 use Rattle.pnm_image.specs.declared.shape.Shape.{Shape}
 use Rattle.pnm_image.specs.Heads.{row_length}
 use Rattle.pnm_tools.specs.declared.tool.Tool.TheVariants.{Enlarge}
-use Rattle.pnm_tools.specs.Enlarge.{enlarged_row, repeated}
+use Rattle.pnm_tools.specs.Enlarge.{enlarged_row, copies_of}
 use Rattle.pnm_tools.specs.Pixels.{pixel_of}
 use Rattle.pnm_tools.specs.Tools.{row_answer}
 use Rattle.pnm_tools.proofs.RangeLaws.{pieces_in_parts, pieces_alike_from}
@@ -18,33 +20,37 @@ use Rattle.pnm_tools.proofs.RowLaws.{row_of_enlarge}
 
 -- the first columns, each pixel so many times
 abbrev pub columns_repeated : {X : Type 0} → ℕ → ℕ → List X → ℕ → List X
-columns_repeated across depth row n = flat_map (λ x. repeated across (pixel_of depth row x)) (range_with_len 0 n)
+columns_repeated across depth row n = flat_map (λ x. copies_of across (pixel_of depth row x)) (range_with_len 0 n)
 
 -- one number more
 one_more : {X : Type 0} (f : ℕ → List X) (n : ℕ) → flat_map f (range_with_len 0 (n + 1)) ≡ flat_map f (range_with_len 0 n) ++ f n
 one_more {X = X} f n =
     let on : 0 + n ≡ n = omega arith in
-    pieces_in_parts f 0 n 1 ∙ ap (λ (k : ℕ). flat_map f (range_with_len 0 n) ++ flat_map f (range_with_len k 1)) on ∙ ap (λ (l : List X). flat_map f (range_with_len 0 n) ++ l) (append-nil (f n))
+    pieces_in_parts f 0 n 1 ∙ ap (λ (k : ℕ). flat_map f (range_with_len 0 n) ++ flat_map f (range_with_len k 1)) on
+    ∙ ap (λ (l : List X). flat_map f (range_with_len 0 n) ++ l) (append-nil (f n))
 
 -- one column more
-one_more_column : {X : Type 0} (across depth : ℕ) (row : List X) (n : ℕ) → columns_repeated across depth row (n + 1) ≡ columns_repeated across depth row n ++ repeated across (pixel_of depth row n)
-one_more_column across depth row n = one_more (λ x. repeated across (pixel_of depth row x)) n
+one_more_column : {X : Type 0} (across depth : ℕ) (row : List X) (n : ℕ) → columns_repeated across depth row (n + 1) ≡ columns_repeated across depth row n
+    ++ copies_of across (pixel_of depth row n)
+one_more_column across depth row n = one_more (λ x. copies_of across (pixel_of depth row x)) n
 
--- ---- stores behind the front of a room
+-- ---- stores behind the front of a buffer
 
 -- one sample more
-stored : {X : Type 0} (room front more : List X) (n next : ℕ) (v : X) → take n room ≡ front ++ more → n < length room → next ≡ n + 1 → take next (set room n v) ≡ front ++ (more ++ v ∷ [])
-stored {X = X} room front more n next v was lt on =
-    ap (λ (k : ℕ). take k (set room n v)) on ∙ take_more_set room n v lt ∙ ap (λ (l : List X). l ++ v ∷ []) was ∙ append_assoc front more (v ∷ [])
+stored : {X : Type 0} (buffer prefix more : List X) (n next : ℕ) (v : X) → take n buffer ≡ prefix ++ more → n < length buffer → next ≡ n + 1
+    → take next (set buffer n v) ≡ prefix ++ (more ++ v ∷ [])
+stored {X = X} buffer prefix more n next v was lt on =
+    ap (λ (k : ℕ). take k (set buffer n v)) on ∙ take_more_set buffer n v lt ∙ ap (λ (l : List X). l ++ v ∷ []) was ∙ append_assoc prefix more (v ∷ [])
 
 -- two samples more
-stored_twice : {X : Type 0} (room front : List X) (n a b : ℕ) (v w : X) → take n room ≡ front → n + 2 ≤ length room → a ≡ n → b ≡ n + 1 → take (n + 2) (set (set room a v) b w) ≡ front ++ (v ∷ w ∷ [])
-stored_twice {X = X} room front n a b v w was fits first second =
-    let one : List X = set room n v in
-    let long : length one ≡ length room = length-set room n v in
+stored_twice : {X : Type 0} (buffer prefix : List X) (n a b : ℕ) (v w : X) → take n buffer ≡ prefix → n + 2 ≤ length buffer → a ≡ n → b ≡ n + 1
+    → take (n + 2) (set (set buffer a v) b w) ≡ prefix ++ (v ∷ w ∷ [])
+stored_twice {X = X} buffer prefix n a b v w was fits first second =
+    let one : List X = set buffer n v in
+    let long : length one ≡ length buffer = length-set buffer n v in
     let two : n + 2 ≡ (n + 1) + 1 = omega arith in
-    ap (λ (k : ℕ). take (n + 2) (set (set room k v) b w)) first ∙ ap (λ (k : ℕ). take (n + 2) (set one k w)) second
-    ∙ stored one front (v ∷ []) (n + 1) (n + 2) w (stored room front [] n (n + 1) v (was ∙ sym (append-nil front)) (omega arith) refl) (omega arith) two
+    ap (λ (k : ℕ). take (n + 2) (set (set buffer k v) b w)) first ∙ ap (λ (k : ℕ). take (n + 2) (set one k w)) second
+    ∙ stored one prefix (v ∷ []) (n + 1) (n + 2) w (stored buffer prefix [] n (n + 1) v (was ∙ sym (append-nil prefix)) (omega arith) refl) (omega arith) two
 
 -- ---- pixels of a few samples
 
@@ -55,7 +61,8 @@ pixel_of_one {X = X} row i v lt is =
     ap (λ (k : ℕ). take 1 (drop k row)) place ∙ ap (take 1) (drop_more row i v lt) ∙ ap (λ (x : X). x ∷ []) (sym is)
 
 -- a pixel of three samples
-pub pixel_of_three : {X : Type 0} (row : List X) (x : ℕ) (a b c : X) → 3 * x + 3 ≤ length row → a ≡ get_or row (3 * x) a → b ≡ get_or row (3 * x + 1) b → c ≡ get_or row (3 * x + 2) c → pixel_of 3 row x ≡ a ∷ b ∷ c ∷ []
+pub pixel_of_three : {X : Type 0} (row : List X) (x : ℕ) (a b c : X) → 3 * x + 3 ≤ length row → a ≡ get_or row (3 * x) a → b ≡ get_or row (3 * x + 1) b
+    → c ≡ get_or row (3 * x + 2) c → pixel_of 3 row x ≡ a ∷ b ∷ c ∷ []
 pixel_of_three {X = X} row x a b c fits first second third =
     let n : ℕ = 3 * x in
     let place : x * 3 ≡ n = omega arith in
@@ -69,60 +76,66 @@ pixel_of_three {X = X} row x a b c fits first second third =
 -- ---- each pixel twice
 
 -- one sample more, twice
-pub doubled_more : {X : Type 0} (row room : List X) (i a b : ℕ) (v : X) → take (2 * i) room ≡ columns_repeated 2 1 row i → i < length row → length room ≡ length row * 2 → a ≡ 2 * i → b ≡ 2 * i + 1 → v ≡ get_or row i v
-    → take (2 * (i + 1)) (set (set room a v) b v) ≡ columns_repeated 2 1 row (i + 1)
-doubled_more {X = X} row room i a b v was lt size first second is =
+pub doubled_more : {X : Type 0} (row buffer : List X) (i a b : ℕ) (v : X) → take (2 * i) buffer ≡ columns_repeated 2 1 row i → i < length row
+    → length buffer ≡ length row * 2 → a ≡ 2 * i → b ≡ 2 * i + 1 → v ≡ get_or row i v
+    → take (2 * (i + 1)) (set (set buffer a v) b v) ≡ columns_repeated 2 1 row (i + 1)
+doubled_more {X = X} row buffer i a b v was lt size first second is =
     let n : ℕ = 2 * i in
     let next : 2 * (i + 1) ≡ n + 2 = omega arith in
-    ap (λ (k : ℕ). take k (set (set room a v) b v)) next
-    ∙ stored_twice room (columns_repeated 2 1 row i) n a b v v was (omega arith) first second
+    ap (λ (k : ℕ). take k (set (set buffer a v) b v)) next
+    ∙ stored_twice buffer (columns_repeated 2 1 row i) n a b v v was (omega arith) first second
     ∙ ap (λ (l : List X). columns_repeated 2 1 row i ++ (l ++ (l ++ []))) (sym (pixel_of_one row i v lt is))
     ∙ sym (one_more_column 2 1 row i)
 
 -- one pixel more, twice
-pub colors_more : {X : Type 0} (row room : List X) (x : ℕ) (a b c : X) → take (6 * x) room ≡ columns_repeated 2 3 row x → 3 * x + 3 ≤ length row → length room ≡ length row * 2
+pub colors_more : {X : Type 0} (row buffer : List X) (x : ℕ) (a b c : X) → take (6 * x) buffer ≡ columns_repeated 2 3 row x → 3 * x + 3 ≤ length row
+    → length buffer ≡ length row * 2
     → a ≡ get_or row (3 * x) a → b ≡ get_or row (3 * x + 1) b → c ≡ get_or row (3 * x + 2) c
-    → take (6 * (x + 1)) (set (set (set (set (set (set room (6 * x) a) (6 * x + 1) b) (6 * x + 2) c) (6 * x + 3) a) (6 * x + 4) b) (6 * x + 5) c) ≡ columns_repeated 2 3 row (x + 1)
-colors_more {X = X} row room x a b c was fits size first second third =
+    → take (6 * (x + 1)) (set (set (set (set (set (set buffer (6 * x) a) (6 * x + 1) b) (6 * x + 2) c) (6 * x + 3) a) (6 * x + 4) b) (6 * x + 5) c)
+    ≡ columns_repeated 2 3 row (x + 1)
+colors_more {X = X} row buffer x a b c was fits size first second third =
     let n : ℕ = 6 * x in
-    let front : List X = columns_repeated 2 3 row x in
-    let r₂ : List X = set (set room n a) (n + 1) b in
+    let prefix : List X = columns_repeated 2 3 row x in
+    let r₂ : List X = set (set buffer n a) (n + 1) b in
     let r₄ : List X = set (set r₂ (n + 2) c) (n + 3) a in
-    let long₂ : length r₂ ≡ length room = length-set (set room n a) (n + 1) b ∙ length-set room n a in
-    let long₄ : length r₄ ≡ length room = length-set (set r₂ (n + 2) c) (n + 3) a ∙ length-set r₂ (n + 2) c ∙ long₂ in
-    let two : take (n + 2) r₂ ≡ front ++ (a ∷ b ∷ []) = stored_twice room front n n (n + 1) a b was (omega arith) refl refl in
-    let four : take ((n + 2) + 2) r₄ ≡ (front ++ (a ∷ b ∷ [])) ++ (c ∷ a ∷ []) = stored_twice r₂ (front ++ (a ∷ b ∷ [])) (n + 2) (n + 2) (n + 3) c a two (omega arith) refl (omega arith) in
-    let six : take (((n + 2) + 2) + 2) (set (set r₄ (n + 4) b) (n + 5) c) ≡ ((front ++ (a ∷ b ∷ [])) ++ (c ∷ a ∷ [])) ++ (b ∷ c ∷ []) =
-    stored_twice r₄ ((front ++ (a ∷ b ∷ [])) ++ (c ∷ a ∷ [])) ((n + 2) + 2) (n + 4) (n + 5) b c four (omega arith) (omega arith) (omega arith) in
+    let long₂ : length r₂ ≡ length buffer = length-set (set buffer n a) (n + 1) b ∙ length-set buffer n a in
+    let long₄ : length r₄ ≡ length buffer = length-set (set r₂ (n + 2) c) (n + 3) a ∙ length-set r₂ (n + 2) c ∙ long₂ in
+    let two : take (n + 2) r₂ ≡ prefix ++ (a ∷ b ∷ []) = stored_twice buffer prefix n n (n + 1) a b was (omega arith) refl refl in
+    let four : take ((n + 2) + 2) r₄ ≡ (prefix ++ (a ∷ b ∷ [])) ++ (c ∷ a ∷ []) = stored_twice r₂ (prefix ++ (a ∷ b ∷ [])) (n + 2) (n + 2) (n + 3) c a two
+    (omega arith) refl (omega arith) in
+    let six : take (((n + 2) + 2) + 2) (set (set r₄ (n + 4) b) (n + 5) c) ≡ ((prefix ++ (a ∷ b ∷ [])) ++ (c ∷ a ∷ [])) ++ (b ∷ c ∷ []) =
+    stored_twice r₄ ((prefix ++ (a ∷ b ∷ [])) ++ (c ∷ a ∷ [])) ((n + 2) + 2) (n + 4) (n + 5) b c four (omega arith) (omega arith) (omega arith) in
     let next : 6 * (x + 1) ≡ ((n + 2) + 2) + 2 = omega arith in
     ap (λ (k : ℕ). take k (set (set r₄ (n + 4) b) (n + 5) c)) next ∙ six
-    ∙ append_assoc (front ++ (a ∷ b ∷ [])) (c ∷ a ∷ []) (b ∷ c ∷ []) ∙ append_assoc front (a ∷ b ∷ []) (c ∷ a ∷ b ∷ c ∷ [])
-    ∙ ap (λ (l : List X). front ++ (l ++ (l ++ []))) (sym (pixel_of_three row x a b c fits first second third))
+    ∙ append_assoc (prefix ++ (a ∷ b ∷ [])) (c ∷ a ∷ []) (b ∷ c ∷ []) ∙ append_assoc prefix (a ∷ b ∷ []) (c ∷ a ∷ b ∷ c ∷ [])
+    ∙ ap (λ (l : List X). prefix ++ (l ++ (l ++ []))) (sym (pixel_of_three row x a b c fits first second third))
     ∙ sym (one_more_column 2 3 row x)
 
 -- six stores change no length
-length-six : {X : Type 0} (room : List X) (n₁ n₂ n₃ n₄ n₅ n₆ : ℕ) (v₁ v₂ v₃ v₄ v₅ v₆ : X) → length (set (set (set (set (set (set room n₁ v₁) n₂ v₂) n₃ v₃) n₄ v₄) n₅ v₅) n₆ v₆) ≡ length room
-length-six {X = X} room n₁ n₂ n₃ n₄ n₅ n₆ v₁ v₂ v₃ v₄ v₅ v₆ =
-    let r₁ : List X = set room n₁ v₁ in
+length-six : {X : Type 0} (buffer : List X) (n₁ n₂ n₃ n₄ n₅ n₆ : ℕ) (v₁ v₂ v₃ v₄ v₅ v₆ : X)
+    → length (set (set (set (set (set (set buffer n₁ v₁) n₂ v₂) n₃ v₃) n₄ v₄) n₅ v₅) n₆ v₆) ≡ length buffer
+length-six {X = X} buffer n₁ n₂ n₃ n₄ n₅ n₆ v₁ v₂ v₃ v₄ v₅ v₆ =
+    let r₁ : List X = set buffer n₁ v₁ in
     let r₂ : List X = set r₁ n₂ v₂ in
     let r₃ : List X = set r₂ n₃ v₃ in
     let r₄ : List X = set r₃ n₄ v₄ in
     let r₅ : List X = set r₄ n₅ v₅ in
-    length-set r₅ n₆ v₆ ∙ length-set r₄ n₅ v₅ ∙ length-set r₃ n₄ v₄ ∙ length-set r₂ n₃ v₃ ∙ length-set r₁ n₂ v₂ ∙ length-set room n₁ v₁
+    length-set r₅ n₆ v₆ ∙ length-set r₄ n₅ v₅ ∙ length-set r₃ n₄ v₄ ∙ length-set r₂ n₃ v₃ ∙ length-set r₁ n₂ v₂ ∙ length-set buffer n₁ v₁
 
 -- four pixels, each twice
-pub four_colors : {X : Type 0} (row room : List X) (a b c d e f g h i j k l : X) → length row ≡ 12 → length room ≡ 24
+pub four_colors : {X : Type 0} (row buffer : List X) (a b c d e f g h i j k l : X) → length row ≡ 12 → length buffer ≡ 24
     → a ≡ get_or row 0 a → b ≡ get_or row 1 b → c ≡ get_or row 2 c → d ≡ get_or row 3 d → e ≡ get_or row 4 e → f ≡ get_or row 5 f
     → g ≡ get_or row 6 g → h ≡ get_or row 7 h → i ≡ get_or row 8 i → j ≡ get_or row 9 j → k ≡ get_or row 10 k → l ≡ get_or row 11 l
-    → (r₁ r₂ r₃ r₄ : List X) → r₁ ≡ set (set (set (set (set (set room 0 a) 1 b) 2 c) 3 a) 4 b) 5 c → r₂ ≡ set (set (set (set (set (set r₁ 6 d) 7 e) 8 f) 9 d) 10 e) 11 f
+    → (r₁ r₂ r₃ r₄ : List X) → r₁ ≡ set (set (set (set (set (set buffer 0 a) 1 b) 2 c) 3 a) 4 b) 5 c
+    → r₂ ≡ set (set (set (set (set (set r₁ 6 d) 7 e) 8 f) 9 d) 10 e) 11 f
     → r₃ ≡ set (set (set (set (set (set r₂ 12 g) 13 h) 14 i) 15 g) 16 h) 17 i → r₄ ≡ set (set (set (set (set (set r₃ 18 j) 19 k) 20 l) 21 j) 22 k) 23 l
     → r₄ ≡ columns_repeated 2 3 row 4
-four_colors {X = X} row room a b c d e f g h i j k l twelve long pa pb pc pd pe pf pg ph pi pj pk pl r₁ r₂ r₃ r₄ e₁ e₂ e₃ e₄ =
-    let l₁ : length r₁ ≡ 24 = ap length e₁ ∙ length-six room 0 1 2 3 4 5 a b c a b c ∙ long in
+four_colors {X = X} row buffer a b c d e f g h i j k l twelve long pa pb pc pd pe pf pg ph pi pj pk pl r₁ r₂ r₃ r₄ e₁ e₂ e₃ e₄ =
+    let l₁ : length r₁ ≡ 24 = ap length e₁ ∙ length-six buffer 0 1 2 3 4 5 a b c a b c ∙ long in
     let l₂ : length r₂ ≡ 24 = ap length e₂ ∙ length-six r₁ 6 7 8 9 10 11 d e f d e f ∙ l₁ in
     let l₃ : length r₃ ≡ 24 = ap length e₃ ∙ length-six r₂ 12 13 14 15 16 17 g h i g h i ∙ l₂ in
     let l₄ : length r₄ ≡ 24 = ap length e₄ ∙ length-six r₃ 18 19 20 21 22 23 j k l j k l ∙ l₃ in
-    let s₁ : take 6 r₁ ≡ columns_repeated 2 3 row 1 = ap (take 6) e₁ ∙ colors_more row room 0 a b c refl (omega arith) (omega arith) pa pb pc in
+    let s₁ : take 6 r₁ ≡ columns_repeated 2 3 row 1 = ap (take 6) e₁ ∙ colors_more row buffer 0 a b c refl (omega arith) (omega arith) pa pb pc in
     let s₂ : take 12 r₂ ≡ columns_repeated 2 3 row 2 = ap (take 12) e₂ ∙ colors_more row r₁ 1 d e f s₁ (omega arith) (omega arith) pd pe pf in
     let s₃ : take 18 r₃ ≡ columns_repeated 2 3 row 3 = ap (take 18) e₃ ∙ colors_more row r₂ 2 g h i s₂ (omega arith) (omega arith) pg ph pi in
     let s₄ : take 24 r₄ ≡ columns_repeated 2 3 row 4 = ap (take 24) e₄ ∙ colors_more row r₃ 3 j k l s₃ (omega arith) (omega arith) pj pk pl in
@@ -140,69 +153,79 @@ pixel_of_four {X = X} row x m i twelve below =
     ∙ ap (take 3) (drop-drop (i * 3) (12 * x) row) ∙ ap (λ (n : ℕ). take 3 (drop n row)) (omega (arith, place))
 
 -- four pixels in their part of the row, each twice
-pub four_more : {X : Type 0} (row room part : List X) (x k m : ℕ) → take (6 * (4 * x)) room ≡ columns_repeated 2 3 row (4 * x) → 24 * x + 24 ≤ length room → k ≡ 12 → length part ≡ 24
-    → part ≡ columns_repeated 2 3 (take k (drop (12 * x) row)) 4 → take (6 * (4 * (x + 1))) (put_mid (24 * x) m room part) ≡ columns_repeated 2 3 row (4 * (x + 1))
-four_more {X = X} row room part x k m was fits twelve long is =
-    let f : ℕ → List X = λ n. repeated 2 (pixel_of 3 row n) in
-    let g : ℕ → List X = λ n. repeated 2 (pixel_of 3 (take k (drop (12 * x) row)) n) in
+pub four_more : {X : Type 0} (row buffer part : List X) (x k m : ℕ) → take (6 * (4 * x)) buffer ≡ columns_repeated 2 3 row (4 * x) → 24 * x + 24 ≤ length buffer
+    → k ≡ 12 → length part ≡ 24
+    → part ≡ columns_repeated 2 3 (take k (drop (12 * x) row)) 4 → take (6 * (4 * (x + 1))) (put_mid (24 * x) m buffer part) ≡ columns_repeated 2 3 row
+    (4 * (x + 1))
+four_more {X = X} row buffer part x k m was fits twelve long is =
+    let f : ℕ → List X = λ n. copies_of 2 (pixel_of 3 row n) in
+    let g : ℕ → List X = λ n. copies_of 2 (pixel_of 3 (take k (drop (12 * x) row)) n) in
     let same : (i : ℕ) → i < 4 → g (0 + i) ≡ f (0 + 4 * x + i) = λ i below.
     let from : 0 + i ≡ i = omega arith in
     let to : 4 * x + i ≡ 0 + 4 * x + i = omega arith in
-    ap g from ∙ ap (repeated 2) (pixel_of_four row x k i twelve below) ∙ ap f to in
+    ap g from ∙ ap (copies_of 2) (pixel_of_four row x k i twelve below) ∙ ap f to in
     let next : 6 * (4 * (x + 1)) ≡ 24 * x + length part = omega arith in
     let start : 24 * x ≡ 6 * (4 * x) = omega arith in
     let more : 4 * (x + 1) ≡ 4 * x + 4 = omega arith in
-    ap (λ (n : ℕ). take n (put_mid (24 * x) m room part)) next ∙ take-put_mid (24 * x) m room part (24 * x + length part) refl (omega arith)
-    ∙ ap (λ (l : List X). l ++ part) (ap (λ (n : ℕ). take n room) start ∙ was) ∙ ap (λ (l : List X). columns_repeated 2 3 row (4 * x) ++ l) (is ∙ pieces_alike_from g f 0 (0 + 4 * x) 4 (λ i below. same i below))
+    ap (λ (n : ℕ). take n (put_mid (24 * x) m buffer part)) next ∙ take-put_mid (24 * x) m buffer part (24 * x + length part) refl (omega arith)
+    ∙ ap (λ (l : List X). l ++ part) (ap (λ (n : ℕ). take n buffer) start ∙ was)
+    ∙ ap (λ (l : List X). columns_repeated 2 3 row (4 * x) ++ l) (is ∙ pieces_alike_from g f 0 (0 + 4 * x) 4 (λ i below. same i below))
     ∙ sym (ap (columns_repeated 2 3 row) more ∙ pieces_in_parts f 0 (4 * x) 4)
 
 -- ---- each pixel so many times
 
 -- one sample more of the pixel
-pub sample_more : {X : Type 0} (front pixel room : List X) (at p : ℕ) (v : X) → take (at + p) room ≡ front ++ take p pixel → at + p < length room → p < length pixel → v ≡ get_or pixel p v
-    → take (at + (p + 1)) (set room (at + p) v) ≡ front ++ take (p + 1) pixel
-sample_more {X = X} front pixel room at p v was lt below is =
+pub sample_more : {X : Type 0} (prefix pixel buffer : List X) (at p : ℕ) (v : X) → take (at + p) buffer ≡ prefix ++ take p pixel → at + p < length buffer
+    → p < length pixel → v ≡ get_or pixel p v
+    → take (at + (p + 1)) (set buffer (at + p) v) ≡ prefix ++ take (p + 1) pixel
+sample_more {X = X} prefix pixel buffer at p v was lt below is =
     let next : at + (p + 1) ≡ (at + p) + 1 = omega arith in
-    stored room front (take p pixel) (at + p) (at + (p + 1)) v was lt next
-    ∙ ap (λ (x : X). front ++ (take p pixel ++ x ∷ [])) is ∙ ap (λ (l : List X). front ++ l) (sym (take_more pixel p v below))
+    stored buffer prefix (take p pixel) (at + p) (at + (p + 1)) v was lt next
+    ∙ ap (λ (x : X). prefix ++ (take p pixel ++ x ∷ [])) is ∙ ap (λ (l : List X). prefix ++ l) (sym (take_more pixel p v below))
 
 -- the pixel once more
-pub pixel_more : {X : Type 0} (start before now pixel : List X) (count : ℕ) → before ≡ start ++ repeated count pixel → now ≡ before ++ pixel → now ≡ start ++ repeated (count + 1) pixel
+pub pixel_more : {X : Type 0} (start before now pixel : List X) (count : ℕ) → before ≡ start ++ copies_of count pixel → now ≡ before ++ pixel
+    → now ≡ start ++ copies_of (count + 1) pixel
 pixel_more {X = X} start before now pixel count was is =
-    is ∙ ap (λ (l : List X). l ++ pixel) was ∙ append_assoc start (repeated count pixel) pixel ∙ ap (λ (l : List X). start ++ l) (sym (one_more (λ _. pixel) count))
+    is ∙ ap (λ (l : List X). l ++ pixel) was ∙ append_assoc start (copies_of count pixel) pixel
+    ∙ ap (λ (l : List X). start ++ l) (sym (one_more (λ _. pixel) count))
 
 -- one column more
 pub column_more : {X : Type 0} (across depth : ℕ) (row before now : List X) (x n k m : ℕ) → before ≡ columns_repeated across depth row x
-    → now ≡ before ++ repeated n (take m (drop k row)) → n ≡ across → k ≡ x * depth → m ≡ depth → now ≡ columns_repeated across depth row (x + 1)
+    → now ≡ before ++ copies_of n (take m (drop k row)) → n ≡ across → k ≡ x * depth → m ≡ depth → now ≡ columns_repeated across depth row (x + 1)
 column_more {X = X} across depth row before now x n k m was is times at size =
-    is ∙ ap (λ (j : ℕ). before ++ repeated j (take m (drop k row))) times
-    ∙ ap (λ (j : ℕ). before ++ repeated across (take m (drop j row))) at
-    ∙ ap (λ (k : ℕ). before ++ repeated across (take k (drop (x * depth) row))) size
-    ∙ ap (λ (l : List X). l ++ repeated across (pixel_of depth row x)) was ∙ sym (one_more_column across depth row x)
+    is ∙ ap (λ (j : ℕ). before ++ copies_of j (take m (drop k row))) times
+    ∙ ap (λ (j : ℕ). before ++ copies_of across (take m (drop j row))) at
+    ∙ ap (λ (k : ℕ). before ++ copies_of across (take k (drop (x * depth) row))) size
+    ∙ ap (λ (l : List X). l ++ copies_of across (pixel_of depth row x)) was ∙ sym (one_more_column across depth row x)
 
 -- there is room for the pixel
-pub place_there : (width across depth x n at start count size : ℕ) → x < width → n < across → at ≡ start + n * depth → start ≡ x * across * depth → count ≡ width * depth → size ≡ count * across → at + depth ≤ size
+pub place_there : (width across depth x n at start count size : ℕ) → x < width → n < across → at ≡ start + n * depth → start ≡ x * across * depth
+    → count ≡ width * depth → size ≡ count * across → at + depth ≤ size
 place_there width across depth x n at start count size column time is first long all =
     let times : suc x * across ≤ width * across = mul-le-mul {n₁ = suc x} {m₁ = across} {n₂ = width} {m₂ = across} (omega arith) (omega arith) in
-    let samples : suc (x * across + n) * depth ≤ (width * across) * depth = mul-le-mul {n₁ = suc (x * across + n)} {m₁ = depth} {n₂ = width * across} {m₂ = depth} (omega arith) (omega arith) in
+    let samples : suc (x * across + n) * depth ≤ (width * across) * depth =
+    mul-le-mul {n₁ = suc (x * across + n)} {m₁ = depth} {n₂ = width * across} {m₂ = depth} (omega arith) (omega arith) in
     omega (arith, ap (λ (k : ℕ). k * across) long)
 
 -- a pixel has all its samples
-pub pixel_there : {X : Type 0} (row : List X) (width depth x k m p : ℕ) → length row ≡ width * depth → x < width → k ≡ x * depth → m ≡ depth → p < depth → p < length (take m (drop k row))
+pub pixel_there : {X : Type 0} (row : List X) (width depth x k m p : ℕ) → length row ≡ width * depth → x < width → k ≡ x * depth → m ≡ depth → p < depth
+    → p < length (take m (drop k row))
 pixel_there row width depth x k m p long column at size below =
     let within : suc x * depth ≤ width * depth = mul-le-mul {n₁ = suc x} {m₁ = depth} {n₂ = width} {m₂ = depth} (omega arith) (omega arith) in
     omega (arith, length-take m (drop k row), length-drop k row)
 
 -- nothing of the pixel yet
-pub none_stored : {X : Type 0} (room pixel : List X) (at : ℕ) → take (at + 0) room ≡ take at room ++ take 0 pixel
-none_stored {X = X} room pixel at =
+pub none_stored : {X : Type 0} (buffer pixel : List X) (at : ℕ) → take (at + 0) buffer ≡ take at buffer ++ take 0 pixel
+none_stored {X = X} buffer pixel at =
     let on : at + 0 ≡ at = omega arith in
-    ap (λ (k : ℕ). take k room) on ∙ sym (append-nil (take at room))
+    ap (λ (k : ℕ). take k buffer) on ∙ sym (append-nil (take at buffer))
 
 -- all of the pixel
-pub pixel_stored : {X : Type 0} (front room rest : List X) (at p m depth : ℕ) → take (at + p) room ≡ front ++ take p (take m rest) → p ≡ depth → m ≡ depth → take (at + depth) room ≡ front ++ take m rest
-pixel_stored {X = X} front room rest at p m depth is all size =
-    ap (λ (k : ℕ). take (at + k) room) (sym all) ∙ is ∙ ap (λ (l : List X). front ++ l) (take_all p (take m rest) (omega (arith, length-take m rest)))
+pub pixel_stored : {X : Type 0} (prefix buffer rest : List X) (at p m depth : ℕ) → take (at + p) buffer ≡ prefix ++ take p (take m rest) → p ≡ depth → m ≡ depth
+    → take (at + depth) buffer ≡ prefix ++ take m rest
+pixel_stored {X = X} prefix buffer rest at p m depth is all size =
+    ap (λ (k : ℕ). take (at + k) buffer) (sym all) ∙ is ∙ ap (λ (l : List X). prefix ++ l) (take_all p (take m rest) (omega (arith, length-take m rest)))
 
 -- the place behind a column
 pub next_place : (across depth x n at start : ℕ) → at ≡ start + n * depth → start ≡ x * across * depth → n ≡ across → at ≡ (x + 1) * across * depth
@@ -215,14 +238,17 @@ within_copies : (P : ℕ → Type 0) (pixel : List ℕ) (a n : ℕ) → All P pi
 within_copies P pixel a zero h = All-take P 0 pixel h
 within_copies P pixel a (suc n) h = All-append P pixel (flat_map (λ _. pixel) (range_with_len (a + 1) n)) h (within_copies P pixel (a + 1) n h)
 
-within_columns : (P : ℕ → Type 0) (across depth : ℕ) (row : List ℕ) (a n : ℕ) → All P row → All P (flat_map (λ x. repeated across (pixel_of depth row x)) (range_with_len a n))
+within_columns : (P : ℕ → Type 0) (across depth : ℕ) (row : List ℕ) (a n : ℕ) → All P row
+    → All P (flat_map (λ x. copies_of across (pixel_of depth row x)) (range_with_len a n))
 within_columns P across depth row a zero h = All-take P 0 row h
 within_columns P across depth row a (suc n) h =
-    All-append P (repeated across (pixel_of depth row a)) (flat_map (λ x. repeated across (pixel_of depth row x)) (range_with_len (a + 1) n))
-    (within_copies P (pixel_of depth row a) 0 across (All-take P depth (drop (a * depth) row) (All-drop P (a * depth) row h))) (within_columns P across depth row (a + 1) n h)
+    All-append P (copies_of across (pixel_of depth row a)) (flat_map (λ x. copies_of across (pixel_of depth row x)) (range_with_len (a + 1) n))
+    (within_copies P (pixel_of depth row a) 0 across (All-take P depth (drop (a * depth) row) (All-drop P (a * depth) row h)))
+    (within_columns P across depth row (a + 1) n h)
 
 -- the samples of the result are within what those of the row are
-pub enlarged_within : (maxval across : ℕ) (s : Shape) (held row made : List ℕ) → made ≡ enlarged_row across s held → held ≡ row → All (λ sample. sample ≤ maxval) row → All (λ sample. sample ≤ maxval) made
+pub enlarged_within : (maxval across : ℕ) (s : Shape) (held row made : List ℕ) → made ≡ enlarged_row across s held → held ≡ row
+    → All (λ sample. sample ≤ maxval) row → All (λ sample. sample ≤ maxval) made
 enlarged_within maxval across s held row made is same h =
     let P : ℕ → Type 0 = λ sample. sample ≤ maxval in
     subst (All P) (sym (is ∙ ap (enlarged_row across s) same)) (within_columns P across s.depth row 0 s.width h)
@@ -236,7 +262,8 @@ columns_once depth row (suc n) =
     let more : suc n ≡ n + 1 = omega arith in
     let size : n * depth + depth ≡ (n + 1) * depth = omega arith in
     ap (columns_repeated 1 depth row) more ∙ one_more_column 1 depth row n
-    ∙ ap (λ (l : List ℕ). l ++ repeated 1 (pixel_of depth row n)) (columns_once depth row n) ∙ ap (λ (l : List ℕ). take (n * depth) row ++ l) (append-nil (pixel_of depth row n))
+    ∙ ap (λ (l : List ℕ). l ++ copies_of 1 (pixel_of depth row n)) (columns_once depth row n)
+    ∙ ap (λ (l : List ℕ). take (n * depth) row ++ l) (append-nil (pixel_of depth row n))
     ∙ sym (take-add (n * depth) depth row) ∙ ap (λ (k : ℕ). take k row) size ∙ ap (λ (k : ℕ). take (k * depth) row) (sym more)
 
 -- a row whose pixels stand once is the row
@@ -245,7 +272,8 @@ unchanged_row across s row once count =
     sym (ap (λ (k : ℕ). enlarged_row k s row) once ∙ columns_once s.depth row s.width ∙ take_all (s.width * s.depth) row (omega (arith, count)))
 
 -- the rows that a row makes, of which one is left to give and so many more
-pub rows_due : (across down : ℕ) (s : Shape) (y : ℕ) (row made : List ℕ) → 1 ≤ down → made ≡ enlarged_row across s row → replicate (down - 1 + 1) made ≡ row_answer (Enlarge across down) s y row
+pub rows_due : (across down : ℕ) (s : Shape) (y : ℕ) (row made : List ℕ) → 1 ≤ down → made ≡ enlarged_row across s row
+    → replicate (down - 1 + 1) made ≡ row_answer (Enlarge across down) s y row
 rows_due across down s y row made some is =
     let count : down - 1 + 1 ≡ down = omega arith in
     ap (λ (n : ℕ). replicate n made) count ∙ ap (replicate down) is ∙ sym (row_of_enlarge across down s y row)

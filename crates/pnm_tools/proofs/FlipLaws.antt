@@ -13,7 +13,8 @@ use Rattle.pnm_tools.specs.declared.flip.Turn.{Turn}
 use Rattle.pnm_tools.specs.declared.tool.Tool.TheVariants.{Flip}
 use Rattle.pnm_tools.specs.Formulas.{image_by}
 use Rattle.pnm_tools.specs.Pixels.{pixel_of}
-use Rattle.pnm_tools.specs.Flip.{turn, turn_of, turned_sample, turned_head_value, turned_row, turned_at_end, moves_rows, in_order, place_in, mirrored_row, column_of, transposed_head_value}
+use Rattle.pnm_tools.specs.Flip.{turn, turn_of, turned_sample, turned_head_value, turned_row, turned_at_end, moves_rows, in_order, place_in, mirrored_row}
+use Rattle.pnm_tools.specs.Flip.{column_of, transposed_head_value}
 use Rattle.pnm_tools.specs.Tools.{result_head, result_sample, end_answer}
 use Rattle.pnm_tools.proofs.FormulaLaws.{columns as side_by_side, row_at, rows_are, rows_of-image_by, range_alike}
 use Rattle.pnm_tools.proofs.ImageLaws.{result_by_head, answered_by_rows, answers_to_rows, each_row_answered}
@@ -26,7 +27,8 @@ use Rattle.pnm_tools.proofs.WholeHeadLaws.{is_turned}
 -- ---- the answers to rows
 
 -- where rows don't stay in their places no row is answered before the end, and else each by itself, mirrored or not
-answers_by : (b : Bool) (way : FlipWay) (s : Shape) (y : ℕ) (rows : List (List ℕ)) → moves_rows (turn_of way) ≡ b → answers_to_rows (Flip way) s y rows ≡ (if b then [] else map (turned_row (turn_of way) s) rows)
+answers_by : (b : Bool) (way : FlipWay) (s : Shape) (y : ℕ) (rows : List (List ℕ)) → moves_rows (turn_of way) ≡ b
+    → answers_to_rows (Flip way) s y rows ≡ (if b then [] else map (turned_row (turn_of way) s) rows)
 answers_by true way s y [] e = refl
 answers_by true way s y (row ∷ rows) e =
     ap (λ (l : List (List ℕ)). l ++ answers_to_rows (Flip way) s (y + 1) rows) (row_moved way s y row e) ∙ answers_by true way s (y + 1) rows e
@@ -40,7 +42,8 @@ ordered_rows b i = ap (in_order b) (rows_are i) ∙ in_order_by_places b (row_at
 
 -- the rows of the image, where they stay rows
 rows_turned : (columns rows : Bool) (i : Image) → IsImage i
-    → map (turned_row (turn columns rows false) i.head.shape) (in_order rows (rows_of i)) ≡ rows_of (image_by i.head (turned_sample (turn columns rows false) i))
+    → map (turned_row (turn columns rows false) i.head.shape) (in_order rows (rows_of i))
+    ≡ rows_of (image_by i.head (turned_sample (turn columns rows false) i))
 rows_turned true rows i is =
     let s : Shape = i.head.shape in
     let line : ℕ → ℕ = place_in rows s.height in
@@ -64,10 +67,12 @@ columns_turned columns rows i is =
     let column : ℕ → ℕ = place_in columns s.width in
     let line : ℕ → ℕ = place_in rows s.height in
     in_order_by_places columns (column_of d (in_order rows (rows_of i))) s.width
-    ∙ range_alike (λ y. column_of d (in_order rows (rows_of i)) (column y)) (λ y. side_by_side 0 s.height d (λ x p. sample_at i (column y) (line x) p)) 0 s.width (λ y lt.
+    ∙ range_alike (λ y. column_of d (in_order rows (rows_of i)) (column y)) (λ y. side_by_side 0 s.height d (λ x p. sample_at i (column y) (line x) p)) 0
+    s.width (λ y lt.
     ap (λ (l : List (List ℕ)). column_of d l (column y)) (ordered_rows rows i)
     ∙ flat_map-map (λ row. pixel_of d row (column y)) (λ x. row_at i (line x)) (range_with_len 0 s.height)
-    ∙ sym (pieces_alike (λ x. map (λ p. sample_at i (column y) (line x) p) (range_with_len 0 d)) (λ x. pixel_of d (row_at i (line x)) (column y)) 0 s.height (λ x row.
+    ∙ sym (pieces_alike (λ x. map (λ p. sample_at i (column y) (line x) p) (range_with_len 0 d)) (λ x. pixel_of d (row_at i (line x)) (column y)) 0 s.height
+    (λ x row.
     pixel_at i (column y) (line x) is (place_within columns s.width y (omega arith)) (place_within rows s.height x (omega arith)))))
     ∙ sym (rows_of-image_by (transposed_head_value i.head) (turned_sample (turn columns rows true) i))
 
@@ -75,14 +80,16 @@ columns_turned columns rows i is =
 
 -- what answers the rows and the end of an image is the rows of the result
 answers_turned : (columns rows exchanged : Bool) (i : Image) → IsImage i
-    → (if moves_rows (turn columns rows exchanged) then [] else map (turned_row (turn columns rows exchanged) i.head.shape) (rows_of i)) ++ turned_at_end (turn columns rows exchanged) i.head.shape (rows_of i)
+    → (if moves_rows (turn columns rows exchanged) then [] else map (turned_row (turn columns rows exchanged) i.head.shape) (rows_of i)) ++ turned_at_end
+    (turn columns rows exchanged) i.head.shape (rows_of i)
     ≡ rows_of (image_by (turned_head_value (turn columns rows exchanged) i.head) (turned_sample (turn columns rows exchanged) i))
 answers_turned columns rows true i is = columns_turned columns rows i is
 answers_turned columns true false i is = rows_turned columns true i is
 answers_turned columns false false i is = append-nil (map (turned_row (turn columns false false) i.head.shape) (rows_of i)) ∙ rows_turned columns false i is
 
 answer_is : (way : FlipWay) (i : Image) (result : HeadValue) → IsImage i → result_head (Flip way) i.head ≡ Ok result
-    → answers_to_rows (Flip way) i.head.shape 0 (rows_of i) ++ end_answer (Flip way) i.head.shape (rows_of i) ≡ rows_of (image_by result (result_sample (Flip way) i))
+    → answers_to_rows (Flip way) i.head.shape 0 (rows_of i) ++ end_answer (Flip way) i.head.shape (rows_of i)
+    ≡ rows_of (image_by result (result_sample (Flip way) i))
 unfolding result_sample
 answer_is way i result is e =
     let t : Turn = turn_of way in

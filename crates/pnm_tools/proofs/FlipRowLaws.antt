@@ -1,8 +1,10 @@
 -- The rows of a flipped image, and what is still to be given of it.
-use Rattle.std.proofs.Common.{◌≡◌, ℕ, zero, suc, ◌+◌, ◌-◌, ◌*◌, ◌<◌, ◌≤◌, List, [], ◌∷◌, ◌++◌, length, take, drop, reverse, get_or, set, refl, sym, ap, ◌∙◌, arith, mul-le-mul, length-take-le, length-drop, subst, Option, None, All}
+use Rattle.std.proofs.Common.{◌≡◌, ℕ, zero, suc, ◌+◌, ◌-◌, ◌*◌, ◌<◌, ◌≤◌, List, [], ◌∷◌, ◌++◌, length, take, drop, reverse, get_or, set, refl, sym, ap, ◌∙◌}
+use Rattle.std.proofs.Common.{arith, mul-le-mul, length-take-le, length-drop, subst, Option, None, All}
 use Rattle.std.specs.List.{flat_map, range_with_len}
 use borrow.Rule.Slice.PartMut.{put_mid}
-use Rattle.std.proofs.lemmas.List.{append_assoc, length-append, reverse-append, reverse-reverse, length-reverse, take-append-drop, take_at, drop_at, drop-drop, take_more, drop_more, take_all, drop_all, append-nil}
+use Rattle.std.proofs.lemmas.List.{append_assoc, length-append, reverse-append, reverse-reverse, length-reverse, take-append-drop, take_at, drop_at, drop-drop}
+use Rattle.std.proofs.lemmas.List.{take_more, drop_more, take_all, drop_all, append-nil}
 use Rattle.pnm_image.specs.declared.shape.Shape.{Shape}
 use Rattle.pnm_tools.specs.Flip.{turn_of, mirrored_row}
 use Rattle.pnm_tools.specs.Pixels.{pixel_of}
@@ -20,7 +22,8 @@ abbrev pub last_pixels : {X : Type 0} → ℕ → ℕ → List X → ℕ → Lis
 last_pixels width depth row count = flat_map (λ x. pixel_of depth row (width - 1 - x)) (range_with_len 0 count)
 
 -- one pixel more
-pub one_pixel_more : {X : Type 0} (width depth : ℕ) (row : List X) (x : ℕ) → last_pixels width depth row (x + 1) ≡ last_pixels width depth row x ++ pixel_of depth row (width - 1 - x)
+pub one_pixel_more : {X : Type 0} (width depth : ℕ) (row : List X) (x : ℕ) → last_pixels width depth row (x + 1) ≡ last_pixels width depth row x
+    ++ pixel_of depth row (width - 1 - x)
 one_pixel_more width depth row x = flat_map_one_more (λ x. pixel_of depth row (width - 1 - x)) 0 x x (omega arith)
 
 -- the part of a list between two others, from behind
@@ -33,7 +36,8 @@ part_reversed {X = X} a b c n m long size =
     ∙ ap (λ (l : List X). reverse l) (take_at (reverse b) (reverse a) m (length-reverse b ∙ size)) ∙ reverse-reverse b
 
 -- the samples of a pixel of the reversed row, reversed again
-pub pixel_reversed : {X : Type 0} (width depth : ℕ) (row : List X) (x : ℕ) → x < width → length row ≡ width * depth → reverse (take depth (drop (x * depth) (reverse row))) ≡ pixel_of depth row (width - 1 - x)
+pub pixel_reversed : {X : Type 0} (width depth : ℕ) (row : List X) (x : ℕ) → x < width → length row ≡ width * depth
+    → reverse (take depth (drop (x * depth) (reverse row))) ≡ pixel_of depth row (width - 1 - x)
 pixel_reversed {X = X} width depth row x below count =
     let n : ℕ = (width - 1 - x) * depth in
     let columns : width ≡ (width - 1 - x) + (1 + x) = omega arith in
@@ -48,25 +52,26 @@ pixel_reversed {X = X} width depth row x below count =
     ap (λ (l : List X). reverse (take depth (drop (x * depth) (reverse l)))) whole ∙ part_reversed a b c (x * depth) depth long short
 
 -- the first pixel of the rest is turned back
-pub pixel_more : {X : Type 0} (width depth : ℕ) (row : List X) (x m : ℕ) (samples turned : List X) → x < width → length row ≡ width * depth → length samples ≡ length row
+pub pixel_more : {X : Type 0} (width depth : ℕ) (row : List X) (x m : ℕ) (samples turned : List X) → x < width → length row ≡ width * depth
+    → length samples ≡ length row
     → samples ≡ last_pixels width depth row x ++ drop (x * depth) (reverse row) → turned ≡ reverse (take m (drop (x * depth) samples)) → m ≡ depth
     → put_mid (x * depth) m samples turned ≡ last_pixels width depth row (x + 1) ++ drop ((x + 1) * depth) (reverse row)
 pixel_more {X = X} width depth row x m samples turned below count same is made size =
     let n : ℕ = x * depth in
-    let front : List X = last_pixels width depth row x in
+    let prefix : List X = last_pixels width depth row x in
     let back : List X = drop n (reverse row) in
     let fits : n ≤ width * depth = mul-le-mul {n₁ = x} {m₁ = depth} {n₂ = width} {m₂ = depth} (omega arith) (omega arith) in
     let left : length back ≡ length row - n = omega (arith, length-drop n (reverse row), length-reverse row) in
-    let long : length front ≡ n = omega (arith, ap length is, length-append front back) in
-    let rest : drop n samples ≡ back = ap (drop n) is ∙ drop_at front back n long in
+    let long : length prefix ≡ n = omega (arith, ap length is, length-append prefix back) in
+    let rest : drop n samples ≡ back = ap (drop n) is ∙ drop_at prefix back n long in
     let pixel : turned ≡ pixel_of depth row (width - 1 - x) =
     made ∙ ap (λ (l : List X). reverse (take m l)) rest ∙ ap (λ (k : ℕ). reverse (take k back)) size ∙ pixel_reversed width depth row x below count in
     let behind : drop m (drop n samples) ≡ drop ((x + 1) * depth) (reverse row) =
     ap (drop m) rest ∙ drop-drop m n (reverse row) ∙ ap (λ (k : ℕ). drop k (reverse row)) (omega arith) in
-    ap (λ (l : List X). l ++ (turned ++ drop m (drop n samples))) (ap (take n) is ∙ take_at front back n long)
-    ∙ ap (λ (l : List X). front ++ (l ++ drop m (drop n samples))) pixel
-    ∙ ap (λ (l : List X). front ++ (pixel_of depth row (width - 1 - x) ++ l)) behind
-    ∙ sym (append_assoc front (pixel_of depth row (width - 1 - x)) (drop ((x + 1) * depth) (reverse row)))
+    ap (λ (l : List X). l ++ (turned ++ drop m (drop n samples))) (ap (take n) is ∙ take_at prefix back n long)
+    ∙ ap (λ (l : List X). prefix ++ (l ++ drop m (drop n samples))) pixel
+    ∙ ap (λ (l : List X). prefix ++ (pixel_of depth row (width - 1 - x) ++ l)) behind
+    ∙ sym (append_assoc prefix (pixel_of depth row (width - 1 - x)) (drop ((x + 1) * depth) (reverse row)))
     ∙ ap (λ (l : List X). l ++ drop ((x + 1) * depth) (reverse row)) (sym (one_pixel_more width depth row x))
 
 -- pixels of one sample
@@ -86,7 +91,8 @@ single_pixels {X = X} width row d (suc n) count le =
     ∙ sym (take_more (reverse row) n d here) ∙ ap (λ (k : ℕ). take k (reverse row)) (sym more)
 
 -- the row of one plane that has a sample, from behind
-some_pixels : {X : Type 0} (s : Shape) (row samples : List X) (d : X) → 0 < s.depth → s.depth ≤ 1 → length row ≡ s.width * s.depth → samples ≡ reverse row → samples ≡ mirrored_row s row
+some_pixels : {X : Type 0} (s : Shape) (row samples : List X) (d : X) → 0 < s.depth → s.depth ≤ 1 → length row ≡ s.width * s.depth → samples ≡ reverse row
+    → samples ≡ mirrored_row s row
 some_pixels s row samples d some one count is =
     let depth : s.depth ≡ 1 = omega arith in
     let long : length row ≡ s.width * 1 = count ∙ ap (λ (k : ℕ). s.width * k) depth in
@@ -94,7 +100,8 @@ some_pixels s row samples d some one count is =
     ∙ ap (λ (k : ℕ). last_pixels s.width k row s.width) (sym depth)
 
 -- the row of one plane, from behind
-pub one_plane : {X : Type 0} (s : Shape) (row samples : List X) → 0 < s.depth → s.depth ≤ 1 → length row ≡ s.width * s.depth → samples ≡ reverse row → samples ≡ mirrored_row s row
+pub one_plane : {X : Type 0} (s : Shape) (row samples : List X) → 0 < s.depth → s.depth ≤ 1 → length row ≡ s.width * s.depth → samples ≡ reverse row
+    → samples ≡ mirrored_row s row
 one_plane {X = X} s [] samples some one count is =
     let none : List X = [] in
     let depth : s.depth ≡ 1 = omega arith in
@@ -112,7 +119,8 @@ three_reversed {X = X} (p ∷ q ∷ r ∷ []) a c three first last = ap (λ (x :
 three_reversed (p ∷ q ∷ r ∷ s ∷ xs) a c three first last = absurd (omega arith)
 
 -- once all pixels of three samples are turned back
-pub colors_turned : {X : Type 0} (s : Shape) (row samples : List X) (n : ℕ) → s.depth ≡ 3 → length row ≡ s.width * s.depth → n ≡ s.width → samples ≡ last_pixels s.width 3 row n ++ drop (n * 3) (reverse row) → samples ≡ mirrored_row s row
+pub colors_turned : {X : Type 0} (s : Shape) (row samples : List X) (n : ℕ) → s.depth ≡ 3 → length row ≡ s.width * s.depth → n ≡ s.width
+    → samples ≡ last_pixels s.width 3 row n ++ drop (n * 3) (reverse row) → samples ≡ mirrored_row s row
 colors_turned {X = X} s row samples n depth count all is =
     let long : length row ≡ s.width * 3 = count ∙ ap (λ (d : ℕ). s.width * d) depth in
     let none : drop (n * 3) (reverse row) ≡ [] = drop_all (n * 3) (reverse row) (omega (arith, length-reverse row)) in
@@ -126,10 +134,12 @@ pixel_within maxval depth x row h = All-take (λ sample. sample ≤ maxval) dept
 -- samples within a maxval stay so in the mirrored row
 pub mirrored_within : (s : Shape) (row new : List ℕ) → new ≡ mirrored_row s row → All (λ sample. sample ≤ s.maxval) row → All (λ sample. sample ≤ s.maxval) new
 mirrored_within s row new is h =
-    subst (All (λ sample. sample ≤ s.maxval)) (sym is) (pieces_within s.maxval (λ x. pixel_of s.depth row (s.width - 1 - x)) 0 s.width (λ x. pixel_within s.maxval s.depth (s.width - 1 - x) row h))
+    subst (All (λ sample. sample ≤ s.maxval)) (sym is)
+    (pieces_within s.maxval (λ x. pixel_of s.depth row (s.width - 1 - x)) 0 s.width (λ x. pixel_within s.maxval s.depth (s.width - 1 - x) row h))
 
 -- a row that is mirrored in place
-pub mirrored_in_place : (s : Shape) (row items lent new : List ℕ) (len : ℕ) → new ≡ mirrored_row s lent → length new ≡ length lent → lent ≡ items → items ≡ row → len ≡ length items → take len (new ++ drop (length new) items) ≡ mirrored_row s row
+pub mirrored_in_place : (s : Shape) (row items lent new : List ℕ) (len : ℕ) → new ≡ mirrored_row s lent → length new ≡ length lent → lent ≡ items → items ≡ row
+    → len ≡ length items → take len (new ++ drop (length new) items) ≡ mirrored_row s row
 mirrored_in_place s row items lent new len made long same given count =
     let size : length new ≡ len = long ∙ ap length same ∙ sym count in
     take_at new (drop (length new) items) len size ∙ made ∙ ap (mirrored_row s) (same ∙ given)
@@ -137,6 +147,7 @@ mirrored_in_place s row items lent new len made long same given count =
 -- ---- the rows that a reverser has still to give
 
 -- nothing is due before the image has ended
-pub none_reversed : (w : Reversed) (s : Shape) (y : ℕ) (row : List ℕ) → ReversesRows (turn_of w.way) → w.ended ≡ None → reversed_due w ≡ row_answer (Flip w.way) s y row
+pub none_reversed : (w : Reversed) (s : Shape) (y : ℕ) (row : List ℕ) → ReversesRows (turn_of w.way) → w.ended ≡ None
+    → reversed_due w ≡ row_answer (Flip w.way) s y row
 none_reversed w s y row reverses none =
     ap (λ (ended : Option Shape). reversed_due (reversed w.way w.rows ended)) none ∙ sym (row_moved w.way s y row (reversed_moves (turn_of w.way) reverses))

@@ -1,7 +1,9 @@
 -- The rows of an image that is given by a formula.
-use Rattle.std.proofs.Common.{◌≡◌, ℕ, zero, suc, ◌+◌, ◌*◌, ◌<◌, ◌≤◌, List, ◌∷◌, ◌++◌, length, slice_index, take, drop, map, refl, sym, ap, ◌∙◌, arith, suc-mul, zero-mul, mul_assoc, mul-le-mul}
+use Rattle.std.proofs.Common.{◌≡◌, ℕ, zero, suc, ◌+◌, ◌*◌, ◌<◌, ◌≤◌, List, ◌∷◌, ◌++◌, length, slice_index, take, drop, map, refl, sym, ap, ◌∙◌, arith, suc-mul}
+use Rattle.std.proofs.Common.{zero-mul, mul_assoc, mul-le-mul}
 use Rattle.std.specs.List.{flat_map, range_with_len}
-use Rattle.std.proofs.lemmas.List.{take_at, drop_at, drop-drop, map-append, length-map, length-take-le, length-drop, same_lists, get_or-take, get_or-drop, get_or-map}
+use Rattle.std.proofs.lemmas.List.{take_at, drop_at, drop-drop, map-append, length-map, length-take-le, length-drop, same_lists, get_or-take, get_or-drop}
+use Rattle.std.proofs.lemmas.List.{get_or-map}
 use Rattle.std.proofs.lemmas.Simd.{map-map}
 use Rattle.std.proofs.lemmas.List.FromFn.{get_or-map-range_with_len, length-map-range_with_len}
 use Rattle.std.proofs.Math.Seq.{take-add}
@@ -16,7 +18,8 @@ abbrev pub columns : ℕ → ℕ → ℕ → (ℕ → ℕ → ℕ) → List ℕ
 columns from count depth sample = flat_map (λ x. map (λ p. sample x p) (range_with_len 0 depth)) (range_with_len from count)
 
 length-columns : (from count depth : ℕ) (sample : ℕ → ℕ → ℕ) → length (columns from count depth sample) ≡ count * depth
-length-columns from count depth sample = length_of_equals (λ x. map (λ p. sample x p) (range_with_len 0 depth)) depth from count (λ x. length-map-range_with_len (λ p. sample x p) 0 depth)
+length-columns from count depth sample = length_of_equals (λ x. map (λ p. sample x p) (range_with_len 0 depth)) depth from count
+    (λ x. length-map-range_with_len (λ p. sample x p) 0 depth)
 
 -- a row of a formula has its length
 pub length-row_by : (s : Shape) (sample : ℕ → ℕ → ℕ) → length (row_by s sample) ≡ row_length s
@@ -25,10 +28,12 @@ length-row_by s sample = length-columns 0 s.width s.depth sample
 -- an image of a formula has as many samples as its head says
 pub length-image_by : (head : HeadValue) (sample : ℕ → ℕ → ℕ → ℕ) → length (image_by head sample).samples ≡ head.shape.height * row_length head.shape
 length-image_by head sample =
-    length_of_equals (λ y. row_by head.shape (λ x p. sample x y p)) (row_length head.shape) 0 head.shape.height (λ y. length-row_by head.shape (λ x p. sample x y p))
+    length_of_equals (λ y. row_by head.shape (λ x p. sample x y p)) (row_length head.shape) 0 head.shape.height
+    (λ y. length-row_by head.shape (λ x p. sample x y p))
 
 -- rows of one length, one after another, cut apart again
-cut_again : (from count each : ℕ) (row : ℕ → List ℕ) → ((y : ℕ) → length (row y) ≡ each) → cut_rows count each (flat_map row (range_with_len from count)) ≡ map row (range_with_len from count)
+cut_again : (from count each : ℕ) (row : ℕ → List ℕ) → ((y : ℕ) → length (row y) ≡ each) → cut_rows count each (flat_map row (range_with_len from count))
+    ≡ map row (range_with_len from count)
 cut_again from zero each row long = refl
 cut_again from (suc count) each row long =
     let others : List ℕ = flat_map row (range_with_len (from + 1) count) in
@@ -37,8 +42,10 @@ cut_again from (suc count) each row long =
     ∙ ap (λ (l : List (List ℕ)). row from ∷ l) (cut_again (from + 1) count each row long)
 
 -- the rows of an image of a formula are those of the formula
-pub rows_of-image_by : (head : HeadValue) (sample : ℕ → ℕ → ℕ → ℕ) → rows_of (image_by head sample) ≡ map (λ y. row_by head.shape (λ x p. sample x y p)) (range_with_len 0 head.shape.height)
-rows_of-image_by head sample = cut_again 0 head.shape.height (row_length head.shape) (λ y. row_by head.shape (λ x p. sample x y p)) (λ y. length-row_by head.shape (λ x p. sample x y p))
+pub rows_of-image_by : (head : HeadValue) (sample : ℕ → ℕ → ℕ → ℕ) → rows_of (image_by head sample) ≡ map (λ y. row_by head.shape (λ x p. sample x y p))
+    (range_with_len 0 head.shape.height)
+rows_of-image_by head sample = cut_again 0 head.shape.height (row_length head.shape) (λ y. row_by head.shape (λ x p. sample x y p))
+    (λ y. length-row_by head.shape (λ x p. sample x y p))
 
 -- ---- formulas that take each sample by itself
 
@@ -47,7 +54,8 @@ group_at : (g : ℕ → ℕ) (xs : List ℕ) (k d : ℕ) → k + d ≤ length xs
 group_at g xs k d within =
     let part : List ℕ = take d (drop k xs) in
     let size : length part ≡ d = length-take-le d (drop k xs) (omega (arith, length-drop k xs)) in
-    same_lists (map (λ p. g (slice_index xs (k + p))) (range_with_len 0 d)) (map g part) (length-map-range_with_len (λ p. g (slice_index xs (k + p))) 0 d ∙ sym size ∙ sym (length-map part g)) (λ i e lt.
+    same_lists (map (λ p. g (slice_index xs (k + p))) (range_with_len 0 d)) (map g part) (length-map-range_with_len (λ p. g (slice_index xs (k + p))) 0 d
+    ∙ sym size ∙ sym (length-map part g)) (λ i e lt.
     let below : i < d = omega (arith, length-map-range_with_len (λ p. g (slice_index xs (k + p))) 0 d) in
     get_or-map-range_with_len (λ p. g (slice_index xs (k + p))) 0 d i i e below (omega arith)
     ∙ sym (get_or-map g part i 0 e (omega arith) ∙ ap g (get_or-take d (drop k xs) i 0 below ∙ get_or-drop k xs i 0)))
@@ -72,7 +80,8 @@ columns_at g xs base from (suc count) d within =
 rows_from : (each : ℕ) (xs : List ℕ) (a n : ℕ) → cut_rows n each (drop (a * each) xs) ≡ map (λ y. take each (drop (y * each) xs)) (range_with_len a n)
 rows_from each xs a zero = refl
 rows_from each xs a (suc n) =
-    let next : drop each (drop (a * each) xs) ≡ drop ((a + 1) * each) xs = drop-drop each (a * each) xs ∙ ap (λ (k : ℕ). drop k xs) (sym (suc-mul a each) ∙ ap (λ (k : ℕ). k * each) (omega arith)) in
+    let next : drop each (drop (a * each) xs) ≡ drop ((a + 1) * each) xs = drop-drop each (a * each) xs
+    ∙ ap (λ (k : ℕ). drop k xs) (sym (suc-mul a each) ∙ ap (λ (k : ℕ). k * each) (omega arith)) in
     ap (λ (l : List (List ℕ)). take each (drop (a * each) xs) ∷ l) (ap (cut_rows n each) next ∙ rows_from each xs (a + 1) n)
 
 -- a row of an image
@@ -89,7 +98,7 @@ rows_are i =
 pub range_alike : {A : Type 0} (f g : ℕ → A) (a n : ℕ) → ((y : ℕ) → y < a + n → f y ≡ g y) → map f (range_with_len a n) ≡ map g (range_with_len a n)
 range_alike f g a n same = alike_from f g a a n (λ i lt. same (a + i) (omega arith))
 
--- the same sizes
+-- two shapes have the same sizes
 pub record HasSizes (s t : Shape) : Type 0 where
   pub width : s.width ≡ t.width
   pub height : s.height ≡ t.height
@@ -97,22 +106,26 @@ pub record HasSizes (s t : Shape) : Type 0 where
 
 -- a row of a formula that takes each sample by itself
 row_is : (g : ℕ → ℕ) (i : Image) (y : ℕ) → length i.samples ≡ i.head.shape.height * row_length i.head.shape → y < i.head.shape.height
-    → columns 0 i.head.shape.width i.head.shape.depth (λ x p. g (sample_at i x y p)) ≡ map g (take (row_length i.head.shape) (drop (y * row_length i.head.shape) i.samples))
+    → columns 0 i.head.shape.width i.head.shape.depth (λ x p. g (sample_at i x y p))
+    ≡ map g (take (row_length i.head.shape) (drop (y * row_length i.head.shape) i.samples))
 row_is g i y count lt =
     let s : Shape = i.head.shape in
     let each : ℕ = row_length s in
     let at : (y * s.width + 0) * s.depth ≡ y * each = ap (λ (n : ℕ). n * s.depth) (omega arith) ∙ mul_assoc y s.width s.depth in
     let below : suc y * each ≤ s.height * each = mul-le-mul {n₁ = suc y} {m₁ = each} {n₂ = s.height} {m₂ = each} (omega arith) (omega arith) in
-    columns_at g i.samples (y * s.width) 0 s.width s.depth (omega (arith, at, count, below, suc-mul y each)) ∙ ap (λ (n : ℕ). map g (take each (drop n i.samples))) at
+    columns_at g i.samples (y * s.width) 0 s.width s.depth (omega (arith, at, count, below, suc-mul y each))
+    ∙ ap (λ (n : ℕ). map g (take each (drop n i.samples))) at
 
 -- the rows of a formula that takes each sample by itself are those of the image, each sample changed
-pub samplewise_rows : (g : ℕ → ℕ) (i : Image) (head : HeadValue) → IsImage i → HasSizes head.shape i.head.shape → rows_of (image_by head (λ x y p. g (sample_at i x y p))) ≡ map (map g) (rows_of i)
+pub samplewise_rows : (g : ℕ → ℕ) (i : Image) (head : HeadValue) → IsImage i → HasSizes head.shape i.head.shape
+    → rows_of (image_by head (λ x y p. g (sample_at i x y p))) ≡ map (map g) (rows_of i)
 samplewise_rows g i head is sizes =
     let s : Shape = i.head.shape in
     let each : ℕ = row_length s in
     rows_of-image_by head (λ x y p. g (sample_at i x y p))
     ∙ ap (λ (h : ℕ). map (λ y. row_by head.shape (λ x p. g (sample_at i x y p))) (range_with_len 0 h)) sizes.height
     ∙ range_alike (λ y. row_by head.shape (λ x p. g (sample_at i x y p))) (λ y. map g (take each (drop (y * each) i.samples))) 0 s.height (λ y lt.
-    ap (λ (w : ℕ). columns 0 w head.shape.depth (λ x p. g (sample_at i x y p))) sizes.width ∙ ap (λ (d : ℕ). columns 0 s.width d (λ x p. g (sample_at i x y p))) sizes.depth ∙ row_is g i y is.count (omega arith))
+    ap (λ (w : ℕ). columns 0 w head.shape.depth (λ x p. g (sample_at i x y p))) sizes.width
+    ∙ ap (λ (d : ℕ). columns 0 s.width d (λ x p. g (sample_at i x y p))) sizes.depth ∙ row_is g i y is.count (omega arith))
     ∙ sym (map-map (map g) (λ y. take each (drop (y * each) i.samples)) (range_with_len 0 s.height))
     ∙ ap (map (map g)) (sym (rows_are i))

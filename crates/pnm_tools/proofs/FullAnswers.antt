@@ -19,7 +19,7 @@ not_whole e = absurd cc
 none_ends : {A : Type 0} → EndsBy Whole [] → A
 none_ends e = absurd cc
 
--- a front that ends the stream goes beyond messages that don't
+-- a prefix that ends the stream goes beyond messages that don't
 record Beyond (ms due g rest : List Message) : Type 0 where
   more : List Message
   whole : g ≡ ms ++ more
@@ -32,7 +32,13 @@ goes_beyond (m ∷ ms) due [] rest on e ends = none_ends ends
 goes_beyond (m ∷ ms) due (x ∷ []) rest on e ends = not_whole (sym on.0 ∙ ap ending_of (same_first m x (ms ++ due) rest e) ∙ ends)
 goes_beyond (m ∷ ms) due (x ∷ y ∷ g) rest on e ends =
     let r = goes_beyond ms due (y ∷ g) rest on.1 (same_rest m x (ms ++ due) (y ∷ g ++ rest) e) ends.1 in
-    record { more = r.more; whole = ap (λ (l : List Message). x ∷ l) r.whole ∙ ap (λ (k : Message). k ∷ (ms ++ r.more)) (sym (same_first m x (ms ++ due) (y ∷ g ++ rest) e)); left = r.left; ends = r.ends }
+    record {
+      more = r.more;
+      whole = ap (λ (l : List Message). x ∷ l) r.whole
+          ∙ ap (λ (k : Message). k ∷ (ms ++ r.more)) (sym (same_first m x (ms ++ due) (y ∷ g ++ rest) e));
+      left = r.left;
+      ends = r.ends;
+    }
 
 image_goes_on : (i : Image) → EndNothing (messages_of_image i)
 image_goes_on i = (refl, end_ends_nothing (rows_of i))
@@ -40,36 +46,47 @@ image_goes_on i = (refl, end_ends_nothing (rows_of i))
 abbrev IsResult : Tool → List Image → List Message → Type 0
 IsResult tool is g = (js : List Image) × AreResults tool is js × (g ≡ messages_of_stream js)
 
-no_front : {A : Type 0} (g rest : List Message) → [] ≡ g ++ rest → EndsBy Whole g → A
-no_front [] rest e ends = none_ends ends
-no_front (m ∷ g) rest e ends = absurd cc
+no_prefix : {A : Type 0} (g rest : List Message) → [] ≡ g ++ rest → EndsBy Whole g → A
+no_prefix [] rest e ends = none_ends ends
+no_prefix (m ∷ g) rest e ends = absurd cc
 
 end_alone : (tool : Tool) (g rest : List Message) → StreamEnd ∷ [] ≡ g ++ rest → EndsBy Whole g → IsResult tool [] g
 end_alone tool [] rest e ends = none_ends ends
 end_alone tool (x ∷ []) rest e ends = ([], tt, ap (λ (m : Message). m ∷ []) (sym (same_first StreamEnd x [] rest e)))
 end_alone tool (x ∷ y ∷ g) rest e ends = let none = same_rest StreamEnd x [] (y ∷ g ++ rest) e in absurd cc
 
-image_by : (tool : Tool) (i : Image) (is : List Image) (g rest : List Message) (r : Result Image ToolFault) → applied tool i ≡ r → due_by tool is r ≡ g ++ rest → EndsBy Whole g
+image_by : (tool : Tool) (i : Image) (is : List Image) (g rest : List Message) (r : Result Image ToolFault) → applied tool i ≡ r → due_by tool is r ≡ g ++ rest
+    → EndsBy Whole g
     → ((h : List Message) → output_due tool is ≡ h ++ rest → EndsBy Whole h → IsResult tool is h) → IsResult tool (i ∷ is) g
-image_by tool i is g rest (Err fault) a e ends others = no_front g rest e ends
+image_by tool i is g rest (Err fault) a e ends others = no_prefix g rest e ends
 image_by tool i is g rest (Ok j) a e ends others =
     let b = goes_beyond (messages_of_image j) (output_due tool is) g rest (image_goes_on j) e ends in
     let r = others b.more b.left b.ends in
     (j ∷ r.0, (a, r.1), b.whole ∙ ap (λ (l : List Message). messages_of_image j ++ l) r.2)
 
-front_is_stream : (tool : Tool) (is : List Image) (g rest : List Message) → output_due tool is ≡ g ++ rest → EndsBy Whole g → IsResult tool is g
+prefix_is_stream : (tool : Tool) (is : List Image) (g rest : List Message) → output_due tool is ≡ g ++ rest → EndsBy Whole g → IsResult tool is g
 unfolding output_due
-front_is_stream tool [] g rest e ends = end_alone tool g rest e ends
-front_is_stream tool (i ∷ is) g rest e ends = image_by tool i is g rest (applied tool i) refl (sym (due_is tool i is) ∙ e) ends (λ h d w. front_is_stream tool is h rest d w)
+prefix_is_stream tool [] g rest e ends = end_alone tool g rest e ends
+prefix_is_stream tool (i ∷ is) g rest e ends = image_by tool i is g rest (applied tool i) refl (sym (due_is tool i is) ∙ e) ends
+    (λ h d w. prefix_is_stream tool is h rest d w)
 
 stream_ends_whole : (is : List Image) → EndsBy Whole (messages_of_stream is)
 stream_ends_whole [] = refl
 stream_ends_whole (i ∷ is) = ends_after Whole (messages_of_image i) (messages_of_stream is) (image_goes_on i) (stream_ends_whole is)
 
-pub full_answer_is_the_stream : (tool : Tool) (is : List Image) (given : List Message) → AreImages is → AnswersInFull tool (messages_of_stream is) given → IsResult tool is given
+pub full_answer_is_the_stream : (tool : Tool) (is : List Image) (given : List Message) → AreImages is → AnswersInFull tool (messages_of_stream is) given
+    → IsResult tool is given
 full_answer_is_the_stream tool is given are full =
     let whole = stream_ends_whole is in
     let ends = full.ends Whole whole in
-    let completes : Completes is (messages_of_stream is) = record { images = are; front = ([], ap (λ (l : List Message). l) (sym (append-nil (messages_of_stream is))) ∙ ap (λ (l : List Message). l ++ []) (sym (unbroken_keeps_all Whole (messages_of_stream is) tt whole))) } in
-    let front = full.answers.front is completes in
-    front_is_stream tool is given front.0 (front.1 ∙ ap (λ (l : List Message). l ++ front.0) (unbroken_keeps_all Whole given tt ends)) ends
+    let completes : Completes is (messages_of_stream is) =
+    record {
+      images = are;
+      prefix = (
+        [],
+        ap (λ (l : List Message). l) (sym (append-nil (messages_of_stream is)))
+            ∙ ap (λ (l : List Message). l ++ []) (sym (unbroken_keeps_all Whole (messages_of_stream is) tt whole)),
+      );
+    } in
+    let prefix = full.answers.prefix is completes in
+    prefix_is_stream tool is given prefix.0 (prefix.1 ∙ ap (λ (l : List Message). l ++ prefix.0) (unbroken_keeps_all Whole given tt ends)) ends

@@ -6,12 +6,12 @@ use Rattle.pnm_image.specs.declared.place.Place.TheVariants.{Between}
 use Rattle.pnm_image.specs.Images.{Image}
 use Rattle.pnm_image.specs.Messages.{without_stop}
 use Rattle.pnm_image.specs.Places.{place_of}
-use Rattle.pnm_image.specs.Completion.{IsFrontOf, Completes}
+use Rattle.pnm_image.specs.Completion.{IsPrefixOf, Completes}
 use Rattle.pnm_tools.specs.declared.tool.Tool.{Tool}
-use Rattle.pnm_tools.specs.Answers.{EndsBy, images_ended, begun_of, begun_in, owed, AnswersInFull}
-use Rattle.pnm_tools.specs.Answering.{answered_from, rows_come}
+use Rattle.pnm_tools.specs.Answers.{EndsBy, images_ended, begun_of, begun_in, answers_owed, AnswersInFull}
+use Rattle.pnm_tools.specs.Answering.{answers_from, rows_come}
 use Rattle.pnm_tools.specs.States.{IsAnswering}
-use Rattle.pnm_tools.proofs.AnsweringLaws.{AnswersImages, answered_from-append}
+use Rattle.pnm_tools.proofs.AnsweringLaws.{AnswersImages, answers_from-append}
 use Rattle.pnm_tools.proofs.AtLaws.{StopsLast, keeps_all, cuts_stop, lawful_stops, answering_answers}
 use Rattle.pnm_tools.proofs.InFullLaws.{answers_end_so}
 use Rattle.pnm_tools.proofs.OwedLaws.{owed_is_answered}
@@ -26,27 +26,32 @@ ended_before_stop (StreamEnd ∷ l) = ended_before_stop l
 ended_before_stop (Stop ∷ []) = refl
 ended_before_stop (Stop ∷ m ∷ l) = ended_before_stop (m ∷ l)
 
--- the answers before a last Stop are a front of all answers
-before_stop : (tool : Tool) (l : List Message) → StopsLast l → IsFrontOf (answered_from tool Between [] (without_stop l)) (answered_from tool Between [] l)
-before_stop tool l (inl on) = ([], ap (answered_from tool Between []) (sym (keeps_all l on)) ∙ sym (append-nil (answered_from tool Between [] (without_stop l))))
+-- the answers before a last Stop are a prefix of all answers
+before_stop : (tool : Tool) (l : List Message) → StopsLast l → IsPrefixOf (answers_from tool Between [] (without_stop l)) (answers_from tool Between [] l)
+before_stop tool l (inl on) = ([], ap (answers_from tool Between []) (sym (keeps_all l on)) ∙ sym (append-nil (answers_from tool Between [] (without_stop l))))
 before_stop tool l (inr h) =
-    let front : List Message = h.0 in
-    let cut : without_stop l ≡ front = ap without_stop h.1 ∙ cuts_stop front h.2 in (
-      answered_from tool (place_of Between front) (rows_come [] front) (Stop ∷ []),
-      ap (answered_from tool Between []) h.1 ∙ answered_from-append tool Between [] front (Stop ∷ []) ∙ ap (λ (x : List Message). answered_from tool Between [] x ++ answered_from tool (place_of Between front) (rows_come [] front) (Stop ∷ [])) (sym cut),
+    let prefix : List Message = h.0 in
+    let cut : without_stop l ≡ prefix = ap without_stop h.1 ∙ cuts_stop prefix h.2 in (
+      answers_from tool (place_of Between prefix) (rows_come [] prefix) (Stop ∷ []),
+      ap (answers_from tool Between []) h.1 ∙ answers_from-append tool Between [] prefix (Stop ∷ [])
+          ∙ ap (λ (x : List Message). answers_from tool Between [] x ++ answers_from tool (place_of Between prefix) (rows_come [] prefix) (Stop ∷ []))
+          (sym cut),
     )
 
-pub front_of_front : (a b c : List Message) → IsFrontOf a b → IsFrontOf b c → IsFrontOf a c
-front_of_front a b c f g = (f.0 ++ g.0, g.1 ∙ ap (λ (x : List Message). x ++ g.0) f.1 ∙ append_assoc a f.0 g.0)
+pub prefix_of_prefix : (a b c : List Message) → IsPrefixOf a b → IsPrefixOf b c → IsPrefixOf a c
+prefix_of_prefix a b c f g = (f.0 ++ g.0, g.1 ∙ ap (λ (x : List Message). x ++ g.0) f.1 ∙ append_assoc a f.0 g.0)
 
-all_owed : (tool : Tool) (l g : List Message) (is : List Image) → AnswersImages tool → IsAnswering tool l g [] → Completes is l → IsFrontOf (owed tool (images_ended l) (begun_in l) is) g
+all_owed : (tool : Tool) (l g : List Message) (is : List Image) → AnswersImages tool → IsAnswering tool l g [] → Completes is l
+    → IsPrefixOf (answers_owed tool (images_ended l) (begun_in l) is) g
 all_owed tool l g is answers at c =
     let cut : List Message = without_stop l in
-    let part = owed_is_answered tool is cut c.front.0 answers c.images c.front.1 in
-    let same : owed tool (images_ended cut) (begun_of (place_of Between cut)) is ≡ owed tool (images_ended l) (begun_in l) is = ap (λ (n : ℕ). owed tool n (begun_in l) is) (ended_before_stop l) in
-    subst (λ (x : List Message). IsFrontOf x g) same
-    (subst (IsFrontOf (owed tool (images_ended cut) (begun_of (place_of Between cut)) is)) (at.given ∙ append-nil g)
-    (front_of_front (owed tool (images_ended cut) (begun_of (place_of Between cut)) is) (answered_from tool Between [] cut) (answered_from tool Between [] l) part (before_stop tool l (lawful_stops Between l at.lawful))))
+    let part = owed_is_answered tool is cut c.prefix.0 answers c.images c.prefix.1 in
+    let same : answers_owed tool (images_ended cut) (begun_of (place_of Between cut)) is ≡ answers_owed tool (images_ended l) (begun_in l) is =
+    ap (λ (n : ℕ). answers_owed tool n (begun_in l) is) (ended_before_stop l) in
+    subst (λ (x : List Message). IsPrefixOf x g) same
+    (subst (IsPrefixOf (answers_owed tool (images_ended cut) (begun_of (place_of Between cut)) is)) (at.given ∙ append-nil g)
+    (prefix_of_prefix (answers_owed tool (images_ended cut) (begun_of (place_of Between cut)) is) (answers_from tool Between [] cut)
+    (answers_from tool Between [] l) part (before_stop tool l (lawful_stops Between l at.lawful))))
 
 -- a tool that answers each message at once has answered in full where nothing waits
 pub answering_in_full : (tool : Tool) (l g : List Message) → AnswersImages tool → IsAnswering tool l g [] → AnswersInFull tool l g

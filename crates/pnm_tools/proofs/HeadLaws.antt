@@ -1,5 +1,6 @@
 -- The head of a result, tool by tool.
-use Rattle.std.proofs.Common.{◌≡◌, ◌⊎◌, inl, inr, ℕ, Bool, false, true, List, nat_lt, if◌then◌else◌, IfOk, IfErr, ◌↔◌, ◌<◌, ◌≤◌, IsTrue, All, length, Ok, Err, Result, refl, sym, ap, subst, ◌∙◌}
+use Rattle.std.proofs.Common.{◌≡◌, ◌⊎◌, inl, inr, ℕ, Bool, false, true, List, nat_lt, if◌then◌else◌, IfOk, IfErr, ◌↔◌, ◌<◌, ◌≤◌, IsTrue, All, length, Ok, Err}
+use Rattle.std.proofs.Common.{Result, refl, sym, ap, subst, ◌∙◌}
 use Rattle.std.specs.List.{list_all}
 use Rattle.pnm_image.specs.declared.shape.Shape.{Shape}
 use Rattle.pnm_image.specs.declared.shape.Kind.{Kind}
@@ -15,7 +16,7 @@ use Rattle.pnm_tools.specs.Channel.{Picks, picked_head, picked_head_value}
 use Rattle.pnm_tools.specs.Cut.{cut_head}
 use Rattle.pnm_tools.specs.Depth.{kind_at, type_at, rescaled_head}
 use Rattle.pnm_tools.specs.Limits.{within_limits}
-use Rattle.pnm_tools.specs.Tools.{Takes, result_head}
+use Rattle.pnm_tools.specs.Tools.{TakesHead, result_head}
 use Rattle.pnm_tools.proofs.PickLaws.{all_below}
 use Rattle.pnm_image.specs.declared.limits.TheConstants.{MAX_DEPTH, MAX_ROW_LENGTH, MAX_SIDE}
 
@@ -55,13 +56,14 @@ pub large_head : (h : HeadValue) → is_too_large h.shape ≡ true → within_li
 large_head h e = ap (λ (b : Bool). if b then refused_large else Ok h) e
 
 -- what making a head within the limits says of the rule of the tool
-pub head_so : (tool : Tool) (head x : HeadValue) (r : Result HeadValue ToolFault) → result_head tool head ≡ within_limits x → IfOk r (λ made. (made ≡ x) × (is_too_large x.shape ≡ false)) → IfOk r (λ made. result_head tool head ≡ Ok made)
+pub head_so : (tool : Tool) (head x : HeadValue) (r : Result HeadValue ToolFault) → result_head tool head ≡ within_limits x
+    → IfOk r (λ made. (made ≡ x) × (is_too_large x.shape ≡ false)) → IfOk r (λ made. result_head tool head ≡ Ok made)
 head_so tool head x (Ok made) e h = e ∙ small_head x h.1 ∙ ap (λ (y : HeadValue). Ok y) (sym h.0)
 head_so tool head x (Err fault) e h = tt
 
 pub fault_so : (tool : Tool) (head x : HeadValue) (r : Result HeadValue ToolFault) → result_head tool head ≡ within_limits x
     → IfErr r (λ fault. ((fault ≡ TooLarge) × (is_too_large x.shape ≡ true)) ⊎ ((fault ≡ Memory) × (is_too_large x.shape ≡ false)))
-    → IfErr r (λ fault. (result_head tool head ≡ Err fault) ⊎ ((fault ≡ Memory) × Takes tool head))
+    → IfErr r (λ fault. (result_head tool head ≡ Err fault) ⊎ ((fault ≡ Memory) × TakesHead tool head))
 fault_so tool head x (Ok made) e h = tt
 fault_so tool head x (Err fault) e (inl h) = inl (e ∙ large_head x h.1 ∙ ap (λ (k : ToolFault). Err k) (sym h.0))
 fault_so tool head x (Err fault) e (inr h) = inr (h.0, (x, e ∙ small_head x h.1))
@@ -69,7 +71,8 @@ fault_so tool head x (Err fault) e (inr h) = inr (h.0, (x, e ∙ small_head x h.
 -- ---- heads that are made
 
 -- the head of a rescaled image, from its parts
-pub rescaled_head_made : (maxval : ℕ) (head : HeadValue) (s : Shape) (kind : Kind) (t old : List ℕ) → s ≡ head.shape → kind ≡ kind_at maxval s.kind → t ≡ type_at maxval old → old ≡ head.tuple_type
+pub rescaled_head_made : (maxval : ℕ) (head : HeadValue) (s : Shape) (kind : Kind) (t old : List ℕ) → s ≡ head.shape → kind ≡ kind_at maxval s.kind
+    → t ≡ type_at maxval old → old ≡ head.tuple_type
     → IsWithinLimits head.shape → result_head (Depth maxval) head ≡ within_limits (head_value (record s { kind = kind; maxval = maxval }) t)
 rescaled_head_made maxval head s kind t old shape kinds types olds sound =
     let x : HeadValue = head_value (record s { kind = kind; maxval = maxval }) t in
@@ -83,16 +86,20 @@ rescaled_head_made maxval head s kind t old shape kinds types olds sound =
 abbrev planes_by : Picks → HeadValue → Bool → Result HeadValue ToolFault
 planes_by planes head b = if b then within_limits (picked_head_value planes head) else Err ChannelOutside
 
-planes_head : (planes : Picks) (head : HeadValue) (s : Shape) (seen : List ℕ) (b : Bool) → s ≡ head.shape → seen ≡ planes.numbers → (IsTrue b ↔ All (λ number. number < s.depth) seen) → result_head (Channel planes) head ≡ planes_by planes head b
+planes_head : (planes : Picks) (head : HeadValue) (s : Shape) (seen : List ℕ) (b : Bool) → s ≡ head.shape → seen ≡ planes.numbers
+    → (IsTrue b ↔ All (λ number. number < s.depth) seen) → result_head (Channel planes) head ≡ planes_by planes head b
 planes_head planes head s seen b shape same h =
     let there : list_all (λ number. nat_lt number head.shape.depth) planes.numbers ≡ b =
-    ap (λ (z : Shape). list_all (λ number. nat_lt number z.depth) planes.numbers) (sym shape) ∙ ap (λ (l : List ℕ). list_all (λ number. nat_lt number s.depth) l) (sym same) ∙ all_below seen s.depth b h in
+    ap (λ (z : Shape). list_all (λ number. nat_lt number z.depth) planes.numbers) (sym shape)
+    ∙ ap (λ (l : List ℕ). list_all (λ number. nat_lt number s.depth) l) (sym same) ∙ all_below seen s.depth b h in
     head_of_channel planes head ∙ ap (planes_by planes head) there
 
-pub planes_outside : (planes : Picks) (head : HeadValue) (s : Shape) (seen : List ℕ) (b : Bool) → s ≡ head.shape → seen ≡ planes.numbers → (IsTrue b ↔ All (λ number. number < s.depth) seen) → b ≡ false → result_head (Channel planes) head ≡ Err ChannelOutside
+pub planes_outside : (planes : Picks) (head : HeadValue) (s : Shape) (seen : List ℕ) (b : Bool) → s ≡ head.shape → seen ≡ planes.numbers
+    → (IsTrue b ↔ All (λ number. number < s.depth) seen) → b ≡ false → result_head (Channel planes) head ≡ Err ChannelOutside
 planes_outside planes head s seen b shape same h found = planes_head planes head s seen b shape same h ∙ ap (planes_by planes head) found
 
-pub planes_inside : (planes : Picks) (head : HeadValue) (s : Shape) (seen : List ℕ) (b : Bool) (n : ℕ) (t : List ℕ) → s ≡ head.shape → seen ≡ planes.numbers → (IsTrue b ↔ All (λ number. number < s.depth) seen) → b ≡ true → n ≡ length seen → t ≡ planes.tuple_type
+pub planes_inside : (planes : Picks) (head : HeadValue) (s : Shape) (seen : List ℕ) (b : Bool) (n : ℕ) (t : List ℕ) → s ≡ head.shape → seen ≡ planes.numbers
+    → (IsTrue b ↔ All (λ number. number < s.depth) seen) → b ≡ true → n ≡ length seen → t ≡ planes.tuple_type
     → result_head (Channel planes) head ≡ within_limits (head_value (record s { kind = Pam; depth = n }) t)
 planes_inside planes head s seen b n t shape same h found count type =
     let whole : picked_head_value planes head ≡ head_value (record s { kind = Pam; depth = n }) t =

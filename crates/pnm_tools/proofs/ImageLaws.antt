@@ -12,7 +12,7 @@ use Rattle.pnm_tools.specs.declared.fault.ToolFault.{ToolFault}
 use Rattle.pnm_tools.specs.declared.tool.Tool.{Tool}
 use Rattle.pnm_tools.specs.Tools.{result_head, result_sample, applied, row_answer, end_answer}
 use Rattle.pnm_tools.specs.Formulas.{image_by}
-use Rattle.pnm_tools.specs.Answering.{answered_from}
+use Rattle.pnm_tools.specs.Answering.{answers_from}
 
 -- what becomes of an image by a formula and what becomes of its head
 abbrev pub made_by : (ℕ → ℕ → ℕ → ℕ) → Result HeadValue ToolFault → Result Image ToolFault
@@ -39,19 +39,23 @@ answers_to_rows tool s y [] = []
 answers_to_rows tool s y (row ∷ rows) = row_answer tool s y row ++ answers_to_rows tool s (y + 1) rows
 
 -- where each row is answered by one
-pub each_row_answered : (tool : Tool) (s : Shape) (f : List ℕ → List ℕ) → ((y : ℕ) (row : List ℕ) → row_answer tool s y row ≡ f row ∷ []) → (y : ℕ) (rows : List (List ℕ)) → answers_to_rows tool s y rows ≡ map f rows
+pub each_row_answered : (tool : Tool) (s : Shape) (f : List ℕ → List ℕ) → ((y : ℕ) (row : List ℕ) → row_answer tool s y row ≡ f row ∷ [])
+    → (y : ℕ) (rows : List (List ℕ)) → answers_to_rows tool s y rows ≡ map f rows
 each_row_answered tool s f one y [] = refl
 each_row_answered tool s f one y (row ∷ rows) =
-    ap (λ (l : List (List ℕ)). l ++ answers_to_rows tool s (y + 1) rows) (one y row) ∙ ap (λ (l : List (List ℕ)). f row ∷ l) (each_row_answered tool s f one (y + 1) rows)
+    ap (λ (l : List (List ℕ)). l ++ answers_to_rows tool s (y + 1) rows) (one y row)
+    ∙ ap (λ (l : List (List ℕ)). f row ∷ l) (each_row_answered tool s f one (y + 1) rows)
 
 -- the answers to rows that are given by their numbers
-pub numbered_rows_answered : (tool : Tool) (s : Shape) (row : ℕ → List ℕ) (y n : ℕ) → answers_to_rows tool s y (map row (range_with_len y n)) ≡ flat_map (λ k. row_answer tool s k (row k)) (range_with_len y n)
+pub numbered_rows_answered : (tool : Tool) (s : Shape) (row : ℕ → List ℕ) (y n : ℕ) → answers_to_rows tool s y (map row (range_with_len y n))
+    ≡ flat_map (λ k. row_answer tool s k (row k)) (range_with_len y n)
 numbered_rows_answered tool s row y zero = refl
 numbered_rows_answered tool s row y (suc n) = ap (λ (l : List (List ℕ)). row_answer tool s y (row y) ++ l) (numbered_rows_answered tool s row (y + 1) n)
 
 -- the answer to the rows and the end of an image, of which some rows have come
 pub rows_answered : (tool : Tool) (s : Shape) (y : ℕ) (come rows : List (List ℕ))
-    → answered_from tool (Inside s y) come (map Row rows ++ ImageEnd ∷ []) ≡ map Row (answers_to_rows tool s y rows ++ end_answer tool s (come ++ rows)) ++ ImageEnd ∷ []
+    → answers_from tool (Inside s y) come (map Row rows ++ ImageEnd ∷ []) ≡ map Row (answers_to_rows tool s y rows ++ end_answer tool s (come ++ rows))
+    ++ ImageEnd ∷ []
 rows_answered tool s y come [] =
     append-nil (map Row (end_answer tool s come) ++ ImageEnd ∷ [])
     ∙ ap (λ (l : List (List ℕ)). map Row (end_answer tool s l) ++ ImageEnd ∷ []) (sym (append-nil come))
@@ -68,10 +72,11 @@ rows_answered tool s y come (row ∷ rows) =
 -- an image that isn't refused is answered by its result, where its rows and its end are
 pub answered_by_rows : (tool : Tool) (i j : Image) → applied tool i ≡ Ok j
     → answers_to_rows tool i.head.shape 0 (rows_of i) ++ end_answer tool i.head.shape (rows_of i) ≡ rows_of (image_by j.head (result_sample tool i))
-    → answered_from tool Between [] (messages_of_image i) ≡ messages_of_image j
+    → answers_from tool Between [] (messages_of_image i) ≡ messages_of_image j
 answered_by_rows tool i j e rows =
     let made = result_by_head tool i j e in
-    let rest : List Message = answered_from tool (Inside i.head.shape 0) [] (map Row (rows_of i) ++ ImageEnd ∷ []) in
+    let rest : List Message = answers_from tool (Inside i.head.shape 0) [] (map Row (rows_of i) ++ ImageEnd ∷ []) in
     ap (λ (r : Result HeadValue ToolFault). elim r [ Ok result ↦ Begin result ∷ [] | Err fault ↦ [] ] ++ rest) made.head
-    ∙ ap (λ (l : List Message). Begin j.head ∷ l) (rows_answered tool i.head.shape 0 [] (rows_of i) ∙ ap (λ (l : List (List ℕ)). map Row l ++ ImageEnd ∷ []) rows)
+    ∙ ap (λ (l : List Message). Begin j.head ∷ l) (rows_answered tool i.head.shape 0 [] (rows_of i)
+    ∙ ap (λ (l : List (List ℕ)). map Row l ++ ImageEnd ∷ []) rows)
     ∙ ap messages_of_image made.whole

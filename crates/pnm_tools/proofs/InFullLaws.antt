@@ -10,7 +10,7 @@ use Rattle.pnm_tools.specs.declared.fault.ToolFault.{ToolFault}
 use Rattle.pnm_tools.specs.declared.tool.Tool.{Tool}
 use Rattle.pnm_tools.specs.Tools.{result_head, row_answer, end_answer}
 use Rattle.pnm_tools.specs.Answers.{Ending, More, ending_of, EndsBy}
-use Rattle.pnm_tools.specs.Answering.{answered, answered_from, rows_after}
+use Rattle.pnm_tools.specs.Answering.{answers_at, answers_from, rows_after}
 
 -- ---- the answers end as the messages do
 
@@ -39,7 +39,7 @@ end_ends_nothing [] = (refl, tt)
 end_ends_nothing (row ∷ rows) = (refl, end_ends_nothing rows)
 
 -- the answer to a message that ends nothing ends nothing
-answer_ends_nothing : (tool : Tool) (place : Place) (rows : List (List ℕ)) (m : Message) → ending_of m ≡ More → EndNothing (answered tool place rows m)
+answer_ends_nothing : (tool : Tool) (place : Place) (rows : List (List ℕ)) (m : Message) → ending_of m ≡ More → EndNothing (answers_at tool place rows m)
 answer_ends_nothing tool place rows (Begin head) e = head_ends_nothing (result_head tool head)
 answer_ends_nothing tool Between rows (Row row) e = tt
 answer_ends_nothing tool (Inside s y) rows (Row row) e = rows_end_nothing (row_answer tool s y row)
@@ -51,18 +51,22 @@ answer_ends_nothing tool place rows StreamEnd e = absurd cc
 answer_ends_nothing tool place rows Stop e = absurd cc
 
 -- the answer to the last message
-last_ends : (tool : Tool) (place : Place) (rows : List (List ℕ)) (m : Message) (e : Ending) → ending_of m ≡ e → EndsBy e (answered tool place rows m ++ [])
-last_ends tool place rows (Begin head) e is = ends_after e (answered tool place rows (Begin head)) [] (head_ends_nothing (result_head tool head)) (sym is)
+last_ends : (tool : Tool) (place : Place) (rows : List (List ℕ)) (m : Message) (e : Ending) → ending_of m ≡ e → EndsBy e (answers_at tool place rows m ++ [])
+last_ends tool place rows (Begin head) e is = ends_after e (answers_at tool place rows (Begin head)) [] (head_ends_nothing (result_head tool head)) (sym is)
 last_ends tool Between rows (Row row) e is = sym is
 last_ends tool (Inside s y) rows (Row row) e is = ends_after e (map Row (row_answer tool s y row)) [] (rows_end_nothing (row_answer tool s y row)) (sym is)
 last_ends tool After rows (Row row) e is = sym is
 last_ends tool Between rows ImageEnd e is = is
-last_ends tool (Inside s y) rows ImageEnd e is = ends_after e (map Row (end_answer tool s rows) ++ ImageEnd ∷ []) [] (end_ends_nothing (end_answer tool s rows)) (sym is)
+last_ends tool (Inside s y) rows ImageEnd e is = ends_after e (map Row (end_answer tool s rows) ++ ImageEnd ∷ []) [] (end_ends_nothing (end_answer tool s rows))
+    (sym is)
 last_ends tool After rows ImageEnd e is = is
 last_ends tool place rows StreamEnd e is = is
 last_ends tool place rows Stop e is = is
 
-pub answers_end_so : (tool : Tool) (place : Place) (rows : List (List ℕ)) (l : List Message) (e : Ending) → EndsBy e l → EndsBy e (answered_from tool place rows l)
+pub answers_end_so : (tool : Tool) (place : Place) (rows : List (List ℕ)) (l : List Message) (e : Ending) → EndsBy e l
+    → EndsBy e (answers_from tool place rows l)
 answers_end_so tool place rows [] e ends = ends
 answers_end_so tool place rows (m ∷ []) e ends = last_ends tool place rows m e ends
-answers_end_so tool place rows (m ∷ n ∷ l) e ends = ends_after e (answered tool place rows m) (answered_from tool (place_after place m) (rows_after rows m) (n ∷ l)) (answer_ends_nothing tool place rows m ends.0) (answers_end_so tool (place_after place m) (rows_after rows m) (n ∷ l) e ends.1)
+answers_end_so tool place rows (m ∷ n ∷ l) e ends =
+    ends_after e (answers_at tool place rows m) (answers_from tool (place_after place m) (rows_after rows m) (n ∷ l))
+    (answer_ends_nothing tool place rows m ends.0) (answers_end_so tool (place_after place m) (rows_after rows m) (n ∷ l) e ends.1)

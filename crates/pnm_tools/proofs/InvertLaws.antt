@@ -17,7 +17,8 @@ unfolding result_head
 same_head head result e = cc
 
 -- the rows of the inverted image
-inverted_rows : (i : Image) (result : HeadValue) → IsImage i → result ≡ i.head → rows_of (image_by result (result_sample Invert i)) ≡ map (inverted_row i.head.shape) (rows_of i)
+inverted_rows : (i : Image) (result : HeadValue) → IsImage i → result ≡ i.head
+    → rows_of (image_by result (result_sample Invert i)) ≡ map (inverted_row i.head.shape) (rows_of i)
 unfolding result_sample
 inverted_rows i result is same =
     ap (λ (h : HeadValue). rows_of (image_by h (inverted_sample i))) same

@@ -32,7 +32,7 @@ pub mod ToolLaws
 pub mod ValueLaws
 pub mod ResultLaws
 pub mod SoundLaws
-pub mod FrontLaws
+pub mod PrefixLaws
 pub mod RefusalLaws
 pub mod ChainLaws
 pub mod StateSteps

@@ -16,10 +16,12 @@ use Rattle.pnm_tools.proofs.FormulaLaws.{length-image_by}
 use Rattle.pnm_tools.proofs.ImageLaws.{IsBy}
 
 -- what holds of the samples of each row holds of all samples
-all_rows : (P : ℕ → Type 0) (row : ℕ → List ℕ) (from count : ℕ) → ((y : ℕ) → y < from + count → All P (row y)) → All P (flat_map row (range_with_len from count))
+all_rows : (P : ℕ → Type 0) (row : ℕ → List ℕ) (from count : ℕ) → ((y : ℕ) → y < from + count → All P (row y))
+    → All P (flat_map row (range_with_len from count))
 all_rows P row from zero each = All-nil P
 all_rows P row from (suc count) each =
-    All-append P (row from) (flat_map row (range_with_len (from + 1) count)) (each from (omega arith)) (all_rows P row (from + 1) count (λ y lt. each y (omega arith)))
+    All-append P (row from) (flat_map row (range_with_len (from + 1) count)) (each from (omega arith))
+    (all_rows P row (from + 1) count (λ y lt. each y (omega arith)))
 
 -- what holds of the sample of each plane holds of the samples of a pixel
 all_planes : (P : ℕ → Type 0) (sample : ℕ → ℕ) (count : ℕ) → ((p : ℕ) → p < count → P (sample p)) → All P (map sample (range_with_len 0 count))
@@ -29,7 +31,8 @@ all_planes P sample count each =
     subst P (sym (get_or-map-range_with_len sample 0 count p p 0 below (omega arith))) (each p below))
 
 -- an image of a head is one whose samples are in range
-pub image_by_is_image : (head : HeadValue) (sample : ℕ → ℕ → ℕ → ℕ) → IsHead head → ((x y p : ℕ) → x < head.shape.width → y < head.shape.height → p < head.shape.depth → sample x y p ≤ head.shape.maxval) → IsImage (image_by head sample)
+pub image_by_is_image : (head : HeadValue) (sample : ℕ → ℕ → ℕ → ℕ) → IsHead head
+    → ((x y p : ℕ) → x < head.shape.width → y < head.shape.height → p < head.shape.depth → sample x y p ≤ head.shape.maxval) → IsImage (image_by head sample)
 image_by_is_image head sample sound range =
     let s : Shape = head.shape in
     record {
@@ -50,5 +53,7 @@ sample_in_range i x y p is =
     ]
 
 -- the result of a tool, where its head is one and its samples are in range
-pub made_is_image : (tool : Tool) (i j : Image) → IsBy (result_head tool i.head) (result_sample tool i) j → IsHead j.head → ((x y p : ℕ) → result_sample tool i x y p ≤ j.head.shape.maxval) → IsImage j
-made_is_image tool i j made sound range = subst IsImage made.whole (image_by_is_image j.head (result_sample tool i) sound (λ x y p column row plane. range x y p))
+pub made_is_image : (tool : Tool) (i j : Image) → IsBy (result_head tool i.head) (result_sample tool i) j → IsHead j.head
+    → ((x y p : ℕ) → result_sample tool i x y p ≤ j.head.shape.maxval) → IsImage j
+made_is_image tool i j made sound range =
+    subst IsImage made.whole (image_by_is_image j.head (result_sample tool i) sound (λ x y p column row plane. range x y p))

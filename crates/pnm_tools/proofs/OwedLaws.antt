@@ -1,5 +1,6 @@
--- What is owed is a front of the answers.
-use Rattle.std.proofs.Common.{◌≡◌, ◌⊎◌, inl, inr, ℕ, zero, suc, ◌+◌, Bool, true, false, List, [], ◌∷◌, ◌++◌, map, Result, Ok, Err, refl, sym, ap, subst, ◌∙◌, append_assoc, append-nil}
+-- What is owed is a prefix of the answers.
+use Rattle.std.proofs.Common.{◌≡◌, ◌⊎◌, inl, inr, ℕ, zero, suc, ◌+◌, Bool, true, false, List, [], ◌∷◌, ◌++◌, map, Result, Ok, Err, refl, sym, ap, subst, ◌∙◌}
+use Rattle.std.proofs.Common.{append_assoc, append-nil}
 use Rattle.pnm_image.specs.declared.shape.Shape.{Shape}
 use Rattle.pnm_image.specs.declared.message.Message.{Message}
 use Rattle.pnm_image.specs.declared.message.Message.TheVariants.{Begin, Row, ImageEnd, StreamEnd, Stop}
@@ -8,14 +9,14 @@ use Rattle.pnm_image.specs.declared.place.Place.TheVariants.{Between, Inside}
 use Rattle.pnm_image.specs.Heads.{HeadValue}
 use Rattle.pnm_image.specs.Images.{Image, IsImage, AreImages, rows_of, messages_of_image, messages_of_stream}
 use Rattle.pnm_image.specs.Places.{place_of}
-use Rattle.pnm_image.specs.Completion.{IsFrontOf}
+use Rattle.pnm_image.specs.Completion.{IsPrefixOf}
 use Rattle.pnm_image.proofs.Places.{place_of-append}
 use Rattle.pnm_tools.specs.declared.fault.ToolFault.{ToolFault}
 use Rattle.pnm_tools.specs.declared.tool.Tool.{Tool}
 use Rattle.pnm_tools.specs.Tools.{result_head, applied}
-use Rattle.pnm_tools.specs.Answers.{images_ended, begun_of, owed}
-use Rattle.pnm_tools.specs.Answering.{answered_from}
-use Rattle.pnm_tools.proofs.AnsweringLaws.{AnswersImages, Fronts, fronts, ends_between, answered_after_image}
+use Rattle.pnm_tools.specs.Answers.{images_ended, begun_of, answers_owed}
+use Rattle.pnm_tools.specs.Answering.{answers_from}
+use Rattle.pnm_tools.proofs.AnsweringLaws.{AnswersImages, Prefixes, prefixes, ends_between, answered_after_image}
 
 -- an image and more: one image more has ended
 rows_ended : (rows : List (List ℕ)) (more : List Message) → images_ended ((map Row rows ++ ImageEnd ∷ []) ++ more) ≡ suc (images_ended more)
@@ -25,11 +26,12 @@ rows_ended (row ∷ rows) more = rows_ended rows more
 image_ended : (i : Image) (more : List Message) → images_ended (messages_of_image i ++ more) ≡ suc (images_ended more)
 image_ended i more = rows_ended (rows_of i) more
 
--- a front of the rows and the end of an image is all of it, or within the image
+-- a prefix of the rows and the end of an image is all of it, or within the image
 abbrev IsInside : Shape → ℕ → List Message → List Message → List Message → Type 0
 IsInside s y whole f more = ((f ≡ whole) × (more ≡ [])) ⊎ ((images_ended f ≡ 0) × (begun_of (place_of (Inside s y) f) ≡ true))
 
-rows_inside : (s : Shape) (y : ℕ) (rows : List (List ℕ)) (f more : List Message) → map Row rows ++ ImageEnd ∷ [] ≡ f ++ more → IsInside s y (map Row rows ++ ImageEnd ∷ []) f more
+rows_inside : (s : Shape) (y : ℕ) (rows : List (List ℕ)) (f more : List Message) → map Row rows ++ ImageEnd ∷ [] ≡ f ++ more
+    → IsInside s y (map Row rows ++ ImageEnd ∷ []) f more
 rows_inside s y rows [] more e = inr (refl, refl)
 rows_inside s y [] (ImageEnd ∷ []) more e = inl (refl, let none : [] ≡ more = cc in sym none)
 rows_inside s y [] (ImageEnd ∷ n ∷ f) more e = absurd cc
@@ -50,69 +52,81 @@ rows_inside s y (r ∷ rows) (StreamEnd ∷ f) more e = absurd cc
 rows_inside s y (r ∷ rows) (Stop ∷ f) more e = absurd cc
 
 -- what is owed of nothing
-owes_nothing : (tool : Tool) (n : ℕ) (b : Bool) → owed tool n b [] ≡ []
-unfolding owed
+owes_nothing : (tool : Tool) (n : ℕ) (b : Bool) → answers_owed tool n b [] ≡ []
+unfolding answers_owed
 owes_nothing tool zero true = refl
 owes_nothing tool zero false = refl
 owes_nothing tool (suc n) true = refl
 owes_nothing tool (suc n) false = refl
 
-owes_none : (tool : Tool) (i : Image) (is : List Image) → owed tool zero false (i ∷ is) ≡ []
-unfolding owed
+owes_none : (tool : Tool) (i : Image) (is : List Image) → answers_owed tool zero false (i ∷ is) ≡ []
+unfolding answers_owed
 owes_none tool i is = refl
 
 -- where an image has begun, its head
 abbrev head_by : Result HeadValue ToolFault → List Message
 head_by r = elim r [ Ok head ↦ Begin head ∷ [] | Err fault ↦ [] ]
 
-owes_head : (tool : Tool) (i : Image) (is : List Image) → owed tool zero true (i ∷ is) ≡ head_by (result_head tool i.head)
-unfolding owed
+owes_head : (tool : Tool) (i : Image) (is : List Image) → answers_owed tool zero true (i ∷ is) ≡ head_by (result_head tool i.head)
+unfolding answers_owed
 owes_head tool i is = refl
 
 abbrev image_owed : Tool → ℕ → Bool → List Image → Result Image ToolFault → List Message
-image_owed tool n b is r = elim r [ Ok j ↦ messages_of_image j ++ owed tool n b is | Err fault ↦ [] ]
+image_owed tool n b is r = elim r [ Ok j ↦ messages_of_image j ++ answers_owed tool n b is | Err fault ↦ [] ]
 
-owes_image : (tool : Tool) (n : ℕ) (b : Bool) (i : Image) (is : List Image) → owed tool (suc n) b (i ∷ is) ≡ image_owed tool n b is (applied tool i)
-unfolding owed
+owes_image : (tool : Tool) (n : ℕ) (b : Bool) (i : Image) (is : List Image) → answers_owed tool (suc n) b (i ∷ is) ≡ image_owed tool n b is (applied tool i)
+unfolding answers_owed
 owes_image tool n b i is = refl
 
-abbrev IsOwedFront : Tool → List Image → List Message → Type 0
-IsOwedFront tool is l = IsFrontOf (owed tool (images_ended l) (begun_of (place_of Between l)) is) (answered_from tool Between [] l)
+abbrev IsOwedPrefix : Tool → List Image → List Message → Type 0
+IsOwedPrefix tool is l = IsPrefixOf (answers_owed tool (images_ended l) (begun_of (place_of Between l)) is) (answers_from tool Between [] l)
 
 -- a whole image, and more
-beyond_image : (tool : Tool) (i : Image) (is : List Image) (l more : List Message) (r : Result Image ToolFault) → AnswersImages tool → IsImage i → applied tool i ≡ r → l ≡ messages_of_image i ++ more → IsOwedFront tool is more → IsOwedFront tool (i ∷ is) l
+beyond_image : (tool : Tool) (i : Image) (is : List Image) (l more : List Message) (r : Result Image ToolFault) → AnswersImages tool → IsImage i
+    → applied tool i ≡ r → l ≡ messages_of_image i ++ more → IsOwedPrefix tool is more → IsOwedPrefix tool (i ∷ is) l
 beyond_image tool i is l more (Err fault) answers image a e others =
     let count : images_ended l ≡ suc (images_ended more) = ap images_ended e ∙ image_ended i more in
     let b : Bool = begun_of (place_of Between l) in
-    let nothing : owed tool (images_ended l) b (i ∷ is) ≡ [] = ap (λ (n : ℕ). owed tool n b (i ∷ is)) count ∙ owes_image tool (images_ended more) b i is ∙ ap (image_owed tool (images_ended more) b is) a in
-    (answered_from tool Between [] l, ap (λ (x : List Message). x ++ answered_from tool Between [] l) (sym nothing))
+    let nothing : answers_owed tool (images_ended l) b (i ∷ is) ≡ [] = ap (λ (n : ℕ). answers_owed tool n b (i ∷ is)) count
+    ∙ owes_image tool (images_ended more) b i is ∙ ap (image_owed tool (images_ended more) b is) a in
+    (answers_from tool Between [] l, ap (λ (x : List Message). x ++ answers_from tool Between [] l) (sym nothing))
 beyond_image tool i is l more (Ok j) answers image a e others =
     let count : images_ended l ≡ suc (images_ended more) = ap images_ended e ∙ image_ended i more in
-    let place : place_of Between l ≡ place_of Between more = ap (place_of Between) e ∙ place_of-append Between (messages_of_image i) more ∙ ap (λ (p : Place). place_of p more) (ends_between i) in
+    let place : place_of Between l ≡ place_of Between more = ap (place_of Between) e ∙ place_of-append Between (messages_of_image i) more
+    ∙ ap (λ (p : Place). place_of p more) (ends_between i) in
     let b : Bool = begun_of (place_of Between more) in
-    let all : owed tool (images_ended l) (begun_of (place_of Between l)) (i ∷ is) ≡ messages_of_image j ++ owed tool (images_ended more) b is =
-    ap (λ (p : Place). owed tool (images_ended l) (begun_of p) (i ∷ is)) place ∙ ap (λ (n : ℕ). owed tool n b (i ∷ is)) count ∙ owes_image tool (images_ended more) b i is ∙ ap (image_owed tool (images_ended more) b is) a in
-    let answer : answered_from tool Between [] l ≡ messages_of_image j ++ answered_from tool Between [] more = ap (answered_from tool Between []) e ∙ answered_after_image tool i more ∙ ap (λ (x : List Message). x ++ answered_from tool Between [] more) (answers i j image a) in
-    (others.0, answer ∙ ap (λ (x : List Message). messages_of_image j ++ x) others.1 ∙ sym (append_assoc (messages_of_image j) (owed tool (images_ended more) b is) others.0) ∙ ap (λ (x : List Message). x ++ others.0) (sym all))
+    let all : answers_owed tool (images_ended l) (begun_of (place_of Between l)) (i ∷ is) ≡ messages_of_image j ++ answers_owed tool (images_ended more) b is =
+    ap (λ (p : Place). answers_owed tool (images_ended l) (begun_of p) (i ∷ is)) place ∙ ap (λ (n : ℕ). answers_owed tool n b (i ∷ is)) count
+    ∙ owes_image tool (images_ended more) b i is ∙ ap (image_owed tool (images_ended more) b is) a in
+    let answer : answers_from tool Between [] l ≡ messages_of_image j ++ answers_from tool Between [] more = ap (answers_from tool Between []) e
+    ∙ answered_after_image tool i more ∙ ap (λ (x : List Message). x ++ answers_from tool Between [] more) (answers i j image a) in (
+      others.0,
+      answer ∙ ap (λ (x : List Message). messages_of_image j ++ x) others.1
+          ∙ sym (append_assoc (messages_of_image j) (answers_owed tool (images_ended more) b is) others.0) ∙ ap (λ (x : List Message). x ++ others.0) (sym all),
+    )
 
 -- an image that has begun
-within_image : (tool : Tool) (i : Image) (is : List Image) (f : List Message) → images_ended f ≡ 0 → begun_of (place_of (Inside i.head.shape 0) f) ≡ true → IsOwedFront tool (i ∷ is) (Begin i.head ∷ f)
+within_image : (tool : Tool) (i : Image) (is : List Image) (f : List Message) → images_ended f ≡ 0 → begun_of (place_of (Inside i.head.shape 0) f) ≡ true
+    → IsOwedPrefix tool (i ∷ is) (Begin i.head ∷ f)
 within_image tool i is f none begun =
-    let all : owed tool (images_ended f) (begun_of (place_of (Inside i.head.shape 0) f)) (i ∷ is) ≡ head_by (result_head tool i.head) =
-    ap (λ (b : Bool). owed tool (images_ended f) b (i ∷ is)) begun ∙ ap (λ (n : ℕ). owed tool n true (i ∷ is)) none ∙ owes_head tool i is in
-    (answered_from tool (Inside i.head.shape 0) [] f, ap (λ (x : List Message). x ++ answered_from tool (Inside i.head.shape 0) [] f) (sym all))
+    let all : answers_owed tool (images_ended f) (begun_of (place_of (Inside i.head.shape 0) f)) (i ∷ is) ≡ head_by (result_head tool i.head) =
+    ap (λ (b : Bool). answers_owed tool (images_ended f) b (i ∷ is)) begun ∙ ap (λ (n : ℕ). answers_owed tool n true (i ∷ is)) none ∙ owes_head tool i is in
+    (answers_from tool (Inside i.head.shape 0) [] f, ap (λ (x : List Message). x ++ answers_from tool (Inside i.head.shape 0) [] f) (sym all))
 
 -- messages of one image, or beyond it
-of_image : (tool : Tool) (i : Image) (is : List Image) (l rest : List Message) → AnswersImages tool → IsImage i → ((more : List Message) → messages_of_stream is ≡ more ++ rest → IsOwedFront tool is more) → ((more : List Message) → more ≡ [] → IsOwedFront tool is more)
-    → Fronts (messages_of_image i) (messages_of_stream is) l rest → IsOwedFront tool (i ∷ is) l
+of_image : (tool : Tool) (i : Image) (is : List Image) (l rest : List Message) → AnswersImages tool → IsImage i
+    → ((more : List Message) → messages_of_stream is ≡ more ++ rest → IsOwedPrefix tool is more)
+    → ((more : List Message) → more ≡ [] → IsOwedPrefix tool is more)
+    → Prefixes (messages_of_image i) (messages_of_stream is) l rest → IsOwedPrefix tool (i ∷ is) l
 of_image tool i is l rest answers image others none (inr h) = beyond_image tool i is l h.0 (applied tool i) answers image refl h.1 (others h.0 h.2)
 of_image tool i is [] rest answers image others none (inl h) = ([], ap (λ (x : List Message). x ++ []) (sym (owes_none tool i is)))
 of_image tool i is (Begin head ∷ f) rest answers image others none (inl h) =
     let same : i.head ≡ head = let e = h.1 in cc in
     let tail : map Row (rows_of i) ++ ImageEnd ∷ [] ≡ f ++ h.0 = let e = h.1 in cc in
     elim (rows_inside i.head.shape 0 (rows_of i) f h.0 tail) [
-      | inl w ↦ beyond_image tool i is (Begin head ∷ f) [] (applied tool i) answers image refl (ap (λ (x : List Message). Begin head ∷ x) w.0 ∙ ap (λ (k : HeadValue). Begin k ∷ (map Row (rows_of i) ++ ImageEnd ∷ [])) (sym same) ∙ sym (append-nil (messages_of_image i))) (none [] refl)
-      | inr w ↦ subst (λ (k : HeadValue). IsOwedFront tool (i ∷ is) (Begin k ∷ f)) same (within_image tool i is f w.0 w.1)
+      | inl w ↦ beyond_image tool i is (Begin head ∷ f) [] (applied tool i) answers image refl (ap (λ (x : List Message). Begin head ∷ x) w.0
+          ∙ ap (λ (k : HeadValue). Begin k ∷ (map Row (rows_of i) ++ ImageEnd ∷ [])) (sym same) ∙ sym (append-nil (messages_of_image i))) (none [] refl)
+      | inr w ↦ subst (λ (k : HeadValue). IsOwedPrefix tool (i ∷ is) (Begin k ∷ f)) same (within_image tool i is f w.0 w.1)
     ]
 of_image tool i is (Row row ∷ f) rest answers image others none (inl h) = let e = h.1 in absurd cc
 of_image tool i is (ImageEnd ∷ f) rest answers image others none (inl h) = let e = h.1 in absurd cc
@@ -120,12 +134,18 @@ of_image tool i is (StreamEnd ∷ f) rest answers image others none (inl h) = le
 of_image tool i is (Stop ∷ f) rest answers image others none (inl h) = let e = h.1 in absurd cc
 
 -- nothing is owed before the first message
-pub nothing_yet : (tool : Tool) (is : List Image) → IsOwedFront tool is []
+pub nothing_yet : (tool : Tool) (is : List Image) → IsOwedPrefix tool is []
 nothing_yet tool [] = ([], ap (λ (x : List Message). x ++ []) (sym (owes_nothing tool 0 false)))
 nothing_yet tool (i ∷ is) = ([], ap (λ (x : List Message). x ++ []) (sym (owes_none tool i is)))
 
--- of messages that images complete, what is owed is a front of the answers
-pub owed_is_answered : (tool : Tool) (is : List Image) (l rest : List Message) → AnswersImages tool → AreImages is → messages_of_stream is ≡ l ++ rest → IsOwedFront tool is l
-owed_is_answered tool [] l rest answers are e = (answered_from tool Between [] l, ap (λ (x : List Message). x ++ answered_from tool Between [] l) (sym (owes_nothing tool (images_ended l) (begun_of (place_of Between l)))))
+-- of messages that images complete, what is owed is a prefix of the answers
+pub owed_is_answered : (tool : Tool) (is : List Image) (l rest : List Message) → AnswersImages tool → AreImages is → messages_of_stream is ≡ l ++ rest
+    → IsOwedPrefix tool is l
+owed_is_answered tool [] l rest answers are e = (
+  answers_from tool Between [] l,
+  ap (λ (x : List Message). x ++ answers_from tool Between [] l)
+      (sym (owes_nothing tool (images_ended l) (begun_of (place_of Between l)))),
+)
 owed_is_answered tool (i ∷ is) l rest answers are e =
-    of_image tool i is l rest answers are.0 (λ more f. owed_is_answered tool is more rest answers are.1 f) (λ more n. subst (IsOwedFront tool is) (sym n) (nothing_yet tool is)) (fronts (messages_of_image i) (messages_of_stream is) l rest e)
+    of_image tool i is l rest answers are.0 (λ more f. owed_is_answered tool is more rest answers are.1 f)
+    (λ more n. subst (IsOwedPrefix tool is) (sym n) (nothing_yet tool is)) (prefixes (messages_of_image i) (messages_of_stream is) l rest e)

@@ -1,5 +1,6 @@
 -- The picking of planes, pixel by pixel.
-use Rattle.std.proofs.Common.{◌≡◌, ◌↔◌, ℕ, zero, suc, ◌+◌, ◌-◌, ◌*◌, ◌<◌, ◌≤◌, List, [], ◌++◌, length, take, drop, map, get_or, slice_index_or, All, Bool, true, false, IsTrue, nat_lt, inl, inr, refl, sym, ap, subst, ◌∙◌, arith, append_assoc, append-nil, mul-le-mul}
+use Rattle.std.proofs.Common.{◌≡◌, ◌↔◌, ℕ, zero, suc, ◌+◌, ◌-◌, ◌*◌, ◌<◌, ◌≤◌, List, [], ◌++◌, length, take, drop, map, get_or, slice_index_or, All, Bool, true}
+use Rattle.std.proofs.Common.{false, IsTrue, nat_lt, inl, inr, refl, sym, ap, subst, ◌∙◌, arith, append_assoc, append-nil, mul-le-mul}
 use borrow.Rule.Slice.PartMut.{put_mid}
 use Rattle.std.specs.List.{flat_map, range_with_len, list_all}
 use Rattle.std.proofs.lemmas.Bool.{ltb-true, lt-ltb, cases_lt}
@@ -12,7 +13,8 @@ use Rattle.pnm_tools.specs.Channel.{picked_or, picked_samples}
 -- one number more
 next_number : {X : Type 0} (f : ℕ → List X) (a n j : ℕ) → a + n ≡ j → flat_map f (range_with_len a (suc n)) ≡ flat_map f (range_with_len a n) ++ f j
 next_number f a zero j e = append-nil (f a) ∙ ap f (omega arith)
-next_number {X = X} f a (suc n) j e = ap (λ (l : List X). f a ++ l) (next_number f (a + 1) n j (omega arith)) ∙ sym (append_assoc (f a) (flat_map f (range_with_len (a + 1) n)) (f j))
+next_number {X = X} f a (suc n) j e = ap (λ (l : List X). f a ++ l) (next_number f (a + 1) n j (omega arith))
+    ∙ sym (append_assoc (f a) (flat_map f (range_with_len (a + 1) n)) (f j))
 
 pub flat_map_one_more : {X : Type 0} (f : ℕ → List X) (a n j : ℕ) → a + n ≡ j → flat_map f (range_with_len a (n + 1)) ≡ flat_map f (range_with_len a n) ++ f j
 flat_map_one_more f a n j e = let more : n + 1 ≡ suc n = omega arith in ap (λ (k : ℕ). flat_map f (range_with_len a k)) more ∙ next_number f a n j e
@@ -25,58 +27,66 @@ same_answer false true f g = g refl
 same_answer false false f g = refl
 
 -- whether all planes are below the depth
-pub all_below : (numbers : List ℕ) (depth : ℕ) (b : Bool) → (IsTrue b ↔ All (λ number. number < depth) numbers) → list_all (λ number. nat_lt number depth) numbers ≡ b
+pub all_below : (numbers : List ℕ) (depth : ℕ) (b : Bool) → (IsTrue b ↔ All (λ number. number < depth) numbers)
+    → list_all (λ number. nat_lt number depth) numbers ≡ b
 all_below numbers depth b h =
     let test : ℕ → Bool = λ number. nat_lt number depth in
     same_answer (list_all test numbers) b (λ e. h.1 (λ k d lt. ltb-true (slice_index_or numbers k d) depth (AllPass-from_list_all test numbers e k d lt)))
     (λ e. list_all-from_AllPass test numbers (λ k d lt. lt-ltb (slice_index_or numbers k d) depth (h.0 e k d lt)))
 
--- the first ones of these planes of a pixel stand in the room
+-- the first ones of these planes of a pixel stand in the buffer
 abbrev pub HasPlanesOf : {X : Type 0} → List ℕ → List X → ℕ → ℕ → List X → Type 0
-HasPlanesOf {X = X} numbers row first i room = (past : X) → take i room ≡ map (λ number. slice_index_or row (first + number) past) (take i numbers)
+HasPlanesOf {X = X} numbers row first i buffer = (past : X) → take i buffer ≡ map (λ number. slice_index_or row (first + number) past) (take i numbers)
 
--- the first columns of these planes of a row stand in the room, which is else as it was
+-- the first columns of these planes of a row stand in the buffer, which is else as it was
 abbrev pub HasColumnsOf : {X : Type 0} → List ℕ → ℕ → List X → ℕ → List X → List X → Type 0
-HasColumnsOf {X = X} numbers depth row count old room =
-    (past : X) → room ≡ flat_map (λ x. map (λ number. slice_index_or row (x * depth + number) past) numbers) (range_with_len 0 count) ++ drop (count * length numbers) old
+HasColumnsOf {X = X} numbers depth row count old buffer =
+    (past : X) → buffer ≡ flat_map (λ x. map (λ number. slice_index_or row (x * depth + number) past) numbers) (range_with_len 0 count)
+    ++ drop (count * length numbers) old
 
--- the next piece is written into a room whose front is filled
-pub piece_written : {X : Type 0} (f : ℕ → List X) (each count x m : ℕ) (room samples piece : List X) → x < count → length room ≡ count * each → length samples ≡ length room
-    → samples ≡ flat_map f (range_with_len 0 x) ++ drop (x * each) room → piece ≡ f x → m ≡ each
-    → put_mid (x * each) m samples piece ≡ flat_map f (range_with_len 0 (x + 1)) ++ drop ((x + 1) * each) room
-piece_written {X = X} f each count x m room samples piece below size same is made long =
+-- the next piece is written into a buffer whose prefix is filled
+pub piece_written : {X : Type 0} (f : ℕ → List X) (each count x m : ℕ) (buffer samples piece : List X) → x < count → length buffer ≡ count * each
+    → length samples ≡ length buffer
+    → samples ≡ flat_map f (range_with_len 0 x) ++ drop (x * each) buffer → piece ≡ f x → m ≡ each
+    → put_mid (x * each) m samples piece ≡ flat_map f (range_with_len 0 (x + 1)) ++ drop ((x + 1) * each) buffer
+piece_written {X = X} f each count x m buffer samples piece below size same is made long =
     let n : ℕ = x * each in
-    let front : List X = flat_map f (range_with_len 0 x) in
-    let back : List X = drop n room in
+    let prefix : List X = flat_map f (range_with_len 0 x) in
+    let back : List X = drop n buffer in
     let fits : n ≤ count * each = mul-le-mul {n₁ = x} {m₁ = each} {n₂ = count} {m₂ = each} (omega arith) (omega arith) in
-    let left : length back ≡ length room - n = length-drop n room in
-    let filled : length front ≡ n = omega (arith, ap length is, length-append front back) in
-    let rest : drop n samples ≡ back = ap (drop n) is ∙ drop_at front back n filled in
-    let behind : drop m (drop n samples) ≡ drop ((x + 1) * each) room =
-    ap (drop m) rest ∙ drop-drop m n room ∙ ap (λ (k : ℕ). drop k room) (omega arith) in
-    ap (λ (l : List X). l ++ (piece ++ drop m (drop n samples))) (ap (take n) is ∙ take_at front back n filled)
-    ∙ ap (λ (l : List X). front ++ (l ++ drop m (drop n samples))) made
-    ∙ ap (λ (l : List X). front ++ (f x ++ l)) behind
-    ∙ sym (append_assoc front (f x) (drop ((x + 1) * each) room))
-    ∙ ap (λ (l : List X). l ++ drop ((x + 1) * each) room) (sym (flat_map_one_more f 0 x x (omega arith)))
+    let left : length back ≡ length buffer - n = length-drop n buffer in
+    let filled : length prefix ≡ n = omega (arith, ap length is, length-append prefix back) in
+    let rest : drop n samples ≡ back = ap (drop n) is ∙ drop_at prefix back n filled in
+    let behind : drop m (drop n samples) ≡ drop ((x + 1) * each) buffer =
+    ap (drop m) rest ∙ drop-drop m n buffer ∙ ap (λ (k : ℕ). drop k buffer) (omega arith) in
+    ap (λ (l : List X). l ++ (piece ++ drop m (drop n samples))) (ap (take n) is ∙ take_at prefix back n filled)
+    ∙ ap (λ (l : List X). prefix ++ (l ++ drop m (drop n samples))) made
+    ∙ ap (λ (l : List X). prefix ++ (f x ++ l)) behind
+    ∙ sym (append_assoc prefix (f x) (drop ((x + 1) * each) buffer))
+    ∙ ap (λ (l : List X). l ++ drop ((x + 1) * each) buffer) (sym (flat_map_one_more f 0 x x (omega arith)))
 
--- all planes of a pixel stand in the room
-pub planes_picked : {X : Type 0} (numbers : List ℕ) (row : List X) (first i : ℕ) (room : List X) → length room ≤ i → length numbers ≤ i → HasPlanesOf numbers row first i room → (past : X) → room ≡ map (λ number. slice_index_or row (first + number) past) numbers
-planes_picked numbers row first i room all passed h past =
-    sym (take_all i room all) ∙ h past ∙ ap (map (λ number. slice_index_or row (first + number) past)) (take_all i numbers passed)
+-- all planes of a pixel stand in the buffer
+pub planes_picked : {X : Type 0} (numbers : List ℕ) (row : List X) (first i : ℕ) (buffer : List X) → length buffer ≤ i → length numbers ≤ i
+    → HasPlanesOf numbers row first i buffer → (past : X) → buffer ≡ map (λ number. slice_index_or row (first + number) past) numbers
+planes_picked numbers row first i buffer all passed h past =
+    sym (take_all i buffer all) ∙ h past ∙ ap (map (λ number. slice_index_or row (first + number) past)) (take_all i numbers passed)
 
--- all columns of a row stand in the room, which is given back
-pub columns_picked : {X : Type 0} (numbers : List ℕ) (s : Shape) (row : List X) (n len : ℕ) (old room items : List X) → n ≡ s.width → length old ≡ n * length numbers → length room ≡ len → HasColumnsOf numbers s.depth row n old room
-    → (past : X) → take len (room ++ drop (length room) items) ≡ picked_or past numbers s row
-columns_picked {X = X} numbers s row n len old room items all size long h past =
+-- all columns of a row stand in the buffer, which is given back
+pub columns_picked : {X : Type 0} (numbers : List ℕ) (s : Shape) (row : List X) (n len : ℕ) (old buffer items : List X) → n ≡ s.width
+    → length old ≡ n * length numbers → length buffer ≡ len → HasColumnsOf numbers s.depth row n old buffer
+    → (past : X) → take len (buffer ++ drop (length buffer) items) ≡ picked_or past numbers s row
+columns_picked {X = X} numbers s row n len old buffer items all size long h past =
     let f : ℕ → List X = λ x. map (λ number. slice_index_or row (x * s.depth + number) past) numbers in
     let none : drop (n * length numbers) old ≡ [] = drop_all (n * length numbers) old (omega arith) in
-    take_at room (drop (length room) items) len long ∙ h past ∙ ap (λ (l : List X). flat_map f (range_with_len 0 n) ++ l) none ∙ append-nil (flat_map f (range_with_len 0 n)) ∙ ap (λ (m : ℕ). flat_map f (range_with_len 0 m)) all
+    take_at buffer (drop (length buffer) items) len long ∙ h past ∙ ap (λ (l : List X). flat_map f (range_with_len 0 n) ++ l) none
+    ∙ append-nil (flat_map f (range_with_len 0 n)) ∙ ap (λ (m : ℕ). flat_map f (range_with_len 0 m)) all
 
 -- samples within a maxval stay so in pieces
-pub pieces_within : (maxval : ℕ) (f : ℕ → List ℕ) (a n : ℕ) → ((x : ℕ) → All (λ sample. sample ≤ maxval) (f x)) → All (λ sample. sample ≤ maxval) (flat_map f (range_with_len a n))
+pub pieces_within : (maxval : ℕ) (f : ℕ → List ℕ) (a n : ℕ) → ((x : ℕ) → All (λ sample. sample ≤ maxval) (f x))
+    → All (λ sample. sample ≤ maxval) (flat_map f (range_with_len a n))
 pieces_within maxval f a zero h = All-nil (λ sample. sample ≤ maxval)
-pieces_within maxval f a (suc n) h = All-append (λ sample. sample ≤ maxval) (f a) (flat_map f (range_with_len (a + 1) n)) (h a) (pieces_within maxval f (a + 1) n h)
+pieces_within maxval f a (suc n) h = All-append (λ sample. sample ≤ maxval) (f a) (flat_map f (range_with_len (a + 1) n)) (h a)
+    (pieces_within maxval f (a + 1) n h)
 
 -- a sample of a row within a maxval, or past its end
 sample_within : (maxval n : ℕ) (row : List ℕ) → All (λ sample. sample ≤ maxval) row → get_or row n 0 ≤ maxval
@@ -86,7 +96,10 @@ sample_within maxval n row h = elim (cases_lt n (length row)) [
 ]
 
 -- samples within a maxval stay so among those that are picked
-pub picked_within : (numbers : List ℕ) (s : Shape) (row new : List ℕ) → new ≡ picked_samples numbers s row → All (λ sample. sample ≤ s.maxval) row → All (λ sample. sample ≤ s.maxval) new
+pub picked_within : (numbers : List ℕ) (s : Shape) (row new : List ℕ) → new ≡ picked_samples numbers s row → All (λ sample. sample ≤ s.maxval) row
+    → All (λ sample. sample ≤ s.maxval) new
 picked_within numbers s row new is h =
     let f : ℕ → ℕ → ℕ = λ x number. get_or row (x * s.depth + number) 0 in
-    subst (All (λ sample. sample ≤ s.maxval)) (sym is) (pieces_within s.maxval (λ x. map (f x) numbers) 0 s.width (λ x. All-map (λ sample. sample ≤ s.maxval) (f x) numbers (λ k d lt. sample_within s.maxval (x * s.depth + get_or numbers k d) row h)))
+    subst (All (λ sample. sample ≤ s.maxval)) (sym is)
+    (pieces_within s.maxval (λ x. map (f x) numbers) 0 s.width
+    (λ x. All-map (λ sample. sample ≤ s.maxval) (f x) numbers (λ k d lt. sample_within s.maxval (x * s.depth + get_or numbers k d) row h)))

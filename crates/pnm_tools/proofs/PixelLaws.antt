@@ -1,5 +1,6 @@
 -- The rows of images that are made of the pixels of another image.
-use Rattle.std.proofs.Common.{◌≡◌, ℕ, suc, ◌+◌, ◌*◌, ◌<◌, ◌≤◌, List, length, slice_index, take, drop, map, sym, ap, ◌∙◌, arith, add-mul, mul_assoc, mul-le-mul, suc-mul}
+use Rattle.std.proofs.Common.{◌≡◌, ℕ, suc, ◌+◌, ◌*◌, ◌<◌, ◌≤◌, List, length, slice_index, take, drop, map, sym, ap, ◌∙◌, arith, add-mul, mul_assoc, mul-le-mul}
+use Rattle.std.proofs.Common.{suc-mul}
 use Rattle.std.specs.List.{flat_map, range_with_len}
 use Rattle.std.proofs.lemmas.List.{length-drop, length-take-le, get_or-take, get_or-drop, map-id}
 use Rattle.std.proofs.lemmas.List.FromFn.{fill_by_all}
@@ -35,7 +36,8 @@ pub pixel_at : (i : Image) (x y : ℕ) → IsImage i → x < i.head.shape.width 
 pixel_at i x y is column row = sym (pixel_is i.samples i.head.shape.width i.head.shape.height i.head.shape.depth x y is.count column row)
 
 -- all pixels of a row are the row
-pub whole_row : (i : Image) (y : ℕ) → IsImage i → y < i.head.shape.height → columns 0 i.head.shape.width i.head.shape.depth (λ x p. sample_at i x y p) ≡ row_at i y
+pub whole_row : (i : Image) (y : ℕ) → IsImage i → y < i.head.shape.height → columns 0 i.head.shape.width i.head.shape.depth (λ x p. sample_at i x y p)
+    ≡ row_at i y
 whole_row i y is lt =
     let s : Shape = i.head.shape in
     let each : ℕ = row_length s in
@@ -45,18 +47,20 @@ whole_row i y is lt =
     ∙ map-id (take each (drop ((y * s.width + 0) * s.depth) i.samples))
     ∙ ap (λ (n : ℕ). take each (drop n i.samples)) at
 
--- the same head with other sizes
+-- a head with other sizes
 abbrev pub resized : ℕ → ℕ → HeadValue → HeadValue
 resized width height head = record head { shape = record head.shape { width = width; height = height } }
 
 -- the rows of an image whose columns and rows are those of another image, in whatever order
-pub rows_by_pixels : (i : Image) (width height : ℕ) (column line : ℕ → ℕ) → IsImage i → ((x : ℕ) → x < width → column x < i.head.shape.width) → ((y : ℕ) → y < height → line y < i.head.shape.height)
+pub rows_by_pixels : (i : Image) (width height : ℕ) (column line : ℕ → ℕ) → IsImage i → ((x : ℕ) → x < width → column x < i.head.shape.width)
+    → ((y : ℕ) → y < height → line y < i.head.shape.height)
     → rows_of (image_by (resized width height i.head) (λ x y p. sample_at i (column x) (line y) p))
     ≡ map (λ y. flat_map (λ x. pixel_of i.head.shape.depth (row_at i (line y)) (column x)) (range_with_len 0 width)) (range_with_len 0 height)
 rows_by_pixels i width height column line is in_row in_image =
     let d : ℕ = i.head.shape.depth in
     rows_of-image_by (resized width height i.head) (λ x y p. sample_at i (column x) (line y) p)
-    ∙ range_alike (λ y. columns 0 width d (λ x p. sample_at i (column x) (line y) p)) (λ y. flat_map (λ x. pixel_of d (row_at i (line y)) (column x)) (range_with_len 0 width)) 0 height (λ y row.
+    ∙ range_alike (λ y. columns 0 width d (λ x p. sample_at i (column x) (line y) p))
+    (λ y. flat_map (λ x. pixel_of d (row_at i (line y)) (column x)) (range_with_len 0 width)) 0 height (λ y row.
     pieces_alike (λ x. map (λ p. sample_at i (column x) (line y) p) (range_with_len 0 d)) (λ x. pixel_of d (row_at i (line y)) (column x)) 0 width (λ x lt.
     pixel_at i (column x) (line y) is (in_row x (omega arith)) (in_image y (omega arith))))
 
@@ -66,4 +70,5 @@ pub rows_by_rows : (i : Image) (height : ℕ) (line : ℕ → ℕ) → IsImage i
 rows_by_rows i height line is in_image =
     let s : Shape = i.head.shape in
     rows_of-image_by (resized s.width height i.head) (λ x y p. sample_at i x (line y) p)
-    ∙ range_alike (λ y. columns 0 s.width s.depth (λ x p. sample_at i x (line y) p)) (λ y. row_at i (line y)) 0 height (λ y row. whole_row i (line y) is (in_image y (omega arith)))
+    ∙ range_alike (λ y. columns 0 s.width s.depth (λ x p. sample_at i x (line y) p)) (λ y. row_at i (line y)) 0 height
+    (λ y row. whole_row i (line y) is (in_image y (omega arith)))

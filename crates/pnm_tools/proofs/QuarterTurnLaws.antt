@@ -44,11 +44,13 @@ image_alike head f g same =
 
 -- an image of a head and of rows
 of_rows : (i : Image) → IsImage i → image_of i.head (rows_of i) ≡ i
-of_rows i is = ap (λ (samples : List ℕ). record { head = i.head; samples = samples }) (concat-cut_rows i.head.shape.height (row_length i.head.shape) i.samples is.count)
+of_rows i is = ap (λ (samples : List ℕ). record { head = i.head; samples = samples })
+    (concat-cut_rows i.head.shape.height (row_length i.head.shape) i.samples is.count)
 
 by_formula : (head : HeadValue) (f : ℕ → ℕ → ℕ → ℕ) → image_of head (rows_of (image_by head f)) ≡ image_by head f
 by_formula head f =
-    ap (λ (samples : List ℕ). record { head = head; samples = samples }) (concat-cut_rows head.shape.height (row_length head.shape) (image_by head f).samples (length-image_by head f))
+    ap (λ (samples : List ℕ). record { head = head; samples = samples })
+    (concat-cut_rows head.shape.height (row_length head.shape) (image_by head f).samples (length-image_by head f))
 
 -- an image is that of its samples
 image_is : (i : Image) → IsImage i → image_by i.head (sample_at i) ≡ i
@@ -64,17 +66,21 @@ turned_image : (way : FlipWay) (i : Image) → applied (Flip way) i ≡ made_by 
 unfolding result_head result_sample
 turned_image way i = ap (λ (f : ℕ → ℕ → ℕ → ℕ). made_by f (turned_head (turn_of way) i.head)) (flipped_is_turned way i)
 
-made_alike : (t : Turn) (i : Image) (f g : ℕ → ℕ → ℕ → ℕ) (r : Result HeadValue ToolFault) → turned_head t i.head ≡ r → AreAlike (turned_head_value t i.head) f g → made_by f r ≡ made_by g r
+made_alike : (t : Turn) (i : Image) (f g : ℕ → ℕ → ℕ → ℕ) (r : Result HeadValue ToolFault) → turned_head t i.head ≡ r
+    → AreAlike (turned_head_value t i.head) f g → made_by f r ≡ made_by g r
 made_alike t i f g (Err fault) e same = refl
-made_alike t i f g (Ok head) e same = ap (λ (j : Image). Ok j) (image_alike head f g (subst (λ (h : HeadValue). AreAlike h f g) (turned_is t i.head head e).result_is same))
+made_alike t i f g (Ok head) e same =
+    ap (λ (j : Image). Ok j) (image_alike head f g (subst (λ (h : HeadValue). AreAlike h f g) (turned_is t i.head head e).result_is same))
 
 -- heads of images with rows
 moved_head : (columns : Bool) (head : HeadValue) → (head.shape.height ≡ 0 → ⊥) → turned_head (turn columns true false) head ≡ Ok head
 moved_head columns head some = ap (λ (b : Bool). if b then Err OutOfOrder else Ok head) (ne_eqb head.shape.height 0 some)
 
-exchanged_head : (columns rows : Bool) (head : HeadValue) → (head.shape.height ≡ 0 → ⊥) → is_too_large (transposed_head_value head).shape ≡ false → turned_head (turn columns rows true) head ≡ Ok (transposed_head_value head)
+exchanged_head : (columns rows : Bool) (head : HeadValue) → (head.shape.height ≡ 0 → ⊥) → is_too_large (transposed_head_value head).shape ≡ false
+    → turned_head (turn columns rows true) head ≡ Ok (transposed_head_value head)
 exchanged_head columns rows head some fits =
-    ap (λ (b : Bool). if b then Err OutOfOrder else within_limits (transposed_head_value head)) (ne_eqb head.shape.height 0 some) ∙ small_head (transposed_head_value head) fits
+    ap (λ (b : Bool). if b then Err OutOfOrder else within_limits (transposed_head_value head)) (ne_eqb head.shape.height 0 some)
+    ∙ small_head (transposed_head_value head) fits
 
 -- the image of a head and of the rule
 record IsOnce (t : Turn) (i j : Image) : Type 0 where
@@ -128,7 +134,8 @@ turned_there_and_back i is =
     ∙ ap (λ (k : Image). Ok k) (image_alike i.head (turned_sample (turn false true true) j) (sample_at i) (λ x y p column row plane.
     let from : s.width - 1 - x < s.width = omega arith in
     let again : s.width - 1 - (s.width - 1 - x) ≡ x = omega arith in
-    sample_at-image_by j.head (turned_sample (turn true false true) i) y (s.width - 1 - x) p row from plane ∙ ap (λ (k : ℕ). sample_at i k y p) again) ∙ image_is i is)
+    sample_at-image_by j.head (turned_sample (turn true false true) i) y (s.width - 1 - x) p row from plane ∙ ap (λ (k : ℕ). sample_at i k y p) again)
+    ∙ image_is i is)
 
 -- ---- a turn is two flips
 
@@ -145,7 +152,8 @@ quarter_by i (Ok head) is e =
     ∙ ap (λ (j : Image). Ok j) (image_alike k.head (turned_sample (turn false true false) k) (turned_sample (turn true false true) i) (λ x y p column row plane.
     let line : s.width - 1 - y < s.width = omega arith in
     sample_at-image_by k.head transposed x (s.width - 1 - y) p column line plane)) in
-    subst (λ (h : HeadValue). Ok (image_by h (turned_sample (turn true false true) i)) ≡ applied (Flip TopBottom) (image_by h transposed)) (turned_is (turn false false true) i.head head e).result_is (sym flipped)
+    subst (λ (h : HeadValue). Ok (image_by h (turned_sample (turn true false true) i)) ≡ applied (Flip TopBottom) (image_by h transposed))
+    (turned_is (turn false false true) i.head head e).result_is (sym flipped)
 
 quarter_is : (i : Image) → IsImage i → applied (Flip Rotate90) i ≡ then_flipped TopBottom (applied (Flip Transpose) i)
 quarter_is i is =
@@ -159,7 +167,8 @@ half_is i =
     let mirrored : ℕ → ℕ → ℕ → ℕ = turned_sample (turn true false false) i in
     let k : Image = image_by i.head mirrored in
     turned_image Rotate180 i
-    ∙ made_alike (turn true true false) i (turned_sample (turn true true false) i) (turned_sample (turn false true false) k) (turned_head (turn true true false) i.head) refl (λ x y p column row plane.
+    ∙ made_alike (turn true true false) i (turned_sample (turn true true false) i) (turned_sample (turn false true false) k)
+    (turned_head (turn true true false) i.head) refl (λ x y p column row plane.
     let line : s.height - 1 - y < s.height = omega arith in
     sym (sample_at-image_by i.head mirrored x (s.height - 1 - y) p column line plane))
     ∙ sym (turned_image TopBottom k)
@@ -174,7 +183,8 @@ three_quarters_by i false e =
     let turned : ℕ → ℕ → ℕ → ℕ = turned_sample (turn false true false) i in
     let k : Image = image_by i.head turned in
     turned_image Rotate270 i
-    ∙ made_alike (turn false true true) i (turned_sample (turn false true true) i) (turned_sample (turn false false true) k) (turned_head (turn false true true) i.head) refl (λ x y p column row plane.
+    ∙ made_alike (turn false true true) i (turned_sample (turn false true true) i) (turned_sample (turn false false true) k)
+    (turned_head (turn false true true) i.head) refl (λ x y p column row plane.
     sym (sample_at-image_by i.head turned y x p row column plane))
     ∙ sym (turned_image Transpose k)
 

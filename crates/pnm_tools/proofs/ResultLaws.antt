@@ -1,5 +1,6 @@
 -- The result of an image is an image.
-use Rattle.std.proofs.Common.{◌≡◌, ℕ, ◌+◌, ◌-◌, ◌*◌, ◌<◌, ◌≤◌, Bool, true, false, not, List, [], length, slice_index, Ok, refl, sym, ap, subst, arith, mul-le-mul}
+use Rattle.std.proofs.Common.{◌≡◌, ℕ, ◌+◌, ◌-◌, ◌*◌, ◌<◌, ◌≤◌, Bool, true, false, not, List, [], length, slice_index, Ok, refl, sym, ap, subst, arith}
+use Rattle.std.proofs.Common.{mul-le-mul}
 use Rattle.std.proofs.Math.Nat.{lt_of_mul-lt-mul_left}
 use Rattle.std.specs.Prelude.{codes, All, slice_index_or, ◌≢◌, ◌==◌, if◌then◌else◌}
 use Rattle.std.specs.Str.{bytes_eq}
@@ -46,7 +47,8 @@ cut_within : (c r : Span) (head : HeadValue) → IsHead head → LiesWithin c he
 cut_within c r head sound in_row in_image =
     let s : Shape = head.shape in
     let limits = sound.limits in
-    let narrow : span_count c * s.depth ≤ s.width * s.depth = mul-le-mul {n₁ = span_count c} {m₁ = s.depth} {n₂ = s.width} {m₂ = s.depth} (omega arith) (omega arith) in
+    let narrow : span_count c * s.depth ≤ s.width * s.depth = mul-le-mul {n₁ = span_count c} {m₁ = s.depth} {n₂ = s.width} {m₂ = s.depth} (omega arith)
+    (omega arith) in
     record {
       limits = record {
         width_low = omega arith;
@@ -93,7 +95,8 @@ nearest_in_range new old sample some range =
     omega arith
 
 one_line : (text : List ℕ) → list_all (λ b. not (b == 10)) text ≡ true → All (λ b. b ≢ 10) text
-one_line text e k d lt = eqb-false (slice_index_or text k d) 10 (not-true (slice_index_or text k d == 10) (AllPass-from_list_all (λ b. not (b == 10)) text e k d lt))
+one_line text e k d lt =
+    eqb-false (slice_index_or text k d) 10 (not-true (slice_index_or text k d == 10) (AllPass-from_list_all (λ b. not (b == 10)) text e k d lt))
 
 gray_is_type : IsTupleType (codes "GRAYSCALE")
 gray_is_type = record { short = omega arith; one_line = one_line (codes "GRAYSCALE") refl; first = λ some. refl; last = λ some. refl }
@@ -101,7 +104,8 @@ gray_is_type = record { short = omega arith; one_line = one_line (codes "GRAYSCA
 gray_alpha_is_type : IsTupleType (codes "GRAYSCALE_ALPHA")
 gray_alpha_is_type = record { short = omega arith; one_line = one_line (codes "GRAYSCALE_ALPHA") refl; first = λ some. refl; last = λ some. refl }
 
-type_by : (plain alpha : Bool) (text : List ℕ) → IsTupleType text → IsTupleType (if plain then codes "GRAYSCALE" else if alpha then codes "GRAYSCALE_ALPHA" else text)
+type_by : (plain alpha : Bool) (text : List ℕ) → IsTupleType text
+    → IsTupleType (if plain then codes "GRAYSCALE" else if alpha then codes "GRAYSCALE_ALPHA" else text)
 type_by true alpha text sound = gray_is_type
 type_by false true text sound = gray_alpha_is_type
 type_by false false text sound = sound
@@ -125,7 +129,8 @@ same_suits Gray depth maxval new text one suits = suits
 same_suits Color depth maxval new text one suits = suits
 same_suits Pam depth maxval new text one suits = suits
 
-suits_by : (one : Bool) (kind : Kind) (depth maxval new : ℕ) (text : List ℕ) → (new == 1) ≡ one → Suits kind depth maxval text → Suits (if one then kind else gray_kind kind) depth new (if one then text else gray_type text)
+suits_by : (one : Bool) (kind : Kind) (depth maxval new : ℕ) (text : List ℕ) → (new == 1) ≡ one → Suits kind depth maxval text
+    → Suits (if one then kind else gray_kind kind) depth new (if one then text else gray_type text)
 suits_by true kind depth maxval new text is suits = same_suits kind depth maxval new text (eqb-true new 1 is) suits
 suits_by false kind depth maxval new text is suits = gray_suits kind depth maxval new text suits
 
@@ -160,7 +165,8 @@ rescaled_is_image new i j low high is e =
 
 -- ---- picked images
 
-picked_header_is : (planes : Picks) (head : HeadValue) → IsLawfulPick planes → IsHead head → is_too_large (picked_head_value planes head).shape ≡ false → IsHead (picked_head_value planes head)
+picked_header_is : (planes : Picks) (head : HeadValue) → IsLawfulPick planes → IsHead head → is_too_large (picked_head_value planes head).shape ≡ false
+    → IsHead (picked_head_value planes head)
 picked_header_is planes head lawful sound fits =
     let s : Shape = head.shape in
     let limits = sound.limits in
@@ -188,7 +194,8 @@ picked_is_image planes i j lawful is e =
     let made = result_by_head (Channel planes) i j e in
     let picked = is_picked planes i.head j.head made.head in
     let same : picked_head_value planes i.head ≡ j.head = sym picked.result_is in
-    let fits : is_too_large (picked_head_value planes i.head).shape ≡ false = subst (λ (h : HeadValue). is_too_large h.shape ≡ false) picked.result_is picked.limits in
+    let fits : is_too_large (picked_head_value planes i.head).shape ≡ false =
+    subst (λ (h : HeadValue). is_too_large h.shape ≡ false) picked.result_is picked.limits in
     made_is_image (Channel planes) i j made (subst IsHead same (picked_header_is planes i.head lawful is.head fits))
     (λ x y p. subst (λ (h : HeadValue). result_sample (Channel planes) i x y p ≤ h.shape.maxval) same (picked_in_range planes i x y p is))
 

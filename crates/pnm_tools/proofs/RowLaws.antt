@@ -41,7 +41,8 @@ unfolding row_answer
 row_of_flip way s y row = refl
 
 -- a row that is changed in place, sample by sample
-pub changed_in_place : (g : ℕ → ℕ) (row items lent new : List ℕ) (len : ℕ) → new ≡ map g lent → lent ≡ items → items ≡ row → len ≡ length items → take len (new ++ drop (length new) items) ≡ map g row
+pub changed_in_place : (g : ℕ → ℕ) (row items lent new : List ℕ) (len : ℕ) → new ≡ map g lent → lent ≡ items → items ≡ row → len ≡ length items
+    → take len (new ++ drop (length new) items) ≡ map g row
 changed_in_place g row items lent new len made same given count =
     let is : new ≡ map g row = made ∙ ap (map g) (same ∙ given) in
     let size : length new ≡ len = ap length is ∙ length-map row g ∙ sym (ap length given) ∙ sym count in
@@ -52,12 +53,15 @@ map_same f g [] same = refl
 map_same f g (x ∷ xs) same = ap₂ (λ (y : ℕ) (ys : List ℕ). y ∷ ys) (same x) (map_same f g xs same)
 
 -- the values of samples that are their own values, taken from the maxval
-values_taken : (value : ℕ → ℕ) (maxval : ℕ) (lent new : List ℕ) → ((x : ℕ) → value x ≡ x) → map value new ≡ map (λ sample. value maxval - value sample) lent → new ≡ map (λ sample. maxval - sample) lent
+values_taken : (value : ℕ → ℕ) (maxval : ℕ) (lent new : List ℕ) → ((x : ℕ) → value x ≡ x) → map value new ≡ map (λ sample. value maxval - value sample) lent
+    → new ≡ map (λ sample. maxval - sample) lent
 values_taken value maxval lent new own made =
-    sym (map_same value (λ x. x) new own ∙ map-id new) ∙ made ∙ map_same (λ sample. value maxval - value sample) (λ sample. maxval - sample) lent (λ sample. ap₂ (λ (a b : ℕ). a - b) (own maxval) (own sample))
+    sym (map_same value (λ x. x) new own ∙ map-id new) ∙ made ∙ map_same (λ sample. value maxval - value sample) (λ sample. maxval - sample) lent
+    (λ sample. ap₂ (λ (a b : ℕ). a - b) (own maxval) (own sample))
 
 -- a row that is inverted in place
-pub inverted_in_place : (value : ℕ → ℕ) (from maxval : ℕ) (row items lent new : List ℕ) (len : ℕ) → ((x : ℕ) → value x ≡ x) → map value new ≡ map (λ sample. value from - value sample) lent → from ≡ maxval
+pub inverted_in_place : (value : ℕ → ℕ) (from maxval : ℕ) (row items lent new : List ℕ) (len : ℕ) → ((x : ℕ) → value x ≡ x)
+    → map value new ≡ map (λ sample. value from - value sample) lent → from ≡ maxval
     → lent ≡ items → items ≡ row → len ≡ length items → take len (new ++ drop (length new) items) ≡ map (λ sample. maxval - sample) row
 inverted_in_place value from maxval row items lent new len own made most same given count =
     let taken : new ≡ map (λ sample. maxval - sample) lent = values_taken value from lent new own made ∙ ap (λ (n : ℕ). map (λ sample. n - sample) lent) most in
@@ -65,14 +69,15 @@ inverted_in_place value from maxval row items lent new len own made most same gi
 
 -- samples that are taken from the maxval are within it
 pub inverted_within : (maxval : ℕ) (row new : List ℕ) → new ≡ map (λ sample. maxval - sample) row → All (λ sample. sample ≤ maxval) new
-inverted_within maxval row new is = subst (All (λ sample. sample ≤ maxval)) (sym is) (All-map (λ sample. sample ≤ maxval) (λ sample. maxval - sample) row (λ k d lt. omega arith))
+inverted_within maxval row new is =
+    subst (All (λ sample. sample ≤ maxval)) (sym is) (All-map (λ sample. sample ≤ maxval) (λ sample. maxval - sample) row (λ k d lt. omega arith))
 
 -- in a loop that changes them the sample that is read is still the row's
 pub sample_read : (f : ℕ → ℕ) (xs ys : List ℕ) (i x : ℕ) → i < length xs → ys ≡ map f (take i xs) ++ drop i xs → get_or ys i x ≡ get_or xs i x
 sample_read f xs ys i x lt h =
-    let front : List ℕ = map f (take i xs) in
-    let long : length front ≡ i = length-map (take i xs) f ∙ omega (arith, length-take i xs) in
-    ap (λ (l : List ℕ). get_or l i x) (h ∙ ap (λ (l : List ℕ). front ++ l) (drop_more xs i x lt)) ∙ get_or_at front (get_or xs i x) (drop (i + 1) xs) x i long
+    let prefix : List ℕ = map f (take i xs) in
+    let long : length prefix ≡ i = length-map (take i xs) f ∙ omega (arith, length-take i xs) in
+    ap (λ (l : List ℕ). get_or l i x) (h ∙ ap (λ (l : List ℕ). prefix ++ l) (drop_more xs i x lt)) ∙ get_or_at prefix (get_or xs i x) (drop (i + 1) xs) x i long
 
 -- what holds of each sample of the row holds of the one that is read
 pub read_holds : (P : ℕ → Type 0) (f : ℕ → ℕ) (xs ys : List ℕ) (i : ℕ) → i < length xs → ys ≡ map f (take i xs) ++ drop i xs → All P xs → P (get_or ys i 0)

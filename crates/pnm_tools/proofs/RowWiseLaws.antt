@@ -1,5 +1,6 @@
 -- The tools that are called row-wise commute with dealing, and no others do.
-use Rattle.std.proofs.Common.{◌≡◌, ◌↔◌, ℕ, ◌*◌, ◌≤◌, Bool, true, false, ◌||◌, List, [], ◌∷◌, ◌++◌, map, nat_lt, Result, Ok, Err, refl, sym, ap, subst, ◌∙◌, arith, append-nil}
+use Rattle.std.proofs.Common.{◌≡◌, ◌↔◌, ℕ, ◌*◌, ◌≤◌, Bool, true, false, ◌||◌, List, [], ◌∷◌, ◌++◌, map, nat_lt, Result, Ok, Err, refl, sym, ap, subst, ◌∙◌}
+use Rattle.std.proofs.Common.{arith, append-nil}
 use Rattle.std.specs.Prelude.{if◌then◌else◌}
 use Rattle.std.specs.List.{list_all}
 use Rattle.std.proofs.lemmas.Bool.{eqb-true, le-ltb, not-true}
@@ -19,7 +20,7 @@ use Rattle.pnm_tools.specs.declared.flip.FlipWay.{FlipWay}
 use Rattle.pnm_tools.specs.declared.flip.Turn.{Turn}
 use Rattle.pnm_tools.specs.declared.tool.Tool.{Tool}
 use Rattle.pnm_tools.specs.declared.tool.Tool.TheVariants.{Invert, Cut, Depth, Channel, Enlarge, Flip, Tile}
-use Rattle.pnm_tools.specs.Answering.{answered_from}
+use Rattle.pnm_tools.specs.Answering.{answers_from}
 use Rattle.pnm_tools.specs.Channel.{Picks, picked_row, picked_head_value}
 use Rattle.pnm_tools.specs.Dealing.{dealt_height, dealt_head, dealt_image, dealt_result, dealt_rows, IsRowWise, column}
 use Rattle.pnm_tools.specs.Depth.{rescaled_row}
@@ -52,15 +53,17 @@ rows_are_same (x ∷ a) (y ∷ b) e =
     ap (λ (r : List ℕ). r ∷ a) first ∙ ap (λ (l : List (List ℕ)). y ∷ l) rest
 
 -- the rows of the result are those that answer the rows and the end of the image
-rows_of_result : (tool : Tool) (i j : Image) → IsLawfulTool tool → IsImage i → applied tool i ≡ Ok j → answers_to_rows tool i.head.shape 0 (rows_of i) ++ end_answer tool i.head.shape (rows_of i) ≡ rows_of j
+rows_of_result : (tool : Tool) (i j : Image) → IsLawfulTool tool → IsImage i → applied tool i ≡ Ok j
+    → answers_to_rows tool i.head.shape 0 (rows_of i) ++ end_answer tool i.head.shape (rows_of i) ≡ rows_of j
 rows_of_result tool i j lawful is e =
     let made = result_by_head tool i j e in
     let answers : List (List ℕ) = answers_to_rows tool i.head.shape 0 (rows_of i) ++ end_answer tool i.head.shape (rows_of i) in
-    let rest : List Message = answered_from tool (Inside i.head.shape 0) [] (map Row (rows_of i) ++ ImageEnd ∷ []) in
-    let begun : answered_from tool Between [] (messages_of_image i) ≡ Begin j.head ∷ rest =
+    let rest : List Message = answers_from tool (Inside i.head.shape 0) [] (map Row (rows_of i) ++ ImageEnd ∷ []) in
+    let begun : answers_from tool Between [] (messages_of_image i) ≡ Begin j.head ∷ rest =
     ap (λ (r : Result HeadValue ToolFault). elim r [ Ok result ↦ Begin result ∷ [] | Err fault ↦ [] ] ++ rest) made.head in
     let all : Begin j.head ∷ rest ≡ Begin j.head ∷ (map Row (rows_of j) ++ ImageEnd ∷ []) = sym begun ∙ tool_answers_images tool lawful i j is e in
-    rows_are_same answers (rows_of j) (sym (rows_answered tool i.head.shape 0 [] (rows_of i)) ∙ same_rest (Begin j.head) (Begin j.head) rest (map Row (rows_of j) ++ ImageEnd ∷ []) all)
+    rows_are_same answers (rows_of j) (sym (rows_answered tool i.head.shape 0 [] (rows_of i))
+    ∙ same_rest (Begin j.head) (Begin j.head) rest (map Row (rows_of j) ++ ImageEnd ∷ []) all)
 
 -- ---- tools that answer each row by one
 
@@ -78,7 +81,8 @@ record AnswersRowByRow (tool : Tool) : Type 0 where
   head : (lane lanes : ℕ) (h : HeadValue) → IsHead h → result_head tool (dealt_head lane lanes h) ≡ dealt_head_result lane lanes (result_head tool h)
 
 -- its result has the rows of the image, each changed
-rows_changed : (tool : Tool) (by : AnswersRowByRow tool) (i j : Image) → IsLawfulTool tool → IsImage i → applied tool i ≡ Ok j → rows_of j ≡ map (by.row i.head.shape) (rows_of i)
+rows_changed : (tool : Tool) (by : AnswersRowByRow tool) (i j : Image) → IsLawfulTool tool → IsImage i → applied tool i ≡ Ok j
+    → rows_of j ≡ map (by.row i.head.shape) (rows_of i)
 rows_changed tool by i j lawful is e =
     let s : Shape = i.head.shape in
     let answers : List (List ℕ) = answers_to_rows tool s 0 (rows_of i) in
@@ -94,10 +98,12 @@ map_alike f g (r ∷ rows) same = ap (λ (x : List ℕ). x ∷ map f rows) (same
 -- an image that is given by a formula is that of its head and its rows
 by_head_and_rows : (head : HeadValue) (sample : ℕ → ℕ → ℕ → ℕ) → image_of head (rows_of (image_by head sample)) ≡ image_by head sample
 by_head_and_rows head sample =
-    ap (λ (samples : List ℕ). record { head = head; samples = samples }) (concat-cut_rows head.shape.height (row_length head.shape) (image_by head sample).samples (length-image_by head sample))
+    ap (λ (samples : List ℕ). record { head = head; samples = samples })
+    (concat-cut_rows head.shape.height (row_length head.shape) (image_by head sample).samples (length-image_by head sample))
 
 -- what the head rule says of both, and what the images are then
-commutes_by : (tool : Tool) (by : AnswersRowByRow tool) (i : Image) (lane lanes : ℕ) (r r' : Result HeadValue ToolFault) → IsLawfulTool tool → IsImage i → result_head tool i.head ≡ r → result_head tool (dealt_head lane lanes i.head) ≡ r' → r' ≡ dealt_head_result lane lanes r
+commutes_by : (tool : Tool) (by : AnswersRowByRow tool) (i : Image) (lane lanes : ℕ) (r r' : Result HeadValue ToolFault) → IsLawfulTool tool → IsImage i
+    → result_head tool i.head ≡ r → result_head tool (dealt_head lane lanes i.head) ≡ r' → r' ≡ dealt_head_result lane lanes r
     → applied tool (dealt_image lane lanes i) ≡ dealt_result lane lanes (applied tool i)
 commutes_by tool by i lane lanes (Err fault) r' lawful is e e' same =
     ap (λ (x : Result HeadValue ToolFault). elim x [ Ok head ↦ Ok (image_by head (result_sample tool (dealt_image lane lanes i))) | Err f ↦ Err f ]) (e' ∙ same)
@@ -107,8 +113,10 @@ commutes_by tool by i lane lanes (Ok head) r' lawful is e e' same =
     let part_head : HeadValue = dealt_head lane lanes head in
     let whole : Image = image_by head (result_sample tool i) in
     let made : Image = image_by part_head (result_sample tool part) in
-    let of_whole : applied tool i ≡ Ok whole = ap (λ (x : Result HeadValue ToolFault). elim x [ Ok h ↦ Ok (image_by h (result_sample tool i)) | Err f ↦ Err f ]) e in
-    let of_part : applied tool part ≡ Ok made = ap (λ (x : Result HeadValue ToolFault). elim x [ Ok h ↦ Ok (image_by h (result_sample tool part)) | Err f ↦ Err f ]) (e' ∙ same) in
+    let of_whole : applied tool i ≡ Ok whole = ap (λ (x : Result HeadValue ToolFault). elim x [ Ok h ↦ Ok (image_by h (result_sample tool i)) | Err f ↦ Err f ])
+    e in
+    let of_part : applied tool part ≡ Ok made =
+    ap (λ (x : Result HeadValue ToolFault). elim x [ Ok h ↦ Ok (image_by h (result_sample tool part)) | Err f ↦ Err f ]) (e' ∙ same) in
     let s : Shape = i.head.shape in
     let rows : rows_of made ≡ dealt_rows lane lanes 0 (rows_of whole) =
     rows_changed tool by part made lawful (dealt_image_is_image lane lanes i is) of_part
@@ -122,27 +130,33 @@ commutes_by tool by i lane lanes (Ok head) r' lawful is e e' same =
 
 commutes : (tool : Tool) → AnswersRowByRow tool → IsLawfulTool tool → IsRowWise tool
 commutes tool by lawful i lane lanes is lt =
-    commutes_by tool by i lane lanes (result_head tool i.head) (result_head tool (dealt_head lane lanes i.head)) lawful is refl refl (by.head lane lanes i.head is.head)
+    commutes_by tool by i lane lanes (result_head tool i.head) (result_head tool (dealt_head lane lanes i.head)) lawful is refl refl
+    (by.head lane lanes i.head is.head)
 
 -- ---- the head rules
 
 -- a result of another height within the limits
-limits_dealt : (b b' : Bool) (lane lanes : ℕ) (head : HeadValue) → b' ≡ b → ◌≡◌ {A = Result HeadValue ToolFault} (if b' then Err TooLarge else Ok (dealt_head lane lanes head)) (dealt_head_result lane lanes (if b then Err TooLarge else Ok head))
+limits_dealt : (b b' : Bool) (lane lanes : ℕ) (head : HeadValue) → b' ≡ b
+    → ◌≡◌ {A = Result HeadValue ToolFault} (if b' then Err TooLarge else Ok (dealt_head lane lanes head))
+    (dealt_head_result lane lanes (if b then Err TooLarge else Ok head))
 limits_dealt true b' lane lanes head e = ap (λ (x : Bool). if x then Err TooLarge else Ok (dealt_head lane lanes head)) e
 limits_dealt false b' lane lanes head e = ap (λ (x : Bool). if x then Err TooLarge else Ok (dealt_head lane lanes head)) e
 
 height_aside : (w h h' d r : Bool) → h ≡ false → h' ≡ false → (w || h' || d || r) ≡ (w || h || d || r)
 height_aside w h h' d r e e' = ap (λ (x : Bool). w || x || d || r) (e' ∙ sym e)
 
-within_limits_dealt : (lane lanes : ℕ) (head : HeadValue) → head.shape.height ≤ MAX_SIDE → within_limits (dealt_head lane lanes head) ≡ dealt_head_result lane lanes (within_limits head)
+within_limits_dealt : (lane lanes : ℕ) (head : HeadValue) → head.shape.height ≤ MAX_SIDE
+    → within_limits (dealt_head lane lanes head) ≡ dealt_head_result lane lanes (within_limits head)
 within_limits_dealt lane lanes head within =
     let s : Shape = head.shape in
     let low : dealt_height lane lanes s.height ≤ s.height = dealt_height_within lane lanes s.height in
     limits_dealt (is_too_large s) (is_too_large (dealt_head lane lanes head).shape) lane lanes head
-    (height_aside (nat_lt MAX_SIDE s.width) (nat_lt MAX_SIDE s.height) (nat_lt MAX_SIDE (dealt_height lane lanes s.height)) (nat_lt MAX_DEPTH s.depth) (nat_lt MAX_ROW_LENGTH (row_length s))
+    (height_aside (nat_lt MAX_SIDE s.width) (nat_lt MAX_SIDE s.height) (nat_lt MAX_SIDE (dealt_height lane lanes s.height)) (nat_lt MAX_DEPTH s.depth)
+    (nat_lt MAX_ROW_LENGTH (row_length s))
     (le-ltb MAX_SIDE s.height within) (le-ltb MAX_SIDE (dealt_height lane lanes s.height) (omega arith)))
 
-either_dealt : (b : Bool) (lane lanes : ℕ) (r r' : Result HeadValue ToolFault) (fault : ToolFault) → r' ≡ dealt_head_result lane lanes r → (if b then r' else Err fault) ≡ dealt_head_result lane lanes (if b then r else Err fault)
+either_dealt : (b : Bool) (lane lanes : ℕ) (r r' : Result HeadValue ToolFault) (fault : ToolFault) → r' ≡ dealt_head_result lane lanes r
+    → (if b then r' else Err fault) ≡ dealt_head_result lane lanes (if b then r else Err fault)
 either_dealt true lane lanes r r' fault same = same
 either_dealt false lane lanes r r' fault same = refl
 
@@ -176,12 +190,14 @@ channel_by_rows planes = record {
   none = λ s rows. refl;
   any_height = λ s height r. refl;
   head = λ lane lanes h is.
-      either_dealt (list_all (λ number. nat_lt number h.shape.depth) planes.numbers) lane lanes (within_limits (picked_head_value planes h)) (within_limits (picked_head_value planes (dealt_head lane lanes h))) ChannelOutside
+      either_dealt (list_all (λ number. nat_lt number h.shape.depth) planes.numbers) lane lanes (within_limits (picked_head_value planes h))
+      (within_limits (picked_head_value planes (dealt_head lane lanes h))) ChannelOutside
       (within_limits_dealt lane lanes (picked_head_value planes h) is.limits.height_high);
 }
 
 -- where rows aren't repeated
-enlarged_once : (across lane lanes : ℕ) (h : HeadValue) → IsHead h → within_limits (enlarged_head_value across 1 (dealt_head lane lanes h)) ≡ dealt_head_result lane lanes (within_limits (enlarged_head_value across 1 h))
+enlarged_once : (across lane lanes : ℕ) (h : HeadValue) → IsHead h → within_limits (enlarged_head_value across 1 (dealt_head lane lanes h))
+    ≡ dealt_head_result lane lanes (within_limits (enlarged_head_value across 1 h))
 enlarged_once across lane lanes h is =
     let height : ℕ = h.shape.height in
     let once : height * 1 ≡ height = omega arith in
@@ -200,12 +216,14 @@ enlarge_by_rows across = record {
 }
 
 -- a head is kept where rows stay in their places
-head_kept : (columns rows exchanged : Bool) (h : HeadValue) → moves_rows (turn columns rows exchanged) ≡ false → turned_head (turn columns rows exchanged) h ≡ Ok h
+head_kept : (columns rows exchanged : Bool) (h : HeadValue) → moves_rows (turn columns rows exchanged) ≡ false
+    → turned_head (turn columns rows exchanged) h ≡ Ok h
 head_kept columns rows true h e = absurd cc
 head_kept columns true false h e = absurd cc
 head_kept columns false false h e = refl
 
-kept_head_dealt : (t : Turn) (lane lanes : ℕ) (h : HeadValue) → moves_rows t ≡ false → turned_head t (dealt_head lane lanes h) ≡ dealt_head_result lane lanes (turned_head t h)
+kept_head_dealt : (t : Turn) (lane lanes : ℕ) (h : HeadValue) → moves_rows t ≡ false
+    → turned_head t (dealt_head lane lanes h) ≡ dealt_head_result lane lanes (turned_head t h)
 kept_head_dealt t lane lanes h stays =
     head_kept t.columns_reversed t.rows_reversed t.exchanged (dealt_head lane lanes h) stays
     ∙ ap (dealt_head_result lane lanes) (sym (head_kept t.columns_reversed t.rows_reversed t.exchanged h stays))
@@ -256,7 +274,8 @@ one_pixel_is_image = record {
   range = All-cons (λ sample. sample ≤ 9) 0 [] (omega arith) (All-nil (λ sample. sample ≤ 9));
 }
 
-refused_whole : (sample : ℕ → ℕ → ℕ → ℕ) (r : Result HeadValue ToolFault) → dealt_result 1 2 (elim r [ Ok head ↦ Ok (image_by head sample) | Err f ↦ Err f ]) ≡ Err OutOfOrder → r ≡ Err OutOfOrder
+refused_whole : (sample : ℕ → ℕ → ℕ → ℕ) (r : Result HeadValue ToolFault) → dealt_result 1 2 (elim r [ Ok head ↦ Ok (image_by head sample) | Err f ↦ Err f ])
+    ≡ Err OutOfOrder → r ≡ Err OutOfOrder
 refused_whole sample (Ok head) e = absurd cc
 refused_whole sample (Err fault) e = let same : fault ≡ OutOfOrder = cc in ap (λ (f : ToolFault). Err f) same
 
@@ -266,8 +285,10 @@ unfolding one_pixel
 not_row_wise tool whole is =
     let part : Image = dealt_image 1 2 one_pixel in
     let no_rows : result_head tool part.head ≡ Err OutOfOrder = no_rows_refused tool part.head whole refl in
-    let refused : applied tool part ≡ Err OutOfOrder = ap (λ (x : Result HeadValue ToolFault). elim x [ Ok head ↦ Ok (image_by head (result_sample tool part)) | Err f ↦ Err f ]) no_rows in
-    let out_of_order : result_head tool one_pixel.head ≡ Err OutOfOrder = refused_whole (result_sample tool one_pixel) (result_head tool one_pixel.head) (sym (is one_pixel 1 2 one_pixel_is_image (omega arith)) ∙ refused) in
+    let refused : applied tool part ≡ Err OutOfOrder =
+    ap (λ (x : Result HeadValue ToolFault). elim x [ Ok head ↦ Ok (image_by head (result_sample tool part)) | Err f ↦ Err f ]) no_rows in
+    let out_of_order : result_head tool one_pixel.head ≡ Err OutOfOrder = refused_whole (result_sample tool one_pixel) (result_head tool one_pixel.head)
+    (sym (is one_pixel 1 2 one_pixel_is_image (omega arith)) ∙ refused) in
     let named = head_is_refused_by_name tool one_pixel.head OutOfOrder out_of_order in
     absurd (omega (arith, named.1))
 

@@ -1,5 +1,6 @@
 -- The samples of an image that is given by a formula, by column, row and plane.
-use Rattle.std.proofs.Common.{◌≡◌, ℕ, zero, suc, ◌+◌, ◌*◌, ◌<◌, ◌≤◌, List, ◌++◌, length, get_or, map, Ok, subst, ap, ◌∙◌, arith, add-mul, mul_assoc, mul-le-mul, suc-mul, zero-mul}
+use Rattle.std.proofs.Common.{◌≡◌, ℕ, zero, suc, ◌+◌, ◌*◌, ◌<◌, ◌≤◌, List, ◌++◌, length, get_or, map, Ok, subst, ap, ◌∙◌, arith, add-mul, mul_assoc, mul-le-mul}
+use Rattle.std.proofs.Common.{suc-mul, zero-mul}
 use Rattle.std.specs.List.{flat_map, range_with_len}
 use Rattle.std.proofs.lemmas.List.{get_or_append_left, get_or-append-add}
 use Rattle.std.proofs.lemmas.List.FromFn.{get_or-map-range_with_len, length-map-range_with_len}
@@ -32,15 +33,18 @@ in_piece f each from (suc count) (suc number) index at long within below is =
     ∙ in_piece f each (from + 1) count number index at long (omega arith) below (omega arith)
 
 -- the sample of an image of a formula
-pub sample_at-image_by : (head : HeadValue) (sample : ℕ → ℕ → ℕ → ℕ) (x y p : ℕ) → x < head.shape.width → y < head.shape.height → p < head.shape.depth → sample_at (image_by head sample) x y p ≡ sample x y p
+pub sample_at-image_by : (head : HeadValue) (sample : ℕ → ℕ → ℕ → ℕ) (x y p : ℕ) → x < head.shape.width → y < head.shape.height → p < head.shape.depth
+    → sample_at (image_by head sample) x y p ≡ sample x y p
 sample_at-image_by head sample x y p column row plane =
     let s : Shape = head.shape in
     let planes : ℕ → List ℕ = λ k. map (λ q. sample k y q) (range_with_len 0 s.depth) in
     let rows : ℕ → List ℕ = λ k. row_by s (λ c q. sample c k q) in
     let in_row : suc x * s.depth ≤ s.width * s.depth = mul-le-mul {n₁ = suc x} {m₁ = s.depth} {n₂ = s.width} {m₂ = s.depth} (omega arith) (omega arith) in
-    let at : (y * s.width + x) * s.depth + p ≡ y * row_length s + (x * s.depth + p) = omega (arith, add-mul (y * s.width) x s.depth, mul_assoc y s.width s.depth) in
+    let at : (y * s.width + x) * s.depth + p ≡ y * row_length s + (x * s.depth + p) =
+    omega (arith, add-mul (y * s.width) x s.depth, mul_assoc y s.width s.depth) in
     ap (λ (n : ℕ). get_or (flat_map rows (range_with_len 0 s.height)) n 0) at
-    ∙ in_piece rows (row_length s) 0 s.height y (x * s.depth + p) y (λ k. length-row_by s (λ c q. sample c k q)) row (omega (arith, in_row, suc-mul x s.depth)) (omega arith)
+    ∙ in_piece rows (row_length s) 0 s.height y (x * s.depth + p) y (λ k. length-row_by s (λ c q. sample c k q)) row (omega (arith, in_row, suc-mul x s.depth))
+    (omega arith)
     ∙ in_piece planes s.depth 0 s.width x p x (λ k. length-map-range_with_len (λ q. sample k y q) 0 s.depth) column plane (omega arith)
     ∙ get_or-map-range_with_len (λ q. sample x y q) 0 s.depth p p 0 plane (omega arith)
 
@@ -48,7 +52,8 @@ by_the_formula : (head : HeadValue) (sample : ℕ → ℕ → ℕ → ℕ) → I
 by_the_formula head sample = record { count = length-image_by head sample; samples = sample_at-image_by head sample }
 
 -- the result of a tool has the head of its rule and the samples of its formula
-pub result_is_by_the_formula : (tool : Tool) (i j : Image) → applied tool i ≡ Ok j → (result_head tool i.head ≡ Ok j.head) × IsByTheFormula j (result_sample tool i)
+pub result_is_by_the_formula : (tool : Tool) (i j : Image) → applied tool i ≡ Ok j → (result_head tool i.head ≡ Ok j.head)
+    × IsByTheFormula j (result_sample tool i)
 result_is_by_the_formula tool i j e =
     let made = result_by_head tool i j e in
     (made.head, subst (λ (k : Image). IsByTheFormula k (result_sample tool i)) made.whole (by_the_formula j.head (result_sample tool i)))

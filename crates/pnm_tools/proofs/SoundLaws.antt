@@ -1,4 +1,4 @@
--- Lists of messages without Stop, of images that have rows: how they end, their fronts, and what completes them.
+-- Lists of messages without Stop, of images that have rows: how they end, their prefixes, and what completes them.
 use Rattle.std.proofs.Common.{◌≡◌, inl, inr, ℕ, ◌<◌, List, [], ◌∷◌, ◌++◌, map, Result, Ok, Err, refl, sym, ap, subst, ◌∙◌, append_assoc}
 use Rattle.std.specs.List.{AllByRecursion}
 use Rattle.pnm_image.specs.declared.message.Message.{Message}
@@ -8,13 +8,13 @@ use Rattle.pnm_image.specs.Heads.{HeadValue}
 use Rattle.pnm_image.specs.Messages.{without_stop}
 use Rattle.pnm_image.specs.Places.{IsLawfulFrom, place_after}
 use Rattle.pnm_image.specs.Images.{Image, IsImage, AreImages, rows_of, messages_of_image, messages_of_stream}
-use Rattle.pnm_image.specs.Completion.{IsFrontOf}
+use Rattle.pnm_image.specs.Completion.{IsPrefixOf}
 use Rattle.pnm_tools.specs.declared.fault.ToolFault.{ToolFault}
 use Rattle.pnm_tools.specs.declared.tool.Tool.{Tool}
 use Rattle.pnm_tools.specs.Tools.{IsLawfulTool, applied, output_due}
 use Rattle.pnm_tools.specs.Answers.{Ending, More, Whole, BrokenOff, ending_of, EndsBy}
 use Rattle.pnm_tools.specs.ChainAnswers.{IsSound}
-use Rattle.pnm_tools.proofs.AnsweringLaws.{Fronts, fronts, due_by, due_is}
+use Rattle.pnm_tools.proofs.AnsweringLaws.{Prefixes, prefixes, due_by, due_is}
 use Rattle.pnm_tools.proofs.ResultLaws.{result_is_image, result_has_rows}
 
 -- ---- ends
@@ -64,7 +64,7 @@ sound_keeps_all (ImageEnd ∷ l) sound = ap (λ (x : List Message). ImageEnd ∷
 sound_keeps_all (StreamEnd ∷ l) sound = ap (λ (x : List Message). StreamEnd ∷ x) (sound_keeps_all l sound.1)
 sound_keeps_all (Stop ∷ l) sound = absurd sound.0
 
--- ---- fronts
+-- ---- prefixes
 
 all_of_rest : (P : Message → Type 0) (a b : List Message) → AllByRecursion P (a ++ b) → AllByRecursion P b
 all_of_rest P [] b all = all
@@ -74,9 +74,9 @@ pub both_all : {A : Type 0} (P : A → Type 0) (a b : List A) → AllByRecursion
 both_all P [] b first second = second
 both_all P (m ∷ a) b first second = (first.0, both_all P a b first.1 second)
 
--- the same messages before both
-pub front_after : (ms front whole : List Message) → IsFrontOf front whole → IsFrontOf (ms ++ front) (ms ++ whole)
-front_after ms front whole f = (f.0, ap (λ (l : List Message). ms ++ l) f.1 ∙ sym (append_assoc ms front f.0))
+-- messages before both keep a prefix
+pub prefix_after : (ms prefix whole : List Message) → IsPrefixOf prefix whole → IsPrefixOf (ms ++ prefix) (ms ++ whole)
+prefix_after ms prefix whole f = (f.0, ap (λ (l : List Message). ms ++ l) f.1 ∙ sym (append_assoc ms prefix f.0))
 
 -- ---- images that have rows
 
@@ -91,19 +91,25 @@ pub stream_is_sound : (is : List Image) → AllByRecursion HasRows is → AllByR
 stream_is_sound [] have = (tt, tt)
 stream_is_sound (i ∷ is) have = both_all IsSound (messages_of_image i) (messages_of_stream is) (have.0, rows_are_sound (rows_of i)) (stream_is_sound is have.1)
 
--- messages are a front of those of images that have rows
+-- messages are a prefix of those of images that have rows
 abbrev pub HasSoundImages : List Message → Type 0
-HasSoundImages l = (is : List Image) × AreImages is × AllByRecursion HasRows is × IsFrontOf l (messages_of_stream is)
+HasSoundImages l = (is : List Image) × AreImages is × AllByRecursion HasRows is × IsPrefixOf l (messages_of_stream is)
 
 -- messages within the first image, or beyond it
 sound_beyond : (i : Image) (is : List Image) (l rest : List Message) → IsImage i → HasRows i → AllByRecursion IsSound l
-    → ((more : List Message) → messages_of_stream is ≡ more ++ rest → AllByRecursion IsSound more → HasSoundImages more) → Fronts (messages_of_image i) (messages_of_stream is) l rest → HasSoundImages l
+    → ((more : List Message) → messages_of_stream is ≡ more ++ rest → AllByRecursion IsSound more → HasSoundImages more)
+    → Prefixes (messages_of_image i) (messages_of_stream is) l rest → HasSoundImages l
 sound_beyond i is l rest image rows sound others (inl h) =
     (i ∷ [], (image, tt), (rows, tt), (h.0 ++ StreamEnd ∷ [], ap (λ (x : List Message). x ++ StreamEnd ∷ []) h.1 ∙ append_assoc l h.0 (StreamEnd ∷ [])))
 sound_beyond i is l rest image rows sound others (inr h) =
     let more : List Message = h.0 in
-    let left = others more h.2 (all_of_rest IsSound (messages_of_image i) more (subst (AllByRecursion IsSound) h.1 sound)) in
-    (i ∷ left.0, (image, left.1), (rows, left.2), subst (λ (x : List Message). IsFrontOf x (messages_of_stream (i ∷ left.0))) (sym h.1) (front_after (messages_of_image i) more (messages_of_stream left.0) left.3))
+    let left = others more h.2 (all_of_rest IsSound (messages_of_image i) more (subst (AllByRecursion IsSound) h.1 sound)) in (
+      i ∷ left.0,
+      (image, left.1),
+      (rows, left.2),
+      subst (λ (x : List Message). IsPrefixOf x (messages_of_stream (i ∷ left.0))) (sym h.1)
+          (prefix_after (messages_of_image i) more (messages_of_stream left.0) left.3),
+    )
 
 -- of images that complete messages whose heads have rows, those that have begun do so too
 pub sound_images : (is : List Image) (l rest : List Message) → AreImages is → messages_of_stream is ≡ l ++ rest → AllByRecursion IsSound l → HasSoundImages l
@@ -112,19 +118,26 @@ sound_images (i ∷ is) [] rest are e sound = ([], tt, tt, (StreamEnd ∷ [], re
 sound_images (i ∷ is) (Begin head ∷ l) rest are e sound =
     let same : i.head ≡ head = cc in
     let rows : HasRows i = subst (λ (h : HeadValue). 0 < h.shape.height) (sym same) sound.0 in
-    sound_beyond i is (Begin head ∷ l) rest are.0 rows sound (λ more f s. sound_images is more rest are.1 f s) (fronts (messages_of_image i) (messages_of_stream is) (Begin head ∷ l) rest e)
+    sound_beyond i is (Begin head ∷ l) rest are.0 rows sound (λ more f s. sound_images is more rest are.1 f s)
+    (prefixes (messages_of_image i) (messages_of_stream is) (Begin head ∷ l) rest e)
 sound_images (i ∷ is) (Row row ∷ l) rest are e sound = absurd cc
 sound_images (i ∷ is) (ImageEnd ∷ l) rest are e sound = absurd cc
 sound_images (i ∷ is) (StreamEnd ∷ l) rest are e sound = absurd cc
 sound_images (i ∷ is) (Stop ∷ l) rest are e sound = absurd cc
 
 -- the output due for images that have rows
-due_of_first : (tool : Tool) (i : Image) (is : List Image) (r : Result Image ToolFault) → IsLawfulTool tool → IsImage i → HasRows i → applied tool i ≡ r → HasSoundImages (output_due tool is) → HasSoundImages (due_by tool is r)
+due_of_first : (tool : Tool) (i : Image) (is : List Image) (r : Result Image ToolFault) → IsLawfulTool tool → IsImage i → HasRows i → applied tool i ≡ r
+    → HasSoundImages (output_due tool is) → HasSoundImages (due_by tool is r)
 due_of_first tool i is (Err fault) lawful image rows made others = ([], tt, tt, (StreamEnd ∷ [], refl))
-due_of_first tool i is (Ok j) lawful image rows made others =
-    (j ∷ others.0, (result_is_image tool i j lawful image made, others.1), (result_has_rows tool i j lawful image rows made, others.2), front_after (messages_of_image j) (output_due tool is) (messages_of_stream others.0) others.3)
+due_of_first tool i is (Ok j) lawful image rows made others = (
+  j ∷ others.0,
+  (result_is_image tool i j lawful image made, others.1),
+  (result_has_rows tool i j lawful image rows made, others.2),
+  prefix_after (messages_of_image j) (output_due tool is) (messages_of_stream others.0) others.3,
+)
 
 pub due_is_sound : (tool : Tool) (is : List Image) → IsLawfulTool tool → AreImages is → AllByRecursion HasRows is → HasSoundImages (output_due tool is)
 unfolding output_due
 due_is_sound tool [] lawful are have = ([], tt, tt, ([], refl))
-due_is_sound tool (i ∷ is) lawful are have = subst HasSoundImages (sym (due_is tool i is)) (due_of_first tool i is (applied tool i) lawful are.0 have.0 refl (due_is_sound tool is lawful are.1 have.1))
+due_is_sound tool (i ∷ is) lawful are have =
+    subst HasSoundImages (sym (due_is tool i is)) (due_of_first tool i is (applied tool i) lawful are.0 have.0 refl (due_is_sound tool is lawful are.1 have.1))

@@ -24,20 +24,23 @@ none_before_end across down s y (row ∷ rows) = none_before_end across down s (
 
 -- a row of an image by its number
 row_is : (i : Image) (y : ℕ) → y < i.head.shape.height → slice_index_or (rows_of i) y [] ≡ row_at i y
-row_is i y lt = ap (λ (rows : List (List ℕ)). slice_index_or rows y []) (rows_are i) ∙ get_or-map-range_with_len (row_at i) 0 i.head.shape.height y y [] lt (omega arith)
+row_is i y lt = ap (λ (rows : List (List ℕ)). slice_index_or rows y []) (rows_are i) ∙ get_or-map-range_with_len (row_at i) 0 i.head.shape.height y y [] lt
+    (omega arith)
 
 -- the rows of the result
 rows_are_tiled : (across down : ℕ) (i : Image) → 0 < i.head.shape.height → IsImage i
     → tiled_at_end across down i.head.shape (rows_of i) ≡ rows_of (image_by (tiled_head_value across down i.head) (tiled_sample i))
 rows_are_tiled across down i high is =
     let s : Shape = i.head.shape in
-    range_alike (λ y. tiled_row across s.width s.depth (slice_index_or (rows_of i) (y % s.height) [])) (λ y. tiled_row across s.width s.depth (row_at i (y % s.height))) 0 down (λ y lt.
+    range_alike (λ y. tiled_row across s.width s.depth (slice_index_or (rows_of i) (y % s.height) []))
+    (λ y. tiled_row across s.width s.depth (row_at i (y % s.height))) 0 down (λ y lt.
     ap (tiled_row across s.width s.depth) (row_is i (y % s.height) (mod-lt y high)))
     ∙ sym (rows_by_pixels i across down (λ x. x % s.width) (λ y. y % s.height) is (λ x lt. mod-lt x is.head.limits.width_low) (λ y lt. mod-lt y high))
 
 -- the answers are the rows of the result
 answer_is : (across down : ℕ) (i : Image) (result : HeadValue) → IsImage i → result_head (Tile across down) i.head ≡ Ok result
-    → answers_to_rows (Tile across down) i.head.shape 0 (rows_of i) ++ tiled_at_end across down i.head.shape (rows_of i) ≡ rows_of (image_by result (result_sample (Tile across down) i))
+    → answers_to_rows (Tile across down) i.head.shape 0 (rows_of i) ++ tiled_at_end across down i.head.shape (rows_of i)
+    ≡ rows_of (image_by result (result_sample (Tile across down) i))
 unfolding result_sample
 answer_is across down i result is e =
     let whole = is_tiled across down i.head result e in

@@ -32,7 +32,8 @@ place_within true n k lt = omega arith
 place_within false n k lt = lt
 
 -- what is made of each number of a range, in either order
-pub in_order_by_places : {A : Type 0} (b : Bool) (f : ℕ → A) (n : ℕ) → in_order b (map f (range_with_len 0 n)) ≡ map (λ k. f (place_in b n k)) (range_with_len 0 n)
+pub in_order_by_places : {A : Type 0} (b : Bool) (f : ℕ → A) (n : ℕ) → in_order b (map f (range_with_len 0 n)) ≡ map (λ k. f (place_in b n k))
+    (range_with_len 0 n)
 in_order_by_places true f n = sym (downward f n)
 in_order_by_places false f n = refl
 
@@ -53,5 +54,6 @@ pub row_moved : (way : FlipWay) (s : Shape) (y : ℕ) (row : List ℕ) → moves
 row_moved way s y row moves = row_of_flip way s y row ∙ ap (λ (b : Bool). if b then [] else turned_row (turn_of way) s row ∷ []) moves
 
 -- where they stay each is answered by itself, mirrored or not
-pub row_stays : (way : FlipWay) (s : Shape) (y : ℕ) (row : List ℕ) → moves_rows (turn_of way) ≡ false → row_answer (Flip way) s y row ≡ turned_row (turn_of way) s row ∷ []
+pub row_stays : (way : FlipWay) (s : Shape) (y : ℕ) (row : List ℕ) → moves_rows (turn_of way) ≡ false
+    → row_answer (Flip way) s y row ≡ turned_row (turn_of way) s row ∷ []
 row_stays way s y row stays = row_of_flip way s y row ∙ ap (λ (b : Bool). if b then [] else turned_row (turn_of way) s row ∷ []) stays

@@ -9,17 +9,22 @@ pub record Changed {X : Type 0} (value computed : X → ℕ) (i : ℕ) (old new 
 
 -- a sample that hasn't passed
 pub unchanged_at : {X : Type 0} (i : ℕ) (old new : List X) (d : X) → drop i new ≡ drop i old → get_or new i d ≡ get_or old i d
-unchanged_at i old new d rest = ap (λ (n : ℕ). get_or new n d) (omega arith) ∙ sym (get_or-drop i new 0 d) ∙ ap (λ l. get_or l 0 d) rest ∙ get_or-drop i old 0 d ∙ ap (λ (n : ℕ). get_or old n d) (omega arith)
+unchanged_at i old new d rest = ap (λ (n : ℕ). get_or new n d) (omega arith) ∙ sym (get_or-drop i new 0 d) ∙ ap (λ l. get_or l 0 d) rest ∙ get_or-drop i old 0 d
+    ∙ ap (λ (n : ℕ). get_or old n d) (omega arith)
 
 -- one more has passed
-pub changed_more : {X : Type 0} (value computed : X → ℕ) (i : ℕ) (old new : List X) (x d : X) → i < length new → length new ≡ length old → value x ≡ computed (get_or new i d) → Changed value computed i old new → Changed value computed (i + 1) old (set new i x)
+pub changed_more : {X : Type 0} (value computed : X → ℕ) (i : ℕ) (old new : List X) (x d : X) → i < length new → length new ≡ length old
+    → value x ≡ computed (get_or new i d) → Changed value computed i old new → Changed value computed (i + 1) old (set new i x)
 changed_more value computed i old new x d lt size is h =
     let both = sym (drop_more new i d lt) ∙ h.rest ∙ drop_more old i d (omega arith) in
     record {
-      done = ap (map value) (take_more_set new i x lt) ∙ map_push value (take i new) x ∙ ap₂ (λ (l : List ℕ) (n : ℕ). l ++ n ∷ []) h.done (is ∙ ap computed (unchanged_at i old new d h.rest)) ∙ sym (map_push computed (take i old) (get_or old i d)) ∙ ap (map computed) (sym (take_more old i d (omega arith)));
+      done = ap (map value) (take_more_set new i x lt) ∙ map_push value (take i new) x
+          ∙ ap₂ (λ (l : List ℕ) (n : ℕ). l ++ n ∷ []) h.done (is ∙ ap computed (unchanged_at i old new d h.rest))
+          ∙ sym (map_push computed (take i old) (get_or old i d)) ∙ ap (map computed) (sym (take_more old i d (omega arith)));
       rest = drop-set-lt (i + 1) new i x (omega arith) ∙ ap (drop 1) both;
     }
 
 -- all have passed
-pub changed_all : {X : Type 0} (value computed : X → ℕ) (i : ℕ) (old new : List X) → length new ≤ i → length new ≡ length old → Changed value computed i old new → map value new ≡ map computed old
+pub changed_all : {X : Type 0} (value computed : X → ℕ) (i : ℕ) (old new : List X) → length new ≤ i → length new ≡ length old → Changed value computed i old new
+    → map value new ≡ map computed old
 changed_all value computed i old new le size h = ap (map value) (sym (take_all i new le)) ∙ h.done ∙ ap (map computed) (take_all i old (omega arith))

@@ -20,7 +20,8 @@ pub record IsWithin (head result : HeadValue) : Type 0 where
   pub result_is : head ≡ result
 
 -- what the test of the limits has found
-within_by : (too_large : Bool) (head result : HeadValue) → is_too_large head.shape ≡ too_large → ◌≡◌ {A = Result HeadValue ToolFault} (if too_large then Err TooLarge else Ok head) (Ok result) → IsWithin head result
+within_by : (too_large : Bool) (head result : HeadValue) → is_too_large head.shape ≡ too_large
+    → ◌≡◌ {A = Result HeadValue ToolFault} (if too_large then Err TooLarge else Ok head) (Ok result) → IsWithin head result
 within_by true head result is e = absurd cc
 within_by false head result is e = record { limits = is; result_is = cc }
 
@@ -39,10 +40,12 @@ in_order true r result e = absurd cc
 in_order false r result e = record { in_order = refl; same = e }
 
 -- the head of an enlarged image
-pub is_enlarged : (across down : ℕ) (head result : HeadValue) → result_head (Enlarge across down) head ≡ Ok result → IsWithin (enlarged_head_value across down head) result
+pub is_enlarged : (across down : ℕ) (head result : HeadValue) → result_head (Enlarge across down) head ≡ Ok result
+    → IsWithin (enlarged_head_value across down head) result
 unfolding result_head
 is_enlarged across down head result e =
-    is_within (enlarged_head_value across down head) result (in_order (not (down == 1) && (head.shape.height == 0)) (within_limits (enlarged_head_value across down head)) result e).same
+    is_within (enlarged_head_value across down head) result
+    (in_order (not (down == 1) && (head.shape.height == 0)) (within_limits (enlarged_head_value across down head)) result e).same
 
 -- an image with rows, whose result has a head within the limits
 pub record IsWhole (head made result : HeadValue) : Type 0 where
@@ -50,11 +53,15 @@ pub record IsWhole (head made result : HeadValue) : Type 0 where
   pub within : IsWithin made result
 
 -- the head of a tiled image
-pub is_tiled : (across down : ℕ) (head result : HeadValue) → result_head (Tile across down) head ≡ Ok result → IsWhole head (tiled_head_value across down head) result
+pub is_tiled : (across down : ℕ) (head result : HeadValue) → result_head (Tile across down) head ≡ Ok result
+    → IsWhole head (tiled_head_value across down head) result
 unfolding result_head
 is_tiled across down head result e =
     let order = in_order (head.shape.height == 0) (within_limits (tiled_head_value across down head)) result e in
-    record { some_rows = pos_of_ne-zero (eqb-false head.shape.height 0 order.in_order); within = is_within (tiled_head_value across down head) result order.same }
+    record {
+      some_rows = pos_of_ne-zero (eqb-false head.shape.height 0 order.in_order);
+      within = is_within (tiled_head_value across down head) result order.same;
+    }
 
 -- the head of a flipped image is what the rule makes of the head; where columns and rows are exchanged the image has rows,
 -- and the result is within the limits
@@ -63,7 +70,8 @@ pub record IsTurned (t : Turn) (head result : HeadValue) : Type 0 where
   pub some_rows : t.exchanged ≡ true → 0 < head.shape.height
   pub limits : t.exchanged ≡ true → is_too_large (transposed_head_value head).shape ≡ false
 
-turned_by : (columns rows exchanged : Bool) (head result : HeadValue) → turned_head (turn columns rows exchanged) head ≡ Ok result → IsTurned (turn columns rows exchanged) head result
+turned_by : (columns rows exchanged : Bool) (head result : HeadValue) → turned_head (turn columns rows exchanged) head ≡ Ok result
+    → IsTurned (turn columns rows exchanged) head result
 turned_by columns rows true head result e =
     let order = in_order (head.shape.height == 0) (within_limits (transposed_head_value head)) result e in
     let within = is_within (transposed_head_value head) result order.same in

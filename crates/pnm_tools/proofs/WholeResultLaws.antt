@@ -16,7 +16,8 @@ use Rattle.pnm_tools.proofs.WholeHeadLaws.{IsTurned, is_enlarged, is_tiled, is_t
 use Rattle.pnm_tools.proofs.TurnLaws.{flipped_is_turned}
 
 -- a head with other sizes is a head, where they are within the limits
-resized_is : (width height : ℕ) (head : HeadValue) → 0 < width → IsHead head → is_too_large (resized width height head).shape ≡ false → IsHead (resized width height head)
+resized_is : (width height : ℕ) (head : HeadValue) → 0 < width → IsHead head → is_too_large (resized width height head).shape ≡ false
+    → IsHead (resized width height head)
 resized_is width height head some sound fits =
     let s : Shape = head.shape in
     let limits = sound.limits in
@@ -48,9 +49,11 @@ enlarged_is_image across down i j wide is e =
     let made = result_by_head (Enlarge across down) i j e in
     let s : Shape = i.head.shape in
     let within = is_enlarged across down i.head j.head made.head in
-    let sound = resized_is (s.width * across) (s.height * down) i.head (mul-pos {m = s.width} {n = across} is.head.limits.width_low wide) is.head within.limits in
+    let sound = resized_is (s.width * across) (s.height * down) i.head (mul-pos {m = s.width} {n = across} is.head.limits.width_low wide) is.head
+    within.limits in
     made_is_image (Enlarge across down) i j made (subst IsHead within.result_is sound)
-    (λ x y p. subst (λ (h : HeadValue). result_sample (Enlarge across down) i x y p ≤ h.shape.maxval) within.result_is (enlarged_in_range across down i x y p is))
+    (λ x y p. subst (λ (h : HeadValue). result_sample (Enlarge across down) i x y p ≤ h.shape.maxval) within.result_is
+    (enlarged_in_range across down i x y p is))
 
 -- an enlarged image of rows has rows
 pub enlarged_has_rows : (across down : ℕ) (i j : Image) → 1 ≤ down → 0 < i.head.shape.height → applied (Enlarge across down) i ≡ Ok j → 0 < j.head.shape.height
@@ -63,7 +66,8 @@ enlarged_has_rows across down i j high rows e =
 -- the samples of a flipped image are those of the image
 flipped_in_range : (way : FlipWay) (i : Image) (x y p : ℕ) → IsImage i → result_sample (Flip way) i x y p ≤ i.head.shape.maxval
 unfolding result_sample
-flipped_in_range way i x y p is = subst (λ (sample : ℕ → ℕ → ℕ → ℕ). sample x y p ≤ i.head.shape.maxval) (sym (flipped_is_turned way i)) (sample_in_range i _ _ p is)
+flipped_in_range way i x y p is = subst (λ (sample : ℕ → ℕ → ℕ → ℕ). sample x y p ≤ i.head.shape.maxval) (sym (flipped_is_turned way i))
+    (sample_in_range i _ _ p is)
 
 -- the flipped head: it is a head, the samples' range is kept, and there are rows
 record IsFlipped (head result : HeadValue) : Type 0 where
@@ -81,7 +85,8 @@ same_head head result sound same =
     }
 
 -- the head of each rule
-flipped_by : (columns rows exchanged : Bool) (head result : HeadValue) → IsHead head → IsTurned (turn columns rows exchanged) head result → IsFlipped head result
+flipped_by : (columns rows exchanged : Bool) (head result : HeadValue) → IsHead head → IsTurned (turn columns rows exchanged) head result
+    → IsFlipped head result
 flipped_by columns rows true head result sound is =
     let s : Shape = head.shape in
     record {
@@ -101,7 +106,8 @@ pub flipped_is_image : (way : FlipWay) (i j : Image) → IsImage i → applied (
 flipped_is_image way i j is e =
     let made = result_by_head (Flip way) i j e in
     let flipped = is_flipped way i.head j.head is.head made.head in
-    made_is_image (Flip way) i j made flipped.header (λ x y p. subst (λ (maxval : ℕ). result_sample (Flip way) i x y p ≤ maxval) flipped.range (flipped_in_range way i x y p is))
+    made_is_image (Flip way) i j made flipped.header
+    (λ x y p. subst (λ (maxval : ℕ). result_sample (Flip way) i x y p ≤ maxval) flipped.range (flipped_in_range way i x y p is))
 
 -- a flipped image of rows has rows
 pub flipped_has_rows : (way : FlipWay) (i j : Image) → IsImage i → 0 < i.head.shape.height → applied (Flip way) i ≡ Ok j → 0 < j.head.shape.height

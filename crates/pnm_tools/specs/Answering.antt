@@ -27,21 +27,22 @@ rows_come rows [] = rows
 rows_come rows (m ∷ ms) = rows_come (rows_after rows m) ms
 
 -- the messages that answer one message, at a place, where these rows of the image have come
-abbrev pub answered : Tool → Place → List (List ℕ) → Message → List Message
-answered tool place rows (Begin head) = elim (result_head tool head) [
+abbrev pub answers_at : Tool → Place → List (List ℕ) → Message → List Message
+answers_at tool place rows (Begin head) = elim (result_head tool head) [
   | Ok result ↦ Begin result ∷ []
   | Err fault ↦ []
 ]
-answered tool Between rows (Row row) = []
-answered tool (Inside s y) rows (Row row) = map Row (row_answer tool s y row)
-answered tool After rows (Row row) = []
-answered tool Between rows ImageEnd = ImageEnd ∷ []
-answered tool (Inside s y) rows ImageEnd = map Row (end_answer tool s rows) ++ ImageEnd ∷ []
-answered tool After rows ImageEnd = ImageEnd ∷ []
-answered tool place rows StreamEnd = StreamEnd ∷ []
-answered tool place rows Stop = Stop ∷ []
+answers_at tool Between rows (Row row) = []
+answers_at tool (Inside s y) rows (Row row) = map Row (row_answer tool s y row)
+answers_at tool After rows (Row row) = []
+answers_at tool Between rows ImageEnd = ImageEnd ∷ []
+answers_at tool (Inside s y) rows ImageEnd = map Row (end_answer tool s rows) ++ ImageEnd ∷ []
+answers_at tool After rows ImageEnd = ImageEnd ∷ []
+answers_at tool place rows StreamEnd = StreamEnd ∷ []
+answers_at tool place rows Stop = Stop ∷ []
 
 -- the messages that answer messages from a place on, where these rows of the image have come
-abbrev pub answered_from : Tool → Place → List (List ℕ) → List Message → List Message
-answered_from tool place rows [] = []
-answered_from tool place rows (m ∷ ms) = answered tool place rows m ++ answered_from tool (place_after place m) (rows_after rows m) ms
+abbrev pub answers_from : Tool → Place → List (List ℕ) → List Message → List Message
+answers_from tool place rows [] = []
+answers_from tool place rows (m ∷ ms) = answers_at tool place rows m ++ answers_from tool (place_after place m)
+    (rows_after rows m) ms

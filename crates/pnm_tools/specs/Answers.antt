@@ -8,11 +8,12 @@ use Rattle.pnm_image.specs.Heads.{HeadValue}
 use Rattle.pnm_image.specs.Images.{Image, AreImages, messages_of_image, messages_of_stream}
 use Rattle.pnm_image.specs.Messages.{without_stop}
 use Rattle.pnm_image.specs.Places.{Accepts, IsLawful, place_of}
-use Rattle.pnm_image.specs.Completion.{IsFrontOf, Completes}
+use Rattle.pnm_image.specs.Completion.{IsPrefixOf, Completes}
 use Rattle.pnm_tools.specs.declared.fault.ToolFault.{ToolFault}
-use Rattle.pnm_tools.specs.declared.fault.ToolFault.TheVariants.{CutOutside, ChannelOutside, TooLarge, OutOfOrder, Memory}
+use Rattle.pnm_tools.specs.declared.fault.ToolFault.TheVariants.{CutOutside, ChannelOutside, TooLarge, OutOfOrder}
+use Rattle.pnm_tools.specs.declared.fault.ToolFault.TheVariants.{Memory}
 use Rattle.pnm_tools.specs.declared.tool.Tool.{Tool}
-use Rattle.pnm_tools.specs.Tools.{result_head, Takes, AreTaken, applied, output_due}
+use Rattle.pnm_tools.specs.Tools.{result_head, TakesHead, AreTaken, applied, output_due}
 
 -- how a list of messages ends: it doesn't, whole, or broken off
 pub data Ending : Type 0 where
@@ -52,30 +53,31 @@ abbrev pub begun_in : List Message → Bool
 begun_in l = begun_of (place_of Between (without_stop l))
 
 -- what is owed once so many images have ended: all of their results, and the head of the next one's where it has begun
-unfoldable pub owed : Tool → ℕ → Bool → List Image → List Message
-owed tool ended begun [] = []
-owed tool zero false (i ∷ is) = []
-owed tool zero true (i ∷ is) = elim (result_head tool i.head) [
+unfoldable pub answers_owed : Tool → ℕ → Bool → List Image → List Message
+answers_owed tool ended begun [] = []
+answers_owed tool zero false (i ∷ is) = []
+answers_owed tool zero true (i ∷ is) = elim (result_head tool i.head) [
   | Ok head ↦ Begin head ∷ []
   | Err fault ↦ []
 ]
-owed tool (suc ended) begun (i ∷ is) = elim (applied tool i) [
-  | Ok j ↦ messages_of_image j ++ owed tool ended begun is
+answers_owed tool (suc ended) begun (i ∷ is) = elim (applied tool i) [
+  | Ok j ↦ messages_of_image j ++ answers_owed tool ended begun is
   | Err fault ↦ []
 ]
 
--- what was given for the messages that were accepted: a front of the output due, whatever images complete them; it is
+-- what was given for the messages that were accepted: a prefix of the output due, whatever images complete them; it is
 -- broken off only where they are
 pub record Answers (tool : Tool) (accepted given : List Message) : Type 0 where
   pub lawful : IsLawful accepted
-  pub front : (is : List Image) → Completes is accepted → IsFrontOf (without_stop given) (output_due tool is)
-  pub stop : (front : List Message) → given ≡ front ++ Stop ∷ [] → EndsBy BrokenOff accepted
+  pub prefix : (is : List Image) → Completes is accepted → IsPrefixOf (without_stop given) (output_due tool is)
+  pub stop : (prefix : List Message) → given ≡ prefix ++ Stop ∷ [] → EndsBy BrokenOff accepted
 
 -- and no image was refused, and all that is owed was given, with the same end
 pub record AnswersInFull (tool : Tool) (accepted given : List Message) : Type 0 where
   pub answers : Answers tool accepted given
   pub taken : AreTaken tool accepted
-  pub all : (is : List Image) → Completes is accepted → IsFrontOf (owed tool (images_ended accepted) (begun_in accepted) is) given
+  pub all : (is : List Image) → Completes is accepted
+      → IsPrefixOf (answers_owed tool (images_ended accepted) (begun_in accepted) is) given
   pub ends : (e : Ending) → EndsBy e accepted → EndsBy e given
 
 -- ---- what a message that is fed meets
@@ -93,7 +95,7 @@ MayCome all_given accepted m = (all_given ≡ true) × Accepts (place_of Between
 
 -- the tool takes the image that begins
 abbrev pub Begins : Tool → Message → Type 0
-Begins tool m = IfBegin m (Takes tool)
+Begins tool m = IfBegin m (TakesHead tool)
 
 -- the tool refuses it so
 abbrev pub RefusesHead : Tool → Message → ToolFault → Type 0
@@ -124,5 +126,6 @@ AreResults tool (i ∷ is) (j ∷ js) = (applied tool i ≡ Ok j) × AreResults 
 -- a full answer to a stream is the tool's stream
 abbrev pub FullAnswerIsTheStream : Type 0
 FullAnswerIsTheStream =
-    (tool : Tool) (is : List Image) (given : List Message) → AreImages is → AnswersInFull tool (messages_of_stream is) given
+    (tool : Tool) (is : List Image) (given : List Message) → AreImages is
+    → AnswersInFull tool (messages_of_stream is) given
     → (js : List Image) × AreResults tool is js × (given ≡ messages_of_stream js)

@@ -38,7 +38,8 @@ pub record HasRefused (tool : Tool) (fault : ToolFault) (received given : List M
   pub parts : received ≡ accepted ++ rest
   pub taken : AreTaken tool accepted
   pub answers : Answers tool accepted given
-  pub refused : ((fault ≡ Memory) × EndsBy More given) ⊎ (AnswersInFull tool accepted given × IsRefusedNext tool fault accepted rest)
+  pub refused : ((fault ≡ Memory) × EndsBy More given)
+      ⊎ (AnswersInFull tool accepted given × IsRefusedNext tool fault accepted rest)
 
 -- what a stage has given for what it received, by its fault
 abbrev pub HasAnswered : Tool → Option ToolFault → List Message → List Message → Type 0
@@ -50,7 +51,8 @@ abbrev pub HaveAnswered : List Tool → List (Option ToolFault) → List Message
 HaveAnswered [] [] received given = given ≡ received
 HaveAnswered [] (fault ∷ faults) received given = ⊥
 HaveAnswered (tool ∷ tools) [] received given = ⊥
-HaveAnswered (tool ∷ tools) (fault ∷ faults) received given = (middle : List Message) × HasAnswered tool fault received middle × HaveAnswered tools faults middle given
+HaveAnswered (tool ∷ tools) (fault ∷ faults) received given = (middle : List Message)
+    × HasAnswered tool fault received middle × HaveAnswered tools faults middle given
 
 -- no stage has refused
 abbrev pub AreWell : List (Option ToolFault) → Type 0

@@ -56,8 +56,8 @@ pub record Refusal : Type 0 where
   pub number : ℕ
   pub fault : ToolFault
 
--- the refusal of the first tool that refuses one of the images which the tools before it made, none of which refused one;
--- the first tool has this number
+-- the refusal of the first tool that refuses one of the images which the tools before it made, none of which refused
+-- one; the first tool has this number
 abbrev pub refusal_from : ℕ → List Tool → List Image → Option Refusal
 refusal_from number [] is = None
 refusal_from number (tool ∷ tools) is = elim (results_of tool is) [
@@ -65,6 +65,6 @@ refusal_from number (tool ∷ tools) is = elim (results_of tool is) [
   | Err fault ↦ Some (record { number = number; fault = fault })
 ]
 
--- the same, of a chain whose tools are numbered from 1
+-- the refusal of a chain whose tools are numbered from 1
 abbrev pub refusal_of : List Tool → List Image → Option Refusal
 refusal_of tools is = refusal_from 1 tools is

@@ -1,6 +1,7 @@
 -- The picked image, from pamchannel(1): a PAM image of planes of the image, in the order in which they are named. Its
 -- tuple type is the one that is named.
-use Rattle.std.specs.Prelude.{◌≤◌, ◌<◌, ℕ, ◌+◌, ◌-◌, ◌*◌, List, length, map, slice_index, slice_index_or, All, Result, Err, if◌then◌else◌, nat_lt, true, [], ◌∷◌}
+use Rattle.std.specs.Prelude.{◌≤◌, ◌<◌, ℕ, ◌+◌, ◌-◌, ◌*◌, List, length, map, slice_index, slice_index_or, All, Result}
+use Rattle.std.specs.Prelude.{Err, if◌then◌else◌, nat_lt, true, [], ◌∷◌}
 use Rattle.std.specs.List.{flat_map, range_with_len, list_all}
 use Rattle.pnm_image.specs.declared.limits.TheConstants.{MAX_DEPTH}
 use Rattle.pnm_image.specs.declared.shape.Kind.TheVariants.{Pam}
@@ -28,12 +29,14 @@ pub record IsLawfulPick (picks : Picks) : Type 0 where
   pub tuple_type : IsTupleType picks.tuple_type
 
 abbrev pub picked_head_value : Picks → HeadValue → HeadValue
-picked_head_value picks head = record { shape = record head.shape { kind = Pam; depth = length picks.numbers }; tuple_type = picks.tuple_type }
+picked_head_value picks head =
+    record { shape = record head.shape { kind = Pam; depth = length picks.numbers }; tuple_type = picks.tuple_type }
 
 -- refused where the image has no plane of one of the numbers
 abbrev pub picked_head : Picks → HeadValue → Result HeadValue ToolFault
 picked_head picks head =
-    if list_all (λ number. nat_lt number head.shape.depth) picks.numbers then within_limits (picked_head_value picks head)
+    if list_all (λ number. nat_lt number head.shape.depth) picks.numbers then within_limits
+    (picked_head_value picks head)
     else Err ChannelOutside
 
 abbrev pub picked_sample : Picks → Image → ℕ → ℕ → ℕ → ℕ
@@ -41,11 +44,13 @@ picked_sample picks i x y p = sample_at i x y (slice_index picks.numbers p)
 
 -- of each column of a row of this shape the planes that are picked, past the end of the row this sample
 abbrev pub picked_or : {X : Type 0} → X → List ℕ → Shape → List X → List X
-picked_or past numbers s row = flat_map (λ x. map (λ number. slice_index_or row (x * s.depth + number) past) numbers) (range_with_len 0 s.width)
+picked_or past numbers s row = flat_map (λ x. map (λ number. slice_index_or row (x * s.depth + number) past) numbers)
+    (range_with_len 0 s.width)
 
--- the same of a row whose samples are numbers
+-- the planes that are picked of a row whose samples are numbers
 abbrev pub picked_samples : List ℕ → Shape → List ℕ → List ℕ
-picked_samples numbers s row = flat_map (λ x. map (λ number. slice_index row (x * s.depth + number)) numbers) (range_with_len 0 s.width)
+picked_samples numbers s row = flat_map (λ x. map (λ number. slice_index row (x * s.depth + number)) numbers)
+    (range_with_len 0 s.width)
 
 -- a row of an image of this shape
 abbrev pub picked_row : Picks → Shape → List ℕ → List ℕ

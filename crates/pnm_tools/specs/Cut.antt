@@ -1,7 +1,10 @@
--- The cut image, from pamcut(1): a rectangle of the image. The options name its edges, the first and the last column and
--- the first and the last row that are kept, or in place of one of two edges its width or its height. An edge is counted
--- from the left or the top, from 0; a negative one from the right or the bottom, so that -1 is the last column or row.
-use Rattle.std.specs.Prelude.{◌≤◌, ℕ, suc, ◌+◌, ◌-◌, ◌*◌, ℤ, pos, negsuc, ◌+ℤ◌, ◌-ℤ◌, unsigned_abs, Option, Some, None, IfSome, IsSome, List, [], ◌∷◌, length, take, drop, Result, Ok, Err, nat_le, nat_lt, ◌==◌, ◌&&◌, if◌then◌else◌, false}
+-- The cut image, from pamcut(1): a rectangle of the image. The options name its edges, the first and the last column
+-- and the first and the last row that are kept, or in place of one of two edges its width or its height. An edge is
+-- counted from the left or the top, from 0; a negative one from the right or the bottom, so that -1 is the last column
+-- or row.
+use Rattle.std.specs.Prelude.{◌≤◌, ℕ, suc, ◌+◌, ◌-◌, ◌*◌, ℤ, pos, negsuc, ◌+ℤ◌, ◌-ℤ◌, unsigned_abs, Option, Some, None}
+use Rattle.std.specs.Prelude.{IfSome, IsSome, List, [], ◌∷◌, length, take, drop, Result, Ok, Err, nat_le, nat_lt, ◌==◌}
+use Rattle.std.specs.Prelude.{◌&&◌, if◌then◌else◌, false}
 use Rattle.pnm_tools.specs.declared.limits.TheConstants.{MAX_EXTENT}
 use Rattle.pnm_image.specs.declared.shape.Shape.{Shape}
 use Rattle.pnm_image.specs.Heads.{HeadValue}
@@ -48,7 +51,8 @@ last_kept count start None None = pos count -ℤ pos 1
 
 -- the span of what is kept; none where it lies outside the image, or the last before the first
 abbrev pub span_within : ℕ → ℤ → ℤ → Option Span
-span_within count (pos first) (pos last) = if nat_le first last && nat_lt last count then Some (record { first = first; last = last }) else None
+span_within count (pos first) (pos last) =
+    if nat_le first last && nat_lt last count then Some (record { first = first; last = last }) else None
 span_within count (pos first) (negsuc last) = None
 span_within count (negsuc first) last = None
 
@@ -64,14 +68,17 @@ rows_kept box s = span_of s.height box.top box.bottom box.height
 abbrev pub span_count : Span → ℕ
 span_count span = (span.last + 1) - span.first
 
--- the head of the columns and rows that are kept; the tool sees whole images alone, so that a height of 0 is out of order
+-- the head of the columns and rows that are kept; the tool sees whole images alone, so that a height of 0 is out of
+-- order
 abbrev pub head_of_spans : HeadValue → Option Span → Option Span → Result HeadValue ToolFault
-head_of_spans head (Some columns) (Some rows) = Ok (record head { shape = record head.shape { width = span_count columns; height = span_count rows } })
+head_of_spans head (Some columns) (Some rows) =
+    Ok (record head { shape = record head.shape { width = span_count columns; height = span_count rows } })
 head_of_spans head (Some columns) None = Err CutOutside
 head_of_spans head None rows = Err CutOutside
 
 abbrev pub cut_head : CutBox → HeadValue → Result HeadValue ToolFault
-cut_head box head = if head.shape.height == 0 then Err OutOfOrder else head_of_spans head (columns_kept box head.shape) (rows_kept box head.shape)
+cut_head box head = if head.shape.height == 0 then Err OutOfOrder else head_of_spans head (columns_kept box head.shape)
+    (rows_kept box head.shape)
 
 -- the first of what is kept, from 0
 abbrev pub first_of : Option Span → ℕ
@@ -79,7 +86,8 @@ first_of (Some span) = span.first
 first_of None = 0
 
 abbrev pub cut_sample : CutBox → Image → ℕ → ℕ → ℕ → ℕ
-cut_sample box i x y p = sample_at i (x + first_of (columns_kept box i.head.shape)) (y + first_of (rows_kept box i.head.shape)) p
+cut_sample box i x y p =
+    sample_at i (x + first_of (columns_kept box i.head.shape)) (y + first_of (rows_kept box i.head.shape)) p
 
 -- the columns of a row that are kept
 abbrev pub columns_of_row : {X : Type 0} → Span → ℕ → List X → List X
@@ -87,7 +95,8 @@ columns_of_row columns depth row = take (span_count columns * depth) (drop (colu
 
 -- the rows that answer row y
 abbrev pub rows_of_spans : Option Span → Option Span → ℕ → ℕ → List ℕ → List (List ℕ)
-rows_of_spans (Some columns) (Some rows) depth y row = if nat_le rows.first y && nat_le y rows.last then columns_of_row columns depth row ∷ [] else []
+rows_of_spans (Some columns) (Some rows) depth y row =
+    if nat_le rows.first y && nat_le y rows.last then columns_of_row columns depth row ∷ [] else []
 rows_of_spans (Some columns) None depth y row = []
 rows_of_spans None rows depth y row = []
 

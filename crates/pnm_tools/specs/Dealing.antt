@@ -1,6 +1,7 @@
--- Dealing the rows of an image to lanes, each of which sees an image of its own: row y goes to the lane whose number is y
--- mod the number of lanes, all counted from 0.
-use Rattle.std.specs.Prelude.{◌≡◌, ◌↔◌, ◌<◌, ℕ, zero, suc, ◌+◌, ◌%◌, ◌==◌, if◌then◌else◌, true, List, [], ◌∷◌, ◌++◌, map, Result, Ok, Err}
+-- Dealing the rows of an image to lanes, each of which sees an image of its own: row y goes to the lane whose number is
+-- y mod the number of lanes, all counted from 0.
+use Rattle.std.specs.Prelude.{◌≡◌, ◌↔◌, ◌<◌, ℕ, zero, suc, ◌+◌, ◌%◌, ◌==◌, if◌then◌else◌, true, List, [], ◌∷◌, ◌++◌}
+use Rattle.std.specs.Prelude.{map, Result, Ok, Err}
 use Rattle.std.specs.List.{concat}
 use Rattle.pnm_image.specs.declared.message.Message.{Message}
 use Rattle.pnm_image.specs.declared.message.Message.TheVariants.{Begin, Row, ImageEnd, StreamEnd, Stop}
@@ -35,7 +36,8 @@ dealt_head lane lanes head = with_height head (dealt_height lane lanes head.shap
 
 -- the image that the lane sees
 abbrev pub dealt_image : ℕ → ℕ → Image → Image
-dealt_image lane lanes i = record { head = dealt_head lane lanes i.head; samples = concat (dealt_rows lane lanes 0 (rows_of i)) }
+dealt_image lane lanes i =
+    record { head = dealt_head lane lanes i.head; samples = concat (dealt_rows lane lanes 0 (rows_of i)) }
 
 -- ---- messages
 
@@ -52,7 +54,8 @@ dealt_message lane lanes place Stop = Stop ∷ []
 -- and of messages from a place on
 abbrev pub dealt_from : ℕ → ℕ → Place → List Message → List Message
 dealt_from lane lanes place [] = []
-dealt_from lane lanes place (m ∷ ms) = dealt_message lane lanes place m ++ dealt_from lane lanes (place_after place m) ms
+dealt_from lane lanes place (m ∷ ms) =
+    dealt_message lane lanes place m ++ dealt_from lane lanes (place_after place m) ms
 
 -- the messages without the rows of the other lanes, each image beginning with the head of the one that the lane sees
 abbrev pub dealt : ℕ → ℕ → List Message → List Message
@@ -68,7 +71,8 @@ dealt_result lane lanes (Err fault) = Err fault
 -- what the tool makes of the image that a lane sees is what the lane gets of the result; it refuses the one where it
 -- refuses the other, and so
 abbrev pub IsRowWise : Tool → Type 0
-IsRowWise tool = (i : Image) (lane lanes : ℕ) → IsImage i → lane < lanes → applied tool (dealt_image lane lanes i) ≡ dealt_result lane lanes (applied tool i)
+IsRowWise tool = (i : Image) (lane lanes : ℕ) → IsImage i → lane < lanes
+    → applied tool (dealt_image lane lanes i) ≡ dealt_result lane lanes (applied tool i)
 
 -- ---- laws
 
@@ -78,7 +82,8 @@ RowWiseToolsCommuteWithDealing = (tool : Tool) → IsLawfulTool tool → is_row_
 
 -- gray images of one column, and of their messages
 abbrev pub column_head : ℕ → HeadValue
-column_head height = record { shape = record { kind = Gray; width = 1; height = height; depth = 1; maxval = 9 }; tuple_type = [] }
+column_head height =
+    record { shape = record { kind = Gray; width = 1; height = height; depth = 1; maxval = 9 }; tuple_type = [] }
 
 abbrev pub column : ℕ → List ℕ → Image
 column height samples = record { head = column_head height; samples = samples }
@@ -96,7 +101,8 @@ pub record DealtExamplesHold : Type 0 where
   pub none : dealt_image 1 2 (column 0 []) ≡ column 0 []
   pub alone : dealt_image 0 1 (column 2 (1 ∷ 2 ∷ [])) ≡ column 2 (1 ∷ 2 ∷ [])
   -- a stream
-  pub stream : dealt 1 2 (Begin (column_head 2) ∷ Row (1 ∷ []) ∷ Row (2 ∷ []) ∷ ImageEnd ∷ StreamEnd ∷ []) ≡ Begin (column_head 1) ∷ Row (2 ∷ []) ∷ ImageEnd ∷ StreamEnd ∷ []
+  pub stream : dealt 1 2 (Begin (column_head 2) ∷ Row (1 ∷ []) ∷ Row (2 ∷ []) ∷ ImageEnd ∷ StreamEnd ∷ [])
+      ≡ Begin (column_head 1) ∷ Row (2 ∷ []) ∷ ImageEnd ∷ StreamEnd ∷ []
   -- a list that is broken off inside an image, for the lane whose row hasn't come; and one that stops there
   pub stopped : dealt 1 2 (Begin (column_head 3) ∷ Row (1 ∷ []) ∷ Stop ∷ []) ≡ Begin (column_head 1) ∷ Stop ∷ []
   pub cut : dealt 0 2 (Begin (column_head 3) ∷ Row (1 ∷ []) ∷ []) ≡ Begin (column_head 2) ∷ Row (1 ∷ []) ∷ []

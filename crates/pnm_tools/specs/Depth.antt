@@ -35,7 +35,11 @@ abbrev pub type_at : ℕ → List ℕ → List ℕ
 type_at new tuple_type = if new == 1 then tuple_type else gray_type tuple_type
 
 abbrev pub rescaled_head : ℕ → HeadValue → Result HeadValue ToolFault
-rescaled_head new head = Ok (record { shape = record head.shape { kind = kind_at new head.shape.kind; maxval = new }; tuple_type = type_at new head.tuple_type })
+rescaled_head new head =
+    Ok (record {
+      shape = record head.shape { kind = kind_at new head.shape.kind; maxval = new };
+      tuple_type = type_at new head.tuple_type;
+    })
 
 abbrev pub rescaled_sample : ℕ → Image → ℕ → ℕ → ℕ → ℕ
 rescaled_sample new i x y p = nearest_sample new i.head.shape.maxval (sample_at i x y p)

@@ -11,22 +11,24 @@ use Rattle.pnm_tools.specs.Pixels.{pixel_of}
 use Rattle.pnm_tools.specs.Meaning.{Meaning}
 
 abbrev pub enlarged_head_value : ℕ → ℕ → HeadValue → HeadValue
-enlarged_head_value across down head = record head { shape = record head.shape { width = head.shape.width * across; height = head.shape.height * down } }
+enlarged_head_value across down head =
+    record head { shape = record head.shape { width = head.shape.width * across; height = head.shape.height * down } }
 
 -- where rows are repeated the tool isn't row-wise, so that a height of 0 is out of order
 abbrev pub enlarged_head : ℕ → ℕ → HeadValue → Result HeadValue ToolFault
-enlarged_head across down head = if not (down == 1) && (head.shape.height == 0) then Err OutOfOrder else within_limits (enlarged_head_value across down head)
+enlarged_head across down head = if not (down == 1) && (head.shape.height == 0) then Err OutOfOrder else within_limits
+    (enlarged_head_value across down head)
 
 abbrev pub enlarged_sample : ℕ → ℕ → Image → ℕ → ℕ → ℕ → ℕ
 enlarged_sample across down i x y p = sample_at i (x / across) (y / down) p
 
 -- so many of a list, one after another
-abbrev pub repeated : {X : Type 0} → ℕ → List X → List X
-repeated count samples = flat_map (λ _. samples) (range_with_len 0 count)
+abbrev pub copies_of : {X : Type 0} → ℕ → List X → List X
+copies_of count samples = flat_map (λ _. samples) (range_with_len 0 count)
 
 -- a row of an image of this shape, each pixel repeated
 abbrev pub enlarged_row : {X : Type 0} → ℕ → Shape → List X → List X
-enlarged_row across s row = flat_map (λ x. repeated across (pixel_of s.depth row x)) (range_with_len 0 s.width)
+enlarged_row across s row = flat_map (λ x. copies_of across (pixel_of s.depth row x)) (range_with_len 0 s.width)
 
 -- the rows that answer a row
 abbrev pub enlarged_rows : ℕ → ℕ → Shape → List ℕ → List (List ℕ)

@@ -1,6 +1,8 @@
--- The flipped image, from pamflip(1): the same, flipped left for right, flipped top for bottom, transposed, columns and rows
--- exchanged, or turned counterclockwise by one, two or three quarters. Each way is a rule as well: which orders are reversed, and whether columns and rows are exchanged then.
-use Rattle.std.specs.Prelude.{ℕ, ◌-◌, ◌==◌, List, [], ◌∷◌, map, reverse, Result, Ok, Err, if◌then◌else◌, Bool, true, false, not, ◌&&◌, ◌||◌}
+-- The flipped image, from pamflip(1): the same, flipped left for right, flipped top for bottom, transposed, columns and
+-- rows exchanged, or turned counterclockwise by one, two or three quarters. Each way is a rule as well: which orders
+-- are reversed, and whether columns and rows are exchanged then.
+use Rattle.std.specs.Prelude.{ℕ, ◌-◌, ◌==◌, List, [], ◌∷◌, map, reverse, Result, Ok, Err, if◌then◌else◌, Bool, true}
+use Rattle.std.specs.Prelude.{false, not, ◌&&◌, ◌||◌}
 use Rattle.std.specs.List.{flat_map, range_with_len}
 use Rattle.pnm_image.specs.declared.shape.Shape.{Shape}
 use Rattle.pnm_image.specs.Heads.{HeadValue}
@@ -8,7 +10,8 @@ use Rattle.pnm_image.specs.Images.{Image, sample_at}
 use Rattle.pnm_tools.specs.declared.fault.ToolFault.{ToolFault}
 use Rattle.pnm_tools.specs.declared.fault.ToolFault.TheVariants.{OutOfOrder}
 use Rattle.pnm_tools.specs.declared.flip.FlipWay.{FlipWay}
-use Rattle.pnm_tools.specs.declared.flip.FlipWay.TheVariants.{Null, LeftRight, TopBottom, Transpose, Rotate90, Rotate180, Rotate270}
+use Rattle.pnm_tools.specs.declared.flip.FlipWay.TheVariants.{Null, LeftRight, TopBottom, Transpose, Rotate90}
+use Rattle.pnm_tools.specs.declared.flip.FlipWay.TheVariants.{Rotate180, Rotate270}
 use Rattle.pnm_tools.specs.declared.flip.Turn.{Turn}
 use Rattle.pnm_tools.specs.Limits.{within_limits}
 use Rattle.pnm_tools.specs.Pixels.{pixel_of}
@@ -26,9 +29,11 @@ flipped_sample Rotate90 i x y p = sample_at i (i.head.shape.width - 1 - y) x p
 flipped_sample Rotate180 i x y p = sample_at i (i.head.shape.width - 1 - x) (i.head.shape.height - 1 - y) p
 flipped_sample Rotate270 i x y p = sample_at i y (i.head.shape.height - 1 - x) p
 
--- a rule: the order of the columns is reversed or not, and that of the rows, and then columns and rows are exchanged or not
+-- a rule: the order of the columns is reversed or not, and that of the rows, and then columns and rows are exchanged or
+-- not
 abbrev pub turn : Bool → Bool → Bool → Turn
-turn columns_reversed rows_reversed exchanged = record { columns_reversed = columns_reversed; rows_reversed = rows_reversed; exchanged = exchanged }
+turn columns_reversed rows_reversed exchanged =
+    record { columns_reversed = columns_reversed; rows_reversed = rows_reversed; exchanged = exchanged }
 
 -- the rule of each way
 abbrev pub turn_of : FlipWay → Turn
@@ -49,14 +54,16 @@ place_in reversed n k = if reversed then n - 1 - k else k
 -- the sample of the result in a column, a row and a plane
 abbrev pub turned_sample : Turn → Image → ℕ → ℕ → ℕ → ℕ
 turned_sample t i x y p =
-    sample_at i (place_in t.columns_reversed i.head.shape.width (if t.exchanged then y else x)) (place_in t.rows_reversed i.head.shape.height (if t.exchanged then x else y)) p
+    sample_at i (place_in t.columns_reversed i.head.shape.width (if t.exchanged then y else x))
+    (place_in t.rows_reversed i.head.shape.height (if t.exchanged then x else y)) p
 
 -- rows don't stay in their places
 abbrev pub moves_rows : Turn → Bool
 moves_rows t = t.exchanged || t.rows_reversed
 
 abbrev pub transposed_head_value : HeadValue → HeadValue
-transposed_head_value head = record head { shape = record head.shape { width = head.shape.height; height = head.shape.width } }
+transposed_head_value head =
+    record head { shape = record head.shape { width = head.shape.height; height = head.shape.width } }
 
 abbrev pub turned_head_value : Turn → HeadValue → HeadValue
 turned_head_value t head = if t.exchanged then transposed_head_value head else head
@@ -90,7 +97,8 @@ turned_rows t s row = if moves_rows t then [] else turned_row t s row ∷ []
 -- the rows of the result, where they are others than those of an image of this shape and of these rows
 abbrev pub moved_rows : Turn → Shape → List (List ℕ) → List (List ℕ)
 moved_rows t s rows =
-    if t.exchanged then in_order t.columns_reversed (map (column_of s.depth (in_order t.rows_reversed rows)) (range_with_len 0 s.width))
+    if t.exchanged then in_order t.columns_reversed
+    (map (column_of s.depth (in_order t.rows_reversed rows)) (range_with_len 0 s.width))
     else map (turned_row t s) (reverse rows)
 
 -- the rows that answer the end of the image

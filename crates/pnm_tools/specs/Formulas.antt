@@ -11,4 +11,8 @@ row_by s sample = flat_map (λ x. map (λ p. sample x p) (range_with_len 0 s.dep
 
 -- the image of this head whose sample in a column, a row and a plane is this
 abbrev pub image_by : HeadValue → (ℕ → ℕ → ℕ → ℕ) → Image
-image_by head sample = record { head = head; samples = flat_map (λ y. row_by head.shape (λ x p. sample x y p)) (range_with_len 0 head.shape.height) }
+image_by head sample =
+    record {
+      head = head;
+      samples = flat_map (λ y. row_by head.shape (λ x p. sample x y p)) (range_with_len 0 head.shape.height);
+    }

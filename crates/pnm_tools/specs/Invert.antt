@@ -1,5 +1,5 @@
--- The inverted image, from pnminvert(1): black becomes white and white black. Each sample is taken from the maxval; of a
--- PAM image, in every plane.
+-- The inverted image, from pnminvert(1): black becomes white and white black. Each sample is taken from the maxval; of
+-- a PAM image, in every plane.
 use Rattle.std.specs.Prelude.{ℕ, ◌-◌, List, map, Result, Ok, true, [], ◌∷◌}
 use Rattle.pnm_image.specs.declared.shape.Shape.{Shape}
 use Rattle.pnm_image.specs.Heads.{HeadValue}

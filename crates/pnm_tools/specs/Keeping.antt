@@ -1,5 +1,6 @@
 -- What tools keep while the rows of an image come, and the rows of the result that they still give.
-use Rattle.std.specs.Prelude.{◌≡◌, ℕ, ◌+◌, ◌-◌, ◌*◌, ◌<◌, ◌≤◌, ◌%◌, true, false, List, [], ◌++◌, map, length, min, take, reverse, replicate, slice_index_or, All, Option, Some, None}
+use Rattle.std.specs.Prelude.{◌≡◌, ℕ, ◌+◌, ◌-◌, ◌*◌, ◌<◌, ◌≤◌, ◌%◌, true, false, List, [], ◌++◌, map, length, min, take}
+use Rattle.std.specs.Prelude.{reverse, replicate, slice_index_or, All, Option, Some, None}
 use Rattle.std.specs.List.{range_with_len}
 use Rattle.pnm_image.specs.declared.limits.TheConstants.{MAX_DEPTH, MAX_ROW_LENGTH, MAX_SIDE}
 use Rattle.pnm_image.specs.declared.sample_width.SampleWidth.{SampleWidth}
@@ -100,26 +101,36 @@ reversed_due w = elim w.ended [
   | Some s ↦ map (turned_row (turn_of w.way) s) (reverse w.rows)
 ]
 
--- ---- pamflip where columns and rows are exchanged: all rows, and a band of rows of the result
+-- ---- pamflip where columns and rows are exchanged: all rows, and a batch of rows of the result
 
--- the way, the planes of the image, how its rows are held, the strips and the rows after them; the band, whose last row is given next;
--- and of all the columns, which become the rows of the result, those from `next` up to `columns` aren't in a band yet
+-- the way, the planes of the image, how its rows are held, the strips and the rows after them; the batch, whose last
+-- row is given next; and of all the columns, which become the rows of the result, those from `next` up to `columns`
+-- aren't in a batch yet
 pub record Transposed : Type 0 where
   pub way : FlipWay
   pub depth : ℕ
   pub sample_width : SampleWidth
   pub strips : List (List ℕ)
   pub rows : List (List ℕ)
-  pub band : List (List ℕ)
+  pub batch : List (List ℕ)
   pub next : ℕ
   pub columns : ℕ
 
 abbrev pub transposed : FlipWay → ℕ → SampleWidth → List (List ℕ) → List (List ℕ) → List (List ℕ) → ℕ → ℕ → Transposed
-transposed way depth sample_width strips rows band next columns =
-    record { way = way; depth = depth; sample_width = sample_width; strips = strips; rows = rows; band = band; next = next; columns = columns }
+transposed way depth sample_width strips rows batch next columns =
+    record {
+      way = way;
+      depth = depth;
+      sample_width = sample_width;
+      strips = strips;
+      rows = rows;
+      batch = batch;
+      next = next;
+      columns = columns;
+    }
 
--- each row has a pixel of each column, and each strip a part of each; a row of the result is within the limits; packed rows have one
--- plane, and the next column is the first of a byte
+-- each row has a pixel of each column, and each strip a part of each; a row of the result is within the limits; packed
+-- rows have one plane, and the next column is the first of a byte
 pub record HasColumns (w : Transposed) : Type 0 where
   pub way : (turn_of w.way).exchanged ≡ true
   pub reach : ReachColumns w.columns w.depth w.strips w.rows
@@ -134,13 +145,16 @@ pub record IsTransposing (w : Transposed) (s : Shape) (come : List (List ℕ)) :
   pub column : s.height * s.depth ≤ MAX_ROW_LENGTH
   pub sample_width : SuitsShape w.sample_width s
   pub count : kept_count w.strips w.rows ≡ length come
-  pub same : (x : ℕ) → x < s.width → coming_column (turn_of w.way).rows_reversed s.depth w.strips w.rows x ≡ column_of s.depth (in_order (turn_of w.way).rows_reversed come) x
+  pub same : (x : ℕ) → x < s.width → coming_column (turn_of w.way).rows_reversed s.depth w.strips w.rows x
+      ≡ column_of s.depth (in_order (turn_of w.way).rows_reversed come) x
   pub sizes : HaveSizes s.width s.depth w.strips w.rows
-  pub none_made : (w.band ≡ []) × (w.next ≡ 0) × (w.columns ≡ 0)
+  pub none_made : (w.batch ≡ []) × (w.next ≡ 0) × (w.columns ≡ 0)
 
 abbrev pub transposed_due : Transposed → List (List ℕ)
 transposed_due w =
-    reverse w.band ++ in_order (turn_of w.way).columns_reversed (map (kept_column (turn_of w.way).rows_reversed w.depth w.strips w.rows) (range_with_len w.next (w.columns - w.next)))
+    reverse w.batch ++ in_order (turn_of w.way).columns_reversed
+    (map (kept_column (turn_of w.way).rows_reversed w.depth w.strips w.rows)
+    (range_with_len w.next (w.columns - w.next)))
 
 -- ---- pnmtile: what the result shows of the rows, the next one first
 
@@ -148,7 +162,8 @@ transposed_due w =
 abbrev pub shown_row : ℕ → Shape → List ℕ → List ℕ
 shown_row width s row = take (min width s.width * s.depth) row
 
--- so many columns and rows to fill; the columns that are kept, and the planes of the image; how many rows are still to be given
+-- so many columns and rows to fill; the columns that are kept, and the planes of the image; how many rows are still to
+-- be given
 pub record Tiled : Type 0 where
   pub width : ℕ
   pub height : ℕ
@@ -158,7 +173,8 @@ pub record Tiled : Type 0 where
   pub left : ℕ
 
 abbrev pub tiled : ℕ → ℕ → ℕ → ℕ → List (List ℕ) → ℕ → Tiled
-tiled width height image_width depth rows left = record { width = width; height = height; image_width = image_width; depth = depth; rows = rows; left = left }
+tiled width height image_width depth rows left =
+    record { width = width; height = height; image_width = image_width; depth = depth; rows = rows; left = left }
 
 -- there are rows to give, each of the columns that are kept
 pub record HasTiles (w : Tiled) : Type 0 where
@@ -181,4 +197,5 @@ pub record IsTiling (w : Tiled) (s : Shape) (come : List (List ℕ)) : Type 0 wh
   pub none_given : w.left ≡ 0
 
 abbrev pub tiled_due : Tiled → List (List ℕ)
-tiled_due w = map (λ y. tiled_row w.width w.image_width w.depth (slice_index_or w.rows (y % length w.rows) [])) (range_with_len 0 w.left)
+tiled_due w = map (λ y. tiled_row w.width w.image_width w.depth (slice_index_or w.rows (y % length w.rows) []))
+    (range_with_len 0 w.left)

@@ -1,7 +1,8 @@
 -- Rows of one width of samples, and which columns of them are made side by side.
 use Rattle.std.specs.Prelude.{◌≡◌, ℕ, ◌%◌, ◌<◌, ◌≤◌, List, [], All}
 use Rattle.pnm_image.specs.declared.sample_width.SampleWidth.{SampleWidth}
-use Rattle.pnm_image.specs.declared.sample_width.SampleWidth.TheVariants.{Bits as OfBits, Bytes as OfBytes, Words as OfWords}
+use Rattle.pnm_image.specs.declared.sample_width.SampleWidth.TheVariants.{Bits as OfBits, Bytes as OfBytes}
+use Rattle.pnm_image.specs.declared.sample_width.SampleWidth.TheVariants.{Words as OfWords}
 use Rattle.pnm_image.specs.declared.shape.Shape.{Shape}
 use Rattle.pnm_tools.specs.declared.sample_rows.SampleRows.{SampleRows}
 use Rattle.pnm_tools.specs.declared.sample_rows.SampleRows.TheVariants.{Bits, Bytes, Words}
@@ -37,13 +38,13 @@ SuitsShape OfBytes s = s.maxval ≤ 255
 SuitsShape OfWords s = Unit {0}
 
 -- how many columns are made side by side
-abbrev pub band_length : SampleWidth → ℕ
-band_length OfBits = 256
-band_length OfBytes = 64
-band_length OfWords = 64
+abbrev pub batch_length : SampleWidth → ℕ
+batch_length OfBits = 256
+batch_length OfBytes = 64
+batch_length OfWords = 64
 
 -- so many columns of packed pixels, the first of which is the first pixel of a byte
-pub record IsBandOfBits (first count depth : ℕ) : Type 0 where
+pub record IsBatchOfBits (first count depth : ℕ) : Type 0 where
   pub one_plane : depth ≡ 1
   pub at_byte : first % 8 ≡ 0
   pub some : 0 < count

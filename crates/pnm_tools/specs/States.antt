@@ -11,18 +11,20 @@ use Rattle.pnm_tools.specs.declared.fault.ToolFault.{ToolFault}
 use Rattle.pnm_tools.specs.Pendings.{Pending, AllGiven, Waiting, Rows, RowsAndEnd, Nothing}
 use Rattle.pnm_tools.specs.declared.tool.Tool.{Tool}
 use Rattle.pnm_tools.specs.declared.tool.Tool.TheVariants.{Invert, Cut, Depth, Channel, Enlarge, Flip, Tile}
-use Rattle.pnm_tools.specs.declared.work.Work.{Work}
-use Rattle.pnm_tools.specs.declared.work.Work.TheVariants.{Inverting, Cutting, Rescaling, Picking, Enlarging, FlippingRows, ReversingRows, Transposing, Tiling}
+use Rattle.pnm_tools.specs.declared.any_tool.AnyTool.{AnyTool}
+use Rattle.pnm_tools.specs.declared.any_tool.AnyTool.TheVariants.{Inverting, Cutting, Rescaling, Picking, Enlarging}
+use Rattle.pnm_tools.specs.declared.any_tool.AnyTool.TheVariants.{FlippingRows, ReversingRows, Transposing, Tiling}
 use Rattle.pnm_tools.specs.Answers.{Answers}
-use Rattle.pnm_tools.specs.Answering.{row_list, rows_come, answered_from}
-use Rattle.pnm_tools.specs.Keeping.{HasSpans, HasTable, IsEnlarging, FlipsInRows, IsReversingRows, IsTransposing, IsTiling, enlarged_due, reversed_due, transposed_due, tiled_due}
+use Rattle.pnm_tools.specs.Answering.{row_list, rows_come, answers_from}
+use Rattle.pnm_tools.specs.Keeping.{HasSpans, HasTable, IsEnlarging, FlipsInRows, IsReversingRows, IsTransposing}
+use Rattle.pnm_tools.specs.Keeping.{IsTiling, enlarged_due, reversed_due, transposed_due, tiled_due}
 use Rattle.pnm_tools.specs.Channel.{HasPlanes}
 use Rattle.pnm_tools.specs.Tools.{IsLawfulTool, AreTaken}
 
 -- ---- whichever tool is at work
 
--- which tool it is, the rows of the result that it still gives for what has come, the rows that it keeps, and that it is
--- ready for the next row of an image of this shape, of which these have come
+-- which tool it is, the rows of the result that it still gives for what has come, the rows that it keeps, and that it
+-- is ready for the next row of an image of this shape, of which these have come
 pub record Worker : Type 1 where
   pub tool : Tool
   pub due : List (List ℕ)
@@ -30,35 +32,50 @@ pub record Worker : Type 1 where
   pub ready : Shape → List (List ℕ) → Type 0
 
 -- a tool that has made at most one row, which it still gives
-abbrev pub at_once : Tool → Option (List ℕ) → (Shape → Type 0) → Worker
-at_once tool made ready = record { tool = tool; due = row_list made; kept = row_list made; ready = λ s rows. ready s }
+abbrev pub by_row : Tool → Option (List ℕ) → (Shape → Type 0) → Worker
+by_row tool made ready = record { tool = tool; due = row_list made; kept = row_list made; ready = λ s rows. ready s }
 
-abbrev pub worker : Work → Worker
-worker (Inverting w) = at_once Invert w.made IsWithinLimits
-worker (Cutting w) = at_once (Cut w.tool.cut) w.made (HasSpans w.tool)
-worker (Rescaling w) = at_once (Depth w.tool.maxval) w.made (λ s. IsWithinLimits s × HasTable w.tool s)
-worker (Picking w) = at_once (Channel w.tool) w.made (HasPlanes w.tool)
-worker (Enlarging w) = record { tool = Enlarge w.across w.down; due = enlarged_due w; kept = row_list w.row; ready = λ s rows. IsEnlarging w.across s }
-worker (FlippingRows w) = at_once (Flip w.tool) w.made (FlipsInRows w.tool)
-worker (ReversingRows w) = record { tool = Flip w.way; due = reversed_due w; kept = w.rows; ready = λ s rows. IsReversingRows w s rows }
-worker (Transposing w) = record { tool = Flip w.way; due = transposed_due w; kept = w.strips ++ w.rows ++ w.band; ready = λ s rows. IsTransposing w s rows }
-worker (Tiling w) = record { tool = Tile w.width w.height; due = tiled_due w; kept = w.rows; ready = λ s rows. IsTiling w s rows }
+abbrev pub worker : AnyTool → Worker
+worker (Inverting w) = by_row Invert w.made IsWithinLimits
+worker (Cutting w) = by_row (Cut w.tool.cut) w.made (HasSpans w.tool)
+worker (Rescaling w) = by_row (Depth w.tool.maxval) w.made (λ s. IsWithinLimits s × HasTable w.tool s)
+worker (Picking w) = by_row (Channel w.tool) w.made (HasPlanes w.tool)
+worker (Enlarging w) =
+    record {
+      tool = Enlarge w.across w.down;
+      due = enlarged_due w;
+      kept = row_list w.row;
+      ready = λ s rows. IsEnlarging w.across s;
+    }
+worker (FlippingRows w) = by_row (Flip w.tool) w.made (FlipsInRows w.tool)
+worker (ReversingRows w) =
+    record { tool = Flip w.way; due = reversed_due w; kept = w.rows; ready = λ s rows. IsReversingRows w s rows }
+worker (Transposing w) =
+    record {
+      tool = Flip w.way;
+      due = transposed_due w;
+      kept = w.strips ++ w.rows ++ w.batch;
+      ready = λ s rows. IsTransposing w s rows;
+    }
+worker (Tiling w) =
+    record { tool = Tile w.width w.height; due = tiled_due w; kept = w.rows; ready = λ s rows. IsTiling w s rows }
 
-abbrev pub tool_of : Work → Tool
+abbrev pub tool_of : AnyTool → Tool
 tool_of work = (worker work).tool
 
-abbrev pub IsReady : Work → Shape → List (List ℕ) → Type 0
+abbrev pub IsReady : AnyTool → Shape → List (List ℕ) → Type 0
 IsReady work s rows = (worker work).ready s rows
 
-abbrev pub due_of : Work → List (List ℕ)
+abbrev pub due_of : AnyTool → List (List ℕ)
 due_of work = (worker work).due
 
-abbrev pub kept_of : Work → List (List ℕ)
+abbrev pub kept_of : AnyTool → List (List ℕ)
 kept_of work = (worker work).kept
 
 -- ---- a tool at work on a stream, W being what it keeps
 
--- the value of a state: the tool at work, the place in what it accepts, what is still to be given, and the fault that there was
+-- the value of a state: the tool at work, the place in what it accepts, what is still to be given, and the fault that
+-- there was
 pub record Standing (W : Type 0) : Type 0 where
   pub work : W
   pub place : Place
@@ -93,8 +110,10 @@ KeepsNone kept work After RowsAndEnd = ⊥
 KeepsNone kept work After Nothing = kept work ≡ []
 
 -- a state is sound: it keeps no rows after a fault
-abbrev pub IsStanding : {W : Type 0} → (W → Shape → List (List ℕ) → Type 0) → (W → List (List ℕ)) → W → Place → Pending → Option ToolFault → Type 0
-IsStanding ready kept work place pending None = ((rows : List (List ℕ)) × IsReadyFor ready work place rows) × KeepsNone kept work place pending
+abbrev pub IsStanding : {W : Type 0} → (W → Shape → List (List ℕ) → Type 0) → (W → List (List ℕ)) → W → Place → Pending
+    → Option ToolFault → Type 0
+IsStanding ready kept work place pending None = ((rows : List (List ℕ)) × IsReadyFor ready work place rows)
+    × KeepsNone kept work place pending
 IsStanding ready kept work place pending (Some fault) = kept work ≡ []
 
 -- the messages that are still to be given, of a tool that still gives these rows
@@ -116,10 +135,11 @@ is_all_given Nothing = false
 pub record IsAnswering (tool : Tool) (l g waiting : List Message) : Type 0 where
   pub lawful : IsLawful l
   pub taken : AreTaken tool l
-  pub given : answered_from tool Between [] l ≡ g ++ waiting
+  pub given : answers_from tool Between [] l ≡ g ++ waiting
 
 -- the state of this tool, which has accepted these messages and given those
-pub record IsAt {W : Type 0} (tool_at : W → Tool) (ready_for : W → Shape → List (List ℕ) → Type 0) (due kept : W → List (List ℕ)) (s : Standing W) (t : Tool) (l g : List Message) : Type 0 where
+pub record IsAt {W : Type 0} (tool_at : W → Tool) (ready_for : W → Shape → List (List ℕ) → Type 0)
+    (due kept : W → List (List ℕ)) (s : Standing W) (t : Tool) (l g : List Message) : Type 0 where
   pub tool : tool_at s.work ≡ t
   pub options : IsLawfulTool t
   pub answering : IsAnswering t l g (waiting_in s.pending (due s.work))
@@ -128,12 +148,12 @@ pub record IsAt {W : Type 0} (tool_at : W → Tool) (ready_for : W → Shape →
   pub none : KeepsNone kept s.work s.place s.pending
   pub answers : Answers t l g
 
--- the same of the tool of a chain
-abbrev pub IsToolAt : Standing Work → Tool → List Message → List Message → Type 0
+-- the state of a chain's tool, which has accepted these messages and given those
+abbrev pub IsToolAt : Standing AnyTool → Tool → List Message → List Message → Type 0
 IsToolAt s t l g = IsAt tool_of IsReady due_of kept_of s t l g
 
 -- the state of this tool before the first message
-pub record IsFresh (s : Standing Work) (t : Tool) : Type 0 where
+pub record IsFreshTool (s : Standing AnyTool) (t : Tool) : Type 0 where
   pub state : IsToolAt s t [] []
   pub told : is_all_given s.pending ≡ true
   pub going : s.fault ≡ None

@@ -13,9 +13,10 @@ kept_column rows_first depth strips rows x =
     if rows_first then column_of depth rows x ++ column_of (STRIP_ROWS * depth) strips x
     else column_of (STRIP_ROWS * depth) strips x ++ column_of depth rows x
 
--- the same where the rows came top to bottom, and their order is to be reversed or not
+-- a column of rows that came top to bottom, whose order is to be reversed or not
 abbrev pub coming_column : {X : Type 0} → Bool → ℕ → List (List X) → List (List X) → ℕ → List X
-coming_column reversed depth strips rows x = kept_column reversed depth (in_order reversed strips) (in_order reversed rows) x
+coming_column reversed depth strips rows x =
+    kept_column reversed depth (in_order reversed strips) (in_order reversed rows) x
 
 -- all of them have these first columns
 pub record ReachColumns {X : Type 0} (columns depth : ℕ) (strips rows : List (List X)) : Type 0 where
@@ -28,7 +29,9 @@ pub record HaveSizes {X : Type 0} (width depth : ℕ) (strips rows : List (List 
   pub each_row : All (λ row. length row ≡ width * depth) rows
 
 -- they are as many rows as before, of the same columns
-pub record KeepColumns {X : Type 0} (reversed : Bool) (width depth : ℕ) (old_strips old_rows strips rows : List (List X)) : Type 0 where
+pub record KeepColumns {X : Type 0} (reversed : Bool) (width depth : ℕ)
+    (old_strips old_rows strips rows : List (List X)) : Type 0 where
   pub sizes : HaveSizes width depth strips rows
   pub count : kept_count strips rows ≡ kept_count old_strips old_rows
-  pub same : (x : ℕ) → x < width → coming_column reversed depth strips rows x ≡ coming_column reversed depth old_strips old_rows x
+  pub same : (x : ℕ) → x < width → coming_column reversed depth strips rows x ≡ coming_column reversed depth old_strips
+      old_rows x

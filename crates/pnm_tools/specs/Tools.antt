@@ -40,13 +40,13 @@ unfoldable pub result_head : Tool → HeadValue → Result HeadValue ToolFault
 result_head tool head = (meaning tool).head head
 
 -- the tool takes an image with this head
-abbrev pub Takes : Tool → HeadValue → Type 0
-Takes tool head = (result : HeadValue) × (result_head tool head ≡ Ok result)
+abbrev pub TakesHead : Tool → HeadValue → Type 0
+TakesHead tool head = (result : HeadValue) × (result_head tool head ≡ Ok result)
 
 -- no image that begins is refused
 abbrev pub AreTaken : Tool → List Message → Type 0
 AreTaken tool [] = Unit {0}
-AreTaken tool (Begin head ∷ ms) = Takes tool head × AreTaken tool ms
+AreTaken tool (Begin head ∷ ms) = TakesHead tool head × AreTaken tool ms
 AreTaken tool (Row row ∷ ms) = AreTaken tool ms
 AreTaken tool (ImageEnd ∷ ms) = AreTaken tool ms
 AreTaken tool (StreamEnd ∷ ms) = AreTaken tool ms

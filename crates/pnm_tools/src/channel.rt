@@ -1,6 +1,7 @@
 //! `pamchannel`: planes of the image, in the order in which they are named, from pamchannel(1).
 
-ghost use Rattle.std.specs.Prelude.{◌≡◌, ◌≤◌, ◌<◌, ◌↔◌, ◌⊎◌, ◌+◌, ◌++◌, All, IsTrue, OnOk, IfOk, IfErr, Ok, Err, length, map, slice_index_or, []};
+ghost use Rattle.std.specs.Prelude.{◌≡◌, ◌≤◌, ◌<◌, ◌↔◌, ◌⊎◌, ◌+◌, ◌++◌, All, IsTrue, OnOk, IfOk, IfErr, Ok, Err};
+ghost use Rattle.std.specs.Prelude.{length, map, slice_index_or, []};
 ghost use Rattle.pnm_image.specs.Heads.{row_length};
 ghost use Rattle.pnm_image.specs.Places.{IsRowOf};
 ghost use Rattle.pnm_tools.specs.declared.fault.ToolFault.TheVariants.{Memory};
@@ -9,7 +10,7 @@ ghost use Rattle.pnm_tools.specs.Channel.{picked_or, picked_samples};
 
 use crate::fault::ToolFault;
 use crate::limits::head_within_limits;
-use crate::rows::Rows;
+use crate::row_tool::RowTool;
 use pnm_image::limits::MAX_DEPTH;
 use pnm_image::{Head, Kind, SampleVec, Samples, Shape};
 use std::alloc::{AllocError, Global};
@@ -74,10 +75,10 @@ fn pick<T: Copy + Default>(
 {
     let (width, depth, count) = (shape.width as usize, shape.depth as usize, numbers.len());
     let mut picked = Vec::from_elem(alloc, T::default(), width * count)?;
-    let room = picked.as_mut_slice();
+    let buffer = picked.as_mut_slice();
     for x in 0..width {
         pick_pixel(
-            &mut room[x * count..(x + 1) * count],
+            &mut buffer[x * count..(x + 1) * count],
             numbers,
             row,
             x * depth,
@@ -86,14 +87,14 @@ fn pick<T: Copy + Default>(
     Ok(picked)
 }
 
-/// Fills the room with the samples of these planes of the pixel whose samples begin here.
-fn pick_pixel<T: Copy>(room: &mut [T], numbers: &[u16], row: &[T], first: usize)
-    requires room { length room.old ≡ length numbers.now }
+/// Fills the buffer with the samples of these planes of the pixel whose samples begin here.
+fn pick_pixel<T: Copy>(buffer: &mut [T], numbers: &[u16], row: &[T], first: usize)
+    requires buffer { length buffer.old ≡ length numbers.now }
     requires numbers { All (λ number. first + number < length row.now) numbers.now }
-    ensures { (past : T) → room.new ≡ map (λ number. slice_index_or row.now (first + number) past) numbers.now }
+    ensures { (past : T) → buffer.new ≡ map (λ number. slice_index_or row.now (first + number) past) numbers.now }
 {
-    for at in 0..room.len() {
-        room[at] = row[first + numbers[at] as usize];
+    for at in 0..buffer.len() {
+        buffer[at] = row[first + numbers[at] as usize];
     }
 }
 
@@ -105,14 +106,14 @@ impl Model for Planes {
     ghost view = { λ p. picks p.numbers.items p.tuple_type.items };
 }
 
-impl Rows for Planes {
+impl RowTool for Planes {
     ghost use Rattle.pnm_tools.specs.Channel.{HasPlanes};
 
     ghost tool = { λ planes. Channel planes };
 
     ghost ready = { HasPlanes };
 
-    ghost at_once = { λ _ _ _ _ _. [] };
+    ghost nothing_at_end = { λ _ _ _ _ _. [] };
 
     fn begin(&mut self, alloc: Global, head: &Head) -> Result<Head, ToolFault> {
         self.head(alloc, head)
@@ -133,7 +134,7 @@ impl Rows for Planes {
 
 impl Planes {
     ghost use Rattle.pnm_tools.specs.Channel.{IsLawfulPick, HasPlanes};
-    ghost use Rattle.pnm_tools.specs.Tools.{Takes, result_head};
+    ghost use Rattle.pnm_tools.specs.Tools.{TakesHead, result_head};
 
     /// These planes, in this order, and this tuple type.
     pub fn new(numbers: Vec<u16>, tuple_type: Vec<u8>) -> Planes
@@ -177,7 +178,7 @@ impl Planes {
         ensures made { IfOk result (λ made. result_head (Channel self.now) head.now ≡ Ok made) }
         ensures planes { OnOk result (HasPlanes self.now head.now.shape) }
         ensures refused { IfErr result (λ fault. (result_head (Channel self.now) head.now ≡ Err fault)
-            ⊎ ((fault ≡ Memory) × Takes (Channel self.now) head.now)) }
+            ⊎ ((fault ≡ Memory) × TakesHead (Channel self.now) head.now)) }
     {
         let shape = head.shape();
         if !are_below(self.numbers.as_slice(), shape.depth) {

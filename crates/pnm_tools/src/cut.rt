@@ -2,13 +2,14 @@
 
 ghost use Rattle.std.specs.Prelude.{◌≡◌, ◌≤◌, ◌↔◌, All, IsTrue, IfSome, IfOk, []};
 ghost use Rattle.pnm_image.specs.declared.limits.TheConstants.{MAX_SIDE};
-ghost use Rattle.pnm_tools.specs.Cut.{IsEdge, IsLawfulAxis, KeepsWithin, columns_of_row, span_of, first_kept, last_kept, edge_of};
+ghost use Rattle.pnm_tools.specs.Cut.{IsEdge, IsLawfulAxis, KeepsWithin, columns_of_row, span_of, first_kept};
+ghost use Rattle.pnm_tools.specs.Cut.{last_kept, edge_of};
 ghost use Rattle.pnm_tools.specs.Limits.{IsExtent};
 ghost use Rattle.pnm_tools.specs.declared.tool.Tool.TheVariants.{Cut};
 
 use crate::fault::ToolFault;
 use crate::limits::{MAX_EXTENT, head_within_limits, is_extent};
-use crate::rows::Rows;
+use crate::row_tool::RowTool;
 use pnm_image::{Bits, Head, SampleVec, Samples, Shape};
 use std::alloc::{AllocError, Global};
 
@@ -93,14 +94,14 @@ pub struct Cutter {
     rows: Span,
 }
 
-impl Rows for Cutter {
+impl RowTool for Cutter {
     ghost use Rattle.pnm_tools.specs.Keeping.{HasSpans};
 
     ghost tool = { λ w. Cut w.cut };
 
     ghost ready = { HasSpans };
 
-    ghost at_once = { λ _ _ _ _ _. [] };
+    ghost nothing_at_end = { λ _ _ _ _ _. [] };
 
     fn begin(&mut self, alloc: Global, head: &Head) -> Result<Head, ToolFault> {
         let shape = head.shape();

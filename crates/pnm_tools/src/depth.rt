@@ -8,11 +8,11 @@ ghost use Rattle.pnm_tools.specs.declared.fault.ToolFault.TheVariants.{Memory};
 ghost use Rattle.pnm_tools.specs.declared.tool.Tool.TheVariants.{Depth};
 ghost use Rattle.pnm_tools.specs.Depth.{nearest_sample, kind_at, type_at};
 ghost use Rattle.pnm_tools.specs.Keeping.{IsTable};
-ghost use Rattle.pnm_tools.specs.Tools.{Takes, result_head};
+ghost use Rattle.pnm_tools.specs.Tools.{TakesHead, result_head};
 
 use crate::fault::ToolFault;
 use crate::limits::head_within_limits;
-use crate::rows::Rows;
+use crate::row_tool::RowTool;
 use pnm_image::{Head, Kind, SampleVec, Samples, Shape};
 use std::alloc::{AllocError, Global};
 
@@ -134,14 +134,14 @@ impl Rescaler {
     }
 }
 
-impl Rows for Rescaler {
+impl RowTool for Rescaler {
     ghost use Rattle.pnm_tools.specs.Keeping.{HasTable};
 
     ghost tool = { λ r. Depth r.maxval };
 
     ghost ready = { λ r s. IsWithinLimits s × HasTable r s };
 
-    ghost at_once = { λ _ _ _ _ _. [] };
+    ghost nothing_at_end = { λ _ _ _ _ _. [] };
 
     fn begin(&mut self, alloc: Global, head: &Head) -> Result<Head, ToolFault> {
         let rescaled = head_at(alloc, self.maxval, head)?;
@@ -171,7 +171,7 @@ pub(crate) fn head_at(alloc: Global, maxval: u32, head: &Head) -> Result<Head, T
     requires { (1 ≤ maxval) × (maxval ≤ MAX_MAXVAL) }
     ensures made { IfOk result (λ made. result_head (Depth maxval) head.now ≡ Ok made) }
     ensures refused { IfErr result (λ fault. (result_head (Depth maxval) head.now ≡ Err fault)
-        ⊎ ((fault ≡ Memory) × Takes (Depth maxval) head.now)) }
+        ⊎ ((fault ≡ Memory) × TakesHead (Depth maxval) head.now)) }
 {
     let shape = head.shape();
     let rescaled = Shape {

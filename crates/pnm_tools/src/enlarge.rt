@@ -1,21 +1,22 @@
 //! `pamenlarge`: each pixel so many times across and so many times down, from pamenlarge(1).
 
-ghost use Rattle.std.specs.Prelude.{◌≡◌, ◌≤◌, ◌+◌, ◌*◌, ◌++◌, ◌∷◌, [], ◌⊎◌, length, replicate, take, OnOk, IfOk, IfErr, Ok, Err, None};
+ghost use Rattle.std.specs.Prelude.{◌≡◌, ◌≤◌, ◌+◌, ◌*◌, ◌++◌, ◌∷◌, [], ◌⊎◌, length, replicate, take, OnOk, IfOk, IfErr};
+ghost use Rattle.std.specs.Prelude.{Ok, Err, None};
 ghost use Rattle.std.specs.List.{flat_map, range_with_len};
 ghost use Rattle.pnm_image.specs.Heads.{row_length};
 ghost use Rattle.pnm_image.specs.Places.{IsRowOf};
 ghost use Rattle.pnm_tools.specs.declared.fault.ToolFault.TheVariants.{Memory};
 ghost use Rattle.pnm_tools.specs.declared.tool.Tool.TheVariants.{Enlarge};
 ghost use Rattle.pnm_tools.specs.Answering.{row_list};
-ghost use Rattle.pnm_tools.specs.Enlarge.{enlarged_row, repeated};
+ghost use Rattle.pnm_tools.specs.Enlarge.{enlarged_row, copies_of};
 ghost use Rattle.pnm_tools.specs.Pixels.{pixel_of};
 ghost use Rattle.pnm_tools.specs.Keeping.{IsEnlarging, enlarged_due};
 ghost use Rattle.pnm_tools.specs.Limits.{IsExtent};
-ghost use Rattle.pnm_tools.specs.Tools.{Takes, result_head};
+ghost use Rattle.pnm_tools.specs.Tools.{TakesHead, result_head};
 
 use crate::fault::ToolFault;
+use crate::image_tool::ImageTool;
 use crate::limits::head_within_limits;
-use crate::maker::Maker;
 use pnm_image::{Bits, Head, SampleVec, Samples, Shape};
 use std::alloc::Global;
 use std::mem;
@@ -84,168 +85,170 @@ fn repeat_pixels<T: Copy>(
     ensures made { IfOk result (λ made. made.items ≡ enlarged_row across shape row.now) }
     ensures refused { IfErr result (λ fault. fault ≡ Memory) }
 {
-    // The room is there first, and the stores then grow nothing.
+    // The buffer is there first, and the stores then grow nothing.
     let mut enlarged = Vec::from_elem(alloc, row[0], row.len() * across as usize)?;
-    let room = enlarged.as_mut_slice();
+    let buffer = enlarged.as_mut_slice();
     match (across, shape.depth) {
-        (2, 1) => double_samples(shape, row, room),
-        (2, 3) => double_colors(shape, row, room),
-        (_, 1) => repeat_samples(across, shape, row, room),
-        (_, 3) => repeat_colors(across, shape, row, room),
-        _ => repeat_each(across, shape, row, room),
+        (2, 1) => double_samples(shape, row, buffer),
+        (2, 3) => double_colors(shape, row, buffer),
+        (_, 1) => repeat_samples(across, shape, row, buffer),
+        (_, 3) => repeat_colors(across, shape, row, buffer),
+        _ => repeat_each(across, shape, row, buffer),
     }
     Ok(enlarged)
 }
 
-/// Fills the room with the row, each pixel twice, where a pixel is one sample.
-fn double_samples<T: Copy>(shape: Shape, row: &[T], room: &mut [T])
+/// Fills the buffer with the row, each pixel twice, where a pixel is one sample.
+fn double_samples<T: Copy>(shape: Shape, row: &[T], buffer: &mut [T])
     requires depth { shape.depth ≡ 1 }
     requires row { length row.now ≡ row_length shape }
-    requires room { length room.old ≡ length row.now * 2 }
-    ensures { room.new ≡ enlarged_row 2 shape row.now }
+    requires buffer { length buffer.old ≡ length row.now * 2 }
+    ensures { buffer.new ≡ enlarged_row 2 shape row.now }
 {
     for i in 0..row.len() {
         let sample = row[i];
-        room[2 * i] = sample;
-        room[2 * i + 1] = sample;
+        buffer[2 * i] = sample;
+        buffer[2 * i + 1] = sample;
     }
 }
 
-/// Fills the room with the row, each pixel twice, where a pixel is three samples.
-fn double_colors<T: Copy>(shape: Shape, row: &[T], room: &mut [T])
+/// Fills the buffer with the row, each pixel twice, where a pixel is three samples.
+fn double_colors<T: Copy>(shape: Shape, row: &[T], buffer: &mut [T])
     requires depth { shape.depth ≡ 3 }
     requires row { length row.now ≡ row_length shape }
-    requires room { length room.old ≡ length row.now * 2 }
-    ensures { room.new ≡ enlarged_row 2 shape row.now }
+    requires buffer { length buffer.old ≡ length row.now * 2 }
+    ensures { buffer.new ≡ enlarged_row 2 shape row.now }
 {
     let width = shape.width as usize;
     let fours = width / 4;
     for x in 0..fours {
-        double_four_colors(&row[12 * x..12 * x + 12], &mut room[24 * x..24 * x + 24]);
+        double_four_colors(&row[12 * x..12 * x + 12], &mut buffer[24 * x..24 * x + 24]);
     }
     for x in 4 * fours..width {
         let (red, green, blue) = (row[3 * x], row[3 * x + 1], row[3 * x + 2]);
-        room[6 * x] = red;
-        room[6 * x + 1] = green;
-        room[6 * x + 2] = blue;
-        room[6 * x + 3] = red;
-        room[6 * x + 4] = green;
-        room[6 * x + 5] = blue;
+        buffer[6 * x] = red;
+        buffer[6 * x + 1] = green;
+        buffer[6 * x + 2] = blue;
+        buffer[6 * x + 3] = red;
+        buffer[6 * x + 4] = green;
+        buffer[6 * x + 5] = blue;
     }
 }
 
 /// Stores four pixels of three samples, each twice. All samples are taken first, so that the compiler
 /// moves them side by side.
-fn double_four_colors<T: Copy>(row: &[T], room: &mut [T])
+fn double_four_colors<T: Copy>(row: &[T], buffer: &mut [T])
     requires row { length row.now ≡ 12 }
-    requires room { length room.old ≡ 24 }
-    ensures { room.new ≡ flat_map (λ x. repeated 2 (pixel_of 3 row.now x)) (range_with_len 0 4) }
+    requires buffer { length buffer.old ≡ 24 }
+    ensures { buffer.new ≡ flat_map (λ x. copies_of 2 (pixel_of 3 row.now x)) (range_with_len 0 4) }
 {
     let (a, b, c) = (row[0], row[1], row[2]);
     let (d, e, f) = (row[3], row[4], row[5]);
     let (g, h, i) = (row[6], row[7], row[8]);
     let (j, k, l) = (row[9], row[10], row[11]);
-    room[0] = a;
-    room[1] = b;
-    room[2] = c;
-    room[3] = a;
-    room[4] = b;
-    room[5] = c;
-    room[6] = d;
-    room[7] = e;
-    room[8] = f;
-    room[9] = d;
-    room[10] = e;
-    room[11] = f;
-    room[12] = g;
-    room[13] = h;
-    room[14] = i;
-    room[15] = g;
-    room[16] = h;
-    room[17] = i;
-    room[18] = j;
-    room[19] = k;
-    room[20] = l;
-    room[21] = j;
-    room[22] = k;
-    room[23] = l;
+    buffer[0] = a;
+    buffer[1] = b;
+    buffer[2] = c;
+    buffer[3] = a;
+    buffer[4] = b;
+    buffer[5] = c;
+    buffer[6] = d;
+    buffer[7] = e;
+    buffer[8] = f;
+    buffer[9] = d;
+    buffer[10] = e;
+    buffer[11] = f;
+    buffer[12] = g;
+    buffer[13] = h;
+    buffer[14] = i;
+    buffer[15] = g;
+    buffer[16] = h;
+    buffer[17] = i;
+    buffer[18] = j;
+    buffer[19] = k;
+    buffer[20] = l;
+    buffer[21] = j;
+    buffer[22] = k;
+    buffer[23] = l;
 }
 
-/// Fills the room with the row, each pixel so many times, where a pixel is one sample.
-fn repeat_samples<T: Copy>(across: u32, shape: Shape, row: &[T], room: &mut [T])
+/// Fills the buffer with the row, each pixel so many times, where a pixel is one sample.
+fn repeat_samples<T: Copy>(across: u32, shape: Shape, row: &[T], buffer: &mut [T])
     requires depth { shape.depth ≡ 1 }
     requires row { length row.now ≡ row_length shape }
-    requires room { length room.old ≡ length row.now * across }
-    ensures { room.new ≡ enlarged_row across shape row.now }
+    requires buffer { length buffer.old ≡ length row.now * across }
+    ensures { buffer.new ≡ enlarged_row across shape row.now }
 {
     let across = across as usize;
     for i in 0..row.len() {
-        put_copies(room, i * across, across, row[i]);
+        put_copies(buffer, i * across, across, row[i]);
     }
 }
 
 /// Stores a sample so many times from this place on. Sixteen are stored at once where there is room for
 /// them, since what stands behind the last one is stored later.
-fn put_copies<T: Copy>(room: &mut [T], at: usize, count: usize, sample: T)
-    requires { at + count ≤ length room.old }
-    ensures long { length room.new ≡ length room.old }
-    ensures stored { take (at + count) room.new ≡ take at room.old ++ replicate count sample }
+fn put_copies<T: Copy>(buffer: &mut [T], at: usize, count: usize, sample: T)
+    requires { at + count ≤ length buffer.old }
+    ensures long { length buffer.new ≡ length buffer.old }
+    ensures stored { take (at + count) buffer.new ≡ take at buffer.old ++ replicate count sample }
 {
     let end = at + count;
     let mut place = at;
     while place < end {
-        if room.len() - place >= 16 {
-            room[place..place + 16].copy_from_slice(&[sample; 16]);
+        if buffer.len() - place >= 16 {
+            buffer[place..place + 16].copy_from_slice(&[sample; 16]);
             place += 16;
         } else {
-            room[place] = sample;
+            buffer[place] = sample;
             place += 1;
         }
     }
 }
 
-/// Fills the room with the row, each pixel so many times, where a pixel is three samples.
-fn repeat_colors<T: Copy>(across: u32, shape: Shape, row: &[T], room: &mut [T])
+/// Fills the buffer with the row, each pixel so many times, where a pixel is three samples.
+fn repeat_colors<T: Copy>(across: u32, shape: Shape, row: &[T], buffer: &mut [T])
     requires depth { shape.depth ≡ 3 }
     requires row { length row.now ≡ row_length shape }
-    requires room { length room.old ≡ length row.now * across }
-    ensures { room.new ≡ enlarged_row across shape row.now }
+    requires buffer { length buffer.old ≡ length row.now * across }
+    ensures { buffer.new ≡ enlarged_row across shape row.now }
 {
     let (width, across) = (shape.width as usize, across as usize);
     for x in 0..width {
         let color = (row[3 * x], row[3 * x + 1], row[3 * x + 2]);
-        put_colors(room, 3 * x * across, across, color);
+        put_colors(buffer, 3 * x * across, across, color);
     }
 }
 
 /// Stores three samples so many times from this place on, as `put_copies` does one.
-fn put_colors<T: Copy>(room: &mut [T], at: usize, count: usize, color: (T, T, T))
-    requires { at + 3 * count ≤ length room.old }
-    ensures long { length room.new ≡ length room.old }
-    ensures stored { take (at + 3 * count) room.new
-        ≡ take at room.old ++ repeated count (color.0 ∷ color.1 ∷ color.2 ∷ []) }
+fn put_colors<T: Copy>(buffer: &mut [T], at: usize, count: usize, color: (T, T, T))
+    requires { at + 3 * count ≤ length buffer.old }
+    ensures long { length buffer.new ≡ length buffer.old }
+    ensures stored { take (at + 3 * count) buffer.new
+        ≡ take at buffer.old ++ copies_of count (color.0 ∷ color.1 ∷ color.2 ∷ []) }
 {
     let (a, b, c) = color;
     let mut stored = 0;
     while stored < count {
         let place = at + 3 * stored;
-        if room.len() - place >= 15 {
-            room[place..place + 15].copy_from_slice(&[a, b, c, a, b, c, a, b, c, a, b, c, a, b, c]);
+        if buffer.len() - place >= 15 {
+            buffer[place..place + 15].copy_from_slice(&[
+                a, b, c, a, b, c, a, b, c, a, b, c, a, b, c,
+            ]);
             stored += 5;
         } else {
-            room[place] = a;
-            room[place + 1] = b;
-            room[place + 2] = c;
+            buffer[place] = a;
+            buffer[place + 1] = b;
+            buffer[place + 2] = c;
             stored += 1;
         }
     }
 }
 
-/// Fills the room with the row, each pixel so many times.
-fn repeat_each<T: Copy>(across: u32, shape: Shape, row: &[T], room: &mut [T])
+/// Fills the buffer with the row, each pixel so many times.
+fn repeat_each<T: Copy>(across: u32, shape: Shape, row: &[T], buffer: &mut [T])
     requires row { length row.now ≡ row_length shape }
-    requires room { length room.old ≡ length row.now * across }
-    ensures { room.new ≡ enlarged_row across shape row.now }
+    requires buffer { length buffer.old ≡ length row.now * across }
+    ensures { buffer.new ≡ enlarged_row across shape row.now }
 {
     let (width, depth) = (shape.width as usize, shape.depth as usize);
     let mut at = 0;
@@ -253,14 +256,14 @@ fn repeat_each<T: Copy>(across: u32, shape: Shape, row: &[T], room: &mut [T])
         let pixel = &row[x * depth..(x + 1) * depth];
         for _ in 0..across {
             for p in 0..depth {
-                room[at + p] = pixel[p];
+                buffer[at + p] = pixel[p];
             }
             at += depth;
         }
     }
 }
 
-impl Maker for Enlarger {
+impl ImageTool for Enlarger {
     ghost tool = { λ w. Enlarge w.across w.down };
 
     ghost ready = { λ w shape rows. IsEnlarging w.across shape };
@@ -345,7 +348,7 @@ pub(crate) fn enlarged_head(
     ensures made { IfOk result (λ made. result_head (Enlarge across down) head.now ≡ Ok made) }
     ensures ready { OnOk result (IsEnlarging across head.now.shape) }
     ensures refused { IfErr result (λ fault. (result_head (Enlarge across down) head.now ≡ Err fault)
-        ⊎ ((fault ≡ Memory) × Takes (Enlarge across down) head.now)) }
+        ⊎ ((fault ≡ Memory) × TakesHead (Enlarge across down) head.now)) }
 {
     let shape = head.shape();
     if down != 1 && shape.height == 0 {

@@ -1,6 +1,7 @@
 //! What a tool is to those who run it: a filter of messages.
 
-ghost use Rattle.std.specs.Prelude.{◌≡◌, ℕ, ◌<◌, List, [], ◌∷◌, ◌++◌, Bool, true, false, Option, Some, None, OnOk, IfOk, IfErr, IfSome, IfNone, Err};
+ghost use Rattle.std.specs.Prelude.{◌≡◌, ℕ, ◌<◌, List, [], ◌∷◌, ◌++◌, Bool, true, false, Option, Some, None, OnOk};
+ghost use Rattle.std.specs.Prelude.{IfOk, IfErr, IfSome, IfNone, Err};
 ghost use Rattle.pnm_image.specs.declared.message.Message.{Message as MessageValue};
 ghost use Rattle.pnm_image.specs.declared.message.Message.TheVariants.{Stop};
 ghost use Rattle.pnm_tools.specs.declared.fault.ToolFault.{ToolFault as Fault};
@@ -38,9 +39,11 @@ pub trait Filter {
     /// row-wise; `CutOutside` or `ChannelOutside` where the image that begins hasn't the part that is
     /// asked for; `TooLarge` where its result is beyond the limits; `Memory`.
     fn feed(&mut self, message: Message) -> Result<(), ToolFault>
-        ensures accepted { OnOk result ((t : ToolValue) (l g : List MessageValue) → at self.old t l g → at self.new t (l ++ message ∷ []) g) }
+        ensures accepted { OnOk result ((t : ToolValue) (l g : List MessageValue) → at self.old t l g
+            → at self.new t (l ++ message ∷ []) g) }
         ensures owes { OnOk result (all_given self.new ≡ false) }
-        ensures judged { stopped self.old ≡ None → (t : ToolValue) (l g : List MessageValue) → at self.old t l g → Judges (all_given self.old) t l message result }
+        ensures judged { stopped self.old ≡ None → (t : ToolValue) (l g : List MessageValue) → at self.old t l g
+            → Judges (all_given self.old) t l message result }
         ensures stops { IfErr result (λ k. stopped self.new ≡ Some k) }
         ensures goes_on { OnOk result ((stopped self.old ≡ None) × (stopped self.new ≡ None)) }
         ensures stays { (k : Fault) → stopped self.old ≡ Some k → result ≡ Err k };
@@ -49,11 +52,24 @@ pub trait Filter {
     /// is answered for good. The only fault that begins here is `Memory`, and not once the end of the
     /// stream or Stop was given.
     fn next(&mut self) -> Result<Option<Message>, ToolFault>
-        ensures given { IfOk result (λ r. IfSome r (λ m. (t : ToolValue) (l g : List MessageValue) → at self.old t l g → at self.new t l (g ++ m ∷ []))) }
-        ensures stop_alone { IfOk result (λ r. IfSome r (λ m. (t : ToolValue) (l g : List MessageValue) → at self.old t l g → EndsBy Ending.BrokenOff l → m ≡ Stop)) }
-        ensures fewer { IfOk result (λ r. IfSome r (λ m. (waiting self.new < waiting self.old) × (all_given self.old ≡ false) × (all_given self.new ≡ false))) }
-        ensures full { IfOk result (λ r. IfNone r ((all_given self.new ≡ true) × ((t : ToolValue) (l g : List MessageValue) → at self.old t l g → at self.new t l g × AnswersInFull t l g))) }
-        ensures failed { stopped self.old ≡ None → IfErr result (λ k. (k ≡ Memory) × ((t : ToolValue) (l g : List MessageValue) → at self.old t l g → EndsBy Ending.More g)) }
+        ensures given { IfOk result
+            (λ r. IfSome r (λ m. (t : ToolValue) (l g : List MessageValue) → at self.old t l g
+            → at self.new t l (g ++ m ∷ []))) }
+        ensures stop_alone { IfOk result
+            (λ r. IfSome r (λ m. (t : ToolValue) (l g : List MessageValue) → at self.old t l g
+            → EndsBy Ending.BrokenOff l → m ≡ Stop)) }
+        ensures fewer { IfOk result
+            (λ r. IfSome r (λ m. (waiting self.new < waiting self.old) × (all_given self.old ≡ false)
+            × (all_given self.new ≡ false))) }
+        ensures full { IfOk result
+            (λ r. IfNone r
+            ((all_given self.new ≡ true)
+            × ((t : ToolValue) (l g : List MessageValue) → at self.old t l g
+            → at self.new t l g × AnswersInFull t l g))) }
+        ensures failed { stopped self.old ≡ None
+            → IfErr result
+            (λ k. (k ≡ Memory)
+            × ((t : ToolValue) (l g : List MessageValue) → at self.old t l g → EndsBy Ending.More g)) }
         ensures stops { IfErr result (λ k. stopped self.new ≡ Some k) }
         ensures goes_on { OnOk result ((stopped self.old ≡ None) × (stopped self.new ≡ None)) }
         ensures stays { (k : Fault) → stopped self.old ≡ Some k → result ≡ Err k };

@@ -2,19 +2,20 @@
 //! is reversed or not, and that of the rows, and then columns and rows are exchanged or not. Where they
 //! are, `transpose` does it.
 
-ghost use Rattle.std.specs.Prelude.{◌≡◌, ◌⊎◌, if◌then◌else◌, length, reverse, true, false, [], None, OnOk, IfOk, IfErr, Ok, Err};
+ghost use Rattle.std.specs.Prelude.{◌≡◌, ◌⊎◌, if◌then◌else◌, length, reverse, true, false, [], None, OnOk, IfOk, IfErr};
+ghost use Rattle.std.specs.Prelude.{Ok, Err};
 ghost use Rattle.pnm_image.specs.Heads.{IsWithinLimits, row_length};
 ghost use Rattle.pnm_image.specs.Places.{IsRowOf};
 ghost use Rattle.pnm_tools.specs.declared.fault.ToolFault.TheVariants.{Memory};
 ghost use Rattle.pnm_tools.specs.declared.tool.Tool.TheVariants.{Flip};
 ghost use Rattle.pnm_tools.specs.Flip.{mirrored_row, moved_rows, moves_rows, turn_of, turned_row};
 ghost use Rattle.pnm_tools.specs.Keeping.{FlipsInRows, IsReversingRows, ReversesRows, reversed_due};
-ghost use Rattle.pnm_tools.specs.Tools.{Takes, result_head};
+ghost use Rattle.pnm_tools.specs.Tools.{TakesHead, result_head};
 
 use crate::fault::ToolFault;
+use crate::image_tool::ImageTool;
 use crate::limits::head_within_limits;
-use crate::maker::Maker;
-use crate::rows::Rows;
+use crate::row_tool::RowTool;
 use pnm_image::{Bits, Head, SampleVec, Samples, Shape};
 use std::alloc::{AllocError, Global};
 use std::marker::Model;
@@ -158,7 +159,7 @@ fn reverse_pixels<T: Copy>(samples: &mut [T], shape: Shape)
     }
 }
 
-/// The same where each pixel is three samples, without a loop over its samples.
+/// The last pixel first, where each is three samples, without a loop over a pixel's samples.
 fn reverse_colors<T: Copy>(samples: &mut [T], shape: Shape)
     requires depth { shape.depth ≡ 3 }
     requires row { length samples.old ≡ row_length shape }
@@ -200,12 +201,13 @@ impl Model for RowFlipper {
     ghost invariant = { λ w. KeepsRows w.way };
 }
 
-impl Rows for RowFlipper {
+impl RowTool for RowFlipper {
     ghost tool = { λ way. Flip way };
 
     ghost ready = { λ way shape. FlipsInRows way shape };
 
-    ghost at_once = { λ way shape rows ready i. if ready.stays i then moved_rows (turn_of way) shape rows else [] };
+    ghost nothing_at_end = { λ way shape rows ready i. if ready.stays i then moved_rows (turn_of way) shape
+        rows else [] };
 
     fn begin(&mut self, alloc: Global, head: &Head) -> Result<Head, ToolFault> {
         flipped_head(alloc, self.way, head)
@@ -253,7 +255,7 @@ impl Model for RowReverser {
     ghost invariant = { λ w. CanReverse (reversed w.way w.rows.items w.ended) };
 }
 
-impl Maker for RowReverser {
+impl ImageTool for RowReverser {
     ghost tool = { λ w. Flip w.way };
 
     ghost ready = { IsReversingRows };
@@ -325,7 +327,7 @@ pub(crate) fn flipped_head(alloc: Global, way: FlipWay, head: &Head) -> Result<H
     ensures made { IfOk result (λ made. result_head (Flip way) head.now ≡ Ok made) }
     ensures limits { OnOk result (IsWithinLimits head.now.shape) }
     ensures refused { IfErr result (λ fault. (result_head (Flip way) head.now ≡ Err fault)
-        ⊎ ((fault ≡ Memory) × Takes (Flip way) head.now)) }
+        ⊎ ((fault ≡ Memory) × TakesHead (Flip way) head.now)) }
 {
     let (turn, shape) = (way.turn(), head.shape());
     if turn.moves_rows() && shape.height == 0 {

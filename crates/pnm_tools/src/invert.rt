@@ -5,7 +5,7 @@ ghost use Rattle.pnm_image.specs.declared.limits.TheConstants.{MAX_MAXVAL};
 ghost use Rattle.pnm_tools.specs.declared.tool.Tool.TheVariants.{Invert};
 
 use crate::fault::ToolFault;
-use crate::rows::Rows;
+use crate::row_tool::RowTool;
 use pnm_image::{Head, SampleVec, Samples, Shape};
 use pnm_samples::Sample;
 use std::alloc::{AllocError, Global};
@@ -52,14 +52,14 @@ fn invert<T: Sample>(samples: &mut [T], maxval: T)
     }
 }
 
-impl Rows for Inverter {
+impl RowTool for Inverter {
     ghost use Rattle.pnm_image.specs.Heads.{IsWithinLimits};
 
     ghost tool = { λ _. Invert };
 
     ghost ready = { λ _ s. IsWithinLimits s };
 
-    ghost at_once = { λ _ _ _ _ _. [] };
+    ghost nothing_at_end = { λ _ _ _ _ _. [] };
 
     fn begin(&mut self, _alloc: Global, head: &Head) -> Result<Head, ToolFault> {
         match head.copy() {

@@ -3,7 +3,9 @@
 
 ghost use Rattle.pnm_tools.specs.Answers.{FullAnswerIsTheStream};
 ghost use Rattle.pnm_tools.specs.Dealing.{RowWiseToolsCommuteWithDealing, DealtExamplesHold};
-ghost use Rattle.pnm_tools.specs.Laws.{HeadsAreRefusedByName, QuarterTurnsAddUp, ResultsAreImages, SamplesAreByTheFormula, SamplesAreNearest, StreamsAreAnswered, FirstFaultIsTheRefusal, AnswersAreDue};
+ghost use Rattle.pnm_tools.specs.Laws.{HeadsAreRefusedByName, QuarterTurnsAddUp, ResultsAreImages};
+ghost use Rattle.pnm_tools.specs.Laws.{SamplesAreByTheFormula, SamplesAreNearest, StreamsAreAnswered};
+ghost use Rattle.pnm_tools.specs.Laws.{FirstFaultIsTheRefusal, AnswersAreDue};
 
 /// A full answer to a stream is the tool's stream: the results of all its images, none of which is
 /// refused.
@@ -52,7 +54,7 @@ pub fn first_fault_is_the_refusal()
     ensures { FirstFaultIsTheRefusal }
 {}
 
-/// Whatever images complete what a chain has received, what it gave is a front of the output due for
+/// Whatever images complete what a chain has received, what it gave is a prefix of the output due for
 /// them.
 pub fn answers_are_due()
     ensures { AnswersAreDue }

@@ -3,8 +3,9 @@
 //! and pnmtile(1).
 #![tactic(auto)]
 
-mod at_once;
-mod band;
+mod any_tool;
+mod batch;
+mod by_row;
 mod channel;
 mod cut;
 mod depth;
@@ -12,20 +13,19 @@ mod enlarge;
 mod fault;
 mod filter;
 mod flip;
+mod image_tool;
 mod invert;
 pub mod laws;
 mod limits;
-mod maker;
 mod row_of;
 mod row_state;
-mod rows;
+mod row_tool;
 mod sample_rows;
 mod state;
 mod strip;
 mod tile;
 mod tool;
 mod transpose;
-mod work;
 
 pub use channel::Planes;
 pub use cut::CutBox;

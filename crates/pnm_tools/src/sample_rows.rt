@@ -6,10 +6,11 @@ ghost use Rattle.pnm_image.specs.declared.limits.TheConstants.{MAX_DEPTH, MAX_RO
 ghost use Rattle.pnm_image.specs.Heads.{IsWithinLimits};
 ghost use Rattle.pnm_tools.specs.declared.fault.ToolFault.TheVariants.{Memory};
 ghost use Rattle.pnm_tools.specs.Flip.{in_order};
-ghost use Rattle.pnm_tools.specs.SampleRows.{row_lists, strip_lists, rows_width, FitsWidth, IsBandOfBits, band_length};
+ghost use Rattle.pnm_tools.specs.SampleRows.{row_lists, strip_lists, rows_width, FitsWidth, IsBatchOfBits};
+ghost use Rattle.pnm_tools.specs.SampleRows.{batch_length};
 ghost use Rattle.pnm_tools.specs.Strips.{HaveSizes, KeepColumns, ReachColumns, kept_column, kept_count};
 
-use crate::band::{columns_of, last_first};
+use crate::batch::{columns_of, last_first};
 use crate::fault::ToolFault;
 use crate::row_of::RowOf;
 use crate::strip::StripedRows;
@@ -18,10 +19,10 @@ use std::alloc::Global;
 
 /// How many columns are made side by side. One at a time would fetch each row of the image from
 /// memory once for each of its columns. As many bytes of a row lie in a line of the processor's cache.
-const BAND: u32 = 64;
+const BATCH: u32 = 64;
 
-/// The same where a byte holds eight columns of a row, as many as lie in 32 bytes.
-const BAND_OF_BITS: u32 = 256;
+/// How many columns of bits are made side by side, eight to a byte: as many as lie in 32 bytes.
+const BATCH_OF_BITS: u32 = 256;
 
 /// How many rows an image has at least whose rows are put into strips as they come: so the strip that is made
 /// takes little memory beside the image.
@@ -126,20 +127,20 @@ impl SampleRows {
     }
 
     /// How many columns are made side by side.
-    pub fn band_length(&self) -> u32
-        ensures length { result ≡ band_length (rows_width self.now) }
+    pub fn batch_length(&self) -> u32
+        ensures length { result ≡ batch_length (rows_width self.now) }
         ensures some { 0 < result }
     {
         match self {
-            SampleRows::Bits(_) => BAND_OF_BITS,
-            SampleRows::Bytes(_) | SampleRows::Words(_) => BAND,
+            SampleRows::Bits(_) => BATCH_OF_BITS,
+            SampleRows::Bytes(_) | SampleRows::Words(_) => BATCH,
         }
     }
 
     /// So many columns of the rows, from the first one on, the last one first: the samples of the strips
     /// before those of the rows that came after them, or behind those. The first column of bits is that of
     /// the highest bit of a byte. The only fault is `Memory`.
-    pub fn band(
+    pub fn batch(
         &self,
         alloc: Global,
         rows_first: bool,
@@ -150,8 +151,8 @@ impl SampleRows {
         requires reach { ReachColumns (first + count) depth (strip_lists self.now) (row_lists self.now) }
         requires sizes { (kept_count (strip_lists self.now) (row_lists self.now) * depth ≤ MAX_ROW_LENGTH)
             × (depth ≤ MAX_DEPTH) × (first + count ≤ 4294967295) }
-        requires bits { rows_width self.now ≡ SampleWidth.Bits → IsBandOfBits first count depth }
-        ensures made { IfOk result (λ band. band.items
+        requires bits { rows_width self.now ≡ SampleWidth.Bits → IsBatchOfBits first count depth }
+        ensures made { IfOk result (λ batch. batch.items
             ≡ reverse (map (kept_column rows_first depth (strip_lists self.now) (row_lists self.now))
             (range_with_len first count))) }
         ensures refused { IfErr result (λ fault. fault ≡ Memory) }

@@ -8,7 +8,7 @@ ghost use Rattle.pnm_tools.specs.Steps.{Answered, Gave, IsGiven};
 
 use crate::fault::ToolFault;
 use crate::filter::Filter;
-use crate::maker::Maker;
+use crate::image_tool::ImageTool;
 use pnm_image::{Message, Place};
 use std::alloc::Global;
 use std::marker::Model;
@@ -31,7 +31,7 @@ pub enum Owed {
 /// A tool at work on a stream. What it keeps of an image it gives up once it has given the image's end,
 /// where the stream is broken off, and at a fault.
 #[derive(Debug, Drop)]
-pub struct State<T: Maker> {
+pub struct State<T: ImageTool> {
     alloc: Global,
     work: T,
     place: Place,
@@ -40,7 +40,7 @@ pub struct State<T: Maker> {
     fault: Option<ToolFault>,
 }
 
-impl<T: Maker> Model for State<T> {
+impl<T: ImageTool> Model for State<T> {
     ghost use Rattle.pnm_tools.specs.Pendings.{pending_of};
     ghost use Rattle.pnm_tools.specs.States.{Standing, standing, IsStanding};
     ghost use Rattle.pnm_tools.specs.Tools.{IsLawfulTool};
@@ -53,7 +53,7 @@ impl<T: Maker> Model for State<T> {
         × IsStanding T.ready T.kept s.work s.place (pending_of s.owed s.waiting) s.fault };
 }
 
-impl<T: Maker> Filter for State<T> {
+impl<T: ImageTool> Filter for State<T> {
     ghost use Rattle.pnm_tools.specs.States.{IsAt};
 
     ghost at = { IsAt T.tool T.ready T.due T.kept };
@@ -111,7 +111,7 @@ impl<T: Maker> Filter for State<T> {
     }
 }
 
-impl<T: Maker> State<T> {
+impl<T: ImageTool> State<T> {
     /// The tool before the first message.
     pub fn new(alloc: Global, work: T) -> State<T>
         requires lawful { IsLawfulTool (T.tool work) }
@@ -133,7 +133,7 @@ impl<T: Maker> State<T> {
 }
 
 /// Takes a message, if it may come at this place, and sets what is owed for it.
-fn answer<T: Maker>(
+fn answer<T: ImageTool>(
     alloc: Global,
     work: &mut T,
     place: &mut Place,
@@ -185,7 +185,7 @@ fn answer<T: Maker>(
 }
 
 /// The next message that is owed, if one is.
-fn give<T: Maker>(
+fn give<T: ImageTool>(
     alloc: Global,
     work: &mut T,
     owed: &mut Owed,
@@ -235,7 +235,7 @@ fn give_one(owed: &mut Owed, waiting: &mut Option<Message>) -> Option<Message>
 }
 
 /// Whether nothing is owed, as far as a look shows; that is told then.
-fn tell<T: Maker>(work: &T, owed: &mut Owed, waiting: &Option<Message>) -> bool
+fn tell<T: ImageTool>(work: &T, owed: &mut Owed, waiting: &Option<Message>) -> bool
     ensures told { result ≡ true
         → IsGiven T.tool T.ready T.due T.kept work.now (pending_of owed.old waiting.now) work.now
         (pending_of owed.new waiting.now) None }

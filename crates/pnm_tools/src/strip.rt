@@ -10,7 +10,7 @@ ghost use Rattle.pnm_tools.specs.Columns.{AreAsLong};
 ghost use Rattle.pnm_tools.specs.Flip.{column_of, in_order};
 ghost use Rattle.pnm_tools.specs.Strips.{HaveSizes, KeepColumns};
 
-use crate::band::{blank_columns, put_all};
+use crate::batch::{blank_columns, put_all};
 use crate::fault::ToolFault;
 use crate::row_of::RowOf;
 use std::alloc::Global;

@@ -8,11 +8,11 @@ ghost use Rattle.pnm_tools.specs.Tile.{tiled_row};
 ghost use Rattle.pnm_image.specs.Heads.{IsWithinLimits, row_length};
 ghost use Rattle.pnm_tools.specs.Keeping.{IsTiling, shown_row, tiled_due};
 ghost use Rattle.pnm_tools.specs.Limits.{IsExtent};
-ghost use Rattle.pnm_tools.specs.Tools.{Takes, result_head};
+ghost use Rattle.pnm_tools.specs.Tools.{TakesHead, result_head};
 
 use crate::fault::ToolFault;
+use crate::image_tool::ImageTool;
 use crate::limits::head_within_limits;
-use crate::maker::Maker;
 use pnm_image::{Bits, Head, Kind, SampleSlice, SampleVec, Samples, Shape};
 use std::alloc::Global;
 use std::collections::VecDeque;
@@ -60,7 +60,7 @@ fn tile_row(alloc: Global, width: u32, shape: Shape, row: &Samples) -> Result<Sa
     }
 }
 
-/// The same of a row that isn't wanted again: the row itself, where it has those columns.
+/// The first columns of copies of a row that isn't wanted again: the row itself, where it has those columns.
 ///
 /// # Errors
 ///
@@ -105,11 +105,11 @@ fn shown_part(alloc: Global, width: u32, shape: Shape, row: Samples) -> Result<S
             Ok(Samples::within(SampleVec::Bits(shown), shape.maxval))
         }
         SampleVec::Bytes(bytes) => {
-            let bytes = front(alloc, bytes, count)?;
+            let bytes = prefix(alloc, bytes, count)?;
             Ok(Samples::within(SampleVec::Bytes(bytes), shape.maxval))
         }
         SampleVec::Words(words) => {
-            let words = front(alloc, words, count)?;
+            let words = prefix(alloc, words, count)?;
             Ok(Samples::within(SampleVec::Words(words), shape.maxval))
         }
     }
@@ -117,7 +117,7 @@ fn shown_part(alloc: Global, width: u32, shape: Shape, row: Samples) -> Result<S
 
 /// The first samples of a row. A vector keeps the memory of what is cut off, so that few of them
 /// are copied into one of their own.
-fn front<T: Copy>(alloc: Global, mut row: Vec<T>, count: usize) -> Result<Vec<T>, ToolFault>
+fn prefix<T: Copy>(alloc: Global, mut row: Vec<T>, count: usize) -> Result<Vec<T>, ToolFault>
     ensures made { IfOk result (λ made. made.items ≡ take count row.items) }
     ensures refused { IfErr result (λ fault. fault ≡ Memory) }
 {
@@ -183,10 +183,11 @@ impl Model for Tiler {
     ghost view = { λ w. tiled w.width w.height w.shape.width w.shape.depth w.rows.items w.left };
 
     ghost invariant = { λ w. 0 < w.left
-        → HasTiles (tiled w.width w.height w.shape.width w.shape.depth w.rows.items w.left) × AreWithin w.shape.maxval w.rows.items };
+        → HasTiles (tiled w.width w.height w.shape.width w.shape.depth w.rows.items w.left)
+        × AreWithin w.shape.maxval w.rows.items };
 }
 
-impl Maker for Tiler {
+impl ImageTool for Tiler {
     ghost tool = { λ w. Tile w.width w.height };
 
     ghost ready = { IsTiling };
@@ -284,7 +285,7 @@ pub(crate) fn tiled_head(
     ensures source { OnOk result (IsWithinLimits head.now.shape) }
     ensures limits { OnOk result (width * head.now.shape.depth ≤ MAX_ROW_LENGTH) }
     ensures refused { IfErr result (λ fault. (result_head (Tile width height) head.now ≡ Err fault)
-        ⊎ ((fault ≡ Memory) × Takes (Tile width height) head.now)) }
+        ⊎ ((fault ≡ Memory) × TakesHead (Tile width height) head.now)) }
 {
     let shape = head.shape();
     if shape.height == 0 {

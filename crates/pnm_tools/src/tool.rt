@@ -3,10 +3,11 @@
 ghost use Rattle.std.specs.Prelude.{◌≡◌, ◌↔◌, ◌⊎◌, IsTrue, true, None, [], IfOk, IfErr, Ok, Err};
 ghost use Rattle.pnm_tools.specs.declared.fault.ToolFault.TheVariants.{Memory};
 ghost use Rattle.pnm_tools.specs.declared.tool.Tool.TheVariants.{Flip};
-ghost use Rattle.pnm_tools.specs.States.{IsFresh, kept_of, tool_of};
-ghost use Rattle.pnm_tools.specs.Tools.{IsLawfulTool, Takes, is_row_wise, result_head};
+ghost use Rattle.pnm_tools.specs.States.{IsFreshTool, kept_of, tool_of};
+ghost use Rattle.pnm_tools.specs.Tools.{IsLawfulTool, TakesHead, is_row_wise, result_head};
 
-use crate::at_once::AtOnce;
+use crate::any_tool::AnyTool;
+use crate::by_row::ByRow;
 use crate::channel::Planes;
 use crate::cut::{CutBox, Cutter};
 use crate::depth::{Rescaler, Table, head_at};
@@ -15,17 +16,16 @@ use crate::fault::ToolFault;
 use crate::flip::{FlipWay, RowFlipper, RowReverser, flipped_head};
 use crate::invert::Inverter;
 use crate::limits::is_extent;
-use crate::rows::Rows;
+use crate::row_tool::RowTool;
 use crate::state::State;
 use crate::tile::{Tiler, tiled_head};
 use crate::transpose::Transposer;
-use crate::work::Work;
 use pnm_image::Head;
 use pnm_image::limits::MAX_MAXVAL;
 use std::alloc::Global;
 
 /// A tool of a chain at work on a stream.
-pub type ToolState = State<Work>;
+pub type ToolState = State<AnyTool>;
 
 /// A tool and its options.
 #[derive(Debug, Drop)]
@@ -102,7 +102,7 @@ impl Tool {
         requires { IsLawfulTool self.now }
         ensures made { IfOk result (λ made. result_head self.now head.now ≡ Ok made) }
         ensures refused { IfErr result (λ fault. (result_head self.now head.now ≡ Err fault)
-            ⊎ ((fault ≡ Memory) × Takes self.now head.now)) }
+            ⊎ ((fault ≡ Memory) × TakesHead self.now head.now)) }
     {
         match self {
             Tool::Invert => Inverter.begin(alloc, head),
@@ -118,43 +118,43 @@ impl Tool {
     /// The tool at work, before the first message. The only fault is `Memory`.
     pub fn start(&self, alloc: Global) -> Result<ToolState, ToolFault>
         requires { IsLawfulTool self.now }
-        ensures started { IfOk result (λ state. IsFresh state self.now) }
+        ensures started { IfOk result (λ state. IsFreshTool state self.now) }
         ensures refused { IfErr result (λ fault. fault ≡ Memory) }
     {
         Ok(State::new(alloc, self.work(alloc)?))
     }
 
-    fn work(&self, alloc: Global) -> Result<Work, ToolFault>
+    fn work(&self, alloc: Global) -> Result<AnyTool, ToolFault>
         ensures tool { IfOk result (λ work. tool_of work ≡ self.now) }
         ensures kept { IfOk result (λ work. kept_of work ≡ []) }
         ensures refused { IfErr result (λ fault. fault ≡ Memory) }
     {
         Ok(match self {
-            Tool::Invert => Work::Inverting(AtOnce::new(Inverter)),
-            Tool::Cut(cut) => Work::Cutting(AtOnce::new(Cutter::new(*cut))),
-            Tool::Depth(maxval) => Work::Rescaling(AtOnce::new(Rescaler {
+            Tool::Invert => AnyTool::Inverting(ByRow::new(Inverter)),
+            Tool::Cut(cut) => AnyTool::Cutting(ByRow::new(Cutter::new(*cut))),
+            Tool::Depth(maxval) => AnyTool::Rescaling(ByRow::new(Rescaler {
                 maxval: *maxval,
                 table: Table::Absent,
             })),
-            Tool::Channel(planes) => Work::Picking(AtOnce::new(planes.copy()?)),
-            Tool::Enlarge(across, down) => Work::Enlarging(Enlarger::new(*across, *down)),
+            Tool::Channel(planes) => AnyTool::Picking(ByRow::new(planes.copy()?)),
+            Tool::Enlarge(across, down) => AnyTool::Enlarging(Enlarger::new(*across, *down)),
             Tool::Flip(way) => flip(alloc, *way),
-            Tool::Tile(width, height) => Work::Tiling(Tiler::new(alloc, *width, *height)),
+            Tool::Tile(width, height) => AnyTool::Tiling(Tiler::new(alloc, *width, *height)),
         })
     }
 }
 
 /// The tool at work that flips images this way.
-fn flip(alloc: Global, way: FlipWay) -> Work
+fn flip(alloc: Global, way: FlipWay) -> AnyTool
     ensures tool { tool_of result ≡ Flip way }
     ensures kept { kept_of result ≡ [] }
 {
     let turn = way.turn();
     if turn.exchanged {
-        Work::Transposing(Transposer::new(alloc, way))
+        AnyTool::Transposing(Transposer::new(alloc, way))
     } else if turn.rows_reversed {
-        Work::ReversingRows(RowReverser::new(alloc, way))
+        AnyTool::ReversingRows(RowReverser::new(alloc, way))
     } else {
-        Work::FlippingRows(AtOnce::new(RowFlipper::new(way)))
+        AnyTool::FlippingRows(ByRow::new(RowFlipper::new(way)))
     }
 }

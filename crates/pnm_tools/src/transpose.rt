@@ -8,7 +8,7 @@ ghost use Rattle.pnm_tools.specs.Keeping.{IsTransposing, transposed_due};
 
 use crate::fault::ToolFault;
 use crate::flip::{FlipWay, flipped_head};
-use crate::maker::Maker;
+use crate::image_tool::ImageTool;
 use crate::sample_rows::SampleRows;
 use pnm_image::{Head, SampleWidth, Samples, Shape};
 use std::alloc::Global;
@@ -23,7 +23,7 @@ pub struct Transposer {
     depth: u32,
     rows: SampleRows,
     /// Columns that are made, the next one last.
-    band: Vec<Samples>,
+    batch: Vec<Samples>,
     /// The first column that isn't made yet.
     next: u32,
     /// The columns before this one aren't made yet from `next` on; 0 until the image has ended.
@@ -36,19 +36,22 @@ impl Model for Transposer {
 
     ghost Value = { Transposed };
 
-    ghost view = { λ w. transposed w.way w.depth (rows_width w.rows) (strip_lists w.rows) (row_lists w.rows) w.band.items w.next w.columns };
+    ghost view = { λ w. transposed w.way w.depth (rows_width w.rows) (strip_lists w.rows) (row_lists w.rows)
+        w.batch.items w.next w.columns };
 
-    ghost invariant = { λ w. HasColumns (transposed w.way w.depth (rows_width w.rows) (strip_lists w.rows) (row_lists w.rows) w.band.items w.next w.columns) };
+    ghost invariant = { λ w.
+        HasColumns (transposed w.way w.depth (rows_width w.rows) (strip_lists w.rows) (row_lists w.rows) w.batch.items
+        w.next w.columns) };
 }
 
-impl Maker for Transposer {
+impl ImageTool for Transposer {
     ghost tool = { λ w. Flip w.way };
 
     ghost ready = { IsTransposing };
 
     ghost due = { transposed_due };
 
-    ghost kept = { λ w. w.strips ++ w.rows ++ w.band };
+    ghost kept = { λ w. w.strips ++ w.rows ++ w.batch };
 
     fn begin(&mut self, alloc: Global, head: &Head) -> Result<Head, ToolFault> {
         let transposed = flipped_head(alloc, self.way, head)?;
@@ -80,18 +83,18 @@ impl Maker for Transposer {
 
     #[inline(never)]
     fn give(&mut self, alloc: Global) -> Result<Option<Samples>, ToolFault> {
-        if self.band.is_empty() && self.next < self.columns {
+        if self.batch.is_empty() && self.next < self.columns {
             if self.way.turn().columns_reversed {
                 self.make_last(alloc)?;
             } else {
                 self.make_first(alloc)?;
             }
         }
-        Ok(self.band.pop())
+        Ok(self.batch.pop())
     }
 
     fn may_give(&self) -> bool {
-        !self.band.is_empty() || self.next < self.columns
+        !self.batch.is_empty() || self.next < self.columns
     }
 
     fn release(&mut self, alloc: Global) {
@@ -105,13 +108,13 @@ impl Transposer {
         requires { (turn_of way).exchanged ≡ true }
         ensures way { result.way ≡ way }
         ensures rows { (result.strips ≡ []) × (result.rows ≡ []) }
-        ensures band { result.band ≡ [] }
+        ensures batch { result.batch ≡ [] }
     {
         Transposer {
             way,
             depth: 0,
             rows: SampleRows::new(alloc),
-            band: Vec::new(alloc),
+            batch: Vec::new(alloc),
             next: 0,
             columns: 0,
         }
@@ -120,52 +123,52 @@ impl Transposer {
     /// Gives up all rows and columns.
     fn clear(&mut self, alloc: Global)
         ensures way { self.new.way ≡ self.old.way }
-        ensures rows { (self.new.strips ≡ []) × (self.new.rows ≡ []) × (self.new.band ≡ []) }
+        ensures rows { (self.new.strips ≡ []) × (self.new.rows ≡ []) × (self.new.batch ≡ []) }
         ensures columns { (self.new.next ≡ 0) × (self.new.columns ≡ 0) }
     {
         self.columns = 0;
         self.next = 0;
         self.rows = SampleRows::new(alloc);
-        self.band = Vec::new(alloc);
+        self.batch = Vec::new(alloc);
     }
 
     /// Makes the first of the columns that are left. The only fault is `Memory`.
     fn make_first(&mut self, alloc: Global) -> Result<(), ToolFault>
         requires order { (turn_of self.old.way).columns_reversed ≡ false }
-        requires left { (self.old.band ≡ []) × (self.old.next < self.old.columns) }
+        requires left { (self.old.batch ≡ []) × (self.old.next < self.old.columns) }
         ensures way { self.new.way ≡ self.old.way }
         ensures due { OnOk result (transposed_due self.new ≡ transposed_due self.old) }
-        ensures some { OnOk result (0 < length self.new.band) }
+        ensures some { OnOk result (0 < length self.new.batch) }
         ensures refused { IfErr result (λ fault. fault ≡ Memory) }
     {
-        let count = (self.columns - self.next).min(self.rows.band_length());
+        let count = (self.columns - self.next).min(self.rows.batch_length());
         let (first, depth) = (self.next as usize, self.depth as usize);
         let rows_first = self.way.turn().rows_reversed;
-        self.band = self
+        self.batch = self
             .rows
-            .band(alloc, rows_first, first, count as usize, depth)?;
+            .batch(alloc, rows_first, first, count as usize, depth)?;
         self.next += count;
         Ok(())
     }
 
     /// Makes the last of the columns that are left, so many that their first is at a multiple of a
-    /// band's length. The only fault is `Memory`.
+    /// batch's length. The only fault is `Memory`.
     fn make_last(&mut self, alloc: Global) -> Result<(), ToolFault>
         requires order { (turn_of self.old.way).columns_reversed ≡ true }
-        requires left { (self.old.band ≡ []) × (self.old.next < self.old.columns) }
+        requires left { (self.old.batch ≡ []) × (self.old.next < self.old.columns) }
         ensures way { self.new.way ≡ self.old.way }
         ensures due { OnOk result (transposed_due self.new ≡ transposed_due self.old) }
-        ensures some { OnOk result (0 < length self.new.band) }
+        ensures some { OnOk result (0 < length self.new.batch) }
         ensures refused { IfErr result (λ fault. fault ≡ Memory) }
     {
-        let count = (self.columns - self.next - 1) % self.rows.band_length() + 1;
+        let count = (self.columns - self.next - 1) % self.rows.batch_length() + 1;
         let (first, depth) = (self.columns - count, self.depth as usize);
         let rows_first = self.way.turn().rows_reversed;
-        let mut band = self
+        let mut batch = self
             .rows
-            .band(alloc, rows_first, first as usize, count as usize, depth)?;
-        band.reverse();
-        self.band = band;
+            .batch(alloc, rows_first, first as usize, count as usize, depth)?;
+        batch.reverse();
+        self.batch = batch;
         self.columns = first;
         Ok(())
     }

@@ -1,5 +1,5 @@
-//! Steps of a tool at work. A message is fed, and all is taken that the tool gives then. With a `~` before it, that isn't told;
-//! with a `!`, nothing is taken. `?` takes one answer. A fault is told, and whether it doesn't stay.
+//! Steps of a tool at work. A message is fed, and all is taken that the tool gives then. With a `~` before it, that
+//! isn't told; with a `!`, nothing is taken. `?` takes one answer. A fault is told, and whether it doesn't stay.
 
 use super::tasks::{Task, tell_at_work};
 use pnm_image::{Message, SampleSlice, Samples};

@@ -1,5 +1,6 @@
 -- The header that is written of an image spells its head.
-use Rattle.std.proofs.Common.{◌≡◌, ℕ, ◌<◌, ◌≤◌, true, ◌||◌, List, [], ◌∷◌, ◌++◌, length, codes, decimal, Some, None, refl, sym, ap, ◌∙◌, subst, append_assoc, length-append, arith}
+use Rattle.std.proofs.Common.{◌≡◌, ℕ, ◌<◌, ◌≤◌, true, ◌||◌, List, [], ◌∷◌, ◌++◌, length, codes, decimal, Some, None, refl, sym, ap, ◌∙◌, subst, append_assoc}
+use Rattle.std.proofs.Common.{length-append, arith}
 use Rattle.std.specs.List.{AllPass}
 use Rattle.pnm_image.specs.declared.shape.Shape.{Shape}
 use Rattle.pnm_image.specs.declared.shape.Kind.{Kind}
@@ -32,7 +33,8 @@ maxval_body w h m = sizes_body w h ++ 10 ∷ m
 sizes_are : (w h : List ℕ) (width height : ℕ) → SpellsDecimal w width → SpellsDecimal h height → SpellsNumbers (sizes_body w h) (width ∷ height ∷ [])
 sizes_are w h width height sw sh = number_more (10 ∷ w) (width ∷ []) 32 h height (number_more [] [] 10 w width no_numbers refl sw) refl sh
 
-maxval_is : (w h m : List ℕ) (width height maxval : ℕ) → SpellsDecimal w width → SpellsDecimal h height → SpellsDecimal m maxval → SpellsNumbers (maxval_body w h m) (width ∷ height ∷ maxval ∷ [])
+maxval_is : (w h m : List ℕ) (width height maxval : ℕ) → SpellsDecimal w width → SpellsDecimal h height → SpellsDecimal m maxval
+    → SpellsNumbers (maxval_body w h m) (width ∷ height ∷ maxval ∷ [])
 maxval_is w h m width height maxval sw sh sm = number_more (sizes_body w h) (width ∷ height ∷ []) 10 m maxval (sizes_are w h width height sw sh) refl sm
 
 -- the text of the sizes
@@ -56,7 +58,8 @@ maxval_short : (w h m : List ℕ) → length w ≤ 10 → length h ≤ 10 → le
 maxval_short w h m sw sh sm = omega (arith, sizes_short w h sw sh, length-append (sizes_line w h) (m ++ 10 ∷ []), length-append m (10 ∷ []))
 
 -- a body of numbers, between a magic and white space
-body_spells : (digit : ℕ) (body after : List ℕ) (format : Format) (head : HeadValue) → format_of digit ≡ Some format → 10 ∷ after ≡ body ++ 10 ∷ [] → length after ≤ 33 → begins_apart body ≡ true → SpellsNumbers body (header_numbers head.shape)
+body_spells : (digit : ℕ) (body after : List ℕ) (format : Format) (head : HeadValue) → format_of digit ≡ Some format → 10 ∷ after ≡ body ++ 10 ∷ []
+    → length after ≤ 33 → begins_apart body ≡ true → SpellsNumbers body (header_numbers head.shape)
     → ends_in_word body ≡ true → head.shape.kind ≡ format.kind → IsHead head → 0 < head.shape.height → SpellsPnmHeader (80 ∷ digit ∷ 10 ∷ after) format head
 body_spells digit body after format head named whole short begins numbers ends kind sound rows = record {
   digit = digit;
@@ -108,7 +111,8 @@ abbrev pub format_in : Form → Kind → Format
 format_in form kind = record { kind = kind; form = form }
 
 -- a header of the sizes
-bit_spells : (form : Form) (digit width height depth maxval : ℕ) (tuple_type : List ℕ) → format_of digit ≡ Some (format_in form Bit) → IsHead (head_by Bit width height depth maxval tuple_type) → 0 < height
+bit_spells : (form : Form) (digit width height depth maxval : ℕ) (tuple_type : List ℕ) → format_of digit ≡ Some (format_in form Bit)
+    → IsHead (head_by Bit width height depth maxval tuple_type) → 0 < height
     → SpellsPnmHeader (80 ∷ digit ∷ 10 ∷ sizes_line (decimal width) (decimal height)) (format_in form Bit) (head_by Bit width height depth maxval tuple_type)
 bit_spells form digit width height depth maxval tuple_type named sound rows =
     let n = number_texts (shape_by Bit width height depth maxval) sound.limits in
@@ -119,9 +123,11 @@ bit_spells form digit width height depth maxval tuple_type named sound rows =
     (sizes_are w h width height n.width n.height) (ends_in_number (10 ∷ w) 32 h height refl n.height) refl sound rows
 
 -- a header of the sizes and the maxval
-maxval_spells : (form : Form) (kind : Kind) (digit width height depth maxval : ℕ) (tuple_type : List ℕ) → format_of digit ≡ Some (format_in form kind) → header_numbers (shape_by kind width height depth maxval) ≡ width ∷ height ∷ maxval ∷ []
+maxval_spells : (form : Form) (kind : Kind) (digit width height depth maxval : ℕ) (tuple_type : List ℕ) → format_of digit ≡ Some (format_in form kind)
+    → header_numbers (shape_by kind width height depth maxval) ≡ width ∷ height ∷ maxval ∷ []
     → IsHead (head_by kind width height depth maxval tuple_type) → 0 < height
-    → SpellsPnmHeader (80 ∷ digit ∷ 10 ∷ (sizes_line (decimal width) (decimal height) ++ (decimal maxval ++ 10 ∷ []))) (format_in form kind) (head_by kind width height depth maxval tuple_type)
+    → SpellsPnmHeader (80 ∷ digit ∷ 10 ∷ (sizes_line (decimal width) (decimal height) ++ (decimal maxval ++ 10 ∷ []))) (format_in form kind)
+    (head_by kind width height depth maxval tuple_type)
 maxval_spells form kind digit width height depth maxval tuple_type named numbers sound rows =
     let n = number_texts (shape_by kind width height depth maxval) sound.limits in
     let w : List ℕ = decimal width in
@@ -129,28 +135,37 @@ maxval_spells form kind digit width height depth maxval tuple_type named numbers
     let m : List ℕ = decimal maxval in
     body_spells digit (maxval_body w h m) (sizes_line w h ++ (m ++ 10 ∷ [])) (format_in form kind) (head_by kind width height depth maxval tuple_type) named
     (ap (λ (l : List ℕ). 10 ∷ l) (maxval_text w h m)) (maxval_short w h m n.width_short n.height_short n.maxval_short) refl
-    (subst (SpellsNumbers (maxval_body w h m)) (sym numbers) (maxval_is w h m width height maxval n.width n.height n.maxval)) (ends_in_number (sizes_body w h) 10 m maxval refl n.maxval) refl sound rows
+    (subst (SpellsNumbers (maxval_body w h m)) (sym numbers) (maxval_is w h m width height maxval n.width n.height n.maxval))
+    (ends_in_number (sizes_body w h) 10 m maxval refl n.maxval) refl sound rows
 
 -- the texts of headers, by form and kind
 abbrev SpellsBy : Form → Kind → ℕ → ℕ → ℕ → ℕ → List ℕ → Type 0
 SpellsBy form kind width height depth maxval tuple_type =
-    SpellsHeaderBy kind (kind_text form kind (shape_by kind width height depth maxval) tuple_type) (format_in form kind) (head_by kind width height depth maxval tuple_type)
+    SpellsHeaderBy kind (kind_text form kind (shape_by kind width height depth maxval) tuple_type) (format_in form kind)
+    (head_by kind width height depth maxval tuple_type)
 
-raw_header_by : (kind : Kind) (width height depth maxval : ℕ) (tuple_type : List ℕ) → IsHead (head_by kind width height depth maxval tuple_type) → 0 < height → SpellsBy Raw kind width height depth maxval tuple_type
+raw_header_by : (kind : Kind) (width height depth maxval : ℕ) (tuple_type : List ℕ) → IsHead (head_by kind width height depth maxval tuple_type) → 0 < height
+    → SpellsBy Raw kind width height depth maxval tuple_type
 raw_header_by Bit width height depth maxval tuple_type sound rows = bit_spells Raw 52 width height depth maxval tuple_type refl sound rows
 raw_header_by Gray width height depth maxval tuple_type sound rows = maxval_spells Raw Gray 53 width height depth maxval tuple_type refl refl sound rows
 raw_header_by Color width height depth maxval tuple_type sound rows = maxval_spells Raw Color 54 width height depth maxval tuple_type refl refl sound rows
 raw_header_by Pam width height depth maxval tuple_type sound rows = pam_text_spells width height depth maxval tuple_type sound rows
 
-plain_header_by : (kind : Kind) (width height depth maxval : ℕ) (tuple_type : List ℕ) → plain_kind_fault kind ≡ None → IsHead (head_by kind width height depth maxval tuple_type) → 0 < height → SpellsBy Plain kind width height depth maxval tuple_type
+plain_header_by : (kind : Kind) (width height depth maxval : ℕ) (tuple_type : List ℕ) → plain_kind_fault kind ≡ None
+    → IsHead (head_by kind width height depth maxval tuple_type) → 0 < height → SpellsBy Plain kind width height depth maxval tuple_type
 plain_header_by Bit width height depth maxval tuple_type held sound rows = bit_spells Plain 49 width height depth maxval tuple_type refl sound rows
-plain_header_by Gray width height depth maxval tuple_type held sound rows = maxval_spells Plain Gray 50 width height depth maxval tuple_type refl refl sound rows
-plain_header_by Color width height depth maxval tuple_type held sound rows = maxval_spells Plain Color 51 width height depth maxval tuple_type refl refl sound rows
+plain_header_by Gray width height depth maxval tuple_type held sound rows = maxval_spells Plain Gray 50 width height depth maxval tuple_type refl refl sound
+    rows
+plain_header_by Color width height depth maxval tuple_type held sound rows = maxval_spells Plain Color 51 width height depth maxval tuple_type refl refl sound
+    rows
 plain_header_by Pam width height depth maxval tuple_type held sound rows = cc
 
 -- the header of an image spells its head
 pub raw_header_spells : (head : HeadValue) → IsHead head → 0 < head.shape.height → SpellsHeader (header_text Raw head) (format_in Raw head.shape.kind) head
-raw_header_spells head sound rows = raw_header_by head.shape.kind head.shape.width head.shape.height head.shape.depth head.shape.maxval head.tuple_type sound rows
+raw_header_spells head sound rows = raw_header_by head.shape.kind head.shape.width head.shape.height head.shape.depth head.shape.maxval head.tuple_type sound
+    rows
 
-pub plain_header_spells : (head : HeadValue) → plain_kind_fault head.shape.kind ≡ None → IsHead head → 0 < head.shape.height → SpellsHeader (header_text Plain head) (format_in Plain head.shape.kind) head
-plain_header_spells head held sound rows = plain_header_by head.shape.kind head.shape.width head.shape.height head.shape.depth head.shape.maxval head.tuple_type held sound rows
+pub plain_header_spells : (head : HeadValue) → plain_kind_fault head.shape.kind ≡ None → IsHead head → 0 < head.shape.height
+    → SpellsHeader (header_text Plain head) (format_in Plain head.shape.kind) head
+plain_header_spells head held sound rows = plain_header_by head.shape.kind head.shape.width head.shape.height head.shape.depth head.shape.maxval head.tuple_type
+    held sound rows

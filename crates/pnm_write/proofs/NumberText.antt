@@ -27,7 +27,8 @@ unfolding uncommented_from commented_after words
 no_numbers = record { plain = refl; outside = refl; decimal = All-nil (λ b. is_body_byte b ≡ true); numbers_are = refl }
 
 -- what white space and digits after a text are
-outside_more : (text : List ℕ) (b : ℕ) (digits : List ℕ) → ends_in_comment text ≡ false → is_white b ≡ true → ends_in_comment digits ≡ false → ends_in_comment (text ++ b ∷ digits) ≡ false
+outside_more : (text : List ℕ) (b : ℕ) (digits : List ℕ) → ends_in_comment text ≡ false → is_white b ≡ true → ends_in_comment digits ≡ false
+    → ends_in_comment (text ++ b ∷ digits) ≡ false
 unfolding commented_after
 outside_more text b digits outside white after =
     commented_after-append false text (b ∷ digits)
@@ -36,12 +37,15 @@ outside_more text b digits outside white after =
     ∙ after
 
 -- one number more, after a byte of white space
-pub number_more : (text numbers : List ℕ) (b : ℕ) (digits : List ℕ) (n : ℕ) → SpellsNumbers text numbers → is_white b ≡ true → SpellsDecimal digits n → SpellsNumbers (text ++ b ∷ digits) (numbers ++ n ∷ [])
+pub number_more : (text numbers : List ℕ) (b : ℕ) (digits : List ℕ) (n : ℕ) → SpellsNumbers text numbers → is_white b ≡ true → SpellsDecimal digits n
+    → SpellsNumbers (text ++ b ∷ digits) (numbers ++ n ∷ [])
 number_more text numbers b digits n s white d = record {
-  plain = uncommented-split text b digits s.outside (white_is_not_sharp b white) ∙ ap₂ (λ (x y : List ℕ). x ++ b ∷ y) s.plain (uncommented_digits digits d.digits);
+  plain = uncommented-split text b digits s.outside (white_is_not_sharp b white)
+      ∙ ap₂ (λ (x y : List ℕ). x ++ b ∷ y) s.plain (uncommented_digits digits d.digits);
   outside = outside_more text b digits s.outside white (outside-digits digits d.digits);
   decimal = All-append (λ x. is_body_byte x ≡ true) text (b ∷ digits) s.decimal
-      (All-cons (λ x. is_body_byte x ≡ true) b digits (or_right (is_digit b) (is_white b) white) (All-weaker (λ x. is_digit x ≡ true) (λ x. is_body_byte x ≡ true) (λ x h. or_left (is_digit x) (is_white x) h) digits d.digits));
+      (All-cons (λ x. is_body_byte x ≡ true) b digits (or_right (is_digit b) (is_white b) white)
+      (All-weaker (λ x. is_digit x ≡ true) (λ x. is_body_byte x ≡ true) (λ x h. or_left (is_digit x) (is_white x) h) digits d.digits));
   numbers_are = ap (map decimal_value) (words-split text b digits white ∙ ap (λ (w : List (List ℕ)). words text ++ w) (words-digits digits d.some d.digits))
       ∙ map-append decimal_value (words text) (digits ∷ [])
       ∙ ap₂ (λ (x : List ℕ) (k : ℕ). x ++ k ∷ []) s.numbers_are d.value;

@@ -1,5 +1,6 @@
--- The text of a number that is put into a room.
-use Rattle.std.proofs.Common.{◌≡◌, ℕ, ◌+◌, ◌-◌, ◌/◌, ◌%◌, ◌<◌, ◌≤◌, ◌==◌, nat_le, if◌then◌else◌, Bool, true, false, List, [], ◌∷◌, ◌++◌, length, take, drop, set, get_or, decimal, refl, sym, ap, ap₂, ◌∙◌, append_assoc, append-nil, length-append, arith}
+-- The text of a number that is put into a buffer.
+use Rattle.std.proofs.Common.{◌≡◌, ℕ, ◌+◌, ◌-◌, ◌/◌, ◌%◌, ◌<◌, ◌≤◌, ◌==◌, nat_le, if◌then◌else◌, Bool, true, false, List, [], ◌∷◌, ◌++◌, length, take, drop}
+use Rattle.std.proofs.Common.{set, get_or, decimal, refl, sym, ap, ap₂, ◌∙◌, append_assoc, append-nil, length-append, arith}
 use Rattle.std.proofs.Math.Seq.{take-append-add, take-set-lt}
 use Rattle.std.proofs.lemmas.List.{take-append-le, get_or-drop, take_all, take_more_set, take-take, length-take, length-drop, drop-drop}
 use Rattle.std.proofs.Math.ListN.{length-set}
@@ -19,13 +20,13 @@ decimal_split n large small =
     let hundreds : n / 10 / 10 % 10 ≡ n % 1000 / 100 % 10 = omega arith in
     let tens : n / 10 % 10 ≡ n % 1000 / 10 % 10 = omega arith in
     let ones : n % 10 ≡ n % 1000 % 10 = omega arith in
-    let front : n / 10 / 10 / 10 ≡ n / 1000 = omega arith in
+    let prefix : n / 10 / 10 / 10 ≡ n / 1000 = omega arith in
     decimal_step n (omega arith) (omega arith)
     ∙ ap (λ (l : List ℕ). l ++ (48 + n % 10) ∷ []) (decimal_step (n / 10) (omega arith) (omega arith))
     ∙ ap (λ (l : List ℕ). (l ++ (48 + n / 10 % 10) ∷ []) ++ (48 + n % 10) ∷ []) (decimal_step (n / 10 / 10) (omega arith) (omega arith))
     ∙ append_assoc (decimal (n / 10 / 10 / 10) ++ (48 + n / 10 / 10 % 10) ∷ []) ((48 + n / 10 % 10) ∷ []) ((48 + n % 10) ∷ [])
     ∙ append_assoc (decimal (n / 10 / 10 / 10)) ((48 + n / 10 / 10 % 10) ∷ []) ((48 + n / 10 % 10) ∷ (48 + n % 10) ∷ [])
-    ∙ ap (λ (k : ℕ). decimal k ++ (48 + n / 10 / 10 % 10) ∷ (48 + n / 10 % 10) ∷ (48 + n % 10) ∷ []) front
+    ∙ ap (λ (k : ℕ). decimal k ++ (48 + n / 10 / 10 % 10) ∷ (48 + n / 10 % 10) ∷ (48 + n % 10) ∷ []) prefix
     ∙ ap₂ (λ (a b : ℕ). decimal (n / 1000) ++ (48 + a) ∷ (48 + b) ∷ (48 + n % 10) ∷ []) hundreds tens
     ∙ ap (λ (a : ℕ). decimal (n / 1000) ++ (48 + n % 1000 / 100 % 10) ∷ (48 + n % 1000 / 10 % 10) ∷ (48 + a) ∷ []) ones
 
@@ -38,50 +39,55 @@ decimal_three n large small =
     ∙ ap (λ (l : List ℕ). (l ++ (48 + n / 10 % 10) ∷ []) ++ (48 + n % 10) ∷ []) (decimal_digit (n / 10 / 10) (omega arith))
     ∙ ap (λ (a : ℕ). (48 + a) ∷ (48 + n / 10 % 10) ∷ (48 + n % 10) ∷ []) hundreds
 
--- ---- bytes that are put into a room
+-- ---- bytes that are put into a buffer
 
--- what a room has through bytes that were put there
-pub take_put_front : (room bytes after : List ℕ) (at count : ℕ) → at ≤ length room → count ≤ length bytes → take (at + count) (take at room ++ (bytes ++ after)) ≡ take at room ++ take count bytes
-take_put_front room bytes after at count within enough =
-    let long : length (take at room) ≡ at = omega (arith, length-take at room) in
-    ap (λ (n : ℕ). take (n + count) (take at room ++ (bytes ++ after))) (sym long)
-    ∙ take-append-add (take at room) (bytes ++ after) count
-    ∙ ap (λ (l : List ℕ). take at room ++ l) (take-append-le count bytes after enough)
+-- what a buffer has through bytes that were put there
+pub take_put_prefix : (buffer bytes after : List ℕ) (at count : ℕ) → at ≤ length buffer → count ≤ length bytes
+    → take (at + count) (take at buffer ++ (bytes ++ after)) ≡ take at buffer ++ take count bytes
+take_put_prefix buffer bytes after at count within enough =
+    let long : length (take at buffer) ≡ at = omega (arith, length-take at buffer) in
+    ap (λ (n : ℕ). take (n + count) (take at buffer ++ (bytes ++ after))) (sym long)
+    ∙ take-append-add (take at buffer) (bytes ++ after) count
+    ∙ ap (λ (l : List ℕ). take at buffer ++ l) (take-append-le count bytes after enough)
 
 -- four bytes, one after the other
-pub four_are_put : (room bytes : List ℕ) (at : ℕ) → at + 4 ≤ length room → 4 ≤ length bytes
-    → take (at + 4) (set (set (set (set room at (get_or bytes 0 0)) (at + 1) (get_or bytes 1 0)) (at + 2) (get_or bytes 2 0)) (at + 3) (get_or bytes 3 0)) ≡ take at room ++ take 4 bytes
-four_are_put room (a ∷ b ∷ c ∷ d ∷ bytes) at within enough =
-    let one : List ℕ = set room at a in
+pub four_are_put : (buffer bytes : List ℕ) (at : ℕ) → at + 4 ≤ length buffer → 4 ≤ length bytes
+    → take (at + 4) (set (set (set (set buffer at (get_or bytes 0 0)) (at + 1) (get_or bytes 1 0)) (at + 2) (get_or bytes 2 0)) (at + 3) (get_or bytes 3 0))
+    ≡ take at buffer ++ take 4 bytes
+four_are_put buffer (a ∷ b ∷ c ∷ d ∷ bytes) at within enough =
+    let one : List ℕ = set buffer at a in
     let two : List ℕ = set one (at + 1) b in
     let three : List ℕ = set two (at + 2) c in
-    let long_one : length one ≡ length room = length-set room at a in
-    let long_two : length two ≡ length room = length-set one (at + 1) b ∙ long_one in
-    let long_three : length three ≡ length room = length-set two (at + 2) c ∙ long_two in
+    let long_one : length one ≡ length buffer = length-set buffer at a in
+    let long_two : length two ≡ length buffer = length-set one (at + 1) b ∙ long_one in
+    let long_three : length three ≡ length buffer = length-set two (at + 2) c ∙ long_two in
     next three d (at + 3) (at + 4) (omega arith) (omega arith)
-    ∙ ap (λ (l : List ℕ). l ++ d ∷ []) (next two c (at + 2) (at + 3) (omega arith) (omega arith) ∙ ap (λ (l : List ℕ). l ++ c ∷ []) (next one b (at + 1) (at + 2) (omega arith) (omega arith) ∙ ap (λ (l : List ℕ). l ++ b ∷ []) (next room a at (at + 1) (omega arith) (omega arith))))
-    ∙ append_assoc ((take at room ++ a ∷ []) ++ b ∷ []) (c ∷ []) (d ∷ [])
-    ∙ append_assoc (take at room ++ a ∷ []) (b ∷ []) (c ∷ d ∷ [])
-    ∙ append_assoc (take at room) (a ∷ []) (b ∷ c ∷ d ∷ [])
+    ∙ ap (λ (l : List ℕ). l ++ d ∷ []) (next two c (at + 2) (at + 3) (omega arith) (omega arith)
+    ∙ ap (λ (l : List ℕ). l ++ c ∷ []) (next one b (at + 1) (at + 2) (omega arith) (omega arith)
+    ∙ ap (λ (l : List ℕ). l ++ b ∷ []) (next buffer a at (at + 1) (omega arith) (omega arith))))
+    ∙ append_assoc ((take at buffer ++ a ∷ []) ++ b ∷ []) (c ∷ []) (d ∷ [])
+    ∙ append_assoc (take at buffer ++ a ∷ []) (b ∷ []) (c ∷ d ∷ [])
+    ∙ append_assoc (take at buffer) (a ∷ []) (b ∷ c ∷ d ∷ [])
   where
     next : (l : List ℕ) (x i j : ℕ) → j ≡ i + 1 → i < length l → take j (set l i x) ≡ take i l ++ x ∷ []
     next l x i j e below = ap (λ (n : ℕ). take n (set l i x)) e ∙ take_more_set l i x below
-four_are_put room [] at within enough = absurd (omega arith)
-four_are_put room (a ∷ []) at within enough = absurd (omega arith)
-four_are_put room (a ∷ b ∷ []) at within enough = absurd (omega arith)
-four_are_put room (a ∷ b ∷ c ∷ []) at within enough = absurd (omega arith)
+four_are_put buffer [] at within enough = absurd (omega arith)
+four_are_put buffer (a ∷ []) at within enough = absurd (omega arith)
+four_are_put buffer (a ∷ b ∷ []) at within enough = absurd (omega arith)
+four_are_put buffer (a ∷ b ∷ c ∷ []) at within enough = absurd (omega arith)
 
--- the front of an entry is a blank and the number
-pub small_is_put : (room new entry : List ℕ) (at number size : ℕ) → number < 256 → IsEntry number entry → size ≡ 1 + length (decimal number) → take (at + 4) new ≡ take at room ++ take 4 (drop 1 entry) → at ≤ length room
-    → take (at + size) new ≡ take at room ++ blank ∷ decimal number
-small_is_put room new entry at number size small is count put within =
+-- the prefix of an entry is a blank and the number
+pub small_is_put : (buffer new entry : List ℕ) (at number size : ℕ) → number < 256 → IsEntry number entry → size ≡ 1 + length (decimal number)
+    → take (at + 4) new ≡ take at buffer ++ take 4 (drop 1 entry) → at ≤ length buffer
+    → take (at + size) new ≡ take at buffer ++ blank ∷ decimal number
+small_is_put buffer new entry at number size small is count put within =
     let digits : length (decimal number) ≤ 3 = length-decimal-le 3 number (omega arith) (omega arith) (omega arith) in
     let copied : List ℕ = take 4 (drop 1 entry) in
     let long : length copied ≡ 4 = omega (arith, length-take 4 (drop 1 entry), length-drop 1 entry, is.long) in
     sym (take-take (at + size) (at + 4) new (omega arith))
-    ∙ ap (take (at + size)) (put ∙ ap (λ (l : List ℕ). take at room ++ l) (sym (append-nil copied)))
-    ∙ take_put_front room copied [] at size within (omega arith)
-    ∙ ap (λ (l : List ℕ). take at room ++ l) (take-take size 4 (drop 1 entry) (omega arith) ∙ ap (λ (n : ℕ). take n (drop 1 entry)) count ∙ is.text)
+    ∙ ap (take (at + size)) (put ∙ ap (λ (l : List ℕ). take at buffer ++ l) (sym (append-nil copied)))
+    ∙ take_put_prefix buffer copied [] at size within (omega arith)
+    ∙ ap (λ (l : List ℕ). take at buffer ++ l) (take-take size 4 (drop 1 entry) (omega arith) ∙ ap (λ (n : ℕ). take n (drop 1 entry)) count ∙ is.text)
 
 -- the end of the entry of a number from 100 to 199 is its last two digits
 pub entry_ends : (n : ℕ) (entry : List ℕ) → n < 1000 → IsEntry (100 + n % 100) entry → drop 3 entry ≡ (48 + n / 10 % 10) ∷ (48 + n % 10) ∷ []
@@ -90,84 +96,92 @@ entry_ends n entry small is =
     let digits : decimal number ≡ three_digits number = decimal_three number (omega arith) (omega arith) in
     let long : length (drop 1 entry) ≡ 4 = omega (arith, length-drop 1 entry, is.long) in
     let count : 1 + length (decimal number) ≡ 4 = ap (λ (l : List ℕ). 1 + length l) digits in
-    let whole : drop 1 entry ≡ blank ∷ three_digits number = sym (take_all 4 (drop 1 entry) (omega arith)) ∙ ap (λ (k : ℕ). take k (drop 1 entry)) (sym count) ∙ is.text ∙ ap (λ (l : List ℕ). blank ∷ l) digits in
+    let whole : drop 1 entry ≡ blank ∷ three_digits number = sym (take_all 4 (drop 1 entry) (omega arith)) ∙ ap (λ (k : ℕ). take k (drop 1 entry)) (sym count)
+    ∙ is.text ∙ ap (λ (l : List ℕ). blank ∷ l) digits in
     let tens : number / 10 % 10 ≡ n / 10 % 10 = omega arith in
     let ones : number % 10 ≡ n % 10 = omega arith in
     sym (drop-drop 2 1 entry) ∙ ap (drop 2) whole ∙ ap₂ (λ (a b : ℕ). (48 + a) ∷ (48 + b) ∷ []) tens ones
 
 -- three digits
-pub three_are_put : (room entry : List ℕ) (at n digit : ℕ) → n < 1000 → IsEntry (100 + n % 100) entry → at + 3 ≤ length room → digit ≡ 48 + n / 100
-    → take (at + 3) (set (set (set room at digit) (at + 1) (get_or entry 3 0)) (at + 2) (get_or entry 4 0)) ≡ take at room ++ three_digits n
-three_are_put room entry at n digit small is within first =
+pub three_are_put : (buffer entry : List ℕ) (at n digit : ℕ) → n < 1000 → IsEntry (100 + n % 100) entry → at + 3 ≤ length buffer → digit ≡ 48 + n / 100
+    → take (at + 3) (set (set (set buffer at digit) (at + 1) (get_or entry 3 0)) (at + 2) (get_or entry 4 0)) ≡ take at buffer ++ three_digits n
+three_are_put buffer entry at n digit small is within first =
     let ends : drop 3 entry ≡ (48 + n / 10 % 10) ∷ (48 + n % 10) ∷ [] = entry_ends n entry small is in
     let tens : get_or entry 3 0 ≡ 48 + n / 10 % 10 = sym (get_or-drop 3 entry 0 0) ∙ ap (λ (l : List ℕ). get_or l 0 0) ends in
     let ones : get_or entry 4 0 ≡ 48 + n % 10 = sym (get_or-drop 3 entry 1 0) ∙ ap (λ (l : List ℕ). get_or l 1 0) ends in
     let hundreds : digit ≡ 48 + n / 100 % 10 = omega arith in
-    let one : List ℕ = set room at digit in
+    let one : List ℕ = set buffer at digit in
     let two : List ℕ = set one (at + 1) (get_or entry 3 0) in
-    let long_one : length one ≡ length room = length-set room at digit in
-    let long_two : length two ≡ length room = length-set one (at + 1) (get_or entry 3 0) ∙ long_one in
+    let long_one : length one ≡ length buffer = length-set buffer at digit in
+    let long_two : length two ≡ length buffer = length-set one (at + 1) (get_or entry 3 0) ∙ long_one in
     next two (get_or entry 4 0) (at + 2) (at + 3) (omega arith) (omega arith)
-    ∙ ap (λ (l : List ℕ). l ++ get_or entry 4 0 ∷ []) (next one (get_or entry 3 0) (at + 1) (at + 2) (omega arith) (omega arith) ∙ ap (λ (l : List ℕ). l ++ get_or entry 3 0 ∷ []) (next room digit at (at + 1) (omega arith) (omega arith)))
-    ∙ append_assoc (take at room ++ digit ∷ []) (get_or entry 3 0 ∷ []) (get_or entry 4 0 ∷ [])
-    ∙ append_assoc (take at room) (digit ∷ []) (get_or entry 3 0 ∷ get_or entry 4 0 ∷ [])
-    ∙ ap₂ (λ (d e : ℕ). take at room ++ digit ∷ d ∷ e ∷ []) tens ones
-    ∙ ap (λ (d : ℕ). take at room ++ d ∷ (48 + n / 10 % 10) ∷ (48 + n % 10) ∷ []) hundreds
+    ∙ ap (λ (l : List ℕ). l ++ get_or entry 4 0 ∷ []) (next one (get_or entry 3 0) (at + 1) (at + 2) (omega arith) (omega arith)
+    ∙ ap (λ (l : List ℕ). l ++ get_or entry 3 0 ∷ []) (next buffer digit at (at + 1) (omega arith) (omega arith)))
+    ∙ append_assoc (take at buffer ++ digit ∷ []) (get_or entry 3 0 ∷ []) (get_or entry 4 0 ∷ [])
+    ∙ append_assoc (take at buffer) (digit ∷ []) (get_or entry 3 0 ∷ get_or entry 4 0 ∷ [])
+    ∙ ap₂ (λ (d e : ℕ). take at buffer ++ digit ∷ d ∷ e ∷ []) tens ones
+    ∙ ap (λ (d : ℕ). take at buffer ++ d ∷ (48 + n / 10 % 10) ∷ (48 + n % 10) ∷ []) hundreds
   where
     next : (l : List ℕ) (x i j : ℕ) → j ≡ i + 1 → i < length l → take j (set l i x) ≡ take i l ++ x ∷ []
     next l x i j e below = ap (λ (n : ℕ). take n (set l i x)) e ∙ take_more_set l i x below
 
 -- a number of three digits behind a blank
-pub three_alone : (room new : List ℕ) (at n : ℕ) → 256 ≤ n → n < 1000 → at < length room → take (at + 1 + 3) new ≡ take (at + 1) (set room at blank) ++ three_digits n → take (at + 4) new ≡ take at room ++ blank ∷ decimal n
-three_alone room new at n large small within put =
+pub three_alone : (buffer new : List ℕ) (at n : ℕ) → 256 ≤ n → n < 1000 → at < length buffer
+    → take (at + 1 + 3) new ≡ take (at + 1) (set buffer at blank) ++ three_digits n → take (at + 4) new ≡ take at buffer ++ blank ∷ decimal n
+three_alone buffer new at n large small within put =
     ap (λ (k : ℕ). take k new) (omega arith)
     ∙ put
-    ∙ ap (λ (l : List ℕ). l ++ three_digits n) (take_more_set room at blank within)
-    ∙ append_assoc (take at room) (blank ∷ []) (three_digits n)
-    ∙ ap (λ (l : List ℕ). take at room ++ blank ∷ l) (sym (decimal_three n (omega arith) small))
+    ∙ ap (λ (l : List ℕ). l ++ three_digits n) (take_more_set buffer at blank within)
+    ∙ append_assoc (take at buffer) (blank ∷ []) (three_digits n)
+    ∙ ap (λ (l : List ℕ). take at buffer ++ blank ∷ l) (sym (decimal_three n (omega arith) small))
 
 pub three_count : (n : ℕ) → 256 ≤ n → n < 1000 → 4 ≡ 1 + length (decimal n)
 three_count n large small = omega (arith, ap length (decimal_three n (omega arith) small))
 
 -- three digits behind others
-pub three_behind : (room small new : List ℕ) (at size n : ℕ) → 1000 ≤ n → n < 65536 → take (at + size) small ≡ take at room ++ blank ∷ decimal (n / 1000) → take (at + size + 3) new ≡ take (at + size) small ++ three_digits (n % 1000)
-    → take (at + (size + 3)) new ≡ take at room ++ blank ∷ decimal n
-three_behind room small new at size n large fits front put =
+pub three_behind : (buffer small new : List ℕ) (at size n : ℕ) → 1000 ≤ n → n < 65536 → take (at + size) small ≡ take at buffer ++ blank ∷ decimal (n / 1000)
+    → take (at + size + 3) new ≡ take (at + size) small ++ three_digits (n % 1000)
+    → take (at + (size + 3)) new ≡ take at buffer ++ blank ∷ decimal n
+three_behind buffer small new at size n large fits prefix put =
     ap (λ (k : ℕ). take k new) (omega arith)
     ∙ put
-    ∙ ap (λ (l : List ℕ). l ++ three_digits (n % 1000)) front
-    ∙ append_assoc (take at room) (blank ∷ decimal (n / 1000)) (three_digits (n % 1000))
-    ∙ ap (λ (l : List ℕ). take at room ++ blank ∷ l) (sym (decimal_split n large fits))
+    ∙ ap (λ (l : List ℕ). l ++ three_digits (n % 1000)) prefix
+    ∙ append_assoc (take at buffer) (blank ∷ decimal (n / 1000)) (three_digits (n % 1000))
+    ∙ ap (λ (l : List ℕ). take at buffer ++ blank ∷ l) (sym (decimal_split n large fits))
 
 pub behind_count : (n size : ℕ) → 1000 ≤ n → n < 65536 → size ≡ 1 + length (decimal (n / 1000)) → size + 3 ≡ 1 + length (decimal n)
-behind_count n size large fits count = omega (arith, count, ap length (decimal_split n large fits), length-append (decimal (n / 1000)) (three_digits (n % 1000)))
+behind_count n size large fits count =
+    omega (arith, count, ap length (decimal_split n large fits), length-append (decimal (n / 1000)) (three_digits (n % 1000)))
 
-pub front_short : (n : ℕ) → n < 65536 → length (decimal (n / 1000)) ≤ 2
-front_short n fits = length-decimal-le 2 (n / 1000) (omega arith) (omega arith) (omega arith)
+pub prefix_short : (n : ℕ) → n < 65536 → length (decimal (n / 1000)) ≤ 2
+prefix_short n fits = length-decimal-le 2 (n / 1000) (omega arith) (omega arith) (omega arith)
 
 -- ---- words in a line
 
 -- the byte behind some becomes a LF
-pub set_behind : (front : List ℕ) (b : ℕ) (word : List ℕ) → set (front ++ b ∷ word) (length front) line_feed ≡ front ++ line_feed ∷ word
+pub set_behind : (prefix : List ℕ) (b : ℕ) (word : List ℕ) → set (prefix ++ b ∷ word) (length prefix) line_feed ≡ prefix ++ line_feed ∷ word
 set_behind [] b word = refl
-set_behind (a ∷ front) b word = ap (λ (l : List ℕ). a ∷ l) (set_behind front b word)
+set_behind (a ∷ prefix) b word = ap (λ (l : List ℕ). a ∷ l) (set_behind prefix b word)
 
--- what a room has, where the line is ended before the word that was put last, or isn't
-put_word_by : (fits : Bool) (room : List ℕ) (at : ℕ) (front word : List ℕ) → at ≡ length front → at < length room → take (at + (1 + length word)) room ≡ front ++ blank ∷ word
-    → take (at + (1 + length word)) (if fits then room else set room at line_feed) ≡ front ++ ((if fits then blank ∷ [] else line_feed ∷ []) ++ word)
-put_word_by true room at front word here within put = put
-put_word_by false room at front word here within put =
-    take-set-lt (at + (1 + length word)) room at line_feed (omega arith)
+-- what a buffer has, where the line is ended before the word that was put last, or isn't
+put_word_by : (fits : Bool) (buffer : List ℕ) (at : ℕ) (prefix word : List ℕ) → at ≡ length prefix → at < length buffer
+    → take (at + (1 + length word)) buffer ≡ prefix ++ blank ∷ word
+    → take (at + (1 + length word)) (if fits then buffer else set buffer at line_feed) ≡ prefix ++ ((if fits then blank ∷ [] else line_feed ∷ []) ++ word)
+put_word_by true buffer at prefix word here within put = put
+put_word_by false buffer at prefix word here within put =
+    take-set-lt (at + (1 + length word)) buffer at line_feed (omega arith)
     ∙ ap (λ (l : List ℕ). set l at line_feed) put
-    ∙ ap (λ (n : ℕ). set (front ++ blank ∷ word) n line_feed) here
-    ∙ set_behind front blank word
+    ∙ ap (λ (n : ℕ). set (prefix ++ blank ∷ word) n line_feed) here
+    ∙ set_behind prefix blank word
 
 -- the separator of a word in a line that has begun
-separator_by : (at_start fits : Bool) → at_start ≡ false → (if at_start then [] else if fits then blank ∷ [] else line_feed ∷ []) ≡ (if fits then blank ∷ [] else line_feed ∷ [])
+separator_by : (at_start fits : Bool) → at_start ≡ false → (if at_start then [] else if fits then blank ∷ [] else line_feed ∷ [])
+    ≡ (if fits then blank ∷ [] else line_feed ∷ [])
 separator_by true fits e = cc
 separator_by false fits e = refl
 
-column_by : (at_start fits : Bool) (column size : ℕ) → at_start ≡ false → (if fits then column + (1 + size) else 1 + size - 1) ≡ (if at_start then size else if fits then column + 1 + size else size)
+column_by : (at_start fits : Bool) (column size : ℕ) → at_start ≡ false → (if fits then column + (1 + size) else 1 + size - 1)
+    ≡ (if at_start then size else if fits then column + 1 + size else size)
 column_by true fits column size e = cc
 column_by false true column size e = omega arith
 column_by false false column size e = omega arith
@@ -175,17 +189,22 @@ column_by false false column size e = omega arith
 same_room : (column size : ℕ) → nat_le (column + (1 + size)) max_line_length ≡ nat_le (column + 1 + size) max_line_length
 same_room column size = ap (λ (n : ℕ). nat_le n max_line_length) (omega arith)
 
-pub word_is_put : (old put new front word : List ℕ) (at column size : ℕ) → 0 < column → front ≡ take at old → at < length old → length put ≡ length old → size ≡ 1 + length word → take (at + size) put ≡ take at old ++ blank ∷ word
-    → new ≡ (if nat_le (column + size) max_line_length then put else set put at line_feed) → take (at + size) new ≡ front ++ word_in_line column word
-word_is_put old put new front word at column size begun front_is within same count put_is new_is =
-    let long : at ≡ length front = sym (ap length front_is ∙ omega (arith, length-take at old)) in
-    let put_here : take (at + (1 + length word)) put ≡ front ++ blank ∷ word = ap (λ (n : ℕ). take (at + n) put) (sym count) ∙ put_is ∙ ap (λ (l : List ℕ). l ++ blank ∷ word) (sym front_is) in
+pub word_is_put : (old put new prefix word : List ℕ) (at column size : ℕ) → 0 < column → prefix ≡ take at old → at < length old → length put ≡ length old
+    → size ≡ 1 + length word → take (at + size) put ≡ take at old ++ blank ∷ word
+    → new ≡ (if nat_le (column + size) max_line_length then put else set put at line_feed) → take (at + size) new ≡ prefix ++ word_in_line column word
+word_is_put old put new prefix word at column size begun prefix_is within same count put_is new_is =
+    let long : at ≡ length prefix = sym (ap length prefix_is ∙ omega (arith, length-take at old)) in
+    let put_here : take (at + (1 + length word)) put ≡ prefix ++ blank ∷ word = ap (λ (n : ℕ). take (at + n) put) (sym count) ∙ put_is
+    ∙ ap (λ (l : List ℕ). l ++ blank ∷ word) (sym prefix_is) in
     let fits : Bool = fits_in_line column word in
-    ap₂ (λ (n : ℕ) (l : List ℕ). take (at + n) l) count (new_is ∙ ap (λ (n : ℕ). if nat_le (column + n) max_line_length then put else set put at line_feed) count ∙ ap (λ (b : Bool). if b then put else set put at line_feed) (same_room column (length word)))
-    ∙ put_word_by fits put at front word long (omega arith) put_here
-    ∙ ap (λ (l : List ℕ). front ++ (l ++ word)) (sym (separator_by (column == 0) fits (has_begun_line column begun)))
+    ap₂ (λ (n : ℕ) (l : List ℕ). take (at + n) l) count
+    (new_is ∙ ap (λ (n : ℕ). if nat_le (column + n) max_line_length then put else set put at line_feed) count
+    ∙ ap (λ (b : Bool). if b then put else set put at line_feed) (same_room column (length word)))
+    ∙ put_word_by fits put at prefix word long (omega arith) put_here
+    ∙ ap (λ (l : List ℕ). prefix ++ (l ++ word)) (sym (separator_by (column == 0) fits (has_begun_line column begun)))
 
-pub column_is : (column size : ℕ) (word : List ℕ) (new : ℕ) → 0 < column → size ≡ 1 + length word → new ≡ (if nat_le (column + size) max_line_length then column + size else size - 1) → new ≡ column_after column word
+pub column_is : (column size : ℕ) (word : List ℕ) (new : ℕ) → 0 < column → size ≡ 1 + length word
+    → new ≡ (if nat_le (column + size) max_line_length then column + size else size - 1) → new ≡ column_after column word
 column_is column size word new begun count new_is =
     new_is
     ∙ ap (λ (n : ℕ). if nat_le (column + n) max_line_length then column + n else n - 1) count
@@ -193,13 +212,17 @@ column_is column size word new begun count new_is =
     ∙ column_by (column == 0) (fits_in_line column word) column (length word) (has_begun_line column begun)
 
 -- one number more
-pub number_more : (start column end at size i sample : ℕ) (initial room put new samples : List ℕ) → 0 < at → end < length room → length put ≡ length room → i < length samples → sample ≡ get_or samples i 0
-    → take end room ≡ take start initial ++ text_of_part column (sample_texts Gray (take i samples)) → at ≡ column_after_part column (sample_texts Gray (take i samples))
-    → size ≡ 1 + length (decimal sample) → take (end + size) put ≡ take end room ++ blank ∷ decimal sample → new ≡ (if nat_le (at + size) max_line_length then put else set put end line_feed)
+pub number_more : (start column end at size i sample : ℕ) (initial buffer put new samples : List ℕ) → 0 < at → end < length buffer → length put ≡ length buffer
+    → i < length samples → sample ≡ get_or samples i 0
+    → take end buffer ≡ take start initial ++ text_of_part column (sample_texts Gray (take i samples))
+    → at ≡ column_after_part column (sample_texts Gray (take i samples))
+    → size ≡ 1 + length (decimal sample) → take (end + size) put ≡ take end buffer ++ blank ∷ decimal sample
+    → new ≡ (if nat_le (at + size) max_line_length then put else set put end line_feed)
     → take (end + size) new ≡ take start initial ++ text_of_part column (sample_texts Gray (take (i + 1) samples))
-number_more start column end at size i sample initial room put new samples begun within same below is known here count put_is new_is =
-    let front : List ℕ = text_of_part column (sample_texts Gray (take i samples)) in
-    word_is_put room put new (take end room) (decimal sample) end at size begun refl within same count put_is new_is
+number_more start column end at size i sample initial buffer put new samples begun within same below is known here count put_is new_is =
+    let prefix : List ℕ = text_of_part column (sample_texts Gray (take i samples)) in
+    word_is_put buffer put new (take end buffer) (decimal sample) end at size begun refl within same count put_is new_is
     ∙ ap (λ (l : List ℕ). l ++ word_in_line at (decimal sample)) known
-    ∙ append_assoc (take start initial) front (word_in_line at (decimal sample))
-    ∙ ap (λ (l : List ℕ). take start initial ++ l) (text_more column Gray samples i sample at front (front ++ word_in_line at (decimal sample)) below is refl here refl)
+    ∙ append_assoc (take start initial) prefix (word_in_line at (decimal sample))
+    ∙ ap (λ (l : List ℕ). take start initial ++ l)
+    (text_more column Gray samples i sample at prefix (prefix ++ word_in_line at (decimal sample)) below is refl here refl)

@@ -1,12 +1,14 @@
 -- The text of a plain row is that of its words in lines as long as they can be, and no other text is.
-use Rattle.std.proofs.Common.{◌≡◌, ℕ, ◌+◌, ◌<◌, ◌≤◌, nat_le, if◌then◌else◌, Bool, true, false, List, [], ◌∷◌, ◌++◌, length, map, flat_map, refl, sym, ap, ◌∙◌, append_assoc, append-nil, length-append, arith}
+use Rattle.std.proofs.Common.{◌≡◌, ℕ, ◌+◌, ◌<◌, ◌≤◌, nat_le, if◌then◌else◌, Bool, true, false, List, [], ◌∷◌, ◌++◌, length, map, flat_map, refl, sym, ap, ◌∙◌}
+use Rattle.std.proofs.Common.{append_assoc, append-nil, length-append, arith}
 use Rattle.std.specs.List.{AllByRecursion}
 use Rattle.std.proofs.lemmas.Bool.Decides.{nat_tests}
 use Rattle.pnm_image.specs.declared.shape.Kind.{Kind}
 use Rattle.pnm_image.specs.Heads.{HeadValue, IsHead}
 use Rattle.pnm_image.specs.Places.{IsRowOf}
 use Rattle.pnm_image.specs.Characters.{blank, line_feed}
-use Rattle.pnm_write.specs.PlainRows.{max_line_length, sample_text, joined, IsFilled, AreFilled, IsLine, line_text, IsSetInLines, words_after, set_in_lines}
+use Rattle.pnm_write.specs.PlainRows.{max_line_length, sample_text, join_with_blank, IsFilled, AreFilled, IsLine, line_text, IsSetInLines, words_after}
+use Rattle.pnm_write.specs.PlainRows.{set_in_lines}
 use Rattle.pnm_write.specs.EncodingLaws.{HasOneText}
 use Rattle.pnm_write.proofs.PlainText.{AreSpelled, row_is_spelled}
 
@@ -17,16 +19,18 @@ abbrev behind : List (List ℕ) → List ℕ
 behind [] = []
 behind (word ∷ words) = blank ∷ (word ++ behind words)
 
-joined_is : (first : List ℕ) (words : List (List ℕ)) → joined (first ∷ words) ≡ first ++ behind words
+joined_is : (first : List ℕ) (words : List (List ℕ)) → join_with_blank (first ∷ words) ≡ first ++ behind words
 joined_is first [] = sym (append-nil first)
 joined_is first (word ∷ words) = ap (λ (l : List ℕ). first ++ blank ∷ l) (joined_is word words)
 
 behind_more : (words : List (List ℕ)) (word : List ℕ) → behind (words ++ word ∷ []) ≡ behind words ++ blank ∷ word
 behind_more [] word = ap (λ (l : List ℕ). blank ∷ l) (append-nil word)
-behind_more (next ∷ words) word = ap (λ (l : List ℕ). blank ∷ (next ++ l)) (behind_more words word) ∙ ap (λ (l : List ℕ). blank ∷ l) (sym (append_assoc next (behind words) (blank ∷ word)))
+behind_more (next ∷ words) word = ap (λ (l : List ℕ). blank ∷ (next ++ l)) (behind_more words word)
+    ∙ ap (λ (l : List ℕ). blank ∷ l) (sym (append_assoc next (behind words) (blank ∷ word)))
 
 -- a line with one word more
-joined_more : (first : List ℕ) (words : List (List ℕ)) (word : List ℕ) → joined (first ∷ (words ++ word ∷ [])) ≡ joined (first ∷ words) ++ blank ∷ word
+joined_more : (first : List ℕ) (words : List (List ℕ)) (word : List ℕ) → join_with_blank (first ∷ (words ++ word ∷ [])) ≡ join_with_blank (first ∷ words)
+    ++ blank ∷ word
 joined_more first words word =
     joined_is first (words ++ word ∷ [])
     ∙ ap (λ (l : List ℕ). first ++ l) (behind_more words word)
@@ -42,7 +46,7 @@ long_more line word = omega (arith, length-append line (blank ∷ word))
 abbrev fill : List ℕ → List (List ℕ) → List (List ℕ) → List (List (List ℕ))
 fill first more [] = (first ∷ more) ∷ []
 fill first more (word ∷ words) =
-    if nat_le (length (joined (first ∷ more)) + 1 + length word) max_line_length then fill first (more ++ word ∷ []) words
+    if nat_le (length (join_with_blank (first ∷ more)) + 1 + length word) max_line_length then fill first (more ++ word ∷ []) words
     else (first ∷ more) ∷ fill word [] words
 
 -- what these lines are
@@ -50,8 +54,8 @@ record AreFilledFrom (first : List ℕ) (more words : List (List ℕ)) (lines : 
   in_order : flat_map (λ line. line) lines ≡ (first ∷ more) ++ words
   each : AllByRecursion IsLine lines
   filled : AreFilled lines
-  begins : (line : List (List ℕ)) → max_line_length < length (joined line ++ blank ∷ first) → IsFilled line lines
-  text : flat_map line_text lines ≡ joined (first ∷ more) ++ words_after (length (joined (first ∷ more))) words
+  begins : (line : List (List ℕ)) → max_line_length < length (join_with_blank line ++ blank ∷ first) → IsFilled line lines
+  text : flat_map line_text lines ≡ join_with_blank (first ∷ more) ++ words_after (length (join_with_blank (first ∷ more))) words
 
 -- each word has room in a line
 abbrev AreShort : List (List ℕ) → Type 0
@@ -73,10 +77,12 @@ one_word : (word : List ℕ) → length word ≤ max_line_length → IsLine (wor
 one_word word short = record { some = omega arith; short = short }
 
 -- a word in the line
-fill_here : (first : List ℕ) (more : List (List ℕ)) (word : List ℕ) (words : List (List ℕ)) (lines : List (List (List ℕ))) → AreFilledFrom first (more ++ word ∷ []) words lines
-    → flat_map line_text lines ≡ joined (first ∷ more) ++ blank ∷ (word ++ words_after (length (joined (first ∷ more)) + 1 + length word) words)
+fill_here : (first : List ℕ) (more : List (List ℕ)) (word : List ℕ) (words : List (List ℕ)) (lines : List (List (List ℕ)))
+    → AreFilledFrom first (more ++ word ∷ []) words lines
+    → flat_map line_text lines ≡ join_with_blank (first ∷ more) ++ blank
+    ∷ (word ++ words_after (length (join_with_blank (first ∷ more)) + 1 + length word) words)
 fill_here first more word words lines are =
-    let line : List ℕ = joined (first ∷ more) in
+    let line : List ℕ = join_with_blank (first ∷ more) in
     are.text
     ∙ ap (λ (l : List ℕ). l ++ words_after (length l) words) (joined_more first more word)
     ∙ ap (λ (n : ℕ). (line ++ blank ∷ word) ++ words_after n words) (long_more line word)
@@ -84,28 +90,42 @@ fill_here first more word words lines are =
 
 -- a word in the next line
 fill_next : (first : List ℕ) (more : List (List ℕ)) (word : List ℕ) (words : List (List ℕ)) (lines : List (List (List ℕ))) → AreFilledFrom word [] words lines
-    → flat_map line_text ((first ∷ more) ∷ lines) ≡ joined (first ∷ more) ++ line_feed ∷ (word ++ words_after (length word) words)
+    → flat_map line_text ((first ∷ more) ∷ lines) ≡ join_with_blank (first ∷ more) ++ line_feed ∷ (word ++ words_after (length word) words)
 fill_next first more word words lines are =
-    let line : List ℕ = joined (first ∷ more) in
+    let line : List ℕ = join_with_blank (first ∷ more) in
     ap (λ (l : List ℕ). (line ++ line_feed ∷ []) ++ l) are.text ∙ append_assoc line (line_feed ∷ []) (word ++ words_after (length word) words)
 
-fill_step : (here : Bool) (first : List ℕ) (more : List (List ℕ)) (word : List ℕ) (words : List (List ℕ)) → nat_le (length (joined (first ∷ more)) + 1 + length word) max_line_length ≡ here → IsLine (first ∷ more)
+fill_step : (here : Bool) (first : List ℕ) (more : List (List ℕ)) (word : List ℕ) (words : List (List ℕ))
+    → nat_le (length (join_with_blank (first ∷ more)) + 1 + length word) max_line_length ≡ here → IsLine (first ∷ more)
     → (IsLine (first ∷ (more ++ word ∷ [])) → AreFilledFrom first (more ++ word ∷ []) words (fill first (more ++ word ∷ []) words))
     → AreFilledFrom word [] words (fill word [] words)
-    → (let column : ℕ = length (joined (first ∷ more)) in
+    → (let column : ℕ = length (join_with_blank (first ∷ more)) in
     let lines : List (List (List ℕ)) = if here then fill first (more ++ word ∷ []) words else (first ∷ more) ∷ fill word [] words in
     (flat_map (λ line. line) lines ≡ (first ∷ more) ++ word ∷ words)
     × AllByRecursion IsLine lines
     × AreFilled lines
-    × ((line : List (List ℕ)) → max_line_length < length (joined line ++ blank ∷ first) → IsFilled line lines)
-    × (flat_map line_text lines ≡ joined (first ∷ more) ++ (if here then blank ∷ (word ++ words_after (column + 1 + length word) words) else line_feed ∷ (word ++ words_after (length word) words))))
+    × ((line : List (List ℕ)) → max_line_length < length (join_with_blank line ++ blank ∷ first) → IsFilled line lines)
+    × (flat_map line_text lines ≡ join_with_blank (first ∷ more)
+    ++ (if here then blank ∷ (word ++ words_after (column + 1 + length word) words) else line_feed ∷ (word ++ words_after (length word) words))))
 fill_step true first more word words is line same next =
-    let long : length (joined (first ∷ (more ++ word ∷ []))) ≡ length (joined (first ∷ more)) + 1 + length word = ap length (joined_more first more word) ∙ long_more (joined (first ∷ more)) word in
-    let are = same (record { some = omega arith; short = omega (arith, fits (length (joined (first ∷ more)) + 1 + length word) is) }) in
-    (are.in_order ∙ append_assoc (first ∷ more) (word ∷ []) words, are.each, are.filled, are.begins, fill_here first more word words (fill first (more ++ word ∷ []) words) are)
+    let long : length (join_with_blank (first ∷ (more ++ word ∷ []))) ≡ length (join_with_blank (first ∷ more)) + 1 + length word =
+    ap length (joined_more first more word) ∙ long_more (join_with_blank (first ∷ more)) word in
+    let are = same (record { some = omega arith; short = omega (arith, fits (length (join_with_blank (first ∷ more)) + 1 + length word) is) }) in (
+      are.in_order ∙ append_assoc (first ∷ more) (word ∷ []) words,
+      are.each,
+      are.filled,
+      are.begins,
+      fill_here first more word words (fill first (more ++ word ∷ []) words) are,
+    )
 fill_step false first more word words is line same next =
-    let full : max_line_length < length (joined (first ∷ more) ++ blank ∷ word) = omega (arith, long_more (joined (first ∷ more)) word, fits_not (length (joined (first ∷ more)) + 1 + length word) is) in
-    (ap (λ (l : List (List ℕ)). (first ∷ more) ++ l) next.in_order, (line, next.each), (next.begins (first ∷ more) full, next.filled), (λ before h. h), fill_next first more word words (fill word [] words) next)
+    let full : max_line_length < length (join_with_blank (first ∷ more) ++ blank ∷ word) =
+    omega (arith, long_more (join_with_blank (first ∷ more)) word, fits_not (length (join_with_blank (first ∷ more)) + 1 + length word) is) in (
+      ap (λ (l : List (List ℕ)). (first ∷ more) ++ l) next.in_order,
+      (line, next.each),
+      (next.begins (first ∷ more) full, next.filled),
+      (λ before h. h),
+      fill_next first more word words (fill word [] words) next,
+    )
 
 fill_is : (first : List ℕ) (more words : List (List ℕ)) → IsLine (first ∷ more) → AreShort words → AreFilledFrom first more words (fill first more words)
 fill_is first more [] line short = record {
@@ -113,10 +133,11 @@ fill_is first more [] line short = record {
   each = (line, tt);
   filled = (tt, tt);
   begins = λ before h. h;
-  text = append-nil (joined (first ∷ more) ++ line_feed ∷ []);
+  text = append-nil (join_with_blank (first ∷ more) ++ line_feed ∷ []);
 }
 fill_is first more (word ∷ words) line short =
-    let all = fill_step (nat_le (length (joined (first ∷ more)) + 1 + length word) max_line_length) first more word words refl line (λ l. fill_is first (more ++ word ∷ []) words l short.1) (fill_is word [] words (one_word word short.0) short.1) in
+    let all = fill_step (nat_le (length (join_with_blank (first ∷ more)) + 1 + length word) max_line_length) first more word words refl line
+    (λ l. fill_is first (more ++ word ∷ []) words l short.1) (fill_is word [] words (one_word word short.0) short.1) in
     record { in_order = all.0; each = all.1; filled = all.2; begins = all.3; text = all.4 }
 
 -- words are set in lines by the text that is written
@@ -133,14 +154,15 @@ set_holds (word ∷ words) short =
 -- ---- no other text
 
 -- words that have room in the line stand in it
-stand_here : (column : ℕ) (line more : List (List ℕ)) → column + length (behind line) ≤ max_line_length → words_after column (line ++ more) ≡ behind line ++ words_after (column + length (behind line)) more
+stand_here : (column : ℕ) (line more : List (List ℕ)) → column + length (behind line) ≤ max_line_length
+    → words_after column (line ++ more) ≡ behind line ++ words_after (column + length (behind line)) more
 stand_here column [] more short = ap (λ (n : ℕ). words_after n more) (omega arith)
 stand_here column (word ∷ line) more short =
     let now : ℕ = column + 1 + length word in
     let long : length (word ++ behind line) ≡ length word + length (behind line) = length-append word (behind line) in
-    let room : nat_le now max_line_length ≡ true = le_is now max_line_length (omega arith) in
+    let buffer : nat_le now max_line_length ≡ true = le_is now max_line_length (omega arith) in
     let same : now + length (behind line) ≡ column + length (behind (word ∷ line)) = omega arith in
-    ap (λ (b : Bool). if b then blank ∷ (word ++ words_after now (line ++ more)) else line_feed ∷ (word ++ words_after (length word) (line ++ more))) room
+    ap (λ (b : Bool). if b then blank ∷ (word ++ words_after now (line ++ more)) else line_feed ∷ (word ++ words_after (length word) (line ++ more))) buffer
     ∙ ap (λ (l : List ℕ). blank ∷ (word ++ l)) (stand_here now line more (omega arith))
     ∙ ap (λ (l : List ℕ). blank ∷ l) (sym (append_assoc word (behind line) (words_after (now + length (behind line)) more)))
     ∙ ap (λ (n : ℕ). blank ∷ ((word ++ behind line) ++ words_after n more)) same
@@ -149,35 +171,38 @@ stand_here column (word ∷ line) more short =
 abbrev lines_words : List (List (List ℕ)) → List (List ℕ)
 lines_words lines = flat_map (λ line. line) lines
 
-follow_line : (line : List (List ℕ)) (lines : List (List (List ℕ))) → IsFilled line lines → AreFilled lines → AllByRecursion IsLine lines → words_after (length (joined line)) (lines_words lines) ≡ line_feed ∷ flat_map line_text lines
+follow_line : (line : List (List ℕ)) (lines : List (List (List ℕ))) → IsFilled line lines → AreFilled lines → AllByRecursion IsLine lines
+    → words_after (length (join_with_blank line)) (lines_words lines) ≡ line_feed ∷ flat_map line_text lines
 follow_line line [] filled others each = refl
 follow_line line ([] ∷ lines) filled others each = absurd filled
 follow_line line ((word ∷ words) ∷ lines) filled others each =
-    let column : ℕ = length (joined line) in
-    let full : nat_le (column + 1 + length word) max_line_length ≡ false = le_is_not (column + 1 + length word) max_line_length (omega (arith, long_more (joined line) word)) in
-    let whole : joined (word ∷ words) ≡ word ++ behind words = joined_is word words in
-    let long : length (joined (word ∷ words)) ≡ length word + length (behind words) = ap length whole ∙ length-append word (behind words) in
+    let column : ℕ = length (join_with_blank line) in
+    let full : nat_le (column + 1 + length word) max_line_length ≡ false =
+    le_is_not (column + 1 + length word) max_line_length (omega (arith, long_more (join_with_blank line) word)) in
+    let whole : join_with_blank (word ∷ words) ≡ word ++ behind words = joined_is word words in
+    let long : length (join_with_blank (word ∷ words)) ≡ length word + length (behind words) = ap length whole ∙ length-append word (behind words) in
     let rest : List (List ℕ) = lines_words lines in
-    ap (λ (b : Bool). if b then blank ∷ (word ++ words_after (column + 1 + length word) (words ++ rest)) else line_feed ∷ (word ++ words_after (length word) (words ++ rest))) full
+    ap (λ (b : Bool). if b then blank ∷ (word ++ words_after (column + 1 + length word) (words ++ rest)) else line_feed
+    ∷ (word ++ words_after (length word) (words ++ rest))) full
     ∙ ap (λ (l : List ℕ). line_feed ∷ (word ++ l)) (stand_here (length word) words rest (omega (arith, each.0.short)))
     ∙ ap (λ (n : ℕ). line_feed ∷ (word ++ (behind words ++ words_after n rest))) (sym long)
     ∙ ap (λ (l : List ℕ). line_feed ∷ (word ++ (behind words ++ l))) (follow_line (word ∷ words) lines others.0 others.1 each.1)
     ∙ ap (λ (l : List ℕ). line_feed ∷ l) (sym (append_assoc word (behind words) (line_feed ∷ flat_map line_text lines)))
     ∙ ap (λ (l : List ℕ). line_feed ∷ (l ++ line_feed ∷ flat_map line_text lines)) (sym whole)
-    ∙ ap (λ (l : List ℕ). line_feed ∷ l) (sym (append_assoc (joined (word ∷ words)) (line_feed ∷ []) (flat_map line_text lines)))
+    ∙ ap (λ (l : List ℕ). line_feed ∷ l) (sym (append_assoc (join_with_blank (word ∷ words)) (line_feed ∷ []) (flat_map line_text lines)))
 
 -- the text of lines is the one that is written of their words
 lines_text : (lines : List (List (List ℕ))) → AreFilled lines → AllByRecursion IsLine lines → flat_map line_text lines ≡ set_in_lines (lines_words lines)
 lines_text [] filled each = refl
 lines_text ([] ∷ lines) filled each = absurd (omega (arith, each.0.some))
 lines_text ((word ∷ words) ∷ lines) filled each =
-    let whole : joined (word ∷ words) ≡ word ++ behind words = joined_is word words in
-    let long : length (joined (word ∷ words)) ≡ length word + length (behind words) = ap length whole ∙ length-append word (behind words) in
+    let whole : join_with_blank (word ∷ words) ≡ word ++ behind words = joined_is word words in
+    let long : length (join_with_blank (word ∷ words)) ≡ length word + length (behind words) = ap length whole ∙ length-append word (behind words) in
     let rest : List (List ℕ) = lines_words lines in
-    append_assoc (joined (word ∷ words)) (line_feed ∷ []) (flat_map line_text lines)
-    ∙ ap (λ (l : List ℕ). joined (word ∷ words) ++ l) (sym (follow_line (word ∷ words) lines filled.0 filled.1 each.1))
-    ∙ ap (λ (l : List ℕ). l ++ words_after (length (joined (word ∷ words))) rest) whole
-    ∙ append_assoc word (behind words) (words_after (length (joined (word ∷ words))) rest)
+    append_assoc (join_with_blank (word ∷ words)) (line_feed ∷ []) (flat_map line_text lines)
+    ∙ ap (λ (l : List ℕ). join_with_blank (word ∷ words) ++ l) (sym (follow_line (word ∷ words) lines filled.0 filled.1 each.1))
+    ∙ ap (λ (l : List ℕ). l ++ words_after (length (join_with_blank (word ∷ words))) rest) whole
+    ∙ append_assoc word (behind words) (words_after (length (join_with_blank (word ∷ words))) rest)
     ∙ ap (λ (n : ℕ). word ++ (behind words ++ words_after n rest)) long
     ∙ ap (λ (l : List ℕ). word ++ l) (sym (stand_here (length word) words rest (omega (arith, each.0.short))))
 

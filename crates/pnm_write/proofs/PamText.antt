@@ -1,5 +1,6 @@
 -- The header that is written of a PAM image, as a reader takes it: its lines, and what they say.
-use Rattle.std.proofs.Common.{◌≡◌, ◌≢◌, ℕ, ◌+◌, ◌<◌, ◌≤◌, Bool, true, not, ◌==◌, List, [], ◌∷◌, ◌++◌, length, All, codes, decimal, refl, sym, ap, subst, ◌∙◌, append_assoc, append-nil, length-append, arith}
+use Rattle.std.proofs.Common.{◌≡◌, ◌≢◌, ℕ, ◌+◌, ◌<◌, ◌≤◌, Bool, true, not, ◌==◌, List, [], ◌∷◌, ◌++◌, length, All, codes, decimal, refl, sym, ap, subst, ◌∙◌}
+use Rattle.std.proofs.Common.{append_assoc, append-nil, length-append, arith}
 use Rattle.std.specs.List.{AllPass, AllByRecursion, list_all}
 use Rattle.std.proofs.lemmas.Bool.Decides.{nat_tests}
 use Rattle.std.proofs.lemmas.List.Elements.{All-head, All-tail}
@@ -14,7 +15,8 @@ use Rattle.pnm_read.specs.declared.line.Field.{Field}
 use Rattle.pnm_read.specs.declared.line.Field.TheVariants.{Width, Height, Depth, Maxval}
 use Rattle.pnm_read.specs.declared.line.LineKind.{LineKind}
 use Rattle.pnm_read.specs.declared.line.LineKind.TheVariants.{Number, End}
-use Rattle.pnm_read.specs.PamLines.{trimmed_start, trimmed_end, token_of, after_token, second_token, value_of, name_of, kind_of_token, line_kind, field_values, tuple_type_in}
+use Rattle.pnm_read.specs.PamLines.{trimmed_start, trimmed_end, token_of, after_token, second_token, value_of, name_of, kind_of_token, line_kind, field_values}
+use Rattle.pnm_read.specs.PamLines.{tuple_type_in}
 use Rattle.pnm_read.specs.Headers.{MaySay, IsPamLine, SpellsPamHeader}
 use Rattle.pnm_read.specs.Rasters.{SpellsDecimal}
 use Rattle.pnm_read.proofs.LineLaws.{with_feeds}
@@ -56,7 +58,8 @@ number_line_is_one Maxval digits h = h
 number_line_is : (field : Field) (digits : List ℕ) (n : ℕ) → SpellsDecimal digits n → IsPamLine (number_line field digits)
 number_line_is field digits n d =
     let line : List ℕ = number_line field digits in
-    let number : MaySay (Number field) line = subst (λ (t : List ℕ). (0 < length t) × AllPass is_digit t) (sym (number_line_token field digits d.digits)) (d.some, d.digits) in
+    let number : MaySay (Number field) line = subst (λ (t : List ℕ). (0 < length t) × AllPass is_digit t) (sym (number_line_token field digits d.digits))
+    (d.some, d.digits) in
     record {
       one_line = AllPass-from_list_all is_other line (number_line_is_one field digits (one_line-digits digits d.digits));
       says = subst (λ (kind : LineKind). MaySay kind line) (sym (number_line_kind field digits)) number;
@@ -127,7 +130,8 @@ lines_of w h d m tuple_type = number_line Width w ∷ number_line Height h ∷ n
 
 -- each number is that of its line
 lines_have : (field : Field) (w h d m tuple_type : List ℕ) → field_values field (lines_of w h d m tuple_type)
-    ≡ decimal_value (second_token (number_line field (elim field [ Width ↦ w | Height ↦ h | Depth ↦ d | Maxval ↦ m ]))) ∷ field_values field (tuple_type_lines tuple_type)
+    ≡ decimal_value (second_token (number_line field (elim field [ Width ↦ w | Height ↦ h | Depth ↦ d | Maxval ↦ m ]))) ∷ field_values field
+    (tuple_type_lines tuple_type)
 unfolding trimmed_start token_of field_values
 lines_have Width w h d m tuple_type = refl
 lines_have Height w h d m tuple_type = refl
@@ -139,7 +143,8 @@ unfolding trimmed_start token_of tuple_type_in
 lines_have_type w h d m tuple_type = refl
 
 -- the number of a field
-lines_say : (field : Field) (w h d m tuple_type : List ℕ) (n : ℕ) → SpellsDecimal (elim field [ Width ↦ w | Height ↦ h | Depth ↦ d | Maxval ↦ m ]) n → field_values field (lines_of w h d m tuple_type) ≡ n ∷ []
+lines_say : (field : Field) (w h d m tuple_type : List ℕ) (n : ℕ) → SpellsDecimal (elim field [ Width ↦ w | Height ↦ h | Depth ↦ d | Maxval ↦ m ]) n
+    → field_values field (lines_of w h d m tuple_type) ≡ n ∷ []
 lines_say field w h d m tuple_type n s =
     let digits : List ℕ = elim field [ Width ↦ w | Height ↦ h | Depth ↦ d | Maxval ↦ m ] in
     lines_have field w h d m tuple_type
@@ -156,7 +161,8 @@ five_lengths a b c d t e = simp length-append
 -- the text of these lines, without the magic and its LF
 abbrev text_of : List ℕ → List ℕ → List ℕ → List ℕ → List ℕ → List ℕ
 text_of w h d m tuple_type =
-    (number_line Width w ++ 10 ∷ []) ++ (number_line Height h ++ 10 ∷ []) ++ (number_line Depth d ++ 10 ∷ []) ++ (number_line Maxval m ++ 10 ∷ []) ++ tuple_type_line tuple_type ++ codes "ENDHDR\n"
+    (number_line Width w ++ 10 ∷ []) ++ (number_line Height h ++ 10 ∷ []) ++ (number_line Depth d ++ 10 ∷ []) ++ (number_line Maxval m ++ 10 ∷ [])
+    ++ tuple_type_line tuple_type ++ codes "ENDHDR\n"
 
 -- it is the lines, and the last
 text_of_lines : (w h d m tuple_type : List ℕ) → text_of w h d m tuple_type ≡ with_feeds (lines_of w h d m tuple_type) ++ (codes "ENDHDR" ++ 10 ∷ [])
@@ -165,12 +171,23 @@ text_of_lines w h d m tuple_type =
     let b : List ℕ = number_line Height h ++ 10 ∷ [] in
     let c : List ℕ = number_line Depth d ++ 10 ∷ [] in
     let e : List ℕ = number_line Maxval m ++ 10 ∷ [] in
-    five_parts a b c e (tuple_type_line tuple_type) (codes "ENDHDR\n") ∙ ap (λ (t : List ℕ). (a ++ (b ++ (c ++ (e ++ t)))) ++ codes "ENDHDR\n") (sym (tuple_type_text tuple_type))
+    five_parts a b c e (tuple_type_line tuple_type) (codes "ENDHDR\n") ∙ ap (λ (t : List ℕ). (a ++ (b ++ (c ++ (e ++ t)))) ++ codes "ENDHDR\n")
+    (sym (tuple_type_text tuple_type))
 
-text_is_short : (w h d m tuple_type : List ℕ) → length w ≤ 10 → length h ≤ 10 → length d ≤ 10 → length m ≤ 10 → length tuple_type ≤ 255 → length (text_of w h d m tuple_type) ≤ 344
+text_is_short : (w h d m tuple_type : List ℕ) → length w ≤ 10 → length h ≤ 10 → length d ≤ 10 → length m ≤ 10 → length tuple_type ≤ 255
+    → length (text_of w h d m tuple_type) ≤ 344
 text_is_short w h d m tuple_type hw hh hd hm ht =
-    let all = five_lengths (number_line Width w ++ 10 ∷ []) (number_line Height h ++ 10 ∷ []) (number_line Depth d ++ 10 ∷ []) (number_line Maxval m ++ 10 ∷ []) (tuple_type_line tuple_type) (codes "ENDHDR\n") in
-    omega (arith, all, number_line_short Width w hw, number_line_short Height h hh, number_line_short Depth d hd, number_line_short Maxval m hm, tuple_type_short tuple_type ht)
+    let all = five_lengths (number_line Width w ++ 10 ∷ []) (number_line Height h ++ 10 ∷ []) (number_line Depth d ++ 10 ∷ []) (number_line Maxval m ++ 10 ∷ [])
+    (tuple_type_line tuple_type) (codes "ENDHDR\n") in
+    omega (
+      arith,
+      all,
+      number_line_short Width w hw,
+      number_line_short Height h hh,
+      number_line_short Depth d hd,
+      number_line_short Maxval m hm,
+      tuple_type_short tuple_type ht,
+    )
 
 -- ENDHDR is the last line
 last_is_end : line_kind (codes "ENDHDR") ≡ End
@@ -195,7 +212,8 @@ pam_text_spells width height depth maxval tuple_type sound rows =
     let d = decimal_spells depth (omega (arith, limits.depth_high)) in
     let m = decimal_spells maxval (omega (arith, limits.maxval_high)) in
     let short = text_is_short (decimal width) (decimal height) (decimal depth) (decimal maxval) tuple_type
-    (decimal_short width (omega (arith, limits.width_high))) (decimal_short height (omega (arith, limits.height_high))) (decimal_short depth (omega (arith, limits.depth_high))) (decimal_short maxval (omega (arith, limits.maxval_high))) type.short in
+    (decimal_short width (omega (arith, limits.width_high))) (decimal_short height (omega (arith, limits.height_high)))
+    (decimal_short depth (omega (arith, limits.depth_high))) (decimal_short maxval (omega (arith, limits.maxval_high))) type.short in
     record {
       lines = lines_of (decimal width) (decimal height) (decimal depth) (decimal maxval) tuple_type;
       last = codes "ENDHDR";
@@ -204,7 +222,10 @@ pam_text_spells width height depth maxval tuple_type sound rows =
       format_is = refl;
       lines_are = (
         number_line_is Width (decimal width) width w,
-        (number_line_is Height (decimal height) height h, (number_line_is Depth (decimal depth) depth d, (number_line_is Maxval (decimal maxval) maxval m, tuple_type_lines_are tuple_type type))),
+        (
+          number_line_is Height (decimal height) height h,
+          (number_line_is Depth (decimal depth) depth d, (number_line_is Maxval (decimal maxval) maxval m, tuple_type_lines_are tuple_type type)),
+        ),
       );
       last_one_line = AllPass-from_list_all is_other (codes "ENDHDR") refl;
       last_ends = last_is_end;

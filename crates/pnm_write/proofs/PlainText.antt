@@ -1,5 +1,6 @@
 -- The text of a plain raster spells its samples.
-use Rattle.std.proofs.Common.{◌≡◌, ℕ, ◌+◌, ◌*◌, ◌^◌, ◌==◌, ◌<◌, ◌≤◌, if◌then◌else◌, Bool, true, false, List, [], ◌∷◌, ◌++◌, length, flat_map, All, decimal, refl, sym, ap, subst, ◌∙◌, append_assoc, length-append, arith}
+use Rattle.std.proofs.Common.{◌≡◌, ℕ, ◌+◌, ◌*◌, ◌^◌, ◌==◌, ◌<◌, ◌≤◌, if◌then◌else◌, Bool, true, false, List, [], ◌∷◌, ◌++◌, length, flat_map, All, decimal}
+use Rattle.std.proofs.Common.{refl, sym, ap, subst, ◌∙◌, append_assoc, length-append, arith}
 use Rattle.std.specs.List.{AllByRecursion, concat}
 use Rattle.std.proofs.lemmas.List.Elements.{All-nil, All-cons, All-head, All-tail, All-weaker}
 use Rattle.pnm_image.specs.declared.shape.Shape.{Shape}
@@ -12,7 +13,7 @@ use Rattle.pnm_image.specs.Places.{IsRowOf}
 use Rattle.pnm_image.specs.Texts.{is_white}
 use Rattle.pnm_image.proofs.Rows.{AreRowsOf, AreRowsOf-rows_of, length-rows_of, concat-cut_rows}
 use Rattle.pnm_read.specs.Texts.{commented_after, uncommented_from, begins_apart}
-use Rattle.pnm_read.specs.Rasters.{IsGap, SpellsSample, SpellsPiece, MayFollow, SpellsPlainSamples}
+use Rattle.pnm_read.specs.Rasters.{IsGap, SpellsSample, SpellsPiece, MayFollowSample, SpellsPlainSamples}
 use Rattle.pnm_read.proofs.PlainLaws.{apart_follows}
 use Rattle.pnm_write.specs.Encoding.{row_bytes}
 use Rattle.pnm_image.specs.Characters.{blank, line_feed}
@@ -35,7 +36,8 @@ pixel_is_spelled sample within = record { spells = (within, refl); some = omega 
 abbrev pub AreSpelled : Kind → List ℕ → Type 0
 AreSpelled kind samples = AllByRecursion (IsSpelled kind) samples
 
-each_is_spelled : (kind : Kind) (maxval : ℕ) → ((sample : ℕ) → sample ≤ maxval → IsSpelled kind sample) → (samples : List ℕ) → All (λ sample. sample ≤ maxval) samples → AreSpelled kind samples
+each_is_spelled : (kind : Kind) (maxval : ℕ) → ((sample : ℕ) → sample ≤ maxval → IsSpelled kind sample) → (samples : List ℕ)
+    → All (λ sample. sample ≤ maxval) samples → AreSpelled kind samples
 each_is_spelled kind maxval is [] range = tt
 each_is_spelled kind maxval is (sample ∷ samples) range =
     (is sample (All-head (λ x. x ≤ maxval) sample samples range), each_is_spelled kind maxval is samples (All-tail (λ x. x ≤ maxval) sample samples range))
@@ -46,16 +48,21 @@ number_spells sample within = decimal_spells sample (omega arith)
 number_short : (sample : ℕ) → sample ≤ 65535 → length (decimal sample) ≤ 10
 number_short sample within = decimal_short sample (omega arith)
 
-samples_by : (kind : Kind) (depth maxval : ℕ) (tuple_type : List ℕ) → Suits kind depth maxval tuple_type → maxval ≤ 65535 → (sample : ℕ) → sample ≤ maxval → IsSpelled kind sample
+samples_by : (kind : Kind) (depth maxval : ℕ) (tuple_type : List ℕ) → Suits kind depth maxval tuple_type → maxval ≤ 65535 → (sample : ℕ) → sample ≤ maxval
+    → IsSpelled kind sample
 samples_by Bit depth maxval tuple_type suits high sample within = pixel_is_spelled sample (omega (arith, suits.1))
-samples_by Gray depth maxval tuple_type suits high sample within = let s = number_spells sample (omega arith) in record { spells = s; some = s.some; short = number_short sample (omega arith) }
-samples_by Color depth maxval tuple_type suits high sample within = let s = number_spells sample (omega arith) in record { spells = s; some = s.some; short = number_short sample (omega arith) }
-samples_by Pam depth maxval tuple_type suits high sample within = let s = number_spells sample (omega arith) in record { spells = s; some = s.some; short = number_short sample (omega arith) }
+samples_by Gray depth maxval tuple_type suits high sample within = let s = number_spells sample (omega arith) in
+    record { spells = s; some = s.some; short = number_short sample (omega arith) }
+samples_by Color depth maxval tuple_type suits high sample within = let s = number_spells sample (omega arith) in
+    record { spells = s; some = s.some; short = number_short sample (omega arith) }
+samples_by Pam depth maxval tuple_type suits high sample within = let s = number_spells sample (omega arith) in
+    record { spells = s; some = s.some; short = number_short sample (omega arith) }
 
 -- the samples of a row are spelled
 pub row_is_spelled : (head : HeadValue) → IsHead head → (row : List ℕ) → IsRowOf head.shape row → AreSpelled head.shape.kind row
 row_is_spelled head sound row is =
-    each_is_spelled head.shape.kind head.shape.maxval (samples_by head.shape.kind head.shape.depth head.shape.maxval head.tuple_type sound.suits (omega (arith, sound.limits.maxval_high))) row is.range
+    each_is_spelled head.shape.kind head.shape.maxval
+    (samples_by head.shape.kind head.shape.depth head.shape.maxval head.tuple_type sound.suits (omega (arith, sound.limits.maxval_high))) row is.range
 
 -- ---- words
 
@@ -73,7 +80,8 @@ unfolding uncommented_from commented_after
 feed_gap = record { white = All-cons (λ b. is_white b ≡ true) 10 [] refl (All-nil (λ b. is_white b ≡ true)); outside = refl }
 
 -- a gap of at most one byte and the text of a sample
-piece_spells : (kind : Kind) (gap : List ℕ) (sample : ℕ) → IsGap gap → length gap ≤ 1 → IsSpelled kind sample → SpellsPiece kind (gap ++ sample_text kind sample) sample
+piece_spells : (kind : Kind) (gap : List ℕ) (sample : ℕ) → IsGap gap → length gap ≤ 1 → IsSpelled kind sample
+    → SpellsPiece kind (gap ++ sample_text kind sample) sample
 piece_spells kind gap sample is one spelled = record {
   gap = gap;
   digits = sample_text kind sample;
@@ -115,7 +123,8 @@ part_begins_apart kind column (sample ∷ samples) begun =
     ap begins_apart (append_assoc (separator column word) word more) ∙ (separator_is column word begun).apart (word ++ more)
 
 -- the samples after a first one
-others_spell : (kind : Kind) (column : ℕ) (samples : List ℕ) → 0 < column → AreSpelled kind samples → SpellsPlainSamples kind (text_of_part column (sample_texts kind samples)) samples
+others_spell : (kind : Kind) (column : ℕ) (samples : List ℕ) → 0 < column → AreSpelled kind samples
+    → SpellsPlainSamples kind (text_of_part column (sample_texts kind samples)) samples
 others_spell kind column [] begun are = refl
 others_spell kind column (sample ∷ samples) begun are =
     let word : List ℕ = sample_text kind sample in
@@ -131,7 +140,8 @@ others_spell kind column (sample ∷ samples) begun are =
     )
 
 -- the samples of a row, behind a gap of at most one byte
-row_spells : (kind : Kind) (gap row : List ℕ) → IsGap gap → length gap ≤ 1 → 0 < length row → AreSpelled kind row → SpellsPlainSamples kind (gap ++ text_of_part 0 (sample_texts kind row)) row
+row_spells : (kind : Kind) (gap row : List ℕ) → IsGap gap → length gap ≤ 1 → 0 < length row → AreSpelled kind row
+    → SpellsPlainSamples kind (gap ++ text_of_part 0 (sample_texts kind row)) row
 row_spells kind gap [] is one some are = absurd (omega arith)
 row_spells kind gap (sample ∷ samples) is one some are =
     let word : List ℕ = sample_text kind sample in
@@ -146,18 +156,19 @@ row_spells kind gap (sample ∷ samples) is one some are =
 
 -- ---- rows
 
-apart_more : (front rest : List ℕ) → begins_apart front ≡ true → begins_apart rest ≡ true → begins_apart (front ++ rest) ≡ true
+apart_more : (prefix rest : List ℕ) → begins_apart prefix ≡ true → begins_apart rest ≡ true → begins_apart (prefix ++ rest) ≡ true
 apart_more [] rest f r = r
-apart_more (b ∷ front) rest f r = f
+apart_more (b ∷ prefix) rest f r = f
 
-follows_more : (kind : Kind) (front rest : List ℕ) → MayFollow kind front → begins_apart rest ≡ true → MayFollow kind (front ++ rest)
-follows_more Bit front rest f r = tt
-follows_more Gray front rest f r = apart_more front rest f r
-follows_more Color front rest f r = apart_more front rest f r
-follows_more Pam front rest f r = apart_more front rest f r
+follows_more : (kind : Kind) (prefix rest : List ℕ) → MayFollowSample kind prefix → begins_apart rest ≡ true → MayFollowSample kind (prefix ++ rest)
+follows_more Bit prefix rest f r = tt
+follows_more Gray prefix rest f r = apart_more prefix rest f r
+follows_more Color prefix rest f r = apart_more prefix rest f r
+follows_more Pam prefix rest f r = apart_more prefix rest f r
 
 -- samples, and behind white space others
-both_spell : (kind : Kind) (text more samples others : List ℕ) → SpellsPlainSamples kind text samples → begins_apart more ≡ true → SpellsPlainSamples kind more others → SpellsPlainSamples kind (text ++ more) (samples ++ others)
+both_spell : (kind : Kind) (text more samples others : List ℕ) → SpellsPlainSamples kind text samples → begins_apart more ≡ true
+    → SpellsPlainSamples kind more others → SpellsPlainSamples kind (text ++ more) (samples ++ others)
 both_spell kind text more [] others s apart o = subst (λ (l : List ℕ). SpellsPlainSamples kind (l ++ more) others) (sym s) o
 both_spell kind text more (sample ∷ samples) others s apart o = (
   s.0,
@@ -186,10 +197,12 @@ record RowSpelled (kind : Kind) (row : List ℕ) : Type 0 where
 next_rows_spell : (kind : Kind) (rows : List (List ℕ)) → AllByRecursion (RowSpelled kind) rows → SpellsPlainSamples kind (next_rows kind rows) (concat rows)
 next_rows_spell kind [] are = refl
 next_rows_spell kind (row ∷ rows) are =
-    both_spell kind (line_feed ∷ [] ++ text_of_part 0 (sample_texts kind row)) (next_rows kind rows) row (concat rows) (row_spells kind (line_feed ∷ []) row feed_gap (omega arith) are.0.some are.0.are) (next_begin_apart kind rows) (next_rows_spell kind rows are.1)
+    both_spell kind (line_feed ∷ [] ++ text_of_part 0 (sample_texts kind row)) (next_rows kind rows) row (concat rows)
+    (row_spells kind (line_feed ∷ []) row feed_gap (omega arith) are.0.some are.0.are) (next_begin_apart kind rows) (next_rows_spell kind rows are.1)
 
 -- with a LF before them they are the rows' texts
-next_rows_text : (kind : Kind) (rows : List (List ℕ)) → AllByRecursion (RowSpelled kind) rows → line_feed ∷ flat_map (plain_row_text kind) rows ≡ next_rows kind rows ++ line_feed ∷ []
+next_rows_text : (kind : Kind) (rows : List (List ℕ)) → AllByRecursion (RowSpelled kind) rows
+    → line_feed ∷ flat_map (plain_row_text kind) rows ≡ next_rows kind rows ++ line_feed ∷ []
 next_rows_text kind [] are = refl
 next_rows_text kind (row ∷ rows) are =
     let text : List ℕ = text_of_part 0 (sample_texts kind row) in
@@ -204,7 +217,8 @@ pub record PlainRaster (kind : Kind) (text samples : List ℕ) : Type 0 where
   pub whole : text ≡ body ++ line_feed ∷ []
   pub spelled : SpellsPlainSamples kind body samples
 
-rows_spell : (kind : Kind) (rows : List (List ℕ)) → 0 < length rows → AllByRecursion (RowSpelled kind) rows → PlainRaster kind (flat_map (plain_row_text kind) rows) (concat rows)
+rows_spell : (kind : Kind) (rows : List (List ℕ)) → 0 < length rows → AllByRecursion (RowSpelled kind) rows
+    → PlainRaster kind (flat_map (plain_row_text kind) rows) (concat rows)
 rows_spell kind [] some are = absurd (omega arith)
 rows_spell kind (row ∷ rows) some are =
     let text : List ℕ = text_of_part 0 (sample_texts kind row) in
@@ -214,13 +228,15 @@ rows_spell kind (row ∷ rows) some are =
           ∙ append_assoc text (line_feed ∷ []) (flat_map (plain_row_text kind) rows)
           ∙ ap (λ (l : List ℕ). text ++ l) (next_rows_text kind rows are.1)
           ∙ sym (append_assoc text (next_rows kind rows) (line_feed ∷ []));
-      spelled = both_spell kind text (next_rows kind rows) row (concat rows) (row_spells kind [] row no_gap (omega arith) are.0.some are.0.are) (next_begin_apart kind rows) (next_rows_spell kind rows are.1);
+      spelled = both_spell kind text (next_rows kind rows) row (concat rows) (row_spells kind [] row no_gap (omega arith) are.0.some are.0.are)
+          (next_begin_apart kind rows) (next_rows_spell kind rows are.1);
     }
 
 -- ---- images
 
 -- the text of a row with samples is what is left of it, and a LF
-row_text : (kind : Kind) (row : List ℕ) → 0 < length row → All (λ sample. sample < 2 ^ 64) row → plain_row_text kind row ≡ text_of_part 0 (sample_texts kind row) ++ line_feed ∷ []
+row_text : (kind : Kind) (row : List ℕ) → 0 < length row → All (λ sample. sample < 2 ^ 64) row
+    → plain_row_text kind row ≡ text_of_part 0 (sample_texts kind row) ++ line_feed ∷ []
 row_text kind [] some fit = absurd (omega arith)
 row_text kind (sample ∷ row) some fit = row_text_left kind (sample ∷ row) fit
 
@@ -228,10 +244,12 @@ row_of_image : (head : HeadValue) → IsHead head → 0 < row_length head.shape 
 row_of_image head sound long row is = record {
   some = omega (arith, is.count);
   are = row_is_spelled head sound row is;
-  text = row_text head.shape.kind row (omega (arith, is.count)) (All-weaker (λ x. x ≤ head.shape.maxval) (λ x. x < 2 ^ 64) (λ x h. omega (arith, sound.limits.maxval_high)) row is.range);
+  text = row_text head.shape.kind row (omega (arith, is.count))
+      (All-weaker (λ x. x ≤ head.shape.maxval) (λ x. x < 2 ^ 64) (λ x h. omega (arith, sound.limits.maxval_high)) row is.range);
 }
 
-rows_of_image : (head : HeadValue) → IsHead head → 0 < row_length head.shape → (rows : List (List ℕ)) → AreRowsOf head.shape rows → AllByRecursion (RowSpelled head.shape.kind) rows
+rows_of_image : (head : HeadValue) → IsHead head → 0 < row_length head.shape → (rows : List (List ℕ)) → AreRowsOf head.shape rows
+    → AllByRecursion (RowSpelled head.shape.kind) rows
 rows_of_image head sound long [] are = tt
 rows_of_image head sound long (row ∷ rows) are = (row_of_image head sound long row are.0, rows_of_image head sound long rows are.1)
 
@@ -239,10 +257,13 @@ has_samples : (width depth : ℕ) → 0 < width → 0 < depth → 0 < width * de
 has_samples width depth w d = grind arith
 
 -- the text of an image's rows
-pub plain_raster_spells : (image : Image) → IsImage image → 0 < image.head.shape.height → PlainRaster image.head.shape.kind (flat_map (row_bytes Plain image.head.shape) (rows_of image)) image.samples
+pub plain_raster_spells : (image : Image) → IsImage image → 0 < image.head.shape.height
+    → PlainRaster image.head.shape.kind (flat_map (row_bytes Plain image.head.shape) (rows_of image)) image.samples
 plain_raster_spells image sound rows =
     let s : Shape = image.head.shape in
     let limits = sound.head.limits in
     let count : length (rows_of image) ≡ s.height = length-rows_of image in
-    let raster = rows_spell s.kind (rows_of image) (omega arith) (rows_of_image image.head sound.head (has_samples s.width s.depth limits.width_low limits.depth_low) (rows_of image) (AreRowsOf-rows_of image sound)) in
+    let raster =
+    rows_spell s.kind (rows_of image) (omega arith)
+    (rows_of_image image.head sound.head (has_samples s.width s.depth limits.width_low limits.depth_low) (rows_of image) (AreRowsOf-rows_of image sound)) in
     subst (PlainRaster s.kind (flat_map (plain_row_text s.kind) (rows_of image))) (concat-cut_rows s.height (row_length s) image.samples sound.count) raster

@@ -1,5 +1,6 @@
 -- The bytes of samples: step by step, and part by part.
-use Rattle.std.proofs.Common.{◌≡◌, ℕ, ◌+◌, ◌*◌, ◌/◌, ◌%◌, ◌<◌, ◌≤◌, min, List, [], ◌∷◌, ◌++◌, length, get_or, set, take, drop, refl, sym, ap, ap₂, ◌∙◌, append_assoc, arith, inl, inr}
+use Rattle.std.proofs.Common.{◌≡◌, ℕ, ◌+◌, ◌*◌, ◌/◌, ◌%◌, ◌<◌, ◌≤◌, min, List, [], ◌∷◌, ◌++◌, length, get_or, set, take, drop, refl, sym, ap, ap₂, ◌∙◌}
+use Rattle.std.proofs.Common.{append_assoc, arith, inl, inr}
 use Rattle.std.proofs.Math.ListN.{length-set}
 use Rattle.std.proofs.lemmas.Bool.{cases_lt}
 use Rattle.std.proofs.lemmas.Grind.{flat_map-append}
@@ -9,24 +10,25 @@ use Rattle.pnm_image.specs.declared.sample_width.SampleWidth.{SampleWidth}
 use Rattle.pnm_image.specs.declared.sample_width.SampleWidth.TheVariants.{Bits, Bytes, Words}
 use Rattle.pnm_write.specs.Encoding.{packed_bytes, wide_bytes, bytes_in}
 use Rattle.pnm_samples.proofs.PackLaws.{packed_parts}
-use Rattle.pnm_write.specs.Rooms.{most_samples, FitIn}
+use Rattle.pnm_write.specs.WriteBuffers.{most_samples, FitIn}
 
 -- ---- samples of two bytes
 
 -- the bytes of one sample more
-pub wide_more : (xs room : List ℕ) (i high low : ℕ) → take (2 * i) room ≡ wide_bytes (take i xs) → i < length xs → 2 * length xs ≤ length room → high ≡ get_or xs i 0 / 256 → low ≡ get_or xs i 0 % 256
-    → take (2 * (i + 1)) (set (set room (2 * i) high) (2 * i + 1) low) ≡ wide_bytes (take (i + 1) xs)
-wide_more xs room i high low known below enough h l =
+pub wide_more : (xs buffer : List ℕ) (i high low : ℕ) → take (2 * i) buffer ≡ wide_bytes (take i xs) → i < length xs → 2 * length xs ≤ length buffer
+    → high ≡ get_or xs i 0 / 256 → low ≡ get_or xs i 0 % 256
+    → take (2 * (i + 1)) (set (set buffer (2 * i) high) (2 * i + 1) low) ≡ wide_bytes (take (i + 1) xs)
+wide_more xs buffer i high low known below enough h l =
     let two : 2 * (i + 1) ≡ 2 * i + 1 + 1 = omega arith in
-    let first : 2 * i < length room = omega arith in
-    let second : 2 * i + 1 < length (set room (2 * i) high) = omega (arith, length-set room (2 * i) high) in
+    let first : 2 * i < length buffer = omega arith in
+    let second : 2 * i + 1 < length (set buffer (2 * i) high) = omega (arith, length-set buffer (2 * i) high) in
     let sample : take (i + 1) xs ≡ take i xs ++ get_or xs i 0 ∷ [] = take_more xs i 0 below in
     let bytes : wide_bytes (take (i + 1) xs) ≡ wide_bytes (take i xs) ++ (get_or xs i 0 / 256 ∷ get_or xs i 0 % 256 ∷ []) =
     ap wide_bytes sample ∙ flat_map-append (λ (s : ℕ). s / 256 ∷ s % 256 ∷ []) (take i xs) (get_or xs i 0 ∷ []) in
-    ap (λ (m : ℕ). take m (set (set room (2 * i) high) (2 * i + 1) low)) two
-    ∙ take_more_set (set room (2 * i) high) (2 * i + 1) low second
-    ∙ ap (λ (r : List ℕ). r ++ low ∷ []) (take_more_set room (2 * i) high first)
-    ∙ append_assoc (take (2 * i) room) (high ∷ []) (low ∷ [])
+    ap (λ (m : ℕ). take m (set (set buffer (2 * i) high) (2 * i + 1) low)) two
+    ∙ take_more_set (set buffer (2 * i) high) (2 * i + 1) low second
+    ∙ ap (λ (r : List ℕ). r ++ low ∷ []) (take_more_set buffer (2 * i) high first)
+    ∙ append_assoc (take (2 * i) buffer) (high ∷ []) (low ∷ [])
     ∙ ap (λ (r : List ℕ). r ++ (high ∷ low ∷ [])) known
     ∙ ap₂ (λ (a b : ℕ). wide_bytes (take i xs) ++ (a ∷ b ∷ [])) h l
     ∙ sym bytes
@@ -37,7 +39,8 @@ wide_more xs room i high low known below enough h l =
 one_part : (p : SampleWidth) (n : ℕ) (xs : List ℕ) → length xs ≤ n → bytes_in p xs ≡ bytes_in p (take n xs) ++ bytes_in p (drop n xs)
 one_part p n xs all =
     let none : bytes_in p [] ≡ [] = elim p as (λ q. bytes_in q [] ≡ []) [ Bits ↦ refl | Bytes ↦ refl | Words ↦ refl ] in
-    sym (append-nil (bytes_in p xs)) ∙ ap₂ (λ (a b : List ℕ). a ++ b) (ap (bytes_in p) (sym (take_all n xs all))) (sym none ∙ ap (bytes_in p) (sym (drop_all n xs all)))
+    sym (append-nil (bytes_in p xs)) ∙ ap₂ (λ (a b : List ℕ). a ++ b) (ap (bytes_in p) (sym (take_all n xs all)))
+    (sym none ∙ ap (bytes_in p) (sym (drop_all n xs all)))
 
 -- the bytes of a part, and those of the rest
 pub parts : (p : SampleWidth) (n : ℕ) (xs : List ℕ) → n ≡ min (length xs) (most_samples p) → bytes_in p xs ≡ bytes_in p (take n xs) ++ bytes_in p (drop n xs)

@@ -1,5 +1,6 @@
 -- What is written of images is read again: it spells these images.
-use Rattle.std.proofs.Common.{◌≡◌, ℕ, ◌*◌, ◌<◌, inl, inr, Some, None, List, [], ◌∷◌, ◌++◌, length, map, flat_map, refl, sym, append-nil, append_assoc, ap, ap₂, ◌∙◌, arith, zero-mul, suc-mul}
+use Rattle.std.proofs.Common.{◌≡◌, ℕ, ◌*◌, ◌<◌, inl, inr, Some, None, List, [], ◌∷◌, ◌++◌, length, map, flat_map, refl, sym, append-nil, append_assoc, ap, ap₂}
+use Rattle.std.proofs.Common.{◌∙◌, arith, zero-mul, suc-mul}
 use Rattle.std.specs.List.{AllByRecursion}
 use Rattle.std.proofs.lemmas.List.{take_at, drop_at, length-append}
 use Rattle.pnm_image.specs.declared.shape.Shape.{Shape}
@@ -31,16 +32,24 @@ rows_are_read_again head (row ∷ rows) sound are = (row_is_read_again head soun
 length_of_rows : (s : Shape) (rows : List (List ℕ)) → AreReadAgain s rows → length (flat_map (row_bytes Raw s) rows) ≡ length rows * bytes_in_row s
 length_of_rows s [] are = sym (zero-mul (bytes_in_row s))
 length_of_rows s (row ∷ rows) are =
-    omega (arith, length-append (row_bytes Raw s row) (flat_map (row_bytes Raw s) rows), are.0.count, length_of_rows s rows are.1, suc-mul (length rows) (bytes_in_row s))
+    omega (
+      arith,
+      length-append (row_bytes Raw s row) (flat_map (row_bytes Raw s) rows),
+      are.0.count,
+      length_of_rows s rows are.1,
+      suc-mul (length rows) (bytes_in_row s),
+    )
 
 -- they are cut into the bytes of each row, which give the rows again
-rows_again : (s : Shape) (rows : List (List ℕ)) → AreReadAgain s rows → map (raw_samples s) (cut_rows (length rows) (bytes_in_row s) (flat_map (row_bytes Raw s) rows)) ≡ rows
+rows_again : (s : Shape) (rows : List (List ℕ)) → AreReadAgain s rows
+    → map (raw_samples s) (cut_rows (length rows) (bytes_in_row s) (flat_map (row_bytes Raw s) rows)) ≡ rows
 rows_again s [] are = refl
 rows_again s (row ∷ rows) are =
     let each : ℕ = bytes_in_row s in
     let bytes : List ℕ = row_bytes Raw s row in
     let others : List ℕ = flat_map (row_bytes Raw s) rows in
-    ap₂ (λ (a b : List ℕ). raw_samples s a ∷ map (raw_samples s) (cut_rows (length rows) each b)) (take_at bytes others each are.0.count) (drop_at bytes others each are.0.count)
+    ap₂ (λ (a b : List ℕ). raw_samples s a ∷ map (raw_samples s) (cut_rows (length rows) each b)) (take_at bytes others each are.0.count)
+    (drop_at bytes others each are.0.count)
     ∙ ap₂ (λ (a : List ℕ) (l : List (List ℕ)). a ∷ l) are.0.samples (rows_again s rows are.1)
 
 -- the bytes of the rows of an image spell its raster
@@ -75,12 +84,14 @@ image_spells image sound rows = (
 -- those of images in turn spell these images
 images_spell : (images : List Image) → AreImages images → AllByRecursion (λ i. 0 < i.head.shape.height) images → SpellsRawImages (encoding_of Raw images) images
 images_spell [] sound rows = refl
-images_spell (image ∷ images) sound rows = (image_bytes Raw image, encoding_of Raw images, refl, image_spells image sound.0 rows.0, images_spell images sound.1 rows.1)
+images_spell (image ∷ images) sound rows =
+    (image_bytes Raw image, encoding_of Raw images, refl, image_spells image sound.0 rows.0, images_spell images sound.1 rows.1)
 
 -- ---- a plain image
 
 -- the text of an image, but for its last LF, spells it
-plain_image_spells : (image : Image) → IsImage image → 0 < image.head.shape.height → plain_kind_fault image.head.shape.kind ≡ None → SpellsPlainAlone (encoding_of Plain (image ∷ [])) (image ∷ [])
+plain_image_spells : (image : Image) → IsImage image → 0 < image.head.shape.height → plain_kind_fault image.head.shape.kind ≡ None
+    → SpellsPlainAlone (encoding_of Plain (image ∷ [])) (image ∷ [])
 plain_image_spells image sound rows held =
     let s : Shape = image.head.shape in
     let head : List ℕ = header_text Plain image.head in
@@ -111,11 +122,14 @@ no_second : {A : Type 0} → Some SecondPlain ≡ None → A
 no_second e = cc
 
 -- of images that plain form can hold there is one, which isn't PAM
-plain_alone_spells : (images : List Image) → 0 < length images → AreImages images → AllByRecursion (λ i. 0 < i.head.shape.height) images → plain_images_fault images ≡ None → SpellsPlainAlone (encoding_of Plain images) images
+plain_alone_spells : (images : List Image) → 0 < length images → AreImages images → AllByRecursion (λ i. 0 < i.head.shape.height) images
+    → plain_images_fault images ≡ None → SpellsPlainAlone (encoding_of Plain images) images
 plain_alone_spells [] some sound rows held = absurd (omega arith)
-plain_alone_spells (image ∷ []) some sound rows held = plain_image_spells image sound.0 rows.0 (no_first_fault (plain_kind_fault image.head.shape.kind) None held)
+plain_alone_spells (image ∷ []) some sound rows held =
+    plain_image_spells image sound.0 rows.0 (no_first_fault (plain_kind_fault image.head.shape.kind) None held)
 plain_alone_spells (image ∷ next ∷ images) some sound rows held = no_second (no_last_fault (plain_kind_fault image.head.shape.kind) (Some SecondPlain) held)
 
-pub encoding_spells : (form : Form) (images : List Image) → 0 < length images → AreImages images → AllByRecursion (λ i. 0 < i.head.shape.height) images → images_fault form images ≡ None → Spells (encoding_of form images) images
+pub encoding_spells : (form : Form) (images : List Image) → 0 < length images → AreImages images → AllByRecursion (λ i. 0 < i.head.shape.height) images
+    → images_fault form images ≡ None → Spells (encoding_of form images) images
 encoding_spells Raw images some sound rows held = inl (some, images_spell images sound rows)
 encoding_spells Plain images some sound rows held = inr (plain_alone_spells images some sound rows held)

@@ -1,5 +1,6 @@
 -- The bytes that are written of a raw row are those that a reader takes for one, and give the row again.
-use Rattle.std.proofs.Common.{◌≡◌, ℕ, ◌+◌, ◌*◌, ◌/◌, ◌≤◌, Bool, true, false, nat_lt, if◌then◌else◌, List, [], ◌∷◌, length, take, flat_map, All, refl, sym, ap, ap₂, subst, ◌∙◌, arith}
+use Rattle.std.proofs.Common.{◌≡◌, ℕ, ◌+◌, ◌*◌, ◌/◌, ◌≤◌, Bool, true, false, nat_lt, if◌then◌else◌, List, [], ◌∷◌, length, take, flat_map, All, refl, sym, ap}
+use Rattle.std.proofs.Common.{ap₂, subst, ◌∙◌, arith}
 use Rattle.std.proofs.Math.Nat.{div-add-mod}
 use Rattle.pnm_image.specs.declared.shape.Shape.{Shape}
 use Rattle.pnm_image.specs.declared.shape.Kind.{Kind}
@@ -29,7 +30,8 @@ unfolding wide_samples
 wide_again [] = refl
 wide_again (sample ∷ row) = ap₂ (λ (x : ℕ) (l : List ℕ). x ∷ l) (div-add-mod sample 256) (wide_again row)
 
-packed_again : (width : ℕ) (row : List ℕ) → length row ≡ width → ArePixels row → GivesAgain ((width + 7) / 8) (packed_bytes row) (take width (flat_map pixels (packed_bytes row))) row
+packed_again : (width : ℕ) (row : List ℕ) → length row ≡ width → ArePixels row
+    → GivesAgain ((width + 7) / 8) (packed_bytes row) (take width (flat_map pixels (packed_bytes row))) row
 packed_again width row count range = (
   length-packed_bytes row ∙ ap (λ (n : ℕ). (n + 7) / 8) count,
   ap (λ (n : ℕ). take n (flat_map pixels (packed_bytes row))) (sym count) ∙ pixels_of_groups ((length row + 7) / 8) row (omega arith) range,
@@ -57,11 +59,16 @@ pixels_count width depth n e count = count ∙ ap (λ (d : ℕ). width * d) e �
 
 row_by : (kind : Kind) (width height depth maxval : ℕ) (tuple_type : List ℕ)
     → (let s : Shape = record { kind = kind; width = width; height = height; depth = depth; maxval = maxval } in
-    Suits kind depth maxval tuple_type → (row : List ℕ) → IsRowOf s row → GivesAgain (bytes_in_row s) (row_bytes Raw s row) (raw_samples s (row_bytes Raw s row)) row)
-row_by Bit width height depth maxval tuple_type suits row is = packed_again width row (pixels_count width depth (length row) suits.0 is.count) (pixels_range maxval row suits.1 is.range)
-row_by Gray width height depth maxval tuple_type suits row is = numbers_again (nat_lt maxval 256) (record { kind = Gray; width = width; height = height; depth = depth; maxval = maxval }) row is.count
-row_by Color width height depth maxval tuple_type suits row is = numbers_again (nat_lt maxval 256) (record { kind = Color; width = width; height = height; depth = depth; maxval = maxval }) row is.count
-row_by Pam width height depth maxval tuple_type suits row is = numbers_again (nat_lt maxval 256) (record { kind = Pam; width = width; height = height; depth = depth; maxval = maxval }) row is.count
+    Suits kind depth maxval tuple_type → (row : List ℕ) → IsRowOf s row
+    → GivesAgain (bytes_in_row s) (row_bytes Raw s row) (raw_samples s (row_bytes Raw s row)) row)
+row_by Bit width height depth maxval tuple_type suits row is = packed_again width row (pixels_count width depth (length row) suits.0 is.count)
+    (pixels_range maxval row suits.1 is.range)
+row_by Gray width height depth maxval tuple_type suits row is =
+    numbers_again (nat_lt maxval 256) (record { kind = Gray; width = width; height = height; depth = depth; maxval = maxval }) row is.count
+row_by Color width height depth maxval tuple_type suits row is =
+    numbers_again (nat_lt maxval 256) (record { kind = Color; width = width; height = height; depth = depth; maxval = maxval }) row is.count
+row_by Pam width height depth maxval tuple_type suits row is =
+    numbers_again (nat_lt maxval 256) (record { kind = Pam; width = width; height = height; depth = depth; maxval = maxval }) row is.count
 
 -- the bytes of a row are as many as a reader takes for one, and the samples in them are the row's
 pub record RowIsReadAgain (s : Shape) (row : List ℕ) : Type 0 where

@@ -15,22 +15,26 @@ use Rattle.pnm_write.specs.Encoding.{encoding_of, bytes_at, bytes_of}
 
 -- the bytes of a stream's messages are the encoding of its images
 abbrev pub BytesAreTheEncoding : Type 0
-BytesAreTheEncoding = (form : Form) (is : List Image) → AreImages is → bytes_of form (messages_of_stream is) ≡ encoding_of form is
+BytesAreTheEncoding = (form : Form) (is : List Image) → AreImages is
+    → bytes_of form (messages_of_stream is) ≡ encoding_of form is
 
 -- one message more adds its bytes, at the place that the messages before it lead to
 abbrev pub MessagesAddTheirBytes : Type 0
 MessagesAddTheirBytes =
-    (form : Form) (messages : List Message) (m : Message) → bytes_of form (messages ++ m ∷ []) ≡ bytes_of form messages ++ bytes_at form (place_of Between messages) m
+    (form : Form) (messages : List Message) (m : Message)
+    → bytes_of form (messages ++ m ∷ []) ≡ bytes_of form messages ++ bytes_at form (place_of Between messages) m
 
 -- what is written of images that the form can hold is read again: it spells these images
 abbrev pub WrittenIsReadAgain : Type 0
 WrittenIsReadAgain =
-    (form : Form) (is : List Image) → 0 < length is → AreImages is → AllByRecursion (λ i. 0 < i.head.shape.height) is → images_fault form is ≡ None
+    (form : Form) (is : List Image) → 0 < length is → AreImages is → AllByRecursion (λ i. 0 < i.head.shape.height) is
+    → images_fault form is ≡ None
     → Spells (encoding_of form is) is
 
 -- the form refuses a message of a stream for the reason for which it can't hold its images
 abbrev pub RefusedStreamsAreOfImages : Type 0
-RefusedStreamsAreOfImages = (form : Form) (is : List Image) → form_fault_of form (messages_of_stream is) ≡ images_fault form is
+RefusedStreamsAreOfImages = (form : Form) (is : List Image)
+    → form_fault_of form (messages_of_stream is) ≡ images_fault form is
 
 -- the text of a plain row is that of its samples' texts in lines, and no other text is
 pub record HasOneText (kind : Kind) (row : List ℕ) : Type 0 where
@@ -38,4 +42,5 @@ pub record HasOneText (kind : Kind) (row : List ℕ) : Type 0 where
   pub only : (text : List ℕ) → IsSetInLines (map (sample_text kind) row) text → text ≡ plain_row_text kind row
 
 abbrev pub PlainRowsHaveOneText : Type 0
-PlainRowsHaveOneText = (head : HeadValue) → IsHead head → (row : List ℕ) → IsRowOf head.shape row → HasOneText head.shape.kind row
+PlainRowsHaveOneText = (head : HeadValue) → IsHead head → (row : List ℕ) → IsRowOf head.shape row
+    → HasOneText head.shape.kind row

@@ -4,6 +4,6 @@ pub mod Numerals
 pub mod PixelCells
 pub mod Forms
 pub mod Encoding
-pub mod Rooms
+pub mod WriteBuffers
 pub mod Sinks
 pub mod EncodingLaws

@@ -11,4 +11,5 @@ cells samples = flat_map cell samples
 
 -- those of four bits, the most significant leftmost
 abbrev pub nibble_cells : ℕ → List ℕ
-nibble_cells bits = (48 + bits / 8 % 2) ∷ blank ∷ (48 + bits / 4 % 2) ∷ blank ∷ (48 + bits / 2 % 2) ∷ blank ∷ (48 + bits % 2) ∷ blank ∷ []
+nibble_cells bits = (48 + bits / 8 % 2) ∷ blank ∷ (48 + bits / 4 % 2) ∷ blank ∷ (48 + bits / 2 % 2) ∷ blank
+    ∷ (48 + bits % 2) ∷ blank ∷ []

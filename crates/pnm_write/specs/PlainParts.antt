@@ -14,7 +14,8 @@ separator column word = if column == 0 then [] else if fits_in_line column word 
 
 -- how many bytes the line has after it
 abbrev pub column_after : ℕ → List ℕ → ℕ
-column_after column word = if column == 0 then length word else if fits_in_line column word then column + 1 + length word else length word
+column_after column word = if column == 0 then length word else if fits_in_line column word then column + 1 + length
+    word else length word
 
 -- a word, and what comes before it
 abbrev pub word_in_line : ℕ → List ℕ → List ℕ

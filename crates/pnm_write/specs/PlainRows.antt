@@ -1,7 +1,8 @@
--- The text of a plain row. From pbm(5) 'Plain PBM', pgm(5) 'Plain PGM' and ppm(5) 'Plain PPM': lines of at most 70 bytes,
--- which end in LF, with white space between the samples. That a row begins a new line, that there is one blank between
--- samples, also between pixels, and that a line holds as many samples as it can, are own.
-use Rattle.std.specs.Prelude.{◌≡◌, ℕ, ◌+◌, ◌-◌, ◌<◌, ◌≤◌, nat_le, if◌then◌else◌, List, [], ◌∷◌, ◌++◌, length, map, flat_map, decimal}
+-- The text of a plain row. From pbm(5) 'Plain PBM', pgm(5) 'Plain PGM' and ppm(5) 'Plain PPM': lines of at most 70
+-- bytes, which end in LF, with white space between the samples. That a row begins a new line, that there is one blank
+-- between samples, also between pixels, and that a line holds as many samples as it can, are own.
+use Rattle.std.specs.Prelude.{◌≡◌, ℕ, ◌+◌, ◌-◌, ◌<◌, ◌≤◌, nat_le, if◌then◌else◌, List, [], ◌∷◌, ◌++◌, length, map}
+use Rattle.std.specs.Prelude.{flat_map, decimal}
 use Rattle.std.specs.List.{AllByRecursion}
 use Rattle.pnm_image.specs.Characters.{blank, line_feed, digit_one}
 use Rattle.pnm_image.specs.declared.shape.Kind.{Kind}
@@ -21,16 +22,16 @@ sample_text Pam sample = decimal sample
 -- ---- lines of words
 
 -- words with one blank between each two
-abbrev pub joined : List (List ℕ) → List ℕ
-joined [] = []
-joined (word ∷ []) = word
-joined (word ∷ next ∷ words) = word ++ blank ∷ joined (next ∷ words)
+abbrev pub join_with_blank : List (List ℕ) → List ℕ
+join_with_blank [] = []
+join_with_blank (word ∷ []) = word
+join_with_blank (word ∷ next ∷ words) = word ++ blank ∷ join_with_blank (next ∷ words)
 
 -- with a blank and the first word of the next line, the line would be too long; the last one need not be
 abbrev pub IsFilled : List (List ℕ) → List (List (List ℕ)) → Type 0
 IsFilled line [] = Unit {0}
 IsFilled line ([] ∷ lines) = ⊥
-IsFilled line ((word ∷ words) ∷ lines) = max_line_length < length (joined line ++ blank ∷ word)
+IsFilled line ((word ∷ words) ∷ lines) = max_line_length < length (join_with_blank line ++ blank ∷ word)
 
 abbrev pub AreFilled : List (List (List ℕ)) → Type 0
 AreFilled [] = Unit {0}
@@ -39,7 +40,7 @@ AreFilled (line ∷ lines) = IsFilled line lines × AreFilled lines
 -- a line has words, and isn't too long
 pub record IsLine (line : List (List ℕ)) : Type 0 where
   pub some : 0 < length line
-  pub short : length (joined line) ≤ max_line_length
+  pub short : length (join_with_blank line) ≤ max_line_length
 
 -- these are the lines of the words: all of them in order, each line as long as it can be
 pub record AreLinesOf (words : List (List ℕ)) (lines : List (List (List ℕ))) : Type 0 where
@@ -49,7 +50,7 @@ pub record AreLinesOf (words : List (List ℕ)) (lines : List (List (List ℕ)))
 
 -- the text of a line
 abbrev pub line_text : List (List ℕ) → List ℕ
-line_text line = joined line ++ line_feed ∷ []
+line_text line = join_with_blank line ++ line_feed ∷ []
 
 -- the text is that of the words in lines
 pub record IsSetInLines (words : List (List ℕ)) (text : List ℕ) : Type 0 where
@@ -59,12 +60,13 @@ pub record IsSetInLines (words : List (List ℕ)) (text : List ℕ) : Type 0 whe
 
 -- ---- the text itself, which is the only one that is so
 
--- what follows a line that has so many bytes: a word stands in it, after a blank, where there is room, and else begins the
--- next line
+-- what follows a line that has so many bytes: a word stands in it, after a blank, where there is room, and else begins
+-- the next line
 abbrev pub words_after : ℕ → List (List ℕ) → List ℕ
 words_after column [] = line_feed ∷ []
 words_after column (word ∷ words) =
-    if nat_le (column + 1 + length word) max_line_length then blank ∷ (word ++ words_after (column + 1 + length word) words)
+    if nat_le (column + 1 + length word) max_line_length then blank
+    ∷ (word ++ words_after (column + 1 + length word) words)
     else line_feed ∷ (word ++ words_after (length word) words)
 
 abbrev pub set_in_lines : List (List ℕ) → List ℕ

@@ -47,8 +47,8 @@ abbrev pub IsInOrder : Place → Message → Type 0
 IsInOrder place m = Accepts place m × HasRows m
 
 -- a sink takes the message at this place, where an image has begun or not
-abbrev pub Takes : Form → Bool → Place → Message → Type 0
-Takes form begun place m = IsInOrder place m × (form_fault form begun m ≡ None)
+abbrev pub IsWritable : Form → Bool → Place → Message → Type 0
+IsWritable form begun place m = IsInOrder place m × (form_fault form begun m ≡ None)
 
 -- these are the messages that were put into the sink without a fault
 pub record HasPut {W : Type 0} (sink : Sink W) (messages : List Message) : Type 0 where
@@ -59,24 +59,30 @@ pub record HasPut {W : Type 0} (sink : Sink W) (messages : List Message) : Type 
   pub place : has_failed sink ≡ false → next_place sink ≡ place_of Between messages
 
 -- these are the messages that were put, and what the writer held before them has grown by their bytes
-pub record HasWritten {W : Type 0} (held : W → Option (List ℕ)) (start : Option (List ℕ)) (sink : Sink W) (messages : List Message) : Type 0 where
+pub record HasWritten {W : Type 0} (held : W → Option (List ℕ)) (start : Option (List ℕ)) (sink : Sink W)
+    (messages : List Message) : Type 0 where
   pub put : HasPut sink messages
   pub bytes : Appends start (held (writer_of sink)) (bytes_of (form_of sink) messages)
 
--- why a sink refuses a message, whatever its writer does: there was a fault before; the message doesn't come in order; or
--- the form refuses it
-abbrev pub IsRefused : {W : Type 0} → Sink W → Message → SinkFault → Type 0
-IsRefused sink m Broken = has_failed sink ≡ true
-IsRefused sink m OutOfOrder = (has_failed sink ≡ false) × (IsInOrder (next_place sink) m → ⊥)
-IsRefused sink m SecondPlain = (has_failed sink ≡ false) × IsInOrder (next_place sink) m × (form_fault (form_of sink) (has_begun sink) m ≡ Some SecondPlain)
-IsRefused sink m PlainPam = (has_failed sink ≡ false) × IsInOrder (next_place sink) m × (form_fault (form_of sink) (has_begun sink) m ≡ Some PlainPam)
-IsRefused sink m WriteFailed = ⊥
+-- why a sink refuses a message, whatever its writer does: there was a fault before; the message doesn't come in order;
+-- or the form refuses it
+abbrev pub IsRefusedBySink : {W : Type 0} → Sink W → Message → SinkFault → Type 0
+IsRefusedBySink sink m Broken = has_failed sink ≡ true
+IsRefusedBySink sink m OutOfOrder = (has_failed sink ≡ false) × (IsInOrder (next_place sink) m → ⊥)
+IsRefusedBySink sink m SecondPlain = (has_failed sink ≡ false) × IsInOrder (next_place sink) m
+    × (form_fault (form_of sink) (has_begun sink) m ≡ Some SecondPlain)
+IsRefusedBySink sink m PlainPam = (has_failed sink ≡ false) × IsInOrder (next_place sink) m
+    × (form_fault (form_of sink) (has_begun sink) m ≡ Some PlainPam)
+IsRefusedBySink sink m WriteFailed = ⊥
 
 -- Why a message isn't written, where there was no fault before: it doesn't come in order; the form refuses it; or the
 -- writer failed. But for the last nothing is written.
 abbrev pub Refuses : Form → Bool → Place → Message → SinkFault → Option (List ℕ) → Option (List ℕ) → ℕ → ℕ → Type 0
 Refuses form begun place m OutOfOrder old new failures_old failures_new = (IsInOrder place m → ⊥) × Keeps old new
-Refuses form begun place m SecondPlain old new failures_old failures_new = IsInOrder place m × (form_fault form begun m ≡ Some SecondPlain) × Keeps old new
-Refuses form begun place m PlainPam old new failures_old failures_new = IsInOrder place m × (form_fault form begun m ≡ Some PlainPam) × Keeps old new
-Refuses form begun place m WriteFailed old new failures_old failures_new = Takes form begun place m × FailsIn (bytes_at form place m) old new failures_old failures_new
+Refuses form begun place m SecondPlain old new failures_old failures_new = IsInOrder place m
+    × (form_fault form begun m ≡ Some SecondPlain) × Keeps old new
+Refuses form begun place m PlainPam old new failures_old failures_new = IsInOrder place m
+    × (form_fault form begun m ≡ Some PlainPam) × Keeps old new
+Refuses form begun place m WriteFailed old new failures_old failures_new = IsWritable form begun place m
+    × FailsIn (bytes_at form place m) old new failures_old failures_new
 Refuses form begun place m Broken old new failures_old failures_new = ⊥

@@ -1,7 +1,8 @@
 //! Laws of the bytes of messages. Each stands over the definitions alone, as the contract of a
 //! function that does nothing.
 
-ghost use Rattle.pnm_write.specs.EncodingLaws.{BytesAreTheEncoding, MessagesAddTheirBytes, WrittenIsReadAgain, RefusedStreamsAreOfImages, PlainRowsHaveOneText};
+ghost use Rattle.pnm_write.specs.EncodingLaws.{BytesAreTheEncoding, MessagesAddTheirBytes, WrittenIsReadAgain};
+ghost use Rattle.pnm_write.specs.EncodingLaws.{RefusedStreamsAreOfImages, PlainRowsHaveOneText};
 
 /// The bytes of a stream's messages are the encoding of its images.
 pub fn bytes_are_the_encoding()

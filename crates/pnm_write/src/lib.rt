@@ -11,9 +11,9 @@ mod numerals;
 mod pixels;
 mod plain;
 mod raw;
-mod room;
 mod row;
 mod sink;
+mod write_buffer;
 
 pub use fault::SinkFault;
 pub use pnm_image::Form;

@@ -1,6 +1,7 @@
 //! Numbers in lines, from a table of the texts of small ones.
 
-ghost use Rattle.std.specs.Prelude.{◌≡◌, ◌+◌, ◌-◌, ◌*◌, ◌<◌, ◌≤◌, nat_le, if◌then◌else◌, ◌∷◌, ◌++◌, length, take, decimal, slice_set};
+ghost use Rattle.std.specs.Prelude.{◌≡◌, ◌+◌, ◌-◌, ◌*◌, ◌<◌, ◌≤◌, nat_le, if◌then◌else◌, ◌∷◌, ◌++◌, length, take};
+ghost use Rattle.std.specs.Prelude.{decimal, slice_set};
 ghost use Rattle.pnm_image.specs.declared.shape.Kind.{Kind};
 ghost use Rattle.pnm_write.specs.Numerals.{IsEntry, three_digits};
 ghost use Rattle.pnm_image.specs.Characters.{blank, line_feed};
@@ -41,71 +42,71 @@ fn entry(number: usize) -> &'static [u8]
     &entries[5 * number..5 * number + 5]
 }
 
-/// Puts four bytes into the room. All are read before one is written, so that they are moved as one word.
+/// Puts four bytes into the buffer. All are read before one is written, so that they are moved as one word.
 #[inline(always)]
-pub fn put_four(room: &mut [u8], at: usize, bytes: &[u8])
-    requires room { at + 4 ≤ length room.old }
+pub fn put_four(buffer: &mut [u8], at: usize, bytes: &[u8])
+    requires buffer { at + 4 ≤ length buffer.old }
     requires enough { 4 ≤ length bytes.now }
-    ensures { take (at + 4) room.new ≡ take at room.old ++ take 4 bytes.now }
+    ensures { take (at + 4) buffer.new ≡ take at buffer.old ++ take 4 bytes.now }
 {
     let first = bytes[0];
     let second = bytes[1];
     let third = bytes[2];
     let fourth = bytes[3];
-    room[at] = first;
-    room[at + 1] = second;
-    room[at + 2] = third;
-    room[at + 3] = fourth;
+    buffer[at] = first;
+    buffer[at + 1] = second;
+    buffer[at + 2] = third;
+    buffer[at + 3] = fourth;
 }
 
-/// Puts a blank and a small number into the room, and answers how many bytes these are.
+/// Puts a blank and a small number into the buffer, and answers how many bytes these are.
 #[inline(always)]
-fn put_small(room: &mut [u8], at: usize, number: usize) -> usize
-    requires room { at + 4 ≤ length room.old }
+fn put_small(buffer: &mut [u8], at: usize, number: usize) -> usize
+    requires buffer { at + 4 ≤ length buffer.old }
     requires range { number < 256 }
-    ensures text { take (at + result) room.new ≡ take at room.old ++ blank ∷ decimal number }
+    ensures text { take (at + result) buffer.new ≡ take at buffer.old ++ blank ∷ decimal number }
     ensures count { result ≡ 1 + length (decimal number) }
     ensures within { result ≤ 4 }
 {
     let entry = entry(number);
-    put_four(room, at, &entry[1..]);
+    put_four(buffer, at, &entry[1..]);
     usize::from(entry[0] - b'0')
 }
 
-/// Puts the last three digits of a number into the room.
+/// Puts the last three digits of a number into the buffer.
 #[inline(always)]
-fn put_three(room: &mut [u8], at: usize, number: usize)
-    requires room { at + 3 ≤ length room.old }
+fn put_three(buffer: &mut [u8], at: usize, number: usize)
+    requires buffer { at + 3 ≤ length buffer.old }
     requires range { number < 1000 }
-    ensures { take (at + 3) room.new ≡ take at room.old ++ three_digits number }
+    ensures { take (at + 3) buffer.new ≡ take at buffer.old ++ three_digits number }
 {
     // The two digits at the end of a number between 100 and 199.
     let entry = entry(100 + number % 100);
     let tens = entry[3];
     let ones = entry[4];
-    room[at] = b'0' + (number / 100) as u8;
-    room[at + 1] = tens;
-    room[at + 2] = ones;
+    buffer[at] = b'0' + (number / 100) as u8;
+    buffer[at + 1] = tens;
+    buffer[at + 2] = ones;
 }
 
-/// Puts a blank and a number into the room, and answers how many bytes these are.
+/// Puts a blank and a number into the buffer, and answers how many bytes these are.
 #[inline(always)]
-fn put(room: &mut [u8], at: usize, number: usize) -> usize
-    requires room { at + 6 ≤ length room.old }
+fn put(buffer: &mut [u8], at: usize, number: usize) -> usize
+    requires buffer { at + 6 ≤ length buffer.old }
     requires range { number < 65536 }
-    ensures text { take (at + result) room.new ≡ take at room.old ++ blank ∷ decimal number }
+    ensures text { take (at + result) buffer.new ≡ take at buffer.old ++ blank ∷ decimal number }
     ensures count { result ≡ 1 + length (decimal number) }
     ensures within { result ≤ 6 }
 {
     if number < 256 {
-        put_small(room, at, number)
+        put_small(buffer, at, number)
     } else if number < 1000 {
-        room[at] = b' ';
-        put_three(room, at + 1, number);
+        buffer[at] = b' ';
+        put_three(buffer, at + 1, number);
         4
     } else {
-        let size = put_small(room, at, number / 1000);
-        put_three(room, at + size, number % 1000);
+        let size = put_small(buffer, at, number / 1000);
+        put_three(buffer, at + size, number % 1000);
         size + 3
     }
 }
@@ -113,13 +114,13 @@ fn put(room: &mut [u8], at: usize, number: usize) -> usize
 /// Ends the line before a word of so many bytes, the blank before it too, where there is no room for it in the line.
 /// Answers how many bytes the line has with the word.
 #[inline(always)]
-fn break_line(room: &mut [u8], at: usize, column: usize, size: usize) -> usize
-    requires room { at < length room.old }
+fn break_line(buffer: &mut [u8], at: usize, column: usize, size: usize) -> usize
+    requires buffer { at < length buffer.old }
     requires line { column ≤ 70 }
     requires some { 0 < size }
     requires size { size ≤ 6 }
-    ensures room { room.new ≡ (if nat_le (column + size) max_line_length then room.old
-        else slice_set room.old at line_feed) }
+    ensures buffer { buffer.new ≡ (if nat_le (column + size) max_line_length then buffer.old
+        else slice_set buffer.old at line_feed) }
     ensures column { result ≡ (if nat_le (column + size) max_line_length then column + size else size - 1) }
     ensures line { result ≤ 70 }
     ensures begun { 1 < size → 0 < result }
@@ -128,19 +129,24 @@ fn break_line(room: &mut [u8], at: usize, column: usize, size: usize) -> usize
     if whole <= MAX_LINE_LENGTH {
         whole
     } else {
-        room[at] = b'\n';
+        buffer[at] = b'\n';
         size - 1
     }
 }
 
-/// Puts small numbers behind what the room has, in a line that has begun. Answers how much the room has then, and the
-/// line.
-pub fn append_bytes(room: &mut [u8], start: usize, column: usize, samples: &[u8]) -> (usize, usize)
-    requires room { start + 6 * length samples.now ≤ length room.old }
+/// Puts small numbers behind what the buffer has, in a line that has begun. Answers how much the buffer has then, and
+/// the line.
+pub fn append_bytes(
+    buffer: &mut [u8],
+    start: usize,
+    column: usize,
+    samples: &[u8],
+) -> (usize, usize)
+    requires buffer { start + 6 * length samples.now ≤ length buffer.old }
     requires begun { 0 < column }
     requires line { column ≤ 70 }
-    ensures text { take result.0 room.new
-        ≡ take start room.old ++ text_of_part column (sample_texts Kind.Gray samples.now) }
+    ensures text { take result.0 buffer.new
+        ≡ take start buffer.old ++ text_of_part column (sample_texts Kind.Gray samples.now) }
     ensures within { result.0 ≤ start + 6 * length samples.now }
     ensures column { result.1 ≡ column_after_part column (sample_texts Kind.Gray samples.now) }
     ensures line { result.1 ≤ 70 }
@@ -148,20 +154,26 @@ pub fn append_bytes(room: &mut [u8], start: usize, column: usize, samples: &[u8]
     let mut end = start;
     let mut at = column;
     for sample in samples {
-        let size = put_small(room, end, usize::from(*sample));
-        at = break_line(room, end, at, size);
+        let size = put_small(buffer, end, usize::from(*sample));
+        at = break_line(buffer, end, at, size);
         end += size;
     }
     (end, at)
 }
 
-/// Puts numbers behind what the room has, in a line that has begun. Answers how much the room has then, and the line.
-pub fn append_words(room: &mut [u8], start: usize, column: usize, samples: &[u16]) -> (usize, usize)
-    requires room { start + 6 * length samples.now ≤ length room.old }
+/// Puts numbers behind what the buffer has, in a line that has begun. Answers how much the buffer has then, and the
+/// line.
+pub fn append_words(
+    buffer: &mut [u8],
+    start: usize,
+    column: usize,
+    samples: &[u16],
+) -> (usize, usize)
+    requires buffer { start + 6 * length samples.now ≤ length buffer.old }
     requires begun { 0 < column }
     requires line { column ≤ 70 }
-    ensures text { take result.0 room.new
-        ≡ take start room.old ++ text_of_part column (sample_texts Kind.Gray samples.now) }
+    ensures text { take result.0 buffer.new
+        ≡ take start buffer.old ++ text_of_part column (sample_texts Kind.Gray samples.now) }
     ensures within { result.0 ≤ start + 6 * length samples.now }
     ensures column { result.1 ≡ column_after_part column (sample_texts Kind.Gray samples.now) }
     ensures line { result.1 ≤ 70 }
@@ -169,8 +181,8 @@ pub fn append_words(room: &mut [u8], start: usize, column: usize, samples: &[u16
     let mut end = start;
     let mut at = column;
     for sample in samples {
-        let size = put(room, end, usize::from(*sample));
-        at = break_line(room, end, at, size);
+        let size = put(buffer, end, usize::from(*sample));
+        at = break_line(buffer, end, at, size);
         end += size;
     }
     (end, at)

@@ -27,51 +27,51 @@ fn nibble(bits: usize) -> &'static [u8]
     &nibbles[8 * bits..8 * bits + 8]
 }
 
-/// Puts the characters of four pixels into the room.
+/// Puts the characters of four pixels into the buffer.
 #[inline(always)]
-fn put_nibble(room: &mut [u8], at: usize, bits: usize)
-    requires room { at + 8 ≤ length room.old }
+fn put_nibble(buffer: &mut [u8], at: usize, bits: usize)
+    requires buffer { at + 8 ≤ length buffer.old }
     requires range { bits < 16 }
-    ensures { take (at + 8) room.new ≡ take at room.old ++ nibble_cells bits }
+    ensures { take (at + 8) buffer.new ≡ take at buffer.old ++ nibble_cells bits }
 {
     let cells = nibble(bits);
-    put_four(room, at, cells);
-    put_four(room, at + 4, &cells[4..]);
+    put_four(buffer, at, cells);
+    put_four(buffer, at + 4, &cells[4..]);
 }
 
-/// Puts the characters of a byte's pixels into the room.
+/// Puts the characters of a byte's pixels into the buffer.
 #[inline(always)]
-fn put_byte(room: &mut [u8], at: usize, byte: u8)
-    requires { at + 16 ≤ length room.old }
-    ensures { take (at + 16) room.new ≡ take at room.old ++ cells (pixels byte) }
+fn put_byte(buffer: &mut [u8], at: usize, byte: u8)
+    requires { at + 16 ≤ length buffer.old }
+    ensures { take (at + 16) buffer.new ≡ take at buffer.old ++ cells (pixels byte) }
 {
     let bits = usize::from(byte);
-    put_nibble(room, at, bits / 16);
-    put_nibble(room, at + 8, bits % 16);
+    put_nibble(buffer, at, bits / 16);
+    put_nibble(buffer, at + 8, bits % 16);
 }
 
-/// Puts the characters of the pixels of these bytes into the room, with a blank behind each.
-fn put_cells(room: &mut [u8], bytes: &[u8])
-    requires { 16 * length bytes.now ≤ length room.old }
-    ensures { take (16 * length bytes.now) room.new ≡ cells (all_pixels bytes.now) }
+/// Puts the characters of the pixels of these bytes into the buffer, with a blank behind each.
+fn put_cells(buffer: &mut [u8], bytes: &[u8])
+    requires { 16 * length bytes.now ≤ length buffer.old }
+    ensures { take (16 * length bytes.now) buffer.new ≡ cells (all_pixels bytes.now) }
 {
     for i in 0..bytes.len() {
-        put_byte(room, 16 * i, bytes[i]);
+        put_byte(buffer, 16 * i, bytes[i]);
     }
 }
 
-/// Puts the text of a row of so many pixels, the first of these bytes, into the room.
-pub fn put_pixels(room: &mut [u8], bytes: &[u8], count: usize)
-    requires room { 16 * length bytes.now ≤ length room.old }
+/// Puts the text of a row of so many pixels, the first of these bytes, into the buffer.
+pub fn put_pixels(buffer: &mut [u8], bytes: &[u8], count: usize)
+    requires buffer { 16 * length bytes.now ≤ length buffer.old }
     requires enough { count ≤ 8 * length bytes.now }
     requires few { length bytes.now ≤ 256 }
-    ensures { take (2 * count) room.new ≡ plain_row_text Kind.Bit (take count (all_pixels bytes.now)) }
+    ensures { take (2 * count) buffer.new ≡ plain_row_text Kind.Bit (take count (all_pixels bytes.now)) }
 {
-    put_cells(room, bytes);
+    put_cells(buffer, bytes);
     let mut done = 0;
     while done < count {
         let next = (done + LINE).min(count);
-        room[2 * next - 1] = b'\n';
+        buffer[2 * next - 1] = b'\n';
         done = next;
     }
 }

@@ -5,10 +5,11 @@ ghost use Rattle.std.specs.Io.KnownBytes.{Appends};
 ghost use Rattle.pnm_image.specs.Devices.{FailsIn};
 ghost use Rattle.pnm_image.specs.declared.shape.Kind.{Kind};
 ghost use Rattle.pnm_write.specs.PlainRows.{sample_text, plain_row_text};
-ghost use Rattle.pnm_write.specs.PlainParts.{column_after, word_in_line, text_of_part, column_after_part, sample_texts, row_end};
+ghost use Rattle.pnm_write.specs.PlainParts.{column_after, word_in_line, text_of_part, column_after_part, sample_texts};
+ghost use Rattle.pnm_write.specs.PlainParts.{row_end};
 
 use crate::numerals::MAX_LINE_LENGTH;
-use crate::room::Room;
+use crate::write_buffer::WriteBuffer;
 use itoa::Buffer;
 use pnm_image::{Bits, BytesOut, DeviceFailed, Kind, SampleSlice, Samples, Shape, write_all};
 
@@ -21,7 +22,7 @@ const MOST_PIXELS: usize = 1960;
 /// Writes the samples of a row of an image of this shape: in lines as long as they can be.
 pub fn write_lines<W: BytesOut>(
     writer: &mut W,
-    room: &mut Room,
+    buffer: &mut WriteBuffer,
     shape: Shape,
     row: &Samples,
 ) -> Result<(), DeviceFailed>
@@ -35,21 +36,21 @@ pub fn write_lines<W: BytesOut>(
     ensures same_device { W.same writer.old writer.new }
 {
     match (shape.kind, row.as_slice()) {
-        (Kind::Bit, SampleSlice::Bits(pixels)) => write_pixels(writer, room, pixels),
+        (Kind::Bit, SampleSlice::Bits(pixels)) => write_pixels(writer, buffer, pixels),
         (Kind::Gray | Kind::Color | Kind::Pam, SampleSlice::Bytes(bytes)) => write_bytes(
-            writer, room, bytes,
+            writer, buffer, bytes,
         ),
         (Kind::Gray | Kind::Color | Kind::Pam, SampleSlice::Words(words)) => write_words(
-            writer, room, words,
+            writer, buffer, words,
         ),
-        _ => write_others(writer, room, shape, row),
+        _ => write_others(writer, buffer, shape, row),
     }
 }
 
 /// Writes pixels, whole bytes and whole lines of them at a time.
 fn write_pixels<W: BytesOut>(
     writer: &mut W,
-    room: &mut Room,
+    buffer: &mut WriteBuffer,
     pixels: &Bits,
 ) -> Result<(), DeviceFailed>
     ensures written { OnOk result
@@ -65,8 +66,8 @@ fn write_pixels<W: BytesOut>(
     while left > 0 {
         let count = left.min(MOST_PIXELS);
         let (part, after) = rest.split_at((count + 7) / 8);
-        room.set_pixels(part, count);
-        write_all(writer, room.as_slice())?;
+        buffer.set_pixels(part, count);
+        write_all(writer, buffer.as_slice())?;
         rest = after;
         left -= count;
     }
@@ -76,7 +77,7 @@ fn write_pixels<W: BytesOut>(
 /// Writes small numbers.
 fn write_bytes<W: BytesOut>(
     writer: &mut W,
-    room: &mut Room,
+    buffer: &mut WriteBuffer,
     samples: &[u8],
 ) -> Result<(), DeviceFailed>
     ensures written { OnOk result
@@ -92,9 +93,9 @@ fn write_bytes<W: BytesOut>(
     while !rest.is_empty() {
         let count = rest.len().min(MOST);
         let (part, after) = rest.split_at(count);
-        column = set_bytes(room, column, part);
-        end_row(room, after.is_empty());
-        write_all(writer, room.as_slice())?;
+        column = set_bytes(buffer, column, part);
+        end_row(buffer, after.is_empty());
+        write_all(writer, buffer.as_slice())?;
         rest = after;
     }
     Ok(())
@@ -103,7 +104,7 @@ fn write_bytes<W: BytesOut>(
 /// Writes numbers.
 fn write_words<W: BytesOut>(
     writer: &mut W,
-    room: &mut Room,
+    buffer: &mut WriteBuffer,
     samples: &[u16],
 ) -> Result<(), DeviceFailed>
     ensures written { OnOk result
@@ -119,9 +120,9 @@ fn write_words<W: BytesOut>(
     while !rest.is_empty() {
         let count = rest.len().min(MOST);
         let (part, after) = rest.split_at(count);
-        column = set_words(room, column, part);
-        end_row(room, after.is_empty());
-        write_all(writer, room.as_slice())?;
+        column = set_words(buffer, column, part);
+        end_row(buffer, after.is_empty());
+        write_all(writer, buffer.as_slice())?;
         rest = after;
     }
     Ok(())
@@ -130,7 +131,7 @@ fn write_words<W: BytesOut>(
 /// Writes samples that are held otherwise than their kind is.
 fn write_others<W: BytesOut>(
     writer: &mut W,
-    room: &mut Room,
+    buffer: &mut WriteBuffer,
     shape: Shape,
     row: &Samples,
 ) -> Result<(), DeviceFailed>
@@ -150,78 +151,78 @@ fn write_others<W: BytesOut>(
     while start < row.len() {
         let count = (row.len() - start).min(MOST);
         row.copy_to(start, &mut samples[..count]);
-        column = set_part(room, shape.kind, column, &samples[..count]);
+        column = set_part(buffer, shape.kind, column, &samples[..count]);
         start += count;
-        end_row(room, start == row.len());
-        write_all(writer, room.as_slice())?;
+        end_row(buffer, start == row.len());
+        write_all(writer, buffer.as_slice())?;
     }
     Ok(())
 }
 
-/// Puts a part of a row of small numbers into the room, and answers how many bytes its last line has.
-fn set_bytes(room: &mut Room, column: usize, samples: &[u8]) -> usize
+/// Puts a part of a row of small numbers into the buffer, and answers how many bytes its last line has.
+fn set_bytes(buffer: &mut WriteBuffer, column: usize, samples: &[u8]) -> usize
     requires some { 0 < length samples.now }
     requires few { length samples.now ≤ 680 }
     requires line { column ≤ 70 }
-    ensures text { room.new ≡ text_of_part column (sample_texts Kind.Gray samples.now) }
-    ensures count { length room.new ≤ 4080 }
+    ensures text { buffer.new ≡ text_of_part column (sample_texts Kind.Gray samples.now) }
+    ensures count { length buffer.new ≤ 4080 }
     ensures column { result ≡ column_after_part column (sample_texts Kind.Gray samples.now) }
     ensures line { result ≤ 70 }
 {
-    room.clear();
-    let at = push_sample(room, Kind::Gray, column, u16::from(samples[0]));
-    room.append_bytes(at, &samples[1..])
+    buffer.clear();
+    let at = push_sample(buffer, Kind::Gray, column, u16::from(samples[0]));
+    buffer.append_bytes(at, &samples[1..])
 }
 
-/// Puts a part of a row of numbers into the room, and answers how many bytes its last line has.
-fn set_words(room: &mut Room, column: usize, samples: &[u16]) -> usize
+/// Puts a part of a row of numbers into the buffer, and answers how many bytes its last line has.
+fn set_words(buffer: &mut WriteBuffer, column: usize, samples: &[u16]) -> usize
     requires some { 0 < length samples.now }
     requires few { length samples.now ≤ 680 }
     requires line { column ≤ 70 }
-    ensures text { room.new ≡ text_of_part column (sample_texts Kind.Gray samples.now) }
-    ensures count { length room.new ≤ 4080 }
+    ensures text { buffer.new ≡ text_of_part column (sample_texts Kind.Gray samples.now) }
+    ensures count { length buffer.new ≤ 4080 }
     ensures column { result ≡ column_after_part column (sample_texts Kind.Gray samples.now) }
     ensures line { result ≤ 70 }
 {
-    room.clear();
-    let at = push_sample(room, Kind::Gray, column, samples[0]);
-    room.append_words(at, &samples[1..])
+    buffer.clear();
+    let at = push_sample(buffer, Kind::Gray, column, samples[0]);
+    buffer.append_words(at, &samples[1..])
 }
 
-/// Puts a part of a row into the room, and answers how many bytes its last line has.
-fn set_part(room: &mut Room, kind: Kind, column: usize, samples: &[u16]) -> usize
+/// Puts a part of a row into the buffer, and answers how many bytes its last line has.
+fn set_part(buffer: &mut WriteBuffer, kind: Kind, column: usize, samples: &[u16]) -> usize
     requires few { length samples.now ≤ 680 }
     requires line { column ≤ 70 }
-    ensures text { room.new ≡ text_of_part column (sample_texts kind samples.now) }
-    ensures count { length room.new ≤ 4080 }
+    ensures text { buffer.new ≡ text_of_part column (sample_texts kind samples.now) }
+    ensures count { length buffer.new ≤ 4080 }
     ensures column { result ≡ column_after_part column (sample_texts kind samples.now) }
     ensures line { result ≤ 70 }
 {
-    room.clear();
+    buffer.clear();
     let mut at = column;
     for sample in samples {
-        at = push_sample(room, kind, at, *sample);
+        at = push_sample(buffer, kind, at, *sample);
     }
     at
 }
 
 /// Ends the line where the row ends.
-fn end_row(room: &mut Room, is_end: bool)
-    requires { length room.old < 4096 }
-    ensures { room.new ≡ room.old ++ row_end is_end }
+fn end_row(buffer: &mut WriteBuffer, is_end: bool)
+    requires { length buffer.old < 4096 }
+    ensures { buffer.new ≡ buffer.old ++ row_end is_end }
 {
     if is_end {
-        room.push(&[b'\n']);
+        buffer.push(&[b'\n']);
     }
 }
 
 /// Appends a sample, and answers how many bytes the line has then.
 #[tactic(auto, using(std::proofs::lemmas::Fmt::decimal_nonempty))]
-fn push_sample(room: &mut Room, kind: Kind, column: usize, sample: u16) -> usize
-    requires room { length room.old + 6 ≤ 4096 }
+fn push_sample(buffer: &mut WriteBuffer, kind: Kind, column: usize, sample: u16) -> usize
+    requires buffer { length buffer.old + 6 ≤ 4096 }
     requires line { column ≤ 70 }
-    ensures text { room.new ≡ room.old ++ word_in_line column (sample_text kind sample) }
-    ensures count { length room.new ≤ length room.old + 6 }
+    ensures text { buffer.new ≡ buffer.old ++ word_in_line column (sample_text kind sample) }
+    ensures count { length buffer.new ≤ length buffer.old + 6 }
     ensures column { result ≡ column_after column (sample_text kind sample) }
     ensures begun { 0 < result }
     ensures line { result ≤ 70 }
@@ -229,36 +230,36 @@ fn push_sample(room: &mut Room, kind: Kind, column: usize, sample: u16) -> usize
     match kind {
         Kind::Bit => {
             let pixel = [49_u16.saturating_sub(sample) as u8];
-            push_word(room, column, &pixel)
+            push_word(buffer, column, &pixel)
         }
         Kind::Gray | Kind::Color | Kind::Pam => {
             let mut digits = Buffer::new();
-            push_word(room, column, digits.format(sample).as_bytes())
+            push_word(buffer, column, digits.format(sample).as_bytes())
         }
     }
 }
 
 /// Appends a word: in this line, where there is room for it, and else in the next.
-fn push_word(room: &mut Room, column: usize, word: &[u8]) -> usize
-    requires room { length room.old + 1 + length word.now ≤ 4096 }
+fn push_word(buffer: &mut WriteBuffer, column: usize, word: &[u8]) -> usize
+    requires buffer { length buffer.old + 1 + length word.now ≤ 4096 }
     requires short { length word.now ≤ 5 }
     requires line { column ≤ 70 }
-    ensures text { room.new ≡ room.old ++ word_in_line column word.now }
-    ensures count { length room.new ≤ length room.old + 1 + length word.now }
+    ensures text { buffer.new ≡ buffer.old ++ word_in_line column word.now }
+    ensures count { length buffer.new ≤ length buffer.old + 1 + length word.now }
     ensures column { result ≡ column_after column word.now }
     ensures begun { 0 < length word.now → 0 < result }
     ensures line { result ≤ 70 }
 {
     if column == 0 {
-        room.push(word);
+        buffer.push(word);
         word.len()
     } else if column + 1 + word.len() <= MAX_LINE_LENGTH {
-        room.push(b" ");
-        room.push(word);
+        buffer.push(b" ");
+        buffer.push(word);
         column + 1 + word.len()
     } else {
-        room.push(b"\n");
-        room.push(word);
+        buffer.push(b"\n");
+        buffer.push(word);
         word.len()
     }
 }

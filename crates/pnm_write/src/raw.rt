@@ -2,34 +2,34 @@
 
 ghost use Rattle.std.specs.Prelude.{◌≡◌, ◌≤◌, ◌*◌, ◌-◌, All, length, take};
 ghost use Rattle.pnm_write.specs.Encoding.{wide_bytes, bytes_in};
-ghost use Rattle.pnm_write.specs.Rooms.{most_samples, FitIn};
+ghost use Rattle.pnm_write.specs.WriteBuffers.{most_samples, FitIn};
 
 use pnm_image::SampleWidth;
 use pnm_samples::pack;
 
 /// The samples, a byte each.
-fn narrow(samples: &[u16], room: &mut [u8]) -> usize
-    requires room { length samples.now ≤ length room.old }
+fn narrow(samples: &[u16], buffer: &mut [u8]) -> usize
+    requires buffer { length samples.now ≤ length buffer.old }
     requires small { All (λ sample. sample ≤ 255) samples.now }
-    ensures within { result ≤ length room.new }
-    ensures bytes { take result room.new ≡ samples.now }
+    ensures within { result ≤ length buffer.new }
+    ensures bytes { take result buffer.new ≡ samples.now }
 {
     for i in 0..samples.len() {
-        room[i] = samples[i] as u8;
+        buffer[i] = samples[i] as u8;
     }
     samples.len()
 }
 
 /// The samples, two bytes each.
-fn widen(samples: &[u16], room: &mut [u8]) -> usize
-    requires { 2 * length samples.now ≤ length room.old }
-    ensures within { result ≤ length room.new }
-    ensures bytes { take result room.new ≡ wide_bytes samples.now }
+fn widen(samples: &[u16], buffer: &mut [u8]) -> usize
+    requires { 2 * length samples.now ≤ length buffer.old }
+    ensures within { result ≤ length buffer.new }
+    ensures bytes { take result buffer.new ≡ wide_bytes samples.now }
 {
     for i in 0..samples.len() {
         let sample = samples[i];
-        room[2 * i] = (sample / 256) as u8;
-        room[2 * i + 1] = (sample % 256) as u8;
+        buffer[2 * i] = (sample / 256) as u8;
+        buffer[2 * i + 1] = (sample % 256) as u8;
     }
     2 * samples.len()
 }
@@ -45,17 +45,17 @@ pub fn most_samples(sample_width: SampleWidth) -> usize
     }
 }
 
-/// Writes the bytes of the samples to the front of the room, and answers how many they are.
-pub fn encode(sample_width: SampleWidth, samples: &[u16], room: &mut [u8]) -> usize
-    requires room { length room.old ≡ 4096 }
+/// Writes the bytes of the samples to the front of the buffer, and answers how many they are.
+pub fn encode(sample_width: SampleWidth, samples: &[u16], buffer: &mut [u8]) -> usize
+    requires buffer { length buffer.old ≡ 4096 }
     requires count { length samples.now ≤ most_samples sample_width }
     requires range { FitIn sample_width samples.now }
-    ensures within { result ≤ length room.new }
-    ensures bytes { take result room.new ≡ bytes_in sample_width samples.now }
+    ensures within { result ≤ length buffer.new }
+    ensures bytes { take result buffer.new ≡ bytes_in sample_width samples.now }
 {
     match sample_width {
-        SampleWidth::Bits => pack(samples, room),
-        SampleWidth::Bytes => narrow(samples, room),
-        SampleWidth::Words => widen(samples, room),
+        SampleWidth::Bits => pack(samples, buffer),
+        SampleWidth::Bytes => narrow(samples, buffer),
+        SampleWidth::Words => widen(samples, buffer),
     }
 }

@@ -7,7 +7,7 @@ ghost use Rattle.pnm_image.specs.Devices.{FailsIn};
 
 use crate::plain::write_lines;
 use crate::raw::most_samples;
-use crate::room::Room;
+use crate::write_buffer::WriteBuffer;
 use pnm_image::{
     BytesOut, DeviceFailed, Form, SampleSlice, SampleWidth, Samples, Shape, write_all,
 };
@@ -18,7 +18,7 @@ const MOST: usize = 2048;
 /// Writes the samples of a row of an image of this shape.
 pub fn write_samples<W: BytesOut>(
     writer: &mut W,
-    room: &mut Room,
+    buffer: &mut WriteBuffer,
     form: Form,
     shape: Shape,
     row: &Samples,
@@ -33,15 +33,15 @@ pub fn write_samples<W: BytesOut>(
     ensures same_device { W.same writer.old writer.new }
 {
     match form {
-        Form::Raw => write_raw(writer, room, shape, row),
-        Form::Plain => write_lines(writer, room, shape, row),
+        Form::Raw => write_raw(writer, buffer, shape, row),
+        Form::Plain => write_lines(writer, buffer, shape, row),
     }
 }
 
 /// Writes the samples of a raw row: as they are, where they are as wide as their bytes.
 fn write_raw<W: BytesOut>(
     writer: &mut W,
-    room: &mut Room,
+    buffer: &mut WriteBuffer,
     shape: Shape,
     row: &Samples,
 ) -> Result<(), DeviceFailed>
@@ -57,15 +57,17 @@ fn write_raw<W: BytesOut>(
     match (SampleWidth::of(shape.kind, shape.maxval), row.as_slice()) {
         (SampleWidth::Bits, SampleSlice::Bits(bits)) => write_all(writer, bits.as_bytes()),
         (SampleWidth::Bytes, SampleSlice::Bytes(bytes)) => write_all(writer, bytes),
-        (_, SampleSlice::Words(words)) => write_words(writer, room, shape, words),
-        (_, SampleSlice::Bits(_) | SampleSlice::Bytes(_)) => write_others(writer, room, shape, row),
+        (_, SampleSlice::Words(words)) => write_words(writer, buffer, shape, words),
+        (_, SampleSlice::Bits(_) | SampleSlice::Bytes(_)) => write_others(
+            writer, buffer, shape, row,
+        ),
     }
 }
 
 /// Writes samples that are held otherwise than their bytes, some at a time.
 fn write_others<W: BytesOut>(
     writer: &mut W,
-    room: &mut Room,
+    buffer: &mut WriteBuffer,
     shape: Shape,
     row: &Samples,
 ) -> Result<(), DeviceFailed>
@@ -84,8 +86,8 @@ fn write_others<W: BytesOut>(
     while start < row.len() {
         let count = (row.len() - start).min(MOST);
         row.copy_to(start, &mut words[..count]);
-        room.fill(sample_width, &words[..count]);
-        write_all(writer, room.as_slice())?;
+        buffer.fill(sample_width, &words[..count]);
+        write_all(writer, buffer.as_slice())?;
         start += count;
     }
     Ok(())
@@ -94,7 +96,7 @@ fn write_others<W: BytesOut>(
 /// Writes the samples of a raw row, as many at a time as there is room for.
 fn write_words<W: BytesOut>(
     writer: &mut W,
-    room: &mut Room,
+    buffer: &mut WriteBuffer,
     shape: Shape,
     samples: &[u16],
 ) -> Result<(), DeviceFailed>
@@ -113,8 +115,8 @@ fn write_words<W: BytesOut>(
     while !rest.is_empty() {
         let count = rest.len().min(most);
         let (part, after) = rest.split_at(count);
-        room.fill(sample_width, part);
-        write_all(writer, room.as_slice())?;
+        buffer.fill(sample_width, part);
+        write_all(writer, buffer.as_slice())?;
         rest = after;
     }
     Ok(())

@@ -1,17 +1,19 @@
 //! The sink: messages to bytes.
 
-ghost use Rattle.std.specs.Prelude.{◌≡◌, ◌↔◌, List, [], ◌∷◌, ◌++◌, IsTrue, IsSome, MatchResult, MatchOption, IfErr, OnOk, OnErr, Err, true, false};
+ghost use Rattle.std.specs.Prelude.{◌≡◌, ◌↔◌, List, [], ◌∷◌, ◌++◌, IsTrue, IsSome, MatchResult, MatchOption, IfErr};
+ghost use Rattle.std.specs.Prelude.{OnOk, OnErr, Err, true, false};
 ghost use Rattle.std.specs.Io.KnownBytes.{Appends, Keeps};
 ghost use Rattle.pnm_image.specs.Devices.{Failed, FailsIn};
 ghost use Rattle.pnm_image.specs.Places.{Accepts, place_after};
 ghost use Rattle.pnm_write.specs.Encoding.{bytes_at};
 ghost use Rattle.pnm_write.specs.Forms.{form_fault, has_begun_after};
-ghost use Rattle.pnm_write.specs.Sinks.{writer_of, form_of, has_begun, next_place, has_failed, HasRows, Takes, IsRefused, HasPut, HasWritten, Refuses};
+ghost use Rattle.pnm_write.specs.Sinks.{writer_of, form_of, has_begun, next_place, has_failed, HasRows, IsWritable};
+ghost use Rattle.pnm_write.specs.Sinks.{IsRefusedBySink, HasPut, HasWritten, Refuses};
 
 use crate::fault::SinkFault;
 use crate::header::write_header;
-use crate::room::Room;
 use crate::row::write_samples;
+use crate::write_buffer::WriteBuffer;
 use pnm_image::{BytesOut, DeviceFailed, Form, Kind, Message, Place};
 
 /// Writes the messages of a stream of images as Netpbm images of one form: PBM, PGM, PPM and PAM, by
@@ -25,7 +27,7 @@ pub struct Sink<W> {
     /// An image has begun.
     has_begun: bool,
     has_failed: bool,
-    room: Room,
+    buffer: WriteBuffer,
 }
 
 impl<W: BytesOut> Sink<W> {
@@ -43,7 +45,7 @@ impl<W: BytesOut> Sink<W> {
             form,
             has_begun: false,
             has_failed: false,
-            room: Room::new(),
+            buffer: WriteBuffer::new(),
         }
     }
 
@@ -57,14 +59,14 @@ impl<W: BytesOut> Sink<W> {
     /// The faults, in order: `Broken` after an earlier fault; `OutOfOrder` where the message can't
     /// come at this place of the stream, or begins an image of height 0; in plain form `SecondPlain`
     /// where the message begins a second image, and `PlainPam` where it begins a PAM image;
-    /// `WriteFailed` where the writer fails, with a front of the bytes written. At the others nothing
+    /// `WriteFailed` where the writer fails, with a prefix of the bytes written. At the others nothing
     /// is written.
     pub fn put(&mut self, message: &Message) -> Result<(), SinkFault>
         ensures written { OnOk result
             (Appends (W.held (writer_of self.old)) (W.held (writer_of self.new))
             (bytes_at (form_of self.old) (next_place self.old) message.now)) }
         ensures taken { OnOk result
-            (Takes (form_of self.old) (has_begun self.old) (next_place self.old) message.now
+            (IsWritable (form_of self.old) (has_begun self.old) (next_place self.old) message.now
             × (W.failures (writer_of self.new) ≡ W.failures (writer_of self.old))) }
         ensures sound { OnOk result ((has_failed self.old ≡ false) × (has_failed self.new ≡ false)) }
         ensures form { form_of self.new ≡ form_of self.old }
@@ -142,8 +144,8 @@ impl<W: BytesOut> Sink<W> {
     fn refusal(&self, message: &Message) -> Option<SinkFault>
         ensures { MatchOption result
             ((has_failed self.now ≡ false)
-            × Takes (form_of self.now) (has_begun self.now) (next_place self.now) message.now)
-            (IsRefused self.now message.now) }
+            × IsWritable (form_of self.now) (has_begun self.now) (next_place self.now) message.now)
+            (IsRefusedBySink self.now message.now) }
     {
         if self.has_failed {
             Some(SinkFault::Broken)
@@ -159,7 +161,7 @@ impl<W: BytesOut> Sink<W> {
             (Appends (W.held (writer_of self.old)) (W.held (writer_of self.new))
             (bytes_at (form_of self.old) (next_place self.old) message.now)) }
         ensures taken { OnOk result
-            (Takes (form_of self.old) (has_begun self.old) (next_place self.old) message.now
+            (IsWritable (form_of self.old) (has_begun self.old) (next_place self.old) message.now
             × (has_failed self.old ≡ false)
             × (next_place self.new ≡ place_after (next_place self.old) message.now)
             × (has_begun self.new ≡ has_begun_after (has_begun self.old) message.now)) }
@@ -177,8 +179,8 @@ impl<W: BytesOut> Sink<W> {
         if let Some(fault) = self.refusal(message) {
             return Err(fault);
         }
-        let (writer, room) = (&mut self.writer, &mut self.room);
-        let written = write_message(writer, room, self.form, self.place, message);
+        let (writer, buffer) = (&mut self.writer, &mut self.buffer);
+        let written = write_message(writer, buffer, self.form, self.place, message);
         if written.is_err() {
             return Err(SinkFault::WriteFailed);
         }
@@ -224,7 +226,7 @@ fn form_fault(form: Form, has_begun: bool, message: &Message) -> Option<SinkFaul
 /// Writes the bytes of a message that comes at this place.
 fn write_message<W: BytesOut>(
     writer: &mut W,
-    room: &mut Room,
+    buffer: &mut WriteBuffer,
     form: Form,
     place: Place,
     message: &Message,
@@ -238,9 +240,9 @@ fn write_message<W: BytesOut>(
     ensures same_device { W.same writer.old writer.new }
 {
     match message {
-        Message::Begin(head) => write_header(writer, room, form, head),
+        Message::Begin(head) => write_header(writer, buffer, form, head),
         Message::Row(row) => match place {
-            Place::Inside(shape, _) => write_samples(writer, room, form, shape, row),
+            Place::Inside(shape, _) => write_samples(writer, buffer, form, shape, row),
             Place::Between | Place::After => Ok(()),
         },
         Message::ImageEnd | Message::StreamEnd | Message::Stop => Ok(()),

@@ -1,13 +1,16 @@
 -- What a parse of the words by the program's command gives.
 use Rattle.pnm_image.specs.declared.format.Form.TheVariants.{Raw}
-use Rattle.std.proofs.Common.{◌≡◌, ◌∙◌, ◌<◌, ◌≤◌, ℕ, zero, suc, Bool, true, false, not, List, [], ◌∷◌, length, map, codes, Option, Some, None, is_some, inl, inr, refl, sym, ap, subst, arith, slice_index}
+use Rattle.std.proofs.Common.{◌≡◌, ◌∙◌, ◌<◌, ◌≤◌, ℕ, zero, suc, Bool, true, false, not, List, [], ◌∷◌, length, map, codes, Option, Some, None, is_some, inl}
+use Rattle.std.proofs.Common.{inr, refl, sym, ap, subst, arith, slice_index}
 use Rattle.std.specs.Prelude.{◌^◌, Result, Ok, pos}
 use Rattle.std.specs.List.{list_all, slice_index_or}
 use Rattle.std.specs.Str.{bytes_eq}
 use Rattle.std.specs.Str.Parse.{ParsesBool, ParsesUnsigned}
 use Rattle.std.proofs.lemmas.Bool.{not-true}
 use Rattle.std.proofs.lemmas.List.{get_or-map, length-map}
-use Rattle.clap.specs.Words.{IsSignedIn, ReadsOne, App, items_of, one_text, without_minus, Rule, Shape, Text, FailsBy, HasKind, HasMatchesOf, IsAmong, IsParsedFrom, IsPlain, app_of, args_of, fault_of, first_of, first_value, found_of, is_simple, is_simple_and_free, kind_of, one_of, rule_of, shape_of}
+use Rattle.clap.specs.Words.{IsSignedIn, ReadsOne, App, items_of, one_text, without_minus, Rule, Shape, Text, FailsBy, HasKind, HasMatchesOf, IsAmong}
+use Rattle.clap.specs.Words.{IsParsedFrom, IsPlain, app_of, args_of, fault_of, first_of, first_value, found_of, is_simple, is_simple_and_free, kind_of, one_of}
+use Rattle.clap.specs.Words.{rule_of, shape_of}
 use Rattle.std.specs.Borrow.{Bor}
 use Rattle.clap.specs.Walk.{is_empty, is_simple_arg, texts}
 use Rattle.clap.specs.Facts.{least_values, unwrap_or_range}
@@ -32,7 +35,8 @@ use Rattle.clap.proofs.WalkLemmas.{both, first_value-rows, one_text-rows}
 use Rattle.pnmpipe.proofs.DefaultReads.{default_reads}
 use Rattle.pnm_lanes.specs.declared.lane.TheConstants.{MAX_LANES}
 use Rattle.pnm_stages.specs.declared.ring.TheConstants.{MAX_RING_CAPACITY}
-use Rattle.pnmpipe.specs.CommandLine.{program, chain_rule, form_by, lanes_rule, plain_rule, value_of, number_rule, ring_rule, FitsKind, GivesChain, GivesForm, GivesLanes, GivesNumber, GivesRing, IsFaultOfWords}
+use Rattle.pnmpipe.specs.CommandLine.{program, chain_rule, form_by, lanes_rule, plain_rule, value_text, number_rule, ring_rule, FitsKind, GivesChain, GivesForm}
+use Rattle.pnmpipe.specs.CommandLine.{GivesLanes, GivesNumber, GivesRing, IsFaultOfWords}
 use Rattle.pnmpipe.specs.declared.command_line.CommandLineFault.{CommandLineFault}
 use Rattle.pnmpipe.specs.declared.command_line.CommandLineFault.TheVariants.{Help, Usage, Memory}
 
@@ -51,7 +55,8 @@ pub parse_fails : {T : Type 0} (a : App) (words : List Text) (r : Result T Error
 parse_fails a words r same fails = subst (λ (x : App). is_simple_and_free x ≡ true → FailsBy (fault_of x words) r) same fails program_is_free
 
 -- the fault that is made of an error fits the words
-pub fault_fits : (words : List Text) (e : Error) (fault : CommandLineFault) → HasKind (fault_of program words) e → FitsKind (kind_of e) fault → IsFaultOfWords words fault
+pub fault_fits : (words : List Text) (e : Error) (fault : CommandLineFault) → HasKind (fault_of program words) e → FitsKind (kind_of e) fault
+    → IsFaultOfWords words fault
 fault_fits words e (Help text) (inl memory) fits =
     let bad : DisplayHelp ≡ OutOfMemory = sym fits ∙ memory in
     cc
@@ -94,13 +99,13 @@ chain_given c words m chain read taken first = record {
 }
 
 -- and the text that an option is read from is that of the words
-text_of : (c : Command) (words : List Text) (m : ArgMatches) (name : Text) → HasRead c words m → value_of name words ≡ one_text (found_of m) name
+text_of : (c : Command) (words : List Text) (m : ArgMatches) (name : Text) → HasRead c words m → value_text name words ≡ one_text (found_of m) name
 text_of c words m name read =
     let rows = (subst (λ (x : App). HasMatchesOf x words m) read.same read.has) program_is_simple in
     ap (one_of name) (sym rows.0) ∙ sym (one_text-rows (found_of m) name)
 
 text_given : (c : Command) (words : List Text) (m : ArgMatches) (name text : Text) → HasRead c words m → one_text (found_of m) name ≡ Some text
-    → value_of name words ≡ Some text
+    → value_text name words ≡ Some text
 text_given c words m name text read is = text_of c words m name read ∙ is
 
 -- the rules of the program's arguments in turn, and their ids
@@ -207,7 +212,8 @@ record IsArgAt (c : Command) (k : ℕ) (d : Arg) : Type 0 where
   pub low : k < length (args_of c)
   pub rule : rule_of (slice_index_or (args_of c) k d) ≡ slice_index_or rules k chain_rule
   pub id : (slice_index_or (args_of c) k d).id.now ≡ id_of k
-  pub only : (j : ℕ) (e : Arg) → j < length (args_of c) → bytes_eq (slice_index_or (args_of c) j e).id.now (slice_index_or (args_of c) k d).id.now ≡ true → j ≡ k
+  pub only : (j : ℕ) (e : Arg) → j < length (args_of c) → bytes_eq (slice_index_or (args_of c) j e).id.now (slice_index_or (args_of c) k d).id.now ≡ true
+      → j ≡ k
   pub some : (slice_index_or (args_of c) k d).id.now ≡ [] → ⊥
   pub own : IsAuto (slice_index_or (args_of c) k d) → ⊥
 
@@ -231,7 +237,9 @@ arg_at c p k d k4 =
       only = λ j e lt found.
           let j4 : j < 4 = omega arith in
           let other : (slice_index_or (args_of c) j e).id.now ≡ id_of j = ap (λ (r : Rule). r.id) (rule_at c p j e j4) in
-          distinct j k j4 k4 (subst (λ (t : Text). bytes_eq t (id_of k) ≡ true) other (subst (λ (t : Text). bytes_eq (slice_index_or (args_of c) j e).id.now t ≡ true) id found));
+          distinct j k j4 k4
+          (subst (λ (t : Text). bytes_eq t (id_of k) ≡ true) other
+          (subst (λ (t : Text). bytes_eq (slice_index_or (args_of c) j e).id.now t ≡ true) id found));
       some = λ empty. names.some (sym id ∙ empty);
       own = λ auto. elim auto [
         | inl h ↦ names.no_help (sym id ∙ h)
@@ -260,7 +268,8 @@ has_chain c words m read =
     let p = is_program c read.same in
     let d = any_arg c p in
     let at = arg_at c p 3 d (omega arith) in
-    let has = required_has_value c m read.parsed p.plain p.globals p.negates 3 d at.low (ap (λ (r : Rule). r.required) at.rule) (ap (λ (r : Rule). r.action) at.rule)
+    let has = required_has_value c m read.parsed p.plain p.globals p.negates 3 d at.low (ap (λ (r : Rule). r.required) at.rule)
+    (ap (λ (r : Rule). r.action) at.rule)
     (p.simple.args 3 d at.low).delimiter (least_one (slice_index_or (args_of c) 3 d) chain_rule at.rule refl) at.only at.some at.own in
     subst (λ (t : Text). is_some (first_value (found_of m) t) ≡ true) at.id has
 
@@ -318,7 +327,8 @@ number_given E G bits c words m r read only k name default high k4 fits is_numbe
 pub ring_given : (E : Type 0) (G : List ℕ → Result ℕ E → Type 0) (c : Command) (words : List Text) (m : ArgMatches) (r : Option ℕ) → HasRead c words m
     → ((u : List ℕ) (x : Result ℕ E) → G u x → ParsesUnsigned 16 10 u x) → ((t : Text) → one_text (found_of m) (codes "ring") ≡ Some t → ReadsOne G t r)
     → (n : ℕ) × (r ≡ Some n) × GivesRing words n
-ring_given E G c words m r read only = number_given E G 16 c words m r read only 0 (codes "ring") (codes "64") MAX_RING_CAPACITY (omega arith) (omega arith) refl
+ring_given E G c words m r read only = number_given E G 16 c words m r read only 0 (codes "ring") (codes "64") MAX_RING_CAPACITY (omega arith) (omega arith)
+    refl
 
 pub lanes_given : (E : Type 0) (G : List ℕ → Result ℕ E → Type 0) (c : Command) (words : List Text) (m : ArgMatches) (r : Option ℕ) → HasRead c words m
     → ((u : List ℕ) (x : Result ℕ E) → G u x → ParsesUnsigned 8 10 u x) → ((t : Text) → one_text (found_of m) (codes "lanes") ≡ Some t → ReadsOne G t r)
@@ -328,7 +338,8 @@ lanes_given E G c words m r read only = number_given E G 8 c words m r read only
 -- ---- the form
 
 -- a text that reads as true is that of a flag which was given
-flag_given : (E : Type 0) (o t : Option Text) (r : Option Bool) → t ≡ o → r ≡ Some true → (o ≡ None → r ≡ None) → ((u : Text) → o ≡ Some u → ReadsOne (ParsesBool {E = E}) u r) → t ≡ Some (codes "true")
+flag_given : (E : Type 0) (o t : Option Text) (r : Option Bool) → t ≡ o → r ≡ Some true → (o ≡ None → r ≡ None)
+    → ((u : Text) → o ≡ Some u → ReadsOne (ParsesBool {E = E}) u r) → t ≡ Some (codes "true")
 flag_given E None t r same is none reads =
     let bad : r ≡ None = none refl in
     absurd cc
@@ -345,8 +356,11 @@ not_given E (Some true) raw reads = absurd cc
 
 -- the words give the form that the flag asks for
 pub form_given : (E : Type 0) (c : Command) (words : List Text) (m : ArgMatches) (r : Option Bool) → HasRead c words m
-    → (one_text (found_of m) (codes "plain") ≡ None → r ≡ None) → ((t : Text) → one_text (found_of m) (codes "plain") ≡ Some t → ReadsOne (ParsesBool {E = E}) t r)
+    → (one_text (found_of m) (codes "plain") ≡ None → r ≡ None)
+    → ((t : Text) → one_text (found_of m) (codes "plain") ≡ Some t → ReadsOne (ParsesBool {E = E}) t r)
     → GivesForm words (form_by r)
 form_given E c words m None read none reads = λ given. not_given E None refl (reads (codes "true") (sym (text_of c words m (codes "plain") read) ∙ given))
-form_given E c words m (Some false) read none reads = λ given. not_given E (Some false) refl (reads (codes "true") (sym (text_of c words m (codes "plain") read) ∙ given))
-form_given E c words m (Some true) read none reads = flag_given E (one_text (found_of m) (codes "plain")) (value_of (codes "plain") words) (Some true) (text_of c words m (codes "plain") read) refl none reads
+form_given E c words m (Some false) read none reads =
+    λ given. not_given E (Some false) refl (reads (codes "true") (sym (text_of c words m (codes "plain") read) ∙ given))
+form_given E c words m (Some true) read none reads = flag_given E (one_text (found_of m) (codes "plain")) (value_text (codes "plain") words) (Some true)
+    (text_of c words m (codes "plain") read) refl none reads

@@ -1,5 +1,6 @@
 -- What a parse gives for an argument with a default.
-use Rattle.std.proofs.Common.{◌≡◌, ◌∙◌, ◌<◌, ◌≤◌, ap, ℕ, Bool, zero, suc, true, false, List, [], ◌∷◌, length, is_some, Option, Some, None, refl, sym, subst, inl, inr, arith}
+use Rattle.std.proofs.Common.{◌≡◌, ◌∙◌, ◌<◌, ◌≤◌, ap, ℕ, Bool, zero, suc, true, false, List, [], ◌∷◌, length, is_some, Option, Some, None, refl, sym, subst}
+use Rattle.std.proofs.Common.{inl, inr, arith}
 use Rattle.std.specs.List.{All, slice_index_or}
 use Rattle.std.specs.Str.{bytes_eq}
 use Rattle.std.specs.Prelude.{find, option_map, slice_get}
@@ -24,7 +25,8 @@ use Rattle.clap.proofs.CallerLemmas.{default_present, entry_by_id, same_rules_by
 pub record IsOneArg (c : Command) (k : ℕ) (d : Arg) (id : List ℕ) : Type 0 where
   pub low : k < length (args_of c)
   pub id_is : (slice_index_or (args_of c) k d).id.now ≡ id
-  pub only : (j : ℕ) (e : Arg) → j < length (args_of c) → bytes_eq (slice_index_or (args_of c) j e).id.now (slice_index_or (args_of c) k d).id.now ≡ true → j ≡ k
+  pub only : (j : ℕ) (e : Arg) → j < length (args_of c) → bytes_eq (slice_index_or (args_of c) j e).id.now (slice_index_or (args_of c) k d).id.now ≡ true
+      → j ≡ k
   pub named : id ≡ [] → ⊥
   pub own : IsAuto (slice_index_or (args_of c) k d) → ⊥
 
@@ -58,7 +60,8 @@ pub record ReadsArg (c : Command) (m : ArgMatches) (k : ℕ) (d : Arg) (id : Lis
 
 -- the argument of the built command with this id
 same_rules : (c : Command) (m : ArgMatches) (k : ℕ) (d : Arg) (id : List ℕ) (q : ValueParser) (r : ReadsArg c m k d id q)
-    → (key : List ℕ) → key ≡ id → (j : ℕ) (x : Arg) → j < length (args_of r.from.built) → slice_index_or (args_of r.from.built) j x ≡ x → bytes_eq x.id.now key ≡ true
+    → (key : List ℕ) → key ≡ id → (j : ℕ) (x : Arg) → j < length (args_of r.from.built) → slice_index_or (args_of r.from.built) j x ≡ x
+    → bytes_eq x.id.now key ≡ true
     → SameRules (slice_index_or (args_of c) k d) x
 same_rules c m k d id q r key is j x lt at same =
     same_rules_by_id c m r.from k d r.one.low r.one.only r.one.own j x lt at (subst (λ (t : List ℕ). bytes_eq x.id.now t ≡ true) (is ∙ sym r.one.id_is) same)
@@ -124,7 +127,8 @@ first_of_values P how [] some all = absurd (omega arith)
 first_of_values P how (v ∷ vs) some all = (v, refl, All-get_or P (v ∷ vs) 0 v (omega arith) all)
 
 -- the text that is read of it, and what the parser made sure of
-pub default_reads : (c : Command) (m : ArgMatches) (k : ℕ) (d : Arg) (id : List ℕ) (q : ValueParser) → ReadsArg c m k d id q → WantsDefault (slice_index_or (args_of c) k d)
+pub default_reads : (c : Command) (m : ArgMatches) (k : ℕ) (d : Arg) (id : List ℕ) (q : ValueParser) → ReadsArg c m k d id q
+    → WantsDefault (slice_index_or (args_of c) k d)
     → (t : List ℕ) × (one_text (found_of m) id ≡ Some (read_as (reading_of q) t)) × Accepts (slice_index_or (args_of c) k d).ignore_case q t
 default_reads c m k d id q r wants =
     let there = found_there (found_of m).entries.items (slice_index_or (args_of c) k d).id.now (default_present c m r.from r.globals k d r.one.low wants) in

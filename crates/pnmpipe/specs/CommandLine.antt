@@ -1,10 +1,12 @@
 -- What the words of the command line say, as `clap` reads them.
 use Rattle.std.specs.Str.Parse.{digits_value, without_leading_plus}
-use Rattle.std.specs.Prelude.{◌≡◌, ◌≢◌, ◌⊎◌, ◌≤◌, ◌∷◌, ℕ, List, [], Option, Some, None, Result, Ok, Err, Bool, codes, pos, true, false}
+use Rattle.std.specs.Prelude.{◌≡◌, ◌≢◌, ◌⊎◌, ◌≤◌, ◌∷◌, ℕ, List, [], Option, Some, None, Result, Ok, Err, Bool, codes}
+use Rattle.std.specs.Prelude.{pos, true, false}
 use Rattle.pnm_image.specs.declared.format.Form.{Form}
 use Rattle.pnm_image.specs.declared.format.Form.TheVariants.{Raw, Plain}
 use Rattle.pnm_tools.specs.declared.tool.Tool.{Tool}
-use Rattle.clap.specs.Words.{App, Rule, Text, IsAmong, fault_of, first_of, matches_of, one_of, new_app, new_rule, with_rule}
+use Rattle.clap.specs.Words.{App, Rule, Text, IsAmong, fault_of, first_of, matches_of, one_of, new_app, new_rule}
+use Rattle.clap.specs.Words.{with_rule}
 use Rattle.clap.specs.declared.builder.action.ArgAction.TheVariants.{Set, SetTrue}
 use Rattle.clap.specs.declared.builder.value_parser.ValueParser.TheVariants.{Signed}
 use Rattle.clap.specs.declared.error.kind.ErrorKind.{ErrorKind}
@@ -49,7 +51,8 @@ chain_rule = record (new_rule (codes "CHAIN")) { action = Some Set; required = t
 
 -- the command that the words are read by; `clap` adds `--help` and `-h` to it
 abbrev pub program : App
-program = with_rule (with_rule (with_rule (with_rule (new_app (codes "pnmpipe")) ring_rule) lanes_rule) plain_rule) chain_rule
+program = with_rule (with_rule (with_rule (with_rule (new_app (codes "pnmpipe")) ring_rule) lanes_rule) plain_rule)
+    chain_rule
 
 -- the words, of which the first is the program's name, are a command line, and this is its CHAIN
 pub record GivesChain (words : List Text) (chain : Text) : Type 0 where
@@ -57,34 +60,34 @@ pub record GivesChain (words : List Text) (chain : Text) : Type 0 where
   pub given : first_of (codes "CHAIN") (matches_of program words) ≡ Some chain
 
 -- the text that the value of the option of this name is read from
-abbrev pub value_of : Text → List Text → Option Text
-value_of name words = one_of name (matches_of program words)
+abbrev pub value_text : Text → List Text → Option Text
+value_text name words = one_of name (matches_of program words)
 
 -- the words give the option of this name this number, which is 1 or more and no higher than that
 pub record GivesNumber (name : Text) (high : ℕ) (words : List Text) (number : ℕ) : Type 0 where
   pub least : 1 ≤ number
   pub most : number ≤ high
   pub text : Text
-  pub given : value_of name words ≡ Some text
+  pub given : value_text name words ≡ Some text
   pub spelled : number ≡ digits_value 10 (without_leading_plus text)
 
 -- the text of `--ring`, and its number
 abbrev pub ring_of : List Text → Option Text
-ring_of = value_of (codes "ring")
+ring_of = value_text (codes "ring")
 
 abbrev pub GivesRing : List Text → ℕ → Type 0
 GivesRing = GivesNumber (codes "ring") MAX_RING_CAPACITY
 
 -- the text of `--lanes`, and its number
 abbrev pub lanes_of : List Text → Option Text
-lanes_of = value_of (codes "lanes")
+lanes_of = value_text (codes "lanes")
 
 abbrev pub GivesLanes : List Text → ℕ → Type 0
 GivesLanes = GivesNumber (codes "lanes") MAX_LANES
 
 -- the text of `--plain`: `true` where the flag is among the words, and else `false`
 abbrev pub plain_of : List Text → Option Text
-plain_of = value_of (codes "plain")
+plain_of = value_text (codes "plain")
 
 -- the form that a flag asks for
 abbrev pub form_by : Option Bool → Form

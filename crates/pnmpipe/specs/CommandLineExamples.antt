@@ -1,7 +1,9 @@
 -- Small command lines, and what they give.
 use Rattle.std.specs.Prelude.{◌≡◌, ◌∷◌, List, [], Some, codes}
 use Rattle.clap.specs.Words.{Kinds, Text, fault_of}
-use Rattle.clap.specs.declared.error.kind.ErrorKind.TheVariants.{ArgumentConflict, DisplayHelp, InvalidValue, MissingRequiredArgument, UnknownArgument, ValueValidation}
+use Rattle.clap.specs.declared.error.kind.ErrorKind.TheVariants.{ArgumentConflict, DisplayHelp, InvalidValue}
+use Rattle.clap.specs.declared.error.kind.ErrorKind.TheVariants.{MissingRequiredArgument, UnknownArgument}
+use Rattle.clap.specs.declared.error.kind.ErrorKind.TheVariants.{ValueValidation}
 use Rattle.pnm_image.specs.declared.format.Form.{Form}
 use Rattle.pnm_image.specs.declared.format.Form.TheVariants.{Raw, Plain}
 use Rattle.pnmpipe.specs.CommandLine.{GivesChain, GivesForm, lanes_of, program, ring_of}
@@ -36,11 +38,14 @@ pub record CommandLinesHold : Type 0 where
   pub ring_before : GivesBoth (codes "--ring" ∷ codes "1" ∷ codes "pnminvert" ∷ []) (codes "pnminvert") (codes "1")
   pub ring_after : GivesBoth (codes "pnminvert" ∷ codes "--ring" ∷ codes "1024" ∷ []) (codes "pnminvert") (codes "1024")
   pub ring_attached : GivesBoth (codes "--ring=7" ∷ codes "pnminvert" ∷ []) (codes "pnminvert") (codes "7")
-  pub lanes_before : GivesAll (codes "--lanes" ∷ codes "8" ∷ codes "pnminvert" ∷ []) (codes "pnminvert") (codes "64") (codes "8")
-  pub ring_and_lanes : GivesAll (codes "--ring" ∷ codes "2" ∷ codes "pnminvert" ∷ codes "--lanes=3" ∷ []) (codes "pnminvert") (codes "2") (codes "3")
+  pub lanes_before : GivesAll (codes "--lanes" ∷ codes "8" ∷ codes "pnminvert" ∷ []) (codes "pnminvert") (codes "64")
+      (codes "8")
+  pub ring_and_lanes : GivesAll (codes "--ring" ∷ codes "2" ∷ codes "pnminvert" ∷ codes "--lanes=3" ∷ [])
+      (codes "pnminvert") (codes "2") (codes "3")
   pub plain_left_out : GivesFormToo (codes "pnminvert" ∷ []) (codes "pnminvert") Raw
   pub plain_before : GivesFormToo (codes "--plain" ∷ codes "pnminvert" ∷ []) (codes "pnminvert") Plain
-  pub plain_after : GivesFormToo (codes "--ring" ∷ codes "2" ∷ codes "pnminvert" ∷ codes "--plain" ∷ []) (codes "pnminvert") Plain
+  pub plain_after : GivesFormToo (codes "--ring" ∷ codes "2" ∷ codes "pnminvert" ∷ codes "--plain" ∷ [])
+      (codes "pnminvert") Plain
   pub plain_after_dashes : GivesFormToo (codes "--" ∷ codes "--plain" ∷ []) (codes "--plain") Raw
   pub after_dashes : GivesBoth (codes "--" ∷ codes "--help" ∷ []) (codes "--help") (codes "64")
   pub empty_chain : GivesBoth ([] ∷ []) [] (codes "64")
@@ -52,11 +57,13 @@ pub record CommandLinesHold : Type 0 where
   pub ring_letter : FailBy (codes "--ring" ∷ codes "x" ∷ codes "a" ∷ []) (ValueValidation ∷ [])
   pub ring_negative : FailBy (codes "--ring" ∷ codes "-1" ∷ codes "a" ∷ []) (UnknownArgument ∷ [])
   pub ring_alone : FailBy (codes "a" ∷ codes "--ring" ∷ []) (InvalidValue ∷ [])
-  pub ring_twice : FailBy (codes "--ring" ∷ codes "1" ∷ codes "--ring" ∷ codes "1" ∷ codes "a" ∷ []) (ArgumentConflict ∷ [])
+  pub ring_twice : FailBy (codes "--ring" ∷ codes "1" ∷ codes "--ring" ∷ codes "1" ∷ codes "a" ∷ [])
+      (ArgumentConflict ∷ [])
   pub lanes_zero : FailBy (codes "--lanes" ∷ codes "0" ∷ codes "a" ∷ []) (ValueValidation ∷ [])
   pub lanes_large : FailBy (codes "--lanes" ∷ codes "9" ∷ codes "a" ∷ []) (ValueValidation ∷ [])
   pub lanes_letter : FailBy (codes "--lanes" ∷ codes "x" ∷ codes "a" ∷ []) (ValueValidation ∷ [])
-  pub lanes_twice : FailBy (codes "--lanes" ∷ codes "1" ∷ codes "--lanes" ∷ codes "1" ∷ codes "a" ∷ []) (ArgumentConflict ∷ [])
+  pub lanes_twice : FailBy (codes "--lanes" ∷ codes "1" ∷ codes "--lanes" ∷ codes "1" ∷ codes "a" ∷ [])
+      (ArgumentConflict ∷ [])
   pub plain_twice : FailBy (codes "--plain" ∷ codes "--plain" ∷ codes "a" ∷ []) (ArgumentConflict ∷ [])
   pub plain_alone : FailBy (codes "--plain" ∷ []) (MissingRequiredArgument ∷ [])
   pub unknown : FailBy (codes "--raw" ∷ codes "2" ∷ codes "a" ∷ []) (UnknownArgument ∷ [])

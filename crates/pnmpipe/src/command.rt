@@ -2,7 +2,7 @@
 
 ghost use Rattle.std.specs.Prelude.{◌≡◌, ◌≢◌, ◌⊎◌, ◌≤◌, ℕ, List, map, string_bytes};
 ghost use Rattle.std.specs.Io.KnownBytes.{Appends};
-ghost use Rattle.pnm_image.specs.Devices.{AppendsFront, Failed};
+ghost use Rattle.pnm_image.specs.Devices.{AppendsPrefix, Failed};
 ghost use Rattle.pnmpipe.specs.CommandLine.{AsksForHelp, HasRunTools, HasRunWords};
 ghost use Rattle.pnm_flow.specs.Jobs.{job_of};
 ghost use Rattle.pnm_flow.specs.Runs.{change};
@@ -127,7 +127,7 @@ fn run_tools<H: AllocGlobal + Threads + Wait + Sync, R: BytesIn, W: BytesOut, E:
 
 /// Writes the text. What is left after a failed write is left out.
 fn print_help<W: BytesOut>(output: &mut W, text: &str)
-    ensures front { AppendsFront (W.held output.old) (W.held output.new) text.now }
+    ensures prefix { AppendsPrefix (W.held output.old) (W.held output.new) text.now }
     ensures whole { Appends (W.held output.old) (W.held output.new) text.now
         ⊎ Failed (W.failures output.old) (W.failures output.new) }
 {

@@ -5,15 +5,15 @@ ghost use Rattle.std.specs.Prelude.{◌≡◌};
 use std::io;
 use std::io::{ErrorKind, Read, Write};
 
-/// A reader or writer each of whose calls is made again where a signal has interrupted it (signal(7)), so that a process
-/// that was stopped and goes on loses nothing. Any other error is handed on.
+/// A reader or writer each of whose calls is made again where a signal has interrupted it (signal(7)), so that a
+/// process that was stopped and goes on loses nothing. Any other error is handed on.
 #[derive(Debug, Drop)]
 pub struct Uninterrupted<D> {
     inner: D,
 }
 
 impl<D> Uninterrupted<D> {
-    /// The same reader or writer.
+    /// Makes interrupted calls of this reader or writer again.
     pub fn new(inner: D) -> Uninterrupted<D>
         ensures { result.inner ≡ inner }
     {
@@ -32,9 +32,9 @@ impl<D> Uninterrupted<D> {
 impl<R: Read> Read for Uninterrupted<R> {
     ghost remaining = { λ d. R.remaining d.inner };
 
-    fn read(&mut self, room: &mut [u8]) -> io::Result<usize> {
+    fn read(&mut self, buffer: &mut [u8]) -> io::Result<usize> {
         for _ in 0..u64::MAX {
-            match self.inner.read(room) {
+            match self.inner.read(buffer) {
                 Err(error) if error.kind() == ErrorKind::Interrupted => {}
                 answer => return answer,
             }

@@ -73,8 +73,8 @@ impl Read for ByteByByte<'_> {
     }
 }
 
-/// Holds a stage, or a lane of it, until as many bytes were read as can be where that one has taken nothing, and a while
-/// longer, and counts who comes.
+/// Holds a stage, or a lane of it, until as many bytes were read as can be where that one has taken nothing, and a
+/// while longer, and counts who comes.
 #[derive(Drop)]
 struct HoldsOne<'a> {
     /// The stage and the lane that are held.
@@ -177,8 +177,8 @@ fn each_stage_comes_before_it_takes(rt: HostRuntime) {
     }
 }
 
-/// Each lane has been sent the head. Where the first one is held the first row waits for room with the dealer, where the second is
-/// the second; the ring before the dealer and the caller hold a row each.
+/// Each lane has been sent the head. Where the first one is held the first row waits for room with the dealer, where
+/// the second is the second; the ring before the dealer and the caller hold a row each.
 #[test]
 fn each_lane_comes_before_it_takes(rt: HostRuntime) {
     for (lane, most) in [(0, 12), (1, 13)] {

@@ -23,7 +23,7 @@ pub fn run_chain<R: Threads + Wait + Abort + Sync>(
     run_chain_in(rt, alloc, tools, Form::Raw, input)
 }
 
-/// The same in this form.
+/// What a run answers in each way, and what it writes, in this form.
 fn run_chain_in<R: Threads + Wait + Abort + Sync>(
     rt: &R,
     alloc: Global,
@@ -39,7 +39,7 @@ fn run_chain_in<R: Threads + Wait + Abort + Sync>(
     first
 }
 
-/// The same of the tools that the text spells.
+/// What a run of the tools that the text spells answers and writes.
 pub fn run_text<R: Threads + Wait + Abort + Sync>(
     rt: &R,
     alloc: Global,
@@ -50,7 +50,7 @@ pub fn run_text<R: Threads + Wait + Abort + Sync>(
     run_chain(rt, alloc, tools.as_slice(), input)
 }
 
-/// The same in plain form.
+/// What a run of the tools that the text spells answers and writes in plain form.
 pub fn run_plain_text<R: Threads + Wait + Abort + Sync>(
     rt: &R,
     alloc: Global,
@@ -72,7 +72,7 @@ pub fn run_chain_by<R: Threads + Wait + Abort + Sync>(
     run_form_by(rt, alloc, way, tools, Form::Raw, input)
 }
 
-/// The same in this form.
+/// What a run answers in this way and form, and what it writes.
 fn run_form_by<R: Threads + Wait + Abort + Sync>(
     rt: &R,
     alloc: Global,

@@ -10,23 +10,23 @@ use std::process::Abort;
 use std::sync::Wait;
 use std::thread::Threads;
 
-/// From so many bytes of the input on: the images and rows of the output, or the input's fault, and how much of the whole
-/// output is written.
-type Front = (usize, Result<(u64, u64), InputFault>, usize);
+/// From so many bytes of the input on: the images and rows of the output, or the input's fault, and how much of the
+/// whole output is written.
+type Prefix = (usize, Result<(u64, u64), InputFault>, usize);
 
-/// A chain, an input, its whole output, and what comes of the fronts of the input.
-type Cut<'a> = (&'a str, &'a [u8], &'a [u8], &'a [Front]);
+/// A chain, an input, its whole output, and what comes of the prefixes of the input.
+type Cut<'a> = (&'a str, &'a [u8], &'a [u8], &'a [Prefix]);
 
 const HEADER_CUT: Result<(u64, u64), InputFault> = Err(InputFault::HeaderCut);
 
 const RASTER_CUT: Result<(u64, u64), InputFault> = Err(InputFault::RasterCut);
 
-/// Each front of the input is answered so. The empty one is `EmptyInput`.
-fn answers_each_front<R: Threads + Wait + Abort + Sync>(rt: &R, alloc: Global, cut: &Cut<'_>) {
-    let (chain, input, output, fronts) = *cut;
+/// Each prefix of the input is answered so. The empty one is `EmptyInput`.
+fn answers_each_prefix<R: Threads + Wait + Abort + Sync>(rt: &R, alloc: Global, cut: &Cut<'_>) {
+    let (chain, input, output, prefixes) = *cut;
     for count in 0..=input.len() {
         let mut want = (Err(InputFault::EmptyInput), 0);
-        for (least, answer, size) in fronts {
+        for (least, answer, size) in prefixes {
             if *least <= count {
                 want = (*answer, *size);
             }
@@ -121,14 +121,15 @@ const ROW_BY_ROW: &[Cut<'static>] = &[
 #[test]
 fn writes_all_that_was_read(rt: HostRuntime) {
     for cut in ROW_BY_ROW {
-        answers_each_front(&rt, rt.alloc(), cut);
+        answers_each_prefix(&rt, rt.alloc(), cut);
     }
 }
 
 /// An image of two columns and rows, and one of one column.
 const STREAM: &[u8] = b"P5\n2 2\n9\n\x01\x02\x03\x04P5\n1 2\n9\n\x05\x06";
 
-/// Of an image that was begun the header alone is written where its rows are kept, and the image before it is written whole.
+/// Of an image that was begun the header alone is written where its rows are kept, and the image before it is written
+/// whole.
 const KEPT: &[Cut<'static>] = &[
     (
         "pamflip -xy",
@@ -187,6 +188,6 @@ const KEPT: &[Cut<'static>] = &[
 #[test]
 fn writes_no_row_of_a_kept_image(rt: HostRuntime) {
     for cut in KEPT {
-        answers_each_front(&rt, rt.alloc(), cut);
+        answers_each_prefix(&rt, rt.alloc(), cut);
     }
 }

@@ -59,8 +59,8 @@ pub fn invert_by<H: Threads + Wait + Abort + Sync, R: BytesIn, W: BytesOut>(
     run_by(rt, alloc, way, reader, writer, &[Tool::Invert], Form::Raw)
 }
 
-/// A reader that fails at each read, a writer that fails at each write, of a byte each, and one that fails at each flush,
-/// around a tool that is row-wise and one that isn't.
+/// A reader that fails at each read, a writer that fails at each write, of a byte each, and one that fails at each
+/// flush, around a tool that is row-wise and one that isn't.
 #[test]
 fn answers_failed_devices(rt: HostRuntime) {
     for made in [
@@ -90,8 +90,8 @@ fn answers_failed_devices(rt: HostRuntime) {
     }
 }
 
-/// A read for each byte, and one that finds the end; the one after so many fails. It is the answer, and what was due for the
-/// bytes before it is written.
+/// A read for each byte, and one that finds the end; the one after so many fails. It is the answer, and what was due
+/// for the bytes before it is written.
 fn answers_a_failed_read<H: Threads + Wait + Abort + Sync>(
     rt: &H,
     alloc: Global,
@@ -121,8 +121,8 @@ fn answers_a_failed_read<H: Threads + Wait + Abort + Sync>(
     agrees(rt, given, (want, &made.whole[..size]), &(way, before));
 }
 
-/// The bytes that are due once so many bytes of the two images have come: a header once it is whole, and the one row after it
-/// once that is.
+/// The bytes that are due once so many bytes of the two images have come: a header once it is whole, and the one row
+/// after it once that is.
 fn due_after(made: &Made<'_>, read: usize) -> usize {
     match read {
         0..=8 => 0,
@@ -219,8 +219,8 @@ const CUT_FAULT: Result<Summary, RunFault> = Err(RunFault::Input(InputFault::Ras
 
 const CUT_INVERTED: &[u8] = b"P5\n2 1\n9\n";
 
-/// The fault of the input comes before that of the output, which fails at a write or at the last flush. A writer that takes
-/// none of its bytes has failed.
+/// The fault of the input comes before that of the output, which fails at a write or at the last flush. A writer that
+/// takes none of its bytes has failed.
 #[test]
 fn answers_the_input_before_the_output(rt: HostRuntime) {
     for way in WAYS {

@@ -124,8 +124,8 @@ impl Write for SeenWriter<'_> {
     }
 }
 
-/// Holds the first tool back, or the first lane of it alone, until something was read, and a while longer, and counts what
-/// was written by then.
+/// Holds the first tool back, or the first lane of it alone, until something was read, and a while longer, and counts
+/// what was written by then.
 #[derive(Drop)]
 struct HoldsFirst<'a>(&'a Seen);
 

@@ -148,7 +148,7 @@ fn inverts_by_the_most_tools(rt: HostRuntime) -> Result<(), Fail> {
     inverts_so(&rt, rt.alloc(), 64, IMAGE)
 }
 
-/// The same over the most lanes, each in a thread of its own; where so many threads can't be started,
+/// The most tools over the most lanes, each in a thread of its own; where so many threads can't be started,
 /// that is answered.
 #[test]
 fn inverts_by_the_most_tools_over_lanes(rt: HostRuntime) -> Result<(), Fail> {

@@ -27,7 +27,7 @@ const DOUBLED: &[u8] = b"P5\n2 2\n9\n\x02\x02\x02\x02";
 
 const SAMPLE_DOUBLED: Written<'static> = (Form::Raw, SAMPLE, DOUBLED);
 
-/// The same in plain form.
+/// What `pamenlarge 2 | pnminvert` makes of it in plain form.
 const PLAIN_DOUBLED: Written<'static> = (Form::Plain, SAMPLE, b"P2\n2 2\n9\n2 2\n2 2\n");
 
 /// What a run over three tools answers; none where there is no memory for these.
@@ -46,8 +46,8 @@ fn run_short_of_memory<H: Threads + Wait + Abort + Sync>(
 /// The form in which a run writes, its input, and its whole output.
 type Written<'a> = (Form, &'a [u8], &'a [u8]);
 
-/// What a run over these tools answers. Whatever it is, a front of the whole output is written, and want of memory alone can
-/// be at fault: for the start of a run over threads too.
+/// What a run over these tools answers. Whatever it is, a prefix of the whole output is written, and want of memory
+/// alone can be at fault: for the start of a run over threads too.
 fn make_short_of_memory<H: Threads + Wait + Abort + Sync>(
     rt: &H,
     alloc: Global,
@@ -91,33 +91,33 @@ fn answers_want_of_memory(rt: HostRuntime) {
     let _ = run_short_of_memory(&rt, rt.alloc(), Way::OneThread);
 }
 
-/// The same, over threads.
+/// Each growth of a run over threads may be refused.
 #[test]
 fn answers_want_of_memory_over_threads(rt: HostRuntime) {
     let _ = run_short_of_memory(&rt, rt.alloc(), Way::Threads(1, 1));
 }
 
-/// The same, over two lanes.
+/// Each growth of a run over two lanes may be refused.
 #[test]
 fn answers_want_of_memory_over_lanes(rt: HostRuntime) {
     let _ = run_short_of_memory(&rt, rt.alloc(), Way::Threads(1, 2));
 }
 
-/// The same, where none is refused.
+/// Where no growth is refused the run ends well.
 #[test]
 fn ends_well_with_memory(rt: HostRuntime) {
     let summary = run_short_of_memory(&rt, rt.alloc(), Way::OneThread);
     assert_eq!(rt; summary, Some(Summary { images: 2, rows: 3 }));
 }
 
-/// The same, where none is refused, over threads.
+/// Where no growth is refused the run over threads ends well.
 #[test]
 fn ends_well_over_threads_with_memory(rt: HostRuntime) {
     let summary = run_short_of_memory(&rt, rt.alloc(), Way::Threads(1, 1));
     assert_eq!(rt; summary, Some(Summary { images: 2, rows: 3 }));
 }
 
-/// The same, where none is refused, over two lanes.
+/// Where no growth is refused the run over two lanes ends well.
 #[test]
 fn ends_well_over_lanes_with_memory(rt: HostRuntime) {
     let summary = run_short_of_memory(&rt, rt.alloc(), Way::Threads(1, 2));
@@ -131,7 +131,7 @@ fn doubles_in_one_thread_or_runs_out(rt: HostRuntime) {
     let _ = make_short_of_memory(&rt, rt.alloc(), Way::OneThread, &tools, SAMPLE_DOUBLED);
 }
 
-/// The same, where none is refused.
+/// Where no growth is refused the run in one thread ends well.
 #[test]
 fn doubles_in_one_thread_with_memory(rt: HostRuntime) {
     let tools = [Tool::Enlarge(2, 2), Tool::Invert];
@@ -148,7 +148,7 @@ fn writes_plain_or_runs_out(rt: HostRuntime) {
     }
 }
 
-/// The same, where none is refused.
+/// Where no growth is refused the plain image is written.
 #[test]
 fn writes_plain_with_memory(rt: HostRuntime) {
     let tools = [Tool::Enlarge(2, 2), Tool::Invert];
@@ -158,7 +158,7 @@ fn writes_plain_with_memory(rt: HostRuntime) {
     }
 }
 
-/// Whether Stop is the last that the ring holds. Before it there is a front of these, and after it nothing.
+/// Whether Stop is the last that the ring holds. Before it there is a prefix of these, and after it nothing.
 fn ends_by_stop(rt: &impl Abort, input: &mut Receiver, whole: &[Part<'_>]) -> bool {
     for part in whole {
         if !input.has_message() {
@@ -170,15 +170,15 @@ fn ends_by_stop(rt: &impl Abort, input: &mut Receiver, whole: &[Part<'_>]) -> bo
             return true;
         }
         let is_next = is_made_of(&message, *part);
-        assert!(rt; is_next, "{part:?}: a front of the answer");
+        assert!(rt; is_next, "{part:?}: a prefix of the answer");
     }
     holds(rt, input, &[], "nothing after the answer");
     false
 }
 
-/// Whether all of these tools in threads end well with an image; not where memory ran out. Whatever they do, a front of the
-/// whole answer is sent, and the chain ends: with Stop at last, unless it was answered in full. One that wasn't started and
-/// gives back the ends of its rings leaves these as they were.
+/// Whether all of these tools in threads end well with an image; not where memory ran out. Whatever they do, a prefix
+/// of the whole answer is sent, and the chain ends: with Stop at last, unless it was answered in full. One that wasn't
+/// started and gives back the ends of its rings leaves these as they were.
 fn end_in_threads<R: Threads + Wait + Abort + Sync>(
     rt: &R,
     alloc: Global,
@@ -217,7 +217,7 @@ fn ends_in_threads_short_of_memory(rt: HostRuntime) {
     let _ = end_in_threads(&rt, rt.alloc(), &[Tool::Invert], INVERTED);
 }
 
-/// The same, where none is refused.
+/// Where no growth is refused each stage ends well.
 #[test]
 fn ends_well_in_threads_with_memory(rt: HostRuntime) {
     let is_well = end_in_threads(&rt, rt.alloc(), &THREE, IMAGE).unwrap_or(false);

@@ -16,8 +16,8 @@ use std::process::Abort;
 use std::sync::Wait;
 use std::thread::Threads;
 
-/// A run of which reads or writes fail: after how many reads one does, what is answered, what is due before that, and how
-/// many writes are tried.
+/// A run of which reads or writes fail: after how many reads one does, what is answered, what is due before that, and
+/// how many writes are tried.
 #[derive(Drop)]
 struct Order<'a> {
     tools: &'a [Tool],
@@ -43,7 +43,8 @@ const FIRST_OUTSIDE: RunFault = RunFault::Tool(1, ToolFault::CutOutside);
 
 const SECOND_OUTSIDE: RunFault = RunFault::Tool(2, ToolFault::CutOutside);
 
-/// A write of a byte fails, the first one, the second one and so on, and later ones don't: what was due before it is written.
+/// A write of a byte fails, the first one, the second one and so on, and later ones don't: what was due before it is
+/// written.
 fn answers_in_order<R: Threads + Wait + Abort + Sync>(rt: &R, alloc: Global, order: &Order<'_>) {
     for way in WAYS {
         for before in 0..order.writes {
@@ -52,7 +53,7 @@ fn answers_in_order<R: Threads + Wait + Abort + Sync>(rt: &R, alloc: Global, ord
     }
 }
 
-/// The same in this way, where the write after so many fails.
+/// What is answered in this way where the write after so many fails.
 fn answers_so<R: Threads + Wait + Abort + Sync>(
     rt: &R,
     alloc: Global,

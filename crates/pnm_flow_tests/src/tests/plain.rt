@@ -255,7 +255,8 @@ fn reads<H: Threads + Wait + Abort + Sync>(rt: &H, alloc: Global, way: Way, befo
     agrees(rt, given, (want, due), &(way, before));
 }
 
-/// A read for each byte, and one that finds the end, of which one fails: what was due for the bytes before it is written.
+/// A read for each byte, and one that finds the end, of which one fails: what was due for the bytes before it is
+/// written.
 #[test]
 fn answers_failed_reads(rt: HostRuntime) {
     for way in WAYS {

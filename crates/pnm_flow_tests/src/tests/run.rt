@@ -23,15 +23,15 @@ pub fn invert<R: AllocGlobal + Threads + Wait + Abort + Sync>(
     run_chain(rt, rt.alloc(), &[Tool::Invert], input)
 }
 
-/// The front, this byte so many times, and the back.
+/// The prefix, this byte so many times, and the back.
 pub fn padded(
     alloc: Global,
-    front: &[u8],
+    prefix: &[u8],
     byte: u8,
     count: usize,
     back: &[u8],
 ) -> Result<Vec<u8>, Fail> {
-    let mut text = Vec::from_slice(alloc, front)?;
+    let mut text = Vec::from_slice(alloc, prefix)?;
     for _ in 0..count {
         text.push(byte)?;
     }
@@ -131,7 +131,7 @@ fn limits_the_header(rt: HostRuntime) -> Result<(), Fail> {
     let cut = Err(RunFault::Input(InputFault::HeaderCut));
     let image = b"1 1 9\n\x05".as_slice();
     let nothing = b"".as_slice();
-    for (front, byte, count, back, want, output) in [
+    for (prefix, byte, count, back, want, output) in [
         (
             b"P5".as_slice(),
             b' ',
@@ -146,7 +146,7 @@ fn limits_the_header(rt: HostRuntime) -> Result<(), Fail> {
         (b"P7\nTUPLTYPE ", b'A', 256, b"\n", too_long, nothing),
         (b"P7\nTUPLTYPE ", b'A', 255, b"\n", cut, nothing),
     ] {
-        let input = padded(rt.alloc(), front, byte, count, back)?;
+        let input = padded(rt.alloc(), prefix, byte, count, back)?;
         let (answer, written) = invert(&rt, input.as_slice());
         agrees(&rt, (answer, written.as_slice()), (want, output), &count);
     }

@@ -245,7 +245,7 @@ impl Gate for Both {
     }
 }
 
-/// The same, of two lanes of one tool.
+/// The two threads are those of two lanes of one tool.
 #[derive(Drop)]
 pub struct BothLanes(pub Both);
 
@@ -337,8 +337,8 @@ fn one_by_one(
     Ok(true)
 }
 
-/// What comes of each message passes through two tools before the next one is there, over rings of capacity 1, and over two
-/// lanes too.
+/// What comes of each message passes through two tools before the next one is there, over rings of capacity 1, and over
+/// two lanes too.
 #[test]
 fn passes_each_message_on_at_once(rt: HostRuntime) -> Result<(), Fail> {
     let alloc = rt.alloc();

@@ -17,18 +17,19 @@ pub(super) enum ReadFault {
 pub(super) fn read_all<R: BytesIn>(reader: &mut R, text: &mut Vec<u8>) -> Result<(), ReadFault>
     ensures whole { OnOk result (IfSome (R.left reader.old) (λ bytes. text.new.items ≡ text.old.items ++ bytes)) }
     ensures end { OnOk result (IsAtEnd (R.left reader.new)) }
-    ensures front { result ≡ Err ReadFault.Device → (bytes : List ℕ) × Consumes (R.left reader.old) (R.left reader.new) bytes
+    ensures prefix { result ≡ Err ReadFault.Device
+        → (bytes : List ℕ) × Consumes (R.left reader.old) (R.left reader.new) bytes
         × (text.new.items ≡ text.old.items ++ bytes) }
     ensures kept { OnOk result (R.failures reader.new ≡ R.failures reader.old) }
     ensures failed { result ≡ Err ReadFault.Device → Failed (R.failures reader.old) (R.failures reader.new) }
     ensures same_device { R.same reader.old reader.new }
 {
-    let mut room = [0; 64];
+    let mut buffer = [0; 64];
     loop {
-        match reader.read(&mut room) {
+        match reader.read(&mut buffer) {
             Ok(0) => return Ok(()),
             Ok(count) => {
-                if text.extend_from_slice(&room[..count]).is_err() {
+                if text.extend_from_slice(&buffer[..count]).is_err() {
                     return Err(ReadFault::Memory);
                 }
             }
@@ -37,10 +38,10 @@ pub(super) fn read_all<R: BytesIn>(reader: &mut R, text: &mut Vec<u8>) -> Result
     }
 }
 
-/// Writes all the bytes. Where the device fails, it holds more by a front of them.
+/// Writes all the bytes. Where the device fails, it holds more by a prefix of them.
 pub(super) fn write_all<W: BytesOut>(writer: &mut W, bytes: &[u8]) -> Result<(), DeviceFailed>
     ensures whole { OnOk result (Appends (W.held writer.old) (W.held writer.new) bytes.now) }
-    ensures front { OnErr result ((n : ℕ) × Appends (W.held writer.old) (W.held writer.new) (take n bytes.now)) }
+    ensures prefix { OnErr result ((n : ℕ) × Appends (W.held writer.old) (W.held writer.new) (take n bytes.now)) }
     ensures kept { OnOk result (W.failures writer.new ≡ W.failures writer.old) }
     ensures failed { OnErr result (Failed (W.failures writer.old) (W.failures writer.new)) }
     ensures same_device { W.same writer.old writer.new }
@@ -61,12 +62,15 @@ struct Through<D> {
 impl<R: BytesIn> Through<R> {
     /// Appends to the text all bytes that the device gives.
     fn read_all(&mut self, text: &mut Vec<u8>) -> Result<(), ReadFault>
-        ensures whole { OnOk result (IfSome (R.left self.old.device) (λ bytes. text.new.items ≡ text.old.items ++ bytes)) }
+        ensures whole { OnOk result
+            (IfSome (R.left self.old.device) (λ bytes. text.new.items ≡ text.old.items ++ bytes)) }
         ensures end { OnOk result (IsAtEnd (R.left self.new.device)) }
-        ensures front { result ≡ Err ReadFault.Device → (bytes : List ℕ) × Consumes (R.left self.old.device) (R.left self.new.device) bytes
+        ensures prefix { result ≡ Err ReadFault.Device
+            → (bytes : List ℕ) × Consumes (R.left self.old.device) (R.left self.new.device) bytes
             × (text.new.items ≡ text.old.items ++ bytes) }
         ensures kept { OnOk result (R.failures self.new.device ≡ R.failures self.old.device) }
-        ensures failed { result ≡ Err ReadFault.Device → Failed (R.failures self.old.device) (R.failures self.new.device) }
+        ensures failed { result ≡ Err ReadFault.Device
+            → Failed (R.failures self.old.device) (R.failures self.new.device) }
         ensures same_device { R.same self.old.device self.new.device }
     {
         read_all(&mut self.device, text)
@@ -77,7 +81,8 @@ impl<W: BytesOut> Through<W> {
     /// Writes all the bytes to the device.
     fn write_all(&mut self, bytes: &[u8]) -> Result<(), DeviceFailed>
         ensures whole { OnOk result (Appends (W.held self.old.device) (W.held self.new.device) bytes.now) }
-        ensures front { OnErr result ((n : ℕ) × Appends (W.held self.old.device) (W.held self.new.device) (take n bytes.now)) }
+        ensures prefix { OnErr result
+            ((n : ℕ) × Appends (W.held self.old.device) (W.held self.new.device) (take n bytes.now)) }
         ensures kept { OnOk result (W.failures self.new.device ≡ W.failures self.old.device) }
         ensures failed { OnErr result (Failed (W.failures self.old.device) (W.failures self.new.device)) }
         ensures same_device { W.same self.old.device self.new.device }
@@ -90,7 +95,8 @@ impl<W: BytesOut> Through<W> {
 pub(super) fn read_through<R: BytesIn>(reader: &mut R, text: &mut Vec<u8>) -> Result<(), ReadFault>
     ensures whole { OnOk result (IfSome (R.left reader.old) (λ bytes. text.new.items ≡ text.old.items ++ bytes)) }
     ensures end { OnOk result (IsAtEnd (R.left reader.new)) }
-    ensures front { result ≡ Err ReadFault.Device → (bytes : List ℕ) × Consumes (R.left reader.old) (R.left reader.new) bytes
+    ensures prefix { result ≡ Err ReadFault.Device
+        → (bytes : List ℕ) × Consumes (R.left reader.old) (R.left reader.new) bytes
         × (text.new.items ≡ text.old.items ++ bytes) }
     ensures kept { OnOk result (R.failures reader.new ≡ R.failures reader.old) }
     ensures failed { result ≡ Err ReadFault.Device → Failed (R.failures reader.old) (R.failures reader.new) }
@@ -105,7 +111,7 @@ pub(super) fn read_through<R: BytesIn>(reader: &mut R, text: &mut Vec<u8>) -> Re
 /// `write_all` by a part that is lent the device for the time.
 pub(super) fn write_through<W: BytesOut>(writer: &mut W, bytes: &[u8]) -> Result<(), DeviceFailed>
     ensures whole { OnOk result (Appends (W.held writer.old) (W.held writer.new) bytes.now) }
-    ensures front { OnErr result ((n : ℕ) × Appends (W.held writer.old) (W.held writer.new) (take n bytes.now)) }
+    ensures prefix { OnErr result ((n : ℕ) × Appends (W.held writer.old) (W.held writer.new) (take n bytes.now)) }
     ensures kept { OnOk result (W.failures writer.new ≡ W.failures writer.old) }
     ensures failed { OnErr result (Failed (W.failures writer.old) (W.failures writer.new)) }
     ensures same_device { W.same writer.old writer.new }
@@ -116,10 +122,10 @@ pub(super) fn write_through<W: BytesOut>(writer: &mut W, bytes: &[u8]) -> Result
     part.write_all(bytes)
 }
 
-/// The same, a byte at a time: the part is used again and again.
+/// `write_all` a byte at a time: the part that is lent the device is used again and again.
 pub(super) fn write_bytewise<W: BytesOut>(writer: &mut W, bytes: &[u8]) -> Result<(), DeviceFailed>
     ensures whole { OnOk result (Appends (W.held writer.old) (W.held writer.new) bytes.now) }
-    ensures front { OnErr result ((n : ℕ) × Appends (W.held writer.old) (W.held writer.new) (take n bytes.now)) }
+    ensures prefix { OnErr result ((n : ℕ) × Appends (W.held writer.old) (W.held writer.new) (take n bytes.now)) }
     ensures kept { OnOk result (W.failures writer.new ≡ W.failures writer.old) }
     ensures failed { OnErr result (Failed (W.failures writer.old) (W.failures writer.new)) }
     ensures same_device { W.same writer.old writer.new }

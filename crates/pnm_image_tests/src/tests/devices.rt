@@ -14,13 +14,13 @@ use std::test::Fail;
 #[test]
 fn reads_to_the_end(rt: HostRuntime) {
     let mut reader = Device::new([1, 2, 3, 4].as_slice());
-    let mut room = [9; 3];
+    let mut buffer = [9; 3];
     same(&rt, &reader.read(&mut []), &Ok(0), &"no room");
-    same(&rt, &reader.read(&mut room), &Ok(3), &"the first read");
-    same(&rt, &room, &[1, 2, 3], &"the first read");
-    same(&rt, &reader.read(&mut room), &Ok(1), &"the second read");
-    same(&rt, &room, &[4, 2, 3], &"the second read");
-    same(&rt, &reader.read(&mut room), &Ok(0), &"the last read");
+    same(&rt, &reader.read(&mut buffer), &Ok(3), &"the first read");
+    same(&rt, &buffer, &[1, 2, 3], &"the first read");
+    same(&rt, &reader.read(&mut buffer), &Ok(1), &"the second read");
+    same(&rt, &buffer, &[4, 2, 3], &"the second read");
+    same(&rt, &reader.read(&mut buffer), &Ok(0), &"the last read");
     same(&rt, &reader.into_inner(), &[].as_slice(), &"the end");
 }
 
@@ -57,9 +57,9 @@ fn holds_bytes(rt: &impl Abort, held: &[u8], bytes: &[u8]) {
 #[test]
 fn lends_readers(rt: HostRuntime) -> Result<(), Fail> {
     let mut reader = Device::new([1, 2, 3].as_slice());
-    let mut room = [0; 1];
+    let mut buffer = [0; 1];
     let mut text = Vec::new(rt.alloc());
-    same(&rt, &(&mut reader).read(&mut room), &Ok(1), &"a byte");
+    same(&rt, &(&mut reader).read(&mut buffer), &Ok(1), &"a byte");
     read_through(&mut reader, &mut text)?;
     holds_bytes(&rt, text.as_slice(), &[2, 3]);
     same(
@@ -86,30 +86,30 @@ fn lends_writers(rt: HostRuntime) -> Result<(), Fail> {
 /// A read that fails takes no byte, and the next read goes on.
 #[test]
 fn goes_on_after_a_failed_read(rt: HostRuntime) -> Result<(), Fail> {
-    for (before, front) in [
+    for (before, prefix) in [
         (0, [].as_slice()),
         (1, [1, 2].as_slice()),
         (2, [1, 2, 3, 4].as_slice()),
         (3, [1, 2, 3, 4, 5].as_slice()),
     ] {
-        fails_at_a_read(&rt, rt.alloc(), before, front)?;
+        fails_at_a_read(&rt, rt.alloc(), before, prefix)?;
     }
     Ok(())
 }
 
-/// The read after so many fails; the bytes before it are this front.
+/// The read after so many fails; the bytes before it are this prefix.
 fn fails_at_a_read(
     rt: &impl Abort,
     alloc: Global,
     before: usize,
-    front: &[u8],
+    prefix: &[u8],
 ) -> Result<(), Fail> {
     let bytes = [1, 2, 3, 4, 5];
     let mut reader = Device::new(Drips::new(&bytes, 2, FailsOnce::after(before)));
     let mut text = Vec::new(alloc);
     let first = read_all(&mut reader, &mut text);
     same(rt, &first, &Err(ReadFault::Device), &before);
-    holds_bytes(rt, text.as_slice(), front);
+    holds_bytes(rt, text.as_slice(), prefix);
     read_all(&mut reader, &mut text)?;
     holds_bytes(rt, text.as_slice(), &bytes);
     Ok(())
@@ -118,34 +118,34 @@ fn fails_at_a_read(
 /// A write that fails takes no byte, and the next goes on.
 #[test]
 fn goes_on_after_a_failed_write(rt: HostRuntime) -> Result<(), Fail> {
-    for (before, front, rest) in [
+    for (before, prefix, rest) in [
         (0, [].as_slice(), [1, 2, 3, 4, 5].as_slice()),
         (1, [1, 2].as_slice(), [3, 4, 5].as_slice()),
         (2, [1, 2, 3, 4].as_slice(), [5].as_slice()),
     ] {
-        fails_at_a_write(&rt, rt.alloc(), before, front, rest)?;
+        fails_at_a_write(&rt, rt.alloc(), before, prefix, rest)?;
     }
     Ok(())
 }
 
-/// The write after so many fails; the bytes before it are this front, and the others this rest.
+/// The write after so many fails; the bytes before it are this prefix, and the others this rest.
 fn fails_at_a_write(
     rt: &impl Abort,
     alloc: Global,
     before: usize,
-    front: &[u8],
+    prefix: &[u8],
     rest: &[u8],
 ) -> Result<(), Fail> {
     let mut sips = Sips::new(alloc, 2, FailsOnce::after(before), FailsOnce::never());
     let first = write_through(&mut Device::new(&mut sips), &[1, 2, 3, 4, 5]);
     same(rt, &first, &Err(DeviceFailed), &before);
-    holds_bytes(rt, sips.held(), front);
+    holds_bytes(rt, sips.held(), prefix);
     write_through(&mut Device::new(&mut sips), rest)?;
     holds_bytes(rt, sips.held(), &[1, 2, 3, 4, 5]);
     Ok(())
 }
 
-/// The same of a flush.
+/// A device goes on after a failed flush.
 #[test]
 fn goes_on_after_a_failed_flush(rt: HostRuntime) -> Result<(), Fail> {
     let sips = Sips::new(rt.alloc(), 2, FailsOnce::never(), FailsOnce::after(0));
@@ -170,12 +170,12 @@ fn lends_flushes(rt: HostRuntime) -> Result<(), Fail> {
 /// A writer that takes none of its bytes has failed.
 #[test]
 fn fails_where_no_byte_is_taken(rt: HostRuntime) {
-    let mut room = [0; 3];
-    let mut writer = Device::new(room.as_mut_slice());
+    let mut buffer = [0; 3];
+    let mut writer = Device::new(buffer.as_mut_slice());
     let answer = write_all(&mut writer, &[1, 2, 3, 4]);
     same(&rt, &answer, &Err(DeviceFailed), &"four bytes");
     same(&rt, &writer.write(&[]), &Ok(0), &"no byte");
     same(&rt, &writer.write(&[5]), &Err(DeviceFailed), &"a byte");
     same(&rt, &flush(&mut writer), &Ok(()), &"a flush");
-    same(&rt, &room, &[1, 2, 3], &"what is held");
+    same(&rt, &buffer, &[1, 2, 3], &"what is held");
 }

@@ -200,7 +200,7 @@ fn answers_image(rt: &impl Abort, alloc: Global, tool: &Tool, wants: &[Part<'_>]
     }
 }
 
-/// The same of a tool at work.
+/// The tool at work answers with these parts, or `Memory` from some message on.
 fn answers_parts(
     rt: &impl Abort,
     alloc: Global,
@@ -329,7 +329,7 @@ fn tiles_or_runs_out(rt: HostRuntime) {
     let _ = tiles(&rt, rt.alloc());
 }
 
-/// The same, where nothing is refused.
+/// Where nothing is refused the tiles are given.
 #[test]
 fn tiles_with_memory(rt: HostRuntime) {
     assert!(rt; tiles(&rt, rt.alloc()));
@@ -375,7 +375,7 @@ fn gives_heads_or_runs_out(rt: HostRuntime) {
     let _ = gives_heads(&rt, rt.alloc());
 }
 
-/// The same, where nothing is refused.
+/// Where nothing is refused the heads are given.
 #[test]
 fn gives_heads_with_memory(rt: HostRuntime) {
     assert!(rt; gives_heads(&rt, rt.alloc()));

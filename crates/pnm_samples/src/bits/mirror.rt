@@ -29,7 +29,8 @@ fn turn_round(bytes: &mut [u8])
 /// Moves so many white pixels from the start to the end.
 fn move_to_end(bytes: &mut [u8], skipped: u32)
     requires { skipped < 8 }
-    ensures { (rest : List ℕ) → all_pixels bytes.old ≡ replicate skipped 1 ++ rest → all_pixels bytes.new ≡ rest ++ replicate skipped 1 }
+    ensures { (rest : List ℕ) → all_pixels bytes.old ≡ replicate skipped 1 ++ rest
+        → all_pixels bytes.new ≡ rest ++ replicate skipped 1 }
 {
     if skipped == 0 {
         return;

@@ -50,15 +50,15 @@ fn doubled(byte: u8) -> u16
     bits | bits << 1
 }
 
-/// Fills the room with the pixels of the bytes, each twice.
-fn fill_doubled(room: &mut [u8], bytes: &[u8])
-    requires room { length room.old ≡ 2 * length bytes.now }
+/// Fills the buffer with the pixels of the bytes, each twice.
+fn fill_doubled(buffer: &mut [u8], bytes: &[u8])
+    requires buffer { length buffer.old ≡ 2 * length bytes.now }
     requires fits { length bytes.now < 2 ^ 62 }
-    ensures { all_pixels room.new ≡ flat_map (λ s. replicate 2 s) (all_pixels bytes.now) }
+    ensures { all_pixels buffer.new ≡ flat_map (λ s. replicate 2 s) (all_pixels bytes.now) }
 {
     for i in 0..bytes.len() {
         let [high, low] = doubled(bytes[i]).to_be_bytes();
-        room[2 * i] = high;
-        room[2 * i + 1] = low;
+        buffer[2 * i] = high;
+        buffer[2 * i + 1] = low;
     }
 }

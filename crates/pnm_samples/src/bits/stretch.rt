@@ -1,6 +1,7 @@
 //! Pixels that stand any number of times.
 
-ghost use Rattle.std.specs.Prelude.{◌≡◌, ℕ, ◌+◌, ◌-◌, ◌*◌, ◌/◌, ◌%◌, ◌^◌, ◌<◌, ◌≤◌, ◌++◌, length, take, drop, replicate, bit_or, IfOk, OnOk};
+ghost use Rattle.std.specs.Prelude.{◌≡◌, ℕ, ◌+◌, ◌-◌, ◌*◌, ◌/◌, ◌%◌, ◌^◌, ◌<◌, ◌≤◌, ◌++◌, length, take, drop};
+ghost use Rattle.std.specs.Prelude.{replicate, bit_or, IfOk, OnOk};
 ghost use Rattle.std.specs.List.{flat_map};
 ghost use lib.Lanes.{zip2};
 ghost use Rattle.pnm_samples.specs.Pixels.{pixels, all_pixels};
@@ -29,47 +30,47 @@ impl Bits {
             return Err(AllocError);
         };
         // What the last byte becomes reaches up to 15 bytes further.
-        let Some(room) = filled.checked_add(15) else {
+        let Some(buffer) = filled.checked_add(15) else {
             return Err(AllocError);
         };
         if times >= MOST_TIMES {
             return Err(AllocError);
         }
-        let mut bytes = Vec::from_elem(alloc, 0, room)?;
+        let mut bytes = Vec::from_elem(alloc, 0, buffer)?;
         fill(alloc, bytes.as_mut_slice(), self.bytes.as_slice(), times)?;
         Ok(Bits::new(bytes, count))
     }
 }
 
-/// Fills the white room with the pixels of the bytes, each so many times. What lies behind is unknown.
-fn fill(alloc: Global, room: &mut [u8], bytes: &[u8], times: usize) -> Result<(), AllocError>
+/// Fills the white buffer with the pixels of the bytes, each so many times. What lies behind is unknown.
+fn fill(alloc: Global, buffer: &mut [u8], bytes: &[u8], times: usize) -> Result<(), AllocError>
     requires times { times < 2 ^ 56 }
-    requires room { length room.old ≡ length bytes.now * times + 15 }
-    requires white { room.old ≡ replicate (length room.old) 0 }
-    ensures { OnOk result (take (8 * (length bytes.now * times)) (all_pixels room.new)
+    requires buffer { length buffer.old ≡ length bytes.now * times + 15 }
+    requires white { buffer.old ≡ replicate (length buffer.old) 0 }
+    ensures { OnOk result (take (8 * (length bytes.now * times)) (all_pixels buffer.new)
         ≡ flat_map (λ s. replicate times s) (all_pixels bytes.now)) }
 {
     if bytes.len() < HALVES {
-        stretch_each(room, bytes, times);
+        stretch_each(buffer, bytes, times);
         return Ok(());
     }
     let left = stretched_halves(alloc, times, 16)?;
     let right = stretched_halves(alloc, times, 1)?;
-    fill_stretched(room, bytes, left.as_slice(), right.as_slice(), times);
+    fill_stretched(buffer, bytes, left.as_slice(), right.as_slice(), times);
     Ok(())
 }
 
-/// The same byte by byte.
-fn stretch_each(room: &mut [u8], bytes: &[u8], times: usize)
+/// Fills the white buffer byte by byte, each pixel so many times.
+fn stretch_each(buffer: &mut [u8], bytes: &[u8], times: usize)
     requires times { times < 2 ^ 56 }
-    requires room { length room.old ≡ length bytes.now * times + 15 }
-    requires white { room.old ≡ replicate (length room.old) 0 }
-    ensures { take (8 * (length bytes.now * times)) (all_pixels room.new)
+    requires buffer { length buffer.old ≡ length bytes.now * times + 15 }
+    requires white { buffer.old ≡ replicate (length buffer.old) 0 }
+    ensures { take (8 * (length bytes.now * times)) (all_pixels buffer.new)
         ≡ flat_map (λ s. replicate times s) (all_pixels bytes.now) }
 {
     for i in 0..bytes.len() {
         let at = i * times;
-        stretch(&mut room[at..at + times], bytes[i], times);
+        stretch(&mut buffer[at..at + times], bytes[i], times);
     }
 }
 
@@ -100,54 +101,54 @@ fn stretched_halves(alloc: Global, times: usize, unit: u8) -> Result<Vec<u8>, Al
     Ok(bytes)
 }
 
-/// Fills the white room with the pixels of a byte, each so many times, and the last one up to the
+/// Fills the white buffer with the pixels of a byte, each so many times, and the last one up to the
 /// end.
-fn stretch(room: &mut [u8], byte: u8, times: usize)
+fn stretch(buffer: &mut [u8], byte: u8, times: usize)
     requires times { times < 2 ^ 56 }
-    requires room { times ≤ length room.old }
-    requires white { room.old ≡ replicate (length room.old) 0 }
-    ensures { take (8 * times) (all_pixels room.new)
+    requires buffer { times ≤ length buffer.old }
+    requires white { buffer.old ≡ replicate (length buffer.old) 0 }
+    ensures { take (8 * times) (all_pixels buffer.new)
         ≡ flat_map (λ s. replicate times s) (pixels byte) }
 {
     let mut held = 1;
     for i in 0..8usize {
         let pixel = pixel_at(7 - i as u32, byte);
-        paint(room, i * times, held, pixel);
+        paint(buffer, i * times, held, pixel);
         held = pixel;
     }
 }
 
 /// Gives all pixels after so many, which are of one colour, that of a pixel.
 #[inline]
-fn paint(room: &mut [u8], kept: usize, held: u8, pixel: u8)
-    requires room { kept ≤ 8 * length room.old }
-    requires held { all_pixels room.old
-        ≡ take kept (all_pixels room.old) ++ replicate (8 * length room.old - kept) held }
+fn paint(buffer: &mut [u8], kept: usize, held: u8, pixel: u8)
+    requires buffer { kept ≤ 8 * length buffer.old }
+    requires held { all_pixels buffer.old
+        ≡ take kept (all_pixels buffer.old) ++ replicate (8 * length buffer.old - kept) held }
     requires pixel { pixel ≤ 1 }
-    ensures { all_pixels room.new
-        ≡ take kept (all_pixels room.old) ++ replicate (8 * length room.old - kept) pixel }
+    ensures { all_pixels buffer.new
+        ≡ take kept (all_pixels buffer.old) ++ replicate (8 * length buffer.old - kept) pixel }
 {
     if pixel != held {
-        paint_from(room, kept, pixel);
+        paint_from(buffer, kept, pixel);
     }
 }
 
 /// Gives all pixels after so many the colour of a pixel.
-fn paint_from(room: &mut [u8], kept: usize, pixel: u8)
-    requires room { kept ≤ 8 * length room.old }
+fn paint_from(buffer: &mut [u8], kept: usize, pixel: u8)
+    requires buffer { kept ≤ 8 * length buffer.old }
     requires pixel { pixel ≤ 1 }
-    ensures { all_pixels room.new
-        ≡ take kept (all_pixels room.old) ++ replicate (8 * length room.old - kept) pixel }
+    ensures { all_pixels buffer.new
+        ≡ take kept (all_pixels buffer.old) ++ replicate (8 * length buffer.old - kept) pixel }
 {
     let byte = plain_byte(pixel);
     let whole = kept / 8;
     let used = kept % 8;
     if used == 0 {
-        room[whole..].fill(byte);
+        buffer[whole..].fill(byte);
     } else {
         let free = 8 - used;
-        room[whole] = window(room[whole] >> free, byte, free as u32);
-        room[whole + 1..].fill(byte);
+        buffer[whole] = window(buffer[whole] >> free, byte, free as u32);
+        buffer[whole + 1..].fill(byte);
     }
 }
 
@@ -159,13 +160,13 @@ fn plain_byte(pixel: u8) -> u8
     if pixel == 0 { 0xff } else { 0 }
 }
 
-/// Fills the room with the pixels of the bytes, each so many times. What lies behind is unknown.
-fn fill_stretched(room: &mut [u8], bytes: &[u8], left: &[u8], right: &[u8], times: usize)
+/// Fills the buffer with the pixels of the bytes, each so many times. What lies behind is unknown.
+fn fill_stretched(buffer: &mut [u8], bytes: &[u8], left: &[u8], right: &[u8], times: usize)
     requires times { times < 2 ^ 56 }
-    requires room { length room.old ≡ length bytes.now * times + 15 }
+    requires buffer { length buffer.old ≡ length bytes.now * times + 15 }
     requires left { AreStretched times 16 16 left.now }
     requires right { AreStretched times 1 16 right.now }
-    ensures { take (8 * (length bytes.now * times)) (all_pixels room.new)
+    ensures { take (8 * (length bytes.now * times)) (all_pixels buffer.new)
         ≡ flat_map (λ s. replicate times s) (all_pixels bytes.now) }
 {
     let stride = stride_of(times);
@@ -174,29 +175,29 @@ fn fill_stretched(room: &mut [u8], bytes: &[u8], left: &[u8], right: &[u8], time
         let low = (bytes[i] % 16) as usize * stride;
         let at = i * times;
         overlay(
-            &mut room[at..at + stride],
+            &mut buffer[at..at + stride],
             &left[high..high + stride],
             &right[low..low + stride],
         );
     }
 }
 
-/// Fills the room with two pictures, one over the other, sixteen bytes at a time.
+/// Fills the buffer with two pictures, one over the other, sixteen bytes at a time.
 #[inline]
-fn overlay(room: &mut [u8], left: &[u8], right: &[u8])
-    requires whole { length room.old % 16 ≡ 0 }
-    requires left { length left.now ≡ length room.old }
-    requires right { length right.now ≡ length room.old }
-    ensures { room.new ≡ zip2 bit_or left.now right.now }
+fn overlay(buffer: &mut [u8], left: &[u8], right: &[u8])
+    requires whole { length buffer.old % 16 ≡ 0 }
+    requires left { length left.now ≡ length buffer.old }
+    requires right { length right.now ≡ length buffer.old }
+    ensures { buffer.new ≡ zip2 bit_or left.now right.now }
 {
-    if room.len() == 16 {
-        overlay_sixteen(room, left, right);
+    if buffer.len() == 16 {
+        overlay_sixteen(buffer, left, right);
         return;
     }
-    for i in 0..room.len() / 16 {
+    for i in 0..buffer.len() / 16 {
         let at = 16 * i;
         overlay_sixteen(
-            &mut room[at..at + 16],
+            &mut buffer[at..at + 16],
             &left[at..at + 16],
             &right[at..at + 16],
         );
@@ -205,12 +206,12 @@ fn overlay(room: &mut [u8], left: &[u8], right: &[u8])
 
 /// Sixteen bytes of both, as one vector.
 #[inline]
-fn overlay_sixteen(room: &mut [u8], left: &[u8], right: &[u8])
-    requires room { length room.old ≡ 16 }
+fn overlay_sixteen(buffer: &mut [u8], left: &[u8], right: &[u8])
+    requires buffer { length buffer.old ≡ 16 }
     requires left { length left.now ≡ 16 }
     requires right { length right.now ≡ 16 }
-    ensures { room.new ≡ zip2 bit_or left.now right.now }
+    ensures { buffer.new ≡ zip2 bit_or left.now right.now }
 {
     let both = u8x16::from_slice(left) | u8x16::from_slice(right);
-    both.copy_to_slice(room);
+    both.copy_to_slice(buffer);
 }

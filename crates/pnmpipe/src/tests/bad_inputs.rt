@@ -75,7 +75,7 @@ fn names_each<H: AllocGlobal + Abort + Threads + Wait + Sync>(
     rt: &H,
     cases: &[BadInput<'_>],
 ) -> Result<(), Fail> {
-    for (input, front, name) in cases {
+    for (input, prefix, name) in cases {
         let printed = format!(in rt.alloc(); "pnmpipe: input: {}\n", name)?;
         let answer = answer_to(rt, ["pnmpipe", "pnminvert"].as_slice(), *input)?;
         assert_eq!(rt; answer.status, 1, "at {:?}", input);
@@ -85,7 +85,7 @@ fn names_each<H: AllocGlobal + Abort + Threads + Wait + Sync>(
             "at {:?}",
             input
         );
-        assert_eq!(rt; answer.output.as_slice(), *front, "at {:?}", input);
+        assert_eq!(rt; answer.output.as_slice(), *prefix, "at {:?}", input);
     }
     Ok(())
 }

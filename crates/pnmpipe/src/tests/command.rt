@@ -270,8 +270,8 @@ fn ends_at_full_output(rt: HostRuntime) -> Result<(), Fail> {
     let texts = ["pnmpipe", "pnminvert"];
     // Room for 5 bytes of the output.
     let words = words_of(rt.alloc(), texts.as_slice())?;
-    let mut room = [0; 5];
-    let mut output = Device::new(room.as_mut_slice());
+    let mut buffer = [0; 5];
+    let mut output = Device::new(buffer.as_mut_slice());
     let mut errors = Vec::new(rt.alloc());
     let status = command(
         &rt,
@@ -285,7 +285,7 @@ fn ends_at_full_output(rt: HostRuntime) -> Result<(), Fail> {
         errors.as_slice(),
         b"pnmpipe: output: WriteFailed\n".as_slice()
     );
-    assert_eq!(rt; room.as_slice(), b"P5\n2 ".as_slice());
+    assert_eq!(rt; buffer.as_slice(), b"P5\n2 ".as_slice());
     Ok(())
 }
 
@@ -311,8 +311,8 @@ fn goes_on_without_a_line(rt: HostRuntime) -> Result<(), Fail> {
     ] {
         let words = words_of(rt.alloc(), texts)?;
         for size in [0, 5] {
-            let mut room = [0; 5];
-            let mut errors = &mut room[..size];
+            let mut buffer = [0; 5];
+            let mut errors = &mut buffer[..size];
             let mut output = Device::new(Vec::new(rt.alloc()));
             let status = command(
                 &rt,

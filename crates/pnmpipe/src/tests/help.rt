@@ -124,15 +124,15 @@ fn names_limits(rt: HostRuntime) -> Result<(), Fail> {
 fn helps_without_room(rt: HostRuntime) -> Result<(), Fail> {
     let words = words_of(rt.alloc(), ["pnmpipe", "--help"].as_slice())?;
     for size in [0, 1, 100] {
-        let mut room = [0; 100];
+        let mut buffer = [0; 100];
         let mut input = Device::new(IMAGE);
-        let mut output = Device::new(&mut room[..size]);
+        let mut output = Device::new(&mut buffer[..size]);
         let mut errors = Vec::new(rt.alloc());
         let status = command(&rt, words.as_slice(), &mut input, &mut output, &mut errors);
         assert_eq!(rt; status, 0);
         assert!(rt; errors.is_empty());
         assert_eq!(rt; input.into_inner(), IMAGE);
-        assert!(rt; HELP.as_bytes().starts_with(&room[..size]));
+        assert!(rt; HELP.as_bytes().starts_with(&buffer[..size]));
     }
     Ok(())
 }

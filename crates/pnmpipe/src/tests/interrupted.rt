@@ -34,9 +34,9 @@ impl<D> Interrupted<D> {
 }
 
 impl<R: Read> Read for Interrupted<R> {
-    fn read(&mut self, room: &mut [u8]) -> io::Result<usize> {
+    fn read(&mut self, buffer: &mut [u8]) -> io::Result<usize> {
         self.call()?;
-        self.inner.read(room)
+        self.inner.read(buffer)
     }
 }
 

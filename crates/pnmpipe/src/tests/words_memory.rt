@@ -11,7 +11,7 @@ use std::sync::Wait;
 use std::thread::Threads;
 
 /// The program's status, or none where there is no memory for the words. Whatever it is, want of
-/// memory alone can be at fault, and is printed; and what was written is a front of the whole output,
+/// memory alone can be at fault, and is printed; and what was written is a prefix of the whole output,
 /// and all of it where the status is 0.
 fn status<H: Abort + AllocGlobal + Threads + Wait + Sync>(
     rt: &H,
@@ -21,15 +21,15 @@ fn status<H: Abort + AllocGlobal + Threads + Wait + Sync>(
     let Ok(words) = words_of(rt.alloc(), texts) else {
         return None;
     };
-    let mut room = [0; 2000];
+    let mut buffer = [0; 2000];
     let mut line = [0; 100];
-    let mut output = Device::new(room.as_mut_slice());
+    let mut output = Device::new(buffer.as_mut_slice());
     let mut errors = line.as_mut_slice();
     let mut input = Device::new(IMAGE);
     let status = command(rt, words.as_slice(), &mut input, &mut output, &mut errors);
     let (left, unused) = (output.into_inner().len(), errors.len());
-    assert!(rt; left <= room.len() && unused <= line.len());
-    let written = &room[..room.len() - left];
+    assert!(rt; left <= buffer.len() && unused <= line.len());
+    let written = &buffer[..buffer.len() - left];
     let printed = &line[..line.len() - unused];
     let memory = [
         b"pnmpipe: command line: Memory\n".as_slice(),
@@ -61,7 +61,7 @@ fn answers_want_of_memory_for_help(rt: HostRuntime) {
     let _ = status(&rt, ["pnmpipe", "--help"].as_slice(), HELP.as_bytes());
 }
 
-/// The same, where none is refused.
+/// Where no growth is refused the help is printed.
 #[test]
 fn helps_with_memory(rt: HostRuntime) {
     let status = status(&rt, ["pnmpipe", "--help"].as_slice(), HELP.as_bytes());
@@ -75,7 +75,7 @@ fn answers_want_of_memory_for_a_run(rt: HostRuntime) {
     let _ = status(&rt, texts.as_slice(), INVERTED);
 }
 
-/// The same, where none is refused.
+/// Where no growth is refused the run ends well.
 #[test]
 fn runs_with_memory(rt: HostRuntime) {
     let texts = ["pnmpipe", "--ring", "7", "pnminvert"];

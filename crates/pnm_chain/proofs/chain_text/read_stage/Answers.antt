@@ -23,7 +23,8 @@ loop-item-smaller c = c.in-Some-split_item.ensures.shorter
 
 pub loop-item-preserved : goal.loop-item-preserved
 loop-item-preserved c =
-    goes_on c.in-Some-named.tool (items_of c.in-Some-named.tool (words c.in-Some.rest.now)) c.loop-item.settings c.take.new.self c.loop-item.rest.now c.in-Some-split_item.after.now
+    goes_on c.in-Some-named.tool (items_of c.in-Some-named.tool (words c.in-Some.rest.now)) c.loop-item.settings c.take.new.self c.loop-item.rest.now
+    c.in-Some-split_item.after.now
     (item_read c.in-Some-split_item.item) c.loop-item.invariant c.in-Some-split_item.ensures.first c.in_ok-take.ensures.set
 
 pub returns-clause-spelled : goal.returns-clause-spelled

@@ -3,7 +3,8 @@ use Rattle.pnm_chain.proofs.NumberLaws.{text_refused, text_taken, no_plus, parse
 use Rattle.pnm_chain.proofs.word.decimal.Goals as goal
 
 pub returns-in_err-ok : goal.returns-in_err-ok
-returns-in_err-ok c = c.from_residual.ensures ∙ sym (text_refused _ _ c.args.word.now c.from_utf8.result c.from_utf8.ensures.cases (sym c.ok.ensures.value ∙ c.in_err-ok.was))
+returns-in_err-ok c = c.from_residual.ensures
+    ∙ sym (text_refused _ _ c.args.word.now c.from_utf8.result c.from_utf8.ensures.cases (sym c.ok.ensures.value ∙ c.in_err-ok.was))
 
 pub returns : goal.returns
 returns c =

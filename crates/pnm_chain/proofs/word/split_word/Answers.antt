@@ -4,7 +4,7 @@ use Rattle.pnm_chain.proofs.WordLaws.{start_more, shorter_more, in_word_more, Is
 use Rattle.pnm_chain.proofs.word.split_word.Goals as goal
 use Rattle.pnm_chain.proofs.word.split_word.Goals.{then-rest-lt1, in-len1-up+else-is_white, then-loop-length-test+else-not-is_white, else-loop-length-test}
 
-words_in : {word rest front back : List ℕ} → front ≡ word → back ≡ rest → word ∷ words rest ≡ front ∷ words back
+words_in : {word rest prefix back : List ℕ} → prefix ≡ word → back ≡ rest → word ∷ words rest ≡ prefix ∷ words back
 words_in e f = cc
 
 pub loop-rest-preserved : goal.loop-rest-preserved
@@ -14,7 +14,8 @@ loop-rest-preserved c = (
 )
 
 pub loop-length-preserved : goal.loop-length-preserved
-loop-length-preserved c = in_word_more c.loop-rest.rest.now c.loop-length.length c.loop-length.invariant c.loop-length-test.true (sym c.is_white-in-loop-length.ensures ∙ c.if-not-is_white.true)
+loop-length-preserved c = in_word_more c.loop-rest.rest.now c.loop-length.length c.loop-length.invariant c.loop-length-test.true
+    (sym c.is_white-in-loop-length.ensures ∙ c.if-not-is_white.true)
 
 pub returns-then-length-eq0-clause-first : goal.returns-then-length-eq0-clause-first
 returns-then-length-eq0-clause-first c =

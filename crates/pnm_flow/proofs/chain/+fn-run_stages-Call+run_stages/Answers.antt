@@ -2,29 +2,41 @@ use Rattle.std.proofs.Common.{List, length, sym, ap, subst, ◌∙◌, arith, ve
 use Rattle.pnm_stages.specs.Rings.{sent, received, known_items, SameProducer, SameConsumer}
 use Rattle.pnm_image.specs.declared.message.Message.{Message}
 use Rattle.pnm_flow.specs.Chains.{HasRunStages}
-use Rattle.pnm_flow.proofs.ChainSteps.{came_back, has_room, stages_joined}
+use Rattle.pnm_flow.proofs.ChainSteps.{came_back, has_reserved, stages_joined}
 use Rattle.pnm_flow.proofs.chain.+fn-run_stages-Call+run_stages.Goals as goal
 
-pub joined-requires-clause-room : goal.joined-requires-clause-room
-joined-requires-clause-room g t c =
-    let chain = (came_back c.args.lanes c.last_and_others.result.1.now (vec_capacity c.args.room.links) (vec_capacity c.args.room.ends) c.args.input c.in-Some-new_ring.producer _
+pub joined-requires-clause-reserved : goal.joined-requires-clause-reserved
+joined-requires-clause-reserved g t c =
+    let chain =
+    (came_back c.args.lanes c.last_and_others.result.1.now (vec_capacity c.args.reserved.links) (vec_capacity c.args.reserved.ends) c.args.input
+    c.in-Some-new_ring.producer _
     c.in-Some-run_tool.rest c.in-Some-rest.chain c.in-Some-rest.beside c.in-Some-run_tool.ensures.beside c.in-Some-rest.is).0 in
-    has_room (length c.args.tools.now) c.args.lanes c.last_and_others.result.1.now (vec_capacity c.args.room.links) (vec_capacity c.args.room.ends) c.args.input
-    c.in-Some-new_ring.producer c.in-Some-rest.chain chain (omega (arith, c.last_and_others.ensures.one_less)) c.requires.room.for_links c.requires.room.for_ends
+    has_reserved (length c.args.tools.now) c.args.lanes c.last_and_others.result.1.now (vec_capacity c.args.reserved.links) (vec_capacity c.args.reserved.ends)
+    c.args.input
+    c.in-Some-new_ring.producer c.in-Some-rest.chain chain (omega (arith, c.last_and_others.ensures.one_less)) c.requires.reserved.for_links
+    c.requires.reserved.for_ends
 
 pub returns-in-Some-rest-clause-ran : goal.returns-in-Some-rest-clause-ran
 returns-in-Some-rest-clause-ran g t c =
-    let chain = (came_back c.args.lanes c.last_and_others.result.1.now (vec_capacity c.args.room.links) (vec_capacity c.args.room.ends) c.args.input c.in-Some-new_ring.producer _
+    let chain =
+    (came_back c.args.lanes c.last_and_others.result.1.now (vec_capacity c.args.reserved.links) (vec_capacity c.args.reserved.ends) c.args.input
+    c.in-Some-new_ring.producer _
     c.in-Some-run_tool.rest c.in-Some-rest.chain c.in-Some-rest.beside c.in-Some-run_tool.ensures.beside c.in-Some-rest.is).0 in
     let last = c.in-Some-run_tool.ensures.ran in
     record {
       same_input = subst (SameConsumer c.args.input) (sym c.joined.ensures.input) chain.same_input;
       same_output = subst (SameProducer c.args.output) (sym c.joined.ensures.output) last.1;
-      ran = subst (λ (x : List Message). HasRunStages c.args.lanes c.args.tools.now c.joined.result.ends.items c.joined.result.links.items (received c.args.input) x (sent c.args.output) (sent c.joined.result.output)) (sym (ap received c.joined.ensures.input))
-          (subst (λ (x : List Message). HasRunStages c.args.lanes c.args.tools.now c.joined.result.ends.items c.joined.result.links.items (received c.args.input) (received c.in-Some-rest.chain.input) (sent c.args.output) x) (sym (ap sent c.joined.ensures.output))
-          (stages_joined c.args.lanes c.last_and_others.result.1.now c.args.tools.now c.in-Some-rest.chain.ends.items c.joined.result.ends.items c.in-Some-rest.chain.links.items c.joined.result.links.items c.last_and_others.result.0.now c.in-Some-run_tool.done.end
-          (received c.args.input) (received c.in-Some-rest.chain.input) (sent c.args.output) (sent c.in-Some-run_tool.done.output) (known_items c.in-Some-run_tool.done.input) (sent c.in-Some-new_ring.producer) (sent c.in-Some-rest.chain.output) (received c.in-Some-new_ring.consumer) (received c.in-Some-run_tool.done.input)
-          c.in-Some-new_ring.ensures.unused.0 c.in-Some-new_ring.ensures.unused.1 chain.ran last.2 c.last_and_others.ensures.parts c.joined.ensures.end c.joined.ensures.link));
-      for_links = c.joined.ensures.room.0 ∙ chain.for_links;
-      for_ends = c.joined.ensures.room.1 ∙ chain.for_ends;
+      ran = subst (λ (x : List Message). HasRunStages c.args.lanes c.args.tools.now c.joined.result.ends.items c.joined.result.links.items
+          (received c.args.input) x (sent c.args.output) (sent c.joined.result.output)) (sym (ap received c.joined.ensures.input))
+          (subst (λ (x : List Message). HasRunStages c.args.lanes c.args.tools.now c.joined.result.ends.items c.joined.result.links.items
+          (received c.args.input) (received c.in-Some-rest.chain.input) (sent c.args.output) x) (sym (ap sent c.joined.ensures.output))
+          (stages_joined c.args.lanes c.last_and_others.result.1.now c.args.tools.now c.in-Some-rest.chain.ends.items c.joined.result.ends.items
+          c.in-Some-rest.chain.links.items c.joined.result.links.items c.last_and_others.result.0.now c.in-Some-run_tool.done.end
+          (received c.args.input) (received c.in-Some-rest.chain.input) (sent c.args.output) (sent c.in-Some-run_tool.done.output)
+          (known_items c.in-Some-run_tool.done.input) (sent c.in-Some-new_ring.producer) (sent c.in-Some-rest.chain.output)
+          (received c.in-Some-new_ring.consumer) (received c.in-Some-run_tool.done.input)
+          c.in-Some-new_ring.ensures.unused.0 c.in-Some-new_ring.ensures.unused.1 chain.ran last.2 c.last_and_others.ensures.parts c.joined.ensures.end
+          c.joined.ensures.link));
+      for_links = c.joined.ensures.reserved.0 ∙ chain.for_links;
+      for_ends = c.joined.ensures.reserved.1 ∙ chain.for_ends;
     }

@@ -7,7 +7,8 @@ returns-clause-link c = (
   record { producer = c.look_beside.new.sender; consumer = c.look_beside.new.self },
   c.push_reserved.ensures.items,
   record {
-    one_ring = still_pair c.args.chain.output c.look_beside.new.sender c.args.done.input c.look_beside.new.self c.requires.ring c.look_beside.ensures.sender.0 c.look_beside.ensures.looked.0;
+    one_ring = still_pair c.args.chain.output c.look_beside.new.sender c.args.done.input c.look_beside.new.self c.requires.ring c.look_beside.ensures.sender.0
+        c.look_beside.ensures.looked.0;
     in_order = sym c.look_beside.ensures.in_order;
   },
   c.look_beside.ensures.sender.1,

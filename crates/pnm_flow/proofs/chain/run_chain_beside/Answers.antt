@@ -3,4 +3,5 @@ use Rattle.pnm_flow.proofs.ChainSteps.{chain_came_back}
 use Rattle.pnm_flow.proofs.chain.run_chain_beside.Goals as goal
 
 pub returns-clause-ran : goal.returns-clause-ran
-returns-clause-ran g c = chain_came_back c.args.lanes c.args.tools.now (vec_capacity c.in-Some.room.links) (vec_capacity c.in-Some.room.ends) c.args.input c.args.output c.run_stages.result c.requires.chain.lawful c.run_stages.ensures.ran
+returns-clause-ran g c = chain_came_back c.args.lanes c.args.tools.now (vec_capacity c.in-Some.reserved.links) (vec_capacity c.in-Some.reserved.ends)
+    c.args.input c.args.output c.run_stages.result c.requires.chain.lawful c.run_stages.ensures.ran

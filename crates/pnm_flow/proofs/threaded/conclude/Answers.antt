@@ -2,16 +2,18 @@ use Rattle.std.proofs.Common.{◌≡◌, List, [], ◌++◌, refl, sym, ap, ◌�
 use Rattle.pnm_stages.specs.Rings.{sent, known_items}
 use Rattle.pnm_image.specs.declared.message.Message.{Message}
 use Rattle.pnm_image.specs.Messages.{without_stop}
-use Rattle.pnm_flow.specs.Feeders.{waiting}
+use Rattle.pnm_flow.specs.Feeders.{waiting_messages}
 use Rattle.pnm_flow.proofs.RunSteps.{failed_so}
-use Rattle.pnm_flow.proofs.ThreadedRunSteps.{Over, over_has_run, was_started}
+use Rattle.pnm_flow.proofs.ThreadedRunSteps.{Over}
+use Rattle.pnm_flow.proofs.ThreadedAnswerSteps.{over_has_run, was_started}
 use Rattle.pnm_flow.proofs.threaded.conclude.Goals as goal
 
 pub finish-writer-requires : goal.finish-writer-requires
 finish-writer-requires g c =
     let collected = c.take_rest.ensures.collecting c.requires.taken.0 c.requires.taken.1 [] c.requires.taken.2 in
     rw c.into_parts-downstream.ensures.0
-    (failed_so g.W.BytesOut.held g.W.BytesOut.failures c.requires.taken.0 c.requires.taken.1 (without_stop collected.took) c.take_rest.new.self.downstream c.take_rest.new.self.downstream.output collected.put.taken)
+    (failed_so g.W.BytesOut.held g.W.BytesOut.failures c.requires.taken.0 c.requires.taken.1 (without_stop collected.took) c.take_rest.new.self.downstream
+    c.take_rest.new.self.downstream.output collected.put.taken)
 
 pub returns-clause-ran : goal.returns-clause-ran
 returns-clause-ran g c = λ first start lanes job lawful feeding collecting ran.
@@ -20,15 +22,17 @@ returns-clause-ran g c = λ first start lanes job lawful feeding collecting ran.
     ap (λ (p : _). sent p) (sym c.into_parts-reader.ensures.1) ∙ sym c.look_beside.ensures.sender.1 ∙ sym c.look_beside.ensures.in_order
     ∙ ap (λ (x : List Message). x ++ known_items c.look_beside.new.self) (c.look_beside.ensures.looked.1 ∙ ran.input) in
     let came : ran.gave ≡ collected.took ++ known_items c.take_rest.new.self.input =
-    sym ran.output ∙ sym c.take_rest.ensures.sender.1 ∙ sym c.take_rest.ensures.in_order ∙ ap (λ (x : List Message). x ++ known_items c.take_rest.new.self.input) collected.came in
-    let over : Over g.R.BytesIn.left g.R.BytesIn.failures g.W.BytesOut.held g.W.BytesOut.failures first c.args.feeder.source start c.finish-writer.result.0 lanes job c.args.chain.ends.items c.args.feeder.input c.take_rest.new.self.has_ended c.finish-writer.result.1 = record {
+    sym ran.output ∙ sym c.take_rest.ensures.sender.1 ∙ sym c.take_rest.ensures.in_order
+    ∙ ap (λ (x : List Message). x ++ known_items c.take_rest.new.self.input) collected.came in
+    let over : Over g.R.BytesIn.left g.R.BytesIn.failures g.W.BytesOut.held g.W.BytesOut.failures first c.args.feeder.source start c.finish-writer.result.0
+    lanes job c.args.chain.ends.items c.args.feeder.input c.take_rest.new.self.has_ended c.finish-writer.result.1 = record {
       lawful = lawful;
       given = feeding.given;
       asked = feeding.asked;
       fed = sent c.args.feeder.output;
-      unfed = waiting c.args.feeder.held;
+      unfed = waiting_messages c.args.feeder.held;
       passed = feeding.passed;
-      none_waits = λ is. ap waiting (feeding.none_waits is);
+      none_waits = λ is. ap waiting_messages (feeding.none_waits is);
       took = ran.took;
       untaken = known_items c.look_beside.new.self;
       received = fed;
@@ -48,7 +52,8 @@ returns-clause-ran g c = λ first start lanes job lawful feeding collecting ran.
       well = rw c.into_parts-downstream.ensures.0 at c.finish-writer.ensures.well;
     } in
     rw (c.answer-answer.ensures, c.into_parts-reader.ensures.0, c.into_parts-reader.ensures.2, c.as_slice.ensures.value, c.into_parts-downstream.ensures.1)
-    (over_has_run g.R.BytesIn.left g.R.BytesIn.failures g.W.BytesOut.held g.W.BytesOut.failures first c.args.feeder.source start c.finish-writer.result.0 lanes job c.args.chain.ends.items c.args.feeder.input _ c.take_rest.new.self.has_ended c.finish-writer.result.1 over ran.count refl)
+    (over_has_run g.R.BytesIn.left g.R.BytesIn.failures g.W.BytesOut.held g.W.BytesOut.failures first c.args.feeder.source start c.finish-writer.result.0 lanes
+    job c.args.chain.ends.items c.args.feeder.input _ c.take_rest.new.self.has_ended c.finish-writer.result.1 over ran.count refl)
 
 pub returns-clause-started : goal.returns-clause-started
 returns-clause-started g c =

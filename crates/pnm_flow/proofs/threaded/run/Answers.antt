@@ -1,7 +1,7 @@
 use Rattle.std.proofs.Common.{rules, [], inr, refl}
 use Rattle.pnm_flow.specs.Jobs.{job_of}
 use Rattle.pnm_flow.specs.Runs.{change}
-use Rattle.pnm_flow.proofs.ThreadedRunSteps.{unread_has_run}
+use Rattle.pnm_flow.proofs.ThreadedAnswerSteps.{unread_has_run}
 use Rattle.pnm_flow.proofs.threaded.run.Goals as goal
 
 -- there is no memory to read
@@ -9,14 +9,18 @@ pub returns-in-Err-clause-ran : goal.returns-in-Err-clause-ran
 returns-in-Err-clause-ran g c =
     let reader = c.args.reader.now in
     let writer = c.args.writer.now in
-    rw c.in-Err.ensures.refused (inr (unread_has_run c.args.lanes (job_of c.args.tools.now c.args.form) (change g.R.BytesIn.left g.R.BytesIn.failures reader reader) (change g.W.BytesOut.held g.W.BytesOut.failures writer writer) refl refl refl))
+    rw c.in-Err.ensures.refused
+    (inr (unread_has_run c.args.lanes (job_of c.args.tools.now c.args.form) (change g.R.BytesIn.left g.R.BytesIn.failures reader reader)
+    (change g.W.BytesOut.held g.W.BytesOut.failures writer writer) refl refl refl))
 
 pub conclude-read-requires-clause-taken : goal.conclude-read-requires-clause-taken
-conclude-read-requires-clause-taken g c = (_, _, c.in-Some.ensures.turned.collecting _ _ [] (rw c.in-Some-Some.ensures'.unused.1 at c.new-collector.ensures.collecting))
+conclude-read-requires-clause-taken g c =
+    (_, _, c.in-Some.ensures.turned.collecting _ _ [] (rw c.in-Some-Some.ensures'.unused.1 at c.new-collector.ensures.collecting))
 
 pub returns-clause-same_writer : goal.returns-clause-same_writer
 returns-clause-same_writer g c =
-    let same = g.met.W.BytesOut.same_later _ _ _ (rw c.new-collector.ensures.parts.1 at c.in-Some.ensures.turned.writer).1 c.conclude-read.ensures.same_writer.1 in
+    let same = g.met.W.BytesOut.same_later _ _ _ (rw c.new-collector.ensures.parts.1 at c.in-Some.ensures.turned.writer).1
+    c.conclude-read.ensures.same_writer.1 in
     search rules
 
 pub returns-clause-ran : goal.returns-clause-ran

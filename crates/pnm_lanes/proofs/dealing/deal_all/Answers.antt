@@ -17,21 +17,26 @@ pub loop-init : goal.loop-init
 loop-init g c = (
   itself_input c.args.input.now,
   c.requires,
-  subst (λ (place : Place). IsDealing More place (received c.args.input.now) (received c.args.input.now) c.args.outputs.now c.args.outputs.now) (sym c.new-place.ensures) (deals_nothing (received c.args.input.now) c.args.outputs.now),
+  subst (λ (place : Place). IsDealing More place (received c.args.input.now) (received c.args.input.now) c.args.outputs.now c.args.outputs.now)
+      (sym c.new-place.ensures) (deals_nothing (received c.args.input.now) c.args.outputs.now),
 )
 
 pub returns-in_default-clause-dealt : goal.returns-in_default-clause-dealt
 returns-in_default-clause-dealt g c =
-    input_gone c.loop.place (received c.args.input.now) (received c.loop.input) (received c.receive.new.self) (known_items c.receive.new.self) c.args.outputs.now c.loop.outputs c.send_each.new.outputs c.send_each.result
+    input_gone c.loop.place (received c.args.input.now) (received c.loop.input) (received c.receive.new.self) (known_items c.receive.new.self)
+    c.args.outputs.now c.loop.outputs c.send_each.new.outputs c.send_each.result
     c.loop.invariant.2 c.in_default.ensures.none_seen c.send_each.ensures
 
 pub returns-then-not-accepts-clause-dealt : goal.returns-then-not-accepts-clause-dealt
 returns-then-not-accepts-clause-dealt g c =
     let m = c.in-Some-receive.message in
     let dealing = c.loop.invariant.2 in
-    let refused : Accepts c.loop.place m → ⊥ = λ a. let yes : c.accepts.result ≡ true = c.accepts.ensures.1 a in let no : c.accepts.result ≡ false = c.if-not-accepts.true in absurd cc in
-    breaks_off (Fault OutOfOrder) c.break_off.result c.of-ending.result (ending_of m) (received c.args.input.now) (received c.receive.new.self) (received c.break_off.new.input) (known_items c.break_off.new.input) c.args.outputs.now c.loop.outputs c.break_off.new.outputs
-    (cut_at c.loop.place (received c.args.input.now) (received c.loop.input) (received c.receive.new.self) c.args.outputs.now c.loop.outputs m dealing c.in-Some-receive.ensures.taken c.in-Some-receive.ensures.message refused)
+    let refused : Accepts c.loop.place m → ⊥ = λ a. let yes : c.accepts.result ≡ true = c.accepts.ensures.1 a in let no : c.accepts.result ≡ false =
+    c.if-not-accepts.true in absurd cc in
+    breaks_off (Fault OutOfOrder) c.break_off.result c.of-ending.result (ending_of m) (received c.args.input.now) (received c.receive.new.self)
+    (received c.break_off.new.input) (known_items c.break_off.new.input) c.args.outputs.now c.loop.outputs c.break_off.new.outputs
+    (cut_at c.loop.place (received c.args.input.now) (received c.loop.input) (received c.receive.new.self) c.args.outputs.now c.loop.outputs m dealing
+    c.in-Some-receive.ensures.taken c.in-Some-receive.ensures.message refused)
     c.of-ending.ensures c.break_off.ensures.broken
 
 pub returns-in-More-clause-dealt : goal.returns-in-More-clause-dealt
@@ -41,8 +46,11 @@ returns-in-More-clause-dealt g c =
     let dealing = c.loop.invariant.2 in
     let goes : ending_of m ≡ More = sym c.of-ending.ensures ∙ ap ending_by c.in-More.is in
     let reason = subst (λ (unsent : _). IfSome unsent (λ e. (e ≡ Fault Memory) ⊎ (e ≡ PeerGone))) c.in-Some-send_parts.is c.send_parts.ensures.reason in
-    breaks_off end c.break_off-in-More.result c.of-ending.result (ending_of m) (received c.args.input.now) (received c.receive.new.self) (received c.break_off-in-More.new.input) (known_items c.break_off-in-More.new.input) c.args.outputs.now c.send_parts.new.outputs c.break_off-in-More.new.outputs
-    (cut_after end c.loop.place (received c.args.input.now) (received c.loop.input) (received c.receive.new.self) c.args.outputs.now c.loop.outputs c.send_parts.new.outputs m c.send_parts.result dealing c.in-Some-receive.ensures.taken c.in-Some-receive.ensures.message
+    breaks_off end c.break_off-in-More.result c.of-ending.result (ending_of m) (received c.args.input.now) (received c.receive.new.self)
+    (received c.break_off-in-More.new.input) (known_items c.break_off-in-More.new.input) c.args.outputs.now c.send_parts.new.outputs
+    c.break_off-in-More.new.outputs
+    (cut_after end c.loop.place (received c.args.input.now) (received c.loop.input) (received c.receive.new.self) c.args.outputs.now c.loop.outputs
+    c.send_parts.new.outputs m c.send_parts.result dealing c.in-Some-receive.ensures.taken c.in-Some-receive.ensures.message
     (c.accepts.ensures.0 c.if-not-accepts.false) goes c.send_parts.ensures reason)
     c.of-ending.ensures c.break_off-in-More.ensures.broken
 
@@ -50,8 +58,10 @@ pub returns-in-Whole : goal.returns-in-Whole
 returns-in-Whole g c =
     let m = c.in-Some-receive.message in record {
       input = same_input c.args.input.now c.loop.input c.receive.new.self c.loop.invariant.0 c.receive.ensures.ring;
-      dealt = ends_gone c.loop.place (received c.args.input.now) (received c.loop.input) (received c.receive.new.self) (known_items c.receive.new.self) c.args.outputs.now c.loop.outputs c.send_parts.new.outputs m c.send_parts.result
-          c.loop.invariant.2 c.in-Some-receive.ensures.taken c.in-Some-receive.ensures.message (c.accepts.ensures.0 c.if-not-accepts.false) (says_end c.of-ending.result m c.of-ending.ensures c.in-Whole.is) c.send_parts.ensures;
+      dealt = ends_gone c.loop.place (received c.args.input.now) (received c.loop.input) (received c.receive.new.self) (known_items c.receive.new.self)
+          c.args.outputs.now c.loop.outputs c.send_parts.new.outputs m c.send_parts.result
+          c.loop.invariant.2 c.in-Some-receive.ensures.taken c.in-Some-receive.ensures.message (c.accepts.ensures.0 c.if-not-accepts.false)
+          (says_end c.of-ending.result m c.of-ending.ensures c.in-Whole.is) c.send_parts.ensures;
     }
 
 pub loop-preserved : goal.loop-preserved
@@ -59,21 +69,30 @@ loop-preserved g c =
     let m = c.in-Some-receive.message in (
       same_input c.args.input.now c.loop.input c.receive.new.self c.loop.invariant.0 c.receive.ensures.ring,
       subst IsLaneCount (sym c.send_parts.auto.outputs) c.loop.invariant.1,
-      subst (λ (place : Place). IsDealing More place (received c.args.input.now) (received c.receive.new.self) c.args.outputs.now c.send_parts.new.outputs) (sym c.step.ensures)
-          (deals_on More c.loop.place (received c.args.input.now) (received c.loop.input) (received c.receive.new.self) c.args.outputs.now c.loop.outputs c.send_parts.new.outputs m c.send_parts.result c.loop.invariant.2
-          c.in-Some-receive.ensures.taken c.in-Some-receive.ensures.message (c.accepts.ensures.0 c.if-not-accepts.false) (sym c.of-ending.ensures ∙ ap ending_by c.in-More-ending.is) c.send_parts.ensures c.in_default-send_parts.is),
+      subst (λ (place : Place). IsDealing More place (received c.args.input.now) (received c.receive.new.self) c.args.outputs.now c.send_parts.new.outputs)
+          (sym c.step.ensures)
+          (deals_on More c.loop.place (received c.args.input.now) (received c.loop.input) (received c.receive.new.self) c.args.outputs.now c.loop.outputs
+          c.send_parts.new.outputs m c.send_parts.result c.loop.invariant.2
+          c.in-Some-receive.ensures.taken c.in-Some-receive.ensures.message (c.accepts.ensures.0 c.if-not-accepts.false)
+          (sym c.of-ending.ensures ∙ ap ending_by c.in-More-ending.is) c.send_parts.ensures c.in_default-send_parts.is),
     )
 
 pub returns-in-Whole-ending-clause-dealt : goal.returns-in-Whole-ending-clause-dealt
 returns-in-Whole-ending-clause-dealt g c =
     let m = c.in-Some-receive.message in
-    ends_whole (place_after c.loop.place m) (received c.args.input.now) (received c.receive.new.self) (known_items c.receive.new.self) c.args.outputs.now c.send_parts.new.outputs
-    (deals_on Whole c.loop.place (received c.args.input.now) (received c.loop.input) (received c.receive.new.self) c.args.outputs.now c.loop.outputs c.send_parts.new.outputs m c.send_parts.result c.loop.invariant.2
-    c.in-Some-receive.ensures.taken c.in-Some-receive.ensures.message (c.accepts.ensures.0 c.if-not-accepts.false) (sym c.of-ending.ensures ∙ ap ending_by c.in-Whole-ending.is) c.send_parts.ensures c.in_default-send_parts.is)
+    ends_whole (place_after c.loop.place m) (received c.args.input.now) (received c.receive.new.self) (known_items c.receive.new.self) c.args.outputs.now
+    c.send_parts.new.outputs
+    (deals_on Whole c.loop.place (received c.args.input.now) (received c.loop.input) (received c.receive.new.self) c.args.outputs.now c.loop.outputs
+    c.send_parts.new.outputs m c.send_parts.result c.loop.invariant.2
+    c.in-Some-receive.ensures.taken c.in-Some-receive.ensures.message (c.accepts.ensures.0 c.if-not-accepts.false)
+    (sym c.of-ending.ensures ∙ ap ending_by c.in-Whole-ending.is) c.send_parts.ensures c.in_default-send_parts.is)
 
 pub returns-in-BrokenOff-clause-dealt : goal.returns-in-BrokenOff-clause-dealt
 returns-in-BrokenOff-clause-dealt g c =
     let m = c.in-Some-receive.message in
-    ends_broken (place_after c.loop.place m) (received c.args.input.now) (received c.receive.new.self) (known_items c.receive.new.self) c.args.outputs.now c.send_parts.new.outputs
-    (deals_on BrokenOff c.loop.place (received c.args.input.now) (received c.loop.input) (received c.receive.new.self) c.args.outputs.now c.loop.outputs c.send_parts.new.outputs m c.send_parts.result c.loop.invariant.2
-    c.in-Some-receive.ensures.taken c.in-Some-receive.ensures.message (c.accepts.ensures.0 c.if-not-accepts.false) (sym c.of-ending.ensures ∙ ap ending_by c.in-BrokenOff.is) c.send_parts.ensures c.in_default-send_parts.is)
+    ends_broken (place_after c.loop.place m) (received c.args.input.now) (received c.receive.new.self) (known_items c.receive.new.self) c.args.outputs.now
+    c.send_parts.new.outputs
+    (deals_on BrokenOff c.loop.place (received c.args.input.now) (received c.loop.input) (received c.receive.new.self) c.args.outputs.now c.loop.outputs
+    c.send_parts.new.outputs m c.send_parts.result c.loop.invariant.2
+    c.in-Some-receive.ensures.taken c.in-Some-receive.ensures.message (c.accepts.ensures.0 c.if-not-accepts.false)
+    (sym c.of-ending.ensures ∙ ap ending_by c.in-BrokenOff.is) c.send_parts.ensures c.in_default-send_parts.is)

@@ -12,7 +12,8 @@ pub loop-lane-init : goal.loop-lane-init
 loop-lane-init g c = (refl, sends_nothing (lane_part (length c.args.outputs.now) c.args.message.now) c.args.outputs.now)
 
 pub returns-in_default : goal.returns-in_default
-returns-in_default g c = leaves_off c.loop-lane.lane (lane_part (length c.args.outputs.now) c.args.message.now) c.loop-lane.unsent c.args.outputs.now c.loop-lane.outputs c.loop-lane.invariant.1
+returns-in_default g c = leaves_off c.loop-lane.lane (lane_part (length c.args.outputs.now) c.args.message.now) c.loop-lane.unsent c.args.outputs.now
+    c.loop-lane.outputs c.loop-lane.invariant.1
 
 pub loop-lane-preserved : goal.loop-lane-preserved
 loop-lane-preserved g c =
@@ -26,14 +27,17 @@ loop-lane-preserved g c =
       | then-not-send w ↦ (
         count,
         subst (λ (unsent : Option StageEnd). IsSending (lane + 1) part unsent c.args.outputs.now (slice_set nows lane new)) (sym w.unsent-is)
-            (misses_next lane part c.loop-lane.unsent c.args.outputs.now nows _ new c.index-outputs-lane.result c.loop-lane.invariant.1 fits refl c.send.ensures.ring (c.send.ensures.gone w.if-not-send.true)),
+            (misses_next lane part c.loop-lane.unsent c.args.outputs.now nows _ new c.index-outputs-lane.result c.loop-lane.invariant.1 fits refl
+            c.send.ensures.ring (c.send.ensures.gone w.if-not-send.true)),
       )
       | else-not-send w ↦ (
         count,
         subst (λ (unsent : Option StageEnd). IsSending (lane + 1) part unsent c.args.outputs.now (slice_set nows lane new)) (sym w.unsent-is)
-            (sends_next lane part c.loop-lane.unsent c.args.outputs.now nows _ new c.index-outputs-lane.result c.in-Some.part c.loop-lane.invariant.1 fits refl c.send.ensures.ring (c.send.ensures.given w.if-not-send.false) c.in-Some.ensures),
+            (sends_next lane part c.loop-lane.unsent c.args.outputs.now nows _ new c.index-outputs-lane.result c.in-Some.part c.loop-lane.invariant.1 fits refl
+            c.send.ensures.ring (c.send.ensures.given w.if-not-send.false) c.in-Some.ensures),
       )
     ]
 
 pub returns : goal.returns
-returns g c = sends_all c.loop-lane.lane (lane_part (length c.args.outputs.now) c.args.message.now) c.loop-lane.unsent c.args.outputs.now c.loop-lane.outputs c.loop-lane.invariant.1 (omega (arith, c.loop-lane-test.false))
+returns g c = sends_all c.loop-lane.lane (lane_part (length c.args.outputs.now) c.args.message.now) c.loop-lane.unsent c.args.outputs.now c.loop-lane.outputs
+    c.loop-lane.invariant.1 (omega (arith, c.loop-lane-test.false))

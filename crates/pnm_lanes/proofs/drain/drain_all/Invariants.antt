@@ -8,4 +8,5 @@ use Rattle.pnm_lanes.proofs.drain.drain_all.Given as goal
 abbrev pub invariant-loop : goal.invariant-loop
 invariant-loop g l =
     AreSameInputs l.fn.inputs l.inputs
-    × CarriesOn (length l.fn.inputs) l.fn.states l.states (at_lane received l.fn.inputs) (at_lane received l.inputs) (at_lane known_items l.fn.inputs) (at_lane known_items l.inputs)
+    × CarriesOn (length l.fn.inputs) l.fn.states l.states (at_lane received l.fn.inputs) (at_lane received l.inputs) (at_lane known_items l.fn.inputs)
+    (at_lane known_items l.inputs)

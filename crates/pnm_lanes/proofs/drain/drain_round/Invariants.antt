@@ -8,4 +8,5 @@ use Rattle.pnm_lanes.proofs.drain.drain_round.Given as goal
 abbrev pub invariant-loop-lane : goal.invariant-loop-lane
 invariant-loop-lane l =
     AreSameInputs l.fn.inputs l.inputs
-    × CarriesOn (length l.fn.inputs) l.fn.states l.states (at_lane received l.fn.inputs) (at_lane received l.inputs) (at_lane known_items l.fn.inputs) (at_lane known_items l.inputs)
+    × CarriesOn (length l.fn.inputs) l.fn.states l.states (at_lane received l.fn.inputs) (at_lane received l.inputs) (at_lane known_items l.fn.inputs)
+    (at_lane known_items l.inputs)

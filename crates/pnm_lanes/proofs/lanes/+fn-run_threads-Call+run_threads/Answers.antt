@@ -4,16 +4,19 @@ use Rattle.pnm_lanes.proofs.lanes.+fn-run_threads-Call+run_threads.Goals as goal
 
 pub push_reserved-requires : goal.push_reserved-requires
 push_reserved-requires g t c =
-    let run = came_back c.args.tool.now c.pop.new.self.items c.args.outer (vec_capacity c.args.room) _ c.in_ok-done.rest c.in_ok-all.all c.in_ok-all.beside c.in_ok-done.ensures.1 c.in_ok-all.was in
+    let run = came_back c.args.tool.now c.pop.new.self.items c.args.outer (vec_capacity c.args.reserved) _ c.in_ok-done.rest c.in_ok-all.all c.in_ok-all.beside
+    c.in_ok-done.ensures.1 c.in_ok-all.was in
     let count = as_many_run c.args.tool.now c.pop.new.self.items c.in_ok-all.all.lanes.items run.lanes_run in
     let ok = c.in_ok-all.all.lanes.ok in
     let fewer = c.in-Some.ensures.len in
-    let room = run.for_lanes in
+    let reserved = run.for_lanes in
     let whole = c.pop.new.self.ok in
-    omega (arith, ok, count, fewer, room, whole, c.args.lanes.ok, c.requires.room.1)
+    omega (arith, ok, count, fewer, reserved, whole, c.args.lanes.ok, c.requires.reserved.1)
 
 pub returns-clause-ran : goal.returns-clause-ran
 returns-clause-ran g t c =
-    let run = came_back c.args.tool.now c.pop.new.self.items c.args.outer (vec_capacity c.args.room) _ c.in_ok-done.rest c.in_ok-all.all c.in_ok-all.beside c.in_ok-done.ensures.1 c.in_ok-all.was in
-    has_run_more c.args.tool.now c.args.lanes.items c.pop.new.self.items c.args.outer (vec_capacity c.args.room) c.in_ok-all.all c.push_reserved.new.self c.in-Some.ends c.in_ok-done.done run c.in_ok-done.ensures.0
+    let run = came_back c.args.tool.now c.pop.new.self.items c.args.outer (vec_capacity c.args.reserved) _ c.in_ok-done.rest c.in_ok-all.all c.in_ok-all.beside
+    c.in_ok-done.ensures.1 c.in_ok-all.was in
+    has_run_more c.args.tool.now c.args.lanes.items c.pop.new.self.items c.args.outer (vec_capacity c.args.reserved) c.in_ok-all.all c.push_reserved.new.self
+    c.in-Some.ends c.in_ok-done.done run c.in_ok-done.ensures.0
     c.in-Some.ensures.items c.push_reserved.ensures.items c.push_reserved.ensures.capacity

@@ -14,12 +14,13 @@ joined-requires g c =
     let rings = c.args.rings in
     let run = c.in_ok-done.ensures.ran in
     record {
-      rings = pairs_after c.args.tool.now c.in_ok-done.done.dealt.end (length rings.outputs.items) 0 run.dealt.took rings.outputs.items c.in_ok-done.done.dealt.outputs.items rings.lanes.items c.in_ok-done.done.lanes.items rings.inputs.items c.in_ok-done.done.gathered.inputs.items
+      rings = pairs_after c.args.tool.now c.in_ok-done.done.dealt.end (length rings.outputs.items) 0 run.dealt.took rings.outputs.items
+          c.in_ok-done.done.dealt.outputs.items rings.lanes.items c.in_ok-done.done.lanes.items rings.inputs.items c.in_ok-done.done.gathered.inputs.items
           c.requires.rings.0 run.dealt.lanes run.lanes_run run.inputs;
     }
 
 pub returns-clause-ran : goal.returns-clause-ran
 returns-clause-ran g c =
     let rings = c.args.rings in
-    c.joined.ensures.ran c.args.tool.now rings.lanes.items _ (vec_capacity rings.room) c.requires.lawful c.requires.row_wise
+    c.joined.ensures.ran c.args.tool.now rings.lanes.items _ (vec_capacity rings.reserved) c.requires.lawful c.requires.row_wise
     (omega (arith, c.requires.rings.1.0)) c.requires.rings.0 c.in_ok-done.ensures.ran

@@ -7,5 +7,6 @@ returns-in_default c = λ lines is. inr (lines_missing c.args.fields lines c.sha
 
 pub returns : goal.returns
 returns c = λ lines is.
-    lines_given c.args.fields lines c.shape.result c.in-Some.shape c.deref.result.now c.new.result c.map_err.result c.shape.ensures c.in-Some.is c.deref.ensures.value is
+    lines_given c.args.fields lines c.shape.result c.in-Some.shape c.deref.result.now c.new.result c.map_err.result c.shape.ensures c.in-Some.is
+    c.deref.ensures.value is
     c.new.ensures.made c.new.ensures.sound c.new.ensures.refused c.map_err.ensures.cases

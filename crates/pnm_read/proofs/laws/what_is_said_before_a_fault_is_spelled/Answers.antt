@@ -1,4 +1,4 @@
-use Rattle.pnm_read.proofs.FaultFronts.{said_before_fault_is_spelled}
+use Rattle.pnm_read.proofs.FaultPrefixes.{said_before_fault_is_spelled}
 use Rattle.pnm_read.proofs.laws.what_is_said_before_a_fault_is_spelled.Goals as goal
 
 pub returns : goal.returns

@@ -5,7 +5,8 @@ use Rattle.pnm_read.proofs.leading.take_pixels.Goals as goal
 use Rattle.pnm_read.proofs.leading.take_pixels.Goals.{then-byte-ge48+then-byte-le49+in_ok-push, else-byte-ge48+else-not-is_white}
 
 pub loop-at-init : goal.loop-at-init
-loop-at-init c = record { taken = takes_none plain_pixel c.args.bytes.now c.args.row.now.items; white = white_at_once c.args.bytes.now 0 (omega arith); most = λ h. h }
+loop-at-init c =
+    record { taken = takes_none plain_pixel c.args.bytes.now c.args.row.now.items; white = white_at_once c.args.bytes.now 0 (omega arith); most = λ h. h }
 
 pub loop-at-preserved : goal.loop-at-preserved
 loop-at-preserved c =
@@ -16,7 +17,8 @@ loop-at-preserved c =
           let there : c.loop-at.at < length c.args.bytes.now = omega arith in
           let most : length c.args.row.now.items ≤ c.args.wanted → length w.push.new.self.items ≤ c.args.wanted = λ h. search rules in
           rw (w.row-is, w.taken-is) (record {
-            taken = pixel_taken c.args.bytes.now c.args.row.now.items c.loop-at.row.items w.push.new.self.items c.loop-at.taken c.loop-at.at w.from.result c.requires c.loop-at.invariant.taken c.loop-at.invariant.white
+            taken = pixel_taken c.args.bytes.now c.args.row.now.items c.loop-at.row.items w.push.new.self.items c.loop-at.taken c.loop-at.at w.from.result
+                c.requires c.loop-at.invariant.taken c.loop-at.invariant.white
                 there (search rules) (search rules) is longer;
             white = white_at_once c.args.bytes.now (c.loop-at.at + 1) (omega arith);
             most = most;

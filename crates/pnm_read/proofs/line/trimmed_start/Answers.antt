@@ -9,4 +9,5 @@ pub returns-then-rest-lt1 : goal.returns-then-rest-lt1
 returns-then-rest-lt1 c = sym (start_none c.loop-rest.rest.now (search rules)) ∙ c.loop-rest.invariant
 
 pub returns-else-is_blank : goal.returns-else-is_blank
-returns-else-is_blank c = sym (start_stops c.loop-rest.rest.now c.in-len1-up.len_at_least (sym c.is_blank.ensures ∙ c.if-is_blank.false)) ∙ c.loop-rest.invariant
+returns-else-is_blank c = sym (start_stops c.loop-rest.rest.now c.in-len1-up.len_at_least (sym c.is_blank.ensures ∙ c.if-is_blank.false))
+    ∙ c.loop-rest.invariant

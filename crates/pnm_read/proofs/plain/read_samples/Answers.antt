@@ -9,14 +9,18 @@ returns-in_err-sample g c =
     let p = err_from_is_err_and c.from_residual.result c.from_residual.ensures.1 in
     let most : length c.take_samples.new.row.items ≤ c.row_length-length.result = c.in-Ok-take_samples.ensures.most c.loop-taken.invariant.most in
     rw (p.1, p.2) (samples_fault c.in_err-sample.field-0.0 g.met.R.BytesIn.same_later
-    (samples_taken c.bytes.result.now c.take_samples.new.row.items c.in-Ok-take_samples.taken (c.row_length-length.result - vec_len c.take_samples.new.row) c.loop-taken.invariant.reading c.bytes.ensures c.in-Ok-take_samples.ensures.taken (omega arith) c.advance.ensures.reader c.advance.ensures.ended c.advance.ensures.held)
+    (samples_taken c.bytes.result.now c.take_samples.new.row.items c.in-Ok-take_samples.taken (c.row_length-length.result - vec_len c.take_samples.new.row)
+    c.loop-taken.invariant.reading c.bytes.ensures c.in-Ok-take_samples.ensures.taken (omega arith) c.advance.ensures.reader c.advance.ensures.ended
+    c.advance.ensures.held)
     c.row_length-length.ensures (omega arith) c.in_err-sample.ensures)
 
 pub returns-then-is_err : goal.returns-then-is_err
 returns-then-is_err g c =
     let most : length c.take_samples.new.row.items ≤ c.row_length-length.result = c.in-Ok-take_samples.ensures.most c.loop-taken.invariant.most in
     samples_no_memory c.in_ok-sample.sample g.met.R.BytesIn.same_later
-    (samples_taken c.bytes.result.now c.take_samples.new.row.items c.in-Ok-take_samples.taken (c.row_length-length.result - vec_len c.take_samples.new.row) c.loop-taken.invariant.reading c.bytes.ensures c.in-Ok-take_samples.ensures.taken (omega arith) c.advance.ensures.reader c.advance.ensures.ended c.advance.ensures.held)
+    (samples_taken c.bytes.result.now c.take_samples.new.row.items c.in-Ok-take_samples.taken (c.row_length-length.result - vec_len c.take_samples.new.row)
+    c.loop-taken.invariant.reading c.bytes.ensures c.in-Ok-take_samples.ensures.taken (omega arith) c.advance.ensures.reader c.advance.ensures.ended
+    c.advance.ensures.held)
     c.in_ok-sample.ensures
 
 pub loop-taken-preserved : goal.loop-taken-preserved
@@ -25,7 +29,9 @@ loop-taken-preserved g c =
     let longer : vec_len c.push.new.self ≡ vec_len c.take_samples.new.row + 1 = search rules in
     record {
       reading = samples_more c.in_ok-sample.sample (c.row_length-length.result - vec_len c.push.new.self) c.push.new.self.items g.met.R.BytesIn.same_later
-          (samples_taken c.bytes.result.now c.take_samples.new.row.items c.in-Ok-take_samples.taken (c.row_length-length.result - vec_len c.take_samples.new.row) c.loop-taken.invariant.reading c.bytes.ensures c.in-Ok-take_samples.ensures.taken (omega arith) c.advance.ensures.reader c.advance.ensures.ended c.advance.ensures.held)
+          (samples_taken c.bytes.result.now c.take_samples.new.row.items c.in-Ok-take_samples.taken
+          (c.row_length-length.result - vec_len c.take_samples.new.row) c.loop-taken.invariant.reading c.bytes.ensures c.in-Ok-take_samples.ensures.taken
+          (omega arith) c.advance.ensures.reader c.advance.ensures.ended c.advance.ensures.held)
           (omega arith) (omega arith) (search rules) c.in_ok-sample.ensures;
       most = omega arith;
     }
@@ -37,5 +43,7 @@ pub returns : goal.returns
 returns g c =
     let most : length c.take_samples.new.row.items ≤ c.row_length-length.result = c.in-Ok-take_samples.ensures.most c.loop-taken.invariant.most in
     samples_read c.within.result
-    (samples_taken c.bytes.result.now c.take_samples.new.row.items c.in-Ok-take_samples.taken (c.row_length-length.result - vec_len c.take_samples.new.row) c.loop-taken.invariant.reading c.bytes.ensures c.in-Ok-take_samples.ensures.taken (omega arith) c.advance.ensures.reader c.advance.ensures.ended c.advance.ensures.held)
+    (samples_taken c.bytes.result.now c.take_samples.new.row.items c.in-Ok-take_samples.taken (c.row_length-length.result - vec_len c.take_samples.new.row)
+    c.loop-taken.invariant.reading c.bytes.ensures c.in-Ok-take_samples.ensures.taken (omega arith) c.advance.ensures.reader c.advance.ensures.ended
+    c.advance.ensures.held)
     c.row_length-length.ensures (omega arith) c.within.ensures

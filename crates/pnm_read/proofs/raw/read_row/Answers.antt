@@ -22,14 +22,17 @@ returns-in_err-words-in-Words g c =
 pub returns-in_ok-bytes-in-Bits : goal.returns-in_ok-bytes-in-Bits
 returns-in_ok-bytes-in-Bits g c =
     row_found (λ row. all_pixels row.items) c.args.shape c.in_ok-bytes-in-Bits.bytes c.from_vec.result
-    (c.from_vec.ensures ∙ c.new-bits.ensures ∙ ap (λ (n : ℕ). take n (all_pixels c.in_ok-bytes-in-Bits.bytes.items)) c.row_length-length.ensures) c.in_ok-bytes-in-Bits.ensures.found
+    (c.from_vec.ensures ∙ c.new-bits.ensures ∙ ap (λ (n : ℕ). take n (all_pixels c.in_ok-bytes-in-Bits.bytes.items)) c.row_length-length.ensures)
+    c.in_ok-bytes-in-Bits.ensures.found
 
 pub returns-in_ok-bytes-in-Bytes : goal.returns-in_ok-bytes-in-Bytes
 returns-in_ok-bytes-in-Bytes g c =
     row_found (λ row. row.items) c.args.shape c.in_ok-bytes-in-Bytes.bytes c.within.result
-    (c.within.ensures ∙ c.truncate.ensures.items ∙ ap (λ (n : ℕ). take n c.in_ok-bytes-in-Bytes.bytes.items) c.row_length-length.ensures) c.in_ok-bytes-in-Bytes.ensures.found
+    (c.within.ensures ∙ c.truncate.ensures.items ∙ ap (λ (n : ℕ). take n c.in_ok-bytes-in-Bytes.bytes.items) c.row_length-length.ensures)
+    c.in_ok-bytes-in-Bytes.ensures.found
 
 pub returns-in_ok-words-in-Words : goal.returns-in_ok-words-in-Words
 returns-in_ok-words-in-Words g c =
     row_found (λ row. row.items) c.args.shape c.in_ok-words-in-Words.words c.within-in-Words.result
-    (c.within-in-Words.ensures ∙ c.truncate-in-Words.ensures.items ∙ ap (λ (n : ℕ). take n c.in_ok-words-in-Words.words.items) c.row_length-length.ensures) c.in_ok-words-in-Words.ensures.found
+    (c.within-in-Words.ensures ∙ c.truncate-in-Words.ensures.items ∙ ap (λ (n : ℕ). take n c.in_ok-words-in-Words.words.items) c.row_length-length.ensures)
+    c.in_ok-words-in-Words.ensures.found

@@ -3,11 +3,12 @@ use Rattle.pnm_read.proofs.FeedSteps.{feeding_first, feeding_more, feeding_ends_
 use Rattle.pnm_read.proofs.scan.feed.Goals as goal
 
 pub loop-taken-init : goal.loop-taken-init
-loop-taken-init g c = feeding_first g.S.Scanner.item g.S.Scanner.at_end g.S.Scanner.is_after g.S.Scanner.room c.args.scanner.now c.args.bytes.now
+loop-taken-init g c = feeding_first g.S.Scanner.item g.S.Scanner.at_end g.S.Scanner.is_after g.S.Scanner.remaining c.args.scanner.now c.args.bytes.now
 
 pub returns-in-EndsWith-clause-fed : goal.returns-in-EndsWith-clause-fed
 returns-in-EndsWith-clause-fed g c before a =
-    feeding_ends_with g.S.Scanner.item g.S.Scanner.at_end g.S.Scanner.is_after g.S.Scanner.is_whole g.S.Scanner.room c.args.scanner.now c.loop-taken.scanner c.take.new.self c.args.bytes.now c.loop-taken.taken c.take.result before
+    feeding_ends_with g.S.Scanner.item g.S.Scanner.at_end g.S.Scanner.is_after g.S.Scanner.is_whole g.S.Scanner.remaining c.args.scanner.now
+    c.loop-taken.scanner c.take.new.self c.args.bytes.now c.loop-taken.taken c.take.result before
     c.loop-taken.invariant (omega arith) c.in-EndsWith.is c.take.ensures.judged a
 
 pub returns-in-EndsWith-clause-same_items : goal.returns-in-EndsWith-clause-same_items
@@ -18,7 +19,8 @@ returns-in-EndsWith-clause-same_end g c = c.take.ensures.same_end ∙ c.loop-tak
 
 pub returns-in-EndsBefore-clause-fed : goal.returns-in-EndsBefore-clause-fed
 returns-in-EndsBefore-clause-fed g c before a =
-    feeding_ends_before g.S.Scanner.item g.S.Scanner.at_end g.S.Scanner.is_after g.S.Scanner.is_whole g.S.Scanner.room c.args.scanner.now c.loop-taken.scanner c.take.new.self c.args.bytes.now c.loop-taken.taken c.take.result before
+    feeding_ends_before g.S.Scanner.item g.S.Scanner.at_end g.S.Scanner.is_after g.S.Scanner.is_whole g.S.Scanner.remaining c.args.scanner.now
+    c.loop-taken.scanner c.take.new.self c.args.bytes.now c.loop-taken.taken c.take.result before
     c.loop-taken.invariant (omega arith) c.in-EndsBefore.is c.take.ensures.judged a
 
 pub returns-in-EndsBefore-clause-same_items : goal.returns-in-EndsBefore-clause-same_items
@@ -29,7 +31,8 @@ returns-in-EndsBefore-clause-same_end g c = c.take.ensures.same_end ∙ c.loop-t
 
 pub returns-in-Fails-clause-fed : goal.returns-in-Fails-clause-fed
 returns-in-Fails-clause-fed g c before a =
-    feeding_fails g.S.Scanner.item g.S.Scanner.at_end g.S.Scanner.is_after g.S.Scanner.is_whole g.S.Scanner.room c.args.scanner.now c.loop-taken.scanner c.take.new.self c.args.bytes.now c.loop-taken.taken c.take.result _ before
+    feeding_fails g.S.Scanner.item g.S.Scanner.at_end g.S.Scanner.is_after g.S.Scanner.is_whole g.S.Scanner.remaining c.args.scanner.now c.loop-taken.scanner
+    c.take.new.self c.args.bytes.now c.loop-taken.taken c.take.result _ before
     c.loop-taken.invariant (omega arith) c.in-Fails.is c.take.ensures.judged a
 
 pub returns-in-Fails-clause-same_items : goal.returns-in-Fails-clause-same_items
@@ -40,12 +43,15 @@ returns-in-Fails-clause-same_end g c = c.take.ensures.same_end ∙ c.loop-taken.
 
 pub loop-taken-preserved : goal.loop-taken-preserved
 loop-taken-preserved g c =
-    feeding_more g.S.Scanner.item g.S.Scanner.at_end g.S.Scanner.is_after g.S.Scanner.is_whole g.S.Scanner.room c.args.scanner.now c.loop-taken.scanner c.take.new.self c.args.bytes.now c.loop-taken.taken c.take.result
-    c.loop-taken.invariant (omega arith) c.in-GoesOn.is c.take.ensures.judged c.take.ensures.same_items c.take.ensures.same_end (c.take.ensures.room c.in-GoesOn.is)
+    feeding_more g.S.Scanner.item g.S.Scanner.at_end g.S.Scanner.is_after g.S.Scanner.is_whole g.S.Scanner.remaining c.args.scanner.now c.loop-taken.scanner
+    c.take.new.self c.args.bytes.now c.loop-taken.taken c.take.result
+    c.loop-taken.invariant (omega arith) c.in-GoesOn.is c.take.ensures.judged c.take.ensures.same_items c.take.ensures.same_end
+    (c.take.ensures.remaining c.in-GoesOn.is)
 
 pub returns-clause-fed : goal.returns-clause-fed
 returns-clause-fed g c before a =
-    feeding_all g.S.Scanner.item g.S.Scanner.at_end g.S.Scanner.is_after g.S.Scanner.is_whole g.S.Scanner.room c.args.scanner.now c.loop-taken.scanner c.args.bytes.now c.loop-taken.taken before
+    feeding_all g.S.Scanner.item g.S.Scanner.at_end g.S.Scanner.is_after g.S.Scanner.is_whole g.S.Scanner.remaining c.args.scanner.now c.loop-taken.scanner
+    c.args.bytes.now c.loop-taken.taken before
     c.loop-taken.invariant (search rules) a
 
 pub returns-clause-same_items : goal.returns-clause-same_items
@@ -54,5 +60,5 @@ returns-clause-same_items g c = c.loop-taken.invariant.same_items
 pub returns-clause-same_end : goal.returns-clause-same_end
 returns-clause-same_end g c = c.loop-taken.invariant.same_end
 
-pub returns-clause-room : goal.returns-clause-room
-returns-clause-room g c = let less = c.loop-taken.invariant.less_room in omega arith
+pub returns-clause-remaining : goal.returns-clause-remaining
+returns-clause-remaining g c = let less = c.loop-taken.invariant.less_remaining in omega arith

@@ -13,10 +13,12 @@ returns-in_err-format g c =
 pub returns-in_err-head : goal.returns-in_err-head
 returns-in_err-head g c =
     let p = err_from_is_err_and c.from_residual-in_err-head.result c.from_residual-in_err-head.ensures.1 in
-    rw (p.1, p.2) (turn_err_so c.in_err-head.field-0.0 (λ b a o. no_head c.args.is_first c.in_ok-format.format c.in_err-head.field-0.0 b o.0 a o.1 o.2) (turn_then c.in_ok-format.format g.met.R.BytesIn.same_later c.in_ok-format.ensures c.in_err-head.ensures))
+    rw (p.1, p.2) (turn_err_so c.in_err-head.field-0.0 (λ b a o. no_head c.args.is_first c.in_ok-format.format c.in_err-head.field-0.0 b o.0 a o.1 o.2)
+    (turn_then c.in_ok-format.format g.met.R.BytesIn.same_later c.in_ok-format.ensures c.in_err-head.ensures))
 
 pub returns : goal.returns
 returns g c =
     turn_ok_so c.in_ok-head.head (Ok _) (no_fault _ ReadFailed)
-    (λ b a o. begins c.args.is_first c.in_ok-format.format c.in_ok-head.head c.new-raster.result _ b o.0 a o.1 o.2 c.new-raster.ensures.format (c.new-raster.ensures.shape ∙ c.shape.ensures.shape) c.new-raster.ensures.y refl refl)
+    (λ b a o. begins c.args.is_first c.in_ok-format.format c.in_ok-head.head c.new-raster.result _ b o.0 a o.1 o.2 c.new-raster.ensures.format
+    (c.new-raster.ensures.shape ∙ c.shape.ensures.shape) c.new-raster.ensures.y refl refl)
     (turn_then c.in_ok-format.format g.met.R.BytesIn.same_later c.in_ok-format.ensures c.in_ok-head.ensures)

@@ -13,8 +13,11 @@ returns-in_err-is_at_end g c =
 pub returns-then-branch : goal.returns-then-branch
 returns-then-branch g c =
     turn_ok_so c.in_ok-is_at_end.field-0 (Ok c.stream_end.result) (no_fault c.stream_end.result ReadFailed)
-    (λ b a o. at_end_so c.in_ok-is_at_end.field-0 c.stream_end.result b a c.if-branch.true o c.stream_end.ensures.message c.stream_end.ensures.state) c.in_ok-is_at_end.ensures
+    (λ b a o. at_end_so c.in_ok-is_at_end.field-0 c.stream_end.result b a c.if-branch.true o c.stream_end.ensures.message c.stream_end.ensures.state)
+    c.in_ok-is_at_end.ensures
 
 pub returns : goal.returns
 returns g c =
-    next_so c.begin.result (turn_on c.in_ok-is_at_end.field-0 c.begin.result c.if-branch.false (turn_then c.in_ok-is_at_end.field-0 g.met.R.BytesIn.same_later c.in_ok-is_at_end.ensures c.begin.ensures))
+    next_so c.begin.result
+    (turn_on c.in_ok-is_at_end.field-0 c.begin.result c.if-branch.false
+    (turn_then c.in_ok-is_at_end.field-0 g.met.R.BytesIn.same_later c.in_ok-is_at_end.ensures c.begin.ensures))

@@ -15,12 +15,12 @@ loop-byte-preserved c =
     let stored = c.store_pixels.new.samples in
     let eight : length stored ≡ 8 = ap length c.store_pixels.ensures in
     let same : length before ≡ length l.samples.items = ap length c.deref_mut.ensures.value in
-    let room : l.at + 8 ≤ length before = omega (arith, same, l.invariant.0) in
+    let buffer : l.at + 8 ≤ length before = omega (arith, same, l.invariant.0) in
     let part = put_mid l.at (l.at + 8 - l.at) before stored in
-    let kept : length part ≡ length before = same_len_mid l.at (l.at + 8 - l.at) before stored (omega (arith, eight, mid_len l.at (l.at + 8) before room)) in
+    let kept : length part ≡ length before = same_len_mid l.at (l.at + 8 - l.at) before stored (omega (arith, eight, mid_len l.at (l.at + 8) before buffer)) in
     let whole = take_at part _ l.samples.len (kept ∙ c.deref_mut.ensures.len) in (
       omega (arith, ap length whole, kept, same, l.invariant.0),
-      ap (take (l.at + 8)) whole ∙ take-put_mid l.at (l.at + 8 - l.at) before stored (l.at + 8) (omega (arith, eight)) (omega (arith, room))
+      ap (take (l.at + 8)) whole ∙ take-put_mid l.at (l.at + 8 - l.at) before stored (l.at + 8) (omega (arith, eight)) (omega (arith, buffer))
           ∙ ap (λ (x : List ℕ). take l.at x ++ stored) c.deref_mut.ensures.value ∙ ap (λ (x : List ℕ). x ++ stored) l.invariant.1
           ∙ ap (λ (x : List ℕ). all_pixels (take l.byte-index bytes) ++ x) c.store_pixels.ensures
           ∙ sym (all_pixels-push (take l.byte-index bytes) (get_or bytes l.byte-index 0))

@@ -15,4 +15,5 @@ loop-byte-preserved c =
 pub returns : goal.returns
 returns c =
     let fit : AreBytes c.args.bytes.now = search rules in
-    ap all_pixels (all_mapped (λ b. 255 - b) c.args.bytes.now c.loop-byte.bytes c.loop-byte.byte-index c.loop-byte-test.false c.loop-byte.invariant) ∙ complement_pixels c.args.bytes.now fit
+    ap all_pixels (all_mapped (λ b. 255 - b) c.args.bytes.now c.loop-byte.bytes c.loop-byte.byte-index c.loop-byte-test.false c.loop-byte.invariant)
+    ∙ complement_pixels c.args.bytes.now fit

@@ -4,4 +4,4 @@ use Rattle.pnm_samples.proofs.packing.pack.Given as goal
 
 -- the bytes of the groups that have passed
 abbrev pub invariant-loop-i : goal.invariant-loop-i
-invariant-loop-i l = take l.i l.room ≡ packed_groups l.i l.samples
+invariant-loop-i l = take l.i l.buffer ≡ packed_groups l.i l.samples

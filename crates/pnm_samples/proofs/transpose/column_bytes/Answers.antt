@@ -16,15 +16,31 @@ loop-beside-preserved c =
     let pairs = c.columns_of_sixteen-pairs.result in
     let read : List ℕ → ℕ = λ row. get_or row n 0 in
     let lanes : List ℕ =
-    read c.bytes_from.result.now ∷ read c.bytes_from-in-loop-group.result.now ∷ read c.bytes_from-in-loop-group-2.result.now ∷ read c.bytes_from-in-loop-group-3.result.now ∷ read c.bytes_from-in-loop-group-4.result.now ∷ read c.bytes_from-in-loop-group-5.result.now ∷ read c.bytes_from-in-loop-group-6.result.now ∷ read c.bytes_from-in-loop-group-7.result.now ∷ read c.bytes_from-in-loop-group-8.result.now ∷ read c.bytes_from-in-loop-group-9.result.now ∷ read c.bytes_from-in-loop-group-10.result.now ∷ read c.bytes_from-in-loop-group-11.result.now ∷ read c.bytes_from-in-loop-group-12.result.now ∷ read c.bytes_from-in-loop-group-13.result.now ∷ read c.bytes_from-in-loop-group-14.result.now ∷ read c.bytes_from-in-loop-group-15.result.now ∷ [] in
+    read c.bytes_from.result.now ∷ read c.bytes_from-in-loop-group.result.now ∷ read c.bytes_from-in-loop-group-2.result.now
+    ∷ read c.bytes_from-in-loop-group-3.result.now ∷ read c.bytes_from-in-loop-group-4.result.now ∷ read c.bytes_from-in-loop-group-5.result.now
+    ∷ read c.bytes_from-in-loop-group-6.result.now ∷ read c.bytes_from-in-loop-group-7.result.now ∷ read c.bytes_from-in-loop-group-8.result.now
+    ∷ read c.bytes_from-in-loop-group-9.result.now ∷ read c.bytes_from-in-loop-group-10.result.now ∷ read c.bytes_from-in-loop-group-11.result.now
+    ∷ read c.bytes_from-in-loop-group-12.result.now ∷ read c.bytes_from-in-loop-group-13.result.now ∷ read c.bytes_from-in-loop-group-14.result.now
+    ∷ read c.bytes_from-in-loop-group-15.result.now ∷ [] in
     let same : 16 * g ≡ 16 * g + 0 = omega arith in
     let low : HoldEight byte rows (16 * g) 0 lanes =
     eight_hold (HoldsRow byte rows) (16 * g) 0 lanes
-    (subst (λ r. HoldsRow byte rows r (read c.bytes_from-in-loop-group-7.result.now)) same (λ lt. c.bytes_from-in-loop-group-7.ensures.held lt n)) (λ lt. c.bytes_from-in-loop-group-6.ensures.held lt n) (λ lt. c.bytes_from-in-loop-group-5.ensures.held lt n) (λ lt. c.bytes_from-in-loop-group-4.ensures.held lt n) (λ lt. c.bytes_from-in-loop-group-3.ensures.held lt n) (λ lt. c.bytes_from-in-loop-group-2.ensures.held lt n) (λ lt. c.bytes_from-in-loop-group.ensures.held lt n) (λ lt. c.bytes_from.ensures.held lt n) in
+    (subst (λ r. HoldsRow byte rows r (read c.bytes_from-in-loop-group-7.result.now)) same (λ lt. c.bytes_from-in-loop-group-7.ensures.held lt n))
+    (λ lt. c.bytes_from-in-loop-group-6.ensures.held lt n) (λ lt. c.bytes_from-in-loop-group-5.ensures.held lt n)
+    (λ lt. c.bytes_from-in-loop-group-4.ensures.held lt n) (λ lt. c.bytes_from-in-loop-group-3.ensures.held lt n)
+    (λ lt. c.bytes_from-in-loop-group-2.ensures.held lt n) (λ lt. c.bytes_from-in-loop-group.ensures.held lt n) (λ lt. c.bytes_from.ensures.held lt n) in
     let high : HoldEight byte rows (16 * g) 8 lanes =
     eight_hold (HoldsRow byte rows) (16 * g) 8 lanes
-    (λ lt. c.bytes_from-in-loop-group-15.ensures.held lt n) (λ lt. c.bytes_from-in-loop-group-14.ensures.held lt n) (λ lt. c.bytes_from-in-loop-group-13.ensures.held lt n) (λ lt. c.bytes_from-in-loop-group-12.ensures.held lt n) (λ lt. c.bytes_from-in-loop-group-11.ensures.held lt n) (λ lt. c.bytes_from-in-loop-group-10.ensures.held lt n) (λ lt. c.bytes_from-in-loop-group-9.ensures.held lt n) (λ lt. c.bytes_from-in-loop-group-8.ensures.held lt n) in
-    let are : (j : ℕ) → j < 8 → get_or pairs j 0 ≡ bits_of (7 - j) lanes = subst (λ (l : List ℕ). (j : ℕ) → j < 8 → get_or pairs j 0 ≡ bits_of (7 - j) l) c.bytes_beside.ensures.bytes c.columns_of_sixteen-pairs.ensures.columns in
-    let put : HavePairs 8 (8 * n) (2 * g) pairs old.items new = subst (λ (l : List (Vec ℕ Global)). HavePairs 8 (8 * n) (2 * g) pairs l new) c.as_mut_slice.ensures.value c.put_pairs.ensures in
-    let more = eight_more c.args.byte c.args.width c.div_ceil-groups.result rows g n pairs lanes old.items new refl are low high put (omega arith) c.requires.width c.loop-beside.invariant in
-    subst (HoldsGroups c.args.byte c.args.width c.div_ceil-groups.result rows g (n + 1)) (sym (written_whole old.len new old.items (old.ok.0 ∙ sym put.many))) more
+    (λ lt. c.bytes_from-in-loop-group-15.ensures.held lt n) (λ lt. c.bytes_from-in-loop-group-14.ensures.held lt n)
+    (λ lt. c.bytes_from-in-loop-group-13.ensures.held lt n) (λ lt. c.bytes_from-in-loop-group-12.ensures.held lt n)
+    (λ lt. c.bytes_from-in-loop-group-11.ensures.held lt n) (λ lt. c.bytes_from-in-loop-group-10.ensures.held lt n)
+    (λ lt. c.bytes_from-in-loop-group-9.ensures.held lt n) (λ lt. c.bytes_from-in-loop-group-8.ensures.held lt n) in
+    let are : (j : ℕ) → j < 8 → get_or pairs j 0 ≡ bits_of (7 - j) lanes =
+    subst (λ (l : List ℕ). (j : ℕ) → j < 8 → get_or pairs j 0 ≡ bits_of (7 - j) l) c.bytes_beside.ensures.bytes
+    c.columns_of_sixteen-pairs.ensures.columns in
+    let put : HavePairs 8 (8 * n) (2 * g) pairs old.items new =
+    subst (λ (l : List (Vec ℕ Global)). HavePairs 8 (8 * n) (2 * g) pairs l new) c.as_mut_slice.ensures.value c.put_pairs.ensures in
+    let more = eight_more c.args.byte c.args.width c.div_ceil-groups.result rows g n pairs lanes old.items new refl are low high put (omega arith)
+    c.requires.width c.loop-beside.invariant in
+    subst (HoldsGroups c.args.byte c.args.width c.div_ceil-groups.result rows g (n + 1)) (sym (written_whole old.len new old.items (old.ok.0 ∙ sym put.many)))
+    more

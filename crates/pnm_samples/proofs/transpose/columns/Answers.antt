@@ -11,6 +11,8 @@ returns c =
     let left = c.truncate.new.self.items in
     let made = pixels_of_column (length c.args.rows.now) in
     let given = YieldsList-from_vec {s = c.into_iter-column-iterator.result} left c.into_iter-column-iterator.ensures.into_iter_gives.0 (search rules) in
-    let end = YieldsList-end given c.loop-column.yielded c.loop-column.column-iterator c.loop-column.yielded_by c.next.result c.next.new.self c.in-None.is c.next.ensures.steps in
+    let end = YieldsList-end given c.loop-column.yielded c.loop-column.column-iterator c.loop-column.yielded_by c.next.result c.next.new.self c.in-None.is
+    c.next.ensures.steps in
     c.loop-column.invariant ∙ ap (map made) (sym (map-id c.loop-column.yielded) ∙ end.0 ∙ c.truncate.ensures.items)
-    ∙ columns_made c.args.byte c.div_ceil.result c.args.count c.args.rows.now columns c.in_ok-columns.ensures (omega (arith, c.div_ceil.ensures)) c.requires.rows
+    ∙ columns_made c.args.byte c.div_ceil.result c.args.count c.args.rows.now columns c.in_ok-columns.ensures (omega (arith, c.div_ceil.ensures))
+    c.requires.rows

@@ -1,7 +1,7 @@
 use Rattle.std.proofs.Common.{◌≡◌, None}
 use Rattle.pnm_stages.specs.Rings.{sent, received, SameProducer, SameConsumer}
 use Rattle.pnm_tools.specs.Answers.{More}
-use Rattle.pnm_stages.specs.SerialStages.{refusal_in}
+use Rattle.pnm_stages.specs.FusedFilters.{refusal_in}
 use Rattle.pnm_stages.proofs.StagedSteps.{IsPassing}
 use Rattle.pnm_stages.proofs.stage.pass_all.Given as goal
 
@@ -9,5 +9,6 @@ use Rattle.pnm_stages.proofs.stage.pass_all.Given as goal
 abbrev pub invariant-loop : goal.invariant-loop
 invariant-loop g l =
     SameConsumer l.fn.input l.input × SameProducer l.fn.output l.output
-    × IsPassing g.F.Filter.at g.F.Filter.all_given g.F.Filter.stopped More l.fn.stage l.stage (received l.fn.input) (received l.input) (sent l.fn.output) (sent l.output)
+    × IsPassing g.F.Filter.at g.F.Filter.all_given g.F.Filter.stopped More l.fn.stage l.stage (received l.fn.input) (received l.input) (sent l.fn.output)
+    (sent l.output)
     × (refusal_in l.stage ≡ None)

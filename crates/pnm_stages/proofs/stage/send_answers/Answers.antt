@@ -10,12 +10,17 @@ loop-answer-init g c = (itself_output c.args.output.now, sends_nothing_yet g.F.F
 pub loop-answer-preserved : goal.loop-answer-preserved
 loop-answer-preserved g c = (
   same_output c.args.output.now c.loop-answer.output c.send.new.self c.loop-answer.invariant.0 c.send.ensures.ring,
-  subst (λ (stage : _). IsSending g.F.Filter.at g.F.Filter.stopped c.args.stage.now stage (sent c.args.output.now) (sent c.send.new.self)) (sym (c.gave_all.ensures.unknown c.if-gave_all.false))
-      (sends_on g.F.Filter.at g.F.Filter.stopped c.args.stage.now c.loop-answer.stage c.next.new.self c.in-Some.answer (sent c.args.output.now) (sent c.loop-answer.output) (sent c.send.new.self) c.loop-answer.invariant.1 c.in-Some.ensures.given (c.send.ensures.given c.if-not-send.false)),
+  subst (λ (stage : _). IsSending g.F.Filter.at g.F.Filter.stopped c.args.stage.now stage (sent c.args.output.now) (sent c.send.new.self))
+      (sym (c.gave_all.ensures.unknown c.if-gave_all.false))
+      (sends_on g.F.Filter.at g.F.Filter.stopped c.args.stage.now c.loop-answer.stage c.next.new.self c.in-Some.answer (sent c.args.output.now)
+      (sent c.loop-answer.output) (sent c.send.new.self) c.loop-answer.invariant.1 c.in-Some.ensures.given (c.send.ensures.given c.if-not-send.false)),
 )
 
 pub returns-then-not-send-clause-sent : goal.returns-then-not-send-clause-sent
-returns-then-not-send-clause-sent g c = loses_answer g.F.Filter.at g.F.Filter.all_given g.F.Filter.stopped g.met.F.Filter.at_answers c.args.stage.now c.loop-answer.stage c.next.new.self (sent c.args.output.now) (sent c.loop-answer.output) (sent c.send.new.self) c.loop-answer.invariant.1 (c.send.ensures.gone c.if-not-send.true)
+returns-then-not-send-clause-sent g c = loses_answer g.F.Filter.at g.F.Filter.all_given g.F.Filter.stopped g.met.F.Filter.at_answers c.args.stage.now
+    c.loop-answer.stage c.next.new.self (sent c.args.output.now) (sent c.loop-answer.output) (sent c.send.new.self) c.loop-answer.invariant.1
+    (c.send.ensures.gone c.if-not-send.true)
 
 pub returns-clause-sent : goal.returns-clause-sent
-returns-clause-sent g c = sends_all g.F.Filter.at g.F.Filter.all_given g.F.Filter.stopped g.met.F.Filter.at_answers c.args.stage.now c.loop-answer.stage c.next.new.self (sent c.args.output.now) (sent c.loop-answer.output) c.loop-answer.invariant.1 c.in_default.ensures.full
+returns-clause-sent g c = sends_all g.F.Filter.at g.F.Filter.all_given g.F.Filter.stopped g.met.F.Filter.at_answers c.args.stage.now c.loop-answer.stage
+    c.next.new.self (sent c.args.output.now) (sent c.loop-answer.output) c.loop-answer.invariant.1 c.in_default.ensures.full

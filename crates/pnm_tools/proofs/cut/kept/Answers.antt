@@ -4,7 +4,8 @@ use Rattle.pnm_tools.proofs.cut.kept.Goals as goal
 
 pub within-requires : goal.within-requires
 within-requires c =
-    let range : All (λ sample. sample ≤ c.args.shape.maxval) c.in-Bits.bits = subst (All (λ sample. sample ≤ c.args.shape.maxval)) (sym c.in-Bits.ensures) c.requires.range in
+    let range : All (λ sample. sample ≤ c.args.shape.maxval) c.in-Bits.bits =
+    subst (All (λ sample. sample ≤ c.args.shape.maxval)) (sym c.in-Bits.ensures) c.requires.range in
     kept_within c.args.shape.maxval _ _ c.in-Bits.bits c.empty-kept.result c.append.new.self c.empty-kept.ensures c.in_ok-append-in-Bits.ensures.appended range
 
 pub returns-then-count-len : goal.returns-then-count-len

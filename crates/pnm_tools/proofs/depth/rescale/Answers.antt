@@ -11,4 +11,5 @@ loop-sample-preserved c =
     let here : i < length s = omega arith in
     let computed : c.nearest_sample.result ≡ nearest_sample c.args.new c.args.old (get_or s i 0) = search rules in
     ap (set s i) computed
-    ∙ map_over_more (nearest_sample c.args.new c.args.old) c.args.samples.now s i (get_or s i 0) c.loop-sample-test.true c.loop-sample.invariant (get_or_default s i 0 (get_or s i 0) here)
+    ∙ map_over_more (nearest_sample c.args.new c.args.old) c.args.samples.now s i (get_or s i 0) c.loop-sample-test.true c.loop-sample.invariant
+    (get_or_default s i 0 (get_or s i 0) here)

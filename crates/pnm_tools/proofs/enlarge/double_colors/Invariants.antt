@@ -4,8 +4,8 @@ use Rattle.pnm_tools.proofs.enlarge.double_colors.Given as goal
 
 -- the pixels that have passed stand twice
 abbrev pub invariant-loop-x : goal.invariant-loop-x
-invariant-loop-x g l = (take (6 * (4 * l.x)) l.room ≡ columns_repeated 2 3 l.row (4 * l.x)) × (length l.room ≡ length l.initial.room)
+invariant-loop-x g l = (take (6 * (4 * l.x)) l.buffer ≡ columns_repeated 2 3 l.row (4 * l.x)) × (length l.buffer ≡ length l.initial.buffer)
 
 -- the last ones too
 abbrev pub invariant-loop-x-2 : goal.invariant-loop-x-2
-invariant-loop-x-2 g l = take (6 * l.x) l.room ≡ columns_repeated 2 3 l.row l.x
+invariant-loop-x-2 g l = take (6 * l.x) l.buffer ≡ columns_repeated 2 3 l.row l.x

@@ -5,9 +5,9 @@ use Rattle.pnm_tools.proofs.enlarge.put_copies.Given as goal
 abbrev pub invariant-loop-place : goal.invariant-loop-place
 invariant-loop-place g l = record {
   begun : l.at ≤ l.place;
-  within : l.place ≤ length l.room;
-  size : length l.room ≡ length l.initial.room;
-  front : take l.place l.room ≡ take l.at l.initial.room ++ replicate (l.place - l.at) l.sample;
+  within : l.place ≤ length l.buffer;
+  size : length l.buffer ≡ length l.initial.buffer;
+  prefix : take l.place l.buffer ≡ take l.at l.initial.buffer ++ replicate (l.place - l.at) l.sample;
 }
 
 abbrev pub decreases-loop-place : goal.decreases-loop-place

@@ -8,8 +8,9 @@ put_colors-requires g c =
     let across = c.args.across in
     let width = c.args.shape.width in
     let size : length c.args.row.now ≡ width * 3 = c.requires.row ∙ ap (λ (n : ℕ). width * n) c.requires.depth in
-    let all : length c.loop-x.room ≡ width * 3 * across = c.loop-x.invariant.size ∙ ap (λ (n : ℕ). n * across) size in
-    let within : (3 * x + 3) * across ≤ width * 3 * across = mul-le-mul {n₁ = 3 * x + 3} {m₁ = across} {n₂ = width * 3} {m₂ = across} (omega arith) (omega arith) in
+    let all : length c.loop-x.buffer ≡ width * 3 * across = c.loop-x.invariant.size ∙ ap (λ (n : ℕ). n * across) size in
+    let within : (3 * x + 3) * across ≤ width * 3 * across = mul-le-mul {n₁ = 3 * x + 3} {m₁ = across} {n₂ = width * 3} {m₂ = across} (omega arith)
+    (omega arith) in
     omega (arith, all, within)
 
 pub loop-x-preserved : goal.loop-x-preserved
@@ -17,6 +18,7 @@ loop-x-preserved g c =
     let width = c.args.shape.width in
     let size : length c.args.row.now ≡ width * 3 = c.requires.row ∙ ap (λ (n : ℕ). width * n) c.requires.depth in
     record {
-      front = color_repeated c.args.across c.loop-x.x c.args.row.now c.loop-x.room c.put_colors.new.room _ _ _ c.loop-x.invariant.front (omega (arith, size)) c.index-row-x.is c.index-row-x-in-loop-x.is c.index-row-x-in-loop-x-2.is c.put_colors.ensures.stored;
+      prefix = color_repeated c.args.across c.loop-x.x c.args.row.now c.loop-x.buffer c.put_colors.new.buffer _ _ _ c.loop-x.invariant.prefix
+          (omega (arith, size)) c.index-row-x.is c.index-row-x-in-loop-x.is c.index-row-x-in-loop-x-2.is c.put_colors.ensures.stored;
       size = c.put_colors.ensures.long ∙ c.loop-x.invariant.size;
     }

@@ -5,6 +5,6 @@ use Rattle.pnm_tools.proofs.enlarge.repeat_colors.Given as goal
 -- the pixels that have passed stand so many times
 abbrev pub invariant-loop-x : goal.invariant-loop-x
 invariant-loop-x g l = record {
-  front : take (3 * l.x * l.fn.across) l.room ≡ columns_repeated l.fn.across 3 l.row l.x;
-  size : length l.room ≡ length l.row * l.fn.across;
+  prefix : take (3 * l.x * l.fn.across) l.buffer ≡ columns_repeated l.fn.across 3 l.row l.x;
+  size : length l.buffer ≡ length l.row * l.fn.across;
 }

@@ -5,6 +5,7 @@ use Rattle.pnm_tools.proofs.enlarge.repeat_samples.Goals as goal
 pub loop-i-preserved : goal.loop-i-preserved
 loop-i-preserved g c =
     record {
-      front = sample_repeated c.args.across c.loop-i.i c.args.row.now c.loop-i.room c.put_copies.new.room c.index-row-i.result c.loop-i.invariant.front c.loop-i-test.true c.index-row-i.is c.put_copies.ensures.stored;
+      prefix = sample_repeated c.args.across c.loop-i.i c.args.row.now c.loop-i.buffer c.put_copies.new.buffer c.index-row-i.result c.loop-i.invariant.prefix
+          c.loop-i-test.true c.index-row-i.is c.put_copies.ensures.stored;
       size = c.put_copies.ensures.long ∙ c.loop-i.invariant.size;
     }

@@ -5,6 +5,6 @@ use Rattle.pnm_tools.proofs.enlarge.repeat_samples.Given as goal
 -- the samples that have passed stand so many times
 abbrev pub invariant-loop-i : goal.invariant-loop-i
 invariant-loop-i g l = record {
-  front : take (l.i * l.fn.across) l.room ≡ columns_repeated l.fn.across 1 l.row l.i;
-  size : length l.room ≡ length l.row * l.fn.across;
+  prefix : take (l.i * l.fn.across) l.buffer ≡ columns_repeated l.fn.across 1 l.row l.i;
+  size : length l.buffer ≡ length l.row * l.fn.across;
 }

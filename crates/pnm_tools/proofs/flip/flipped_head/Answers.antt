@@ -7,7 +7,8 @@ use Rattle.pnm_tools.specs.Tools.{result_head}
 use Rattle.pnm_tools.proofs.HeadLaws.{head_so, fault_so}
 use Rattle.pnm_tools.proofs.SizeLaws.{flip_without_rows, turned_sizes, turned_head_made}
 use Rattle.pnm_tools.proofs.flip.flipped_head.Goals as goal
-use Rattle.pnm_tools.proofs.flip.flipped_head.Goals.{else-moves_rows-via-then-moves_rows+else-shape-eq0, else-moves_rows-via-else-moves_rows, then-turn, else-turn}
+use Rattle.pnm_tools.proofs.flip.flipped_head.Goals.{else-moves_rows-via-then-moves_rows+else-shape-eq0, else-moves_rows-via-else-moves_rows, then-turn}
+use Rattle.pnm_tools.proofs.flip.flipped_head.Goals.{else-turn}
 
 pub returns-then-shape-eq0-clause-refused : goal.returns-then-shape-eq0-clause-refused
 returns-then-shape-eq0-clause-refused c =
@@ -24,17 +25,21 @@ order c = elim c.else-moves_rows.branch [
 -- the sizes are those of the rule
 sizes : (c : goal.After-head_within_limits) → c.if-turn.turned ≡ turned_sizes (turn_of c.args.way).exchanged c.shape-shape.result
 sizes c = elim c.if-turn.branch [
-  | then-turn w ↦ (let exchanged : (turn_of c.args.way).exchanged ≡ true = search rules in w.turned-is ∙ sym (ap (λ b. turned_sizes b c.shape-shape.result) exchanged))
+  | then-turn w ↦
+      (let exchanged : (turn_of c.args.way).exchanged ≡ true = search rules in w.turned-is ∙ sym (ap (λ b. turned_sizes b c.shape-shape.result) exchanged))
   | else-turn w ↦ (let stay : (turn_of c.args.way).exchanged ≡ false = search rules in w.turned-is ∙ sym (ap (λ b. turned_sizes b c.shape-shape.result) stay))
 ]
 
 -- the head that is made is the one of the rule
 made : (c : goal.After-head_within_limits) → result_head (Flip c.args.way) c.args.head.now ≡ within_limits (head_value c.if-turn.turned c.tuple_type.result.now)
 made c =
-    turned_head_made c.args.way c.args.head.now c.shape-shape.result c.if-turn.turned c.tuple_type.result.now c.shape-shape.ensures.shape (order c) (sizes c) c.tuple_type.ensures c.shape-shape.ensures.sound.limits
+    turned_head_made c.args.way c.args.head.now c.shape-shape.result c.if-turn.turned c.tuple_type.result.now c.shape-shape.ensures.shape (order c)
+    (sizes c) c.tuple_type.ensures c.shape-shape.ensures.sound.limits
 
 pub returns-clause-made : goal.returns-clause-made
-returns-clause-made c = head_so (Flip c.args.way) c.args.head.now (head_value c.if-turn.turned c.tuple_type.result.now) c.head_within_limits.result (made c) c.head_within_limits.ensures.made
+returns-clause-made c = head_so (Flip c.args.way) c.args.head.now (head_value c.if-turn.turned c.tuple_type.result.now) c.head_within_limits.result
+    (made c) c.head_within_limits.ensures.made
 
 pub returns-clause-refused : goal.returns-clause-refused
-returns-clause-refused c = fault_so (Flip c.args.way) c.args.head.now (head_value c.if-turn.turned c.tuple_type.result.now) c.head_within_limits.result (made c) c.head_within_limits.ensures.refused
+returns-clause-refused c = fault_so (Flip c.args.way) c.args.head.now (head_value c.if-turn.turned c.tuple_type.result.now) c.head_within_limits.result
+    (made c) c.head_within_limits.ensures.refused

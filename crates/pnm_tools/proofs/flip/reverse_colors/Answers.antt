@@ -4,7 +4,8 @@ use Rattle.pnm_tools.proofs.flip.reverse_colors.Goals as goal
 
 pub loop-x-preserved : goal.loop-x-preserved
 loop-x-preserved g c =
-    pixel_more c.args.shape.width 3 c.args.samples.now c.loop-x.x _ c.loop-x.samples c.reverse_three.new.samples c.loop-x-test.true (c.requires.row ∙ ap (λ (d : ℕ). c.args.shape.width * d) c.requires.depth) (omega arith) c.loop-x.invariant
+    pixel_more c.args.shape.width 3 c.args.samples.now c.loop-x.x _ c.loop-x.samples c.reverse_three.new.samples c.loop-x-test.true
+    (c.requires.row ∙ ap (λ (d : ℕ). c.args.shape.width * d) c.requires.depth) (omega arith) c.loop-x.invariant
     c.reverse_three.ensures (omega arith)
 
 pub returns : goal.returns

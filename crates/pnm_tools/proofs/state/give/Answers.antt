@@ -10,6 +10,7 @@ returns-in-None-2 g c =
     let given = c.in_ok-row-in-RestAndEnd in
     let mid = c.give-in-RestAndEnd.new.self in
     let none = rw c.in-None-2.is at given.ensures.all in
-    let waits = given.ensures.due ∙ ap (λ (row : Option (List ℕ)). row_list row ++ g.T.Maker.due mid) c.in-None-2.is ∙ none in
+    let waits = given.ensures.due ∙ ap (λ (row : Option (List ℕ)). row_list row ++ g.T.ImageTool.due mid) c.in-None-2.is ∙ none in
     let ending = ap (λ (owed : Owed). pending_of owed c.args.waiting.now) c.in-RestAndEnd.is in
-    ended g.T.Maker.tool g.T.Maker.ready g.T.Maker.due g.T.Maker.kept c.args.work.now c.release.new.self (pending_of c.args.owed.now c.args.waiting.now) ending waits (c.release.ensures.same ∙ given.ensures.same) c.release.ensures.kept
+    ended g.T.ImageTool.tool g.T.ImageTool.ready g.T.ImageTool.due g.T.ImageTool.kept c.args.work.now c.release.new.self
+    (pending_of c.args.owed.now c.args.waiting.now) ending waits (c.release.ensures.same ∙ given.ensures.same) c.release.ensures.kept

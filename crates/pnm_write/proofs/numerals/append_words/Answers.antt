@@ -15,8 +15,11 @@ loop-sample-preserved c =
     let below : i < length xs = omega arith in
     let some : 1 < c.put-size.result = omega (arith, size.count, decimal_nonempty c.from.result (omega arith)) in
     record {
-      text = number_more c.args.start c.args.column c.loop-sample.end c.loop-sample.at c.put-size.result i _ c.args.room.now c.loop-sample.room c.put-size.new.room c.break_line-at.new.room xs here.begun (omega arith) (omega arith) below (omega arith) here.text here.column size.count size.text at.room;
-      column = column_more c.args.column Gray xs i _ c.loop-sample.at c.break_line-at.result below (omega arith) here.column (column_is c.loop-sample.at c.put-size.result _ c.break_line-at.result here.begun size.count at.column);
+      text = number_more c.args.start c.args.column c.loop-sample.end c.loop-sample.at c.put-size.result i _ c.args.buffer.now c.loop-sample.buffer
+          c.put-size.new.buffer c.break_line-at.new.buffer xs here.begun (omega arith) (omega arith) below (omega arith) here.text here.column size.count
+          size.text at.buffer;
+      column = column_more c.args.column Gray xs i _ c.loop-sample.at c.break_line-at.result below (omega arith) here.column
+          (column_is c.loop-sample.at c.put-size.result _ c.break_line-at.result here.begun size.count at.column);
       within = omega arith;
       begun = at.begun some;
       line = at.line;

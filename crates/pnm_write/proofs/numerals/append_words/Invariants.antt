@@ -6,7 +6,7 @@ use Rattle.pnm_write.proofs.numerals.append_words.Given as goal
 -- the text of the samples that have passed
 abbrev pub invariant-loop-sample : goal.invariant-loop-sample
 invariant-loop-sample l = record {
-  text : take l.end l.room ≡ take l.start l.initial.room ++ text_of_part l.column (sample_texts Gray (take l.sample-index l.samples));
+  text : take l.end l.buffer ≡ take l.start l.initial.buffer ++ text_of_part l.column (sample_texts Gray (take l.sample-index l.samples));
   column : l.at ≡ column_after_part l.column (sample_texts Gray (take l.sample-index l.samples));
   within : l.end ≤ l.start + 6 * l.sample-index;
   begun : 0 < l.at;

@@ -7,5 +7,7 @@ pub returns-clause-text : goal.returns-clause-text
 returns-clause-text c =
     let entry = c.entry-entry.result.now in
     let is = c.entry-entry.ensures in
-    small_is_put c.args.room.now c.put_four.new.room entry c.args.at c.args.number c.from.result c.requires.range is (omega (arith, is.size, c.from.ensures))
-    (c.put_four.ensures ∙ ap (λ (l : List ℕ). take c.args.at c.args.room.now ++ take 4 l) (take_all _ _ (omega (arith, length-drop 1 entry, is.long)))) (omega arith)
+    small_is_put c.args.buffer.now c.put_four.new.buffer entry c.args.at c.args.number c.from.result c.requires.range is
+    (omega (arith, is.size, c.from.ensures))
+    (c.put_four.ensures ∙ ap (λ (l : List ℕ). take c.args.at c.args.buffer.now ++ take 4 l) (take_all _ _ (omega (arith, length-drop 1 entry, is.long))))
+    (omega arith)

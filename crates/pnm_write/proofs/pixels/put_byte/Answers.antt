@@ -6,5 +6,6 @@ use Rattle.pnm_write.proofs.pixels.put_byte.Goals as goal
 
 pub returns : goal.returns
 returns c =
-    byte_is_put c.args.room.now c.put_nibble.new.room c.put_nibble-2.new.room c.args.at c.from-bits.result (omega arith) c.put_nibble.ensures c.put_nibble-2.ensures
-    ∙ ap (λ (b : ℕ). take c.args.at c.args.room.now ++ cells (pixels b)) c.from-bits.ensures
+    byte_is_put c.args.buffer.now c.put_nibble.new.buffer c.put_nibble-2.new.buffer c.args.at c.from-bits.result (omega arith) c.put_nibble.ensures
+    c.put_nibble-2.ensures
+    ∙ ap (λ (b : ℕ). take c.args.at c.args.buffer.now ++ cells (pixels b)) c.from-bits.ensures

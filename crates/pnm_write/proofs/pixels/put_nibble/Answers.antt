@@ -6,5 +6,5 @@ use Rattle.pnm_write.proofs.pixels.put_nibble.Goals as goal
 pub returns : goal.returns
 returns c =
     let cells = c.nibble-cells.result.now in
-    nibble_is_put c.args.room.now c.put_four.new.room c.put_four-2.new.room cells c.args.at c.args.bits c.nibble-cells.ensures c.put_four.ensures
-    (c.put_four-2.ensures ∙ ap (λ (l : List ℕ). take (c.args.at + 4) c.put_four.new.room ++ take 4 l) (take_all _ _ (omega (arith, length-drop 4 cells))))
+    nibble_is_put c.args.buffer.now c.put_four.new.buffer c.put_four-2.new.buffer cells c.args.at c.args.bits c.nibble-cells.ensures c.put_four.ensures
+    (c.put_four-2.ensures ∙ ap (λ (l : List ℕ). take (c.args.at + 4) c.put_four.new.buffer ++ take 4 l) (take_all _ _ (omega (arith, length-drop 4 cells))))

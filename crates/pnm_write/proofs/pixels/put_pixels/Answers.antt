@@ -5,7 +5,7 @@ use Rattle.pnm_write.proofs.pixels.put_pixels.Goals as goal
 
 pub loop-done-init : goal.loop-done-init
 loop-done-init c = record {
-  text = cells_of_count c.put_cells.new.room c.args.bytes.now c.args.count c.requires.enough c.put_cells.ensures;
+  text = cells_of_count c.put_cells.new.buffer c.args.bytes.now c.args.count c.requires.enough c.put_cells.ensures;
   within = omega arith;
   whole = λ more. refl;
 }
@@ -14,11 +14,14 @@ pub loop-done-preserved : goal.loop-done-preserved
 loop-done-preserved c =
     let here = c.loop-done.invariant in
     record {
-      text = line_more c.loop-done.room (take c.args.count (all_pixels c.args.bytes.now)) c.args.count c.loop-done.done c.min-next.result (count_of c.args.bytes.now c.args.count c.requires.enough) (omega arith) c.loop-done-test.true c.min-next.ensures (here.whole c.loop-done-test.true) here.text;
+      text = line_more c.loop-done.buffer (take c.args.count (all_pixels c.args.bytes.now)) c.args.count c.loop-done.done c.min-next.result
+          (count_of c.args.bytes.now c.args.count c.requires.enough) (omega arith) c.loop-done-test.true c.min-next.ensures (here.whole c.loop-done-test.true)
+          here.text;
       within = omega arith;
       whole = λ more. omega (arith, here.whole c.loop-done-test.true);
     }
 
 pub returns : goal.returns
 returns c =
-    all_ended c.loop-done.room (take c.args.count (all_pixels c.args.bytes.now)) c.args.count c.loop-done.done (count_of c.args.bytes.now c.args.count c.requires.enough) (omega arith) c.loop-done.invariant.text
+    all_ended c.loop-done.buffer (take c.args.count (all_pixels c.args.bytes.now)) c.args.count c.loop-done.done
+    (count_of c.args.bytes.now c.args.count c.requires.enough) (omega arith) c.loop-done.invariant.text

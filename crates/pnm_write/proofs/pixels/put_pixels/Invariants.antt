@@ -8,7 +8,8 @@ use Rattle.pnm_write.proofs.pixels.put_pixels.Given as goal
 -- lines that are ended, and the characters of the other pixels
 abbrev pub invariant-loop-done : goal.invariant-loop-done
 invariant-loop-done l = record {
-  text : take (2 * l.count) l.room ≡ plain_row_text Bit (take l.done (take l.count (all_pixels l.bytes))) ++ cells (drop l.done (take l.count (all_pixels l.bytes)));
+  text : take (2 * l.count) l.buffer ≡ plain_row_text Bit (take l.done (take l.count (all_pixels l.bytes)))
+      ++ cells (drop l.done (take l.count (all_pixels l.bytes)));
   within : l.done ≤ l.count;
   whole : l.done < l.count → l.done % 35 ≡ 0;
 }

@@ -7,8 +7,10 @@ loop-sample-preserved c =
     let xs = c.args.samples.now in
     let i = c.loop-sample.sample-index in
     record {
-      text = text_more c.args.column c.args.kind xs i (get_or xs i 0) c.loop-sample.at c.loop-sample.room c.push_sample-at.new.room (omega arith) refl c.loop-sample.invariant.text c.loop-sample.invariant.column c.push_sample-at.ensures.text;
+      text = text_more c.args.column c.args.kind xs i (get_or xs i 0) c.loop-sample.at c.loop-sample.buffer c.push_sample-at.new.buffer (omega arith) refl
+          c.loop-sample.invariant.text c.loop-sample.invariant.column c.push_sample-at.ensures.text;
       count = omega arith;
-      column = column_more c.args.column c.args.kind xs i (get_or xs i 0) c.loop-sample.at c.push_sample-at.result (omega arith) refl c.loop-sample.invariant.column c.push_sample-at.ensures.column;
+      column = column_more c.args.column c.args.kind xs i (get_or xs i 0) c.loop-sample.at c.push_sample-at.result (omega arith) refl
+          c.loop-sample.invariant.column c.push_sample-at.ensures.column;
       line = c.push_sample-at.ensures.line;
     }

@@ -8,7 +8,8 @@ use Rattle.pnm_write.proofs.plain.write_bytes.Given as goal
 -- what is left is what isn't written
 abbrev pub invariant-loop-rest : goal.invariant-loop-rest
 invariant-loop-rest g l = record {
-  sending : Sending g.W.BytesOut.held g.W.BytesOut.failures g.W.BytesOut.same l.initial.writer l.writer (plain_row_text Gray l.samples) (text_left l.column Gray l.rest);
+  sending : Sending g.W.BytesOut.held g.W.BytesOut.failures g.W.BytesOut.same l.initial.writer l.writer (plain_row_text Gray l.samples)
+      (text_left l.column Gray l.rest);
   line : l.column ≤ 70;
 }
 

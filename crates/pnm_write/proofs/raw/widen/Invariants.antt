@@ -4,4 +4,4 @@ use Rattle.pnm_write.proofs.raw.widen.Given as goal
 
 -- the bytes of the samples that have passed
 abbrev pub invariant-loop-i : goal.invariant-loop-i
-invariant-loop-i l = take (2 * l.i) l.room ≡ wide_bytes (take l.i l.samples)
+invariant-loop-i l = take (2 * l.i) l.buffer ≡ wide_bytes (take l.i l.samples)

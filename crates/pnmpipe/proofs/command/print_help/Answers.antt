@@ -1,7 +1,7 @@
 use Rattle.std.proofs.Common.{inl, subst}
 use Rattle.std.specs.Io.KnownBytes.{Appends}
-use Rattle.pnm_image.specs.Devices.{AppendsFront}
-use Rattle.pnmpipe.proofs.HelpSteps.{flushed_front, flushed_whole}
+use Rattle.pnm_image.specs.Devices.{AppendsPrefix}
+use Rattle.pnmpipe.proofs.HelpSteps.{flushed_prefix, flushed_whole}
 use Rattle.pnmpipe.proofs.command.print_help.Goals as goal
 
 pub returns-in-Ok : goal.returns-in-Ok
@@ -12,6 +12,6 @@ returns-in-Ok g c =
     let new = held c.flush.new.self in
     let text = c.as_bytes.result.now in
     record {
-      front = subst (AppendsFront old new) c.as_bytes.ensures.value (flushed_front old written new text c.in-Ok.ensures.written c.flush.ensures.bytes);
+      prefix = subst (AppendsPrefix old new) c.as_bytes.ensures.value (flushed_prefix old written new text c.in-Ok.ensures.written c.flush.ensures.bytes);
       whole = inl (subst (Appends old new) c.as_bytes.ensures.value (flushed_whole old written new text c.in-Ok.ensures.written c.flush.ensures.bytes));
     }

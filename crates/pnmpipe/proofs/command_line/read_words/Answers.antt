@@ -11,7 +11,8 @@ use Rattle.pnmpipe.proofs.command_line.read_words.Goals as goal
 pub returns-in-Err-clause-refused : goal.returns-in-Err-clause-refused
 returns-in-Err-clause-refused c =
     fault_fits (map string_bytes c.args.words.now) c.in-Err.error c.fault_of.result
-    (parse_fails {T = ArgMatches} (app_of c.in_ok-program.field-0) (map string_bytes c.args.words.now) (Err c.in-Err.error) c.in_ok-program.ensures c.in-Err.ensures.kinds)
+    (parse_fails {T = ArgMatches} (app_of c.in_ok-program.field-0) (map string_bytes c.args.words.now) (Err c.in-Err.error) c.in_ok-program.ensures
+    c.in-Err.ensures.kinds)
     c.fault_of.ensures
 
 pub unwrap-requires : goal.unwrap-requires

@@ -13,7 +13,8 @@ returns-in-More-clause-put g c = λ form start l was.
     record {
       ended = ends_more c.args.self.now.has_ended l c.args.message c.requires.going was.ended same;
       taken = subst (λ (x : List Message). HasTaken g.W.BytesOut.held g.W.BytesOut.failures form start x c.put.new.self)
-          (keeps_last More c.args.self.now.has_ended l c.args.message tt c.requires.going was.ended same) (c.put.ensures.taken form start (without_stop l) was.taken);
+          (keeps_last More c.args.self.now.has_ended l c.args.message tt c.requires.going was.ended same)
+          (c.put.ensures.taken form start (without_stop l) was.taken);
     }
 
 pub returns-in-Whole-clause-put : goal.returns-in-Whole-clause-put
@@ -22,7 +23,8 @@ returns-in-Whole-clause-put g c = λ form start l was.
     record {
       ended = ends_whole c.args.self.now.has_ended l c.args.message c.requires.going was.ended same;
       taken = subst (λ (x : List Message). HasTaken g.W.BytesOut.held g.W.BytesOut.failures form start x c.put-in-Whole.new.self)
-          (keeps_last Whole c.args.self.now.has_ended l c.args.message tt c.requires.going was.ended same) (c.put-in-Whole.ensures.taken form start (without_stop l) was.taken);
+          (keeps_last Whole c.args.self.now.has_ended l c.args.message tt c.requires.going was.ended same)
+          (c.put-in-Whole.ensures.taken form start (without_stop l) was.taken);
     }
 
 pub returns-in-BrokenOff-clause-put : goal.returns-in-BrokenOff-clause-put

@@ -9,7 +9,8 @@ use Rattle.pnm_flow.proofs.collector.Collector.take_rest.Given as goal
 -- what was sent was received, or is known
 abbrev pub invariant-loop-self : goal.invariant-loop-self
 invariant-loop-self g l =
-    ((form : Form) (start : g.row.W.Denot) (before : List Message) → IsCollecting g.W.BytesOut.held g.W.BytesOut.failures form start before l.fn.self → IsCollecting g.W.BytesOut.held g.W.BytesOut.failures form start before l.self)
+    ((form : Form) (start : g.row.W.Denot) (before : List Message) → IsCollecting g.W.BytesOut.held g.W.BytesOut.failures form start before l.fn.self
+    → IsCollecting g.W.BytesOut.held g.W.BytesOut.failures form start before l.self)
     × (received l.self.input ++ known_items l.self.input ≡ sent l.sender)
     × SameConsumer l.fn.self.input l.self.input
     × g.W.BytesOut.same (output_of l.fn.self.downstream) (output_of l.self.downstream)

@@ -19,4 +19,5 @@ returns-in-Ok-None-clause-feeding g c first before =
 pub returns-in-Err-clause-feeding : goal.returns-in-Err-clause-feeding
 returns-in-Err-clause-feeding g c first before =
     feeds_until g.R.BytesIn.left g.R.BytesIn.failures first before c.args.self.now c.next.new.self c.in-Err.fault c.requires.going.0 c.requires.going.1
-    c.in-Err.ensures.told c.next.ensures.unread (λ e. c.in-Err.ensures.not_at_end (ap Err e)) (λ e. c.in-Err.ensures.read_failed (ap Err e)) c.in-Err.ensures.count
+    c.in-Err.ensures.told c.next.ensures.unread (λ e. c.in-Err.ensures.not_at_end (ap Err e)) (λ e. c.in-Err.ensures.read_failed (ap Err e))
+    c.in-Err.ensures.count

@@ -7,7 +7,8 @@ use Rattle.std.specs.Io.KnownBytes.{Appends}
 use Rattle.pnm_image_tests.proofs.tests.callers.write_all.Goals as goal
 
 -- i bytes of a list, and then n of those that were left, are the first i + n
-Appends-further : (a b c : Option (List ℕ)) (all : List ℕ) (i n : ℕ) → Appends a b (take i all) → Appends b c (take n (take (length all - i) (drop i all))) → Appends a c (take (i + n) all)
+Appends-further : (a b c : Option (List ℕ)) (all : List ℕ) (i n : ℕ) → Appends a b (take i all) → Appends b c (take n (take (length all - i) (drop i all)))
+    → Appends a c (take (i + n) all)
 Appends-further a b c all i n before more = rw (take-add i n all) (Appends-trans a b c (take i all) (take n (drop i all)) before (rw (take_rest all i) at more))
 
 pub loop-at-preserved : goal.loop-at-preserved

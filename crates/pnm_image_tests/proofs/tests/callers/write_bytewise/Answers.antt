@@ -6,21 +6,23 @@ use Rattle.std.specs.Io.KnownBytes.{Appends}
 use Rattle.pnm_image_tests.proofs.tests.callers.write_bytewise.Goals as goal
 
 -- i bytes of a list, and then the next, are the first i + 1
-Appends-next : (a b c : Option (List ℕ)) (all : List ℕ) (i : ℕ) → i < length all → Appends a b (take i all) → Appends b c (get_or all i 0 ∷ []) → Appends a c (take (i + 1) all)
+Appends-next : (a b c : Option (List ℕ)) (all : List ℕ) (i : ℕ) → i < length all → Appends a b (take i all) → Appends b c (get_or all i 0 ∷ [])
+    → Appends a c (take (i + 1) all)
 Appends-next a b c all i below before next = rw (add-one, take-suc all i 0 below) (Appends-trans a b c (take i all) (get_or all i 0 ∷ []) before next)
 
--- i bytes of a list, and then a front of the next alone, are a front
-Appends-front : (a b c : Option (List ℕ)) (all : List ℕ) (i n : ℕ) → i < length all → Appends a b (take i all) → Appends b c (take n (get_or all i 0 ∷ [])) → (k : ℕ) × Appends a c (take k all)
-Appends-front a b c all i zero below before none = (i, rw append-nil at (Appends-trans a b c (take i all) [] before none))
-Appends-front a b c all i (suc n) below before next =
+-- i bytes of a list, and then a prefix of the next alone, are a prefix
+Appends-prefix : (a b c : Option (List ℕ)) (all : List ℕ) (i n : ℕ) → i < length all → Appends a b (take i all) → Appends b c (take n (get_or all i 0 ∷ []))
+    → (k : ℕ) × Appends a c (take k all)
+Appends-prefix a b c all i zero below before none = (i, rw append-nil at (Appends-trans a b c (take i all) [] before none))
+Appends-prefix a b c all i (suc n) below before next =
     (i + 1, Appends-next a b c all i below before (subst (λ (rest : List ℕ). Appends b c (get_or all i 0 ∷ rest)) (take-nil n) next))
 
-pub returns-in_err-write_all-clause-front : goal.returns-in_err-write_all-clause-front
-returns-in_err-write_all-clause-front g c =
+pub returns-in_err-write_all-clause-prefix : goal.returns-in_err-write_all-clause-prefix
+returns-in_err-write_all-clause-prefix g c =
     let was = c.loop-byte.invariant.appended in
-    let front = c.in_err-write_all.ensures.front in
+    let prefix = c.in_err-write_all.ensures.prefix in
     let more : (k : ℕ) × Appends (g.W.BytesOut.held c.args.writer.now) (g.W.BytesOut.held c.write_all.new.self.device.now) (take k c.args.bytes.now) =
-    Appends-front _ _ _ c.args.bytes.now c.loop-byte.byte-index front.0 c.loop-byte-test.true was front.1 in
+    Appends-prefix _ _ _ c.args.bytes.now c.loop-byte.byte-index prefix.0 c.loop-byte-test.true was prefix.1 in
     search (rules, more)
 
 pub loop-byte-preserved : goal.loop-byte-preserved

@@ -4,16 +4,19 @@ use Rattle.pnm_read.proofs.FieldSteps.{line_of_nothing, line_of_end, line_of_num
 use Rattle.pnm_read.proofs.fields.Fields.take.Goals as goal
 
 pub returns-in-Nothing-clause-judged : goal.returns-in-Nothing-clause-judged
-returns-in-Nothing-clause-judged c = line_of_nothing c.args.self.now c.args.line.now (sym (c.of.ensures ∙ ap kind_of_token c.split_token.ensures.token) ∙ c.in-Nothing.is)
+returns-in-Nothing-clause-judged c = line_of_nothing c.args.self.now c.args.line.now (sym (c.of.ensures ∙ ap kind_of_token c.split_token.ensures.token)
+    ∙ c.in-Nothing.is)
 
 pub returns-in-Number-clause-judged : goal.returns-in-Number-clause-judged
 returns-in-Number-clause-judged c =
-    line_of_number c.in-Number.field c.args.self.now c.set_number.new.self c.args.line.now c.split_token.result.1.now c.set_number.result (sym (c.of.ensures ∙ ap kind_of_token c.split_token.ensures.token) ∙ c.in-Number.is)
+    line_of_number c.in-Number.field c.args.self.now c.set_number.new.self c.args.line.now c.split_token.result.1.now c.set_number.result
+    (sym (c.of.ensures ∙ ap kind_of_token c.split_token.ensures.token) ∙ c.in-Number.is)
     c.split_token.ensures.rest c.set_number.ensures
 
 pub returns-in-TupleType-clause-judged : goal.returns-in-TupleType-clause-judged
 returns-in-TupleType-clause-judged c =
-    line_of_type c.args.self.now c.add_tuple_type.new.self c.args.line.now c.trimmed.result.now c.add_tuple_type.result (sym (c.of.ensures ∙ ap kind_of_token c.split_token.ensures.token) ∙ c.in-TupleType.is)
+    line_of_type c.args.self.now c.add_tuple_type.new.self c.args.line.now c.trimmed.result.now c.add_tuple_type.result
+    (sym (c.of.ensures ∙ ap kind_of_token c.split_token.ensures.token) ∙ c.in-TupleType.is)
     (c.trimmed.ensures ∙ ap (λ (l : List ℕ). trimmed_end (trimmed_start l)) c.split_token.ensures.rest) c.add_tuple_type.ensures
 
 pub returns-in-End-clause-judged : goal.returns-in-End-clause-judged

@@ -3,10 +3,12 @@ use Rattle.pnm_read.proofs.PixelSteps.{pixel_goes_on, pixel_ends_with, pixel_not
 use Rattle.pnm_read.proofs.pixel.PixelScannerScanner.take.Goals as goal
 
 pub returns-in-GoesOn-clause-judged : goal.returns-in-GoesOn-clause-judged
-returns-in-GoesOn-clause-judged c = pixel_goes_on c.args.self.now _ c.args.byte c.judge-judgement.result c.in-GoesOn.is c.judge-judgement.ensures.judged refl c.commented-self.ensures
+returns-in-GoesOn-clause-judged c = pixel_goes_on c.args.self.now _ c.args.byte c.judge-judgement.result c.in-GoesOn.is c.judge-judgement.ensures.judged refl
+    c.commented-self.ensures
 
 pub returns-in-EndsWith-clause-judged : goal.returns-in-EndsWith-clause-judged
-returns-in-EndsWith-clause-judged c = pixel_ends_with c.args.self.now _ c.args.byte c.judge-judgement.result c.in-EndsWith.is c.judge-judgement.ensures.judged (search rules)
+returns-in-EndsWith-clause-judged c = pixel_ends_with c.args.self.now _ c.args.byte c.judge-judgement.result c.in-EndsWith.is c.judge-judgement.ensures.judged
+    (search rules)
 
 pub returns-in-EndsBefore-clause-judged : goal.returns-in-EndsBefore-clause-judged
 returns-in-EndsBefore-clause-judged c =

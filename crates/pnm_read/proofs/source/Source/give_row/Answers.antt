@@ -13,7 +13,8 @@ returns-in-Ok-clause-turn g c = λ awaited is.
     let is_row = awaits_row state awaited other raster is c.in-Awaits.is c.in-RowOrEnd.is in
     let left = row_is_left state other raster c.in-Awaits.is c.in-RowOrEnd.is c.requires in
     turn_ok_so c.in-Ok.row (Ok _) (no_fault _ ReadFailed)
-    (λ b a o. row_answered awaited raster c.after_row.result c.in-Ok.row b a is_row left o c.after_row.ensures.format c.after_row.ensures.shape c.after_row.ensures.y) c.in-Ok.ensures
+    (λ b a o. row_answered awaited raster c.after_row.result c.in-Ok.row b a is_row left o c.after_row.ensures.format c.after_row.ensures.shape
+    c.after_row.ensures.y) c.in-Ok.ensures
 
 pub returns-in-Err-clause-turn : goal.returns-in-Err-clause-turn
 returns-in-Err-clause-turn g c = λ awaited is.

@@ -3,7 +3,7 @@ use Rattle.std.proofs.lemmas.List.{take_all}
 use Rattle.std.proofs.lemmas.Grind.{common_steps}
 use Rattle.std.specs.Vec.{with_items}
 use Rattle.pnm_samples.specs.Pixels.{all_pixels}
-use Rattle.pnm_samples.proofs.PixelLaws.{length_of_packed, appended_view}
+use Rattle.pnm_samples.proofs.PixelRowLaws.{length_of_packed, appended_view}
 use Rattle.pnm_samples.proofs.bits.Bits.append.Goals as goal
 
 pub overflow_add-held : goal.overflow_add-held
@@ -25,11 +25,14 @@ returns-clause-appended c =
     let more = c.div_ceil.result - length bytes in
     let size : c.self.inside.bytes.len ≡ length bytes = c.self.inside.bytes.ok.0 in
     let grown : c.as_mut_slice.result.now ≡ bytes ++ replicate more 0 =
-    c.as_mut_slice.ensures.value ∙ c.in_ok-resize.ensures.items ∙ ap₂ (λ (l : List ℕ) (k : ℕ). l ++ replicate (c.div_ceil.result - k) 0) (take_all c.div_ceil.result bytes (omega (arith, c.self.invariant.enough))) size in
-    let last : (with_items (with_items c.resize.new.self c.place_run.new.room) c.clear_spare.new.bytes).items ≡ c.clear_spare.new.bytes = grind (arith, common_steps) in
-    let placed : c.as_mut_slice-2.result.now ≡ c.place_run.new.room = grind (arith, common_steps) in
+    c.as_mut_slice.ensures.value ∙ c.in_ok-resize.ensures.items ∙ ap₂ (λ (l : List ℕ) (k : ℕ). l ++ replicate (c.div_ceil.result - k) 0)
+    (take_all c.div_ceil.result bytes (omega (arith, c.self.invariant.enough))) size in
+    let last : (with_items (with_items c.resize.new.self c.place_run.new.buffer) c.clear_spare.new.bytes).items ≡ c.clear_spare.new.bytes =
+    grind (arith, common_steps) in
+    let placed : c.as_mut_slice-2.result.now ≡ c.place_run.new.buffer = grind (arith, common_steps) in
     ap (λ l. take count (all_pixels l)) last
-    ∙ appended_view c.self.inside.count c.args.start c.args.count c.from.inside.count bytes c.as_mut_slice.result.now c.place_run.new.room c.clear_spare.new.bytes c.from.inside.bytes.items c.args.self.now c.args.from.now
+    ∙ appended_view c.self.inside.count c.args.start c.args.count c.from.inside.count bytes c.as_mut_slice.result.now c.place_run.new.buffer
+    c.clear_spare.new.bytes c.from.inside.bytes.items c.args.self.now c.args.from.now
     (c.clear_spare.ensures.kept ∙ ap (λ l. take count (all_pixels l)) placed)
     (rw c.as_slice.ensures.value at c.place_run.ensures)
     (replicate more 0) grown (omega (arith, c.self.invariant.enough)) c.self.view_is

@@ -2,7 +2,7 @@ use Rattle.std.proofs.Common.{length, ap, arith, ◌≡◌, ◌∙◌, subst}
 use Rattle.std.proofs.lemmas.Grind.{common_steps}
 use Rattle.pnm_samples.specs.Pixels.{AreBytes}
 use Rattle.pnm_samples.proofs.PackedBytes.{packed_view}
-use Rattle.pnm_samples.proofs.PixelLaws.{length_of_packed}
+use Rattle.pnm_samples.proofs.PixelRowLaws.{length_of_packed}
 use Rattle.pnm_samples.proofs.bits.Bits.as_bytes.Goals as goal
 
 pub returns-clause-bytes : goal.returns-clause-bytes

@@ -1,5 +1,5 @@
 use Rattle.std.proofs.Common.{arith}
-use Rattle.pnm_samples.proofs.PixelLaws.{pixels_within}
+use Rattle.pnm_samples.proofs.PixelRowLaws.{pixels_within}
 use Rattle.pnm_samples.proofs.bits.Bits.bound.Goals as goal
 
 pub returns-clause-within : goal.returns-clause-within

@@ -1,5 +1,5 @@
 use Rattle.std.proofs.Common.{length, ap, arith}
-use Rattle.pnm_samples.proofs.PixelLaws.{length_of_packed}
+use Rattle.pnm_samples.proofs.PixelRowLaws.{length_of_packed}
 use Rattle.pnm_samples.proofs.bits.Bits.len.Goals as goal
 
 pub returns : goal.returns

@@ -2,14 +2,15 @@ use Rattle.std.proofs.Common.{◌≡◌, ◌*◌, ◌∙◌, min, length, take, 
 use Rattle.std.proofs.lemmas.Grind.{common_steps}
 use Rattle.std.specs.Vec.{with_items}
 use Rattle.pnm_samples.specs.Pixels.{all_pixels}
-use Rattle.pnm_samples.proofs.PixelLaws.{front_of_bytes}
+use Rattle.pnm_samples.proofs.PixelRowLaws.{prefix_of_bytes}
 use Rattle.pnm_samples.proofs.bits.Bits.new.Goals as goal
 
 pub returns : goal.returns
 returns c =
     let kept = c.min-count.result in
     let last : (with_items c.truncate.new.self c.clear_spare.new.bytes).items ≡ c.clear_spare.new.bytes = grind (arith, common_steps) in
-    let size : kept ≡ min c.args.count (8 * length c.args.bytes.items) = omega (arith, c.args.bytes.ok.0, c.len.ensures, c.saturating_mul.ensures, c.min-count.ensures) in
+    let size : kept ≡ min c.args.count (8 * length c.args.bytes.items) =
+    omega (arith, c.args.bytes.ok.0, c.len.ensures, c.saturating_mul.ensures, c.min-count.ensures) in
     ap (λ l. take kept (all_pixels l)) last
-    ∙ front_of_bytes c.args.bytes.items c.clear_spare.new.bytes c.args.count kept c.div_ceil.result size (omega (arith, c.div_ceil.ensures))
+    ∙ prefix_of_bytes c.args.bytes.items c.clear_spare.new.bytes c.args.count kept c.div_ceil.result size (omega (arith, c.div_ceil.ensures))
     (c.clear_spare.ensures.kept ∙ ap (λ l. take kept (all_pixels l)) (c.as_mut_slice.ensures.value ∙ c.truncate.ensures.items))

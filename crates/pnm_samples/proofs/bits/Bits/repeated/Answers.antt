@@ -4,4 +4,6 @@ use Rattle.pnm_samples.proofs.RepeatLaws.{repeated, once}
 use Rattle.pnm_samples.proofs.bits.Bits.repeated.Goals as goal
 
 pub returns-in-1 : goal.returns-in-1
-returns-in-1 c = subst (λ (l : List ℕ). IfOk c.copy.result (λ bits. bits ≡ l)) (once c.args.self.now ∙ ap (λ (k : ℕ). repeated k c.args.self.now) (sym c.in-1.is)) c.copy.ensures
+returns-in-1 c =
+    subst (λ (l : List ℕ). IfOk c.copy.result (λ bits. bits ≡ l)) (once c.args.self.now ∙ ap (λ (k : ℕ). repeated k c.args.self.now) (sym c.in-1.is))
+    c.copy.ensures

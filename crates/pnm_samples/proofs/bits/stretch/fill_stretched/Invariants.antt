@@ -5,4 +5,4 @@ use Rattle.pnm_samples.proofs.bits.stretch.fill_stretched.Given as goal
 
 -- the pixels of the bytes that have passed, each so many times
 abbrev pub invariant-loop-i : goal.invariant-loop-i
-invariant-loop-i l = take (8 * (l.i * l.times)) (all_pixels l.room) ≡ repeated l.times (all_pixels (take l.i l.bytes))
+invariant-loop-i l = take (8 * (l.i * l.times)) (all_pixels l.buffer) ≡ repeated l.times (all_pixels (take l.i l.bytes))

@@ -10,6 +10,6 @@ returns c =
     let left : take 16 c.args.left.now ≡ c.args.left.now = take_all 16 c.args.left.now (omega arith) in
     let right : take 16 c.args.right.now ≡ c.args.right.now = take_all 16 c.args.right.now (omega arith) in
     let is : zip2 bit_or (take 16 c.args.left.now) (take 16 c.args.right.now) ≡ zip2 bit_or c.args.left.now c.args.right.now = ap₂ (zip2 bit_or) left right in
-    let size : length c.args.room.now ≡ length (zip2 bit_or (take 16 c.args.left.now) (take 16 c.args.right.now)) =
+    let size : length c.args.buffer.now ≡ length (zip2 bit_or (take 16 c.args.left.now) (take 16 c.args.right.now)) =
     omega (arith, ap length is, length-zip2 bit_or c.args.left.now c.args.right.now (omega arith)) in
-    put_chunk_whole c.args.room.now (zip2 bit_or (take 16 c.args.left.now) (take 16 c.args.right.now)) size ∙ is
+    put_chunk_whole c.args.buffer.now (zip2 bit_or (take 16 c.args.left.now) (take 16 c.args.right.now)) size ∙ is

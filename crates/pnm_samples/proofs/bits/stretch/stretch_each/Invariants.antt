@@ -5,5 +5,5 @@ use Rattle.pnm_samples.proofs.bits.stretch.stretch_each.Given as goal
 
 -- the pixels of the bytes that have passed, each so many times, and white ones behind them
 abbrev pub invariant-loop-i : goal.invariant-loop-i
-invariant-loop-i l = (take (8 * (l.i * l.times)) (all_pixels l.room) ≡ repeated l.times (all_pixels (take l.i l.bytes)))
-    × (drop (l.i * l.times) l.room ≡ replicate (length l.room - l.i * l.times) 0)
+invariant-loop-i l = (take (8 * (l.i * l.times)) (all_pixels l.buffer) ≡ repeated l.times (all_pixels (take l.i l.bytes)))
+    × (drop (l.i * l.times) l.buffer ≡ replicate (length l.buffer - l.i * l.times) 0)

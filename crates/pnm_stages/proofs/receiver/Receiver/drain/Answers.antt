@@ -8,11 +8,14 @@ use Rattle.pnm_stages.proofs.receiver.Receiver.drain.Goals as goal
 pub loop-preserved : goal.loop-preserved
 loop-preserved g c = (
   same_input c.args.self.now c.loop.self c.receive.new.self c.loop.invariant.0 c.receive.ensures.ring,
-  goes_on More (received c.args.self.now) (received c.loop.self) (received c.receive.new.self) c.in-Some-receive.message c.loop.invariant.1 c.in-Some-receive.ensures.taken c.in-Some-receive.ensures.message (sym c.of-ending.ensures ∙ ap ending_by c.in-More.is),
+  goes_on More (received c.args.self.now) (received c.loop.self) (received c.receive.new.self) c.in-Some-receive.message c.loop.invariant.1
+      c.in-Some-receive.ensures.taken c.in-Some-receive.ensures.message (sym c.of-ending.ensures ∙ ap ending_by c.in-More.is),
 )
 
 pub returns-in-Whole : goal.returns-in-Whole
 returns-in-Whole g c = record {
   ring = same_input c.args.self.now c.loop.self c.receive.new.self c.loop.invariant.0 c.receive.ensures.ring;
-  drained = drains_to_end (received c.args.self.now) (received c.loop.self) (received c.receive.new.self) c.in-Some-receive.message c.loop.invariant.1 c.in-Some-receive.ensures.taken c.in-Some-receive.ensures.message (says_end c.of-ending.result c.in-Some-receive.message c.of-ending.ensures c.in-Whole.is);
+  drained = drains_to_end (received c.args.self.now) (received c.loop.self) (received c.receive.new.self) c.in-Some-receive.message c.loop.invariant.1
+      c.in-Some-receive.ensures.taken c.in-Some-receive.ensures.message
+      (says_end c.of-ending.result c.in-Some-receive.message c.of-ending.ensures c.in-Whole.is);
 }

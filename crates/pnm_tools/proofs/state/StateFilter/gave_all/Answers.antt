@@ -7,4 +7,6 @@ use Rattle.pnm_tools.proofs.state.StateFilter.gave_all.Goals as goal
 pub returns-clause-full : goal.returns-clause-full
 returns-clause-full g c = λ e.
     let s = c.self.inside in
-    rw (← c.self.view_is) (full_by g.T.Maker.tool g.T.Maker.ready g.T.Maker.due g.T.Maker.kept (standing s.work s.place (pending_of s.owed s.waiting) s.fault) s.work (pending_of c.tell.new.owed s.waiting) s.fault None (c.tell.ensures.told e))
+    rw (← c.self.view_is)
+    (full_by g.T.ImageTool.tool g.T.ImageTool.ready g.T.ImageTool.due g.T.ImageTool.kept (standing s.work s.place (pending_of s.owed s.waiting) s.fault)
+    s.work (pending_of c.tell.new.owed s.waiting) s.fault None (c.tell.ensures.told e))

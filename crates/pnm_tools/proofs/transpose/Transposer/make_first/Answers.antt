@@ -11,8 +11,9 @@ returns-clause-due c =
     let x = c.self.inside in
     let first_first : (turn_of x.way).columns_reversed ≡ false = ap (λ (w : Transposed). (turn_of w.way).columns_reversed) c.self.view_is ∙ c.requires.order in
     let order = ap (λ (t : Turn). t.rows_reversed) c.turn-rows_first.ensures in
-    let none = ap (λ (w : Transposed). w.band) c.self.view_is ∙ c.requires.left.0 in
+    let none = ap (λ (w : Transposed). w.batch) c.self.view_is ∙ c.requires.left.0 in
     let within : x.next + c.min-count.result ≤ x.columns = omega arith in
-    first_made x.way x.depth (rows_width x.rows) x.next x.columns c.min-count.result _ (strip_lists x.rows) (row_lists x.rows) c.in_ok-self-inside.field-0.items first_first order within c.in_ok-self-inside.ensures.made
+    first_made x.way x.depth (rows_width x.rows) x.next x.columns c.min-count.result _ (strip_lists x.rows) (row_lists x.rows) c.in_ok-self-inside.field-0.items
+    first_first order within c.in_ok-self-inside.ensures.made
     ∙ ap (λ l. transposed_due (transposed x.way x.depth (rows_width x.rows) (strip_lists x.rows) (row_lists x.rows) l x.next x.columns)) (sym none)
     ∙ ap transposed_due c.self.view_is

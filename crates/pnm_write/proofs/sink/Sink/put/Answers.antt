@@ -5,12 +5,14 @@ use Rattle.pnm_write.proofs.sink.Sink.put.Goals as goal
 pub returns-clause-more : goal.returns-clause-more
 returns-clause-more g c =
     on_ok_weaker c.write-written.result
-    (λ taken messages put. put_more c.args.self.now _ messages c.args.message.now put (record { takes = taken.0; sound = taken.1; form = c.write-written.ensures.form; place = taken.2; begun = taken.3 }))
+    (λ taken messages put. put_more c.args.self.now _ messages c.args.message.now put
+    (record { takes = taken.0; sound = taken.1; form = c.write-written.ensures.form; place = taken.2; begun = taken.3 }))
     c.write-written.ensures.taken
 
 pub returns-clause-bytes : goal.returns-clause-bytes
 returns-clause-bytes g c =
     on_ok_both c.write-written.result
     (λ taken added start messages written.
-    written_more g.W.BytesOut.held start c.args.self.now _ messages c.args.message.now written (record { takes = taken.0; sound = taken.1; form = c.write-written.ensures.form; place = taken.2; begun = taken.3 }) added)
+    written_more g.W.BytesOut.held start c.args.self.now _ messages c.args.message.now written
+    (record { takes = taken.0; sound = taken.1; form = c.write-written.ensures.form; place = taken.2; begun = taken.3 }) added)
     c.write-written.ensures.taken c.write-written.ensures.written

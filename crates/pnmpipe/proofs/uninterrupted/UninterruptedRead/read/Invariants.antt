@@ -4,4 +4,4 @@ use Rattle.pnmpipe.proofs.uninterrupted.UninterruptedRead.read.Given as goal
 
 -- an interrupted call did nothing
 abbrev pub invariant-loop : goal.invariant-loop
-invariant-loop g l = (length l.room ≡ length l.initial.room) × Keeps (g.R.Read.remaining l.initial.self.inner) (g.R.Read.remaining l.self.inner)
+invariant-loop g l = (length l.buffer ≡ length l.initial.buffer) × Keeps (g.R.Read.remaining l.initial.self.inner) (g.R.Read.remaining l.self.inner)

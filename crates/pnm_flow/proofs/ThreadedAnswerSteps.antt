@@ -1,0 +1,184 @@
+-- What a run over threads answers once all have ended.
+use Rattle.std.proofs.Common.{◌≡◌, ◌≢◌, ◌⊎◌, inl, inr, ℕ, suc, drop, get_or, ◌+◌, ◌≤◌, ◌<◌, Bool, true, false, List, [], ◌∷◌, ◌++◌, length, Option, Some, None}
+use Rattle.std.proofs.Common.{Result, Ok, Err, refl, ap, subst, ◌∙◌, arith}
+use Rattle.std.proofs.Math.Seq.{drop-cons}
+use Rattle.pnm_image.specs.Messages.{without_stop}
+use Rattle.pnm_read.specs.declared.fault.InputFault.{InputFault}
+use Rattle.pnm_read.specs.declared.fault.InputFault.TheVariants.{ReadFailed, Memory as NoMemoryToRead}
+use Rattle.pnm_read.specs.declared.source.Source.{Source}
+use Rattle.pnm_read.specs.Sources.{reader_of}
+use Rattle.pnm_write.specs.declared.fault.SinkFault.{SinkFault}
+use Rattle.pnm_flow.specs.declared.fault.RunFault.{RunFault}
+use Rattle.pnm_flow.specs.declared.fault.RunFault.TheVariants.{NoStart, Input, Tool as OfTool, Output, PeerGone as Gone}
+use Rattle.pnm_stages.specs.declared.stage.StageEnd.{StageEnd}
+use Rattle.pnm_stages.specs.declared.stage.StageEnd.TheVariants.{Well, Broken, Fault, PeerGone}
+use Rattle.pnm_flow.specs.declared.summary.Summary.{Summary}
+use Rattle.pnm_flow.specs.Jobs.{Job}
+use Rattle.pnm_flow.specs.Runs.{Change, change}
+use Rattle.pnm_flow.specs.ThreadedRuns.{fault_of_end, first_fault_from, answer_over, IsPrefixWhatever, HasRunOverThreads}
+use Rattle.pnm_flow.proofs.EndSteps.{ended_has_run, ended_without_reading}
+use Rattle.pnm_flow.proofs.RunSteps.{said_prefix, run_prefix}
+use Rattle.pnm_flow.proofs.ThreadedRunSteps.{Over, ran_over, gone_has_run, ended_over, well_stages, refused_stages, all_sent}
+
+-- ---- the answer
+
+-- the number of a stage that saw an end dropped is one of theirs
+gone_within : (from number : ℕ) (ends : List StageEnd) → first_fault_from from ends ≡ Some (Gone number) → number < from + length ends
+gone_within from number [] is = absurd cc
+gone_within from number (Well ∷ ends) is = let next = gone_within (from + 1) number ends is in omega arith
+gone_within from number (Broken ∷ ends) is = let next = gone_within (from + 1) number ends is in omega arith
+gone_within from number (Fault fault ∷ ends) is = absurd cc
+gone_within from number (PeerGone ∷ ends) is = let same : from ≡ number = cc in omega (arith, same)
+
+-- stages are answered by nothing else
+abbrev IsOfStage : RunFault → Type 0
+IsOfStage NoStart = ⊥
+IsOfStage (Input fault) = ⊥
+IsOfStage (OfTool number fault) = Unit {0}
+IsOfStage (Output fault) = ⊥
+IsOfStage (Gone number) = Unit {0}
+
+of_stage : (from : ℕ) (ends : List StageEnd) (fault : RunFault) → first_fault_from from ends ≡ Some fault → IsOfStage fault
+of_stage from [] fault is = absurd cc
+of_stage from (Well ∷ ends) fault is = of_stage (from + 1) ends fault is
+of_stage from (Broken ∷ ends) fault is = of_stage (from + 1) ends fault is
+of_stage from (Fault other ∷ ends) fault is = let same : OfTool from other ≡ fault = cc in subst IsOfStage same tt
+of_stage from (PeerGone ∷ ends) fault is = let same : Gone from ≡ fault = cc in subst IsOfStage same tt
+
+-- after a failed read anything may come
+prefix_whatever : {R W : Type 0} (left : R → Option (List ℕ)) (reader_failures : R → ℕ) (held : W → Option (List ℕ)) (failures : W → ℕ)
+    (first source : Source R) (start done : W) (lanes : ℕ) (job : Job) (ends : List StageEnd) (fault : InputFault) (has_ended : Bool)
+    (output : Result Summary SinkFault)
+    → Over left reader_failures held failures first source start done lanes job ends (Some (Err fault)) has_ended output → fault ≡ ReadFailed
+    → IsPrefixWhatever job (change left reader_failures (reader_of first) (reader_of source)) (change held failures start done)
+prefix_whatever left reader_failures held failures first source start done lanes job ends fault has_ended output over is =
+    let ran = ran_over left reader_failures held failures first source start done lanes job ends (Some (Err fault)) has_ended output over in
+    record {
+      read = over.asked.read;
+      consumed = over.asked.consumed;
+      prefix = λ rest.
+          let text = over.asked.read ++ rest in
+          run_prefix held failures start done job over.given (without_stop over.got) over.sink text ran
+          (said_prefix text over.given (Err fault) (over.asked.after_failed_read (ap Err is) rest)) over.kept;
+    }
+
+pub over_has_run : {R W : Type 0} (left : R → Option (List ℕ)) (reader_failures : R → ℕ) (held : W → Option (List ℕ)) (failures : W → ℕ)
+    (first source : Source R) (start done : W) (lanes : ℕ) (job : Job) (ends : List StageEnd) (input : Option (Result (Unit {0}) InputFault))
+    (found : Option RunFault) (has_ended : Bool) (output : Result Summary SinkFault)
+    → Over left reader_failures held failures first source start done lanes job ends input has_ended output → length ends ≡ length job.tools
+    → first_fault_from 1 ends ≡ found
+    → HasRunOverThreads lanes job (answer_over input found has_ended (length ends + 1) output)
+    (change left reader_failures (reader_of first) (reader_of source)) (change held failures start done)
+over_has_run left reader_failures held failures first source start done lanes job ends None found has_ended output over many is =
+    gone_has_run left reader_failures held failures first source start done lanes job ends None has_ended output 0 over (inl refl) (omega arith)
+over_has_run left reader_failures held failures first source start done lanes job ends (Some (Err fault)) found has_ended output over many is =
+    let ended = ended_over left reader_failures held failures first source start done lanes job ends (Err fault) has_ended output None [] over
+    (λ well. absurd cc) in
+    record {
+      run = ended_has_run (change left reader_failures (reader_of first) (reader_of source)) held failures start done job (Err fault) None output ⊥ ended;
+      all_written = λ text has no sound. absurd no;
+      read_failed =
+          λ is. (
+            over.asked.read_failed (ap Err is),
+            prefix_whatever left reader_failures held failures first source start done lanes job ends fault has_ended
+                output over is,
+          );
+      gone = tt;
+    }
+over_has_run left reader_failures held failures first source start done lanes job ends (Some (Ok tt)) (Some NoStart) has_ended output over many is =
+    absurd (of_stage 1 ends NoStart is)
+over_has_run left reader_failures held failures first source start done lanes job ends (Some (Ok tt)) (Some (Input fault)) has_ended output over many is =
+    absurd (of_stage 1 ends (Input fault) is)
+over_has_run left reader_failures held failures first source start done lanes job ends (Some (Ok tt)) (Some (Output fault)) has_ended output over many is =
+    absurd (of_stage 1 ends (Output fault) is)
+over_has_run left reader_failures held failures first source start done lanes job ends (Some (Ok tt)) (Some (OfTool number fault)) has_ended output over many
+    is =
+    let stages = refused_stages left reader_failures held failures first source start done lanes job ends has_ended output number fault over is in
+    let ended = ended_over left reader_failures held failures first source start done lanes job ends (Ok tt) has_ended output (Some (number, fault)) stages.0
+    over (λ well. stages.1) in
+    record {
+      run = ended_has_run (change left reader_failures (reader_of first) (reader_of source)) held failures start done job (Ok tt) (Some (number, fault)) output
+          ⊥ ended;
+      read_failed = tt;
+      all_written = λ text has tools_are sound. all_sent left reader_failures held failures first source start done lanes job ends has_ended output
+          (Err (OfTool number fault)) over is text has sound;
+      gone = tt;
+    }
+over_has_run left reader_failures held failures first source start done lanes job ends (Some (Ok tt)) (Some (Gone number)) has_ended output over many is =
+    gone_has_run left reader_failures held failures first source start done lanes job ends (Some (Ok tt)) has_ended output number over (inr refl)
+    (let within = gone_within 1 number ends is in omega (arith, many))
+over_has_run left reader_failures held failures first source start done lanes job ends (Some (Ok tt)) None false output over many is =
+    gone_has_run left reader_failures held failures first source start done lanes job ends (Some (Ok tt)) false output (length ends + 1) over (inr refl)
+    (omega (arith, many))
+over_has_run left reader_failures held failures first source start done lanes job ends (Some (Ok tt)) None true (Err fault) over many is =
+    let stages = well_stages left reader_failures held failures first source start done lanes job ends (Err fault) over is in
+    let ended = ended_over left reader_failures held failures first source start done lanes job ends (Ok tt) true (Err fault) None stages.0 over
+    (λ well. stages.1) in
+    record {
+      run = ended_has_run (change left reader_failures (reader_of first) (reader_of source)) held failures start done job (Ok tt) None (Err fault) ⊥ ended;
+      read_failed = tt;
+      all_written = λ text has tools_are sound. all_sent left reader_failures held failures first source start done lanes job ends true (Err fault)
+          (Err (Output fault)) over is text has sound;
+      gone = tt;
+    }
+over_has_run left reader_failures held failures first source start done lanes job ends (Some (Ok tt)) None true (Ok summary) over many is =
+    let stages = well_stages left reader_failures held failures first source start done lanes job ends (Ok summary) over is in
+    let ended = ended_over left reader_failures held failures first source start done lanes job ends (Ok tt) true (Ok summary) None stages.0 over
+    (λ well. stages.1) in
+    record {
+      run = ended_has_run (change left reader_failures (reader_of first) (reader_of source)) held failures start done job (Ok tt) None (Ok summary) ⊥ ended;
+      read_failed = tt;
+      all_written = λ text has tools_are sound. all_sent left reader_failures held failures first source start done lanes job ends true (Ok summary)
+          (Ok summary) over is text has sound;
+      gone = tt;
+    }
+
+-- ---- the first fault
+
+-- the stages from this one on
+pub from_this : (ends : List StageEnd) (index : ℕ) (other end : StageEnd) → index < length ends → get_or ends index other ≡ end
+    → first_fault_from (index + 1) (drop index ends) ≡ first_fault_from (index + 1) (end ∷ drop (suc index) ends)
+from_this ends index other end within is =
+    ap (first_fault_from (index + 1)) (drop-cons ends index other within ∙ ap (λ (x : StageEnd). x ∷ drop (suc index) ends) is)
+
+-- a stage that has none, and one that has
+pub passed_over : (from : ℕ) (end : StageEnd) (rest : List StageEnd) → fault_of_end from end ≡ None
+    → first_fault_from from (end ∷ rest) ≡ first_fault_from (from + 1) rest
+passed_over from Well rest none = refl
+passed_over from Broken rest none = refl
+passed_over from (Fault fault) rest none = absurd cc
+passed_over from PeerGone rest none = absurd cc
+
+pub found_here : (from : ℕ) (end : StageEnd) (rest : List StageEnd) (fault : RunFault) → fault_of_end from end ≡ Some fault
+    → first_fault_from from (end ∷ rest) ≡ Some fault
+found_here from Well rest fault is = absurd cc
+found_here from Broken rest fault is = absurd cc
+found_here from (Fault other) rest fault is = is
+found_here from PeerGone rest fault is = is
+
+-- it isn't that the run couldn't be started
+started_by : (input : Option (Result (Unit {0}) InputFault)) (found : Option RunFault) (has_ended : Bool) (behind : ℕ) (output : Result Summary SinkFault)
+    → ((fault : RunFault) → found ≡ Some fault → IsOfStage fault) → answer_over input found has_ended behind output ≢ Err NoStart
+started_by None found has_ended behind output of = λ is. absurd cc
+started_by (Some (Err fault)) found has_ended behind output of = λ is. absurd cc
+started_by (Some (Ok tt)) (Some fault) has_ended behind output of = λ is. let same : fault ≡ NoStart = cc in subst IsOfStage same (of fault refl)
+started_by (Some (Ok tt)) None false behind output of = λ is. absurd cc
+started_by (Some (Ok tt)) None true behind (Err fault) of = λ is. absurd cc
+started_by (Some (Ok tt)) None true behind (Ok summary) of = λ is. absurd cc
+
+pub was_started : (input : Option (Result (Unit {0}) InputFault)) (ends : List StageEnd) (has_ended : Bool) (behind : ℕ) (output : Result Summary SinkFault)
+    → answer_over input (first_fault_from 1 ends) has_ended behind output ≢ Err NoStart
+was_started input ends has_ended behind output = started_by input (first_fault_from 1 ends) has_ended behind output (λ fault is. of_stage 1 ends fault is)
+
+-- ---- before the first message
+
+-- there is no memory to read
+pub unread_has_run : (lanes : ℕ) (job : Job) (reader writer : Change) → reader.new ≡ reader.old → reader.failures_new ≡ reader.failures_old
+    → writer.new ≡ writer.old → HasRunOverThreads lanes job (Err (Input NoMemoryToRead)) reader writer
+unread_has_run lanes job reader writer read same_count written =
+    record {
+      run = (ended_without_reading job ⊥ reader writer read same_count written).run;
+      all_written = λ text is has sound. absurd has;
+      read_failed = λ is. absurd cc;
+      gone = tt;
+    }

@@ -1,0 +1,24 @@
+use Rattle.std.proofs.Common.{◌≡◌, false, rules, arith}
+use Rattle.std.proofs.lemmas.Result.{err_from_is_err_and}
+use Rattle.pnm_read.specs.BufferedReaders.{held_of}
+use Rattle.pnm_read.proofs.ReadSteps.{fills_then, fills_not, nearer, not_enough, range_length}
+use Rattle.pnm_read.proofs.buffered_reader.BufferedReader.fill.Goals as goal
+
+pub loop-self-smaller : goal.loop-self-smaller
+loop-self-smaller g c =
+    let goes_on : c.loop-self.self.ended ≡ false = search rules in
+    nearer (held_of c.loop-self.self) (held_of c.read_more.new.self) c.args.wanted c.loop-self.self.ended c.read_more.new.self.ended goes_on
+    (omega (arith, range_length c.loop-self.self.buffer.items c.loop-self.self.at c.loop-self.self.end)) c.in_ok-read_more.ensures.more
+
+pub loop-self-preserved : goal.loop-self-preserved
+loop-self-preserved g c =
+    let goes_on : c.loop-self.self.ended ≡ false = search rules in (
+      fills_then g.met.R.BytesIn.same_later c.loop-self.invariant.0 c.in_ok-read_more.ensures.turn,
+      λ enough. absurd (not_enough c.args.wanted c.args.self.now c.loop-self.self (c.loop-self.invariant.1 enough) enough goes_on
+          (omega (arith, range_length c.loop-self.self.buffer.items c.loop-self.self.at c.loop-self.self.end))),
+    )
+
+pub returns-in_err-read_more-clause-turn : goal.returns-in_err-read_more-clause-turn
+returns-in_err-read_more-clause-turn g c =
+    let p = err_from_is_err_and c.from_residual.result c.from_residual.ensures.1 in
+    rw (p.1, p.2) (fills_not c.in_err-read_more.field-0.0 g.met.R.BytesIn.same_later c.loop-self.invariant.0 c.in_err-read_more.ensures.turn)

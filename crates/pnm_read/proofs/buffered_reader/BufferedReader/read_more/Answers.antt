@@ -1,0 +1,30 @@
+use Rattle.std.proofs.Common.{◌≡◌, ◌+◌, ◌-◌, List, ℕ, length, ◌++◌, take, inl, ap, sym, arith, ◌∙◌}
+use borrow.Rule.Slice.PartMut.{post_of}
+use Rattle.std.specs.List.{slice_range}
+use Rattle.std.specs.Vec.{with_items}
+use Rattle.std.proofs.lemmas.Bool.{eqb-true}
+use Rattle.std.proofs.lemmas.Grind.{common_steps}
+use Rattle.std.proofs.lemmas.Result.{err_from_is_err_and}
+use Rattle.pnm_read.proofs.ReadSteps.{turn_grown, turn_failed, range_grown}
+use Rattle.pnm_read.proofs.buffered_reader.BufferedReader.read_more.Goals as goal
+
+pub returns-clause-turn : goal.returns-clause-turn
+returns-clause-turn g c =
+    let mid = c.move_to_front.new.self in
+    let bytes : List ℕ = c.as_mut_slice.result.now in
+    let target : List ℕ = c.read_into.new.target in
+    let post : List ℕ = post_of mid.end (length bytes - mid.end) bytes in
+    let kept : (with_items mid.buffer (take mid.end bytes ++ (target ++ post))).items ≡ take mid.end bytes ++ (target ++ post) = grind (arith, common_steps) in
+    turn_grown c.in_ok-self.field-0 target mid.reader c.in_ok-self.ensures.read c.move_to_front.ensures.reader c.requires.goes_on
+    (λ e. eqb-true c.in_ok-self.field-0 0 (sym c.in_ok-self.ensures.end ∙ e))
+    (ap (λ (l : List ℕ). slice_range l mid.at (mid.end + c.in_ok-self.field-0)) kept
+    ∙ range_grown bytes target post mid.at mid.end c.in_ok-self.field-0 (omega arith) (omega (arith, c.as_mut_slice.ensures.len)) c.in_ok-self.ensures.read.1
+    ∙ ap (λ (l : List ℕ). l ++ take c.in_ok-self.field-0 target) (ap (λ (l : List ℕ). slice_range l mid.at mid.end) c.as_mut_slice.ensures.value
+    ∙ c.move_to_front.ensures.held))
+
+pub returns-in_err-self-clause-turn : goal.returns-in_err-self-clause-turn
+returns-in_err-self-clause-turn g c =
+    let p = err_from_is_err_and c.from_residual.result c.from_residual.ensures.1 in
+    let r = c.in_err-self.ensures.read in
+    rw (p.1, p.2) (turn_failed c.in_err-self.field-0.0 c.read_into.new.target c.move_to_front.new.self.reader r c.move_to_front.ensures.reader
+    c.requires.goes_on c.in_err-self.ensures.end (λ b a. inl r.1))

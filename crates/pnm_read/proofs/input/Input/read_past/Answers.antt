@@ -1,8 +1,0 @@
-use Rattle.pnm_read.proofs.ReadSteps.{turn_at_end, turn_past_by}
-use Rattle.pnm_read.proofs.input.Input.read_past.Goals as goal
-
-pub returns-then-self-clause-turn : goal.returns-then-self-clause-turn
-returns-then-self-clause-turn g c = turn_at_end c.args.self.now c.args.room.now g.met.R.BytesIn.same_at_once c.if-self.true c.requires.held
-
-pub returns-clause-turn : goal.returns-clause-turn
-returns-clause-turn g c = turn_past_by c.read_into.new.room c.read_into.result c.read_into.ensures.read c.if-self.false c.read_into.ensures.end c.requires.held c.requires.held

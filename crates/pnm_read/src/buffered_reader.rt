@@ -1,0 +1,214 @@
+//! The bytes of a reader, of which a buffer's worth is held.
+
+ghost use Rattle.std.specs.Prelude.{◌≡◌, ◌==◌, ◌≤◌, ◌<◌, ◌⊎◌, ◌↔◌, IsTrue, [], true, false, drop, take, length, List};
+ghost use Rattle.std.specs.Prelude.{ℕ, vec_len, OnOk, IfOk, IfErr, MatchResult};
+ghost use Rattle.pnm_read.specs.declared.fault.InputFault.TheVariants.{ReadFailed, Memory};
+ghost use Rattle.pnm_read.specs.Reads.{HasRead};
+
+use crate::fault::InputFault;
+use pnm_image::BytesIn;
+use std::alloc::Global;
+
+/// The bytes that a buffer holds.
+const BUFFER_BYTES: usize = 4096;
+
+/// A buffer of 4,096 bytes for what is read of an input.
+#[derive(Debug, Drop)]
+pub struct ReadBuffer {
+    bytes: Vec<u8>,
+    ghost size: { vec_len bytes ≡ 4096 },
+}
+
+impl ReadBuffer {
+    /// A buffer that holds nothing yet. The only fault is `Memory`.
+    pub fn new(alloc: Global) -> Result<ReadBuffer, InputFault>
+        ensures refused { IfErr result (λ fault. fault ≡ Memory) }
+    {
+        match Vec::from_elem(alloc, 0, BUFFER_BYTES) {
+            Ok(bytes) => Ok(ReadBuffer { bytes }),
+            Err(_) => Err(InputFault::Memory),
+        }
+    }
+}
+
+/// A reader, and what was read of it and isn't taken yet.
+#[derive(Debug, Drop)]
+pub struct BufferedReader<R> {
+    reader: R,
+    /// Those from `at` up to `end` are held.
+    buffer: Vec<u8>,
+    at: usize,
+    end: usize,
+    /// The reader's end was seen.
+    ended: bool,
+    ghost size: { vec_len buffer ≡ 4096 },
+    ghost order: { at ≤ end },
+    ghost within: { end ≤ 4096 },
+}
+
+impl<R: BytesIn> BufferedReader<R> {
+    ghost use Rattle.pnm_read.specs.BufferedReaders.{held_of, Turn, Fills, Reads, IsByte, HoldsEnough};
+
+    /// Nothing is read.
+    pub fn new(buffer: ReadBuffer, reader: R) -> BufferedReader<R>
+        ensures reader { result.reader ≡ reader }
+        ensures nothing_held { held_of result ≡ [] }
+        ensures not_ended { result.ended ≡ false }
+    {
+        BufferedReader {
+            reader,
+            buffer: buffer.bytes,
+            at: 0,
+            end: 0,
+            ended: false,
+        }
+    }
+
+    /// The reader.
+    pub fn into_reader(self) -> R
+        ensures { result ≡ self.reader }
+    {
+        self.reader
+    }
+
+    pub fn allocator(&self) -> Global {
+        *self.buffer.allocator()
+    }
+
+    /// The bytes that are held.
+    pub fn bytes(&self) -> &[u8]
+        ensures { result.now ≡ held_of self.now }
+    {
+        &self.buffer[self.at..self.end]
+    }
+
+    /// Whether so many bytes are held, or all that are left.
+    pub fn holds(&self, wanted: usize) -> bool
+        ensures { IsTrue result ↔ HoldsEnough wanted self.now }
+    {
+        self.ended || self.end - self.at >= wanted
+    }
+
+    /// Takes so many of the bytes that are held.
+    pub fn advance(&mut self, count: usize)
+        requires { count ≤ length (held_of self.old) }
+        ensures held { held_of self.new ≡ drop count (held_of self.old) }
+        ensures reader { self.new.reader ≡ self.old.reader }
+        ensures ended { self.new.ended ≡ self.old.ended }
+    {
+        self.at += count;
+    }
+
+    /// Reads until so many bytes are held, or the input has ended. The only fault is `ReadFailed`.
+    pub fn fill(&mut self, wanted: usize) -> Result<(), InputFault>
+        requires { wanted ≤ 4096 }
+        ensures turn { Turn R.left R.failures R.same self.old self.new result (Fills result) }
+        ensures enough { OnOk result (HoldsEnough wanted self.new) }
+        ensures still { HoldsEnough wanted self.old → self.new ≡ self.old }
+        ensures failed { IfErr result (λ fault. fault ≡ ReadFailed) }
+    {
+        while !self.ended && self.end - self.at < wanted {
+            self.read_more()?;
+        }
+        Ok(())
+    }
+
+    /// Reads once, behind the bytes that are held. The only fault is `ReadFailed`.
+    fn read_more(&mut self) -> Result<(), InputFault>
+        requires free { length (held_of self.old) < 4096 }
+        requires goes_on { self.old.ended ≡ false }
+        ensures turn { Turn R.left R.failures R.same self.old self.new result (Fills result) }
+        ensures more { OnOk result ((length (held_of self.old) < length (held_of self.new))
+            ⊎ ((self.new.ended ≡ true) × (held_of self.new ≡ held_of self.old))) }
+        ensures failed { IfErr result (λ fault. fault ≡ ReadFailed) }
+    {
+        self.move_to_front();
+        let target = &mut self.buffer.as_mut_slice()[self.end..];
+        self.end += read_into(&mut self.reader, &mut self.ended, target)?;
+        Ok(())
+    }
+
+    /// Moves the bytes that are held to the front of the buffer.
+    fn move_to_front(&mut self)
+        ensures prefix { self.new.at ≡ 0 }
+        ensures held { held_of self.new ≡ held_of self.old }
+        ensures reader { self.new.reader ≡ self.old.reader }
+        ensures ended { self.new.ended ≡ self.old.ended }
+    {
+        if self.at > 0 {
+            self.buffer.copy_within(self.at..self.end, 0);
+            self.end -= self.at;
+            self.at = 0;
+        }
+    }
+
+    /// Takes the next bytes into the front of the target, and answers how many came: 0 only at the end of
+    /// the input. They are those that are held, or where none is, those of one read, straight into a
+    /// target of at least as many bytes as the buffer has. The only fault is `ReadFailed`.
+    pub fn read(&mut self, target: &mut [u8]) -> Result<usize, InputFault>
+        requires { 0 < length target.old }
+        ensures turn { Turn R.left R.failures R.same self.old self.new result (Reads target.new result) }
+        ensures bound { IfOk result (λ count. count ≤ length target.new) }
+        ensures failed { IfErr result (λ fault. fault ≡ ReadFailed) }
+    {
+        if self.at == self.end && target.len() >= BUFFER_BYTES {
+            return self.read_past(target);
+        }
+        self.fill(1)?;
+        let bytes = self.bytes();
+        let count = bytes.len().min(target.len());
+        target[..count].copy_from_slice(&bytes[..count]);
+        self.advance(count);
+        Ok(count)
+    }
+
+    /// Reads once into the target, past the buffer, of which nothing is held.
+    fn read_past(&mut self, target: &mut [u8]) -> Result<usize, InputFault>
+        requires held { held_of self.old ≡ [] }
+        requires target { 0 < length target.old }
+        ensures turn { Turn R.left R.failures R.same self.old self.new result (Reads target.new result) }
+        ensures bound { IfOk result (λ count. count ≤ length target.new) }
+        ensures failed { IfErr result (λ fault. fault ≡ ReadFailed) }
+    {
+        if self.ended {
+            return Ok(0);
+        }
+        read_into(&mut self.reader, &mut self.ended, target)
+    }
+
+    /// The next byte; none at the end of the input.
+    pub fn next_byte(&mut self) -> Result<Option<u8>, InputFault>
+        ensures { Turn R.left R.failures R.same self.old self.new result (IsByte result) }
+    {
+        self.fill(1)?;
+        match self.bytes().first() {
+            Some(byte) => {
+                let byte = *byte;
+                self.advance(1);
+                Ok(Some(byte))
+            }
+            None => Ok(None),
+        }
+    }
+}
+
+/// Reads once into the front of the target, and answers how many bytes came: 0 only at the end, which is
+/// noted then.
+fn read_into<R: BytesIn>(
+    reader: &mut R,
+    ended: &mut bool,
+    target: &mut [u8],
+) -> Result<usize, InputFault>
+    requires target { 0 < length target.old }
+    requires goes_on { ended.old ≡ false }
+    ensures read { HasRead R.left R.failures R.same reader.old reader.new target.new result }
+    ensures end { MatchResult result (λ count. ended.new ≡ (count == 0)) (λ _. ended.new ≡ false) }
+{
+    match reader.read(target) {
+        Ok(count) => {
+            *ended = count == 0;
+            Ok(count)
+        }
+        Err(_) => Err(InputFault::ReadFailed),
+    }
+}

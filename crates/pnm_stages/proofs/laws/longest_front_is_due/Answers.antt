@@ -1,5 +1,0 @@
-use Rattle.pnm_stages.proofs.FrontLaws.{longest_front_is_due as by_accepted}
-use Rattle.pnm_stages.proofs.laws.longest_front_is_due.Goals as goal
-
-pub returns : goal.returns
-returns c = by_accepted

@@ -1,0 +1,122 @@
+//! A fixed buffer for bytes.
+
+ghost use Rattle.std.specs.Prelude.{◌≡◌, ◌+◌, ◌*◌, ◌<◌, ◌≤◌, [], ◌++◌, length, take};
+ghost use Rattle.pnm_image.specs.declared.shape.Kind.{Kind};
+ghost use Rattle.pnm_samples.specs.Pixels.{all_pixels};
+ghost use Rattle.pnm_write.specs.PlainRows.{plain_row_text};
+ghost use Rattle.pnm_write.specs.PlainParts.{text_of_part, column_after_part, sample_texts};
+ghost use Rattle.pnm_write.specs.Encoding.{bytes_in};
+ghost use Rattle.pnm_write.specs.WriteBuffers.{most_samples, FitIn};
+
+use crate::numerals::{append_bytes, append_words};
+use crate::pixels::put_pixels;
+use crate::raw::encode;
+use pnm_image::SampleWidth;
+use std::marker::Model;
+
+/// The most bytes that are held.
+const BUFFER: usize = 4096;
+
+/// Up to 4,096 bytes, which are encoded here before they are written. It takes no memory.
+#[derive(Drop)]
+pub struct WriteBuffer {
+    bytes: [u8; BUFFER],
+    length: usize,
+}
+
+impl Model for WriteBuffer {
+    ghost use Rattle.std.specs.Prelude.{List, ℕ, ◌≤◌, take};
+
+    ghost Value = { List ℕ };
+
+    ghost view = { λ r. take r.length r.bytes };
+
+    ghost invariant = { λ r. r.length ≤ 4096 };
+}
+
+impl WriteBuffer {
+    /// A buffer without bytes.
+    pub fn new() -> WriteBuffer
+        ensures { result ≡ [] }
+    {
+        WriteBuffer {
+            bytes: [0; BUFFER],
+            length: 0,
+        }
+    }
+
+    /// The bytes.
+    pub fn as_slice(&self) -> &[u8]
+        ensures { result.now ≡ self.now }
+    {
+        &self.bytes[..self.length]
+    }
+
+    /// Forgets the bytes.
+    pub fn clear(&mut self)
+        ensures { self.new ≡ [] }
+    {
+        self.length = 0;
+    }
+
+    /// Appends these bytes.
+    pub fn push(&mut self, part: &[u8])
+        requires { length self.old + length part.now ≤ 4096 }
+        ensures bytes { self.new ≡ self.old ++ part.now }
+        ensures count { length self.new ≡ length self.old + length part.now }
+    {
+        let end = self.length + part.len();
+        self.bytes[self.length..end].copy_from_slice(part);
+        self.length = end;
+    }
+
+    /// Holds the bytes of these samples, in place of what it held.
+    pub fn fill(&mut self, sample_width: SampleWidth, samples: &[u16])
+        requires count { length samples.now ≤ most_samples sample_width }
+        requires range { FitIn sample_width samples.now }
+        ensures { self.new ≡ bytes_in sample_width samples.now }
+    {
+        self.length = encode(sample_width, samples, &mut self.bytes);
+    }
+
+    /// Appends the numbers to a line that has so many bytes, and to those after it, and answers how many bytes the
+    /// last line has.
+    pub fn append_bytes(&mut self, column: usize, samples: &[u8]) -> usize
+        requires buffer { length self.old + 6 * length samples.now ≤ 4096 }
+        requires begun { 0 < column }
+        requires line { column ≤ 70 }
+        ensures text { self.new ≡ self.old ++ text_of_part column (sample_texts Kind.Gray samples.now) }
+        ensures count { length self.new ≤ length self.old + 6 * length samples.now }
+        ensures column { result ≡ column_after_part column (sample_texts Kind.Gray samples.now) }
+        ensures line { result ≤ 70 }
+    {
+        let (end, at) = append_bytes(&mut self.bytes, self.length, column, samples);
+        self.length = end;
+        at
+    }
+
+    /// Appends numbers of up to 65,535 as `append_bytes` does smaller ones.
+    pub fn append_words(&mut self, column: usize, samples: &[u16]) -> usize
+        requires buffer { length self.old + 6 * length samples.now ≤ 4096 }
+        requires begun { 0 < column }
+        requires line { column ≤ 70 }
+        ensures text { self.new ≡ self.old ++ text_of_part column (sample_texts Kind.Gray samples.now) }
+        ensures count { length self.new ≤ length self.old + 6 * length samples.now }
+        ensures column { result ≡ column_after_part column (sample_texts Kind.Gray samples.now) }
+        ensures line { result ≤ 70 }
+    {
+        let (end, at) = append_words(&mut self.bytes, self.length, column, samples);
+        self.length = end;
+        at
+    }
+
+    /// Holds the text of a row of so many pixels, the first of these bytes, in place of what it held.
+    pub fn set_pixels(&mut self, bytes: &[u8], count: usize)
+        requires few { length bytes.now ≤ 256 }
+        requires enough { count ≤ 8 * length bytes.now }
+        ensures { self.new ≡ plain_row_text Kind.Bit (take count (all_pixels bytes.now)) }
+    {
+        put_pixels(&mut self.bytes, bytes, count);
+        self.length = 2 * count;
+    }
+}
