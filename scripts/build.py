@@ -18,7 +18,7 @@ import sys
 import tempfile
 import time
 
-from crates import ROOT, SOURCES, Ended, below, end_by_signals, read_crates
+from crates import ROOT, SOURCES, Ended, below, copy_lines, end_by_signals, read_crates
 
 PROGRAM = "pnmpipe"
 TOLD = "from nothing some 25 minutes on 4 cores shared with other work, added up from its crates; not timed whole"
@@ -92,8 +92,8 @@ class Place:
         self.is_copy = folder != ROOT
         self.run = None
         if self.is_copy:
-            for file in ("crates.txt", "HANDLES"):
-                shutil.copy(os.path.join(ROOT, file), folder)
+            shutil.copy(os.path.join(ROOT, "HANDLES"), folder)
+            copy_lines(crates, folder)
             for name in crates:
                 for part in SOURCES:
                     put(os.path.join(ROOT, "crates", name, part), os.path.join(folder, "crates", name, part))

@@ -15,7 +15,7 @@ import subprocess
 import sys
 import tempfile
 
-from crates import ROOT, SOURCES, Ended, above, below, end_by_signals, read_crates, tests_of
+from crates import ROOT, SOURCES, Ended, above, below, copy_lines, end_by_signals, read_crates, tests_of
 
 
 def say(text):
@@ -106,10 +106,7 @@ def pass_alone(crates, names):
         # (rt ci wants crates.txt at the top of a repository)
         os.mkdir(os.path.join(folder, ".git"))
         shutil.copy(os.path.join(ROOT, "HANDLES"), folder)
-        with open(os.path.join(ROOT, "crates.txt"), encoding="utf-8") as file:
-            lines = [line for line in file if line.partition(":")[0].strip() in taken]
-        with open(os.path.join(folder, "crates.txt"), "w", encoding="utf-8") as file:
-            file.writelines(lines)
+        copy_lines(taken, folder)
         for name in taken:
             copied(name, folder, () if name in whole else SOURCES)
         named = ", ".join(it for it in crates if it in whole)

@@ -39,6 +39,14 @@ def read_crates():
     return {name: named[name] for name in sorted(named, key=lambda it: len(below(named, it)))}
 
 
+def copy_lines(crates, folder):
+    """Writes a crates.txt for a copy that has these crates alone: rt wants a folder of each crate that a line names."""
+    with open(os.path.join(ROOT, "crates.txt"), encoding="utf-8") as file:
+        lines = [line for line in file if line.partition(":")[0].strip() in crates]
+    with open(os.path.join(folder, "crates.txt"), "w", encoding="utf-8") as file:
+        file.writelines(lines)
+
+
 def below(crates, name):
     """All crates that this one stands on."""
     found = set(crates[name])

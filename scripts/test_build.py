@@ -23,7 +23,8 @@ right: low
 longest: left
 top: longest right
 pnmpipe: top right clap
-top_tests: top
+shared_by_tests: low
+top_tests: top shared_by_tests
 right_tests: right
 right_cases: right low
 """
@@ -58,8 +59,19 @@ def build(crate):
         stamp.write(crate)
 
 
+def named_without_folder():
+    """The crates that lines of crates.txt name and that have none, at which rt stops."""
+    with open(f"{root}/crates.txt") as file:
+        lines = dict(line.split(":") for line in file.read().splitlines() if ":" in line)
+    named = " ".join(lines.values()).split()
+    return [it for it in lines if it in named and not os.path.isdir(f"{root}/crates/{it}")]
+
+
 note(" ".join(words) + (f" ({name})" if os.path.basename(os.path.dirname(os.getcwd())) == "crates" else ""))
 if words[0] in ("lib", "run"):
+    if named_without_folder():
+        print("there is no folder of " + " ".join(named_without_folder()))
+        sys.exit(2)
     known = crates.read_crates()
     below = crates.below(known, name)
     held = [os.open(f"{root}/crates/{it}", os.O_RDONLY) for it in sorted(below | {name})]
