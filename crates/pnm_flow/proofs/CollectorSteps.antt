@@ -4,8 +4,9 @@ use Rattle.pnm_stages.specs.Rings.{received}
 use Rattle.pnm_image.specs.declared.format.Form.{Form}
 use Rattle.pnm_image.specs.declared.message.Message.{Message}
 use Rattle.pnm_image.specs.declared.message.Message.TheVariants.{Begin, Row, ImageEnd, StreamEnd, Stop}
-use Rattle.pnm_image.specs.Messages.{without_stop}
-use Rattle.pnm_tools.specs.Answers.{Ending, More, Whole, BrokenOff, ending_of}
+use Rattle.pnm_image.specs.Messages.{without_stop, ending_of}
+use Rattle.pnm_image.specs.declared.message.Ending.{Ending}
+use Rattle.pnm_image.specs.declared.message.Ending.TheVariants.{More, Whole, BrokenOff}
 use Rattle.pnm_tools.proofs.SoundLaws.{IsUnbroken, unbroken_keeps_all}
 use Rattle.pnm_flow.specs.declared.collector.Collector.{Collector}
 use Rattle.pnm_flow.specs.Collectors.{EndedBy, HasCollected, IsCollecting}

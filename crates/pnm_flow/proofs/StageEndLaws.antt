@@ -6,7 +6,8 @@ use Rattle.pnm_image.specs.Places.{IsLawful}
 use Rattle.pnm_tools.specs.declared.fault.ToolFault.{ToolFault}
 use Rattle.pnm_tools.specs.declared.fault.ToolFault.TheVariants.{Memory}
 use Rattle.pnm_tools.specs.declared.tool.Tool.{Tool}
-use Rattle.pnm_tools.specs.Answers.{Whole, BrokenOff, EndsBy}
+use Rattle.pnm_image.specs.declared.message.Ending.TheVariants.{Whole, BrokenOff}
+use Rattle.pnm_image.specs.Messages.{EndsBy}
 use Rattle.pnm_tools.specs.ChainAnswers.{HaveAnswered, AreWell, IsFirstFault}
 use Rattle.pnm_tools.specs.Chains.{AreLawfulTools}
 use Rattle.pnm_flow.specs.declared.fault.RunFault.TheVariants.{Tool as OfTool}

@@ -6,7 +6,7 @@ use Rattle.pnm_stages.specs.Rings.{sent, received, known_items, IsEnded}
 use Rattle.pnm_image.specs.Devices.{Failed}
 use Rattle.pnm_image.specs.declared.message.Message.{Message}
 use Rattle.pnm_image.specs.Images.{Image, messages_of_stream}
-use Rattle.pnm_image.specs.Messages.{without_stop}
+use Rattle.pnm_image.specs.Messages.{without_stop, EndsBy}
 use Rattle.pnm_image.specs.Completion.{IsPrefixOf, Completes}
 use Rattle.pnm_read.specs.declared.fault.InputFault.{InputFault}
 use Rattle.pnm_read.specs.declared.fault.InputFault.TheVariants.{ReadFailed}
@@ -18,7 +18,7 @@ use Rattle.pnm_read.proofs.TextLaws.{said_text_is_spelled}
 use Rattle.pnm_read.proofs.Turns.{no_fault}
 use Rattle.pnm_tools.specs.declared.fault.ToolFault.{ToolFault}
 use Rattle.pnm_tools.specs.declared.tool.Tool.{Tool}
-use Rattle.pnm_tools.specs.Answers.{Whole, EndsBy}
+use Rattle.pnm_image.specs.declared.message.Ending.TheVariants.{Whole}
 use Rattle.pnm_tools.specs.ChainAnswers.{AreSound}
 use Rattle.pnm_tools.specs.Chains.{AreLawfulTools, due_in_turn}
 use Rattle.pnm_tools.proofs.ChainLaws.{prefix_of_due_is_sound}

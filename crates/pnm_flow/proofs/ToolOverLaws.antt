@@ -6,7 +6,8 @@ use Rattle.pnm_image.specs.Places.{IsLawful}
 use Rattle.pnm_image.proofs.Streams.{stream_is_lawful}
 use Rattle.pnm_tools.specs.declared.fault.ToolFault.{ToolFault}
 use Rattle.pnm_tools.specs.declared.tool.Tool.{Tool}
-use Rattle.pnm_tools.specs.Answers.{Whole, BrokenOff, EndsBy}
+use Rattle.pnm_image.specs.declared.message.Ending.TheVariants.{Whole, BrokenOff}
+use Rattle.pnm_image.specs.Messages.{EndsBy}
 use Rattle.pnm_tools.specs.ChainAnswers.{HasRefused}
 use Rattle.pnm_tools.specs.Tools.{IsLawfulTool, output_due}
 use Rattle.pnm_tools.proofs.RefusalLaws.{results_are_images}

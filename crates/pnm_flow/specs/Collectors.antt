@@ -3,8 +3,8 @@ use Rattle.std.specs.Prelude.{◌≡◌, ℕ, Bool, true, false, List, ◌++◌,
 use Rattle.pnm_stages.specs.Rings.{received}
 use Rattle.pnm_image.specs.declared.format.Form.{Form}
 use Rattle.pnm_image.specs.declared.message.Message.{Message}
-use Rattle.pnm_image.specs.Messages.{without_stop}
-use Rattle.pnm_tools.specs.Answers.{More, EndsBy}
+use Rattle.pnm_image.specs.Messages.{without_stop, EndsBy}
+use Rattle.pnm_image.specs.declared.message.Ending.TheVariants.{More}
 use Rattle.pnm_flow.specs.declared.collector.Collector.{Collector}
 use Rattle.pnm_flow.specs.Downstreams.{HasTaken}
 use Rattle.pnm_stages.specs.Rings.{IsEnded}

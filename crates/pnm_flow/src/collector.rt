@@ -7,8 +7,8 @@ ghost use Rattle.pnm_image.specs.declared.message.Message.{Message as MessageVal
 ghost use Rattle.pnm_flow.specs.Downstreams.{output_of};
 
 use crate::downstream::Downstream;
-use pnm_image::{BytesOut, Form, Message};
-use pnm_stages::{Backoff, Ending, Receiver, Sender, ends_image};
+use pnm_image::{BytesOut, Ending, Form, Message};
+use pnm_stages::{Backoff, Receiver, Sender};
 use std::sync::Wait;
 
 /// The ring that the results of a run come from, and what is written of them.
@@ -67,7 +67,7 @@ impl<W: BytesOut + Drop> Collector<W> {
             return self.is_gone;
         }
         let message = self.input.receive_known();
-        let is_end = ends_image(&message);
+        let is_end = message.ends_image();
         self.images = self.images.saturating_add(u64::from(is_end));
         self.put(message);
         true
@@ -107,7 +107,7 @@ impl<W: BytesOut + Drop> Collector<W> {
         ensures ring { (self.new.input ≡ self.old.input) × (self.new.is_gone ≡ self.old.is_gone) }
         ensures same_device { W.same (output_of self.old.downstream) (output_of self.new.downstream) }
     {
-        match Ending::of(&message) {
+        match message.ending() {
             Ending::More => self.downstream.put(message),
             Ending::Whole => {
                 self.downstream.put(message);

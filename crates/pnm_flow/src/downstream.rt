@@ -10,7 +10,6 @@ ghost use Rattle.pnm_write.specs.Sinks.{has_failed};
 
 use crate::summary::Summary;
 use pnm_image::{BytesOut, Form, Message};
-use pnm_stages::ends_image;
 use pnm_write::{Sink, SinkFault};
 
 /// The sink, and what came of it so far.
@@ -64,7 +63,7 @@ impl<W: BytesOut + Drop> Downstream<W> {
         ensures output { self.new.output ≡ self.old.output }
         ensures same_device { W.same (output_of self.old) (output_of self.new) }
     {
-        if ends_image(message) {
+        if message.ends_image() {
             match self.sink.flush() {
                 Ok(()) => {}
                 Err(_) => self.flush_failed = true,

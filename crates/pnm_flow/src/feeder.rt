@@ -7,7 +7,7 @@ ghost use Rattle.pnm_read.specs.Sources.{reader_of, IsFreshSource as IsUnread};
 
 use pnm_image::{BytesIn, Message};
 use pnm_read::{InputFault, Source};
-use pnm_stages::{Backoff, Sender, ends_image};
+use pnm_stages::{Backoff, Sender};
 use std::sync::Wait;
 
 /// The source of a run, and the ring that its messages go into.
@@ -124,7 +124,7 @@ impl<R: BytesIn + Drop> Feeder<R> {
         let Some(message) = self.held.take() else {
             return true;
         };
-        let is_end = ends_image(&message);
+        let is_end = message.ends_image();
         self.output.send_reserved(message);
         self.images = self.images.saturating_add(u64::from(is_end));
         true

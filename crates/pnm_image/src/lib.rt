@@ -19,7 +19,7 @@ mod shape;
 pub use device::{BytesIn, BytesOut, Device, DeviceFailed, write_all};
 pub use format::{Form, Format};
 pub use head::{Head, HeadFault};
-pub use message::Message;
+pub use message::{Ending, Message};
 pub use place::Place;
 pub use pnm_samples::{Bits, SampleSlice, SampleVec, Samples};
 pub use sample_width::SampleWidth;

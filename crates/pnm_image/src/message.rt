@@ -1,5 +1,8 @@
 //! The messages of a stream of images.
 
+ghost use Rattle.std.specs.Prelude.{◌≡◌};
+ghost use Rattle.pnm_image.specs.Messages.{ending_of};
+
 use crate::head::Head;
 use pnm_samples::Samples;
 
@@ -16,4 +19,33 @@ pub enum Message {
     StreamEnd,
     /// The stream was broken off before this point.
     Stop,
+}
+
+/// How a message ends a stream: it doesn't, the stream is whole, or it was broken off.
+#[derive(Clone, Copy, Debug, PartialEq, Eq)]
+pub enum Ending {
+    /// It begins an image, or is a row or an image's end.
+    More,
+    /// It is the end of the stream.
+    Whole,
+    /// It is Stop.
+    BrokenOff,
+}
+
+impl Message {
+    /// How this message ends its stream.
+    pub fn ending(&self) -> Ending
+        ensures { result ≡ ending_of self.now }
+    {
+        match self {
+            Message::Begin(_) | Message::Row(_) | Message::ImageEnd => Ending::More,
+            Message::StreamEnd => Ending::Whole,
+            Message::Stop => Ending::BrokenOff,
+        }
+    }
+
+    /// Whether the message ends an image.
+    pub fn ends_image(&self) -> bool {
+        matches!(self, Message::ImageEnd)
+    }
 }

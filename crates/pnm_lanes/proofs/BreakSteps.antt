@@ -8,22 +8,21 @@ use Rattle.pnm_image.specs.declared.message.Message.{Message}
 use Rattle.pnm_image.specs.declared.message.Message.TheVariants.{Stop}
 use Rattle.pnm_image.specs.declared.place.Place.{Place}
 use Rattle.pnm_image.specs.declared.place.Place.TheVariants.{Between}
-use Rattle.pnm_image.specs.Messages.{IsMessage, without_stop}
+use Rattle.pnm_image.specs.Messages.{IsMessage, without_stop, ending_of, EndsBy}
 use Rattle.pnm_image.specs.Places.{Accepts, IsLawful, place_of}
 use Rattle.pnm_image.proofs.Lists.{each-push, same_first}
 use Rattle.pnm_image.proofs.Places.{lawful_more, next_may_come}
 use Rattle.pnm_tools.specs.declared.fault.ToolFault.TheVariants.{OutOfOrder, Memory}
-use Rattle.pnm_tools.specs.Answers.{Ending, More, Whole, BrokenOff, ending_of, EndsBy}
+use Rattle.pnm_image.specs.declared.message.Ending.{Ending}
+use Rattle.pnm_image.specs.declared.message.Ending.TheVariants.{More, Whole, BrokenOff}
 use Rattle.pnm_tools.specs.Dealing.{dealt_message, dealt}
 use Rattle.pnm_tools.proofs.FullLaws.{prefix_of_prefix}
 use Rattle.pnm_tools.proofs.SoundLaws.{both_all}
 use Rattle.pnm_tools.proofs.InFullLaws.{ends_after}
-use Rattle.pnm_stages.specs.declared.ending.Ending.{Ending as Answered}
-use Rattle.pnm_stages.specs.declared.ending.Ending.TheVariants.{More as AnsweredMore, Whole as AnsweredWhole, BrokenOff as AnsweredBrokenOff}
 use Rattle.pnm_stages.specs.declared.stage.StageEnd.{StageEnd}
 use Rattle.pnm_stages.specs.declared.stage.StageEnd.TheVariants.{Fault, PeerGone}
 use Rattle.pnm_stages.specs.Prefixes.{IsLongestLawfulPrefix}
-use Rattle.pnm_stages.specs.Rings.{ending_by, IsEnded, EndsAtMostOnce, HasDrainedAfter}
+use Rattle.pnm_stages.specs.Rings.{IsEnded, EndsAtMostOnce, HasDrainedAfter}
 use Rattle.pnm_stages.proofs.RingSteps.{ends_nothing, ends_with, same_output}
 use Rattle.pnm_lanes.specs.Deals.{AtEach, HasReceivedSo, HasSentSo, HasLane, HasDealt}
 use Rattle.pnm_lanes.specs.DealParts.{part_at, lane_part, IsSentPart, HasSentParts, HasBrokenOffDealing}
@@ -117,9 +116,9 @@ nothing_drained drained took received_now received_new left ended same =
       ended = λ all. still;
     }
 
-is_drained : (ending : Answered) (drained : Bool) (took received_now received_new left : List Message) → EndsBy (ending_by ending) took
+is_drained : (ending : Ending) (drained : Bool) (took received_now received_new left : List Message) → EndsBy ending took
     → HasDrainedAfter ending drained received_now received_new left → IsDrained drained took received_now received_new left
-is_drained AnsweredMore true took received_now received_new left ends extends =
+is_drained More true took received_now received_new left ends extends =
     let ended = ended_after took extends.more ends extends.holds in
     record {
       more = extends.more;
@@ -129,7 +128,7 @@ is_drained AnsweredMore true took received_now received_new left ends extends =
       nothing = inl ended;
       ended = λ all. ended;
     }
-is_drained AnsweredMore false took received_now received_new left ends (extends, none) = record {
+is_drained More false took received_now received_new left ends (extends, none) = record {
   more = extends.more;
   input = extends.added;
   messages = extends.messages;
@@ -137,15 +136,15 @@ is_drained AnsweredMore false took received_now received_new left ends (extends,
   nothing = inr none;
   ended = λ all. absurd cc;
 }
-is_drained AnsweredWhole drained took received_now received_new left ends same = nothing_drained drained took received_now received_new left (inl ends) same.1
-is_drained AnsweredBrokenOff drained took received_now received_new left ends same =
+is_drained Whole drained took received_now received_new left ends same = nothing_drained drained took received_now received_new left (inl ends) same.1
+is_drained BrokenOff drained took received_now received_new left ends same =
     nothing_drained drained took received_now received_new left (inr ends) same.1
 
 -- ---- and how it ends then
 
 -- all were told, and the input was drained
-ends_so : (end answer : StageEnd) (ending : Answered) (untold : Option StageEnd) (drained : Bool) (received_old received_now received_new left : List Message)
-    (olds nows news : List Sender) (cut : IsCut end (ending_by ending) received_old received_now olds nows)
+ends_so : (end answer : StageEnd) (ending : Ending) (untold : Option StageEnd) (drained : Bool) (received_old received_now received_new left : List Message)
+    (olds nows news : List Sender) (cut : IsCut end ending received_old received_now olds nows)
     → AtEach (IsSentPart (λ lane. Stop ∷ []) untold) nows news → IsDrained drained cut.took received_now received_new left
     → ((untold ≡ None) × (drained ≡ true) × (answer ≡ end)) ⊎ (answer ≡ PeerGone) → HasDealt answer received_old received_new left olds news
 ends_so end answer ending untold drained received_old received_now received_new left olds nows news cut told rest (inl (none, all, same)) =
@@ -175,12 +174,12 @@ ends_so end answer ending untold drained received_old received_now received_new 
           (lost_lane cut.all (length olds) cut.accepted took untold (accepted_more cut.accepted cut.took rest.more cut.is)) cut.lanes told;
     })
 
-pub breaks_off : (end answer : StageEnd) (ending : Answered) (e : Ending) (received_old received_now received_new left : List Message)
+pub breaks_off : (end answer : StageEnd) (ending : Ending) (e : Ending) (received_old received_now received_new left : List Message)
     (olds nows news : List Sender) (cut : IsCut end e received_old received_now olds nows)
-    → ending_by ending ≡ e → HasBrokenOffDealing end ending answer received_now received_new left nows news
+    → ending ≡ e → HasBrokenOffDealing end ending answer received_now received_new left nows news
     → HasDealt answer received_old received_new left olds news
 breaks_off end answer ending e received_old received_now received_new left olds nows news cut says broken =
-    let same : EndsBy (ending_by ending) cut.took = subst (λ (x : Ending). EndsBy x cut.took) (sym says) cut.ends in
+    let same : EndsBy ending cut.took = subst (λ (x : Ending). EndsBy x cut.took) (sym says) cut.ends in
     ends_so end answer ending broken.untold broken.drained received_old received_now received_new left olds nows news
     (record {
       took = cut.took;

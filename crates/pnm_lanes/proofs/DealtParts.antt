@@ -9,9 +9,9 @@ use Rattle.pnm_image.specs.declared.place.Place.TheVariants.{Between, Inside, Af
 use Rattle.pnm_image.specs.Completion.{IsPrefixOf}
 use Rattle.pnm_image.proofs.Lists.{same_first, same_rest}
 use Rattle.pnm_image.specs.Images.{Image, AreImages, rows_of, messages_of_stream}
-use Rattle.pnm_image.specs.Messages.{IsMessage, without_stop}
+use Rattle.pnm_image.specs.Messages.{IsMessage, without_stop, ending_of, EndsBy}
 use Rattle.pnm_image.specs.Places.{IsLawfulFrom, place_after, place_of}
-use Rattle.pnm_tools.specs.Answers.{More, Whole, ending_of, EndsBy}
+use Rattle.pnm_image.specs.declared.message.Ending.TheVariants.{More, Whole}
 use Rattle.pnm_tools.specs.Dealing.{dealt_head, dealt_message, dealt_from}
 use Rattle.pnm_tools.proofs.DealingLaws.{dealt_head_is_head}
 use Rattle.pnm_tools.proofs.InFullLaws.{EndNothing}

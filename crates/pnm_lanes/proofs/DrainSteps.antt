@@ -6,8 +6,9 @@ use Rattle.pnm_stages.specs.declared.receiver.Receiver.{Receiver}
 use Rattle.pnm_stages.specs.Rings.{received, known_items}
 use Rattle.pnm_image.specs.declared.message.Message.{Message}
 use Rattle.pnm_image.specs.Completion.{IsPrefixOf}
-use Rattle.pnm_image.specs.Messages.{IsMessage}
-use Rattle.pnm_tools.specs.Answers.{Ending, More, Whole, BrokenOff, EndsBy}
+use Rattle.pnm_image.specs.Messages.{IsMessage, EndsBy}
+use Rattle.pnm_image.specs.declared.message.Ending.{Ending}
+use Rattle.pnm_image.specs.declared.message.Ending.TheVariants.{More, Whole, BrokenOff}
 use Rattle.pnm_tools.proofs.InFullLaws.{ends_after}
 use Rattle.pnm_stages.specs.Rings.{Extends, IsEnded}
 use Rattle.pnm_stages.proofs.RingSteps.{ends_nothing}

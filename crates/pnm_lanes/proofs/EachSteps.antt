@@ -16,7 +16,7 @@ use Rattle.pnm_image.specs.Heads.{HeadValue, IsHead, with_height}
 use Rattle.pnm_image.specs.declared.limits.TheConstants.{MAX_SIDE}
 use Rattle.pnm_image.specs.Places.{Accepts, IsLawfulFrom, place_after}
 use Rattle.pnm_tools.specs.declared.fault.ToolFault.TheVariants.{OutOfOrder}
-use Rattle.pnm_tools.specs.Answers.{ending_of}
+use Rattle.pnm_image.specs.Messages.{ending_of}
 use Rattle.pnm_tools.specs.Dealing.{dealt_height, dealt_head, dealt_message, dealt_from}
 use Rattle.pnm_stages.specs.declared.stage.StageEnd.{StageEnd}
 use Rattle.pnm_stages.specs.declared.stage.StageEnd.TheVariants.{Fault}

@@ -10,11 +10,11 @@ use Rattle.pnm_image.specs.declared.place.Place.{Place}
 use Rattle.pnm_image.specs.declared.place.Place.TheVariants.{Between}
 use Rattle.pnm_image.specs.Completion.{IsPrefixOf}
 use Rattle.pnm_image.specs.Images.{Image, messages_of_stream}
-use Rattle.pnm_image.specs.Messages.{IsMessage, without_stop}
+use Rattle.pnm_image.specs.Messages.{IsMessage, without_stop, ending_of, EndsBy}
 use Rattle.pnm_image.specs.Places.{IsLawful, IsLawfulFrom, place_of}
 use Rattle.pnm_image.proofs.Lists.{each-push}
 use Rattle.pnm_image.proofs.Streams.{stream_is_lawful}
-use Rattle.pnm_tools.specs.Answers.{More, Whole, BrokenOff, ending_of, EndsBy}
+use Rattle.pnm_image.specs.declared.message.Ending.TheVariants.{More, Whole, BrokenOff}
 use Rattle.pnm_tools.specs.Dealing.{dealt, dealt_message, dealt_from}
 use Rattle.pnm_tools.proofs.FullLaws.{prefix_of_prefix}
 use Rattle.pnm_stages.specs.declared.stage.StageEnd.{StageEnd}

@@ -5,16 +5,14 @@ use Rattle.pnm_image.specs.declared.message.Message.{Message}
 use Rattle.pnm_image.specs.declared.message.Message.TheVariants.{Begin, Row, ImageEnd, StreamEnd, Stop}
 use Rattle.pnm_image.specs.declared.place.Place.{Place}
 use Rattle.pnm_image.specs.declared.place.Place.TheVariants.{Between, Inside, After}
-use Rattle.pnm_image.specs.Messages.{IsMessage}
+use Rattle.pnm_image.specs.Messages.{IsMessage, ending_of, EndsBy}
 use Rattle.pnm_image.specs.Places.{Accepts, IsLawful, place_after, place_of}
 use Rattle.pnm_image.proofs.Lists.{each-push}
 use Rattle.pnm_image.proofs.Places.{lawful_more, place_of-append}
-use Rattle.pnm_tools.specs.Answers.{More, BrokenOff, ending_of, EndsBy}
+use Rattle.pnm_image.specs.declared.message.Ending.{Ending}
+use Rattle.pnm_image.specs.declared.message.Ending.TheVariants.{More, BrokenOff}
 use Rattle.pnm_tools.specs.Dealing.{dealt, dealt_message}
 use Rattle.pnm_stages.proofs.RingSteps.{ends_as}
-use Rattle.pnm_stages.specs.declared.ending.Ending.{Ending as Answered}
-use Rattle.pnm_stages.specs.declared.ending.Ending.TheVariants.{More as AnsweredMore, BrokenOff as AnsweredBrokenOff}
-use Rattle.pnm_stages.specs.Rings.{ending_by}
 use Rattle.pnm_lanes.specs.declared.lane.LaneState.{LaneState}
 use Rattle.pnm_lanes.specs.declared.lane.LaneState.TheVariants.{Open, Ended, Gone}
 use Rattle.pnm_lanes.specs.GatherParts.{IsOfStream, state_at, IsLeftBy, HasTakenParts, HasTakenWhole, IsLane, AreLanes}
@@ -97,9 +95,9 @@ broken_off_by_none ImageEnd broken is = refl
 broken_off_by_none StreamEnd broken is = absurd cc
 broken_off_by_none Stop broken is = absurd is
 
-pub says_more : (a : Answered) (m : Message) → ending_by a ≡ ending_of m → (a ≡ AnsweredMore) ⊎ (a ≡ AnsweredBrokenOff) → IsOfStream m → ending_of m ≡ More
-says_more a m says (inl more) is = sym says ∙ ap ending_by more
-says_more a m says (inr broken) is = broken_off_by_none m (sym (ap ending_by broken) ∙ says) is
+pub says_more : (a : Ending) (m : Message) → a ≡ ending_of m → (a ≡ More) ⊎ (a ≡ BrokenOff) → IsOfStream m → ending_of m ≡ More
+says_more a m says (inl more) is = sym says ∙ more
+says_more a m says (inr broken) is = broken_off_by_none m (sym (broken) ∙ says) is
 
 -- the next message was taken and sent
 pub still_going : (lanes : ℕ) (place next : Place) (m : Message) (states : List LaneState) (start now new : ℕ → List Message)

@@ -5,12 +5,13 @@ use Rattle.pnm_image.specs.declared.message.Message.TheVariants.{Begin, Row, Ima
 use Rattle.pnm_image.specs.declared.place.Place.{Place}
 use Rattle.pnm_image.specs.declared.place.Place.TheVariants.{Between, Inside, After}
 use Rattle.pnm_image.specs.Images.{Image, IsImage, AreImages, rows_of, messages_of_image, messages_of_stream}
-use Rattle.pnm_image.specs.Messages.{without_stop}
+use Rattle.pnm_image.specs.Messages.{without_stop, ending_of, EndsBy}
 use Rattle.pnm_image.specs.Places.{place_after}
 use Rattle.pnm_image.specs.Completion.{IsPrefixOf, Completes}
 use Rattle.pnm_tools.specs.declared.fault.ToolFault.{ToolFault}
 use Rattle.pnm_tools.specs.declared.tool.Tool.{Tool}
-use Rattle.pnm_tools.specs.Answers.{Ending, More, Whole, ending_of, EndsBy}
+use Rattle.pnm_image.specs.declared.message.Ending.{Ending}
+use Rattle.pnm_image.specs.declared.message.Ending.TheVariants.{More, Whole}
 use Rattle.pnm_tools.specs.Dealing.{dealt_message, dealt_from, dealt}
 use Rattle.pnm_tools.specs.Tools.{IsLawfulTool, is_row_wise, applied, output_due}
 use Rattle.pnm_tools.proofs.AnsweringLaws.{due_by, due_is}

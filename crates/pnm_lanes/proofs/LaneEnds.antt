@@ -4,12 +4,14 @@ use Rattle.pnm_image.specs.declared.message.Message.{Message}
 use Rattle.pnm_image.specs.declared.message.Message.TheVariants.{Stop}
 use Rattle.pnm_image.specs.declared.place.Place.TheVariants.{Between}
 use Rattle.pnm_image.specs.Images.{Image, messages_of_stream}
-use Rattle.pnm_image.specs.Messages.{without_stop}
+use Rattle.pnm_image.specs.Messages.{without_stop, EndsBy}
 use Rattle.pnm_image.specs.Places.{IsLawful, place_of}
 use Rattle.pnm_image.specs.Completion.{IsPrefixOf, Completes, IsStreamOf}
 use Rattle.pnm_image.proofs.Streams.{is_stream_of}
 use Rattle.pnm_tools.specs.declared.tool.Tool.{Tool}
-use Rattle.pnm_tools.specs.Answers.{Ending, Whole, BrokenOff, EndsBy, AnswersInFull, AreResults, images_ended, begun_of, begun_in, answers_owed}
+use Rattle.pnm_image.specs.declared.message.Ending.{Ending}
+use Rattle.pnm_image.specs.declared.message.Ending.TheVariants.{Whole, BrokenOff}
+use Rattle.pnm_tools.specs.Answers.{AnswersInFull, AreResults, images_ended, begun_of, begun_in, answers_owed}
 use Rattle.pnm_tools.specs.Dealing.{dealt}
 use Rattle.pnm_tools.specs.Tools.{IsLawfulTool, is_row_wise}
 use Rattle.pnm_tools.proofs.SoundLaws.{unbroken_keeps_all}

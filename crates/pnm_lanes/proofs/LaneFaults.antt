@@ -6,7 +6,7 @@ use Rattle.pnm_image.specs.declared.message.Message.TheVariants.{Begin, Row, Ima
 use Rattle.pnm_image.specs.declared.place.Place.{Place}
 use Rattle.pnm_image.specs.declared.place.Place.TheVariants.{Between, Inside, After}
 use Rattle.pnm_image.specs.Images.{Image}
-use Rattle.pnm_image.specs.Messages.{IsMessage, without_stop}
+use Rattle.pnm_image.specs.Messages.{IsMessage, without_stop, EndsBy}
 use Rattle.pnm_image.specs.Places.{Accepts, IsLawful, place_of}
 use Rattle.pnm_image.specs.Completion.{IsPrefixOf, Completes}
 use Rattle.pnm_image.proofs.Lists.{all_of_prefix}
@@ -16,7 +16,8 @@ use Rattle.pnm_tools.specs.declared.fault.ToolFault.{ToolFault}
 use Rattle.pnm_tools.specs.declared.fault.ToolFault.TheVariants.{CutOutside, ChannelOutside, TooLarge, OutOfOrder, Memory}
 use Rattle.pnm_tools.specs.declared.tool.Tool.{Tool}
 use Rattle.pnm_tools.specs.declared.tool.Tool.TheVariants.{Cut}
-use Rattle.pnm_tools.specs.Answers.{More, Whole, BrokenOff, EndsBy, RefusesHead}
+use Rattle.pnm_image.specs.declared.message.Ending.TheVariants.{More, Whole, BrokenOff}
+use Rattle.pnm_tools.specs.Answers.{RefusesHead}
 use Rattle.pnm_tools.specs.ChainAnswers.{IsRefusedNext}
 use Rattle.pnm_tools.specs.Dealing.{dealt}
 use Rattle.pnm_tools.specs.Tools.{IsLawfulTool, is_row_wise, AreTaken}

@@ -5,11 +5,11 @@ use Rattle.pnm_image.specs.declared.message.Message.TheVariants.{Begin, Row, Ima
 use Rattle.pnm_image.specs.declared.place.Place.{Place}
 use Rattle.pnm_image.specs.declared.place.Place.TheVariants.{Between}
 use Rattle.pnm_image.specs.Images.{Image, messages_of_stream}
-use Rattle.pnm_image.specs.Messages.{without_stop}
+use Rattle.pnm_image.specs.Messages.{without_stop, ending_of, EndsBy}
 use Rattle.pnm_image.specs.Places.{Accepts, IsLawful, IsLawfulFrom, place_after}
 use Rattle.pnm_image.specs.Completion.{IsPrefixOf, Completes}
 use Rattle.pnm_tools.specs.declared.tool.Tool.{Tool}
-use Rattle.pnm_tools.specs.Answers.{More, Whole, BrokenOff, ending_of, EndsBy}
+use Rattle.pnm_image.specs.declared.message.Ending.TheVariants.{More, Whole, BrokenOff}
 use Rattle.pnm_tools.specs.Dealing.{dealt}
 use Rattle.pnm_tools.specs.Tools.{IsLawfulTool, is_row_wise, output_due}
 use Rattle.pnm_tools.proofs.AtLaws.{StopsLast, lawful_stops, keeps_all}

@@ -3,10 +3,11 @@ use Rattle.std.proofs.Common.{◌≡◌, ◌⊎◌, inl, inr, ℕ, zero, suc, �
 use Rattle.pnm_image.specs.declared.message.Message.{Message}
 use Rattle.pnm_image.specs.declared.message.Message.TheVariants.{Begin, Row, ImageEnd, StreamEnd, Stop}
 use Rattle.pnm_image.specs.declared.place.Place.TheVariants.{Between}
-use Rattle.pnm_image.specs.Messages.{without_stop}
+use Rattle.pnm_image.specs.Messages.{without_stop, ending_of, EndsBy}
 use Rattle.pnm_image.specs.Places.{IsLawful}
 use Rattle.pnm_image.specs.Completion.{IsPrefixOf}
-use Rattle.pnm_tools.specs.Answers.{Ending, More, Whole, BrokenOff, ending_of, EndsBy}
+use Rattle.pnm_image.specs.declared.message.Ending.{Ending}
+use Rattle.pnm_image.specs.declared.message.Ending.TheVariants.{More, Whole, BrokenOff}
 use Rattle.pnm_tools.specs.Dealing.{dealt}
 use Rattle.pnm_tools.proofs.AnsweringLaws.{prefixes}
 use Rattle.pnm_tools.proofs.AtLaws.{StopsLast, lawful_stops, keeps_all}

@@ -8,7 +8,7 @@ use Rattle.pnm_image.specs.declared.place.Place.{Place}
 use Rattle.pnm_image.specs.declared.place.Place.TheVariants.{Between}
 use Rattle.pnm_tools.specs.declared.fault.ToolFault.TheVariants.{Memory}
 use Rattle.pnm_tools.specs.Dealing.{dealt_row, dealt_message}
-use Rattle.pnm_stages.specs.declared.ending.Ending.{Ending}
+use Rattle.pnm_image.specs.declared.message.Ending.{Ending}
 use Rattle.pnm_stages.specs.declared.stage.StageEnd.{StageEnd}
 use Rattle.pnm_stages.specs.declared.stage.StageEnd.TheVariants.{Fault, PeerGone}
 use Rattle.pnm_stages.specs.Rings.{HasDrainedAfter}

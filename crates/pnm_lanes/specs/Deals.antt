@@ -5,13 +5,13 @@ use Rattle.pnm_stages.specs.declared.sender.Sender.{Sender}
 use Rattle.pnm_stages.specs.Rings.{sent, SameProducer}
 use Rattle.pnm_image.specs.declared.message.Message.{Message}
 use Rattle.pnm_image.specs.declared.message.Message.TheVariants.{Stop}
-use Rattle.pnm_image.specs.Messages.{IsMessage, without_stop}
+use Rattle.pnm_image.specs.Messages.{IsMessage, without_stop, EndsBy}
 use Rattle.pnm_image.specs.Places.{IsLawful}
 use Rattle.pnm_image.specs.Completion.{IsPrefixOf}
 use Rattle.pnm_tools.specs.declared.fault.ToolFault.{ToolFault}
 use Rattle.pnm_tools.specs.declared.fault.ToolFault.TheVariants.{CutOutside, ChannelOutside, TooLarge, OutOfOrder}
 use Rattle.pnm_tools.specs.declared.fault.ToolFault.TheVariants.{Memory}
-use Rattle.pnm_tools.specs.Answers.{More, Whole, BrokenOff, EndsBy}
+use Rattle.pnm_image.specs.declared.message.Ending.TheVariants.{More, Whole, BrokenOff}
 use Rattle.pnm_tools.specs.Dealing.{dealt}
 use Rattle.pnm_stages.specs.declared.stage.StageEnd.{StageEnd}
 use Rattle.pnm_stages.specs.declared.stage.StageEnd.TheVariants.{Well, Broken, Fault, PeerGone}

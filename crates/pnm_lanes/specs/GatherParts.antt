@@ -9,10 +9,11 @@ use Rattle.pnm_image.specs.declared.place.Place.TheVariants.{Between, Inside, Af
 use Rattle.pnm_image.specs.Completion.{IsPrefixOf}
 use Rattle.pnm_image.specs.Heads.{IsHead, with_height}
 use Rattle.pnm_image.specs.declared.limits.TheConstants.{MAX_SIDE}
-use Rattle.pnm_image.specs.Messages.{IsMessage}
+use Rattle.pnm_image.specs.Messages.{IsMessage, ending_of, EndsBy}
 use Rattle.pnm_image.specs.Places.{Accepts, IsLawfulFrom}
 use Rattle.pnm_tools.specs.declared.fault.ToolFault.TheVariants.{OutOfOrder}
-use Rattle.pnm_tools.specs.Answers.{Ending, More, Whole, BrokenOff, ending_of, EndsBy}
+use Rattle.pnm_image.specs.declared.message.Ending.{Ending}
+use Rattle.pnm_image.specs.declared.message.Ending.TheVariants.{More, Whole, BrokenOff}
 use Rattle.pnm_tools.specs.Dealing.{dealt_height, dealt_message, dealt_from}
 use Rattle.pnm_stages.specs.declared.stage.StageEnd.{StageEnd}
 use Rattle.pnm_stages.specs.declared.stage.StageEnd.TheVariants.{Well, Broken, Fault, PeerGone}

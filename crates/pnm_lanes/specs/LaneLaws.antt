@@ -6,12 +6,13 @@ use Rattle.pnm_image.specs.declared.message.Message.{Message}
 use Rattle.pnm_image.specs.declared.message.Message.TheVariants.{Begin}
 use Rattle.pnm_image.specs.declared.place.Place.TheVariants.{Between}
 use Rattle.pnm_image.specs.Heads.{HeadValue}
-use Rattle.pnm_image.specs.Messages.{IsMessage}
+use Rattle.pnm_image.specs.Messages.{IsMessage, EndsBy}
 use Rattle.pnm_image.specs.Places.{place_of}
 use Rattle.pnm_tools.specs.declared.fault.ToolFault.{ToolFault}
 use Rattle.pnm_image.specs.Completion.{IsPrefixOf}
 use Rattle.pnm_tools.specs.declared.tool.Tool.{Tool}
-use Rattle.pnm_tools.specs.Answers.{Whole, EndsBy, AreResults, images_ended, begun_of, answers_owed}
+use Rattle.pnm_image.specs.declared.message.Ending.TheVariants.{Whole}
+use Rattle.pnm_tools.specs.Answers.{AreResults, images_ended, begun_of, answers_owed}
 use Rattle.pnm_tools.specs.Dealing.{dealt_head, dealt_image, dealt}
 use Rattle.pnm_tools.specs.Tools.{IsLawfulTool, is_row_wise, result_head, AreTaken, applied, output_due}
 

@@ -10,8 +10,8 @@ ghost use Rattle.pnm_lanes.specs.DealParts.{IsRow, part_at, row_part, lane_part,
 ghost use Rattle.pnm_lanes.specs.DealParts.{HasBrokenOffDealing};
 ghost use Rattle.pnm_lanes.specs.declared.lane.TheConstants.{MAX_LANES};
 
-use pnm_image::{Message, Place, Samples};
-use pnm_stages::{Backoff, Ending, Receiver, Sender, StageEnd};
+use pnm_image::{Ending, Message, Place, Samples};
+use pnm_stages::{Backoff, Receiver, Sender, StageEnd};
 use pnm_tools::ToolFault;
 use std::alloc::Global;
 use std::sync::Wait;
@@ -68,7 +68,7 @@ fn deal_all<R: Wait>(rt: &R, input: &mut Receiver, outputs: &mut [Sender]) -> St
             send_each(rt, &Message::Stop, outputs, backoff);
             return StageEnd::PeerGone;
         };
-        let ending = Ending::of(&message);
+        let ending = message.ending();
         if !place.accepts(&message) {
             drop(message);
             let end = StageEnd::Fault(ToolFault::OutOfOrder);

@@ -8,8 +8,8 @@ ghost use Rattle.pnm_lanes.specs.Gathers.{at_lane, AreSameInputs};
 ghost use Rattle.pnm_lanes.specs.GatherParts.{HasDrainedOne, CarriesOn, HasDrainedAll, AreDone, ending_state};
 
 use crate::lane::LaneState;
-use pnm_image::Message;
-use pnm_stages::{Backoff, Ending, Receiver};
+use pnm_image::{Ending, Message};
+use pnm_stages::{Backoff, Receiver};
 use std::sync::Wait;
 
 /// Takes and drops what comes from the lanes that haven't ended, each through the end of its stream or Stop. It tries
@@ -103,9 +103,10 @@ fn state_after(message: &Message) -> LaneState
     ensures message { IsMessage message.now }
 {
     if let Message::Begin(head) = message {
+        // No effect at run time: a proof learns of this that the head keeps the rules of heads.
         let _ = head.shape();
     }
-    match Ending::of(message) {
+    match message.ending() {
         Ending::More => LaneState::Open,
         Ending::Whole | Ending::BrokenOff => LaneState::Ended,
     }

@@ -9,8 +9,8 @@ ghost use Rattle.pnm_lanes.specs.GatherParts.{HasBrokenOffAll};
 use crate::drain::drain_all;
 use crate::lane::{LaneState, MAX_LANES};
 use crate::next::take_next;
-use pnm_image::{Message, Place};
-use pnm_stages::{Backoff, Ending, Receiver, Sender, StageEnd};
+use pnm_image::{Ending, Message, Place};
+use pnm_stages::{Backoff, Receiver, Sender, StageEnd};
 use std::sync::Wait;
 
 /// The ring ends of a gatherer that has ended, and how it did.
@@ -67,7 +67,7 @@ fn gather_all<R: Wait>(rt: &R, inputs: &mut [Receiver], output: &mut Sender) -> 
             Ok(message) => message,
             Err(end) => return break_off(rt, end, inputs, states, output, backoff),
         };
-        let ending = Ending::of(&message);
+        let ending = message.ending();
         place.step(&message);
         if !output.send(rt, message, backoff) {
             drain_all(rt, inputs, states);

@@ -5,8 +5,8 @@ ghost use Rattle.pnm_stages.specs.Rings.{received, known_items};
 ghost use Rattle.pnm_lanes.specs.Gathers.{at_lane, AreSameInputs};
 ghost use Rattle.pnm_lanes.specs.GatherParts.{HasTakenFrom};
 
-use pnm_image::Message;
-use pnm_stages::{Backoff, Ending, Receiver, StageEnd};
+use pnm_image::{Ending, Message};
+use pnm_stages::{Backoff, Receiver, StageEnd};
 use std::sync::Wait;
 
 /// The most lanes of a tool.
@@ -41,7 +41,7 @@ pub fn take_from<R: Wait>(
     let Some(message) = inputs[lane].receive(rt, backoff) else {
         return Err(StageEnd::PeerGone);
     };
-    let ending = Ending::of(&message);
+    let ending = message.ending();
     match ending {
         Ending::More => Ok(message),
         Ending::Whole => {

@@ -95,6 +95,7 @@ impl Bits {
         ensures white { result ≡ 1 }
         ensures within { All (λ sample. sample ≤ result) self.now }
     {
+        // No effect at run time: a proof learns of this that the pixels are those of the bytes.
         let _ = &self.bytes;
         1
     }
@@ -103,6 +104,7 @@ impl Bits {
     pub fn are_within(&self, most: u32) -> bool
         ensures { IsTrue result ↔ All (λ sample. sample ≤ most) self.now }
     {
+        // No effect at run time: a proof learns of this that the pixels are those of the bytes.
         let _ = &self.bytes;
         if most > 0 {
             return true;

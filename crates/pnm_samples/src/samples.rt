@@ -123,6 +123,7 @@ impl Samples {
         requires { start + length buffer.old ≤ length self.now }
         ensures { buffer.new ≡ take (length buffer.old) (drop start self.now) }
     {
+        // No effect at run time: a proof learns of this that the row's length is a number of this machine.
         let _ = self.len();
         for i in 0..buffer.len() {
             buffer[i] = self.sample(start + i);

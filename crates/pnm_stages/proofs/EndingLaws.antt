@@ -3,8 +3,9 @@ use Rattle.std.proofs.Common.{◌≡◌, inl, inr, List, [], ◌∷◌, ◌++◌
 use Rattle.pnm_image.specs.declared.message.Message.{Message}
 use Rattle.pnm_image.specs.declared.message.Message.TheVariants.{Begin, Row, ImageEnd, StreamEnd, Stop}
 use Rattle.pnm_image.specs.Images.{Image, rows_of, messages_of_image, messages_of_stream}
-use Rattle.pnm_image.specs.Messages.{EndsStream}
-use Rattle.pnm_tools.specs.Answers.{Ending, More, Whole, BrokenOff, ending_of, EndsBy}
+use Rattle.pnm_image.specs.Messages.{EndsStream, ending_of, EndsBy}
+use Rattle.pnm_image.specs.declared.message.Ending.{Ending}
+use Rattle.pnm_image.specs.declared.message.Ending.TheVariants.{More, Whole, BrokenOff}
 use Rattle.pnm_tools.proofs.InFullLaws.{ends_after, end_ends_nothing}
 use Rattle.pnm_stages.specs.Rings.{IsEnded}
 

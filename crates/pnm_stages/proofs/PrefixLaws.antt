@@ -4,12 +4,12 @@ use Rattle.pnm_image.specs.declared.message.Message.{Message}
 use Rattle.pnm_image.specs.declared.message.Message.TheVariants.{Begin, Row, ImageEnd, StreamEnd, Stop}
 use Rattle.pnm_image.specs.declared.place.Place.TheVariants.{Between}
 use Rattle.pnm_image.specs.Images.{Image, messages_of_stream}
-use Rattle.pnm_image.specs.Messages.{without_stop}
+use Rattle.pnm_image.specs.Messages.{without_stop, EndsBy}
 use Rattle.pnm_image.specs.Places.{IsLawful}
 use Rattle.pnm_image.specs.Completion.{IsPrefixOf, Completes}
 use Rattle.pnm_image.proofs.Lists.{same_first, same_rest}
 use Rattle.pnm_image.proofs.Places.{next_may_come}
-use Rattle.pnm_tools.specs.Answers.{More, EndsBy}
+use Rattle.pnm_image.specs.declared.message.Ending.TheVariants.{More}
 use Rattle.pnm_tools.proofs.FullLaws.{prefix_of_prefix}
 use Rattle.pnm_tools.proofs.SoundLaws.{unbroken_keeps_all}
 use Rattle.pnm_stages.specs.Prefixes.{IsLongestLawfulPrefix, IsPrefixOfDue}

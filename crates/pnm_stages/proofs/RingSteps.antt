@@ -1,15 +1,14 @@
 -- What a ring has passed, message by message.
 use Rattle.std.proofs.Common.{◌≡◌, ◌⊎◌, inl, inr, List, [], ◌∷◌, ◌++◌, refl, sym, ap, subst, ◌∙◌, append_assoc}
 use Rattle.pnm_image.specs.declared.message.Message.{Message}
-use Rattle.pnm_image.specs.Messages.{IsMessage}
+use Rattle.pnm_image.specs.Messages.{IsMessage, ending_of, EndsBy}
 use Rattle.pnm_image.proofs.Lists.{each-push}
-use Rattle.pnm_tools.specs.Answers.{Ending, More, Whole, BrokenOff, ending_of, EndsBy}
+use Rattle.pnm_image.specs.declared.message.Ending.{Ending}
+use Rattle.pnm_image.specs.declared.message.Ending.TheVariants.{More, Whole, BrokenOff}
 use Rattle.pnm_stages.specs.declared.sender.Sender.{Sender}
 use Rattle.pnm_stages.specs.declared.receiver.Receiver.{Receiver}
 use Rattle.pnm_tools.proofs.InFullLaws.{EndNothing, ends_after}
-use Rattle.pnm_stages.specs.declared.ending.Ending.{Ending as Answered}
-use Rattle.pnm_stages.specs.declared.ending.Ending.TheVariants.{Whole as AnsweredWhole, BrokenOff as AnsweredBrokenOff}
-use Rattle.pnm_stages.specs.Rings.{ending_by, Extends, IsEnded, IsPair, SameProducer, SameConsumer}
+use Rattle.pnm_stages.specs.Rings.{Extends, IsEnded, IsPair, SameProducer, SameConsumer}
 
 -- no message of a list that goes on ends it
 pub ends_nothing : (l : List Message) → EndsBy More l → EndNothing l
@@ -46,10 +45,10 @@ drains_to_end l now new m extends added is (inr broken) =
     extends_by_one IsEnded l now new m extends added is (inr (ends_as BrokenOff extends.more m extends.holds broken))
 
 -- by how a message ends the stream, as a function answers it
-pub says_end : (a : Answered) (m : Message) → ending_by a ≡ ending_of m → (a ≡ AnsweredWhole) ⊎ (a ≡ AnsweredBrokenOff) → (ending_of m ≡ Whole)
+pub says_end : (a : Ending) (m : Message) → a ≡ ending_of m → (a ≡ Whole) ⊎ (a ≡ BrokenOff) → (ending_of m ≡ Whole)
     ⊎ (ending_of m ≡ BrokenOff)
-says_end a m says (inl whole) = inl (sym says ∙ ap ending_by whole)
-says_end a m says (inr broken) = inr (sym says ∙ ap ending_by broken)
+says_end a m says (inl whole) = inl (sym says ∙ whole)
+says_end a m says (inr broken) = inr (sym says ∙ broken)
 
 -- both ends of one ring, still
 pub same_input : (a b c : Receiver) → SameConsumer a b → SameConsumer b c → SameConsumer a c

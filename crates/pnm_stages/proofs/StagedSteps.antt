@@ -5,22 +5,22 @@ use Rattle.std.proofs.Common.{append-nil}
 use Rattle.std.specs.List.{AllByRecursion}
 use Rattle.pnm_image.specs.declared.message.Message.{Message}
 use Rattle.pnm_image.specs.declared.message.Message.TheVariants.{Stop}
-use Rattle.pnm_image.specs.Messages.{IsMessage}
+use Rattle.pnm_image.specs.Messages.{IsMessage, ending_of, EndsBy}
 use Rattle.pnm_image.proofs.Lists.{each-push}
 use Rattle.pnm_image.proofs.Streams.{is_stream_of}
 use Rattle.pnm_tools.specs.declared.fault.ToolFault.{ToolFault}
 use Rattle.pnm_tools.specs.declared.fault.ToolFault.TheVariants.{Memory}
 use Rattle.pnm_tools.specs.declared.tool.Tool.{Tool}
-use Rattle.pnm_tools.specs.Answers.{Ending, More, Whole, BrokenOff, ending_of, EndsBy, AnswersInFull}
+use Rattle.pnm_image.specs.declared.message.Ending.{Ending}
+use Rattle.pnm_image.specs.declared.message.Ending.TheVariants.{More, Whole, BrokenOff}
+use Rattle.pnm_tools.specs.Answers.{AnswersInFull}
 use Rattle.pnm_tools.specs.ChainAnswers.{HasRefused, IsRefusedNext}
 use Rattle.pnm_tools.proofs.FullAnswers.{full_answer_is_the_stream}
-use Rattle.pnm_stages.specs.declared.ending.Ending.{Ending as Answered}
-use Rattle.pnm_stages.specs.declared.ending.Ending.TheVariants.{More as AnsweredMore, Whole as AnsweredWhole, BrokenOff as AnsweredBrokenOff}
 use Rattle.pnm_stages.specs.declared.fused_filter.FusedFilter.{FusedFilter}
 use Rattle.pnm_stages.specs.declared.fused_filter.FusedFilter.TheVariants.{AtWork, Refused}
 use Rattle.pnm_stages.specs.declared.stage.StageEnd.{StageEnd}
 use Rattle.pnm_stages.specs.declared.stage.StageEnd.TheVariants.{Well, Broken, PeerGone}
-use Rattle.pnm_stages.specs.Rings.{ending_by, IsEnded, EndsAtMostOnce, HasDrainedAfter}
+use Rattle.pnm_stages.specs.Rings.{IsEnded, EndsAtMostOnce, HasDrainedAfter}
 use Rattle.pnm_stages.specs.FusedFilters.{StageAt, StageBusy, refusal_in}
 use Rattle.pnm_stages.specs.Prefixes.{IsPrefixOfDue}
 use Rattle.pnm_stages.specs.Stages.{HasEndedSo, HasRunStage}
@@ -138,7 +138,7 @@ input_gone at all_given stopped first (AtWork filter) false r r1 r2 left s s1 s2
     }
 
 -- what was drained after a message with this ending
-record IsDrainedBy (a : Answered) (drained : Bool) (took r1 r2 left : List Message) : Type 0 where
+record IsDrainedBy (a : Ending) (drained : Bool) (took r1 r2 left : List Message) : Type 0 where
   rest : List Message
   added : r2 ≡ r1 ++ rest
   messages : AllByRecursion IsMessage rest
@@ -154,17 +154,17 @@ at_most_once : (l : List Message) → IsEnded l → EndsAtMostOnce l
 at_most_once l (inl whole) = (Whole, whole)
 at_most_once l (inr broken) = (BrokenOff, broken)
 
-nothing_more : (a : Answered) (drained : Bool) (took r1 r2 left : List Message) → IsEnded took → r2 ≡ r1 → IsDrainedBy a drained took r1 r2 left
+nothing_more : (a : Ending) (drained : Bool) (took r1 r2 left : List Message) → IsEnded took → r2 ≡ r1 → IsDrainedBy a drained took r1 r2 left
 nothing_more a drained took r1 r2 left ended same =
     let still : IsEnded (took ++ []) = subst IsEnded (sym (append-nil took)) ended in
     record { rest = []; added = same ∙ sym (append-nil r1); messages = tt; once = at_most_once (took ++ []) still; ended = λ is. still; all = inl still }
 
-drained_by : (a : Answered) (drained : Bool) (took r1 r2 left : List Message) → EndsBy (ending_by a) took → HasDrainedAfter a drained r1 r2 left
+drained_by : (a : Ending) (drained : Bool) (took r1 r2 left : List Message) → EndsBy a took → HasDrainedAfter a drained r1 r2 left
     → IsDrainedBy a drained took r1 r2 left
-drained_by AnsweredMore true took r1 r2 left ends has =
+drained_by More true took r1 r2 left ends has =
     let ended = ended_after took has.more ends has.holds in
     record { rest = has.more; added = has.added; messages = has.messages; once = at_most_once (took ++ has.more) ended; ended = λ is. ended; all = inl ended }
-drained_by AnsweredMore false took r1 r2 left ends has =
+drained_by More false took r1 r2 left ends has =
     record {
       rest = has.0.more;
       added = has.0.added;
@@ -173,19 +173,19 @@ drained_by AnsweredMore false took r1 r2 left ends has =
       ended = λ is. absurd cc;
       all = inr has.1;
     }
-drained_by AnsweredWhole drained took r1 r2 left ends has = nothing_more AnsweredWhole drained took r1 r2 left (inl ends) has.1
-drained_by AnsweredBrokenOff drained took r1 r2 left ends has = nothing_more AnsweredBrokenOff drained took r1 r2 left (inr ends) has.1
+drained_by Whole drained took r1 r2 left ends has = nothing_more Whole drained took r1 r2 left (inl ends) has.1
+drained_by BrokenOff drained took r1 r2 left ends has = nothing_more BrokenOff drained took r1 r2 left (inr ends) has.1
 
 -- the output is gone, and the input was drained
 pub output_gone : {F : Type 0} (at : F → Tool → List Message → List Message → Type 0) (all_given : F → Bool) (stopped : F → Option ToolFault)
-    (first old fed new : FusedFilter F) (m : Message) (a : Answered) (drained : Bool) (r r1 r2 r3 left s s1 s2 : List Message) (tool : Tool)
+    (first old fed new : FusedFilter F) (m : Message) (a : Ending) (drained : Bool) (r r1 r2 r3 left s s1 s2 : List Message) (tool : Tool)
     → IsPassing at all_given stopped More first old r r1 s s1 → r2 ≡ r1 ++ m ∷ [] → IsMessage m
     → ((tool : Tool) (l g : List Message) → StageAt at all_given stopped old tool l g → StageBusy at stopped fed tool (l ++ m ∷ []) g)
-    → HasSentAnswers at all_given stopped false fed new s1 s2 → ending_by a ≡ ending_of m → HasDrainedAfter a drained r2 r3 left
+    → HasSentAnswers at all_given stopped false fed new s1 s2 → a ≡ ending_of m → HasDrainedAfter a drained r2 r3 left
     → StageAt at all_given stopped first tool [] [] → HasRunStage tool PeerGone r r3 left s s2
 output_gone at all_given stopped first old fed new m a drained r r1 r2 r3 left s s1 s2 tool passing added is feeds answers says rest fresh =
     let took = passing.took ++ m ∷ [] in
-    let ends : EndsBy (ending_by a) took = subst (λ (e : Ending). EndsBy e took) (sym says) (ends_with passing.took m passing.ends) in
+    let ends : EndsBy a took = subst (λ (e : Ending). EndsBy e took) (sym says) (ends_with passing.took m passing.ends) in
     let by = drained_by a drained took r2 r3 left ends rest in
     let part = answers.part tool took passing.gave (feeds tool passing.took passing.gave (passing.stage tool fresh)) in
     record {
@@ -253,8 +253,8 @@ broken_due tool fault took gave rest has =
     due_goes_on (output_due tool) took gave rest
     (due_by_part tool took gave (record { accepted = has.accepted; rest = has.rest; parts = has.parts; answers = has.answers }))
 
-broken_off : (tool : Tool) (fault : ToolFault) (a : Answered) (end : StageEnd) (took gave r r1 r2 left s s1 s2 : List Message) → IsBroken tool fault took gave
-    → EndsBy (ending_by a) took → r1 ≡ r ++ took → s1 ≡ s ++ gave
+broken_off : (tool : Tool) (fault : ToolFault) (a : Ending) (end : StageEnd) (took gave r r1 r2 left s s1 s2 : List Message) → IsBroken tool fault took gave
+    → EndsBy a took → r1 ≡ r ++ took → s1 ≡ s ++ gave
     → HasBrokenOffAfter fault a end r1 r2 left s1 s2 → HasRunStage tool end r r2 left s s2
 broken_off tool fault a end took gave r r1 r2 left s s1 s2 is ends received sent (inl faulted) =
     let by = drained_by a true took r1 r2 left ends faulted.2 in
@@ -311,8 +311,8 @@ broken_off tool fault a end took gave r r1 r2 left s s1 s2 is ends received sent
 
 -- the tool refused at the last message, or at its start
 pub breaks_off : {F : Type 0} (at : F → Tool → List Message → List Message → Type 0) (all_given : F → Bool) (stopped : F → Option ToolFault) (e : Ending)
-    (first now : FusedFilter F) (fault : ToolFault) (a : Answered) (end : StageEnd) (r r1 r2 left s s1 s2 : List Message) (tool : Tool)
-    → IsPassing at all_given stopped e first now r r1 s s1 → ending_by a ≡ e → refusal_in now ≡ Some fault → HasBrokenOffAfter fault a end r1 r2 left s1 s2
+    (first now : FusedFilter F) (fault : ToolFault) (a : Ending) (end : StageEnd) (r r1 r2 left s s1 s2 : List Message) (tool : Tool)
+    → IsPassing at all_given stopped e first now r r1 s s1 → a ≡ e → refusal_in now ≡ Some fault → HasBrokenOffAfter fault a end r1 r2 left s1 s2
     → StageAt at all_given stopped first tool [] [] → HasRunStage tool end r r2 left s s2
 breaks_off at all_given stopped e first now fault a end r r1 r2 left s s1 s2 tool passing says is broken fresh =
     let refused = refused_at at all_given stopped now fault tool passing.took passing.gave is (passing.stage tool fresh) in

@@ -2,16 +2,14 @@
 use Rattle.std.specs.Prelude.{◌≡◌, ◌⊎◌, ℕ, Bool, true, false, List, [], ◌++◌}
 use Rattle.std.specs.List.{AllByRecursion}
 use Rattle.pnm_image.specs.declared.message.Message.{Message}
-use Rattle.pnm_image.specs.Messages.{IsMessage}
-use Rattle.pnm_tools.specs.Answers.{Ending, More, Whole, BrokenOff, EndsBy}
+use Rattle.pnm_image.specs.Messages.{IsMessage, EndsBy}
+use Rattle.pnm_image.specs.declared.message.Ending.{Ending}
+use Rattle.pnm_image.specs.declared.message.Ending.TheVariants.{More, Whole, BrokenOff}
 use Rattle.rtrb.specs.Ring.{sent as sent_on, received as received_on, known_items as known_items_on}
 use Rattle.rtrb.specs.Ring.{known_free as known_free_on, IsPair as AreEndsOfRing, SameProducer as IsSameSendingEnd}
 use Rattle.rtrb.specs.Ring.{SameConsumer as IsSameReceivingEnd}
 use Rattle.pnm_stages.specs.declared.sender.Sender.{Sender}
 use Rattle.pnm_stages.specs.declared.receiver.Receiver.{Receiver}
-use Rattle.pnm_stages.specs.declared.ending.Ending.{Ending as Answered}
-use Rattle.pnm_stages.specs.declared.ending.Ending.TheVariants.{More as AnsweredMore, Whole as AnsweredWhole}
-use Rattle.pnm_stages.specs.declared.ending.Ending.TheVariants.{BrokenOff as AnsweredBrokenOff}
 
 -- ---- the two ends of a ring
 
@@ -42,12 +40,6 @@ SameConsumer a b = IsSameReceivingEnd a.ring b.ring
 
 -- ---- what passes over it
 
--- how a message ends a stream, by the answer of a function
-abbrev pub ending_by : Answered → Ending
-ending_by AnsweredMore = More
-ending_by AnsweredWhole = Whole
-ending_by AnsweredBrokenOff = BrokenOff
-
 -- the last message ends the stream, whole or broken off, and no other does
 abbrev pub IsEnded : List Message → Type 0
 IsEnded l = EndsBy Whole l ⊎ EndsBy BrokenOff l
@@ -70,7 +62,7 @@ HasDrained true old new seen = Extends old new IsEnded
 HasDrained false old new seen = Extends old new (EndsBy More) × (seen ≡ [])
 
 -- messages were drained after one with this ending: after one that ends the stream nothing is
-abbrev pub HasDrainedAfter : Answered → Bool → List Message → List Message → List Message → Type 0
-HasDrainedAfter AnsweredMore drained old new seen = HasDrained drained old new seen
-HasDrainedAfter AnsweredWhole drained old new seen = (drained ≡ true) × (new ≡ old)
-HasDrainedAfter AnsweredBrokenOff drained old new seen = (drained ≡ true) × (new ≡ old)
+abbrev pub HasDrainedAfter : Ending → Bool → List Message → List Message → List Message → Type 0
+HasDrainedAfter More drained old new seen = HasDrained drained old new seen
+HasDrainedAfter Whole drained old new seen = (drained ≡ true) × (new ≡ old)
+HasDrainedAfter BrokenOff drained old new seen = (drained ≡ true) × (new ≡ old)

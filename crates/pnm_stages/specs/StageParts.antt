@@ -5,7 +5,7 @@ use Rattle.pnm_image.specs.declared.message.Message.TheVariants.{Stop}
 use Rattle.pnm_tools.specs.declared.fault.ToolFault.{ToolFault}
 use Rattle.pnm_tools.specs.declared.tool.Tool.{Tool}
 use Rattle.pnm_tools.specs.Answers.{Answers}
-use Rattle.pnm_stages.specs.declared.ending.Ending.{Ending}
+use Rattle.pnm_image.specs.declared.message.Ending.{Ending}
 use Rattle.pnm_stages.specs.declared.fused_filter.FusedFilter.{FusedFilter}
 use Rattle.pnm_stages.specs.declared.stage.StageEnd.{StageEnd}
 use Rattle.pnm_stages.specs.declared.stage.StageEnd.TheVariants.{Fault, PeerGone}

@@ -4,12 +4,13 @@ use Rattle.std.specs.List.{AllByRecursion}
 use Rattle.pnm_image.specs.declared.message.Message.{Message}
 use Rattle.pnm_image.specs.declared.message.Message.TheVariants.{Stop}
 use Rattle.pnm_image.specs.Images.{Image, messages_of_stream}
-use Rattle.pnm_image.specs.Messages.{IsMessage}
+use Rattle.pnm_image.specs.Messages.{IsMessage, EndsBy}
 use Rattle.pnm_image.specs.Places.{IsLawful}
 use Rattle.pnm_image.specs.Completion.{IsStreamOf}
 use Rattle.pnm_tools.specs.declared.fault.ToolFault.{ToolFault}
 use Rattle.pnm_tools.specs.declared.tool.Tool.{Tool}
-use Rattle.pnm_tools.specs.Answers.{More, BrokenOff, EndsBy, AnswersInFull, AreResults}
+use Rattle.pnm_image.specs.declared.message.Ending.TheVariants.{More, BrokenOff}
+use Rattle.pnm_tools.specs.Answers.{AnswersInFull, AreResults}
 use Rattle.pnm_tools.specs.ChainAnswers.{HasRefused}
 use Rattle.pnm_tools.specs.Tools.{output_due}
 use Rattle.pnm_stages.specs.declared.stage.StageEnd.{StageEnd}

@@ -4,7 +4,6 @@
 
 mod backoff;
 mod branches;
-mod ending;
 mod fused_filter;
 pub mod laws;
 mod receiver;
@@ -15,7 +14,6 @@ mod wakers;
 
 pub use backoff::Backoff;
 pub use branches::{Call, Idle, NoStart, Task, run_both};
-pub use ending::{Ending, ends_image};
 pub use fused_filter::{FusedFilter, filter_of, row_filter_of};
 pub use receiver::Receiver;
 pub use ring::{AnyMessage, MAX_RING_CAPACITY, new_ring};

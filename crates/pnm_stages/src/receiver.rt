@@ -6,11 +6,10 @@ ghost use Rattle.pnm_stages.specs.Rings.{sent, received, known_items, IsPair, Sa
 ghost use Rattle.pnm_stages.specs.Rings.{HasDrainedAfter};
 
 use crate::backoff::Backoff;
-use crate::ending::Ending;
 use crate::ring::AnyMessage;
 use crate::sender::Sender;
 use crate::wakers::ReceiverWaker;
-use pnm_image::Message;
+use pnm_image::{Ending, Message};
 use rtrb::Consumer;
 use std::alloc::Global;
 use std::sync::Wait;
@@ -132,7 +131,7 @@ impl Receiver {
             let Some(message) = self.receive(rt, backoff) else {
                 return false;
             };
-            let ending = Ending::of(&message);
+            let ending = message.ending();
             drop(message);
             match ending {
                 Ending::More => {}

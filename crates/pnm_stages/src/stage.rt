@@ -9,11 +9,10 @@ ghost use Rattle.pnm_stages.specs.Stages.{HasRunStage};
 ghost use Rattle.pnm_stages.specs.StageParts.{HasSentAnswers, HasBrokenOffAfter};
 
 use crate::backoff::Backoff;
-use crate::ending::Ending;
 use crate::fused_filter::{FusedFilter, filter_of};
 use crate::receiver::Receiver;
 use crate::sender::Sender;
-use pnm_image::Message;
+use pnm_image::{Ending, Message};
 use pnm_tools::{Filter, Tool, ToolFault};
 use std::alloc::Global;
 use std::sync::Wait;
@@ -127,7 +126,7 @@ fn pass_all<R: Wait, F: Filter + Drop>(
             output.send(rt, Message::Stop, backoff);
             return StageEnd::PeerGone;
         };
-        let ending = Ending::of(&message);
+        let ending = message.ending();
         stage.feed(message);
         if !send_answers(rt, stage, output, backoff) {
             input.drain_after(rt, ending, backoff);

@@ -5,14 +5,15 @@ use Rattle.pnm_image.specs.declared.message.Message.TheVariants.{Begin, Row, Ima
 use Rattle.pnm_image.specs.declared.place.Place.{Place}
 use Rattle.pnm_image.specs.declared.place.Place.TheVariants.{Between, Inside, After}
 use Rattle.pnm_image.specs.Heads.{HeadValue}
-use Rattle.pnm_image.specs.Messages.{without_stop}
+use Rattle.pnm_image.specs.Messages.{without_stop, ending_of, EndsBy}
 use Rattle.pnm_image.specs.Places.{IsLawfulFrom, IsLawful, place_after}
 use Rattle.pnm_image.specs.Images.{Image}
 use Rattle.pnm_image.specs.Completion.{IsPrefixOf, Completes}
 use Rattle.pnm_tools.specs.declared.fault.ToolFault.{ToolFault}
 use Rattle.pnm_tools.specs.declared.tool.Tool.{Tool}
 use Rattle.pnm_tools.specs.Tools.{AreTaken, result_head, row_answer, end_answer, output_due}
-use Rattle.pnm_tools.specs.Answers.{More, BrokenOff, ending_of, EndsBy, Answers}
+use Rattle.pnm_image.specs.declared.message.Ending.TheVariants.{More, BrokenOff}
+use Rattle.pnm_tools.specs.Answers.{Answers}
 use Rattle.pnm_tools.specs.Answering.{answers_at, answers_from}
 use Rattle.pnm_tools.specs.States.{IsAnswering}
 use Rattle.pnm_tools.proofs.AnsweringLaws.{AnswersImages, answers_from-append, answers_are_due}

@@ -6,7 +6,7 @@ use Rattle.pnm_image.specs.declared.message.Message.{Message}
 use Rattle.pnm_image.specs.declared.message.Message.TheVariants.{Begin, Row, ImageEnd, StreamEnd, Stop}
 use Rattle.pnm_image.specs.declared.place.Place.TheVariants.{Between}
 use Rattle.pnm_image.specs.Images.{Image, IsImage, AreImages, messages_of_image, messages_of_stream}
-use Rattle.pnm_image.specs.Messages.{IsMessage}
+use Rattle.pnm_image.specs.Messages.{IsMessage, EndsBy}
 use Rattle.pnm_image.specs.Completion.{IsPrefixOf, Completes}
 use Rattle.pnm_image.proofs.Streams.{completion, stream_is_messages, stream_is_lawful}
 use Rattle.pnm_image.proofs.Places.{lawful_prefix, next_may_come}
@@ -15,7 +15,8 @@ use Rattle.pnm_tools.specs.declared.fault.ToolFault.{ToolFault}
 use Rattle.pnm_tools.specs.declared.fault.ToolFault.TheVariants.{OutOfOrder, Memory}
 use Rattle.pnm_tools.specs.declared.tool.Tool.{Tool}
 use Rattle.pnm_tools.specs.Tools.{IsLawfulTool, applied, output_due}
-use Rattle.pnm_tools.specs.Answers.{More, EndsBy, Answers, AnswersInFull, RefusesHead, Judges, AreResults}
+use Rattle.pnm_image.specs.declared.message.Ending.TheVariants.{More}
+use Rattle.pnm_tools.specs.Answers.{Answers, AnswersInFull, RefusesHead, Judges, AreResults}
 use Rattle.pnm_tools.specs.Chains.{AreLawfulTools, AreResultsInTurn, applied_in_turn, due_in_turn, results_of, refusal_from, refusal_of}
 use Rattle.pnm_tools.specs.ChainAnswers.{IsSound, AreSound, AreWell, IsFirstFault, IsRefusedNext, HasRefused, HasAnswered, HaveAnswered}
 use Rattle.pnm_tools.proofs.FullAnswers.{full_answer_is_the_stream}

@@ -8,7 +8,9 @@ use Rattle.pnm_image.proofs.Lists.{same_first, same_rest}
 use Rattle.pnm_tools.specs.declared.fault.ToolFault.{ToolFault}
 use Rattle.pnm_tools.specs.declared.tool.Tool.{Tool}
 use Rattle.pnm_tools.specs.Tools.{applied, output_due}
-use Rattle.pnm_tools.specs.Answers.{More, Whole, ending_of, EndsBy, AnswersInFull, AreResults}
+use Rattle.pnm_image.specs.declared.message.Ending.TheVariants.{More, Whole}
+use Rattle.pnm_image.specs.Messages.{ending_of, EndsBy}
+use Rattle.pnm_tools.specs.Answers.{AnswersInFull, AreResults}
 use Rattle.pnm_tools.proofs.AnsweringLaws.{due_by, due_is}
 use Rattle.pnm_tools.proofs.InFullLaws.{EndNothing, end_ends_nothing, ends_after}
 use Rattle.pnm_tools.proofs.SoundLaws.{unbroken_keeps_all}

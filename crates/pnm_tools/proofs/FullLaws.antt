@@ -4,11 +4,11 @@ use Rattle.pnm_image.specs.declared.message.Message.{Message}
 use Rattle.pnm_image.specs.declared.message.Message.TheVariants.{Begin, Row, ImageEnd, StreamEnd, Stop}
 use Rattle.pnm_image.specs.declared.place.Place.TheVariants.{Between}
 use Rattle.pnm_image.specs.Images.{Image}
-use Rattle.pnm_image.specs.Messages.{without_stop}
+use Rattle.pnm_image.specs.Messages.{without_stop, EndsBy}
 use Rattle.pnm_image.specs.Places.{place_of}
 use Rattle.pnm_image.specs.Completion.{IsPrefixOf, Completes}
 use Rattle.pnm_tools.specs.declared.tool.Tool.{Tool}
-use Rattle.pnm_tools.specs.Answers.{EndsBy, images_ended, begun_of, begun_in, answers_owed, AnswersInFull}
+use Rattle.pnm_tools.specs.Answers.{images_ended, begun_of, begun_in, answers_owed, AnswersInFull}
 use Rattle.pnm_tools.specs.Answering.{answers_from, rows_come}
 use Rattle.pnm_tools.specs.States.{IsAnswering}
 use Rattle.pnm_tools.proofs.AnsweringLaws.{AnswersImages, answers_from-append}

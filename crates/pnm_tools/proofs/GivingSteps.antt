@@ -12,7 +12,9 @@ use Rattle.pnm_image.proofs.Places.{place_of-append}
 use Rattle.pnm_tools.specs.declared.fault.ToolFault.{ToolFault}
 use Rattle.pnm_tools.specs.Pendings.{Pending, AllGiven, Waiting, Rows, RowsAndEnd, Nothing}
 use Rattle.pnm_tools.specs.declared.tool.Tool.{Tool}
-use Rattle.pnm_tools.specs.Answers.{More, BrokenOff, EndsBy, AnswersInFull}
+use Rattle.pnm_image.specs.declared.message.Ending.TheVariants.{More, BrokenOff}
+use Rattle.pnm_image.specs.Messages.{EndsBy}
+use Rattle.pnm_tools.specs.Answers.{AnswersInFull}
 use Rattle.pnm_tools.specs.Answering.{answers_from, rows_come}
 use Rattle.pnm_tools.specs.States.{Standing, standing, IsAnswering, IsAt, IsReadyFor, KeepsNone, is_all_given, waiting_in}
 use Rattle.pnm_tools.specs.Steps.{IsGiven, GivesRows}

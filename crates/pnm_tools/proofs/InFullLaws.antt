@@ -9,7 +9,9 @@ use Rattle.pnm_image.specs.Places.{place_after}
 use Rattle.pnm_tools.specs.declared.fault.ToolFault.{ToolFault}
 use Rattle.pnm_tools.specs.declared.tool.Tool.{Tool}
 use Rattle.pnm_tools.specs.Tools.{result_head, row_answer, end_answer}
-use Rattle.pnm_tools.specs.Answers.{Ending, More, ending_of, EndsBy}
+use Rattle.pnm_image.specs.declared.message.Ending.{Ending}
+use Rattle.pnm_image.specs.declared.message.Ending.TheVariants.{More}
+use Rattle.pnm_image.specs.Messages.{ending_of, EndsBy}
 use Rattle.pnm_tools.specs.Answering.{answers_at, answers_from, rows_after}
 
 -- ---- the answers end as the messages do

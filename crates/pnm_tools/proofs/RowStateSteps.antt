@@ -5,7 +5,9 @@ use Rattle.pnm_tools.specs.declared.fault.ToolFault.{ToolFault}
 use Rattle.pnm_tools.specs.declared.row_state.RowState.{RowState}
 use Rattle.pnm_tools.specs.declared.tool.Tool.{Tool}
 use Rattle.pnm_tools.specs.declared.any_tool.AnyTool.{AnyTool}
-use Rattle.pnm_tools.specs.Answers.{BrokenOff, EndsBy, AnswersInFull}
+use Rattle.pnm_image.specs.declared.message.Ending.TheVariants.{BrokenOff}
+use Rattle.pnm_image.specs.Messages.{EndsBy}
+use Rattle.pnm_tools.specs.Answers.{AnswersInFull}
 use Rattle.pnm_tools.specs.RowStates.{IsRowToolAt}
 use Rattle.pnm_tools.specs.States.{Standing, IsToolAt, is_all_given}
 

@@ -6,7 +6,9 @@ use Rattle.pnm_image.specs.declared.place.Place.{Place}
 use Rattle.pnm_image.specs.declared.place.Place.TheVariants.{Between, Inside, After}
 use Rattle.pnm_image.specs.Heads.{HeadValue}
 use Rattle.pnm_image.specs.Images.{Image, AreImages, messages_of_image, messages_of_stream}
-use Rattle.pnm_image.specs.Messages.{without_stop}
+use Rattle.pnm_image.specs.declared.message.Ending.{Ending}
+use Rattle.pnm_image.specs.declared.message.Ending.TheVariants.{BrokenOff}
+use Rattle.pnm_image.specs.Messages.{without_stop, EndsBy}
 use Rattle.pnm_image.specs.Places.{Accepts, IsLawful, place_of}
 use Rattle.pnm_image.specs.Completion.{IsPrefixOf, Completes}
 use Rattle.pnm_tools.specs.declared.fault.ToolFault.{ToolFault}
@@ -14,25 +16,6 @@ use Rattle.pnm_tools.specs.declared.fault.ToolFault.TheVariants.{CutOutside, Cha
 use Rattle.pnm_tools.specs.declared.fault.ToolFault.TheVariants.{Memory}
 use Rattle.pnm_tools.specs.declared.tool.Tool.{Tool}
 use Rattle.pnm_tools.specs.Tools.{result_head, TakesHead, AreTaken, applied, output_due}
-
--- how a list of messages ends: it doesn't, whole, or broken off
-pub data Ending : Type 0 where
-  More : Ending
-  Whole : Ending
-  BrokenOff : Ending
-
-abbrev pub ending_of : Message → Ending
-ending_of (Begin head) = More
-ending_of (Row row) = More
-ending_of ImageEnd = More
-ending_of StreamEnd = Whole
-ending_of Stop = BrokenOff
-
--- only the last message ends the stream, and so
-abbrev pub EndsBy : Ending → List Message → Type 0
-EndsBy e [] = e ≡ More
-EndsBy e (m ∷ []) = ending_of m ≡ e
-EndsBy e (m ∷ n ∷ ms) = (ending_of m ≡ More) × EndsBy e (n ∷ ms)
 
 -- the images that have ended in messages
 abbrev pub images_ended : List Message → ℕ

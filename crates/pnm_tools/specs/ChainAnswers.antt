@@ -4,12 +4,13 @@ use Rattle.std.specs.Prelude.{◌≡◌, ◌⊎◌, ◌<◌, ◌+◌, ℕ, true,
 use Rattle.std.specs.List.{AllByRecursion}
 use Rattle.pnm_image.specs.declared.message.Message.{Message}
 use Rattle.pnm_image.specs.declared.message.Message.TheVariants.{Begin, Row, ImageEnd, StreamEnd, Stop}
-use Rattle.pnm_image.specs.Messages.{IsMessage}
+use Rattle.pnm_image.specs.Messages.{IsMessage, EndsBy}
 use Rattle.pnm_image.specs.Places.{IsLawful}
 use Rattle.pnm_tools.specs.declared.fault.ToolFault.{ToolFault}
 use Rattle.pnm_tools.specs.declared.fault.ToolFault.TheVariants.{Memory}
 use Rattle.pnm_tools.specs.declared.tool.Tool.{Tool}
-use Rattle.pnm_tools.specs.Answers.{More, EndsBy, Answers, AnswersInFull, Judges}
+use Rattle.pnm_image.specs.declared.message.Ending.TheVariants.{More}
+use Rattle.pnm_tools.specs.Answers.{Answers, AnswersInFull, Judges}
 use Rattle.pnm_tools.specs.Tools.{AreTaken}
 
 -- messages of images that have rows, without Stop

@@ -7,7 +7,9 @@ ghost use Rattle.pnm_image.specs.declared.message.Message.TheVariants.{Stop};
 ghost use Rattle.pnm_tools.specs.declared.fault.ToolFault.{ToolFault as Fault};
 ghost use Rattle.pnm_tools.specs.declared.fault.ToolFault.TheVariants.{Memory};
 ghost use Rattle.pnm_tools.specs.declared.tool.Tool.{Tool as ToolValue};
-ghost use Rattle.pnm_tools.specs.Answers.{Ending, EndsBy, Answers, AnswersInFull, Judges};
+ghost use Rattle.pnm_image.specs.declared.message.Ending.TheVariants.{More, BrokenOff};
+ghost use Rattle.pnm_image.specs.Messages.{EndsBy};
+ghost use Rattle.pnm_tools.specs.Answers.{Answers, AnswersInFull, Judges};
 
 use crate::fault::ToolFault;
 use pnm_image::Message;
@@ -57,7 +59,7 @@ pub trait Filter {
             → at self.new t l (g ++ m ∷ []))) }
         ensures stop_alone { IfOk result
             (λ r. IfSome r (λ m. (t : ToolValue) (l g : List MessageValue) → at self.old t l g
-            → EndsBy Ending.BrokenOff l → m ≡ Stop)) }
+            → EndsBy BrokenOff l → m ≡ Stop)) }
         ensures fewer { IfOk result
             (λ r. IfSome r (λ m. (waiting self.new < waiting self.old) × (all_given self.old ≡ false)
             × (all_given self.new ≡ false))) }
@@ -69,7 +71,7 @@ pub trait Filter {
         ensures failed { stopped self.old ≡ None
             → IfErr result
             (λ k. (k ≡ Memory)
-            × ((t : ToolValue) (l g : List MessageValue) → at self.old t l g → EndsBy Ending.More g)) }
+            × ((t : ToolValue) (l g : List MessageValue) → at self.old t l g → EndsBy More g)) }
         ensures stops { IfErr result (λ k. stopped self.new ≡ Some k) }
         ensures goes_on { OnOk result ((stopped self.old ≡ None) × (stopped self.new ≡ None)) }
         ensures stays { (k : Fault) → stopped self.old ≡ Some k → result ≡ Err k };

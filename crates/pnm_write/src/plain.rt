@@ -144,6 +144,7 @@ fn write_others<W: BytesOut>(
     ensures count { OnOk result (W.failures writer.new ≡ W.failures writer.old) }
     ensures same_device { W.same writer.old writer.new }
 {
+    // No effect at run time: a proof learns of this that the maxval keeps the rules of shapes.
     let _ = shape.maxval;
     let mut samples = [0; MOST];
     let mut column = 0;

@@ -4,9 +4,9 @@ use Rattle.pnm_stages.specs.Rings.{received, known_items}
 use Rattle.pnm_image.specs.declared.place.Place.{Place}
 use Rattle.pnm_image.specs.Places.{Accepts, place_after}
 use Rattle.pnm_tools.specs.declared.fault.ToolFault.TheVariants.{OutOfOrder, Memory}
-use Rattle.pnm_tools.specs.Answers.{More, Whole, BrokenOff, ending_of}
+use Rattle.pnm_image.specs.declared.message.Ending.TheVariants.{More, Whole, BrokenOff}
+use Rattle.pnm_image.specs.Messages.{ending_of}
 use Rattle.pnm_stages.specs.declared.stage.StageEnd.TheVariants.{Fault, PeerGone}
-use Rattle.pnm_stages.specs.Rings.{ending_by}
 use Rattle.pnm_stages.proofs.RingSteps.{itself_input, same_input, says_end}
 use Rattle.pnm_lanes.specs.Limits.{IsLaneCount}
 use Rattle.pnm_lanes.proofs.DealSteps.{IsDealing, deals_nothing, deals_on, ends_whole, ends_broken}
@@ -33,26 +33,26 @@ returns-then-not-accepts-clause-dealt g c =
     let dealing = c.loop.invariant.2 in
     let refused : Accepts c.loop.place m → ⊥ = λ a. let yes : c.accepts.result ≡ true = c.accepts.ensures.1 a in let no : c.accepts.result ≡ false =
     c.if-not-accepts.true in absurd cc in
-    breaks_off (Fault OutOfOrder) c.break_off.result c.of-ending.result (ending_of m) (received c.args.input.now) (received c.receive.new.self)
+    breaks_off (Fault OutOfOrder) c.break_off.result c.ending-ending.result (ending_of m) (received c.args.input.now) (received c.receive.new.self)
     (received c.break_off.new.input) (known_items c.break_off.new.input) c.args.outputs.now c.loop.outputs c.break_off.new.outputs
     (cut_at c.loop.place (received c.args.input.now) (received c.loop.input) (received c.receive.new.self) c.args.outputs.now c.loop.outputs m dealing
     c.in-Some-receive.ensures.taken c.in-Some-receive.ensures.message refused)
-    c.of-ending.ensures c.break_off.ensures.broken
+    c.ending-ending.ensures c.break_off.ensures.broken
 
 pub returns-in-More-clause-dealt : goal.returns-in-More-clause-dealt
 returns-in-More-clause-dealt g c =
     let m = c.in-Some-receive.message in
     let end = c.in-Some-send_parts.end in
     let dealing = c.loop.invariant.2 in
-    let goes : ending_of m ≡ More = sym c.of-ending.ensures ∙ ap ending_by c.in-More.is in
+    let goes : ending_of m ≡ More = sym c.ending-ending.ensures ∙ c.in-More.is in
     let reason = subst (λ (unsent : _). IfSome unsent (λ e. (e ≡ Fault Memory) ⊎ (e ≡ PeerGone))) c.in-Some-send_parts.is c.send_parts.ensures.reason in
-    breaks_off end c.break_off-in-More.result c.of-ending.result (ending_of m) (received c.args.input.now) (received c.receive.new.self)
+    breaks_off end c.break_off-in-More.result c.ending-ending.result (ending_of m) (received c.args.input.now) (received c.receive.new.self)
     (received c.break_off-in-More.new.input) (known_items c.break_off-in-More.new.input) c.args.outputs.now c.send_parts.new.outputs
     c.break_off-in-More.new.outputs
     (cut_after end c.loop.place (received c.args.input.now) (received c.loop.input) (received c.receive.new.self) c.args.outputs.now c.loop.outputs
     c.send_parts.new.outputs m c.send_parts.result dealing c.in-Some-receive.ensures.taken c.in-Some-receive.ensures.message
     (c.accepts.ensures.0 c.if-not-accepts.false) goes c.send_parts.ensures reason)
-    c.of-ending.ensures c.break_off-in-More.ensures.broken
+    c.ending-ending.ensures c.break_off-in-More.ensures.broken
 
 pub returns-in-Whole : goal.returns-in-Whole
 returns-in-Whole g c =
@@ -61,7 +61,7 @@ returns-in-Whole g c =
       dealt = ends_gone c.loop.place (received c.args.input.now) (received c.loop.input) (received c.receive.new.self) (known_items c.receive.new.self)
           c.args.outputs.now c.loop.outputs c.send_parts.new.outputs m c.send_parts.result
           c.loop.invariant.2 c.in-Some-receive.ensures.taken c.in-Some-receive.ensures.message (c.accepts.ensures.0 c.if-not-accepts.false)
-          (says_end c.of-ending.result m c.of-ending.ensures c.in-Whole.is) c.send_parts.ensures;
+          (says_end c.ending-ending.result m c.ending-ending.ensures c.in-Whole.is) c.send_parts.ensures;
     }
 
 pub loop-preserved : goal.loop-preserved
@@ -74,7 +74,7 @@ loop-preserved g c =
           (deals_on More c.loop.place (received c.args.input.now) (received c.loop.input) (received c.receive.new.self) c.args.outputs.now c.loop.outputs
           c.send_parts.new.outputs m c.send_parts.result c.loop.invariant.2
           c.in-Some-receive.ensures.taken c.in-Some-receive.ensures.message (c.accepts.ensures.0 c.if-not-accepts.false)
-          (sym c.of-ending.ensures ∙ ap ending_by c.in-More-ending.is) c.send_parts.ensures c.in_default-send_parts.is),
+          (sym c.ending-ending.ensures ∙ c.in-More-ending.is) c.send_parts.ensures c.in_default-send_parts.is),
     )
 
 pub returns-in-Whole-ending-clause-dealt : goal.returns-in-Whole-ending-clause-dealt
@@ -85,7 +85,7 @@ returns-in-Whole-ending-clause-dealt g c =
     (deals_on Whole c.loop.place (received c.args.input.now) (received c.loop.input) (received c.receive.new.self) c.args.outputs.now c.loop.outputs
     c.send_parts.new.outputs m c.send_parts.result c.loop.invariant.2
     c.in-Some-receive.ensures.taken c.in-Some-receive.ensures.message (c.accepts.ensures.0 c.if-not-accepts.false)
-    (sym c.of-ending.ensures ∙ ap ending_by c.in-Whole-ending.is) c.send_parts.ensures c.in_default-send_parts.is)
+    (sym c.ending-ending.ensures ∙ c.in-Whole-ending.is) c.send_parts.ensures c.in_default-send_parts.is)
 
 pub returns-in-BrokenOff-clause-dealt : goal.returns-in-BrokenOff-clause-dealt
 returns-in-BrokenOff-clause-dealt g c =
@@ -95,4 +95,4 @@ returns-in-BrokenOff-clause-dealt g c =
     (deals_on BrokenOff c.loop.place (received c.args.input.now) (received c.loop.input) (received c.receive.new.self) c.args.outputs.now c.loop.outputs
     c.send_parts.new.outputs m c.send_parts.result c.loop.invariant.2
     c.in-Some-receive.ensures.taken c.in-Some-receive.ensures.message (c.accepts.ensures.0 c.if-not-accepts.false)
-    (sym c.of-ending.ensures ∙ ap ending_by c.in-BrokenOff.is) c.send_parts.ensures c.in_default-send_parts.is)
+    (sym c.ending-ending.ensures ∙ c.in-BrokenOff.is) c.send_parts.ensures c.in_default-send_parts.is)

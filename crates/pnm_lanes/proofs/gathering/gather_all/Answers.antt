@@ -1,6 +1,5 @@
 use Rattle.std.proofs.Common.{ℕ, length, refl, sym, ap, subst, ◌∙◌}
 use Rattle.pnm_stages.specs.Rings.{sent, received, known_items}
-use Rattle.pnm_stages.specs.Rings.{ending_by}
 use Rattle.pnm_lanes.specs.Gathers.{at_lane}
 use Rattle.pnm_lanes.specs.GatherParts.{HasBrokenOffAll, HasDrainedAll}
 use Rattle.pnm_lanes.proofs.LaneLists.{are_themselves, same_inputs, as_many}
@@ -71,7 +70,7 @@ returns-in-Whole-clause-gathered g c =
     (at_lane received c.args.inputs.now) (at_lane received c.loop.inputs) (at_lane received c.take_next.new.inputs) (at_lane known_items c.take_next.new.inputs)
     (sent c.args.output.now) (sent c.loop.output) (sent c.send.new.self) c.loop.invariant.2 c.requires.some count c.in-Ok.ensures.taken
     (c.if-not-send.ensures.given refl)
-    (sym c.of-ending.ensures ∙ ap ending_by c.in-Whole.is)
+    (sym c.ending-ending.ensures ∙ c.in-Whole.is)
 
 pub loop-preserved : goal.loop-preserved
 loop-preserved g c = (
@@ -81,5 +80,5 @@ loop-preserved g c = (
       (at_lane received c.args.inputs.now) (at_lane received c.loop.inputs) (at_lane received c.take_next.new.inputs) (sent c.args.output.now)
       (sent c.loop.output) (sent c.send.new.self)
       c.loop.invariant.2 (as_many c.args.inputs.now c.loop.inputs c.loop.invariant.0) c.in-Ok.ensures.taken (c.if-not-send.ensures.given refl) c.step.ensures
-      (says_more c.of-ending.result c.in-Ok.message c.of-ending.ensures c.in-More.is c.in-Ok.ensures.taken.is),
+      (says_more c.ending-ending.result c.in-Ok.message c.ending-ending.ensures c.in-More.is c.in-Ok.ensures.taken.is),
 )

@@ -2,8 +2,7 @@ use Rattle.std.proofs.Common.{inl, inr, [], ◌∷◌, ◌++◌, get_or, refl, s
 use Rattle.pnm_stages.specs.Rings.{received}
 use Rattle.pnm_image.specs.declared.message.Message.{Message}
 use Rattle.pnm_image.specs.declared.message.Message.TheVariants.{Stop}
-use Rattle.pnm_tools.specs.Answers.{More, Whole, BrokenOff}
-use Rattle.pnm_stages.specs.Rings.{ending_by}
+use Rattle.pnm_image.specs.declared.message.Ending.TheVariants.{More, Whole, BrokenOff}
 use Rattle.pnm_lanes.proofs.LaneLists.{one_changed}
 use Rattle.pnm_lanes.proofs.TakingSteps.{has_given, has_given_none, is_of_stream, stops}
 use Rattle.pnm_lanes.proofs.lane.take_from.Goals as goal
@@ -25,7 +24,7 @@ returns-in-More-clause-inputs g c = one_changed c.args.inputs.now c.args.lane c.
 
 pub returns-in-More-clause-taken : goal.returns-in-More-clause-taken
 returns-in-More-clause-taken g c =
-    let so = ap ending_by (sym c.in-More.is) ∙ c.of-ending.ensures in (
+    let so = (sym c.in-More.is) ∙ c.ending-ending.ensures in (
       is_of_stream c.in-Some.message c.in-Some.ensures.message (inl so),
       has_given c.args.inputs.now c.args.lane c.receive.new.self c.index-inputs-lane.result c.in-Some.message More c.args.states.now c.args.states.now
           c.requires.lane c.in-Some.ensures.taken so refl,
@@ -37,7 +36,7 @@ returns-in-Whole-clause-inputs g c = one_changed c.args.inputs.now c.args.lane c
 
 pub returns-in-Whole-clause-taken : goal.returns-in-Whole-clause-taken
 returns-in-Whole-clause-taken g c =
-    let so = ap ending_by (sym c.in-Whole.is) ∙ c.of-ending.ensures in (
+    let so = (sym c.in-Whole.is) ∙ c.ending-ending.ensures in (
       is_of_stream c.in-Some.message c.in-Some.ensures.message (inr so),
       has_given c.args.inputs.now c.args.lane c.receive.new.self c.index-inputs-lane.result c.in-Some.message Whole c.args.states.now _ c.requires.lane
           c.in-Some.ensures.taken so refl,
@@ -49,7 +48,7 @@ returns-in-BrokenOff-clause-inputs g c = one_changed c.args.inputs.now c.args.la
 
 pub returns-in-BrokenOff-clause-taken : goal.returns-in-BrokenOff-clause-taken
 returns-in-BrokenOff-clause-taken g c =
-    let so = ap ending_by (sym c.in-BrokenOff.is) ∙ c.of-ending.ensures in
+    let so = (sym c.in-BrokenOff.is) ∙ c.ending-ending.ensures in
     let is_stop = stops c.in-Some.message so in
     has_given c.args.inputs.now c.args.lane c.receive.new.self c.index-inputs-lane.result Stop BrokenOff c.args.states.now _ c.requires.lane
     (c.in-Some.ensures.taken ∙ ap (λ (m : Message). received (get_or c.args.inputs.now c.args.lane c.index-inputs-lane.result) ++ m ∷ []) is_stop) refl refl

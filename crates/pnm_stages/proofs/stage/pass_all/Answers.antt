@@ -1,15 +1,14 @@
 use Rattle.std.proofs.Common.{refl, sym, ap, ◌∙◌}
 use Rattle.pnm_stages.specs.Rings.{sent, received, known_items}
-use Rattle.pnm_tools.specs.Answers.{More, ending_of}
-use Rattle.pnm_stages.specs.declared.ending.Ending.TheVariants.{More as AnsweredMore}
-use Rattle.pnm_stages.specs.Rings.{ending_by}
+use Rattle.pnm_image.specs.declared.message.Ending.TheVariants.{More}
+use Rattle.pnm_image.specs.Messages.{ending_of}
 use Rattle.pnm_stages.proofs.RingSteps.{same_input, same_output}
 use Rattle.pnm_stages.proofs.StagedSteps.{passes_nothing, passes_one, still_sent, still_going, input_gone, output_gone, breaks_off, ends_well, ends_broken}
 use Rattle.pnm_stages.proofs.stage.pass_all.Goals as goal
 
 pub returns-in-Some-clause-ran : goal.returns-in-Some-clause-ran
 returns-in-Some-clause-ran g c tool fresh =
-    breaks_off g.F.Filter.at g.F.Filter.all_given g.F.Filter.stopped More c.args.stage.now c.args.stage.now c.in-Some.fault AnsweredMore c.break_off.result
+    breaks_off g.F.Filter.at g.F.Filter.all_given g.F.Filter.stopped More c.args.stage.now c.args.stage.now c.in-Some.fault More c.break_off.result
     (received c.args.input.now) (received c.args.input.now) (received c.break_off.new.input) (known_items c.break_off.new.input) (sent c.args.output.now)
     (sent c.args.output.now) (sent c.break_off.new.output) tool
     (passes_nothing g.F.Filter.at g.F.Filter.all_given g.F.Filter.stopped c.args.stage.now (received c.args.input.now) (sent c.args.output.now)) refl
@@ -26,16 +25,16 @@ returns-in_default-receive-clause-ran g c tool fresh =
 pub returns-then-not-send_answers-clause-ran : goal.returns-then-not-send_answers-clause-ran
 returns-then-not-send_answers-clause-ran g c tool fresh =
     output_gone g.F.Filter.at g.F.Filter.all_given g.F.Filter.stopped c.args.stage.now c.loop.stage c.feed.new.self c.send_answers.new.stage
-    c.in-Some-receive.message c.of-ending.result c.drain_after.result
+    c.in-Some-receive.message c.ending-ending.result c.drain_after.result
     (received c.args.input.now) (received c.loop.input) (received c.receive.new.self) (received c.drain_after.new.self) (known_items c.drain_after.new.self)
     (sent c.args.output.now) (sent c.tell_before_wait.new.output) (sent c.send_answers.new.output) tool
     (still_sent c.loop.invariant.2 c.tell_before_wait.ensures.sent) c.in-Some-receive.ensures.taken c.in-Some-receive.ensures.message c.feed.ensures
-    c.if-not-send_answers.ensures.sent c.of-ending.ensures c.drain_after.ensures.drained fresh
+    c.if-not-send_answers.ensures.sent c.ending-ending.ensures c.drain_after.ensures.drained fresh
 
 pub returns-in-Some-fault-clause-ran : goal.returns-in-Some-fault-clause-ran
 returns-in-Some-fault-clause-ran g c tool fresh =
     breaks_off g.F.Filter.at g.F.Filter.all_given g.F.Filter.stopped (ending_of c.in-Some-receive.message) c.args.stage.now c.send_answers.new.stage
-    c.in-Some-fault.fault c.of-ending.result c.break_off-in-Some-fault.result
+    c.in-Some-fault.fault c.ending-ending.result c.break_off-in-Some-fault.result
     (received c.args.input.now) (received c.receive.new.self) (received c.break_off-in-Some-fault.new.input) (known_items c.break_off-in-Some-fault.new.input)
     (sent c.args.output.now) (sent c.send_answers.new.output) (sent c.break_off-in-Some-fault.new.output) tool
     (passes_one g.F.Filter.at g.F.Filter.all_given g.F.Filter.stopped c.args.stage.now c.loop.stage c.feed.new.self c.send_answers.new.stage
@@ -43,7 +42,7 @@ returns-in-Some-fault-clause-ran g c tool fresh =
     (sent c.tell_before_wait.new.output) (sent c.send_answers.new.output)
     (still_sent c.loop.invariant.2 c.tell_before_wait.ensures.sent) c.in-Some-receive.ensures.taken c.in-Some-receive.ensures.message c.feed.ensures
     c.if-not-send_answers.ensures.sent)
-    c.of-ending.ensures (sym c.fault-in-loop.ensures ∙ c.in-Some-fault.is) c.break_off-in-Some-fault.ensures.broken fresh
+    c.ending-ending.ensures (sym c.fault-in-loop.ensures ∙ c.in-Some-fault.is) c.break_off-in-Some-fault.ensures.broken fresh
 
 pub loop-preserved : goal.loop-preserved
 loop-preserved g c = (
@@ -57,7 +56,7 @@ loop-preserved g c = (
       c.in-Some-receive.message (received c.args.input.now) (received c.loop.input) (received c.receive.new.self) (sent c.args.output.now)
       (sent c.tell_before_wait.new.output) (sent c.send_answers.new.output)
       (still_sent c.loop.invariant.2 c.tell_before_wait.ensures.sent) c.in-Some-receive.ensures.taken c.in-Some-receive.ensures.message c.feed.ensures
-      c.if-not-send_answers.ensures.sent) (sym c.of-ending.ensures ∙ ap ending_by c.in-More.is),
+      c.if-not-send_answers.ensures.sent) (sym c.ending-ending.ensures ∙ c.in-More.is),
   (sym c.fault-in-loop.ensures ∙ c.in_default-fault.is),
 )
 
@@ -71,7 +70,7 @@ returns-in-Whole-clause-ran g c tool fresh =
     (sent c.tell_before_wait.new.output) (sent c.send_answers.new.output)
     (still_sent c.loop.invariant.2 c.tell_before_wait.ensures.sent) c.in-Some-receive.ensures.taken c.in-Some-receive.ensures.message c.feed.ensures
     c.if-not-send_answers.ensures.sent)
-    (ap ending_by (sym c.in-Whole.is) ∙ c.of-ending.ensures) (sym c.fault-in-loop.ensures ∙ c.in_default-fault.is) fresh
+    ((sym c.in-Whole.is) ∙ c.ending-ending.ensures) (sym c.fault-in-loop.ensures ∙ c.in_default-fault.is) fresh
 
 pub returns-in-BrokenOff-clause-ran : goal.returns-in-BrokenOff-clause-ran
 returns-in-BrokenOff-clause-ran g c tool fresh =
@@ -83,4 +82,4 @@ returns-in-BrokenOff-clause-ran g c tool fresh =
     (sent c.tell_before_wait.new.output) (sent c.send_answers.new.output)
     (still_sent c.loop.invariant.2 c.tell_before_wait.ensures.sent) c.in-Some-receive.ensures.taken c.in-Some-receive.ensures.message c.feed.ensures
     c.if-not-send_answers.ensures.sent)
-    (ap ending_by (sym c.in-BrokenOff.is) ∙ c.of-ending.ensures) (sym c.fault-in-loop.ensures ∙ c.in_default-fault.is) fresh
+    ((sym c.in-BrokenOff.is) ∙ c.ending-ending.ensures) (sym c.fault-in-loop.ensures ∙ c.in_default-fault.is) fresh

@@ -1,6 +1,6 @@
 use Rattle.std.proofs.Common.{◌≡◌, None}
 use Rattle.pnm_stages.specs.Rings.{sent, received, SameProducer, SameConsumer}
-use Rattle.pnm_tools.specs.Answers.{More}
+use Rattle.pnm_image.specs.declared.message.Ending.TheVariants.{More}
 use Rattle.pnm_stages.specs.FusedFilters.{refusal_in}
 use Rattle.pnm_stages.proofs.StagedSteps.{IsPassing}
 use Rattle.pnm_stages.proofs.stage.pass_all.Given as goal

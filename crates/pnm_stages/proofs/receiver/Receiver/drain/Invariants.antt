@@ -1,5 +1,6 @@
 use Rattle.pnm_stages.specs.Rings.{received, SameConsumer}
-use Rattle.pnm_tools.specs.Answers.{More, EndsBy}
+use Rattle.pnm_image.specs.declared.message.Ending.TheVariants.{More}
+use Rattle.pnm_image.specs.Messages.{EndsBy}
 use Rattle.pnm_stages.specs.Rings.{Extends}
 use Rattle.pnm_stages.proofs.receiver.Receiver.drain.Given as goal
 
