@@ -1,10 +1,10 @@
 //! Tells what the texts of chains name. A line of standard input is `chain` and a text with its escapes
-//! (`pnm_test_devices`), or `names`, of which the faults are told as they are printed. Of a text the tools are told, or
+//! (`pnm_test_support`), or `names`, of which the faults are told as they are printed. Of a text the tools are told, or
 //! the number of the stage at fault and the fault. A line that begins with `#` is given back.
 #![tactic(auto)]
 
 use pnm_chain::{ChainKind, parse_chain};
-use pnm_test_devices::{Teller, Unmade, tell_lines};
+use pnm_test_support::{Teller, Unmade, tell_lines};
 use std::alloc::{AllocError, Global};
 use std::io::{BufRead, BufReader};
 use std::{io, str};

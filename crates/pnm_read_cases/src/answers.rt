@@ -2,7 +2,7 @@
 
 use pnm_image::{BytesIn, Device, Message, SampleSlice};
 use pnm_read::{InputFault, Source};
-use pnm_test_devices::{Drips, FailsOnce, ReadOut, tell_change, tell_message};
+use pnm_test_support::{Drips, FailsOnce, ReadOut, tell_change, tell_message};
 use std::alloc::{AllocError, Global};
 
 /// More answers than there are to any case.

@@ -1,5 +1,5 @@
 //! Tells what a source answers to written texts. A line of standard input is a case: how it is told, and the text with
-//! its escapes (`pnm_test_devices`). A line that begins with `#` is given back.
+//! its escapes (`pnm_test_support`). A line that begins with `#` is given back.
 //!
 //! | Line | What is told |
 //! |---|---|
@@ -26,7 +26,7 @@ mod streams;
 mod sweeps;
 
 use pnm_read::InputFault;
-use pnm_test_devices::{Teller, Unmade, tell_lines};
+use pnm_test_support::{Teller, Unmade, tell_lines};
 use std::alloc::{AllocError, Global};
 
 /// How a case is told.

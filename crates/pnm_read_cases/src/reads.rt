@@ -2,7 +2,7 @@
 
 use super::answers::{source_of, tell_answers};
 use pnm_image::Device;
-use pnm_test_devices::{Drips, FailsOnce, Recorded, cut_number, tell_change};
+use pnm_test_support::{Drips, FailsOnce, Recorded, cut_number, tell_change};
 use std::alloc::{AllocError, Global};
 
 /// The bytes that a read may give where the source tells what it holds.

@@ -1,7 +1,7 @@
 //! What a source answers to raw images one after another.
 
 use super::sweeps::{add_each, add_text};
-use pnm_test_devices::Sweep;
+use pnm_test_support::Sweep;
 use std::alloc::{AllocError, Global};
 
 /// The texts one after another.

@@ -1,7 +1,7 @@
 //! What a source answers to many texts that differ a little: how many they are, and the CRC-32 of the answers.
 
 use super::answers::tell_whole;
-use pnm_test_devices::{Sweep, cut_word};
+use pnm_test_support::{Sweep, cut_word};
 use std::alloc::{AllocError, Global};
 
 /// Bytes that mean something, and bytes beside them.

@@ -1,7 +1,7 @@
 //! The greatest sample, and whether rows are within a number.
 
 use pnm_samples::{Bits, Sample, SampleVec, Samples, greatest, greatest_byte};
-use pnm_test_devices::{Unmade, cut_number, number_of};
+use pnm_test_support::{Unmade, cut_number, number_of};
 use std::alloc::{AllocError, Global};
 
 /// Numbers at the ends of bits, bytes and words, and beside them.
@@ -62,7 +62,7 @@ pub fn tell_words(alloc: Global, text: &[u8], told: &mut String) -> Result<(), U
     Ok(tell_both(alloc, &row, most, told)?)
 }
 
-/// The same of bytes.
+/// Whether the row of these bytes is within numbers.
 pub fn tell_bytes(alloc: Global, text: &[u8], told: &mut String) -> Result<(), Unmade> {
     let mut bytes = Vec::new(alloc);
     for sample in samples_of(alloc, text)? {
@@ -81,7 +81,7 @@ pub fn tell_pixels(alloc: Global, text: &[u8], told: &mut String) -> Result<(), 
     Ok(tell_within(&row, 1, told)?)
 }
 
-/// The same of a row of bytes and of words, of whose samples this number is a bound.
+/// Whether rows of bytes and of words are within numbers, of whose samples this number is a bound.
 pub fn tell_bound(alloc: Global, text: &[u8], told: &mut String) -> Result<(), Unmade> {
     let (number, _) = cut_number(text);
     let bound = number_of(number);

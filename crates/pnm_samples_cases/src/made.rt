@@ -1,7 +1,7 @@
 //! Made-up rows, of which there are several.
 
 use pnm_samples::Bits;
-use pnm_test_devices::cut_number;
+use pnm_test_support::cut_number;
 use std::alloc::{AllocError, Global};
 
 /// The pixel at a place of a made-up row: 0 is black.

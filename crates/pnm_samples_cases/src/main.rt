@@ -1,5 +1,5 @@
 //! Tells what rows of bits, bytes and words hold. A line of standard input is a word, and numbers that its row goes by;
-//! texts have escapes (`pnm_test_devices`). A line that begins with `#` is given back.
+//! texts have escapes (`pnm_test_support`). A line that begins with `#` is given back.
 //!
 //! | Line | What is told |
 //! |---|---|
@@ -23,7 +23,7 @@ mod made;
 mod pixels;
 mod rows;
 
-use pnm_test_devices::{Teller, Unmade, tell_lines};
+use pnm_test_support::{Teller, Unmade, tell_lines};
 use std::alloc::Global;
 
 /// What a line is about.

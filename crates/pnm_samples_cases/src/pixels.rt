@@ -2,7 +2,7 @@
 
 use super::made::{bits_of, cut_pair, packed};
 use pnm_samples::{Bits, columns};
-use pnm_test_devices::{Sweep, Unmade, cut_number, tell_text};
+use pnm_test_support::{Sweep, Unmade, cut_number, tell_text};
 use std::alloc::{AllocError, Global};
 
 /// Adds how many pixels a row has, each of them, and its bytes; and a word where they are others as they are widened.

@@ -2,7 +2,7 @@
 
 use super::made::{bits_of, cut_pair};
 use pnm_samples::{SampleSlice, SampleVec, Samples};
-use pnm_test_devices::{Sweep, Unmade, cut_word};
+use pnm_test_support::{Sweep, Unmade, cut_word};
 use std::alloc::{AllocError, Global};
 
 /// How many samples a row has of which parts are copied.
@@ -108,10 +108,10 @@ fn tell_part(
     count: usize,
     told: &mut String,
 ) -> Result<(), Unmade> {
-    let mut room = vec![in alloc; 7; count]?;
-    if start > row.len() || room.len() > row.len() - start {
+    let mut buffer = vec![in alloc; 7; count]?;
+    if start > row.len() || buffer.len() > row.len() - start {
         return Err(Unmade);
     }
-    row.copy_to(start, room.as_mut_slice());
-    Ok(tell_all(room.as_slice(), told)?)
+    row.copy_to(start, buffer.as_mut_slice());
+    Ok(tell_all(buffer.as_slice(), told)?)
 }

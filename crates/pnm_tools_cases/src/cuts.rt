@@ -4,7 +4,7 @@ use super::steps::feed;
 use super::tasks::{Task, tell_at_work};
 use super::tools::{cut_offset, cut_size, tell_made_head};
 use pnm_image::{Kind, Message, SampleWidth, Shape};
-use pnm_test_devices::{Sweep, Unmade, cut_number, head_of, held, number_of};
+use pnm_test_support::{Sweep, Unmade, cut_number, head_of, held, number_of};
 use pnm_tools::{CutBox, Filter, Tool};
 use std::alloc::{AllocError, Global};
 

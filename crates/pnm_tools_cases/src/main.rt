@@ -1,5 +1,5 @@
 //! Tells what tools make of written messages. A line of standard input is a word, and what it is about; messages are
-//! written as they are told (`pnm_test_devices`), and escapes are those of texts. A line that begins with `#` is given
+//! written as they are told (`pnm_test_support`), and escapes are those of texts. A line that begins with `#` is given
 //! back.
 //!
 //! | Line | What is told |
@@ -28,7 +28,7 @@ mod tasks;
 mod tools;
 
 use cuts::Axis;
-use pnm_test_devices::{Teller, Unmade, tell_change, tell_lines};
+use pnm_test_support::{Teller, Unmade, tell_change, tell_lines};
 use pnm_tools::{Tool, ToolFault};
 use std::alloc::{AllocError, Global};
 use tasks::{Task, tell_at_work};

@@ -3,7 +3,7 @@
 
 use super::tasks::{Task, tell_at_work};
 use pnm_image::{Message, SampleSlice, Samples};
-use pnm_test_devices::{Unmade, cut_messages, tell_message};
+use pnm_test_support::{Unmade, cut_messages, tell_message};
 use pnm_tools::{Filter, RowState, RowWise, Tool, ToolFault};
 use std::alloc::{AllocError, Global};
 
@@ -50,7 +50,7 @@ pub fn tell_lane(alloc: Global, tool: &Tool, text: &[u8], told: &mut String) -> 
     go_in_lane(alloc, &mut lane, text, told)
 }
 
-/// The same through the bound.
+/// Adds what any row-wise filter gives in a lane.
 fn go_in_lane<F: RowWise>(
     alloc: Global,
     lane: &mut F,

@@ -2,7 +2,7 @@
 
 use super::{cuts, steps, sweeps};
 use pnm_image::{SampleWidth, Shape};
-use pnm_test_devices::Unmade;
+use pnm_test_support::Unmade;
 use pnm_tools::{Filter, Tool, ToolState};
 use std::alloc::Global;
 

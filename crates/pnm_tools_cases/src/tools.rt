@@ -2,7 +2,7 @@
 //! `planes NUMBERS (TUPLE TYPE)`; `enlarge ACROSS DOWN`; `flip WAY`; `tile WIDTH HEIGHT`.
 
 use pnm_image::Head;
-use pnm_test_devices::{Unmade, cut_at, cut_head, cut_number, cut_word, number_of, tell_head};
+use pnm_test_support::{Unmade, cut_at, cut_head, cut_number, cut_word, number_of, tell_head};
 use pnm_tools::{CutBox, FlipWay, Planes, Tool};
 use std::alloc::{AllocError, Global};
 

@@ -1,7 +1,7 @@
 //! Plain images of one made row, of many widths.
 
 use pnm_image::{Device, Kind, Message, SampleWidth, Shape};
-use pnm_test_devices::{Sweep, Unmade, cut_number, cut_word, head_of, held, number_of, tell_text};
+use pnm_test_support::{Sweep, Unmade, cut_number, cut_word, head_of, held, number_of, tell_text};
 use pnm_write::{Form, Sink};
 use std::alloc::{AllocError, Global};
 

@@ -1,5 +1,5 @@
 //! Tells what a sink writes of written messages, and which it refuses. Messages are written as they are told, and
-//! escapes are those of texts (`pnm_test_devices`). A line that begins with `#` is given back.
+//! escapes are those of texts (`pnm_test_support`). A line that begins with `#` is given back.
 //!
 //! | Line | What is told |
 //! |---|---|
@@ -16,7 +16,7 @@
 mod made;
 mod sinks;
 
-use pnm_test_devices::{Teller, Unmade, tell_lines};
+use pnm_test_support::{Teller, Unmade, tell_lines};
 use pnm_write::{Form, SinkFault};
 use std::alloc::{AllocError, Global};
 

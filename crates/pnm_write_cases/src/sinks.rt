@@ -2,7 +2,7 @@
 
 use super::form_of;
 use pnm_image::{BytesOut, Device, Message};
-use pnm_test_devices::{FailsOnce, Sips, Unmade, cut_messages, cut_number, cut_word, tell_text};
+use pnm_test_support::{FailsOnce, Sips, Unmade, cut_messages, cut_number, cut_word, tell_text};
 use pnm_write::{Form, Sink, SinkFault};
 use std::alloc::{AllocError, Global};
 
@@ -77,7 +77,7 @@ fn cut_failing(text: &[u8]) -> (FailsOnce, &[u8]) {
     }
 }
 
-/// The same where writes take few bytes, or fail; then how often the writer was flushed.
+/// What is written where writes take few bytes, or fail; then how often the writer was flushed.
 pub fn tell_sips(alloc: Global, text: &[u8], told: &mut String) -> Result<(), Unmade> {
     let (form, rest) = cut_word(text);
     let (most, rest) = cut_number(rest);

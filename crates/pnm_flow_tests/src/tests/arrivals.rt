@@ -66,10 +66,10 @@ impl Seen {
 struct ByteByByte<'a>(&'a [u8], &'a Seen);
 
 impl Read for ByteByByte<'_> {
-    fn read(&mut self, room: &mut [u8]) -> io::Result<usize> {
+    fn read(&mut self, buffer: &mut [u8]) -> io::Result<usize> {
         self.1.reads.fetch_add(1, SeqCst);
-        let count = room.len().min(1);
-        self.0.read(&mut room[..count])
+        let count = buffer.len().min(1);
+        self.0.read(&mut buffer[..count])
     }
 }
 

@@ -7,7 +7,7 @@ use super::{IMAGE, INVERTED, Outcome, agrees};
 use pnm_flow::{RunFault, Summary};
 use pnm_image::{BytesIn, BytesOut, Device, Form};
 use pnm_read::InputFault;
-use pnm_test_devices::{Drips, FailsOnce, NeverFlushes, Sips};
+use pnm_test_support::{Drips, FailsOnce, NeverFlushes, Sips};
 use pnm_tools::Tool;
 use pnm_write::SinkFault;
 use std::alloc::Global;
@@ -268,9 +268,9 @@ fn writes_behind_a_buffer<H: Threads + Wait + Abort + Sync>(
     way: Way,
     size: usize,
 ) -> Result<(), Fail> {
-    let mut room = [0; 13];
+    let mut target = [0; 13];
     let size = INVERTED.len().min(size);
-    let buffer = BufWriter::with_capacity(alloc, 64, &mut room[..size])?;
+    let buffer = BufWriter::with_capacity(alloc, 64, &mut target[..size])?;
     let mut writer = Device::new(buffer);
     let answer = invert_by(rt, alloc, way, &mut Device::new(IMAGE), &mut writer);
     let want = if size < INVERTED.len() {
@@ -282,7 +282,7 @@ fn writes_behind_a_buffer<H: Threads + Wait + Abort + Sync>(
     let _ = writer.into_inner().into_parts();
     agrees(
         rt,
-        (answer, &room[..size]),
+        (answer, &target[..size]),
         (want, &INVERTED[..size]),
         &(way, size),
     );

@@ -62,7 +62,7 @@ fn gives_each_tool_of_a_run_a_thread(rt: HostRuntime) {
     assert_eq!(&rt; both.missed.load(SeqCst), 0);
 }
 
-/// So does each of two lanes of a tool, and both pass it once.
+/// Each of two lanes of a tool waits at the gate for the other, and both pass it once.
 #[test]
 fn gives_each_lane_of_a_run_a_thread(rt: HostRuntime) {
     let lanes = BothLanes(Both::new());
@@ -102,9 +102,9 @@ impl Seen {
 struct SeenReader<'a>(&'a [u8], &'a Seen);
 
 impl Read for SeenReader<'_> {
-    fn read(&mut self, room: &mut [u8]) -> io::Result<usize> {
+    fn read(&mut self, buffer: &mut [u8]) -> io::Result<usize> {
         self.1.reads.fetch_add(1, SeqCst);
-        self.0.read(room)
+        self.0.read(buffer)
     }
 }
 
@@ -201,7 +201,7 @@ struct ImageByImage<'a> {
 }
 
 impl Read for ImageByImage<'_> {
-    fn read(&mut self, room: &mut [u8]) -> io::Result<usize> {
+    fn read(&mut self, buffer: &mut [u8]) -> io::Result<usize> {
         if self.seen.flushes.load(SeqCst) < self.given {
             self.seen.early.fetch_add(1, SeqCst);
         }
@@ -211,7 +211,7 @@ impl Read for ImageByImage<'_> {
         self.more -= 1;
         self.given = self.given.saturating_add(1);
         let mut image = SAMPLE;
-        image.read(room)
+        image.read(buffer)
     }
 }
 

@@ -57,13 +57,13 @@ fn make_short_of_memory<H: Threads + Wait + Abort + Sync>(
 ) -> Option<Summary> {
     let (form, input, whole) = run;
     assert!(rt; 1 <= tools.len() && tools.len() <= 64 && are_lawful(tools));
-    let mut room = [0; 200];
-    let mut writer = Device::new(room.as_mut_slice());
+    let mut target = [0; 200];
+    let mut writer = Device::new(target.as_mut_slice());
     let mut reader = Device::new(input);
     let answer = run_by(rt, alloc, way, &mut reader, &mut writer, tools, form);
     let rest = writer.into_inner().len();
-    assert!(rt; rest <= room.len());
-    let written = &room[..room.len() - rest];
+    assert!(rt; rest <= target.len());
+    let written = &target[..target.len() - rest];
     match answer {
         Ok(summary) => {
             assert_eq!(rt; written, whole);

@@ -7,7 +7,7 @@ use super::{Outcome, agrees};
 use pnm_flow::{RunFault, Summary};
 use pnm_image::{Device, Form};
 use pnm_read::InputFault;
-use pnm_test_devices::{Drips, FailsOnce, Sips};
+use pnm_test_support::{Drips, FailsOnce, Sips};
 use pnm_tools::{Tool, ToolFault};
 use pnm_write::SinkFault;
 use std::alloc::Global;

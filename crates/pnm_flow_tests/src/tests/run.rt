@@ -172,12 +172,12 @@ fn answers_a_full_writer(rt: HostRuntime) {
             (10, b"P5\n2 1\n122".as_slice()),
             (12, b"P5\n2 1\n122\n9".as_slice()),
         ] {
-            let mut room = [0; 12];
-            let mut writer = Device::new(&mut room[..size]);
+            let mut target = [0; 12];
+            let mut writer = Device::new(&mut target[..size]);
             let mut reader = Device::new(IMAGE);
             let answer = invert_by(&rt, rt.alloc(), way, &mut reader, &mut writer);
             let want = Err(RunFault::Output(SinkFault::WriteFailed));
-            agrees(&rt, (answer, &room[..size]), (want, output), &(way, size));
+            agrees(&rt, (answer, &target[..size]), (want, output), &(way, size));
         }
     }
 }

@@ -5,7 +5,7 @@ use super::callers::{
 };
 use super::same;
 use pnm_image::{BytesIn, BytesOut, Device, DeviceFailed};
-use pnm_test_devices::{Drips, FailsOnce, Sips};
+use pnm_test_support::{Drips, FailsOnce, Sips};
 use std::alloc::Global;
 use std::process::Abort;
 use std::test::Fail;

@@ -2,7 +2,7 @@
 
 use super::same;
 use pnm_image::{Kind, Message, Place, Shape};
-use pnm_test_devices::{Part, message};
+use pnm_test_support::{Part, message};
 use std::test::Fail;
 
 /// Two columns and one row of grays up to 9.

@@ -1,8 +1,11 @@
 //! Rows that are dealt to lanes: what each lane is sent, and how the dealing ends.
 
-use super::rings::{Part, Unmade, comes, holds, is_end, ring, send_all, sends};
+use super::rings::{comes, sends};
+use pnm_image::Kind;
 use pnm_lanes::{DealDone, deal};
 use pnm_stages::{Receiver, Sender, StageEnd};
+use pnm_test_rings::{holds, is_end, ring, send_all};
+use pnm_test_support::{Part, Unmade};
 use pnm_tools::ToolFault;
 use std::alloc::Global;
 use std::process::Abort;
@@ -12,7 +15,7 @@ use std::thread;
 
 /// An image of two rows, and the end of the stream.
 pub const TWO_ROWS: &[Part<'static>] = &[
-    Part::Begin(1, 2),
+    Part::Begin(Kind::Gray, 1, 2, 9),
     Part::Row(&[1]),
     Part::Row(&[2]),
     Part::ImageEnd,
@@ -21,7 +24,7 @@ pub const TWO_ROWS: &[Part<'static>] = &[
 
 /// An image of three rows, and the end of the stream.
 const THREE_ROWS: &[Part<'static>] = &[
-    Part::Begin(1, 3),
+    Part::Begin(Kind::Gray, 1, 3, 9),
     Part::Row(&[1]),
     Part::Row(&[2]),
     Part::Row(&[3]),
@@ -76,152 +79,172 @@ fn ends_so(rt: &(impl Wait + Abort), alloc: Global, case: Case<'_>) -> Result<()
     Ok(())
 }
 
-#[test]
-fn deals_rows_in_turn(rt: HostRuntime) -> Result<(), Fail> {
-    let cases: [Case<'_>; 4] = [
-        (
-            "more lanes than rows",
-            TWO_ROWS,
+/// Streams, and what each lane is sent of them.
+const STREAMS: [Case<'static>; 4] = [
+    (
+        "more lanes than rows",
+        TWO_ROWS,
+        &[
             &[
-                &[
-                    Part::Begin(1, 1),
-                    Part::Row(&[1]),
-                    Part::ImageEnd,
-                    Part::StreamEnd,
-                ],
-                &[
-                    Part::Begin(1, 1),
-                    Part::Row(&[2]),
-                    Part::ImageEnd,
-                    Part::StreamEnd,
-                ],
-                &[Part::Begin(1, 0), Part::ImageEnd, Part::StreamEnd],
-            ],
-            StageEnd::Well,
-        ),
-        (
-            "more rows than lanes",
-            THREE_ROWS,
-            &[
-                &[
-                    Part::Begin(1, 2),
-                    Part::Row(&[1]),
-                    Part::Row(&[3]),
-                    Part::ImageEnd,
-                    Part::StreamEnd,
-                ],
-                &[
-                    Part::Begin(1, 1),
-                    Part::Row(&[2]),
-                    Part::ImageEnd,
-                    Part::StreamEnd,
-                ],
-            ],
-            StageEnd::Well,
-        ),
-        (
-            "two images",
-            &[
-                Part::Begin(1, 1),
+                Part::Begin(Kind::Gray, 1, 1, 9),
                 Part::Row(&[1]),
                 Part::ImageEnd,
-                Part::Begin(2, 1),
+                Part::StreamEnd,
+            ],
+            &[
+                Part::Begin(Kind::Gray, 1, 1, 9),
+                Part::Row(&[2]),
+                Part::ImageEnd,
+                Part::StreamEnd,
+            ],
+            &[
+                Part::Begin(Kind::Gray, 1, 0, 9),
+                Part::ImageEnd,
+                Part::StreamEnd,
+            ],
+        ],
+        StageEnd::Well,
+    ),
+    (
+        "more rows than lanes",
+        THREE_ROWS,
+        &[
+            &[
+                Part::Begin(Kind::Gray, 1, 2, 9),
+                Part::Row(&[1]),
+                Part::Row(&[3]),
+                Part::ImageEnd,
+                Part::StreamEnd,
+            ],
+            &[
+                Part::Begin(Kind::Gray, 1, 1, 9),
+                Part::Row(&[2]),
+                Part::ImageEnd,
+                Part::StreamEnd,
+            ],
+        ],
+        StageEnd::Well,
+    ),
+    (
+        "two images",
+        &[
+            Part::Begin(Kind::Gray, 1, 1, 9),
+            Part::Row(&[1]),
+            Part::ImageEnd,
+            Part::Begin(Kind::Gray, 2, 1, 9),
+            Part::Row(&[2, 3]),
+            Part::ImageEnd,
+            Part::StreamEnd,
+        ],
+        &[
+            &[
+                Part::Begin(Kind::Gray, 1, 1, 9),
+                Part::Row(&[1]),
+                Part::ImageEnd,
+                Part::Begin(Kind::Gray, 2, 1, 9),
                 Part::Row(&[2, 3]),
                 Part::ImageEnd,
                 Part::StreamEnd,
             ],
             &[
-                &[
-                    Part::Begin(1, 1),
-                    Part::Row(&[1]),
-                    Part::ImageEnd,
-                    Part::Begin(2, 1),
-                    Part::Row(&[2, 3]),
-                    Part::ImageEnd,
-                    Part::StreamEnd,
-                ],
-                &[
-                    Part::Begin(1, 0),
-                    Part::ImageEnd,
-                    Part::Begin(2, 0),
-                    Part::ImageEnd,
-                    Part::StreamEnd,
-                ],
+                Part::Begin(Kind::Gray, 1, 0, 9),
+                Part::ImageEnd,
+                Part::Begin(Kind::Gray, 2, 0, 9),
+                Part::ImageEnd,
+                Part::StreamEnd,
             ],
-            StageEnd::Well,
-        ),
-        (
-            "no image",
-            &[Part::StreamEnd],
-            &[&[Part::StreamEnd], &[Part::StreamEnd]],
-            StageEnd::Well,
-        ),
-    ];
-    for case in cases {
+        ],
+        StageEnd::Well,
+    ),
+    (
+        "no image",
+        &[Part::StreamEnd],
+        &[&[Part::StreamEnd], &[Part::StreamEnd]],
+        StageEnd::Well,
+    ),
+];
+
+#[test]
+fn deals_rows_in_turn(rt: HostRuntime) -> Result<(), Fail> {
+    for case in STREAMS {
         ends_so(&rt, rt.alloc(), case)?;
     }
     Ok(())
 }
 
-#[test]
-fn hands_stop_to_each_lane(rt: HostRuntime) -> Result<(), Fail> {
-    let cases: [Case<'_>; 5] = [
-        (
-            "Stop in an image",
-            &[Part::Begin(1, 3), Part::Row(&[1]), Part::Stop],
+/// Messages that are no stream, and what each lane is sent of them.
+const BROKEN_OFF: [Case<'static>; 5] = [
+    (
+        "Stop in an image",
+        &[
+            Part::Begin(Kind::Gray, 1, 3, 9),
+            Part::Row(&[1]),
+            Part::Stop,
+        ],
+        &[
             &[
-                &[Part::Begin(1, 2), Part::Row(&[1]), Part::Stop],
-                &[Part::Begin(1, 1), Part::Stop],
-            ],
-            StageEnd::Broken,
-        ),
-        (
-            "the end of an image first",
-            &[Part::ImageEnd, Part::StreamEnd],
-            &[&[Part::Stop], &[Part::Stop]],
-            OUT_OF_ORDER,
-        ),
-        (
-            "the end of the stream in an image",
-            &[Part::Begin(1, 1), Part::StreamEnd],
-            &[
-                &[Part::Begin(1, 1), Part::Stop],
-                &[Part::Begin(1, 0), Part::Stop],
-            ],
-            OUT_OF_ORDER,
-        ),
-        (
-            "a row too wide, and more after it",
-            &[
-                Part::Begin(1, 2),
-                Part::Row(&[1, 2]),
-                Part::Row(&[2]),
-                Part::ImageEnd,
+                Part::Begin(Kind::Gray, 1, 2, 9),
+                Part::Row(&[1]),
                 Part::Stop,
             ],
+            &[Part::Begin(Kind::Gray, 1, 1, 9), Part::Stop],
+        ],
+        StageEnd::Broken,
+    ),
+    (
+        "the end of an image first",
+        &[Part::ImageEnd, Part::StreamEnd],
+        &[&[Part::Stop], &[Part::Stop]],
+        OUT_OF_ORDER,
+    ),
+    (
+        "the end of the stream in an image",
+        &[Part::Begin(Kind::Gray, 1, 1, 9), Part::StreamEnd],
+        &[
+            &[Part::Begin(Kind::Gray, 1, 1, 9), Part::Stop],
+            &[Part::Begin(Kind::Gray, 1, 0, 9), Part::Stop],
+        ],
+        OUT_OF_ORDER,
+    ),
+    (
+        "a row too wide, and more after it",
+        &[
+            Part::Begin(Kind::Gray, 1, 2, 9),
+            Part::Row(&[1, 2]),
+            Part::Row(&[2]),
+            Part::ImageEnd,
+            Part::Stop,
+        ],
+        &[
+            &[Part::Begin(Kind::Gray, 1, 1, 9), Part::Stop],
+            &[Part::Begin(Kind::Gray, 1, 1, 9), Part::Stop],
+        ],
+        OUT_OF_ORDER,
+    ),
+    (
+        "a row too many",
+        &[
+            Part::Begin(Kind::Gray, 1, 1, 9),
+            Part::Row(&[1]),
+            Part::Row(&[2]),
+            Part::ImageEnd,
+            Part::StreamEnd,
+        ],
+        &[
             &[
-                &[Part::Begin(1, 1), Part::Stop],
-                &[Part::Begin(1, 1), Part::Stop],
-            ],
-            OUT_OF_ORDER,
-        ),
-        (
-            "a row too many",
-            &[
-                Part::Begin(1, 1),
+                Part::Begin(Kind::Gray, 1, 1, 9),
                 Part::Row(&[1]),
-                Part::Row(&[2]),
-                Part::ImageEnd,
-                Part::StreamEnd,
+                Part::Stop,
             ],
-            &[
-                &[Part::Begin(1, 1), Part::Row(&[1]), Part::Stop],
-                &[Part::Begin(1, 0), Part::Stop],
-            ],
-            OUT_OF_ORDER,
-        ),
-    ];
-    for case in cases {
+            &[Part::Begin(Kind::Gray, 1, 0, 9), Part::Stop],
+        ],
+        OUT_OF_ORDER,
+    ),
+];
+
+#[test]
+fn hands_stop_to_each_lane(rt: HostRuntime) -> Result<(), Fail> {
+    for case in BROKEN_OFF {
         ends_so(&rt, rt.alloc(), case)?;
     }
     Ok(())
@@ -233,18 +256,30 @@ fn stops_the_other_lanes_where_one_is_gone(rt: HostRuntime) -> Result<(), Fail> 
     let cases: [(usize, &[Part<'_>], &[Part<'_>]); 3] = [
         (
             0,
-            &[Part::Begin(1, 1), Part::Stop],
-            &[Part::Begin(1, 1), Part::Stop],
+            &[Part::Begin(Kind::Gray, 1, 1, 9), Part::Stop],
+            &[Part::Begin(Kind::Gray, 1, 1, 9), Part::Stop],
         ),
         (
             1,
-            &[Part::Begin(1, 1), Part::Row(&[1]), Part::Stop],
-            &[Part::Begin(1, 1), Part::Stop],
+            &[
+                Part::Begin(Kind::Gray, 1, 1, 9),
+                Part::Row(&[1]),
+                Part::Stop,
+            ],
+            &[Part::Begin(Kind::Gray, 1, 1, 9), Part::Stop],
         ),
         (
             2,
-            &[Part::Begin(1, 1), Part::Row(&[1]), Part::Stop],
-            &[Part::Begin(1, 1), Part::Row(&[2]), Part::Stop],
+            &[
+                Part::Begin(Kind::Gray, 1, 1, 9),
+                Part::Row(&[1]),
+                Part::Stop,
+            ],
+            &[
+                Part::Begin(Kind::Gray, 1, 1, 9),
+                Part::Row(&[2]),
+                Part::Stop,
+            ],
         ),
     ];
     for (gone, before, after) in cases {
@@ -273,24 +308,28 @@ fn stops_the_lanes_where_the_input_is_gone(rt: HostRuntime) -> Result<(), Fail> 
         (0, &[Part::Stop], &[Part::Stop]),
         (
             1,
-            &[Part::Begin(1, 1), Part::Stop],
-            &[Part::Begin(1, 1), Part::Stop],
+            &[Part::Begin(Kind::Gray, 1, 1, 9), Part::Stop],
+            &[Part::Begin(Kind::Gray, 1, 1, 9), Part::Stop],
         ),
         (
             2,
-            &[Part::Begin(1, 1), Part::Row(&[1]), Part::Stop],
-            &[Part::Begin(1, 1), Part::Stop],
+            &[
+                Part::Begin(Kind::Gray, 1, 1, 9),
+                Part::Row(&[1]),
+                Part::Stop,
+            ],
+            &[Part::Begin(Kind::Gray, 1, 1, 9), Part::Stop],
         ),
         (
             4,
             &[
-                Part::Begin(1, 1),
+                Part::Begin(Kind::Gray, 1, 1, 9),
                 Part::Row(&[1]),
                 Part::ImageEnd,
                 Part::Stop,
             ],
             &[
-                Part::Begin(1, 1),
+                Part::Begin(Kind::Gray, 1, 1, 9),
                 Part::Row(&[2]),
                 Part::ImageEnd,
                 Part::Stop,
@@ -341,9 +380,13 @@ fn one_by_one(
 ) -> Result<bool, Unmade> {
     let count = lanes.len();
     let rows = u32::from(height);
-    let mut is_right = sends(alloc, producer, Part::Begin(1, rows))?;
+    let mut is_right = sends(alloc, producer, Part::Begin(Kind::Gray, 1, rows, 9))?;
     for (lane, input) in lanes.iter_mut().enumerate() {
-        is_right = is_right && comes(input, Part::Begin(1, rows_of(rows, lane, count)));
+        is_right = is_right
+            && comes(
+                input,
+                Part::Begin(Kind::Gray, 1, rows_of(rows, lane, count), 9),
+            );
     }
     for y in 0..height {
         is_right = is_right && count != 0 && sends(alloc, producer, Part::Row(&[y]))?;

@@ -1,13 +1,15 @@
 //! The two ends of a ring, without a stage between.
 
-use super::rings::{Part, holds, is_made_of, message, ring, send_all};
+use pnm_image::Kind;
 use pnm_stages::{Backoff, Receiver};
+use pnm_test_rings::{holds, ring, send_all};
+use pnm_test_support::{Part, is_made_of, message};
 use std::process::Abort;
 use std::sync::Wait;
 use std::test::Fail;
 
 const PARTS: &[Part<'static>] = &[
-    Part::Begin(2, 1),
+    Part::Begin(Kind::Gray, 2, 1, 9),
     Part::Row(&[3, 4]),
     Part::ImageEnd,
     Part::StreamEnd,

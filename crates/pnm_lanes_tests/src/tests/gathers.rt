@@ -1,9 +1,12 @@
 //! Lanes that are gathered: what is sent of what each lane gives, and how the gathering ends.
 
 use super::deals::{dealt, rings};
-use super::rings::{Part, Unmade, comes, holds, is_end, ring, send_all, sends};
+use super::rings::{comes, sends};
+use pnm_image::Kind;
 use pnm_lanes::{GatherDone, gather};
 use pnm_stages::{Receiver, Sender, StageEnd};
+use pnm_test_rings::{holds, is_end, ring, send_all};
+use pnm_test_support::{Part, Unmade};
 use pnm_tools::ToolFault;
 use std::alloc::Global;
 use std::process::Abort;
@@ -50,21 +53,25 @@ fn gathers_rows_in_turn(rt: HostRuntime) -> Result<(), Fail> {
             "more lanes than rows",
             &[
                 &[
-                    Part::Begin(1, 1),
+                    Part::Begin(Kind::Gray, 1, 1, 9),
                     Part::Row(&[1]),
                     Part::ImageEnd,
                     Part::StreamEnd,
                 ],
                 &[
-                    Part::Begin(1, 1),
+                    Part::Begin(Kind::Gray, 1, 1, 9),
                     Part::Row(&[2]),
                     Part::ImageEnd,
                     Part::StreamEnd,
                 ],
-                &[Part::Begin(1, 0), Part::ImageEnd, Part::StreamEnd],
+                &[
+                    Part::Begin(Kind::Gray, 1, 0, 9),
+                    Part::ImageEnd,
+                    Part::StreamEnd,
+                ],
             ],
             &[
-                Part::Begin(1, 2),
+                Part::Begin(Kind::Gray, 1, 2, 9),
                 Part::Row(&[1]),
                 Part::Row(&[2]),
                 Part::ImageEnd,
@@ -85,47 +92,69 @@ fn gathers_rows_in_turn(rt: HostRuntime) -> Result<(), Fail> {
     Ok(())
 }
 
+/// What lanes give that doesn't end well, and what is sent of it.
+const STOPPED: [Case<'static>; 4] = [
+    (
+        "the first lane ends first",
+        &[
+            &[Part::Stop],
+            &[
+                Part::Begin(Kind::Gray, 1, 1, 9),
+                Part::Row(&[2]),
+                Part::Stop,
+            ],
+        ],
+        &[Part::Stop],
+        StageEnd::Broken,
+    ),
+    (
+        "the second lane ends in the image",
+        &[
+            &[
+                Part::Begin(Kind::Gray, 1, 1, 9),
+                Part::Row(&[1]),
+                Part::Stop,
+            ],
+            &[Part::Begin(Kind::Gray, 1, 1, 9), Part::Stop],
+        ],
+        &[
+            Part::Begin(Kind::Gray, 1, 2, 9),
+            Part::Row(&[1]),
+            Part::Stop,
+        ],
+        StageEnd::Broken,
+    ),
+    (
+        "heights that aren't dealt",
+        &[
+            &[Part::Begin(Kind::Gray, 1, 1, 9), Part::StreamEnd],
+            &[
+                Part::Begin(Kind::Gray, 1, 2, 9),
+                Part::Row(&[1]),
+                Part::Stop,
+            ],
+        ],
+        &[Part::Stop],
+        OUT_OF_ORDER,
+    ),
+    (
+        "a row too wide",
+        &[
+            &[
+                Part::Begin(Kind::Gray, 1, 1, 9),
+                Part::Row(&[1, 2]),
+                Part::Stop,
+            ],
+            &[Part::Begin(Kind::Gray, 1, 0, 9), Part::ImageEnd, Part::Stop],
+        ],
+        &[Part::Begin(Kind::Gray, 1, 1, 9), Part::Stop],
+        OUT_OF_ORDER,
+    ),
+];
+
 #[test]
 fn stops_where_a_lane_does(rt: HostRuntime) -> Result<(), Fail> {
-    let cases: [Case<'_>; 4] = [
-        (
-            "the first lane ends first",
-            &[
-                &[Part::Stop],
-                &[Part::Begin(1, 1), Part::Row(&[2]), Part::Stop],
-            ],
-            &[Part::Stop],
-            StageEnd::Broken,
-        ),
-        (
-            "the second lane ends in the image",
-            &[
-                &[Part::Begin(1, 1), Part::Row(&[1]), Part::Stop],
-                &[Part::Begin(1, 1), Part::Stop],
-            ],
-            &[Part::Begin(1, 2), Part::Row(&[1]), Part::Stop],
-            StageEnd::Broken,
-        ),
-        (
-            "heights that aren't dealt",
-            &[
-                &[Part::Begin(1, 1), Part::StreamEnd],
-                &[Part::Begin(1, 2), Part::Row(&[1]), Part::Stop],
-            ],
-            &[Part::Stop],
-            OUT_OF_ORDER,
-        ),
-        (
-            "a row too wide",
-            &[
-                &[Part::Begin(1, 1), Part::Row(&[1, 2]), Part::Stop],
-                &[Part::Begin(1, 0), Part::ImageEnd, Part::Stop],
-            ],
-            &[Part::Begin(1, 1), Part::Stop],
-            OUT_OF_ORDER,
-        ),
-    ];
-    for case in cases {
+    for case in STOPPED {
         ends_so(&rt, rt.alloc(), case)?;
     }
     Ok(())
@@ -138,17 +167,17 @@ fn adds_heights_up_to_the_greatest(rt: HostRuntime) -> Result<(), Fail> {
         (
             "the greatest height",
             &[
-                &[Part::Begin(1, 8_388_608), Part::Stop],
-                &[Part::Begin(1, 8_388_608), Part::Stop],
+                &[Part::Begin(Kind::Gray, 1, 8_388_608, 9), Part::Stop],
+                &[Part::Begin(Kind::Gray, 1, 8_388_608, 9), Part::Stop],
             ],
-            &[Part::Begin(1, 16_777_216), Part::Stop],
+            &[Part::Begin(Kind::Gray, 1, 16_777_216, 9), Part::Stop],
             StageEnd::Broken,
         ),
         (
             "a height beyond it",
             &[
-                &[Part::Begin(1, 8_388_609), Part::Stop],
-                &[Part::Begin(1, 8_388_608), Part::Stop],
+                &[Part::Begin(Kind::Gray, 1, 8_388_609, 9), Part::Stop],
+                &[Part::Begin(Kind::Gray, 1, 8_388_608, 9), Part::Stop],
             ],
             &[Part::Stop],
             OUT_OF_ORDER,
@@ -156,8 +185,8 @@ fn adds_heights_up_to_the_greatest(rt: HostRuntime) -> Result<(), Fail> {
         (
             "the greatest height twice",
             &[
-                &[Part::Begin(1, 16_777_216), Part::Stop],
-                &[Part::Begin(1, 16_777_216), Part::Stop],
+                &[Part::Begin(Kind::Gray, 1, 16_777_216, 9), Part::Stop],
+                &[Part::Begin(Kind::Gray, 1, 16_777_216, 9), Part::Stop],
             ],
             &[Part::Stop],
             OUT_OF_ORDER,
@@ -173,7 +202,11 @@ fn adds_heights_up_to_the_greatest(rt: HostRuntime) -> Result<(), Fail> {
 #[test]
 fn stops_where_a_lane_is_gone(rt: HostRuntime) -> Result<(), Fail> {
     let (mut producer, input) = ring(rt.alloc(), 8)?;
-    send_all(rt.alloc(), &mut producer, &[Part::Begin(1, 1)])?;
+    send_all(
+        rt.alloc(),
+        &mut producer,
+        &[Part::Begin(Kind::Gray, 1, 1, 9)],
+    )?;
     drop(producer);
     let mut inputs = Vec::with_capacity(rt.alloc(), 1)?;
     inputs.push(input)?;
@@ -183,7 +216,7 @@ fn stops_where_a_lane_is_gone(rt: HostRuntime) -> Result<(), Fail> {
     holds(
         &rt,
         &mut consumer,
-        &[Part::Begin(1, 1), Part::Stop],
+        &[Part::Begin(Kind::Gray, 1, 1, 9), Part::Stop],
         "what came, and Stop",
     );
     Ok(())
@@ -194,7 +227,7 @@ fn stops_where_a_lane_is_gone(rt: HostRuntime) -> Result<(), Fail> {
 fn drains_where_nobody_takes(rt: HostRuntime) -> Result<(), Fail> {
     let (mut producer, input) = ring(rt.alloc(), 8)?;
     let parts = [
-        Part::Begin(1, 1),
+        Part::Begin(Kind::Gray, 1, 1, 9),
         Part::Row(&[1]),
         Part::ImageEnd,
         Part::StreamEnd,
@@ -220,7 +253,7 @@ fn passes(
     consumer: &mut Receiver,
     height: u16,
 ) -> Result<bool, Unmade> {
-    let begin = Part::Begin(1, u32::from(height));
+    let begin = Part::Begin(Kind::Gray, 1, u32::from(height), 9);
     let mut is_right = sends(alloc, producer, begin)? && comes(consumer, begin);
     for y in 0..height {
         is_right = is_right && sends(alloc, producer, Part::Row(&[y]))?;

@@ -1,14 +1,16 @@
 //! A tool over lanes, between two rings.
 
 use super::deals::TWO_ROWS;
-use super::rings::{Part, holds, is_end, ring, send_all};
+use pnm_image::Kind;
 use pnm_lanes::run_lanes;
 use pnm_stages::{OpenGate, StageEnd};
+use pnm_test_rings::{holds, is_end, ring, send_all};
+use pnm_test_support::Part;
 use pnm_tools::Tool;
 use std::test::Fail;
 
 const INVERTED: &[Part<'static>] = &[
-    Part::Begin(1, 2),
+    Part::Begin(Kind::Gray, 1, 2, 9),
     Part::Row(&[8]),
     Part::Row(&[7]),
     Part::ImageEnd,

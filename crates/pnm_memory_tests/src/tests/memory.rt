@@ -4,7 +4,7 @@
 
 use super::tools::{WHOLE, channel, holds, picks, stays};
 use pnm_image::Message;
-use pnm_test_devices::{Part, is_made_of, message};
+use pnm_test_support::{Part, is_made_of, message};
 use pnm_tools::{CutBox, Filter, FlipWay, Tool, ToolFault, ToolState};
 use std::alloc::Global;
 use std::process::Abort;

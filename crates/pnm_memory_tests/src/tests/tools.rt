@@ -1,7 +1,7 @@
 //! Tools of the tests, and what is wanted of them.
 
 use pnm_image::Message;
-use pnm_test_devices::Unmade;
+use pnm_test_support::Unmade;
 use pnm_tools::{CutBox, Filter, Planes, Tool, ToolFault, ToolState};
 use std::alloc::Global;
 use std::fmt;

@@ -36,49 +36,58 @@ fn names_stages(rt: HostRuntime) -> Result<(), Fail> {
     Ok(())
 }
 
+/// Faults of a run, and the line that each is printed as.
+const FAULTS: [(RunFault, &str); 10] = [
+    (
+        RunFault::Tool(1, ToolFault::CutOutside),
+        "pnmpipe: tool 1: CutOutside\n",
+    ),
+    (
+        RunFault::Tool(2, ToolFault::ChannelOutside),
+        "pnmpipe: tool 2: ChannelOutside\n",
+    ),
+    (
+        RunFault::Tool(10, ToolFault::TooLarge),
+        "pnmpipe: tool 10: TooLarge\n",
+    ),
+    (
+        RunFault::Tool(64, ToolFault::Memory),
+        "pnmpipe: tool 64: Memory\n",
+    ),
+    (RunFault::NoStart, "pnmpipe: NoStart\n"),
+    (RunFault::PeerGone(2), "pnmpipe: tool 2: PeerGone\n"),
+    (
+        RunFault::Input(InputFault::RasterCut),
+        "pnmpipe: input: RasterCut\n",
+    ),
+    (
+        RunFault::Output(SinkFault::WriteFailed),
+        "pnmpipe: output: WriteFailed\n",
+    ),
+    (
+        RunFault::Output(SinkFault::SecondPlain),
+        "pnmpipe: output: SecondPlain\n",
+    ),
+    (
+        RunFault::Output(SinkFault::PlainPam),
+        "pnmpipe: output: PlainPam\n",
+    ),
+];
+
 /// A tool's fault has the tool's number.
 #[test]
 fn names_tools(rt: HostRuntime) -> Result<(), Fail> {
-    for (fault, want) in [
-        (
-            RunFault::Tool(1, ToolFault::CutOutside),
-            "pnmpipe: tool 1: CutOutside\n",
-        ),
-        (
-            RunFault::Tool(2, ToolFault::ChannelOutside),
-            "pnmpipe: tool 2: ChannelOutside\n",
-        ),
-        (
-            RunFault::Tool(10, ToolFault::TooLarge),
-            "pnmpipe: tool 10: TooLarge\n",
-        ),
-        (
-            RunFault::Tool(64, ToolFault::Memory),
-            "pnmpipe: tool 64: Memory\n",
-        ),
-        (RunFault::NoStart, "pnmpipe: NoStart\n"),
-        (RunFault::PeerGone(2), "pnmpipe: tool 2: PeerGone\n"),
-        (
-            RunFault::Input(InputFault::RasterCut),
-            "pnmpipe: input: RasterCut\n",
-        ),
-        (
-            RunFault::Output(SinkFault::WriteFailed),
-            "pnmpipe: output: WriteFailed\n",
-        ),
-        (
-            RunFault::Output(SinkFault::SecondPlain),
-            "pnmpipe: output: SecondPlain\n",
-        ),
-        (
-            RunFault::Output(SinkFault::PlainPam),
-            "pnmpipe: output: PlainPam\n",
-        ),
-    ] {
+    for (fault, want) in FAULTS {
         let mut errors = Vec::new(rt.alloc());
         print_run_fault(&mut errors, fault);
         assert_eq!(rt; errors.as_slice(), want.as_bytes());
     }
+    Ok(())
+}
+
+/// Want of memory before a chain is known is the command line's.
+#[test]
+fn names_want_of_memory(rt: HostRuntime) -> Result<(), Fail> {
     let mut errors = Vec::new(rt.alloc());
     print_want_of_memory(&mut errors);
     assert_eq!(rt;
