@@ -47,9 +47,11 @@ check: toolchain
 	python3 scripts/cases.py
 	tail -n 1 bin/gate
 
-# the scripts, pages and documents: in seconds, and with what is installed
+# lines, functions and files that are too long, the scripts, pages and documents: in seconds, and with what is installed
 BUILT ?= bin/pnmpipe
 scripts:
+	python3 scripts/style.py
+	python3 scripts/test_style.py
 	python3 scripts/check_page.py
 	sh scripts/check_scripts.sh
 	python3 scripts/test_helpers.py --program $(BUILT)
@@ -149,7 +151,7 @@ help:
 	@echo "make controls        tries the edits that keep the code's meaning, which must prove"
 	@echo "make refused         refuses each allocation and each start of a thread in turn, of the program that make has left and of tests"
 	@echo "make soak SECONDS=n  runs random chains over random streams for n seconds, in one thread and over threads"
-	@echo "make scripts         checks the scripts, pages and documents, with the program that make has left"
+	@echo "make scripts         checks the layout, the scripts, pages and documents, with the program that make has left"
 	@echo "make install         installs the program that make has left, below PREFIX=/usr/local; make uninstall takes it away"
 	@echo "make dist, make deb  archives, and a Debian package, of the program that make has left, in dist/"
 	@echo "make pictures        makes the pictures of the documents anew"
