@@ -18,7 +18,7 @@ _pnmpipe_stage() {
 }
 
 _pnmpipe() {
-    local current=${COMP_WORDS[COMP_CWORD]} before=${COMP_WORDS[COMP_CWORD - 1]} quote='' text front last stage
+    local current=${COMP_WORDS[COMP_CWORD]} before=${COMP_WORDS[COMP_CWORD - 1]} quote='' text prefix last stage
     local -a typed
     COMPREPLY=()
     case $before in
@@ -39,12 +39,12 @@ _pnmpipe() {
     fi
     text=${current#"$quote"}
     last=${text##*[[:blank:]|]}
-    front=${text%"$last"}
-    stage=${front##*|}
+    prefix=${text%"$last"}
+    stage=${prefix##*|}
     read -r -a typed <<< "$stage"
     # the reply is all that follows the quote
     mapfile -t COMPREPLY < <(compgen -W "$(_pnmpipe_stage "${typed[0]-}")" -- "$last")
-    COMPREPLY=("${COMPREPLY[@]/#/$front}")
+    COMPREPLY=("${COMPREPLY[@]/#/$prefix}")
     # a single reply would close the quote, and a second one that goes on keeps it open
     [[ ${#COMPREPLY[@]} -ne 1 ]] || COMPREPLY=("${COMPREPLY[0]} " "${COMPREPLY[0]} |")
     compopt -o nospace 2> /dev/null

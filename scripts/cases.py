@@ -147,7 +147,7 @@ def read_line(line, images, stored_line):
         return f"{cut}{parted}{Sweep(said(one + other + third) for one, other in pairs for third in images)}"
     if word == "after":
         text = text_of(rest)
-        return Sweep(said(front + text) for image in images for front in (image, image + image))
+        return Sweep(said(prefix + text) for image in images for prefix in (image, image + image))
     return by_hand(word, ("long", "fails", "ahead", "held", "width", "names"))
 
 

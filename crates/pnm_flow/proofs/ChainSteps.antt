@@ -5,7 +5,7 @@ use Rattle.std.specs.Prelude.{IfOk, IfSome, vec_capacity}
 use Rattle.std.specs.List.{AllByRecursion}
 use Rattle.pnm_stages.specs.declared.sender.Sender.{Sender}
 use Rattle.pnm_stages.specs.declared.receiver.Receiver.{Receiver}
-use Rattle.pnm_stages.specs.Rings.{sent, received, known_items, SameProducer, SameConsumer}
+use Rattle.pnm_stages.specs.Rings.{sent, received, known_items, SameSender, SameReceiver}
 use Rattle.pnm_image.specs.declared.message.Message.{Message}
 use Rattle.pnm_image.specs.Images.{Image, messages_of_stream}
 use Rattle.pnm_image.specs.Messages.{without_stop}
@@ -246,7 +246,7 @@ came_back {B = B} lanes tools links_reserved ends_reserved input output P result
 -- what a tool of a chain has passed between these ring ends, which came back
 abbrev pub HasRunToolBetween : ℕ → Tool → Receiver → Sender → StageDone → Type 0
 HasRunToolBetween lanes tool input output done =
-    SameConsumer input done.input × SameProducer output done.output × HasRunTool lanes tool done.end (received input) (received done.input)
+    SameReceiver input done.input × SameSender output done.output × HasRunTool lanes tool done.end (received input) (received done.input)
     (known_items done.input) (sent output) (sent done.output)
 
 -- a tool that came back

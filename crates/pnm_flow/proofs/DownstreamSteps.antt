@@ -19,7 +19,7 @@ use Rattle.pnm_write.proofs.MessageLaws.{bytes_of_more, written_all, written_pre
 use Rattle.pnm_image.proofs.Written.{fails_again, prefix-more, then_prefix}
 use Rattle.pnm_flow.specs.declared.downstream.Downstream.{Downstream}
 use Rattle.pnm_flow.specs.Counts.{image_count_after, row_count_after}
-use Rattle.pnm_flow.specs.Downstreams.{output_of, AreWritable, CountsFlushes, AreWritten, CutsOff, HasTakenWith}
+use Rattle.pnm_flow.specs.Downstreams.{output_of, AreInOrder, CountsFlushes, AreWritten, CutsOff, HasTakenWith}
 use Rattle.pnm_flow.proofs.FormSteps.{refused_last, refused_before}
 use Rattle.pnm_flow.proofs.MessageSteps.{images_in-push, rows_in-push, prefix_is_writable, last_is_in_order}
 
@@ -129,7 +129,7 @@ refused_by_form held failures form start messages m old new fault was refuses ke
 
 -- the sink takes what comes in order
 takes_last : {W : Type 0} (held : W → Option (List ℕ)) (failures : W → ℕ) (form : Form) (start : W) (messages : List Message) (m : Message) (d : Downstream W)
-    → AreWritten held failures form start messages d → AreWritable (messages ++ m ∷ []) → IsInOrder (next_place d.sink) m
+    → AreWritten held failures form start messages d → AreInOrder (messages ++ m ∷ []) → IsInOrder (next_place d.sink) m
 takes_last held failures form start messages m d was writable = subst (λ (p : Place). IsInOrder p m) (sym (was.written.put.place was.sound))
     (last_is_in_order messages m writable)
 

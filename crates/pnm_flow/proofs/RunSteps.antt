@@ -42,12 +42,12 @@ use Rattle.pnm_stages.specs.declared.fused_filter.FusedFilter.TheVariants.{AtWor
 use Rattle.pnm_flow.specs.declared.fault.RunFault.{RunFault}
 use Rattle.pnm_flow.specs.declared.summary.Summary.{Summary}
 use Rattle.pnm_flow.specs.Counts.{saturate_u64, images_in, rows_in}
-use Rattle.pnm_flow.specs.Downstreams.{output_of, AreWritable, AreWritten, CutsOff, AreCutOff, HasTakenWith, AnswersFlushes}
+use Rattle.pnm_flow.specs.Downstreams.{output_of, AreInOrder, AreWritten, CutsOff, AreCutOff, HasTakenWith, AnswersFlushes}
 use Rattle.pnm_flow.specs.Feeding.{IsSaidOf, HasFed}
 use Rattle.pnm_flow.specs.Jobs.{Job, bytes_due}
 use Rattle.pnm_flow.specs.Runs.{EndedWell, HasWrittenResults, IsStoppedBy, IsPrefixOfBytesDue, FitAnswer, IsAllWritten}
 use Rattle.pnm_flow.specs.Verdicts.{IsAcceptedBy, HasResults}
-use Rattle.pnm_flow.specs.SerialChains.{refusals_in, StagesAt, AreFresh}
+use Rattle.pnm_flow.specs.SerialChains.{refusals_in, FiltersAt, AreFresh}
 use Rattle.pnm_flow.proofs.ToolSteps.{fresh_at}
 use Rattle.pnm_flow.proofs.CountLaws.{images_in-stream, rows_in-stream}
 use Rattle.pnm_flow.proofs.FeedingSteps.{said_are_sound}
@@ -90,7 +90,7 @@ said_before_fault text given fault is e =
 
 -- stages have answered what they received
 pub have_answered : {F : Type 0} (at : F → Tool → List Message → List Message → Type 0) (all_given : F → Bool) (stopped : F → Option ToolFault)
-    (stages : List (FusedFilter F)) (tools : List Tool) (l g : List Message) → StagesAt at all_given stopped stages tools l g
+    (stages : List (FusedFilter F)) (tools : List Tool) (l g : List Message) → FiltersAt at all_given stopped stages tools l g
     → HaveAnswered tools (refusals_in stages) l g
 have_answered at all_given stopped [] [] l g is = is
 have_answered at all_given stopped [] (tool ∷ tools) l g is = absurd is
@@ -108,7 +108,7 @@ rows_of_sound (ImageEnd ∷ l) s = (tt, rows_of_sound l s.1)
 rows_of_sound (StreamEnd ∷ l) s = (tt, rows_of_sound l s.1)
 rows_of_sound (Stop ∷ l) s = absurd s.0
 
-pub sound_is_writable : (l : List Message) → AreSound l → AreWritable l
+pub sound_is_writable : (l : List Message) → AreSound l → AreInOrder l
 sound_is_writable l s = (s.lawful, rows_of_sound l s.sound)
 
 -- ---- what is written
@@ -151,7 +151,7 @@ cut_prefix SecondPlain form out more old new failures_old failures_new cut = pre
 cut_prefix PlainPam form out more old new failures_old failures_new cut = prefix_of_more old new (written_of form out) more cut.1
 
 output_prefix : {W : Type 0} (held : W → Option (List ℕ)) (failures : W → ℕ) (form : Form) (start : W) (out : List Message) (more : List ℕ) (d : Downstream W)
-    (o : Result (Unit {0}) SinkFault) → AreWritable out → HasTakenWith held failures form start out d o
+    (o : Result (Unit {0}) SinkFault) → AreInOrder out → HasTakenWith held failures form start out d o
     → AppendsPrefix (held start) (held (output_of d)) (written_of form out ++ more)
 output_prefix held failures form start out more d (Ok x) writable is = prefix_of_more (held start) (held (output_of d)) (written_of form out) more
     (all_taken_written held failures form start out d is)
@@ -171,7 +171,7 @@ cut_all SecondPlain form out old now done failures_old failures_now failures_don
 cut_all PlainPam form out old now done failures_old failures_now failures_done cut same kept sound = Appends-kept old now done (written_of form out) cut.1 kept
 
 pub output_all : {W : Type 0} (held : W → Option (List ℕ)) (failures : W → ℕ) (form : Form) (start done : W) (out : List Message) (d : Downstream W)
-    (o : Result (Unit {0}) SinkFault) → AreWritable out → HasTakenWith held failures form start out d o
+    (o : Result (Unit {0}) SinkFault) → AreInOrder out → HasTakenWith held failures form start out d o
     → ((fault : SinkFault) → o ≡ Err fault → done ≡ output_of d) → Keeps (held (output_of d)) (held done) → ¬ Failed (failures start) (failures done)
     → Appends (held start) (held done) (written_of form out)
 output_all held failures form start done out d (Ok x) writable is broken kept sound =
@@ -192,7 +192,7 @@ failed_so held failures form start out d (Err fault) is = is.failed
 pub record Ran {W : Type 0} (held : W → Option (List ℕ)) (failures : W → ℕ) (start : W) (job : Job) (given out : List Message) (d : Downstream W) : Type 0 where
   pub lawful : AreLawfulTools job.tools
   pub sound : AreSound given
-  pub writable : AreWritable out
+  pub writable : AreInOrder out
   pub due : (is : List Image) → Completes is given → IsPrefixOf out (due_in_turn job.tools is)
   pub taken : HasTakenWith held failures job.form start out d d.output
 

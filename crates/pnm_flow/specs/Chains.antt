@@ -5,7 +5,7 @@ use Rattle.std.specs.Prelude.{vec_capacity}
 use Rattle.std.specs.List.{AllByRecursion}
 use Rattle.pnm_stages.specs.declared.sender.Sender.{Sender}
 use Rattle.pnm_stages.specs.declared.receiver.Receiver.{Receiver}
-use Rattle.pnm_stages.specs.Rings.{sent, received, known_items, SameProducer, SameConsumer}
+use Rattle.pnm_stages.specs.Rings.{sent, received, known_items, SameSender, SameReceiver}
 use Rattle.pnm_image.specs.declared.message.Message.{Message}
 use Rattle.pnm_image.specs.Images.{Image, messages_of_stream}
 use Rattle.pnm_image.specs.Completion.{IsStreamOf}
@@ -55,21 +55,21 @@ pub record HasRunTool (lanes : ℕ) (tool : Tool) (end : StageEnd)
 -- over these ring ends, which came back
 abbrev pub IsToolRun : ℕ → Tool → Receiver → Sender → StageDone → Type 0
 IsToolRun lanes tool input output done =
-    SameConsumer input done.input × SameProducer output done.output
+    SameReceiver input done.input × SameSender output done.output
     × HasRunTool lanes tool done.end (received input) (received done.input) (known_items done.input) (sent output)
     (sent done.output)
 
--- as one stage
+-- a tool has run as one stage over these ring ends, which came back
 abbrev pub IsOneStageRun : Tool → Receiver → Sender → StageDone → Type 0
 IsOneStageRun tool input output done =
-    SameConsumer input done.input × SameProducer output done.output
+    SameReceiver input done.input × SameSender output done.output
     × HasRunStage tool done.end (received input) (received done.input) (known_items done.input) (sent output)
     (sent done.output)
 
--- over several lanes
+-- a tool has run over several lanes, between these ring ends, which came back
 abbrev pub IsLanesRun : Tool → Receiver → Sender → StageDone → Type 0
 IsLanesRun tool input output done =
-    SameConsumer input done.input × SameProducer output done.output
+    SameReceiver input done.input × SameSender output done.output
     × HasRunLanes tool done.end (received input) (received done.input) (known_items done.input) (sent output)
     (sent done.output)
 
@@ -135,8 +135,8 @@ pub record HasRunChain (lanes : ℕ) (tools : List Tool) (ends : List StageEnd) 
 -- the stages of a chain between these ring ends, which came back; the lists still have so much room
 pub record HasRunBetween (lanes : ℕ) (tools : List Tool) (links_reserved ends_reserved : ℕ) (input : Receiver)
     (output : Sender) (done : ChainDone) : Type 0 where
-  pub same_input : SameConsumer input done.input
-  pub same_output : SameProducer output done.output
+  pub same_input : SameReceiver input done.input
+  pub same_output : SameSender output done.output
   pub ran : HasRunStages lanes tools done.ends.items done.links.items (received input) (received done.input)
       (sent output) (sent done.output)
   pub for_links : vec_capacity done.links ≡ links_reserved

@@ -20,8 +20,8 @@ abbrev pub output_of : {W : Type 0} → Downstream W → W
 output_of d = writer_of d.sink
 
 -- these messages come in order, and begin no image of height 0
-abbrev pub AreWritable : List Message → Type 0
-AreWritable messages = IsLawful messages × AllByRecursion HasRows messages
+abbrev pub AreInOrder : List Message → Type 0
+AreInOrder messages = IsLawful messages × AllByRecursion HasRows messages
 
 -- the writer failed since the count of the start where a flush has failed, and else didn't
 abbrev pub CountsFlushes : Bool → ℕ → ℕ → Type 0
@@ -54,7 +54,7 @@ CutsOff PlainPam form messages old new failures_old failures_new = (form_fault_o
 pub record AreCutOff {W : Type 0} (held : W → Option (List ℕ)) (failures : W → ℕ) (form : Form) (start : W)
     (messages : List Message) (d : Downstream W) (fault : SinkFault) : Type 0 where
   pub failed : has_failed d.sink ≡ true
-  pub prefix : AreWritable messages → CutsOff fault form messages (held start) (held (output_of d)) (failures start)
+  pub prefix : AreInOrder messages → CutsOff fault form messages (held start) (held (output_of d)) (failures start)
       (failures (output_of d))
 
 abbrev pub HasTakenWith : {W : Type 0} → (W → Option (List ℕ)) → (W → ℕ) → Form → W → List Message → Downstream W

@@ -18,7 +18,7 @@ use Rattle.pnm_flow.specs.declared.downstream.Downstream.{Downstream}
 use Rattle.pnm_stages.specs.declared.fused_filter.FusedFilter.{FusedFilter}
 use Rattle.pnm_flow.specs.Downstreams.{HasTaken}
 use Rattle.pnm_flow.specs.Runs.{change, MayFollowRead, OutlastsRun}
-use Rattle.pnm_flow.specs.SerialChains.{StagesAt}
+use Rattle.pnm_flow.specs.SerialChains.{FiltersAt}
 
 -- the messages that were given are all that is said of the text, and then its end or its fault; before a
 -- fault from outside they are a prefix of it
@@ -32,8 +32,8 @@ pub record HaveTaken {F W : Type 0} (at : F → Tool → List Message → List M
     (stopped : F → Option ToolFault) (held : W → Option (List ℕ)) (failures : W → ℕ)
     (given : List Message) (old new : List (FusedFilter F)) (before after : Downstream W) : Type 0 where
   pub out : List Message
-  pub stages : (tools : List Tool) → StagesAt at all_given stopped old tools [] []
-      → StagesAt at all_given stopped new tools given out
+  pub stages : (tools : List Tool) → FiltersAt at all_given stopped old tools [] []
+      → FiltersAt at all_given stopped new tools given out
   pub taken : (form : Form) (start : W) → HasTaken held failures form start [] before
       → HasTaken held failures form start out after
 

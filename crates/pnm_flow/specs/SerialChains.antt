@@ -7,26 +7,27 @@ use Rattle.pnm_tools.specs.declared.tool.Tool.{Tool}
 use Rattle.pnm_tools.specs.declared.any_tool.AnyTool.{AnyTool}
 use Rattle.pnm_tools.specs.States.{Standing, IsToolAt, is_all_given}
 use Rattle.pnm_stages.specs.declared.fused_filter.FusedFilter.{FusedFilter}
-use Rattle.pnm_stages.specs.FusedFilters.{StageAt, ToolAt, refusal_in}
+use Rattle.pnm_stages.specs.FusedFilters.{FilterAt, ToolAt, refusal_in}
 use Rattle.pnm_flow.specs.declared.downstream.Downstream.{Downstream}
 use Rattle.pnm_flow.specs.Downstreams.{HasTaken}
 
 -- what the first of the stages has received and the last has given
-abbrev pub StagesAt : {F : Type 0} → (F → Tool → List Message → List Message → Type 0) → (F → Bool)
+abbrev pub FiltersAt : {F : Type 0} → (F → Tool → List Message → List Message → Type 0) → (F → Bool)
     → (F → Option ToolFault) → List (FusedFilter F) → List Tool → List Message → List Message → Type 0
-StagesAt at all_given stopped [] [] received given = given ≡ received
-StagesAt at all_given stopped [] (tool ∷ tools) received given = ⊥
-StagesAt at all_given stopped (stage ∷ stages) [] received given = ⊥
-StagesAt at all_given stopped (stage ∷ stages) (tool ∷ tools) received given = (middle : List Message)
-    × StageAt at all_given stopped stage tool received middle × StagesAt at all_given stopped stages tools middle given
+FiltersAt at all_given stopped [] [] received given = given ≡ received
+FiltersAt at all_given stopped [] (tool ∷ tools) received given = ⊥
+FiltersAt at all_given stopped (stage ∷ stages) [] received given = ⊥
+FiltersAt at all_given stopped (stage ∷ stages) (tool ∷ tools) received given = (middle : List Message)
+    × FilterAt at all_given stopped stage tool received middle
+    × FiltersAt at all_given stopped stages tools middle given
 
 -- a message has passed through the stages, and the sink has taken what came of it
 pub record FeedsThrough {F W : Type 0} (at : F → Tool → List Message → List Message → Type 0) (all_given : F → Bool)
     (stopped : F → Option ToolFault) (held : W → Option (List ℕ)) (failures : W → ℕ)
     (old : List (FusedFilter F)) (m : Message) (new : List (FusedFilter F)) (before after : Downstream W) : Type 0 where
   pub more : List Message
-  pub stages : (tools : List Tool) (l g : List Message) → StagesAt at all_given stopped old tools l g
-      → StagesAt at all_given stopped new tools (l ++ m ∷ []) (g ++ more)
+  pub stages : (tools : List Tool) (l g : List Message) → FiltersAt at all_given stopped old tools l g
+      → FiltersAt at all_given stopped new tools (l ++ m ∷ []) (g ++ more)
   pub taken : (form : Form) (start : W) (messages : List Message) → HasTaken held failures form start messages before
       → HasTaken held failures form start (messages ++ more) after
 
@@ -38,7 +39,7 @@ refusals_in stages = map refusal_in stages
 
 abbrev pub ToolsAt : List (FusedFilter (Standing AnyTool)) → List Tool → List Message → List Message → Type 0
 ToolsAt stages tools received given =
-    StagesAt IsToolAt (λ s. is_all_given s.pending) (λ s. s.fault) stages tools received given
+    FiltersAt IsToolAt (λ s. is_all_given s.pending) (λ s. s.fault) stages tools received given
 
 -- each stage is its tool before the first message
 abbrev pub AreFresh : List (FusedFilter (Standing AnyTool)) → List Tool → Type 0

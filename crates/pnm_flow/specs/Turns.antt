@@ -1,6 +1,6 @@
 -- What the turns of the caller of a run over threads keep.
 use Rattle.std.specs.Prelude.{ℕ, List, Option}
-use Rattle.pnm_stages.specs.Rings.{SameProducer, SameConsumer}
+use Rattle.pnm_stages.specs.Rings.{SameSender, SameReceiver}
 use Rattle.pnm_image.specs.declared.format.Form.{Form}
 use Rattle.pnm_image.specs.declared.message.Message.{Message}
 use Rattle.pnm_read.specs.declared.source.Source.{Source}
@@ -20,7 +20,7 @@ pub record HaveTurned {R W : Type 0} (left : R → Option (List ℕ)) (reader_fa
   pub collecting : (form : Form) (start : W) (before : List Message)
       → IsCollecting held writer_failures form start before c
       → IsCollecting held writer_failures form start before c_new
-  pub sends : SameProducer f.output f_new.output
-  pub takes : SameConsumer c.input c_new.input
+  pub sends : SameSender f.output f_new.output
+  pub takes : SameReceiver c.input c_new.input
   pub reader : same_reader (reader_of f.source) (reader_of f_new.source)
   pub writer : same_writer (output_of c.downstream) (output_of c_new.downstream)

@@ -5,7 +5,7 @@ ghost use Rattle.std.specs.Thread.{IsSync};
 ghost use Rattle.pnm_tools.specs.Chains.{AreLawfulTools, IsChain};
 ghost use Rattle.pnm_tools.specs.Tools.{IsLawfulTool};
 ghost use Rattle.pnm_stages.specs.Limits.{IsRingCapacity};
-ghost use Rattle.pnm_stages.specs.Rings.{sent, received, IsPair, SameProducer, SameConsumer};
+ghost use Rattle.pnm_stages.specs.Rings.{sent, received, IsPair, SameSender, SameReceiver};
 ghost use Rattle.pnm_stages.specs.Starts.{IsUntouched};
 ghost use Rattle.pnm_lanes.specs.Limits.{IsLaneCount};
 ghost use Rattle.pnm_flow.specs.Links.{IsWhole};
@@ -52,7 +52,8 @@ pub struct ChainDone {
 /// It returns once all tools have ended, which they do when the end of the stream or Stop has come, or the
 /// input's other end is dropped; that the output's other end is dropped is seen only where its ring is
 /// full. So other threads have to send and take, or all that is to come is in the input, and there is room
-/// for what comes of it.
+/// for what comes of it. `NoStart` is answered where there is no memory for a ring or a list, or a thread
+/// can't be started.
 pub fn run_chain<R: Threads + Wait + Sync, G: Gate>(
     rt: &R,
     alloc: Global,
@@ -66,8 +67,8 @@ pub fn run_chain<R: Threads + Wait + Sync, G: Gate>(
     requires chain { IsChain tools.now }
     requires capacity { IsRingCapacity capacity }
     requires lanes { IsLaneCount lanes }
-    ensures input { IfOk result (λ done. SameConsumer input done.input) }
-    ensures output { IfOk result (λ done. SameProducer output done.output) }
+    ensures input { IfOk result (λ done. SameReceiver input done.input) }
+    ensures output { IfOk result (λ done. SameSender output done.output) }
     ensures ran { IfOk result (λ done. HasRunChain lanes tools.now done.ends.items done.links.items
         (received input) (received done.input) (sent output) (sent done.output)) }
     ensures not_started { IfErr result (λ refused. IfSome refused.ends (IsUntouched input output)) }
@@ -96,8 +97,8 @@ pub fn run_chain_beside<R: Threads + Wait + Sync, G: Gate, T: Task<Output = B> +
     requires capacity { IsRingCapacity capacity }
     requires lanes { IsLaneCount lanes }
     requires beside { T.can_run beside }
-    ensures input { IfOk result (λ r. SameConsumer input r.0.input) }
-    ensures output { IfOk result (λ r. SameProducer output r.0.output) }
+    ensures input { IfOk result (λ r. SameReceiver input r.0.input) }
+    ensures output { IfOk result (λ r. SameSender output r.0.output) }
     ensures ran { IfOk result (λ r. HasRunChain lanes tools.now r.0.ends.items r.0.links.items
         (received input) (received r.0.input) (sent output) (sent r.0.output)) }
     ensures beside { IfOk result (λ r. T.run_gives beside r.1) }

@@ -1,7 +1,7 @@
 //! What stands behind the tools of a run: the ring that their results come from, and what is written of them.
 
 ghost use Rattle.std.specs.Prelude.{◌≡◌, ◌⊎◌, [], ◌∷◌, ◌++◌, List, true, false};
-ghost use Rattle.pnm_stages.specs.Rings.{received, sent, known_items, IsPair, SameProducer, SameConsumer};
+ghost use Rattle.pnm_stages.specs.Rings.{received, sent, known_items, IsPair, SameSender, SameReceiver};
 ghost use Rattle.pnm_image.specs.declared.format.Form.{Form as FormValue};
 ghost use Rattle.pnm_image.specs.declared.message.Message.{Message as MessageValue};
 ghost use Rattle.pnm_flow.specs.Downstreams.{output_of};
@@ -59,7 +59,7 @@ impl<W: BytesOut + Drop> Collector<W> {
         ensures collecting { (form : FormValue) (start : W) (before : List MessageValue)
             → IsCollecting W.held W.failures form start before self.old
             → IsCollecting W.held W.failures form start before self.new }
-        ensures ring { SameConsumer self.old.input self.new.input }
+        ensures ring { SameReceiver self.old.input self.new.input }
         ensures same_device { W.same (output_of self.old.downstream) (output_of self.new.downstream) }
     {
         if !self.input.has_message() {
@@ -78,17 +78,17 @@ impl<W: BytesOut + Drop> Collector<W> {
         self.input.wait(rt, backoff);
     }
 
-    /// Takes what is left in the ring, both of whose ends are here: what was pushed before the other end was seen
+    /// Takes what is left in the ring, both of whose ends are here: what was sent before the other end was seen
     /// dropped.
-    pub fn take_rest(&mut self, sender: &mut Sender)
+    pub fn receive_rest(&mut self, sender: &mut Sender)
         requires one_ring { IsPair sender.old self.old.input }
         ensures collecting { (form : FormValue) (start : W) (before : List MessageValue)
             → IsCollecting W.held W.failures form start before self.old
             → IsCollecting W.held W.failures form start before self.new }
         ensures in_order { received self.new.input ++ known_items self.new.input ≡ sent sender.new }
         ensures rest { (self.new.has_ended ≡ true) ⊎ (known_items self.new.input ≡ []) }
-        ensures ring { SameConsumer self.old.input self.new.input }
-        ensures sender { SameProducer sender.old sender.new × (sent sender.new ≡ sent sender.old) }
+        ensures ring { SameReceiver self.old.input self.new.input }
+        ensures sender { SameSender sender.old sender.new × (sent sender.new ≡ sent sender.old) }
         ensures same_device { W.same (output_of self.old.downstream) (output_of self.new.downstream) }
     {
         self.input.look_beside(sender);

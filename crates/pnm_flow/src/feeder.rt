@@ -1,7 +1,7 @@
 //! What stands before the tools of a run: the source, and the ring that its messages go into.
 
 ghost use Rattle.std.specs.Prelude.{◌≡◌, List, Bool, false, Some, None};
-ghost use Rattle.pnm_stages.specs.Rings.{sent, SameProducer};
+ghost use Rattle.pnm_stages.specs.Rings.{sent, SameSender};
 ghost use Rattle.pnm_image.specs.declared.message.Message.{Message as MessageValue};
 ghost use Rattle.pnm_read.specs.Sources.{reader_of, IsFreshSource as IsUnread};
 
@@ -28,11 +28,12 @@ pub struct Feeder<R> {
 impl<R: BytesIn + Drop> Feeder<R> {
     ghost use Rattle.pnm_flow.specs.Feeders.{IsFeeding, feeder_is_over};
 
-    /// A feeder that has sent nothing yet. Of short rows it sends a few before it wakes the first tool (`tell`).
+    /// A feeder that has sent nothing yet. Of short rows it sends a few before it wakes the first tool
+    /// (`wake_receiver`).
     pub fn new(source: Source<R>, output: Sender) -> Feeder<R>
         requires { IsUnread (reader_of source) source }
         ensures feeding { IsFeeding R.left R.failures source (sent output) result }
-        ensures parts { (result.source ≡ source) × SameProducer output result.output
+        ensures parts { (result.source ≡ source) × SameSender output result.output
             × (sent result.output ≡ sent output) }
     {
         let mut output = output;
@@ -71,15 +72,15 @@ impl<R: BytesIn + Drop> Feeder<R> {
     }
 
     /// Wakes the first tool's thread, where something was sent that it wasn't woken for.
-    pub fn tell(&mut self)
+    pub fn wake_receiver(&mut self)
         ensures feeding { (first : Source R) (before : List MessageValue)
             → IsFeeding R.left R.failures first before self.old
             → IsFeeding R.left R.failures first before self.new }
-        ensures ring { SameProducer self.old.output self.new.output }
+        ensures ring { SameSender self.old.output self.new.output }
         ensures same_device { R.same (reader_of self.old.source) (reader_of self.new.source) }
         ensures over { feeder_is_over self.new ≡ feeder_is_over self.old }
     {
-        self.output.tell();
+        self.output.wake_receiver();
     }
 
     /// One turn of waiting for room in the ring.
@@ -87,7 +88,7 @@ impl<R: BytesIn + Drop> Feeder<R> {
         ensures feeding { (first : Source R) (before : List MessageValue)
             → IsFeeding R.left R.failures first before self.old
             → IsFeeding R.left R.failures first before self.new }
-        ensures ring { SameProducer self.old.output self.new.output }
+        ensures ring { SameSender self.old.output self.new.output }
         ensures same_device { R.same (reader_of self.old.source) (reader_of self.new.source) }
     {
         self.output.wait(rt, backoff);
@@ -100,7 +101,7 @@ impl<R: BytesIn + Drop> Feeder<R> {
         ensures feeding { (first : Source R) (before : List MessageValue)
             → IsFeeding R.left R.failures first before self.old
             → IsFeeding R.left R.failures first before self.new }
-        ensures ring { SameProducer self.old.output self.new.output }
+        ensures ring { SameSender self.old.output self.new.output }
         ensures same_device { R.same (reader_of self.old.source) (reader_of self.new.source) }
     {
         if self.held.is_none() {
@@ -114,7 +115,7 @@ impl<R: BytesIn + Drop> Feeder<R> {
         ensures feeding { (first : Source R) (before : List MessageValue)
             → IsFeeding R.left R.failures first before self.old
             → IsFeeding R.left R.failures first before self.new }
-        ensures ring { SameProducer self.old.output self.new.output }
+        ensures ring { SameSender self.old.output self.new.output }
         ensures same_device { R.same (reader_of self.old.source) (reader_of self.new.source) }
     {
         if !self.output.has_room() {

@@ -8,7 +8,7 @@ use pnm_image::{BytesOut, Message};
 use pnm_stages::FusedFilter;
 use pnm_tools::Filter;
 
-/// Passes a message through the stages, and writes what the last of them gives.
+/// Passes a message through the filters, and writes what the last of them gives.
 pub fn feed_through<F: Filter + Drop, W: BytesOut + Drop>(
     stages: &mut [FusedFilter<F>],
     message: Message,

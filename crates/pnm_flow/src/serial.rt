@@ -41,7 +41,7 @@ pub fn run_serial<R: BytesIn, W: BytesOut>(
     ensures same_reader { R.same reader.old reader.new }
     ensures same_writer { W.same writer.old writer.new }
 {
-    let mut stages = match stages_of(alloc, tools) {
+    let mut stages = match filters_of(alloc, tools) {
         Ok(stages) => stages,
         Err(fault) => return Err(RunFault::Tool(1, fault)),
     };
@@ -76,9 +76,9 @@ fn answer(
     }
 }
 
-/// Each tool at work, as a stage; one for which there is no memory has refused. The only fault is
+/// Each tool at work, fused; one for which there is no memory has refused. The only fault is
 /// `Memory`, for the list.
-fn stages_of(alloc: Global, tools: &[Tool]) -> Result<Vec<FusedFilter<ToolState>>, ToolFault>
+fn filters_of(alloc: Global, tools: &[Tool]) -> Result<Vec<FusedFilter<ToolState>>, ToolFault>
     requires { AreLawfulTools tools.now }
     ensures fresh { IfOk result (λ stages. AreFresh stages.items tools.now) }
     ensures refused { IfErr result (λ fault. fault ≡ NoMemory) }
@@ -90,7 +90,7 @@ fn stages_of(alloc: Global, tools: &[Tool]) -> Result<Vec<FusedFilter<ToolState>
     Ok(stages)
 }
 
-/// The number and the fault of the first stage that has refused.
+/// The number and the fault of the first filter that has refused.
 fn first_fault<F: Filter + Drop>(stages: &[FusedFilter<F>]) -> Option<(usize, ToolFault)>
     ensures { IsFirstRefusal (refusals_in stages.now) result }
 {

@@ -3,7 +3,7 @@
 
 ghost use Rattle.std.specs.Prelude.{◌≡◌, ◌≢◌, ◌⊎◌, ◌≤◌, ◌+◌, ℕ, [], List, length, Some, Err, IfSome};
 ghost use Rattle.std.specs.Thread.{IsSync};
-ghost use Rattle.pnm_stages.specs.Rings.{sent, received, IsPair, SameProducer, SameConsumer};
+ghost use Rattle.pnm_stages.specs.Rings.{sent, received, IsPair, SameSender, SameReceiver};
 ghost use Rattle.pnm_image.specs.declared.format.Form.{Form as FormValue};
 ghost use Rattle.pnm_tools.specs.declared.limits.TheConstants.{MAX_TOOLS};
 ghost use Rattle.pnm_read.specs.declared.source.Source.{Source as SourceValue};
@@ -107,8 +107,8 @@ fn beside_chain<H: Threads + Wait + Sync, R: BytesIn + Drop, W: BytesOut + Drop,
     requires chain { IsChain tools.now }
     requires capacity { IsRingCapacity capacity }
     requires lanes { IsLaneCount lanes }
-    ensures input { IfSome result (λ r. SameConsumer input r.0.input) }
-    ensures output { IfSome result (λ r. SameProducer output r.0.output) }
+    ensures input { IfSome result (λ r. SameReceiver input r.0.input) }
+    ensures output { IfSome result (λ r. SameSender output r.0.output) }
     ensures ran { IfSome result (λ r. HasRunChain lanes tools.now r.0.ends.items r.0.links.items
         (received input) (received r.0.input) (sent output) (sent r.0.output)) }
     ensures turned { IfSome result
@@ -155,7 +155,7 @@ fn conclude<R: BytesIn + Drop, W: BytesOut + Drop>(
     // What was sent and not received is known now.
     input.look_beside(&mut sender);
     let mut collector = collector;
-    collector.take_rest(&mut output);
+    collector.receive_rest(&mut output);
     let (downstream, has_ended) = collector.into_parts();
     let (writer, written) = downstream.finish();
     let answer = answer(fed, ends.as_slice(), has_ended, written);

@@ -4,7 +4,7 @@ ghost use Rattle.std.specs.Prelude.{◌≡◌, ◌↔◌, true, IsTrue, IfSome};
 ghost use Rattle.std.specs.Thread.{IsSync};
 ghost use Rattle.pnm_tools.specs.Tools.{IsLawfulTool, is_row_wise};
 ghost use Rattle.pnm_stages.specs.Limits.{IsRingCapacity};
-ghost use Rattle.pnm_stages.specs.Rings.{sent, received, known_items, SameProducer, SameConsumer};
+ghost use Rattle.pnm_stages.specs.Rings.{sent, received, known_items, SameSender, SameReceiver};
 ghost use Rattle.pnm_lanes.specs.Limits.{IsLaneCount};
 ghost use Rattle.pnm_lanes.specs.LaneRings.{AreLaneRings};
 ghost use Rattle.pnm_flow.specs.Chains.{RunsInLanes, IsToolRun, IsOneStageRun, IsLanesRun, IsAcross};
@@ -91,12 +91,12 @@ impl<'a, R: Wait, G: Gate> Task for Stage<'a, R, G> {
 
 /// Tells that all threads of a tool are started, by a message. Where they aren't, the ring's end goes.
 #[derive(Drop)]
-struct Told<'a, R> {
+struct Announcer<'a, R> {
     rt: &'a R,
     tells: Sender,
 }
 
-impl<'a, R: Wait> Task for Told<'a, R> {
+impl<'a, R: Wait> Task for Announcer<'a, R> {
     type Output = ();
 
     ghost can_run = { λ _. Unit {0} };
@@ -104,7 +104,7 @@ impl<'a, R: Wait> Task for Told<'a, R> {
     ghost run_gives = { λ _ _. Unit {0} };
 
     fn run(self) {
-        let Told { rt, mut tells } = self;
+        let Announcer { rt, mut tells } = self;
         tells.send(rt, Message::StreamEnd, &mut Backoff::new());
     }
 }
@@ -112,13 +112,13 @@ impl<'a, R: Wait> Task for Told<'a, R> {
 /// Work that begins once a message tells that the threads of a tool are started; none where its ring's other end goes
 /// before.
 #[derive(Drop)]
-struct Hearing<'a, R, T> {
+struct Listener<'a, R, T> {
     rt: &'a R,
     hears: Receiver,
     beside: T,
 }
 
-impl<'a, R: Wait, T: Task<Output = B> + Drop, B: Drop> Task for Hearing<'a, R, T> {
+impl<'a, R: Wait, T: Task<Output = B> + Drop, B: Drop> Task for Listener<'a, R, T> {
     type Output = Option<B>;
 
     ghost can_run = { λ h. T.can_run h.beside };
@@ -126,7 +126,7 @@ impl<'a, R: Wait, T: Task<Output = B> + Drop, B: Drop> Task for Hearing<'a, R, T
     ghost run_gives = { λ h r. IfSome r (T.run_gives h.beside) };
 
     fn run(self) -> Option<B> {
-        let Hearing {
+        let Listener {
             rt,
             mut hears,
             beside,
@@ -179,14 +179,14 @@ pub fn run_tool<R: Threads + Wait + Sync, G: Gate, T: Task<Output = B> + Drop, B
                         × IsLawfulTool tool.now × (is_row_wise tool.now ≡ true) × AreLaneRings rings }
                     ensures { IfSome result (IsLanesRun tool.entry.now input output) }
                 {
-                    let told = Told { rt, tells };
+                    let told = Announcer { rt, tells };
                     let (done, ()) = run_lanes_beside(
                         rt, alloc, tool, number, rings, gate, input, output, told,
                     )?;
                     Some(done)
                 },
             );
-            let (done, beside) = run_both(rt, over_lanes, Hearing { rt, hears, beside })?;
+            let (done, beside) = run_both(rt, over_lanes, Listener { rt, hears, beside })?;
             Some((done?, beside?))
         }
     }

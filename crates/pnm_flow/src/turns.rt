@@ -74,7 +74,7 @@ fn take_turns<H: Wait, R: BytesIn + Drop, W: BytesOut + Drop>(
         if feeder.is_over() && collector.is_over() {
             return;
         }
-        let takes_first = tell_before_taking(feeder, collector, takes);
+        let takes_first = wake_before_taking(feeder, collector, takes);
         if turn(feeder, collector, takes_first, &mut takes) {
             backoff.reset();
         } else {
@@ -98,14 +98,14 @@ fn wait<H: Wait, R: BytesIn + Drop, W: BytesOut + Drop>(
     if feeder.waits_for_room() {
         feeder.wait(rt, backoff);
     } else {
-        feeder.tell();
+        feeder.wake_receiver();
         collector.wait(rt, backoff);
     }
 }
 
 /// Whether a message is taken first, if one is there: where one was taken in the turn before, or where the source would
 /// have to wait for its reader. The first tool is told of all that was sent then.
-fn tell_before_taking<R: BytesIn + Drop, W: BytesOut + Drop>(
+fn wake_before_taking<R: BytesIn + Drop, W: BytesOut + Drop>(
     feeder: &mut Feeder<R>,
     collector: &Collector<W>,
     takes: bool,
@@ -115,7 +115,7 @@ fn tell_before_taking<R: BytesIn + Drop, W: BytesOut + Drop>(
 {
     let takes_first = takes || feeder.would_read();
     if takes_first {
-        feeder.tell();
+        feeder.wake_receiver();
     }
     takes_first
 }

@@ -6,11 +6,11 @@ use Rattle.pnm_image.specs.Messages.{IsMessage, EndsStream, without_stop}
 use Rattle.pnm_image.specs.Places.{IsLawful}
 use Rattle.pnm_image.specs.Images.{Image, AreImages, messages_of_stream}
 
--- the first list is the prefix of the second
+-- the first list is a prefix of the second
 abbrev pub IsPrefixOf : List Message → List Message → Type 0
 IsPrefixOf prefix whole = (rest : List Message) × (whole ≡ prefix ++ rest)
 
--- the images complete the messages: without a last Stop, these are the prefix of the images' messages
+-- the images complete the messages: without a last Stop, these are a prefix of the images' messages
 pub record Completes (is : List Image) (l : List Message) : Type 0 where
   pub images : AreImages is
   pub prefix : IsPrefixOf (without_stop l) (messages_of_stream is)

@@ -33,8 +33,10 @@ pub trait BytesIn {
         ensures count { CountsFailure (failures self.old) (failures self.new) result }
         ensures same_device { same self.old self.new };
 
+    /// A device is the same as itself.
     ghost same_at_once: { (a : Self) → same a a };
 
+    /// What is the same later is the same over both steps.
     ghost same_later: { (a b c : Self) → same a b → same b c → same a c };
 }
 
@@ -49,7 +51,7 @@ pub trait BytesOut {
     /// The two are one device at two moments.
     ghost same: { Self → Self → Type 0 };
 
-    /// Writes from the prefix of the bytes, and answers how many it took: at least one, where there
+    /// Writes bytes from the first on, and answers how many it took: at least one, where there
     /// is one. A failed call takes no byte.
     fn write(&mut self, bytes: &[u8]) -> Result<usize, DeviceFailed>
         ensures bound { WritesAtMost result bytes.now }
@@ -64,8 +66,10 @@ pub trait BytesOut {
         ensures count { CountsFailure (failures self.old) (failures self.new) result }
         ensures same_device { same self.old self.new };
 
+    /// A device is the same as itself.
     ghost same_at_once: { (a : Self) → same a a };
 
+    /// What is the same later is the same over both steps.
     ghost same_later: { (a b c : Self) → same a b → same b c → same a c };
 }
 

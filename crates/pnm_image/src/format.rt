@@ -18,12 +18,14 @@ pub enum Form {
 /// never plain.
 #[derive(Clone, Copy, Debug, PartialEq, Eq)]
 pub struct Format {
+    /// The kind of its images.
     pub kind: Kind,
+    /// How their samples are written.
     pub form: Form,
 }
 
 impl Format {
-    /// The format that the second byte of a magic names.
+    /// The format that the second byte of a magic names; none where it names none.
     pub fn of(byte: u8) -> Option<Format>
         ensures { result ≡ format_of byte }
     {

@@ -3,7 +3,7 @@ use Rattle.std.proofs.Common.{◌≡◌, inl, inr, ℕ, Bool, true, false, List,
 use Rattle.std.proofs.Common.{append-nil}
 use Rattle.std.specs.List.{AllByRecursion}
 use Rattle.pnm_stages.specs.declared.sender.Sender.{Sender}
-use Rattle.pnm_stages.specs.Rings.{sent, SameProducer}
+use Rattle.pnm_stages.specs.Rings.{sent, SameSender}
 use Rattle.pnm_image.specs.declared.message.Message.{Message}
 use Rattle.pnm_image.specs.declared.message.Message.TheVariants.{Stop}
 use Rattle.pnm_image.specs.declared.place.Place.{Place}
@@ -30,7 +30,7 @@ use Rattle.pnm_lanes.proofs.DealtLaws.{dealt_more, dealt_goes_on, dealt_part_goe
 
 -- a lane was sent all that is dealt to it of these messages
 abbrev pub HasAll : ℕ → List Message → ℕ → Sender → Sender → Type 0
-HasAll lanes took lane old now = SameProducer old now × (sent now ≡ sent old ++ dealt lane lanes took)
+HasAll lanes took lane old now = SameSender old now × (sent now ≡ sent old ++ dealt lane lanes took)
 
 -- messages were received that end so, and all of them were dealt
 pub record IsDealing (ending : Ending) (place : Place) (received_old received_now : List Message) (olds nows : List Sender) : Type 0 where
@@ -137,7 +137,7 @@ ends_broken place received_old received_new left olds news dealing = record {
 
 -- a lane was sent a prefix, which goes on, of what is dealt to it of these messages, and all of it where that is said
 abbrev pub HasPrefix : Bool → ℕ → List Message → ℕ → Sender → Sender → Type 0
-HasPrefix all lanes accepted lane old now = SameProducer old now
+HasPrefix all lanes accepted lane old now = SameSender old now
     × ((g : List Message) × (sent now ≡ sent old ++ g) × EndsBy More g × IsPrefixOf g (dealt lane lanes accepted)
     × (all ≡ true → g ≡ dealt lane lanes accepted))
 
@@ -195,7 +195,7 @@ prefix_of_dealt lane lanes accepted l g is prefix = record { accepted = accepted
 stopped_lane : (end : StageEnd) (all : Bool) (lanes : ℕ) (accepted l : List Message) → IsAccepted accepted l
     → ((lane : ℕ) (g : List Message) → EndsBy More g → (all ≡ true → g ≡ dealt lane lanes accepted) → HasSentSo end lane lanes l (g ++ Stop ∷ []))
     → (lane : ℕ) (old now new : Sender)
-    → HasPrefix all lanes accepted lane old now → SameProducer now new → sent new ≡ sent now ++ Stop ∷ [] → HasLane end lanes l lane old new
+    → HasPrefix all lanes accepted lane old now → SameSender now new → sent new ≡ sent now ++ Stop ∷ [] → HasLane end lanes l lane old new
 stopped_lane end all lanes accepted l is so lane old now new (same_now, (g, output, more, prefix, full)) same added = record {
   ring = same_output old now new same_now same;
   gave = g ++ Stop ∷ [];

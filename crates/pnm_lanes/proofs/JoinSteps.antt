@@ -8,7 +8,7 @@ use Rattle.pnm_image.specs.declared.message.Message.{Message}
 use Rattle.pnm_image.specs.Completion.{IsPrefixOf}
 use Rattle.pnm_stages.specs.declared.stage.StageEnd.{StageEnd}
 use Rattle.pnm_stages.specs.declared.stage.StageDone.{StageDone}
-use Rattle.pnm_lanes.specs.declared.lane_rings.LaneEnds.{LaneEnds}
+use Rattle.pnm_lanes.specs.declared.lane_rings.LaneRingEnds.{LaneRingEnds}
 use Rattle.pnm_lanes.specs.LaneRings.{AreUnused, ArePairs}
 use Rattle.pnm_lanes.specs.LaneRuns.{end_of_both}
 
@@ -21,7 +21,7 @@ pub counted_more : {X : Type 0} (xs ys : List X) (x : X) (n : ℕ) → ys ≡ xs
 counted_more xs ys x n is count = ap length is ∙ one_more xs x ∙ omega (arith, count)
 
 -- rings to and from one lane more
-pub unused_more : (ss : List Sender) (es : List LaneEnds) (rs : List Receiver) (s : Sender) (e : LaneEnds) (r : Receiver)
+pub unused_more : (ss : List Sender) (es : List LaneRingEnds) (rs : List Receiver) (s : Sender) (e : LaneRingEnds) (r : Receiver)
     → AreUnused ss es rs → IsPair s e.input → IsPair e.output r → sent s ≡ [] → received e.input ≡ [] → sent e.output ≡ [] → received r ≡ []
     → AreUnused (ss ++ s ∷ []) (es ++ e ∷ []) (rs ++ r ∷ [])
 unused_more [] [] [] s e r unused to from a b c d = (to, from, (a, b, c, d), tt)

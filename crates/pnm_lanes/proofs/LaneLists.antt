@@ -1,7 +1,7 @@
 -- Lists of ring ends, one for each lane.
 use Rattle.std.proofs.Common.{◌≡◌, ◌≢◌, ℕ, zero, suc, ◌<◌, List, [], ◌∷◌, length, get_or, set, refl, ap, arith}
 use Rattle.pnm_stages.specs.declared.receiver.Receiver.{Receiver}
-use Rattle.pnm_stages.specs.Rings.{SameConsumer}
+use Rattle.pnm_stages.specs.Rings.{SameReceiver}
 use Rattle.pnm_image.specs.declared.message.Message.{Message}
 use Rattle.pnm_stages.proofs.RingSteps.{same_input, itself_input}
 use Rattle.pnm_lanes.specs.Gathers.{at_lane, AreSameInputs}
@@ -34,7 +34,7 @@ pub are_themselves : (ends : List Receiver) → AreSameInputs ends ends
 are_themselves [] = tt
 are_themselves (end ∷ ends) = (itself_input end, are_themselves ends)
 
-pub one_changed : (ends : List Receiver) (lane : ℕ) (new other : Receiver) → lane < length ends → SameConsumer (get_or ends lane other) new
+pub one_changed : (ends : List Receiver) (lane : ℕ) (new other : Receiver) → lane < length ends → SameReceiver (get_or ends lane other) new
     → AreSameInputs ends (set ends lane new)
 one_changed [] lane new other below same = tt
 one_changed (end ∷ ends) zero new other below same = (same, are_themselves ends)

@@ -14,8 +14,8 @@ use Rattle.pnm_stages.specs.Stages.{IsStage}
 use Rattle.pnm_stages.proofs.RingSteps.{still_pair}
 use Rattle.pnm_stages.specs.declared.stage.StageDone.{StageDone}
 use Rattle.pnm_lanes.specs.declared.joining.LanesDone.{LanesDone}
-use Rattle.pnm_lanes.specs.declared.lane_rings.LaneEnds.{LaneEnds}
-use Rattle.pnm_lanes.specs.declared.lanes.OuterEnds.{OuterEnds}
+use Rattle.pnm_lanes.specs.declared.lane_rings.LaneRingEnds.{LaneRingEnds}
+use Rattle.pnm_lanes.specs.declared.lanes.OuterRingEnds.{OuterRingEnds}
 use Rattle.pnm_lanes.specs.Deals.{AtEachFrom, HasLane, HasSentSo, IsPrefixOfDealt}
 use Rattle.pnm_lanes.specs.Gathers.{at_lane, AreSameInputs, IsGathered}
 use Rattle.pnm_lanes.specs.LaneRings.{AreUnused, ArePairs}
@@ -26,7 +26,7 @@ use Rattle.pnm_lanes.proofs.LaneRuns.{lanes_are_a_stage}
 
 -- ---- the rings
 
-pub as_many_unused : (ss : List Sender) (es : List LaneEnds) (rs : List Receiver) → AreUnused ss es rs → (length ss ≡ length es) × (length rs ≡ length es)
+pub as_many_unused : (ss : List Sender) (es : List LaneRingEnds) (rs : List Receiver) → AreUnused ss es rs → (length ss ≡ length es) × (length rs ≡ length es)
 as_many_unused [] [] [] unused = (refl, refl)
 as_many_unused [] [] (r ∷ rs) unused = absurd unused
 as_many_unused [] (e ∷ es) rs unused = absurd unused
@@ -37,7 +37,7 @@ as_many_unused (s ∷ ss) (e ∷ es) (r ∷ rs) unused =
     (ap suc rest.0, ap suc rest.1)
 
 -- they are still pairs once the threads have ended
-pub pairs_after : (tool : Tool) (end : StageEnd) (lanes n : ℕ) (l : List Message) (ss ss' : List Sender) (es : List LaneEnds) (ds : List StageDone)
+pub pairs_after : (tool : Tool) (end : StageEnd) (lanes n : ℕ) (l : List Message) (ss ss' : List Sender) (es : List LaneRingEnds) (ds : List StageDone)
     (rs rs' : List Receiver)
     → AreUnused ss es rs → AtEachFrom (HasLane end lanes l) n ss ss' → AreLanesRun tool es ds → AreSameInputs rs rs' → ArePairs ss' ds rs'
 pairs_after tool end lanes n l [] [] [] [] [] [] unused dealt run same = tt
@@ -58,10 +58,10 @@ pairs_after tool end lanes n l (s ∷ ss) (s' ∷ ss') (e ∷ es) (d ∷ ds) (r 
 )
 
 -- nothing had passed over them
-record NothingPassed (ss : List Sender) (es : List LaneEnds) (rs : List Receiver) : Type 0 where
+record NothingPassed (ss : List Sender) (es : List LaneRingEnds) (rs : List Receiver) : Type 0 where
   to_lanes : (lane : ℕ) → at_lane sent ss lane ≡ []
-  by_lanes : (lane : ℕ) → at_lane (λ (e : LaneEnds). received e.input) es lane ≡ []
-  of_lanes : (lane : ℕ) → at_lane (λ (e : LaneEnds). sent e.output) es lane ≡ []
+  by_lanes : (lane : ℕ) → at_lane (λ (e : LaneRingEnds). received e.input) es lane ≡ []
+  of_lanes : (lane : ℕ) → at_lane (λ (e : LaneRingEnds). sent e.output) es lane ≡ []
   from_lanes : (lane : ℕ) → at_lane received rs lane ≡ []
 
 first_or : {X : Type 0} (of : X → List Message) (x : X) (xs : List X) → of x ≡ [] → ((lane : ℕ) → at_lane of xs lane ≡ []) → (lane : ℕ)
@@ -69,7 +69,7 @@ first_or : {X : Type 0} (of : X → List Message) (x : X) (xs : List X) → of x
 first_or of x xs one rest zero = one
 first_or of x xs one rest (suc lane) = rest lane
 
-nothing_passed : (ss : List Sender) (es : List LaneEnds) (rs : List Receiver) → AreUnused ss es rs → NothingPassed ss es rs
+nothing_passed : (ss : List Sender) (es : List LaneRingEnds) (rs : List Receiver) → AreUnused ss es rs → NothingPassed ss es rs
 nothing_passed [] [] [] unused = record { to_lanes = λ lane. refl; by_lanes = λ lane. refl; of_lanes = λ lane. refl; from_lanes = λ lane. refl }
 nothing_passed [] [] (r ∷ rs) unused = absurd unused
 nothing_passed [] (e ∷ es) rs unused = absurd unused
@@ -79,8 +79,8 @@ nothing_passed (s ∷ ss) (e ∷ es) (r ∷ rs) unused =
     let rest = nothing_passed ss es rs unused.3 in
     record {
       to_lanes = first_or sent s ss unused.2.0 rest.to_lanes;
-      by_lanes = first_or (λ (x : LaneEnds). received x.input) e es unused.2.1 rest.by_lanes;
-      of_lanes = first_or (λ (x : LaneEnds). sent x.output) e es unused.2.2 rest.of_lanes;
+      by_lanes = first_or (λ (x : LaneRingEnds). received x.input) e es unused.2.1 rest.by_lanes;
+      of_lanes = first_or (λ (x : LaneRingEnds). sent x.output) e es unused.2.2 rest.of_lanes;
       from_lanes = first_or received r rs unused.2.3 rest.from_lanes;
     }
 
@@ -114,8 +114,8 @@ end_at (d ∷ ds) zero = d.end
 end_at (d ∷ ds) (suc lane) = end_at ds lane
 
 -- what it received and sent
-filter_of : (tool : Tool) (es : List LaneEnds) (ds : List StageDone) → ((lane : ℕ) → at_lane (λ (e : LaneEnds). received e.input) es lane ≡ [])
-    → ((lane : ℕ) → at_lane (λ (e : LaneEnds). sent e.output) es lane ≡ []) → AreLanesRun tool es ds
+filter_of : (tool : Tool) (es : List LaneRingEnds) (ds : List StageDone) → ((lane : ℕ) → at_lane (λ (e : LaneRingEnds). received e.input) es lane ≡ [])
+    → ((lane : ℕ) → at_lane (λ (e : LaneRingEnds). sent e.output) es lane ≡ []) → AreLanesRun tool es ds
     → (lane : ℕ) → lane < length es → IsStage tool (end_at ds lane) (at_lane (λ (d : StageDone). received d.input) ds lane)
     (at_lane (λ (d : StageDone). sent d.output) ds lane)
 filter_of tool [] ds no_input no_output run lane below = absurd (omega (arith, below))
@@ -250,7 +250,7 @@ end_of_all_threads (Fault fault) ds gatherer PeerGone rest = tt
 -- ---- all threads
 
 -- together they are a stage
-pub lanes_have_run : (tool : Tool) (es : List LaneEnds) (outer : OuterEnds) (reserved : ℕ) (done : LanesDone) (end : StageEnd)
+pub lanes_have_run : (tool : Tool) (es : List LaneRingEnds) (outer : OuterRingEnds) (reserved : ℕ) (done : LanesDone) (end : StageEnd)
     → AreUnused outer.outputs.items es outer.inputs.items → HaveRun tool es outer reserved done
     → HavePassed done.dealt.outputs.items done.lanes.items done.gathered.inputs.items
     → end ≡ end_of_both done.dealt.end (end_of_lanes done.lanes.items done.gathered.end)

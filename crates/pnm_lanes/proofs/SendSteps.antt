@@ -4,7 +4,7 @@ use Rattle.std.proofs.Common.{sym, ap, subst, ◌∙◌, append-nil, arith}
 use Rattle.std.specs.Prelude.{◌==◌, if◌then◌else◌, slice_set, IsSome, IfSome}
 use Rattle.std.proofs.lemmas.Bool.Decides.{nat_tests}
 use Rattle.pnm_stages.specs.declared.sender.Sender.{Sender}
-use Rattle.pnm_stages.specs.Rings.{sent, SameProducer}
+use Rattle.pnm_stages.specs.Rings.{sent, SameSender}
 use Rattle.pnm_image.specs.declared.message.Message.{Message}
 use Rattle.pnm_image.specs.declared.message.Message.TheVariants.{Row}
 use Rattle.pnm_tools.specs.declared.fault.ToolFault.TheVariants.{Memory}
@@ -19,7 +19,7 @@ use Rattle.pnm_lanes.proofs.EachLaws.{each-map, each-itself, each-below, each-se
 
 -- a lane was sent its part, or couldn't be, if its number is below this one; and else nothing yet
 abbrev pub IsSentBelow : ℕ → (ℕ → List Message) → Option StageEnd → ℕ → Sender → Sender → Type 0
-IsSentBelow next part unsent lane old now = SameProducer old now
+IsSentBelow next part unsent lane old now = SameSender old now
     × (((lane < next) × ((sent now ≡ sent old ++ part lane) ⊎ ((sent now ≡ sent old) × IsSome unsent))) ⊎ ((next ≤ lane) × (sent now ≡ sent old)))
 
 pub record IsSending (next : ℕ) (part : ℕ → List Message) (unsent : Option StageEnd) (olds nows : List Sender) : Type 0 where
@@ -39,7 +39,7 @@ other_lane next part unsent still keeps lane old now other (same, inl (lt, inl i
 other_lane next part unsent still keeps lane old now other (same, inl (lt, inr lost)) = (same, inl (omega (arith, lt), inr (lost.0, keeps lost.1)))
 other_lane next part unsent still keeps lane old now other (same, inr (le, none)) = (same, inr (let e = other in grind arith, none))
 
-next_lane : (next : ℕ) (part : ℕ → List Message) (unsent still : Option StageEnd) (new : Sender) (m : List Message) (old now : Sender) → SameProducer now new
+next_lane : (next : ℕ) (part : ℕ → List Message) (unsent still : Option StageEnd) (new : Sender) (m : List Message) (old now : Sender) → SameSender now new
     → sent new ≡ sent now ++ m
     → (m ≡ part next) ⊎ ((m ≡ []) × IsSome still) → IsSentBelow next part unsent next old now → IsSentBelow (next + 1) part still next old new
 next_lane next part unsent still new m old now same added is (same_now, inl (lt, sent_now)) = absurd (omega (arith, lt))
@@ -55,7 +55,7 @@ next_lane next part unsent still new m old now same added (inr is) (same_now, in
 -- the next lane was sent its part
 pub sends_next : (next : ℕ) (part : ℕ → List Message) (unsent : Option StageEnd) (olds nows : List Sender) (was new other : Sender) (m : Message)
     → IsSending next part unsent olds nows → next < length nows
-    → was ≡ get_or nows next other → SameProducer was new → sent new ≡ sent was ++ m ∷ [] → part next ≡ m ∷ []
+    → was ≡ get_or nows next other → SameSender was new → sent new ≡ sent was ++ m ∷ [] → part next ≡ m ∷ []
     → IsSending (next + 1) part unsent olds (slice_set nows next new)
 sends_next next part unsent olds nows was new other m sending lt is same added part_is = record {
   lanes = each-set (IsSentBelow next part unsent) (IsSentBelow (next + 1) part unsent) next 0 next olds nows other new (omega arith) lt
@@ -68,7 +68,7 @@ sends_next next part unsent olds nows was new other m sending lt is same added p
 -- or couldn't be sent it
 pub misses_next : (next : ℕ) (part : ℕ → List Message) (unsent : Option StageEnd) (olds nows : List Sender) (was new other : Sender)
     → IsSending next part unsent olds nows → next < length nows
-    → was ≡ get_or nows next other → SameProducer was new → sent new ≡ sent was → IsSending (next + 1) part (Some PeerGone) olds (slice_set nows next new)
+    → was ≡ get_or nows next other → SameSender was new → sent new ≡ sent was → IsSending (next + 1) part (Some PeerGone) olds (slice_set nows next new)
 misses_next next part unsent olds nows was new other sending lt is same none = record {
   lanes = each-set (IsSentBelow next part unsent) (IsSentBelow (next + 1) part (Some PeerGone)) next 0 next olds nows other new (omega arith) lt
       (λ lane old now differs sent_now. other_lane next part unsent (Some PeerGone) (λ x. refl) lane old now differs sent_now)
@@ -109,7 +109,7 @@ leaves_off next part unsent olds nows sending = record {
 -- ---- a row
 
 abbrev IsSame : ℕ → Sender → Sender → Type 0
-IsSame lane old now = SameProducer old now × (sent now ≡ sent old)
+IsSame lane old now = SameSender old now × (sent now ≡ sent old)
 
 its_row : (lane lanes y : ℕ) (row : List ℕ) → y % lanes ≡ lane → row_part lanes y row lane ≡ Row row ∷ []
 its_row lane lanes y row is =
@@ -122,7 +122,7 @@ no_row lane lanes y row other =
     ap (λ (b : Bool). map Row (if b then row ∷ [] else [])) not_its
 
 pub sends_row : (lane y : ℕ) (row : List ℕ) (outputs : List Sender) (was new other : Sender) → lane ≡ y % length outputs → lane < length outputs
-    → was ≡ get_or outputs lane other → SameProducer was new → sent new ≡ sent was ++ Row row ∷ []
+    → was ≡ get_or outputs lane other → SameSender was new → sent new ≡ sent was ++ Row row ∷ []
     → HasSentParts (row_part (length outputs) y row) None outputs (slice_set outputs lane new)
 sends_row lane y row outputs was new other here lt is same added = record {
   lanes = each-set IsSame (IsSentPart (row_part (length outputs) y row) None) lane 0 lane outputs outputs other new (omega arith) lt
@@ -142,7 +142,7 @@ sends_row lane y row outputs was new other here lt is same added = record {
 }
 
 pub misses_row : (lane y : ℕ) (row : List ℕ) (outputs : List Sender) (was new other : Sender) → lane < length outputs
-    → was ≡ get_or outputs lane other → SameProducer was new → sent new ≡ sent was
+    → was ≡ get_or outputs lane other → SameSender was new → sent new ≡ sent was
     → HasSentParts (row_part (length outputs) y row) (Some PeerGone) outputs (slice_set outputs lane new)
 misses_row lane y row outputs was new other lt is same none = record {
   lanes = each-set IsSame (IsSentPart (row_part (length outputs) y row) (Some PeerGone)) lane 0 lane outputs outputs other new (omega arith) lt

@@ -1,7 +1,7 @@
 -- What the parts of dealing have sent.
 use Rattle.std.specs.Prelude.{◌≡◌, ◌⊎◌, ℕ, Bool, true, List, [], ◌∷◌, ◌++◌, map, Option, None, IsSome, IfSome}
 use Rattle.pnm_stages.specs.declared.sender.Sender.{Sender}
-use Rattle.pnm_stages.specs.Rings.{sent, SameProducer}
+use Rattle.pnm_stages.specs.Rings.{sent, SameSender}
 use Rattle.pnm_image.specs.declared.message.Message.{Message}
 use Rattle.pnm_image.specs.declared.message.Message.TheVariants.{Begin, Row, ImageEnd, StreamEnd, Stop}
 use Rattle.pnm_image.specs.declared.place.Place.{Place}
@@ -35,7 +35,7 @@ lane_part lanes m lane = dealt_message lane lanes Between m
 
 -- a lane was sent its part, or nothing where not each lane could be sent its own
 abbrev pub IsSentPart : (ℕ → List Message) → Option StageEnd → ℕ → Sender → Sender → Type 0
-IsSentPart part unsent lane old new = SameProducer old new
+IsSentPart part unsent lane old new = SameSender old new
     × ((sent new ≡ sent old ++ part lane) ⊎ ((sent new ≡ sent old) × IsSome unsent))
 
 -- a part for each lane was sent; where not each lane could be sent its own, there was no memory, or the other end of a

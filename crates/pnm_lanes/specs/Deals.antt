@@ -2,7 +2,7 @@
 use Rattle.std.specs.Prelude.{◌≡◌, ◌⊎◌, ℕ, ◌+◌, List, [], ◌∷◌, ◌++◌, length}
 use Rattle.std.specs.List.{AllByRecursion}
 use Rattle.pnm_stages.specs.declared.sender.Sender.{Sender}
-use Rattle.pnm_stages.specs.Rings.{sent, SameProducer}
+use Rattle.pnm_stages.specs.Rings.{sent, SameSender}
 use Rattle.pnm_image.specs.declared.message.Message.{Message}
 use Rattle.pnm_image.specs.declared.message.Message.TheVariants.{Stop}
 use Rattle.pnm_image.specs.Messages.{IsMessage, without_stop, EndsBy}
@@ -76,7 +76,7 @@ pub record IsPrefixOfDealt (lane lanes : ℕ) (l g : List Message) : Type 0 wher
 
 -- what a lane was sent, of so many, where these messages were received
 pub record HasLane (end : StageEnd) (lanes : ℕ) (l : List Message) (lane : ℕ) (old new : Sender) : Type 0 where
-  pub ring : SameProducer old new
+  pub ring : SameSender old new
   pub gave : List Message
   pub output : sent new ≡ sent old ++ gave
   pub ended : HasSentSo end lane lanes l gave

@@ -2,7 +2,7 @@
 use Rattle.std.specs.Prelude.{◌≡◌, ◌⊎◌, ◌<◌, ℕ, zero, suc, List, [], ◌∷◌, ◌++◌}
 use Rattle.std.specs.List.{AllByRecursion}
 use Rattle.pnm_stages.specs.declared.receiver.Receiver.{Receiver}
-use Rattle.pnm_stages.specs.Rings.{SameConsumer}
+use Rattle.pnm_stages.specs.Rings.{SameReceiver}
 use Rattle.pnm_image.specs.declared.message.Message.{Message}
 use Rattle.pnm_image.specs.declared.message.Message.TheVariants.{Begin, Row, ImageEnd, StreamEnd, Stop}
 use Rattle.pnm_image.specs.Completion.{IsPrefixOf}
@@ -29,7 +29,7 @@ abbrev pub AreSameInputs : List Receiver → List Receiver → Type 0
 AreSameInputs [] [] = Unit {0}
 AreSameInputs [] (new ∷ news) = ⊥
 AreSameInputs (old ∷ olds) [] = ⊥
-AreSameInputs (old ∷ olds) (new ∷ news) = SameConsumer old new × AreSameInputs olds news
+AreSameInputs (old ∷ olds) (new ∷ news) = SameReceiver old new × AreSameInputs olds news
 
 -- ---- how it ended
 

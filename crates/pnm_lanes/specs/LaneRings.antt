@@ -6,12 +6,12 @@ use Rattle.pnm_stages.specs.declared.receiver.Receiver.{Receiver}
 use Rattle.pnm_stages.specs.Rings.{sent, received, IsPair}
 use Rattle.pnm_image.specs.declared.message.Message.{Message}
 use Rattle.pnm_stages.specs.declared.stage.StageDone.{StageDone}
-use Rattle.pnm_lanes.specs.declared.lane_rings.LaneEnds.{LaneEnds}
+use Rattle.pnm_lanes.specs.declared.lane_rings.LaneRingEnds.{LaneRingEnds}
 use Rattle.pnm_lanes.specs.declared.lane_rings.LaneRings.{LaneRings}
 use Rattle.pnm_lanes.specs.Limits.{IsLaneCount}
 
 -- rings to and from each lane, over which nothing has passed
-abbrev pub AreUnused : List Sender → List LaneEnds → List Receiver → Type 0
+abbrev pub AreUnused : List Sender → List LaneRingEnds → List Receiver → Type 0
 AreUnused [] [] [] = Unit {0}
 AreUnused [] [] (r ∷ rs) = ⊥
 AreUnused [] (e ∷ es) rs = ⊥

@@ -3,7 +3,7 @@ use Rattle.std.specs.Global.{Vec}
 use Rattle.std.specs.Prelude.{◌≡◌, ◌⊎◌, ℕ, List, [], ◌∷◌, ◌++◌, length, vec_capacity}
 use Rattle.pnm_stages.specs.declared.sender.Sender.{Sender}
 use Rattle.pnm_stages.specs.declared.receiver.Receiver.{Receiver}
-use Rattle.pnm_stages.specs.Rings.{sent, received, known_items, SameProducer, SameConsumer}
+use Rattle.pnm_stages.specs.Rings.{sent, received, known_items, SameSender, SameReceiver}
 use Rattle.pnm_image.specs.declared.message.Message.{Message}
 use Rattle.pnm_tools.specs.declared.tool.Tool.{Tool}
 use Rattle.pnm_stages.specs.declared.stage.StageEnd.{StageEnd}
@@ -14,8 +14,8 @@ use Rattle.pnm_stages.specs.declared.stage.StageDone.{StageDone}
 use Rattle.pnm_lanes.specs.declared.dealing.DealDone.{DealDone}
 use Rattle.pnm_lanes.specs.declared.gathering.GatherDone.{GatherDone}
 use Rattle.pnm_lanes.specs.declared.joining.LanesDone.{LanesDone}
-use Rattle.pnm_lanes.specs.declared.lane_rings.LaneEnds.{LaneEnds}
-use Rattle.pnm_lanes.specs.declared.lanes.OuterEnds.{OuterEnds}
+use Rattle.pnm_lanes.specs.declared.lane_rings.LaneRingEnds.{LaneRingEnds}
+use Rattle.pnm_lanes.specs.declared.lanes.OuterRingEnds.{OuterRingEnds}
 use Rattle.pnm_lanes.specs.Deals.{HasDealt}
 use Rattle.pnm_lanes.specs.Gathers.{at_lane, AreSameInputs, HasGathered}
 use Rattle.pnm_lanes.specs.Lanes.{IsStageOfLanes, HaveThreadsEnded}
@@ -54,31 +54,31 @@ pub record HasRunLanes (tool : Tool) (end : StageEnd)
 -- a lane has ended
 abbrev pub IsLaneRun : Tool → Receiver → Sender → StageDone → Type 0
 IsLaneRun tool input output done =
-    SameConsumer input done.input × SameProducer output done.output
+    SameReceiver input done.input × SameSender output done.output
     × HasRunStage tool done.end (received input) (received done.input) (known_items done.input) (sent output)
     (sent done.output)
 
--- the thread that dealt has
+-- the dealer has ended
 abbrev pub IsDealerRun : Receiver → List Sender → DealDone → Type 0
 IsDealerRun input outputs done =
-    SameConsumer input done.input
+    SameReceiver input done.input
     × HasDealt done.end (received input) (received done.input) (known_items done.input) outputs done.outputs.items
 
--- the one that gathered has
+-- the gatherer has ended
 abbrev pub IsGathererRun : List Receiver → Sender → GatherDone → Type 0
 IsGathererRun inputs output done =
-    AreSameInputs inputs done.inputs.items × SameProducer output done.output
+    AreSameInputs inputs done.inputs.items × SameSender output done.output
     × HasGathered done.end (length inputs) (at_lane received inputs) (at_lane received done.inputs.items)
     (at_lane known_items done.inputs.items) (sent output) (sent done.output)
 
--- both have, and the room for the lanes is as before
-abbrev pub HaveDealtAndGathered : OuterEnds → Vec StageDone → LanesDone → Type 0
+-- the dealer and the gatherer have ended, and what is reserved for the lanes is as before
+abbrev pub HaveDealtAndGathered : OuterRingEnds → Vec StageDone → LanesDone → Type 0
 HaveDealtAndGathered outer reserved done =
     IsDealerRun outer.input outer.outputs.items done.dealt × IsGathererRun outer.inputs.items outer.output done.gathered
     × (done.lanes ≡ reserved)
 
--- each lane has
-abbrev pub AreLanesRun : Tool → List LaneEnds → List StageDone → Type 0
+-- each lane has ended
+abbrev pub AreLanesRun : Tool → List LaneRingEnds → List StageDone → Type 0
 AreLanesRun tool [] [] = Unit {0}
 AreLanesRun tool [] (done ∷ dones) = ⊥
 AreLanesRun tool (ends ∷ lanes) [] = ⊥
@@ -87,19 +87,19 @@ AreLanesRun tool (ends ∷ lanes) (done ∷ dones) = IsLaneRun tool ends.input e
 
 -- the dealer, these lanes and the gatherer have ended, each over its ring ends; the list of the lanes still has so much
 -- room
-pub record HaveRun (tool : Tool) (lanes : List LaneEnds) (outer : OuterEnds) (reserved : ℕ)
+pub record HaveRun (tool : Tool) (lanes : List LaneRingEnds) (outer : OuterRingEnds) (reserved : ℕ)
     (done : LanesDone) : Type 0 where
-  pub input : SameConsumer outer.input done.dealt.input
+  pub input : SameReceiver outer.input done.dealt.input
   pub dealt : HasDealt done.dealt.end (received outer.input) (received done.dealt.input) (known_items done.dealt.input)
       outer.outputs.items done.dealt.outputs.items
   pub lanes_run : AreLanesRun tool lanes done.lanes.items
   pub inputs : AreSameInputs outer.inputs.items done.gathered.inputs.items
-  pub output : SameProducer outer.output done.gathered.output
+  pub output : SameSender outer.output done.gathered.output
   pub gathered : HasGathered done.gathered.end (length outer.inputs.items) (at_lane received outer.inputs.items)
       (at_lane received done.gathered.inputs.items)
       (at_lane known_items done.gathered.inputs.items) (sent outer.output) (sent done.gathered.output)
   pub for_lanes : vec_capacity done.lanes ≡ reserved
 
 -- both threads beside the lanes have as many ring ends, 1 to 8
-abbrev pub AreAround : OuterEnds → Type 0
+abbrev pub AreAround : OuterRingEnds → Type 0
 AreAround outer = IsLaneCount (length outer.outputs.items) × (length outer.inputs.items ≡ length outer.outputs.items)

@@ -1,7 +1,7 @@
 //! Dealing: the rows of each image go to lanes in turn, and each lane gets a stream of images of its own.
 
 ghost use Rattle.std.specs.Prelude.{◌≡◌, ◌<◌, ◌≤◌, ◌∷◌, [], length, IfSome};
-ghost use Rattle.pnm_stages.specs.Rings.{sent, received, known_items, SameProducer, SameConsumer};
+ghost use Rattle.pnm_stages.specs.Rings.{sent, received, known_items, SameSender, SameReceiver};
 ghost use Rattle.pnm_image.specs.Places.{Accepts};
 ghost use Rattle.pnm_tools.specs.Dealing.{dealt_height};
 ghost use Rattle.pnm_lanes.specs.Limits.{IsLaneCount};
@@ -39,7 +39,7 @@ pub struct DealDone {
 /// A copy of a head is made by the head's own allocator: `_alloc` says that memory is taken.
 pub fn deal<R: Wait>(rt: &R, _alloc: Global, input: Receiver, outputs: Vec<Sender>) -> DealDone
     requires { IsLaneCount (length outputs.items) }
-    ensures input { SameConsumer input result.input }
+    ensures input { SameReceiver input result.input }
     ensures count { length result.outputs.items ≡ length outputs.items }
     ensures dealt { HasDealt result.end (received input) (received result.input) (known_items result.input)
         outputs.items result.outputs.items }
@@ -57,7 +57,7 @@ pub fn deal<R: Wait>(rt: &R, _alloc: Global, input: Receiver, outputs: Vec<Sende
 /// Deals all messages through to the end of the stream.
 fn deal_all<R: Wait>(rt: &R, input: &mut Receiver, outputs: &mut [Sender]) -> StageEnd
     requires { IsLaneCount (length outputs.old) }
-    ensures input { SameConsumer input.old input.new }
+    ensures input { SameReceiver input.old input.new }
     ensures dealt { HasDealt result (received input.old) (received input.new) (known_items input.new)
         outputs.old outputs.new }
 {
@@ -206,7 +206,7 @@ fn break_off<R: Wait>(
     backoff: &mut Backoff,
 ) -> StageEnd
     requires { IsLaneCount (length outputs.old) }
-    ensures input { SameConsumer input.old input.new }
+    ensures input { SameReceiver input.old input.new }
     ensures broken { HasBrokenOffDealing end ending result
         (received input.old) (received input.new) (known_items input.new) outputs.old outputs.new }
 {

@@ -2,7 +2,7 @@
 //! some.
 
 ghost use Rattle.std.specs.Prelude.{◌≡◌, ◌≢◌, ℕ, ◌<◌, ◌≤◌, length, IfSome, IfNone, IsTrue};
-ghost use Rattle.pnm_stages.specs.Rings.{received, known_items, SameConsumer};
+ghost use Rattle.pnm_stages.specs.Rings.{received, known_items, SameReceiver};
 ghost use Rattle.pnm_image.specs.Messages.{IsMessage};
 ghost use Rattle.pnm_lanes.specs.Gathers.{at_lane, AreSameInputs};
 ghost use Rattle.pnm_lanes.specs.GatherParts.{HasDrainedOne, CarriesOn, HasDrainedAll, AreDone, ending_state};
@@ -81,7 +81,7 @@ fn drain_lane(inputs: &mut [Receiver], states: &mut [LaneState], lane: usize) ->
 /// Takes and drops the next message, where there is one; the lane's state then, or `Gone` where the ring is empty and
 /// its other end was seen dropped.
 fn drain_one(input: &mut Receiver) -> Option<LaneState>
-    ensures ring { SameConsumer input.old input.new }
+    ensures ring { SameReceiver input.old input.new }
     ensures drained { HasDrainedOne result (received input.old) (received input.new) (known_items input.new) }
 {
     if input.has_message() {

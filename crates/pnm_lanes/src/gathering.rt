@@ -1,14 +1,14 @@
 //! Gathering: the messages of lanes put together again, as those of the images whose rows were dealt to the lanes.
 
 ghost use Rattle.std.specs.Prelude.{◌≡◌, ◌≤◌, length};
-ghost use Rattle.pnm_stages.specs.Rings.{sent, received, known_items, SameProducer};
+ghost use Rattle.pnm_stages.specs.Rings.{sent, received, known_items, SameSender};
 ghost use Rattle.pnm_lanes.specs.Limits.{IsLaneCount};
 ghost use Rattle.pnm_lanes.specs.Gathers.{at_lane, AreSameInputs, HasGathered};
 ghost use Rattle.pnm_lanes.specs.GatherParts.{HasBrokenOffAll};
 
 use crate::drain::drain_all;
 use crate::lane::{LaneState, MAX_LANES};
-use crate::next::take_next;
+use crate::next::receive_next;
 use pnm_image::{Ending, Message, Place};
 use pnm_stages::{Backoff, Receiver, Sender, StageEnd};
 use std::sync::Wait;
@@ -33,7 +33,7 @@ pub struct GatherDone {
 pub fn gather<R: Wait>(rt: &R, inputs: Vec<Receiver>, output: Sender) -> GatherDone
     requires { IsLaneCount (length inputs.items) }
     ensures inputs { AreSameInputs inputs.items result.inputs.items }
-    ensures output { SameProducer output result.output }
+    ensures output { SameSender output result.output }
     ensures gathered { HasGathered result.end (length inputs.items) (at_lane received inputs.items)
         (at_lane received result.inputs.items) (at_lane known_items result.inputs.items) (sent output)
         (sent result.output) }
@@ -53,7 +53,7 @@ fn gather_all<R: Wait>(rt: &R, inputs: &mut [Receiver], output: &mut Sender) -> 
     requires some { 1 ≤ length inputs.old }
     requires few { length inputs.old ≤ MAX_LANES }
     ensures inputs { AreSameInputs inputs.old inputs.new }
-    ensures output { SameProducer output.old output.new }
+    ensures output { SameSender output.old output.new }
     ensures gathered { HasGathered result (length inputs.old) (at_lane received inputs.old)
         (at_lane received inputs.new)
         (at_lane known_items inputs.new) (sent output.old) (sent output.new) }
@@ -63,7 +63,7 @@ fn gather_all<R: Wait>(rt: &R, inputs: &mut [Receiver], output: &mut Sender) -> 
     for _ in rt.forever() {
         let mut lanes = [LaneState::Open; MAX_LANES];
         let states = &mut lanes[..inputs.len()];
-        let message = match take_next(rt, inputs, states, place, backoff) {
+        let message = match receive_next(rt, inputs, states, place, backoff) {
             Ok(message) => message,
             Err(end) => return break_off(rt, end, inputs, states, output, backoff),
         };
@@ -95,7 +95,7 @@ fn break_off<R: Wait>(
     requires some { 1 ≤ length inputs.old }
     requires states { length inputs.old ≡ length states.old }
     ensures inputs { AreSameInputs inputs.old inputs.new }
-    ensures output { SameProducer output.old output.new }
+    ensures output { SameSender output.old output.new }
     ensures broken { HasBrokenOffAll end result (length inputs.old) states.old states.new (at_lane received inputs.old)
         (at_lane received inputs.new) (at_lane known_items inputs.old) (at_lane known_items inputs.new)
         (sent output.old)

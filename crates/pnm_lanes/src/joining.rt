@@ -4,8 +4,8 @@ ghost use Rattle.std.specs.Prelude.{◌≡◌, ◌<◌, ℕ, List, true, length}
 ghost use Rattle.pnm_stages.specs.Rings.{sent, received, known_items};
 ghost use Rattle.pnm_tools.specs.declared.tool.Tool.{Tool};
 ghost use Rattle.pnm_tools.specs.Tools.{IsLawfulTool, is_row_wise};
-ghost use Rattle.pnm_lanes.specs.declared.lane_rings.LaneEnds.{LaneEnds};
-ghost use Rattle.pnm_lanes.specs.declared.lanes.OuterEnds.{OuterEnds};
+ghost use Rattle.pnm_lanes.specs.declared.lane_rings.LaneRingEnds.{LaneRingEnds};
+ghost use Rattle.pnm_lanes.specs.declared.lanes.OuterRingEnds.{OuterRingEnds};
 ghost use Rattle.pnm_lanes.specs.LaneRings.{AreUnused, ArePairs};
 ghost use Rattle.pnm_lanes.specs.LaneRuns.{end_of_both, HaveRun, HasRunLanes};
 
@@ -29,7 +29,7 @@ pub struct LanesDone {
 pub fn joined(done: LanesDone) -> StageDone
     requires rings { ArePairs done.dealt.outputs.items done.lanes.items done.gathered.inputs.items }
     ensures outer { (result.input ≡ done.dealt.input) × (result.output ≡ done.gathered.output) }
-    ensures ran { (tool : Tool) (lanes : List LaneEnds) (outer : OuterEnds) (reserved : ℕ)
+    ensures ran { (tool : Tool) (lanes : List LaneRingEnds) (outer : OuterRingEnds) (reserved : ℕ)
         → IsLawfulTool tool → is_row_wise tool ≡ true → 0 < length lanes
         → AreUnused outer.outputs.items lanes outer.inputs.items → HaveRun tool lanes outer reserved done
         → HasRunLanes tool result.end (received outer.input) (received result.input) (known_items result.input)

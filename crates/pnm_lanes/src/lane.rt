@@ -25,7 +25,7 @@ pub enum LaneState {
 
 /// The next message of a lane that hasn't ended. `Broken` where it is Stop; `PeerGone` once the lane's ring is empty
 /// and its other end was seen dropped.
-pub fn take_from<R: Wait>(
+pub fn receive_from<R: Wait>(
     rt: &R,
     inputs: &mut [Receiver],
     states: &mut [LaneState],

@@ -8,7 +8,7 @@ use std::alloc::Global;
 
 /// The ring ends of a lane.
 #[derive(Drop)]
-pub struct LaneEnds {
+pub struct LaneRingEnds {
     /// The end that it receives on.
     pub input: Receiver,
     /// The end that it sends on.
@@ -21,7 +21,7 @@ pub struct LaneRings {
     /// Those that the thread before the lanes sends on.
     pub outputs: Vec<Sender>,
     /// Those of the lanes.
-    pub lanes: Vec<LaneEnds>,
+    pub lanes: Vec<LaneRingEnds>,
     /// Those that the thread behind the lanes receives on.
     pub inputs: Vec<Receiver>,
     /// A list that has room for the lanes once they have ended.
@@ -29,7 +29,7 @@ pub struct LaneRings {
 }
 
 impl LaneRings {
-    /// Rings for so many messages each, and the room; none where there is no memory.
+    /// Rings for so many messages each, and the list reserved for what comes back; none where there is no memory.
     pub fn new(alloc: Global, lanes: usize, capacity: usize) -> Option<LaneRings>
         ensures unused { IfSome result (λ rings. AreUnused rings.outputs.items rings.lanes.items rings.inputs.items) }
         ensures count { IfSome result (λ rings. length rings.lanes.items ≡ lanes) }
@@ -44,7 +44,7 @@ impl LaneRings {
             let (sender, input) = new_ring(alloc, capacity)?;
             let (output, receiver) = new_ring(alloc, capacity)?;
             outputs.push_reserved(sender);
-            ends.push_reserved(LaneEnds { input, output });
+            ends.push_reserved(LaneRingEnds { input, output });
             inputs.push_reserved(receiver);
         }
         Some(LaneRings {

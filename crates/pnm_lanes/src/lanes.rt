@@ -5,7 +5,7 @@ ghost use Rattle.std.specs.Prelude.{◌≡◌, ◌≤◌, [], true, length, vec_
 ghost use Rattle.std.specs.Thread.{IsSync};
 ghost use Rattle.pnm_tools.specs.Tools.{IsLawfulTool, is_row_wise};
 ghost use Rattle.pnm_stages.specs.Limits.{IsRingCapacity};
-ghost use Rattle.pnm_stages.specs.Rings.{sent, received, known_items, SameProducer, SameConsumer};
+ghost use Rattle.pnm_stages.specs.Rings.{sent, received, known_items, SameSender, SameReceiver};
 ghost use Rattle.pnm_stages.specs.Starts.{IsUntouched};
 ghost use Rattle.pnm_lanes.specs.Limits.{IsLaneCount};
 ghost use Rattle.pnm_lanes.specs.LaneRuns.{HasRunLanes, HaveRun, HaveDealtAndGathered, IsLaneRun, IsDealerRun};
@@ -15,7 +15,7 @@ ghost use Rattle.pnm_lanes.specs.LaneRings.{AreLaneRings};
 use crate::dealing::{DealDone, deal};
 use crate::gathering::{GatherDone, gather};
 use crate::joining::{LanesDone, joined};
-use crate::lane_rings::{LaneEnds, LaneRings};
+use crate::lane_rings::{LaneRingEnds, LaneRings};
 use pnm_stages::{
     Call, Gate, Idle, NoStart, Receiver, Sender, StageDone, Task, row_filter_of, run_both,
     run_filter,
@@ -27,7 +27,7 @@ use std::thread::Threads;
 
 /// The ring ends of the thread that deals and of the one that gathers.
 #[derive(Drop)]
-pub struct OuterEnds {
+pub struct OuterRingEnds {
     /// The end that the dealer receives on.
     pub input: Receiver,
     /// Those that it sends on, one for each lane.
@@ -62,8 +62,8 @@ pub fn run_lanes<R: Threads + Wait + Sync, G: Gate>(
     requires row_wise { is_row_wise tool.now ≡ true }
     requires lanes { IsLaneCount lanes }
     requires capacity { IsRingCapacity capacity }
-    ensures input { IfOk result (λ done. SameConsumer input done.input) }
-    ensures output { IfOk result (λ done. SameProducer output done.output) }
+    ensures input { IfOk result (λ done. SameReceiver input done.input) }
+    ensures output { IfOk result (λ done. SameSender output done.output) }
     ensures ran { IfOk result
         (λ done. HasRunLanes tool.now done.end (received input) (received done.input) (known_items done.input)
         (sent output) (sent done.output)) }
@@ -99,8 +99,8 @@ pub fn run_lanes_beside<R: Threads + Wait + Sync, G: Gate, T: Task<Output = B> +
     requires row_wise { is_row_wise tool.now ≡ true }
     requires rings { AreLaneRings rings }
     requires beside { T.can_run beside }
-    ensures input { IfSome result (λ r. SameConsumer input r.0.input) }
-    ensures output { IfSome result (λ r. SameProducer output r.0.output) }
+    ensures input { IfSome result (λ r. SameReceiver input r.0.input) }
+    ensures output { IfSome result (λ r. SameSender output r.0.output) }
     ensures ran { IfSome result
         (λ r. HasRunLanes tool.now r.0.end (received input) (received r.0.input) (known_items r.0.input)
         (sent output) (sent r.0.output)) }
@@ -112,7 +112,7 @@ pub fn run_lanes_beside<R: Threads + Wait + Sync, G: Gate, T: Task<Output = B> +
         inputs,
         reserved,
     } = rings;
-    let outer = OuterEnds {
+    let outer = OuterRingEnds {
         input,
         outputs,
         inputs,
@@ -133,7 +133,7 @@ struct Lane<'a, R, G> {
     number: usize,
     lane: usize,
     gate: &'a G,
-    ends: LaneEnds,
+    ends: LaneRingEnds,
 }
 
 impl<'a, R: Wait, G: Gate> Task for Lane<'a, R, G> {
@@ -166,8 +166,8 @@ fn run_threads<R: Threads + Wait + Sync, G: Gate, T: Task<Output = B> + Drop, B:
     tool: &Tool,
     number: usize,
     gate: &G,
-    lanes: Vec<LaneEnds>,
-    outer: OuterEnds,
+    lanes: Vec<LaneRingEnds>,
+    outer: OuterRingEnds,
     reserved: Vec<StageDone>,
     beside: T,
 ) -> Option<(LanesDone, B)>
@@ -254,13 +254,14 @@ impl<'a, R: Wait> Task for Gatherer<'a, R> {
 
 /// The work of the thread that deals, and the work that is done beside it.
 #[derive(Drop)]
-struct Dealing<'a, R, T> {
+struct DealerAndBeside<'a, R, T> {
     rt: &'a R,
     dealer: Dealer<'a, R>,
     beside: T,
 }
 
-impl<'a, R: Threads + Wait + Sync, T: Task<Output = B> + Drop, B: Drop> Task for Dealing<'a, R, T> {
+impl<'a, R: Threads + Wait + Sync, T: Task<Output = B> + Drop, B: Drop> Task
+    for DealerAndBeside<'a, R, T> {
     type Output = Option<(DealDone, B)>;
 
     ghost can_run = { λ d. IsSync R.row × IsLaneCount (length d.dealer.outputs.items) × T.can_run d.beside };
@@ -269,7 +270,7 @@ impl<'a, R: Threads + Wait + Sync, T: Task<Output = B> + Drop, B: Drop> Task for
         IfSome r (λ r. IsDealerRun d.dealer.input d.dealer.outputs.items r.0 × T.run_gives d.beside r.1) };
 
     fn run(self) -> Option<(DealDone, B)> {
-        let Dealing { rt, dealer, beside } = self;
+        let DealerAndBeside { rt, dealer, beside } = self;
         run_both(rt, dealer, beside)
     }
 }
@@ -278,7 +279,7 @@ impl<'a, R: Threads + Wait + Sync, T: Task<Output = B> + Drop, B: Drop> Task for
 fn deal_and_gather<R: Threads + Wait + Sync, T: Task<Output = B> + Drop, B: Drop>(
     rt: &R,
     alloc: Global,
-    outer: OuterEnds,
+    outer: OuterRingEnds,
     reserved: Vec<StageDone>,
     beside: T,
 ) -> Option<(LanesDone, B)>
@@ -288,14 +289,14 @@ fn deal_and_gather<R: Threads + Wait + Sync, T: Task<Output = B> + Drop, B: Drop
     ensures ran { IfSome result (λ r. HaveDealtAndGathered outer reserved r.0) }
     ensures beside { IfSome result (λ r. T.run_gives beside r.1) }
 {
-    let OuterEnds {
+    let OuterRingEnds {
         input,
         outputs,
         inputs,
         output,
     } = outer;
     let gatherer = Gatherer { rt, inputs, output };
-    let dealing = Dealing {
+    let dealing = DealerAndBeside {
         rt,
         dealer: Dealer {
             rt,

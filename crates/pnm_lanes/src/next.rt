@@ -6,7 +6,7 @@ ghost use Rattle.pnm_lanes.specs.Gathers.{at_lane, AreSameInputs};
 ghost use Rattle.pnm_lanes.specs.GatherParts.{AreOpen, AwaitsNoRow, HasTakenNext};
 
 use crate::agreement::{are_alike, height_of, together};
-use crate::lane::{LaneState, MAX_LANES, take_from};
+use crate::lane::{LaneState, MAX_LANES, receive_from};
 use pnm_image::{Message, Place, Shape};
 use pnm_stages::{Backoff, Receiver, StageEnd};
 use pnm_tools::ToolFault;
@@ -17,7 +17,7 @@ const OUT_OF_ORDER: StageEnd = StageEnd::Fault(ToolFault::OutOfOrder);
 
 /// The next message of the whole stream. `Broken` where a lane gives Stop; `Fault` where the lanes don't agree on it,
 /// or it is out of place; `PeerGone` where a lane's other end was seen dropped before.
-pub fn take_next<R: Wait>(
+pub fn receive_next<R: Wait>(
     rt: &R,
     inputs: &mut [Receiver],
     states: &mut [LaneState],
@@ -34,14 +34,14 @@ pub fn take_next<R: Wait>(
 {
     match place {
         Place::Inside(shape, y) if y < shape.height => {
-            take_row(rt, inputs, states, shape, y, backoff)
+            receive_row(rt, inputs, states, shape, y, backoff)
         }
-        _ => take_of_each(rt, inputs, states, place, backoff),
+        _ => receive_of_each(rt, inputs, states, place, backoff),
     }
 }
 
 /// The row of this number, of an image of this shape that has more rows: its lane's next message.
-fn take_row<R: Wait>(
+fn receive_row<R: Wait>(
     rt: &R,
     inputs: &mut [Receiver],
     states: &mut [LaneState],
@@ -59,7 +59,7 @@ fn take_row<R: Wait>(
         (at_lane received inputs.new) }
 {
     let lane = y as usize % inputs.len();
-    let message = take_from(rt, inputs, states, lane, backoff)?;
+    let message = receive_from(rt, inputs, states, lane, backoff)?;
     if !Place::Inside(shape, y).accepts(&message) {
         return Err(OUT_OF_ORDER);
     }
@@ -67,7 +67,7 @@ fn take_row<R: Wait>(
 }
 
 /// The next message at a place where none is a row: one of each lane, put together.
-fn take_of_each<R: Wait>(
+fn receive_of_each<R: Wait>(
     rt: &R,
     inputs: &mut [Receiver],
     states: &mut [LaneState],
@@ -83,14 +83,14 @@ fn take_of_each<R: Wait>(
     ensures taken { HasTakenNext (length inputs.old) place result states.new (at_lane received inputs.old)
         (at_lane received inputs.new) }
 {
-    let first = take_from(rt, inputs, states, 0, backoff)?;
+    let first = receive_from(rt, inputs, states, 0, backoff)?;
     if !place.accepts(&first) {
         return Err(OUT_OF_ORDER);
     }
     let mut heights = [0; MAX_LANES];
     heights[0] = height_of(&first);
     for lane in 1..inputs.len() {
-        let message = take_from(rt, inputs, states, lane, backoff)?;
+        let message = receive_from(rt, inputs, states, lane, backoff)?;
         if !are_alike(&first, &message) {
             return Err(OUT_OF_ORDER);
         }

@@ -19,7 +19,7 @@ use Rattle.pnm_read.specs.declared.source.State.TheVariants.{Awaits, Ended}
 use Rattle.pnm_read.specs.declared.source.Step.{Step}
 use Rattle.pnm_read.specs.Said.{Said, text_said, later_said, format_at, head_at, format_said, head_said, image_said, rows_said, row_at, end_said, then_said}
 use Rattle.pnm_read.specs.Said.{says_fault}
-use Rattle.pnm_read.specs.BufferedReaders.{Turn, Fills, Finds, IsOutsideFault, HoldsEnough, held_of}
+use Rattle.pnm_read.specs.BufferedReaders.{ReadCall, Fills, Finds, IsOutsideFault, HoldsEnough, held_of}
 use Rattle.pnm_read.specs.Awaiting.{HasRow, AnswersNext, Steps, StepsAtStart, SeesText, awaited_after, due_at}
 use Rattle.pnm_read.proofs.Turns.{no_fault, turn_ok_so, turn_err_so, turn_seen, nothing_left, some_left}
 use Rattle.pnm_read.proofs.ScanSteps.{end_seen, none_of_length}
@@ -141,8 +141,8 @@ first_begins (Ok step) b a s = s
 first_begins (Err k) b a s = s
 
 pub first_turn : {R : Type 0} {left : R → Option (List ℕ)} {failures : R → ℕ} {same : R → R → Type 0} {old new : BufferedReader R}
-    (result : Result Step InputFault) → Turn left failures same old new result (StepsAtStart true result)
-    → Turn left failures same old new result (Steps FirstImage result)
+    (result : Result Step InputFault) → ReadCall left failures same old new result (StepsAtStart true result)
+    → ReadCall left failures same old new result (Steps FirstImage result)
 first_turn (Ok step) t = turn_ok_so step (Ok step) (no_fault step ReadFailed) (λ b a o. first_begins (Ok step) b a o) t
 first_turn (Err k) t = turn_err_so k (λ b a o. first_begins (Err k) b a o) t
 
@@ -170,8 +170,8 @@ next_begins (Err k) b a n (inr o) = inr o
 -- the next image, where the text was seen to go on
 pub next_so : {R : Type 0} {left : R → Option (List ℕ)} {failures : R → ℕ} {same : R → R → Type 0} {old new : BufferedReader R}
     (result : Result Step InputFault)
-    → Turn left failures same old new result (λ b a. (m : List ℕ) × SeesText (Ok false) b m × StepsAtStart false result m a)
-    → Turn left failures same old new result (Steps ImageOrEnd result)
+    → ReadCall left failures same old new result (λ b a. (m : List ℕ) × SeesText (Ok false) b m × StepsAtStart false result m a)
+    → ReadCall left failures same old new result (Steps ImageOrEnd result)
 next_so (Ok step) t =
     turn_ok_so step (Ok step) (no_fault step ReadFailed)
     (λ b a o. next_begins (Ok step) b a o.1.0 (subst (λ (m : List ℕ). StepsAtStart false (Ok step) m a) o.1.1 o.2)) t
@@ -190,8 +190,8 @@ seen_on false b m e seen = seen
 -- the text was seen to go on, and then an image begins
 pub turn_on : {R : Type 0} {left : R → Option (List ℕ)} {failures : R → ℕ} {same : R → R → Type 0} {old new : BufferedReader R} (ended : Bool)
     (result : Result Step InputFault) → ended ≡ false
-    → Turn left failures same old new result (λ b a. (m : List ℕ) × SeesText (Ok ended) b m × StepsAtStart false result m a)
-    → Turn left failures same old new result (λ b a. (m : List ℕ) × SeesText (Ok false) b m × StepsAtStart false result m a)
+    → ReadCall left failures same old new result (λ b a. (m : List ℕ) × SeesText (Ok ended) b m × StepsAtStart false result m a)
+    → ReadCall left failures same old new result (λ b a. (m : List ℕ) × SeesText (Ok false) b m × StepsAtStart false result m a)
 turn_on ended (Ok step) e t = turn_ok_so step (Ok step) (no_fault step ReadFailed) (λ b a o. (o.0, seen_on ended b o.0 e o.1, o.2)) t
 turn_on ended (Err k) e t = turn_err_so k (λ b a o. (o.0, seen_on ended b o.0 e o.1, o.2)) t
 
@@ -207,7 +207,8 @@ no_bytes bytes held e n = none_of_length bytes held e (grind (arith, nat_tests, 
 -- after asking for a byte, the text has ended where none is held
 pub text_seen : {R : Type 0} {left : R → Option (List ℕ)} {failures : R → ℕ} {same : R → R → Type 0} {old input : BufferedReader R} (ended : Bool)
     (bytes : List ℕ) → ended ≡ (length bytes == 0) → bytes ≡ held_of input → HoldsEnough 1 input
-    → Turn {A = Unit {0}} left failures same old input (Ok tt) (Fills (Ok tt)) → Turn {A = Bool} left failures same old input (Ok ended) (SeesText (Ok ended))
+    → ReadCall {A = Unit {0}} left failures same old input (Ok tt) (Fills (Ok tt))
+    → ReadCall {A = Bool} left failures same old input (Ok ended) (SeesText (Ok ended))
 text_seen {input = input} true bytes is held enough t =
     let none = no_bytes bytes (held_of input) held is in
     turn_ok_so tt (Ok true) (no_fault true ReadFailed)

@@ -19,7 +19,7 @@ use Rattle.pnm_read.specs.Texts.{is_apart, begins_apart, ends_in_comment, uncomm
 use Rattle.pnm_image.specs.Texts.{is_white, is_digit, words}
 use Rattle.pnm_image.specs.Formats.{plain}
 use Rattle.pnm_read.specs.Formats.{number_count, planes, shape_of, header_numbers}
-use Rattle.pnm_read.specs.Items.{◌>>=◌, piece_from, header_limit, is_bad_in_header, is_delimiter, header_item, header_end, numbers_item}
+use Rattle.pnm_read.specs.Items.{piece_from, header_limit, is_bad_in_header, is_delimiter, header_item, header_end, numbers_item}
 use Rattle.pnm_read.proofs.ShapeLaws.{head_or_fault_ok}
 use Rattle.pnm_read.proofs.PieceLaws.{ok_is}
 use Rattle.pnm_read.proofs.WordLaws.{uncommented-plain, uncommented-comment, numbers-white, numbers-comment, numbers-first, numbers-next, ends_in_word-comment}

@@ -9,7 +9,7 @@ use Rattle.pnm_read.specs.declared.fault.InputFault.TheVariants.{ReadFailed, Sam
 use Rattle.pnm_read.specs.declared.buffered_reader.BufferedReader.{BufferedReader}
 use Rattle.pnm_read.specs.Items.{raw_item}
 use Rattle.pnm_read.specs.Said.{in_turn, units_in_row}
-use Rattle.pnm_read.specs.BufferedReaders.{Turn, held_of}
+use Rattle.pnm_read.specs.BufferedReaders.{ReadCall, held_of}
 use Rattle.pnm_read.specs.RawParts.{FindsUnits}
 use Rattle.pnm_read.specs.Units.{samples_of_bytes, AreBytesWithin}
 use Rattle.pnm_read.proofs.UnitLaws.{bytes_are_units, bytes_are_at_fault}
@@ -22,7 +22,7 @@ pub row_held : {R B : Type 0} {left : R → Option (List ℕ)} {failures : R →
     → new.reader ≡ old.reader → new.ended ≡ old.ended → held_of new ≡ drop count (held_of old) → count ≤ length (held_of old)
     → p ≡ sample_width_of s.kind s.maxval → count ≡ units_in_row p s → (p ≡ Words → ⊥) → AreBytesWithin p s.maxval (take count (held_of old))
     → view row ≡ samples_of_bytes p (take count (held_of old))
-    → Turn {A = B} left failures same old new (Ok row) (FindsUnits view s (Ok row))
+    → ReadCall {A = B} left failures same old new (Ok row) (FindsUnits view s (Ok row))
 row_held {B = B} {old = old} {new = new} p s count view row at_once reader ended held le is_width is_all n within is_row =
     let bytes : List ℕ = take count (held_of old) in
     let size : length bytes ≡ count = length-take-le count (held_of old) le in
@@ -41,7 +41,7 @@ row_held {B = B} {old = old} {new = new} p s count view row at_once reader ended
 pub row_above : {R B : Type 0} {left : R → Option (List ℕ)} {failures : R → ℕ} {same : R → R → Type 0} {input : BufferedReader R}
     (p : SampleWidth) (s : Shape) (count : ℕ) (view : B → List ℕ) → ((a : R) → same a a) → count ≤ length (held_of input)
     → p ≡ sample_width_of s.kind s.maxval → count ≡ units_in_row p s → (p ≡ Words → ⊥) → (AreBytesWithin p s.maxval (take count (held_of input)) → ⊥)
-    → Turn {A = B} left failures same input input (Err SampleAboveMaxval) (FindsUnits view s (Err SampleAboveMaxval))
+    → ReadCall {A = B} left failures same input input (Err SampleAboveMaxval) (FindsUnits view s (Err SampleAboveMaxval))
 row_above {B = B} {input = input} p s count view at_once le is_width is_all n above =
     let bytes : List ℕ = take count (held_of input) in
     let size : length bytes ≡ count = length-take-le count (held_of input) le in
@@ -57,7 +57,7 @@ row_above {B = B} {input = input} p s count view at_once le is_width is_all n ab
 -- there is no memory for it
 pub row_unheld : {R B : Type 0} {left : R → Option (List ℕ)} {failures : R → ℕ} {same : R → R → Type 0} {input : BufferedReader R} (s : Shape)
     (view : B → List ℕ) → ((a : R) → same a a)
-    → Turn {A = B} left failures same input input (Err Memory) (FindsUnits view s (Err Memory))
+    → ReadCall {A = B} left failures same input input (Err Memory) (FindsUnits view s (Err Memory))
 row_unheld {B = B} s view at_once =
     turn_ok_so {A = Unit {0}} {B = B} tt (Err Memory) (λ e. absurd cc) (λ b a o. inr (inr refl))
     (turn_taken {A = Unit {0}} {result = Ok tt} [] at_once (no_fault tt ReadFailed) refl refl refl)

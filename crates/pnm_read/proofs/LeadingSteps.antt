@@ -4,7 +4,7 @@ use Rattle.pnm_image.specs.declared.shape.Shape.{Shape}
 use Rattle.pnm_read.specs.declared.fault.InputFault.TheVariants.{ReadFailed, Memory}
 use Rattle.pnm_read.specs.declared.buffered_reader.BufferedReader.{BufferedReader}
 use Rattle.pnm_read.specs.Said.{in_turn, plain_row}
-use Rattle.pnm_read.specs.BufferedReaders.{Turn, Finds, held_of}
+use Rattle.pnm_read.specs.BufferedReaders.{ReadCall, Finds, held_of}
 use Rattle.pnm_read.specs.Leading.{TakesSamples}
 use Rattle.pnm_read.proofs.UnitLaws.{and_turns}
 use Rattle.pnm_read.proofs.PartLaws.{part_is_read}
@@ -15,7 +15,7 @@ use Rattle.pnm_read.proofs.PlainSteps.{sample_of, ReadingSamples}
 pub reading_no_memory : {R : Type 0} {left : R → Option (List ℕ)} {failures : R → ℕ} {same : R → R → Type 0} {s : Shape} {all more : ℕ} {samples : List ℕ}
     {old now : BufferedReader R}
     → ReadingSamples left failures same s all more samples old now
-    → Turn {A = List ℕ} left failures same old now (Err Memory) (Finds (plain_row s) (Err Memory))
+    → ReadCall {A = List ℕ} left failures same old now (Err Memory) (Finds (plain_row s) (Err Memory))
 reading_no_memory r = turn_ok_so {A = Unit {0}} {B = List ℕ} tt (Err Memory) (λ e. absurd cc) (λ b a o. inr (inr refl)) r.turn
 
 -- samples more were taken of the bytes that are held

@@ -13,7 +13,7 @@ use Rattle.pnm_read.specs.declared.fault.InputFault.TheVariants.{ReadFailed, Ras
 use Rattle.pnm_read.specs.declared.buffered_reader.BufferedReader.{BufferedReader}
 use Rattle.pnm_read.specs.Items.{raw_item}
 use Rattle.pnm_read.specs.Said.{in_turn}
-use Rattle.pnm_read.specs.BufferedReaders.{Turn, Fills, Reads, held_of, HoldsEnough}
+use Rattle.pnm_read.specs.BufferedReaders.{ReadCall, Fills, Reads, held_of, HoldsEnough}
 use Rattle.pnm_read.specs.RawParts.{AppendsWide, FindsPart}
 use Rattle.pnm_read.specs.Units.{samples_of_bytes, AreBytesWithin}
 use Rattle.pnm_read.proofs.UnitLaws.{unit_bytes, bytes_are_units, bytes_are_at_fault, words_are_units, words_are_at_fault}
@@ -61,8 +61,8 @@ some_bytes Words = omega arith
 
 pub bytes_cut : {R : Type 0} {left : R → Option (List ℕ)} {failures : R → ℕ} {same : R → R → Type 0} {old new : BufferedReader R} (p : SampleWidth)
     (maxval most count : ℕ) (target part : List ℕ) (samples : ℕ → List ℕ)
-    → Turn {A = ℕ} left failures same old new (Ok count) (Reads target (Ok count)) → count ≡ 0 → 0 < most
-    → Turn {A = ℕ} left failures same old new (Err RasterCut) (FindsPart p maxval most part samples (Err RasterCut))
+    → ReadCall {A = ℕ} left failures same old new (Ok count) (Reads target (Ok count)) → count ≡ 0 → 0 < most
+    → ReadCall {A = ℕ} left failures same old new (Err RasterCut) (FindsPart p maxval most part samples (Err RasterCut))
 bytes_cut p maxval most count target part samples t none some =
     turn_ok_so {A = ℕ} {B = ℕ} count (Err RasterCut) (λ e. absurd cc) (λ b a o.
     let prefix : take count target ≡ [] = ap (λ (n : ℕ). take n target) none in
@@ -72,9 +72,9 @@ bytes_cut p maxval most count target part samples t none some =
 
 pub bytes_above : {R : Type 0} {left : R → Option (List ℕ)} {failures : R → ℕ} {same : R → R → Type 0} {old new : BufferedReader R} (p : SampleWidth)
     (maxval most count : ℕ) (target part : List ℕ) (samples : ℕ → List ℕ)
-    → Turn {A = ℕ} left failures same old new (Ok count) (Reads target (Ok count)) → length target ≡ most → (p ≡ Words → ⊥)
+    → ReadCall {A = ℕ} left failures same old new (Ok count) (Reads target (Ok count)) → length target ≡ most → (p ≡ Words → ⊥)
     → (AreBytesWithin p maxval (take count target) → ⊥)
-    → Turn {A = ℕ} left failures same old new (Err SampleAboveMaxval) (FindsPart p maxval most part samples (Err SampleAboveMaxval))
+    → ReadCall {A = ℕ} left failures same old new (Err SampleAboveMaxval) (FindsPart p maxval most part samples (Err SampleAboveMaxval))
 bytes_above p maxval most count target part samples t size n above =
     turn_ok_so {A = ℕ} {B = ℕ} count (Err SampleAboveMaxval) (λ e. absurd cc) (λ b a o.
     let fits : count ≤ most = omega (arith, o.1) in
@@ -89,9 +89,9 @@ bytes_above p maxval most count target part samples t size n above =
 
 pub bytes_read : {R : Type 0} {left : R → Option (List ℕ)} {failures : R → ℕ} {same : R → R → Type 0} {old new : BufferedReader R} (p : SampleWidth)
     (maxval most count : ℕ) (target : List ℕ) (samples : ℕ → List ℕ)
-    → Turn {A = ℕ} left failures same old new (Ok count) (Reads target (Ok count)) → length target ≡ most → (p ≡ Words → ⊥)
+    → ReadCall {A = ℕ} left failures same old new (Ok count) (Reads target (Ok count)) → length target ≡ most → (p ≡ Words → ⊥)
     → AreBytesWithin p maxval (take count target) → samples count ≡ samples_of_bytes p (take count target)
-    → Turn {A = ℕ} left failures same old new (Ok count) (FindsPart p maxval most [] samples (Ok count))
+    → ReadCall {A = ℕ} left failures same old new (Ok count) (FindsPart p maxval most [] samples (Ok count))
 bytes_read p maxval most count target samples t size n within are =
     turn_ok_so {A = ℕ} {B = ℕ} count (Ok count) (no_fault count ReadFailed) (λ b a o.
     let prefix : length (take count target) ≡ count = length-take-le count target o.1 in
@@ -113,9 +113,9 @@ short_left input text (inr ended) lt l =
 
 pub words_cut : {R : Type 0} {left : R → Option (List ℕ)} {failures : R → ℕ} {same : R → R → Type 0} {old mid : BufferedReader R} (maxval most : ℕ)
     (bytes part : List ℕ) (samples : ℕ → List ℕ)
-    → Turn {A = Unit {0}} left failures same old mid (Ok tt) (Fills (Ok tt)) → HoldsEnough 2 mid → bytes ≡ held_of mid → min (length bytes / 2) most ≡ 0
+    → ReadCall {A = Unit {0}} left failures same old mid (Ok tt) (Fills (Ok tt)) → HoldsEnough 2 mid → bytes ≡ held_of mid → min (length bytes / 2) most ≡ 0
     → 0 < most
-    → Turn {A = ℕ} left failures same old mid (Err RasterCut) (FindsPart Words maxval most part samples (Err RasterCut))
+    → ReadCall {A = ℕ} left failures same old mid (Err RasterCut) (FindsPart Words maxval most part samples (Err RasterCut))
 words_cut {mid = mid} maxval most bytes part samples t enough is_held none some =
     let lt : length (held_of mid) < 2 = omega (arith, ap (λ (l : List ℕ). length l) is_held) in
     turn_ok_so {A = Unit {0}} {B = ℕ} tt (Err RasterCut) (λ e. absurd cc)
@@ -129,9 +129,9 @@ parts_left count input text rest e = e ∙ ap (λ (l : List ℕ). l ++ rest) (sy
 
 pub words_fail : {R : Type 0} {left : R → Option (List ℕ)} {failures : R → ℕ} {same : R → R → Type 0} {old mid : BufferedReader R} (maxval most n : ℕ)
     (k : InputFault) (row grown part : List ℕ) (samples : ℕ → List ℕ)
-    → Turn {A = Unit {0}} left failures same old mid (Ok tt) (Fills (Ok tt)) → n ≤ most → n * 2 ≤ length (held_of mid)
+    → ReadCall {A = Unit {0}} left failures same old mid (Ok tt) (Fills (Ok tt)) → n ≤ most → n * 2 ≤ length (held_of mid)
     → AppendsWide maxval (take (n * 2) (held_of mid)) row grown (Err k)
-    → Turn {A = ℕ} left failures same old mid (Err k) (FindsPart Words maxval most part samples (Err k))
+    → ReadCall {A = ℕ} left failures same old mid (Err k) (FindsPart Words maxval most part samples (Err k))
 words_fail maxval most n k row grown part samples t le fits (inl memory) =
     turn_ok_so {A = Unit {0}} {B = ℕ} tt (Err k) (λ e. absurd (let read : k ≡ ReadFailed = cc in let other : ReadFailed ≡ Memory = sym read ∙ memory in cc))
     (λ b a o. inr (inr memory)) t
@@ -150,10 +150,10 @@ words_fail {mid = mid} maxval most n k row grown part samples t le fits (inr abo
 
 pub words_read : {R : Type 0} {left : R → Option (List ℕ)} {failures : R → ℕ} {same : R → R → Type 0} {old mid new : BufferedReader R} (maxval most n : ℕ)
     (row grown : List ℕ)
-    → Turn {A = Unit {0}} left failures same old mid (Ok tt) (Fills (Ok tt)) → n ≤ most → n * 2 ≤ length (held_of mid)
+    → ReadCall {A = Unit {0}} left failures same old mid (Ok tt) (Fills (Ok tt)) → n ≤ most → n * 2 ≤ length (held_of mid)
     → AppendsWide maxval (take (n * 2) (held_of mid)) row grown (Ok tt)
     → new.reader ≡ mid.reader → new.ended ≡ mid.ended → held_of new ≡ drop (n * 2) (held_of mid)
-    → Turn {A = ℕ} left failures same old new (Ok n) (FindsPart Words maxval most row (λ _. grown) (Ok n))
+    → ReadCall {A = ℕ} left failures same old new (Ok n) (FindsPart Words maxval most row (λ _. grown) (Ok n))
 words_read {mid = mid} maxval most n row grown t le fits appends reader ended held =
     let count : length (take (n * 2) (held_of mid)) ≡ n * 2 = length-take-le (n * 2) (held_of mid) fits in
     turn_advance {A = Unit {0}} {B = ℕ} tt (Ok n) (n * 2) (no_fault n ReadFailed) reader ended held (λ b rest c o.

@@ -17,7 +17,7 @@ use Rattle.pnm_read.specs.Items.{after_last_item}
 use Rattle.pnm_read.specs.Said.{in_turn, plain_row, last_plain_row, row_in_form}
 use Rattle.pnm_read.specs.Scans.{Scans, ScansAfter}
 use Rattle.pnm_read.specs.Scanners.{IsPixelAfter, IsPixelWhole, IsDecimalAfter, IsDecimalWhole}
-use Rattle.pnm_read.specs.BufferedReaders.{Turn, Finds, Fills, Passes, held_of}
+use Rattle.pnm_read.specs.BufferedReaders.{ReadCall, Finds, Fills, Passes, held_of}
 use Rattle.pnm_read.proofs.UnitLaws.{and_turns}
 use Rattle.pnm_read.proofs.PartLaws.{all_are_left, part_is_read, part_fails, none_are_left, one_is_read, one_fails}
 use Rattle.pnm_read.proofs.Turns.{no_fault, turn_then, turn_ok_so, turn_err_so, turn_taken, turn_seen}
@@ -37,8 +37,8 @@ pixel_of found = found >>= λ piece. sample_done (pixel_in piece.0) piece.1
 
 pub pixel_found : {R : Type 0} {left : R → Option (List ℕ)} {failures : R → ℕ} {same : R → R → Type 0} {old new : BufferedReader R} (fresh now : PixelScanner)
     (sample : ℕ) → IsPixelAfter fresh [] → sample ≡ now.pixel
-    → Turn {A = Unit {0}} left failures same old new (Ok tt) (Scans pixel_item pixel_end (IsPixelAfter fresh) (IsPixelWhole now) (Ok tt))
-    → Turn {A = ℕ} left failures same old new (Ok sample) (Finds plain_pixel (Ok sample))
+    → ReadCall {A = Unit {0}} left failures same old new (Ok tt) (Scans pixel_item pixel_end (IsPixelAfter fresh) (IsPixelWhole now) (Ok tt))
+    → ReadCall {A = ℕ} left failures same old new (Ok sample) (Finds plain_pixel (Ok sample))
 unfolding plain_pixel
 pixel_found fresh now sample is_fresh is_pixel t =
     turn_ok_so {A = Unit {0}} {B = ℕ} tt (Ok sample) (no_fault sample ReadFailed)
@@ -52,8 +52,8 @@ no_pixel k is_whole b a (inr outside) = inr outside
 
 pub pixel_fault : {R : Type 0} {left : R → Option (List ℕ)} {failures : R → ℕ} {same : R → R → Type 0} {old new : BufferedReader R} (fresh : PixelScanner)
     (is_whole : List ℕ → Type 0) (k : InputFault) → IsPixelAfter fresh []
-    → Turn {A = Unit {0}} left failures same old new (Err k) (Scans pixel_item pixel_end (IsPixelAfter fresh) is_whole (Err k))
-    → Turn {A = ℕ} left failures same old new (Err k) (Finds plain_pixel (Err k))
+    → ReadCall {A = Unit {0}} left failures same old new (Err k) (Scans pixel_item pixel_end (IsPixelAfter fresh) is_whole (Err k))
+    → ReadCall {A = ℕ} left failures same old new (Err k) (Finds plain_pixel (Err k))
 pixel_fault fresh is_whole k is_fresh t = turn_err_so {A = Unit {0}} {B = ℕ} k (λ b a o. no_pixel k is_whole b a (o [] is_fresh)) t
 
 -- ---- numbers
@@ -75,8 +75,8 @@ number_above maxval n value is_value above = ap (λ (t : Bool). number_if t n) (
 
 pub number_found : {R : Type 0} {left : R → Option (List ℕ)} {failures : R → ℕ} {same : R → R → Type 0} {old new : BufferedReader R}
     (fresh now : DecimalScanner) (maxval sample : ℕ) → IsDecimalAfter fresh [] → sample ≡ now.value → maxval ≤ 65535 → sample ≤ maxval
-    → Turn {A = Unit {0}} left failures same old new (Ok tt) (Scans decimal_item decimal_end (IsDecimalAfter fresh) (IsDecimalWhole now) (Ok tt))
-    → Turn {A = ℕ} left failures same old new (Ok sample) (Finds (plain_decimal maxval) (Ok sample))
+    → ReadCall {A = Unit {0}} left failures same old new (Ok tt) (Scans decimal_item decimal_end (IsDecimalAfter fresh) (IsDecimalWhole now) (Ok tt))
+    → ReadCall {A = ℕ} left failures same old new (Ok sample) (Finds (plain_decimal maxval) (Ok sample))
 unfolding plain_decimal
 number_found fresh now maxval sample is_fresh is_value most le t =
     turn_ok_so {A = Unit {0}} {B = ℕ} tt (Ok sample) (no_fault sample ReadFailed)
@@ -87,8 +87,8 @@ number_found fresh now maxval sample is_fresh is_value most le t =
 
 pub number_too_great : {R : Type 0} {left : R → Option (List ℕ)} {failures : R → ℕ} {same : R → R → Type 0} {old new : BufferedReader R}
     (fresh now : DecimalScanner) (maxval value : ℕ) → IsDecimalAfter fresh [] → value ≡ now.value → maxval < value
-    → Turn {A = Unit {0}} left failures same old new (Ok tt) (Scans decimal_item decimal_end (IsDecimalAfter fresh) (IsDecimalWhole now) (Ok tt))
-    → Turn {A = ℕ} left failures same old new (Err SampleAboveMaxval) (Finds (plain_decimal maxval) (Err SampleAboveMaxval))
+    → ReadCall {A = Unit {0}} left failures same old new (Ok tt) (Scans decimal_item decimal_end (IsDecimalAfter fresh) (IsDecimalWhole now) (Ok tt))
+    → ReadCall {A = ℕ} left failures same old new (Err SampleAboveMaxval) (Finds (plain_decimal maxval) (Err SampleAboveMaxval))
 unfolding plain_decimal
 number_too_great fresh now maxval value is_fresh is_value above t =
     turn_ok_so {A = Unit {0}} {B = ℕ} tt (Err SampleAboveMaxval) (λ e. absurd cc)
@@ -105,8 +105,8 @@ no_number maxval k is_whole b a (inr outside) = inr outside
 
 pub number_fault : {R : Type 0} {left : R → Option (List ℕ)} {failures : R → ℕ} {same : R → R → Type 0} {old new : BufferedReader R} (fresh : DecimalScanner)
     (is_whole : List ℕ → Type 0) (maxval : ℕ) (k : InputFault) → IsDecimalAfter fresh []
-    → Turn {A = Unit {0}} left failures same old new (Err k) (Scans decimal_item decimal_end (IsDecimalAfter fresh) is_whole (Err k))
-    → Turn {A = ℕ} left failures same old new (Err k) (Finds (plain_decimal maxval) (Err k))
+    → ReadCall {A = Unit {0}} left failures same old new (Err k) (Scans decimal_item decimal_end (IsDecimalAfter fresh) is_whole (Err k))
+    → ReadCall {A = ℕ} left failures same old new (Err k) (Finds (plain_decimal maxval) (Err k))
 number_fault fresh is_whole maxval k is_fresh t = turn_err_so {A = Unit {0}} {B = ℕ} k (λ b a o. no_number maxval k is_whole b a (o [] is_fresh)) t
 
 -- ---- the end
@@ -122,8 +122,8 @@ begins_by byte (b ∷ bytes) rest e = let first : b ≡ byte = cc in ap is_apart
 
 pub end_goes_on : {R : Type 0} {left : R → Option (List ℕ)} {failures : R → ℕ} {same : R → R → Type 0} {old mid : BufferedReader R} (byte : ℕ) (bytes : List ℕ)
     → bytes ≡ held_of mid → Some byte ≡ slice_get bytes 0 → is_apart byte ≡ true
-    → Turn {A = Unit {0}} left failures same old mid (Ok tt) (Fills (Ok tt))
-    → Turn {A = Unit {0}} left failures same old mid (Ok tt) (Passes after_last_item (Ok tt))
+    → ReadCall {A = Unit {0}} left failures same old mid (Ok tt) (Fills (Ok tt))
+    → ReadCall {A = Unit {0}} left failures same old mid (Ok tt) (Passes after_last_item (Ok tt))
 unfolding after_last_item
 end_goes_on {mid = mid} byte bytes held first apart t =
     turn_ok_so {A = Unit {0}} {B = Unit {0}} tt (Ok tt) (no_fault tt ReadFailed) (λ b a o.
@@ -143,7 +143,7 @@ SamplesFrom s all more samples text left = in_turn (sample_of s) all text ≡ an
 
 pub record ReadingSamples {R : Type 0} (left : R → Option (List ℕ)) (failures : R → ℕ) (same : R → R → Type 0) (s : Shape) (all more : ℕ) (samples : List ℕ)
     (old now : BufferedReader R) : Type 0 where
-  pub turn : Turn {A = Unit {0}} left failures same old now (Ok tt) (SamplesFrom s all more samples)
+  pub turn : ReadCall {A = Unit {0}} left failures same old now (Ok tt) (SamplesFrom s all more samples)
 
 pub samples_begin : {R : Type 0} {left : R → Option (List ℕ)} {failures : R → ℕ} {same : R → R → Type 0} (s : Shape) (all more : ℕ) (samples : List ℕ)
     (input : BufferedReader R) → ((a : R) → same a a) → more ≡ all → samples ≡ []
@@ -168,8 +168,8 @@ pub samples_fault : {R : Type 0} {left : R → Option (List ℕ)} {failures : R 
     {old now new : BufferedReader R}
     (k : InputFault) → ((a b c : R) → same a b → same b c → same a c) → ReadingSamples left failures same s all more samples old now → all ≡ row_length s
     → 0 < more
-    → Turn {A = ℕ} left failures same now new (Err k) (Finds (sample_of s) (Err k))
-    → Turn {A = List ℕ} left failures same old new (Err k) (Finds (plain_row s) (Err k))
+    → ReadCall {A = ℕ} left failures same now new (Err k) (Finds (sample_of s) (Err k))
+    → ReadCall {A = List ℕ} left failures same old new (Err k) (Finds (plain_row s) (Err k))
 samples_fault {s = s} {more = more} {samples = samples} k later r is_all some t =
     turn_err_so {A = ℕ} {B = List ℕ} k
     (λ b a o. no_sample s more samples k b o.0 a some (subst (λ (n : ℕ). SamplesFrom s n more samples b o.0) is_all o.1) o.2)
@@ -179,8 +179,8 @@ samples_fault {s = s} {more = more} {samples = samples} k later r is_all some t 
 pub samples_no_memory : {R : Type 0} {left : R → Option (List ℕ)} {failures : R → ℕ} {same : R → R → Type 0} {s : Shape} {all more : ℕ} {samples : List ℕ}
     {old now new : BufferedReader R}
     (sample : ℕ) → ((a b c : R) → same a b → same b c → same a c) → ReadingSamples left failures same s all more samples old now
-    → Turn {A = ℕ} left failures same now new (Ok sample) (Finds (sample_of s) (Ok sample))
-    → Turn {A = List ℕ} left failures same old new (Err Memory) (Finds (plain_row s) (Err Memory))
+    → ReadCall {A = ℕ} left failures same now new (Ok sample) (Finds (sample_of s) (Ok sample))
+    → ReadCall {A = List ℕ} left failures same old new (Err Memory) (Finds (plain_row s) (Err Memory))
 samples_no_memory sample later r t = turn_ok_so {A = ℕ} {B = List ℕ} sample (Err Memory) (λ e. absurd cc) (λ b a o. inr (inr refl))
     (turn_then {A = Unit {0}} {B = ℕ} tt later r.turn t)
 
@@ -189,7 +189,7 @@ pub samples_more : {R : Type 0} {left : R → Option (List ℕ)} {failures : R �
     {old now new : BufferedReader R}
     (sample fewer : ℕ) (others : List ℕ) → ((a b c : R) → same a b → same b c → same a c) → ReadingSamples left failures same s all more samples old now
     → 0 < more → fewer ≡ more - 1 → others ≡ samples ++ sample ∷ []
-    → Turn {A = ℕ} left failures same now new (Ok sample) (Finds (sample_of s) (Ok sample))
+    → ReadCall {A = ℕ} left failures same now new (Ok sample) (Finds (sample_of s) (Ok sample))
     → ReadingSamples left failures same s all fewer others old new
 samples_more {s = s} {all = all} {more = more} {samples = samples} sample fewer others later r some is_fewer are_others t = record {
   turn = turn_ok_so {A = ℕ} {B = Unit {0}} sample (Ok tt) (no_fault tt ReadFailed) (λ b a o.
@@ -202,7 +202,7 @@ samples_more {s = s} {all = all} {more = more} {samples = samples} sample fewer 
 pub samples_read : {R : Type 0} {left : R → Option (List ℕ)} {failures : R → ℕ} {same : R → R → Type 0} {s : Shape} {all more : ℕ} {samples : List ℕ}
     {old now : BufferedReader R}
     (row : List ℕ) → ReadingSamples left failures same s all more samples old now → all ≡ row_length s → more ≡ 0 → row ≡ samples
-    → Turn {A = List ℕ} left failures same old now (Ok row) (Finds (plain_row s) (Ok row))
+    → ReadCall {A = List ℕ} left failures same old now (Ok row) (Finds (plain_row s) (Ok row))
 unfolding plain_row
 samples_read {s = s} row r is_all none is_row =
     turn_ok_so {A = Unit {0}} {B = List ℕ} tt (Ok row) (no_fault row ReadFailed)
@@ -245,8 +245,8 @@ no_row s more k b a (inr outside) = inr outside
 
 pub row_fault : {R : Type 0} {left : R → Option (List ℕ)} {failures : R → ℕ} {same : R → R → Type 0} {old new : BufferedReader R} (s : Shape) (more : ℕ)
     (k : InputFault)
-    → Turn {A = List ℕ} left failures same old new (Err k) (Finds (plain_row s) (Err k))
-    → Turn {A = List ℕ} left failures same old new (Err k) (Finds (row_in_form true s more) (Err k))
+    → ReadCall {A = List ℕ} left failures same old new (Err k) (Finds (plain_row s) (Err k))
+    → ReadCall {A = List ℕ} left failures same old new (Err k) (Finds (row_in_form true s more) (Err k))
 row_fault s more k t = turn_err_so {A = List ℕ} {B = List ℕ} k (no_row s more k) t
 
 no_end : (s : Shape) (more : ℕ) (row : List ℕ) (k : InputFault) (b m a : List ℕ) → more ≡ 0 → plain_row s b ≡ row_done row m
@@ -257,23 +257,23 @@ no_end s more row k b m a none found (inr outside) = inr outside
 -- what comes after the last row is at fault, or can't be read
 pub end_fault : {R : Type 0} {left : R → Option (List ℕ)} {failures : R → ℕ} {same : R → R → Type 0} {old mid new : BufferedReader R} (s : Shape) (more : ℕ)
     (row : List ℕ) (k : InputFault) → ((a b c : R) → same a b → same b c → same a c) → more ≡ 0
-    → Turn {A = List ℕ} left failures same old mid (Ok row) (Finds (plain_row s) (Ok row))
-    → Turn {A = Unit {0}} left failures same mid new (Err k) (Passes after_last_item (Err k))
-    → Turn {A = List ℕ} left failures same old new (Err k) (Finds (row_in_form true s more) (Err k))
+    → ReadCall {A = List ℕ} left failures same old mid (Ok row) (Finds (plain_row s) (Ok row))
+    → ReadCall {A = Unit {0}} left failures same mid new (Err k) (Passes after_last_item (Err k))
+    → ReadCall {A = List ℕ} left failures same old new (Err k) (Finds (row_in_form true s more) (Err k))
 end_fault s more row k later none r t =
     turn_err_so {A = Unit {0}} {B = List ℕ} k (λ b a o. no_end s more row k b o.0 a none o.1 o.2) (turn_then {A = List ℕ} {B = Unit {0}} row later r t)
 
 pub last_row_found : {R : Type 0} {left : R → Option (List ℕ)} {failures : R → ℕ} {same : R → R → Type 0} {old mid new : BufferedReader R} (s : Shape)
     (more : ℕ) (row : List ℕ) → ((a b c : R) → same a b → same b c → same a c) → more ≡ 0
-    → Turn {A = List ℕ} left failures same old mid (Ok row) (Finds (plain_row s) (Ok row))
-    → Turn {A = Unit {0}} left failures same mid new (Ok tt) (Passes after_last_item (Ok tt))
-    → Turn {A = List ℕ} left failures same old new (Ok row) (Finds (row_in_form true s more) (Ok row))
+    → ReadCall {A = List ℕ} left failures same old mid (Ok row) (Finds (plain_row s) (Ok row))
+    → ReadCall {A = Unit {0}} left failures same mid new (Ok tt) (Passes after_last_item (Ok tt))
+    → ReadCall {A = List ℕ} left failures same old new (Ok row) (Finds (row_in_form true s more) (Ok row))
 last_row_found s more row later none r t =
     turn_ok_so {A = Unit {0}} {B = List ℕ} tt (Ok row) (no_fault row ReadFailed) (λ b a o. last_row s more b none ∙ ap last_of o.1 ∙ ap (row_then row) o.2)
     (turn_then {A = List ℕ} {B = Unit {0}} row later r t)
 
 pub earlier_row_found : {R : Type 0} {left : R → Option (List ℕ)} {failures : R → ℕ} {same : R → R → Type 0} {old new : BufferedReader R} (s : Shape) (more : ℕ)
     (row : List ℕ) → 0 < more
-    → Turn {A = List ℕ} left failures same old new (Ok row) (Finds (plain_row s) (Ok row))
-    → Turn {A = List ℕ} left failures same old new (Ok row) (Finds (row_in_form true s more) (Ok row))
+    → ReadCall {A = List ℕ} left failures same old new (Ok row) (Finds (plain_row s) (Ok row))
+    → ReadCall {A = List ℕ} left failures same old new (Ok row) (Finds (row_in_form true s more) (Ok row))
 earlier_row_found s more row some t = turn_ok_so {A = List ℕ} {B = List ℕ} row (Ok row) (no_fault row ReadFailed) (λ b a o. earlier_row s more b some ∙ o) t

@@ -14,7 +14,7 @@ use Rattle.pnm_image.specs.SampleWidths.{sample_width_of}
 use Rattle.pnm_read.specs.Items.{◌>>=◌, raw_item}
 use Rattle.pnm_read.specs.Said.{in_turn, units_in_row, units_at, raw_row}
 use Rattle.pnm_read.specs.RawParts.{FindsUnits, FindsPart}
-use Rattle.pnm_read.specs.BufferedReaders.{Turn, Finds, IsOutsideFault}
+use Rattle.pnm_read.specs.BufferedReaders.{ReadCall, Finds, IsOutsideFault}
 use Rattle.pnm_read.proofs.UnitLaws.{unit_bytes, unit_if, turned, and_turns}
 use Rattle.pnm_read.proofs.PartLaws.{all_are_left, part_fails, part_is_read, none_are_left, one_fails}
 use Rattle.pnm_read.proofs.Turns.{no_fault, turn_then, turn_ok_so, turn_err_so, turn_taken}
@@ -81,7 +81,7 @@ UnitsFrom p maxval all more samples text left =
 
 pub record ReadingUnits {R : Type 0} (left : R → Option (List ℕ)) (failures : R → ℕ) (same : R → R → Type 0) (p : SampleWidth) (maxval all more : ℕ)
     (samples : List ℕ) (old now : BufferedReader R) : Type 0 where
-  pub turn : Turn {A = Unit {0}} left failures same old now (Ok tt) (UnitsFrom p maxval all more samples)
+  pub turn : ReadCall {A = Unit {0}} left failures same old now (Ok tt) (UnitsFrom p maxval all more samples)
 
 pub units_begin : {R : Type 0} {left : R → Option (List ℕ)} {failures : R → ℕ} {same : R → R → Type 0} (p : SampleWidth) (maxval all : ℕ) (samples : List ℕ)
     (input : BufferedReader R) → ((a : R) → same a a) → samples ≡ []
@@ -97,7 +97,7 @@ pub part_read : {R : Type 0} {left : R → Option (List ℕ)} {failures : R → 
     {old now mid : BufferedReader R}
     (most : ℕ) (part : List ℕ) (new : ℕ → List ℕ) (count : ℕ) (others : List ℕ) → ((a b c : R) → same a b → same b c → same a c)
     → ReadingUnits left failures same p maxval all more samples old now
-    → Turn {A = ℕ} left failures same now mid (Ok count) (FindsPart p maxval most part new (Ok count))
+    → ReadCall {A = ℕ} left failures same now mid (Ok count) (FindsPart p maxval most part new (Ok count))
     → most ≤ more → ((units : List (List ℕ)) → new count ≡ part ++ concat units → others ≡ samples ++ concat units)
     → ReadingUnits left failures same p maxval all (more - count) others old mid
 part_read {p = p} {maxval = maxval} {all = all} {more = more} {samples = samples} most part new count others later r t le f = record {
@@ -124,9 +124,9 @@ pub part_fault : {R B : Type 0} {left : R → Option (List ℕ)} {failures : R �
     {old now mid : BufferedReader R}
     (most : ℕ) (part : List ℕ) (new : ℕ → List ℕ) (view : B → List ℕ) (s : Shape) (k : InputFault) → ((a b c : R) → same a b → same b c → same a c)
     → ReadingUnits left failures same p s.maxval all more samples old now
-    → Turn {A = ℕ} left failures same now mid (Err k) (FindsPart p s.maxval most part new (Err k))
+    → ReadCall {A = ℕ} left failures same now mid (Err k) (FindsPart p s.maxval most part new (Err k))
     → p ≡ sample_width_of s.kind s.maxval → all ≡ units_in_row p s → most ≤ more
-    → Turn {A = B} left failures same old mid (Err k) (FindsUnits view s (Err k))
+    → ReadCall {A = B} left failures same old mid (Err k) (FindsUnits view s (Err k))
 part_fault {B = B} {p = p} {all = all} {more = more} {samples = samples} most part new view s k later r t is_width is_all le =
     turn_err_so {A = ℕ} {B = B} k (λ b a o. part_fault_so p s.maxval all more most samples part new s k is_width is_all refl le b o.0 a o.1 o.2)
     (turn_then {A = Unit {0}} {B = ℕ} tt later r.turn t)
@@ -136,7 +136,7 @@ pub units_read : {R B : Type 0} {left : R → Option (List ℕ)} {failures : R �
     {old now : BufferedReader R}
     (view : B → List ℕ) (s : Shape) (row : B) → ReadingUnits left failures same p s.maxval all more samples old now → p ≡ sample_width_of s.kind s.maxval
     → all ≡ units_in_row p s → more ≤ 0 → view row ≡ samples
-    → Turn {A = B} left failures same old now (Ok row) (FindsUnits view s (Ok row))
+    → ReadCall {A = B} left failures same old now (Ok row) (FindsUnits view s (Ok row))
 units_read {B = B} {p = p} {all = all} {more = more} view s row r is_width is_all done is_row =
     turn_ok_so {A = Unit {0}} {B = B} tt (Ok row) (no_fault row ReadFailed) (λ b a o.
     let none : more ≡ 0 = omega arith in (
@@ -158,8 +158,8 @@ row_of_units s units = units >>= λ found. row_done (take (row_length s) (concat
 
 pub row_found : {R A : Type 0} {left : R → Option (List ℕ)} {failures : R → ℕ} {same : R → R → Type 0} {old new : BufferedReader R} (view : A → List ℕ)
     (s : Shape) (units : A) (row : List ℕ) → row ≡ take (row_length s) (view units)
-    → Turn {A = A} left failures same old new (Ok units) (FindsUnits view s (Ok units))
-    → Turn {A = List ℕ} left failures same old new (Ok row) (Finds (raw_row s) (Ok row))
+    → ReadCall {A = A} left failures same old new (Ok units) (FindsUnits view s (Ok units))
+    → ReadCall {A = List ℕ} left failures same old new (Ok row) (Finds (raw_row s) (Ok row))
 unfolding raw_row
 row_found {A = A} view s units row is_row t =
     turn_ok_so {A = A} {B = List ℕ} units (Ok row) (no_fault row ReadFailed)
@@ -172,6 +172,6 @@ fault_of_units view s k b a (inr outside) = inr outside
 
 pub row_fault : {R A : Type 0} {left : R → Option (List ℕ)} {failures : R → ℕ} {same : R → R → Type 0} {old new : BufferedReader R} (view : A → List ℕ)
     (s : Shape) (k : InputFault)
-    → Turn {A = A} left failures same old new (Err k) (FindsUnits view s (Err k))
-    → Turn {A = List ℕ} left failures same old new (Err k) (Finds (raw_row s) (Err k))
+    → ReadCall {A = A} left failures same old new (Err k) (FindsUnits view s (Err k))
+    → ReadCall {A = List ℕ} left failures same old new (Err k) (Finds (raw_row s) (Err k))
 row_fault {A = A} view s k t = turn_err_so {A = A} {B = List ℕ} k (fault_of_units view s k) t

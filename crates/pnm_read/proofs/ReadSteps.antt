@@ -10,7 +10,7 @@ use Rattle.pnm_read.specs.declared.fault.InputFault.{InputFault}
 use Rattle.pnm_read.specs.declared.fault.InputFault.TheVariants.{ReadFailed}
 use Rattle.pnm_read.specs.declared.buffered_reader.BufferedReader.{BufferedReader}
 use Rattle.pnm_read.specs.Reads.{HasRead}
-use Rattle.pnm_read.specs.BufferedReaders.{Turn, Fills, Reads, held_of, CanCome, HoldsEnough}
+use Rattle.pnm_read.specs.BufferedReaders.{ReadCall, Fills, Reads, held_of, CanCome, HoldsEnough}
 use Rattle.pnm_read.proofs.Consumed.{consumes_nothing}
 use Rattle.pnm_read.proofs.Turns.{no_fault, turn_then, turn_ok_so, turn_err_so, turn_advance}
 
@@ -20,7 +20,7 @@ pub turn_read : {R A : Type 0} {left : R → Option (List ℕ)} {failures : R �
     (x : A) (count : ℕ) (target : List ℕ) → HasRead left failures same old.reader new.reader target (Ok count) → old.ended ≡ false
     → (new.ended ≡ true → count ≡ 0)
     → ((rest : List ℕ) → (new.ended ≡ true → rest ≡ []) → o (held_of old ++ (take count target ++ rest)) (held_of new ++ rest))
-    → Turn left failures same old new (Ok x) o
+    → ReadCall left failures same old new (Ok x) o
 turn_read x count target r goes_on at_end f = record {
   read = take count target;
   consumed = r.0;
@@ -37,7 +37,7 @@ pub turn_failed : {R A : Type 0} {left : R → Option (List ℕ)} {failures : R 
     {o : List ℕ → List ℕ → Type 0}
     (k : InputFault) (target : List ℕ) (reader : R) → HasRead left failures same reader new.reader target (Err k) → reader ≡ old.reader → old.ended ≡ false
     → new.ended ≡ false
-    → ((b a : List ℕ) → o b a) → Turn {A = A} left failures same old new (Err k) o
+    → ((b a : List ℕ) → o b a) → ReadCall {A = A} left failures same old new (Err k) o
 turn_failed {left = left} {failures = failures} {same = same} {old = old} {new = new} k target reader from is_reader goes_on still f =
     let r : HasRead left failures same old.reader new.reader target (Err k) =
     subst (λ x. HasRead left failures same x new.reader target (Err k)) is_reader from in
@@ -81,7 +81,7 @@ range_grown bytes target post at end count order within few =
 -- where no byte can come any more, and none is held
 pub turn_at_end : {R : Type 0} {left : R → Option (List ℕ)} {failures : R → ℕ} {same : R → R → Type 0} (input : BufferedReader R) (target : List ℕ)
     → ((a : R) → same a a) → input.ended ≡ true → held_of input ≡ []
-    → Turn {A = ℕ} left failures same input input (Ok 0) (Reads target (Ok 0))
+    → ReadCall {A = ℕ} left failures same input input (Ok 0) (Reads target (Ok 0))
 turn_at_end {left = left} input target at_once ended held = record {
   read = [];
   consumed = consumes_nothing (left input.reader);
@@ -96,7 +96,7 @@ turn_at_end {left = left} input target at_once ended held = record {
 -- bytes came into a target, past the buffer
 pub turn_past : {R : Type 0} {left : R → Option (List ℕ)} {failures : R → ℕ} {same : R → R → Type 0} {old new : BufferedReader R} (count : ℕ) (target : List ℕ)
     → HasRead left failures same old.reader new.reader target (Ok count) → old.ended ≡ false → new.ended ≡ (count == 0) → held_of old ≡ [] → held_of new ≡ []
-    → Turn {A = ℕ} left failures same old new (Ok count) (Reads target (Ok count))
+    → ReadCall {A = ℕ} left failures same old new (Ok count) (Reads target (Ok count))
 turn_past {old = old} {new = new} count target r goes_on ended was_empty is_empty =
     turn_read count count target r goes_on (λ e. eqb-true count 0 (sym ended ∙ e)) (λ rest c. (
       ap₂ (λ (a b : List ℕ). a ++ (take count target ++ (b ++ rest))) was_empty (sym is_empty),
@@ -109,7 +109,7 @@ pub turn_grown : {R : Type 0} {left : R → Option (List ℕ)} {failures : R →
     (reader : R)
     → HasRead left failures same reader new.reader target (Ok count) → reader ≡ old.reader → old.ended ≡ false → (new.ended ≡ true → count ≡ 0)
     → held_of new ≡ held_of old ++ take count target
-    → Turn {A = Unit {0}} left failures same old new (Ok tt) (Fills (Ok tt))
+    → ReadCall {A = Unit {0}} left failures same old new (Ok tt) (Fills (Ok tt))
 turn_grown {left = left} {failures = failures} {same = same} {old = old} {new = new} count target reader r is_reader goes_on at_end held =
     let r_old : HasRead left failures same old.reader new.reader target (Ok count) =
     subst (λ x. HasRead left failures same x new.reader target (Ok count)) is_reader r in
@@ -119,15 +119,15 @@ turn_grown {left = left} {failures = failures} {same = same} {old = old} {new = 
 -- reads that follow one another, while nothing is taken
 pub fills_then : {R : Type 0} {left : R → Option (List ℕ)} {failures : R → ℕ} {same : R → R → Type 0} {old mid new : BufferedReader R}
     → ((a b c : R) → same a b → same b c → same a c)
-    → Turn {A = Unit {0}} left failures same old mid (Ok tt) (Fills (Ok tt)) → Turn {A = Unit {0}} left failures same mid new (Ok tt) (Fills (Ok tt))
-    → Turn {A = Unit {0}} left failures same old new (Ok tt) (Fills (Ok tt))
+    → ReadCall {A = Unit {0}} left failures same old mid (Ok tt) (Fills (Ok tt)) → ReadCall {A = Unit {0}} left failures same mid new (Ok tt) (Fills (Ok tt))
+    → ReadCall {A = Unit {0}} left failures same old new (Ok tt) (Fills (Ok tt))
 fills_then later s t = turn_ok_so {A = Unit {0}} {B = Unit {0}} tt (Ok tt) (no_fault tt ReadFailed) (λ b a o. o.1 ∙ o.2)
     (turn_then {A = Unit {0}} {B = Unit {0}} tt later s t)
 
 pub fills_not : {R : Type 0} {left : R → Option (List ℕ)} {failures : R → ℕ} {same : R → R → Type 0} {old mid new : BufferedReader R} (k : InputFault)
     → ((a b c : R) → same a b → same b c → same a c)
-    → Turn {A = Unit {0}} left failures same old mid (Ok tt) (Fills (Ok tt)) → Turn {A = Unit {0}} left failures same mid new (Err k) (Fills (Err k))
-    → Turn {A = Unit {0}} left failures same old new (Err k) (Fills (Err k))
+    → ReadCall {A = Unit {0}} left failures same old mid (Ok tt) (Fills (Ok tt)) → ReadCall {A = Unit {0}} left failures same mid new (Err k) (Fills (Err k))
+    → ReadCall {A = Unit {0}} left failures same old new (Err k) (Fills (Err k))
 fills_not k later s t = turn_err_so {A = Unit {0}} {B = Unit {0}} k (λ b a o. o.2) (turn_then {A = Unit {0}} {B = Unit {0}} tt later s t)
 
 -- a read into a target, past the buffer, or the fault
@@ -135,7 +135,7 @@ pub turn_past_by : {R : Type 0} {left : R → Option (List ℕ)} {failures : R �
     (result : Result ℕ InputFault)
     → HasRead left failures same old.reader new.reader target result → old.ended ≡ false
     → MatchResult result (λ count. new.ended ≡ (count == 0)) (λ _. new.ended ≡ false) → held_of old ≡ [] → held_of new ≡ []
-    → Turn {A = ℕ} left failures same old new result (Reads target result)
+    → ReadCall {A = ℕ} left failures same old new result (Reads target result)
 turn_past_by target (Ok count) r goes_on ended was_empty is_empty = turn_past count target r goes_on ended was_empty is_empty
 turn_past_by {old = old} target (Err k) r goes_on ended was_empty is_empty = turn_failed k target old.reader r refl goes_on ended (λ b a. inl r.1)
 
@@ -171,10 +171,10 @@ nothing_comes mid rest count bytes size c (inr ended) some is_held is_count none
 -- bytes that are held were copied into the front of a target
 pub turn_copied : {R : Type 0} {left : R → Option (List ℕ)} {failures : R → ℕ} {same : R → R → Type 0} {old mid new : BufferedReader R} (bytes post : List ℕ)
     (count size : ℕ)
-    → Turn {A = Unit {0}} left failures same old mid (Ok tt) (Fills (Ok tt)) → HoldsEnough 1 mid → 0 < size → bytes ≡ held_of mid
+    → ReadCall {A = Unit {0}} left failures same old mid (Ok tt) (Fills (Ok tt)) → HoldsEnough 1 mid → 0 < size → bytes ≡ held_of mid
     → count ≡ min (length bytes) size
     → new.reader ≡ mid.reader → new.ended ≡ mid.ended → held_of new ≡ drop count (held_of mid)
-    → Turn {A = ℕ} left failures same old new (Ok count) (Reads (take count bytes ++ post) (Ok count))
+    → ReadCall {A = ℕ} left failures same old new (Ok count) (Reads (take count bytes ++ post) (Ok count))
 turn_copied {mid = mid} bytes post count size t enough some is_held is_count reader ended held =
     let few : count ≤ length bytes = omega arith in
     let prefix : length (take count bytes) ≡ count = length-take-le count bytes few in

@@ -7,7 +7,7 @@ use Rattle.pnm_read.specs.declared.judgement.Judgement.{Judgement}
 use Rattle.pnm_read.specs.declared.buffered_reader.BufferedReader.{BufferedReader}
 use Rattle.pnm_read.specs.Items.{piece_from}
 use Rattle.pnm_read.specs.Scans.{FeedsAfter, Feeds, ScansAfter, Scans, JudgesEnd, IfEnds}
-use Rattle.pnm_read.specs.BufferedReaders.{Turn, Fills, held_of, HoldsEnough}
+use Rattle.pnm_read.specs.BufferedReaders.{ReadCall, Fills, held_of, HoldsEnough}
 use Rattle.pnm_read.proofs.Turns.{IsLeft, no_fault, turn_then, turn_ok_so, turn_err_so, turn_taken, turn_seen, turn_advance, nothing_left}
 
 -- the piece of a text goes on as that of what is left of it
@@ -20,7 +20,7 @@ pub record Scanning {R S : Type 0} (left : R → Option (List ℕ)) (failures : 
     (at_end : S → List ℕ → Option InputFault) (is_after : S → List ℕ → Type 0) (input_old input : BufferedReader R) (old now : S) : Type 0 where
   pub same_items : item now ≡ item old
   pub same_end : at_end now ≡ at_end old
-  pub turn : Turn {A = Unit {0}} left failures same input_old input (Ok tt) (GoesOnAs item at_end is_after old now)
+  pub turn : ReadCall {A = Unit {0}} left failures same input_old input (Ok tt) (GoesOnAs item at_end is_after old now)
 
 -- nothing was taken yet
 pub scan_begins : {R S : Type 0} {left : R → Option (List ℕ)} {failures : R → ℕ} {same : R → R → Type 0} {item : S → List ℕ → ℕ → Judgement}
@@ -38,8 +38,8 @@ scan_begins {item = item} {at_end = at_end} input s at_once = record {
 pub scan_unread : {R S : Type 0} {left : R → Option (List ℕ)} {failures : R → ℕ} {same : R → R → Type 0} {item : S → List ℕ → ℕ → Judgement}
     {at_end : S → List ℕ → Option InputFault} {is_after : S → List ℕ → Type 0} {input_old input mid : BufferedReader R} {old now : S}
     (is_whole : List ℕ → Type 0) (k : InputFault) → ((a b c : R) → same a b → same b c → same a c)
-    → Scanning left failures same item at_end is_after input_old input old now → Turn {A = Unit {0}} left failures same input mid (Err k) (Fills (Err k))
-    → Turn {A = Unit {0}} left failures same input_old mid (Err k) (Scans (item old) (at_end old) (is_after old) is_whole (Err k))
+    → Scanning left failures same item at_end is_after input_old input old now → ReadCall {A = Unit {0}} left failures same input mid (Err k) (Fills (Err k))
+    → ReadCall {A = Unit {0}} left failures same input_old mid (Err k) (Scans (item old) (at_end old) (is_after old) is_whole (Err k))
 scan_unread is_whole k later s t = turn_err_so {A = Unit {0}} {B = Unit {0}} k (λ b a o before f. inr o.2)
     (turn_then {A = Unit {0}} {B = Unit {0}} tt later s.turn t)
 
@@ -51,8 +51,8 @@ ReadOn item at_end is_after input old now text left = ((m : List ℕ) × GoesOnA
 pub read_on : {R S : Type 0} {left : R → Option (List ℕ)} {failures : R → ℕ} {same : R → R → Type 0} {item : S → List ℕ → ℕ → Judgement}
     {at_end : S → List ℕ → Option InputFault} {is_after : S → List ℕ → Type 0} {input_old input mid : BufferedReader R} {old now : S}
     → ((a b c : R) → same a b → same b c → same a c) → Scanning left failures same item at_end is_after input_old input old now
-    → Turn {A = Unit {0}} left failures same input mid (Ok tt) (Fills (Ok tt))
-    → Turn {A = Unit {0}} left failures same input_old mid (Ok tt) (ReadOn item at_end is_after mid old now)
+    → ReadCall {A = Unit {0}} left failures same input mid (Ok tt) (Fills (Ok tt))
+    → ReadCall {A = Unit {0}} left failures same input_old mid (Ok tt) (ReadOn item at_end is_after mid old now)
 read_on later s t = turn_seen (turn_then tt later s.turn t)
 
 -- the answer at the end of the text
@@ -81,9 +81,9 @@ end_found item at_end is_whole more text before None e w p = (more, w, p ∙ ap 
 pub scan_ends : {R S : Type 0} {left : R → Option (List ℕ)} {failures : R → ℕ} {same : R → R → Type 0} {item : S → List ℕ → ℕ → Judgement}
     {at_end : S → List ℕ → Option InputFault} {is_after : S → List ℕ → Type 0} {input_old input mid : BufferedReader R} {old now : S}
     (is_whole : S → List ℕ → Type 0) (fault : Option InputFault) → ((a b c : R) → same a b → same b c → same a c)
-    → Scanning left failures same item at_end is_after input_old input old now → Turn {A = Unit {0}} left failures same input mid (Ok tt) (Fills (Ok tt))
+    → Scanning left failures same item at_end is_after input_old input old now → ReadCall {A = Unit {0}} left failures same input mid (Ok tt) (Fills (Ok tt))
     → held_of mid ≡ [] → mid.ended ≡ true → (fault ≡ Some ReadFailed → ⊥) → JudgesEnd (at_end now) (is_after now) (is_whole now) fault
-    → Turn left failures same input_old mid (ended_as fault) (Scans (item old) (at_end old) (is_after old) (is_whole now) (ended_as fault))
+    → ReadCall left failures same input_old mid (ended_as fault) (Scans (item old) (at_end old) (is_after old) (is_whole now) (ended_as fault))
 scan_ends {item = item} {at_end = at_end} {is_after = is_after} {mid = mid} {old = old} {now = now} is_whole fault later s t held ended of_text judged =
     turn_ok_so tt (ended_as fault) (ended_of_text fault of_text) (λ b a o before f.
     let on = o.0.1 before f in
@@ -108,9 +108,9 @@ fed_as item at_end is_after is_after_new is_whole old now bytes result more item
 pub scan_fails : {R S : Type 0} {left : R → Option (List ℕ)} {failures : R → ℕ} {same : R → R → Type 0} {item : S → List ℕ → ℕ → Judgement}
     {at_end : S → List ℕ → Option InputFault} {is_after : S → List ℕ → Type 0} {input_old input mid : BufferedReader R} {old now : S}
     (is_after_new is_whole : List ℕ → Type 0) (k : InputFault) → ((a b c : R) → same a b → same b c → same a c)
-    → Scanning left failures same item at_end is_after input_old input old now → Turn {A = Unit {0}} left failures same input mid (Ok tt) (Fills (Ok tt))
+    → Scanning left failures same item at_end is_after input_old input old now → ReadCall {A = Unit {0}} left failures same input mid (Ok tt) (Fills (Ok tt))
     → (k ≡ ReadFailed → ⊥) → Feeds (item now) (at_end now) (is_after now) is_after_new is_whole (held_of mid) (Err k)
-    → Turn {A = Unit {0}} left failures same input_old mid (Err k) (Scans (item old) (at_end old) (is_after old) is_whole (Err k))
+    → ReadCall {A = Unit {0}} left failures same input_old mid (Err k) (Scans (item old) (at_end old) (is_after old) is_whole (Err k))
 scan_fails {item = item} {at_end = at_end} {is_after = is_after} {mid = mid} {old = old} {now = now} is_after_new is_whole k later s t of_text f =
     turn_ok_so tt (Err k) (λ e. of_text cc) (λ b a o before g.
     let on = o.0.1 before g in
@@ -124,10 +124,10 @@ scan_fails {item = item} {at_end = at_end} {is_after = is_after} {mid = mid} {ol
 pub scan_found : {R S : Type 0} {left : R → Option (List ℕ)} {failures : R → ℕ} {same : R → R → Type 0} {item : S → List ℕ → ℕ → Judgement}
     {at_end : S → List ℕ → Option InputFault} {is_after : S → List ℕ → Type 0} {input_old input mid new : BufferedReader R} {old now : S}
     (is_after_new is_whole : List ℕ → Type 0) (n : ℕ) → ((a b c : R) → same a b → same b c → same a c)
-    → Scanning left failures same item at_end is_after input_old input old now → Turn {A = Unit {0}} left failures same input mid (Ok tt) (Fills (Ok tt))
+    → Scanning left failures same item at_end is_after input_old input old now → ReadCall {A = Unit {0}} left failures same input mid (Ok tt) (Fills (Ok tt))
     → Feeds (item now) (at_end now) (is_after now) is_after_new is_whole (held_of mid) (Ok (Some n)) → new.reader ≡ mid.reader → new.ended ≡ mid.ended
     → held_of new ≡ drop n (held_of mid)
-    → Turn {A = Unit {0}} left failures same input_old new (Ok tt) (Scans (item old) (at_end old) (is_after old) is_whole (Ok tt))
+    → ReadCall {A = Unit {0}} left failures same input_old new (Ok tt) (Scans (item old) (at_end old) (is_after old) is_whole (Ok tt))
 scan_found {item = item} {at_end = at_end} {is_after = is_after} {mid = mid} {old = old} {now = now} is_after_new is_whole n later s t f reader ended held =
     turn_advance tt (Ok tt) n (no_fault tt ReadFailed) reader ended held (λ b rest c o before g.
     let on = o.0.1 before g in
@@ -139,7 +139,7 @@ scan_found {item = item} {at_end = at_end} {is_after = is_after} {mid = mid} {ol
 pub scan_goes_on : {R S : Type 0} {left : R → Option (List ℕ)} {failures : R → ℕ} {same : R → R → Type 0} {item : S → List ℕ → ℕ → Judgement}
     {at_end : S → List ℕ → Option InputFault} {is_after : S → List ℕ → Type 0} {input_old input mid new : BufferedReader R} {old now later_on : S}
     (is_whole : List ℕ → Type 0) (n : ℕ) → ((a b c : R) → same a b → same b c → same a c)
-    → Scanning left failures same item at_end is_after input_old input old now → Turn {A = Unit {0}} left failures same input mid (Ok tt) (Fills (Ok tt))
+    → Scanning left failures same item at_end is_after input_old input old now → ReadCall {A = Unit {0}} left failures same input mid (Ok tt) (Fills (Ok tt))
     → Feeds (item now) (at_end now) (is_after now) (is_after later_on) is_whole (held_of mid) (Ok None) → item later_on ≡ item now
     → at_end later_on ≡ at_end now → n ≡ length (held_of mid)
     → new.reader ≡ mid.reader → new.ended ≡ mid.ended → held_of new ≡ drop n (held_of mid)

@@ -13,7 +13,7 @@ use Rattle.pnm_read.specs.declared.source.State.{State}
 use Rattle.pnm_read.specs.declared.source.State.TheVariants.{Awaits, Ended, Failed}
 use Rattle.pnm_read.specs.declared.source.Source.{Source}
 use Rattle.pnm_read.specs.Said.{Said, text_said, said_of, fault_of, then_said, says_nothing, says_fault}
-use Rattle.pnm_read.specs.BufferedReaders.{Turn, IsOutsideFault, held_of}
+use Rattle.pnm_read.specs.BufferedReaders.{ReadCall, IsOutsideFault, held_of}
 use Rattle.pnm_read.specs.Awaiting.{AnswersNext, state_due, state_fault, is_ended}
 use Rattle.pnm_read.specs.Sources.{IsFreshSource, Tells, AnswerTells, HasGiven, after_messages, due, MayGive, SeesEnd}
 use Rattle.pnm_read.proofs.Consumed.{consumes_nothing}
@@ -106,7 +106,7 @@ told_so old new result t = record { more = t.read; consumed = t.consumed; told =
 -- an answer gave the next of what was to be said
 tells_on : {R : Type 0} {left : R → Option (List ℕ)} {failures : R → ℕ} {same : R → R → Type 0} (old new : Source R) (awaited : Awaited) (m : Option Message)
     → old.state ≡ Awaits awaited
-    → Turn left failures same old.input new.input (Ok m) (AnswersNext awaited (Ok m) new.state) → TellsNext left old (Ok m) new
+    → ReadCall left failures same old.input new.input (Ok m) (AnswersNext awaited (Ok m) new.state) → TellsNext left old (Ok m) new
 unfolding due MayGive
 tells_on old new awaited (Some m) state t = record {
   read = t.read;
@@ -124,7 +124,7 @@ tells_on old new awaited None state t = record {
 -- an answer was a fault
 tells_fault : {R : Type 0} {left : R → Option (List ℕ)} {failures : R → ℕ} {same : R → R → Type 0} (old new : Source R) (awaited : Awaited) (k : InputFault)
     → old.state ≡ Awaits awaited
-    → Turn {A = Option Message} left failures same old.input new.input (Err k) (AnswersNext awaited (Err k) new.state) → TellsNext left old (Err k) new
+    → ReadCall {A = Option Message} left failures same old.input new.input (Err k) (AnswersNext awaited (Err k) new.state) → TellsNext left old (Err k) new
 unfolding due MayGive
 tells_fault old new awaited k state t = record {
   read = t.read;
@@ -135,7 +135,7 @@ tells_fault old new awaited k state t = record {
 
 pub tells : {R : Type 0} {left : R → Option (List ℕ)} {failures : R → ℕ} {same : R → R → Type 0} (old new : Source R) (awaited : Awaited)
     (result : Result (Option Message) InputFault) → old.state ≡ Awaits awaited
-    → Turn left failures same old.input new.input result (AnswersNext awaited result new.state) → Tells left old result new
+    → ReadCall left failures same old.input new.input result (AnswersNext awaited result new.state) → Tells left old result new
 tells old new awaited (Ok m) state t = told_so old new (Ok m) (tells_on old new awaited m state t)
 tells old new awaited (Err k) state t = told_so old new (Err k) (tells_fault old new awaited k state t)
 
@@ -167,7 +167,7 @@ tells_again left s k state = told_so s s (Err k) (again left s k state)
 
 -- the state after the end of the stream
 pub ended_after : {R : Type 0} {left : R → Option (List ℕ)} {failures : R → ℕ} {same : R → R → Type 0} (old new : Source R) (awaited : Awaited)
-    (result : Result (Option Message) InputFault) → Turn left failures same old.input new.input result (AnswersNext awaited result new.state)
+    (result : Result (Option Message) InputFault) → ReadCall left failures same old.input new.input result (AnswersNext awaited result new.state)
     → result ≡ Ok (Some StreamEnd) → is_ended new.state ≡ true
 ended_after old new awaited (Ok (Some (Begin head))) t e = absurd cc
 ended_after old new awaited (Ok (Some (Row row))) t e = absurd cc
@@ -179,7 +179,7 @@ ended_after old new awaited (Err k) t e = absurd cc
 
 -- the end was seen rightly
 pub end_stays : {R A : Type 0} {left : R → Option (List ℕ)} {failures : R → ℕ} {same : R → R → Type 0} {o : List ℕ → List ℕ → Type 0}
-    {result : Result A InputFault} (old new : Source R) → Turn left failures same old.input new.input result o → SeesEnd left old → SeesEnd left new
+    {result : Result A InputFault} (old new : Source R) → ReadCall left failures same old.input new.input result o → SeesEnd left old → SeesEnd left new
 unfolding SeesEnd
 end_stays old new t = t.end
 
@@ -196,7 +196,7 @@ going_not_stopped (Failed fault) awaited k g e = absurd cc
 
 -- Stop isn't given
 pub never_stop : {R : Type 0} {left : R → Option (List ℕ)} {failures : R → ℕ} {same : R → R → Type 0} (old new : Source R) (awaited : Awaited)
-    (result : Result (Option Message) InputFault) → Turn left failures same old.input new.input result (AnswersNext awaited result new.state)
+    (result : Result (Option Message) InputFault) → ReadCall left failures same old.input new.input result (AnswersNext awaited result new.state)
     → result ≡ Ok (Some Stop) → ⊥
 never_stop old new awaited (Ok (Some (Begin head))) t e = absurd cc
 never_stop old new awaited (Ok (Some (Row row))) t e = absurd cc
@@ -208,7 +208,7 @@ never_stop old new awaited (Err k) t e = absurd cc
 
 -- at a failed read the end wasn't seen
 pub not_at_end : {R A : Type 0} {left : R → Option (List ℕ)} {failures : R → ℕ} {same : R → R → Type 0} {o : List ℕ → List ℕ → Type 0}
-    {result : Result A InputFault} (old new : Source R) → Turn left failures same old.input new.input result o → result ≡ Err ReadFailed → (rest : List ℕ)
+    {result : Result A InputFault} (old new : Source R) → ReadCall left failures same old.input new.input result o → result ≡ Err ReadFailed → (rest : List ℕ)
     → MayGive new rest
 unfolding MayGive
 not_at_end old new t e rest ended = ended_not new.input.ended (t.read_failed e).1 ended

@@ -6,7 +6,7 @@ use Rattle.pnm_image.proofs.Lists.{not_nil}
 use Rattle.pnm_read.specs.declared.fault.InputFault.{InputFault}
 use Rattle.pnm_read.specs.declared.fault.InputFault.TheVariants.{ReadFailed}
 use Rattle.pnm_read.specs.declared.buffered_reader.BufferedReader.{BufferedReader}
-use Rattle.pnm_read.specs.BufferedReaders.{Turn, held_of, CanCome}
+use Rattle.pnm_read.specs.BufferedReaders.{ReadCall, held_of, CanCome}
 use Rattle.pnm_read.proofs.Consumed.{consumes_nothing, consumes_then}
 
 -- an answer is no fault
@@ -17,7 +17,7 @@ no_fault x k e = absurd cc
 pub turn_ok_so : {R A B : Type 0} {left : R → Option (List ℕ)} {failures : R → ℕ} {same : R → R → Type 0} {old new : BufferedReader R}
     {o q : List ℕ → List ℕ → Type 0}
     (x : A) (result : Result B InputFault) → (result ≡ Err ReadFailed → ⊥) → ((b a : List ℕ) → o b a → q b a)
-    → Turn left failures same old new (Ok x) o → Turn left failures same old new result q
+    → ReadCall left failures same old new (Ok x) o → ReadCall left failures same old new result q
 turn_ok_so x (Ok y) n f t =
     record {
       read = t.read;
@@ -44,7 +44,7 @@ turn_ok_so x (Err k) n f t =
 pub turn_err_so : {R A B : Type 0} {left : R → Option (List ℕ)} {failures : R → ℕ} {same : R → R → Type 0} {old new : BufferedReader R}
     {o q : List ℕ → List ℕ → Type 0}
     (k : InputFault) → ((b a : List ℕ) → o b a → q b a)
-    → Turn {A = A} left failures same old new (Err k) o → Turn {A = B} left failures same old new (Err k) q
+    → ReadCall {A = A} left failures same old new (Err k) o → ReadCall {A = B} left failures same old new (Err k) q
 turn_err_so k f t =
     record {
       read = t.read;
@@ -61,8 +61,8 @@ turn_err_so k f t =
 -- a turn after another
 pub turn_then : {R A B : Type 0} {left : R → Option (List ℕ)} {failures : R → ℕ} {same : R → R → Type 0} {old mid new : BufferedReader R}
     {o q : List ℕ → List ℕ → Type 0} {result : Result B InputFault}
-    (x : A) → ((a b c : R) → same a b → same b c → same a c) → Turn left failures same old mid (Ok x) o → Turn left failures same mid new result q
-    → Turn left failures same old new result (λ b a. (m : List ℕ) × o b m × q m a)
+    (x : A) → ((a b c : R) → same a b → same b c → same a c) → ReadCall left failures same old mid (Ok x) o → ReadCall left failures same mid new result q
+    → ReadCall left failures same old new result (λ b a. (m : List ℕ) × o b m × q m a)
 turn_then {left = left} {failures = failures} {old = old} {mid = mid} {new = new} {o = o} {result = result} x later s t = record {
   read = s.read ++ t.read;
   consumed = consumes_then (left old.reader) (left mid.reader) (left new.reader) s.read t.read s.consumed t.consumed;
@@ -84,7 +84,7 @@ pub turn_taken : {R A : Type 0} {left : R → Option (List ℕ)} {failures : R �
     {result : Result A InputFault}
     (taken : List ℕ) → ((a : R) → same a a) → (result ≡ Err ReadFailed → ⊥) → new.reader ≡ old.reader → new.ended ≡ old.ended
     → held_of old ≡ taken ++ held_of new
-    → Turn left failures same old new result (λ b a. b ≡ taken ++ a)
+    → ReadCall left failures same old new result (λ b a. b ≡ taken ++ a)
 turn_taken {left = left} {failures = failures} {same = same} {old = old} {new = new} {result = result} taken at_once n reader ended held = record {
   read = [];
   consumed = subst (λ r. Consumes (left old.reader) (left r) []) (sym reader) (consumes_nothing (left old.reader));
@@ -102,7 +102,7 @@ IsLeft input left = (rest : List ℕ) × CanCome input rest × (left ≡ held_of
 
 pub turn_seen : {R A : Type 0} {left : R → Option (List ℕ)} {failures : R → ℕ} {same : R → R → Type 0} {old new : BufferedReader R}
     {o : List ℕ → List ℕ → Type 0} {result : Result A InputFault}
-    → Turn left failures same old new result o → Turn left failures same old new result (λ b a. o b a × IsLeft new a)
+    → ReadCall left failures same old new result o → ReadCall left failures same old new result (λ b a. o b a × IsLeft new a)
 turn_seen t =
     record {
       read = t.read;
@@ -125,7 +125,7 @@ pub turn_advance : {R A B : Type 0} {left : R → Option (List ℕ)} {failures :
     (x : A) (result : Result B InputFault) (n : ℕ) → (result ≡ Err ReadFailed → ⊥) → new.reader ≡ mid.reader → new.ended ≡ mid.ended
     → held_of new ≡ drop n (held_of mid)
     → ((b rest : List ℕ) → CanCome mid rest → o b (held_of mid ++ rest) → q b (drop n (held_of mid) ++ rest))
-    → Turn left failures same old mid (Ok x) o → Turn left failures same old new result q
+    → ReadCall left failures same old mid (Ok x) o → ReadCall left failures same old new result q
 turn_advance {left = left} {failures = failures} {same = same} {old = old} {mid = mid} {new = new} {q = q} x result n f reader ended held g t = record {
   read = t.read;
   consumed = subst (λ r. Consumes (left old.reader) (left r) t.read) (sym reader) t.consumed;

@@ -30,7 +30,7 @@ EndsRightly left input = input.ended ≡ true → IsAtEnd (left input.reader)
 
 -- A call read these bytes; and whatever comes after them, its outcome is that of what was left of the text
 -- before the call and what is left of it after the call.
-pub record Turn {R A : Type 0} (left : R → Option (List ℕ)) (failures : R → ℕ) (same : R → R → Type 0)
+pub record ReadCall {R A : Type 0} (left : R → Option (List ℕ)) (failures : R → ℕ) (same : R → R → Type 0)
     (old new : BufferedReader R) (result : Result A InputFault) (outcome : List ℕ → List ℕ → Type 0) : Type 0 where
   pub read : List ℕ
   pub consumed : Consumes (left old.reader) (left new.reader) read

@@ -47,7 +47,7 @@ pub struct BufferedReader<R> {
 }
 
 impl<R: BytesIn> BufferedReader<R> {
-    ghost use Rattle.pnm_read.specs.BufferedReaders.{held_of, Turn, Fills, Reads, IsByte, HoldsEnough};
+    ghost use Rattle.pnm_read.specs.BufferedReaders.{held_of, ReadCall, Fills, Reads, IsByte, HoldsEnough};
 
     /// Nothing is read.
     pub fn new(buffer: ReadBuffer, reader: R) -> BufferedReader<R>
@@ -71,6 +71,7 @@ impl<R: BytesIn> BufferedReader<R> {
         self.reader
     }
 
+    /// The allocator that the buffer was made by.
     pub fn allocator(&self) -> Global {
         *self.buffer.allocator()
     }
@@ -102,7 +103,7 @@ impl<R: BytesIn> BufferedReader<R> {
     /// Reads until so many bytes are held, or the input has ended. The only fault is `ReadFailed`.
     pub fn fill(&mut self, wanted: usize) -> Result<(), InputFault>
         requires { wanted ≤ 4096 }
-        ensures turn { Turn R.left R.failures R.same self.old self.new result (Fills result) }
+        ensures read_call { ReadCall R.left R.failures R.same self.old self.new result (Fills result) }
         ensures enough { OnOk result (HoldsEnough wanted self.new) }
         ensures still { HoldsEnough wanted self.old → self.new ≡ self.old }
         ensures failed { IfErr result (λ fault. fault ≡ ReadFailed) }
@@ -117,7 +118,7 @@ impl<R: BytesIn> BufferedReader<R> {
     fn read_more(&mut self) -> Result<(), InputFault>
         requires free { length (held_of self.old) < 4096 }
         requires goes_on { self.old.ended ≡ false }
-        ensures turn { Turn R.left R.failures R.same self.old self.new result (Fills result) }
+        ensures read_call { ReadCall R.left R.failures R.same self.old self.new result (Fills result) }
         ensures more { OnOk result ((length (held_of self.old) < length (held_of self.new))
             ⊎ ((self.new.ended ≡ true) × (held_of self.new ≡ held_of self.old))) }
         ensures failed { IfErr result (λ fault. fault ≡ ReadFailed) }
@@ -130,7 +131,7 @@ impl<R: BytesIn> BufferedReader<R> {
 
     /// Moves the bytes that are held to the front of the buffer.
     fn move_to_front(&mut self)
-        ensures prefix { self.new.at ≡ 0 }
+        ensures front { self.new.at ≡ 0 }
         ensures held { held_of self.new ≡ held_of self.old }
         ensures reader { self.new.reader ≡ self.old.reader }
         ensures ended { self.new.ended ≡ self.old.ended }
@@ -147,7 +148,7 @@ impl<R: BytesIn> BufferedReader<R> {
     /// target of at least as many bytes as the buffer has. The only fault is `ReadFailed`.
     pub fn read(&mut self, target: &mut [u8]) -> Result<usize, InputFault>
         requires { 0 < length target.old }
-        ensures turn { Turn R.left R.failures R.same self.old self.new result (Reads target.new result) }
+        ensures read_call { ReadCall R.left R.failures R.same self.old self.new result (Reads target.new result) }
         ensures bound { IfOk result (λ count. count ≤ length target.new) }
         ensures failed { IfErr result (λ fault. fault ≡ ReadFailed) }
     {
@@ -166,7 +167,7 @@ impl<R: BytesIn> BufferedReader<R> {
     fn read_past(&mut self, target: &mut [u8]) -> Result<usize, InputFault>
         requires held { held_of self.old ≡ [] }
         requires target { 0 < length target.old }
-        ensures turn { Turn R.left R.failures R.same self.old self.new result (Reads target.new result) }
+        ensures read_call { ReadCall R.left R.failures R.same self.old self.new result (Reads target.new result) }
         ensures bound { IfOk result (λ count. count ≤ length target.new) }
         ensures failed { IfErr result (λ fault. fault ≡ ReadFailed) }
     {
@@ -178,7 +179,7 @@ impl<R: BytesIn> BufferedReader<R> {
 
     /// The next byte; none at the end of the input.
     pub fn next_byte(&mut self) -> Result<Option<u8>, InputFault>
-        ensures { Turn R.left R.failures R.same self.old self.new result (IsByte result) }
+        ensures { ReadCall R.left R.failures R.same self.old self.new result (IsByte result) }
     {
         self.fill(1)?;
         match self.bytes().first() {

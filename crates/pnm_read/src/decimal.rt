@@ -32,6 +32,7 @@ pub struct DecimalScanner {
 impl DecimalScanner {
     ghost use Rattle.pnm_read.specs.Scanners.{IsDecimalAfter, JudgesDecimal, PushesDecimal};
 
+    /// Before the first byte.
     pub fn new() -> DecimalScanner
         ensures { IsDecimalAfter result [] }
     {

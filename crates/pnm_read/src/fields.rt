@@ -11,7 +11,7 @@ ghost use Rattle.pnm_read.specs.PamScanners.{IsFields, JudgesLine, SetsOnce, Set
 use crate::fault::InputFault;
 use crate::header::fault_of_head;
 use crate::judgement::Judgement;
-use crate::line::{Field, LineKind, number_of, split_token, trimmed};
+use crate::line::{Field, LineKind, number_of, split_token, trim};
 use pnm_image::limits::MAX_TUPLE_TYPE_LENGTH;
 use pnm_image::{Head, Kind, Shape};
 use std::alloc::Global;
@@ -27,6 +27,7 @@ pub struct Fields {
 }
 
 impl Fields {
+    /// No field has come.
     pub fn new(alloc: Global) -> Fields
         ensures { IsFields result [] }
     {
@@ -61,7 +62,7 @@ impl Fields {
         match LineKind::of(token) {
             LineKind::Nothing => Judgement::GoesOn,
             LineKind::Number(field) => self.set_number(field, rest),
-            LineKind::TupleType => self.add_tuple_type(trimmed(rest)),
+            LineKind::TupleType => self.add_tuple_type(trim(rest)),
             LineKind::End => Judgement::EndsWith,
             LineKind::Unknown => Judgement::Fails(InputFault::BadPamLine),
         }

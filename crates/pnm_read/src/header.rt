@@ -8,7 +8,7 @@ ghost use Rattle.pnm_image.specs.Texts.{is_digit};
 ghost use Rattle.pnm_read.specs.Formats.{shape_of, number_count, planes};
 ghost use Rattle.pnm_read.specs.Items.{fault_of_head, numbers_item};
 ghost use Rattle.pnm_read.specs.Said.{format_at, pnm_head_at, head_at};
-ghost use Rattle.pnm_read.specs.BufferedReaders.{Turn, Finds};
+ghost use Rattle.pnm_read.specs.BufferedReaders.{ReadCall, Finds};
 ghost use Rattle.pnm_read.specs.Magics.{format_named};
 ghost use Rattle.pnm_read.specs.Saturation.{IsNumbers, GivesInMemory};
 
@@ -25,12 +25,13 @@ use std::alloc::Global;
 /// The bytes of a header after its magic, at most: 65,536 with the magic.
 const HEADER_LIMIT: usize = 65_534;
 
-/// The format that the input's magic names. A plain one may come first alone.
+/// The format that the input's magic names, or the text's fault there, or `ReadFailed`. A plain one may come first
+/// alone.
 pub fn read_format<R: BytesIn>(
     input: &mut BufferedReader<R>,
     is_first: bool,
 ) -> Result<Format, InputFault>
-    ensures { Turn R.left R.failures R.same input.old input.new result (Finds (format_at is_first) result) }
+    ensures { ReadCall R.left R.failures R.same input.old input.new result (Finds (format_at is_first) result) }
 {
     match input.next_byte()? {
         Some(b'P') => {}
@@ -56,12 +57,13 @@ fn format_named(byte: u8, is_first: bool) -> Result<Format, InputFault>
     Ok(format)
 }
 
-/// The head that follows the magic. It takes the header through its last byte.
+/// The head that follows the magic, or the text's fault there, `ReadFailed` or `Memory`. It takes the header through
+/// its last byte.
 pub fn read_head<R: BytesIn>(
     input: &mut BufferedReader<R>,
     format: Format,
 ) -> Result<Head, InputFault>
-    ensures { Turn R.left R.failures R.same input.old input.new result (Finds (head_at format) result) }
+    ensures { ReadCall R.left R.failures R.same input.old input.new result (Finds (head_at format) result) }
 {
     match format.kind {
         Kind::Bit | Kind::Gray | Kind::Color => read_pnm_head(input, format.kind),
@@ -94,7 +96,7 @@ fn ends_within(kind: Kind, bytes: &[u8]) -> bool {
 
 /// The head of PBM, PGM or PPM. It takes the header through its last byte, the delimiter.
 fn read_pnm_head<R: BytesIn>(input: &mut BufferedReader<R>, kind: Kind) -> Result<Head, InputFault>
-    ensures { Turn R.left R.failures R.same input.old input.new result (Finds (pnm_head_at kind) result) }
+    ensures { ReadCall R.left R.failures R.same input.old input.new result (Finds (pnm_head_at kind) result) }
 {
     let mut header = HeaderScanner::new(number_count(kind));
     scan(input, &mut header)?;

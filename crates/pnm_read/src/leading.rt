@@ -145,7 +145,7 @@ fn short_number_first(bytes: &[u8]) -> Option<(u32, usize)>
     Some(([of_one, of_two, of_three][more], more + 1))
 }
 
-/// The number of at most five digits that comes first, likewise.
+/// The number of at most five digits that comes first, if white space follows, and how many digits it has.
 fn number_first(bytes: &[u8]) -> Option<(u32, usize)>
     ensures { IfSome result (λ found. IsNumberFirst bytes.now found.0 found.1) }
 {

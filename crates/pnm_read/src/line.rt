@@ -63,7 +63,7 @@ pub fn split_token(line: &[u8]) -> (&[u8], &[u8])
 }
 
 /// The text without white space at its ends.
-pub fn trimmed(text: &[u8]) -> &[u8]
+pub fn trim(text: &[u8]) -> &[u8]
     ensures { result.now ≡ trimmed_end (trimmed_start text.now) }
 {
     trimmed_end(trimmed_start(text))

@@ -3,7 +3,7 @@
 ghost use Rattle.std.specs.Prelude.{◌≡◌, ◌≤◌, ◌-◌, []};
 ghost use Rattle.pnm_read.specs.Items.{line_feed_item};
 ghost use Rattle.pnm_read.specs.Said.{pam_head_at};
-ghost use Rattle.pnm_read.specs.BufferedReaders.{Turn, Finds, Passes};
+ghost use Rattle.pnm_read.specs.BufferedReaders.{ReadCall, Finds, Passes};
 
 use crate::buffered_reader::BufferedReader;
 use crate::fault::InputFault;
@@ -16,10 +16,11 @@ use std::alloc::Global;
 /// The bytes of a header after its magic and the LF, at most: 65,536 with them.
 const PAM_LIMIT: usize = 65_533;
 
-/// The head that follows the magic. It takes the header through the LF of its line ENDHDR.
+/// The head that follows the magic, or the text's fault there, `ReadFailed` or `Memory`. It takes the header through
+/// the LF of its line ENDHDR.
 #[tactic(auto, unfolding(crate::specs::Said::pam_head_at))]
 pub fn read_head<R: BytesIn>(input: &mut BufferedReader<R>) -> Result<Head, InputFault>
-    ensures { Turn R.left R.failures R.same input.old input.new result (Finds pam_head_at result) }
+    ensures { ReadCall R.left R.failures R.same input.old input.new result (Finds pam_head_at result) }
 {
     read_line_feed(input)?;
     let mut header = PamScanner::new(input.allocator());
@@ -38,7 +39,7 @@ pub fn has_last_line(bytes: &[u8]) -> bool {
 /// The LF after the magic.
 #[tactic(auto, unfolding(crate::specs::Items::line_feed_item))]
 fn read_line_feed<R: BytesIn>(input: &mut BufferedReader<R>) -> Result<(), InputFault>
-    ensures { Turn R.left R.failures R.same input.old input.new result (Passes line_feed_item result) }
+    ensures { ReadCall R.left R.failures R.same input.old input.new result (Passes line_feed_item result) }
 {
     match input.next_byte()? {
         Some(b'\n') => Ok(()),

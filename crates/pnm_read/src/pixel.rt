@@ -25,6 +25,7 @@ pub struct PixelScanner {
 impl PixelScanner {
     ghost use Rattle.pnm_read.specs.Scanners.{IsPixelAfter, JudgesPixel};
 
+    /// Before the first byte.
     pub fn new() -> PixelScanner
         ensures { IsPixelAfter result [] }
     {

@@ -5,7 +5,7 @@ ghost use Rattle.pnm_image.specs.declared.limits.TheConstants.{MAX_MAXVAL};
 ghost use Rattle.pnm_image.specs.Heads.{row_length};
 ghost use Rattle.pnm_read.specs.Items.{plain_pixel, plain_decimal, plain_sample, after_last_item};
 ghost use Rattle.pnm_read.specs.Said.{plain_row, row_in_form};
-ghost use Rattle.pnm_read.specs.BufferedReaders.{Turn, Finds, Passes};
+ghost use Rattle.pnm_read.specs.BufferedReaders.{ReadCall, Finds, Passes};
 
 use crate::buffered_reader::BufferedReader;
 use crate::comments::is_apart;
@@ -17,14 +17,15 @@ use crate::scan::scan;
 use pnm_image::{BytesIn, Kind, SampleVec, Samples, Shape};
 use pnm_samples::greatest;
 
-/// The next row, after which so many others are to come.
+/// The next row, after which so many others are to come, or the text's fault there, `ReadFailed` or `Memory`.
 pub fn read_row<R: BytesIn>(
     input: &mut BufferedReader<R>,
     shape: Shape,
     more: u32,
 ) -> Result<Samples, InputFault>
     requires { shape.maxval ≤ MAX_MAXVAL }
-    ensures { Turn R.left R.failures R.same input.old input.new result (Finds (row_in_form true shape more) result) }
+    ensures { ReadCall R.left R.failures R.same input.old input.new result
+        (Finds (row_in_form true shape more) result) }
 {
     let row = read_samples(input, shape)?;
     if more == 0 {
@@ -40,7 +41,7 @@ fn read_samples<R: BytesIn>(
     shape: Shape,
 ) -> Result<Samples, InputFault>
     requires { shape.maxval ≤ MAX_MAXVAL }
-    ensures { Turn R.left R.failures R.same input.old input.new result (Finds (plain_row shape) result) }
+    ensures { ReadCall R.left R.failures R.same input.old input.new result (Finds (plain_row shape) result) }
 {
     let length = shape.row_length() as usize;
     let Ok(mut row) = Vec::with_capacity(input.allocator(), length) else {
@@ -70,7 +71,7 @@ fn read_sample<R: BytesIn>(
     maxval: u32,
 ) -> Result<u16, InputFault>
     requires { maxval ≤ MAX_MAXVAL }
-    ensures { Turn R.left R.failures R.same input.old input.new result (Finds (plain_sample kind maxval) result) }
+    ensures { ReadCall R.left R.failures R.same input.old input.new result (Finds (plain_sample kind maxval) result) }
 {
     match kind {
         Kind::Bit => read_pixel(input),
@@ -81,7 +82,7 @@ fn read_sample<R: BytesIn>(
 /// The next pixel as a sample.
 #[tactic(auto, unfolding(crate::specs::Items::plain_pixel))]
 fn read_pixel<R: BytesIn>(input: &mut BufferedReader<R>) -> Result<u16, InputFault>
-    ensures { Turn R.left R.failures R.same input.old input.new result (Finds plain_pixel result) }
+    ensures { ReadCall R.left R.failures R.same input.old input.new result (Finds plain_pixel result) }
 {
     let mut pixel = PixelScanner::new();
     scan(input, &mut pixel)?;
@@ -92,7 +93,7 @@ fn read_pixel<R: BytesIn>(input: &mut BufferedReader<R>) -> Result<u16, InputFau
 #[tactic(auto, unfolding(crate::specs::Items::plain_decimal))]
 fn read_decimal<R: BytesIn>(input: &mut BufferedReader<R>, maxval: u32) -> Result<u16, InputFault>
     requires { maxval ≤ MAX_MAXVAL }
-    ensures { Turn R.left R.failures R.same input.old input.new result (Finds (plain_decimal maxval) result) }
+    ensures { ReadCall R.left R.failures R.same input.old input.new result (Finds (plain_decimal maxval) result) }
 {
     let mut number = DecimalScanner::new();
     scan(input, &mut number)?;
@@ -106,7 +107,7 @@ fn read_decimal<R: BytesIn>(input: &mut BufferedReader<R>, maxval: u32) -> Resul
 /// After the last sample the input ends, or goes on with white space or a comment.
 #[tactic(auto, unfolding(crate::specs::Items::after_last_item))]
 fn check_end<R: BytesIn>(input: &mut BufferedReader<R>) -> Result<(), InputFault>
-    ensures { Turn R.left R.failures R.same input.old input.new result (Passes after_last_item result) }
+    ensures { ReadCall R.left R.failures R.same input.old input.new result (Passes after_last_item result) }
 {
     input.fill(1)?;
     match input.bytes().first() {

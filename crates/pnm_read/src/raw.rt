@@ -5,7 +5,7 @@ ghost use Rattle.pnm_image.specs.declared.limits.TheConstants.{MAX_SIDE};
 ghost use Rattle.pnm_image.specs.SampleWidths.{sample_width_of};
 ghost use Rattle.pnm_image.specs.declared.sample_width.SampleWidth.TheVariants.{Words};
 ghost use Rattle.pnm_read.specs.Said.{raw_row, units_in_row};
-ghost use Rattle.pnm_read.specs.BufferedReaders.{Turn, Finds, held_of};
+ghost use Rattle.pnm_read.specs.BufferedReaders.{ReadCall, Finds, held_of};
 ghost use Rattle.pnm_read.specs.RawParts.{FindsUnits, FindsPart};
 ghost use Rattle.pnm_read.specs.Units.{samples_of_bytes, AreBytesWithin};
 
@@ -25,7 +25,7 @@ pub fn read_row<R: BytesIn>(
     requires width { shape.width ≤ MAX_SIDE }
     requires units { units ≡ units_in_row sample_width shape }
     requires sample_width { sample_width ≡ sample_width_of shape.kind shape.maxval }
-    ensures { Turn R.left R.failures R.same input.old input.new result (Finds (raw_row shape) result) }
+    ensures { ReadCall R.left R.failures R.same input.old input.new result (Finds (raw_row shape) result) }
 {
     let length = shape.row_length() as usize;
     match sample_width {
@@ -65,7 +65,7 @@ fn read_bytes<R: BytesIn>(
     requires count { count ≡ units_in_row sample_width shape }
     requires sample_width { sample_width ≡ sample_width_of shape.kind shape.maxval }
     requires bytes { sample_width ≡ Words → ⊥ }
-    ensures found { Turn R.left R.failures R.same input.old input.new result
+    ensures found { ReadCall R.left R.failures R.same input.old input.new result
         (FindsUnits (λ row. samples_of_bytes sample_width row.items) shape result) }
     ensures within { IfOk result (λ row. AreBytesWithin sample_width shape.maxval row.items) }
 {
@@ -87,7 +87,7 @@ fn read_parts<R: BytesIn>(
     requires count { count ≡ units_in_row sample_width shape }
     requires sample_width { sample_width ≡ sample_width_of shape.kind shape.maxval }
     requires bytes { sample_width ≡ Words → ⊥ }
-    ensures found { Turn R.left R.failures R.same input.old input.new result
+    ensures found { ReadCall R.left R.failures R.same input.old input.new result
         (FindsUnits (λ row. samples_of_bytes sample_width row.items) shape result) }
     ensures within { IfOk result (λ row. AreBytesWithin sample_width shape.maxval row.items) }
 {
@@ -113,7 +113,7 @@ fn take_bytes<R: BytesIn>(
     requires count { count ≡ units_in_row sample_width shape }
     requires sample_width { sample_width ≡ sample_width_of shape.kind shape.maxval }
     requires bytes { sample_width ≡ Words → ⊥ }
-    ensures found { Turn R.left R.failures R.same input.old input.new result
+    ensures found { ReadCall R.left R.failures R.same input.old input.new result
         (FindsUnits (λ row. samples_of_bytes sample_width row.items) shape result) }
     ensures within { IfOk result (λ row. AreBytesWithin sample_width shape.maxval row.items) }
 {
@@ -136,7 +136,7 @@ fn read_part<R: BytesIn>(
 ) -> Result<usize, InputFault>
     requires target { 0 < length target.old }
     requires bytes { sample_width ≡ Words → ⊥ }
-    ensures found { Turn R.left R.failures R.same input.old input.new result
+    ensures found { ReadCall R.left R.failures R.same input.old input.new result
         (FindsPart sample_width maxval (length target.old) []
         (λ count. samples_of_bytes sample_width (take count target.new)) result) }
     ensures count { IfOk result (λ count. (0 < count) × (count ≤ length target.new)) }
@@ -159,7 +159,7 @@ fn read_words<R: BytesIn>(
 ) -> Result<Vec<u16>, InputFault>
     requires width { shape.width ≤ MAX_SIDE }
     requires sample_width { Words ≡ sample_width_of shape.kind shape.maxval }
-    ensures found { Turn R.left R.failures R.same input.old input.new result
+    ensures found { ReadCall R.left R.failures R.same input.old input.new result
         (FindsUnits (λ row. row.items) shape result) }
     ensures within { IfOk result (λ row. All (λ sample. sample ≤ shape.maxval) row.items) }
 {
@@ -182,7 +182,7 @@ fn append_part<R: BytesIn>(
     row: &mut Vec<u16>,
 ) -> Result<usize, InputFault>
     requires { 0 < most }
-    ensures found { Turn R.left R.failures R.same input.old input.new result
+    ensures found { ReadCall R.left R.failures R.same input.old input.new result
         (FindsPart Words maxval most row.old.items (λ _. row.new.items) result) }
     ensures count { IfOk result (λ count. (0 < count) × (count ≤ most)) }
     ensures within { All (λ sample. sample ≤ maxval) row.old.items

@@ -7,7 +7,7 @@ ghost use Rattle.pnm_read.specs.declared.judgement.Judgement.{Judgement as Judge
 ghost use Rattle.pnm_read.specs.declared.judgement.Judgement.TheVariants.{GoesOn, Fails};
 ghost use Rattle.pnm_read.specs.declared.fault.InputFault.TheVariants.{ReadFailed, Memory};
 ghost use Rattle.pnm_read.specs.Scans.{JudgesByte, JudgesEnd, Feeds, Scans};
-ghost use Rattle.pnm_read.specs.BufferedReaders.{Turn};
+ghost use Rattle.pnm_read.specs.BufferedReaders.{ReadCall};
 
 use crate::buffered_reader::BufferedReader;
 use crate::fault::InputFault;
@@ -55,7 +55,7 @@ pub fn scan<R: BytesIn, S: Scanner>(
     input: &mut BufferedReader<R>,
     scanner: &mut S,
 ) -> Result<(), InputFault>
-    ensures { Turn R.left R.failures R.same input.old input.new result
+    ensures { ReadCall R.left R.failures R.same input.old input.new result
         (Scans (S.item scanner.old) (S.at_end scanner.old) (S.is_after scanner.old) (S.is_whole scanner.new) result) }
 {
     loop {

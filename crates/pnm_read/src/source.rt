@@ -8,7 +8,7 @@ ghost use Rattle.pnm_image.specs.declared.message.Message.TheVariants.{ImageEnd,
 ghost use Rattle.pnm_read.specs.declared.fault.InputFault.{InputFault as Fault};
 ghost use Rattle.pnm_read.specs.declared.fault.InputFault.TheVariants.{ReadFailed, Memory};
 ghost use Rattle.pnm_read.specs.declared.source.Awaited.{Awaited as AwaitedValue};
-ghost use Rattle.pnm_read.specs.BufferedReaders.{Turn, Finds};
+ghost use Rattle.pnm_read.specs.BufferedReaders.{ReadCall, Finds};
 ghost use Rattle.pnm_read.specs.Awaiting.{awaited_after, row_of, HasRow, AnswersNext, Steps, StepsAtStart, SeesText};
 
 use crate::buffered_reader::{BufferedReader, ReadBuffer};
@@ -139,7 +139,7 @@ impl<R: BytesIn> Source<R> {
     /// The next message, before the end of the stream and any fault.
     fn go_on(&mut self, awaited: Awaited) -> Result<Option<Message>, InputFault>
         requires { self.old.state ≡ State.Awaits awaited }
-        ensures turn { Turn R.left R.failures R.same self.old.input self.new.input result
+        ensures read_call { ReadCall R.left R.failures R.same self.old.input self.new.input result
             (AnswersNext awaited result self.new.state) }
         ensures stopped { IfErr result (λ fault. stopped_by self.new ≡ Some fault) }
     {
@@ -161,8 +161,8 @@ impl<R: BytesIn> Source<R> {
     /// The next row of a raster that has one.
     fn give_row(&mut self) -> Result<Option<Message>, InputFault>
         requires { HasRow self.old.state }
-        ensures turn { (awaited : AwaitedValue) → self.old.state ≡ State.Awaits awaited
-            → Turn R.left R.failures R.same self.old.input self.new.input result
+        ensures read_call { (awaited : AwaitedValue) → self.old.state ≡ State.Awaits awaited
+            → ReadCall R.left R.failures R.same self.old.input self.new.input result
             (AnswersNext awaited result self.new.state) }
         ensures stopped { IfErr result (λ fault. stopped_by self.new ≡ Some fault) }
     {
@@ -206,7 +206,7 @@ fn has_row(state: &State) -> bool
 /// The next message where this is awaited and no row is, and the state after it.
 fn step_at<R: BytesIn>(input: &mut BufferedReader<R>, awaited: Awaited) -> Result<Step, InputFault>
     requires { HasRow (State.Awaits awaited) → ⊥ }
-    ensures { Turn R.left R.failures R.same input.old input.new result (Steps awaited result) }
+    ensures { ReadCall R.left R.failures R.same input.old input.new result (Steps awaited result) }
 {
     match awaited {
         Awaited::FirstImage => begin(input, true),
@@ -230,7 +230,7 @@ fn holds_at<R: BytesIn>(input: &BufferedReader<R>, awaited: Awaited) -> bool {
 
 /// The head of an image, which is the first of the stream or comes after a raw one.
 fn begin<R: BytesIn>(input: &mut BufferedReader<R>, is_first: bool) -> Result<Step, InputFault>
-    ensures { Turn R.left R.failures R.same input.old input.new result (StepsAtStart is_first result) }
+    ensures { ReadCall R.left R.failures R.same input.old input.new result (StepsAtStart is_first result) }
 {
     let format = read_format(input, is_first)?;
     let head = read_head(input, format)?;
@@ -269,7 +269,7 @@ fn read_row<R: BytesIn>(
     raster: &Raster,
 ) -> Result<Samples, InputFault>
     requires { raster.now.y < raster.now.shape.height }
-    ensures { Turn R.left R.failures R.same input.old input.new result
+    ensures { ReadCall R.left R.failures R.same input.old input.new result
         (Finds (row_of raster.now) result) }
 {
     if raster.format.is_plain() {
@@ -281,7 +281,7 @@ fn read_row<R: BytesIn>(
 
 /// What follows a raw image: the next one, or the end of the stream where no byte is left.
 fn follow<R: BytesIn>(input: &mut BufferedReader<R>) -> Result<Step, InputFault>
-    ensures { Turn R.left R.failures R.same input.old input.new result (Steps Awaited.ImageOrEnd result) }
+    ensures { ReadCall R.left R.failures R.same input.old input.new result (Steps Awaited.ImageOrEnd result) }
 {
     if is_at_end(input)? {
         return Ok(stream_end());
@@ -302,7 +302,7 @@ fn stream_end() -> Step
 
 /// Whether no byte is left.
 fn is_at_end<R: BytesIn>(input: &mut BufferedReader<R>) -> Result<bool, InputFault>
-    ensures { Turn R.left R.failures R.same input.old input.new result (SeesText result) }
+    ensures { ReadCall R.left R.failures R.same input.old input.new result (SeesText result) }
 {
     input.fill(1)?;
     Ok(input.bytes().is_empty())

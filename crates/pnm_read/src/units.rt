@@ -11,7 +11,8 @@ use crate::fault::InputFault;
 use pnm_image::{SampleWidth, Shape};
 use pnm_samples::{are_bytes_within, are_words_within};
 
-/// Appends samples of two bytes. The loop over them is vector code.
+/// Appends samples of two bytes; `Memory` where there is none for them, `SampleAboveMaxval` where one is above the
+/// maxval. The loop over them is vector code.
 pub fn append_wide(bytes: &[u8], maxval: u32, row: &mut Vec<u16>) -> Result<(), InputFault>
     ensures { AppendsWide maxval bytes.now row.old.items row.new.items result }
 {

@@ -5,9 +5,9 @@
 //! |---|---|
 //! | `text TEXT` | the answers, which are the same however few bytes a read gives, and no read follows one that gave
 //! none |
-//! | `long TEXT` | the same of a long text, whole and 4,097 bytes a read |
+//! | `long TEXT` | the answers to a long text, whole and 4,097 bytes a read |
 //! | `cuts TEXT` | the answers to each prefix of the text, by the length from which on they are those |
-//! | `fails TEXT` | the same where a read of a byte each fails, by its number |
+//! | `fails TEXT` | the answers where a read of a byte each fails, by its number |
 //! | `reads MOST FAILING TEXT` | the answers, and what each read asked for and got: at most MOST bytes, and nothing at
 //! read FAILING |
 //! | `ahead COUNT TEXT` | how many reads of a byte each were made before the first answer, and after each |

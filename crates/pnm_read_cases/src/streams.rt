@@ -25,8 +25,8 @@ pub fn tell_streams(
     for first in images {
         for second in images {
             add_cuts(alloc, &mut cut, first.as_slice(), second.as_slice())?;
-            let (prefix, back) = (first.as_slice(), second.as_slice());
-            add_each(alloc, &mut parted, every.as_slice(), prefix, back)?;
+            let (prefix, suffix) = (first.as_slice(), second.as_slice());
+            add_each(alloc, &mut parted, every.as_slice(), prefix, suffix)?;
             for third in images {
                 let texts = [first.as_slice(), second.as_slice(), third.as_slice()];
                 add_text(alloc, &mut three, joined(alloc, &texts)?.as_slice())?;

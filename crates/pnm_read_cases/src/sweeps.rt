@@ -51,24 +51,24 @@ fn tell_sweep(
     let mut sweep = Sweep::new();
     for at in 0..=text.len().saturating_sub(replaced) {
         let (prefix, rest) = text.split_at(at.min(text.len()));
-        let back = rest.get(replaced..).unwrap_or(&[]);
-        add_each(alloc, &mut sweep, set.as_slice(), prefix, back)?;
+        let suffix = rest.get(replaced..).unwrap_or(&[]);
+        add_each(alloc, &mut sweep, set.as_slice(), prefix, suffix)?;
     }
     sweep.tell(told)
 }
 
-/// Adds the prefix and the back with each of these bytes between them.
+/// Adds the prefix and the suffix with each of these bytes between them.
 pub fn add_each(
     alloc: Global,
     sweep: &mut Sweep,
     set: &[u8],
     prefix: &[u8],
-    back: &[u8],
+    suffix: &[u8],
 ) -> Result<(), AllocError> {
     for byte in set {
         let mut text = Vec::from_slice(alloc, prefix)?;
         text.push(*byte)?;
-        text.extend_from_slice(back)?;
+        text.extend_from_slice(suffix)?;
         add_text(alloc, sweep, text.as_slice())?;
     }
     Ok(())

@@ -1,5 +1,5 @@
 -- The pixels of a row that is held as bits.
-use Rattle.std.proofs.Common.{◌≡◌, ℕ, ◌+◌, ◌-◌, ◌*◌, ◌/◌, ◌%◌, ◌^◌, ◌<◌, ◌≤◌, List, [], ◌∷◌, ◌++◌, length, get_or, min, take, drop, map, sym, ap, ap₂, ◌∙◌}
+use Rattle.std.proofs.Common.{◌≡◌, ℕ, ◌+◌, ◌-◌, ◌*◌, ◌/◌, ◌%◌, ◌<◌, ◌≤◌, List, ◌++◌, length, get_or, min, take, drop, map, sym, ap, ap₂, ◌∙◌}
 use Rattle.std.proofs.Common.{arith, All}
 use Rattle.std.proofs.lemmas.List.{length-take, get_or_append_left, get_or-drop, get_or-take, take-append-le, drop_more, drop-take, take-take, take-map}
 use Rattle.std.proofs.lemmas.List.{get_or_default, take_min}

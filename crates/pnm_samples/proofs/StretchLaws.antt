@@ -2,7 +2,6 @@
 use Rattle.std.proofs.Common.{◌≡◌, ℕ, zero, suc, ◌+◌, ◌-◌, ◌*◌, ◌/◌, ◌%◌, ◌<◌, ◌≤◌, true, List, [], ◌∷◌, ◌++◌, length, get_or, set, min, inl, inr, take, drop}
 use Rattle.std.proofs.Common.{replicate, refl, sym, ap, ap₂, subst, ◌∙◌, arith, length-append, take-add}
 use Rattle.std.specs.Prelude.{bit_or}
-use Rattle.std.specs.Int.{bit_at}
 use Rattle.std.proofs.lemmas.Bool.{agree_below_at, cases_lt}
 use Rattle.std.proofs.lemmas.Nat.Bits.{bit_at_or}
 use Rattle.std.proofs.lemmas.Grind.{flat_map-append}
@@ -16,7 +15,7 @@ use lib.Lanes.{zip2}
 use Rattle.pnm_samples.specs.Pixels.{pixel_at, pixels, all_pixels}
 use Rattle.pnm_samples.specs.Stretches.{AreStretched, stride}
 use Rattle.pnm_samples.proofs.MirrorLaws.{same_list, same_from_test}
-use Rattle.pnm_samples.proofs.PixelLaws.{length-pixels, get_or-pixels, length-all_pixels, take-all_pixels, all_pixels-append, all_pixels-push, held_before}
+use Rattle.pnm_samples.proofs.PixelLaws.{length-pixels, length-all_pixels, take-all_pixels, all_pixels-append, all_pixels-push, held_before}
 use Rattle.pnm_samples.proofs.PixelLaws.{written_to_end}
 use Rattle.pnm_samples.proofs.RepeatLaws.{repeated, plain, repeated_step, repeated_view, white_byte}
 

@@ -4,7 +4,7 @@ ghost use Rattle.std.specs.Prelude.{◌≡◌, ℕ, ◌+◌, ◌-◌, ◌*◌, �
 ghost use Rattle.std.specs.Prelude.{drop, map, replicate, OnOk, OnErr, IfOk, IsTrue, ◌↔◌, All, slice_index};
 ghost use Rattle.pnm_samples.specs.Pixels.{pixel_at, pixels, all_pixels, ArePacked, AreBytes, packed_bytes};
 
-use crate::widths::widened;
+use crate::widths::bytes_to_words;
 use std::alloc::{AllocError, Global};
 use std::marker::Model;
 
@@ -122,10 +122,10 @@ impl Bits {
     /// # Errors
     ///
     /// Where there is no memory for them.
-    pub fn widened(&self, alloc: Global) -> Result<Vec<u16>, AllocError>
+    pub fn to_words(&self, alloc: Global) -> Result<Vec<u16>, AllocError>
         ensures { IfOk result (λ words. words.items ≡ self.now) }
     {
-        widened(alloc, self.unpacked(alloc)?.as_slice())
+        bytes_to_words(alloc, self.to_bytes(alloc)?.as_slice())
     }
 
     /// The samples, a byte each.
@@ -133,7 +133,7 @@ impl Bits {
     /// # Errors
     ///
     /// Where there is no memory for them.
-    pub fn unpacked(&self, alloc: Global) -> Result<Vec<u8>, AllocError>
+    pub fn to_bytes(&self, alloc: Global) -> Result<Vec<u8>, AllocError>
         ensures { IfOk result (λ bytes. bytes.items ≡ self.now) }
     {
         let mut bytes = all_samples(alloc, self.bytes.as_slice())?;
@@ -160,7 +160,7 @@ impl Bits {
         ensures failed { OnErr result (self.new ≡ self.old) }
     {
         let held = self.count;
-        if held >= MOST || from.count >= MOST {
+        if held >= PIXELS_BEYOND_MEMORY || from.count >= PIXELS_BEYOND_MEMORY {
             return Err(AllocError);
         }
         self.bytes.resize((held + count).div_ceil(8), 0)?;
@@ -178,7 +178,7 @@ impl Bits {
 }
 
 /// More pixels than there is memory for.
-const MOST: usize = 4_611_686_018_427_387_904;
+const PIXELS_BEYOND_MEMORY: usize = 4_611_686_018_427_387_904;
 
 /// The bytes, of which it is known then that each one is below 256.
 fn bytes_of(bytes: &[u8]) -> &[u8]
@@ -250,7 +250,7 @@ fn window(high: u8, low: u8, skipped: u32) -> u8
 
 /// The byte with all pixels white but the first ones.
 #[inline]
-fn whitened(byte: u8, kept: u32) -> u8
+fn whiten_spare(byte: u8, kept: u32) -> u8
     requires { kept < 8 }
     ensures { pixels result ≡ take kept (pixels byte) ++ replicate (8 - kept) 1 }
 {
@@ -265,7 +265,7 @@ fn clear_spare(bytes: &mut [u8], count: usize)
 {
     let whole = count / 8;
     if whole < bytes.len() {
-        bytes[whole] = whitened(bytes[whole], (count % 8) as u32);
+        bytes[whole] = whiten_spare(bytes[whole], (count % 8) as u32);
     }
 }
 

@@ -5,6 +5,7 @@ ghost use Rattle.std.specs.Prelude.{◌≡◌, ◌≤◌, ◌-◌, ℕ};
 /// A sample that is held as a byte or as a word, for the loops that count with samples. What only
 /// moves samples needs `Copy` alone.
 pub trait Sample: Copy {
+    /// The number that it is.
     ghost value: { Self → ℕ };
 
     /// What is left of the maxval.

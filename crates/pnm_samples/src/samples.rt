@@ -6,7 +6,7 @@ ghost use Rattle.pnm_samples.specs.SampleVecs.{samples_of, slice_samples};
 use crate::bits::Bits;
 use crate::bounds::{GREATEST_BYTE, GREATEST_WORD, are_bytes_within, are_words_within};
 use crate::packing::pack;
-use crate::widths::{narrowed, widened};
+use crate::widths::{bytes_to_words, words_to_bytes};
 use std::alloc::{AllocError, Global};
 use std::marker::Model;
 
@@ -155,8 +155,11 @@ impl Samples {
     {
         match self.held {
             SampleVec::Bits(bits) => Ok(bits),
-            SampleVec::Bytes(bytes) => packed(alloc, widened(alloc, bytes.as_slice())?.as_slice()),
-            SampleVec::Words(words) => packed(alloc, words.as_slice()),
+            SampleVec::Bytes(bytes) => pack_bits(
+                alloc,
+                bytes_to_words(alloc, bytes.as_slice())?.as_slice(),
+            ),
+            SampleVec::Words(words) => pack_bits(alloc, words.as_slice()),
         }
     }
 
@@ -170,9 +173,9 @@ impl Samples {
         ensures { IfOk result (λ bytes. bytes.items ≡ self) }
     {
         match self.held {
-            SampleVec::Bits(bits) => bits.unpacked(alloc),
+            SampleVec::Bits(bits) => bits.to_bytes(alloc),
             SampleVec::Bytes(bytes) => Ok(bytes),
-            SampleVec::Words(words) => narrowed(alloc, words.as_slice()),
+            SampleVec::Words(words) => words_to_bytes(alloc, words.as_slice()),
         }
     }
 
@@ -185,8 +188,8 @@ impl Samples {
         ensures { IfOk result (λ words. words.items ≡ self) }
     {
         match self.held {
-            SampleVec::Bits(bits) => bits.widened(alloc),
-            SampleVec::Bytes(bytes) => widened(alloc, bytes.as_slice()),
+            SampleVec::Bits(bits) => bits.to_words(alloc),
+            SampleVec::Bytes(bytes) => bytes_to_words(alloc, bytes.as_slice()),
             SampleVec::Words(words) => Ok(words),
         }
     }
@@ -200,8 +203,8 @@ impl Samples {
         ensures { IfOk result (λ words. words.items ≡ self.now) }
     {
         match &self.held {
-            SampleVec::Bits(bits) => bits.widened(alloc),
-            SampleVec::Bytes(bytes) => widened(alloc, bytes.as_slice()),
+            SampleVec::Bits(bits) => bits.to_words(alloc),
+            SampleVec::Bytes(bytes) => bytes_to_words(alloc, bytes.as_slice()),
             SampleVec::Words(words) => Vec::from_slice(alloc, words.as_slice()),
         }
     }
@@ -250,7 +253,7 @@ fn word_bound(words: &[u16]) -> u32
 }
 
 /// Pixels as bits.
-fn packed(alloc: Global, pixels: &[u16]) -> Result<Bits, AllocError>
+fn pack_bits(alloc: Global, pixels: &[u16]) -> Result<Bits, AllocError>
     requires { All (λ sample. sample ≤ 1) pixels.now }
     ensures { IfOk result (λ bits. bits ≡ pixels.now) }
 {

@@ -4,8 +4,11 @@ ghost use Rattle.std.specs.Prelude.{◌≡◌, ◌≤◌, All, IfOk};
 
 use std::alloc::{AllocError, Global};
 
-/// Words as bytes.
-pub fn narrowed(alloc: Global, words: &[u16]) -> Result<Vec<u8>, AllocError>
+/// Words, each at most 255, as bytes, a byte a sample.
+///
+/// # Errors
+/// Where there is no memory for them.
+pub fn words_to_bytes(alloc: Global, words: &[u16]) -> Result<Vec<u8>, AllocError>
     requires { All (λ sample. sample ≤ 255) words.now }
     ensures { IfOk result (λ bytes. bytes.items ≡ words.now) }
 {
@@ -16,8 +19,11 @@ pub fn narrowed(alloc: Global, words: &[u16]) -> Result<Vec<u8>, AllocError>
     Ok(bytes)
 }
 
-/// Bytes as words. The buffer is there first, so that nothing is asked for again where there is none.
-pub fn widened(alloc: Global, bytes: &[u8]) -> Result<Vec<u16>, AllocError>
+/// Bytes as words, a word a sample. The buffer is there first, so that nothing is asked for again where there is none.
+///
+/// # Errors
+/// Where there is no memory for them.
+pub fn bytes_to_words(alloc: Global, bytes: &[u8]) -> Result<Vec<u16>, AllocError>
     ensures { IfOk result (λ words. words.items ≡ bytes.now) }
 {
     let mut words = Vec::from_elem(alloc, 0, bytes.len())?;

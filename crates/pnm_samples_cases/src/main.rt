@@ -12,7 +12,8 @@
 //! | `columns BYTE COUNT-COUNT HEIGHT-HEIGHT` | a sweep over columns of made images, from a byte on |
 //! | `words SAMPLES`, `bytes SAMPLES`, `pixels COUNT BYTES` | the greatest sample, and whether the row is within
 //! numbers |
-//! | `bound NUMBER` | the same of the row 3, 9, 0, of whose samples this number is a bound |
+//! | `bound NUMBER` | the greatest sample of the row 3, 9, 0, of whose samples this number is a bound, and whether it
+//! is within numbers |
 //! | `left MAXVAL SAMPLE` | what is left of the maxval, of bytes where it is one, and of words |
 //! | `samples WIDTH FIRST-LAST`, `parts WIDTH` | a sweep over made rows of bits, bytes or words, and over parts of one
 //! of 20 samples |

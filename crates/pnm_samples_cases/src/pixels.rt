@@ -13,7 +13,7 @@ fn tell_row(alloc: Global, bits: &Bits, told: &mut String) -> Result<(), AllocEr
         let pixel = bits.pixel(at);
         write!(told, "{pixel}")?;
     }
-    let widened = bits.widened(alloc)?;
+    let widened = bits.to_words(alloc)?;
     for at in 0..bits.len() {
         if widened.get(at).copied() != Some(bits.pixel(at)) {
             told.push_str(" but widened")?;
@@ -129,7 +129,7 @@ pub fn tell_repeated(alloc: Global, text: &[u8], told: &mut String) -> Result<()
     for count in first..=last {
         for times in least..=most {
             let bits = bits_of(alloc, 2, count)?;
-            add_row(alloc, &mut sweep, &bits.repeated(alloc, times)?)?;
+            add_row(alloc, &mut sweep, &bits.repeat(alloc, times)?)?;
         }
     }
     Ok(sweep.tell(told)?)

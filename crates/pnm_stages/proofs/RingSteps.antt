@@ -8,7 +8,7 @@ use Rattle.pnm_image.specs.declared.message.Ending.TheVariants.{More, Whole, Bro
 use Rattle.pnm_stages.specs.declared.sender.Sender.{Sender}
 use Rattle.pnm_stages.specs.declared.receiver.Receiver.{Receiver}
 use Rattle.pnm_tools.proofs.InFullLaws.{EndNothing, ends_after}
-use Rattle.pnm_stages.specs.Rings.{Extends, IsEnded, IsPair, SameProducer, SameConsumer}
+use Rattle.pnm_stages.specs.Rings.{Extends, IsEnded, IsPair, SameSender, SameReceiver}
 
 -- no message of a list that goes on ends it
 pub ends_nothing : (l : List Message) → EndsBy More l → EndNothing l
@@ -51,19 +51,19 @@ says_end a m says (inl whole) = inl (sym says ∙ whole)
 says_end a m says (inr broken) = inr (sym says ∙ broken)
 
 -- both ends of one ring, still
-pub same_input : (a b c : Receiver) → SameConsumer a b → SameConsumer b c → SameConsumer a c
+pub same_input : (a b c : Receiver) → SameReceiver a b → SameReceiver b c → SameReceiver a c
 same_input a b c first second = ((second.0.0 ∙ first.0.0, second.0.1 ∙ first.0.1, second.0.2 ∙ first.0.2, second.0.3 ∙ first.0.3), second.1 ∙ first.1)
 
-pub same_output : (a b c : Sender) → SameProducer a b → SameProducer b c → SameProducer a c
+pub same_output : (a b c : Sender) → SameSender a b → SameSender b c → SameSender a c
 same_output a b c first second = ((second.0.0 ∙ first.0.0, second.0.1 ∙ first.0.1, second.0.2 ∙ first.0.2, second.0.3 ∙ first.0.3), second.1 ∙ first.1)
 
-pub itself_input : (a : Receiver) → SameConsumer a a
+pub itself_input : (a : Receiver) → SameReceiver a a
 itself_input a = ((refl, refl, refl, refl), refl)
 
-pub itself_output : (a : Sender) → SameProducer a a
+pub itself_output : (a : Sender) → SameSender a a
 itself_output a = ((refl, refl, refl, refl), refl)
 
-pub still_pair : (p p' : Sender) (c c' : Receiver) → IsPair p c → SameProducer p p' → SameConsumer c c' → IsPair p' c'
+pub still_pair : (p p' : Sender) (c c' : Receiver) → IsPair p c → SameSender p p' → SameReceiver c c' → IsPair p' c'
 still_pair p p' c c' pair first second = (
   second.0.0 ∙ pair.0 ∙ sym first.0.0,
   second.0.1 ∙ pair.1 ∙ sym first.0.1,

@@ -21,7 +21,7 @@ use Rattle.pnm_stages.specs.declared.fused_filter.FusedFilter.TheVariants.{AtWor
 use Rattle.pnm_stages.specs.declared.stage.StageEnd.{StageEnd}
 use Rattle.pnm_stages.specs.declared.stage.StageEnd.TheVariants.{Well, Broken, PeerGone}
 use Rattle.pnm_stages.specs.Rings.{IsEnded, EndsAtMostOnce, HasDrainedAfter}
-use Rattle.pnm_stages.specs.FusedFilters.{StageAt, StageBusy, refusal_in}
+use Rattle.pnm_stages.specs.FusedFilters.{FilterAt, FilterBusy, refusal_in}
 use Rattle.pnm_stages.specs.Prefixes.{IsPrefixOfDue}
 use Rattle.pnm_stages.specs.Stages.{HasEndedSo, HasRunStage}
 use Rattle.pnm_stages.specs.StageParts.{HasAnsweredPart, HasSentAnswers, HasBrokenOffAfter}
@@ -50,7 +50,7 @@ pub record IsPassing {F : Type 0} (at : F → Tool → List Message → List Mes
   pub sent : s' ≡ s ++ gave
   pub messages : AllByRecursion IsMessage took
   pub ends : EndsBy e took
-  pub stage : (tool : Tool) → StageAt at all_given stopped first tool [] [] → StageAt at all_given stopped now tool took gave
+  pub stage : (tool : Tool) → FilterAt at all_given stopped first tool [] [] → FilterAt at all_given stopped now tool took gave
 
 pub passes_nothing : {F : Type 0} (at : F → Tool → List Message → List Message → Type 0) (all_given : F → Bool) (stopped : F → Option ToolFault)
     (stage : FusedFilter F) (r s : List Message) → IsPassing at all_given stopped More stage stage r r s s
@@ -67,7 +67,7 @@ longer_by a b c d more before added = added ∙ ap (λ (x : List Message). x ++ 
 pub passes_one : {F : Type 0} (at : F → Tool → List Message → List Message → Type 0) (all_given : F → Bool) (stopped : F → Option ToolFault)
     (first old fed new : FusedFilter F) (m : Message) (r r1 r2 s s1 s2 : List Message)
     → IsPassing at all_given stopped More first old r r1 s s1 → r2 ≡ r1 ++ m ∷ [] → IsMessage m
-    → ((tool : Tool) (l g : List Message) → StageAt at all_given stopped old tool l g → StageBusy at stopped fed tool (l ++ m ∷ []) g)
+    → ((tool : Tool) (l g : List Message) → FilterAt at all_given stopped old tool l g → FilterBusy at stopped fed tool (l ++ m ∷ []) g)
     → HasSentAnswers at all_given stopped true fed new s1 s2 → IsPassing at all_given stopped (ending_of m) first new r r2 s s2
 passes_one at all_given stopped first old fed new m r r1 r2 s s1 s2 passing added is feeds answers = record {
   took = passing.took ++ m ∷ [];
@@ -95,7 +95,7 @@ still_sent {at = at} {all_given = all_given} {stopped = stopped} {e = e} {first 
 -- ---- the other end was seen dropped
 
 part_at : {F : Type 0} (at : F → Tool → List Message → List Message → Type 0) (all_given : F → Bool) (stopped : F → Option ToolFault) (stage : FusedFilter F)
-    (tool : Tool) (l g : List Message) → StageAt at all_given stopped stage tool l g → HasAnsweredPart tool l g
+    (tool : Tool) (l g : List Message) → FilterAt at all_given stopped stage tool l g → HasAnsweredPart tool l g
 part_at at all_given stopped (AtWork filter) tool l g idle = record { accepted = l; rest = []; parts = sym (append-nil l); answers = idle.full.answers }
 part_at at all_given stopped (Refused fault) tool l g has = record { accepted = has.accepted; rest = has.rest; parts = has.parts; answers = has.answers }
 
@@ -104,7 +104,7 @@ pub input_gone : {F : Type 0} (at : F → Tool → List Message → List Message
     (first now : FusedFilter F) (told : Bool) (r r1 r2 left s s1 s2 : List Message) (tool : Tool)
     → IsPassing at all_given stopped More first now r r1 s s1 → (r2 ≡ r1) × (left ≡ []) → (IsTrue told → s2 ≡ s1 ++ Stop ∷ []) → (IsFalse told → s2 ≡ s1)
     → refusal_in now ≡ None
-    → StageAt at all_given stopped first tool [] [] → HasRunStage tool PeerGone r r2 left s s2
+    → FilterAt at all_given stopped first tool [] [] → HasRunStage tool PeerGone r r2 left s s2
 input_gone at all_given stopped first (Refused fault) told r r1 r2 left s s1 s2 tool passing same given gone none fresh = absurd cc
 input_gone at all_given stopped first (AtWork filter) true r r1 r2 left s s1 s2 tool passing same given gone none fresh =
     let idle = passing.stage tool fresh in
@@ -180,9 +180,9 @@ drained_by BrokenOff drained took r1 r2 left ends has = nothing_more BrokenOff d
 pub output_gone : {F : Type 0} (at : F → Tool → List Message → List Message → Type 0) (all_given : F → Bool) (stopped : F → Option ToolFault)
     (first old fed new : FusedFilter F) (m : Message) (a : Ending) (drained : Bool) (r r1 r2 r3 left s s1 s2 : List Message) (tool : Tool)
     → IsPassing at all_given stopped More first old r r1 s s1 → r2 ≡ r1 ++ m ∷ [] → IsMessage m
-    → ((tool : Tool) (l g : List Message) → StageAt at all_given stopped old tool l g → StageBusy at stopped fed tool (l ++ m ∷ []) g)
+    → ((tool : Tool) (l g : List Message) → FilterAt at all_given stopped old tool l g → FilterBusy at stopped fed tool (l ++ m ∷ []) g)
     → HasSentAnswers at all_given stopped false fed new s1 s2 → a ≡ ending_of m → HasDrainedAfter a drained r2 r3 left
-    → StageAt at all_given stopped first tool [] [] → HasRunStage tool PeerGone r r3 left s s2
+    → FilterAt at all_given stopped first tool [] [] → HasRunStage tool PeerGone r r3 left s s2
 output_gone at all_given stopped first old fed new m a drained r r1 r2 r3 left s s1 s2 tool passing added is feeds answers says rest fresh =
     let took = passing.took ++ m ∷ [] in
     let ends : EndsBy a took = subst (λ (e : Ending). EndsBy e took) (sym says) (ends_with passing.took m passing.ends) in
@@ -205,7 +205,7 @@ output_gone at all_given stopped first old fed new m a drained r r1 r2 r3 left s
 -- ---- the tool refused
 
 refused_at : {F : Type 0} (at : F → Tool → List Message → List Message → Type 0) (all_given : F → Bool) (stopped : F → Option ToolFault) (stage : FusedFilter F)
-    (fault : ToolFault) (tool : Tool) (l g : List Message) → refusal_in stage ≡ Some fault → StageAt at all_given stopped stage tool l g
+    (fault : ToolFault) (tool : Tool) (l g : List Message) → refusal_in stage ≡ Some fault → FilterAt at all_given stopped stage tool l g
     → HasRefused tool fault l g
 refused_at at all_given stopped (AtWork filter) fault tool l g is stage = absurd cc
 refused_at at all_given stopped (Refused other) fault tool l g is stage =
@@ -313,7 +313,7 @@ broken_off tool fault a end took gave r r1 r2 left s s1 s2 is ends received sent
 pub breaks_off : {F : Type 0} (at : F → Tool → List Message → List Message → Type 0) (all_given : F → Bool) (stopped : F → Option ToolFault) (e : Ending)
     (first now : FusedFilter F) (fault : ToolFault) (a : Ending) (end : StageEnd) (r r1 r2 left s s1 s2 : List Message) (tool : Tool)
     → IsPassing at all_given stopped e first now r r1 s s1 → a ≡ e → refusal_in now ≡ Some fault → HasBrokenOffAfter fault a end r1 r2 left s1 s2
-    → StageAt at all_given stopped first tool [] [] → HasRunStage tool end r r2 left s s2
+    → FilterAt at all_given stopped first tool [] [] → HasRunStage tool end r r2 left s s2
 breaks_off at all_given stopped e first now fault a end r r1 r2 left s s1 s2 tool passing says is broken fresh =
     let refused = refused_at at all_given stopped now fault tool passing.took passing.gave is (passing.stage tool fresh) in
     let unbroken = refusal_goes_on tool fault e passing.took passing.gave passing.ends refused in
@@ -323,7 +323,7 @@ breaks_off at all_given stopped e first now fault a end r r1 r2 left s s1 s2 too
 -- ---- the stream has ended
 
 idle_at : {F : Type 0} (at : F → Tool → List Message → List Message → Type 0) (all_given : F → Bool) (stopped : F → Option ToolFault) (stage : FusedFilter F)
-    (tool : Tool) (l g : List Message) → refusal_in stage ≡ None → StageAt at all_given stopped stage tool l g → AnswersInFull tool l g
+    (tool : Tool) (l g : List Message) → refusal_in stage ≡ None → FilterAt at all_given stopped stage tool l g → AnswersInFull tool l g
 idle_at at all_given stopped (AtWork filter) tool l g none idle = idle.full
 idle_at at all_given stopped (Refused fault) tool l g none has = absurd cc
 
@@ -345,7 +345,7 @@ ended_by tool end e l g r r1 left s s1 is ended full messages received sent = re
 
 pub ends_well : {F : Type 0} (at : F → Tool → List Message → List Message → Type 0) (all_given : F → Bool) (stopped : F → Option ToolFault) (e : Ending)
     (first now : FusedFilter F) (r r1 left s s1 : List Message) (tool : Tool)
-    → IsPassing at all_given stopped e first now r r1 s s1 → Whole ≡ e → refusal_in now ≡ None → StageAt at all_given stopped first tool [] []
+    → IsPassing at all_given stopped e first now r r1 s s1 → Whole ≡ e → refusal_in now ≡ None → FilterAt at all_given stopped first tool [] []
     → HasRunStage tool Well r r1 left s s1
 ends_well at all_given stopped e first now r r1 left s s1 tool passing says none fresh =
     let full = idle_at at all_given stopped now tool passing.took passing.gave none (passing.stage tool fresh) in
@@ -359,7 +359,7 @@ ends_well at all_given stopped e first now r r1 left s s1 tool passing says none
 
 pub ends_broken : {F : Type 0} (at : F → Tool → List Message → List Message → Type 0) (all_given : F → Bool) (stopped : F → Option ToolFault) (e : Ending)
     (first now : FusedFilter F) (r r1 left s s1 : List Message) (tool : Tool)
-    → IsPassing at all_given stopped e first now r r1 s s1 → BrokenOff ≡ e → refusal_in now ≡ None → StageAt at all_given stopped first tool [] []
+    → IsPassing at all_given stopped e first now r r1 s s1 → BrokenOff ≡ e → refusal_in now ≡ None → FilterAt at all_given stopped first tool [] []
     → HasRunStage tool Broken r r1 left s s1
 ends_broken at all_given stopped e first now r r1 left s s1 tool passing says none fresh =
     let full = idle_at at all_given stopped now tool passing.took passing.gave none (passing.stage tool fresh) in

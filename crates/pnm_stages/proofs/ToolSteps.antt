@@ -4,7 +4,7 @@ use Rattle.pnm_tools.specs.declared.tool.Tool.{Tool}
 use Rattle.pnm_tools.specs.declared.any_tool.AnyTool.{AnyTool}
 use Rattle.pnm_tools.specs.Answers.{Answers, AnswersInFull}
 use Rattle.pnm_tools.specs.declared.row_state.RowState.{RowState}
-use Rattle.pnm_tools.specs.RowStates.{IsRowToolAt, IsFreshLane}
+use Rattle.pnm_tools.specs.RowStates.{IsRowWiseAt, IsFreshLane}
 use Rattle.pnm_tools.specs.States.{Standing, IsToolAt, IsFreshTool, is_all_given}
 use Rattle.pnm_tools.proofs.OwedLaws.{nothing_yet}
 use Rattle.pnm_stages.specs.FusedFilters.{IsIdle}
@@ -17,5 +17,5 @@ pub fresh_is_idle : (s : Standing AnyTool) (tool : Tool) → IsFreshTool s tool 
 fresh_is_idle s tool fresh = record { state = fresh.state; told = fresh.told; going = fresh.going; full = nothing_is_full tool fresh.state.answers }
 
 pub fresh_lane_is_idle : (s : RowState) (tool : Tool) → IsFreshLane s tool
-    → IsIdle IsRowToolAt (λ s. is_all_given s.state.pending) (λ s. s.state.fault) s tool [] []
+    → IsIdle IsRowWiseAt (λ s. is_all_given s.state.pending) (λ s. s.state.fault) s tool [] []
 fresh_lane_is_idle s tool fresh = record { state = fresh.state; told = fresh.told; going = fresh.going; full = nothing_is_full tool fresh.state.state.answers }

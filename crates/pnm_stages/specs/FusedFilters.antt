@@ -1,4 +1,4 @@
--- A stage: a tool at work, or one that has refused; what it has received and given.
+-- A fused filter: a tool at work, or one that has refused; what it has received and given.
 use Rattle.std.specs.Prelude.{◌≡◌, ℕ, Bool, true, List, Option, Some, None}
 use Rattle.pnm_image.specs.declared.message.Message.{Message}
 use Rattle.pnm_tools.specs.declared.fault.ToolFault.{ToolFault}
@@ -8,7 +8,7 @@ use Rattle.pnm_tools.specs.ChainAnswers.{HasRefused}
 use Rattle.pnm_tools.specs.Tools.{AreTaken}
 use Rattle.pnm_tools.specs.declared.row_state.RowState.{RowState}
 use Rattle.pnm_tools.specs.declared.any_tool.AnyTool.{AnyTool}
-use Rattle.pnm_tools.specs.RowStates.{IsRowToolAt}
+use Rattle.pnm_tools.specs.RowStates.{IsRowWiseAt}
 use Rattle.pnm_tools.specs.States.{Standing, IsToolAt, is_all_given}
 use Rattle.pnm_stages.specs.declared.fused_filter.FusedFilter.{FusedFilter}
 use Rattle.pnm_stages.specs.declared.fused_filter.FusedFilter.TheVariants.{AtWork, Refused}
@@ -26,11 +26,11 @@ pub record IsIdle {F : Type 0} (at : F → Tool → List Message → List Messag
   pub full : AnswersInFull tool received given
 
 -- what a stage has received and given
-abbrev pub StageAt : {F : Type 0} → (F → Tool → List Message → List Message → Type 0) → (F → Bool)
+abbrev pub FilterAt : {F : Type 0} → (F → Tool → List Message → List Message → Type 0) → (F → Bool)
     → (F → Option ToolFault) → FusedFilter F → Tool → List Message → List Message → Type 0
-StageAt at all_given stopped (AtWork filter) tool received given =
+FilterAt at all_given stopped (AtWork filter) tool received given =
     IsIdle at all_given stopped filter tool received given
-StageAt at all_given stopped (Refused fault) tool received given = HasRefused tool fault received given
+FilterAt at all_given stopped (Refused fault) tool received given = HasRefused tool fault received given
 
 -- a tool at work that may still give messages for what it accepted
 pub record IsBusy {F : Type 0} (at : F → Tool → List Message → List Message → Type 0) (stopped : F → Option ToolFault)
@@ -40,10 +40,10 @@ pub record IsBusy {F : Type 0} (at : F → Tool → List Message → List Messag
   pub taken : AreTaken tool received
 
 -- what a stage has received, and given so far
-abbrev pub StageBusy : {F : Type 0} → (F → Tool → List Message → List Message → Type 0) → (F → Option ToolFault)
+abbrev pub FilterBusy : {F : Type 0} → (F → Tool → List Message → List Message → Type 0) → (F → Option ToolFault)
     → FusedFilter F → Tool → List Message → List Message → Type 0
-StageBusy at stopped (AtWork filter) tool received given = IsBusy at stopped filter tool received given
-StageBusy at stopped (Refused fault) tool received given = HasRefused tool fault received given
+FilterBusy at stopped (AtWork filter) tool received given = IsBusy at stopped filter tool received given
+FilterBusy at stopped (Refused fault) tool received given = HasRefused tool fault received given
 
 -- the messages that a stage is still to give, at most
 abbrev pub waiting_at : {F : Type 0} → (F → ℕ) → FusedFilter F → ℕ
@@ -52,10 +52,11 @@ waiting_at waiting (Refused fault) = 0
 
 -- a stage of the state of a tool
 abbrev pub ToolAt : FusedFilter (Standing AnyTool) → Tool → List Message → List Message → Type 0
-ToolAt stage tool received given = StageAt IsToolAt (λ s. is_all_given s.pending) (λ s. s.fault) stage tool received
+ToolAt stage tool received given = FilterAt IsToolAt (λ s. is_all_given s.pending) (λ s. s.fault) stage tool received
     given
 
 -- and of the state of a row-wise tool in a lane
-abbrev pub RowToolAt : FusedFilter RowState → Tool → List Message → List Message → Type 0
-RowToolAt stage tool received given = StageAt IsRowToolAt (λ s. is_all_given s.state.pending) (λ s. s.state.fault) stage
+abbrev pub RowWiseAt : FusedFilter RowState → Tool → List Message → List Message → Type 0
+RowWiseAt stage tool received given =
+    FilterAt IsRowWiseAt (λ s. is_all_given s.state.pending) (λ s. s.state.fault) stage
     tool received given

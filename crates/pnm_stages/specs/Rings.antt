@@ -32,11 +32,11 @@ abbrev pub IsPair : Sender → Receiver → Type 0
 IsPair s r = AreEndsOfRing s.ring r.ring
 
 -- an end of the same ring
-abbrev pub SameProducer : Sender → Sender → Type 0
-SameProducer a b = IsSameSendingEnd a.ring b.ring
+abbrev pub SameSender : Sender → Sender → Type 0
+SameSender a b = IsSameSendingEnd a.ring b.ring
 
-abbrev pub SameConsumer : Receiver → Receiver → Type 0
-SameConsumer a b = IsSameReceivingEnd a.ring b.ring
+abbrev pub SameReceiver : Receiver → Receiver → Type 0
+SameReceiver a b = IsSameReceivingEnd a.ring b.ring
 
 -- ---- what passes over it
 

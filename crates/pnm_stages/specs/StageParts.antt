@@ -10,7 +10,7 @@ use Rattle.pnm_stages.specs.declared.fused_filter.FusedFilter.{FusedFilter}
 use Rattle.pnm_stages.specs.declared.stage.StageEnd.{StageEnd}
 use Rattle.pnm_stages.specs.declared.stage.StageEnd.TheVariants.{Fault, PeerGone}
 use Rattle.pnm_stages.specs.Rings.{HasDrainedAfter}
-use Rattle.pnm_stages.specs.FusedFilters.{StageAt, StageBusy}
+use Rattle.pnm_stages.specs.FusedFilters.{FilterAt, FilterBusy}
 
 -- what was given answers a prefix of what was received
 pub record HasAnsweredPart (tool : Tool) (received given : List Message) : Type 0 where
@@ -25,9 +25,10 @@ pub record HasSentAnswers {F : Type 0} (at : F → Tool → List Message → Lis
     (sent_old sent_new : List Message) : Type 0 where
   pub more : List Message
   pub added : sent_new ≡ sent_old ++ more
-  pub full : all ≡ true → (tool : Tool) (l g : List Message) → StageBusy at stopped old tool l g
-      → StageAt at all_given stopped new tool l (g ++ more)
-  pub part : (tool : Tool) (l g : List Message) → StageBusy at stopped old tool l g → HasAnsweredPart tool l (g ++ more)
+  pub full : all ≡ true → (tool : Tool) (l g : List Message) → FilterBusy at stopped old tool l g
+      → FilterAt at all_given stopped new tool l (g ++ more)
+  pub part : (tool : Tool) (l g : List Message) → FilterBusy at stopped old tool l g
+      → HasAnsweredPart tool l (g ++ more)
 
 -- a stage was broken off after a message with this ending: Stop was sent and the input was drained; or Stop wasn't
 -- sent, or the input wasn't drained, since the other end of a ring was seen dropped

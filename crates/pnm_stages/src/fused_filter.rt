@@ -4,7 +4,7 @@ ghost use Rattle.std.specs.Prelude.{◌≡◌, ◌<◌, ◌∷◌, ◌++◌, [],
 ghost use Rattle.pnm_image.specs.declared.message.Message.{Message as MessageValue};
 ghost use Rattle.pnm_tools.specs.declared.tool.Tool.{Tool as ToolValue};
 ghost use Rattle.pnm_tools.specs.Tools.{IsLawfulTool, is_row_wise};
-ghost use Rattle.pnm_stages.specs.FusedFilters.{refusal_in, waiting_at, StageAt, StageBusy, ToolAt, RowToolAt};
+ghost use Rattle.pnm_stages.specs.FusedFilters.{refusal_in, waiting_at, FilterAt, FilterBusy, ToolAt, RowWiseAt};
 
 use pnm_image::Message;
 use pnm_tools::{Filter, RowState, Tool, ToolFault, ToolState};
@@ -32,8 +32,8 @@ impl<F: Filter + Drop> FusedFilter<F> {
 
     /// Feeds the tool a message. After its refusal the message is dropped.
     pub fn feed(&mut self, message: Message)
-        ensures { (tool : ToolValue) (l g : List MessageValue) → StageAt F.at F.all_given F.stopped self.old tool l g
-            → StageBusy F.at F.stopped self.new tool (l ++ message ∷ []) g }
+        ensures { (tool : ToolValue) (l g : List MessageValue) → FilterAt F.at F.all_given F.stopped self.old tool l g
+            → FilterBusy F.at F.stopped self.new tool (l ++ message ∷ []) g }
     {
         if let FusedFilter::AtWork(filter) = self {
             if let Err(fault) = filter.feed(message) {
@@ -45,12 +45,12 @@ impl<F: Filter + Drop> FusedFilter<F> {
     /// The next message that the tool gives, until it has given all, or refused.
     pub fn next(&mut self) -> Option<Message>
         ensures given { IfSome result (λ m. (tool : ToolValue) (l g : List MessageValue)
-            → StageBusy F.at F.stopped self.old tool l g
-            → StageBusy F.at F.stopped self.new tool l (g ++ m ∷ [])) }
+            → FilterBusy F.at F.stopped self.old tool l g
+            → FilterBusy F.at F.stopped self.new tool l (g ++ m ∷ [])) }
         ensures fewer { IfSome result (λ _. waiting_at F.waiting self.new < waiting_at F.waiting self.old) }
         ensures full { IfNone result ((tool : ToolValue) (l g : List MessageValue)
-            → StageBusy F.at F.stopped self.old tool l g
-            → StageAt F.at F.all_given F.stopped self.new tool l g) }
+            → FilterBusy F.at F.stopped self.old tool l g
+            → FilterAt F.at F.all_given F.stopped self.new tool l g) }
     {
         let FusedFilter::AtWork(filter) = self else {
             return None;
@@ -67,7 +67,7 @@ impl<F: Filter + Drop> FusedFilter<F> {
     /// Whether the tool has given all, or refused, as far as a look shows. Where it answers false `next` tells.
     pub fn gave_all(&mut self) -> bool
         ensures full { IsTrue result → (tool : ToolValue) (l g : List MessageValue)
-            → StageBusy F.at F.stopped self.old tool l g → StageAt F.at F.all_given F.stopped self.new tool l g }
+            → FilterBusy F.at F.stopped self.old tool l g → FilterAt F.at F.all_given F.stopped self.new tool l g }
         ensures unknown { IsFalse result → self.new ≡ self.old }
     {
         match self {
@@ -92,7 +92,7 @@ pub fn filter_of(alloc: Global, tool: &Tool) -> FusedFilter<ToolState>
 pub fn row_filter_of(alloc: Global, tool: &Tool) -> FusedFilter<RowState>
     requires lawful { IsLawfulTool tool.now }
     requires row_wise { is_row_wise tool.now ≡ true }
-    ensures { RowToolAt result tool.now [] [] }
+    ensures { RowWiseAt result tool.now [] [] }
 {
     match tool.start_rows(alloc) {
         Ok(state) => FusedFilter::AtWork(state),

@@ -2,7 +2,7 @@
 
 ghost use Rattle.std.specs.Prelude.{◌≡◌, ◌<◌, [], ◌∷◌, ◌++◌, length, IfSome, IfNone, IsTrue, IsFalse};
 ghost use Rattle.pnm_image.specs.Messages.{IsMessage};
-ghost use Rattle.pnm_stages.specs.Rings.{sent, received, known_items, IsPair, SameProducer, SameConsumer, HasDrained};
+ghost use Rattle.pnm_stages.specs.Rings.{sent, received, known_items, IsPair, SameSender, SameReceiver, HasDrained};
 ghost use Rattle.pnm_stages.specs.Rings.{HasDrainedAfter};
 
 use crate::backoff::Backoff;
@@ -32,7 +32,7 @@ impl Receiver {
 
     /// Whether a message is there.
     pub fn has_message(&mut self) -> bool
-        ensures ring { SameConsumer self.old self.new }
+        ensures ring { SameReceiver self.old self.new }
         ensures received { received self.new ≡ received self.old }
         ensures some { IsTrue result → 0 < length (known_items self.new) }
         ensures none { IsFalse result → known_items self.new ≡ [] }
@@ -50,7 +50,7 @@ impl Receiver {
 
     /// Whether the sending end was dropped. What was sent before is still there.
     pub fn is_abandoned(&mut self) -> bool
-        ensures ring { SameConsumer self.old self.new }
+        ensures ring { SameReceiver self.old self.new }
         ensures received { received self.new ≡ received self.old }
     {
         self.ring.is_abandoned()
@@ -61,7 +61,7 @@ impl Receiver {
     /// while it finds some.
     pub fn receive_known(&mut self) -> Message
         requires { 0 < length (known_items self.old) }
-        ensures ring { SameConsumer self.old self.new }
+        ensures ring { SameReceiver self.old self.new }
         ensures received { received self.new ≡ received self.old ++ result ∷ [] }
         ensures seen { known_items self.old ≡ result ∷ known_items self.new }
         ensures message { IsMessage result }
@@ -71,12 +71,12 @@ impl Receiver {
         if left == 0 || left == self.ring.capacity() / 2 {
             self.waker.wake_sender();
         }
-        recognised(message)
+        recognise(message)
     }
 
     /// The next message, if one is there.
     pub fn try_receive(&mut self) -> Option<Message>
-        ensures ring { SameConsumer self.old self.new }
+        ensures ring { SameReceiver self.old self.new }
         ensures taken { IfSome result (λ m. received self.new ≡ received self.old ++ m ∷ []) }
         ensures message { IfSome result IsMessage }
         ensures none_seen { IfNone result ((received self.new ≡ received self.old) × (known_items self.new ≡ [])) }
@@ -92,8 +92,8 @@ impl Receiver {
     /// here.
     pub fn look_beside(&mut self, sender: &mut Sender)
         requires { IsPair sender.old self.old }
-        ensures looked { SameConsumer self.old self.new × (received self.new ≡ received self.old) }
-        ensures sender { SameProducer sender.old sender.new × (sent sender.new ≡ sent sender.old) }
+        ensures looked { SameReceiver self.old self.new × (received self.new ≡ received self.old) }
+        ensures sender { SameSender sender.old sender.new × (sent sender.new ≡ sent sender.old) }
         ensures in_order { received self.new ++ known_items self.new ≡ sent sender.new }
     {
         self.ring.slots_beside(&mut sender.ring);
@@ -102,7 +102,7 @@ impl Receiver {
     /// The next message, once there is one; none once the ring is empty and its other end was seen dropped. That it is
     /// empty is known only of the messages that this end has seen in it.
     pub fn receive<R: Wait>(&mut self, rt: &R, backoff: &mut Backoff) -> Option<Message>
-        ensures ring { SameConsumer self.old self.new }
+        ensures ring { SameReceiver self.old self.new }
         ensures taken { IfSome result (λ m. received self.new ≡ received self.old ++ m ∷ []) }
         ensures message { IfSome result IsMessage }
         ensures none_seen { IfNone result ((received self.new ≡ received self.old) × (known_items self.new ≡ [])) }
@@ -124,7 +124,7 @@ impl Receiver {
     /// Receives and drops what comes, through the end of the stream or Stop; false where the sending end was seen
     /// dropped before.
     pub fn drain<R: Wait>(&mut self, rt: &R, backoff: &mut Backoff) -> bool
-        ensures ring { SameConsumer self.old self.new }
+        ensures ring { SameReceiver self.old self.new }
         ensures drained { HasDrained result (received self.old) (received self.new) (known_items self.new) }
     {
         for _ in rt.forever() {
@@ -144,7 +144,7 @@ impl Receiver {
     /// After a message with this ending, receives and drops what comes through to the end of the stream; false where
     /// the sending end was seen dropped before.
     pub fn drain_after<R: Wait>(&mut self, rt: &R, ending: Ending, backoff: &mut Backoff) -> bool
-        ensures ring { SameConsumer self.old self.new }
+        ensures ring { SameReceiver self.old self.new }
         ensures drained { HasDrainedAfter ending result (received self.old) (received self.new) (known_items self.new) }
     {
         match ending {
@@ -160,7 +160,7 @@ impl Receiver {
 }
 
 /// The message itself. A proof learns that the head of an image keeps the rules of heads.
-fn recognised(message: Message) -> Message
+fn recognise(message: Message) -> Message
     ensures same { result ≡ message }
     ensures message { IsMessage result }
 {

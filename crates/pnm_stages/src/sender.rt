@@ -1,7 +1,7 @@
 //! The sending end of a ring of messages.
 
 ghost use Rattle.std.specs.Prelude.{◌≡◌, ◌<◌, [], ◌∷◌, ◌++◌, IsTrue, IsFalse};
-ghost use Rattle.pnm_stages.specs.Rings.{sent, known_free, SameProducer};
+ghost use Rattle.pnm_stages.specs.Rings.{sent, known_free, SameSender};
 
 use crate::backoff::Backoff;
 use crate::ring::AnyMessage;
@@ -25,8 +25,8 @@ pub struct Sender {
     pub(crate) ring: Producer<Message, Global, AnyMessage>,
     waker: SenderWaker,
     /// The messages that were sent and woke nobody, and for how many short rows somebody is woken.
-    untold: usize,
-    rows: usize,
+    unwoken: usize,
+    rows_per_wake: usize,
 }
 
 impl Sender {
@@ -38,35 +38,35 @@ impl Sender {
         Sender {
             ring,
             waker,
-            untold: 0,
-            rows: 1,
+            unwoken: 0,
+            rows_per_wake: 1,
         }
     }
 
     /// From now on the thread at the receiving end is woken once for several short rows, for a quarter of the ring at
-    /// most. So this one has to tell it of them (`tell`) before it waits for anything but room in this ring.
+    /// most. So this one has to wake it for them (`wake_receiver`) before it waits for anything but room in this ring.
     pub fn hold_back(&mut self)
-        ensures ring { SameProducer self.old self.new }
+        ensures ring { SameSender self.old self.new }
         ensures sent { sent self.new ≡ sent self.old }
     {
-        self.rows = (self.ring.capacity() / 4).min(MOST_ROWS);
+        self.rows_per_wake = (self.ring.capacity() / 4).min(MOST_ROWS);
     }
 
     /// Wakes the thread at the receiving end, where something was sent that it wasn't woken for.
-    pub fn tell(&mut self)
-        ensures ring { SameProducer self.old self.new }
+    pub fn wake_receiver(&mut self)
+        ensures ring { SameSender self.old self.new }
         ensures sent { sent self.new ≡ sent self.old }
         ensures room { known_free self.new ≡ known_free self.old }
     {
-        if self.untold > 0 {
-            self.untold = 0;
+        if self.unwoken > 0 {
+            self.unwoken = 0;
             self.waker.wake_receiver();
         }
     }
 
     /// Whether there is room for a message.
     pub fn has_room(&mut self) -> bool
-        ensures ring { SameProducer self.old self.new }
+        ensures ring { SameSender self.old self.new }
         ensures sent { sent self.new ≡ sent self.old }
         ensures room { IsTrue result → 0 < known_free self.new }
     {
@@ -75,7 +75,7 @@ impl Sender {
 
     /// Whether the receiving end was dropped.
     pub fn is_abandoned(&mut self) -> bool
-        ensures ring { SameProducer self.old self.new }
+        ensures ring { SameSender self.old self.new }
         ensures sent { sent self.new ≡ sent self.old }
     {
         self.ring.is_abandoned()
@@ -84,21 +84,21 @@ impl Sender {
     /// Sends the message, for which there is room, and wakes the thread at the receiving end.
     pub fn send_reserved(&mut self, message: Message)
         requires { 0 < known_free self.old }
-        ensures ring { SameProducer self.old self.new }
+        ensures ring { SameSender self.old self.new }
         ensures sent { sent self.new ≡ sent self.old ++ message ∷ [] }
     {
         let is_short_row = is_short_row(&message);
         self.ring.push_reserved(message);
-        self.untold = self.untold.saturating_add(1);
-        if !is_short_row || self.untold >= self.rows {
-            self.tell();
+        self.unwoken = self.unwoken.saturating_add(1);
+        if !is_short_row || self.unwoken >= self.rows_per_wake {
+            self.wake_receiver();
         }
     }
 
     /// Sends the message, once there is room; false, and the message is lost, where there is none and the receiving end
     /// was seen dropped.
     pub fn send<R: Wait>(&mut self, rt: &R, message: Message, backoff: &mut Backoff) -> bool
-        ensures ring { SameProducer self.old self.new }
+        ensures ring { SameSender self.old self.new }
         ensures given { IsTrue result → sent self.new ≡ sent self.old ++ message ∷ [] }
         ensures gone { IsFalse result → sent self.new ≡ sent self.old }
     {
@@ -118,10 +118,10 @@ impl Sender {
 
     /// One turn of waiting for room. It looks again after each.
     pub fn wait<R: Wait>(&mut self, rt: &R, backoff: &mut Backoff)
-        ensures ring { SameProducer self.old self.new }
+        ensures ring { SameSender self.old self.new }
         ensures sent { sent self.new ≡ sent self.old }
     {
-        self.tell();
+        self.wake_receiver();
         backoff.wait(rt, self.waker.parker());
     }
 }

@@ -3,8 +3,8 @@
 ghost use Rattle.std.specs.Prelude.{◌≡◌, [], ◌++◌, List};
 ghost use Rattle.pnm_tools.specs.declared.tool.Tool.{Tool as ToolValue};
 ghost use Rattle.pnm_tools.specs.Tools.{IsLawfulTool};
-ghost use Rattle.pnm_stages.specs.Rings.{sent, received, known_items, SameProducer, SameConsumer};
-ghost use Rattle.pnm_stages.specs.FusedFilters.{StageAt};
+ghost use Rattle.pnm_stages.specs.Rings.{sent, received, known_items, SameSender, SameReceiver};
+ghost use Rattle.pnm_stages.specs.FusedFilters.{FilterAt};
 ghost use Rattle.pnm_stages.specs.Stages.{HasRunStage};
 ghost use Rattle.pnm_stages.specs.StageParts.{HasSentAnswers, HasBrokenOffAfter};
 
@@ -72,8 +72,8 @@ pub fn run_stage<R: Wait, G: Gate>(
     output: Sender,
 ) -> StageDone
     requires { IsLawfulTool tool.now }
-    ensures input { SameConsumer input result.input }
-    ensures output { SameProducer output result.output }
+    ensures input { SameReceiver input result.input }
+    ensures output { SameSender output result.output }
     ensures ran { HasRunStage tool.now result.end (received input) (received result.input) (known_items result.input)
         (sent output) (sent result.output) }
 {
@@ -89,9 +89,9 @@ pub fn run_filter<R: Wait, F: Filter + Drop>(
     input: Receiver,
     output: Sender,
 ) -> StageDone
-    ensures input { SameConsumer input result.input }
-    ensures output { SameProducer output result.output }
-    ensures ran { (tool : ToolValue) → StageAt F.at F.all_given F.stopped stage tool [] []
+    ensures input { SameReceiver input result.input }
+    ensures output { SameSender output result.output }
+    ensures ran { (tool : ToolValue) → FilterAt F.at F.all_given F.stopped stage tool [] []
         → HasRunStage tool result.end (received input) (received result.input) (known_items result.input)
         (sent output) (sent result.output) }
 {
@@ -110,9 +110,9 @@ fn pass_all<R: Wait, F: Filter + Drop>(
     input: &mut Receiver,
     output: &mut Sender,
 ) -> StageEnd
-    ensures input { SameConsumer input.old input.new }
-    ensures output { SameProducer output.old output.new }
-    ensures ran { (tool : ToolValue) → StageAt F.at F.all_given F.stopped stage.old tool [] []
+    ensures input { SameReceiver input.old input.new }
+    ensures output { SameSender output.old output.new }
+    ensures ran { (tool : ToolValue) → FilterAt F.at F.all_given F.stopped stage.old tool [] []
         → HasRunStage tool result (received input.old) (received input.new) (known_items input.new)
         (sent output.old) (sent output.new) }
 {
@@ -121,7 +121,7 @@ fn pass_all<R: Wait, F: Filter + Drop>(
         return break_off(rt, fault, Ending::More, input, output, backoff);
     }
     for _ in rt.forever() {
-        tell_before_wait(input, output);
+        wake_before_wait(input, output);
         let Some(message) = input.receive(rt, backoff) else {
             output.send(rt, Message::Stop, backoff);
             return StageEnd::PeerGone;
@@ -145,12 +145,12 @@ fn pass_all<R: Wait, F: Filter + Drop>(
 }
 
 /// Where the stage may have to wait for its next message, the thread behind is told first of all that was sent.
-fn tell_before_wait(input: &Receiver, output: &mut Sender)
-    ensures output { SameProducer output.old output.new }
+fn wake_before_wait(input: &Receiver, output: &mut Sender)
+    ensures output { SameSender output.old output.new }
     ensures sent { sent output.new ≡ sent output.old }
 {
     if !input.has_seen_message() {
-        output.tell();
+        output.wake_receiver();
     }
 }
 
@@ -162,7 +162,7 @@ fn send_answers<R: Wait, F: Filter + Drop>(
     output: &mut Sender,
     backoff: &mut Backoff,
 ) -> bool
-    ensures output { SameProducer output.old output.new }
+    ensures output { SameSender output.old output.new }
     ensures sent { HasSentAnswers F.at F.all_given F.stopped result stage.old stage.new (sent output.old)
         (sent output.new) }
 {
@@ -187,8 +187,8 @@ fn break_off<R: Wait>(
     output: &mut Sender,
     backoff: &mut Backoff,
 ) -> StageEnd
-    ensures input { SameConsumer input.old input.new }
-    ensures output { SameProducer output.old output.new }
+    ensures input { SameReceiver input.old input.new }
+    ensures output { SameSender output.old output.new }
     ensures broken { HasBrokenOffAfter fault ending result (received input.old) (received input.new)
         (known_items input.new)
         (sent output.old) (sent output.new) }

@@ -21,7 +21,7 @@ rows_after rows ImageEnd = []
 rows_after rows StreamEnd = []
 rows_after rows Stop = []
 
--- and with more messages
+-- the rows of an image that have come, with more messages
 abbrev pub rows_come : List (List ℕ) → List Message → List (List ℕ)
 rows_come rows [] = rows
 rows_come rows (m ∷ ms) = rows_come (rows_after rows m) ms

@@ -51,7 +51,7 @@ dealt_message lane lanes place ImageEnd = ImageEnd ∷ []
 dealt_message lane lanes place StreamEnd = StreamEnd ∷ []
 dealt_message lane lanes place Stop = Stop ∷ []
 
--- and of messages from a place on
+-- what the lane gets of messages from a place on
 abbrev pub dealt_from : ℕ → ℕ → Place → List Message → List Message
 dealt_from lane lanes place [] = []
 dealt_from lane lanes place (m ∷ ms) =

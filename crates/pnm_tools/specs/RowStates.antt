@@ -7,12 +7,12 @@ use Rattle.pnm_tools.specs.Dealing.{IsRowWise}
 use Rattle.pnm_tools.specs.States.{IsToolAt, is_all_given}
 
 -- the state of this tool, which is row-wise, has accepted these messages and given those
-pub record IsRowToolAt (s : RowState) (t : Tool) (l g : List Message) : Type 0 where
+pub record IsRowWiseAt (s : RowState) (t : Tool) (l g : List Message) : Type 0 where
   pub state : IsToolAt s.state t l g
   pub row_wise : IsRowWise t
 
 -- the state of this tool before the first message
 pub record IsFreshLane (s : RowState) (t : Tool) : Type 0 where
-  pub state : IsRowToolAt s t [] []
+  pub state : IsRowWiseAt s t [] []
   pub told : is_all_given s.state.pending ≡ true
   pub going : s.state.fault ≡ None

@@ -100,7 +100,7 @@ fn put_kept<T: Copy>(
     requires reach { ReachColumns (first + length columns.old) depth kept.now.strips.items kept.now.rows.items }
     requires sizes { (kept_count kept.now.strips.items kept.now.rows.items * depth ≤ MAX_ROW_LENGTH)
         × (depth ≤ MAX_DEPTH) × (first + length columns.old ≤ 4294967295) }
-    requires buffer { AreLongEnough (kept_count kept.now.strips.items kept.now.rows.items * depth) columns.old }
+    requires long { AreLongEnough (kept_count kept.now.strips.items kept.now.rows.items * depth) columns.old }
     ensures { HavePixels (length columns.old) 0
         (λ k. kept_column rows_first depth kept.now.strips.items kept.now.rows.items (first + k))
         columns.old columns.new }
@@ -127,7 +127,7 @@ pub(crate) fn put_all<T: Copy>(
     requires rows { All (λ row. (first + length columns.old) * depth ≤ length row) rows.now }
     requires sizes { (at + length rows.now * depth ≤ MAX_ROW_LENGTH) × (depth ≤ MAX_DEPTH)
         × (first + length columns.old ≤ 4294967295) }
-    requires buffer { AreLongEnough (at + length rows.now * depth) columns.old }
+    requires long { AreLongEnough (at + length rows.now * depth) columns.old }
     ensures { HavePixels (length columns.old) at (λ k. column_of depth rows.now (first + k))
         columns.old columns.new }
 {
@@ -151,7 +151,7 @@ fn put_four<T: Copy>(
     requires four { length rows.now ≡ 4 }
     requires rows { All (λ row. (first + length columns.old) * depth ≤ length row) rows.now }
     requires sizes { (at + 4 * depth ≤ MAX_ROW_LENGTH) × (first + length columns.old ≤ 4294967295) }
-    requires buffer { AreLongEnough (at + 4 * depth) columns.old }
+    requires long { AreLongEnough (at + 4 * depth) columns.old }
     ensures { HavePixels (length columns.old) at (λ k. column_of depth rows.now (first + k))
         columns.old columns.new }
 {
@@ -167,7 +167,7 @@ fn put_four<T: Copy>(
 fn put_four_samples<T: Copy>(columns: &mut [Vec<T>], at: usize, rows: &[RowOf<T>], first: usize)
     requires four { length rows.now ≡ 4 }
     requires rows { All (λ row. (first + length columns.old) * 1 ≤ length row) rows.now }
-    requires buffer { AreLongEnough (at + 4) columns.old }
+    requires long { AreLongEnough (at + 4) columns.old }
     ensures { HavePixels (length columns.old) at (λ k. column_of 1 rows.now (first + k))
         columns.old columns.new }
 {
@@ -183,7 +183,7 @@ fn put_four_samples<T: Copy>(columns: &mut [Vec<T>], at: usize, rows: &[RowOf<T>
 fn put_four_colors<T: Copy>(columns: &mut [Vec<T>], at: usize, rows: &[RowOf<T>], first: usize)
     requires four { length rows.now ≡ 4 }
     requires rows { All (λ row. (first + length columns.old) * 3 ≤ length row) rows.now }
-    requires buffer { AreLongEnough (at + 12) columns.old }
+    requires long { AreLongEnough (at + 12) columns.old }
     ensures { HavePixels (length columns.old) at (λ k. column_of 3 rows.now (first + k))
         columns.old columns.new }
 {
@@ -219,7 +219,7 @@ fn put_rows<T: Copy>(
     requires rows { All (λ row. (first + length columns.old) * depth ≤ length row) rows.now }
     requires sizes { (at + length rows.now * depth ≤ MAX_ROW_LENGTH)
         × (first + length columns.old ≤ 4294967295) }
-    requires buffer { AreLongEnough (at + length rows.now * depth) columns.old }
+    requires long { AreLongEnough (at + length rows.now * depth) columns.old }
     ensures { HavePixels (length columns.old) at (λ k. column_of depth rows.now (first + k))
         columns.old columns.new }
 {
@@ -232,7 +232,7 @@ fn put_rows<T: Copy>(
 fn put_pixels<T: Copy>(columns: &mut [Vec<T>], at: usize, row: &[T], first: usize, depth: usize)
     requires row { (first + length columns.old) * depth ≤ length row.now }
     requires fits { first + length columns.old ≤ 4294967295 }
-    requires buffer { AreLongEnough (at + depth) columns.old }
+    requires long { AreLongEnough (at + depth) columns.old }
     ensures { HavePixels (length columns.old) at (λ k. pixel_of depth row.now (first + k))
         columns.old columns.new }
 {

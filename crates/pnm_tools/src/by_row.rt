@@ -1,4 +1,4 @@
-//! A tool that answers each row at once, at work.
+//! A row tool at work: at most one row of the result for each row.
 
 ghost use Rattle.std.specs.Prelude.{◌≡◌, None};
 ghost use Rattle.pnm_tools.specs.Answering.{row_list};

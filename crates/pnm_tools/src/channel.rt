@@ -34,7 +34,12 @@ pub struct Planes {
 /// # Errors
 ///
 /// Where there is no memory for them.
-fn picked(alloc: Global, numbers: &[u16], shape: Shape, row: Samples) -> Result<Samples, AllocError>
+fn pick_planes(
+    alloc: Global,
+    numbers: &[u16],
+    shape: Shape,
+    row: Samples,
+) -> Result<Samples, AllocError>
     requires numbers { All (λ number. number < shape.depth) numbers.now }
     requires row { IsRowOf shape row }
     requires limits { length numbers.now ≤ MAX_DEPTH }
@@ -42,7 +47,7 @@ fn picked(alloc: Global, numbers: &[u16], shape: Shape, row: Samples) -> Result<
 {
     match row.into_vec() {
         SampleVec::Bits(bits) => {
-            let unpacked = bits.unpacked(alloc)?;
+            let unpacked = bits.to_bytes(alloc)?;
             let samples = pick(alloc, numbers, shape, unpacked.as_slice())?;
             Ok(Samples::within(SampleVec::Bytes(samples), shape.maxval))
         }
@@ -128,7 +133,7 @@ impl RowTool for Planes {
         row: Samples,
     ) -> Result<Option<Samples>, ToolFault> {
         let numbers = self.numbers.as_slice();
-        Ok(Some(picked(alloc, numbers, shape, row)?))
+        Ok(Some(pick_planes(alloc, numbers, shape, row)?))
     }
 }
 

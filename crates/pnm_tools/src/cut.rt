@@ -25,7 +25,12 @@ pub(crate) struct Span {
 /// # Errors
 ///
 /// Where there is no memory for them.
-fn kept(alloc: Global, columns: Span, shape: Shape, row: Samples) -> Result<Samples, AllocError>
+fn keep_columns(
+    alloc: Global,
+    columns: Span,
+    shape: Shape,
+    row: Samples,
+) -> Result<Samples, AllocError>
     requires columns { KeepsWithin columns shape.depth row }
     requires range { All (λ sample. sample ≤ shape.maxval) row }
     ensures { IfOk result (λ kept. kept ≡ columns_of_row columns shape.depth row) }
@@ -132,7 +137,7 @@ impl RowTool for Cutter {
         if y < self.rows.first || self.rows.last < y {
             return Ok(None);
         }
-        let kept = kept(alloc, self.columns, shape, row)?;
+        let kept = keep_columns(alloc, self.columns, shape, row)?;
         Ok(Some(kept))
     }
 }

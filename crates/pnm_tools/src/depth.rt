@@ -106,7 +106,7 @@ impl Rescaler {
     /// # Errors
     ///
     /// Where there is no memory for samples of another width.
-    fn rescaled(&self, alloc: Global, old: u32, row: Samples) -> Result<Samples, AllocError>
+    fn rescale_row(&self, alloc: Global, old: u32, row: Samples) -> Result<Samples, AllocError>
         requires new { (1 ≤ self.now.maxval) × (self.now.maxval ≤ MAX_MAXVAL) }
         requires old { (1 ≤ old) × (old ≤ MAX_MAXVAL) }
         requires table { IsTable self.now.maxval old self.now.table }
@@ -162,7 +162,7 @@ impl RowTool for Rescaler {
         _y: u32,
         row: Samples,
     ) -> Result<Option<Samples>, ToolFault> {
-        Ok(Some(self.rescaled(alloc, shape.maxval, row)?))
+        Ok(Some(self.rescale_row(alloc, shape.maxval, row)?))
     }
 }
 

@@ -36,7 +36,7 @@ pub struct Enlarger {
 /// # Errors
 ///
 /// `Memory`, where there is none for the row.
-fn enlarged(alloc: Global, across: u32, shape: Shape, row: Samples) -> Result<Samples, ToolFault>
+fn enlarge_row(alloc: Global, across: u32, shape: Shape, row: Samples) -> Result<Samples, ToolFault>
     requires row { IsRowOf shape row }
     requires ready { IsEnlarging across shape }
     ensures made { IfOk result (λ made. made ≡ enlarged_row across shape row) }
@@ -48,7 +48,7 @@ fn enlarged(alloc: Global, across: u32, shape: Shape, row: Samples) -> Result<Sa
             Ok(Samples::from_vec(SampleVec::Bits(bits)))
         }
         SampleVec::Bits(bits) => {
-            let unpacked = bits.unpacked(alloc)?;
+            let unpacked = bits.to_bytes(alloc)?;
             let bytes = repeat_pixels(alloc, across, shape, unpacked.as_slice())?;
             Ok(Samples::within(SampleVec::Bytes(bytes), shape.maxval))
         }
@@ -70,7 +70,7 @@ fn repeat_bits(alloc: Global, across: u32, shape: Shape, row: &Bits) -> Result<B
     ensures made { IfOk result (λ made. made ≡ enlarged_row across shape row.now) }
     ensures refused { IfErr result (λ fault. fault ≡ Memory) }
 {
-    Ok(row.repeated(alloc, across as usize)?)
+    Ok(row.repeat(alloc, across as usize)?)
 }
 
 /// The row with each pixel repeated so many times.
@@ -286,7 +286,7 @@ impl ImageTool for Enlarger {
         let row = if self.across == 1 {
             row
         } else {
-            enlarged(alloc, self.across, shape, row)?
+            enlarge_row(alloc, self.across, shape, row)?
         };
         self.row = Some(row);
         self.more = self.down - 1;

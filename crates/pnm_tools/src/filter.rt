@@ -85,5 +85,6 @@ pub trait Filter {
         ensures unknown { result ≡ false → self.new ≡ self.old }
         ensures same { stopped self.new ≡ stopped self.old };
 
+    /// What was given answers what was accepted.
     ghost at_answers: { (s : Self) (t : ToolValue) (l g : List MessageValue) → at s t l g → Answers t l g };
 }

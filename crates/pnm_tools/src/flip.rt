@@ -86,13 +86,13 @@ impl Turn {
 /// # Errors
 ///
 /// Where there is no memory for bits that become bytes.
-fn turned(alloc: Global, turn: Turn, shape: Shape, row: Samples) -> Result<Samples, AllocError>
+fn turn_row(alloc: Global, turn: Turn, shape: Shape, row: Samples) -> Result<Samples, AllocError>
     requires limits { IsWithinLimits shape }
     requires row { IsRowOf shape row }
     ensures { IfOk result (λ turned. turned ≡ turned_row turn shape row) }
 {
     if turn.columns_reversed {
-        mirrored(alloc, shape, row)
+        mirror_row(alloc, shape, row)
     } else {
         Ok(row)
     }
@@ -103,18 +103,18 @@ fn turned(alloc: Global, turn: Turn, shape: Shape, row: Samples) -> Result<Sampl
 /// # Errors
 ///
 /// Where there is no memory for the bytes.
-fn mirrored(alloc: Global, shape: Shape, row: Samples) -> Result<Samples, AllocError>
+fn mirror_row(alloc: Global, shape: Shape, row: Samples) -> Result<Samples, AllocError>
     requires limits { IsWithinLimits shape }
     requires row { IsRowOf shape row }
     ensures { IfOk result (λ mirrored. mirrored ≡ mirrored_row shape row) }
 {
     match row.into_vec() {
         SampleVec::Bits(bits) if shape.depth == 1 => {
-            let bits = mirrored_bits(shape, bits);
+            let bits = mirror_bits(shape, bits);
             Ok(Samples::from_vec(SampleVec::Bits(bits)))
         }
         SampleVec::Bits(bits) => {
-            let mut unpacked = bits.unpacked(alloc)?;
+            let mut unpacked = bits.to_bytes(alloc)?;
             reverse_pixels(unpacked.as_mut_slice(), shape);
             Ok(Samples::within(SampleVec::Bytes(unpacked), shape.maxval))
         }
@@ -130,7 +130,7 @@ fn mirrored(alloc: Global, shape: Shape, row: Samples) -> Result<Samples, AllocE
 }
 
 /// The row of one plane, the last pixel first, changed in place.
-fn mirrored_bits(shape: Shape, bits: Bits) -> Bits
+fn mirror_bits(shape: Shape, bits: Bits) -> Bits
     requires limits { IsWithinLimits shape }
     requires plane { shape.depth ≡ 1 }
     requires row { length bits ≡ row_length shape }
@@ -221,7 +221,7 @@ impl RowTool for RowFlipper {
         _y: u32,
         row: Samples,
     ) -> Result<Option<Samples>, ToolFault> {
-        Ok(Some(turned(alloc, self.way.turn(), shape, row)?))
+        Ok(Some(turn_row(alloc, self.way.turn(), shape, row)?))
     }
 }
 
@@ -294,7 +294,7 @@ impl ImageTool for RowReverser {
         let Some(kept) = self.rows.pop() else {
             return Ok(None);
         };
-        Ok(Some(turned(alloc, self.way.turn(), shape, kept)?))
+        Ok(Some(turn_row(alloc, self.way.turn(), shape, kept)?))
     }
 
     fn may_give(&self) -> bool {

@@ -20,7 +20,7 @@ pub struct Inverter;
 /// # Errors
 ///
 /// Where there is no memory for the words.
-fn inverted(alloc: Global, maxval: u32, row: Samples) -> Result<Samples, AllocError>
+fn invert_row(alloc: Global, maxval: u32, row: Samples) -> Result<Samples, AllocError>
     requires maxval { (1 ≤ maxval) × (maxval ≤ MAX_MAXVAL) }
     requires range { All (λ sample. sample ≤ maxval) row }
     ensures { IfOk result (λ made. made ≡ map (λ sample. maxval - sample) row) }
@@ -76,6 +76,6 @@ impl RowTool for Inverter {
         _y: u32,
         row: Samples,
     ) -> Result<Option<Samples>, ToolFault> {
-        Ok(Some(inverted(alloc, shape.maxval, row)?))
+        Ok(Some(invert_row(alloc, shape.maxval, row)?))
     }
 }

@@ -5,7 +5,7 @@ ghost use Rattle.pnm_image.specs.declared.message.Message.{Message as MessageVal
 ghost use Rattle.pnm_tools.specs.declared.fault.ToolFault.TheVariants.{Memory};
 ghost use Rattle.pnm_tools.specs.declared.tool.Tool.{Tool as ToolValue};
 ghost use Rattle.pnm_tools.specs.Dealing.{IsRowWise};
-ghost use Rattle.pnm_tools.specs.RowStates.{IsRowToolAt, IsFreshLane};
+ghost use Rattle.pnm_tools.specs.RowStates.{IsRowWiseAt, IsFreshLane};
 ghost use Rattle.pnm_tools.specs.States.{is_all_given, waiting_in, due_of};
 ghost use Rattle.pnm_tools.specs.Tools.{IsLawfulTool, is_row_wise};
 
@@ -18,6 +18,7 @@ use std::alloc::Global;
 /// A tool at work whose rows may be dealt to several of it: what it makes of the image that a lane sees is what the
 /// lane gets of the result, and it refuses the one where it refuses the other.
 pub trait RowWise: Filter {
+    /// The tool is row-wise.
     ghost row_wise: { (s : Self) (t : ToolValue) (l g : List MessageValue) → Self.at s t l g → IsRowWise t };
 }
 
@@ -28,7 +29,7 @@ pub struct RowState {
 }
 
 impl Filter for RowState {
-    ghost at = { IsRowToolAt };
+    ghost at = { IsRowWiseAt };
 
     ghost all_given = { λ s. is_all_given s.state.pending };
 

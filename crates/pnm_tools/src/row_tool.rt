@@ -46,6 +46,7 @@ pub trait RowTool {
         ensures row { IfOk result (λ made. row_answer (tool self.now) shape y row ≡ row_list made) }
         ensures refused { IfErr result (λ fault. fault ≡ Memory) };
 
+    /// The image's end is answered by no row.
     ghost nothing_at_end: { (s : Self) (shape : ShapeValue) (rows : List (List ℕ))
         → ready s shape → end_answer (tool s) shape rows ≡ [] };
 }

@@ -121,10 +121,11 @@ impl Tool {
         ensures started { IfOk result (λ state. IsFreshTool state self.now) }
         ensures refused { IfErr result (λ fault. fault ≡ Memory) }
     {
-        Ok(State::new(alloc, self.work(alloc)?))
+        Ok(State::new(alloc, self.any_tool(alloc)?))
     }
 
-    fn work(&self, alloc: Global) -> Result<AnyTool, ToolFault>
+    /// The tool at work, which has taken no row.
+    fn any_tool(&self, alloc: Global) -> Result<AnyTool, ToolFault>
         ensures tool { IfOk result (λ work. tool_of work ≡ self.now) }
         ensures kept { IfOk result (λ work. kept_of work ≡ []) }
         ensures refused { IfErr result (λ fault. fault ≡ Memory) }

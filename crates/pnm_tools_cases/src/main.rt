@@ -6,10 +6,10 @@
 //! |---|---|
 //! | `judge TOOL` | whether the tool is lawful, and whether row-wise |
 //! | `copy TOOL` | the tool, and a copy of it |
-//! | `tool TOOL` | the same as by `judge`; the lines that follow are about this tool too, after `none` about no other |
+//! | `tool TOOL` | what `judge` tells; the lines that follow are about this tool too, after `none` about no other |
 //! | `head HEAD` | the head of the result |
 //! | `run STEPS` | what the tool gives for each step (`steps`), however wide rows are held |
-//! | `lane STEPS` | the same of the tool in a lane |
+//! | `lane STEPS` | what the tool gives for each step in a lane |
 //! | `held STEPS` | how the rows are held that the tool gives, of rows in as few bits as hold their samples |
 //! | `images SIZES` | a sweep over made images of these sizes in one stream (`sweeps`) |
 //! | `types FIRST-LAST WIDTH-WIDTHxHEIGHT-HEIGHT` | a sweep over made images of these types and sizes, each by itself |

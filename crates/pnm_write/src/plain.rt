@@ -14,7 +14,7 @@ use itoa::Buffer;
 use pnm_image::{Bits, BytesOut, DeviceFailed, Kind, SampleSlice, Samples, Shape, write_all};
 
 /// The most samples that are written at a time. Each has up to five digits, and a byte before it.
-const MOST: usize = 680;
+const MOST_SAMPLES: usize = 680;
 
 /// The most pixels that are written at a time: 245 whole bytes, and 56 whole lines.
 const MOST_PIXELS: usize = 1960;
@@ -91,7 +91,7 @@ fn write_bytes<W: BytesOut>(
     let mut column = 0;
     let mut rest = samples;
     while !rest.is_empty() {
-        let count = rest.len().min(MOST);
+        let count = rest.len().min(MOST_SAMPLES);
         let (part, after) = rest.split_at(count);
         column = set_bytes(buffer, column, part);
         end_row(buffer, after.is_empty());
@@ -118,7 +118,7 @@ fn write_words<W: BytesOut>(
     let mut column = 0;
     let mut rest = samples;
     while !rest.is_empty() {
-        let count = rest.len().min(MOST);
+        let count = rest.len().min(MOST_SAMPLES);
         let (part, after) = rest.split_at(count);
         column = set_words(buffer, column, part);
         end_row(buffer, after.is_empty());
@@ -146,11 +146,11 @@ fn write_others<W: BytesOut>(
 {
     // No effect at run time: a proof learns of this that the maxval keeps the rules of shapes.
     let _ = shape.maxval;
-    let mut samples = [0; MOST];
+    let mut samples = [0; MOST_SAMPLES];
     let mut column = 0;
     let mut start = 0;
     while start < row.len() {
-        let count = (row.len() - start).min(MOST);
+        let count = (row.len() - start).min(MOST_SAMPLES);
         row.copy_to(start, &mut samples[..count]);
         column = set_part(buffer, shape.kind, column, &samples[..count]);
         start += count;
@@ -220,7 +220,7 @@ fn end_row(buffer: &mut WriteBuffer, is_end: bool)
 /// Appends a sample, and answers how many bytes the line has then.
 #[tactic(auto, using(std::proofs::lemmas::Fmt::decimal_nonempty))]
 fn push_sample(buffer: &mut WriteBuffer, kind: Kind, column: usize, sample: u16) -> usize
-    requires buffer { length buffer.old + 6 ≤ 4096 }
+    requires room { length buffer.old + 6 ≤ 4096 }
     requires line { column ≤ 70 }
     ensures text { buffer.new ≡ buffer.old ++ word_in_line column (sample_text kind sample) }
     ensures count { length buffer.new ≤ length buffer.old + 6 }
@@ -242,7 +242,7 @@ fn push_sample(buffer: &mut WriteBuffer, kind: Kind, column: usize, sample: u16)
 
 /// Appends a word: in this line, where there is room for it, and else in the next.
 fn push_word(buffer: &mut WriteBuffer, column: usize, word: &[u8]) -> usize
-    requires buffer { length buffer.old + 1 + length word.now ≤ 4096 }
+    requires room { length buffer.old + 1 + length word.now ≤ 4096 }
     requires short { length word.now ≤ 5 }
     requires line { column ≤ 70 }
     ensures text { buffer.new ≡ buffer.old ++ word_in_line column word.now }

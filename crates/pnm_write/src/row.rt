@@ -13,7 +13,7 @@ use pnm_image::{
 };
 
 /// The most samples that are copied at a time, a number of whole bytes of pixels.
-const MOST: usize = 2048;
+const MOST_SAMPLES: usize = 2048;
 
 /// Writes the samples of a row of an image of this shape.
 pub fn write_samples<W: BytesOut>(
@@ -81,10 +81,10 @@ fn write_others<W: BytesOut>(
     ensures same_device { W.same writer.old writer.new }
 {
     let sample_width = SampleWidth::of(shape.kind, shape.maxval);
-    let mut words = [0; MOST];
+    let mut words = [0; MOST_SAMPLES];
     let mut start = 0;
     while start < row.len() {
-        let count = (row.len() - start).min(MOST);
+        let count = (row.len() - start).min(MOST_SAMPLES);
         row.copy_to(start, &mut words[..count]);
         buffer.fill(sample_width, &words[..count]);
         write_all(writer, buffer.as_slice())?;

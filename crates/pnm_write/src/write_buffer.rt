@@ -15,12 +15,12 @@ use pnm_image::SampleWidth;
 use std::marker::Model;
 
 /// The most bytes that are held.
-const BUFFER: usize = 4096;
+const BUFFER_BYTES: usize = 4096;
 
 /// Up to 4,096 bytes, which are encoded here before they are written. It takes no memory.
 #[derive(Drop)]
 pub struct WriteBuffer {
-    bytes: [u8; BUFFER],
+    bytes: [u8; BUFFER_BYTES],
     length: usize,
 }
 
@@ -40,7 +40,7 @@ impl WriteBuffer {
         ensures { result ≡ [] }
     {
         WriteBuffer {
-            bytes: [0; BUFFER],
+            bytes: [0; BUFFER_BYTES],
             length: 0,
         }
     }
@@ -82,7 +82,7 @@ impl WriteBuffer {
     /// Appends the numbers to a line that has so many bytes, and to those after it, and answers how many bytes the
     /// last line has.
     pub fn append_bytes(&mut self, column: usize, samples: &[u8]) -> usize
-        requires buffer { length self.old + 6 * length samples.now ≤ 4096 }
+        requires room { length self.old + 6 * length samples.now ≤ 4096 }
         requires begun { 0 < column }
         requires line { column ≤ 70 }
         ensures text { self.new ≡ self.old ++ text_of_part column (sample_texts Kind.Gray samples.now) }
@@ -97,7 +97,7 @@ impl WriteBuffer {
 
     /// Appends numbers of up to 65,535 as `append_bytes` does smaller ones.
     pub fn append_words(&mut self, column: usize, samples: &[u16]) -> usize
-        requires buffer { length self.old + 6 * length samples.now ≤ 4096 }
+        requires room { length self.old + 6 * length samples.now ≤ 4096 }
         requires begun { 0 < column }
         requires line { column ≤ 70 }
         ensures text { self.new ≡ self.old ++ text_of_part column (sample_texts Kind.Gray samples.now) }

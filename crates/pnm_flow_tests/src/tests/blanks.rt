@@ -8,7 +8,7 @@ use pnm_read::InputFault;
 use pnm_tools::{FlipWay, Tool};
 use std::test::Fail;
 
-/// A prefix, so many blanks and a back, what is answered, and what is written.
+/// A prefix, so many blanks and a suffix, what is answered, and what is written.
 type BlankCase<'a> = (
     &'a [u8],
     usize,
@@ -34,8 +34,8 @@ const BLANKS: &[BlankCase<'static>] = &[
 
 #[test]
 fn passes_over_blanks(rt: HostRuntime) -> Result<(), Fail> {
-    for (prefix, blanks, back, want, output) in BLANKS {
-        let input = padded(rt.alloc(), prefix, b' ', *blanks, back)?;
+    for (prefix, blanks, suffix, want, output) in BLANKS {
+        let input = padded(rt.alloc(), prefix, b' ', *blanks, suffix)?;
         let tools = [Tool::Flip(FlipWay::Null)];
         let (answer, written) = run_chain(&rt, rt.alloc(), &tools, input.as_slice());
         agrees(&rt, (answer, written.as_slice()), (*want, *output), &blanks);

@@ -73,6 +73,9 @@ fn answers_so<R: Threads + Wait + Abort + Sync>(
     agrees(rt, given, want, &(way, before));
 }
 
+/// `TWO` without its last sample.
+const TWO_CUT: &[u8] = b"P5\n2 1\n9\n\x01\x02P6\n1 1\n9\n\x03\x04";
+
 /// The last writes of those that fail beside another fault don't come any more.
 #[test]
 fn answers_a_failed_write_last(rt: HostRuntime) {
@@ -103,13 +106,21 @@ fn answers_a_failed_write_last(rt: HostRuntime) {
         },
         Order {
             tools: &[Tool::Cut(LAST_COLUMN)],
-            input: &TWO[..22],
+            input: TWO_CUT,
             reads: None,
             fault: RASTER_CUT,
             due: b"P5\n1 1\n9\n\x02P6\n1 1\n9\n",
             writes: 20,
         },
-        // A read fails where the first image has ended, or inside a row.
+    ] {
+        answers_in_order(&rt, rt.alloc(), &order);
+    }
+}
+
+/// A read fails where the first image has ended, or inside a row, and the last writes don't come.
+#[test]
+fn answers_a_failed_write_after_a_failed_read(rt: HostRuntime) {
+    for order in [
         Order {
             tools: &[Tool::Cut(LAST_COLUMN)],
             input: TWO,

@@ -23,69 +23,52 @@ pub fn invert<R: AllocGlobal + Threads + Wait + Abort + Sync>(
     run_chain(rt, rt.alloc(), &[Tool::Invert], input)
 }
 
-/// The prefix, this byte so many times, and the back.
+/// The prefix, this byte so many times, and the suffix.
 pub fn padded(
     alloc: Global,
     prefix: &[u8],
     byte: u8,
     count: usize,
-    back: &[u8],
+    suffix: &[u8],
 ) -> Result<Vec<u8>, Fail> {
     let mut text = Vec::from_slice(alloc, prefix)?;
     for _ in 0..count {
         text.push(byte)?;
     }
-    text.extend_from_slice(back)?;
+    text.extend_from_slice(suffix)?;
     Ok(text)
 }
+
+/// Images, what they are inverted, and how many rows they have.
+const IMAGES: [(&[u8], &[u8], u64); 11] = [
+    (IMAGE, INVERTED, 1),
+    (b"P5\n2 1\n255\n\x00\xff", b"P5\n2 1\n255\n\xff\x00", 1),
+    (b"P5 00002 01 0122 AB", INVERTED, 1),
+    (b"P5\t \r\n2\r1\t122\tAB", INVERTED, 1),
+    (b"P5#c\n2 1#\n\n122\nAB", INVERTED, 1),
+    (b"P5\n1 3\n9\n\x00\x09\x05", b"P5\n1 3\n9\n\x09\x00\x04", 3),
+    // Two bytes a sample.
+    (b"P5\n1 1\n300\n\x01\x2c", b"P5\n1 1\n300\n\x00\x00", 1),
+    (
+        b"P5\n2 1\n65535\n\x00\x01\xff\x00",
+        b"P5\n2 1\n65535\n\xff\xfe\x00\xff",
+        1,
+    ),
+    // Each of three planes.
+    (b"P6\n1 1\n9\n\x03\x04\x05", b"P6\n1 1\n9\n\x06\x05\x04", 1),
+    // Spare bits are 0, whatever they are in the input.
+    (b"P4\n9 1\n\xff\xff", b"P4\n9 1\n\x00\x00", 1),
+    (
+        b"P4\n9 2\n\x0f\x00\xaa\x80",
+        b"P4\n9 2\n\xf0\x80\x55\x00",
+        2,
+    ),
+];
 
 /// Good images are inverted, and counted.
 #[test]
 fn inverts(rt: HostRuntime) {
-    for (input, output, rows) in [
-        (IMAGE, INVERTED, 1),
-        (
-            b"P5\n2 1\n255\n\x00\xff".as_slice(),
-            b"P5\n2 1\n255\n\xff\x00".as_slice(),
-            1,
-        ),
-        (b"P5 00002 01 0122 AB".as_slice(), INVERTED, 1),
-        (b"P5\t \r\n2\r1\t122\tAB".as_slice(), INVERTED, 1),
-        (b"P5#c\n2 1#\n\n122\nAB".as_slice(), INVERTED, 1),
-        (
-            b"P5\n1 3\n9\n\x00\x09\x05".as_slice(),
-            b"P5\n1 3\n9\n\x09\x00\x04".as_slice(),
-            3,
-        ),
-        // Two bytes a sample.
-        (
-            b"P5\n1 1\n300\n\x01\x2c".as_slice(),
-            b"P5\n1 1\n300\n\x00\x00".as_slice(),
-            1,
-        ),
-        (
-            b"P5\n2 1\n65535\n\x00\x01\xff\x00".as_slice(),
-            b"P5\n2 1\n65535\n\xff\xfe\x00\xff".as_slice(),
-            1,
-        ),
-        // Each of three planes.
-        (
-            b"P6\n1 1\n9\n\x03\x04\x05".as_slice(),
-            b"P6\n1 1\n9\n\x06\x05\x04".as_slice(),
-            1,
-        ),
-        // Spare bits are 0, whatever they are in the input.
-        (
-            b"P4\n9 1\n\xff\xff".as_slice(),
-            b"P4\n9 1\n\x00\x00".as_slice(),
-            1,
-        ),
-        (
-            b"P4\n9 2\n\x0f\x00\xaa\x80".as_slice(),
-            b"P4\n9 2\n\xf0\x80\x55\x00".as_slice(),
-            2,
-        ),
-    ] {
+    for (input, output, rows) in IMAGES {
         let (answer, written) = invert(&rt, input);
         let want = (Ok(Summary { images: 1, rows }), output);
         agrees(&rt, (answer, written.as_slice()), want, &input);
@@ -131,7 +114,7 @@ fn limits_the_header(rt: HostRuntime) -> Result<(), Fail> {
     let cut = Err(RunFault::Input(InputFault::HeaderCut));
     let image = b"1 1 9\n\x05".as_slice();
     let nothing = b"".as_slice();
-    for (prefix, byte, count, back, want, output) in [
+    for (prefix, byte, count, suffix, want, output) in [
         (
             b"P5".as_slice(),
             b' ',
@@ -146,7 +129,7 @@ fn limits_the_header(rt: HostRuntime) -> Result<(), Fail> {
         (b"P7\nTUPLTYPE ", b'A', 256, b"\n", too_long, nothing),
         (b"P7\nTUPLTYPE ", b'A', 255, b"\n", cut, nothing),
     ] {
-        let input = padded(rt.alloc(), prefix, byte, count, back)?;
+        let input = padded(rt.alloc(), prefix, byte, count, suffix)?;
         let (answer, written) = invert(&rt, input.as_slice());
         agrees(&rt, (answer, written.as_slice()), (want, output), &count);
     }

@@ -1,8 +1,11 @@
 //! A stage over rings: how it ends, and what it sends.
 
 use super::chains::FROM_SECOND;
-use super::rings::{IMAGE, Part, begins_with, holds, is_end, ring, send_all};
+use super::rings::IMAGE;
 use pnm_flow::{OpenGate, Receiver, Sender, StageDone, StageEnd, run_stage};
+use pnm_image::Kind;
+use pnm_test_rings::{begins_with, holds, is_end, ring, send_all};
+use pnm_test_support::Part;
 use pnm_tools::{Tool, ToolFault};
 use std::alloc::Global;
 use std::process::Abort;
@@ -42,91 +45,83 @@ fn ends_so(
     Ok(())
 }
 
+/// `IMAGE` inverted.
+const INVERTED_IMAGE: &[Part<'static>] = &[
+    Part::Begin(Kind::Gray, 2, 1, 122),
+    Part::Row(&[57, 56]),
+    Part::ImageEnd,
+    Part::StreamEnd,
+];
+
+/// An image of two columns, and one of one column.
+const NARROW_SECOND: &[Part<'static>] = &[
+    Part::Begin(Kind::Gray, 2, 1, 122),
+    Part::Row(&[65, 66]),
+    Part::ImageEnd,
+    Part::Begin(Kind::Gray, 1, 1, 122),
+    Part::Row(&[7]),
+    Part::ImageEnd,
+    Part::StreamEnd,
+];
+
+/// What the cut from the second column on makes of them.
+const CUT_AND_STOP: &[Part<'static>] = &[
+    Part::Begin(Kind::Gray, 1, 1, 122),
+    Part::Row(&[66]),
+    Part::ImageEnd,
+    Part::Stop,
+];
+
+/// What comes to a stage that inverts, what it sends, and how it ends.
+const INVERTING: [(&str, &[Part<'static>], &[Part<'static>], StageEnd); 6] = [
+    ("a stream", IMAGE, INVERTED_IMAGE, StageEnd::Well),
+    (
+        "no image",
+        &[Part::StreamEnd],
+        &[Part::StreamEnd],
+        StageEnd::Well,
+    ),
+    (
+        "Stop in an image",
+        &[Part::Begin(Kind::Gray, 2, 1, 122), Part::Stop],
+        &[Part::Begin(Kind::Gray, 2, 1, 122), Part::Stop],
+        StageEnd::Broken,
+    ),
+    (
+        "Stop at once",
+        &[Part::Stop],
+        &[Part::Stop],
+        StageEnd::Broken,
+    ),
+    (
+        "a row first",
+        &[Part::Row(&[7]), Part::ImageEnd, Part::Stop],
+        &[Part::Stop],
+        StageEnd::Fault(ToolFault::OutOfOrder),
+    ),
+    (
+        "an end in an image",
+        &[Part::Begin(Kind::Gray, 2, 1, 122), Part::StreamEnd],
+        &[Part::Begin(Kind::Gray, 2, 1, 122), Part::Stop],
+        StageEnd::Fault(ToolFault::OutOfOrder),
+    ),
+];
+
 #[test]
 fn ends_by_what_it_takes(rt: HostRuntime) -> Result<(), Fail> {
-    let cut = Tool::Cut(FROM_SECOND);
-    let outside = StageEnd::Fault(ToolFault::CutOutside);
-    let out_of_order = StageEnd::Fault(ToolFault::OutOfOrder);
-    let inverted = [
-        Part::Begin(2, 1),
-        Part::Row(&[57, 56]),
-        Part::ImageEnd,
-        Part::StreamEnd,
-    ];
-    let cut_and_stop = [
-        Part::Begin(1, 1),
-        Part::Row(&[66]),
-        Part::ImageEnd,
-        Part::Stop,
-    ];
-    let narrow = [
-        Part::Begin(2, 1),
-        Part::Row(&[65, 66]),
-        Part::ImageEnd,
-        Part::Begin(1, 1),
-        Part::Row(&[7]),
-        Part::ImageEnd,
-        Part::StreamEnd,
-    ];
-    let cases: [(&str, Case<'_>); 7] = [
-        (
-            "a stream",
-            (&Tool::Invert, IMAGE, &inverted, StageEnd::Well),
-        ),
-        (
-            "no image",
-            (
-                &Tool::Invert,
-                &[Part::StreamEnd],
-                &[Part::StreamEnd],
-                StageEnd::Well,
-            ),
-        ),
-        (
-            "Stop in an image",
-            (
-                &Tool::Invert,
-                &[Part::Begin(2, 1), Part::Stop],
-                &[Part::Begin(2, 1), Part::Stop],
-                StageEnd::Broken,
-            ),
-        ),
-        (
-            "Stop at once",
-            (
-                &Tool::Invert,
-                &[Part::Stop],
-                &[Part::Stop],
-                StageEnd::Broken,
-            ),
-        ),
-        (
-            "a second image without the part",
-            (&cut, &narrow, &cut_and_stop, outside),
-        ),
-        (
-            "a row first",
-            (
-                &Tool::Invert,
-                &[Part::Row(&[7]), Part::ImageEnd, Part::Stop],
-                &[Part::Stop],
-                out_of_order,
-            ),
-        ),
-        (
-            "an end in an image",
-            (
-                &Tool::Invert,
-                &[Part::Begin(2, 1), Part::StreamEnd],
-                &[Part::Begin(2, 1), Part::Stop],
-                out_of_order,
-            ),
-        ),
-    ];
-    for (what, case) in cases {
-        ends_so(&rt, rt.alloc(), case, what)?;
+    for (what, takes, sends, end) in INVERTING {
+        ends_so(&rt, rt.alloc(), (&Tool::Invert, takes, sends, end), what)?;
     }
     Ok(())
+}
+
+/// A stage whose tool refuses the second image ends by its fault, and sends Stop.
+#[test]
+fn ends_by_the_fault_of_its_tool(rt: HostRuntime) -> Result<(), Fail> {
+    let cut = Tool::Cut(FROM_SECOND);
+    let end = StageEnd::Fault(ToolFault::CutOutside);
+    let case = (&cut, NARROW_SECOND, CUT_AND_STOP, end);
+    ends_so(&rt, rt.alloc(), case, "a second image without the part")
 }
 
 /// Where nobody takes what it sends, it takes all that comes before it ends.
@@ -147,7 +142,11 @@ fn drains_its_input_where_its_output_is_gone(rt: HostRuntime) -> Result<(), Fail
 /// Where nothing more can come, it sends Stop after the answers to what came.
 #[test]
 fn sends_stop_where_its_input_is_gone(rt: HostRuntime) -> Result<(), Fail> {
-    let inverted = [Part::Begin(2, 1), Part::Row(&[57, 56]), Part::ImageEnd];
+    let inverted = [
+        Part::Begin(Kind::Gray, 2, 1, 122),
+        Part::Row(&[57, 56]),
+        Part::ImageEnd,
+    ];
     for count in 0..4 {
         let (mut producer, input) = ring(rt.alloc(), 8)?;
         let (output, mut consumer) = ring(rt.alloc(), 8)?;

@@ -1,11 +1,11 @@
 //! Chains of stages, each in a thread of its own.
 
 use super::chains::{FROM_SECOND, are_lawful};
-use super::rings::{
-    IMAGE, Part, Unmade, begins_with, holds, is_end, is_made_of, message, ring, send_all,
-};
+use super::rings::IMAGE;
 use pnm_flow::{ChainDone, Gate, NoStart, OpenGate, Receiver, Sender, StageEnd, run_chain};
-use pnm_image::Message;
+use pnm_image::{Kind, Message};
+use pnm_test_rings::{begins_with, holds, is_end, ring, send_all};
+use pnm_test_support::{Part, Unmade, is_made_of, message};
 use pnm_tools::{Tool, ToolFault};
 use std::alloc::Global;
 use std::cmp::Ordering;
@@ -22,7 +22,7 @@ pub const TURNS: u32 = 10_000_000;
 
 /// What `pnminvert` makes of the image.
 pub const INVERTED: &[Part<'static>] = &[
-    Part::Begin(2, 1),
+    Part::Begin(Kind::Gray, 2, 1, 122),
     Part::Row(&[57, 56]),
     Part::ImageEnd,
     Part::StreamEnd,
@@ -30,10 +30,10 @@ pub const INVERTED: &[Part<'static>] = &[
 
 /// An image of two columns, and one of a single column.
 const NARROW: &[Part<'static>] = &[
-    Part::Begin(2, 1),
+    Part::Begin(Kind::Gray, 2, 1, 122),
     Part::Row(&[65, 66]),
     Part::ImageEnd,
-    Part::Begin(1, 1),
+    Part::Begin(Kind::Gray, 1, 1, 122),
     Part::Row(&[7]),
     Part::ImageEnd,
     Part::StreamEnd,
@@ -135,7 +135,7 @@ fn breaks_off_after_a_refusal(rt: HostRuntime) -> Result<(), Fail> {
         StageEnd::Broken,
     );
     let one_column = [
-        Part::Begin(1, 1),
+        Part::Begin(Kind::Gray, 1, 1, 122),
         Part::Row(&[7]),
         Part::ImageEnd,
         Part::StreamEnd,
@@ -154,7 +154,7 @@ fn breaks_off_after_a_refusal(rt: HostRuntime) -> Result<(), Fail> {
         };
         let row: &[u16] = if count % 2 == 1 { &[66] } else { &[56] };
         let sends = [
-            Part::Begin(1, 1),
+            Part::Begin(Kind::Gray, 1, 1, 122),
             Part::Row(row),
             Part::ImageEnd,
             Part::Stop,
@@ -299,7 +299,10 @@ type Step<'a> = (Part<'a>, &'a [Part<'a>]);
 
 /// What comes of an image in `pnminvert | pnminvert`.
 const TWICE: &[Step<'static>] = &[
-    (Part::Begin(2, 1), &[Part::Begin(2, 1)]),
+    (
+        Part::Begin(Kind::Gray, 2, 1, 122),
+        &[Part::Begin(Kind::Gray, 2, 1, 122)],
+    ),
     (Part::Row(&[65, 66]), &[Part::Row(&[65, 66])]),
     (Part::ImageEnd, &[Part::ImageEnd]),
     (Part::StreamEnd, &[Part::StreamEnd]),
@@ -307,7 +310,10 @@ const TWICE: &[Step<'static>] = &[
 
 /// What comes of it in `pamenlarge 2 | pnminvert`.
 const DOUBLED: &[Step<'static>] = &[
-    (Part::Begin(2, 1), &[Part::Begin(4, 2)]),
+    (
+        Part::Begin(Kind::Gray, 2, 1, 122),
+        &[Part::Begin(Kind::Gray, 4, 2, 122)],
+    ),
     (
         Part::Row(&[65, 66]),
         &[Part::Row(&[57, 57, 56, 56]), Part::Row(&[57, 57, 56, 56])],

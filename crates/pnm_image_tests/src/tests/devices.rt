@@ -15,7 +15,7 @@ use std::test::Fail;
 fn reads_to_the_end(rt: HostRuntime) {
     let mut reader = Device::new([1, 2, 3, 4].as_slice());
     let mut buffer = [9; 3];
-    same(&rt, &reader.read(&mut []), &Ok(0), &"no room");
+    same(&rt, &reader.read(&mut []), &Ok(0), &"an empty buffer");
     same(&rt, &reader.read(&mut buffer), &Ok(3), &"the first read");
     same(&rt, &buffer, &[1, 2, 3], &"the first read");
     same(&rt, &reader.read(&mut buffer), &Ok(1), &"the second read");

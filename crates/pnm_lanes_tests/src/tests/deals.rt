@@ -250,39 +250,41 @@ fn hands_stop_to_each_lane(rt: HostRuntime) -> Result<(), Fail> {
     Ok(())
 }
 
+/// Which of three lanes is gone, and what the others are sent of three rows.
+const LANE_GONE: [(usize, &[Part<'static>], &[Part<'static>]); 3] = [
+    (
+        0,
+        &[Part::Begin(Kind::Gray, 1, 1, 9), Part::Stop],
+        &[Part::Begin(Kind::Gray, 1, 1, 9), Part::Stop],
+    ),
+    (
+        1,
+        &[
+            Part::Begin(Kind::Gray, 1, 1, 9),
+            Part::Row(&[1]),
+            Part::Stop,
+        ],
+        &[Part::Begin(Kind::Gray, 1, 1, 9), Part::Stop],
+    ),
+    (
+        2,
+        &[
+            Part::Begin(Kind::Gray, 1, 1, 9),
+            Part::Row(&[1]),
+            Part::Stop,
+        ],
+        &[
+            Part::Begin(Kind::Gray, 1, 1, 9),
+            Part::Row(&[2]),
+            Part::Stop,
+        ],
+    ),
+];
+
 /// Where nobody takes what the first lane is sent, the last one, or one in the middle, the others are sent Stop.
 #[test]
 fn stops_the_other_lanes_where_one_is_gone(rt: HostRuntime) -> Result<(), Fail> {
-    let cases: [(usize, &[Part<'_>], &[Part<'_>]); 3] = [
-        (
-            0,
-            &[Part::Begin(Kind::Gray, 1, 1, 9), Part::Stop],
-            &[Part::Begin(Kind::Gray, 1, 1, 9), Part::Stop],
-        ),
-        (
-            1,
-            &[
-                Part::Begin(Kind::Gray, 1, 1, 9),
-                Part::Row(&[1]),
-                Part::Stop,
-            ],
-            &[Part::Begin(Kind::Gray, 1, 1, 9), Part::Stop],
-        ),
-        (
-            2,
-            &[
-                Part::Begin(Kind::Gray, 1, 1, 9),
-                Part::Row(&[1]),
-                Part::Stop,
-            ],
-            &[
-                Part::Begin(Kind::Gray, 1, 1, 9),
-                Part::Row(&[2]),
-                Part::Stop,
-            ],
-        ),
-    ];
-    for (gone, before, after) in cases {
+    for (gone, before, after) in LANE_GONE {
         let (mut producer, input) = ring(rt.alloc(), 8)?;
         let (mut outputs, mut consumers) = rings(rt.alloc(), 2, 8)?;
         // This ring has room for the head alone.
@@ -301,42 +303,44 @@ fn stops_the_other_lanes_where_one_is_gone(rt: HostRuntime) -> Result<(), Fail> 
     Ok(())
 }
 
+/// How many messages come before the input is gone, and what two lanes are sent.
+const INPUT_GONE: [(usize, &[Part<'static>], &[Part<'static>]); 4] = [
+    (0, &[Part::Stop], &[Part::Stop]),
+    (
+        1,
+        &[Part::Begin(Kind::Gray, 1, 1, 9), Part::Stop],
+        &[Part::Begin(Kind::Gray, 1, 1, 9), Part::Stop],
+    ),
+    (
+        2,
+        &[
+            Part::Begin(Kind::Gray, 1, 1, 9),
+            Part::Row(&[1]),
+            Part::Stop,
+        ],
+        &[Part::Begin(Kind::Gray, 1, 1, 9), Part::Stop],
+    ),
+    (
+        4,
+        &[
+            Part::Begin(Kind::Gray, 1, 1, 9),
+            Part::Row(&[1]),
+            Part::ImageEnd,
+            Part::Stop,
+        ],
+        &[
+            Part::Begin(Kind::Gray, 1, 1, 9),
+            Part::Row(&[2]),
+            Part::ImageEnd,
+            Part::Stop,
+        ],
+    ),
+];
+
 /// Where nothing more can come, each lane is sent Stop after what came.
 #[test]
 fn stops_the_lanes_where_the_input_is_gone(rt: HostRuntime) -> Result<(), Fail> {
-    let cases: [(usize, &[Part<'_>], &[Part<'_>]); 4] = [
-        (0, &[Part::Stop], &[Part::Stop]),
-        (
-            1,
-            &[Part::Begin(Kind::Gray, 1, 1, 9), Part::Stop],
-            &[Part::Begin(Kind::Gray, 1, 1, 9), Part::Stop],
-        ),
-        (
-            2,
-            &[
-                Part::Begin(Kind::Gray, 1, 1, 9),
-                Part::Row(&[1]),
-                Part::Stop,
-            ],
-            &[Part::Begin(Kind::Gray, 1, 1, 9), Part::Stop],
-        ),
-        (
-            4,
-            &[
-                Part::Begin(Kind::Gray, 1, 1, 9),
-                Part::Row(&[1]),
-                Part::ImageEnd,
-                Part::Stop,
-            ],
-            &[
-                Part::Begin(Kind::Gray, 1, 1, 9),
-                Part::Row(&[2]),
-                Part::ImageEnd,
-                Part::Stop,
-            ],
-        ),
-    ];
-    for (count, first, second) in cases {
+    for (count, first, second) in INPUT_GONE {
         let (mut producer, input) = ring(rt.alloc(), 8)?;
         let (outputs, mut consumers) = rings(rt.alloc(), 2, 8)?;
         send_all(rt.alloc(), &mut producer, &TWO_ROWS[..count])?;

@@ -46,47 +46,49 @@ fn ends_so(rt: &(impl Wait + Abort), alloc: Global, case: Case<'_>) -> Result<()
     Ok(())
 }
 
-#[test]
-fn gathers_rows_in_turn(rt: HostRuntime) -> Result<(), Fail> {
-    let cases: [Case<'_>; 2] = [
-        (
-            "more lanes than rows",
+/// What lanes give, and what is gathered of it.
+const GATHERED: [Case<'static>; 2] = [
+    (
+        "more lanes than rows",
+        &[
             &[
-                &[
-                    Part::Begin(Kind::Gray, 1, 1, 9),
-                    Part::Row(&[1]),
-                    Part::ImageEnd,
-                    Part::StreamEnd,
-                ],
-                &[
-                    Part::Begin(Kind::Gray, 1, 1, 9),
-                    Part::Row(&[2]),
-                    Part::ImageEnd,
-                    Part::StreamEnd,
-                ],
-                &[
-                    Part::Begin(Kind::Gray, 1, 0, 9),
-                    Part::ImageEnd,
-                    Part::StreamEnd,
-                ],
+                Part::Begin(Kind::Gray, 1, 1, 9),
+                Part::Row(&[1]),
+                Part::ImageEnd,
+                Part::StreamEnd,
             ],
             &[
-                Part::Begin(Kind::Gray, 1, 2, 9),
-                Part::Row(&[1]),
+                Part::Begin(Kind::Gray, 1, 1, 9),
                 Part::Row(&[2]),
                 Part::ImageEnd,
                 Part::StreamEnd,
             ],
-            StageEnd::Well,
-        ),
-        (
-            "no image",
-            &[&[Part::StreamEnd], &[Part::StreamEnd]],
-            &[Part::StreamEnd],
-            StageEnd::Well,
-        ),
-    ];
-    for case in cases {
+            &[
+                Part::Begin(Kind::Gray, 1, 0, 9),
+                Part::ImageEnd,
+                Part::StreamEnd,
+            ],
+        ],
+        &[
+            Part::Begin(Kind::Gray, 1, 2, 9),
+            Part::Row(&[1]),
+            Part::Row(&[2]),
+            Part::ImageEnd,
+            Part::StreamEnd,
+        ],
+        StageEnd::Well,
+    ),
+    (
+        "no image",
+        &[&[Part::StreamEnd], &[Part::StreamEnd]],
+        &[Part::StreamEnd],
+        StageEnd::Well,
+    ),
+];
+
+#[test]
+fn gathers_rows_in_turn(rt: HostRuntime) -> Result<(), Fail> {
+    for case in GATHERED {
         ends_so(&rt, rt.alloc(), case)?;
     }
     Ok(())

@@ -14,18 +14,18 @@ impl Bits {
     /// # Errors
     ///
     /// Where there is no memory for them.
-    pub fn repeated(&self, alloc: Global, times: usize) -> Result<Bits, AllocError>
+    pub fn repeat(&self, alloc: Global, times: usize) -> Result<Bits, AllocError>
         ensures { IfOk result (λ bits. bits ≡ flat_map (λ s. replicate times s) self.now) }
     {
         match times {
             1 => self.copy(alloc),
-            2 => self.doubled(alloc),
-            _ => self.stretched(alloc, times),
+            2 => self.double_pixels(alloc),
+            _ => self.stretch_pixels(alloc, times),
         }
     }
 
     /// Each pixel twice.
-    fn doubled(&self, alloc: Global) -> Result<Bits, AllocError>
+    fn double_pixels(&self, alloc: Global) -> Result<Bits, AllocError>
         ensures { IfOk result (λ bits. bits ≡ flat_map (λ s. replicate 2 s) self.now) }
     {
         let Some(count) = self.count.checked_mul(2) else {
@@ -40,7 +40,7 @@ impl Bits {
 
 /// The bits of a byte, each twice.
 #[inline]
-fn doubled(byte: u8) -> u16
+fn double_bits(byte: u8) -> u16
     ensures { all_pixels (to_be_bytes w16 result) ≡ flat_map (λ s. replicate 2 s) (pixels byte) }
 {
     let mut bits = u16::from(byte);
@@ -57,7 +57,7 @@ fn fill_doubled(buffer: &mut [u8], bytes: &[u8])
     ensures { all_pixels buffer.new ≡ flat_map (λ s. replicate 2 s) (all_pixels bytes.now) }
 {
     for i in 0..bytes.len() {
-        let [high, low] = doubled(bytes[i]).to_be_bytes();
+        let [high, low] = double_bits(bytes[i]).to_be_bytes();
         buffer[2 * i] = high;
         buffer[2 * i + 1] = low;
     }

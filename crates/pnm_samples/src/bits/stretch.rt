@@ -20,7 +20,7 @@ const HALVES: usize = 32;
 impl Bits {
     /// Each pixel so many times. What a byte becomes is as many whole bytes: in a long row those of its
     /// left half and of its right half, one over the other.
-    pub(super) fn stretched(&self, alloc: Global, times: usize) -> Result<Bits, AllocError>
+    pub(super) fn stretch_pixels(&self, alloc: Global, times: usize) -> Result<Bits, AllocError>
         ensures { IfOk result (λ bits. bits ≡ flat_map (λ s. replicate times s) self.now) }
     {
         let (Some(count), Some(filled)) = (

@@ -1,5 +1,5 @@
 use Rattle.std.proofs.Common.{List, length, sym, ap, subst, ◌∙◌, arith, vec_capacity}
-use Rattle.pnm_stages.specs.Rings.{sent, received, known_items, SameProducer, SameConsumer}
+use Rattle.pnm_stages.specs.Rings.{sent, received, known_items, SameSender, SameReceiver}
 use Rattle.pnm_image.specs.declared.message.Message.{Message}
 use Rattle.pnm_flow.specs.Chains.{HasRunStages}
 use Rattle.pnm_flow.proofs.ChainSteps.{came_back, has_reserved, stages_joined}
@@ -24,8 +24,8 @@ returns-in-Some-rest-clause-ran g t c =
     c.in-Some-run_tool.rest c.in-Some-rest.chain c.in-Some-rest.beside c.in-Some-run_tool.ensures.beside c.in-Some-rest.is).0 in
     let last = c.in-Some-run_tool.ensures.ran in
     record {
-      same_input = subst (SameConsumer c.args.input) (sym c.joined.ensures.input) chain.same_input;
-      same_output = subst (SameProducer c.args.output) (sym c.joined.ensures.output) last.1;
+      same_input = subst (SameReceiver c.args.input) (sym c.joined.ensures.input) chain.same_input;
+      same_output = subst (SameSender c.args.output) (sym c.joined.ensures.output) last.1;
       ran = subst (λ (x : List Message). HasRunStages c.args.lanes c.args.tools.now c.joined.result.ends.items c.joined.result.links.items
           (received c.args.input) x (sent c.args.output) (sent c.joined.result.output)) (sym (ap received c.joined.ensures.input))
           (subst (λ (x : List Message). HasRunStages c.args.lanes c.args.tools.now c.joined.result.ends.items c.joined.result.links.items

@@ -10,22 +10,22 @@ use Rattle.pnm_flow.proofs.threaded.conclude.Goals as goal
 
 pub finish-writer-requires : goal.finish-writer-requires
 finish-writer-requires g c =
-    let collected = c.take_rest.ensures.collecting c.requires.taken.0 c.requires.taken.1 [] c.requires.taken.2 in
+    let collected = c.receive_rest.ensures.collecting c.requires.taken.0 c.requires.taken.1 [] c.requires.taken.2 in
     rw c.into_parts-downstream.ensures.0
-    (failed_so g.W.BytesOut.held g.W.BytesOut.failures c.requires.taken.0 c.requires.taken.1 (without_stop collected.took) c.take_rest.new.self.downstream
-    c.take_rest.new.self.downstream.output collected.put.taken)
+    (failed_so g.W.BytesOut.held g.W.BytesOut.failures c.requires.taken.0 c.requires.taken.1 (without_stop collected.took) c.receive_rest.new.self.downstream
+    c.receive_rest.new.self.downstream.output collected.put.taken)
 
 pub returns-clause-ran : goal.returns-clause-ran
 returns-clause-ran g c = λ first start lanes job lawful feeding collecting ran.
-    let collected = c.take_rest.ensures.collecting job.form start [] collecting in
+    let collected = c.receive_rest.ensures.collecting job.form start [] collecting in
     let fed : sent c.args.feeder.output ≡ ran.took ++ known_items c.look_beside.new.self =
     ap (λ (p : _). sent p) (sym c.into_parts-reader.ensures.1) ∙ sym c.look_beside.ensures.sender.1 ∙ sym c.look_beside.ensures.in_order
     ∙ ap (λ (x : List Message). x ++ known_items c.look_beside.new.self) (c.look_beside.ensures.looked.1 ∙ ran.input) in
-    let came : ran.gave ≡ collected.took ++ known_items c.take_rest.new.self.input =
-    sym ran.output ∙ sym c.take_rest.ensures.sender.1 ∙ sym c.take_rest.ensures.in_order
-    ∙ ap (λ (x : List Message). x ++ known_items c.take_rest.new.self.input) collected.came in
+    let came : ran.gave ≡ collected.took ++ known_items c.receive_rest.new.self.input =
+    sym ran.output ∙ sym c.receive_rest.ensures.sender.1 ∙ sym c.receive_rest.ensures.in_order
+    ∙ ap (λ (x : List Message). x ++ known_items c.receive_rest.new.self.input) collected.came in
     let over : Over g.R.BytesIn.left g.R.BytesIn.failures g.W.BytesOut.held g.W.BytesOut.failures first c.args.feeder.source start c.finish-writer.result.0
-    lanes job c.args.chain.ends.items c.args.feeder.input c.take_rest.new.self.has_ended c.finish-writer.result.1 = record {
+    lanes job c.args.chain.ends.items c.args.feeder.input c.receive_rest.new.self.has_ended c.finish-writer.result.1 = record {
       lawful = lawful;
       given = feeding.given;
       asked = feeding.asked;
@@ -41,11 +41,11 @@ returns-clause-ran g c = λ first start lanes job lawful feeding collecting ran.
       stages = ran.stages;
       due = ran.due;
       got = collected.took;
-      rest = known_items c.take_rest.new.self.input;
+      rest = known_items c.receive_rest.new.self.input;
       came = came;
       ended = collected.put.ended;
-      all = c.take_rest.ensures.rest;
-      sink = c.take_rest.new.self.downstream;
+      all = c.receive_rest.ensures.rest;
+      sink = c.receive_rest.new.self.downstream;
       taken = collected.put.taken;
       kept = rw c.into_parts-downstream.ensures.0 at c.finish-writer.ensures.bytes;
       broken = rw c.into_parts-downstream.ensures.0 at c.finish-writer.ensures.broken;
@@ -53,7 +53,7 @@ returns-clause-ran g c = λ first start lanes job lawful feeding collecting ran.
     } in
     rw (c.answer-answer.ensures, c.into_parts-reader.ensures.0, c.into_parts-reader.ensures.2, c.as_slice.ensures.value, c.into_parts-downstream.ensures.1)
     (over_has_run g.R.BytesIn.left g.R.BytesIn.failures g.W.BytesOut.held g.W.BytesOut.failures first c.args.feeder.source start c.finish-writer.result.0 lanes
-    job c.args.chain.ends.items c.args.feeder.input _ c.take_rest.new.self.has_ended c.finish-writer.result.1 over ran.count refl)
+    job c.args.chain.ends.items c.args.feeder.input _ c.receive_rest.new.self.has_ended c.finish-writer.result.1 over ran.count refl)
 
 pub returns-clause-started : goal.returns-clause-started
 returns-clause-started g c =

@@ -1,5 +1,5 @@
 use Rattle.std.proofs.Common.{length}
-use Rattle.pnm_stages.specs.Rings.{received, SameConsumer}
+use Rattle.pnm_stages.specs.Rings.{received, SameReceiver}
 use Rattle.pnm_image.specs.declared.message.Ending.TheVariants.{More}
 use Rattle.pnm_lanes.specs.Limits.{IsLaneCount}
 use Rattle.pnm_lanes.proofs.DealSteps.{IsDealing}
@@ -8,5 +8,5 @@ use Rattle.pnm_lanes.proofs.dealing.deal_all.Given as goal
 -- what has been dealt so far
 abbrev pub invariant-loop : goal.invariant-loop
 invariant-loop g l =
-    SameConsumer l.fn.input l.input × IsLaneCount (length l.outputs)
+    SameReceiver l.fn.input l.input × IsLaneCount (length l.outputs)
     × IsDealing More l.place (received l.fn.input) (received l.input) l.fn.outputs l.outputs

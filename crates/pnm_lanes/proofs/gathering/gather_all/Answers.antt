@@ -18,8 +18,8 @@ loop-init g c = (
 
 pub returns-in-Err-clause-inputs : goal.returns-in-Err-clause-inputs
 returns-in-Err-clause-inputs g c =
-    same_inputs c.args.inputs.now c.take_next.new.inputs c.break_off.new.inputs
-    (same_inputs c.args.inputs.now c.loop.inputs c.take_next.new.inputs c.loop.invariant.0 c.take_next.ensures.inputs) c.break_off.ensures.inputs
+    same_inputs c.args.inputs.now c.receive_next.new.inputs c.break_off.new.inputs
+    (same_inputs c.args.inputs.now c.loop.inputs c.receive_next.new.inputs c.loop.invariant.0 c.receive_next.ensures.inputs) c.break_off.ensures.inputs
 
 pub returns-in-Err-clause-output : goal.returns-in-Err-clause-output
 returns-in-Err-clause-output g c = same_output c.args.output.now c.loop.output c.break_off.new.output c.loop.invariant.1 c.break_off.ensures.output
@@ -27,19 +27,20 @@ returns-in-Err-clause-output g c = same_output c.args.output.now c.loop.output c
 pub returns-in-Err-clause-gathered : goal.returns-in-Err-clause-gathered
 returns-in-Err-clause-gathered g c =
     let count = as_many c.args.inputs.now c.loop.inputs c.loop.invariant.0 in
-    broken_off (length c.args.inputs.now) (length c.loop.inputs) c.loop.place c.in-Err.end c.break_off.result c.take_next.new.states c.break_off.new.states
-    (at_lane received c.args.inputs.now) (at_lane received c.loop.inputs) (at_lane received c.take_next.new.inputs) (at_lane received c.break_off.new.inputs)
-    (at_lane known_items c.take_next.new.inputs) (at_lane known_items c.break_off.new.inputs)
+    broken_off (length c.args.inputs.now) (length c.loop.inputs) c.loop.place c.in-Err.end c.break_off.result c.receive_next.new.states c.break_off.new.states
+    (at_lane received c.args.inputs.now) (at_lane received c.loop.inputs) (at_lane received c.receive_next.new.inputs) (at_lane received c.break_off.new.inputs)
+    (at_lane known_items c.receive_next.new.inputs) (at_lane known_items c.break_off.new.inputs)
     (sent c.args.output.now) (sent c.loop.output) (sent c.break_off.new.output) c.loop.invariant.2 c.requires.some count c.in-Err.ensures.taken
-    (subst (λ (n : ℕ). HasBrokenOffAll c.in-Err.end c.break_off.result n c.take_next.new.states c.break_off.new.states (at_lane received c.take_next.new.inputs)
+    (subst (λ (n : ℕ). HasBrokenOffAll c.in-Err.end c.break_off.result n c.receive_next.new.states c.break_off.new.states
+    (at_lane received c.receive_next.new.inputs)
     (at_lane received c.break_off.new.inputs)
-    (at_lane known_items c.take_next.new.inputs) (at_lane known_items c.break_off.new.inputs) (sent c.loop.output) (sent c.break_off.new.output))
-    (as_many c.loop.inputs c.take_next.new.inputs c.take_next.ensures.inputs) c.break_off.ensures.broken)
+    (at_lane known_items c.receive_next.new.inputs) (at_lane known_items c.break_off.new.inputs) (sent c.loop.output) (sent c.break_off.new.output))
+    (as_many c.loop.inputs c.receive_next.new.inputs c.receive_next.ensures.inputs) c.break_off.ensures.broken)
 
 pub returns-then-not-send-clause-inputs : goal.returns-then-not-send-clause-inputs
 returns-then-not-send-clause-inputs g c =
-    same_inputs c.args.inputs.now c.take_next.new.inputs c.drain_all.new.inputs
-    (same_inputs c.args.inputs.now c.loop.inputs c.take_next.new.inputs c.loop.invariant.0 c.take_next.ensures.inputs) c.drain_all.ensures.inputs
+    same_inputs c.args.inputs.now c.receive_next.new.inputs c.drain_all.new.inputs
+    (same_inputs c.args.inputs.now c.loop.inputs c.receive_next.new.inputs c.loop.invariant.0 c.receive_next.ensures.inputs) c.drain_all.ensures.inputs
 
 pub returns-then-not-send-clause-output : goal.returns-then-not-send-clause-output
 returns-then-not-send-clause-output g c = same_output c.args.output.now c.loop.output c.send.new.self c.loop.invariant.1 c.send.ensures.ring
@@ -47,18 +48,18 @@ returns-then-not-send-clause-output g c = same_output c.args.output.now c.loop.o
 pub returns-then-not-send-clause-gathered : goal.returns-then-not-send-clause-gathered
 returns-then-not-send-clause-gathered g c =
     let count = as_many c.args.inputs.now c.loop.inputs c.loop.invariant.0 in
-    not_told (length c.args.inputs.now) (length c.loop.inputs) c.loop.place c.in-Ok.message c.drain_all.result c.take_next.new.states c.drain_all.new.states
-    (at_lane received c.args.inputs.now) (at_lane received c.loop.inputs) (at_lane received c.take_next.new.inputs) (at_lane received c.drain_all.new.inputs)
-    (at_lane known_items c.take_next.new.inputs) (at_lane known_items c.drain_all.new.inputs)
+    not_told (length c.args.inputs.now) (length c.loop.inputs) c.loop.place c.in-Ok.message c.drain_all.result c.receive_next.new.states c.drain_all.new.states
+    (at_lane received c.args.inputs.now) (at_lane received c.loop.inputs) (at_lane received c.receive_next.new.inputs) (at_lane received c.drain_all.new.inputs)
+    (at_lane known_items c.receive_next.new.inputs) (at_lane known_items c.drain_all.new.inputs)
     (sent c.args.output.now) (sent c.loop.output) (sent c.send.new.self) c.loop.invariant.2 c.requires.some count c.in-Ok.ensures.taken
     (c.if-not-send.ensures.gone refl)
-    (subst (λ (n : ℕ). HasDrainedAll n c.drain_all.result c.take_next.new.states c.drain_all.new.states (at_lane received c.take_next.new.inputs)
+    (subst (λ (n : ℕ). HasDrainedAll n c.drain_all.result c.receive_next.new.states c.drain_all.new.states (at_lane received c.receive_next.new.inputs)
     (at_lane received c.drain_all.new.inputs)
-    (at_lane known_items c.take_next.new.inputs) (at_lane known_items c.drain_all.new.inputs))
-    (as_many c.loop.inputs c.take_next.new.inputs c.take_next.ensures.inputs) c.drain_all.ensures.drained)
+    (at_lane known_items c.receive_next.new.inputs) (at_lane known_items c.drain_all.new.inputs))
+    (as_many c.loop.inputs c.receive_next.new.inputs c.receive_next.ensures.inputs) c.drain_all.ensures.drained)
 
 pub returns-in-Whole-clause-inputs : goal.returns-in-Whole-clause-inputs
-returns-in-Whole-clause-inputs g c = same_inputs c.args.inputs.now c.loop.inputs c.take_next.new.inputs c.loop.invariant.0 c.take_next.ensures.inputs
+returns-in-Whole-clause-inputs g c = same_inputs c.args.inputs.now c.loop.inputs c.receive_next.new.inputs c.loop.invariant.0 c.receive_next.ensures.inputs
 
 pub returns-in-Whole-clause-output : goal.returns-in-Whole-clause-output
 returns-in-Whole-clause-output g c = same_output c.args.output.now c.loop.output c.send.new.self c.loop.invariant.1 c.send.ensures.ring
@@ -66,18 +67,19 @@ returns-in-Whole-clause-output g c = same_output c.args.output.now c.loop.output
 pub returns-in-Whole-clause-gathered : goal.returns-in-Whole-clause-gathered
 returns-in-Whole-clause-gathered g c =
     let count = as_many c.args.inputs.now c.loop.inputs c.loop.invariant.0 in
-    ends_well (length c.args.inputs.now) (length c.loop.inputs) c.loop.place c.in-Ok.message c.take_next.new.states
-    (at_lane received c.args.inputs.now) (at_lane received c.loop.inputs) (at_lane received c.take_next.new.inputs) (at_lane known_items c.take_next.new.inputs)
+    ends_well (length c.args.inputs.now) (length c.loop.inputs) c.loop.place c.in-Ok.message c.receive_next.new.states
+    (at_lane received c.args.inputs.now) (at_lane received c.loop.inputs) (at_lane received c.receive_next.new.inputs)
+    (at_lane known_items c.receive_next.new.inputs)
     (sent c.args.output.now) (sent c.loop.output) (sent c.send.new.self) c.loop.invariant.2 c.requires.some count c.in-Ok.ensures.taken
     (c.if-not-send.ensures.given refl)
     (sym c.ending-ending.ensures ∙ c.in-Whole.is)
 
 pub loop-preserved : goal.loop-preserved
 loop-preserved g c = (
-  same_inputs c.args.inputs.now c.loop.inputs c.take_next.new.inputs c.loop.invariant.0 c.take_next.ensures.inputs,
+  same_inputs c.args.inputs.now c.loop.inputs c.receive_next.new.inputs c.loop.invariant.0 c.receive_next.ensures.inputs,
   same_output c.args.output.now c.loop.output c.send.new.self c.loop.invariant.1 c.send.ensures.ring,
-  goes_further (length c.args.inputs.now) (length c.loop.inputs) c.loop.place c.step.new.self c.in-Ok.message c.take_next.new.states
-      (at_lane received c.args.inputs.now) (at_lane received c.loop.inputs) (at_lane received c.take_next.new.inputs) (sent c.args.output.now)
+  goes_further (length c.args.inputs.now) (length c.loop.inputs) c.loop.place c.step.new.self c.in-Ok.message c.receive_next.new.states
+      (at_lane received c.args.inputs.now) (at_lane received c.loop.inputs) (at_lane received c.receive_next.new.inputs) (sent c.args.output.now)
       (sent c.loop.output) (sent c.send.new.self)
       c.loop.invariant.2 (as_many c.args.inputs.now c.loop.inputs c.loop.invariant.0) c.in-Ok.ensures.taken (c.if-not-send.ensures.given refl) c.step.ensures
       (says_more c.ending-ending.result c.in-Ok.message c.ending-ending.ensures c.in-More.is c.in-Ok.ensures.taken.is),

@@ -1,5 +1,5 @@
 use Rattle.std.proofs.Common.{length}
-use Rattle.pnm_stages.specs.Rings.{sent, received, SameProducer}
+use Rattle.pnm_stages.specs.Rings.{sent, received, SameSender}
 use Rattle.pnm_lanes.specs.Gathers.{at_lane, AreSameInputs}
 use Rattle.pnm_lanes.proofs.GatherSteps.{IsGoing}
 use Rattle.pnm_lanes.proofs.gathering.gather_all.Given as goal
@@ -8,5 +8,5 @@ use Rattle.pnm_lanes.proofs.gathering.gather_all.Given as goal
 abbrev pub invariant-loop : goal.invariant-loop
 invariant-loop g l =
     AreSameInputs l.fn.inputs l.inputs
-    × SameProducer l.fn.output l.output
+    × SameSender l.fn.output l.output
     × IsGoing (length l.fn.inputs) l.place (at_lane received l.fn.inputs) (at_lane received l.inputs) (sent l.fn.output) (sent l.output)

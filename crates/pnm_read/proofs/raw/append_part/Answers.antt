@@ -6,7 +6,7 @@ use Rattle.pnm_read.proofs.raw.append_part.Goals as goal
 
 pub returns-then-count-eq0-clause-found : goal.returns-then-count-eq0-clause-found
 returns-then-count-eq0-clause-found g c =
-    words_cut c.args.maxval c.args.most c.bytes-bytes.result.now c.args.row.now.items (λ _. c.args.row.now.items) c.in_ok-fill.ensures.turn
+    words_cut c.args.maxval c.args.most c.bytes-bytes.result.now c.args.row.now.items (λ _. c.args.row.now.items) c.in_ok-fill.ensures.read_call
     c.in_ok-fill.ensures.enough c.bytes-bytes.ensures (sym c.min-count.ensures ∙ c.if-count-eq0.true) c.requires
 
 pub returns-in_err-append_wide-clause-found : goal.returns-in_err-append_wide-clause-found
@@ -14,11 +14,11 @@ returns-in_err-append_wide-clause-found g c =
     let p = err_from_is_err_and c.from_residual-in_err-append_wide.result c.from_residual-in_err-append_wide.ensures.1 in
     let few : c.min-count.result * 2 ≤ length (held_of c.fill.new.self) = rw (sym c.bytes-bytes.ensures) (omega arith) in
     rw (p.1, p.2) (words_fail c.args.maxval c.args.most c.min-count.result c.in_err-append_wide.field-0.0 c.args.row.now.items c.append_wide.new.row.items
-    c.args.row.now.items (λ _. c.append_wide.new.row.items) c.in_ok-fill.ensures.turn (omega arith) few
+    c.args.row.now.items (λ _. c.append_wide.new.row.items) c.in_ok-fill.ensures.read_call (omega arith) few
     (rw (sym c.bytes-bytes.ensures) c.in_err-append_wide.ensures))
 
 pub returns-clause-found : goal.returns-clause-found
 returns-clause-found g c =
     let few : c.min-count.result * 2 ≤ length (held_of c.fill.new.self) = rw (sym c.bytes-bytes.ensures) (omega arith) in
-    words_read c.args.maxval c.args.most c.min-count.result c.args.row.now.items c.append_wide.new.row.items c.in_ok-fill.ensures.turn (omega arith) few
+    words_read c.args.maxval c.args.most c.min-count.result c.args.row.now.items c.append_wide.new.row.items c.in_ok-fill.ensures.read_call (omega arith) few
     (rw (sym c.bytes-bytes.ensures) c.in_ok-append_wide.ensures) c.advance.ensures.reader c.advance.ensures.ended c.advance.ensures.held

@@ -1,5 +1,5 @@
 use Rattle.std.proofs.Common.{◌≡◌, None}
-use Rattle.pnm_stages.specs.Rings.{sent, received, SameProducer, SameConsumer}
+use Rattle.pnm_stages.specs.Rings.{sent, received, SameSender, SameReceiver}
 use Rattle.pnm_image.specs.declared.message.Ending.TheVariants.{More}
 use Rattle.pnm_stages.specs.FusedFilters.{refusal_in}
 use Rattle.pnm_stages.proofs.StagedSteps.{IsPassing}
@@ -8,7 +8,7 @@ use Rattle.pnm_stages.proofs.stage.pass_all.Given as goal
 -- what has passed so far
 abbrev pub invariant-loop : goal.invariant-loop
 invariant-loop g l =
-    SameConsumer l.fn.input l.input × SameProducer l.fn.output l.output
+    SameReceiver l.fn.input l.input × SameSender l.fn.output l.output
     × IsPassing g.F.Filter.at g.F.Filter.all_given g.F.Filter.stopped More l.fn.stage l.stage (received l.fn.input) (received l.input) (sent l.fn.output)
     (sent l.output)
     × (refusal_in l.stage ≡ None)

@@ -10,28 +10,28 @@ put_four-requires-clause-sizes g c = (
   omega (arith, c.requires.sizes.2, c.loop-group.invariant.many),
 )
 
-pub put_four-requires-clause-buffer : goal.put_four-requires-clause-buffer
-put_four-requires-clause-buffer g c =
+pub put_four-requires-clause-long : goal.put_four-requires-clause-long
+put_four-requires-clause-long g c =
     let y = 4 * c.loop-group.group in
     let rows = c.args.rows.now in
     let depth = c.args.depth in
     room_left _ c.args.at (c.args.at + y * depth + 4 * depth) (c.args.at + length rows * depth) _ c.args.columns.now c.loop-group.columns
-    (omega (arith, within y 4 (length rows) depth (omega arith))) c.requires.buffer c.loop-group.invariant
+    (omega (arith, within y 4 (length rows) depth (omega arith))) c.requires.long c.loop-group.invariant
 
 pub loop-group-preserved : goal.loop-group-preserved
 loop-group-preserved g c =
     four_behind c.args.first c.args.depth c.loop-group.group _ c.args.at c.args.rows.now c.args.columns.now c.loop-group.columns c.put_four.new.columns
     (omega arith) (omega arith) c.requires.rows c.loop-group.invariant c.put_four.ensures
 
-pub put_rows-requires-clause-buffer : goal.put_rows-requires-clause-buffer
-put_rows-requires-clause-buffer g c =
+pub put_rows-requires-clause-long : goal.put_rows-requires-clause-long
+put_rows-requires-clause-long g c =
     let rows = c.args.rows.now in
     let depth = c.args.depth in
     let y = 4 * (length rows / 4) in
     let rest = length (take (length rows - y) (drop y rows)) in
     let all : y + rest ≤ length rows = omega (arith, length-take (length rows - y) (drop y rows), length-drop y rows) in
     room_left _ c.args.at (c.args.at + y * depth + rest * depth) (c.args.at + length rows * depth) _ c.args.columns.now c.loop-group.columns
-    (omega (arith, within y rest (length rows) depth all)) c.requires.buffer c.loop-group.invariant
+    (omega (arith, within y rest (length rows) depth all)) c.requires.long c.loop-group.invariant
 
 pub returns : goal.returns
 returns g c =

@@ -9,7 +9,7 @@ loop-k-preserved g c =
     let k = c.loop-k.k in
     let v = c.index-columns-k.result in
     let rows = c.args.rows.now in
-    let buffer : at + 4 ≤ vec_len (get_or c.loop-k.columns k v) = omega (arith, c.requires.buffer k v (omega arith), c.loop-k.invariant.long k v) in
+    let buffer : at + 4 ≤ vec_len (get_or c.loop-k.columns k v) = omega (arith, c.requires.long k v (omega arith), c.loop-k.invariant.long k v) in
     column_stored k at _ (λ k. column_of 1 rows (c.args.first + k)) c.args.columns.now c.loop-k.columns v c.deref_mut.result.now c.copy_from_slice.new.self
     c.loop-k.invariant (omega arith) c.deref_mut.ensures.value
     (c.copy_from_slice.ensures.after

@@ -10,7 +10,7 @@ loop-k-preserved g c =
     let k = c.loop-k.k in
     let v = c.index-columns-k.result in
     let x = (c.args.first + k) * depth in
-    let buffer : at + depth ≤ vec_len (get_or c.loop-k.columns k v) = omega (arith, c.requires.buffer k v (omega arith), c.loop-k.invariant.long k v) in
+    let buffer : at + depth ≤ vec_len (get_or c.loop-k.columns k v) = omega (arith, c.requires.long k v (omega arith), c.loop-k.invariant.long k v) in
     let pixel : (x + depth) - x ≡ depth = omega arith in
     column_stored k at _ (λ k. pixel_of depth c.args.row.now (c.args.first + k)) c.args.columns.now c.loop-k.columns v c.deref_mut.result.now
     c.copy_from_slice.new.self

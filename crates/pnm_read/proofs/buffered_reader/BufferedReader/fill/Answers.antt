@@ -13,12 +13,12 @@ loop-self-smaller g c =
 pub loop-self-preserved : goal.loop-self-preserved
 loop-self-preserved g c =
     let goes_on : c.loop-self.self.ended ≡ false = search rules in (
-      fills_then g.met.R.BytesIn.same_later c.loop-self.invariant.0 c.in_ok-read_more.ensures.turn,
+      fills_then g.met.R.BytesIn.same_later c.loop-self.invariant.0 c.in_ok-read_more.ensures.read_call,
       λ enough. absurd (not_enough c.args.wanted c.args.self.now c.loop-self.self (c.loop-self.invariant.1 enough) enough goes_on
           (omega (arith, range_length c.loop-self.self.buffer.items c.loop-self.self.at c.loop-self.self.end))),
     )
 
-pub returns-in_err-read_more-clause-turn : goal.returns-in_err-read_more-clause-turn
-returns-in_err-read_more-clause-turn g c =
+pub returns-in_err-read_more-clause-read_call : goal.returns-in_err-read_more-clause-read_call
+returns-in_err-read_more-clause-read_call g c =
     let p = err_from_is_err_and c.from_residual.result c.from_residual.ensures.1 in
-    rw (p.1, p.2) (fills_not c.in_err-read_more.field-0.0 g.met.R.BytesIn.same_later c.loop-self.invariant.0 c.in_err-read_more.ensures.turn)
+    rw (p.1, p.2) (fills_not c.in_err-read_more.field-0.0 g.met.R.BytesIn.same_later c.loop-self.invariant.0 c.in_err-read_more.ensures.read_call)

@@ -1,10 +1,10 @@
 use Rattle.std.proofs.Common.{◌≡◌, ◌+◌, ◌-◌, Ok, length, if◌then◌else◌}
-use Rattle.pnm_read.specs.BufferedReaders.{Turn, Fills, held_of, HoldsEnough}
+use Rattle.pnm_read.specs.BufferedReaders.{ReadCall, Fills, held_of, HoldsEnough}
 use Rattle.pnm_read.proofs.buffered_reader.BufferedReader.fill.Given as goal
 
 abbrev pub invariant-loop-self : goal.invariant-loop-self
 invariant-loop-self g l =
-    Turn {A = Unit {0}} g.R.BytesIn.left g.R.BytesIn.failures g.R.BytesIn.same l.initial.self l.self (Ok tt) (Fills (Ok tt))
+    ReadCall {A = Unit {0}} g.R.BytesIn.left g.R.BytesIn.failures g.R.BytesIn.same l.initial.self l.self (Ok tt) (Fills (Ok tt))
     × (HoldsEnough l.wanted l.initial.self → l.self ≡ l.initial.self)
 
 abbrev pub decreases-loop-self : goal.decreases-loop-self

@@ -8,8 +8,8 @@ use Rattle.std.proofs.lemmas.Result.{err_from_is_err_and}
 use Rattle.pnm_read.proofs.ReadSteps.{turn_grown, turn_failed, range_grown}
 use Rattle.pnm_read.proofs.buffered_reader.BufferedReader.read_more.Goals as goal
 
-pub returns-clause-turn : goal.returns-clause-turn
-returns-clause-turn g c =
+pub returns-clause-read_call : goal.returns-clause-read_call
+returns-clause-read_call g c =
     let mid = c.move_to_front.new.self in
     let bytes : List ℕ = c.as_mut_slice.result.now in
     let target : List ℕ = c.read_into.new.target in
@@ -22,8 +22,8 @@ returns-clause-turn g c =
     ∙ ap (λ (l : List ℕ). l ++ take c.in_ok-self.field-0 target) (ap (λ (l : List ℕ). slice_range l mid.at mid.end) c.as_mut_slice.ensures.value
     ∙ c.move_to_front.ensures.held))
 
-pub returns-in_err-self-clause-turn : goal.returns-in_err-self-clause-turn
-returns-in_err-self-clause-turn g c =
+pub returns-in_err-self-clause-read_call : goal.returns-in_err-self-clause-read_call
+returns-in_err-self-clause-read_call g c =
     let p = err_from_is_err_and c.from_residual.result c.from_residual.ensures.1 in
     let r = c.in_err-self.ensures.read in
     rw (p.1, p.2) (turn_failed c.in_err-self.field-0.0 c.read_into.new.target c.move_to_front.new.self.reader r c.move_to_front.ensures.reader

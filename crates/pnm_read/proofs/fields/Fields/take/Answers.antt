@@ -15,9 +15,9 @@ returns-in-Number-clause-judged c =
 
 pub returns-in-TupleType-clause-judged : goal.returns-in-TupleType-clause-judged
 returns-in-TupleType-clause-judged c =
-    line_of_type c.args.self.now c.add_tuple_type.new.self c.args.line.now c.trimmed.result.now c.add_tuple_type.result
+    line_of_type c.args.self.now c.add_tuple_type.new.self c.args.line.now c.trim.result.now c.add_tuple_type.result
     (sym (c.of.ensures ∙ ap kind_of_token c.split_token.ensures.token) ∙ c.in-TupleType.is)
-    (c.trimmed.ensures ∙ ap (λ (l : List ℕ). trimmed_end (trimmed_start l)) c.split_token.ensures.rest) c.add_tuple_type.ensures
+    (c.trim.ensures ∙ ap (λ (l : List ℕ). trimmed_end (trimmed_start l)) c.split_token.ensures.rest) c.add_tuple_type.ensures
 
 pub returns-in-End-clause-judged : goal.returns-in-End-clause-judged
 returns-in-End-clause-judged c = line_of_end c.args.self.now c.args.line.now (sym (c.of.ensures ∙ ap kind_of_token c.split_token.ensures.token) ∙ c.in-End.is)

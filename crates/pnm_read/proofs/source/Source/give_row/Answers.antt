@@ -5,8 +5,8 @@ use Rattle.pnm_read.proofs.Turns.{turn_ok_so, turn_err_so, no_fault}
 use Rattle.pnm_read.proofs.AwaitedSteps.{awaits_row, row_is_left, row_answered, row_fault}
 use Rattle.pnm_read.proofs.source.Source.give_row.Goals as goal
 
-pub returns-in-Ok-clause-turn : goal.returns-in-Ok-clause-turn
-returns-in-Ok-clause-turn g c = λ awaited is.
+pub returns-in-Ok-clause-read_call : goal.returns-in-Ok-clause-read_call
+returns-in-Ok-clause-read_call g c = λ awaited is.
     let state = c.args.self.now.state in
     let other = c.in-Awaits.awaited in
     let raster = c.in-RowOrEnd.raster in
@@ -16,8 +16,8 @@ returns-in-Ok-clause-turn g c = λ awaited is.
     (λ b a o. row_answered awaited raster c.after_row.result c.in-Ok.row b a is_row left o c.after_row.ensures.format c.after_row.ensures.shape
     c.after_row.ensures.y) c.in-Ok.ensures
 
-pub returns-in-Err-clause-turn : goal.returns-in-Err-clause-turn
-returns-in-Err-clause-turn g c = λ awaited is.
+pub returns-in-Err-clause-read_call : goal.returns-in-Err-clause-read_call
+returns-in-Err-clause-read_call g c = λ awaited is.
     let state = c.args.self.now.state in
     let other = c.in-Awaits.awaited in
     let raster = c.in-RowOrEnd.raster in

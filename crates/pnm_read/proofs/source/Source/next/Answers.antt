@@ -7,18 +7,18 @@ pub returns-in-Awaits : goal.returns-in-Awaits
 returns-in-Awaits g c =
     let awaited = c.in-Awaits.awaited in
     record {
-      told = tells c.args.self.now c.go_on.new.self awaited c.go_on.result c.in-Awaits.is c.go_on.ensures.turn;
-      no_stop = never_stop c.args.self.now c.go_on.new.self awaited c.go_on.result c.go_on.ensures.turn;
-      end = end_stays c.args.self.now c.go_on.new.self c.go_on.ensures.turn;
-      unread = λ seen. any_may_come g.R.BytesIn.left c.go_on.new.self (end_stays c.args.self.now c.go_on.new.self c.go_on.ensures.turn seen);
-      ended = ended_after c.args.self.now c.go_on.new.self awaited c.go_on.result c.go_on.ensures.turn;
+      told = tells c.args.self.now c.go_on.new.self awaited c.go_on.result c.in-Awaits.is c.go_on.ensures.read_call;
+      no_stop = never_stop c.args.self.now c.go_on.new.self awaited c.go_on.result c.go_on.ensures.read_call;
+      end = end_stays c.args.self.now c.go_on.new.self c.go_on.ensures.read_call;
+      unread = λ seen. any_may_come g.R.BytesIn.left c.go_on.new.self (end_stays c.args.self.now c.go_on.new.self c.go_on.ensures.read_call seen);
+      ended = ended_after c.args.self.now c.go_on.new.self awaited c.go_on.result c.go_on.ensures.read_call;
       for_good = λ e. absurd (going_not_ended c.args.self.now.state awaited c.in-Awaits.is e);
       stopped = c.go_on.ensures.stopped;
       stays = λ k e. absurd (going_not_stopped c.args.self.now.state awaited k c.in-Awaits.is e);
-      same_device = c.go_on.ensures.turn.same_device;
-      count = c.go_on.ensures.turn.count;
-      read_failed = λ e. inr (c.go_on.ensures.turn.read_failed e).0;
-      not_at_end = λ e. inr (not_at_end c.args.self.now c.go_on.new.self c.go_on.ensures.turn e);
+      same_device = c.go_on.ensures.read_call.same_device;
+      count = c.go_on.ensures.read_call.count;
+      read_failed = λ e. inr (c.go_on.ensures.read_call.read_failed e).0;
+      not_at_end = λ e. inr (not_at_end c.args.self.now c.go_on.new.self c.go_on.ensures.read_call e);
     }
 
 pub returns-in-Ended-clause-told : goal.returns-in-Ended-clause-told

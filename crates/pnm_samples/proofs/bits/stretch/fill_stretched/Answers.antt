@@ -1,7 +1,6 @@
 use Rattle.std.proofs.Common.{◌≡◌, ◌+◌, ◌-◌, ◌*◌, ◌/◌, ◌%◌, ◌<◌, ◌≤◌, ℕ, length, get_or, take, drop, refl, ap, arith}
 use Rattle.std.proofs.Math.Nat.{mul-le-mul_right}
 use Rattle.std.proofs.lemmas.List.{length-take, length-drop}
-use Rattle.pnm_samples.specs.Stretches.{stride}
 use Rattle.pnm_samples.proofs.StretchLaws.{stretched_more, overlaid_byte, half_at}
 use Rattle.pnm_samples.proofs.bits.stretch.fill_stretched.Goals as goal
 

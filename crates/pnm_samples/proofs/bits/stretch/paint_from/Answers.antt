@@ -1,4 +1,4 @@
-use Rattle.std.proofs.Common.{rules, ◌≡◌, ◌+◌, ◌-◌, ◌*◌, ◌/◌, ◌%◌, ◌++◌, ◌<◌, ◌∙◌, List, ℕ, length, get_or, set, take, replicate, ap, arith}
+use Rattle.std.proofs.Common.{rules, ◌≡◌, ◌+◌, ◌-◌, ◌/◌, ◌%◌, ◌<◌, ◌∙◌, List, ℕ, length, get_or, set, replicate, ap, arith}
 use Rattle.pnm_samples.specs.Pixels.{all_pixels}
 use Rattle.pnm_samples.proofs.PixelLaws.{filled_up}
 use Rattle.pnm_samples.proofs.StretchLaws.{painted_bytes, painted_within}

@@ -1,7 +1,7 @@
-use Rattle.std.proofs.Common.{◌≡◌, ◌+◌, ◌-◌, ◌*◌, ◌++◌, ◌∙◌, ℕ, List, length, replicate, sym, ap, ap₂, subst, refl, arith, length-append}
+use Rattle.std.proofs.Common.{◌≡◌, ◌+◌, ◌-◌, ◌*◌, ◌++◌, ◌∙◌, ℕ, List, length, replicate, sym, ap, subst, refl, arith}
 use Rattle.std.specs.Vec.{with_items}
 use Rattle.std.proofs.lemmas.Grind.{common_steps}
-use Rattle.std.proofs.lemmas.List.{take_all, length-replicate, length-drop}
+use Rattle.std.proofs.lemmas.List.{take_all, length-drop}
 use borrow.Rule.Slice.PartMut.{put_mid}
 use Rattle.pnm_samples.specs.Stretches.{AreStretched, stride}
 use Rattle.pnm_samples.proofs.StretchLaws.{half_more}

@@ -1,7 +1,7 @@
 use Rattle.std.proofs.Common.{◌≡◌}
-use Rattle.pnm_stages.specs.Rings.{received, SameConsumer}
+use Rattle.pnm_stages.specs.Rings.{received, SameReceiver}
 use Rattle.pnm_stages.proofs.receiver.Receiver.receive.Given as goal
 
 -- nothing was received
 abbrev pub invariant-loop : goal.invariant-loop
-invariant-loop g l = SameConsumer l.fn.self l.self × (received l.self ≡ received l.fn.self)
+invariant-loop g l = SameReceiver l.fn.self l.self × (received l.self ≡ received l.fn.self)

@@ -8,4 +8,4 @@ returns-clause-row c =
     let s = c.args.shape in
     let numbers = c.as_slice-numbers.ensures.value ∙ ap (λ (p : Picks). p.numbers) c.self.view_is in
     row_of_channel c.args.self.now s c.args._y c.args.row
-    ∙ ap (λ (l : List ℕ). l ∷ []) (sym (c.in_ok-picked.ensures ∙ ap (λ (l : List ℕ). picked_samples l s c.args.row) numbers))
+    ∙ ap (λ (l : List ℕ). l ∷ []) (sym (c.in_ok-pick_planes.ensures ∙ ap (λ (l : List ℕ). picked_samples l s c.args.row) numbers))

@@ -12,8 +12,8 @@ returns-then-y-self-clause-row c =
       | then-y-self-via-else-y-self+then-self-y b ↦ inr (b.if-y-self.false, b.if-self-y.true)
     ])
 
-pub kept-requires-clause-columns : goal.kept-requires-clause-columns
-kept-requires-clause-columns c =
+pub keep_columns-requires-clause-columns : goal.keep_columns-requires-clause-columns
+keep_columns-requires-clause-columns c =
     let w = c.args.self.now in
     keeps_within w.cut c.args.shape w.columns c.args.row c.args.row (sym c.requires.ready.columns) refl c.requires.row.1.count
 

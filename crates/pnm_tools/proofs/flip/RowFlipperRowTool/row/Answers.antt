@@ -9,4 +9,4 @@ returns-clause-row c =
     let way = c.args.self.now in
     row_stays way c.args.shape c.args._y c.args.row c.requires.ready.stays
     ∙ ap (λ (t : Turn). turned_row t c.args.shape c.args.row ∷ []) (sym (c.turn.ensures ∙ ap turn_of c.self.view_is))
-    ∙ ap (λ (row : List ℕ). row ∷ []) (sym c.in_ok-turned.ensures)
+    ∙ ap (λ (row : List ℕ). row ∷ []) (sym c.in_ok-turn_row.ensures)

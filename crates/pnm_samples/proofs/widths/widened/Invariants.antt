@@ -1,6 +1,0 @@
-use Rattle.std.proofs.Common.{◌≡◌, take, length}
-use Rattle.pnm_samples.proofs.widths.widened.Given as goal
-
--- the bytes that have passed
-abbrev pub invariant-loop-at : goal.invariant-loop-at
-invariant-loop-at l = (length l.words.items ≡ length l.bytes) × (take l.at l.words.items ≡ take l.at l.bytes)
