@@ -1,6 +1,7 @@
 -- What a feeder has sent, once it has asked its source for one message more.
 use Rattle.std.proofs.Common.{◌≡◌, ◌⊎◌, ℕ, List, [], ◌∷◌, ◌++◌, Option, Some, None, Ok, Err, refl, sym, ap, subst, ◌∙◌, append_assoc, append-nil}
 use Rattle.pnm_stages.specs.Rings.{sent}
+use Rattle.pnm_stages.specs.declared.sender.Sender.{Sender}
 use Rattle.pnm_image.specs.Devices.{Failed}
 use Rattle.pnm_image.specs.declared.message.Message.{Message}
 use Rattle.pnm_image.specs.declared.message.Message.TheVariants.{Stop}
@@ -11,7 +12,7 @@ use Rattle.pnm_read.specs.Sources.{reader_of, stopped_by, MayGive, SeesEnd, Tell
 use Rattle.pnm_read.proofs.Consumed.{consumes_then}
 use Rattle.pnm_read.proofs.Turns.{no_fault}
 use Rattle.pnm_flow.specs.declared.feeder.Feeder.{Feeder}
-use Rattle.pnm_flow.specs.Feeders.{HasAsked, HasAskedAll, HasAskedBy, IsFeeding, closing_messages, waiting_messages}
+use Rattle.pnm_flow.specs.Feeders.{HasAsked, HasAskedAll, HasAskedBy, IsFeeding, closing_messages}
 use Rattle.pnm_flow.proofs.FeedingSteps.{may_give, IsUnreadAfter, unread_after, read_failure, fault_answer, given_is_sound, open_in_call, failed_in_call}
 
 -- ---- the source
@@ -79,72 +80,68 @@ asked_until left failures first source next given fault asked t unread anything 
 
 -- ---- the feeder
 
--- where nothing waits and the source hasn't ended, all that it gave was sent
+-- where the source hasn't ended, all that it gave was sent
 sent_so_far : {R : Type 0} (left : R → Option (List ℕ)) (failures : R → ℕ) (first : Source R) (before : List Message) (f : Feeder R)
-    → f.held ≡ None → f.input ≡ None → (feeding : IsFeeding left failures first before f) → sent f.output ≡ before ++ feeding.given
-sent_so_far left failures first before f held input feeding =
-    sym (append-nil (sent f.output)) ∙ ap (λ h. sent f.output ++ waiting_messages h) (sym held) ∙ feeding.passed
-    ∙ ap (λ i. before ++ (feeding.given ++ closing_messages i)) input ∙ ap (λ g. before ++ g) (append-nil feeding.given)
+    → f.input ≡ None → (feeding : IsFeeding left failures first before f) → sent f.output ≡ before ++ feeding.given
+sent_so_far left failures first before f input feeding =
+    feeding.passed ∙ ap (λ i. before ++ (feeding.given ++ closing_messages i)) input ∙ ap (λ g. before ++ g) (append-nil feeding.given)
 
 -- the source hasn't ended
 asked_of : {R : Type 0} (left : R → Option (List ℕ)) (failures : R → ℕ) (first : Source R) (before : List Message) (f : Feeder R)
     → f.input ≡ None → (feeding : IsFeeding left failures first before f) → HasAsked left failures first f.source feeding.given
 asked_of left failures first before f input feeding = subst (HasAskedBy left failures first f.source feeding.given) input feeding.asked
 
--- a message was given, and waits for room
+-- a message was given, and sent
 pub feeds_more : {R : Type 0} (left : R → Option (List ℕ)) (failures : R → ℕ) (first : Source R) (before : List Message) (f : Feeder R) (next : Source R)
-    (m : Message)
-    → f.held ≡ None → f.input ≡ None
+    (m : Message) (output : Sender) (images : ℕ)
+    → f.input ≡ None
+    → sent output ≡ sent f.output ++ m ∷ []
     → Tells left f.source (Ok (Some m)) next
     → (SeesEnd left f.source → SeesEnd left next)
     → IsUnreadAfter left f.source next
     → failures (reader_of next) ≡ failures (reader_of f.source)
     → IsFeeding left failures first before f
-    → IsFeeding left failures first before (record { source = next; output = f.output; held = Some m; input = f.input; is_gone = f.is_gone; images = f.images })
-feeds_more left failures first before f next m held input t end unread count feeding =
+    → IsFeeding left failures first before (record { source = next; output = output; input = f.input; is_gone = f.is_gone; images = images })
+feeds_more left failures first before f next m output images input added t end unread count feeding =
     let asked : HasAsked left failures first next (feeding.given ++ m ∷ []) =
     asked_more left failures first f.source next feeding.given m (asked_of left failures first before f input feeding) t end unread count in
     record {
       given = feeding.given ++ m ∷ [];
       asked = subst (HasAskedBy left failures first next (feeding.given ++ m ∷ [])) (sym input) asked;
-      passed = ap (λ s. s ++ m ∷ []) (sent_so_far left failures first before f held input feeding) ∙ append_assoc before feeding.given (m ∷ [])
+      passed = added ∙ ap (λ s. s ++ m ∷ []) (sent_so_far left failures first before f input feeding) ∙ append_assoc before feeding.given (m ∷ [])
           ∙ ap (λ g. before ++ g) (sym (append-nil (feeding.given ++ m ∷ []))) ∙ ap (λ i. before ++ ((feeding.given ++ m ∷ []) ++ closing_messages i))
           (sym input);
-      none_waits = λ e. absurd cc;
     }
 
 -- the stream has ended
 pub feeds_all : {R : Type 0} (left : R → Option (List ℕ)) (failures : R → ℕ) (first : Source R) (before : List Message) (f : Feeder R) (next : Source R)
-    → f.held ≡ None → f.input ≡ None
+    → f.input ≡ None
     → Tells left f.source (Ok None) next
     → IsUnreadAfter left f.source next
     → failures (reader_of next) ≡ failures (reader_of f.source)
     → IsFeeding left failures first before f
-    → IsFeeding left failures first before
-    (record { source = next; output = f.output; held = f.held; input = Some (Ok tt); is_gone = f.is_gone; images = f.images })
-feeds_all left failures first before f next held input t unread count feeding = record {
+    → IsFeeding left failures first before (record { source = next; output = f.output; input = Some (Ok tt); is_gone = f.is_gone; images = f.images })
+feeds_all left failures first before f next input t unread count feeding = record {
   given = feeding.given;
   asked = asked_all left failures first f.source next feeding.given (asked_of left failures first before f input feeding) t unread count;
   passed = feeding.passed ∙ ap (λ i. before ++ (feeding.given ++ closing_messages i)) input;
-  none_waits = λ e. held;
 }
 
--- the input had a fault, and Stop waits for room
+-- the input had a fault, and Stop was sent
 pub feeds_until : {R : Type 0} (left : R → Option (List ℕ)) (failures : R → ℕ) (first : Source R) (before : List Message) (f : Feeder R) (next : Source R)
-    (fault : InputFault)
-    → f.held ≡ None → f.input ≡ None
+    (fault : InputFault) (output : Sender)
+    → f.input ≡ None
+    → sent output ≡ sent f.output ++ Stop ∷ []
     → Tells left f.source (Err fault) next
     → IsUnreadAfter left f.source next
     → (fault ≡ ReadFailed → (stopped_by f.source ≡ Some ReadFailed) ⊎ ((rest : List ℕ) → MayGive next rest))
     → (fault ≡ ReadFailed → (stopped_by f.source ≡ Some ReadFailed) ⊎ Failed (failures (reader_of f.source)) (failures (reader_of next)))
     → ((fault_answer fault ≡ Err ReadFailed → ⊥) → failures (reader_of next) ≡ failures (reader_of f.source))
     → IsFeeding left failures first before f
-    → IsFeeding left failures first before
-    (record { source = next; output = f.output; held = Some Stop; input = Some (Err fault); is_gone = f.is_gone; images = f.images })
-feeds_until left failures first before f next fault held input t unread anything failed count feeding = record {
+    → IsFeeding left failures first before (record { source = next; output = output; input = Some (Err fault); is_gone = f.is_gone; images = f.images })
+feeds_until left failures first before f next fault output input added t unread anything failed count feeding = record {
   given = feeding.given;
   asked = asked_until left failures first f.source next feeding.given fault (asked_of left failures first before f input feeding) t unread anything failed
       count;
-  passed = ap (λ s. s ++ Stop ∷ []) (sent_so_far left failures first before f held input feeding) ∙ append_assoc before feeding.given (Stop ∷ []);
-  none_waits = λ e. absurd cc;
+  passed = added ∙ ap (λ s. s ++ Stop ∷ []) (sent_so_far left failures first before f input feeding) ∙ append_assoc before feeding.given (Stop ∷ []);
 }

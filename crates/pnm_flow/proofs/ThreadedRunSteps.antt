@@ -145,9 +145,7 @@ pub record Over {R W : Type 0} (left : R → Option (List ℕ)) (reader_failures
   pub given : List Message
   pub asked : HasAskedBy left reader_failures first source given input
   pub fed : List Message
-  pub unfed : List Message
-  pub passed : fed ++ unfed ≡ given ++ closing_messages input
-  pub none_waits : input ≡ Some (Ok tt) → unfed ≡ []
+  pub passed : fed ≡ given ++ closing_messages input
   pub took : List Message
   pub untaken : List Message
   pub received : fed ≡ took ++ untaken
@@ -179,13 +177,12 @@ closing_is_cut given (Some (Ok x)) sound = ap without_stop (append-nil given) �
 closing_is_cut given (Some (Err fault)) sound = stop_is_cut given
 
 -- images that complete what the source gave complete what was accepted of it
-accepted_completed : (given closed accepted a b c fed took : List Message) (is : List Image) → AreSound given → without_stop closed ≡ given → fed ++ c ≡ closed
+accepted_completed : (given closed accepted a b fed took : List Message) (is : List Image) → AreSound given → without_stop closed ≡ given → fed ≡ closed
     → fed ≡ took ++ b → took ≡ accepted ++ a → Completes is given → Completes is accepted
-accepted_completed given closed accepted a b c fed took is sound cut passed received parts completes =
-    let whole : accepted ++ (a ++ (b ++ c)) ≡ closed =
-    sym (append_assoc accepted a (b ++ c)) ∙ sym (append_assoc (accepted ++ a) b c) ∙ ap (λ (x : List Message). (x ++ b) ++ c) (sym parts)
-    ∙ ap (λ (x : List Message). x ++ c) (sym received) ∙ passed in
-    let prefix = subst (IsPrefixOf (without_stop accepted)) (ap without_stop whole ∙ cut) (prefix_without_stop accepted (a ++ (b ++ c))) in
+accepted_completed given closed accepted a b fed took is sound cut passed received parts completes =
+    let whole : accepted ++ (a ++ b) ≡ closed =
+    sym (append_assoc accepted a b) ∙ ap (λ (x : List Message). x ++ b) (sym parts) ∙ sym received ∙ passed in
+    let prefix = subst (IsPrefixOf (without_stop accepted)) (ap without_stop whole ∙ cut) (prefix_without_stop accepted (a ++ b)) in
     let of_given = subst (λ (x : List Message). IsPrefixOf x (messages_of_stream is)) (sound_keeps_all given sound.sound) completes.prefix in
     record { images = completes.images; prefix = prefix_of_prefix (without_stop accepted) given (messages_of_stream is) prefix of_given }
 
@@ -199,7 +196,7 @@ ran_over left reader_failures held failures first source start done lanes job en
     let prefix = subst (λ (x : List Message). IsPrefixOf (without_stop over.got) (without_stop x)) (sym over.came) (prefix_without_stop over.got over.rest) in
     let due : (is : List Image) → Completes is over.given → IsPrefixOf (without_stop over.got) (due_in_turn job.tools is) = λ is completes.
     prefix_of_prefix (without_stop over.got) (without_stop over.gave) (due_in_turn job.tools is) prefix
-    (over.due.prefix is (accepted_completed over.given (over.given ++ closing_messages input) over.due.accepted over.due.rest over.untaken over.unfed over.fed
+    (over.due.prefix is (accepted_completed over.given (over.given ++ closing_messages input) over.due.accepted over.due.rest over.untaken over.fed
     over.took is sound
     (closing_is_cut over.given input sound) over.passed over.received over.due.parts completes)) in
     record {
@@ -322,8 +319,7 @@ took_all : {R W : Type 0} (left : R → Option (List ℕ)) (reader_failures : R 
     → (EndsBy Whole over.given) × (over.took ≡ over.given)
 took_all left reader_failures held failures first source start done lanes job ends has_ended output over there =
     let whole = given_whole left reader_failures first source over.given over.asked in
-    let all : over.fed ≡ over.given = sym (append-nil over.fed) ∙ ap (λ (x : List Message). over.fed ++ x) (sym (over.none_waits refl)) ∙ over.passed
-    ∙ append-nil over.given in
+    let all : over.fed ≡ over.given = over.passed ∙ append-nil over.given in
     let ended = first_received lanes job.tools ends over.links over.took over.gave over.stages there in
     let none = nothing_follows over.took over.untaken ended (subst IsEnded (sym all ∙ over.received) (inl whole)) in
     (whole, sym (whole_list over.fed over.took over.untaken over.received none) ∙ all)
@@ -383,8 +379,7 @@ all_sent left reader_failures held failures first source start done lanes job en
     let said = over.asked.told rest.0 (rest_follows (Ok tt) reader rest.0 rest.1) in
     let text_is : said_of text ≡ over.given = ap said_of rest.2 ∙ said.0 in
     let whole = given_whole left reader_failures first source over.given over.asked in
-    let fed : over.given ≡ over.took ++ over.untaken = sym (append-nil over.given) ∙ sym over.passed
-    ∙ ap (λ (x : List Message). over.fed ++ x) (over.none_waits refl) ∙ append-nil over.fed ∙ over.received in
+    let fed : over.given ≡ over.took ++ over.untaken = sym (append-nil over.given) ∙ sym over.passed ∙ over.received in
     let ran = ran_over left reader_failures held failures first source start done lanes job ends (Some (Ok tt)) has_ended output over in
     record {
       ends = ends;

@@ -47,25 +47,18 @@ closing_messages None = []
 closing_messages (Some (Ok _)) = []
 closing_messages (Some (Err fault)) = Stop ∷ []
 
--- the message that waits for room
-abbrev pub waiting_messages : Option Message → List Message
-waiting_messages None = []
-waiting_messages (Some m) = m ∷ []
-
--- what the source gave, and after its fault Stop, was sent after what had been sent before, but for what waits for room
+-- what the source gave, and after its fault Stop, was sent after what had been sent before
 pub record IsFeeding {R : Type 0} (left : R → Option (List ℕ)) (failures : R → ℕ) (first : Source R)
     (before : List Message) (f : Feeder R) : Type 0 where
   pub given : List Message
   pub asked : HasAskedBy left failures first f.source given f.input
-  pub passed : sent f.output ++ waiting_messages f.held ≡ before ++ (given ++ closing_messages f.input)
-  pub none_waits : f.input ≡ Some (Ok tt) → f.held ≡ None
+  pub passed : sent f.output ≡ before ++ (given ++ closing_messages f.input)
 
 -- no more is to be sent, or can be
-abbrev pub feeding_is_over : Bool → Option Message → Option (Result (Unit {0}) InputFault) → Bool
-feeding_is_over true held input = true
-feeding_is_over false None None = false
-feeding_is_over false None (Some result) = true
-feeding_is_over false (Some m) input = false
+abbrev pub feeding_is_over : Bool → Option (Result (Unit {0}) InputFault) → Bool
+feeding_is_over true input = true
+feeding_is_over false None = false
+feeding_is_over false (Some result) = true
 
 abbrev pub feeder_is_over : {R : Type 0} → Feeder R → Bool
-feeder_is_over f = feeding_is_over f.is_gone f.held f.input
+feeder_is_over f = feeding_is_over f.is_gone f.input

@@ -69,7 +69,7 @@ impl<W: BytesOut + Drop> Collector<W> {
         let message = self.input.receive_known();
         let is_end = message.ends_image();
         self.images = self.images.saturating_add(u64::from(is_end));
-        self.put(message);
+        self.put(&message);
         true
     }
 
@@ -94,16 +94,17 @@ impl<W: BytesOut + Drop> Collector<W> {
         self.input.look_beside(sender);
         while !self.has_ended && self.input.has_seen_message() {
             let message = self.input.receive_known();
-            self.put(message);
+            self.put(&message);
+            drop(message);
         }
     }
 
     /// Writes the message, unless it is Stop.
-    fn put(&mut self, message: Message)
+    fn put(&mut self, message: &Message)
         requires going { self.old.has_ended ≡ false }
         ensures put { (form : FormValue) (start : W) (l : List MessageValue)
             → HasCollected W.held W.failures form start l self.old
-            → HasCollected W.held W.failures form start (l ++ message ∷ []) self.new }
+            → HasCollected W.held W.failures form start (l ++ message.now ∷ []) self.new }
         ensures ring { (self.new.input ≡ self.old.input) × (self.new.is_gone ≡ self.old.is_gone) }
         ensures same_device { W.same (output_of self.old.downstream) (output_of self.new.downstream) }
     {

@@ -40,17 +40,17 @@ impl<W: BytesOut + Drop> Downstream<W> {
 
     /// Writes the message, unless there was a fault of the output before, and flushes the writer at an image's end, so
     /// that the image isn't kept back until the next one comes.
-    pub fn put(&mut self, message: Message)
+    pub fn put(&mut self, message: &Message)
         ensures taken { (form : FormValue) (start : W) (messages : List MessageValue)
             → HasTaken W.held W.failures form start messages self.old
-            → HasTaken W.held W.failures form start (messages ++ message ∷ []) self.new }
+            → HasTaken W.held W.failures form start (messages ++ message.now ∷ []) self.new }
         ensures same_device { W.same (output_of self.old) (output_of self.new) }
     {
         if self.output.is_ok() {
-            self.output = self.sink.put(&message);
+            self.output = self.sink.put(message);
             if self.output.is_ok() {
-                self.summary.count(&message);
-                self.pass_on(&message);
+                self.summary.count(message);
+                self.pass_on(message);
             }
         }
     }

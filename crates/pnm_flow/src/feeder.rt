@@ -1,7 +1,7 @@
 //! What stands before the tools of a run: the source, and the ring that its messages go into.
 
-ghost use Rattle.std.specs.Prelude.{◌≡◌, List, Bool, false, Some, None};
-ghost use Rattle.pnm_stages.specs.Rings.{sent, SameSender};
+ghost use Rattle.std.specs.Prelude.{◌≡◌, ◌<◌, List, Bool, false, Some, None};
+ghost use Rattle.pnm_stages.specs.Rings.{sent, known_free, SameSender};
 ghost use Rattle.pnm_image.specs.declared.message.Message.{Message as MessageValue};
 ghost use Rattle.pnm_read.specs.Sources.{reader_of, IsFreshSource as IsUnread};
 
@@ -15,9 +15,7 @@ use std::sync::Wait;
 pub struct Feeder<R> {
     source: Source<R>,
     output: Sender,
-    /// The message that waits for room in the ring.
-    held: Option<Message>,
-    /// How the source has ended, once it has.
+    /// How the source has ended, once it has. After a fault Stop was sent.
     input: Option<Result<(), InputFault>>,
     /// The ring's other end was seen dropped.
     is_gone: bool,
@@ -41,7 +39,6 @@ impl<R: BytesIn + Drop> Feeder<R> {
         Feeder {
             source,
             output,
-            held: None,
             input: None,
             is_gone: false,
             images: 0,
@@ -53,7 +50,7 @@ impl<R: BytesIn + Drop> Feeder<R> {
     pub fn is_over(&self) -> bool
         ensures { result ≡ feeder_is_over self.now }
     {
-        self.is_gone || (self.held.is_none() && self.input.is_some())
+        self.is_gone || self.input.is_some()
     }
 
     /// The images whose end was sent, up to `u64::MAX`.
@@ -63,12 +60,7 @@ impl<R: BytesIn + Drop> Feeder<R> {
 
     /// Whether to ask the source for the next message may have to wait for its reader.
     pub fn would_read(&self) -> bool {
-        self.held.is_none() && !self.source.holds_next()
-    }
-
-    /// Whether a message waits for room in the ring.
-    pub fn waits_for_room(&self) -> bool {
-        self.held.is_some()
+        !self.source.holds_next()
     }
 
     /// Wakes the first tool's thread, where something was sent that it wasn't woken for.
@@ -94,24 +86,10 @@ impl<R: BytesIn + Drop> Feeder<R> {
         self.output.wait(rt, backoff);
     }
 
-    /// Asks the source for a message, where none waits for room in the ring, and sends it. False where there is no
-    /// room.
+    /// Asks the source for its next message and sends it, where there is room for one in the ring. False where there is
+    /// none.
     pub fn turn(&mut self) -> bool
         requires going { feeder_is_over self.old ≡ false }
-        ensures feeding { (first : Source R) (before : List MessageValue)
-            → IsFeeding R.left R.failures first before self.old
-            → IsFeeding R.left R.failures first before self.new }
-        ensures ring { SameSender self.old.output self.new.output }
-        ensures same_device { R.same (reader_of self.old.source) (reader_of self.new.source) }
-    {
-        if self.held.is_none() {
-            self.ask();
-        }
-        self.send()
-    }
-
-    /// Sends the message that waits, if any. False where there is no room in the ring.
-    fn send(&mut self) -> bool
         ensures feeding { (first : Source R) (before : List MessageValue)
             → IsFeeding R.left R.failures first before self.old
             → IsFeeding R.left R.failures first before self.new }
@@ -122,29 +100,30 @@ impl<R: BytesIn + Drop> Feeder<R> {
             self.is_gone = self.output.is_abandoned();
             return self.is_gone;
         }
-        let Some(message) = self.held.take() else {
-            return true;
-        };
-        let is_end = message.ends_image();
-        self.output.send_reserved(message);
-        self.images = self.images.saturating_add(u64::from(is_end));
+        self.send_next();
         true
     }
 
-    /// Asks the source for the next message. After its fault, Stop is to be sent.
-    fn ask(&mut self)
-        requires going { (self.old.held ≡ None) × (self.old.input ≡ None) }
+    /// Asks the source for its next message and sends it, for which there is room. After the source's fault Stop is
+    /// sent.
+    fn send_next(&mut self)
+        requires going { self.old.input ≡ None }
+        requires room { 0 < known_free self.old.output }
         ensures feeding { (first : Source R) (before : List MessageValue)
             → IsFeeding R.left R.failures first before self.old
             → IsFeeding R.left R.failures first before self.new }
-        ensures ring { self.new.output ≡ self.old.output }
+        ensures ring { SameSender self.old.output self.new.output }
         ensures same_device { R.same (reader_of self.old.source) (reader_of self.new.source) }
     {
         match self.source.next() {
-            Ok(Some(message)) => self.held = Some(message),
+            Ok(Some(message)) => {
+                let is_end = message.ends_image();
+                self.output.send_reserved(message);
+                self.images = self.images.saturating_add(u64::from(is_end));
+            }
             Ok(None) => self.input = Some(Ok(())),
             Err(fault) => {
-                self.held = Some(Message::Stop);
+                self.output.send_reserved(Message::Stop);
                 self.input = Some(Err(fault));
             }
         }

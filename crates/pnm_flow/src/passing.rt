@@ -19,7 +19,7 @@ pub fn feed_through<F: Filter + Drop, W: BytesOut + Drop>(
     ensures same_device { W.same (output_of downstream.old) (output_of downstream.new) }
 {
     if stages.is_empty() {
-        downstream.put(message);
+        downstream.put(&message);
         return;
     }
     stages[0].feed(message);

@@ -84,8 +84,8 @@ fn take_turns<H: Wait, R: BytesIn + Drop, W: BytesOut + Drop>(
     unreachable!()
 }
 
-/// One turn of waiting for both rings: at the first where a message waits for room there, since the tools have enough
-/// to do then that something comes of it, and else at the last.
+/// One turn of waiting for both rings, where nothing can be done: at the first where there is more to be sent, since
+/// there is no room for it and so the tools have enough to do that something comes of it, and else at the last.
 fn wait<H: Wait, R: BytesIn + Drop, W: BytesOut + Drop>(
     rt: &H,
     feeder: &mut Feeder<R>,
@@ -95,7 +95,7 @@ fn wait<H: Wait, R: BytesIn + Drop, W: BytesOut + Drop>(
     ensures turned { HaveTurned R.left R.failures R.same W.held W.failures W.same feeder.old collector.now feeder.new
         collector.now }
 {
-    if feeder.waits_for_room() {
+    if may_feed(feeder, collector) {
         feeder.wait(rt, backoff);
     } else {
         feeder.wake_receiver();

@@ -59,6 +59,7 @@ impl Receiver {
     /// The next message, which is there. It wakes the thread at the sending end on the edge: where none is left of the
     /// messages that were seen, or half a ring of them. So that one is woken once after it found no room, and seldom
     /// while it finds some.
+    #[inline(always)]
     pub fn receive_known(&mut self) -> Message
         requires { 0 < length (known_items self.old) }
         ensures ring { SameReceiver self.old self.new }
@@ -71,7 +72,8 @@ impl Receiver {
         if left == 0 || left == self.ring.capacity() / 2 {
             self.waker.wake_sender();
         }
-        recognise(message)
+        recognise(&message);
+        message
     }
 
     /// The next message, if one is there.
@@ -101,20 +103,36 @@ impl Receiver {
 
     /// The next message, once there is one; none once the ring is empty and its other end was seen dropped. That it is
     /// empty is known only of the messages that this end has seen in it.
+    #[inline(always)]
     pub fn receive<R: Wait>(&mut self, rt: &R, backoff: &mut Backoff) -> Option<Message>
         ensures ring { SameReceiver self.old self.new }
         ensures taken { IfSome result (λ m. received self.new ≡ received self.old ++ m ∷ []) }
         ensures message { IfSome result IsMessage }
         ensures none_seen { IfNone result ((received self.new ≡ received self.old) × (known_items self.new ≡ [])) }
     {
+        if self.has_message() || self.wait_for_message(rt, backoff) {
+            return Some(self.receive_known());
+        }
+        None
+    }
+
+    /// Waits until a message is there; false once the ring is empty and its other end was seen dropped. It stands apart
+    /// from `receive`, which mostly finds a message.
+    #[inline(never)]
+    fn wait_for_message<R: Wait>(&mut self, rt: &R, backoff: &mut Backoff) -> bool
+        ensures ring { SameReceiver self.old self.new }
+        ensures received { received self.new ≡ received self.old }
+        ensures some { IsTrue result → 0 < length (known_items self.new) }
+        ensures none { IsFalse result → known_items self.new ≡ [] }
+    {
         backoff.reset();
         for _ in rt.forever() {
             if self.has_message() {
-                return Some(self.receive_known());
+                return true;
             }
             // What was sent before the end was dropped is still there.
             if self.is_abandoned() {
-                return self.try_receive();
+                return self.has_message();
             }
             self.wait(rt, backoff);
         }
@@ -159,13 +177,11 @@ impl Receiver {
     }
 }
 
-/// The message itself. A proof learns that the head of an image keeps the rules of heads.
-fn recognise(message: Message) -> Message
-    ensures same { result ≡ message }
-    ensures message { IsMessage result }
+/// No effect. A proof learns that the head of an image keeps the rules of heads.
+fn recognise(message: &Message)
+    ensures { IsMessage message.now }
 {
-    if let Message::Begin(head) = &message {
+    if let Message::Begin(head) = message {
         let _ = head.shape();
     }
-    message
 }

@@ -97,15 +97,30 @@ impl Sender {
 
     /// Sends the message, once there is room; false, and the message is lost, where there is none and the receiving end
     /// was seen dropped.
+    #[inline(always)]
     pub fn send<R: Wait>(&mut self, rt: &R, message: Message, backoff: &mut Backoff) -> bool
         ensures ring { SameSender self.old self.new }
         ensures given { IsTrue result → sent self.new ≡ sent self.old ++ message ∷ [] }
         ensures gone { IsFalse result → sent self.new ≡ sent self.old }
     {
+        if self.has_room() || self.wait_for_room(rt, backoff) {
+            self.send_reserved(message);
+            return true;
+        }
+        false
+    }
+
+    /// Waits until there is room; false where there is none and the receiving end was seen dropped. It stands apart
+    /// from `send`, which mostly finds room.
+    #[inline(never)]
+    fn wait_for_room<R: Wait>(&mut self, rt: &R, backoff: &mut Backoff) -> bool
+        ensures ring { SameSender self.old self.new }
+        ensures sent { sent self.new ≡ sent self.old }
+        ensures room { IsTrue result → 0 < known_free self.new }
+    {
         backoff.reset();
         for _ in rt.forever() {
             if self.has_room() {
-                self.send_reserved(message);
                 return true;
             }
             if self.is_abandoned() {

@@ -159,12 +159,13 @@ fn comes_before_it_takes<R: Threads + Wait + Abort + Sync>(
     assert_eq!(rt; (seen.missed.load(SeqCst), seen.early.load(SeqCst)), (0, 0));
 }
 
-/// Over rings of one message the caller holds one that waits for room, each ring before the stage that is held one, and
-/// each stage before it one: the image's head, of nine bytes, and 2 k - 1 rows where stage k is held.
+/// Over rings of one message each ring before the stage that is held holds one, and each stage before it one: the
+/// image's head, of nine bytes, and 2 k - 2 rows where stage k is held. The caller holds none, and doesn't read for
+/// one.
 #[test]
 fn each_stage_comes_before_it_takes(rt: HostRuntime) {
     let tools = [Tool::Invert, Tool::Invert, Tool::Invert];
-    for (stage, most) in [(1, 10), (2, 12), (3, 14)] {
+    for (stage, most) in [(1, 9), (2, 11), (3, 13)] {
         comes_before_it_takes(
             &rt,
             rt.alloc(),
@@ -178,10 +179,10 @@ fn each_stage_comes_before_it_takes(rt: HostRuntime) {
 }
 
 /// Each lane has been sent the head. Where the first one is held the first row waits for room with the dealer, where
-/// the second is the second; the ring before the dealer and the caller hold a row each.
+/// the second is the second; the ring before the dealer holds a row.
 #[test]
 fn each_lane_comes_before_it_takes(rt: HostRuntime) {
-    for (lane, most) in [(0, 12), (1, 13)] {
+    for (lane, most) in [(0, 11), (1, 12)] {
         let came = [1, 0, 0, 1, 0];
         comes_before_it_takes(&rt, rt.alloc(), &[Tool::Invert], 2, (1, lane), most, came);
     }

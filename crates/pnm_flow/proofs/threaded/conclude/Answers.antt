@@ -2,7 +2,6 @@ use Rattle.std.proofs.Common.{◌≡◌, List, [], ◌++◌, refl, sym, ap, ◌�
 use Rattle.pnm_stages.specs.Rings.{sent, known_items}
 use Rattle.pnm_image.specs.declared.message.Message.{Message}
 use Rattle.pnm_image.specs.Messages.{without_stop}
-use Rattle.pnm_flow.specs.Feeders.{waiting_messages}
 use Rattle.pnm_flow.proofs.RunSteps.{failed_so}
 use Rattle.pnm_flow.proofs.ThreadedRunSteps.{Over}
 use Rattle.pnm_flow.proofs.ThreadedAnswerSteps.{over_has_run, was_started}
@@ -30,9 +29,7 @@ returns-clause-ran g c = λ first start lanes job lawful feeding collecting ran.
       given = feeding.given;
       asked = feeding.asked;
       fed = sent c.args.feeder.output;
-      unfed = waiting_messages c.args.feeder.held;
       passed = feeding.passed;
-      none_waits = λ is. ap waiting_messages (feeding.none_waits is);
       took = ran.took;
       untaken = known_items c.look_beside.new.self;
       received = fed;

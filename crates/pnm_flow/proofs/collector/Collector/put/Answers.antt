@@ -10,9 +10,9 @@ pub returns-in-More-clause-put : goal.returns-in-More-clause-put
 returns-in-More-clause-put g c = λ form start l was.
     let same = sym c.ending.ensures ∙ c.in-More.is in
     record {
-      ended = ends_more c.args.self.now.has_ended l c.args.message c.requires.going was.ended same;
+      ended = ends_more c.args.self.now.has_ended l c.args.message.now c.requires.going was.ended same;
       taken = subst (λ (x : List Message). HasTaken g.W.BytesOut.held g.W.BytesOut.failures form start x c.put.new.self)
-          (keeps_last More c.args.self.now.has_ended l c.args.message tt c.requires.going was.ended same)
+          (keeps_last More c.args.self.now.has_ended l c.args.message.now tt c.requires.going was.ended same)
           (c.put.ensures.taken form start (without_stop l) was.taken);
     }
 
@@ -20,9 +20,9 @@ pub returns-in-Whole-clause-put : goal.returns-in-Whole-clause-put
 returns-in-Whole-clause-put g c = λ form start l was.
     let same = sym c.ending.ensures ∙ c.in-Whole.is in
     record {
-      ended = ends_whole c.args.self.now.has_ended l c.args.message c.requires.going was.ended same;
+      ended = ends_whole c.args.self.now.has_ended l c.args.message.now c.requires.going was.ended same;
       taken = subst (λ (x : List Message). HasTaken g.W.BytesOut.held g.W.BytesOut.failures form start x c.put-in-Whole.new.self)
-          (keeps_last Whole c.args.self.now.has_ended l c.args.message tt c.requires.going was.ended same)
+          (keeps_last Whole c.args.self.now.has_ended l c.args.message.now tt c.requires.going was.ended same)
           (c.put-in-Whole.ensures.taken form start (without_stop l) was.taken);
     }
 
@@ -30,7 +30,7 @@ pub returns-in-BrokenOff-clause-put : goal.returns-in-BrokenOff-clause-put
 returns-in-BrokenOff-clause-put g c = λ form start l was.
     let same = sym c.ending.ensures ∙ c.in-BrokenOff.is in
     record {
-      ended = ends_broken_off c.args.self.now.has_ended l c.args.message c.requires.going was.ended same;
+      ended = ends_broken_off c.args.self.now.has_ended l c.args.message.now c.requires.going was.ended same;
       taken = subst (λ (x : List Message). HasTaken g.W.BytesOut.held g.W.BytesOut.failures form start x c.args.self.now.downstream)
-          (cuts_last c.args.self.now.has_ended l c.args.message c.requires.going was.ended same) was.taken;
+          (cuts_last c.args.self.now.has_ended l c.args.message.now c.requires.going was.ended same) was.taken;
     }

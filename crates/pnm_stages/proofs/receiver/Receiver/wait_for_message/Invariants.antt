@@ -1,6 +1,6 @@
 use Rattle.std.proofs.Common.{◌≡◌}
 use Rattle.pnm_stages.specs.Rings.{received, SameReceiver}
-use Rattle.pnm_stages.proofs.receiver.Receiver.receive.Given as goal
+use Rattle.pnm_stages.proofs.receiver.Receiver.wait_for_message.Given as goal
 
 -- nothing was received
 abbrev pub invariant-loop : goal.invariant-loop

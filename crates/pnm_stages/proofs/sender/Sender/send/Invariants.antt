@@ -1,7 +1,0 @@
-use Rattle.std.proofs.Common.{◌≡◌}
-use Rattle.pnm_stages.specs.Rings.{sent, SameSender}
-use Rattle.pnm_stages.proofs.sender.Sender.send.Given as goal
-
--- nothing was sent
-abbrev pub invariant-loop : goal.invariant-loop
-invariant-loop g l = SameSender l.fn.self l.self × (sent l.self ≡ sent l.fn.self) × (l.message ≡ l.fn.message)
