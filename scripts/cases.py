@@ -351,7 +351,7 @@ def write_line(line, stored_line):
             for shift in range(numbers[3], numbers[4] + 1):
                 row = [min(NUMBERS[(x + shift) % 13], maxval) for x in range(width * planes)]
                 text = f"P{3 if planes == 3 else 2}\n{width} 1\n{maxval}\n{lines_of(map(str, row))}"
-                told += [tell_text(text.encode())] * (2 if maxval < 256 else 1)
+                told += [f" end{tell_text(text.encode())}"] * (2 if maxval < 256 else 1)
         return told
     if word == "pixels":
         first = numbers[0]
@@ -361,7 +361,7 @@ def write_line(line, stored_line):
                 pixels += f"{byte:08b}"
                 byte = (5 * byte + first) % 256
             text = f"P1\n{width} 1\n{lines_of(pixels[:width])}"
-            told += [tell_text(text.encode())] * 3
+            told += [f" end{tell_text(text.encode())}"] * 3
         return told
     if word in ("raw", "plain", "sips") and LONG.search(stored_line):
         raise ValueError("a long text that isn't worked out")

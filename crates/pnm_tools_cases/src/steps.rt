@@ -1,5 +1,5 @@
-//! Steps of a tool at work. A message is fed, and all is taken that the tool gives then. With a `~` before it, that
-//! isn't told; with a `!`, nothing is taken. `?` takes one answer. A fault is told, and whether it doesn't stay.
+//! Steps of a tool at work. A message is fed, and all is taken that the tool gives then. With a `~` before it, no
+//! message is told; with a `!`, nothing is taken. `?` takes one answer. A fault is told, and whether it doesn't stay.
 
 use super::tasks::{Task, tell_at_work};
 use pnm_image::{Message, SampleSlice, Samples};
@@ -15,7 +15,7 @@ const MOST_ANSWERS: usize = 100_000;
 enum Step {
     /// All that is given then is told.
     Passes,
-    /// It isn't told.
+    /// All is taken, and a fault alone is told.
     Drops,
     /// It isn't taken.
     Takes,
@@ -99,7 +99,7 @@ fn pass<'a, F: Filter>(
     for message in messages {
         match state.feed(message) {
             Ok(()) if step == Step::Passes => take_all(state, told)?,
-            Ok(()) if step == Step::Drops => take_all(state, &mut String::new(alloc))?,
+            Ok(()) if step == Step::Drops => drop_all(state, told)?,
             Ok(()) => {}
             Err(fault) => {
                 write!(told, " {fault}")?;
@@ -124,6 +124,18 @@ fn take_all<F: Filter>(state: &mut F, told: &mut String) -> Result<(), AllocErro
     for _ in 0..MOST_ANSWERS {
         match state.next() {
             Ok(Some(message)) => tell_message(told, &message)?,
+            Ok(None) => return Ok(()),
+            Err(fault) => return write!(told, " {fault}"),
+        }
+    }
+    told.push_str(" and more")
+}
+
+/// Takes all that is given until nothing is, and adds a fault.
+fn drop_all<F: Filter>(state: &mut F, told: &mut String) -> Result<(), AllocError> {
+    for _ in 0..MOST_ANSWERS {
+        match state.next() {
+            Ok(Some(message)) => drop(message),
             Ok(None) => return Ok(()),
             Err(fault) => return write!(told, " {fault}"),
         }

@@ -1,5 +1,6 @@
 //! Plain images of one made row, of many widths.
 
+use super::sinks::tell_end;
 use pnm_image::{Device, Kind, Message, SampleWidth, Shape};
 use pnm_test_support::{Sweep, Unmade, cut_number, cut_word, head_of, held, number_of, tell_text};
 use pnm_write::{Form, Sink};
@@ -42,7 +43,8 @@ fn add_image(
             write!(&mut told, " {fault}")?;
         }
     }
-    let (writer, _) = sink.finish();
+    let (writer, end) = sink.finish();
+    tell_end(&mut told, end)?;
     tell_text(&mut told, writer.into_inner().as_slice())?;
     sweep.add(told.as_str());
     Ok(())

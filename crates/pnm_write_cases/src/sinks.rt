@@ -41,7 +41,7 @@ fn tell_put<W: BytesOut>(
 }
 
 /// Adds how a stream ends.
-fn tell_end(told: &mut String, end: Result<(), SinkFault>) -> Result<(), AllocError> {
+pub fn tell_end(told: &mut String, end: Result<(), SinkFault>) -> Result<(), AllocError> {
     told.push_str(" end")?;
     match end {
         Ok(()) => Ok(()),
