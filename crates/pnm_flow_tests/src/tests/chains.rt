@@ -3,8 +3,7 @@
 ghost use Rattle.std.specs.Prelude.{IsTrue};
 ghost use Rattle.pnm_tools.specs.Chains.{AreLawfulTools};
 
-use super::ways::{WAYS, Way, run_by};
-use pnm_chain::parse_chain;
+use super::ways::{Way, run_by};
 use pnm_flow::{RunFault, Summary};
 use pnm_image::{Device, Form};
 use pnm_tools::{CutBox, Planes, Tool};
@@ -12,54 +11,6 @@ use std::alloc::{AllocError, Global};
 use std::process::Abort;
 use std::sync::Wait;
 use std::thread::Threads;
-
-/// What a run of these tools over this input answers, and what it writes, in raw form. It is the same in each way.
-pub fn run_chain<R: Threads + Wait + Abort + Sync>(
-    rt: &R,
-    alloc: Global,
-    tools: &[Tool],
-    input: &[u8],
-) -> (Result<Summary, RunFault>, Vec<u8>) {
-    run_chain_in(rt, alloc, tools, Form::Raw, input)
-}
-
-/// What a run answers in each way, and what it writes, in this form.
-fn run_chain_in<R: Threads + Wait + Abort + Sync>(
-    rt: &R,
-    alloc: Global,
-    tools: &[Tool],
-    form: Form,
-    input: &[u8],
-) -> (Result<Summary, RunFault>, Vec<u8>) {
-    let first = run_form_by(rt, alloc, Way::OneThread, tools, form, input);
-    for way in WAYS {
-        let again = run_form_by(rt, alloc, way, tools, form, input);
-        assert!(rt; again == first, "by {way:?}");
-    }
-    first
-}
-
-/// What a run of the tools that the text spells answers and writes.
-pub fn run_text<R: Threads + Wait + Abort + Sync>(
-    rt: &R,
-    alloc: Global,
-    chain: &str,
-    input: &[u8],
-) -> (Result<Summary, RunFault>, Vec<u8>) {
-    let tools = parse_chain(alloc, chain).expect(rt, "the text of a chain");
-    run_chain(rt, alloc, tools.as_slice(), input)
-}
-
-/// What a run of the tools that the text spells answers and writes in plain form.
-pub fn run_plain_text<R: Threads + Wait + Abort + Sync>(
-    rt: &R,
-    alloc: Global,
-    chain: &str,
-    input: &[u8],
-) -> (Result<Summary, RunFault>, Vec<u8>) {
-    let tools = parse_chain(alloc, chain).expect(rt, "the text of a chain");
-    run_chain_in(rt, alloc, tools.as_slice(), Form::Plain, input)
-}
 
 /// What a run of the tools answers in this way alone, and what it writes, in raw form.
 pub fn run_chain_by<R: Threads + Wait + Abort + Sync>(
