@@ -240,12 +240,14 @@ fn bound_of(held: &SampleVec) -> u32
     }
 }
 
+/// What no byte is above. A proof learns of the call that it is so of these.
 fn byte_bound(bytes: &[u8]) -> u32
     ensures { All (λ sample. sample ≤ result) bytes.now }
 {
     GREATEST_BYTE
 }
 
+/// What no word is above. A proof learns of the call that it is so of these.
 fn word_bound(words: &[u16]) -> u32
     ensures { All (λ sample. sample ≤ result) words.now }
 {
