@@ -1,13 +1,13 @@
 //! Want of memory. `scripts/refused.py tests` refuses each allocation of these tests in turn.
 
 use super::chains::{LAST_COLUMN, are_lawful, channel};
-use super::rings::IMAGE;
+use super::rings::{IMAGE, holds};
 use super::threads::{INVERTED, chain};
 use super::ways::{Way, run_by};
 use pnm_flow::{OpenGate, Receiver, RunFault, StageEnd, Summary};
 use pnm_image::{Device, Form};
 use pnm_read::InputFault;
-use pnm_test_rings::{holds, ring, send_all};
+use pnm_test_rings::{ring, send_all};
 use pnm_test_support::{Part, Unmade, is_made_of};
 use pnm_tools::{FlipWay, Tool, ToolFault};
 use std::alloc::Global;

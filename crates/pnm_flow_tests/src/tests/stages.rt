@@ -1,10 +1,10 @@
 //! A stage over rings: how it ends, and what it sends.
 
 use super::chains::FROM_SECOND;
-use super::rings::IMAGE;
+use super::rings::{IMAGE, begins_with, holds, is_end};
 use pnm_flow::{OpenGate, Receiver, Sender, StageDone, StageEnd, run_stage};
 use pnm_image::Kind;
-use pnm_test_rings::{begins_with, holds, is_end, ring, send_all};
+use pnm_test_rings::{ring, send_all};
 use pnm_test_support::Part;
 use pnm_tools::{Tool, ToolFault};
 use std::alloc::Global;

@@ -1,10 +1,10 @@
 //! Chains of stages, each in a thread of its own.
 
 use super::chains::{FROM_SECOND, are_lawful};
-use super::rings::IMAGE;
+use super::rings::{IMAGE, begins_with, holds, is_end};
 use pnm_flow::{ChainDone, Gate, NoStart, OpenGate, Receiver, Sender, StageEnd, run_chain};
 use pnm_image::{Kind, Message};
-use pnm_test_rings::{begins_with, holds, is_end, ring, send_all};
+use pnm_test_rings::{ring, send_all};
 use pnm_test_support::{Part, Unmade, is_made_of, message};
 use pnm_tools::{Tool, ToolFault};
 use std::alloc::Global;

@@ -1,10 +1,10 @@
 //! Rows that are dealt to lanes: what each lane is sent, and how the dealing ends.
 
-use super::rings::{comes, sends};
+use super::rings::{comes, holds, is_end, sends};
 use pnm_image::Kind;
 use pnm_lanes::{DealDone, deal};
 use pnm_stages::{Receiver, Sender, StageEnd};
-use pnm_test_rings::{holds, is_end, ring, send_all};
+use pnm_test_rings::{ring, send_all};
 use pnm_test_support::{Part, Unmade};
 use pnm_tools::ToolFault;
 use std::alloc::Global;

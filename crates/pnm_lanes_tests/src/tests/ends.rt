@@ -1,8 +1,9 @@
 //! The two ends of a ring, without a stage between.
 
+use super::rings::holds;
 use pnm_image::Kind;
 use pnm_stages::{Backoff, Receiver};
-use pnm_test_rings::{holds, ring, send_all};
+use pnm_test_rings::{ring, send_all};
 use pnm_test_support::{Part, is_made_of, message};
 use std::process::Abort;
 use std::sync::Wait;

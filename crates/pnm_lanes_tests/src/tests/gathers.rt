@@ -1,11 +1,11 @@
 //! Lanes that are gathered: what is sent of what each lane gives, and how the gathering ends.
 
 use super::deals::{dealt, rings};
-use super::rings::{comes, sends};
+use super::rings::{comes, holds, is_end, sends};
 use pnm_image::Kind;
 use pnm_lanes::{GatherDone, gather};
 use pnm_stages::{Receiver, Sender, StageEnd};
-use pnm_test_rings::{holds, is_end, ring, send_all};
+use pnm_test_rings::{ring, send_all};
 use pnm_test_support::{Part, Unmade};
 use pnm_tools::ToolFault;
 use std::alloc::Global;

@@ -1,10 +1,11 @@
 //! A tool over lanes, between two rings.
 
 use super::deals::TWO_ROWS;
+use super::rings::{holds, is_end};
 use pnm_image::Kind;
 use pnm_lanes::run_lanes;
 use pnm_stages::{OpenGate, StageEnd};
-use pnm_test_rings::{holds, is_end, ring, send_all};
+use pnm_test_rings::{ring, send_all};
 use pnm_test_support::Part;
 use pnm_tools::Tool;
 use std::test::Fail;
