@@ -14,46 +14,69 @@ mod runs;
 mod ways;
 
 use pnm_image::Form;
-use pnm_test_support::{Teller, Unmade, cut_at, cut_word, tell_lines};
+use pnm_test_support::{Unmade, cut_at, cut_word, text_of};
 use runs::Job;
 use std::alloc::Global;
+use std::io::{BufRead, BufReader};
 use std::str;
 use std::sync::Wait;
 use std::thread::Threads;
 
 fn main(rt: HostRuntime) -> Result<(), Unmade> {
-    tell_lines(&rt, &mut RunTeller { rt: &rt })
+    tell_lines(&rt)
 }
 
-/// Tells what runs answer.
-#[derive(Drop)]
-struct RunTeller<'a, R> {
-    rt: &'a R,
+/// Prints for each line of the standard input what comes of its case; a line that begins with `#` as it is. A method
+/// of `Teller` can't be told that its runtime may be shared between threads, so this stands here.
+fn tell_lines<H: AllocGlobal + Input + Print + Threads + Wait + Sync>(
+    rt: &H,
+) -> Result<(), Unmade> {
+    let alloc = rt.alloc();
+    for line in BufReader::new(alloc, rt.reader())?.lines(alloc) {
+        let line = line?;
+        let told = told_of(rt, alloc, line.as_str())?;
+        println!(rt; "{told}")?;
+    }
+    Ok(())
 }
 
-impl<R: Threads + Wait + Sync> Teller for RunTeller<'_, R> {
-    fn tell(
-        &mut self,
-        alloc: Global,
-        word: &[u8],
-        text: &[u8],
-        told: &mut String,
-    ) -> Result<(), Unmade> {
-        let (chain, input) = cut_chain(text);
-        let Ok(chain) = str::from_utf8(chain) else {
-            return Err(Unmade);
-        };
-        let form = if word == b"plain".as_slice() {
-            Form::Plain
-        } else {
-            Form::Raw
-        };
-        let job = Job { chain, form };
-        if word == b"cuts".as_slice() {
-            runs::tell_cuts(self.rt, alloc, job, input, told)
-        } else {
-            runs::tell_input(self.rt, alloc, job, input, told)
-        }
+/// What is told of a line, which is ` no case` where it isn't one, or can't be made.
+fn told_of<R: Threads + Wait + Sync>(rt: &R, alloc: Global, line: &str) -> Result<String, Unmade> {
+    let mut told = String::new(alloc);
+    if line.as_bytes().first() == Some(&b'#') {
+        told.push_str(line)?;
+        return Ok(told);
+    }
+    let (word, written) = cut_word(line.as_bytes());
+    let text = text_of(alloc, written)?;
+    if let Err(Unmade) = tell(rt, alloc, word, text.as_slice(), &mut told) {
+        told.push_str(" no case")?;
+    }
+    Ok(told)
+}
+
+/// Adds what comes of a case: of a word, and the text after it.
+fn tell<R: Threads + Wait + Sync>(
+    rt: &R,
+    alloc: Global,
+    word: &[u8],
+    text: &[u8],
+    told: &mut String,
+) -> Result<(), Unmade> {
+    let (chain, input) = cut_chain(text);
+    let Ok(chain) = str::from_utf8(chain) else {
+        return Err(Unmade);
+    };
+    let form = if word == b"plain".as_slice() {
+        Form::Plain
+    } else {
+        Form::Raw
+    };
+    let job = Job { chain, form };
+    if word == b"cuts".as_slice() {
+        runs::tell_cuts(rt, alloc, job, input, told)
+    } else {
+        runs::tell_input(rt, alloc, job, input, told)
     }
 }
 
