@@ -1,10 +1,8 @@
 //! Tells what runs answer and write. A line of standard input is a word, the text of a chain in parentheses, and an
 //! input; escapes are those of texts (`pnm_test_support`). A line that begins with `#` is given back.
 //!
-//! | Line | What is told |
-//! |---|---|
-//! | `raw (CHAIN) INPUT`, `plain (CHAIN) INPUT` | the images and rows of the output, or the fault; and the bytes |
-//! | `cuts (CHAIN) INPUT` | the same of each prefix of the input, with the length from which on it is that |
+//! - `raw (CHAIN) INPUT`, `plain (CHAIN) INPUT`: the images and rows of the output, or the fault; and the bytes
+//! - `cuts (CHAIN) INPUT`: the same of each prefix of the input, with the length from which on it is that
 //!
 //! Each input is run in one thread, and over threads with several rings and lanes (`ways`): where one of these runs
 //! answers or writes something else, that is told, too.

@@ -1,23 +1,21 @@
 //! Tells what a source answers to written texts. A line of standard input is a case: how it is told, and the text with
 //! its escapes (`pnm_test_support`). A line that begins with `#` is given back.
 //!
-//! | Line | What is told |
-//! |---|---|
-//! | `text TEXT` | the answers, which are the same however few bytes a read gives, and no read follows one that gave
-//! none |
-//! | `long TEXT` | the answers to a long text, whole and 4,097 bytes a read |
-//! | `cuts TEXT` | the answers to each prefix of the text, by the length from which on they are those |
-//! | `fails TEXT` | the answers where a read of a byte each fails, by its number |
-//! | `reads MOST FAILING TEXT` | the answers, and what each read asked for and got: at most MOST bytes, and nothing at
-//! read FAILING |
-//! | `ahead COUNT TEXT` | how many reads of a byte each were made before the first answer, and after each |
-//! | `held COUNT TEXT` | whether the source tells of each of so many answers that a read will be made for it |
-//! | `width TEXT` | how the samples of the first row are held |
-//! | `changes SET TEXT`, `inserts SET TEXT` | how many texts, and the CRC-32 of the answers, to all texts with a byte
-//! of the set in the place of another, or between two others |
-//! | `image TEXT`, then `streams`, `after TEXT` | how many texts, and the CRC-32 of the answers, to these images one
-//! after another, and to them with a text after them |
-//! | `names` | the printed faults |
+//! - `text TEXT`: the answers, which are the same however few bytes a read gives, and no read follows one that gave
+//!   none
+//! - `long TEXT`: the answers to a long text, whole and 4,097 bytes a read
+//! - `cuts TEXT`: the answers to each prefix of the text, by the length from which on they are those
+//! - `fails TEXT`: the answers where a read of a byte each fails, by its number
+//! - `reads MOST FAILING TEXT`: the answers, and what each read asked for and got: at most MOST bytes, and nothing at
+//!   read FAILING
+//! - `ahead COUNT TEXT`: how many reads of a byte each were made before the first answer, and after each
+//! - `held COUNT TEXT`: whether the source tells of each of so many answers that a read will be made for it
+//! - `width TEXT`: how the samples of the first row are held
+//! - `changes SET TEXT`, `inserts SET TEXT`: how many texts, and the CRC-32 of the answers, to all texts with a byte of
+//!   the set in the place of another, or between two others
+//! - `image TEXT`, then `streams`, `after TEXT`: how many texts, and the CRC-32 of the answers, to these images one
+//!   after another, and to them with a text after them
+//! - `names`: the printed faults
 #![tactic(auto)]
 
 mod answers;

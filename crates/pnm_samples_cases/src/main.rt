@@ -1,22 +1,19 @@
 //! Tells what rows of bits, bytes and words hold. A line of standard input is a word, and numbers that its row goes by;
 //! texts have escapes (`pnm_test_support`). A line that begins with `#` is given back.
 //!
-//! | Line | What is told |
-//! |---|---|
-//! | `bits COUNT BYTES` | what a row of so many pixels holds (`pixels`), made of these bytes |
-//! | `new FIRST-LAST`, `invert ..`, `reverse ..` | a sweep over made rows (`made`) of so many pixels, as they are,
-//! inverted, and reversed |
-//! | `take FIRST-LAST` | a sweep over so many pixels of the bytes of 40 |
-//! | `append HELD-HELD START-START COUNT-COUNT` | a sweep over runs of a made row, after so many pixels |
-//! | `repeat FIRST-LAST TIMES-TIMES` | a sweep over made rows whose pixels are repeated |
-//! | `columns BYTE COUNT-COUNT HEIGHT-HEIGHT` | a sweep over columns of made images, from a byte on |
-//! | `words SAMPLES`, `bytes SAMPLES`, `pixels COUNT BYTES` | the greatest sample, and whether the row is within
-//! numbers |
-//! | `bound NUMBER` | the greatest sample of the row 3, 9, 0, of whose samples this number is a bound, and whether it
-//! is within numbers |
-//! | `left MAXVAL SAMPLE` | what is left of the maxval, of bytes where it is one, and of words |
-//! | `samples WIDTH FIRST-LAST`, `parts WIDTH` | a sweep over made rows of bits, bytes or words, and over parts of one
-//! of 20 samples |
+//! - `bits COUNT BYTES`: what a row of so many pixels holds (`pixels`), made of these bytes
+//! - `new FIRST-LAST`, `invert ..`, `reverse ..`: a sweep over made rows (`made`) of so many pixels, as they are,
+//!   inverted, and reversed
+//! - `take FIRST-LAST`: a sweep over so many pixels of the bytes of 40
+//! - `append HELD-HELD START-START COUNT-COUNT`: a sweep over runs of a made row, after so many pixels
+//! - `repeat FIRST-LAST TIMES-TIMES`: a sweep over made rows whose pixels are repeated
+//! - `columns BYTE COUNT-COUNT HEIGHT-HEIGHT`: a sweep over columns of made images, from a byte on
+//! - `words SAMPLES`, `bytes SAMPLES`, `pixels COUNT BYTES`: the greatest sample, and whether the row is within numbers
+//! - `bound NUMBER`: the greatest sample of a row of the samples 3, 9, 0, of whose samples this number is a bound, and
+//!   whether it is within numbers
+//! - `left MAXVAL SAMPLE`: what is left of the maxval, of bytes where it is one, and of words
+//! - `samples WIDTH FIRST-LAST`, `parts WIDTH`: a sweep over made rows of bits, bytes or words, and over parts of one
+//!   of 20 samples
 #![tactic(auto)]
 
 mod bounds;

@@ -2,20 +2,18 @@
 //! written as they are told (`pnm_test_support`), and escapes are those of texts. A line that begins with `#` is given
 //! back.
 //!
-//! | Line | What is told |
-//! |---|---|
-//! | `judge TOOL` | whether the tool is lawful, and whether row-wise |
-//! | `copy TOOL` | the tool, and a copy of it |
-//! | `tool TOOL` | what `judge` tells; the lines that follow are about this tool too, after `none` about no other |
-//! | `head HEAD` | the head of the result |
-//! | `run STEPS` | what the tool gives for each step (`steps`), however wide rows are held |
-//! | `lane STEPS` | what the tool gives for each step in a lane |
-//! | `held STEPS` | how the rows are held that the tool gives, of rows in as few bits as hold their samples |
-//! | `images SIZES` | a sweep over made images of these sizes in one stream (`sweeps`) |
-//! | `types FIRST-LAST WIDTH-WIDTHxHEIGHT-HEIGHT` | a sweep over made images of these types and sizes, each by itself |
-//! | `axis LENGTH START END SIZE` | what is kept of so many columns, and of so many rows, by these options of a cut |
-//! | `axes` | a sweep over the cuts of short images by each of the options so far across and down |
-//! | `names` | the printed faults |
+//! - `judge TOOL`: whether the tool is lawful, and whether row-wise
+//! - `copy TOOL`: the tool, and a copy of it
+//! - `tool TOOL`: what `judge` tells; the lines that follow are about this tool too, after `none` about no other
+//! - `head HEAD`: the head of the result
+//! - `run STEPS`: what the tool gives for each step (`steps`), however wide rows are held
+//! - `lane STEPS`: what the tool gives for each step in a lane
+//! - `held STEPS`: how the rows are held that the tool gives, of rows in as few bits as hold their samples
+//! - `images SIZES`: a sweep over made images of these sizes in one stream (`sweeps`)
+//! - `types FIRST-LAST WIDTH-WIDTHxHEIGHT-HEIGHT`: a sweep over made images of these types and sizes, each by itself
+//! - `axis LENGTH START END SIZE`: what is kept of so many columns, and of so many rows, by these options of a cut
+//! - `axes`: a sweep over the cuts of short images by each of the options so far across and down
+//! - `names`: the printed faults
 //!
 //! Of several tools the answers are told with the number from which on they are those; of a sweep how many images there
 //! were, and a CRC-32.

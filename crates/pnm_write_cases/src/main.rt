@@ -1,17 +1,14 @@
 //! Tells what a sink writes of written messages, and which it refuses. Messages are written as they are told, and
 //! escapes are those of texts (`pnm_test_support`). A line that begins with `#` is given back.
 //!
-//! | Line | What is told |
-//! |---|---|
-//! | `raw MESSAGES`, `plain MESSAGES` | the faults, how the stream ends, and the bytes |
-//! | `sips FORM MOST WRITE FLUSH MESSAGES` | the faults, how the stream ends, and the bytes where a write takes up to
-//! MOST bytes, and those after so many
-//! writes and so many flushes fail once, `_` for none; a sink is flushed after each image, and told is how often that
-//! was, too |
-//! | `numbers KIND MAXVAL WIDTH-WIDTH SHIFT-SHIFT` | a sweep over plain images of a made row (`made`), however it is
-//! held |
-//! | `pixels FIRST WIDTH-WIDTH` | a sweep over plain images of pixels of a made row |
-//! | `names` | the printed faults |
+//! - `raw MESSAGES`, `plain MESSAGES`: the faults, how the stream ends, and the bytes
+//! - `sips FORM MOST WRITE FLUSH MESSAGES`: the faults, how the stream ends, and the bytes where a write takes up to
+//!   MOST bytes, and those after so many writes and so many flushes fail once, `_` for none; a sink is flushed after
+//!   each image, and told is how often that was, too
+//! - `numbers KIND MAXVAL WIDTH-WIDTH SHIFT-SHIFT`: a sweep over plain images of a made row (`made`), however it is
+//!   held
+//! - `pixels FIRST WIDTH-WIDTH`: a sweep over plain images of pixels of a made row
+//! - `names`: the printed faults
 #![tactic(auto)]
 
 mod made;
