@@ -26,8 +26,8 @@ pub struct Feeder<R> {
 impl<R: BytesIn + Drop> Feeder<R> {
     ghost use Rattle.pnm_flow.specs.Feeders.{IsFeeding, feeder_is_over};
 
-    /// A feeder that has sent nothing yet. Of short rows it sends a few before it wakes the first tool
-    /// (`wake_receiver`).
+    /// A feeder that has sent nothing yet. Of short messages it sends a few before it wakes the
+    /// first tool (`wake_receiver`).
     pub fn new(source: Source<R>, output: Sender) -> Feeder<R>
         requires { IsUnread (reader_of source) source }
         ensures feeding { IsFeeding R.left R.failures source (sent output) result }

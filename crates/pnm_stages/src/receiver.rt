@@ -20,6 +20,8 @@ pub struct Receiver {
     /// The end itself. It comes first, since it has to be gone before the other thread is woken.
     pub(crate) ring: Consumer<Message, Global, AnyMessage>,
     waker: ReceiverWaker,
+    /// Half of the messages that were seen in the ring at the last look.
+    half: usize,
 }
 
 impl Receiver {
@@ -27,7 +29,11 @@ impl Receiver {
     pub(crate) fn new(ring: Consumer<Message, Global, AnyMessage>, waker: ReceiverWaker) -> Receiver
         ensures { result.ring ≡ ring }
     {
-        Receiver { ring, waker }
+        Receiver {
+            ring,
+            waker,
+            half: 0,
+        }
     }
 
     /// Whether a message is there.
@@ -37,7 +43,19 @@ impl Receiver {
         ensures some { IsTrue result → 0 < length (known_items self.new) }
         ensures none { IsFalse result → known_items self.new ≡ [] }
     {
-        !self.ring.is_empty()
+        self.has_seen_message() || self.look()
+    }
+
+    /// Looks into the ring, in which none is left of the messages that were seen. Whether there is one.
+    fn look(&mut self) -> bool
+        ensures ring { SameReceiver self.old self.new }
+        ensures received { received self.new ≡ received self.old }
+        ensures some { IsTrue result → 0 < length (known_items self.new) }
+        ensures none { IsFalse result → known_items self.new ≡ [] }
+    {
+        let seen = self.ring.slots();
+        self.half = seen / 2;
+        seen > 0
     }
 
     /// Whether a message was seen in the ring that is still there: the next one is received at once then.
@@ -57,7 +75,7 @@ impl Receiver {
     }
 
     /// The next message, which is there. It wakes the thread at the sending end on the edge: where none is left of the
-    /// messages that were seen, or half a ring of them. So that one is woken once after it found no room, and seldom
+    /// messages that were seen at once, or half of them. So that one is woken soon after it found no room, and seldom
     /// while it finds some.
     #[inline(always)]
     pub fn receive_known(&mut self) -> Message
@@ -69,7 +87,7 @@ impl Receiver {
     {
         let message = self.ring.pop_known();
         let left = self.ring.cached_slots();
-        if left == 0 || left == self.ring.capacity() / 2 {
+        if left == 0 || left == self.half {
             self.waker.wake_sender();
         }
         recognise(&message);

@@ -6,17 +6,25 @@ ghost use Rattle.pnm_stages.specs.Rings.{sent, known_free, SameSender};
 use crate::backoff::Backoff;
 use crate::ring::AnyMessage;
 use crate::wakers::SenderWaker;
-use pnm_image::Message;
+use pnm_image::{Message, SampleSlice};
 use rtrb::Producer;
 use std::alloc::Global;
 use std::sync::Wait;
 
-/// How many short rows at most are sent before the thread at the receiving end is woken for them: an eighth of an
-/// exchange a row is next to nothing, and so few are soon made.
-const MOST_ROWS: usize = 8;
+/// How many short messages at most are sent before the thread at the receiving end is woken for them: an eighth of an
+/// exchange a message is next to nothing, and so few are soon made.
+const MOST_MESSAGES: usize = 8;
 
-/// A row with fewer samples is short: some of them are made in less time than a sleeping thread takes to wake.
+/// A row of fewer bytes is short, as are the messages around rows: some of them are made in less time than a sleeping
+/// thread takes to wake.
 const SHORT: usize = 1_024;
+
+/// A row of more bytes is wide: of such rows no more lie in a ring at once than would come to so many bytes a place, so
+/// that what passes stays in the processors' own caches, and a slow reader doesn't have a run take memory without end.
+const BYTES_PER_PLACE: usize = 4_096;
+
+/// But for so many rows, however wide, so that the threads at both ends have something to do.
+const LEAST_ROWS: usize = 2;
 
 /// The sending end of a ring of messages. Once it goes, the thread at the receiving end is woken, and sees that.
 #[derive(Drop)]
@@ -24,9 +32,11 @@ pub struct Sender {
     /// The end itself. It comes first, since it has to be gone before the other thread is woken.
     pub(crate) ring: Producer<Message, Global, AnyMessage>,
     waker: SenderWaker,
-    /// The messages that were sent and woke nobody, and for how many short rows somebody is woken.
+    /// The messages that were sent and woke nobody, and for how many short ones somebody is woken.
     unwoken: usize,
-    rows_per_wake: usize,
+    messages_per_wake: usize,
+    /// The places that stay free, since the row that was sent last is wide.
+    kept_free: usize,
 }
 
 impl Sender {
@@ -39,17 +49,19 @@ impl Sender {
             ring,
             waker,
             unwoken: 0,
-            rows_per_wake: 1,
+            messages_per_wake: 1,
+            kept_free: 0,
         }
     }
 
-    /// From now on the thread at the receiving end is woken once for several short rows, for a quarter of the ring at
-    /// most. So this one has to wake it for them (`wake_receiver`) before it waits for anything but room in this ring.
+    /// From now on the thread at the receiving end is woken once for several short messages, for a quarter of the ring
+    /// at most, and at the end of the stream. So this one has to wake it for them (`wake_receiver`) before it waits for
+    /// anything but room in this ring.
     pub fn hold_back(&mut self)
         ensures ring { SameSender self.old self.new }
         ensures sent { sent self.new ≡ sent self.old }
     {
-        self.rows_per_wake = (self.ring.capacity() / 4).min(MOST_ROWS);
+        self.messages_per_wake = (self.ring.capacity() / 4).min(MOST_MESSAGES);
     }
 
     /// Wakes the thread at the receiving end, where something was sent that it wasn't woken for.
@@ -64,13 +76,14 @@ impl Sender {
         }
     }
 
-    /// Whether there is room for a message.
+    /// Whether there is room for a message: a place of the ring is free, and not only those that stay so beside wide
+    /// rows.
     pub fn has_room(&mut self) -> bool
         ensures ring { SameSender self.old self.new }
         ensures sent { sent self.new ≡ sent self.old }
         ensures room { IsTrue result → 0 < known_free self.new }
     {
-        !self.ring.is_full()
+        self.ring.cached_slots() > self.kept_free || self.ring.slots() > self.kept_free
     }
 
     /// Whether the receiving end was dropped.
@@ -87,12 +100,16 @@ impl Sender {
         ensures ring { SameSender self.old self.new }
         ensures sent { sent self.new ≡ sent self.old ++ message ∷ [] }
     {
-        let is_short_row = is_short_row(&message);
+        let bytes = bytes_of(&message);
         self.ring.push_reserved(message);
         self.unwoken = self.unwoken.saturating_add(1);
-        if !is_short_row || self.unwoken >= self.rows_per_wake {
-            self.wake_receiver();
+        if let Some(bytes) = bytes {
+            self.kept_free = places_beyond(self.ring.capacity(), bytes);
+            if bytes < SHORT && self.unwoken < self.messages_per_wake {
+                return;
+            }
         }
+        self.wake_receiver();
     }
 
     /// Sends the message, once there is room; false, and the message is lost, where there is none and the receiving end
@@ -141,10 +158,24 @@ impl Sender {
     }
 }
 
-/// Whether the message is a short row.
-fn is_short_row(message: &Message) -> bool {
+/// The bytes that a message's samples take; none of one that ends the stream, which is waited for.
+fn bytes_of(message: &Message) -> Option<usize> {
     match message {
-        Message::Row(row) => row.len() < SHORT,
-        _ => false,
+        Message::Row(row) => Some(match row.as_slice() {
+            SampleSlice::Bits(bits) => bits.as_bytes().len(),
+            SampleSlice::Bytes(bytes) => bytes.len(),
+            SampleSlice::Words(words) => words.len().saturating_mul(2),
+        }),
+        Message::Begin(_) | Message::ImageEnd => Some(0),
+        Message::StreamEnd | Message::Stop => None,
     }
+}
+
+/// The places of a ring that stay free beside rows of so many bytes.
+fn places_beyond(capacity: usize, bytes: usize) -> usize {
+    if bytes <= BYTES_PER_PLACE {
+        return 0;
+    }
+    let most = capacity.saturating_mul(BYTES_PER_PLACE) / bytes;
+    capacity.saturating_sub(most.max(LEAST_ROWS))
 }
