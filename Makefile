@@ -34,8 +34,8 @@ near pass: toolchain
 	python3 scripts/change.py $@ $(CRATES)
 
 # one check a processor, each of at most 4 GB; then each allocation and each start of a thread is refused in turn, of the
-# program and the tests that the gate has left, the program's input is silent, and the scripts, pages and documents are
-# checked. The gate's own last line comes last
+# program and the tests that the gate has left, the program's input is silent, its stack is small, and the scripts, pages and
+# documents are checked. The gate's own last line comes last
 check: toolchain
 	mkdir -p bin
 	rm -f bin/gate-failed
@@ -43,6 +43,7 @@ check: toolchain
 	test ! -e bin/gate-failed
 	python3 scripts/refused.py growth start silent tests --program $(PROGRAM)/out/pnmpipe
 	python3 scripts/idle.py --program $(PROGRAM)/out/pnmpipe
+	python3 scripts/room.py --program $(PROGRAM)/out/pnmpipe
 	$(MAKE) --no-print-directory scripts BUILT=$(PROGRAM)/out/pnmpipe
 	python3 scripts/cases.py
 	tail -n 1 bin/gate
@@ -142,7 +143,7 @@ help:
 	@echo "make near CRATES=..  tries changed crates in minutes: layout, proof, edits that must fail, tests as they stand, and the crates above"
 	@echo "make pass CRATES=..  proves changed crates, their tests and edits from nothing, as the gate does, with what they stand on"
 	@echo "make test            the tests alone, without their proofs"
-	@echo "make check           the whole gate: every proof, the edits that must fail, the tests, the stored runs, refused allocations, silent inputs, scripts and pages"
+	@echo "make check           the whole gate: every proof, the edits that must fail, the tests, the stored runs, refused allocations, silent inputs, small stacks, scripts and pages"
 	@echo "make bench           times the program that make has left beside Netpbm's own tools, on large images, narrow rows and small images"
 	@echo "make bench-sweep     all tools by kinds of images and by options, and which take more processor time than Netpbm's"
 	@echo "make bench-files     times many small files in each way, beside Netpbm's own tools"

@@ -9,6 +9,7 @@ ghost use Rattle.pnm_flow.specs.Downstreams.{output_of};
 use crate::downstream::Downstream;
 use pnm_image::{BytesOut, Ending, Form, Message};
 use pnm_stages::{Backoff, Receiver, Sender};
+use pnm_write::WriteBuffer;
 use std::sync::Wait;
 
 /// The ring that the results of a run come from, and what is written of them.
@@ -27,14 +28,14 @@ pub struct Collector<W> {
 impl<W: BytesOut + Drop> Collector<W> {
     ghost use Rattle.pnm_flow.specs.Collectors.{IsCollecting, HasCollected, collector_is_over};
 
-    /// A collector that has taken nothing yet, and is to write in this form.
-    pub fn new(input: Receiver, writer: W, form: Form) -> Collector<W>
+    /// A collector that has taken nothing yet, and is to encode into this buffer and write in this form.
+    pub fn new(input: Receiver, buffer: WriteBuffer, writer: W, form: Form) -> Collector<W>
         ensures collecting { IsCollecting W.held W.failures form writer (received input) result }
         ensures parts { (result.input ≡ input) × (output_of result.downstream ≡ writer) }
     {
         Collector {
             input,
-            downstream: Downstream::new(writer, form),
+            downstream: Downstream::new(buffer, writer, form),
             has_ended: false,
             is_gone: false,
             images: 0,

@@ -10,7 +10,7 @@ ghost use Rattle.pnm_write.specs.Sinks.{has_failed};
 
 use crate::summary::Summary;
 use pnm_image::{BytesOut, Form, Message};
-use pnm_write::{Sink, SinkFault};
+use pnm_write::{Sink, SinkFault, WriteBuffer};
 
 /// The sink, and what came of it so far.
 #[derive(Drop)]
@@ -25,13 +25,13 @@ pub struct Downstream<W> {
 impl<W: BytesOut + Drop> Downstream<W> {
     ghost use Rattle.pnm_flow.specs.Downstreams.{output_of, AreWritten, HasTaken, AnswersFlushes};
 
-    /// The sink before the first message, which writes in this form.
-    pub fn new(writer: W, form: Form) -> Downstream<W>
+    /// The sink before the first message, which encodes into this buffer and writes in this form.
+    pub fn new(buffer: WriteBuffer, writer: W, form: Form) -> Downstream<W>
         ensures fresh { HasTaken W.held W.failures form writer [] result }
         ensures writer { output_of result ≡ writer }
     {
         Downstream {
-            sink: Sink::new(writer, form),
+            sink: Sink::with_buffer(buffer, writer, form),
             summary: Summary { images: 0, rows: 0 },
             output: Ok(()),
             flush_failed: false,

@@ -1,6 +1,7 @@
 //! Runs: the images of a reader pass through the tools of a chain, and what comes out is written.
 #![tactic(auto)]
 
+mod buffers;
 mod chain;
 mod collector;
 mod downstream;

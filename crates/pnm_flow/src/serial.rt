@@ -10,12 +10,13 @@ ghost use Rattle.pnm_flow.specs.Runs.{answer_by, change, HasRunInOneThread, IsFi
 ghost use Rattle.pnm_flow.specs.SerialChains.{refusals_in, AreFresh};
 ghost use Rattle.pnm_flow.specs.Feeding.{HasFed};
 
+use crate::buffers::Buffers;
 use crate::downstream::Downstream;
 use crate::fault::RunFault;
 use crate::passing::feed_through;
 use crate::summary::Summary;
 use pnm_image::{BytesIn, BytesOut, Form};
-use pnm_read::{InputFault, ReadBuffer, Source};
+use pnm_read::{InputFault, Source};
 use pnm_stages::{FusedFilter, filter_of};
 use pnm_tools::{Filter, Tool, ToolFault, ToolState};
 use pnm_write::SinkFault;
@@ -45,12 +46,12 @@ pub fn run_serial<R: BytesIn, W: BytesOut>(
         Ok(stages) => stages,
         Err(fault) => return Err(RunFault::Tool(1, fault)),
     };
-    let buffer = match ReadBuffer::new(alloc) {
-        Ok(buffer) => buffer,
+    let Buffers { read, write } = match Buffers::new(alloc) {
+        Ok(buffers) => buffers,
         Err(fault) => return Err(RunFault::Input(fault)),
     };
-    let mut source = Source::with_buffer(buffer, &mut *reader);
-    let mut downstream = Downstream::new(&mut *writer, form);
+    let mut source = Source::with_buffer(read, &mut *reader);
+    let mut downstream = Downstream::new(write, &mut *writer, form);
     let input = feed_all(&mut source, stages.as_mut_slice(), &mut downstream);
     let read = source.into_reader();
     let (written, output) = downstream.finish();

@@ -21,6 +21,7 @@ ghost use Rattle.pnm_flow.specs.Runs.{change};
 ghost use Rattle.pnm_flow.specs.ThreadedRuns.{answer_over, fault_of_end, first_fault_from, HasRunOverThreads};
 ghost use Rattle.pnm_flow.specs.Turns.{HaveTurned};
 
+use crate::buffers::Buffers;
 use crate::chain::{ChainDone, run_chain_beside};
 use crate::collector::Collector;
 use crate::fault::RunFault;
@@ -28,7 +29,7 @@ use crate::feeder::Feeder;
 use crate::summary::Summary;
 use crate::turns::Turns;
 use pnm_image::{BytesIn, BytesOut, Form};
-use pnm_read::{InputFault, ReadBuffer, Source};
+use pnm_read::{InputFault, Source};
 use pnm_stages::{Gate, Receiver, Sender, StageEnd, new_ring};
 use pnm_tools::Tool;
 use pnm_write::SinkFault;
@@ -70,13 +71,13 @@ pub fn run<H: Threads + Wait + Sync, R: BytesIn, W: BytesOut, G: Gate>(
     ) else {
         return Err(RunFault::NoStart);
     };
-    let buffer = match ReadBuffer::new(alloc) {
-        Ok(buffer) => buffer,
+    let Buffers { read, write } = match Buffers::new(alloc) {
+        Ok(buffers) => buffers,
         Err(fault) => return Err(RunFault::Input(fault)),
     };
-    let source = Source::with_buffer(buffer, &mut *reader);
+    let source = Source::with_buffer(read, &mut *reader);
     let feeder = Feeder::new(source, to_chain);
-    let collector = Collector::new(from_chain, &mut *writer, form);
+    let collector = Collector::new(from_chain, write, &mut *writer, form);
     let both = beside_chain(
         rt, alloc, tools, capacity, lanes, gate, input, output, feeder, collector,
     );
@@ -127,6 +128,7 @@ fn beside_chain<H: Threads + Wait + Sync, R: BytesIn + Drop, W: BytesOut + Drop,
 }
 
 /// The two devices once all have ended, and the answer of the run.
+#[inline(never)]
 fn conclude<R: BytesIn + Drop, W: BytesOut + Drop>(
     chain: ChainDone,
     feeder: Feeder<R>,

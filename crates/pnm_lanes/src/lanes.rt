@@ -275,7 +275,9 @@ impl<'a, R: Threads + Wait + Sync, T: Task<Output = B> + Drop, B: Drop> Task
     }
 }
 
-/// The thread that gathers, and the one that deals; then the work beside them.
+/// The thread that gathers, and the one that deals; then the work beside them. It stands in no frame of `run_threads`,
+/// of which there is one a lane.
+#[inline(never)]
 fn deal_and_gather<R: Threads + Wait + Sync, T: Task<Output = B> + Drop, B: Drop>(
     rt: &R,
     alloc: Global,

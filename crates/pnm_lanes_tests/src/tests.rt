@@ -6,3 +6,4 @@ mod gathers;
 mod heights;
 mod rings;
 mod runs;
+mod waits;

@@ -18,3 +18,4 @@ mod write_buffer;
 pub use fault::SinkFault;
 pub use pnm_image::Form;
 pub use sink::Sink;
+pub use write_buffer::WriteBuffer;

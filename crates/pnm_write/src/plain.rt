@@ -128,7 +128,9 @@ fn write_words<W: BytesOut>(
     Ok(())
 }
 
-/// Writes samples that are held otherwise than their kind is.
+/// Writes samples that are held otherwise than their kind is. It stands in no other function's frame, since these would
+/// have room for its samples too.
+#[inline(never)]
 fn write_others<W: BytesOut>(
     writer: &mut W,
     buffer: &mut WriteBuffer,

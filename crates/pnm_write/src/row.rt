@@ -64,7 +64,9 @@ fn write_raw<W: BytesOut>(
     }
 }
 
-/// Writes samples that are held otherwise than their bytes, some at a time.
+/// Writes samples that are held otherwise than their bytes, some at a time. It stands in no other function's frame,
+/// since these would have room for its samples too.
+#[inline(never)]
 fn write_others<W: BytesOut>(
     writer: &mut W,
     buffer: &mut WriteBuffer,

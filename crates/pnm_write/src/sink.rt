@@ -18,7 +18,7 @@ use pnm_image::{BytesOut, DeviceFailed, Form, Kind, Message, Place};
 
 /// Writes the messages of a stream of images as Netpbm images of one form: PBM, PGM, PPM and PAM, by
 /// the kind of each image. In raw form any number of images come one after another; in plain form
-/// there is one, which isn't PAM. It takes no memory.
+/// there is one, which isn't PAM. It takes no memory but its buffer's.
 #[derive(Drop)]
 pub struct Sink<W> {
     writer: W,
@@ -31,8 +31,8 @@ pub struct Sink<W> {
 }
 
 impl<W: BytesOut> Sink<W> {
-    /// A sink over the writer, before the first message. Nothing is written.
-    pub fn new(writer: W, form: Form) -> Sink<W>
+    /// A sink over the writer that encodes into this buffer, before the first message. Nothing is written.
+    pub fn with_buffer(buffer: WriteBuffer, writer: W, form: Form) -> Sink<W>
         ensures writer { writer_of result ≡ writer }
         ensures form { form_of result ≡ form }
         ensures sound { has_failed result ≡ false }
@@ -45,7 +45,7 @@ impl<W: BytesOut> Sink<W> {
             form,
             has_begun: false,
             has_failed: false,
-            buffer: WriteBuffer::new(),
+            buffer,
         }
     }
 

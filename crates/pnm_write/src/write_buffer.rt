@@ -1,6 +1,6 @@
 //! A fixed buffer for bytes.
 
-ghost use Rattle.std.specs.Prelude.{◌≡◌, ◌+◌, ◌*◌, ◌<◌, ◌≤◌, [], ◌++◌, length, take};
+ghost use Rattle.std.specs.Prelude.{◌≡◌, ◌+◌, ◌*◌, ◌<◌, ◌≤◌, [], ◌++◌, length, take, IfOk};
 ghost use Rattle.pnm_image.specs.declared.shape.Kind.{Kind};
 ghost use Rattle.pnm_samples.specs.Pixels.{all_pixels};
 ghost use Rattle.pnm_write.specs.PlainRows.{plain_row_text};
@@ -12,37 +12,36 @@ use crate::numerals::{append_bytes, append_words};
 use crate::pixels::put_pixels;
 use crate::raw::encode;
 use pnm_image::SampleWidth;
+use std::alloc::{AllocError, Global};
 use std::marker::Model;
 
 /// The most bytes that are held.
 const BUFFER_BYTES: usize = 4096;
 
-/// Up to 4,096 bytes, which are encoded here before they are written. It takes no memory.
+/// Up to 4,096 bytes, which are encoded here before they are written. Memory is taken for them once.
 #[derive(Drop)]
 pub struct WriteBuffer {
-    bytes: [u8; BUFFER_BYTES],
+    bytes: Vec<u8>,
     length: usize,
 }
 
 impl Model for WriteBuffer {
-    ghost use Rattle.std.specs.Prelude.{List, ℕ, ◌≤◌, take};
+    ghost use Rattle.std.specs.Prelude.{◌≡◌, List, ℕ, ◌≤◌, take, vec_len};
 
     ghost Value = { List ℕ };
 
-    ghost view = { λ r. take r.length r.bytes };
+    ghost view = { λ r. take r.length r.bytes.items };
 
-    ghost invariant = { λ r. r.length ≤ 4096 };
+    ghost invariant = { λ r. (r.length ≤ 4096) × (vec_len r.bytes ≡ 4096) };
 }
 
 impl WriteBuffer {
     /// A buffer without bytes.
-    pub fn new() -> WriteBuffer
-        ensures { result ≡ [] }
+    pub fn new(alloc: Global) -> Result<WriteBuffer, AllocError>
+        ensures { IfOk result (λ buffer. buffer ≡ []) }
     {
-        WriteBuffer {
-            bytes: [0; BUFFER_BYTES],
-            length: 0,
-        }
+        let bytes = Vec::from_elem(alloc, 0, BUFFER_BYTES)?;
+        Ok(WriteBuffer { bytes, length: 0 })
     }
 
     /// The bytes.

@@ -3,7 +3,7 @@
 use super::sinks::tell_end;
 use pnm_image::{Device, Kind, Message, SampleWidth, Shape};
 use pnm_test_support::{Sweep, Unmade, cut_number, cut_word, head_of, held, number_of, tell_text};
-use pnm_write::{Form, Sink};
+use pnm_write::{Form, Sink, WriteBuffer};
 use std::alloc::{AllocError, Global};
 
 /// Numbers of one to five digits, in an order in which each comes at many places of a line.
@@ -31,7 +31,11 @@ fn add_image(
 ) -> Result<(), Unmade> {
     let head = head_of(alloc, shape, b"")?;
     let row = held(alloc, row, sample_width)?;
-    let mut sink = Sink::new(Device::new(Vec::new(alloc)), Form::Plain);
+    let mut sink = Sink::with_buffer(
+        WriteBuffer::new(alloc)?,
+        Device::new(Vec::new(alloc)),
+        Form::Plain,
+    );
     let mut told = String::new(alloc);
     for message in [
         Message::Begin(head),

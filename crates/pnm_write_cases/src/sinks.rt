@@ -3,7 +3,7 @@
 use super::form_of;
 use pnm_image::{BytesOut, Device, Message};
 use pnm_test_support::{FailsOnce, Sips, Unmade, cut_messages, cut_number, cut_word, tell_text};
-use pnm_write::{Form, Sink, SinkFault};
+use pnm_write::{Form, Sink, SinkFault, WriteBuffer};
 use std::alloc::{AllocError, Global};
 
 /// The messages that are written.
@@ -57,7 +57,7 @@ pub fn tell_written(
     told: &mut String,
 ) -> Result<(), Unmade> {
     let messages = messages_of(alloc, text)?;
-    let mut sink = Sink::new(Device::new(Vec::new(alloc)), form);
+    let mut sink = Sink::with_buffer(WriteBuffer::new(alloc)?, Device::new(Vec::new(alloc)), form);
     tell_put(&mut sink, messages.as_slice(), false, told)?;
     let (writer, end) = sink.finish();
     tell_end(told, end)?;
@@ -85,7 +85,11 @@ pub fn tell_sips(alloc: Global, text: &[u8], told: &mut String) -> Result<(), Un
     let (flushes, rest) = cut_failing(rest);
     let messages = messages_of(alloc, rest)?;
     let mut sips = Sips::new(alloc, most, writes, flushes);
-    let mut sink = Sink::new(Device::new(&mut sips), form_of(form));
+    let mut sink = Sink::with_buffer(
+        WriteBuffer::new(alloc)?,
+        Device::new(&mut sips),
+        form_of(form),
+    );
     tell_put(&mut sink, messages.as_slice(), true, told)?;
     let (_, end) = sink.finish();
     tell_end(told, end)?;

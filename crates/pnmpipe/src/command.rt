@@ -86,7 +86,9 @@ pub fn command<H: AllocGlobal + Threads + Wait + Sync, R: BytesIn, W: BytesOut, 
 }
 
 /// Runs the tools over the input, with rings for so many messages between them and each row-wise one over
-/// so many lanes, writes the results in the form, and prints the run's fault.
+/// so many lanes, writes the results in the form, and prints the run's fault. It stands in a frame of its own, and so
+/// do the words, so that what reads them takes no stack while the tools run.
+#[inline(never)]
 fn run_tools<H: AllocGlobal + Threads + Wait + Sync, R: BytesIn, W: BytesOut, E: Write>(
     rt: &H,
     tools: &[Tool],

@@ -75,6 +75,7 @@ impl From<AllocError> for CommandLineFault {
 }
 
 /// Reads the words, of which the first is the program's own name.
+#[inline(never)]
 pub fn read_words<'a>(
     alloc: Global,
     words: &'a [String],

@@ -1,0 +1,144 @@
+#!/usr/bin/env python3
+"""Wants runs to do with little room: a stack of few KiB, and the memory of what `pnmtile` shows.
+
+Each command of `refused.py` has to end as it does with room enough, in a stack of 32 KiB for one tool, of the main
+thread and of each thread that the program starts, and of some more for each further tool, which is started within the
+frame of the one behind it. A stack that is too small ends a run by a signal, which no line names, so a frame that
+grows, as by a buffer that lies in it, is refused here. The system takes up to 8 KiB of the main thread's stack, at
+random. `--least` finds the least stack of each command in place of that.
+
+`pnmtile` keeps the columns that it shows, and no whole rows of an image that is larger than what fits beside them.
+"""
+
+import argparse
+import collections
+import os
+import shlex
+import subprocess
+import sys
+import textwrap
+import threading
+
+from refused import LANES, MOST_TOOLS, STREAM, Answer, Command, Fault, commands, judge
+
+SCRIPTS = os.path.dirname(os.path.abspath(__file__))
+
+# KiB of the stack for one tool, and for each further one
+FIRST = 32
+FURTHER = 5
+
+# steps in which the least stack is looked for, how often each is tried, and the most
+STEP = 2
+TRIES = 6
+MOST = 8192
+
+# a PGM image of 80 MB, five of whose columns are shown, and the MB that may be resident then
+WIDE, HIGH = 10_000, 8_000
+SHOWN = 5
+RESIDENT = 40
+
+
+def tools_of(command):
+    return command.words[-1].count("|") + 1
+
+
+def all_commands(program):
+    """The commands, and the most tools over the most lanes, which are too many to refuse each of their threads."""
+    yield from commands(program)
+    chain = " | ".join(["pnminvert"] * MOST_TOOLS)
+    yield Command(["--ring", "1", "--lanes", str(max(LANES)), chain], STREAM, STREAM, MOST_TOOLS)
+
+
+def run(program, command, room, seconds):
+    """Runs the command in a stack of so many KiB, without variables, which lie in it too."""
+    words = ["/bin/sh", "-c", 'ulimit -s "$0" && exec "$@"', str(room), program, *command.words]
+    ran = subprocess.run(words, input=command.given, capture_output=True, env={}, timeout=seconds)
+    judge(command, Answer(ran.returncode, ran.stdout, ran.stderr.decode(errors="replace"), 0, 0))
+
+
+def name_of(command):
+    return textwrap.shorten(shlex.join(command.words), 90, placeholder=" ..")
+
+
+def least_of(program, command, seconds):
+    """The least stack, in KiB, in which the command ends well, as it has to in each larger one."""
+    below, enough = 0, MOST
+    while enough - below > STEP:
+        middle = (below + enough) // (2 * STEP) * STEP
+        try:
+            for _ in range(TRIES):
+                run(program, command, middle, seconds)
+            enough = middle
+        except Fault:
+            below = middle
+    return enough
+
+
+def tell_least(args):
+    """Prints the least stack of each command, and the greatest of these by the number of tools."""
+    greatest = collections.defaultdict(int)
+    for command in all_commands(args.program):
+        least = least_of(args.program, command, args.seconds)
+        greatest[tools_of(command)] = max(greatest[tools_of(command)], least)
+        print(f"room: {least} KiB: {name_of(command)}", flush=True)
+    for tools, least in sorted(greatest.items()):
+        print(f"room: {least} KiB at most for {tools} tools")
+
+
+def check_stacks(args):
+    """Runs each command in its stack. Gives how many ran, and how many of them failed."""
+    count = failed = 0
+    for command in all_commands(args.program):
+        room = args.stack or FIRST + FURTHER * (tools_of(command) - 1)
+        count += 1
+        try:
+            run(args.program, command, room, args.seconds)
+        except Fault as fault:
+            failed += 1
+            print(f"room: in {room} KiB: {name_of(command)}: {fault}", file=sys.stderr)
+    return count, failed
+
+
+def check_tiles(args):
+    """Whether `pnmtile` takes less than what the whole image would, and shows what it has to. Gives 1 where not."""
+    row = bytes(range(250)) * (WIDE // 250)
+    words = [args.program, f"pnmtile {SHOWN} {HIGH}"]
+    child = subprocess.Popen(words, stdin=subprocess.PIPE, stdout=subprocess.PIPE)
+
+    def give():
+        with child.stdin:
+            child.stdin.write(b"P5\n%d %d\n255\n" % (WIDE, HIGH))
+            for _ in range(HIGH):
+                child.stdin.write(row)
+
+    giver = threading.Thread(target=give)
+    giver.start()
+    written = child.stdout.read()
+    giver.join()
+    _, status, usage = os.wait4(child.pid, 0)
+    child.returncode = os.waitstatus_to_exitcode(status)
+    resident = usage.ru_maxrss // 1024
+    print(f"room: {resident} MB for {SHOWN} columns of {WIDE} by {HIGH}")
+    is_right = written == b"P5\n%d %d\n255\n" % (SHOWN, HIGH) + row[:SHOWN] * HIGH
+    return 0 if is_right and child.returncode == 0 and resident < RESIDENT else 1
+
+
+def main():
+    parser = argparse.ArgumentParser(description=__doc__.split("\n\n")[0])
+    parser.add_argument("--program", default=os.path.join(SCRIPTS, "../bin/pnmpipe"))
+    parser.add_argument("--seconds", type=float, default=60, help="how long a run may take")
+    parser.add_argument("--stack", type=int, help="KiB of each command's stack, in place of its own")
+    parser.add_argument("--least", action="store_true", help="tells the least stack of each command")
+    args = parser.parse_args()
+    args.program = os.path.abspath(args.program)
+    if args.least:
+        tell_least(args)
+        return
+    count, failed = check_stacks(args)
+    tiles = check_tiles(args)
+    print(f"room: {count} commands, {failed} of them failed in their stack, {tiles} in their memory")
+    sys.exit(1 if failed or tiles or not count else 0)
+
+
+if __name__ == "__main__":
+    main()
