@@ -3,7 +3,7 @@
 
 Each command of `refused.py` has to end as it does with room enough, in a stack of 32 KiB for one tool, of the main
 thread and of each thread that the program starts, and of some more for each further tool, which is started within the
-frame of the one behind it. A stack that is too small ends a run by a signal, which no line names, so a frame that
+frame of the one behind it, and for each further lane, which is started within that of the next one. A stack that is too small ends a run by a signal, which no line names, so a frame that
 grows, as by a buffer that lies in it, is refused here. The system takes up to 8 KiB of the main thread's stack, at
 random. `--least` finds the least stack of each command in place of that.
 
@@ -23,9 +23,10 @@ from refused import LANES, MOST_TOOLS, STREAM, Answer, Command, Fault, commands,
 
 SCRIPTS = os.path.dirname(os.path.abspath(__file__))
 
-# KiB of the stack for one tool, and for each further one
+# KiB of the stack for one tool, and for each further one, and for each further lane
 FIRST = 32
-FURTHER = 5
+FURTHER = 6
+FURTHER_LANE = 3
 
 # steps in which the least stack is looked for, how often each is tried, and the most
 STEP = 2
@@ -40,6 +41,11 @@ RESIDENT = 40
 
 def tools_of(command):
     return command.words[-1].count("|") + 1
+
+
+def lanes_of(command):
+    words = command.words
+    return int(words[words.index("--lanes") + 1]) if "--lanes" in words else 1
 
 
 def all_commands(program):
@@ -75,21 +81,23 @@ def least_of(program, command, seconds):
 
 
 def tell_least(args):
-    """Prints the least stack of each command, and the greatest of these by the number of tools."""
+    """Prints the least stack of each command, and the greatest of these by the numbers of tools and lanes."""
     greatest = collections.defaultdict(int)
     for command in all_commands(args.program):
         least = least_of(args.program, command, args.seconds)
-        greatest[tools_of(command)] = max(greatest[tools_of(command)], least)
+        both = tools_of(command), lanes_of(command)
+        greatest[both] = max(greatest[both], least)
         print(f"room: {least} KiB: {name_of(command)}", flush=True)
-    for tools, least in sorted(greatest.items()):
-        print(f"room: {least} KiB at most for {tools} tools")
+    for (tools, lanes), least in sorted(greatest.items()):
+        print(f"room: {least} KiB at most for {tools} tools over {lanes} lanes")
 
 
 def check_stacks(args):
     """Runs each command in its stack. Gives how many ran, and how many of them failed."""
     count = failed = 0
     for command in all_commands(args.program):
-        room = args.stack or FIRST + FURTHER * (tools_of(command) - 1)
+        further = FURTHER * (tools_of(command) - 1) + FURTHER_LANE * (lanes_of(command) - 1)
+        room = args.stack or FIRST + further
         count += 1
         try:
             run(args.program, command, room, args.seconds)

@@ -172,50 +172,22 @@ pub fn run_tool<R: Threads + Wait + Sync, G: Gate, T: Task<Output = B> + Drop, B
             run_both(rt, stage, beside)
         }
         Across::Lanes(rings, tells, hears) => {
-            let hearing = Listener { rt, hears, beside };
-            run_over_lanes(
-                rt, alloc, tool, number, rings, tells, gate, input, output, hearing,
-            )
+            // A closure, since a struct that is a task can't hand on that its gate may be shared.
+            let over_lanes = Call(
+                move || -> Option<StageDone>
+                    requires { (IsSync R.row × IsSync G.row)
+                        × IsLawfulTool tool.now × (is_row_wise tool.now ≡ true) × AreLaneRings rings }
+                    ensures { IfSome result (IsLanesRun tool.entry.now input output) }
+                {
+                    let told = Announcer { rt, tells };
+                    let (done, ()) = run_lanes_beside(
+                        rt, alloc, tool, number, rings, gate, input, output, told,
+                    )?;
+                    Some(done)
+                },
+            );
+            let (done, beside) = run_both(rt, over_lanes, Listener { rt, hears, beside })?;
+            Some((done?, beside?))
         }
     }
-}
-
-/// Passes what comes on `input` through a row-wise tool to `output` over lanes, in a thread that starts theirs and
-/// tells of it; and does in this one the work that hears of that.
-#[inline(never)]
-fn run_over_lanes<R: Threads + Wait + Sync, G: Gate, T: Task<Output = B> + Drop, B: Drop>(
-    rt: &R,
-    alloc: Global,
-    tool: &Tool,
-    number: usize,
-    rings: LaneRings,
-    tells: Sender,
-    gate: &G,
-    input: Receiver,
-    output: Sender,
-    hearing: Listener<'_, R, T>,
-) -> Option<(StageDone, B)>
-    requires shared { IsSync R.row × IsSync G.row }
-    requires lawful { IsLawfulTool tool.now × (is_row_wise tool.now ≡ true) }
-    requires rings { AreLaneRings rings }
-    requires beside { T.can_run hearing.beside }
-    ensures ran { IfSome result (λ r. IsLanesRun tool.now input output r.0) }
-    ensures beside { IfSome result (λ r. T.run_gives hearing.entry.beside r.1) }
-{
-    // A closure, since a struct that is a task can't hand on that its gate may be shared.
-    let over_lanes = Call(
-        move || -> Option<StageDone>
-            requires { (IsSync R.row × IsSync G.row)
-                × IsLawfulTool tool.now × (is_row_wise tool.now ≡ true) × AreLaneRings rings }
-            ensures { IfSome result (IsLanesRun tool.entry.now input output) }
-        {
-            let told = Announcer { rt, tells };
-            let (done, ()) = run_lanes_beside(
-                rt, alloc, tool, number, rings, gate, input, output, told,
-            )?;
-            Some(done)
-        },
-    );
-    let (done, beside) = run_both(rt, over_lanes, hearing)?;
-    Some((done?, beside?))
 }
