@@ -13,7 +13,7 @@ use std::sync::Wait;
 pub const MAX_LANES: usize = 8;
 
 /// What is known of a lane.
-#[derive(Clone, Copy, Debug, PartialEq, Eq)]
+#[derive(Clone, Copy, PartialEq, Eq)]
 pub enum LaneState {
     /// It hasn't ended yet.
     Open,

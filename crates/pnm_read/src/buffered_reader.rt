@@ -13,7 +13,7 @@ use std::alloc::Global;
 const BUFFER_BYTES: usize = 4096;
 
 /// A buffer of 4,096 bytes for what is read of an input.
-#[derive(Debug, Drop)]
+#[derive(Drop)]
 pub struct ReadBuffer {
     bytes: Vec<u8>,
     ghost size: { vec_len bytes ≡ 4096 },
@@ -32,7 +32,7 @@ impl ReadBuffer {
 }
 
 /// A reader, and what was read of it and isn't taken yet.
-#[derive(Debug, Drop)]
+#[derive(Drop)]
 pub struct BufferedReader<R> {
     reader: R,
     /// Those from `at` up to `end` are held.

@@ -17,7 +17,7 @@ use pnm_image::characters::is_digit;
 pub const GAP_LIMIT: usize = 1_048_576;
 
 /// Takes a number and the gap before it, byte by byte.
-#[derive(Debug, Drop)]
+#[derive(Drop)]
 pub struct DecimalScanner {
     /// What the digits spell that have come; it stops at `u32::MAX`.
     value: u32,

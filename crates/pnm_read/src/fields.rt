@@ -17,7 +17,7 @@ use pnm_image::{Head, Kind, Shape};
 use std::alloc::Global;
 
 /// The fields of a header that have come.
-#[derive(Debug, Drop)]
+#[derive(Drop)]
 pub struct Fields {
     width: Option<u32>,
     height: Option<u32>,

@@ -136,7 +136,7 @@ pub fn fault_of_head(fault: HeadFault) -> InputFault
 }
 
 /// Takes a header of PBM, PGM or PPM after its magic, byte by byte.
-#[derive(Debug, Drop)]
+#[derive(Drop)]
 struct HeaderScanner {
     /// The numbers that the header has.
     wanted: usize,

@@ -3,7 +3,7 @@
 use crate::fault::InputFault;
 
 /// What judging a byte of a header or a plain raster tells of the piece that it may belong to.
-#[derive(Clone, Copy, Debug, PartialEq, Eq)]
+#[derive(Clone, Copy, PartialEq, Eq)]
 pub enum Judgement {
     /// The byte belongs to the piece, which goes on.
     GoesOn,

@@ -7,7 +7,7 @@ ghost use Rattle.pnm_read.specs.PamScanners.{number_of};
 use pnm_image::characters::{is_blank, is_digit};
 
 /// A number of a PAM header.
-#[derive(Clone, Copy, Debug, PartialEq, Eq)]
+#[derive(Clone, Copy, PartialEq, Eq)]
 pub enum Field {
     Width,
     Height,
@@ -16,7 +16,7 @@ pub enum Field {
 }
 
 /// What a line of a PAM header says.
-#[derive(Clone, Copy, Debug, PartialEq, Eq)]
+#[derive(Clone, Copy, PartialEq, Eq)]
 pub enum LineKind {
     /// Nothing: it has no token, or is a comment.
     Nothing,

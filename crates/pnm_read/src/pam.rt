@@ -49,7 +49,7 @@ fn read_line_feed<R: BytesIn>(input: &mut BufferedReader<R>) -> Result<(), Input
 }
 
 /// Takes a header after its magic and the LF, byte by byte. A line is judged once it has ended.
-#[derive(Debug, Drop)]
+#[derive(Drop)]
 struct PamScanner {
     /// The line that hasn't ended.
     line: Vec<u8>,

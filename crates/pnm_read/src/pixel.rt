@@ -12,7 +12,7 @@ use crate::judgement::Judgement;
 use crate::scan::Scanner;
 
 /// Takes a pixel and the gap before it, byte by byte.
-#[derive(Debug, Drop)]
+#[derive(Drop)]
 pub struct PixelScanner {
     /// The pixel as a sample, once it has come: 0 for black, 1 for white.
     pixel: u16,

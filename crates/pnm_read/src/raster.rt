@@ -9,7 +9,7 @@ use crate::units::units_in_row;
 use pnm_image::{Format, SampleWidth, Shape};
 
 /// A raster of which so many rows have passed.
-#[derive(Clone, Copy, Debug)]
+#[derive(Clone, Copy)]
 pub struct Raster {
     pub format: Format,
     pub shape: Shape,

@@ -20,7 +20,7 @@ use pnm_image::{BytesIn, Format, Message, Samples};
 use std::alloc::Global;
 
 /// What a source awaits of its input.
-#[derive(Clone, Copy, Debug)]
+#[derive(Clone, Copy)]
 enum Awaited {
     /// The first image of the stream.
     FirstImage,
@@ -33,7 +33,7 @@ enum Awaited {
 }
 
 /// How far a source has come.
-#[derive(Clone, Copy, Debug)]
+#[derive(Clone, Copy)]
 enum State {
     Awaits(Awaited),
     /// The end of the stream was given.
@@ -43,7 +43,7 @@ enum State {
 }
 
 /// A message, and the state after it.
-#[derive(Debug, Drop)]
+#[derive(Drop)]
 struct Step {
     message: Message,
     state: State,
@@ -56,7 +56,7 @@ struct Step {
 ///
 /// A read is made only where a byte is needed that isn't held, and none after one that gave no byte.
 /// At most 4,096 bytes and a row are held.
-#[derive(Debug, Drop)]
+#[derive(Drop)]
 pub struct Source<R> {
     input: BufferedReader<R>,
     state: State,

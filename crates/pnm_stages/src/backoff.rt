@@ -24,7 +24,7 @@ const DOUBLINGS: u32 = 6;
 const LONG_SLEEP: u64 = 400;
 
 /// How a thread waits, and what it has learnt of its last waits.
-#[derive(Clone, Copy, Debug)]
+#[derive(Clone, Copy)]
 pub struct Backoff {
     /// The turns of this wait that have yielded, and that have slept.
     yielded: u32,

@@ -11,7 +11,7 @@ use pnm_tools::{Filter, RowState, Tool, ToolFault, ToolState};
 use std::alloc::Global;
 
 /// A filter of a chain, which takes nothing more once it has refused.
-#[derive(Debug, Drop)]
+#[derive(Drop)]
 pub enum FusedFilter<F> {
     /// It takes messages.
     AtWork(F),

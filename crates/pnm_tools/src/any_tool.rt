@@ -32,7 +32,7 @@ macro_rules! with_tool {
 }
 
 /// Any of the tools, and what it keeps of an image.
-#[derive(Debug, Drop)]
+#[derive(Drop)]
 pub enum AnyTool {
     /// `pnminvert`.
     Inverting(ByRow<Inverter>),

@@ -11,7 +11,7 @@ use std::alloc::Global;
 use std::mem;
 
 /// A tool that makes of each row at most one row of the result, and the row that it has made.
-#[derive(Debug, Drop)]
+#[derive(Drop)]
 pub struct ByRow<T: RowTool> {
     tool: T,
     made: Option<Samples>,

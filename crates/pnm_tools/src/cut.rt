@@ -14,7 +14,7 @@ use pnm_image::{Bits, Head, SampleVec, Samples, Shape};
 use std::alloc::{AllocError, Global};
 
 /// Columns or rows that are kept, from the first to the last.
-#[derive(Clone, Copy, Debug)]
+#[derive(Clone, Copy)]
 pub(crate) struct Span {
     first: u32,
     last: u32,
@@ -91,7 +91,7 @@ pub struct CutBox {
 }
 
 /// Cuts the rows of images.
-#[derive(Clone, Copy, Debug)]
+#[derive(Clone, Copy)]
 pub struct Cutter {
     cut: CutBox,
     /// The columns and the rows that are kept of the image.

@@ -20,7 +20,7 @@ use std::alloc::{AllocError, Global};
 const GREATEST_BYTE: u32 = 255;
 
 /// Gives the rows of images another maxval.
-#[derive(Debug, Drop)]
+#[derive(Drop)]
 pub struct Rescaler {
     /// The new maxval.
     pub(crate) maxval: u32,
@@ -29,7 +29,7 @@ pub struct Rescaler {
 }
 
 /// What becomes of each sample from 0 to the image's maxval.
-#[derive(Debug, Drop)]
+#[derive(Drop)]
 pub(crate) enum Table {
     /// No table: the image has too few samples to make it worth while.
     Absent,

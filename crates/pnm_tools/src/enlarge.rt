@@ -22,7 +22,7 @@ use std::alloc::Global;
 use std::mem;
 
 /// Repeats pixels across, and rows down.
-#[derive(Debug, Drop)]
+#[derive(Drop)]
 pub struct Enlarger {
     across: u32,
     down: u32,

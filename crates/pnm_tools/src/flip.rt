@@ -40,7 +40,7 @@ pub enum FlipWay {
 }
 
 /// A way as a rule, applied in this order.
-#[derive(Clone, Copy, Debug)]
+#[derive(Clone, Copy)]
 pub(crate) struct Turn {
     /// Whether the order of the columns is reversed.
     pub columns_reversed: bool,
@@ -185,7 +185,7 @@ fn reverse_three<T: Copy>(samples: &mut [T])
 
 /// Passes the rows of images on, the last pixel first or as they are: any way that leaves rows in their
 /// places.
-#[derive(Debug, Drop)]
+#[derive(Drop)]
 pub struct RowFlipper {
     way: FlipWay,
 }
@@ -237,7 +237,7 @@ impl RowFlipper {
 
 /// Reverses the order of rows: keeps those of an image, and gives the last one first, each the last
 /// pixel first or as it is.
-#[derive(Debug, Drop)]
+#[derive(Drop)]
 pub struct RowReverser {
     way: FlipWay,
     rows: Vec<Samples>,

@@ -11,7 +11,7 @@ use pnm_samples::Sample;
 use std::alloc::{AllocError, Global};
 
 /// Inverts the rows of images.
-#[derive(Clone, Copy, Debug)]
+#[derive(Clone, Copy)]
 pub struct Inverter;
 
 /// The row with each sample taken from the maxval. It is changed in place and held as it was, but as

@@ -5,7 +5,7 @@ ghost use Rattle.std.specs.Prelude.{◌≡◌};
 use std::marker::Model;
 
 /// The samples of a row.
-#[derive(Debug, Drop)]
+#[derive(Drop)]
 pub(crate) struct RowOf<T> {
     samples: Vec<T>,
 }

@@ -23,7 +23,7 @@ pub trait RowWise: Filter {
 }
 
 /// A row-wise tool at work on the messages of a lane.
-#[derive(Debug, Drop)]
+#[derive(Drop)]
 pub struct RowState {
     state: ToolState,
 }

@@ -29,7 +29,7 @@ const BATCH_OF_BITS: u32 = 256;
 const LEAST_HEIGHT: u32 = 1024;
 
 /// The rows of an image, top to bottom, all of one width of samples.
-#[derive(Debug, Drop)]
+#[derive(Drop)]
 pub(crate) enum SampleRows {
     /// Each sample is 0 or 1.
     Bits(Vec<Bits>),

@@ -14,7 +14,7 @@ use std::alloc::Global;
 use std::marker::Model;
 
 /// What is still to be given for the message that was accepted last.
-#[derive(Clone, Copy, Debug)]
+#[derive(Clone, Copy)]
 pub enum Owed {
     /// Nothing, and that was told.
     Told,
@@ -30,7 +30,7 @@ pub enum Owed {
 
 /// A tool at work on a stream. What it keeps of an image it gives up once it has given the image's end,
 /// where the stream is broken off, and at a fault.
-#[derive(Debug, Drop)]
+#[derive(Drop)]
 pub struct State<T: ImageTool> {
     alloc: Global,
     work: T,

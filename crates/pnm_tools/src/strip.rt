@@ -22,7 +22,7 @@ pub(crate) const STRIP_ROWS: usize = 64;
 const STRIP_COLUMNS: usize = 64;
 
 /// Rows of an image.
-#[derive(Debug, Drop)]
+#[derive(Drop)]
 pub(crate) struct StripedRows<T> {
     /// Of the first rows, `STRIP_ROWS` in each: the samples of the first column, top to bottom or bottom
     /// to top, those of the second one, and so on.

@@ -20,7 +20,7 @@ use std::marker::Model;
 
 /// Lays images side by side: keeps what the result shows of the rows, and gives each as often as it
 /// takes.
-#[derive(Debug, Drop)]
+#[derive(Drop)]
 pub struct Tiler {
     width: u32,
     height: u32,

@@ -17,7 +17,7 @@ use std::marker::Model;
 /// Exchanges columns and rows: keeps the rows of an image, and gives its columns. Where the order of
 /// the rows is reversed, that of the kept rows is once the image has ended; where that of the columns
 /// is, they are made from the last one on.
-#[derive(Debug, Drop)]
+#[derive(Drop)]
 pub struct Transposer {
     way: FlipWay,
     depth: u32,
