@@ -1,10 +1,11 @@
 //! The two ends of a ring, without a stage between.
 
 use super::rings::holds;
-use pnm_image::Kind;
-use pnm_stages::{Backoff, Receiver};
+use pnm_image::{Kind, Message, SampleVec, Samples};
+use pnm_stages::{Backoff, Receiver, Sender};
 use pnm_test_rings::{ring, send_all};
 use pnm_test_support::{Part, is_made_of, message};
+use std::alloc::{AllocError, Global};
 use std::process::Abort;
 use std::sync::Wait;
 use std::test::Fail;
@@ -69,5 +70,44 @@ fn sends_nothing_where_nobody_receives(rt: HostRuntime) -> Result<(), Fail> {
     drop(receiver);
     let is_sent = sender.send(&rt, message(rt.alloc(), PARTS[1])?, &mut Backoff::new());
     assert!(rt; !is_sent);
+    Ok(())
+}
+
+/// How many rows of so many bytes an empty ring has room for, up to nine. They are sent and dropped.
+fn count_rows(
+    alloc: Global,
+    sender: &mut Sender,
+    receiver: &mut Receiver,
+    bytes: usize,
+) -> Result<u32, AllocError> {
+    let mut count = 0_u32;
+    for _ in 0..9 {
+        if sender.has_room() {
+            let row = SampleVec::Bytes(Vec::from_elem(alloc, 0, bytes)?);
+            sender.send_reserved(Message::Row(Samples::from_vec(row)));
+            count = count.saturating_add(1);
+        }
+    }
+    for _ in 0..count {
+        drop(receiver.try_receive());
+    }
+    Ok(count)
+}
+
+/// Of rows of more than 4,096 bytes no more than come to so many a place of the ring, and two at least.
+#[test]
+fn leaves_room_beside_wide_rows(rt: HostRuntime) -> Result<(), Fail> {
+    let (mut sender, mut receiver) = ring(rt.alloc(), 8)?;
+    for (bytes, most) in [
+        (1, 8),
+        (4_096, 8),
+        (4_097, 7),
+        (8_192, 4),
+        (100_000, 2),
+        (64, 8),
+    ] {
+        let count = count_rows(rt.alloc(), &mut sender, &mut receiver, bytes)?;
+        assert!(&rt; count == most, "rows of {bytes} bytes: {count}");
+    }
     Ok(())
 }
