@@ -95,6 +95,7 @@ impl Sender {
     }
 
     /// Sends the message, for which there is room, and wakes the thread at the receiving end.
+    #[inline(always)]
     pub fn send_reserved(&mut self, message: Message)
         requires { 0 < known_free self.old }
         ensures ring { SameSender self.old self.new }

@@ -79,6 +79,8 @@ impl ImageTool for AnyTool {
         with_tool!(self, work => work.end(shape))
     }
 
+    // Which tool it is was seen as it took the row: the choice stands beside the state's own.
+    #[inline(always)]
     fn give(&mut self, alloc: Global) -> Result<Option<Samples>, ToolFault> {
         with_tool!(self, work => work.give(alloc))
     }

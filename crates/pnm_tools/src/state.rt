@@ -66,6 +66,8 @@ impl<T: ImageTool> Filter for State<T> {
 
     ghost at_answers = { λ s tool accepted given at. at.answers };
 
+    // What `feed` stores is what `next` takes: in one function of the caller's it stays in registers.
+    #[inline(always)]
     fn feed(&mut self, message: Message) -> Result<(), ToolFault> {
         if let Some(fault) = self.fault {
             return Err(fault);
@@ -87,6 +89,7 @@ impl<T: ImageTool> Filter for State<T> {
         }
     }
 
+    #[inline(always)]
     fn next(&mut self) -> Result<Option<Message>, ToolFault> {
         if let Some(fault) = self.fault {
             return Err(fault);
@@ -133,6 +136,7 @@ impl<T: ImageTool> State<T> {
 }
 
 /// Takes a message, if it may come at this place, and sets what is owed for it.
+#[inline(always)]
 fn answer<T: ImageTool>(
     alloc: Global,
     work: &mut T,
@@ -185,6 +189,7 @@ fn answer<T: ImageTool>(
 }
 
 /// The next message that is owed, if one is.
+#[inline(always)]
 fn give<T: ImageTool>(
     alloc: Global,
     work: &mut T,
