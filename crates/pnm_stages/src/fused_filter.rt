@@ -37,7 +37,7 @@ impl<F: Filter + Drop> FusedFilter<F> {
     {
         if let FusedFilter::AtWork(filter) = self {
             if let Err(fault) = filter.feed(message) {
-                *self = FusedFilter::Refused(fault);
+                self.refuse(fault);
             }
         }
     }
@@ -58,10 +58,18 @@ impl<F: Filter + Drop> FusedFilter<F> {
         match filter.next() {
             Ok(answer) => answer,
             Err(fault) => {
-                *self = FusedFilter::Refused(fault);
+                self.refuse(fault);
                 None
             }
         }
+    }
+
+    /// The tool has refused so, and goes. It stands apart, since callers would clear room for a tool on each message.
+    #[inline(never)]
+    fn refuse(&mut self, fault: ToolFault)
+        ensures { self.new ≡ FusedFilter.Refused fault }
+    {
+        *self = FusedFilter::Refused(fault);
     }
 
     /// Whether the tool has given all, or refused, as far as a look shows. Where it answers false `next` tells.

@@ -137,7 +137,7 @@ impl Receiver {
     /// Waits until a message is there; false once the ring is empty and its other end was seen dropped. It stands apart
     /// from `receive`, which mostly finds a message.
     #[inline(never)]
-    fn wait_for_message<R: Wait>(&mut self, rt: &R, backoff: &mut Backoff) -> bool
+    pub(crate) fn wait_for_message<R: Wait>(&mut self, rt: &R, backoff: &mut Backoff) -> bool
         ensures ring { SameReceiver self.old self.new }
         ensures received { received self.new ≡ received self.old }
         ensures some { IsTrue result → 0 < length (known_items self.new) }

@@ -1,6 +1,7 @@
 //! A stage of a chain: a tool in a thread of its own, between two rings.
 
-ghost use Rattle.std.specs.Prelude.{◌≡◌, [], ◌++◌, List};
+ghost use Rattle.std.specs.Prelude.{◌≡◌, ◌<◌, [], ◌∷◌, ◌++◌, List, length, IfSome, IfNone, IsTrue, IsFalse};
+ghost use Rattle.pnm_image.specs.Messages.{IsMessage};
 ghost use Rattle.pnm_tools.specs.declared.tool.Tool.{Tool as ToolValue};
 ghost use Rattle.pnm_tools.specs.Tools.{IsLawfulTool};
 ghost use Rattle.pnm_stages.specs.Rings.{sent, received, known_items, SameSender, SameReceiver};
@@ -121,8 +122,7 @@ fn pass_all<R: Wait, F: Filter + Drop>(
         return break_off(rt, fault, Ending::More, input, output, backoff);
     }
     for _ in rt.forever() {
-        wake_before_wait(input, output);
-        let Some(message) = input.receive(rt, backoff) else {
+        let Some(message) = receive(rt, input, output, backoff) else {
             output.send(rt, Message::Stop, backoff);
             return StageEnd::PeerGone;
         };
@@ -144,14 +144,41 @@ fn pass_all<R: Wait, F: Filter + Drop>(
     unreachable!()
 }
 
-/// Where the stage may have to wait for its next message, the thread behind is told first of all that was sent.
-fn wake_before_wait(input: &Receiver, output: &mut Sender)
+/// The next message, as `Receiver::receive` gives it. Where none is seen yet, the thread behind is told first of all
+/// that was sent, since the stage may have to wait.
+#[inline(always)]
+fn receive<R: Wait>(
+    rt: &R,
+    input: &mut Receiver,
+    output: &mut Sender,
+    backoff: &mut Backoff,
+) -> Option<Message>
+    ensures ring { SameReceiver input.old input.new }
     ensures output { SameSender output.old output.new }
     ensures sent { sent output.new ≡ sent output.old }
+    ensures taken { IfSome result (λ m. received input.new ≡ received input.old ++ m ∷ []) }
+    ensures message { IfSome result IsMessage }
+    ensures none_seen { IfNone result ((received input.new ≡ received input.old) × (known_items input.new ≡ [])) }
 {
-    if !input.has_seen_message() {
-        output.wake_receiver();
+    if input.has_seen_message() || wait(rt, input, output, backoff) {
+        return Some(input.receive_known());
     }
+    None
+}
+
+/// Waits until a message is there, once the thread behind is told of all that was sent; false once the ring is empty
+/// and its other end was seen dropped. It stands apart from `receive`, which mostly finds a message.
+#[inline(never)]
+fn wait<R: Wait>(rt: &R, input: &mut Receiver, output: &mut Sender, backoff: &mut Backoff) -> bool
+    ensures ring { SameReceiver input.old input.new }
+    ensures received { received input.new ≡ received input.old }
+    ensures output { SameSender output.old output.new }
+    ensures sent { sent output.new ≡ sent output.old }
+    ensures some { IsTrue result → 0 < length (known_items input.new) }
+    ensures none { IsFalse result → known_items input.new ≡ [] }
+{
+    output.wake_receiver();
+    input.has_message() || input.wait_for_message(rt, backoff)
 }
 
 /// Sends what the tool gives, until it has given all, or refused; false where the output's other end

@@ -17,45 +17,45 @@ returns-in-Some-clause-ran g c tool fresh =
 pub returns-in_default-receive-clause-ran : goal.returns-in_default-receive-clause-ran
 returns-in_default-receive-clause-ran g c tool fresh =
     input_gone g.F.Filter.at g.F.Filter.all_given g.F.Filter.stopped c.args.stage.now c.loop.stage c.send.result (received c.args.input.now)
-    (received c.loop.input) (received c.receive.new.self) (known_items c.receive.new.self) (sent c.args.output.now) (sent c.wake_before_wait.new.output)
+    (received c.loop.input) (received c.receive.new.input) (known_items c.receive.new.input) (sent c.args.output.now) (sent c.receive.new.output)
     (sent c.send.new.self) tool
-    (still_sent c.loop.invariant.2 c.wake_before_wait.ensures.sent) c.in_default-receive.ensures.none_seen c.send.ensures.given c.send.ensures.gone
+    (still_sent c.loop.invariant.2 c.receive.ensures.sent) c.in_default-receive.ensures.none_seen c.send.ensures.given c.send.ensures.gone
     c.loop.invariant.3 fresh
 
 pub returns-then-not-send_answers-clause-ran : goal.returns-then-not-send_answers-clause-ran
 returns-then-not-send_answers-clause-ran g c tool fresh =
     output_gone g.F.Filter.at g.F.Filter.all_given g.F.Filter.stopped c.args.stage.now c.loop.stage c.feed.new.self c.send_answers.new.stage
     c.in-Some-receive.message c.ending-ending.result c.drain_after.result
-    (received c.args.input.now) (received c.loop.input) (received c.receive.new.self) (received c.drain_after.new.self) (known_items c.drain_after.new.self)
-    (sent c.args.output.now) (sent c.wake_before_wait.new.output) (sent c.send_answers.new.output) tool
-    (still_sent c.loop.invariant.2 c.wake_before_wait.ensures.sent) c.in-Some-receive.ensures.taken c.in-Some-receive.ensures.message c.feed.ensures
+    (received c.args.input.now) (received c.loop.input) (received c.receive.new.input) (received c.drain_after.new.self) (known_items c.drain_after.new.self)
+    (sent c.args.output.now) (sent c.receive.new.output) (sent c.send_answers.new.output) tool
+    (still_sent c.loop.invariant.2 c.receive.ensures.sent) c.in-Some-receive.ensures.taken c.in-Some-receive.ensures.message c.feed.ensures
     c.if-not-send_answers.ensures.sent c.ending-ending.ensures c.drain_after.ensures.drained fresh
 
 pub returns-in-Some-fault-clause-ran : goal.returns-in-Some-fault-clause-ran
 returns-in-Some-fault-clause-ran g c tool fresh =
     breaks_off g.F.Filter.at g.F.Filter.all_given g.F.Filter.stopped (ending_of c.in-Some-receive.message) c.args.stage.now c.send_answers.new.stage
     c.in-Some-fault.fault c.ending-ending.result c.break_off-in-Some-fault.result
-    (received c.args.input.now) (received c.receive.new.self) (received c.break_off-in-Some-fault.new.input) (known_items c.break_off-in-Some-fault.new.input)
+    (received c.args.input.now) (received c.receive.new.input) (received c.break_off-in-Some-fault.new.input) (known_items c.break_off-in-Some-fault.new.input)
     (sent c.args.output.now) (sent c.send_answers.new.output) (sent c.break_off-in-Some-fault.new.output) tool
     (passes_one g.F.Filter.at g.F.Filter.all_given g.F.Filter.stopped c.args.stage.now c.loop.stage c.feed.new.self c.send_answers.new.stage
-    c.in-Some-receive.message (received c.args.input.now) (received c.loop.input) (received c.receive.new.self) (sent c.args.output.now)
-    (sent c.wake_before_wait.new.output) (sent c.send_answers.new.output)
-    (still_sent c.loop.invariant.2 c.wake_before_wait.ensures.sent) c.in-Some-receive.ensures.taken c.in-Some-receive.ensures.message c.feed.ensures
+    c.in-Some-receive.message (received c.args.input.now) (received c.loop.input) (received c.receive.new.input) (sent c.args.output.now)
+    (sent c.receive.new.output) (sent c.send_answers.new.output)
+    (still_sent c.loop.invariant.2 c.receive.ensures.sent) c.in-Some-receive.ensures.taken c.in-Some-receive.ensures.message c.feed.ensures
     c.if-not-send_answers.ensures.sent)
     c.ending-ending.ensures (sym c.fault-in-loop.ensures ∙ c.in-Some-fault.is) c.break_off-in-Some-fault.ensures.broken fresh
 
 pub loop-preserved : goal.loop-preserved
 loop-preserved g c = (
-  same_input c.args.input.now c.loop.input c.receive.new.self c.loop.invariant.0 c.receive.ensures.ring,
-  same_output c.args.output.now c.wake_before_wait.new.output c.send_answers.new.output
-      (same_output c.args.output.now c.loop.output c.wake_before_wait.new.output c.loop.invariant.1 c.wake_before_wait.ensures.output)
+  same_input c.args.input.now c.loop.input c.receive.new.input c.loop.invariant.0 c.receive.ensures.ring,
+  same_output c.args.output.now c.receive.new.output c.send_answers.new.output
+      (same_output c.args.output.now c.loop.output c.receive.new.output c.loop.invariant.1 c.receive.ensures.output)
       c.send_answers.ensures.output,
   still_going g.F.Filter.at g.F.Filter.all_given g.F.Filter.stopped (ending_of c.in-Some-receive.message) c.args.stage.now c.send_answers.new.stage
-      (received c.args.input.now) (received c.receive.new.self) (sent c.args.output.now) (sent c.send_answers.new.output)
+      (received c.args.input.now) (received c.receive.new.input) (sent c.args.output.now) (sent c.send_answers.new.output)
       (passes_one g.F.Filter.at g.F.Filter.all_given g.F.Filter.stopped c.args.stage.now c.loop.stage c.feed.new.self c.send_answers.new.stage
-      c.in-Some-receive.message (received c.args.input.now) (received c.loop.input) (received c.receive.new.self) (sent c.args.output.now)
-      (sent c.wake_before_wait.new.output) (sent c.send_answers.new.output)
-      (still_sent c.loop.invariant.2 c.wake_before_wait.ensures.sent) c.in-Some-receive.ensures.taken c.in-Some-receive.ensures.message c.feed.ensures
+      c.in-Some-receive.message (received c.args.input.now) (received c.loop.input) (received c.receive.new.input) (sent c.args.output.now)
+      (sent c.receive.new.output) (sent c.send_answers.new.output)
+      (still_sent c.loop.invariant.2 c.receive.ensures.sent) c.in-Some-receive.ensures.taken c.in-Some-receive.ensures.message c.feed.ensures
       c.if-not-send_answers.ensures.sent) (sym c.ending-ending.ensures ∙ c.in-More.is),
   (sym c.fault-in-loop.ensures ∙ c.in_default-fault.is),
 )
@@ -63,23 +63,23 @@ loop-preserved g c = (
 pub returns-in-Whole-clause-ran : goal.returns-in-Whole-clause-ran
 returns-in-Whole-clause-ran g c tool fresh =
     ends_well g.F.Filter.at g.F.Filter.all_given g.F.Filter.stopped (ending_of c.in-Some-receive.message) c.args.stage.now c.send_answers.new.stage
-    (received c.args.input.now) (received c.receive.new.self) (known_items c.receive.new.self) (sent c.args.output.now) (sent c.send_answers.new.output)
+    (received c.args.input.now) (received c.receive.new.input) (known_items c.receive.new.input) (sent c.args.output.now) (sent c.send_answers.new.output)
     tool
     (passes_one g.F.Filter.at g.F.Filter.all_given g.F.Filter.stopped c.args.stage.now c.loop.stage c.feed.new.self c.send_answers.new.stage
-    c.in-Some-receive.message (received c.args.input.now) (received c.loop.input) (received c.receive.new.self) (sent c.args.output.now)
-    (sent c.wake_before_wait.new.output) (sent c.send_answers.new.output)
-    (still_sent c.loop.invariant.2 c.wake_before_wait.ensures.sent) c.in-Some-receive.ensures.taken c.in-Some-receive.ensures.message c.feed.ensures
+    c.in-Some-receive.message (received c.args.input.now) (received c.loop.input) (received c.receive.new.input) (sent c.args.output.now)
+    (sent c.receive.new.output) (sent c.send_answers.new.output)
+    (still_sent c.loop.invariant.2 c.receive.ensures.sent) c.in-Some-receive.ensures.taken c.in-Some-receive.ensures.message c.feed.ensures
     c.if-not-send_answers.ensures.sent)
     ((sym c.in-Whole.is) ∙ c.ending-ending.ensures) (sym c.fault-in-loop.ensures ∙ c.in_default-fault.is) fresh
 
 pub returns-in-BrokenOff-clause-ran : goal.returns-in-BrokenOff-clause-ran
 returns-in-BrokenOff-clause-ran g c tool fresh =
     ends_broken g.F.Filter.at g.F.Filter.all_given g.F.Filter.stopped (ending_of c.in-Some-receive.message) c.args.stage.now c.send_answers.new.stage
-    (received c.args.input.now) (received c.receive.new.self) (known_items c.receive.new.self) (sent c.args.output.now) (sent c.send_answers.new.output)
+    (received c.args.input.now) (received c.receive.new.input) (known_items c.receive.new.input) (sent c.args.output.now) (sent c.send_answers.new.output)
     tool
     (passes_one g.F.Filter.at g.F.Filter.all_given g.F.Filter.stopped c.args.stage.now c.loop.stage c.feed.new.self c.send_answers.new.stage
-    c.in-Some-receive.message (received c.args.input.now) (received c.loop.input) (received c.receive.new.self) (sent c.args.output.now)
-    (sent c.wake_before_wait.new.output) (sent c.send_answers.new.output)
-    (still_sent c.loop.invariant.2 c.wake_before_wait.ensures.sent) c.in-Some-receive.ensures.taken c.in-Some-receive.ensures.message c.feed.ensures
+    c.in-Some-receive.message (received c.args.input.now) (received c.loop.input) (received c.receive.new.input) (sent c.args.output.now)
+    (sent c.receive.new.output) (sent c.send_answers.new.output)
+    (still_sent c.loop.invariant.2 c.receive.ensures.sent) c.in-Some-receive.ensures.taken c.in-Some-receive.ensures.message c.feed.ensures
     c.if-not-send_answers.ensures.sent)
     ((sym c.in-BrokenOff.is) ∙ c.ending-ending.ensures) (sym c.fault-in-loop.ensures ∙ c.in_default-fault.is) fresh
