@@ -7,6 +7,7 @@ ghost use Rattle.pnm_image.specs.declared.message.Message.{Message as MessageVal
 ghost use Rattle.pnm_flow.specs.Downstreams.{output_of};
 
 use crate::downstream::Downstream;
+use crate::summary::count_image;
 use pnm_image::{BytesOut, Ending, Form, Message};
 use pnm_stages::{Backoff, Receiver, Sender};
 use pnm_write::WriteBuffer;
@@ -68,8 +69,7 @@ impl<W: BytesOut + Drop> Collector<W> {
             return self.is_gone;
         }
         let message = self.input.receive_known();
-        let is_end = message.ends_image();
-        self.images = self.images.saturating_add(u64::from(is_end));
+        count_image(&mut self.images, message.ends_image());
         self.put(&message);
         true
     }

@@ -5,6 +5,7 @@ ghost use Rattle.pnm_stages.specs.Rings.{sent, known_free, SameSender};
 ghost use Rattle.pnm_image.specs.declared.message.Message.{Message as MessageValue};
 ghost use Rattle.pnm_read.specs.Sources.{reader_of, IsFreshSource as IsUnread};
 
+use crate::summary::count_image;
 use pnm_image::{BytesIn, Message};
 use pnm_read::{InputFault, Source};
 use pnm_stages::{Backoff, Sender};
@@ -119,7 +120,7 @@ impl<R: BytesIn + Drop> Feeder<R> {
             Ok(Some(message)) => {
                 let is_end = message.ends_image();
                 self.output.send_reserved(message);
-                self.images = self.images.saturating_add(u64::from(is_end));
+                count_image(&mut self.images, is_end);
             }
             Ok(None) => self.input = Some(Ok(())),
             Err(fault) => {

@@ -27,3 +27,10 @@ impl Summary {
         }
     }
 }
+
+/// Counts an image, where the message that has passed ended it. It stores the count at no other message.
+pub(crate) fn count_image(images: &mut u64, is_end: bool) {
+    if is_end {
+        *images = images.saturating_add(1);
+    }
+}
