@@ -82,6 +82,16 @@ impl Bits {
         bytes_of(self.bytes.as_slice())
     }
 
+    /// The bytes of the pixels, with white spare bits, without a copy.
+    pub fn into_bytes(self) -> Vec<u8>
+        ensures { result.items ≡ packed_bytes self }
+    {
+        let bytes = self.bytes;
+        // No effect at run time: a proof learns of this that each byte is below 256.
+        let _ = bytes_of(bytes.as_slice());
+        bytes
+    }
+
     /// A pixel.
     pub fn pixel(&self, at: usize) -> u16
         requires { at < length self.now }
