@@ -9,6 +9,7 @@ ghost use Rattle.pnm_flow.specs.Downstreams.{output_of};
 use crate::downstream::Downstream;
 use crate::summary::count_image;
 use pnm_image::{BytesOut, Ending, Form, Message};
+use pnm_read::SpareRows;
 use pnm_stages::{Backoff, Receiver, Sender};
 use pnm_write::WriteBuffer;
 use std::sync::Wait;
@@ -55,8 +56,9 @@ impl<W: BytesOut + Drop> Collector<W> {
         self.images
     }
 
-    /// Takes a message, if one is there, and writes it. False where none is, and the ring's other end is still there.
-    pub fn turn(&mut self) -> bool
+    /// Takes a message, if one is there, and writes it; a row is then a spare one. False where no message is, and the
+    /// ring's other end is still there.
+    pub fn turn(&mut self, spares: &mut SpareRows) -> bool
         requires going { collector_is_over self.old ≡ false }
         ensures collecting { (form : FormValue) (start : W) (before : List MessageValue)
             → IsCollecting W.held W.failures form start before self.old
@@ -71,6 +73,7 @@ impl<W: BytesOut + Drop> Collector<W> {
         let message = self.input.receive_known();
         count_image(&mut self.images, message.ends_image());
         self.put(&message);
+        let_go(message, spares);
         true
     }
 
@@ -124,5 +127,13 @@ impl<W: BytesOut + Drop> Collector<W> {
         ensures { (result.0 ≡ self.downstream) × (result.1 ≡ self.has_ended) }
     {
         (self.downstream, self.has_ended)
+    }
+}
+
+/// Lets the message go; a row is then a spare one.
+fn let_go(message: Message, spares: &mut SpareRows) {
+    match message {
+        Message::Row(row) => spares.keep(row),
+        other => drop(other),
     }
 }

@@ -7,7 +7,7 @@ ghost use Rattle.pnm_read.specs.Sources.{reader_of, IsFreshSource as IsUnread};
 
 use crate::summary::count_image;
 use pnm_image::{BytesIn, Message};
-use pnm_read::{InputFault, Source};
+use pnm_read::{InputFault, Source, SpareRows};
 use pnm_stages::{Backoff, Sender};
 use std::sync::Wait;
 
@@ -87,9 +87,9 @@ impl<R: BytesIn + Drop> Feeder<R> {
         self.output.wait(rt, backoff);
     }
 
-    /// Asks the source for its next message and sends it, where there is room for one in the ring. False where there is
-    /// none.
-    pub fn turn(&mut self) -> bool
+    /// Asks the source for its next message and sends it, where there is room for one in the ring. A short row is made
+    /// of a spare one. False where there is no room.
+    pub fn turn(&mut self, spares: &mut SpareRows) -> bool
         requires going { feeder_is_over self.old ≡ false }
         ensures feeding { (first : Source R) (before : List MessageValue)
             → IsFeeding R.left R.failures first before self.old
@@ -101,13 +101,13 @@ impl<R: BytesIn + Drop> Feeder<R> {
             self.is_gone = self.output.is_abandoned();
             return self.is_gone;
         }
-        self.send_next();
+        self.send_next(spares);
         true
     }
 
     /// Asks the source for its next message and sends it, for which there is room. After the source's fault Stop is
     /// sent.
-    fn send_next(&mut self)
+    fn send_next(&mut self, spares: &mut SpareRows)
         requires going { self.old.input ≡ None }
         requires room { 0 < known_free self.old.output }
         ensures feeding { (first : Source R) (before : List MessageValue)
@@ -116,7 +116,7 @@ impl<R: BytesIn + Drop> Feeder<R> {
         ensures ring { SameSender self.old.output self.new.output }
         ensures same_device { R.same (reader_of self.old.source) (reader_of self.new.source) }
     {
-        match self.source.next() {
+        match self.source.next(spares) {
             Ok(Some(message)) => {
                 let is_end = message.ends_image();
                 self.output.send_reserved(message);

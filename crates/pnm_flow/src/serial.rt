@@ -16,7 +16,7 @@ use crate::fault::RunFault;
 use crate::passing::feed_through;
 use crate::summary::Summary;
 use pnm_image::{BytesIn, BytesOut, Form};
-use pnm_read::{InputFault, Source};
+use pnm_read::{InputFault, Source, SpareRows};
 use pnm_stages::{FusedFilter, filter_of};
 use pnm_tools::{Filter, Tool, ToolFault, ToolState};
 use pnm_write::SinkFault;
@@ -52,7 +52,7 @@ pub fn run_serial<R: BytesIn, W: BytesOut>(
     };
     let mut source = Source::with_buffer(read, &mut *reader);
     let mut downstream = Downstream::new(write, &mut *writer, form);
-    let input = feed_all(&mut source, stages.as_mut_slice(), &mut downstream);
+    let input = feed_all(alloc, &mut source, stages.as_mut_slice(), &mut downstream);
     let read = source.into_reader();
     let (written, output) = downstream.finish();
     // No effect at run time. The proof reads from these uses what the two devices hold.
@@ -106,6 +106,7 @@ fn first_fault<F: Filter + Drop>(stages: &[FusedFilter<F>]) -> Option<(usize, To
 /// Passes on all messages of the source, through to its end or its fault. After `u64::MAX` of them
 /// it answers `ReadFailed`.
 fn feed_all<R: BytesIn, F: Filter + Drop, W: BytesOut + Drop>(
+    alloc: Global,
     source: &mut Source<R>,
     stages: &mut [FusedFilter<F>],
     downstream: &mut Downstream<W>,
@@ -116,8 +117,9 @@ fn feed_all<R: BytesIn, F: Filter + Drop, W: BytesOut + Drop>(
     ensures same_reader { R.same (reader_of source.old) (reader_of source.new) }
     ensures same_writer { W.same (output_of downstream.old) (output_of downstream.new) }
 {
+    let mut spares = SpareRows::none(alloc);
     for _ in 0..u64::MAX {
-        match source.next()? {
+        match source.next(&mut spares)? {
             Some(message) => feed_through(stages, message, downstream),
             None => return Ok(()),
         }

@@ -7,6 +7,7 @@ ghost use Rattle.pnm_flow.specs.Turns.{HaveTurned};
 use crate::collector::Collector;
 use crate::feeder::Feeder;
 use pnm_image::{BytesIn, BytesOut};
+use pnm_read::SpareRows;
 use pnm_stages::{Backoff, Task};
 use std::alloc::Global;
 use std::sync::Wait;
@@ -16,6 +17,7 @@ use std::sync::Wait;
 #[derive(Drop)]
 pub struct Turns<'a, H, R, W> {
     pub rt: &'a H,
+    pub spares: SpareRows,
     pub feeder: Box<Feeder<R>>,
     pub collector: Box<Collector<W>>,
 }
@@ -32,8 +34,10 @@ impl<'a, H, R: BytesIn + Drop, W: BytesOut + Drop> Turns<'a, H, R, W> {
     {
         let feeder = Box::new(alloc, feeder).ok()?;
         let collector = Box::new(alloc, collector).ok()?;
+        let spares = SpareRows::new(alloc).ok()?;
         Some(Turns {
             rt,
+            spares,
             feeder,
             collector,
         })
@@ -51,19 +55,21 @@ impl<'a, H: Wait, R: BytesIn + Drop, W: BytesOut + Drop> Task for Turns<'a, H, R
     fn run(self) -> (Box<Feeder<R>>, Box<Collector<W>>) {
         let Turns {
             rt,
+            mut spares,
             mut feeder,
             mut collector,
         } = self;
-        take_turns(rt, &mut feeder, &mut collector);
+        take_turns(rt, &mut feeder, &mut collector, &mut spares);
         (feeder, collector)
     }
 }
 
-/// Takes and sends until there is no more to do.
+/// Takes and sends until there is no more to do. Of the rows that were written new ones are made.
 fn take_turns<H: Wait, R: BytesIn + Drop, W: BytesOut + Drop>(
     rt: &H,
     feeder: &mut Feeder<R>,
     collector: &mut Collector<W>,
+    spares: &mut SpareRows,
 )
     ensures turned { HaveTurned R.left R.failures R.same W.held W.failures W.same feeder.old collector.old feeder.new
         collector.new }
@@ -75,7 +81,7 @@ fn take_turns<H: Wait, R: BytesIn + Drop, W: BytesOut + Drop>(
             return;
         }
         let takes_first = wake_before_taking(feeder, collector, takes);
-        if turn(feeder, collector, takes_first, &mut takes) {
+        if turn(feeder, collector, spares, takes_first, &mut takes) {
             backoff.reset();
         } else {
             wait(rt, feeder, collector, &mut backoff);
@@ -126,6 +132,7 @@ fn wake_before_taking<R: BytesIn + Drop, W: BytesOut + Drop>(
 fn turn<R: BytesIn + Drop, W: BytesOut + Drop>(
     feeder: &mut Feeder<R>,
     collector: &mut Collector<W>,
+    spares: &mut SpareRows,
     takes_first: bool,
     takes: &mut bool,
 ) -> bool
@@ -133,16 +140,16 @@ fn turn<R: BytesIn + Drop, W: BytesOut + Drop>(
         collector.new }
 {
     if takes_first {
-        if !collector.is_over() && collector.turn() {
+        if !collector.is_over() && collector.turn(spares) {
             return true;
         }
         *takes = false;
     }
-    if may_feed(feeder, collector) && feeder.turn() {
+    if may_feed(feeder, collector) && feeder.turn(spares) {
         return true;
     }
     *takes = true;
-    !collector.is_over() && collector.turn()
+    !collector.is_over() && collector.turn(spares)
 }
 
 /// Whether there is more to be sent. Where the result of an image that was sent is still to be written, it isn't what

@@ -21,8 +21,10 @@ mod raster;
 mod raw;
 mod scan;
 mod source;
+mod spare_rows;
 mod units;
 
 pub use buffered_reader::ReadBuffer;
 pub use fault::InputFault;
 pub use source::Source;
+pub use spare_rows::SpareRows;

@@ -11,13 +11,15 @@ ghost use Rattle.pnm_read.specs.Units.{samples_of_bytes, AreBytesWithin};
 
 use crate::buffered_reader::BufferedReader;
 use crate::fault::InputFault;
+use crate::spare_rows::SpareRows;
 use crate::units::{append_wide, are_units_within, units_in_row};
 use pnm_image::{Bits, BytesIn, SampleVec, SampleWidth, Samples, Shape};
 
-/// The next row, held as it was read, without a copy. No sample is looked at again: none is above the
-/// maxval.
+/// The next row, held as it was read, without a copy; where its bytes are held, in a spare row if there is one. No
+/// sample is looked at again: none is above the maxval.
 pub fn read_row<R: BytesIn>(
     input: &mut BufferedReader<R>,
+    spares: &mut SpareRows,
     shape: Shape,
     units: usize,
     sample_width: SampleWidth,
@@ -30,12 +32,12 @@ pub fn read_row<R: BytesIn>(
     let length = shape.row_length() as usize;
     match sample_width {
         SampleWidth::Bits => {
-            let bytes = read_bytes(input, units, shape, SampleWidth::Bits)?;
+            let bytes = read_bytes(input, spares, units, shape, SampleWidth::Bits)?;
             let bits = Bits::new(bytes, length);
             Ok(Samples::from_vec(SampleVec::Bits(bits)))
         }
         SampleWidth::Bytes => {
-            let mut bytes = read_bytes(input, units, shape, SampleWidth::Bytes)?;
+            let mut bytes = read_bytes(input, spares, units, shape, SampleWidth::Bytes)?;
             bytes.truncate(length);
             Ok(Samples::within(SampleVec::Bytes(bytes), shape.maxval))
         }
@@ -58,6 +60,7 @@ pub fn bytes_of(units: usize, sample_width: SampleWidth) -> usize {
 /// The bytes of the next row, each of them a unit.
 fn read_bytes<R: BytesIn>(
     input: &mut BufferedReader<R>,
+    spares: &mut SpareRows,
     count: usize,
     shape: Shape,
     sample_width: SampleWidth,
@@ -70,7 +73,7 @@ fn read_bytes<R: BytesIn>(
     ensures within { IfOk result (λ row. AreBytesWithin sample_width shape.maxval row.items) }
 {
     if input.bytes().len() >= count {
-        take_bytes(input, count, shape, sample_width)
+        take_bytes(input, spares, count, shape, sample_width)
     } else {
         read_parts(input, count, shape, sample_width)
     }
@@ -102,9 +105,10 @@ fn read_parts<R: BytesIn>(
     Ok(row)
 }
 
-/// The bytes of the next row, so many units, where they are held.
+/// The bytes of the next row, so many units, where they are held: in a spare row, if there is one.
 fn take_bytes<R: BytesIn>(
     input: &mut BufferedReader<R>,
+    spares: &mut SpareRows,
     count: usize,
     shape: Shape,
     sample_width: SampleWidth,
@@ -117,7 +121,7 @@ fn take_bytes<R: BytesIn>(
         (FindsUnits (λ row. samples_of_bytes sample_width row.items) shape result) }
     ensures within { IfOk result (λ row. AreBytesWithin sample_width shape.maxval row.items) }
 {
-    let Ok(row) = Vec::from_slice(input.allocator(), &input.bytes()[..count]) else {
+    let Ok(row) = spares.copy_of(input.allocator(), &input.bytes()[..count]) else {
         return Err(InputFault::Memory);
     };
     if !are_units_within(row.as_slice(), sample_width, shape.maxval) {

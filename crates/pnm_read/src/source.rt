@@ -15,6 +15,7 @@ use crate::buffered_reader::{BufferedReader, ReadBuffer};
 use crate::fault::InputFault;
 use crate::header::{is_told, read_format, read_head};
 use crate::raster::Raster;
+use crate::spare_rows::SpareRows;
 use crate::{plain, raw};
 use pnm_image::{BytesIn, Format, Message, Samples};
 use std::alloc::Global;
@@ -93,7 +94,9 @@ impl<R: BytesIn> Source<R> {
     /// The fault is the first that the text has (see `InputFault`), after all messages that come
     /// before it; or `ReadFailed` where the reader failed, or `Memory` where memory ran out, in
     /// place of all later faults. After a fault it answers the same fault and reads nothing.
-    pub fn next(&mut self) -> Result<Option<Message>, InputFault>
+    ///
+    /// The memory of a short row is taken from the spares, where there is one that it fits in.
+    pub fn next(&mut self, spares: &mut SpareRows) -> Result<Option<Message>, InputFault>
         // What is said of the text comes in turn, and then its end or its fault. Stop doesn't come.
         ensures told { Tells R.left self.old result self.new }
         ensures no_stop { result ≡ Ok (Some Stop) → ⊥ }
@@ -117,7 +120,7 @@ impl<R: BytesIn> Source<R> {
             ⊎ ((rest : List ℕ) → MayGive self.new rest) }
     {
         match self.state {
-            State::Awaits(awaited) => self.go_on(awaited),
+            State::Awaits(awaited) => self.go_on(awaited, spares),
             State::Ended => Ok(None),
             State::Failed(fault) => Err(fault),
         }
@@ -137,14 +140,18 @@ impl<R: BytesIn> Source<R> {
     }
 
     /// The next message, before the end of the stream and any fault.
-    fn go_on(&mut self, awaited: Awaited) -> Result<Option<Message>, InputFault>
+    fn go_on(
+        &mut self,
+        awaited: Awaited,
+        spares: &mut SpareRows,
+    ) -> Result<Option<Message>, InputFault>
         requires { self.old.state ≡ State.Awaits awaited }
         ensures read_call { ReadCall R.left R.failures R.same self.old.input self.new.input result
             (AnswersNext awaited result self.new.state) }
         ensures stopped { IfErr result (λ fault. stopped_by self.new ≡ Some fault) }
     {
         if has_row(&self.state) {
-            return self.give_row();
+            return self.give_row(spares);
         }
         match step_at(&mut self.input, awaited) {
             Ok(step) => {
@@ -159,7 +166,7 @@ impl<R: BytesIn> Source<R> {
     }
 
     /// The next row of a raster that has one.
-    fn give_row(&mut self) -> Result<Option<Message>, InputFault>
+    fn give_row(&mut self, spares: &mut SpareRows) -> Result<Option<Message>, InputFault>
         requires { HasRow self.old.state }
         ensures read_call { (awaited : AwaitedValue) → self.old.state ≡ State.Awaits awaited
             → ReadCall R.left R.failures R.same self.old.input self.new.input result
@@ -174,7 +181,7 @@ impl<R: BytesIn> Source<R> {
         };
         // Set before anything else is written, so that of the raster `y` alone has to be stored.
         self.state = State::Awaits(Awaited::RowOrEnd(raster.after_row()));
-        match read_row(&mut self.input, &raster) {
+        match read_row(&mut self.input, spares, &raster) {
             Ok(row) => Ok(Some(Message::Row(row))),
             Err(found) => {
                 self.state = State::Failed(found);
@@ -266,6 +273,7 @@ fn after_image(format: Format) -> Awaited
 /// The samples of the next row.
 fn read_row<R: BytesIn>(
     input: &mut BufferedReader<R>,
+    spares: &mut SpareRows,
     raster: &Raster,
 ) -> Result<Samples, InputFault>
     requires { raster.now.y < raster.now.shape.height }
@@ -275,7 +283,13 @@ fn read_row<R: BytesIn>(
     if raster.format.is_plain() {
         plain::read_row(input, raster.shape, raster.shape.height - raster.y - 1)
     } else {
-        raw::read_row(input, raster.shape, raster.units, raster.sample_width)
+        raw::read_row(
+            input,
+            spares,
+            raster.shape,
+            raster.units,
+            raster.sample_width,
+        )
     }
 }
 

@@ -1,7 +1,7 @@
 //! What a source answers to a text, and to each prefix of it.
 
 use pnm_image::{BytesIn, Device, Message, SampleSlice};
-use pnm_read::{InputFault, Source};
+use pnm_read::{InputFault, Source, SpareRows};
 use pnm_test_support::{Drips, FailsOnce, ReadOut, tell_change, tell_message};
 use std::alloc::{AllocError, Global};
 
@@ -16,26 +16,40 @@ pub fn source_of<R: BytesIn + Drop>(alloc: Global, reader: R) -> Result<Source<R
     }
 }
 
-/// Adds all that a source answers to its end, and whether it doesn't stay there.
+/// Adds all that a source answers to its end, and whether it doesn't stay there. Each row that was told is a spare one.
 pub fn tell_answers<R: BytesIn>(
+    alloc: Global,
     source: &mut Source<R>,
     told: &mut String,
 ) -> Result<(), AllocError> {
+    let mut spares = SpareRows::new(alloc)?;
     for _ in 0..MOST_ANSWERS {
-        match source.next() {
+        match source.next(&mut spares) {
             Ok(Some(Message::StreamEnd)) => {
                 told.push_str(" StreamEnd")?;
-                return tell_stays(source, None, told);
+                return tell_stays(source, None, told, &mut spares);
             }
-            Ok(Some(message)) => tell_message(told, &message)?,
+            Ok(Some(message)) => {
+                let outcome = tell_message(told, &message);
+                let_go(message, &mut spares);
+                outcome?;
+            }
             Ok(None) => return told.push_str(" nothing"),
             Err(fault) => {
                 write!(told, " {fault}")?;
-                return tell_stays(source, Some(fault), told);
+                return tell_stays(source, Some(fault), told, &mut spares);
             }
         }
     }
     told.push_str(" and more")
+}
+
+/// Lets the message go; a row is then a spare one.
+fn let_go(message: Message, spares: &mut SpareRows) {
+    match message {
+        Message::Row(row) => spares.keep(row),
+        other => drop(other),
+    }
 }
 
 /// Adds a word where the source answers anything but this fault, or nothing where there is none.
@@ -43,9 +57,10 @@ fn tell_stays<R: BytesIn>(
     source: &mut Source<R>,
     fault: Option<InputFault>,
     told: &mut String,
+    spares: &mut SpareRows,
 ) -> Result<(), AllocError> {
     for _ in 0..3 {
-        let is_same = match source.next() {
+        let is_same = match source.next(spares) {
             Ok(answer) => answer.is_none() && fault.is_none(),
             Err(other) => fault == Some(other),
         };
@@ -59,7 +74,7 @@ fn tell_stays<R: BytesIn>(
 /// Adds the answers to a text that comes at once.
 pub fn tell_whole(alloc: Global, text: &[u8], told: &mut String) -> Result<(), AllocError> {
     let mut source = source_of(alloc, Device::new(text))?;
-    tell_answers(&mut source, told)
+    tell_answers(alloc, &mut source, told)
 }
 
 /// Whether the answers are these where a read gives up to so many bytes, and no read follows one that gave none.
@@ -67,7 +82,7 @@ fn are_told_by(alloc: Global, text: &[u8], most: usize, whole: &str) -> Result<b
     let mut reader = ReadOut::new(Drips::new(text, most, FailsOnce::never()));
     let mut source = source_of(alloc, Device::new(&mut reader))?;
     let mut told = String::new(alloc);
-    tell_answers(&mut source, &mut told)?;
+    tell_answers(alloc, &mut source, &mut told)?;
     let _ = source.into_reader();
     Ok(told.as_str() == whole && !reader.is_read_on())
 }
@@ -106,8 +121,9 @@ pub fn tell_cuts(alloc: Global, text: &[u8], told: &mut String) -> Result<(), Al
 /// Adds how the samples of a text's first row are held.
 pub fn tell_width(alloc: Global, text: &[u8], told: &mut String) -> Result<(), AllocError> {
     let mut source = source_of(alloc, Device::new(text))?;
-    let _head = source.next();
-    told.push_str(width_of(source.next()))
+    let mut spares = SpareRows::none(alloc);
+    let _head = source.next(&mut spares);
+    told.push_str(width_of(source.next(&mut spares)))
 }
 
 /// How the samples of a row are held, where the answer is one.

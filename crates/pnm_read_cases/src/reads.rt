@@ -2,6 +2,7 @@
 
 use super::answers::{source_of, tell_answers};
 use pnm_image::Device;
+use pnm_read::SpareRows;
 use pnm_test_support::{Drips, FailsOnce, Recorded, cut_number, tell_change};
 use std::alloc::{AllocError, Global};
 
@@ -22,7 +23,7 @@ fn tell_recorded(
     };
     let mut reader = Recorded::new(alloc, Drips::new(text, most, fails));
     let mut source = source_of(alloc, Device::new(&mut reader))?;
-    tell_answers(&mut source, told)?;
+    tell_answers(alloc, &mut source, told)?;
     let _ = source.into_reader();
     Ok(Vec::from_slice(alloc, reader.calls())?)
 }
@@ -64,8 +65,9 @@ fn reads_of(
 ) -> Result<(usize, bool), AllocError> {
     let mut reader = Recorded::new(alloc, Drips::new(text, most, FailsOnce::never()));
     let mut source = source_of(alloc, Device::new(&mut reader))?;
+    let mut spares = SpareRows::none(alloc);
     for _ in 0..count {
-        let _ = source.next();
+        let _ = source.next(&mut spares);
     }
     let is_held = source.holds_next();
     let _ = source.into_reader();

@@ -1,0 +1,91 @@
+//! Rows that were let go, of which new ones are made.
+
+ghost use Rattle.std.specs.Prelude.{◌≡◌, ◌≤◌, IfOk, length, vec_capacity};
+
+use pnm_image::{SampleVec, Samples};
+use std::alloc::{AllocError, Global};
+use std::collections::VecDeque;
+
+/// The most rows that are kept.
+const MOST_ROWS: usize = 128;
+
+/// The most bytes that a row takes which is kept.
+const MOST_BYTES: usize = 4096;
+
+/// Rows that were let go, whose memory a source takes for its next ones: first the one that was let go first. At most
+/// 128 of at most 4,096 bytes are kept, and none before a source has asked for a row.
+#[derive(Debug, Drop)]
+pub struct SpareRows {
+    rows: VecDeque<Vec<u8>>,
+    /// The bytes of the row that was asked for last.
+    wanted: usize,
+}
+
+impl SpareRows {
+    /// No rows, and a place for each that may be kept.
+    ///
+    /// # Errors
+    ///
+    /// Where there is no memory for the places.
+    pub fn new(alloc: Global) -> Result<SpareRows, AllocError> {
+        Ok(SpareRows {
+            rows: VecDeque::with_capacity(alloc, MOST_ROWS)?,
+            wanted: usize::MAX,
+        })
+    }
+
+    /// No rows, and no place to keep one. It takes no memory.
+    pub fn none(alloc: Global) -> SpareRows {
+        SpareRows {
+            rows: VecDeque::new(alloc),
+            wanted: usize::MAX,
+        }
+    }
+
+    /// Keeps the row's memory, where it serves for a row like the one that was asked for last, and otherwise drops it.
+    pub fn keep(&mut self, row: Samples) {
+        match row.into_vec() {
+            SampleVec::Bits(bits) => self.keep_bytes(bits.into_bytes()),
+            SampleVec::Bytes(bytes) => self.keep_bytes(bytes),
+            SampleVec::Words(_) => {}
+        }
+    }
+
+    /// Keeps the row, where it has room for as many bytes as were asked for last and there is a place for it.
+    fn keep_bytes(&mut self, row: Vec<u8>) {
+        let size = row.capacity();
+        let has_place = self.rows.len() < self.rows.capacity();
+        if self.wanted <= size && size <= MOST_BYTES && has_place {
+            self.rows.push_back_reserved(row);
+        }
+    }
+
+    /// A row of these bytes, in memory that was kept where there is a row that they fit in.
+    ///
+    /// # Errors
+    ///
+    /// Where there is no memory for them.
+    pub fn copy_of(&mut self, alloc: Global, bytes: &[u8]) -> Result<Vec<u8>, AllocError>
+        ensures { IfOk result (λ row. row.items ≡ bytes.now) }
+    {
+        self.wanted = bytes.len();
+        if let Some(mut row) = self.rows.pop_front() {
+            if bytes.len() <= row.capacity() {
+                refill(&mut row, bytes);
+                return Ok(row);
+            }
+        }
+        Vec::from_slice(alloc, bytes)
+    }
+}
+
+/// Puts these bytes in place of those of the row, which has room for them.
+fn refill(row: &mut Vec<u8>, bytes: &[u8])
+    requires { length bytes.now ≤ vec_capacity row.old }
+    ensures { row.new.items ≡ bytes.now }
+{
+    row.clear();
+    let Ok(()) = row.extend_from_slice(bytes) else {
+        unreachable!();
+    };
+}
