@@ -133,7 +133,7 @@ impl<R: BytesIn> Source<R> {
         ensures ended { has_ended self.now ≡ true → result ≡ true }
         ensures stopped { (fault : Fault) → stopped_by self.now ≡ Some fault → result ≡ true }
     {
-        match self.state {
+        match &self.state {
             State::Awaits(awaited) => holds_at(&self.input, awaited),
             State::Ended | State::Failed(_) => true,
         }
@@ -224,14 +224,23 @@ fn step_at<R: BytesIn>(input: &mut BufferedReader<R>, awaited: Awaited) -> Resul
 }
 
 /// Whether what is held tells the message that is awaited.
-fn holds_at<R: BytesIn>(input: &BufferedReader<R>, awaited: Awaited) -> bool {
+fn holds_at<R: BytesIn>(input: &BufferedReader<R>, awaited: &Awaited) -> bool {
     match awaited {
         Awaited::FirstImage => input.holds(usize::MAX) || is_told(input.bytes(), true),
-        Awaited::RowOrEnd(raster) if raster.y == raster.shape.height => true,
-        Awaited::RowOrEnd(raster) if raster.format.is_plain() => input.holds(usize::MAX),
-        Awaited::RowOrEnd(raster) => input.holds(raw::bytes_of(raster.units, raster.sample_width)),
+        Awaited::RowOrEnd(raster) => holds_row(input, raster),
         Awaited::ImageOrEnd => input.holds(usize::MAX) || is_told(input.bytes(), false),
         Awaited::End => true,
+    }
+}
+
+/// Whether what is held tells the next row of the raster, or that it has no more.
+fn holds_row<R: BytesIn>(input: &BufferedReader<R>, raster: &Raster) -> bool {
+    if raster.y == raster.shape.height {
+        true
+    } else if raster.format.is_plain() {
+        input.holds(usize::MAX)
+    } else {
+        input.holds(raw::bytes_of(raster.units, raster.sample_width))
     }
 }
 
