@@ -29,6 +29,8 @@ impl Place {
     /// Whether the message may come here. An image begins, or the stream ends, between images; an
     /// image of height h has h rows of width times depth samples up to its maxval, and then ends;
     /// a stream may be broken off anywhere before its end.
+    // A tool and the sink ask this of each row: within them the message stays in registers.
+    #[inline(always)]
     pub fn accepts(&self, message: &Message) -> bool
         ensures { IsTrue result ↔ Accepts self.now message.now }
     {
@@ -44,6 +46,7 @@ impl Place {
     }
 
     /// Goes on to the place after the message.
+    #[inline(always)]
     pub fn step(&mut self, message: &Message)
         requires { Accepts self.old message.now }
         ensures { self.new ≡ place_after self.old message.now }
@@ -63,6 +66,7 @@ impl Place {
 }
 
 /// Whether the row has so many samples, none of them above the maxval.
+#[inline(always)]
 fn is_row_of(shape: &Shape, row: &Samples) -> bool
     ensures { IsTrue result ↔ IsRowOf shape.now row.now }
 {
