@@ -14,7 +14,7 @@ const MOST_BYTES: usize = 4096;
 
 /// Rows that were let go, whose memory a source takes for its next ones: first the one that was let go first. At most
 /// 128 of at most 4,096 bytes are kept, and none before a source has asked for a row.
-#[derive(Debug, Drop)]
+#[derive(Drop)]
 pub struct SpareRows {
     rows: VecDeque<Vec<u8>>,
     /// The bytes of the row that was asked for last.
