@@ -3,9 +3,10 @@
 
 Each command of `refused.py` has to end as it does with room enough, in a stack of 32 KiB for one tool, of the main
 thread and of each thread that the program starts, and of some more for each further tool, which is started within the
-frame of the one behind it, and for each further lane, which is started within that of the next one. A stack that is too small ends a run by a signal, which no line names, so a frame that
-grows, as by a buffer that lies in it, is refused here. The system takes up to 8 KiB of the main thread's stack, at
-random. `--least` finds the least stack of each command in place of that.
+frame of the one behind it, and for each further lane, which is started within that of the next one. A stack that is
+too small ends a run by a signal, which no line names, so a frame that grows, as by a buffer that lies in it, is
+refused here. The system takes up to 8 KiB of the main thread's stack, at random. `--least` finds the least stack of
+each command in place of that.
 
 `pnmtile` keeps the columns that it shows, and no whole rows of an image that is larger than what fits beside them.
 """
