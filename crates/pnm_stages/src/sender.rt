@@ -21,7 +21,7 @@ const SHORT: usize = 1_024;
 
 /// A row of more bytes is wide: of such rows no more lie in a ring at once than would come to so many bytes a place, so
 /// that what passes stays in the processors' own caches, and a slow reader doesn't have a run take memory without end.
-const BYTES_PER_PLACE: usize = 4_096;
+const BYTES_PER_PLACE: usize = 16_384;
 
 /// But for so many rows, however wide, so that the threads at both ends have something to do.
 const LEAST_ROWS: usize = 2;

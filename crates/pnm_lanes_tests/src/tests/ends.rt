@@ -94,16 +94,16 @@ fn count_rows(
     Ok(count)
 }
 
-/// Of rows of more than 4,096 bytes no more than come to so many a place of the ring, and two at least.
+/// Of rows of more than 16,384 bytes no more than come to so many a place of the ring, and two at least.
 #[test]
 fn leaves_room_beside_wide_rows(rt: HostRuntime) -> Result<(), Fail> {
     let (mut sender, mut receiver) = ring(rt.alloc(), 8)?;
     for (bytes, most) in [
         (1, 8),
-        (4_096, 8),
-        (4_097, 7),
-        (8_192, 4),
-        (100_000, 2),
+        (16_384, 8),
+        (16_385, 7),
+        (32_768, 4),
+        (200_000, 2),
         (64, 8),
     ] {
         let count = count_rows(rt.alloc(), &mut sender, &mut receiver, bytes)?;
