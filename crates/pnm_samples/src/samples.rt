@@ -131,6 +131,7 @@ impl Samples {
     }
 
     /// Whether no sample is above this number. No sample is looked at where none can be.
+    #[inline(always)]
     pub fn are_within(&self, most: u32) -> bool
         ensures { IsTrue result ↔ All (λ sample. sample ≤ most) self.now }
     {
