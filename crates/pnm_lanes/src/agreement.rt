@@ -1,6 +1,6 @@
 //! Whether the messages that the lanes give for one message of the whole stream agree, and which message that is.
 
-ghost use Rattle.std.specs.Prelude.{◌≡◌, ◌↔◌, ℕ, ◌≤◌, ◌<◌, length, slice_index, All, IsTrue, IfSome, IfNone, sum};
+ghost use Rattle.std.specs.Prelude.{◌≡◌, ◌↔◌, ℕ, ◌≤◌, ◌<◌, length, IsTrue, IfSome, IfNone, sum};
 ghost use Rattle.pnm_tools.specs.Dealing.{dealt_height};
 ghost use Rattle.pnm_image.specs.Heads.{with_height};
 ghost use Rattle.pnm_lanes.specs.GatherParts.{height_in, AreAlike, IsTogether, AreNotTogether, AreDealtHeights};

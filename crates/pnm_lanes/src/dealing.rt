@@ -1,7 +1,7 @@
 //! Dealing: the rows of each image go to lanes in turn, and each lane gets a stream of images of its own.
 
 ghost use Rattle.std.specs.Prelude.{◌≡◌, ◌<◌, ◌≤◌, ◌∷◌, [], length, IfSome};
-ghost use Rattle.pnm_stages.specs.Rings.{sent, received, known_items, SameSender, SameReceiver};
+ghost use Rattle.pnm_stages.specs.Rings.{sent, received, known_items, SameReceiver};
 ghost use Rattle.pnm_image.specs.Places.{Accepts};
 ghost use Rattle.pnm_tools.specs.Dealing.{dealt_height};
 ghost use Rattle.pnm_lanes.specs.Limits.{IsLaneCount};

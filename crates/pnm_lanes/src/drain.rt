@@ -1,7 +1,7 @@
 //! What is done with lanes whose messages are no longer wanted: they are taken and dropped, from whichever lane has
 //! some.
 
-ghost use Rattle.std.specs.Prelude.{◌≡◌, ◌≢◌, ℕ, ◌<◌, ◌≤◌, length, IfSome, IfNone, IsTrue};
+ghost use Rattle.std.specs.Prelude.{◌≡◌, ◌<◌, ◌≤◌, length, IfSome};
 ghost use Rattle.pnm_stages.specs.Rings.{received, known_items, SameReceiver};
 ghost use Rattle.pnm_image.specs.Messages.{IsMessage};
 ghost use Rattle.pnm_lanes.specs.Gathers.{at_lane, AreSameInputs};

@@ -1,7 +1,7 @@
 //! A lane whose messages are gathered: what is taken of it, and whether it has ended.
 
 ghost use Rattle.std.specs.Prelude.{◌<◌, ◌≤◌, length};
-ghost use Rattle.pnm_stages.specs.Rings.{received, known_items};
+ghost use Rattle.pnm_stages.specs.Rings.{received};
 ghost use Rattle.pnm_lanes.specs.Gathers.{at_lane, AreSameInputs};
 ghost use Rattle.pnm_lanes.specs.GatherParts.{HasTakenFrom};
 

@@ -1,7 +1,7 @@
 //! The bytes of a reader, of which a buffer's worth is held.
 
-ghost use Rattle.std.specs.Prelude.{◌≡◌, ◌==◌, ◌≤◌, ◌<◌, ◌⊎◌, ◌↔◌, IsTrue, [], true, false, drop, take, length, List};
-ghost use Rattle.std.specs.Prelude.{ℕ, vec_len, OnOk, IfOk, IfErr, MatchResult};
+ghost use Rattle.std.specs.Prelude.{◌≡◌, ◌==◌, ◌≤◌, ◌<◌, ◌⊎◌, ◌↔◌, IsTrue, [], true, false, drop, length};
+ghost use Rattle.std.specs.Prelude.{vec_len, OnOk, IfOk, IfErr, MatchResult};
 ghost use Rattle.pnm_read.specs.declared.fault.InputFault.TheVariants.{ReadFailed, Memory};
 ghost use Rattle.pnm_read.specs.Reads.{HasRead};
 

@@ -1,11 +1,11 @@
 //! The magic and the header of an image, from pbm(5), pgm(5) and ppm(5); PAM's is in a file of its own.
 
-ghost use Rattle.std.specs.Prelude.{◌≡◌, ◌≤◌, ◌<◌, ◌==◌, ◌-◌, ◌++◌, [], ◌∷◌, List, ℕ, Some, not, ◌&&◌, ◌||◌};
+ghost use Rattle.std.specs.Prelude.{◌≡◌, ◌≤◌, ◌<◌, ◌==◌, ◌-◌, [], List, ℕ, Some, ◌&&◌, ◌||◌};
 ghost use Rattle.pnm_read.specs.declared.judgement.Judgement.TheVariants.{GoesOn, Fails};
 ghost use Rattle.pnm_read.specs.declared.fault.InputFault.TheVariants.{ReadFailed, Memory};
 ghost use Rattle.pnm_read.specs.Texts.{is_apart};
 ghost use Rattle.pnm_image.specs.Texts.{is_digit};
-ghost use Rattle.pnm_read.specs.Formats.{shape_of, number_count, planes};
+ghost use Rattle.pnm_read.specs.Formats.{number_count, planes};
 ghost use Rattle.pnm_read.specs.Items.{fault_of_head, numbers_item};
 ghost use Rattle.pnm_read.specs.Said.{format_at, pnm_head_at, head_at};
 ghost use Rattle.pnm_read.specs.BufferedReaders.{ReadCall, Finds};

@@ -1,6 +1,6 @@
 //! The header of a PAM image, from pam(5), 'The layout'.
 
-ghost use Rattle.std.specs.Prelude.{◌≡◌, ◌≤◌, ◌-◌, []};
+ghost use Rattle.std.specs.Prelude.{◌≤◌, ◌-◌, []};
 ghost use Rattle.pnm_read.specs.Items.{line_feed_item};
 ghost use Rattle.pnm_read.specs.Said.{pam_head_at};
 ghost use Rattle.pnm_read.specs.BufferedReaders.{ReadCall, Finds, Passes};

@@ -1,6 +1,6 @@
 //! The rows of a plain raster.
 
-ghost use Rattle.std.specs.Prelude.{◌≡◌, ◌≤◌, true};
+ghost use Rattle.std.specs.Prelude.{◌≤◌, true};
 ghost use Rattle.pnm_image.specs.declared.limits.TheConstants.{MAX_MAXVAL};
 ghost use Rattle.pnm_image.specs.Heads.{row_length};
 ghost use Rattle.pnm_read.specs.Items.{plain_pixel, plain_decimal, plain_sample, after_last_item};

@@ -1,6 +1,6 @@
 //! A row of pixels of one bit, as they lie in a file.
 
-ghost use Rattle.std.specs.Prelude.{◌≡◌, ℕ, ◌+◌, ◌-◌, ◌*◌, ◌/◌, ◌%◌, ◌^◌, ◌<◌, ◌≤◌, List, [], ◌∷◌, ◌++◌, length, take};
+ghost use Rattle.std.specs.Prelude.{◌≡◌, ℕ, ◌+◌, ◌-◌, ◌*◌, ◌/◌, ◌%◌, ◌^◌, ◌<◌, ◌≤◌, List, [], ◌++◌, length, take};
 ghost use Rattle.std.specs.Prelude.{drop, map, replicate, OnOk, OnErr, IfOk, IsTrue, ◌↔◌, All, slice_index};
 ghost use Rattle.pnm_samples.specs.Pixels.{pixel_at, pixels, all_pixels, ArePacked, AreBytes, packed_bytes};
 

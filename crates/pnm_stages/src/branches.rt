@@ -1,6 +1,6 @@
 //! Two branches of work at once: one in a thread of its own, the other in the caller's.
 
-ghost use Rattle.std.specs.Prelude.{◌≡◌, IfSome};
+ghost use Rattle.std.specs.Prelude.{IfSome};
 
 use crate::receiver::Receiver;
 use crate::sender::Sender;

@@ -1,6 +1,6 @@
 //! `pamchannel`: planes of the image, in the order in which they are named, from pamchannel(1).
 
-ghost use Rattle.std.specs.Prelude.{◌≡◌, ◌≤◌, ◌<◌, ◌↔◌, ◌⊎◌, ◌+◌, ◌++◌, All, IsTrue, OnOk, IfOk, IfErr, Ok, Err};
+ghost use Rattle.std.specs.Prelude.{◌≡◌, ◌≤◌, ◌<◌, ◌↔◌, ◌⊎◌, ◌+◌, All, IsTrue, OnOk, IfOk, IfErr, Ok, Err};
 ghost use Rattle.std.specs.Prelude.{length, map, slice_index_or, []};
 ghost use Rattle.pnm_image.specs.Heads.{row_length};
 ghost use Rattle.pnm_image.specs.Places.{IsRowOf};

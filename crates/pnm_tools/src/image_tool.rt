@@ -1,7 +1,7 @@
 //! What a tool at work makes of the rows of an image: some rows of the result at once, the rest once
 //! the image has ended.
 
-ghost use Rattle.std.specs.Prelude.{ℕ, false, ◌≡◌, ◌<◌, ◌≤◌, ◌++◌, ◌∷◌, [], ◌⊎◌, List, length, OnOk, IfOk, IfErr};
+ghost use Rattle.std.specs.Prelude.{ℕ, false, ◌≡◌, ◌<◌, ◌++◌, ◌∷◌, [], ◌⊎◌, List, length, OnOk, IfOk, IfErr};
 ghost use Rattle.std.specs.Prelude.{IfNone, Ok, Err};
 ghost use Rattle.pnm_image.specs.Places.{IsRowOf};
 ghost use Rattle.pnm_image.specs.declared.shape.Shape.{Shape as ShapeValue};

@@ -6,7 +6,7 @@ ghost use Rattle.pnm_image.specs.declared.shape.Kind.{Kind};
 ghost use Rattle.pnm_write.specs.Numerals.{IsEntry, three_digits};
 ghost use Rattle.pnm_image.specs.Characters.{blank, line_feed};
 ghost use Rattle.pnm_write.specs.PlainRows.{max_line_length};
-ghost use Rattle.pnm_write.specs.PlainParts.{column_after, word_in_line, text_of_part, column_after_part, sample_texts};
+ghost use Rattle.pnm_write.specs.PlainParts.{text_of_part, column_after_part, sample_texts};
 
 /// The bytes of a line without its LF, at most.
 pub const MAX_LINE_LENGTH: usize = 70;

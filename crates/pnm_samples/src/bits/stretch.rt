@@ -1,6 +1,6 @@
 //! Pixels that stand any number of times.
 
-ghost use Rattle.std.specs.Prelude.{◌≡◌, ℕ, ◌+◌, ◌-◌, ◌*◌, ◌/◌, ◌%◌, ◌^◌, ◌<◌, ◌≤◌, ◌++◌, length, take, drop};
+ghost use Rattle.std.specs.Prelude.{◌≡◌, ◌+◌, ◌-◌, ◌*◌, ◌/◌, ◌%◌, ◌^◌, ◌<◌, ◌≤◌, ◌++◌, length, take};
 ghost use Rattle.std.specs.Prelude.{replicate, bit_or, IfOk, OnOk};
 ghost use Rattle.std.specs.List.{flat_map};
 ghost use lib.Lanes.{zip2};
