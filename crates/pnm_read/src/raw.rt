@@ -58,6 +58,7 @@ pub fn bytes_of(units: usize, sample_width: SampleWidth) -> usize {
 }
 
 /// The bytes of the next row, each of them a unit.
+#[inline(always)]
 fn read_bytes<R: BytesIn>(
     input: &mut BufferedReader<R>,
     spares: &mut SpareRows,
