@@ -15,7 +15,7 @@ use Rattle.pnm_tools.specs.Tools.{IsLawfulTool}
 use Rattle.pnm_tools.proofs.FullLaws.{answering_in_full}
 use Rattle.pnm_tools.proofs.ToolLaws.{tool_answers_images}
 use Rattle.pnm_lanes.specs.Lanes.{IsFirstRefusedHead, IsFaultOf}
-use Rattle.pnm_flow.proofs.EndSteps.{not_started}
+use Rattle.pnm_serial.proofs.EndSteps.{not_started}
 
 -- the answers to the messages before the first head that is refused
 before_refusal : (tool : Tool) (fault : ToolFault) (l : List Message) → IsLawfulTool tool → IsLawful l → (found : IsFirstRefusedHead tool fault l)

@@ -10,7 +10,7 @@ use Rattle.pnm_image.specs.declared.message.Ending.TheVariants.{Whole, BrokenOff
 use Rattle.pnm_image.specs.Messages.{EndsBy}
 use Rattle.pnm_tools.specs.ChainAnswers.{HaveAnswered, AreWell, IsFirstFault}
 use Rattle.pnm_tools.specs.Chains.{AreLawfulTools}
-use Rattle.pnm_flow.specs.declared.fault.RunFault.TheVariants.{Tool as OfTool}
+use Rattle.pnm_serial.specs.declared.fault.RunFault.TheVariants.{Tool as OfTool}
 use Rattle.pnm_flow.specs.declared.chain.Link.{Link}
 use Rattle.pnm_stages.specs.declared.stage.StageEnd.{StageEnd}
 use Rattle.pnm_stages.specs.declared.stage.StageEnd.TheVariants.{Well, Broken, Fault, PeerGone}
@@ -18,7 +18,7 @@ use Rattle.pnm_flow.specs.Chains.{FirstIsThere, AreStages}
 use Rattle.pnm_stages.specs.Stages.{HasEndedWell}
 use Rattle.pnm_flow.specs.ThreadedRuns.{first_fault_from}
 use Rattle.pnm_stages.proofs.EndingLaws.{one_ending, stream_ends_whole}
-use Rattle.pnm_flow.proofs.EndSteps.{not_started, none_started}
+use Rattle.pnm_serial.proofs.EndSteps.{not_started, none_started}
 use Rattle.pnm_flow.proofs.ToolOverLaws.{stage_ended, ended_well, ended_broken, ended_refused, sent_in_order}
 
 -- ---- a stage that ended well

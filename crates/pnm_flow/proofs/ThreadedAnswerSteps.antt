@@ -1,5 +1,5 @@
 -- What a run over threads answers once all have ended.
-use Rattle.std.proofs.Common.{◌≡◌, ◌≢◌, ◌⊎◌, inl, inr, ℕ, suc, drop, get_or, ◌+◌, ◌≤◌, ◌<◌, Bool, true, false, List, [], ◌∷◌, ◌++◌, length, Option, Some, None}
+use Rattle.std.proofs.Common.{◌≡◌, ◌≢◌, inl, inr, ℕ, suc, drop, get_or, ◌+◌, ◌<◌, Bool, true, false, List, [], ◌∷◌, ◌++◌, length, Option, Some, None}
 use Rattle.std.proofs.Common.{Result, Ok, Err, refl, ap, subst, ◌∙◌, arith}
 use Rattle.std.proofs.Math.Seq.{drop-cons}
 use Rattle.pnm_image.specs.Messages.{without_stop}
@@ -8,16 +8,16 @@ use Rattle.pnm_read.specs.declared.fault.InputFault.TheVariants.{ReadFailed, Mem
 use Rattle.pnm_read.specs.declared.source.Source.{Source}
 use Rattle.pnm_read.specs.Sources.{reader_of}
 use Rattle.pnm_write.specs.declared.fault.SinkFault.{SinkFault}
-use Rattle.pnm_flow.specs.declared.fault.RunFault.{RunFault}
-use Rattle.pnm_flow.specs.declared.fault.RunFault.TheVariants.{NoStart, Input, Tool as OfTool, Output, PeerGone as Gone}
+use Rattle.pnm_serial.specs.declared.fault.RunFault.{RunFault}
+use Rattle.pnm_serial.specs.declared.fault.RunFault.TheVariants.{NoStart, Input, Tool as OfTool, Output, PeerGone as Gone}
 use Rattle.pnm_stages.specs.declared.stage.StageEnd.{StageEnd}
 use Rattle.pnm_stages.specs.declared.stage.StageEnd.TheVariants.{Well, Broken, Fault, PeerGone}
-use Rattle.pnm_flow.specs.declared.summary.Summary.{Summary}
-use Rattle.pnm_flow.specs.Jobs.{Job}
-use Rattle.pnm_flow.specs.Runs.{Change, change}
+use Rattle.pnm_serial.specs.declared.summary.Summary.{Summary}
+use Rattle.pnm_serial.specs.Jobs.{Job}
+use Rattle.pnm_serial.specs.Runs.{Change, change}
 use Rattle.pnm_flow.specs.ThreadedRuns.{fault_of_end, first_fault_from, answer_over, IsPrefixWhatever, HasRunOverThreads}
-use Rattle.pnm_flow.proofs.EndSteps.{ended_has_run, ended_without_reading}
-use Rattle.pnm_flow.proofs.RunSteps.{said_prefix, run_prefix}
+use Rattle.pnm_serial.proofs.EndSteps.{ended_has_run, ended_without_reading}
+use Rattle.pnm_serial.proofs.RunSteps.{said_prefix, run_prefix}
 use Rattle.pnm_flow.proofs.ThreadedRunSteps.{Over, ran_over, gone_has_run, ended_over, well_stages, refused_stages, all_sent}
 
 -- ---- the answer

@@ -1,5 +1,5 @@
 -- What a run over threads knows once all have ended, and what follows of it for its answer.
-use Rattle.std.proofs.Common.{◌≡◌, ◌≢◌, ◌⊎◌, inl, inr, ℕ, ◌+◌, ◌≤◌, ◌<◌, Bool, true, false, List, [], ◌∷◌, ◌++◌, length, Option, Some, None, Result, Ok, Err}
+use Rattle.std.proofs.Common.{◌≡◌, ◌≢◌, ◌⊎◌, inl, inr, ℕ, ◌+◌, ◌≤◌, Bool, true, false, List, [], ◌∷◌, ◌++◌, length, Option, Some, None, Result, Ok, Err}
 use Rattle.std.proofs.Common.{refl, sym, ap, subst, ◌∙◌, append_assoc, append-nil}
 use Rattle.std.specs.Io.KnownBytes.{Consumes, Keeps}
 use Rattle.pnm_stages.specs.Rings.{sent, received, known_items, IsEnded}
@@ -25,27 +25,27 @@ use Rattle.pnm_tools.proofs.ChainLaws.{prefix_of_due_is_sound}
 use Rattle.pnm_tools.proofs.FullLaws.{prefix_of_prefix}
 use Rattle.pnm_tools.proofs.SoundLaws.{sound_keeps_all, unbroken_keeps_all}
 use Rattle.pnm_write.specs.declared.fault.SinkFault.{SinkFault}
-use Rattle.pnm_flow.specs.declared.downstream.Downstream.{Downstream}
-use Rattle.pnm_flow.specs.declared.fault.RunFault.{RunFault}
-use Rattle.pnm_flow.specs.declared.fault.RunFault.TheVariants.{Tool as OfTool, PeerGone as Gone}
+use Rattle.pnm_serial.specs.declared.downstream.Downstream.{Downstream}
+use Rattle.pnm_serial.specs.declared.fault.RunFault.{RunFault}
+use Rattle.pnm_serial.specs.declared.fault.RunFault.TheVariants.{Tool as OfTool, PeerGone as Gone}
 use Rattle.pnm_flow.specs.declared.chain.Link.{Link}
 use Rattle.pnm_stages.specs.declared.stage.StageEnd.{StageEnd}
 use Rattle.pnm_stages.specs.declared.stage.StageEnd.TheVariants.{Well, Broken, Fault, PeerGone}
-use Rattle.pnm_flow.specs.declared.summary.Summary.{Summary}
+use Rattle.pnm_serial.specs.declared.summary.Summary.{Summary}
 use Rattle.pnm_flow.specs.Chains.{IsStageOver, FirstIsThere, AreStages}
-use Rattle.pnm_flow.specs.Collectors.{EndedBy}
-use Rattle.pnm_flow.specs.Downstreams.{output_of, HasTaken, AnswersFlushes}
-use Rattle.pnm_flow.specs.Feeders.{HasAskedBy, closing_messages}
-use Rattle.pnm_flow.specs.Jobs.{Job}
-use Rattle.pnm_flow.specs.Runs.{change, MayFollowRead}
+use Rattle.pnm_serial.specs.Collectors.{EndedBy}
+use Rattle.pnm_serial.specs.Downstreams.{output_of, HasTaken, AnswersFlushes}
+use Rattle.pnm_serial.specs.Feeders.{HasAskedBy, closing_messages}
+use Rattle.pnm_serial.specs.Jobs.{Job}
+use Rattle.pnm_serial.specs.Runs.{change, MayFollowRead}
 use Rattle.pnm_stages.specs.Prefixes.{IsPrefixOfDue}
 use Rattle.pnm_flow.specs.ThreadedRuns.{first_fault_from, HasEndedOver, HaveEnded, FitEnds, IsAllSent, HasRunOverThreads}
 use Rattle.pnm_flow.proofs.ToolOverLaws.{stage_ended, received_ended, sent_ended}
 use Rattle.pnm_stages.proofs.EndingLaws.{nothing_follows, stream_ends_whole}
 use Rattle.pnm_stages.proofs.PrefixLaws.{prefix_without_stop, stop_is_cut}
-use Rattle.pnm_flow.proofs.EndSteps.{Ended, HaveEnded as StagesAnswered, rest_follows}
-use Rattle.pnm_flow.proofs.FeedingSteps.{given_is_sound, may_give, rest_of}
-use Rattle.pnm_flow.proofs.RunSteps.{Ran, run_prefix, output_all, sound_is_writable}
+use Rattle.pnm_serial.proofs.EndSteps.{Ended, HaveEnded as StagesAnswered, rest_follows}
+use Rattle.pnm_serial.proofs.FeedingSteps.{given_is_sound, may_give, rest_of}
+use Rattle.pnm_serial.proofs.RunSteps.{Ran, run_prefix, output_all, sound_is_writable}
 use Rattle.pnm_flow.proofs.StageEndLaws.{all_answered, answered_until, next_is_well, next_is_there}
 
 -- ---- what each tool has ended for

@@ -1,15 +1,3 @@
-pub mod Counts
-pub mod Downstreams
-pub mod SerialChains
-pub mod Jobs
-pub mod Verdicts
-pub mod Runs
-pub mod RunLaws
-pub mod Feeding
-pub mod Examples
 pub mod Links
 pub mod Chains
 pub mod ThreadedRuns
-pub mod Feeders
-pub mod Collectors
-pub mod Turns

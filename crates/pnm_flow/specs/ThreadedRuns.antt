@@ -11,13 +11,14 @@ use Rattle.pnm_read.specs.Said.{said_of}
 use Rattle.pnm_tools.specs.declared.tool.Tool.{Tool}
 use Rattle.pnm_write.specs.declared.fault.SinkFault.{SinkFault}
 use Rattle.pnm_write.specs.Encoding.{written_of}
-use Rattle.pnm_flow.specs.declared.fault.RunFault.{RunFault}
-use Rattle.pnm_flow.specs.declared.fault.RunFault.TheVariants.{NoStart, Input, Tool as OfTool, Output, PeerGone as Gone}
+use Rattle.pnm_serial.specs.declared.fault.RunFault.{RunFault}
+use Rattle.pnm_serial.specs.declared.fault.RunFault.TheVariants.{NoStart, Input, Tool as OfTool, Output}
+use Rattle.pnm_serial.specs.declared.fault.RunFault.TheVariants.{PeerGone as Gone}
 use Rattle.pnm_stages.specs.declared.stage.StageEnd.{StageEnd}
 use Rattle.pnm_stages.specs.declared.stage.StageEnd.TheVariants.{Well, Broken, Fault, PeerGone}
-use Rattle.pnm_flow.specs.declared.summary.Summary.{Summary}
-use Rattle.pnm_flow.specs.Jobs.{Job}
-use Rattle.pnm_flow.specs.Runs.{Change, IfInput, IsPrefixOfBytesDue, HasRun}
+use Rattle.pnm_serial.specs.declared.summary.Summary.{Summary}
+use Rattle.pnm_serial.specs.Jobs.{Job}
+use Rattle.pnm_serial.specs.Runs.{Change, IfInput, IsPrefixOfBytesDue, HasRun}
 use Rattle.pnm_stages.specs.Stages.{HasEndedSo}
 use Rattle.pnm_lanes.specs.Lanes.{HaveLanesEndedSo}
 use Rattle.pnm_flow.specs.Chains.{ByLanes}

@@ -14,12 +14,12 @@ use Rattle.clap.specs.declared.error.kind.ErrorKind.TheVariants.{DisplayHelp, Ou
 use Rattle.pnm_chain.specs.ChainText.{SpellsChain}
 use Rattle.pnm_lanes.specs.declared.lane.TheConstants.{MAX_LANES}
 use Rattle.pnm_stages.specs.declared.ring.TheConstants.{MAX_RING_CAPACITY}
-use Rattle.pnm_flow.specs.Jobs.{Job, job_of}
-use Rattle.pnm_flow.specs.Runs.{Change}
+use Rattle.pnm_serial.specs.Jobs.{Job, job_of}
+use Rattle.pnm_serial.specs.Runs.{Change}
 use Rattle.pnm_flow.specs.ThreadedRuns.{HasRunOverThreads}
-use Rattle.pnm_flow.specs.declared.fault.RunFault.{RunFault}
-use Rattle.pnm_flow.specs.declared.fault.RunFault.TheVariants.{NoStart}
-use Rattle.pnm_flow.specs.declared.summary.Summary.{Summary}
+use Rattle.pnm_serial.specs.declared.fault.RunFault.{RunFault}
+use Rattle.pnm_serial.specs.declared.fault.RunFault.TheVariants.{NoStart}
+use Rattle.pnm_serial.specs.declared.summary.Summary.{Summary}
 use Rattle.pnmpipe.specs.declared.command_line.CommandLineFault.{CommandLineFault}
 use Rattle.pnmpipe.specs.declared.command_line.CommandLineFault.TheVariants.{Help, Usage, Memory}
 

@@ -4,8 +4,8 @@ ghost use Rattle.std.specs.Prelude.{◌≡◌, ◌≢◌, ◌⊎◌, ◌≤◌, 
 ghost use Rattle.std.specs.Io.KnownBytes.{Appends};
 ghost use Rattle.pnm_image.specs.Devices.{AppendsPrefix, Failed};
 ghost use Rattle.pnmpipe.specs.CommandLine.{AsksForHelp, HasRunTools, HasRunWords};
-ghost use Rattle.pnm_flow.specs.Jobs.{job_of};
-ghost use Rattle.pnm_flow.specs.Runs.{change};
+ghost use Rattle.pnm_serial.specs.Jobs.{job_of};
+ghost use Rattle.pnm_serial.specs.Runs.{change};
 ghost use Rattle.pnm_lanes.specs.Limits.{IsLaneCount};
 ghost use Rattle.pnm_stages.specs.Limits.{IsRingCapacity};
 ghost use Rattle.pnm_tools.specs.Chains.{IsChain};

@@ -1,6 +1,6 @@
 use Rattle.std.proofs.Common.{rules, [], inr, refl}
-use Rattle.pnm_flow.specs.Jobs.{job_of}
-use Rattle.pnm_flow.specs.Runs.{change}
+use Rattle.pnm_serial.specs.Jobs.{job_of}
+use Rattle.pnm_serial.specs.Runs.{change}
 use Rattle.pnm_flow.proofs.ThreadedAnswerSteps.{unread_has_run}
 use Rattle.pnm_flow.proofs.threaded.run.Goals as goal
 

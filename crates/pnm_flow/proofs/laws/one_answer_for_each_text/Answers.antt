@@ -1,5 +1,0 @@
-use Rattle.pnm_flow.proofs.VerdictLaws.{one_answer}
-use Rattle.pnm_flow.proofs.laws.one_answer_for_each_text.Goals as goal
-
-pub returns : goal.returns
-returns c = one_answer

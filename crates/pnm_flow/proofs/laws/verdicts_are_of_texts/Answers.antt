@@ -1,5 +1,0 @@
-use Rattle.pnm_flow.proofs.VerdictFaults.{verdict_is_of_text}
-use Rattle.pnm_flow.proofs.laws.verdicts_are_of_texts.Goals as goal
-
-pub returns : goal.returns
-returns c = verdict_is_of_text

@@ -1,8 +1,0 @@
-use Rattle.std.proofs.Common.{take}
-use Rattle.pnm_tools.specs.ChainAnswers.{AreWell}
-use Rattle.pnm_flow.specs.SerialChains.{refusals_in}
-use Rattle.pnm_flow.proofs.serial.first_fault.Given as goal
-
--- the stages that were looked at haven't refused
-abbrev pub invariant-loop-index : goal.invariant-loop-index
-invariant-loop-index g l = AreWell (take l.index (refusals_in l.stages))

@@ -1,0 +1,17 @@
+pub mod MessageSteps
+pub mod FormSteps
+pub mod DownstreamSteps
+pub mod PassingSteps
+pub mod FaultSteps
+pub mod FeedingSteps
+pub mod ToolSteps
+pub mod CountLaws
+pub mod ResultSteps
+pub mod VerdictLaws
+pub mod VerdictFaults
+pub mod RunSteps
+pub mod EndSteps
+pub mod RefusalExample
+pub mod FeederSteps
+pub mod CollectorSteps
+pub mod TurnSteps

@@ -1,0 +1,31 @@
+-- The tools of a chain before the first message.
+use Rattle.std.proofs.Common.{ℕ, zero, suc, ◌<◌, List, [], ◌∷◌, ◌++◌, length, get_or, refl, arith}
+use Rattle.pnm_tools.specs.declared.tool.Tool.{Tool}
+use Rattle.pnm_tools.specs.declared.any_tool.AnyTool.{AnyTool}
+use Rattle.pnm_tools.specs.Chains.{AreLawfulTools}
+use Rattle.pnm_tools.specs.States.{Standing}
+use Rattle.pnm_tools.specs.Tools.{IsLawfulTool}
+use Rattle.pnm_stages.specs.declared.fused_filter.FusedFilter.{FusedFilter}
+use Rattle.pnm_serial.specs.SerialChains.{ToolsAt, AreFresh}
+use Rattle.pnm_stages.specs.FusedFilters.{ToolAt}
+
+-- one tool more
+pub fresh_more : (stages : List (FusedFilter (Standing AnyTool))) (tools : List Tool) (stage : FusedFilter (Standing AnyTool)) (tool : Tool)
+    → AreFresh stages tools → ToolAt stage tool [] [] → AreFresh (stages ++ stage ∷ []) (tools ++ tool ∷ [])
+fresh_more [] [] stage tool at one = (one, tt)
+fresh_more [] (t ∷ tools) stage tool at one = absurd at
+fresh_more (s ∷ stages) [] stage tool at one = absurd at
+fresh_more (s ∷ stages) (t ∷ tools) stage tool at one = (at.0, fresh_more stages tools stage tool at.1 one)
+
+-- together they are a chain that has received nothing
+pub fresh_at : (stages : List (FusedFilter (Standing AnyTool))) (tools : List Tool) → AreFresh stages tools → ToolsAt stages tools [] []
+fresh_at [] [] at = refl
+fresh_at [] (t ∷ tools) at = absurd at
+fresh_at (s ∷ stages) [] at = absurd at
+fresh_at (s ∷ stages) (t ∷ tools) at = ([], at.0, fresh_at stages tools at.1)
+
+-- a tool of a lawful chain
+pub lawful_at : (tools : List Tool) (i : ℕ) (other : Tool) → AreLawfulTools tools → i < length tools → IsLawfulTool (get_or tools i other)
+lawful_at [] i other lawful within = absurd (omega arith)
+lawful_at (t ∷ tools) zero other lawful within = lawful.0
+lawful_at (t ∷ tools) (suc i) other lawful within = lawful_at tools i other lawful.1 (omega arith)

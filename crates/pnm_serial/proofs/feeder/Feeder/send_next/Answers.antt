@@ -1,0 +1,24 @@
+use Rattle.std.proofs.Common.{ap, Err}
+use Rattle.pnm_read.specs.declared.fault.InputFault.TheVariants.{ReadFailed}
+use Rattle.pnm_read.proofs.Turns.{no_fault}
+use Rattle.pnm_serial.proofs.FeederSteps.{feeds_more, feeds_all, feeds_until}
+use Rattle.pnm_serial.proofs.feeder.Feeder.send_next.Goals as goal
+
+pub returns-in-Ok-Some-clause-feeding : goal.returns-in-Ok-Some-clause-feeding
+returns-in-Ok-Some-clause-feeding g c first before =
+    let told = rw c.in-Ok-Some.field-0-is at c.in-Ok-Some.ensures.told in
+    feeds_more g.R.BytesIn.left g.R.BytesIn.failures first before c.args.self.now c.next.new.self c.in-Ok-Some.message c.send_reserved.new.self _
+    c.requires.going c.send_reserved.ensures.sent told c.next.ensures.end c.next.ensures.unread (c.in-Ok-Some.ensures.count (no_fault _ ReadFailed))
+
+pub returns-in-Ok-None-clause-feeding : goal.returns-in-Ok-None-clause-feeding
+returns-in-Ok-None-clause-feeding g c first before =
+    let told = rw c.in-Ok-None.field-0-is at c.in-Ok-None.ensures.told in
+    feeds_all g.R.BytesIn.left g.R.BytesIn.failures first before c.args.self.now c.next.new.self c.requires.going
+    told c.next.ensures.unread (c.in-Ok-None.ensures.count (no_fault _ ReadFailed))
+
+pub returns-in-Err-clause-feeding : goal.returns-in-Err-clause-feeding
+returns-in-Err-clause-feeding g c first before =
+    feeds_until g.R.BytesIn.left g.R.BytesIn.failures first before c.args.self.now c.next.new.self c.in-Err.fault c.send_reserved-in-Err.new.self
+    c.requires.going c.send_reserved-in-Err.ensures.sent
+    c.in-Err.ensures.told c.next.ensures.unread (λ e. c.in-Err.ensures.not_at_end (ap Err e)) (λ e. c.in-Err.ensures.read_failed (ap Err e))
+    c.in-Err.ensures.count

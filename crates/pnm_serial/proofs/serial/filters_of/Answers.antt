@@ -1,0 +1,19 @@
+use Rattle.std.proofs.Common.{[], ◌∷◌, ◌++◌, ◌≡◌, ℕ, suc, ◌+◌, take, subst, sym, ap, ◌∙◌, arith}
+use Rattle.std.proofs.Math.Seq.{take-suc}
+use Rattle.pnm_tools.specs.Tools.{IsLawfulTool}
+use Rattle.pnm_serial.specs.SerialChains.{AreFresh}
+use Rattle.pnm_serial.proofs.ToolSteps.{fresh_more, lawful_at}
+use Rattle.pnm_serial.proofs.serial.filters_of.Goals as goal
+
+pub filter_of-requires : goal.filter_of-requires
+filter_of-requires c =
+    subst IsLawfulTool (sym c.tool-item.is) (lawful_at c.args.tools.now c.loop-tool.tool-index c.tool-item.result c.requires c.loop-tool-test.true)
+
+pub loop-tool-preserved : goal.loop-tool-preserved
+loop-tool-preserved c =
+    let next : suc c.loop-tool.tool-index ≡ c.loop-tool.tool-index + 1 = omega arith in
+    let more = fresh_more c.loop-tool.stages.items (take c.loop-tool.tool-index c.args.tools.now) c.filter_of.result c.tool-item.result c.loop-tool.invariant
+    c.filter_of.ensures in
+    let tools = ap (λ (t : _). take c.loop-tool.tool-index c.args.tools.now ++ t ∷ []) c.tool-item.is
+    ∙ sym (take-suc c.args.tools.now c.loop-tool.tool-index c.tool-item.result c.loop-tool-test.true) ∙ ap (λ (n : ℕ). take n c.args.tools.now) next in
+    rw c.in_ok-push.ensures.items (subst (AreFresh (c.loop-tool.stages.items ++ c.filter_of.result ∷ [])) tools more)

@@ -1,0 +1,7 @@
+use Rattle.std.proofs.Common.{take}
+use Rattle.pnm_serial.specs.SerialChains.{AreFresh}
+use Rattle.pnm_serial.proofs.serial.filters_of.Given as goal
+
+-- the tools that were passed are stages
+abbrev pub invariant-loop-tool : goal.invariant-loop-tool
+invariant-loop-tool l = AreFresh l.stages.items (take l.tool-index l.tools)

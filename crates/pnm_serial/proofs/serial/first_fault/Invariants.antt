@@ -1,0 +1,8 @@
+use Rattle.std.proofs.Common.{take}
+use Rattle.pnm_tools.specs.ChainAnswers.{AreWell}
+use Rattle.pnm_serial.specs.SerialChains.{refusals_in}
+use Rattle.pnm_serial.proofs.serial.first_fault.Given as goal
+
+-- the stages that were looked at haven't refused
+abbrev pub invariant-loop-index : goal.invariant-loop-index
+invariant-loop-index g l = AreWell (take l.index (refusals_in l.stages))

@@ -1,0 +1,49 @@
+-- What passes through the stages of a run in one thread.
+use Rattle.std.specs.Prelude.{ℕ, List, [], ◌∷◌, ◌++◌, ◌≡◌, map, Option, Bool}
+use Rattle.pnm_image.specs.declared.format.Form.{Form}
+use Rattle.pnm_image.specs.declared.message.Message.{Message}
+use Rattle.pnm_tools.specs.declared.fault.ToolFault.{ToolFault}
+use Rattle.pnm_tools.specs.declared.tool.Tool.{Tool}
+use Rattle.pnm_tools.specs.declared.any_tool.AnyTool.{AnyTool}
+use Rattle.pnm_tools.specs.States.{Standing, IsToolAt, is_all_given}
+use Rattle.pnm_stages.specs.declared.fused_filter.FusedFilter.{FusedFilter}
+use Rattle.pnm_stages.specs.FusedFilters.{FilterAt, ToolAt, refusal_in}
+use Rattle.pnm_serial.specs.declared.downstream.Downstream.{Downstream}
+use Rattle.pnm_serial.specs.Downstreams.{HasTaken}
+
+-- what the first of the stages has received and the last has given
+abbrev pub FiltersAt : {F : Type 0} → (F → Tool → List Message → List Message → Type 0) → (F → Bool)
+    → (F → Option ToolFault) → List (FusedFilter F) → List Tool → List Message → List Message → Type 0
+FiltersAt at all_given stopped [] [] received given = given ≡ received
+FiltersAt at all_given stopped [] (tool ∷ tools) received given = ⊥
+FiltersAt at all_given stopped (stage ∷ stages) [] received given = ⊥
+FiltersAt at all_given stopped (stage ∷ stages) (tool ∷ tools) received given = (middle : List Message)
+    × FilterAt at all_given stopped stage tool received middle
+    × FiltersAt at all_given stopped stages tools middle given
+
+-- a message has passed through the stages, and the sink has taken what came of it
+pub record FeedsThrough {F W : Type 0} (at : F → Tool → List Message → List Message → Type 0) (all_given : F → Bool)
+    (stopped : F → Option ToolFault) (held : W → Option (List ℕ)) (failures : W → ℕ)
+    (old : List (FusedFilter F)) (m : Message) (new : List (FusedFilter F)) (before after : Downstream W) : Type 0 where
+  pub more : List Message
+  pub stages : (tools : List Tool) (l g : List Message) → FiltersAt at all_given stopped old tools l g
+      → FiltersAt at all_given stopped new tools (l ++ m ∷ []) (g ++ more)
+  pub taken : (form : Form) (start : W) (messages : List Message) → HasTaken held failures form start messages before
+      → HasTaken held failures form start (messages ++ more) after
+
+-- why each stage refused, if it did
+abbrev pub refusals_in : {F : Type 0} → List (FusedFilter F) → List (Option ToolFault)
+refusals_in stages = map refusal_in stages
+
+-- ---- the states of tools
+
+abbrev pub ToolsAt : List (FusedFilter (Standing AnyTool)) → List Tool → List Message → List Message → Type 0
+ToolsAt stages tools received given =
+    FiltersAt IsToolAt (λ s. is_all_given s.pending) (λ s. s.fault) stages tools received given
+
+-- each stage is its tool before the first message
+abbrev pub AreFresh : List (FusedFilter (Standing AnyTool)) → List Tool → Type 0
+AreFresh [] [] = Unit {0}
+AreFresh [] (tool ∷ tools) = ⊥
+AreFresh (stage ∷ stages) [] = ⊥
+AreFresh (stage ∷ stages) (tool ∷ tools) = ToolAt stage tool [] [] × AreFresh stages tools

@@ -1,0 +1,141 @@
+//! What stands behind the tools of a run: the ring that their results come from, and what is written of them.
+
+ghost use Rattle.std.specs.Prelude.{◌≡◌, ◌⊎◌, [], ◌∷◌, ◌++◌, List, true, false};
+ghost use Rattle.pnm_stages.specs.Rings.{received, sent, known_items, IsPair, SameSender, SameReceiver};
+ghost use Rattle.pnm_image.specs.declared.format.Form.{Form as FormValue};
+ghost use Rattle.pnm_image.specs.declared.message.Message.{Message as MessageValue};
+ghost use Rattle.pnm_serial.specs.Downstreams.{output_of};
+
+use crate::downstream::Downstream;
+use crate::summary::count_image;
+use pnm_image::{BytesOut, Ending, Form, Message};
+use pnm_read::SpareRows;
+use pnm_stages::{Backoff, Receiver, Sender};
+use pnm_write::WriteBuffer;
+use std::sync::Wait;
+
+/// The ring that the results of a run come from, and what is written of them.
+#[derive(Drop)]
+pub struct Collector<W> {
+    /// The end of the ring that they are received on.
+    pub input: Receiver,
+    /// What is written of them.
+    pub downstream: Downstream<W>,
+    /// The end of the stream, or Stop, was taken.
+    pub has_ended: bool,
+    /// The ring's other end was seen dropped.
+    is_gone: bool,
+    /// The images whose end was taken, up to `u64::MAX`.
+    images: u64,
+}
+
+impl<W: BytesOut + Drop> Collector<W> {
+    ghost use Rattle.pnm_serial.specs.Collectors.{IsCollecting, HasCollected, collector_is_over};
+
+    /// A collector that has taken nothing yet, and is to encode into this buffer and write in this form.
+    pub fn new(input: Receiver, buffer: WriteBuffer, writer: W, form: Form) -> Collector<W>
+        ensures collecting { IsCollecting W.held W.failures form writer (received input) result }
+        ensures parts { (result.input ≡ input) × (output_of result.downstream ≡ writer) }
+    {
+        Collector {
+            input,
+            downstream: Downstream::new(buffer, writer, form),
+            has_ended: false,
+            is_gone: false,
+            images: 0,
+        }
+    }
+
+    /// Whether no more is to be taken: the end of the stream or Stop was, or the ring's other end was seen dropped.
+    pub fn is_over(&self) -> bool
+        ensures { result ≡ collector_is_over self.now }
+    {
+        self.has_ended || self.is_gone
+    }
+
+    /// The images whose end was taken, up to `u64::MAX`.
+    pub fn images(&self) -> u64 {
+        self.images
+    }
+
+    /// Takes a message, if one is there, and writes it; a row is then a spare one. False where no message is, and the
+    /// ring's other end is still there.
+    pub fn turn(&mut self, spares: &mut SpareRows) -> bool
+        requires going { collector_is_over self.old ≡ false }
+        ensures collecting { (form : FormValue) (start : W) (before : List MessageValue)
+            → IsCollecting W.held W.failures form start before self.old
+            → IsCollecting W.held W.failures form start before self.new }
+        ensures ring { SameReceiver self.old.input self.new.input }
+        ensures same_device { W.same (output_of self.old.downstream) (output_of self.new.downstream) }
+    {
+        if !self.input.has_message() {
+            self.is_gone = self.input.is_abandoned();
+            return self.is_gone;
+        }
+        let message = self.input.receive_known();
+        count_image(&mut self.images, message.ends_image());
+        self.put(&message);
+        let_go(message, spares);
+        true
+    }
+
+    /// One turn of waiting for a message.
+    pub fn wait<R: Wait>(&self, rt: &R, backoff: &mut Backoff) {
+        self.input.wait(rt, backoff);
+    }
+
+    /// Takes what is left in the ring, both of whose ends are here: what was sent before the other end was seen
+    /// dropped.
+    pub fn receive_rest(&mut self, sender: &mut Sender)
+        requires one_ring { IsPair sender.old self.old.input }
+        ensures collecting { (form : FormValue) (start : W) (before : List MessageValue)
+            → IsCollecting W.held W.failures form start before self.old
+            → IsCollecting W.held W.failures form start before self.new }
+        ensures in_order { received self.new.input ++ known_items self.new.input ≡ sent sender.new }
+        ensures rest { (self.new.has_ended ≡ true) ⊎ (known_items self.new.input ≡ []) }
+        ensures ring { SameReceiver self.old.input self.new.input }
+        ensures sender { SameSender sender.old sender.new × (sent sender.new ≡ sent sender.old) }
+        ensures same_device { W.same (output_of self.old.downstream) (output_of self.new.downstream) }
+    {
+        self.input.look_beside(sender);
+        while !self.has_ended && self.input.has_seen_message() {
+            let message = self.input.receive_known();
+            self.put(&message);
+            drop(message);
+        }
+    }
+
+    /// Writes the message, unless it is Stop.
+    fn put(&mut self, message: &Message)
+        requires going { self.old.has_ended ≡ false }
+        ensures put { (form : FormValue) (start : W) (l : List MessageValue)
+            → HasCollected W.held W.failures form start l self.old
+            → HasCollected W.held W.failures form start (l ++ message.now ∷ []) self.new }
+        ensures ring { (self.new.input ≡ self.old.input) × (self.new.is_gone ≡ self.old.is_gone) }
+        ensures same_device { W.same (output_of self.old.downstream) (output_of self.new.downstream) }
+    {
+        match message.ending() {
+            Ending::More => self.downstream.put(message),
+            Ending::Whole => {
+                self.downstream.put(message);
+                self.has_ended = true;
+            }
+            Ending::BrokenOff => self.has_ended = true,
+        }
+    }
+
+    /// What stands behind the ring, and whether the end of the stream or Stop was taken.
+    pub fn into_parts(self) -> (Downstream<W>, bool)
+        ensures { (result.0 ≡ self.downstream) × (result.1 ≡ self.has_ended) }
+    {
+        (self.downstream, self.has_ended)
+    }
+}
+
+/// Lets the message go; a row is then a spare one.
+fn let_go(message: Message, spares: &mut SpareRows) {
+    match message {
+        Message::Row(row) => spares.keep(row),
+        other => drop(other),
+    }
+}

@@ -1,0 +1,148 @@
+//! What stands before the tools of a run: the source, and the ring that its messages go into.
+
+ghost use Rattle.std.specs.Prelude.{◌≡◌, ◌<◌, List, Bool, false, Some, None};
+ghost use Rattle.pnm_stages.specs.Rings.{sent, known_free, SameSender};
+ghost use Rattle.pnm_image.specs.declared.message.Message.{Message as MessageValue};
+ghost use Rattle.pnm_read.specs.Sources.{reader_of, IsFreshSource as IsUnread};
+
+use crate::summary::count_image;
+use pnm_image::{BytesIn, Message};
+use pnm_read::{InputFault, Source, SpareRows};
+use pnm_stages::{Backoff, Sender};
+use std::sync::Wait;
+
+/// The source of a run, and the ring that its messages go into.
+#[derive(Drop)]
+pub struct Feeder<R> {
+    /// The source, which is asked for one message after another.
+    pub source: Source<R>,
+    /// The end of the ring that they are sent on.
+    pub output: Sender,
+    /// How the source has ended, once it has. After a fault Stop was sent.
+    pub input: Option<Result<(), InputFault>>,
+    /// The ring's other end was seen dropped.
+    is_gone: bool,
+    /// The images whose end was sent, up to `u64::MAX`.
+    images: u64,
+}
+
+impl<R: BytesIn + Drop> Feeder<R> {
+    ghost use Rattle.pnm_serial.specs.Feeders.{IsFeeding, feeder_is_over};
+
+    /// A feeder that has sent nothing yet. Of short messages it sends a few before it wakes the
+    /// first tool (`wake_receiver`).
+    pub fn new(source: Source<R>, output: Sender) -> Feeder<R>
+        requires { IsUnread (reader_of source) source }
+        ensures feeding { IsFeeding R.left R.failures source (sent output) result }
+        ensures parts { (result.source ≡ source) × SameSender output result.output
+            × (sent result.output ≡ sent output) }
+    {
+        let mut output = output;
+        output.hold_back();
+        Feeder {
+            source,
+            output,
+            input: None,
+            is_gone: false,
+            images: 0,
+        }
+    }
+
+    /// Whether there is no more to be sent: the end of the stream was, or Stop after a fault of the input; or the
+    /// ring's other end was seen dropped.
+    pub fn is_over(&self) -> bool
+        ensures { result ≡ feeder_is_over self.now }
+    {
+        self.is_gone || self.input.is_some()
+    }
+
+    /// The images whose end was sent, up to `u64::MAX`.
+    pub fn images(&self) -> u64 {
+        self.images
+    }
+
+    /// Whether to ask the source for the next message may have to wait for its reader.
+    pub fn would_read(&self) -> bool {
+        !self.source.holds_next()
+    }
+
+    /// Wakes the first tool's thread, where something was sent that it wasn't woken for.
+    pub fn wake_receiver(&mut self)
+        ensures feeding { (first : Source R) (before : List MessageValue)
+            → IsFeeding R.left R.failures first before self.old
+            → IsFeeding R.left R.failures first before self.new }
+        ensures ring { SameSender self.old.output self.new.output }
+        ensures same_device { R.same (reader_of self.old.source) (reader_of self.new.source) }
+        ensures over { feeder_is_over self.new ≡ feeder_is_over self.old }
+    {
+        self.output.wake_receiver();
+    }
+
+    /// One turn of waiting for room in the ring.
+    pub fn wait<H: Wait>(&mut self, rt: &H, backoff: &mut Backoff)
+        ensures feeding { (first : Source R) (before : List MessageValue)
+            → IsFeeding R.left R.failures first before self.old
+            → IsFeeding R.left R.failures first before self.new }
+        ensures ring { SameSender self.old.output self.new.output }
+        ensures same_device { R.same (reader_of self.old.source) (reader_of self.new.source) }
+    {
+        self.output.wait(rt, backoff);
+    }
+
+    /// Asks the source for its next message and sends it, where there is room for one in the ring. A short row is made
+    /// of a spare one. False where there is no room.
+    pub fn turn(&mut self, spares: &mut SpareRows) -> bool
+        requires going { feeder_is_over self.old ≡ false }
+        ensures feeding { (first : Source R) (before : List MessageValue)
+            → IsFeeding R.left R.failures first before self.old
+            → IsFeeding R.left R.failures first before self.new }
+        ensures ring { SameSender self.old.output self.new.output }
+        ensures same_device { R.same (reader_of self.old.source) (reader_of self.new.source) }
+    {
+        if !self.output.has_room() {
+            self.is_gone = self.output.is_abandoned();
+            return self.is_gone;
+        }
+        self.send_next(spares);
+        true
+    }
+
+    /// Asks the source for its next message and sends it, for which there is room. After the source's fault Stop is
+    /// sent.
+    fn send_next(&mut self, spares: &mut SpareRows)
+        requires going { self.old.input ≡ None }
+        requires room { 0 < known_free self.old.output }
+        ensures feeding { (first : Source R) (before : List MessageValue)
+            → IsFeeding R.left R.failures first before self.old
+            → IsFeeding R.left R.failures first before self.new }
+        ensures ring { SameSender self.old.output self.new.output }
+        ensures same_device { R.same (reader_of self.old.source) (reader_of self.new.source) }
+    {
+        match self.source.next(spares) {
+            Ok(Some(message)) => {
+                let is_end = message.ends_image();
+                self.output.send_reserved(message);
+                count_image(&mut self.images, is_end);
+            }
+            Ok(None) => self.input = Some(Ok(())),
+            Err(fault) => {
+                self.output.send_reserved(Message::Stop);
+                self.input = Some(Err(fault));
+            }
+        }
+    }
+
+    /// The reader, the ring's end, and how the source has ended; none where the ring's other end was seen dropped
+    /// before.
+    pub fn into_parts(self) -> (R, Sender, Option<Result<(), InputFault>>)
+        ensures { (result.0 ≡ reader_of self.source) × (result.1 ≡ self.output) × (result.2 ≡ self.input) }
+    {
+        let Feeder {
+            source,
+            output,
+            input,
+            ..
+        } = self;
+        (source.into_reader(), output, input)
+    }
+}

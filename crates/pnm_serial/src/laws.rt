@@ -1,0 +1,36 @@
+//! Laws of what is answered and of what is due for a text. Each stands over the definitions alone, as
+//! the contract of a function that does nothing.
+
+ghost use Rattle.pnm_serial.specs.Examples.{RunExamplesHold, ResultBeforeRefusalIsWritten};
+ghost use Rattle.pnm_serial.specs.RunLaws.{OneAnswerForEachText};
+ghost use Rattle.pnm_serial.specs.Verdicts.{OneVerdictForEachText, VerdictsAreOfTexts};
+
+/// Each text has exactly one verdict with each job: its fault, or the chain's refusal of the images
+/// that it spells, or why the form can't hold the results, or none.
+pub fn one_verdict_for_each_text()
+    ensures { OneVerdictForEachText }
+{}
+
+/// A verdict never tells of what failed around a run, nor that a message came out of order; of the
+/// output it is a fault that a form has.
+pub fn verdicts_are_of_texts()
+    ensures { VerdictsAreOfTexts }
+{}
+
+/// Two runs over the same text that do the same job, in one thread or over several, answer the same
+/// where neither answer tells of what failed around it.
+pub fn one_answer_for_each_text()
+    ensures { OneAnswerForEachText }
+{}
+
+/// Small texts, the images that are said of them, and the bytes due for these from small chains, as
+/// the definitions compute them.
+pub fn examples_hold()
+    ensures { RunExamplesHold }
+{}
+
+/// Where a tool refuses the second image and all that was due was written, the result of the first
+/// one was.
+pub fn result_before_refusal_is_written()
+    ensures { ResultBeforeRefusalIsWritten }
+{}
