@@ -43,7 +43,7 @@ def synopsis(page):
 
 
 def usage():
-    found = re.findall(r'USAGE: &str = "([^"]*)"', read("crates/pnmpipe/src/command_line.rt"))
+    found = re.findall(r'USAGE: &str = "([^"]*)"', read("crates/pnm_command_line/src/command_line.rt"))
     return found[0] if found else "no usage line"
 
 
@@ -63,7 +63,7 @@ def faults_of_page():
         found.append(f"man/pnmpipe.1 has the synopsis {synopsis(page)!r}, the program {usage()!r}")
     if f"pnmpipe: usage: {usage()}" not in page:
         found.append("man/pnmpipe.1 has another usage line among its diagnostics")
-    if f"Version {read('VERSION').strip()}" not in read("crates/pnmpipe/src/command_line.rt"):
+    if f"Version {read('VERSION').strip()}" not in read("crates/pnm_command_line/src/command_line.rt"):
         found.append("the help text of the program has another version than VERSION")
     told = page.split(".Sh DIAGNOSTICS\n")[1]
     for name in sorted(fault_names()):

@@ -8,6 +8,9 @@ ROOT = os.path.dirname(os.path.dirname(os.path.abspath(__file__)))
 # what a check reads of a crate
 SOURCES = ("src", "specs", "proofs")
 
+# a library whose tests are of the whole command, and stand in the program
+TESTED_IN = {"pnm_command_line": ["pnmpipe"]}
+
 SIGNALS = (signal.SIGINT, signal.SIGTERM, signal.SIGHUP)
 
 
@@ -60,8 +63,10 @@ def above(crates, names):
 
 def tests_of(crates, name):
     """Where a crate's tests stand: in those of its name, with the tests of want of memory that name it; else in those
-    that name it; or in itself, as the program's. `NAME_cases` is a program, whose output is stored beside it."""
+    that name it; in the program, as TESTED_IN says; or in itself, as the program's. `NAME_cases` is a program, whose
+    output is stored beside it."""
     own = [it for it in (f"{name}_tests", f"{name}_cases") if it in crates]
     if own:
         return own + [it for it in ("pnm_memory_tests",) if name in crates.get(it, ())]
-    return [it for it in crates if it.endswith(("_tests", "_cases")) and name in crates[it]] or [name]
+    named = [it for it in crates if it.endswith(("_tests", "_cases")) and name in crates[it]]
+    return named or TESTED_IN.get(name, [name])

@@ -1,3 +1,1 @@
-pub mod DefaultReads
-pub mod CommandLineSteps
 pub mod HelpSteps

@@ -3,16 +3,17 @@
 ghost use Rattle.std.specs.Prelude.{◌≡◌, ◌≢◌, ◌⊎◌, ◌≤◌, ℕ, List, map, string_bytes};
 ghost use Rattle.std.specs.Io.KnownBytes.{Appends};
 ghost use Rattle.pnm_image.specs.Devices.{AppendsPrefix, Failed};
-ghost use Rattle.pnmpipe.specs.CommandLine.{AsksForHelp, HasRunTools, HasRunWords};
+ghost use Rattle.pnm_command_line.specs.CommandLine.{AsksForHelp};
+ghost use Rattle.pnmpipe.specs.NamedRuns.{HasRunTools, HasRunWords};
 ghost use Rattle.pnm_serial.specs.Jobs.{job_of};
 ghost use Rattle.pnm_serial.specs.Runs.{change};
 ghost use Rattle.pnm_lanes.specs.Limits.{IsLaneCount};
 ghost use Rattle.pnm_stages.specs.Limits.{IsRingCapacity};
 ghost use Rattle.pnm_tools.specs.Chains.{IsChain};
 
-use crate::command_line::{CommandLineFault, read_words};
 use crate::fault_line::{print_chain_fault, print_run_fault, print_usage, print_want_of_memory};
 use pnm_chain::parse_chain;
+use pnm_command_line::{CommandLineFault, read_words};
 use pnm_flow::{OpenGate, run};
 use pnm_image::{BytesIn, BytesOut, Form, write_all};
 use pnm_tools::Tool;

@@ -2,9 +2,9 @@ use Rattle.std.proofs.Common.{[], ◌∷◌, Some, refl}
 use Rattle.std.proofs.lemmas.Bool.{ne_eqb}
 use Rattle.clap.specs.Words.{Text}
 use Rattle.clap.proofs.OnLiterals.{clap_on_literals}
-use Rattle.pnmpipe.specs.CommandLine.{GivesChain}
-use Rattle.pnmpipe.specs.CommandLineExamples.{BeginsWithDash, CommandLinesHold}
-use Rattle.pnmpipe.proofs.laws.command_lines_hold.Goals as goal
+use Rattle.pnm_command_line.specs.CommandLine.{GivesChain}
+use Rattle.pnm_command_line.specs.CommandLineExamples.{BeginsWithDash, CommandLinesHold}
+use Rattle.pnm_command_line.proofs.laws.command_lines_hold.Goals as goal
 
 alone : (name chain : Text) → (BeginsWithDash chain → ⊥) → GivesChain (name ∷ chain ∷ []) chain
 unfolding clap_on_literals

@@ -4,9 +4,9 @@ use Rattle.std.specs.Str.Parse.{ParsesUnsigned, ExplainsUnsignedError, HasUnsign
 use Rattle.clap.specs.Words.{app_of, first_value, found_of}
 use Rattle.clap.specs.declared.parser.matches.ArgMatches.{ArgMatches}
 use Rattle.clap.proofs.CallerLemmas.{some_of_text}
-use Rattle.pnmpipe.specs.CommandLine.{GivesForm, GivesLanes, GivesRing}
-use Rattle.pnmpipe.proofs.CommandLineSteps.{HasRead, chain_given, fault_fits, form_given, has_chain, lanes_given, parse_fails, ring_given}
-use Rattle.pnmpipe.proofs.command_line.read_words.Goals as goal
+use Rattle.pnm_command_line.specs.CommandLine.{GivesForm, GivesLanes, GivesRing}
+use Rattle.pnm_command_line.proofs.CommandLineSteps.{HasRead, chain_given, fault_fits, form_given, has_chain, lanes_given, parse_fails, ring_given}
+use Rattle.pnm_command_line.proofs.command_line.read_words.Goals as goal
 
 pub returns-in-Err-clause-refused : goal.returns-in-Err-clause-refused
 returns-in-Err-clause-refused c =

@@ -32,13 +32,13 @@ use Rattle.clap.proofs.FaultLemmas.{free_args}
 use Rattle.clap.proofs.OnLiterals.{clap_on_literals}
 use Rattle.clap.proofs.SimpleLemmas.{plain_fields, ready_simple, simple_groups, HasPlainFields}
 use Rattle.clap.proofs.WalkLemmas.{both, first_value-rows, one_text-rows}
-use Rattle.pnmpipe.proofs.DefaultReads.{default_reads}
+use Rattle.pnm_command_line.proofs.DefaultReads.{default_reads}
 use Rattle.pnm_lanes.specs.declared.lane.TheConstants.{MAX_LANES}
 use Rattle.pnm_stages.specs.declared.ring.TheConstants.{MAX_RING_CAPACITY}
-use Rattle.pnmpipe.specs.CommandLine.{program, chain_rule, form_by, lanes_rule, plain_rule, value_text, number_rule, ring_rule, FitsKind, GivesChain, GivesForm}
-use Rattle.pnmpipe.specs.CommandLine.{GivesLanes, GivesNumber, GivesRing, IsFaultOfWords}
-use Rattle.pnmpipe.specs.declared.command_line.CommandLineFault.{CommandLineFault}
-use Rattle.pnmpipe.specs.declared.command_line.CommandLineFault.TheVariants.{Help, Usage, Memory}
+use Rattle.pnm_command_line.specs.CommandLine.{program, chain_rule, form_by, lanes_rule, plain_rule, value_text, number_rule, ring_rule, FitsKind, GivesChain}
+use Rattle.pnm_command_line.specs.CommandLine.{GivesForm, GivesLanes, GivesNumber, GivesRing, IsFaultOfWords}
+use Rattle.pnm_command_line.specs.declared.command_line.CommandLineFault.{CommandLineFault}
+use Rattle.pnm_command_line.specs.declared.command_line.CommandLineFault.TheVariants.{Help, Usage, Memory}
 
 -- `clap` says which words it takes by such a command, and why it refuses others
 program_is_simple : is_simple program ≡ true

@@ -3,9 +3,9 @@ use Rattle.std.proofs.Common.{rules, ap, ap₂, codes, refl, ◌≡◌, ◌∙�
 use Rattle.std.proofs.lemmas.Result.{IfOk-weaker}
 use Rattle.clap.specs.Simple.{app_of_fields}
 use Rattle.clap.specs.Words.{app_of, new_app, rule_of, with_rule}
-use Rattle.pnmpipe.proofs.CommandLineSteps.{local_by_rule}
-use Rattle.pnmpipe.specs.CommandLine.{chain_rule, lanes_rule, plain_rule, ring_rule}
-use Rattle.pnmpipe.proofs.command_line.program.Goals as goal
+use Rattle.pnm_command_line.proofs.CommandLineSteps.{local_by_rule}
+use Rattle.pnm_command_line.specs.CommandLine.{chain_rule, lanes_rule, plain_rule, ring_rule}
+use Rattle.pnm_command_line.proofs.command_line.program.Goals as goal
 
 pub returns : goal.returns
 returns c =

@@ -1,7 +1,7 @@
 use Rattle.std.proofs.Common.{rules, ap, pos, ◌≡◌, ◌∙◌, Some}
 use Rattle.clap.specs.declared.builder.value_parser.ValueParser.TheVariants.{Signed}
 use Rattle.pnm_stages.specs.declared.ring.TheConstants.{MAX_RING_CAPACITY}
-use Rattle.pnmpipe.proofs.command_line.ring_option.Goals as goal
+use Rattle.pnm_command_line.proofs.command_line.ring_option.Goals as goal
 
 pub returns : goal.returns
 returns c =

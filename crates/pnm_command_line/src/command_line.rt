@@ -2,15 +2,15 @@
 
 ghost use Rattle.std.specs.Prelude.{◌≡◌, IfOk, IfErr, map, string_bytes};
 ghost use Rattle.clap.specs.Words.{app_of, kind_of, rule_of};
-ghost use Rattle.pnmpipe.specs.CommandLine.{form_by, lanes_rule, plain_rule, program, ring_rule};
-ghost use Rattle.pnmpipe.specs.CommandLine.{FitsKind, GivesChain, GivesForm, GivesLanes, GivesRing, IsFaultOfWords};
-ghost use Rattle.pnmpipe.specs.declared.command_line.CommandLineFault.TheVariants.{Memory};
+ghost use Rattle.pnm_command_line.specs.CommandLine.{form_by, lanes_rule, plain_rule, program, ring_rule, FitsKind};
+ghost use Rattle.pnm_command_line.specs.CommandLine.{GivesChain, GivesForm, GivesLanes, GivesRing, IsFaultOfWords};
+ghost use Rattle.pnm_command_line.specs.declared.command_line.CommandLineFault.TheVariants.{Memory};
 
 use clap::error::ErrorKind;
 use clap::{Arg, ArgAction, Command, value_parser};
-use pnm_flow::MAX_RING_CAPACITY;
 use pnm_image::Form;
 use pnm_lanes::MAX_LANES;
+use pnm_stages::MAX_RING_CAPACITY;
 use std::alloc::{AllocError, Global};
 
 /// How the program is called.

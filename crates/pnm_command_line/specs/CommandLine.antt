@@ -1,27 +1,19 @@
 -- What the words of the command line say, as `clap` reads them.
 use Rattle.std.specs.Str.Parse.{digits_value, without_leading_plus}
-use Rattle.std.specs.Prelude.{◌≡◌, ◌≢◌, ◌⊎◌, ◌≤◌, ◌∷◌, ℕ, List, [], Option, Some, None, Result, Ok, Err, Bool, codes}
+use Rattle.std.specs.Prelude.{◌≡◌, ◌≢◌, ◌⊎◌, ◌≤◌, ◌∷◌, ℕ, List, [], Option, Some, None, Bool, codes}
 use Rattle.std.specs.Prelude.{pos, true, false}
 use Rattle.pnm_image.specs.declared.format.Form.{Form}
 use Rattle.pnm_image.specs.declared.format.Form.TheVariants.{Raw, Plain}
-use Rattle.pnm_tools.specs.declared.tool.Tool.{Tool}
-use Rattle.clap.specs.Words.{App, Rule, Text, IsAmong, fault_of, first_of, matches_of, one_of, new_app, new_rule}
-use Rattle.clap.specs.Words.{with_rule}
+pub use Rattle.clap.specs.Words.{Text}
+use Rattle.clap.specs.Words.{App, Rule, IsAmong, fault_of, first_of, matches_of, one_of, new_app, new_rule, with_rule}
 use Rattle.clap.specs.declared.builder.action.ArgAction.TheVariants.{Set, SetTrue}
 use Rattle.clap.specs.declared.builder.value_parser.ValueParser.TheVariants.{Signed}
 use Rattle.clap.specs.declared.error.kind.ErrorKind.{ErrorKind}
 use Rattle.clap.specs.declared.error.kind.ErrorKind.TheVariants.{DisplayHelp, OutOfMemory}
-use Rattle.pnm_chain.specs.ChainText.{SpellsChain}
 use Rattle.pnm_lanes.specs.declared.lane.TheConstants.{MAX_LANES}
 use Rattle.pnm_stages.specs.declared.ring.TheConstants.{MAX_RING_CAPACITY}
-use Rattle.pnm_serial.specs.Jobs.{Job, job_of}
-use Rattle.pnm_serial.specs.Runs.{Change}
-use Rattle.pnm_flow.specs.ThreadedRuns.{HasRunOverThreads}
-use Rattle.pnm_serial.specs.declared.fault.RunFault.{RunFault}
-use Rattle.pnm_serial.specs.declared.fault.RunFault.TheVariants.{NoStart}
-use Rattle.pnm_serial.specs.declared.summary.Summary.{Summary}
-use Rattle.pnmpipe.specs.declared.command_line.CommandLineFault.{CommandLineFault}
-use Rattle.pnmpipe.specs.declared.command_line.CommandLineFault.TheVariants.{Help, Usage, Memory}
+use Rattle.pnm_command_line.specs.declared.command_line.CommandLineFault.{CommandLineFault}
+use Rattle.pnm_command_line.specs.declared.command_line.CommandLineFault.TheVariants.{Help, Usage, Memory}
 
 -- an option `--NAME` that takes a number from 1 to this one, where it isn't given that of this text
 abbrev pub number_rule : Text → Text → ℕ → Rule
@@ -119,27 +111,3 @@ abbrev pub IsFaultOfWords : List Text → CommandLineFault → Type 0
 IsFaultOfWords words (Help text) = AsksForHelp words
 IsFaultOfWords words Usage = IsNoCommandLine words
 IsFaultOfWords words Memory = Unit {0}
-
--- the status of a run by its answer
-abbrev pub status_of : Result Summary RunFault → ℕ
-status_of (Ok summary) = 0
-status_of (Err fault) = 1
-
--- a run that does this job, of whose tools each row-wise one has so many lanes, which gave the status by its answer, or
--- couldn't be started
-pub record HasRunTools (lanes : ℕ) (job : Job) (status : ℕ) (reader writer : Change) : Type 0 where
-  pub answer : Result Summary RunFault
-  pub status_is : status ≡ status_of answer
-  pub ran : (answer ≡ Err NoStart) ⊎ HasRunOverThreads lanes job answer reader writer
-
--- the words give a chain, a number of lanes and a form, the chain spells tools, and a run over these in that form ended
-pub record HasRunWords (words : List Text) (status : ℕ) (reader writer : Change) : Type 0 where
-  pub chain : Text
-  pub tools : List Tool
-  pub lanes : ℕ
-  pub form : Form
-  pub given : GivesChain words chain
-  pub lanes_given : GivesLanes words lanes
-  pub form_given : GivesForm words form
-  pub spelled : SpellsChain chain tools
-  pub run : HasRunTools lanes (job_of tools form) status reader writer

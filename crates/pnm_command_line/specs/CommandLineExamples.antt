@@ -6,7 +6,7 @@ use Rattle.clap.specs.declared.error.kind.ErrorKind.TheVariants.{MissingRequired
 use Rattle.clap.specs.declared.error.kind.ErrorKind.TheVariants.{ValueValidation}
 use Rattle.pnm_image.specs.declared.format.Form.{Form}
 use Rattle.pnm_image.specs.declared.format.Form.TheVariants.{Raw, Plain}
-use Rattle.pnmpipe.specs.CommandLine.{GivesChain, GivesForm, lanes_of, program, ring_of}
+use Rattle.pnm_command_line.specs.CommandLine.{GivesChain, GivesForm, lanes_of, program, ring_of}
 
 -- `-` is code 45
 abbrev pub BeginsWithDash : Text → Type 0

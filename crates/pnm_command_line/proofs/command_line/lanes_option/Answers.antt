@@ -1,7 +1,7 @@
 use Rattle.std.proofs.Common.{rules, ap, pos, ◌≡◌, ◌∙◌, Some}
 use Rattle.clap.specs.declared.builder.value_parser.ValueParser.TheVariants.{Signed}
 use Rattle.pnm_lanes.specs.declared.lane.TheConstants.{MAX_LANES}
-use Rattle.pnmpipe.proofs.command_line.lanes_option.Goals as goal
+use Rattle.pnm_command_line.proofs.command_line.lanes_option.Goals as goal
 
 pub returns : goal.returns
 returns c =

@@ -1,0 +1,2 @@
+pub mod DefaultReads
+pub mod CommandLineSteps
