@@ -189,7 +189,7 @@ class Build:
         """The words that say how many jobs a check gets; none where rt chooses, by the memory that there is."""
         count = processors()
         if place.is_copy:
-            return ["--jobs", str(max(1, count // 4))]
+            return ["--jobs", str(max(1, count // 2))]
         is_beside = len(self.rooms) > 1 and (any(it.run for it in self.places) or len(self.ready(True)) > 1)
         if count < 4 and is_beside:
             return ["--jobs", "1"]

@@ -1,7 +1,7 @@
 //! A run over threads: the caller reads and writes, and each tool works in a thread of its own, or over lanes in
 //! several.
 
-ghost use Rattle.std.specs.Prelude.{◌≡◌, ◌≢◌, ◌⊎◌, ◌≤◌, ◌+◌, ℕ, [], List, length, Some, Err, IfSome};
+ghost use Rattle.std.specs.Prelude.{◌≡◌, ◌≢◌, ◌⊎◌, ◌≤◌, ◌+◌, ℕ, [], length, Some, Err, IfSome};
 ghost use Rattle.std.specs.Thread.{IsSync};
 ghost use Rattle.pnm_stages.specs.Rings.{sent, received, IsPair, SameSender, SameReceiver};
 ghost use Rattle.pnm_image.specs.declared.format.Form.{Form as FormValue};

@@ -4,7 +4,6 @@ ghost use Rattle.std.specs.Prelude.{◌≡◌, ◌↔◌, true, IsTrue, IfSome};
 ghost use Rattle.std.specs.Thread.{IsSync};
 ghost use Rattle.pnm_tools.specs.Tools.{IsLawfulTool, is_row_wise};
 ghost use Rattle.pnm_stages.specs.Limits.{IsRingCapacity};
-ghost use Rattle.pnm_stages.specs.Rings.{sent, received, known_items, SameSender, SameReceiver};
 ghost use Rattle.pnm_lanes.specs.Limits.{IsLaneCount};
 ghost use Rattle.pnm_lanes.specs.LaneRings.{AreLaneRings};
 ghost use Rattle.pnm_flow.specs.Chains.{RunsInLanes, IsToolRun, IsOneStageRun, IsLanesRun, IsAcross};

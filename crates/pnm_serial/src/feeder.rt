@@ -1,6 +1,6 @@
 //! What stands before the tools of a run: the source, and the ring that its messages go into.
 
-ghost use Rattle.std.specs.Prelude.{◌≡◌, ◌<◌, List, Bool, false, Some, None};
+ghost use Rattle.std.specs.Prelude.{◌≡◌, ◌<◌, List, false, Some, None};
 ghost use Rattle.pnm_stages.specs.Rings.{sent, known_free, SameSender};
 ghost use Rattle.pnm_image.specs.declared.message.Message.{Message as MessageValue};
 ghost use Rattle.pnm_read.specs.Sources.{reader_of, IsFreshSource as IsUnread};
