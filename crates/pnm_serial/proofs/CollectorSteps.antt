@@ -49,7 +49,8 @@ cuts_last false l Stop going ended same = unbroken_keeps_all More l tt ended ∙
 pub collects_one : {W : Type 0} (held : W → Option (List ℕ)) (failures : W → ℕ) (form : Form) (start : W) (before : List Message) (m : Message)
     (old new : Collector W)
     → received new.input ≡ received old.input ++ m ∷ []
-    → ((l : List Message) → HasCollected held failures form start l old → HasCollected held failures form start (l ++ m ∷ []) new)
+    → ((l : List Message) → HasCollected held failures form start l old.has_ended old.downstream
+    → HasCollected held failures form start (l ++ m ∷ []) new.has_ended new.downstream)
     → IsCollecting held failures form start before old → IsCollecting held failures form start before new
 collects_one held failures form start before m old new added puts was = record {
   took = was.took ++ m ∷ [];
@@ -61,6 +62,14 @@ collects_one held failures form start before m old new added puts was = record {
 pub still_all : (old new left now sent : List Message) (m : Message) → old ++ left ≡ sent → new ≡ old ++ m ∷ [] → left ≡ m ∷ now → new ++ now ≡ sent
 still_all old new left now sent m all added first =
     ap (λ (x : List Message). x ++ now) added ∙ append_assoc old (m ∷ []) now ∙ ap (λ (x : List Message). old ++ x) (sym first) ∙ all
+
+-- what is seen first comes first
+abbrev first_or : Message → List Message → Message
+first_or m [] = m
+first_or m (n ∷ l) = n
+
+pub first_is : (m n : Message) (k l : List Message) → m ∷ k ≡ n ∷ l → m ≡ n
+first_is m n k l same = ap (first_or m) same
 
 -- none are left
 pub none_left : (left : List Message) → length left ≡ 0 → left ≡ []

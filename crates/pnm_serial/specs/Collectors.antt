@@ -6,6 +6,7 @@ use Rattle.pnm_image.specs.declared.message.Message.{Message}
 use Rattle.pnm_image.specs.Messages.{without_stop, EndsBy}
 use Rattle.pnm_image.specs.declared.message.Ending.TheVariants.{More}
 use Rattle.pnm_serial.specs.declared.collector.Collector.{Collector}
+use Rattle.pnm_serial.specs.declared.downstream.Downstream.{Downstream}
 use Rattle.pnm_serial.specs.Downstreams.{HasTaken}
 use Rattle.pnm_stages.specs.Rings.{IsEnded}
 
@@ -16,16 +17,16 @@ EndedBy false l = EndsBy More l
 
 -- these messages were taken, and written but for Stop
 pub record HasCollected {W : Type 0} (held : W → Option (List ℕ)) (failures : W → ℕ) (form : Form) (start : W)
-    (l : List Message) (c : Collector W) : Type 0 where
-  pub ended : EndedBy c.has_ended l
-  pub taken : HasTaken held failures form start (without_stop l) c.downstream
+    (l : List Message) (has_ended : Bool) (downstream : Downstream W) : Type 0 where
+  pub ended : EndedBy has_ended l
+  pub taken : HasTaken held failures form start (without_stop l) downstream
 
 -- so were those that came after the ones which had been received before
 pub record IsCollecting {W : Type 0} (held : W → Option (List ℕ)) (failures : W → ℕ) (form : Form) (start : W)
     (before : List Message) (c : Collector W) : Type 0 where
   pub took : List Message
   pub came : received c.input ≡ before ++ took
-  pub put : HasCollected held failures form start took c
+  pub put : HasCollected held failures form start took c.has_ended c.downstream
 
 -- no more is to be taken, or can be
 abbrev pub collecting_is_over : Bool → Bool → Bool

@@ -4,6 +4,7 @@ ghost use Rattle.std.specs.Prelude.{◌≡◌, ◌⊎◌, [], ◌∷◌, ◌++�
 ghost use Rattle.pnm_stages.specs.Rings.{received, sent, known_items, IsPair, SameSender, SameReceiver};
 ghost use Rattle.pnm_image.specs.declared.format.Form.{Form as FormValue};
 ghost use Rattle.pnm_image.specs.declared.message.Message.{Message as MessageValue};
+ghost use Rattle.pnm_serial.specs.Collectors.{HasCollected};
 ghost use Rattle.pnm_serial.specs.Downstreams.{output_of};
 
 use crate::downstream::Downstream;
@@ -30,7 +31,7 @@ pub struct Collector<W> {
 }
 
 impl<W: BytesOut + Drop> Collector<W> {
-    ghost use Rattle.pnm_serial.specs.Collectors.{IsCollecting, HasCollected, collector_is_over};
+    ghost use Rattle.pnm_serial.specs.Collectors.{IsCollecting, collector_is_over};
 
     /// A collector that has taken nothing yet, and is to encode into this buffer and write in this form.
     pub fn new(input: Receiver, buffer: WriteBuffer, writer: W, form: Form) -> Collector<W>
@@ -72,10 +73,11 @@ impl<W: BytesOut + Drop> Collector<W> {
             self.is_gone = self.input.is_abandoned();
             return self.is_gone;
         }
-        let message = self.input.receive_known();
+        // It is written out of the ring, and moved once it may go.
+        let message = self.input.peek_known();
         count_image(&mut self.images, message.ends_image());
-        self.put(&message);
-        let_go(message, spares);
+        put(&mut self.downstream, &mut self.has_ended, message);
+        let_go(self.input.receive_known(), spares);
         true
     }
 
@@ -100,27 +102,8 @@ impl<W: BytesOut + Drop> Collector<W> {
         self.input.look_beside(sender);
         while !self.has_ended && self.input.has_seen_message() {
             let message = self.input.receive_known();
-            self.put(&message);
+            put(&mut self.downstream, &mut self.has_ended, &message);
             drop(message);
-        }
-    }
-
-    /// Writes the message, unless it is Stop.
-    fn put(&mut self, message: &Message)
-        requires going { self.old.has_ended ≡ false }
-        ensures put { (form : FormValue) (start : W) (l : List MessageValue)
-            → HasCollected W.held W.failures form start l self.old
-            → HasCollected W.held W.failures form start (l ++ message.now ∷ []) self.new }
-        ensures ring { (self.new.input ≡ self.old.input) × (self.new.is_gone ≡ self.old.is_gone) }
-        ensures same_device { W.same (output_of self.old.downstream) (output_of self.new.downstream) }
-    {
-        match message.ending() {
-            Ending::More => self.downstream.put(message),
-            Ending::Whole => {
-                self.downstream.put(message);
-                self.has_ended = true;
-            }
-            Ending::BrokenOff => self.has_ended = true,
         }
     }
 
@@ -129,6 +112,24 @@ impl<W: BytesOut + Drop> Collector<W> {
         ensures { (result.0 ≡ self.downstream) × (result.1 ≡ self.has_ended) }
     {
         (self.downstream, self.has_ended)
+    }
+}
+
+/// Writes the message, unless it is Stop, and sees whether it ends the stream.
+fn put<W: BytesOut + Drop>(downstream: &mut Downstream<W>, has_ended: &mut bool, message: &Message)
+    requires going { has_ended.old ≡ false }
+    ensures put { (form : FormValue) (start : W) (l : List MessageValue)
+        → HasCollected W.held W.failures form start l has_ended.old downstream.old
+        → HasCollected W.held W.failures form start (l ++ message.now ∷ []) has_ended.new downstream.new }
+    ensures same_device { W.same (output_of downstream.old) (output_of downstream.new) }
+{
+    match message.ending() {
+        Ending::More => downstream.put(message),
+        Ending::Whole => {
+            downstream.put(message);
+            *has_ended = true;
+        }
+        Ending::BrokenOff => *has_ended = true,
     }
 }
 

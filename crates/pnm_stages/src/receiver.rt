@@ -1,6 +1,6 @@
 //! The receiving end of a ring of messages.
 
-ghost use Rattle.std.specs.Prelude.{◌≡◌, ◌<◌, [], ◌∷◌, ◌++◌, length, IfSome, IfNone, IsTrue, IsFalse};
+ghost use Rattle.std.specs.Prelude.{◌≡◌, ◌<◌, List, [], ◌∷◌, ◌++◌, length, IfSome, IfNone, IsTrue, IsFalse};
 ghost use Rattle.pnm_image.specs.Messages.{IsMessage};
 ghost use Rattle.pnm_stages.specs.Rings.{sent, received, known_items, IsPair, SameSender, SameReceiver, HasDrained};
 ghost use Rattle.pnm_stages.specs.Rings.{HasDrainedAfter};
@@ -66,6 +66,14 @@ impl Receiver {
         self.ring.cached_slots() > 0
     }
 
+    /// The next message, which is there, and stays there.
+    pub fn peek_known(&self) -> &Message
+        requires { 0 < length (known_items self.now) }
+        ensures next { (later : List Message) × (known_items self.now ≡ result.now ∷ later) }
+    {
+        self.ring.peek_known()
+    }
+
     /// Whether the sending end was dropped. What was sent before is still there.
     pub fn is_abandoned(&mut self) -> bool
         ensures ring { SameReceiver self.old self.new }
@@ -92,20 +100,6 @@ impl Receiver {
         }
         recognise(&message);
         message
-    }
-
-    /// The next message, if one is there.
-    pub fn try_receive(&mut self) -> Option<Message>
-        ensures ring { SameReceiver self.old self.new }
-        ensures taken { IfSome result (λ m. received self.new ≡ received self.old ++ m ∷ []) }
-        ensures message { IfSome result IsMessage }
-        ensures none_seen { IfNone result ((received self.new ≡ received self.old) × (known_items self.new ≡ [])) }
-    {
-        if self.has_message() {
-            Some(self.receive_known())
-        } else {
-            None
-        }
     }
 
     /// What was received, and what is left of the messages then, are all that was sent, since both ends of the ring are

@@ -89,7 +89,9 @@ fn count_rows(
         }
     }
     for _ in 0..count {
-        drop(receiver.try_receive());
+        if receiver.has_message() {
+            drop(receiver.receive_known());
+        }
     }
     Ok(count)
 }
