@@ -21,7 +21,7 @@ import time
 from crates import ROOT, SOURCES, Ended, below, copy_lines, end_by_signals, read_crates
 
 PROGRAM = "pnmpipe"
-TOLD = "from nothing 17 minutes on 4 cores with nothing beside"
+TOLD = "from nothing 16 minutes on 4 cores with nothing beside"
 
 # what a check leaves of a crate, and how much memory two checks want
 LEFT = ("incremental", "rlib")
@@ -49,13 +49,12 @@ def free_memory():
 
 
 def lines_of(name):
-    """How many lines a check of the crate reads."""
+    """How many lines of code the crate has: a check's time goes by these, and not by those of its proofs."""
     count = 0
-    for part in SOURCES:
-        for at, _, files in os.walk(os.path.join(ROOT, "crates", name, part)):
-            for file in files:
-                with open(os.path.join(at, file), "rb") as text:
-                    count += text.read().count(b"\n")
+    for at, _, files in os.walk(os.path.join(ROOT, "crates", name, "src")):
+        for file in files:
+            with open(os.path.join(at, file), "rb") as text:
+                count += text.read().count(b"\n")
     return count
 
 
