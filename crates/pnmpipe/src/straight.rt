@@ -1,0 +1,48 @@
+//! Long writes, which a buffer would only copy.
+
+ghost use Rattle.std.specs.Prelude.{◌≡◌};
+ghost use Rattle.std.specs.Io.Buffered.{writer_contents};
+
+use std::io;
+use std::io::{BufWriter, Write};
+
+/// What has so many bytes is written straight: to copy it would take longer than the call that is saved.
+const LONG: usize = 16_384;
+
+/// A buffered writer that keeps back what is short alone. What is long is written once what was kept back is.
+#[derive(Drop)]
+pub struct Straight<W: Write + Drop> {
+    buffered: BufWriter<W>,
+}
+
+impl<W: Write + Drop> Straight<W> {
+    /// Writes long parts past this buffer.
+    pub fn new(buffered: BufWriter<W>) -> Straight<W>
+        ensures { result.buffered ≡ buffered }
+    {
+        Straight { buffered }
+    }
+
+    /// The buffered writer.
+    pub fn into_inner(self) -> BufWriter<W>
+        ensures { result ≡ self.buffered }
+    {
+        self.buffered
+    }
+}
+
+impl<W: Write + Drop> Write for Straight<W> {
+    ghost contents = { λ d. writer_contents W.contents d.buffered };
+
+    fn write(&mut self, bytes: &[u8]) -> io::Result<usize> {
+        if bytes.len() < LONG {
+            return self.buffered.write(bytes);
+        }
+        self.buffered.flush()?;
+        self.buffered.get_mut().write(bytes)
+    }
+
+    fn flush(&mut self) -> io::Result<()> {
+        self.buffered.flush()
+    }
+}
