@@ -1,5 +1,5 @@
 #!/usr/bin/env python3
-"""Tests of the helpers and of the stand-ins for Netpbm's tools, in seconds.
+"""Tests of the helpers, of the stand-ins for Netpbm's tools, and of long rows through the program, in seconds.
 
 They want python3 and sh alone. The program is named by --program; where it isn't there, what wants it is passed over.
 The stand-ins are tried over scripts that only tell how they were called.
@@ -311,6 +311,36 @@ class Files(Folder):
         ]:
             self.assertEqual(self.files(*words).returncode, 2, words)
             self.assertEqual(self.read("in/c.ppm"), COLOR)
+
+
+class LongRows(unittest.TestCase):
+    """Rows that the program writes past its output's buffer, between some that it keeps back."""
+
+    WIDTHS = (3, 16_384, 7, 16_383, 16_385, 40_000, 70_000, 1)
+
+    def setUp(self):
+        if PROGRAM is None:
+            self.skipTest("there is no program")
+        images, inverted = [], []
+        for width in self.WIDTHS:
+            samples = bytes((at * at + width) % 251 for at in range(3 * width))
+            header = b"P5\n%d 3\n255\n" % width
+            images.append(header + samples)
+            inverted.append(header + bytes(255 - sample for sample in samples))
+        self.images, self.inverted = b"".join(images), b"".join(inverted)
+
+    def test_all_is_written_in_order(self):
+        ran = subprocess.run([PROGRAM, "pnminvert"], input=self.images, stdout=subprocess.PIPE)
+        self.assertEqual((ran.returncode, ran.stdout == self.inverted), (0, True))
+        with tempfile.TemporaryFile() as file:
+            subprocess.run([PROGRAM, "pnminvert"], input=self.images, stdout=file, check=True)
+            file.seek(0)
+            self.assertTrue(file.read() == self.inverted)
+
+    def test_failed_write_is_told(self):
+        with open("/dev/full", "wb") as full:
+            ran = subprocess.run([PROGRAM, "pnminvert"], input=self.images, stdout=full, stderr=subprocess.PIPE)
+        self.assertEqual((ran.returncode, ran.stderr), (1, b"pnmpipe: output: WriteFailed\n"))
 
 
 class Completion(unittest.TestCase):
