@@ -2,8 +2,8 @@
 """Proves the crates that the program stands on, and no more, and builds it as bin/pnmpipe.
 
 Crates that don't stand on one another are proved side by side. Two runs of `rt` in one checkout wait for each other,
-so the longest chain of crates is proved in the checkout, and beside it what has never been proved in a temporary
-copy, below TMPDIR. A copy gets what was built of the crates below, and gives back what it makes. What is proved
+so the longest chain of crates is proved in the checkout, and beside it what has never been proved in temporary
+copies, below TMPDIR. A copy gets what was built of the crates below, and gives back what it makes. What is proved
 stands in crates/NAME/out, so that the next call takes all that is the same. What each crate printed stands in
 bin/log. RT_JOBS says on how many processors, by default all that there are.
 """
@@ -23,9 +23,10 @@ from crates import ROOT, SOURCES, Ended, below, copy_lines, end_by_signals, read
 PROGRAM = "pnmpipe"
 TOLD = "from nothing 16 minutes on 4 cores with nothing beside"
 
-# what a check leaves of a crate, and how much memory two checks want
+# what a check leaves of a crate, how much memory it wants, and how many processors it makes use of
 LEFT = ("incremental", "rlib")
-MEMORY_OF_TWO = 8 << 30
+MEMORY_OF_ONE = 4 << 30
+MOST_JOBS = 4
 
 # lines of rt that are shown at once, and that tell how far a check is
 SHOWN = re.compile(r"rt: (waiting|warning)\b")
@@ -90,6 +91,7 @@ class Place:
         self.folder = folder
         self.is_copy = folder != ROOT
         self.run = None
+        self.jobs = 0
         if self.is_copy:
             shutil.copy(os.path.join(ROOT, "HANDLES"), folder)
             copy_lines(crates, folder)
@@ -185,17 +187,20 @@ class Build:
         return sorted(names, key=lambda it: -self.behind[it])
 
     def jobs(self, place):
-        """The words that say how many jobs a check gets; none where rt chooses, by the memory that there is."""
-        count = processors()
-        if place.is_copy:
-            return ["--jobs", str(max(1, count // 2))]
-        is_beside = len(self.rooms) > 1 and (any(it.run for it in self.places) or len(self.ready(True)) > 1)
-        if count < 4 and is_beside:
-            return ["--jobs", "1"]
-        return ["--jobs", str(min(4, count))] if "RT_JOBS" in os.environ else []
+        """How many processors the next check gets: of the free ones its share, where others can begin now, too, and of
+        four and more at least two on the longest chain. A check takes more time of all processors together the more of
+        them it has."""
+        busy = [it for it in self.places if it.run]
+        free = processors() - sum(it.jobs for it in busy)
+        checks = min(len(self.rooms) - len(busy), len(self.ready()))
+        least = 1 if place.is_copy or processors() < 4 else 2
+        return max(least, min(MOST_JOBS, -(-free // checks)))
 
     def begin(self, place, name):
-        words = ["lib", *self.jobs(place)]
+        place.jobs = self.jobs(place)
+        # (rt chooses by the memory that there is, where one check is all that there is room for)
+        chooses = len(self.rooms) == 1 and "RT_JOBS" not in os.environ
+        words = ["lib"] if chooses else ["lib", "--jobs", str(place.jobs)]
         place.fetch(self.crates[name])
         self.left.remove(name)
         place.run = Run(name, place.folder, words)
@@ -272,7 +277,7 @@ def build(copies):
 def main():
     end_by_signals()
     os.makedirs(os.path.join(ROOT, "bin/log"), exist_ok=True)
-    count = 1 if processors() < 2 or free_memory() < MEMORY_OF_TWO else 2 if processors() < 8 else 3
+    count = max(1, min(1 if processors() < 2 else 2 if processors() < 4 else 3, free_memory() // MEMORY_OF_ONE))
     try:
         with tempfile.TemporaryDirectory(prefix="pnmpipe-build-") as folder:
             copies = [os.path.join(folder, str(number)) for number in range(1, count)]

@@ -156,10 +156,13 @@ class Building(Repository):
     def test_each_crate_is_proved_once_and_the_copy_gives_back(self):
         status, printed = self.run_script("build.py", RT_JOBS="4", SECONDS="0.5")
         self.assertEqual(status, 0, printed)
-        proved = [line.split()[1:] for line in self.notes() if line.startswith("proves")]
+        notes = self.notes()
+        proved = [line.split()[1:] for line in notes if line.startswith("proves")]
         self.assertEqual(sorted(it[0] for it in proved), ["left", "longest", "low", "right", "top"])
-        if build.free_memory() > build.MEMORY_OF_TWO:
+        if build.free_memory() > 3 * build.MEMORY_OF_ONE:
             self.assertEqual([it[0] for it in proved if it[-1] == "copy"], ["right"])
+            for call in ("lib --jobs 4 (low)", "lib --jobs 2 (left)", "lib --jobs 2 (right)"):
+                self.assertIn(call, notes)
         with open(self.path("root/bin/pnmpipe"), encoding="utf-8") as program:
             self.assertEqual(program.read(), "built")
         self.assertIn("6 of 6: pnmpipe", printed)
@@ -185,7 +188,7 @@ class Building(Repository):
         self.assertEqual(self.run_script("build.py", RT_JOBS="2", FAULT="run")[0], 1)
         self.assertFalse(os.path.exists(self.path("root/bin/pnmpipe")))
 
-    @unittest.skipIf(build.free_memory() < build.MEMORY_OF_TWO, "there is no memory for two checks")
+    @unittest.skipIf(build.free_memory() < 2 * build.MEMORY_OF_ONE, "there is no memory for two checks")
     def test_signals_end_what_was_started(self):
         for number in (signal.SIGINT, signal.SIGTERM):
             child = self.start("build.py", RT_JOBS="2", SECONDS="30")

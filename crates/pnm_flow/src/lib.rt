@@ -3,6 +3,7 @@
 #![tactic(auto)]
 
 mod chain;
+mod stage;
 mod threaded;
 mod tool_run;
 
@@ -11,6 +12,7 @@ pub use pnm_lanes::{DealDone, GatherDone, MAX_LANES, deal, gather, run_lanes};
 pub use pnm_serial::{RunFault, Summary, run_serial};
 pub use pnm_stages::{
     AnyMessage, Gate, MAX_RING_CAPACITY, NoStart, OpenGate, Receiver, Sender, StageDone, StageEnd,
-    new_ring, run_stage,
+    new_ring,
 };
+pub use stage::run_stage;
 pub use threaded::run;

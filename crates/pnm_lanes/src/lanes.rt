@@ -16,8 +16,9 @@ use crate::dealing::{DealDone, deal};
 use crate::gathering::{GatherDone, gather};
 use crate::joining::{LanesDone, joined};
 use crate::lane_rings::{LaneRingEnds, LaneRings};
+use pnm_filters::row_filter_of;
 use pnm_stages::{
-    Call, Gate, Idle, NoStart, Receiver, Sender, StageDone, Task, row_filter_of, run_both,
+    Call, Gate, Idle, NoStart, Receiver, Sender, StageDone, Task, run_both,
     run_filter,
 };
 use pnm_tools::Tool;

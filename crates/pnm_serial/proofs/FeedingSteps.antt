@@ -21,7 +21,7 @@ use Rattle.pnm_tools.specs.declared.tool.Tool.{Tool}
 use Rattle.pnm_tools.specs.ChainAnswers.{IsSound, AreSound}
 use Rattle.pnm_tools.proofs.ChainLaws.{sound_prefix}
 use Rattle.pnm_serial.specs.declared.downstream.Downstream.{Downstream}
-use Rattle.pnm_stages.specs.declared.fused_filter.FusedFilter.{FusedFilter}
+use Rattle.pnm_tools.specs.declared.fused_filter.FusedFilter.{FusedFilter}
 use Rattle.pnm_serial.specs.SerialChains.{FeedsThrough}
 use Rattle.pnm_serial.specs.Runs.{change, HasMore, IsReadFailure, MayFollowRead, OutlastsRun}
 use Rattle.pnm_serial.specs.Feeding.{HaveTaken, HasFed}

@@ -10,9 +10,9 @@ use Rattle.pnm_image.specs.declared.message.Message.{Message}
 use Rattle.pnm_tools.specs.declared.fault.ToolFault.{ToolFault}
 use Rattle.pnm_tools.specs.declared.tool.Tool.{Tool}
 use Rattle.pnm_serial.specs.declared.downstream.Downstream.{Downstream}
-use Rattle.pnm_stages.specs.declared.fused_filter.FusedFilter.{FusedFilter}
+use Rattle.pnm_tools.specs.declared.fused_filter.FusedFilter.{FusedFilter}
 use Rattle.pnm_serial.specs.Downstreams.{HasTaken}
-use Rattle.pnm_stages.specs.FusedFilters.{FilterAt, FilterBusy, waiting_at}
+use Rattle.pnm_tools.specs.FusedFilters.{FilterAt, FilterBusy, waiting_at}
 use Rattle.pnm_serial.specs.SerialChains.{FiltersAt, FeedsThrough}
 
 -- the first stage has taken the message, and what it gave so far has passed through those behind it

@@ -22,8 +22,8 @@ use Rattle.pnm_read.proofs.TextLaws.{spelled_text_is_said, said_text_is_spelled,
 use Rattle.pnm_read.proofs.StreamLaws.{no_text_fault}
 use Rattle.pnm_tools.specs.declared.fault.ToolFault.{ToolFault}
 use Rattle.pnm_tools.specs.declared.tool.Tool.{Tool}
-use Rattle.pnm_tools.specs.declared.any_tool.AnyTool.{AnyTool}
-use Rattle.pnm_tools.specs.States.{Standing, IsToolAt, is_all_given}
+use Rattle.pnm_filters.specs.declared.any_tool.AnyTool.{AnyTool}
+use Rattle.pnm_filters.specs.States.{Standing, IsToolAt, is_all_given}
 use Rattle.pnm_tools.specs.Chains.{AreLawfulTools, due_in_turn}
 use Rattle.pnm_tools.specs.ChainAnswers.{IsSound, AreSound, HaveAnswered, AreWell, IsFirstFault}
 use Rattle.pnm_tools.proofs.ChainLaws.{given_are_sound, stream_is_answered, refusal_is_first, none_before_first_fault, given_is_prefix}
@@ -37,8 +37,8 @@ use Rattle.pnm_write.proofs.FormLaws.{stream_fault}
 use Rattle.pnm_write.proofs.MessageLaws.{bytes_of_stream, written_all, written_prefix}
 use Rattle.pnm_image.proofs.Written.{prefix-more}
 use Rattle.pnm_serial.specs.declared.downstream.Downstream.{Downstream}
-use Rattle.pnm_stages.specs.declared.fused_filter.FusedFilter.{FusedFilter}
-use Rattle.pnm_stages.specs.declared.fused_filter.FusedFilter.TheVariants.{AtWork, Refused}
+use Rattle.pnm_tools.specs.declared.fused_filter.FusedFilter.{FusedFilter}
+use Rattle.pnm_tools.specs.declared.fused_filter.FusedFilter.TheVariants.{AtWork, Refused}
 use Rattle.pnm_serial.specs.declared.fault.RunFault.{RunFault}
 use Rattle.pnm_serial.specs.declared.summary.Summary.{Summary}
 use Rattle.pnm_serial.specs.Counts.{saturate_u64, images_in, rows_in}

@@ -1,13 +1,13 @@
 -- The tools of a chain before the first message.
 use Rattle.std.proofs.Common.{ℕ, zero, suc, ◌<◌, List, [], ◌∷◌, ◌++◌, length, get_or, refl, arith}
 use Rattle.pnm_tools.specs.declared.tool.Tool.{Tool}
-use Rattle.pnm_tools.specs.declared.any_tool.AnyTool.{AnyTool}
+use Rattle.pnm_filters.specs.declared.any_tool.AnyTool.{AnyTool}
 use Rattle.pnm_tools.specs.Chains.{AreLawfulTools}
-use Rattle.pnm_tools.specs.States.{Standing}
+use Rattle.pnm_filters.specs.States.{Standing}
 use Rattle.pnm_tools.specs.Tools.{IsLawfulTool}
-use Rattle.pnm_stages.specs.declared.fused_filter.FusedFilter.{FusedFilter}
+use Rattle.pnm_tools.specs.declared.fused_filter.FusedFilter.{FusedFilter}
 use Rattle.pnm_serial.specs.SerialChains.{ToolsAt, AreFresh}
-use Rattle.pnm_stages.specs.FusedFilters.{ToolAt}
+use Rattle.pnm_filters.specs.States.{ToolAt}
 
 -- one tool more
 pub fresh_more : (stages : List (FusedFilter (Standing AnyTool))) (tools : List Tool) (stage : FusedFilter (Standing AnyTool)) (tool : Tool)

@@ -15,7 +15,7 @@ use Rattle.pnm_tools.specs.ChainAnswers.{AreSound}
 use Rattle.pnm_tools.specs.declared.fault.ToolFault.{ToolFault}
 use Rattle.pnm_tools.specs.declared.tool.Tool.{Tool}
 use Rattle.pnm_serial.specs.declared.downstream.Downstream.{Downstream}
-use Rattle.pnm_stages.specs.declared.fused_filter.FusedFilter.{FusedFilter}
+use Rattle.pnm_tools.specs.declared.fused_filter.FusedFilter.{FusedFilter}
 use Rattle.pnm_serial.specs.Downstreams.{HasTaken}
 use Rattle.pnm_serial.specs.Runs.{change, MayFollowRead, OutlastsRun}
 use Rattle.pnm_serial.specs.SerialChains.{FiltersAt}

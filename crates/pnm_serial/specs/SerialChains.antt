@@ -4,10 +4,11 @@ use Rattle.pnm_image.specs.declared.format.Form.{Form}
 use Rattle.pnm_image.specs.declared.message.Message.{Message}
 use Rattle.pnm_tools.specs.declared.fault.ToolFault.{ToolFault}
 use Rattle.pnm_tools.specs.declared.tool.Tool.{Tool}
-use Rattle.pnm_tools.specs.declared.any_tool.AnyTool.{AnyTool}
-use Rattle.pnm_tools.specs.States.{Standing, IsToolAt, is_all_given}
-use Rattle.pnm_stages.specs.declared.fused_filter.FusedFilter.{FusedFilter}
-use Rattle.pnm_stages.specs.FusedFilters.{FilterAt, ToolAt, refusal_in}
+use Rattle.pnm_filters.specs.declared.any_tool.AnyTool.{AnyTool}
+use Rattle.pnm_filters.specs.States.{Standing, IsToolAt, is_all_given}
+use Rattle.pnm_tools.specs.declared.fused_filter.FusedFilter.{FusedFilter}
+use Rattle.pnm_filters.specs.States.{ToolAt}
+use Rattle.pnm_tools.specs.FusedFilters.{FilterAt, refusal_in}
 use Rattle.pnm_serial.specs.declared.downstream.Downstream.{Downstream}
 use Rattle.pnm_serial.specs.Downstreams.{HasTaken}
 

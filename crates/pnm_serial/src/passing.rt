@@ -5,8 +5,7 @@ ghost use Rattle.pnm_serial.specs.SerialChains.{FeedsThrough};
 
 use crate::downstream::Downstream;
 use pnm_image::{BytesOut, Message};
-use pnm_stages::FusedFilter;
-use pnm_tools::Filter;
+use pnm_tools::{Filter, FusedFilter};
 
 /// Passes a message through the filters, and writes what the last of them gives.
 pub fn feed_through<F: Filter + Drop, W: BytesOut + Drop>(

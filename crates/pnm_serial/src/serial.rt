@@ -15,10 +15,10 @@ use crate::downstream::Downstream;
 use crate::fault::RunFault;
 use crate::passing::feed_through;
 use crate::summary::Summary;
+use pnm_filters::{ToolState, filter_of};
 use pnm_image::{BytesIn, BytesOut, Form};
 use pnm_read::{InputFault, Source, SpareRows};
-use pnm_stages::{FusedFilter, filter_of};
-use pnm_tools::{Filter, Tool, ToolFault, ToolState};
+use pnm_tools::{Filter, FusedFilter, Tool, ToolFault};
 use pnm_write::SinkFault;
 use std::alloc::Global;
 

@@ -2,7 +2,5 @@ pub mod RingSteps
 pub mod EndingLaws
 pub mod PrefixLaws
 mod LongestPrefixes
-pub mod StageSteps
-pub mod ToolSteps
 pub mod SendingSteps
 pub mod StagedSteps

@@ -4,9 +4,9 @@ use Rattle.pnm_image.specs.declared.message.Message.{Message}
 use Rattle.pnm_tools.specs.declared.fault.ToolFault.{ToolFault}
 use Rattle.pnm_tools.specs.declared.tool.Tool.{Tool}
 use Rattle.pnm_tools.specs.Answers.{Answers}
-use Rattle.pnm_stages.specs.declared.fused_filter.FusedFilter.{FusedFilter}
-use Rattle.pnm_stages.specs.declared.fused_filter.FusedFilter.TheVariants.{AtWork, Refused}
-use Rattle.pnm_stages.specs.FusedFilters.{FilterAt, FilterBusy}
+use Rattle.pnm_tools.specs.declared.fused_filter.FusedFilter.{FusedFilter}
+use Rattle.pnm_tools.specs.declared.fused_filter.FusedFilter.TheVariants.{AtWork, Refused}
+use Rattle.pnm_tools.specs.FusedFilters.{FilterAt, FilterBusy}
 use Rattle.pnm_stages.specs.StageParts.{HasAnsweredPart, HasSentAnswers}
 
 -- what a tool has sent so far of its answers to a message

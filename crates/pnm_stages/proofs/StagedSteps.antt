@@ -16,12 +16,12 @@ use Rattle.pnm_image.specs.declared.message.Ending.TheVariants.{More, Whole, Bro
 use Rattle.pnm_tools.specs.Answers.{AnswersInFull}
 use Rattle.pnm_tools.specs.ChainAnswers.{HasRefused, IsRefusedNext}
 use Rattle.pnm_tools.proofs.FullAnswers.{full_answer_is_the_stream}
-use Rattle.pnm_stages.specs.declared.fused_filter.FusedFilter.{FusedFilter}
-use Rattle.pnm_stages.specs.declared.fused_filter.FusedFilter.TheVariants.{AtWork, Refused}
+use Rattle.pnm_tools.specs.declared.fused_filter.FusedFilter.{FusedFilter}
+use Rattle.pnm_tools.specs.declared.fused_filter.FusedFilter.TheVariants.{AtWork, Refused}
 use Rattle.pnm_stages.specs.declared.stage.StageEnd.{StageEnd}
 use Rattle.pnm_stages.specs.declared.stage.StageEnd.TheVariants.{Well, Broken, PeerGone}
 use Rattle.pnm_stages.specs.Rings.{IsEnded, EndsAtMostOnce, HasDrainedAfter}
-use Rattle.pnm_stages.specs.FusedFilters.{FilterAt, FilterBusy, refusal_in}
+use Rattle.pnm_tools.specs.FusedFilters.{FilterAt, FilterBusy, refusal_in}
 use Rattle.pnm_stages.specs.Prefixes.{IsPrefixOfDue}
 use Rattle.pnm_stages.specs.Stages.{HasEndedSo, HasRunStage}
 use Rattle.pnm_stages.specs.StageParts.{HasAnsweredPart, HasSentAnswers, HasBrokenOffAfter}

@@ -2,6 +2,5 @@ pub mod Rings
 pub mod Limits
 pub mod Prefixes
 pub mod Stages
-pub mod FusedFilters
 pub mod StageParts
 pub mod Starts

@@ -6,11 +6,11 @@ use Rattle.pnm_tools.specs.declared.fault.ToolFault.{ToolFault}
 use Rattle.pnm_tools.specs.declared.tool.Tool.{Tool}
 use Rattle.pnm_tools.specs.Answers.{Answers}
 use Rattle.pnm_image.specs.declared.message.Ending.{Ending}
-use Rattle.pnm_stages.specs.declared.fused_filter.FusedFilter.{FusedFilter}
+use Rattle.pnm_tools.specs.declared.fused_filter.FusedFilter.{FusedFilter}
 use Rattle.pnm_stages.specs.declared.stage.StageEnd.{StageEnd}
 use Rattle.pnm_stages.specs.declared.stage.StageEnd.TheVariants.{Fault, PeerGone}
 use Rattle.pnm_stages.specs.Rings.{HasDrainedAfter}
-use Rattle.pnm_stages.specs.FusedFilters.{FilterAt, FilterBusy}
+use Rattle.pnm_tools.specs.FusedFilters.{FilterAt, FilterBusy}
 
 -- what was given answers a prefix of what was received
 pub record HasAnsweredPart (tool : Tool) (received given : List Message) : Type 0 where

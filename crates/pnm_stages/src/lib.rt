@@ -4,7 +4,6 @@
 
 mod backoff;
 mod branches;
-mod fused_filter;
 pub mod laws;
 mod receiver;
 mod ring;
@@ -14,8 +13,7 @@ mod wakers;
 
 pub use backoff::Backoff;
 pub use branches::{Call, Idle, NoStart, Task, run_both};
-pub use fused_filter::{FusedFilter, filter_of, row_filter_of};
 pub use receiver::Receiver;
 pub use ring::{AnyMessage, MAX_RING_CAPACITY, new_ring};
 pub use sender::Sender;
-pub use stage::{Gate, OpenGate, StageDone, StageEnd, run_filter, run_stage};
+pub use stage::{Gate, OpenGate, StageDone, StageEnd, run_filter};

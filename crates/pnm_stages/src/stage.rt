@@ -3,19 +3,16 @@
 ghost use Rattle.std.specs.Prelude.{◌≡◌, ◌<◌, [], ◌∷◌, ◌++◌, length, IfSome, IfNone, IsTrue, IsFalse};
 ghost use Rattle.pnm_image.specs.Messages.{IsMessage};
 ghost use Rattle.pnm_tools.specs.declared.tool.Tool.{Tool as ToolValue};
-ghost use Rattle.pnm_tools.specs.Tools.{IsLawfulTool};
 ghost use Rattle.pnm_stages.specs.Rings.{sent, received, known_items, SameSender, SameReceiver};
-ghost use Rattle.pnm_stages.specs.FusedFilters.{FilterAt};
+ghost use Rattle.pnm_tools.specs.FusedFilters.{FilterAt};
 ghost use Rattle.pnm_stages.specs.Stages.{HasRunStage};
 ghost use Rattle.pnm_stages.specs.StageParts.{HasSentAnswers, HasBrokenOffAfter};
 
 use crate::backoff::Backoff;
-use crate::fused_filter::{FusedFilter, filter_of};
 use crate::receiver::Receiver;
 use crate::sender::Sender;
 use pnm_image::{Ending, Message};
-use pnm_tools::{Filter, Tool, ToolFault};
-use std::alloc::Global;
+use pnm_tools::{Filter, FusedFilter, ToolFault};
 use std::sync::Wait;
 
 /// What each thread that runs a tool calls once, before it takes its first message. Tests hold a
@@ -62,25 +59,6 @@ pub struct StageDone {
 /// Passes what comes on `input` through the tool to `output`, message by message, until the stream
 /// has ended. The gate is called once, with the tool's number and lane 0, before the first message is
 /// taken. Where the input's other end is dropped early, or the output's, the stage ends by `PeerGone`;
-/// else only once the end of the stream or Stop was taken.
-pub fn run_stage<R: Wait, G: Gate>(
-    rt: &R,
-    alloc: Global,
-    tool: &Tool,
-    number: usize,
-    gate: &G,
-    input: Receiver,
-    output: Sender,
-) -> StageDone
-    requires { IsLawfulTool tool.now }
-    ensures input { SameReceiver input result.input }
-    ensures output { SameSender output result.output }
-    ensures ran { HasRunStage tool.now result.end (received input) (received result.input) (known_items result.input)
-        (sent output) (sent result.output) }
-{
-    gate.arrive(number, 0);
-    run_filter(rt, filter_of(alloc, tool), input, output)
-}
 
 /// Passes what comes on `input` through a tool at work, or one that has refused, to `output`, as `run_stage` does
 /// behind its gate.

@@ -15,7 +15,7 @@ use Rattle.pnm_tools.specs.Tools.{AreTaken, result_head, row_answer, end_answer,
 use Rattle.pnm_image.specs.declared.message.Ending.TheVariants.{More, BrokenOff}
 use Rattle.pnm_tools.specs.Answers.{Answers}
 use Rattle.pnm_tools.specs.Answering.{answers_at, answers_from}
-use Rattle.pnm_tools.specs.States.{IsAnswering}
+use Rattle.pnm_tools.specs.Answering.{IsAnswering}
 use Rattle.pnm_tools.proofs.AnsweringLaws.{AnswersImages, answers_from-append, answers_are_due}
 
 -- no message is Stop

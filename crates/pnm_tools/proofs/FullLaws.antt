@@ -10,7 +10,7 @@ use Rattle.pnm_image.specs.Completion.{IsPrefixOf, Completes}
 use Rattle.pnm_tools.specs.declared.tool.Tool.{Tool}
 use Rattle.pnm_tools.specs.Answers.{images_ended, begun_of, begun_in, answers_owed, AnswersInFull}
 use Rattle.pnm_tools.specs.Answering.{answers_from, rows_come}
-use Rattle.pnm_tools.specs.States.{IsAnswering}
+use Rattle.pnm_tools.specs.Answering.{IsAnswering}
 use Rattle.pnm_tools.proofs.AnsweringLaws.{AnswersImages, answers_from-append}
 use Rattle.pnm_tools.proofs.AtLaws.{StopsLast, keeps_all, cuts_stop, lawful_stops, answering_answers}
 use Rattle.pnm_tools.proofs.InFullLaws.{answers_end_so}

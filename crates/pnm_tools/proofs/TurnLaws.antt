@@ -9,7 +9,7 @@ use Rattle.pnm_tools.specs.declared.flip.FlipWay.TheVariants.{Null, LeftRight, T
 use Rattle.pnm_tools.specs.declared.flip.Turn.{Turn}
 use Rattle.pnm_tools.specs.declared.tool.Tool.TheVariants.{Flip}
 use Rattle.pnm_tools.specs.Flip.{flipped_sample, turn_of, turned_sample, place_in, in_order, moves_rows, turned_row}
-use Rattle.pnm_tools.specs.Keeping.{ReversesRows}
+use Rattle.pnm_tools.specs.Flip.{ReversesRows}
 use Rattle.pnm_tools.specs.Tools.{row_answer}
 use Rattle.pnm_tools.proofs.RangeLaws.{downward}
 use Rattle.pnm_tools.proofs.RowLaws.{row_of_flip}

@@ -1,12 +1,12 @@
 -- How a tool answers message by message: a row by rows at once, and the end of an image by what is left of the result.
-use Rattle.std.specs.Prelude.{ℕ, List, [], ◌∷◌, ◌++◌, map, Option, Some, None, Ok, Err}
+use Rattle.std.specs.Prelude.{◌≡◌, ℕ, List, [], ◌∷◌, ◌++◌, map, Option, Some, None, Ok, Err}
 use Rattle.pnm_image.specs.declared.message.Message.{Message}
 use Rattle.pnm_image.specs.declared.message.Message.TheVariants.{Begin, Row, ImageEnd, StreamEnd, Stop}
 use Rattle.pnm_image.specs.declared.place.Place.{Place}
 use Rattle.pnm_image.specs.declared.place.Place.TheVariants.{Between, Inside, After}
-use Rattle.pnm_image.specs.Places.{place_after}
+use Rattle.pnm_image.specs.Places.{IsLawful, place_after}
 use Rattle.pnm_tools.specs.declared.tool.Tool.{Tool}
-use Rattle.pnm_tools.specs.Tools.{result_head, row_answer, end_answer}
+use Rattle.pnm_tools.specs.Tools.{AreTaken, result_head, row_answer, end_answer}
 
 -- a row, or none
 abbrev pub row_list : Option (List ℕ) → List (List ℕ)
@@ -46,3 +46,9 @@ abbrev pub answers_from : Tool → Place → List (List ℕ) → List Message �
 answers_from tool place rows [] = []
 answers_from tool place rows (m ∷ ms) = answers_at tool place rows m ++ answers_from tool (place_after place m)
     (rows_after rows m) ms
+
+-- these were accepted, none of them refused, and the answers to them are those that were given and those that wait
+pub record IsAnswering (tool : Tool) (l g waiting : List Message) : Type 0 where
+  pub lawful : IsLawful l
+  pub taken : AreTaken tool l
+  pub given : answers_from tool Between [] l ≡ g ++ waiting

@@ -1,7 +1,7 @@
 -- The flipped image, from pamflip(1): the same, flipped left for right, flipped top for bottom, transposed, columns and
 -- rows exchanged, or turned counterclockwise by one, two or three quarters. Each way is a rule as well: which orders
 -- are reversed, and whether columns and rows are exchanged then.
-use Rattle.std.specs.Prelude.{ℕ, ◌-◌, ◌==◌, List, [], ◌∷◌, map, reverse, Result, Ok, Err, if◌then◌else◌, Bool, true}
+use Rattle.std.specs.Prelude.{◌≡◌, ℕ, ◌-◌, ◌==◌, List, [], ◌∷◌, map, reverse, Result, Ok, Err, if◌then◌else◌, Bool, true}
 use Rattle.std.specs.Prelude.{false, not, ◌&&◌, ◌||◌}
 use Rattle.std.specs.List.{flat_map, range_with_len}
 use Rattle.pnm_image.specs.declared.shape.Shape.{Shape}
@@ -104,6 +104,11 @@ moved_rows t s rows =
 -- the rows that answer the end of the image
 abbrev pub turned_at_end : Turn → Shape → List (List ℕ) → List (List ℕ)
 turned_at_end t s rows = if moves_rows t then moved_rows t s rows else []
+
+-- the order of the rows is reversed, and they stay rows
+pub record ReversesRows (t : Turn) : Type 0 where
+  pub reversed : t.rows_reversed ≡ true
+  pub stay_rows : t.exchanged ≡ false
 
 abbrev pub flipping : FlipWay → Meaning
 flipping way = record {

@@ -5,7 +5,6 @@ pub mod Invert
 pub mod Cut
 pub mod Depth
 pub mod Channel
-pub mod Pendings
 pub mod Pixels
 pub mod Enlarge
 pub mod Flip
@@ -13,14 +12,8 @@ pub mod Tile
 pub mod Tools
 pub mod Answers
 pub mod Answering
-pub mod Columns
-pub mod Strips
-pub mod SampleRows
-pub mod Keeping
-pub mod States
-pub mod Steps
 pub mod Chains
 pub mod ChainAnswers
 pub mod Laws
 pub mod Dealing
-pub mod RowStates
+pub mod FusedFilters

@@ -2,9 +2,10 @@
 //! message is told; with a `!`, nothing is taken. `?` takes one answer. A fault is told, and whether it doesn't stay.
 
 use super::tasks::{Task, tell_at_work};
+use pnm_filters::{RowState, RowWise};
 use pnm_image::{Message, SampleSlice, Samples};
 use pnm_test_support::{Unmade, cut_messages, tell_message};
-use pnm_tools::{Filter, RowState, RowWise, Tool, ToolFault};
+use pnm_tools::{Filter, Tool, ToolFault};
 use std::alloc::{AllocError, Global};
 
 /// More messages than a tool gives for one.
@@ -38,7 +39,7 @@ fn start_rows(alloc: Global, tool: &Tool) -> Result<RowState, Unmade> {
     if !tool.is_lawful() || !tool.is_row_wise() {
         return Err(Unmade);
     }
-    match tool.start_rows(alloc) {
+    match pnm_filters::start_rows(alloc, tool) {
         Ok(state) => Ok(state),
         Err(_) => Err(Unmade),
     }

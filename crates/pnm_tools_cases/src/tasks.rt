@@ -1,9 +1,10 @@
 //! Tools at work. One function holds such a tool, since each that does is dear to prove.
 
 use super::{cuts, steps, sweeps};
+use pnm_filters::{ToolState, start_tool};
 use pnm_image::{SampleWidth, Shape};
 use pnm_test_support::Unmade;
-use pnm_tools::{Filter, Tool, ToolState};
+use pnm_tools::{Filter, Tool};
 use std::alloc::Global;
 
 /// What a tool at work is to do.
@@ -43,7 +44,7 @@ fn start(alloc: Global, tool: &Tool) -> Result<ToolState, Unmade> {
     if !tool.is_lawful() {
         return Err(Unmade);
     }
-    match tool.start(alloc) {
+    match start_tool(alloc, tool) {
         Ok(state) => Ok(state),
         Err(_) => Err(Unmade),
     }

@@ -1,6 +1,7 @@
 //! Tools as they are written: `invert`; `cut LEFT RIGHT TOP BOTTOM WIDTH HEIGHT`, where `_` is none; `depth MAXVAL`;
 //! `planes NUMBERS (TUPLE TYPE)`; `enlarge ACROSS DOWN`; `flip WAY`; `tile WIDTH HEIGHT`.
 
+use pnm_filters::result_head;
 use pnm_image::Head;
 use pnm_test_support::{Unmade, cut_at, cut_head, cut_number, cut_word, number_of, tell_head};
 use pnm_tools::{CutBox, FlipWay, Planes, Tool};
@@ -163,7 +164,7 @@ pub fn tell_made_head(
     if !tool.is_lawful() {
         return Err(Unmade);
     }
-    match tool.head(alloc, head) {
+    match result_head(alloc, tool, head) {
         Ok(made) => tell_head(told, &made)?,
         Err(fault) => write!(told, " {fault}")?,
     }

@@ -3,9 +3,10 @@
 //! `scripts/refused.py tests` refuses each allocation of these tests in turn.
 
 use super::tools::{WHOLE, channel, holds, picks, stays};
+use pnm_filters::{ToolState, result_head, start_tool};
 use pnm_image::Message;
 use pnm_test_support::{Part, is_made_of, message};
-use pnm_tools::{CutBox, Filter, FlipWay, Tool, ToolFault, ToolState};
+use pnm_tools::{CutBox, Filter, FlipWay, Tool, ToolFault};
 use std::alloc::Global;
 use std::process::Abort;
 
@@ -191,7 +192,7 @@ fn takes(rt: &impl Abort, state: &mut ToolState, wants: &[Part<'_>], given: &mut
 /// refused.
 fn answers_image(rt: &impl Abort, alloc: Global, tool: &Tool, wants: &[Part<'_>]) -> bool {
     assert!(rt; tool.is_lawful());
-    match tool.start(alloc) {
+    match start_tool(alloc, tool) {
         Ok(mut state) => answers_parts(rt, alloc, &mut state, wants),
         Err(fault) => {
             is_memory(rt, fault);
@@ -232,8 +233,8 @@ fn answers_head(rt: &impl Abort, alloc: Global, tool: &Tool, want: Part<'_>) -> 
     let Ok(Message::Begin(head)) = message(alloc, Part::Pam(3, 2, 2, 4, "A")) else {
         return false;
     };
-    let (answer, refused) = match tool.head(alloc, &head) {
-        Err(ToolFault::Memory) => (tool.head(alloc, &head), true),
+    let (answer, refused) = match result_head(alloc, tool, &head) {
+        Err(ToolFault::Memory) => (result_head(alloc, tool, &head), true),
         answer => (answer, false),
     };
     match answer {

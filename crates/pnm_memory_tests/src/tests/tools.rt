@@ -1,8 +1,9 @@
 //! Tools of the tests, and what is wanted of them.
 
+use pnm_filters::ToolState;
 use pnm_image::Message;
 use pnm_test_support::Unmade;
-use pnm_tools::{CutBox, Filter, Planes, Tool, ToolFault, ToolState};
+use pnm_tools::{CutBox, Filter, Planes, Tool, ToolFault};
 use std::alloc::Global;
 use std::fmt;
 use std::process::Abort;

@@ -1,0 +1,264 @@
+-- Columns that are made side by side.
+use Rattle.std.proofs.Common.{◌≡◌, ℕ, ◌+◌, ◌-◌, ◌*◌, ◌<◌, ◌≤◌, inl, inr, List, [], ◌∷◌, ◌++◌, length, take, drop, get_or, set, map, All, Vec, Global, vec_len}
+use Rattle.std.proofs.Common.{refl, sym, ap, subst, ◌∙◌, arith, mul-le-mul, suc-mul, add-mul}
+use borrow.Rule.Slice.PartMut.{put_mid}
+use Rattle.std.specs.List.{range_with_len}
+use Rattle.std.specs.Vec.{with_items}
+use Rattle.std.proofs.Math.ListN.{length-set}
+use Rattle.std.proofs.Math.Seq.{take-add}
+use Rattle.std.proofs.lemmas.Bool.{cases_eq, cases_lt}
+use Rattle.std.proofs.lemmas.Grind.{get_or-set_at, flat_map-append}
+use Rattle.std.proofs.lemmas.List.{append_assoc, append-nil, length-append, length-drop, length-take-le, length-map, take_all, drop_more, get_or-map}
+use Rattle.std.proofs.lemmas.List.{get_or-set_other, get_or_default, same_lists, with_items_is}
+use Rattle.std.proofs.lemmas.List.Elements.{All-head, All-tail, All-weaker, All-take, All-get_or}
+use Rattle.std.proofs.lemmas.List.FromFn.{get_or-map-range_with_len, length-map-range_with_len}
+use Rattle.std.proofs.lemmas.Slice.{take-put_mid}
+use Rattle.pnm_filters.specs.Columns.{AreBlank, AreLongEnough, HavePixels, column_samples}
+use Rattle.pnm_tools.specs.Flip.{column_of}
+use Rattle.pnm_tools.specs.Pixels.{pixel_of}
+use Rattle.pnm_filters.proofs.EnlargeRowLaws.{pixel_of_one, pixel_of_three}
+
+-- ---- the samples of a column more
+
+-- the next column has got its samples
+pub column_stored : {X : Type 0} (n at m : ℕ) (pixels : ℕ → List X) (old columns : List (Vec X Global)) (v : Vec X Global) (lent stored : List X)
+    → HavePixels n at pixels old columns → n < length columns
+    → lent ≡ (get_or columns n v).items → stored ≡ pixels n → length stored ≡ length (take m (drop at lent)) → at + m ≤ vec_len (get_or columns n v)
+    → HavePixels (n + 1) at pixels old (set columns n (with_items (get_or columns n v) (put_mid at m lent stored)))
+column_stored {X = X} n at m pixels old columns v lent stored h below same is part fits =
+    let w : Vec X Global = get_or columns n v in
+    let ws : List X = put_mid at m lent stored in
+    let long : length lent ≡ w.len = omega (arith, ap length same, w.ok.0) in
+    let size : length stored ≡ m = part ∙ length-take-le m (drop at lent) (omega (arith, length-drop at lent)) in
+    let prefix : length (take at lent) ≡ at = length-take-le at lent (omega arith) in
+    let rest : length (drop m (drop at lent)) ≡ length lent - at - m = omega (arith, length-drop at lent, length-drop m (drop at lent)) in
+    let all : length ws ≡ w.len = omega (arith, length-append (take at lent) (stored ++ drop m (drop at lent)), length-append stored (drop m (drop at lent))) in
+    let new : Vec X Global = with_items w ws in
+    let here : (d : Vec X Global) → w ≡ get_or old n d = λ d. get_or_default columns n v d below ∙ h.others n d (omega arith) in
+    record {
+      many = length-set columns n new ∙ h.many;
+      long = λ k d. elim (cases_eq k n) [
+        | inl e ↦ ap (λ (u : Vec X Global). vec_len u) (get_or-set_at columns n k new d e below) ∙ ap (λ (u : Vec X Global). vec_len u) (here d)
+            ∙ ap (λ (i : ℕ). vec_len (get_or old i d)) (sym e)
+        | inr other ↦ ap (λ (u : Vec X Global). vec_len u) (get_or-set_other columns n k new d other) ∙ h.long k d
+      ];
+      stored = λ k d lt. elim (cases_lt k n) [
+        | inl before ↦ ap (λ (u : Vec X Global). take (at + length (pixels k)) u.items) (get_or-set_other columns n k new d (omega arith)) ∙ h.stored k d before
+        | inr now ↦
+            let e : k ≡ n = omega arith in
+            let samples : stored ≡ pixels k = is ∙ ap pixels (sym e) in
+            ap (λ (u : Vec X Global). take (at + length (pixels k)) u.items) (get_or-set_at columns n k new d e below)
+            ∙ ap (take (at + length (pixels k))) (with_items_is w ws all)
+            ∙ take-put_mid at m lent stored (at + length (pixels k)) (omega (arith, ap length samples)) (omega arith)
+            ∙ ap (λ (l : List X). take at l ++ stored) (same ∙ ap (λ (u : Vec X Global). u.items) (here d ∙ ap (λ (i : ℕ). get_or old i d) (sym e)))
+            ∙ ap (λ (l : List X). take at (get_or old k d).items ++ l) samples
+      ];
+      others = λ k d le. get_or-set_other columns n k new d (omega arith) ∙ h.others k d (omega arith);
+    }
+
+-- no column has got samples yet
+pub none_stored : {X : Type 0} (at : ℕ) (pixels : ℕ → List X) (old : List (Vec X Global)) → HavePixels 0 at pixels old old
+none_stored at pixels old = record { many = refl; long = λ k d. refl; stored = λ k d lt. absurd (omega arith); others = λ k d le. refl }
+
+-- ---- four rows
+
+-- rows that reach behind all of so many columns
+pub reach : {X : Type 0} (depth first count k : ℕ) (rows : List (List X)) → k < count → All (λ row. (first + count) * depth ≤ length row) rows
+    → All (λ row. ((first + k) + 1) * depth ≤ length row) rows
+reach {X = X} depth first count k rows lt long =
+    let within : ((first + k) + 1) * depth ≤ (first + count) * depth = mul-le-mul {n₁ = (first + k) + 1} {m₁ = depth} {n₂ = first + count} {m₂ = depth}
+    (omega arith) (omega arith) in
+    All-weaker (λ (row : List X). (first + count) * depth ≤ length row) (λ (row : List X). ((first + k) + 1) * depth ≤ length row)
+    (λ row le. omega (arith, within)) rows long
+
+-- a row that was looked up
+pub looked_up : {X : Type 0} (rows : List (List X)) (i : ℕ) (a row : List X) → a ≡ row → row ≡ get_or rows i row → a ≡ get_or rows i a
+looked_up {X = X} rows i a row same is = subst (λ (r : List X). r ≡ get_or rows i r) (sym same) is
+
+-- the pixels of four rows
+pixels_of_four : {X : Type 0} (depth x : ℕ) (rows : List (List X)) (a b c d : List X) → length rows ≡ 4 → a ≡ get_or rows 0 a → b ≡ get_or rows 1 b
+    → c ≡ get_or rows 2 c → d ≡ get_or rows 3 d
+    → pixel_of depth a x ++ (pixel_of depth b x ++ (pixel_of depth c x ++ (pixel_of depth d x ++ []))) ≡ column_of depth rows x
+pixels_of_four depth x [] a b c d four ia ib ic id = absurd (omega arith)
+pixels_of_four depth x (p ∷ []) a b c d four ia ib ic id = absurd (omega arith)
+pixels_of_four depth x (p ∷ q ∷ []) a b c d four ia ib ic id = absurd (omega arith)
+pixels_of_four depth x (p ∷ q ∷ r ∷ []) a b c d four ia ib ic id = absurd (omega arith)
+pixels_of_four {X = X} depth x (p ∷ q ∷ r ∷ s ∷ []) a b c d four ia ib ic id =
+    ap (λ (l : List X). pixel_of depth l x ++ (pixel_of depth b x ++ (pixel_of depth c x ++ (pixel_of depth d x ++ [])))) ia
+    ∙ ap (λ (l : List X). pixel_of depth p x ++ (pixel_of depth l x ++ (pixel_of depth c x ++ (pixel_of depth d x ++ [])))) ib
+    ∙ ap (λ (l : List X). pixel_of depth p x ++ (pixel_of depth q x ++ (pixel_of depth l x ++ (pixel_of depth d x ++ [])))) ic
+    ∙ ap (λ (l : List X). pixel_of depth p x ++ (pixel_of depth q x ++ (pixel_of depth r x ++ (pixel_of depth l x ++ [])))) id
+pixels_of_four depth x (p ∷ q ∷ r ∷ s ∷ t ∷ rows) a b c d four ia ib ic id = absurd (omega arith)
+
+-- how far a row of them reaches
+reaches : {X : Type 0} (depth x i : ℕ) (rows : List (List X)) (a : List X) → i < length rows → a ≡ get_or rows i a
+    → All (λ row. (x + 1) * depth ≤ length row) rows → (x + 1) * depth ≤ length a
+reaches {X = X} depth x i rows a lt is long =
+    subst (λ (row : List X). (x + 1) * depth ≤ length row) (sym is) (All-get_or (λ (row : List X). (x + 1) * depth ≤ length row) rows i a lt long)
+
+-- pixels of one sample
+pub four_samples : {X : Type 0} (x : ℕ) (rows : List (List X)) (a b c d : List X) (va vb vc vd : X) → length rows ≡ 4
+    → All (λ row. (x + 1) * 1 ≤ length row) rows
+    → a ≡ get_or rows 0 a → b ≡ get_or rows 1 b → c ≡ get_or rows 2 c → d ≡ get_or rows 3 d
+    → va ≡ get_or a x va → vb ≡ get_or b x vb → vc ≡ get_or c x vc → vd ≡ get_or d x vd → va ∷ vb ∷ vc ∷ vd ∷ [] ≡ column_of 1 rows x
+four_samples {X = X} x rows a b c d va vb vc vd four long ia ib ic id ea eb ec ed =
+    let pa : pixel_of 1 a x ≡ va ∷ [] = pixel_of_one a x va (omega (arith, reaches 1 x 0 rows a (omega arith) ia long)) ea in
+    let pb : pixel_of 1 b x ≡ vb ∷ [] = pixel_of_one b x vb (omega (arith, reaches 1 x 1 rows b (omega arith) ib long)) eb in
+    let pc : pixel_of 1 c x ≡ vc ∷ [] = pixel_of_one c x vc (omega (arith, reaches 1 x 2 rows c (omega arith) ic long)) ec in
+    let pd : pixel_of 1 d x ≡ vd ∷ [] = pixel_of_one d x vd (omega (arith, reaches 1 x 3 rows d (omega arith) id long)) ed in
+    sym (ap (λ (l : List X). l ++ (pixel_of 1 b x ++ (pixel_of 1 c x ++ (pixel_of 1 d x ++ [])))) pa
+    ∙ ap (λ (l : List X). va ∷ (l ++ (pixel_of 1 c x ++ (pixel_of 1 d x ++ [])))) pb
+    ∙ ap (λ (l : List X). va ∷ vb ∷ (l ++ (pixel_of 1 d x ++ []))) pc ∙ ap (λ (l : List X). va ∷ vb ∷ vc ∷ (l ++ [])) pd)
+    ∙ pixels_of_four 1 x rows a b c d four ia ib ic id
+
+-- pixels of three samples
+pub four_colors : {X : Type 0} (x : ℕ) (rows : List (List X)) (a b c d : List X) (a₀ a₁ a₂ b₀ b₁ b₂ c₀ c₁ c₂ d₀ d₁ d₂ : X) → length rows ≡ 4
+    → All (λ row. (x + 1) * 3 ≤ length row) rows
+    → a ≡ get_or rows 0 a → b ≡ get_or rows 1 b → c ≡ get_or rows 2 c → d ≡ get_or rows 3 d
+    → a₀ ≡ get_or a (3 * x) a₀ → a₁ ≡ get_or a (3 * x + 1) a₁ → a₂ ≡ get_or a (3 * x + 2) a₂ → b₀ ≡ get_or b (3 * x) b₀ → b₁ ≡ get_or b (3 * x + 1) b₁
+    → b₂ ≡ get_or b (3 * x + 2) b₂
+    → c₀ ≡ get_or c (3 * x) c₀ → c₁ ≡ get_or c (3 * x + 1) c₁ → c₂ ≡ get_or c (3 * x + 2) c₂ → d₀ ≡ get_or d (3 * x) d₀ → d₁ ≡ get_or d (3 * x + 1) d₁
+    → d₂ ≡ get_or d (3 * x + 2) d₂
+    → a₀ ∷ a₁ ∷ a₂ ∷ b₀ ∷ b₁ ∷ b₂ ∷ c₀ ∷ c₁ ∷ c₂ ∷ d₀ ∷ d₁ ∷ d₂ ∷ [] ≡ column_of 3 rows x
+four_colors {X = X} x rows a b c d a₀ a₁ a₂ b₀ b₁ b₂ c₀ c₁ c₂ d₀ d₁ d₂ four long ia ib ic id ea₀ ea₁ ea₂ eb₀ eb₁ eb₂ ec₀ ec₁ ec₂ ed₀ ed₁ ed₂ =
+    let pa : pixel_of 3 a x ≡ a₀ ∷ a₁ ∷ a₂ ∷ [] = pixel_of_three a x a₀ a₁ a₂ (omega (arith, reaches 3 x 0 rows a (omega arith) ia long)) ea₀ ea₁ ea₂ in
+    let pb : pixel_of 3 b x ≡ b₀ ∷ b₁ ∷ b₂ ∷ [] = pixel_of_three b x b₀ b₁ b₂ (omega (arith, reaches 3 x 1 rows b (omega arith) ib long)) eb₀ eb₁ eb₂ in
+    let pc : pixel_of 3 c x ≡ c₀ ∷ c₁ ∷ c₂ ∷ [] = pixel_of_three c x c₀ c₁ c₂ (omega (arith, reaches 3 x 2 rows c (omega arith) ic long)) ec₀ ec₁ ec₂ in
+    let pd : pixel_of 3 d x ≡ d₀ ∷ d₁ ∷ d₂ ∷ [] = pixel_of_three d x d₀ d₁ d₂ (omega (arith, reaches 3 x 3 rows d (omega arith) id long)) ed₀ ed₁ ed₂ in
+    sym (ap (λ (l : List X). l ++ (pixel_of 3 b x ++ (pixel_of 3 c x ++ (pixel_of 3 d x ++ [])))) pa
+    ∙ ap (λ (l : List X). a₀ ∷ a₁ ∷ a₂ ∷ (l ++ (pixel_of 3 c x ++ (pixel_of 3 d x ++ [])))) pb
+    ∙ ap (λ (l : List X). a₀ ∷ a₁ ∷ a₂ ∷ b₀ ∷ b₁ ∷ b₂ ∷ (l ++ (pixel_of 3 d x ++ []))) pc
+    ∙ ap (λ (l : List X). a₀ ∷ a₁ ∷ a₂ ∷ b₀ ∷ b₁ ∷ b₂ ∷ c₀ ∷ c₁ ∷ c₂ ∷ (l ++ [])) pd)
+    ∙ pixels_of_four 3 x rows a b c d four ia ib ic id
+
+-- ---- rows more
+
+-- a column of rows that reach so far
+pub length_of_column : {X : Type 0} (depth : ℕ) (rows : List (List X)) (x : ℕ) → All (λ row. (x + 1) * depth ≤ length row) rows
+    → length (column_of depth rows x) ≡ length rows * depth
+length_of_column depth [] x long = omega arith
+length_of_column {X = X} depth (row ∷ rows) x long =
+    let Reaches : List X → Type 0 = λ row. (x + 1) * depth ≤ length row in
+    let here : (x + 1) * depth ≤ length row = All-head Reaches row rows long in
+    let pixel : length (pixel_of depth row x) ≡ depth =
+    length-take-le depth (drop (x * depth) row) (omega (arith, length-drop (x * depth) row, add-mul x 1 depth)) in
+    omega (
+      arith,
+      length-append (pixel_of depth row x) (column_of depth rows x),
+      pixel,
+      length_of_column depth rows x (All-tail Reaches row rows long),
+      suc-mul (length rows) depth,
+    )
+
+-- samples that another function tells alike
+pub pixels_alike : {X : Type 0} (count at : ℕ) (f g : ℕ → List X) (old new : List (Vec X Global)) → ((k : ℕ) → f k ≡ g k) → HavePixels count at f old new
+    → HavePixels count at g old new
+pixels_alike {X = X} count at f g old new same h = record {
+  many = h.many;
+  long = h.long;
+  stored = λ k d lt. subst (λ (l : List X). take (at + length l) (get_or new k d).items ≡ take at (get_or old k d).items ++ l) (same k) (h.stored k d lt);
+  others = h.others;
+}
+
+-- pixels behind those that were stored before
+pub pixels_behind : {X : Type 0} (count at m : ℕ) (f g both : ℕ → List X) (old columns new : List (Vec X Global)) → ((k : ℕ) → k < count → length (f k) ≡ m)
+    → ((k : ℕ) → k < count → both k ≡ f k ++ g k)
+    → HavePixels count at f old columns → HavePixels count (at + m) g columns new → HavePixels count at both old new
+pixels_behind {X = X} count at m f g both old columns new size parts a b = record {
+  many = b.many ∙ a.many;
+  long = λ k d. b.long k d ∙ a.long k d;
+  stored = λ k d lt.
+      let place : at + length (both k) ≡ (at + m) + length (g k) = omega (arith, ap length (parts k lt), length-append (f k) (g k), size k lt) in
+      let before : at + m ≡ at + length (f k) = omega (arith, size k lt) in
+      ap (λ (n : ℕ). take n (get_or new k d).items) place ∙ b.stored k d lt
+      ∙ ap (λ (n : ℕ). take n (get_or columns k d).items ++ g k) before ∙ ap (λ (l : List X). l ++ g k) (a.stored k d lt)
+      ∙ append_assoc (take at (get_or old k d).items) (f k) (g k) ∙ ap (λ (l : List X). take at (get_or old k d).items ++ l) (sym (parts k lt));
+  others = λ k d le. b.others k d le ∙ a.others k d le;
+}
+
+-- rows behind those before them
+pub rows_behind : {X : Type 0} (first depth n m at : ℕ) (rows : List (List X)) (old columns new : List (Vec X Global)) → n + m ≤ length rows
+    → All (λ row. (first + length old) * depth ≤ length row) rows
+    → HavePixels (length old) at (λ k. column_of depth (take n rows) (first + k)) old columns
+    → HavePixels (length columns) (at + n * depth) (λ k. column_of depth (take m (drop n rows)) (first + k)) columns new
+    → HavePixels (length old) at (λ k. column_of depth (take (n + m) rows) (first + k)) old new
+rows_behind {X = X} first depth n m at rows old columns new le long before behind =
+    let count : ℕ = length old in
+    let passed : length (take n rows) ≡ n = length-take-le n rows (omega arith) in
+    pixels_behind count at (n * depth) (λ k. column_of depth (take n rows) (first + k)) (λ k. column_of depth (take m (drop n rows)) (first + k))
+    (λ k. column_of depth (take (n + m) rows) (first + k)) old columns new
+    (λ k below.
+    length_of_column depth (take n rows) (first + k)
+    (reach depth first count k (take n rows) below (All-take (λ (row : List X). (first + count) * depth ≤ length row) n rows long))
+    ∙ ap (λ (i : ℕ). i * depth) passed)
+    (λ k below.
+    ap (λ (l : List (List X)). column_of depth l (first + k)) (take-add n m rows)
+    ∙ flat_map-append (λ (row : List X). pixel_of depth row (first + k)) (take n rows) (take m (drop n rows)))
+    before
+    (subst (λ (i : ℕ). HavePixels i (at + n * depth) (λ k. column_of depth (take m (drop n rows)) (first + k)) columns new) before.many behind)
+
+-- four rows more
+pub four_behind : {X : Type 0} (first depth g m at : ℕ) (rows : List (List X)) (old columns new : List (Vec X Global)) → 4 * g + 4 ≤ length rows → m ≡ 4
+    → All (λ row. (first + length old) * depth ≤ length row) rows
+    → HavePixels (length old) at (λ k. column_of depth (take (4 * g) rows) (first + k)) old columns
+    → HavePixels (length columns) (at + 4 * g * depth) (λ k. column_of depth (take m (drop (4 * g) rows)) (first + k)) columns new
+    → HavePixels (length old) at (λ k. column_of depth (take (4 * (g + 1)) rows) (first + k)) old new
+four_behind {X = X} first depth g m at rows old columns new le four long before behind =
+    let next : 4 * g + m ≡ 4 * (g + 1) = omega arith in
+    subst (λ (n : ℕ). HavePixels (length old) at (λ k. column_of depth (take n rows) (first + k)) old new) next
+    (rows_behind first depth (4 * g) m at rows old columns new (omega arith) long before behind)
+
+-- a row behind those before it
+pub row_behind : {X : Type 0} (first depth n at : ℕ) (rows : List (List X)) (row : List X) (old columns new : List (Vec X Global)) → n < length rows
+    → row ≡ get_or rows n row → All (λ row. (first + length old) * depth ≤ length row) rows
+    → HavePixels (length old) at (λ k. column_of depth (take n rows) (first + k)) old columns
+    → HavePixels (length columns) (at + n * depth) (λ k. pixel_of depth row (first + k)) columns new
+    → HavePixels (length old) at (λ k. column_of depth (take (n + 1) rows) (first + k)) old new
+row_behind {X = X} first depth n at rows row old columns new lt is long before behind =
+    let one : take 1 (drop n rows) ≡ row ∷ [] = ap (take 1) (drop_more rows n row lt) ∙ ap (λ (r : List X). r ∷ []) (sym is) in
+    rows_behind first depth n 1 at rows old columns new (omega arith) long before
+    (subst (λ (l : List (List X)). HavePixels (length columns) (at + n * depth) (λ k. column_of depth l (first + k)) columns new) (sym one)
+    (pixels_alike (length columns) (at + n * depth) (λ k. pixel_of depth row (first + k)) (λ k. column_of depth (row ∷ []) (first + k)) columns new
+    (λ k. sym (append-nil (pixel_of depth row (first + k)))) behind))
+
+-- once all rows have passed
+pub all_behind : {X : Type 0} (first depth n at count : ℕ) (rows : List (List X)) (old new : List (Vec X Global)) → length rows ≤ n
+    → HavePixels count at (λ k. column_of depth (take n rows) (first + k)) old new
+    → HavePixels count at (λ k. column_of depth rows (first + k)) old new
+all_behind {X = X} first depth n at count rows old new le h = subst (λ (l : List (List X)). HavePixels count at (λ k. column_of depth l (first + k)) old new)
+    (take_all n rows le) h
+
+-- ---- all columns
+
+-- places within all samples
+pub within : (y m rows depth : ℕ) → y + m ≤ rows → y * depth + m * depth ≤ rows * depth
+within y m rows depth le = omega (arith, add-mul y m depth, mul-le-mul {n₁ = y + m} {m₁ = depth} {n₂ = rows} {m₂ = depth} le (omega arith))
+
+-- there is still room behind what was stored
+pub room_left : {X : Type 0} (count at least most : ℕ) (pixels : ℕ → List X) (old columns : List (Vec X Global)) → least ≤ most → AreLongEnough most old
+    → HavePixels count at pixels old columns → AreLongEnough least columns
+room_left count at least most pixels old columns le buffer h k d lt = omega (arith, le, buffer k d (omega (arith, h.many)), h.long k d)
+
+-- blank columns that were filled, number by number
+filled_by_number : {X : Type 0} (count first samples : ℕ) (f : ℕ → List X) (old new : List (Vec X Global)) (v : Vec X Global) → AreBlank count samples old
+    → HavePixels count 0 (λ k. f (first + k)) old new
+    → ((k : ℕ) → k < count → length (f (first + k)) ≡ samples) → column_samples new ≡ map f (range_with_len first count)
+filled_by_number {X = X} count first samples f old new v blank h long =
+    same_lists (column_samples new) (map f (range_with_len first count)) (length-map new (λ (v : Vec X Global). v.items) ∙ h.many ∙ blank.many
+    ∙ sym (length-map-range_with_len f first count))
+    (λ k e lt.
+    let inside : k < count = omega (arith, length-map new (λ (v : Vec X Global). v.items), h.many, blank.many) in
+    let w : Vec X Global = get_or new k v in
+    let whole : take (length (f (first + k))) w.items ≡ w.items =
+    take_all (length (f (first + k))) w.items (omega (arith, long k inside, h.long k v, blank.long k v inside, w.ok.0)) in
+    let prefix : length (f (first + k)) ≡ 0 + length (f (first + k)) = omega arith in
+    get_or-map (λ (v : Vec X Global). v.items) new k v e (omega (arith, h.many, blank.many)) ∙ sym whole ∙ ap (λ (n : ℕ). take n w.items) prefix
+    ∙ h.stored k v inside
+    ∙ sym (get_or-map-range_with_len f first count k (first + k) e inside refl))
+
+-- blank columns that were filled
+pub columns_filled : {X : Type 0} (count first samples : ℕ) (f : ℕ → List X) (old new : List (Vec X Global)) → AreBlank count samples old
+    → HavePixels count 0 (λ k. f (first + k)) old new
+    → ((k : ℕ) → k < count → length (f (first + k)) ≡ samples) → column_samples new ≡ map f (range_with_len first count)
+columns_filled count first samples f old [] blank h long = let none : 0 ≡ count = h.many ∙ blank.many in ap (λ (n : ℕ). map f (range_with_len first n)) none
+columns_filled count first samples f old (column ∷ new) blank h long = filled_by_number count first samples f old (column ∷ new) column blank h long

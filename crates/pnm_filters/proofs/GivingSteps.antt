@@ -1,0 +1,194 @@
+-- How a tool at work gives what waits.
+use Rattle.std.proofs.Common.{◌≡◌, inl, inr, ℕ, true, List, [], ◌∷◌, ◌++◌, map, refl, sym, ap, subst, ◌∙◌, append_assoc, Option, Some, None}
+use Rattle.std.specs.Prelude.{IfSome, IfNone}
+use Rattle.std.proofs.lemmas.List.{same_from_push}
+use Rattle.pnm_image.specs.declared.shape.Shape.{Shape}
+use Rattle.pnm_image.specs.declared.message.Message.{Message}
+use Rattle.pnm_image.specs.declared.message.Message.TheVariants.{Begin, Row, ImageEnd, StreamEnd, Stop}
+use Rattle.pnm_image.specs.declared.place.Place.{Place}
+use Rattle.pnm_image.specs.declared.place.Place.TheVariants.{Between, Inside, After}
+use Rattle.pnm_image.specs.Places.{IsLawfulFrom, place_after, place_of}
+use Rattle.pnm_image.proofs.Places.{place_of-append}
+use Rattle.pnm_tools.specs.declared.fault.ToolFault.{ToolFault}
+use Rattle.pnm_filters.specs.Pendings.{Pending, AllGiven, Waiting, Rows, RowsAndEnd, Nothing}
+use Rattle.pnm_tools.specs.declared.tool.Tool.{Tool}
+use Rattle.pnm_image.specs.declared.message.Ending.TheVariants.{More, BrokenOff}
+use Rattle.pnm_image.specs.Messages.{EndsBy}
+use Rattle.pnm_tools.specs.Answers.{AnswersInFull}
+use Rattle.pnm_tools.specs.Answering.{answers_from, rows_come}
+use Rattle.pnm_filters.specs.States.{Standing, standing, IsAt, IsReadyFor, KeepsNone, is_all_given, waiting_in}
+use Rattle.pnm_tools.specs.Answering.{IsAnswering}
+use Rattle.pnm_filters.specs.Steps.{IsGiven, GivesRows}
+use Rattle.pnm_tools.proofs.AtLaws.{StopsLast, lawful_stops, not_broken, answering_answers}
+use Rattle.pnm_tools.proofs.FullLaws.{answering_in_full}
+use Rattle.pnm_tools.proofs.InFullLaws.{answers_end_so}
+use Rattle.pnm_tools.proofs.AnsweringLaws.{answers_from-append}
+use Rattle.pnm_tools.proofs.ToolLaws.{tool_answers_images}
+
+-- the image's end is given, after which no rows are kept
+none_inside : {W : Type 0} (ready_for : W → Shape → List (List ℕ) → Type 0) (kept : W → List (List ℕ)) (old new : W) (place : Place) (rows : List (List ℕ))
+    → KeepsNone kept old place RowsAndEnd → IsReadyFor ready_for old place rows → IsReadyFor ready_for new place rows
+none_inside ready_for kept old new Between rows none r = r
+none_inside ready_for kept old new (Inside s y) rows none r = absurd none
+none_inside ready_for kept old new After rows none r = r
+
+none_kept : {W : Type 0} (kept : W → List (List ℕ)) (old new : W) (place : Place) → kept new ≡ [] → KeepsNone kept old place RowsAndEnd
+    → KeepsNone kept new place Nothing
+none_kept kept old new Between gone none = gone
+none_kept kept old new (Inside s y) gone none = tt
+none_kept kept old new After gone none = gone
+
+pub ended : {W : Type 0} (tool_at : W → Tool) (ready_for : W → Shape → List (List ℕ) → Type 0) (due kept : W → List (List ℕ)) (old new : W) (before : Pending)
+    → before ≡ RowsAndEnd → due old ≡ [] → tool_at new ≡ tool_at old → kept new ≡ []
+    → IsGiven tool_at ready_for due kept old before new Nothing (Some ImageEnd)
+ended tool_at ready_for due kept old new before ending none same gone = record {
+  waits = ap (λ (p : Pending). waiting_in p (due old)) ending ∙ ap (λ (rows : List (List ℕ)). map Row rows ++ ImageEnd ∷ []) none;
+  told = (ap is_all_given ending, refl);
+  tool = same;
+  ready = λ place rows keeps r. none_inside ready_for kept old new place rows (subst (KeepsNone kept old place) ending keeps) r;
+  none = λ place keeps. none_kept kept old new place gone (subst (KeepsNone kept old place) ending keeps);
+}
+
+-- the first of the messages that waited is given
+pub gave : {W : Type 0} (tool_at : W → Tool) (ready_for : W → Shape → List (List ℕ) → Type 0) (due kept : W → List (List ℕ)) (old : Standing W) (new : W)
+    (after : Pending) (fault : Option ToolFault) (m : Message) (t : Tool) (l g : List Message)
+    → IsAt tool_at ready_for due kept old t l g → IsGiven tool_at ready_for due kept old.work old.pending new after (Some m)
+    → IsAt tool_at ready_for due kept (standing new old.place after fault) t l (g ++ m ∷ [])
+gave tool_at ready_for due kept old new after fault m t l g at gives =
+    let rest : List Message = waiting_in after (due new) in
+    let waits : IsAnswering t l (g ++ m ∷ []) rest = record {
+      lawful = at.answering.lawful;
+      taken = at.answering.taken;
+      given = at.answering.given ∙ ap (λ (x : List Message). g ++ x) gives.waits ∙ sym (append_assoc g (m ∷ []) rest);
+    } in
+    record {
+      tool = gives.tool ∙ at.tool;
+      options = at.options;
+      answering = waits;
+      place = at.place;
+      ready = gives.ready old.place (rows_come [] l) at.none at.ready;
+      none = gives.none old.place at.none;
+      answers = answering_answers t l (g ++ m ∷ []) rest (tool_answers_images t at.options) waits;
+    }
+
+-- none waited
+pub gave_all : {W : Type 0} (tool_at : W → Tool) (ready_for : W → Shape → List (List ℕ) → Type 0) (due kept : W → List (List ℕ)) (old : Standing W) (new : W)
+    (after : Pending) (fault : Option ToolFault) (t : Tool) (l g : List Message)
+    → IsAt tool_at ready_for due kept old t l g → IsGiven tool_at ready_for due kept old.work old.pending new after None
+    → IsAt tool_at ready_for due kept (standing new old.place after fault) t l g × AnswersInFull t l g
+gave_all tool_at ready_for due kept old new after fault t l g at gives =
+    let none : waiting_in after (due new) ≡ [] = ap (λ (p : Pending). waiting_in p (due new)) gives.told in
+    let all : IsAnswering t l g [] = subst (IsAnswering t l g) (gives.waits ∙ none) at.answering in (
+      record {
+        tool = gives.tool ∙ at.tool;
+        options = at.options;
+        answering = subst (IsAnswering t l g) gives.waits at.answering;
+        place = at.place;
+        ready = gives.ready old.place (rows_come [] l) at.none at.ready;
+        none = gives.none old.place at.none;
+        answers = at.answers;
+      },
+      answering_in_full t l g (tool_answers_images t at.options) all,
+    )
+
+-- ---- Stop alone
+
+-- what is broken off ends in Stop, and so does its answer
+stop_waits : (t : Tool) (l g : List Message) (m : Message) → IsAnswering t l g (m ∷ []) → StopsLast l → EndsBy BrokenOff l → m ≡ Stop
+stop_waits t l g m a (inl on) ends = absurd (not_broken l on ends)
+stop_waits t l g m a (inr h) ends =
+    sym (same_from_push (answers_from t Between [] h.0) g Stop m (sym (ap (answers_from t Between []) h.1 ∙ answers_from-append t Between [] h.0 (Stop ∷ []))
+    ∙ a.given)).1
+
+-- it has come to its end
+stopped_after : (l : List Message) → StopsLast l → EndsBy BrokenOff l → place_of Between l ≡ After
+stopped_after l (inl on) ends = absurd (not_broken l on ends)
+stopped_after l (inr h) ends = ap (place_of Between) h.1 ∙ place_of-append Between h.0 (Stop ∷ [])
+
+-- rows are given within the stream
+no_rows_after : {W : Type 0} (kept : W → List (List ℕ)) (work : W) (place : Place) (pending : Pending) → GivesRows pending → KeepsNone kept work place pending
+    → place ≡ After → ⊥
+no_rows_after kept work Between pending gives none e = cc
+no_rows_after kept work (Inside s y) pending gives none e = cc
+no_rows_after kept work After AllGiven gives none e = gives
+no_rows_after kept work After (Waiting message) gives none e = gives
+no_rows_after kept work After Rows gives none e = none
+no_rows_after kept work After RowsAndEnd gives none e = none
+no_rows_after kept work After Nothing gives none e = gives
+
+alone : (before : Pending) (due : List (List ℕ)) (m : Message) (rest : List Message) → waiting_in before due ≡ m ∷ rest → (GivesRows before → ⊥)
+    → waiting_in before due ≡ m ∷ []
+alone AllGiven due m rest e none = absurd cc
+alone (Waiting message) due m rest e none = ap (λ (x : Message). x ∷ []) cc
+alone Rows due m rest e none = absurd (none tt)
+alone RowsAndEnd due m rest e none = absurd (none tt)
+alone Nothing due m rest e none = absurd cc
+
+pub gave_stop : {W : Type 0} (tool_at : W → Tool) (ready_for : W → Shape → List (List ℕ) → Type 0) (due kept : W → List (List ℕ)) (old : Standing W) (new : W)
+    (after : Pending) (m : Message) (t : Tool) (l g : List Message)
+    → IsAt tool_at ready_for due kept old t l g → IsGiven tool_at ready_for due kept old.work old.pending new after (Some m) → EndsBy BrokenOff l → m ≡ Stop
+gave_stop tool_at ready_for due kept old new after m t l g at gives ends =
+    let stops = lawful_stops Between l at.answering.lawful in
+    let last = alone old.pending (due old.work) m (waiting_in after (due new)) gives.waits
+    (λ rows. no_rows_after kept old.work old.place old.pending rows at.none (at.place ∙ stopped_after l stops ends)) in
+    stop_waits t l g m (subst (IsAnswering t l g) last at.answering) stops ends
+
+-- ---- whether one waits or none
+
+pub given_by : {W : Type 0} (tool_at : W → Tool) (ready_for : W → Shape → List (List ℕ) → Type 0) (due kept : W → List (List ℕ)) (old : Standing W) (new : W)
+    (after : Pending) (fault : Option ToolFault) (given : Option Message)
+    → IsGiven tool_at ready_for due kept old.work old.pending new after given
+    → IfSome given (λ m. (t : Tool) (l g : List Message) → IsAt tool_at ready_for due kept old t l g
+    → IsAt tool_at ready_for due kept (standing new old.place after fault) t l (g ++ m ∷ []))
+given_by tool_at ready_for due kept old new after fault None gives = tt
+given_by tool_at ready_for due kept old new after fault (Some m) gives = λ t l g at. gave tool_at ready_for due kept old new after fault m t l g at gives
+
+pub stop_alone_by : {W : Type 0} (tool_at : W → Tool) (ready_for : W → Shape → List (List ℕ) → Type 0) (due kept : W → List (List ℕ)) (old : Standing W)
+    (new : W) (after : Pending) (given : Option Message)
+    → IsGiven tool_at ready_for due kept old.work old.pending new after given
+    → IfSome given (λ m. (t : Tool) (l g : List Message) → IsAt tool_at ready_for due kept old t l g → EndsBy BrokenOff l → m ≡ Stop)
+stop_alone_by tool_at ready_for due kept old new after None gives = tt
+stop_alone_by tool_at ready_for due kept old new after (Some m) gives = λ t l g at ends. gave_stop tool_at ready_for due kept old new after m t l g at gives
+    ends
+
+pub full_by : {W : Type 0} (tool_at : W → Tool) (ready_for : W → Shape → List (List ℕ) → Type 0) (due kept : W → List (List ℕ)) (old : Standing W) (new : W)
+    (after : Pending) (fault : Option ToolFault) (given : Option Message)
+    → IsGiven tool_at ready_for due kept old.work old.pending new after given
+    → IfNone given
+    ((is_all_given after ≡ true)
+    × ((t : Tool) (l g : List Message) → IsAt tool_at ready_for due kept old t l g
+    → IsAt tool_at ready_for due kept (standing new old.place after fault) t l g × AnswersInFull t l g))
+full_by tool_at ready_for due kept old new after fault None gives =
+    (ap is_all_given gives.told, λ t l g at. gave_all tool_at ready_for due kept old new after fault t l g at gives)
+full_by tool_at ready_for due kept old new after fault (Some m) gives = tt
+
+-- ---- want of memory
+
+-- a lawful list that hasn't come to its end goes on
+more_of_place : (place : Place) (l : List Message) → IsLawfulFrom place l → (place_of place l ≡ After → ⊥) → EndsBy More l
+more_of_place place [] h not = refl
+more_of_place place (Begin head ∷ []) h not = refl
+more_of_place place (Row row ∷ []) h not = refl
+more_of_place place (ImageEnd ∷ []) h not = refl
+more_of_place place (StreamEnd ∷ []) h not = absurd (not refl)
+more_of_place place (Stop ∷ []) h not = absurd (not refl)
+more_of_place place (Begin head ∷ n ∷ l) h not = (refl, more_of_place (place_after place (Begin head)) (n ∷ l) h.1 not)
+more_of_place place (Row row ∷ n ∷ l) h not = (refl, more_of_place (place_after place (Row row)) (n ∷ l) h.1 not)
+more_of_place place (ImageEnd ∷ n ∷ l) h not = (refl, more_of_place (place_after place ImageEnd) (n ∷ l) h.1 not)
+more_of_place place (StreamEnd ∷ n ∷ l) h not = absurd h.1.0
+more_of_place place (Stop ∷ n ∷ l) h not = absurd h.1.0
+
+-- so does each prefix of what goes on
+more_of_prefix : (a b : List Message) → EndsBy More (a ++ b) → EndsBy More a
+more_of_prefix [] b e = refl
+more_of_prefix (m ∷ []) [] e = e
+more_of_prefix (m ∷ []) (n ∷ b) e = e.0
+more_of_prefix (m ∷ n ∷ a) b e = (e.0, more_of_prefix (n ∷ a) b e.1)
+
+pub wanted_memory : {W : Type 0} (tool_at : W → Tool) (ready_for : W → Shape → List (List ℕ) → Type 0) (due kept : W → List (List ℕ)) (old : Standing W)
+    (t : Tool) (l g : List Message)
+    → IsAt tool_at ready_for due kept old t l g → GivesRows old.pending → EndsBy More g
+wanted_memory tool_at ready_for due kept old t l g at rows =
+    let goes : EndsBy More l =
+    more_of_place Between l at.answering.lawful (λ e. no_rows_after kept old.work old.place old.pending rows at.none (at.place ∙ e)) in
+    more_of_prefix g (waiting_in old.pending (due old.work)) (subst (EndsBy More) at.answering.given (answers_end_so t Between [] l More goes))

@@ -1,0 +1,16 @@
+pub mod SizeLaws
+pub mod FlipRowLaws
+pub mod ColumnLaws
+pub mod StripLaws
+pub mod TransposeLaws
+pub mod BitColumnLaws
+pub mod EnlargeRowLaws
+pub mod CopyLaws
+pub mod DepthRowLaws
+pub mod ValueLaws
+pub mod StateSteps
+pub mod GivingSteps
+pub mod TileRowLaws
+pub mod RepeatedBitLaws
+pub mod RowStateSteps
+pub mod StartSteps

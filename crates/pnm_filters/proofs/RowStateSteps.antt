@@ -1,0 +1,56 @@
+-- A row-wise tool at work in a lane takes and gives messages as the tool does.
+use Rattle.std.proofs.Common.{◌≡◌, Bool, true, List, [], ◌∷◌, ◌++◌, Option, Some, None, Result, Ok, Err, OnOk, IfOk, IfSome, IfNone}
+use Rattle.pnm_image.specs.declared.message.Message.{Message}
+use Rattle.pnm_tools.specs.declared.fault.ToolFault.{ToolFault}
+use Rattle.pnm_filters.specs.declared.row_state.RowState.{RowState}
+use Rattle.pnm_tools.specs.declared.tool.Tool.{Tool}
+use Rattle.pnm_filters.specs.declared.any_tool.AnyTool.{AnyTool}
+use Rattle.pnm_image.specs.declared.message.Ending.TheVariants.{BrokenOff}
+use Rattle.pnm_image.specs.Messages.{EndsBy}
+use Rattle.pnm_tools.specs.Answers.{AnswersInFull}
+use Rattle.pnm_filters.specs.RowStates.{IsRowWiseAt}
+use Rattle.pnm_filters.specs.States.{Standing, IsToolAt, is_all_given}
+
+abbrev pub lane_of : Standing AnyTool → RowState
+lane_of s = record { state = s }
+
+-- a message was taken
+pub lane_takes : (r : Result (Unit {0}) ToolFault) (old new : Standing AnyTool) (m : Message)
+    → OnOk r ((t : Tool) (l g : List Message) → IsToolAt old t l g → IsToolAt new t (l ++ m ∷ []) g)
+    → OnOk r ((t : Tool) (l g : List Message) → IsRowWiseAt (lane_of old) t l g → IsRowWiseAt (lane_of new) t (l ++ m ∷ []) g)
+lane_takes (Ok done) old new m takes = λ t l g at. record { state = takes t l g at.state; row_wise = at.row_wise }
+lane_takes (Err fault) old new m takes = takes
+
+-- a message was given
+pub lane_gives : (r : Result (Option Message) ToolFault) (old new : Standing AnyTool)
+    → IfOk r (λ o. IfSome o (λ m. (t : Tool) (l g : List Message) → IsToolAt old t l g → IsToolAt new t l (g ++ m ∷ [])))
+    → IfOk r (λ o. IfSome o (λ m. (t : Tool) (l g : List Message) → IsRowWiseAt (lane_of old) t l g → IsRowWiseAt (lane_of new) t l (g ++ m ∷ [])))
+lane_gives (Ok (Some m)) old new gives = λ t l g at. record { state = gives t l g at.state; row_wise = at.row_wise }
+lane_gives (Ok None) old new gives = gives
+lane_gives (Err fault) old new gives = gives
+
+-- where the end of what was accepted is Stop, Stop was given
+pub lane_stops : (r : Result (Option Message) ToolFault) (old : Standing AnyTool) (P : Message → Type 0)
+    → IfOk r (λ o. IfSome o (λ m. (t : Tool) (l g : List Message) → IsToolAt old t l g → EndsBy BrokenOff l → P m))
+    → IfOk r (λ o. IfSome o (λ m. (t : Tool) (l g : List Message) → IsRowWiseAt (lane_of old) t l g → EndsBy BrokenOff l → P m))
+lane_stops (Ok (Some m)) old P stops = λ t l g at ends. stops t l g at.state ends
+lane_stops (Ok None) old P stops = stops
+lane_stops (Err fault) old P stops = stops
+
+-- all was given, as far as a look shows
+pub lane_told : (r : Bool) (old new : Standing AnyTool)
+    → (r ≡ true → (is_all_given new.pending ≡ true) × ((t : Tool) (l g : List Message) → IsToolAt old t l g → IsToolAt new t l g × AnswersInFull t l g))
+    → (r ≡ true → (is_all_given new.pending ≡ true)
+    × ((t : Tool) (l g : List Message) → IsRowWiseAt (lane_of old) t l g → IsRowWiseAt (lane_of new) t l g × AnswersInFull t l g))
+lane_told r old new full = λ e. ((full e).0, λ t l g at. let both = (full e).1 t l g at.state in (record { state = both.0; row_wise = at.row_wise }, both.1))
+
+-- all was given
+pub lane_is_full : (r : Result (Option Message) ToolFault) (old new : Standing AnyTool)
+    → IfOk r (λ o.
+    IfNone o ((is_all_given new.pending ≡ true) × ((t : Tool) (l g : List Message) → IsToolAt old t l g → IsToolAt new t l g × AnswersInFull t l g)))
+    → IfOk r (λ o.
+    IfNone o ((is_all_given new.pending ≡ true)
+    × ((t : Tool) (l g : List Message) → IsRowWiseAt (lane_of old) t l g → IsRowWiseAt (lane_of new) t l g × AnswersInFull t l g)))
+lane_is_full (Ok (Some m)) old new full = full
+lane_is_full (Ok None) old new full = (full.0, λ t l g at. let both = full.1 t l g at.state in (record { state = both.0; row_wise = at.row_wise }, both.1))
+lane_is_full (Err fault) old new full = full

@@ -1,0 +1,21 @@
+use Rattle.std.proofs.Common.{◌≡◌, ℕ, ◌+◌, ◌*◌, length, map, slice_index_or, ap, ◌∙◌, arith}
+use Rattle.pnm_tools.proofs.PickLaws.{piece_written, columns_picked}
+use Rattle.pnm_filters.proofs.channel.pick.Goals as goal
+
+pub loop-x-preserved : goal.loop-x-preserved
+loop-x-preserved g c past =
+    let numbers = c.args.numbers.now in
+    let size : length c.as_mut_slice-buffer.result.now ≡ c.args.shape.width * length numbers = ap length c.as_mut_slice-buffer.ensures.value
+    ∙ omega (arith, c.in_ok-picked.ensures.len, c.in_ok-picked.picked.ok.0) in
+    piece_written (λ x. map (λ number. slice_index_or c.args.row.now (x * c.args.shape.depth + number) past) numbers) (length numbers) c.args.shape.width
+    c.loop-x.x _ c.as_mut_slice-buffer.result.now c.loop-x.buffer c.pick_pixel.new.buffer c.loop-x-test.true size (omega arith) (c.loop-x.invariant past)
+    (c.pick_pixel.ensures past) (omega arith)
+
+pub returns : goal.returns
+returns g c =
+    let picked = c.in_ok-picked.picked in
+    let all : c.loop-x.x ≡ c.args.shape.width = omega arith in
+    let size : length c.as_mut_slice-buffer.result.now ≡ c.loop-x.x * length c.args.numbers.now = ap length c.as_mut_slice-buffer.ensures.value
+    ∙ omega (arith, c.in_ok-picked.ensures.len, picked.ok.0, ap (λ (n : ℕ). n * length c.args.numbers.now) all) in
+    columns_picked c.args.numbers.now c.args.shape c.args.row.now c.loop-x.x picked.len c.as_mut_slice-buffer.result.now c.loop-x.buffer picked.items all size
+    (omega arith) c.loop-x.invariant

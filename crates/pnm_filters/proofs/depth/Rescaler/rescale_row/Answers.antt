@@ -1,0 +1,29 @@
+use Rattle.std.proofs.Common.{ℕ}
+use Rattle.pnm_tools.specs.Depth.{nearest_sample}
+use Rattle.pnm_tools.proofs.RowLaws.{changed_in_place}
+use Rattle.pnm_filters.proofs.DepthRowLaws.{rescaled_within}
+use Rattle.pnm_filters.proofs.depth.Rescaler.rescale_row.Goals as goal
+
+pub held_at-requires : goal.held_at-requires
+held_at-requires c =
+    let new : ℕ = c.args.self.now.maxval in
+    let words = c.in_ok-words-in-Absent.words in
+    let made = changed_in_place (nearest_sample new c.args.old) c.args.row words.items c.as_mut_slice.result.now c.rescale.new.samples words.len
+    c.rescale.ensures c.as_mut_slice.ensures.value c.in_ok-words-in-Absent.ensures words.ok.0 in
+    rescaled_within new c.args.old c.args.row _ c.requires.old.0 made c.requires.range
+
+pub within-requires : goal.within-requires
+within-requires c =
+    let new : ℕ = c.args.self.now.maxval in
+    let bytes = c.in_ok-bytes-in-Bytes.bytes in
+    let made = changed_in_place (nearest_sample new c.args.old) c.args.row bytes.items c.as_mut_slice-in-Bytes.result.now c.rescale_bytes_by_table.new.bytes
+    bytes.len c.rescale_bytes_by_table.ensures c.as_mut_slice-in-Bytes.ensures.value c.in_ok-bytes-in-Bytes.ensures bytes.ok.0 in
+    rescaled_within new c.args.old c.args.row _ c.requires.old.0 made c.requires.range
+
+pub held_at-requires-in-Words : goal.held_at-requires-in-Words
+held_at-requires-in-Words c =
+    let new : ℕ = c.args.self.now.maxval in
+    let words = c.in_ok-words-in-Words.words in
+    let made = changed_in_place (nearest_sample new c.args.old) c.args.row words.items c.as_mut_slice-in-Words.result.now c.rescale_by_table.new.samples
+    words.len c.rescale_by_table.ensures c.as_mut_slice-in-Words.ensures.value c.in_ok-words-in-Words.ensures words.ok.0 in
+    rescaled_within new c.args.old c.args.row _ c.requires.old.0 made c.requires.range

@@ -1,0 +1,15 @@
+use Rattle.std.proofs.Common.{◌∙◌}
+use Rattle.pnm_filters.proofs.EnlargeRowLaws.{enlarged_within}
+use Rattle.pnm_filters.proofs.enlarge.enlarge_row.Goals as goal
+
+pub within-requires : goal.within-requires
+within-requires c = enlarged_within c.args.shape.maxval c.args.across c.args.shape c.as_slice.result.now c.args.row _ c.in_ok-bytes-in-Bits-2.ensures.made
+    (c.as_slice.ensures.value ∙ c.in_ok-unpacked-in-Bits-2.ensures ∙ c.in-Bits.ensures) c.requires.row.range
+
+pub within-requires-in-Bytes : goal.within-requires-in-Bytes
+within-requires-in-Bytes c = enlarged_within c.args.shape.maxval c.args.across c.args.shape c.as_slice-in-Bytes.result.now c.args.row _
+    c.in_ok-bytes-in-Bytes.ensures.made (c.as_slice-in-Bytes.ensures.value ∙ c.in-Bytes.ensures) c.requires.row.range
+
+pub within-requires-in-Words : goal.within-requires-in-Words
+within-requires-in-Words c = enlarged_within c.args.shape.maxval c.args.across c.args.shape c.as_slice-in-Words.result.now c.args.row _
+    c.in_ok-words-in-Words.ensures.made (c.as_slice-in-Words.ensures.value ∙ c.in-Words.ensures) c.requires.row.range

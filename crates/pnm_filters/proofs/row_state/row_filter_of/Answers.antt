@@ -1,0 +1,5 @@
+use Rattle.pnm_filters.proofs.StartSteps.{fresh_lane_is_idle}
+use Rattle.pnm_filters.proofs.row_state.row_filter_of.Goals as goal
+
+pub returns-in-Ok : goal.returns-in-Ok
+returns-in-Ok c = fresh_lane_is_idle c.in-Ok.state c.args.tool.now c.in-Ok.ensures.started

@@ -1,0 +1,21 @@
+use Rattle.std.proofs.Common.{Err, subst}
+use Rattle.pnm_tools.specs.Answers.{Judges}
+use Rattle.pnm_filters.specs.Pendings.{pending_of}
+use Rattle.pnm_filters.specs.States.{Standing, standing, is_all_given}
+use Rattle.pnm_filters.proofs.StateSteps.{fed, judged}
+use Rattle.pnm_filters.proofs.state.StateFilter.feed.Goals as goal
+
+pub returns-in-Ok-clause-accepted : goal.returns-in-Ok-clause-accepted
+returns-in-Ok-clause-accepted g c = λ t l given at.
+    let s = c.self.inside in
+    let is_at = rw (← c.self.view_is) at at in
+    fed g.T.ImageTool.tool g.T.ImageTool.ready g.T.ImageTool.due g.T.ImageTool.kept (standing s.work s.place (pending_of s.owed s.waiting) s.fault)
+    c.answer.new.work c.answer.new.place c.args.message (pending_of c.answer.new.owed c.answer.new.waiting) s.fault t l given is_at c.in-Ok.ensures
+
+pub returns-in-Err-clause-judged : goal.returns-in-Err-clause-judged
+returns-in-Err-clause-judged g c = λ none t l given at.
+    let s = c.self.inside in
+    let is_at = rw (← c.self.view_is) at at in
+    subst (λ (z : Standing _). Judges (is_all_given z.pending) t l c.args.message (Err c.in-Err.refusal)) c.self.view_is
+    (judged g.T.ImageTool.tool g.T.ImageTool.ready g.T.ImageTool.due g.T.ImageTool.kept (standing s.work s.place (pending_of s.owed s.waiting) s.fault)
+    c.args.message c.in-Err.refusal t l given is_at c.in-Err.ensures.0)

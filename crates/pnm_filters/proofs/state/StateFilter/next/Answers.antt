@@ -1,0 +1,36 @@
+use Rattle.pnm_filters.specs.Pendings.{pending_of}
+use Rattle.pnm_filters.specs.States.{standing}
+use Rattle.pnm_filters.proofs.GivingSteps.{given_by, stop_alone_by, full_by, wanted_memory}
+use Rattle.pnm_filters.proofs.state.StateFilter.next.Goals as goal
+
+pub returns-in-Ok-clause-given : goal.returns-in-Ok-clause-given
+returns-in-Ok-clause-given g c =
+    let s = c.self.inside in
+    rw (← c.self.view_is)
+    (given_by g.T.ImageTool.tool g.T.ImageTool.ready g.T.ImageTool.due g.T.ImageTool.kept (standing s.work s.place (pending_of s.owed s.waiting) s.fault)
+    c.give.new.work (pending_of c.give.new.owed c.give.new.waiting) s.fault c.in-Ok.message c.in-Ok.ensures)
+
+pub returns-in-Ok-clause-stop_alone : goal.returns-in-Ok-clause-stop_alone
+returns-in-Ok-clause-stop_alone g c =
+    let s = c.self.inside in
+    rw (← c.self.view_is)
+    (stop_alone_by g.T.ImageTool.tool g.T.ImageTool.ready g.T.ImageTool.due g.T.ImageTool.kept
+    (standing s.work s.place (pending_of s.owed s.waiting) s.fault) c.give.new.work (pending_of c.give.new.owed c.give.new.waiting) c.in-Ok.message
+    c.in-Ok.ensures)
+
+pub returns-in-Ok-clause-full : goal.returns-in-Ok-clause-full
+returns-in-Ok-clause-full g c =
+    let s = c.self.inside in
+    rw (← c.self.view_is)
+    (full_by g.T.ImageTool.tool g.T.ImageTool.ready g.T.ImageTool.due g.T.ImageTool.kept (standing s.work s.place (pending_of s.owed s.waiting) s.fault)
+    c.give.new.work (pending_of c.give.new.owed c.give.new.waiting) s.fault c.in-Ok.message c.in-Ok.ensures)
+
+pub returns-in-Err-clause-failed : goal.returns-in-Err-clause-failed
+returns-in-Err-clause-failed g c = λ none. (
+  c.in-Err.ensures.0,
+  λ t l given at.
+      let s = c.self.inside in
+      let is_at = rw (← c.self.view_is) at at in
+      wanted_memory g.T.ImageTool.tool g.T.ImageTool.ready g.T.ImageTool.due g.T.ImageTool.kept (standing s.work s.place (pending_of s.owed s.waiting) s.fault)
+      t l given is_at c.in-Err.ensures.1,
+)

@@ -1,0 +1,9 @@
+use Rattle.std.proofs.Common.{refl, arith}
+use Rattle.pnm_filters.proofs.StripLaws.{columns_added}
+use Rattle.pnm_filters.proofs.strip.add_columns.Goals as goal
+
+pub returns-clause-added : goal.returns-clause-added
+returns-clause-added g c =
+    columns_added c.args.first c.args.depth c.loop-column.column-index c.args.rows.now c.args.strip.now.items c.loop-column.strip.items c.put_all.new.columns
+    c.args.columns.now c.put_all.new.columns
+    c.requires.long c.requires.rows c.put_all.ensures refl (omega arith) c.loop-column.invariant

@@ -1,0 +1,84 @@
+-- How a tool at work answers one message, and how it gives one.
+use Rattle.std.specs.Prelude.{◌≡◌, ◌⊎◌, ℕ, Bool, true, false, List, [], ◌∷◌, ◌++◌, Option, Some, None, Result, Ok, Err}
+use Rattle.pnm_image.specs.declared.shape.Shape.{Shape}
+use Rattle.pnm_image.specs.declared.message.Message.{Message}
+use Rattle.pnm_image.specs.declared.place.Place.{Place}
+use Rattle.pnm_image.specs.Places.{Accepts, place_after}
+use Rattle.pnm_tools.specs.declared.fault.ToolFault.{ToolFault}
+use Rattle.pnm_tools.specs.declared.fault.ToolFault.TheVariants.{OutOfOrder, Memory}
+use Rattle.pnm_filters.specs.Pendings.{Pending, AllGiven, Waiting, Rows, RowsAndEnd, Nothing}
+use Rattle.pnm_tools.specs.declared.tool.Tool.{Tool}
+use Rattle.pnm_tools.specs.Answers.{Begins, RefusesHead}
+use Rattle.pnm_tools.specs.Answering.{answers_at, rows_after}
+use Rattle.pnm_filters.specs.States.{is_all_given, waiting_in, IsReadyFor, KeepsNone}
+
+-- ---- a message is fed, at a place
+
+-- it may come: all was given for the one before, and the place accepts it
+abbrev pub IsDue : Bool → Place → Message → Type 0
+IsDue all_given place m = (all_given ≡ true) × Accepts place m
+
+-- it is taken, whatever rows of the image have come before it
+pub record IsAccepted {W : Type 0} (tool_at : W → Tool) (ready_for : W → Shape → List (List ℕ) → Type 0)
+    (due kept : W → List (List ℕ)) (all_given : Bool) (old : W) (from : Place) (m : Message) (new : W) (to : Place)
+    (pending : Pending) : Type 0 where
+  pub is_due : IsDue all_given from m
+  pub begins : Begins (tool_at old) m
+  pub tool : tool_at new ≡ tool_at old
+  pub place : to ≡ place_after from m
+  pub ready : (rows : List (List ℕ)) → IsReadyFor ready_for old from rows
+      → IsReadyFor ready_for new to (rows_after rows m)
+  pub not_told : is_all_given pending ≡ false
+  pub answer : (rows : List (List ℕ)) → IsReadyFor ready_for old from rows
+      → waiting_in pending (due new) ≡ answers_at (tool_at old) from rows m
+  pub none : KeepsNone kept old from AllGiven → KeepsNone kept new to pending
+
+-- it is refused
+abbrev pub IsRefused : {W : Type 0} → (W → Tool) → Bool → W → Place → Message → ToolFault → Type 0
+IsRefused tool_at all_given old from m fault =
+    ((fault ≡ OutOfOrder) × (IsDue all_given from m → ⊥))
+    ⊎ (IsDue all_given from m × (RefusesHead (tool_at old) m fault ⊎ ((fault ≡ Memory) × Begins (tool_at old) m)))
+
+abbrev pub Answered : {W : Type 0} → (W → Tool) → (W → Shape → List (List ℕ) → Type 0) → (W → List (List ℕ))
+    → (W → List (List ℕ)) → Bool → W → Place → Message → W → Place → Pending → Result (Unit {0}) ToolFault → Type 0
+Answered tool_at ready_for due kept all_given old from m new to pending (Ok _) =
+    IsAccepted tool_at ready_for due kept all_given old from m new to pending
+Answered tool_at ready_for due kept all_given old from m new to pending (Err fault) =
+    IsRefused tool_at all_given old from m fault × (tool_at new ≡ tool_at old)
+
+-- ---- a message is given
+
+abbrev pub message_list : Option Message → List Message
+message_list None = []
+message_list (Some m) = m ∷ []
+
+-- where none is given, that is told
+abbrev pub IsTold : Option Message → Pending → Pending → Type 0
+IsTold None old new = new ≡ AllGiven
+IsTold (Some m) old new = (is_all_given old ≡ false) × (is_all_given new ≡ false)
+
+-- the first of the messages that wait is given, if one does, and the others wait
+pub record IsGiven {W : Type 0} (tool_at : W → Tool) (ready_for : W → Shape → List (List ℕ) → Type 0)
+    (due kept : W → List (List ℕ)) (old : W) (before : Pending) (new : W) (after : Pending)
+    (given : Option Message) : Type 0 where
+  pub waits : waiting_in before (due old) ≡ message_list given ++ waiting_in after (due new)
+  pub told : IsTold given before after
+  pub tool : tool_at new ≡ tool_at old
+  pub ready : (place : Place) (rows : List (List ℕ)) → KeepsNone kept old place before
+      → IsReadyFor ready_for old place rows → IsReadyFor ready_for new place rows
+  pub none : (place : Place) → KeepsNone kept old place before → KeepsNone kept new place after
+
+-- where rows are due, or could be
+abbrev pub GivesRows : Pending → Type 0
+GivesRows AllGiven = ⊥
+GivesRows (Waiting message) = ⊥
+GivesRows Rows = Unit {0}
+GivesRows RowsAndEnd = Unit {0}
+GivesRows Nothing = ⊥
+
+abbrev pub Gave : {W : Type 0} → (W → Tool) → (W → Shape → List (List ℕ) → Type 0) → (W → List (List ℕ))
+    → (W → List (List ℕ)) → W → Pending → W → Pending → Result (Option Message) ToolFault → Type 0
+Gave tool_at ready_for due kept old before new after (Ok given) =
+    IsGiven tool_at ready_for due kept old before new after given
+Gave tool_at ready_for due kept old before new after (Err fault) = (fault ≡ Memory) × GivesRows before
+    × (tool_at new ≡ tool_at old)

@@ -1,0 +1,95 @@
+//! A tool at work, whichever it is.
+
+use crate::by_row::ByRow;
+use crate::cut::Cutter;
+use crate::depth::Rescaler;
+use crate::enlarge::Enlarger;
+use crate::flip::{RowFlipper, RowReverser};
+use crate::image_tool::ImageTool;
+use crate::invert::Inverter;
+use crate::tile::Tiler;
+use crate::transpose::Transposer;
+use pnm_image::{Head, Samples, Shape};
+use pnm_tools::{Planes, ToolFault};
+use std::alloc::Global;
+
+/// What the tool at work does, whichever it is.
+macro_rules! with_tool {
+    ($self:ident, $work:ident => $does:expr) => {
+        match $self {
+            AnyTool::Inverting($work) => $does,
+            AnyTool::Cutting($work) => $does,
+            AnyTool::Rescaling($work) => $does,
+            AnyTool::Picking($work) => $does,
+            AnyTool::Enlarging($work) => $does,
+            AnyTool::FlippingRows($work) => $does,
+            AnyTool::ReversingRows($work) => $does,
+            AnyTool::Transposing($work) => $does,
+            AnyTool::Tiling($work) => $does,
+        }
+    };
+}
+
+/// Any of the tools, and what it keeps of an image.
+#[derive(Drop)]
+pub enum AnyTool {
+    /// `pnminvert`.
+    Inverting(ByRow<Inverter>),
+    /// `pamcut`.
+    Cutting(ByRow<Cutter>),
+    /// `pamdepth`.
+    Rescaling(ByRow<Rescaler>),
+    /// `pamchannel`.
+    Picking(ByRow<Planes>),
+    /// `pamenlarge`.
+    Enlarging(Enlarger),
+    /// `pamflip` where rows stay in their places.
+    FlippingRows(ByRow<RowFlipper>),
+    /// `pamflip` where the order of rows is reversed.
+    ReversingRows(RowReverser),
+    /// `pamflip` where columns and rows are exchanged.
+    Transposing(Transposer),
+    /// `pnmtile`.
+    Tiling(Tiler),
+}
+
+impl ImageTool for AnyTool {
+    ghost use Rattle.pnm_filters.specs.States.{tool_of, IsReady, due_of, kept_of};
+
+    ghost tool = { tool_of };
+
+    ghost ready = { IsReady };
+
+    ghost due = { due_of };
+
+    ghost kept = { kept_of };
+
+    #[inline(never)]
+    fn begin(&mut self, alloc: Global, head: &Head) -> Result<Head, ToolFault> {
+        with_tool!(self, work => work.begin(alloc, head))
+    }
+
+    fn take(&mut self, alloc: Global, shape: Shape, y: u32, row: Samples) -> Result<(), ToolFault> {
+        with_tool!(self, work => work.take(alloc, shape, y, row))
+    }
+
+    #[inline(never)]
+    fn end(&mut self, shape: Shape) {
+        with_tool!(self, work => work.end(shape))
+    }
+
+    // Which tool it is was seen as it took the row: the choice stands beside the state's own.
+    #[inline(always)]
+    fn give(&mut self, alloc: Global) -> Result<Option<Samples>, ToolFault> {
+        with_tool!(self, work => work.give(alloc))
+    }
+
+    fn may_give(&self) -> bool {
+        with_tool!(self, work => work.may_give())
+    }
+
+    #[inline(never)]
+    fn release(&mut self, alloc: Global) {
+        with_tool!(self, work => work.release(alloc))
+    }
+}

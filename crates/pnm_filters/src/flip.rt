@@ -1,0 +1,285 @@
+//! `pamflip`: an image flipped or turned, from pamflip(1). Each way is a rule: the order of the columns
+//! is reversed or not, and that of the rows, and then columns and rows are exchanged or not. Where they
+//! are, `transpose` does it.
+
+ghost use Rattle.std.specs.Prelude.{◌≡◌, ◌⊎◌, if◌then◌else◌, length, reverse, false, [], None, OnOk, IfOk, IfErr};
+ghost use Rattle.std.specs.Prelude.{Ok, Err};
+ghost use Rattle.pnm_image.specs.Heads.{IsWithinLimits, row_length};
+ghost use Rattle.pnm_image.specs.Places.{IsRowOf};
+ghost use Rattle.pnm_tools.specs.declared.fault.ToolFault.TheVariants.{Memory};
+ghost use Rattle.pnm_tools.specs.declared.tool.Tool.TheVariants.{Flip};
+ghost use Rattle.pnm_tools.specs.Flip.{mirrored_row, moved_rows, moves_rows, turn_of, turned_row, ReversesRows};
+ghost use Rattle.pnm_filters.specs.Keeping.{FlipsInRows, IsReversingRows, reversed_due};
+ghost use Rattle.pnm_tools.specs.Tools.{TakesHead, result_head};
+
+use crate::head::head_within_limits;
+use crate::image_tool::ImageTool;
+use crate::row_tool::RowTool;
+use pnm_image::{Bits, Head, SampleVec, Samples, Shape};
+use pnm_tools::{FlipWay, ToolFault, Turn};
+use std::alloc::{AllocError, Global};
+use std::marker::Model;
+
+/// The row as it is, or the last pixel first.
+///
+/// # Errors
+///
+/// Where there is no memory for bits that become bytes.
+fn turn_row(alloc: Global, turn: Turn, shape: Shape, row: Samples) -> Result<Samples, AllocError>
+    requires limits { IsWithinLimits shape }
+    requires row { IsRowOf shape row }
+    ensures { IfOk result (λ turned. turned ≡ turned_row turn shape row) }
+{
+    if turn.columns_reversed {
+        mirror_row(alloc, shape, row)
+    } else {
+        Ok(row)
+    }
+}
+
+/// The row, the last pixel first, changed in place; bits of several planes become bytes.
+///
+/// # Errors
+///
+/// Where there is no memory for the bytes.
+fn mirror_row(alloc: Global, shape: Shape, row: Samples) -> Result<Samples, AllocError>
+    requires limits { IsWithinLimits shape }
+    requires row { IsRowOf shape row }
+    ensures { IfOk result (λ mirrored. mirrored ≡ mirrored_row shape row) }
+{
+    match row.into_vec() {
+        SampleVec::Bits(bits) if shape.depth == 1 => {
+            let bits = mirror_bits(shape, bits);
+            Ok(Samples::from_vec(SampleVec::Bits(bits)))
+        }
+        SampleVec::Bits(bits) => {
+            let mut unpacked = bits.to_bytes(alloc)?;
+            reverse_pixels(unpacked.as_mut_slice(), shape);
+            Ok(Samples::within(SampleVec::Bytes(unpacked), shape.maxval))
+        }
+        SampleVec::Bytes(mut bytes) => {
+            reverse_pixels(bytes.as_mut_slice(), shape);
+            Ok(Samples::within(SampleVec::Bytes(bytes), shape.maxval))
+        }
+        SampleVec::Words(mut words) => {
+            reverse_pixels(words.as_mut_slice(), shape);
+            Ok(Samples::within(SampleVec::Words(words), shape.maxval))
+        }
+    }
+}
+
+/// The row of one plane, the last pixel first, changed in place.
+fn mirror_bits(shape: Shape, bits: Bits) -> Bits
+    requires limits { IsWithinLimits shape }
+    requires plane { shape.depth ≡ 1 }
+    requires row { length bits ≡ row_length shape }
+    ensures { result ≡ mirrored_row shape bits }
+{
+    let mut bits = bits;
+    bits.reverse();
+    bits
+}
+
+/// The last pixel first: all samples change places, and then those of each pixel do again.
+fn reverse_pixels<T: Copy>(samples: &mut [T], shape: Shape)
+    requires limits { IsWithinLimits shape }
+    requires row { length samples.old ≡ row_length shape }
+    ensures { samples.new ≡ mirrored_row shape samples.old }
+{
+    if shape.depth == 3 {
+        return reverse_colors(samples, shape);
+    }
+    samples.reverse();
+    if shape.depth > 1 {
+        let depth = shape.depth as usize;
+        for x in 0..shape.width as usize {
+            samples[x * depth..(x + 1) * depth].reverse();
+        }
+    }
+}
+
+/// The last pixel first, where each is three samples, without a loop over a pixel's samples.
+fn reverse_colors<T: Copy>(samples: &mut [T], shape: Shape)
+    requires depth { shape.depth ≡ 3 }
+    requires row { length samples.old ≡ row_length shape }
+    ensures { samples.new ≡ mirrored_row shape samples.old }
+{
+    samples.reverse();
+    for x in 0..shape.width as usize {
+        let start = x * 3;
+        reverse_three(&mut samples[start..start + 3]);
+    }
+}
+
+/// Three samples, the last one first.
+#[inline]
+fn reverse_three<T: Copy>(samples: &mut [T])
+    requires { length samples.old ≡ 3 }
+    ensures { samples.new ≡ reverse samples.old }
+{
+    let first = samples[0];
+    samples[0] = samples[2];
+    samples[2] = first;
+}
+
+/// Passes the rows of images on, the last pixel first or as they are: any way that leaves rows in their
+/// places.
+#[derive(Drop)]
+pub struct RowFlipper {
+    way: FlipWay,
+}
+
+impl Model for RowFlipper {
+    ghost use Rattle.pnm_tools.specs.declared.flip.FlipWay.{FlipWay};
+    ghost use Rattle.pnm_filters.specs.Keeping.{KeepsRows};
+
+    ghost Value = { FlipWay };
+
+    ghost view = { λ w. w.way };
+
+    ghost invariant = { λ w. KeepsRows w.way };
+}
+
+impl RowTool for RowFlipper {
+    ghost tool = { λ way. Flip way };
+
+    ghost ready = { λ way shape. FlipsInRows way shape };
+
+    ghost nothing_at_end = { λ way shape rows ready i. if ready.stays i then moved_rows (turn_of way) shape
+        rows else [] };
+
+    fn begin(&mut self, alloc: Global, head: &Head) -> Result<Head, ToolFault> {
+        flipped_head(alloc, self.way, head)
+    }
+
+    /// Changes the row in place.
+    fn row(
+        &self,
+        alloc: Global,
+        shape: Shape,
+        _y: u32,
+        row: Samples,
+    ) -> Result<Option<Samples>, ToolFault> {
+        Ok(Some(turn_row(alloc, self.way.turn(), shape, row)?))
+    }
+}
+
+impl RowFlipper {
+    /// The tool before the first row.
+    pub(crate) fn new(way: FlipWay) -> RowFlipper
+        requires { moves_rows (turn_of way) ≡ false }
+        ensures { result ≡ way }
+    {
+        RowFlipper { way }
+    }
+}
+
+/// Reverses the order of rows: keeps those of an image, and gives the last one first, each the last
+/// pixel first or as it is.
+#[derive(Drop)]
+pub struct RowReverser {
+    way: FlipWay,
+    rows: Vec<Samples>,
+    /// The image's shape once it has ended, and its rows are given.
+    ended: Option<Shape>,
+}
+
+impl Model for RowReverser {
+    ghost use Rattle.pnm_filters.specs.Keeping.{Reversed, reversed, CanReverse};
+
+    ghost Value = { Reversed };
+
+    ghost view = { λ w. reversed w.way w.rows.items w.ended };
+
+    ghost invariant = { λ w. CanReverse (reversed w.way w.rows.items w.ended) };
+}
+
+impl ImageTool for RowReverser {
+    ghost tool = { λ w. Flip w.way };
+
+    ghost ready = { IsReversingRows };
+
+    ghost due = { reversed_due };
+
+    ghost kept = { λ w. w.rows };
+
+    fn begin(&mut self, alloc: Global, head: &Head) -> Result<Head, ToolFault> {
+        let reversed = flipped_head(alloc, self.way, head)?;
+        self.ended = None;
+        self.rows = Vec::new(alloc);
+        Ok(reversed)
+    }
+
+    fn take(
+        &mut self,
+        _alloc: Global,
+        _shape: Shape,
+        _y: u32,
+        row: Samples,
+    ) -> Result<(), ToolFault> {
+        self.rows.push(row)?;
+        Ok(())
+    }
+
+    fn end(&mut self, shape: Shape) {
+        self.ended = Some(shape);
+    }
+
+    #[inline(never)]
+    fn give(&mut self, alloc: Global) -> Result<Option<Samples>, ToolFault> {
+        let Some(shape) = self.ended else {
+            return Ok(None);
+        };
+        let Some(kept) = self.rows.pop() else {
+            return Ok(None);
+        };
+        Ok(Some(turn_row(alloc, self.way.turn(), shape, kept)?))
+    }
+
+    fn may_give(&self) -> bool {
+        self.ended.is_some()
+    }
+
+    fn release(&mut self, alloc: Global) {
+        self.rows = Vec::new(alloc);
+    }
+}
+
+impl RowReverser {
+    /// The tool before the first row.
+    pub(crate) fn new(alloc: Global, way: FlipWay) -> RowReverser
+        requires { ReversesRows (turn_of way) }
+        ensures way { result.way ≡ way }
+        ensures rows { result.rows ≡ [] }
+        ensures coming { result.ended ≡ None }
+    {
+        RowReverser {
+            way,
+            rows: Vec::new(alloc),
+            ended: None,
+        }
+    }
+}
+
+/// The head of the flipped image, or the refusal.
+pub(crate) fn flipped_head(alloc: Global, way: FlipWay, head: &Head) -> Result<Head, ToolFault>
+    ensures made { IfOk result (λ made. result_head (Flip way) head.now ≡ Ok made) }
+    ensures limits { OnOk result (IsWithinLimits head.now.shape) }
+    ensures refused { IfErr result (λ fault. (result_head (Flip way) head.now ≡ Err fault)
+        ⊎ ((fault ≡ Memory) × TakesHead (Flip way) head.now)) }
+{
+    let (turn, shape) = (way.turn(), head.shape());
+    if turn.moves_rows() && shape.height == 0 {
+        return Err(ToolFault::OutOfOrder);
+    }
+    let turned = if turn.exchanged {
+        Shape {
+            width: shape.height,
+            height: shape.width,
+            ..shape
+        }
+    } else {
+        shape
+    };
+    head_within_limits(alloc, turned, head.tuple_type())
+}

@@ -1,0 +1,52 @@
+//! What a tool is that makes of each row at most one row of the result, and keeps none: its head rule
+//! and its row rule.
+
+ghost use Rattle.std.specs.Prelude.{ℕ, ◌≡◌, ◌<◌, ◌⊎◌, List, [], OnOk, IfOk, IfErr, Ok, Err};
+ghost use Rattle.pnm_image.specs.Places.{IsRowOf};
+ghost use Rattle.pnm_image.specs.declared.shape.Shape.{Shape as ShapeValue};
+ghost use Rattle.pnm_tools.specs.declared.fault.ToolFault.TheVariants.{Memory};
+ghost use Rattle.pnm_tools.specs.declared.tool.Tool.{Tool as ToolValue};
+ghost use Rattle.pnm_tools.specs.Answering.{row_list};
+ghost use Rattle.pnm_tools.specs.Tools.{IsLawfulTool, TakesHead, result_head, row_answer, end_answer};
+
+use pnm_image::{Head, Samples, Shape};
+use pnm_tools::ToolFault;
+use std::alloc::Global;
+
+/// The head rule and the row rule of a tool.
+pub trait RowTool {
+    /// Which tool it is.
+    ghost tool: { Self → ToolValue };
+
+    /// It is ready for the rows of an image of this shape.
+    ghost ready: { Self → ShapeValue → Type 0 };
+
+    /// The head of the result of an image with this head, or the refusal. Then it is ready for the
+    /// image's rows.
+    fn begin(&mut self, alloc: Global, head: &Head) -> Result<Head, ToolFault>
+        requires { IsLawfulTool (tool self.old) }
+        ensures same { tool self.new ≡ tool self.old }
+        ensures head { IfOk result (λ made. result_head (tool self.old) head.now ≡ Ok made) }
+        ensures ready { OnOk result (ready self.new head.now.shape) }
+        ensures refused { IfErr result (λ fault. (result_head (tool self.old) head.now ≡ Err fault)
+            ⊎ ((fault ≡ Memory) × TakesHead (tool self.old) head.now)) };
+
+    /// The row of the result that row `y` of an image of this shape makes, if it makes one. The only
+    /// fault is `Memory`.
+    fn row(
+        &self,
+        alloc: Global,
+        shape: Shape,
+        y: u32,
+        row: Samples,
+    ) -> Result<Option<Samples>, ToolFault>
+        requires lawful { IsLawfulTool (tool self.now) }
+        requires ready { ready self.now shape }
+        requires row { (y < shape.height) × IsRowOf shape row }
+        ensures row { IfOk result (λ made. row_answer (tool self.now) shape y row ≡ row_list made) }
+        ensures refused { IfErr result (λ fault. fault ≡ Memory) };
+
+    /// The image's end is answered by no row.
+    ghost nothing_at_end: { (s : Self) (shape : ShapeValue) (rows : List (List ℕ))
+        → ready s shape → end_answer (tool s) shape rows ≡ [] };
+}

@@ -1,0 +1,269 @@
+//! A tool at work on a stream: the place, what is still to be given, and the fault that stays.
+
+ghost use Rattle.std.specs.Prelude.{ℕ, ◌≡◌, true, false, Some, None, List, [], length};
+ghost use Rattle.pnm_filters.specs.Pendings.{AllGiven, pending_of, after_one, is_told};
+ghost use Rattle.pnm_filters.specs.States.{waiting_in, is_all_given, IsReadyFor};
+ghost use Rattle.pnm_tools.specs.Tools.{IsLawfulTool};
+ghost use Rattle.pnm_filters.specs.Steps.{Answered, Gave, IsGiven};
+
+use crate::image_tool::ImageTool;
+use pnm_image::{Message, Place};
+use pnm_tools::{Filter, ToolFault};
+use std::alloc::Global;
+use std::marker::Model;
+
+/// What is still to be given for the message that was accepted last.
+#[derive(Clone, Copy)]
+pub enum Owed {
+    /// Nothing, and that was told.
+    Told,
+    /// The message that waits.
+    One,
+    /// The rows that the tool still gives.
+    Rest,
+    /// The rows that the tool still gives, and the end of the image.
+    RestAndEnd,
+    /// Nothing, which isn't told yet.
+    Untold,
+}
+
+/// A tool at work on a stream. What it keeps of an image it gives up once it has given the image's end,
+/// where the stream is broken off, and at a fault.
+#[derive(Drop)]
+pub struct State<T: ImageTool> {
+    alloc: Global,
+    work: T,
+    place: Place,
+    owed: Owed,
+    waiting: Option<Message>,
+    fault: Option<ToolFault>,
+}
+
+impl<T: ImageTool> Model for State<T> {
+    ghost use Rattle.pnm_filters.specs.Pendings.{pending_of};
+    ghost use Rattle.pnm_filters.specs.States.{Standing, standing, IsStanding};
+    ghost use Rattle.pnm_tools.specs.Tools.{IsLawfulTool};
+
+    ghost Value = { Standing T };
+
+    ghost view = { λ s. standing s.work s.place (pending_of s.owed s.waiting) s.fault };
+
+    ghost invariant = { λ s. IsLawfulTool (T.tool s.work)
+        × IsStanding T.ready T.kept s.work s.place (pending_of s.owed s.waiting) s.fault };
+}
+
+impl<T: ImageTool> Filter for State<T> {
+    ghost use Rattle.pnm_filters.specs.States.{IsAt};
+
+    ghost at = { IsAt T.tool T.ready T.due T.kept };
+
+    ghost all_given = { λ s. is_all_given s.pending };
+
+    ghost stopped = { λ s. s.fault };
+
+    ghost waiting = { λ s. length (waiting_in s.pending (T.due s.work)) };
+
+    ghost at_answers = { λ s tool accepted given at. at.answers };
+
+    // What `feed` stores is what `next` takes: in one function of the caller's it stays in registers.
+    #[inline(always)]
+    fn feed(&mut self, message: Message) -> Result<(), ToolFault> {
+        if let Some(fault) = self.fault {
+            return Err(fault);
+        }
+        match answer(
+            self.alloc,
+            &mut self.work,
+            &mut self.place,
+            &mut self.owed,
+            &mut self.waiting,
+            message,
+        ) {
+            Ok(()) => Ok(()),
+            Err(refusal) => {
+                self.work.release(self.alloc);
+                self.fault = Some(refusal);
+                Err(refusal)
+            }
+        }
+    }
+
+    #[inline(always)]
+    fn next(&mut self) -> Result<Option<Message>, ToolFault> {
+        if let Some(fault) = self.fault {
+            return Err(fault);
+        }
+        match give(
+            self.alloc,
+            &mut self.work,
+            &mut self.owed,
+            &mut self.waiting,
+        ) {
+            Ok(message) => Ok(message),
+            Err(fault) => {
+                self.work.release(self.alloc);
+                self.fault = Some(fault);
+                Err(fault)
+            }
+        }
+    }
+
+    fn gave_all(&mut self) -> bool {
+        tell(&self.work, &mut self.owed, &self.waiting)
+    }
+}
+
+impl<T: ImageTool> State<T> {
+    /// The tool before the first message.
+    pub fn new(alloc: Global, work: T) -> State<T>
+        requires lawful { IsLawfulTool (T.tool work) }
+        requires kept { T.kept work ≡ [] }
+        ensures work { result.work ≡ work }
+        ensures place { result.place ≡ Place.Between }
+        ensures pending { result.pending ≡ AllGiven }
+        ensures fault { result.fault ≡ None }
+    {
+        State {
+            alloc,
+            work,
+            place: Place::new(),
+            owed: Owed::Told,
+            waiting: None,
+            fault: None,
+        }
+    }
+}
+
+/// Takes a message, if it may come at this place, and sets what is owed for it.
+#[inline(always)]
+fn answer<T: ImageTool>(
+    alloc: Global,
+    work: &mut T,
+    place: &mut Place,
+    owed: &mut Owed,
+    waiting: &mut Option<Message>,
+    message: Message,
+) -> Result<(), ToolFault>
+    requires lawful { IsLawfulTool (T.tool work.old) }
+    requires ready { (rows : List (List ℕ)) × IsReadyFor T.ready work.old place.old rows }
+    ensures { Answered T.tool T.ready T.due T.kept (is_all_given (pending_of owed.old waiting.old))
+        work.old place.old message work.new place.new (pending_of owed.new waiting.new) result }
+{
+    if !is_told(*owed) || !place.accepts(&message) {
+        return Err(ToolFault::OutOfOrder);
+    }
+    let from = *place;
+    place.step(&message);
+    match message {
+        Message::Begin(head) => {
+            let result = work.begin(alloc, &head)?;
+            *owed = Owed::One;
+            *waiting = Some(Message::Begin(result));
+        }
+        Message::Row(row) => {
+            let Place::Inside(shape, y) = from else {
+                unreachable!();
+            };
+            *owed = Owed::Rest;
+            work.take(alloc, shape, y, row)?;
+        }
+        Message::ImageEnd => {
+            let Place::Inside(shape, _) = from else {
+                unreachable!();
+            };
+            work.end(shape);
+            *owed = Owed::RestAndEnd;
+        }
+        Message::StreamEnd => {
+            *owed = Owed::One;
+            *waiting = Some(Message::StreamEnd);
+        }
+        Message::Stop => {
+            work.release(alloc);
+            *owed = Owed::One;
+            *waiting = Some(Message::Stop);
+        }
+    }
+    Ok(())
+}
+
+/// The next message that is owed, if one is.
+#[inline(always)]
+fn give<T: ImageTool>(
+    alloc: Global,
+    work: &mut T,
+    owed: &mut Owed,
+    waiting: &mut Option<Message>,
+) -> Result<Option<Message>, ToolFault>
+    ensures { Gave T.tool T.ready T.due T.kept work.old (pending_of owed.old waiting.old) work.new
+        (pending_of owed.new waiting.new) result }
+{
+    match *owed {
+        Owed::Told => Ok(None),
+        Owed::Untold => {
+            *owed = Owed::Told;
+            Ok(None)
+        }
+        Owed::Rest => match work.give(alloc)? {
+            Some(row) => Ok(Some(Message::Row(row))),
+            None => {
+                *owed = Owed::Told;
+                Ok(None)
+            }
+        },
+        Owed::RestAndEnd => match work.give(alloc)? {
+            Some(row) => Ok(Some(Message::Row(row))),
+            None => {
+                work.release(alloc);
+                *owed = Owed::Untold;
+                Ok(Some(Message::ImageEnd))
+            }
+        },
+        Owed::One => Ok(give_one(owed, waiting)),
+    }
+}
+
+/// The message that waits, if one does.
+fn give_one(owed: &mut Owed, waiting: &mut Option<Message>) -> Option<Message>
+    requires { owed.old ≡ Owed.One }
+    ensures given { result ≡ waiting.old }
+    ensures owed { pending_of owed.new waiting.new ≡ after_one waiting.old }
+{
+    let message = waiting.take();
+    *owed = if message.is_some() {
+        Owed::Untold
+    } else {
+        Owed::Told
+    };
+    message
+}
+
+/// Whether nothing is owed, as far as a look shows; that is told then.
+fn tell<T: ImageTool>(work: &T, owed: &mut Owed, waiting: &Option<Message>) -> bool
+    ensures told { result ≡ true
+        → IsGiven T.tool T.ready T.due T.kept work.now (pending_of owed.old waiting.now) work.now
+        (pending_of owed.new waiting.now) None }
+    ensures unknown { result ≡ false → owed.new ≡ owed.old }
+{
+    match *owed {
+        Owed::Told => true,
+        Owed::Untold => {
+            *owed = Owed::Told;
+            true
+        }
+        Owed::Rest if !work.may_give() => {
+            *owed = Owed::Told;
+            true
+        }
+        Owed::One | Owed::Rest | Owed::RestAndEnd => false,
+    }
+}
+
+fn is_told(owed: Owed) -> bool
+    ensures { result ≡ is_told owed }
+{
+    match owed {
+        Owed::Told => true,
+        Owed::One | Owed::Rest | Owed::RestAndEnd | Owed::Untold => false,
+    }
+}

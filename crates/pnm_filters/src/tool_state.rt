@@ -1,0 +1,78 @@
+//! A tool at work, by its name and options.
+
+ghost use Rattle.std.specs.Prelude.{◌≡◌, [], IfOk, IfErr, Ok};
+ghost use Rattle.pnm_tools.specs.declared.fault.ToolFault.TheVariants.{Memory};
+ghost use Rattle.pnm_tools.specs.declared.tool.Tool.TheVariants.{Flip};
+ghost use Rattle.pnm_filters.specs.States.{IsFreshTool, kept_of, tool_of, ToolAt};
+ghost use Rattle.pnm_tools.specs.Tools.{IsLawfulTool};
+
+use crate::any_tool::AnyTool;
+use crate::by_row::ByRow;
+use crate::cut::Cutter;
+use crate::depth::{Rescaler, Table};
+use crate::enlarge::Enlarger;
+use crate::flip::{RowFlipper, RowReverser};
+use crate::invert::Inverter;
+use crate::state::State;
+use crate::tile::Tiler;
+use crate::transpose::Transposer;
+use pnm_tools::{FlipWay, FusedFilter, Tool, ToolFault};
+use std::alloc::Global;
+
+/// A tool of a chain at work on a stream.
+pub type ToolState = State<AnyTool>;
+
+/// The tool at work, before the first message. The only fault is `Memory`.
+pub fn start_tool(alloc: Global, tool: &Tool) -> Result<ToolState, ToolFault>
+    requires { IsLawfulTool tool.now }
+    ensures started { IfOk result (λ state. IsFreshTool state tool.now) }
+    ensures refused { IfErr result (λ fault. fault ≡ Memory) }
+{
+    Ok(State::new(alloc, any_tool(alloc, tool)?))
+}
+
+/// The tool at work, which has taken no row.
+fn any_tool(alloc: Global, tool: &Tool) -> Result<AnyTool, ToolFault>
+    ensures tool { IfOk result (λ work. tool_of work ≡ tool.now) }
+    ensures kept { IfOk result (λ work. kept_of work ≡ []) }
+    ensures refused { IfErr result (λ fault. fault ≡ Memory) }
+{
+    Ok(match tool {
+        Tool::Invert => AnyTool::Inverting(ByRow::new(Inverter)),
+        Tool::Cut(cut) => AnyTool::Cutting(ByRow::new(Cutter::new(*cut))),
+        Tool::Depth(maxval) => AnyTool::Rescaling(ByRow::new(Rescaler {
+            maxval: *maxval,
+            table: Table::Absent,
+        })),
+        Tool::Channel(planes) => AnyTool::Picking(ByRow::new(planes.copy()?)),
+        Tool::Enlarge(across, down) => AnyTool::Enlarging(Enlarger::new(*across, *down)),
+        Tool::Flip(way) => flip(alloc, *way),
+        Tool::Tile(width, height) => AnyTool::Tiling(Tiler::new(alloc, *width, *height)),
+    })
+}
+
+/// The tool at work that flips images this way.
+fn flip(alloc: Global, way: FlipWay) -> AnyTool
+    ensures tool { tool_of result ≡ Flip way }
+    ensures kept { kept_of result ≡ [] }
+{
+    let turn = way.turn();
+    if turn.exchanged {
+        AnyTool::Transposing(Transposer::new(alloc, way))
+    } else if turn.rows_reversed {
+        AnyTool::ReversingRows(RowReverser::new(alloc, way))
+    } else {
+        AnyTool::FlippingRows(ByRow::new(RowFlipper::new(way)))
+    }
+}
+
+/// The tool at work; one for which there is no memory has refused.
+pub fn filter_of(alloc: Global, tool: &Tool) -> FusedFilter<ToolState>
+    requires { IsLawfulTool tool.now }
+    ensures { ToolAt result tool.now [] [] }
+{
+    match start_tool(alloc, tool) {
+        Ok(state) => FusedFilter::AtWork(state),
+        Err(fault) => FusedFilter::Refused(fault),
+    }
+}

@@ -1,0 +1,31 @@
+//! A tool in a thread of its own, between two rings.
+
+ghost use Rattle.pnm_tools.specs.Tools.{IsLawfulTool};
+ghost use Rattle.pnm_stages.specs.Rings.{sent, received, known_items, SameSender, SameReceiver};
+ghost use Rattle.pnm_stages.specs.Stages.{HasRunStage};
+
+use pnm_filters::filter_of;
+use pnm_stages::{Gate, Receiver, Sender, StageDone, run_filter};
+use pnm_tools::Tool;
+use std::alloc::Global;
+use std::sync::Wait;
+
+/// else only once the end of the stream or Stop was taken.
+pub fn run_stage<R: Wait, G: Gate>(
+    rt: &R,
+    alloc: Global,
+    tool: &Tool,
+    number: usize,
+    gate: &G,
+    input: Receiver,
+    output: Sender,
+) -> StageDone
+    requires { IsLawfulTool tool.now }
+    ensures input { SameReceiver input result.input }
+    ensures output { SameSender output result.output }
+    ensures ran { HasRunStage tool.now result.end (received input) (received result.input) (known_items result.input)
+        (sent output) (sent result.output) }
+{
+    gate.arrive(number, 0);
+    run_filter(rt, filter_of(alloc, tool), input, output)
+}

@@ -1,5 +1,0 @@
-use Rattle.pnm_stages.proofs.ToolSteps.{fresh_lane_is_idle}
-use Rattle.pnm_stages.proofs.fused_filter.row_filter_of.Goals as goal
-
-pub returns-in-Ok : goal.returns-in-Ok
-returns-in-Ok c = fresh_lane_is_idle c.in-Ok.state c.args.tool.now c.in-Ok.ensures.started

@@ -1,7 +1,0 @@
-use Rattle.std.proofs.Common.{arith}
-use Rattle.pnm_tools.proofs.EnlargeRowLaws.{doubled_more}
-use Rattle.pnm_tools.proofs.enlarge.double_samples.Goals as goal
-
-pub loop-i-preserved : goal.loop-i-preserved
-loop-i-preserved g c = doubled_more c.args.row.now c.loop-i.buffer c.loop-i.i _ _ c.index-row-i.result c.loop-i.invariant c.loop-i-test.true (omega arith)
-    (omega arith) (omega arith) c.index-row-i.is

@@ -1,0 +1,85 @@
+//! A tool at work: what it is fed, what it gives, and its refusal.
+
+ghost use Rattle.std.specs.Prelude.{◌≡◌, ◌<◌, ◌∷◌, ◌++◌, [], List, true, IfSome, IfNone, IsTrue, IsFalse};
+ghost use Rattle.pnm_image.specs.declared.message.Message.{Message as MessageValue};
+ghost use Rattle.pnm_tools.specs.declared.tool.Tool.{Tool as ToolValue};
+ghost use Rattle.pnm_tools.specs.FusedFilters.{refusal_in, waiting_at, FilterAt, FilterBusy};
+
+use crate::fault::ToolFault;
+use crate::filter::Filter;
+use pnm_image::Message;
+
+/// A filter of a chain, which takes nothing more once it has refused.
+#[derive(Drop)]
+pub enum FusedFilter<F> {
+    /// It takes messages.
+    AtWork(F),
+    /// It refused so, and takes no more.
+    Refused(ToolFault),
+}
+
+impl<F: Filter + Drop> FusedFilter<F> {
+    /// Why the tool refused, if it did.
+    pub fn fault(&self) -> Option<ToolFault>
+        ensures { result ≡ refusal_in self.now }
+    {
+        match self {
+            FusedFilter::AtWork(_) => None,
+            FusedFilter::Refused(fault) => Some(*fault),
+        }
+    }
+
+    /// Feeds the tool a message. After its refusal the message is dropped.
+    pub fn feed(&mut self, message: Message)
+        ensures { (tool : ToolValue) (l g : List MessageValue) → FilterAt F.at F.all_given F.stopped self.old tool l g
+            → FilterBusy F.at F.stopped self.new tool (l ++ message ∷ []) g }
+    {
+        if let FusedFilter::AtWork(filter) = self {
+            if let Err(fault) = filter.feed(message) {
+                self.refuse(fault);
+            }
+        }
+    }
+
+    /// The next message that the tool gives, until it has given all, or refused.
+    pub fn next(&mut self) -> Option<Message>
+        ensures given { IfSome result (λ m. (tool : ToolValue) (l g : List MessageValue)
+            → FilterBusy F.at F.stopped self.old tool l g
+            → FilterBusy F.at F.stopped self.new tool l (g ++ m ∷ [])) }
+        ensures fewer { IfSome result (λ _. waiting_at F.waiting self.new < waiting_at F.waiting self.old) }
+        ensures full { IfNone result ((tool : ToolValue) (l g : List MessageValue)
+            → FilterBusy F.at F.stopped self.old tool l g
+            → FilterAt F.at F.all_given F.stopped self.new tool l g) }
+    {
+        let FusedFilter::AtWork(filter) = self else {
+            return None;
+        };
+        match filter.next() {
+            Ok(answer) => answer,
+            Err(fault) => {
+                self.refuse(fault);
+                None
+            }
+        }
+    }
+
+    /// The tool has refused so, and goes. It stands apart, since callers would clear room for a tool on each message.
+    #[inline(never)]
+    fn refuse(&mut self, fault: ToolFault)
+        ensures { self.new ≡ FusedFilter.Refused fault }
+    {
+        *self = FusedFilter::Refused(fault);
+    }
+
+    /// Whether the tool has given all, or refused, as far as a look shows. Where it answers false `next` tells.
+    pub fn gave_all(&mut self) -> bool
+        ensures full { IsTrue result → (tool : ToolValue) (l g : List MessageValue)
+            → FilterBusy F.at F.stopped self.old tool l g → FilterAt F.at F.all_given F.stopped self.new tool l g }
+        ensures unknown { IsFalse result → self.new ≡ self.old }
+    {
+        match self {
+            FusedFilter::AtWork(filter) => filter.gave_all(),
+            FusedFilter::Refused(_) => true,
+        }
+    }
+}
