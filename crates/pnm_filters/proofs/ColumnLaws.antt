@@ -5,18 +5,18 @@ use borrow.Rule.Slice.PartMut.{put_mid}
 use Rattle.std.specs.List.{range_with_len}
 use Rattle.std.specs.Vec.{with_items}
 use Rattle.std.proofs.Math.ListN.{length-set}
-use Rattle.std.proofs.Math.Seq.{take-add}
+use Rattle.std.proofs.Math.Seq.{get_or-append_seam, take-add}
 use Rattle.std.proofs.lemmas.Bool.{cases_eq, cases_lt}
 use Rattle.std.proofs.lemmas.Grind.{get_or-set_at, flat_map-append}
 use Rattle.std.proofs.lemmas.List.{append_assoc, append-nil, length-append, length-drop, length-take-le, length-map, take_all, drop_more, get_or-map}
-use Rattle.std.proofs.lemmas.List.{get_or-set_other, get_or_default, same_lists, with_items_is}
-use Rattle.std.proofs.lemmas.List.Elements.{All-head, All-tail, All-weaker, All-take, All-get_or}
+use Rattle.std.proofs.lemmas.List.{get_or-set_other, get_or_append_left, get_or_default, same_lists, with_items_is}
+use Rattle.std.proofs.lemmas.List.Elements.{All-head, All-tail, All-weaker, All-take, All-drop, All-get_or}
 use Rattle.std.proofs.lemmas.List.FromFn.{get_or-map-range_with_len, length-map-range_with_len}
 use Rattle.std.proofs.lemmas.Slice.{take-put_mid}
 use Rattle.pnm_filters.specs.Columns.{AreBlank, AreLongEnough, HavePixels, column_samples}
 use Rattle.pnm_tools.specs.Flip.{column_of}
 use Rattle.pnm_tools.specs.Pixels.{pixel_of}
-use Rattle.pnm_filters.proofs.EnlargeRowLaws.{pixel_of_one, pixel_of_three}
+use Rattle.pnm_filters.proofs.EnlargeRowLaws.{color_of, pixel_of_one}
 
 -- ---- the samples of a column more
 
@@ -111,25 +111,34 @@ four_samples {X = X} x rows a b c d va vb vc vd four long ia ib ic id ea eb ec e
     ∙ ap (λ (l : List X). va ∷ vb ∷ (l ++ (pixel_of 1 d x ++ []))) pc ∙ ap (λ (l : List X). va ∷ vb ∷ vc ∷ (l ++ [])) pd)
     ∙ pixels_of_four 1 x rows a b c d four ia ib ic id
 
+-- a row of four reaches behind these columns
+pub row_reaches : {X : Type 0} (depth first count k i : ℕ) (rows : List (List X)) (a row : List X) → length rows ≡ 4 → i < 4 → k < count → a ≡ row
+    → row ≡ get_or rows i row → All (λ row. (first + count) * depth ≤ length row) rows → ((first + k) + 1) * depth ≤ length a
+row_reaches {X = X} depth first count k i rows a row four among below same is long =
+    reaches depth (first + k) i rows a (omega arith) (looked_up rows i a row same is) (reach depth first count k rows below long)
+
 -- pixels of three samples
-pub four_colors : {X : Type 0} (x : ℕ) (rows : List (List X)) (a b c d : List X) (a₀ a₁ a₂ b₀ b₁ b₂ c₀ c₁ c₂ d₀ d₁ d₂ : X) → length rows ≡ 4
-    → All (λ row. (x + 1) * 3 ≤ length row) rows
+pub four_colors : {X : Type 0} (x n : ℕ) (rows : List (List X)) (a b c d p q r s : List X) → n ≡ 3 * x → length rows ≡ 4
     → a ≡ get_or rows 0 a → b ≡ get_or rows 1 b → c ≡ get_or rows 2 c → d ≡ get_or rows 3 d
-    → a₀ ≡ get_or a (3 * x) a₀ → a₁ ≡ get_or a (3 * x + 1) a₁ → a₂ ≡ get_or a (3 * x + 2) a₂ → b₀ ≡ get_or b (3 * x) b₀ → b₁ ≡ get_or b (3 * x + 1) b₁
-    → b₂ ≡ get_or b (3 * x + 2) b₂
-    → c₀ ≡ get_or c (3 * x) c₀ → c₁ ≡ get_or c (3 * x + 1) c₁ → c₂ ≡ get_or c (3 * x + 2) c₂ → d₀ ≡ get_or d (3 * x) d₀ → d₁ ≡ get_or d (3 * x + 1) d₁
-    → d₂ ≡ get_or d (3 * x + 2) d₂
-    → a₀ ∷ a₁ ∷ a₂ ∷ b₀ ∷ b₁ ∷ b₂ ∷ c₀ ∷ c₁ ∷ c₂ ∷ d₀ ∷ d₁ ∷ d₂ ∷ [] ≡ column_of 3 rows x
-four_colors {X = X} x rows a b c d a₀ a₁ a₂ b₀ b₁ b₂ c₀ c₁ c₂ d₀ d₁ d₂ four long ia ib ic id ea₀ ea₁ ea₂ eb₀ eb₁ eb₂ ec₀ ec₁ ec₂ ed₀ ed₁ ed₂ =
-    let pa : pixel_of 3 a x ≡ a₀ ∷ a₁ ∷ a₂ ∷ [] = pixel_of_three a x a₀ a₁ a₂ (omega (arith, reaches 3 x 0 rows a (omega arith) ia long)) ea₀ ea₁ ea₂ in
-    let pb : pixel_of 3 b x ≡ b₀ ∷ b₁ ∷ b₂ ∷ [] = pixel_of_three b x b₀ b₁ b₂ (omega (arith, reaches 3 x 1 rows b (omega arith) ib long)) eb₀ eb₁ eb₂ in
-    let pc : pixel_of 3 c x ≡ c₀ ∷ c₁ ∷ c₂ ∷ [] = pixel_of_three c x c₀ c₁ c₂ (omega (arith, reaches 3 x 2 rows c (omega arith) ic long)) ec₀ ec₁ ec₂ in
-    let pd : pixel_of 3 d x ≡ d₀ ∷ d₁ ∷ d₂ ∷ [] = pixel_of_three d x d₀ d₁ d₂ (omega (arith, reaches 3 x 3 rows d (omega arith) id long)) ed₀ ed₁ ed₂ in
-    sym (ap (λ (l : List X). l ++ (pixel_of 3 b x ++ (pixel_of 3 c x ++ (pixel_of 3 d x ++ [])))) pa
-    ∙ ap (λ (l : List X). a₀ ∷ a₁ ∷ a₂ ∷ (l ++ (pixel_of 3 c x ++ (pixel_of 3 d x ++ [])))) pb
-    ∙ ap (λ (l : List X). a₀ ∷ a₁ ∷ a₂ ∷ b₀ ∷ b₁ ∷ b₂ ∷ (l ++ (pixel_of 3 d x ++ []))) pc
-    ∙ ap (λ (l : List X). a₀ ∷ a₁ ∷ a₂ ∷ b₀ ∷ b₁ ∷ b₂ ∷ c₀ ∷ c₁ ∷ c₂ ∷ (l ++ [])) pd)
+    → p ≡ take 3 (drop n a) → q ≡ take 3 (drop n b) → r ≡ take 3 (drop n c) → s ≡ take 3 (drop n d)
+    → p ++ (q ++ (r ++ (s ++ []))) ≡ column_of 3 rows x
+four_colors {X = X} x n rows a b c d p q r s at four ia ib ic id ip iq ir is =
+    ap (λ (l : List X). l ++ (q ++ (r ++ (s ++ [])))) (color_of a p n x ip at)
+    ∙ ap (λ (l : List X). pixel_of 3 a x ++ (l ++ (r ++ (s ++ [])))) (color_of b q n x iq at)
+    ∙ ap (λ (l : List X). pixel_of 3 a x ++ (pixel_of 3 b x ++ (l ++ (s ++ [])))) (color_of c r n x ir at)
+    ∙ ap (λ (l : List X). pixel_of 3 a x ++ (pixel_of 3 b x ++ (pixel_of 3 c x ++ (l ++ [])))) (color_of d s n x is at)
     ∙ pixels_of_four 3 x rows a b c d four ia ib ic id
+
+-- so do those that stand side by side, at as many columns
+pub reach_part : {X : Type 0} (depth first count now y m : ℕ) (rows : List (List X)) → now ≡ count → All (λ row. (first + count) * depth ≤ length row) rows
+    → All (λ row. (first + now) * depth ≤ length row) (take m (drop y rows))
+reach_part {X = X} depth first count now y m rows many far =
+    let P : List X → Type 0 = λ row. (first + now) * depth ≤ length row in
+    All-take P m (drop y rows) (All-drop P y rows (subst (λ (n : ℕ). All (λ row. (first + n) * depth ≤ length row) rows) (sym many) far))
+
+-- nothing is stored yet
+pub nothing_stored : {X : Type 0} (at : ℕ) (pixels : ℕ → List X) (columns : List (Vec X Global)) → HavePixels 0 at pixels columns columns
+nothing_stored at pixels columns = record { many = refl; long = λ k d. refl; stored = λ k d lt. absurd (omega arith); others = λ k d le. refl }
 
 -- ---- rows more
 
@@ -238,6 +247,29 @@ within y m rows depth le = omega (arith, add-mul y m depth, mul-le-mul {n₁ = y
 pub room_left : {X : Type 0} (count at least most : ℕ) (pixels : ℕ → List X) (old columns : List (Vec X Global)) → least ≤ most → AreLongEnough most old
     → HavePixels count at pixels old columns → AreLongEnough least columns
 room_left count at least most pixels old columns le buffer h k d lt = omega (arith, le, buffer k d (omega (arith, h.many)), h.long k d)
+
+-- one blank column more
+pub blank_more : {X : Type 0} (count samples : ℕ) (columns new : List (Vec X Global)) (column : Vec X Global) → AreBlank count samples columns
+    → new ≡ columns ++ column ∷ [] → vec_len column ≡ samples → AreBlank (count + 1) samples new
+blank_more {X = X} count samples columns new column blank is size =
+    record {
+      many = omega (arith, ap length is, length-append columns (column ∷ []), blank.many);
+      long = λ k d lt. ap (λ (l : List (Vec X Global)). vec_len (get_or l k d)) is ∙ elim (cases_lt k count) [
+        | inl below ↦ ap vec_len (get_or_append_left columns (column ∷ []) d k (omega (arith, blank.many))) ∙ blank.long k d below
+        | inr past ↦ (let last : k ≡ length columns = omega (arith, blank.many) in
+            ap (λ (n : ℕ). vec_len (get_or (columns ++ column ∷ []) n d)) last ∙ ap vec_len (get_or-append_seam columns column [] d) ∙ size)
+      ];
+    }
+
+-- there is room in blank columns
+pub blank_enough : {X : Type 0} (count samples most : ℕ) (items lent : List (Vec X Global)) → AreBlank count samples items → lent ≡ items → most ≡ samples
+    → AreLongEnough most lent
+blank_enough {X = X} count samples most items lent blank same is k d lt =
+    omega (
+      arith,
+      is,
+      subst (λ (l : List (Vec X Global)). vec_len (get_or l k d) ≡ samples) (sym same) (blank.long k d (omega (arith, blank.many, ap length same))),
+    )
 
 -- blank columns that were filled, number by number
 filled_by_number : {X : Type 0} (count first samples : ℕ) (f : ℕ → List X) (old new : List (Vec X Global)) (v : Vec X Global) → AreBlank count samples old

@@ -7,7 +7,7 @@ use Rattle.std.proofs.lemmas.List.{append_assoc, length-append, length-drop, len
 use Rattle.std.proofs.lemmas.List.{take_more_set, take-replicate, take-take}
 use Rattle.std.proofs.lemmas.Slice.{take-put_mid}
 use Rattle.pnm_tools.specs.Enlarge.{copies_of}
-use Rattle.pnm_filters.proofs.EnlargeRowLaws.{column_more, columns_repeated, pixel_of_one, pixel_of_three}
+use Rattle.pnm_filters.proofs.EnlargeRowLaws.{color_of, column_more, columns_repeated, pixel_of_one}
 use Rattle.pnm_tools.proofs.RangeLaws.{length_of_equals, pieces_alike_from, pieces_in_parts, replicated}
 
 -- several more
@@ -115,14 +115,11 @@ colors_stored {X = X} buffer old pixel at count k three within enough was =
     ∙ ap (λ (l : List X). prefix ++ l) (take_at (copies_of count pixel) rest (count * 3) size)
 
 -- a pixel of the row more, so many times
-pub color_repeated : {X : Type 0} (across x : ℕ) (row buffer new : List X) (a b c : X) → take (3 * x * across) buffer ≡ columns_repeated across 3 row x
-    → 3 * x + 3 ≤ length row
-    → a ≡ get_or row (3 * x) a → b ≡ get_or row (3 * x + 1) b → c ≡ get_or row (3 * x + 2) c
-    → take (3 * x * across + 3 * across) new ≡ take (3 * x * across) buffer ++ copies_of across (a ∷ b ∷ c ∷ [])
+pub color_repeated : {X : Type 0} (across x n : ℕ) (row buffer new color : List X) → take (3 * x * across) buffer ≡ columns_repeated across 3 row x
+    → color ≡ take 3 (drop n row) → n ≡ 3 * x → take (3 * x * across + 3 * across) new ≡ take (3 * x * across) buffer ++ copies_of across color
     → take (3 * (x + 1) * across) new ≡ columns_repeated across 3 row (x + 1)
-color_repeated {X = X} across x row buffer new a b c was below first second third stored =
+color_repeated {X = X} across x n row buffer new color was is at stored =
     let place : 3 * (x + 1) * across ≡ 3 * x * across + 3 * across = omega arith in
     column_more across 3 row (take (3 * x * across) buffer) (take (3 * (x + 1) * across) new) x across (x * 3) 3 was
-    (ap (λ (n : ℕ). take n new) place ∙ stored ∙ ap (λ (l : List X). take (3 * x * across) buffer ++ copies_of across l)
-    (sym (pixel_of_three row x a b c below first second third)))
+    (ap (λ (k : ℕ). take k new) place ∙ stored ∙ ap (λ (l : List X). take (3 * x * across) buffer ++ copies_of across l) (color_of row color n x is at))
     refl refl refl

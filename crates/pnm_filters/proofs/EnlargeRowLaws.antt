@@ -60,18 +60,21 @@ pixel_of_one {X = X} row i v lt is =
     let place : i * 1 ≡ i = omega arith in
     ap (λ (k : ℕ). take 1 (drop k row)) place ∙ ap (take 1) (drop_more row i v lt) ∙ ap (λ (x : X). x ∷ []) (sym is)
 
--- a pixel of three samples
-pub pixel_of_three : {X : Type 0} (row : List X) (x : ℕ) (a b c : X) → 3 * x + 3 ≤ length row → a ≡ get_or row (3 * x) a → b ≡ get_or row (3 * x + 1) b
-    → c ≡ get_or row (3 * x + 2) c → pixel_of 3 row x ≡ a ∷ b ∷ c ∷ []
-pixel_of_three {X = X} row x a b c fits first second third =
-    let n : ℕ = 3 * x in
-    let place : x * 3 ≡ n = omega arith in
+-- three samples that stand side by side
+pub three_samples : {X : Type 0} (row : List X) (n : ℕ) (a b c : X) → n + 3 ≤ length row → a ≡ get_or row n a → b ≡ get_or row (n + 1) b
+    → c ≡ get_or row (n + 2) c → a ∷ b ∷ c ∷ [] ≡ take 3 (drop n row)
+three_samples {X = X} row n a b c fits first second third =
     let next : (n + 1) + 1 ≡ n + 2 = omega arith in
-    ap (λ (k : ℕ). take 3 (drop k row)) place
-    ∙ ap (take 3) (drop_more row n a (omega arith)) ∙ ap (λ (y : X). y ∷ take 2 (drop (n + 1) row)) (sym first)
+    sym (
+    ap (take 3) (drop_more row n a (omega arith)) ∙ ap (λ (y : X). y ∷ take 2 (drop (n + 1) row)) (sym first)
     ∙ ap (λ (l : List X). a ∷ take 2 l) (drop_more row (n + 1) b (omega arith)) ∙ ap (λ (y : X). a ∷ y ∷ take 1 (drop ((n + 1) + 1) row)) (sym second)
     ∙ ap (λ (k : ℕ). a ∷ b ∷ take 1 (drop k row)) next
     ∙ ap (λ (l : List X). a ∷ b ∷ take 1 l) (drop_more row (n + 2) c (omega arith)) ∙ ap (λ (y : X). a ∷ b ∷ y ∷ []) (sym third)
+    )
+
+-- a pixel of three samples
+pub color_of : {X : Type 0} (row color : List X) (n x : ℕ) → color ≡ take 3 (drop n row) → n ≡ 3 * x → color ≡ pixel_of 3 row x
+color_of {X = X} row color n x is place = is ∙ ap (λ (k : ℕ). take 3 (drop k row)) (omega (arith, place))
 
 -- ---- each pixel twice
 
@@ -88,57 +91,40 @@ doubled_more {X = X} row buffer i a b v was lt size first second is =
     ∙ sym (one_more_column 2 1 row i)
 
 -- one pixel more, twice
-pub colors_more : {X : Type 0} (row buffer : List X) (x : ℕ) (a b c : X) → take (6 * x) buffer ≡ columns_repeated 2 3 row x → 3 * x + 3 ≤ length row
-    → length buffer ≡ length row * 2
-    → a ≡ get_or row (3 * x) a → b ≡ get_or row (3 * x + 1) b → c ≡ get_or row (3 * x + 2) c
-    → take (6 * (x + 1)) (set (set (set (set (set (set buffer (6 * x) a) (6 * x + 1) b) (6 * x + 2) c) (6 * x + 3) a) (6 * x + 4) b) (6 * x + 5) c)
-    ≡ columns_repeated 2 3 row (x + 1)
-colors_more {X = X} row buffer x a b c was fits size first second third =
-    let n : ℕ = 6 * x in
-    let prefix : List X = columns_repeated 2 3 row x in
-    let r₂ : List X = set (set buffer n a) (n + 1) b in
-    let r₄ : List X = set (set r₂ (n + 2) c) (n + 3) a in
-    let long₂ : length r₂ ≡ length buffer = length-set (set buffer n a) (n + 1) b ∙ length-set buffer n a in
-    let long₄ : length r₄ ≡ length buffer = length-set (set r₂ (n + 2) c) (n + 3) a ∙ length-set r₂ (n + 2) c ∙ long₂ in
-    let two : take (n + 2) r₂ ≡ prefix ++ (a ∷ b ∷ []) = stored_twice buffer prefix n n (n + 1) a b was (omega arith) refl refl in
-    let four : take ((n + 2) + 2) r₄ ≡ (prefix ++ (a ∷ b ∷ [])) ++ (c ∷ a ∷ []) = stored_twice r₂ (prefix ++ (a ∷ b ∷ [])) (n + 2) (n + 2) (n + 3) c a two
-    (omega arith) refl (omega arith) in
-    let six : take (((n + 2) + 2) + 2) (set (set r₄ (n + 4) b) (n + 5) c) ≡ ((prefix ++ (a ∷ b ∷ [])) ++ (c ∷ a ∷ [])) ++ (b ∷ c ∷ []) =
-    stored_twice r₄ ((prefix ++ (a ∷ b ∷ [])) ++ (c ∷ a ∷ [])) ((n + 2) + 2) (n + 4) (n + 5) b c four (omega arith) (omega arith) (omega arith) in
-    let next : 6 * (x + 1) ≡ ((n + 2) + 2) + 2 = omega arith in
-    ap (λ (k : ℕ). take k (set (set r₄ (n + 4) b) (n + 5) c)) next ∙ six
-    ∙ append_assoc (prefix ++ (a ∷ b ∷ [])) (c ∷ a ∷ []) (b ∷ c ∷ []) ∙ append_assoc prefix (a ∷ b ∷ []) (c ∷ a ∷ b ∷ c ∷ [])
-    ∙ ap (λ (l : List X). prefix ++ (l ++ (l ++ []))) (sym (pixel_of_three row x a b c fits first second third))
-    ∙ sym (one_more_column 2 3 row x)
+pub color_doubled : {X : Type 0} (row buffer new color : List X) (x at n : ℕ) → take at buffer ≡ columns_repeated 2 3 row x
+    → take (at + 6) new ≡ take at buffer ++ copies_of 2 color → color ≡ take 3 (drop n row) → n ≡ 3 * x → take (at + 6) new ≡ columns_repeated 2 3 row (x + 1)
+color_doubled {X = X} row buffer new color x at n was stored is place =
+    stored ∙ ap (λ (l : List X). l ++ copies_of 2 color) was
+    ∙ ap (λ (l : List X). columns_repeated 2 3 row x ++ copies_of 2 l) (color_of row color n x is place) ∙ sym (one_more_column 2 3 row x)
 
--- six stores change no length
-length-six : {X : Type 0} (buffer : List X) (n₁ n₂ n₃ n₄ n₅ n₆ : ℕ) (v₁ v₂ v₃ v₄ v₅ v₆ : X)
-    → length (set (set (set (set (set (set buffer n₁ v₁) n₂ v₂) n₃ v₃) n₄ v₄) n₅ v₅) n₆ v₆) ≡ length buffer
-length-six {X = X} buffer n₁ n₂ n₃ n₄ n₅ n₆ v₁ v₂ v₃ v₄ v₅ v₆ =
-    let r₁ : List X = set buffer n₁ v₁ in
-    let r₂ : List X = set r₁ n₂ v₂ in
-    let r₃ : List X = set r₂ n₃ v₃ in
-    let r₄ : List X = set r₃ n₄ v₄ in
-    let r₅ : List X = set r₄ n₅ v₅ in
-    length-set r₅ n₆ v₆ ∙ length-set r₄ n₅ v₅ ∙ length-set r₃ n₄ v₄ ∙ length-set r₂ n₃ v₃ ∙ length-set r₁ n₂ v₂ ∙ length-set buffer n₁ v₁
+-- six stores behind the front of a buffer
+pub stored_six : {X : Type 0} (buffer : List X) (n b c d e f : ℕ) (u v w : X) → n + 6 ≤ length buffer → b ≡ n + 1 → c ≡ n + 2 → d ≡ n + 3 → e ≡ n + 4
+    → f ≡ n + 5
+    → take (n + 6) (set (set (set (set (set (set buffer n u) b v) c w) d u) e v) f w) ≡ take n buffer ++ copies_of 2 (u ∷ v ∷ w ∷ [])
+stored_six {X = X} buffer n b c d e f u v w fits at₁ at₂ at₃ at₄ at₅ =
+    let prefix : List X = take n buffer in
+    let r₂ : List X = set (set buffer n u) b v in
+    let r₄ : List X = set (set r₂ c w) d u in
+    let long₂ : length r₂ ≡ length buffer = length-set (set buffer n u) b v ∙ length-set buffer n u in
+    let long₄ : length r₄ ≡ length buffer = length-set (set r₂ c w) d u ∙ length-set r₂ c w ∙ long₂ in
+    let two : take (n + 2) r₂ ≡ prefix ++ (u ∷ v ∷ []) = stored_twice buffer prefix n n b u v refl (omega arith) refl at₁ in
+    let four : take ((n + 2) + 2) r₄ ≡ (prefix ++ (u ∷ v ∷ [])) ++ (w ∷ u ∷ []) =
+    stored_twice r₂ (prefix ++ (u ∷ v ∷ [])) (n + 2) c d w u two (omega arith) at₂ (omega arith) in
+    let six : take (((n + 2) + 2) + 2) (set (set r₄ e v) f w) ≡ ((prefix ++ (u ∷ v ∷ [])) ++ (w ∷ u ∷ [])) ++ (v ∷ w ∷ []) =
+    stored_twice r₄ ((prefix ++ (u ∷ v ∷ [])) ++ (w ∷ u ∷ [])) ((n + 2) + 2) e f v w four (omega arith) (omega arith) (omega arith) in
+    let next : n + 6 ≡ ((n + 2) + 2) + 2 = omega arith in
+    ap (λ (k : ℕ). take k (set (set r₄ e v) f w)) next ∙ six
+    ∙ append_assoc (prefix ++ (u ∷ v ∷ [])) (w ∷ u ∷ []) (v ∷ w ∷ []) ∙ append_assoc prefix (u ∷ v ∷ []) (w ∷ u ∷ v ∷ w ∷ [])
 
 -- four pixels, each twice
-pub four_colors : {X : Type 0} (row buffer : List X) (a b c d e f g h i j k l : X) → length row ≡ 12 → length buffer ≡ 24
-    → a ≡ get_or row 0 a → b ≡ get_or row 1 b → c ≡ get_or row 2 c → d ≡ get_or row 3 d → e ≡ get_or row 4 e → f ≡ get_or row 5 f
-    → g ≡ get_or row 6 g → h ≡ get_or row 7 h → i ≡ get_or row 8 i → j ≡ get_or row 9 j → k ≡ get_or row 10 k → l ≡ get_or row 11 l
-    → (r₁ r₂ r₃ r₄ : List X) → r₁ ≡ set (set (set (set (set (set buffer 0 a) 1 b) 2 c) 3 a) 4 b) 5 c
-    → r₂ ≡ set (set (set (set (set (set r₁ 6 d) 7 e) 8 f) 9 d) 10 e) 11 f
-    → r₃ ≡ set (set (set (set (set (set r₂ 12 g) 13 h) 14 i) 15 g) 16 h) 17 i → r₄ ≡ set (set (set (set (set (set r₃ 18 j) 19 k) 20 l) 21 j) 22 k) 23 l
-    → r₄ ≡ columns_repeated 2 3 row 4
-four_colors {X = X} row buffer a b c d e f g h i j k l twelve long pa pb pc pd pe pf pg ph pi pj pk pl r₁ r₂ r₃ r₄ e₁ e₂ e₃ e₄ =
-    let l₁ : length r₁ ≡ 24 = ap length e₁ ∙ length-six buffer 0 1 2 3 4 5 a b c a b c ∙ long in
-    let l₂ : length r₂ ≡ 24 = ap length e₂ ∙ length-six r₁ 6 7 8 9 10 11 d e f d e f ∙ l₁ in
-    let l₃ : length r₃ ≡ 24 = ap length e₃ ∙ length-six r₂ 12 13 14 15 16 17 g h i g h i ∙ l₂ in
-    let l₄ : length r₄ ≡ 24 = ap length e₄ ∙ length-six r₃ 18 19 20 21 22 23 j k l j k l ∙ l₃ in
-    let s₁ : take 6 r₁ ≡ columns_repeated 2 3 row 1 = ap (take 6) e₁ ∙ colors_more row buffer 0 a b c refl (omega arith) (omega arith) pa pb pc in
-    let s₂ : take 12 r₂ ≡ columns_repeated 2 3 row 2 = ap (take 12) e₂ ∙ colors_more row r₁ 1 d e f s₁ (omega arith) (omega arith) pd pe pf in
-    let s₃ : take 18 r₃ ≡ columns_repeated 2 3 row 3 = ap (take 18) e₃ ∙ colors_more row r₂ 2 g h i s₂ (omega arith) (omega arith) pg ph pi in
-    let s₄ : take 24 r₄ ≡ columns_repeated 2 3 row 4 = ap (take 24) e₄ ∙ colors_more row r₃ 3 j k l s₃ (omega arith) (omega arith) pj pk pl in
+pub four_colors : {X : Type 0} (row buffer r₁ r₂ r₃ r₄ p q r s : List X) → length r₄ ≡ 24 → p ≡ take 3 (drop 0 row) → q ≡ take 3 (drop 3 row)
+    → r ≡ take 3 (drop 6 row) → s ≡ take 3 (drop 9 row) → take 6 r₁ ≡ take 0 buffer ++ copies_of 2 p → take 12 r₂ ≡ take 6 r₁ ++ copies_of 2 q
+    → take 18 r₃ ≡ take 12 r₂ ++ copies_of 2 r → take 24 r₄ ≡ take 18 r₃ ++ copies_of 2 s → r₄ ≡ columns_repeated 2 3 row 4
+four_colors {X = X} row buffer r₁ r₂ r₃ r₄ p q r s long ip iq ir is e₁ e₂ e₃ e₄ =
+    let s₁ : take 6 r₁ ≡ columns_repeated 2 3 row 1 = color_doubled row buffer r₁ p 0 0 0 refl e₁ ip refl in
+    let s₂ : take 12 r₂ ≡ columns_repeated 2 3 row 2 = color_doubled row r₁ r₂ q 1 6 3 s₁ e₂ iq refl in
+    let s₃ : take 18 r₃ ≡ columns_repeated 2 3 row 3 = color_doubled row r₂ r₃ r 2 12 6 s₂ e₃ ir refl in
+    let s₄ : take 24 r₄ ≡ columns_repeated 2 3 row 4 = color_doubled row r₃ r₄ s 3 18 9 s₃ e₄ is refl in
     sym (take_all 24 r₄ (omega arith)) ∙ s₄
 
 -- a pixel of four that stand side by side

@@ -50,6 +50,20 @@ kept_stored {X = X} b first depth m strips rows f g old columns new far parts si
     (subst (λ (i : ℕ). HavePixels i (0 + m) (λ k. g (first + k)) columns new) before.many
     (subst (λ (i : ℕ). HavePixels (length columns) i (λ k. g (first + k)) columns new) at behind))
 
+-- where the samples of the strips and of the rows lie in a column
+pub kept_samples : {X : Type 0} (depth : ℕ) (strips rows lent_strips lent_rows : List (List X)) → lent_strips ≡ strips → lent_rows ≡ rows
+    → length lent_strips * (STRIP_ROWS * depth) + length lent_rows * depth ≡ kept_count strips rows * depth
+kept_samples depth strips rows lent_strips lent_rows same_strips same_rows =
+    ap (λ (n : ℕ). n * (STRIP_ROWS * depth) + length lent_rows * depth) (ap length same_strips)
+    ∙ ap (λ (n : ℕ). length strips * (STRIP_ROWS * depth) + n * depth) (ap length same_rows) ∙ omega arith
+
+-- columns that are as many as others reach as far
+pub reach_lent : {X : Type 0} (first part count now : ℕ) (rows lent : List (List X)) → lent ≡ rows → now ≡ count
+    → All (λ row. (first + count) * part ≤ length row) rows → All (λ row. (first + now) * part ≤ length row) lent
+reach_lent {X = X} first part count now rows lent same many far =
+    subst (λ (n : ℕ). All (λ row. (first + n) * part ≤ length row) lent) (sym many)
+    (subst (λ (l : List (List X)). All (λ row. (first + count) * part ≤ length row) l) (sym same) far)
+
 pub rows_stored_first : {X : Type 0} (b : Bool) (first depth : ℕ) (strips rows lent_strips lent_rows : List (List X)) (old columns new : List (Vec X Global))
     → b ≡ true → lent_strips ≡ strips → lent_rows ≡ rows → ReachColumns (first + length old) depth strips rows
     → HavePixels (length old) 0 (λ k. column_of depth lent_rows (first + k)) old columns

@@ -9,6 +9,7 @@ ghost use Rattle.pnm_tools.specs.Flip.{column_of};
 ghost use Rattle.pnm_tools.specs.Pixels.{pixel_of};
 ghost use Rattle.pnm_filters.specs.Strips.{ReachColumns, kept_column, kept_count};
 
+use crate::color::color_at;
 use crate::row_of::RowOf;
 use crate::strip::{STRIP_ROWS, StripedRows};
 use pnm_image::{Bits, SampleVec, Samples};
@@ -191,19 +192,10 @@ fn put_four_colors<T: Copy>(columns: &mut [Vec<T>], at: usize, rows: &[RowOf<T>]
     let (c, d) = (rows[2].as_slice(), rows[3].as_slice());
     for (k, column) in columns.iter_mut().enumerate() {
         let x = 3 * (first + k);
+        let (p, q) = (color_at(a, x), color_at(b, x));
+        let (r, s) = (color_at(c, x), color_at(d, x));
         column[at..at + 12].copy_from_slice(&[
-            a[x],
-            a[x + 1],
-            a[x + 2],
-            b[x],
-            b[x + 1],
-            b[x + 2],
-            c[x],
-            c[x + 1],
-            c[x + 2],
-            d[x],
-            d[x + 1],
-            d[x + 2],
+            p.0, p.1, p.2, q.0, q.1, q.2, r.0, r.1, r.2, s.0, s.1, s.2,
         ]);
     }
 }

@@ -14,6 +14,7 @@ ghost use Rattle.pnm_filters.specs.Keeping.{IsEnlarging, enlarged_due};
 ghost use Rattle.pnm_tools.specs.Limits.{IsExtent};
 ghost use Rattle.pnm_tools.specs.Tools.{TakesHead, result_head};
 
+use crate::color::color_at;
 use crate::head::head_within_limits;
 use crate::image_tool::ImageTool;
 use pnm_image::{Bits, Head, SampleVec, Samples, Shape};
@@ -87,7 +88,16 @@ fn repeat_pixels<T: Copy>(
 {
     // The buffer is there first, and the stores then grow nothing.
     let mut enlarged = Vec::from_elem(alloc, row[0], row.len() * across as usize)?;
-    let buffer = enlarged.as_mut_slice();
+    repeat_into(across, shape, row, enlarged.as_mut_slice());
+    Ok(enlarged)
+}
+
+/// Fills the buffer with the row, each pixel so many times, by the loop for so many and such pixels.
+fn repeat_into<T: Copy>(across: u32, shape: Shape, row: &[T], buffer: &mut [T])
+    requires row { length row.now ≡ row_length shape }
+    requires buffer { length buffer.old ≡ length row.now * across }
+    ensures { buffer.new ≡ enlarged_row across shape row.now }
+{
     match (across, shape.depth) {
         (2, 1) => double_samples(shape, row, buffer),
         (2, 3) => double_colors(shape, row, buffer),
@@ -95,7 +105,6 @@ fn repeat_pixels<T: Copy>(
         (_, 3) => repeat_colors(across, shape, row, buffer),
         _ => repeat_each(across, shape, row, buffer),
     }
-    Ok(enlarged)
 }
 
 /// Fills the buffer with the row, each pixel twice, where a pixel is one sample.
@@ -125,13 +134,7 @@ fn double_colors<T: Copy>(shape: Shape, row: &[T], buffer: &mut [T])
         double_four_colors(&row[12 * x..12 * x + 12], &mut buffer[24 * x..24 * x + 24]);
     }
     for x in 4 * fours..width {
-        let (red, green, blue) = (row[3 * x], row[3 * x + 1], row[3 * x + 2]);
-        buffer[6 * x] = red;
-        buffer[6 * x + 1] = green;
-        buffer[6 * x + 2] = blue;
-        buffer[6 * x + 3] = red;
-        buffer[6 * x + 4] = green;
-        buffer[6 * x + 5] = blue;
+        put_twice(buffer, 6 * x, color_at(row, 3 * x));
     }
 }
 
@@ -142,34 +145,29 @@ fn double_four_colors<T: Copy>(row: &[T], buffer: &mut [T])
     requires buffer { length buffer.old ≡ 24 }
     ensures { buffer.new ≡ flat_map (λ x. copies_of 2 (pixel_of 3 row.now x)) (range_with_len 0 4) }
 {
-    let (a, b, c) = (row[0], row[1], row[2]);
-    let (d, e, f) = (row[3], row[4], row[5]);
-    let (g, h, i) = (row[6], row[7], row[8]);
-    let (j, k, l) = (row[9], row[10], row[11]);
-    buffer[0] = a;
-    buffer[1] = b;
-    buffer[2] = c;
-    buffer[3] = a;
-    buffer[4] = b;
-    buffer[5] = c;
-    buffer[6] = d;
-    buffer[7] = e;
-    buffer[8] = f;
-    buffer[9] = d;
-    buffer[10] = e;
-    buffer[11] = f;
-    buffer[12] = g;
-    buffer[13] = h;
-    buffer[14] = i;
-    buffer[15] = g;
-    buffer[16] = h;
-    buffer[17] = i;
-    buffer[18] = j;
-    buffer[19] = k;
-    buffer[20] = l;
-    buffer[21] = j;
-    buffer[22] = k;
-    buffer[23] = l;
+    let (first, second) = (color_at(row, 0), color_at(row, 3));
+    let (third, fourth) = (color_at(row, 6), color_at(row, 9));
+    put_twice(buffer, 0, first);
+    put_twice(buffer, 6, second);
+    put_twice(buffer, 12, third);
+    put_twice(buffer, 18, fourth);
+}
+
+/// Stores three samples twice from this place on.
+#[inline(always)]
+fn put_twice<T: Copy>(buffer: &mut [T], at: usize, color: (T, T, T))
+    requires { at + 6 ≤ length buffer.old }
+    ensures long { length buffer.new ≡ length buffer.old }
+    ensures stored { take (at + 6) buffer.new
+        ≡ take at buffer.old ++ copies_of 2 (color.0 ∷ color.1 ∷ color.2 ∷ []) }
+{
+    let (a, b, c) = color;
+    buffer[at] = a;
+    buffer[at + 1] = b;
+    buffer[at + 2] = c;
+    buffer[at + 3] = a;
+    buffer[at + 4] = b;
+    buffer[at + 5] = c;
 }
 
 /// Fills the buffer with the row, each pixel so many times, where a pixel is one sample.
@@ -214,8 +212,7 @@ fn repeat_colors<T: Copy>(across: u32, shape: Shape, row: &[T], buffer: &mut [T]
 {
     let (width, across) = (shape.width as usize, across as usize);
     for x in 0..width {
-        let color = (row[3 * x], row[3 * x + 1], row[3 * x + 2]);
-        put_colors(buffer, 3 * x * across, across, color);
+        put_colors(buffer, 3 * x * across, across, color_at(row, 3 * x));
     }
 }
 

@@ -5,6 +5,7 @@ mod any_tool;
 mod batch;
 mod by_row;
 mod channel;
+mod color;
 mod cut;
 mod depth;
 mod enlarge;

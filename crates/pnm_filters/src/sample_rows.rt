@@ -11,7 +11,6 @@ ghost use Rattle.pnm_filters.specs.SampleRows.{batch_length};
 ghost use Rattle.pnm_filters.specs.Strips.{HaveSizes, KeepColumns, ReachColumns, kept_column, kept_count};
 
 use crate::batch::{columns_of, last_first};
-use crate::row_of::RowOf;
 use crate::strip::StripedRows;
 use pnm_image::{Bits, SampleWidth, Samples, Shape};
 use pnm_tools::ToolFault;
@@ -69,11 +68,10 @@ impl SampleRows {
         ensures refused { IfErr result (λ fault. fault ≡ Memory) }
     {
         match self {
-            SampleRows::Bits(rows) => rows.push(row.into_bits(alloc)?)?,
-            SampleRows::Bytes(kept) => kept.rows.push(RowOf::new(row.into_bytes(alloc)?))?,
-            SampleRows::Words(kept) => kept.rows.push(RowOf::new(row.into_words(alloc)?))?,
+            SampleRows::Bits(rows) => Ok(rows.push(row.into_bits(alloc)?)?),
+            SampleRows::Bytes(kept) => kept.push(row.into_bytes(alloc)?),
+            SampleRows::Words(kept) => kept.push(row.into_words(alloc)?),
         }
-        Ok(())
     }
 
     /// Makes a strip of the rows that came last, once they are as many as a strip has, in an image that has

@@ -1,7 +1,7 @@
 //! Rows of an image, most of which are kept in strips with columns and rows exchanged: so they are
 //! exchanged while the image comes, and lie in the processor's cache.
 
-ghost use Rattle.std.specs.Prelude.{◌≡◌, ◌≤◌, ◌+◌, ◌*◌, ◌++◌, [], All, OnOk, IfOk, IfErr, length, reverse};
+ghost use Rattle.std.specs.Prelude.{◌≡◌, ◌≤◌, ◌+◌, ◌*◌, ◌++◌, ◌∷◌, [], All, OnOk, OnErr, IfOk, IfErr, length, reverse};
 ghost use Rattle.std.specs.List.{flat_map, range_with_len};
 ghost use Rattle.pnm_image.specs.declared.limits.TheConstants.{MAX_DEPTH, MAX_ROW_LENGTH, MAX_SIDE};
 ghost use Rattle.pnm_tools.specs.declared.fault.ToolFault.TheVariants.{Memory};
@@ -54,6 +54,17 @@ impl<T> StripedRows<T> {
 }
 
 impl<T: Copy + Default> StripedRows<T> {
+    /// Adds a row at the end. The only fault is `Memory`.
+    pub fn push(&mut self, samples: Vec<T>) -> Result<(), ToolFault>
+        ensures strips { self.new.strips.items ≡ self.old.strips.items }
+        ensures added { OnOk result (self.new.rows.items ≡ self.old.rows.items ++ samples.items ∷ []) }
+        ensures unchanged { OnErr result (self.new.rows.items ≡ self.old.rows.items) }
+        ensures refused { IfErr result (λ fault. fault ≡ Memory) }
+    {
+        self.rows.push(RowOf::new(samples))?;
+        Ok(())
+    }
+
     /// Makes a strip of the rows that came last, once they are as many as a strip has. The only fault is
     /// `Memory`.
     pub fn fill_strip(

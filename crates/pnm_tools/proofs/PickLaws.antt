@@ -65,6 +65,16 @@ piece_written {X = X} f each count x m buffer samples piece below size same is m
     ∙ sym (append_assoc prefix (f x) (drop ((x + 1) * each) buffer))
     ∙ ap (λ (l : List X). l ++ drop ((x + 1) * each) buffer) (sym (flat_map_one_more f 0 x x (omega arith)))
 
+-- a plane's sample of a pixel lies in the row
+pub plane_there : (width depth x n size : ℕ) → x < width → n < depth → size ≡ width * depth → x * depth + n < size
+plane_there width depth x n size column plane is =
+    let within : suc x * depth ≤ width * depth = mul-le-mul {n₁ = suc x} {m₁ = depth} {n₂ = width} {m₂ = depth} (omega arith) (omega arith) in
+    omega (arith, within)
+
+-- so many samples of each column end within those of all columns
+pub columns_end : (count each x : ℕ) → x < count → (x + 1) * each ≤ count * each
+columns_end count each x below = mul-le-mul {n₁ = x + 1} {m₁ = each} {n₂ = count} {m₂ = each} (omega arith) (omega arith)
+
 -- all planes of a pixel stand in the buffer
 pub planes_picked : {X : Type 0} (numbers : List ℕ) (row : List X) (first i : ℕ) (buffer : List X) → length buffer ≤ i → length numbers ≤ i
     → HasPlanesOf numbers row first i buffer → (past : X) → buffer ≡ map (λ number. slice_index_or row (first + number) past) numbers

@@ -1,8 +1,8 @@
 -- The flipped image, from pamflip(1): the same, flipped left for right, flipped top for bottom, transposed, columns and
 -- rows exchanged, or turned counterclockwise by one, two or three quarters. Each way is a rule as well: which orders
 -- are reversed, and whether columns and rows are exchanged then.
-use Rattle.std.specs.Prelude.{◌≡◌, ℕ, ◌-◌, ◌==◌, List, [], ◌∷◌, map, reverse, Result, Ok, Err, if◌then◌else◌, Bool, true}
-use Rattle.std.specs.Prelude.{false, not, ◌&&◌, ◌||◌}
+use Rattle.std.specs.Prelude.{◌≡◌, ℕ, ◌-◌, ◌==◌, List, [], ◌∷◌, map, reverse, Result, Ok, Err, if◌then◌else◌, Bool}
+use Rattle.std.specs.Prelude.{true, false, not, ◌&&◌, ◌||◌}
 use Rattle.std.specs.List.{flat_map, range_with_len}
 use Rattle.pnm_image.specs.declared.shape.Shape.{Shape}
 use Rattle.pnm_image.specs.Heads.{HeadValue}

@@ -1,6 +1,8 @@
-use Rattle.std.proofs.Common.{◌+◌, ◌≤◌, ◌∙◌, arith, vec_len, get_or}
+use Rattle.std.proofs.Common.{◌+◌, ◌*◌, ◌≤◌, ◌∙◌, refl, arith, vec_len, get_or, ◌≡◌, ℕ, length, subst, ap}
 use Rattle.pnm_tools.specs.Flip.{column_of}
-use Rattle.pnm_filters.proofs.ColumnLaws.{column_stored, looked_up, reach, four_colors}
+use Rattle.pnm_filters.proofs.ColumnLaws.{column_stored, looked_up, row_reaches, four_colors, nothing_stored}
+use borrow.Rule.Slice.PartMut.{mid_len}
+use Rattle.pnm_filters.specs.Columns.{HavePixels}
 use Rattle.pnm_filters.proofs.batch.put_four_colors.Goals as goal
 
 pub loop-k-preserved : goal.loop-k-preserved
@@ -13,15 +15,57 @@ loop-k-preserved g c =
     column_stored k at _ (λ k. column_of 3 rows (c.args.first + k)) c.args.columns.now c.loop-k.columns v c.deref_mut.result.now c.copy_from_slice.new.self
     c.loop-k.invariant (omega arith) c.deref_mut.ensures.value
     (c.copy_from_slice.ensures.after
-    ∙ four_colors (c.args.first + k) rows c.as_slice-a.result.now c.as_slice-b.result.now c.as_slice-c.result.now c.as_slice-d.result.now c.index-a-x.result
-    c.index-a-x-in-loop-k.result c.index-a-x-in-loop-k-2.result c.index-b-x.result c.index-b-x-in-loop-k.result c.index-b-x-in-loop-k-2.result
-    c.index-c-x.result c.index-c-x-in-loop-k.result c.index-c-x-in-loop-k-2.result c.index-d-x.result c.index-d-x-in-loop-k.result
-    c.index-d-x-in-loop-k-2.result
-    c.requires.four (reach 3 c.args.first _ k rows (omega arith) c.requires.rows)
+    ∙ four_colors (c.args.first + k) (3 * (c.args.first + k)) rows c.as_slice-a.result.now c.as_slice-b.result.now c.as_slice-c.result.now
+    c.as_slice-d.result.now _ _ _ _ refl c.requires.four
     (looked_up c.args.rows.now 0 c.as_slice-a.result.now c.index-rows-0.result c.as_slice-a.ensures c.index-rows-0.is)
     (looked_up c.args.rows.now 1 c.as_slice-b.result.now c.index-rows-1.result c.as_slice-b.ensures c.index-rows-1.is)
     (looked_up c.args.rows.now 2 c.as_slice-c.result.now c.index-rows-2.result c.as_slice-c.ensures c.index-rows-2.is)
     (looked_up c.args.rows.now 3 c.as_slice-d.result.now c.index-rows-3.result c.as_slice-d.ensures c.index-rows-3.is)
-    c.index-a-x.is c.index-a-x-in-loop-k.is c.index-a-x-in-loop-k-2.is c.index-b-x.is c.index-b-x-in-loop-k.is c.index-b-x-in-loop-k-2.is c.index-c-x.is
-    c.index-c-x-in-loop-k.is c.index-c-x-in-loop-k-2.is c.index-d-x.is c.index-d-x-in-loop-k.is c.index-d-x-in-loop-k-2.is)
+    c.color_at-p.ensures c.color_at-q.ensures c.color_at-r.ensures c.color_at-s.ensures)
     c.copy_from_slice.ensures.len (omega (arith, buffer))
+
+pub color_at-p-requires : goal.color_at-p-requires
+color_at-p-requires g c =
+    let fits = row_reaches 3 c.args.first _ c.loop-k.k 0 c.args.rows.now c.as_slice-a.result.now c.index-rows-0.result c.requires.four (omega arith)
+    (omega arith)
+    c.as_slice-a.ensures c.index-rows-0.is c.requires.rows in
+    omega (arith, fits)
+
+pub color_at-q-requires : goal.color_at-q-requires
+color_at-q-requires g c =
+    let fits = row_reaches 3 c.args.first _ c.loop-k.k 1 c.args.rows.now c.as_slice-b.result.now c.index-rows-1.result c.requires.four (omega arith)
+    (omega arith)
+    c.as_slice-b.ensures c.index-rows-1.is c.requires.rows in
+    omega (arith, fits)
+
+pub color_at-r-requires : goal.color_at-r-requires
+color_at-r-requires g c =
+    let fits = row_reaches 3 c.args.first _ c.loop-k.k 2 c.args.rows.now c.as_slice-c.result.now c.index-rows-2.result c.requires.four (omega arith)
+    (omega arith)
+    c.as_slice-c.ensures c.index-rows-2.is c.requires.rows in
+    omega (arith, fits)
+
+pub color_at-s-requires : goal.color_at-s-requires
+color_at-s-requires g c =
+    let fits = row_reaches 3 c.args.first _ c.loop-k.k 3 c.args.rows.now c.as_slice-d.result.now c.index-rows-3.result c.requires.four (omega arith)
+    (omega arith)
+    c.as_slice-d.ensures c.index-rows-3.is c.requires.rows in
+    omega (arith, fits)
+
+pub loop-k-init : goal.loop-k-init
+loop-k-init g c = nothing_stored _ _ _
+
+pub copy_from_slice-requires : goal.copy_from_slice-requires
+copy_from_slice-requires g c =
+    let at = c.args.at in
+    let k = c.loop-k.k in
+    let v = c.index-columns-k.result in
+    let buffer : at + 12 ≤ vec_len (get_or c.loop-k.columns k v) = omega (arith, c.requires.long k v (omega arith), c.loop-k.invariant.long k v) in
+    let room : at + 12 ≤ length c.deref_mut.result.now = omega (arith, buffer, ap length c.deref_mut.ensures.value, (get_or c.loop-k.columns k v).ok.0) in
+    omega (arith, mid_len at (at + 12) c.deref_mut.result.now room)
+
+pub returns : goal.returns
+returns g c =
+    let all : c.loop-k.k ≡ length c.args.columns.now = omega (arith, c.loop-k.invariant.many) in
+    subst (λ (n : ℕ). HavePixels n c.args.at (λ k. column_of 3 c.args.rows.now (c.args.first + k)) c.args.columns.now c.loop-k.columns) all
+    c.loop-k.invariant

@@ -1,6 +1,8 @@
-use Rattle.std.proofs.Common.{◌+◌, ◌≤◌, ◌∙◌, arith, vec_len, get_or}
+use Rattle.std.proofs.Common.{◌+◌, ◌≤◌, ◌∙◌, arith, vec_len, get_or, ◌≡◌, ℕ, length, subst, ap}
 use Rattle.pnm_tools.specs.Flip.{column_of}
-use Rattle.pnm_filters.proofs.ColumnLaws.{column_stored, looked_up, reach, four_samples}
+use Rattle.pnm_filters.proofs.ColumnLaws.{column_stored, looked_up, reach, row_reaches, four_samples, nothing_stored}
+use borrow.Rule.Slice.PartMut.{mid_len}
+use Rattle.pnm_filters.specs.Columns.{HavePixels}
 use Rattle.pnm_filters.proofs.batch.put_four_samples.Goals as goal
 
 pub loop-k-preserved : goal.loop-k-preserved
@@ -22,3 +24,49 @@ loop-k-preserved g c =
     (looked_up c.args.rows.now 3 c.as_slice-d.result.now c.index-rows-3.result c.as_slice-d.ensures c.index-rows-3.is)
     c.index-a-x.is c.index-b-x.is c.index-c-x.is c.index-d-x.is)
     c.copy_from_slice.ensures.len (omega (arith, buffer))
+
+pub bounds-a-x : goal.bounds-a-x
+bounds-a-x g c =
+    let fits = row_reaches 1 c.args.first _ c.loop-k.k 0 c.args.rows.now c.as_slice-a.result.now c.index-rows-0.result c.requires.four (omega arith)
+    (omega arith)
+    c.as_slice-a.ensures c.index-rows-0.is c.requires.rows in
+    omega (arith, fits)
+
+pub bounds-b-x : goal.bounds-b-x
+bounds-b-x g c =
+    let fits = row_reaches 1 c.args.first _ c.loop-k.k 1 c.args.rows.now c.as_slice-b.result.now c.index-rows-1.result c.requires.four (omega arith)
+    (omega arith)
+    c.as_slice-b.ensures c.index-rows-1.is c.requires.rows in
+    omega (arith, fits)
+
+pub bounds-c-x : goal.bounds-c-x
+bounds-c-x g c =
+    let fits = row_reaches 1 c.args.first _ c.loop-k.k 2 c.args.rows.now c.as_slice-c.result.now c.index-rows-2.result c.requires.four (omega arith)
+    (omega arith)
+    c.as_slice-c.ensures c.index-rows-2.is c.requires.rows in
+    omega (arith, fits)
+
+pub bounds-d-x : goal.bounds-d-x
+bounds-d-x g c =
+    let fits = row_reaches 1 c.args.first _ c.loop-k.k 3 c.args.rows.now c.as_slice-d.result.now c.index-rows-3.result c.requires.four (omega arith)
+    (omega arith)
+    c.as_slice-d.ensures c.index-rows-3.is c.requires.rows in
+    omega (arith, fits)
+
+pub loop-k-init : goal.loop-k-init
+loop-k-init g c = nothing_stored _ _ _
+
+pub copy_from_slice-requires : goal.copy_from_slice-requires
+copy_from_slice-requires g c =
+    let at = c.args.at in
+    let k = c.loop-k.k in
+    let v = c.index-columns-k.result in
+    let buffer : at + 4 ≤ vec_len (get_or c.loop-k.columns k v) = omega (arith, c.requires.long k v (omega arith), c.loop-k.invariant.long k v) in
+    let room : at + 4 ≤ length c.deref_mut.result.now = omega (arith, buffer, ap length c.deref_mut.ensures.value, (get_or c.loop-k.columns k v).ok.0) in
+    omega (arith, mid_len at (at + 4) c.deref_mut.result.now room)
+
+pub returns : goal.returns
+returns g c =
+    let all : c.loop-k.k ≡ length c.args.columns.now = omega (arith, c.loop-k.invariant.many) in
+    subst (λ (n : ℕ). HavePixels n c.args.at (λ k. column_of 1 c.args.rows.now (c.args.first + k)) c.args.columns.now c.loop-k.columns) all
+    c.loop-k.invariant

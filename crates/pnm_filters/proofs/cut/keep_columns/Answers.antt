@@ -1,4 +1,5 @@
-use Rattle.std.proofs.Common.{◌≤◌, All, sym, subst, refl, ◌∙◌}
+use Rattle.std.proofs.Common.{◌≤◌, ◌+◌, ◌-◌, ◌*◌, ◌∙◌, All, ap, sym, subst, refl, arith, mul-le-mul}
+use Rattle.pnm_tools.specs.Cut.{columns_of_row}
 use Rattle.pnm_tools.proofs.CutRowLaws.{all_kept, kept_within}
 use Rattle.pnm_filters.proofs.cut.keep_columns.Goals as goal
 
@@ -10,3 +11,26 @@ within-requires c =
 
 pub returns-then-count-len : goal.returns-then-count-len
 returns-then-count-len c = all_kept c.args.columns c.args.shape.depth _ c.args.row c.requires.columns refl (c.if-count-len.true ∙ c.len.ensures)
+
+pub overflow_mul-count : goal.overflow_mul-count
+overflow_mul-count c =
+    let columns = c.args.columns in
+    let depth = c.args.shape.depth in
+    let count = columns.last - columns.first + 1 in
+    let small : count * depth ≤ 4294967296 * 4294967295 =
+    mul-le-mul {n₁ = count} {m₁ = depth} {n₂ = 4294967296} {m₂ = 4294967295} (omega arith) (omega arith) in
+    omega (arith, small)
+
+pub overflow_mul-first : goal.overflow_mul-first
+overflow_mul-first c =
+    let columns = c.args.columns in
+    let depth = c.args.shape.depth in
+    let small : columns.first * depth ≤ 4294967295 * 4294967295 =
+    mul-le-mul {n₁ = columns.first} {m₁ = depth} {n₂ = 4294967295} {m₂ = 4294967295} (omega arith) (omega arith) in
+    omega (arith, small)
+
+pub returns-in-Bytes : goal.returns-in-Bytes
+returns-in-Bytes c = c.within-in-Bytes.ensures ∙ c.keep.ensures ∙ ap (columns_of_row c.args.columns c.args.shape.depth) c.in-Bytes.ensures
+
+pub returns-in-Words : goal.returns-in-Words
+returns-in-Words c = c.within-in-Words.ensures ∙ c.keep-in-Words.ensures ∙ ap (columns_of_row c.args.columns c.args.shape.depth) c.in-Words.ensures

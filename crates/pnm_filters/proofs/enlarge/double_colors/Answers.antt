@@ -1,6 +1,6 @@
-use Rattle.std.proofs.Common.{◌≡◌, ◌≤◌, ◌+◌, ◌-◌, ◌*◌, ℕ, length, ap, ◌∙◌, arith}
+use Rattle.std.proofs.Common.{◌≡◌, ◌≤◌, ◌+◌, ◌-◌, ◌*◌, ◌/◌, ℕ, length, take, refl, subst, ap, ◌∙◌, arith}
 use borrow.Rule.Slice.PartMut.{same_len_mid, mid_len}
-use Rattle.pnm_filters.proofs.EnlargeRowLaws.{four_more, colors_more}
+use Rattle.pnm_filters.proofs.EnlargeRowLaws.{columns_repeated, four_more, color_doubled}
 use Rattle.pnm_filters.proofs.enlarge.double_colors.Goals as goal
 
 pub loop-x-preserved : goal.loop-x-preserved
@@ -15,8 +15,31 @@ loop-x-preserved g c =
       same_len_mid (24 * x) (24 * x + 24 - 24 * x) buffer part (omega (arith, same, mid_len (24 * x) (24 * x + 24) buffer fits)) ∙ c.loop-x.invariant.1,
     )
 
+pub color_at-requires : goal.color_at-requires
+color_at-requires g c =
+    let long : length c.args.row.now ≡ c.args.shape.width * 3 = c.requires.row ∙ ap (λ (n : ℕ). c.args.shape.width * n) c.requires.depth in
+    omega (arith, long)
+
+pub put_twice-requires : goal.put_twice-requires
+put_twice-requires g c =
+    let long : length c.args.row.now ≡ c.args.shape.width * 3 = c.requires.row ∙ ap (λ (n : ℕ). c.args.shape.width * n) c.requires.depth in
+    omega (arith, long, c.loop-x-2.invariant.size)
+
+pub loop-x-2-init : goal.loop-x-2-init
+loop-x-2-init g c =
+    let all : c.loop-x.x ≡ c.args.shape.width / 4 = omega arith in
+    record {
+      prefix = subst (λ (n : ℕ). take (6 * (4 * n)) c.loop-x.buffer ≡ columns_repeated 2 3 c.args.row.now (4 * n)) all c.loop-x.invariant.0;
+      size = c.loop-x.invariant.1 ∙ c.requires.buffer;
+    }
+
 pub loop-x-2-preserved : goal.loop-x-2-preserved
 loop-x-2-preserved g c =
-    let long : length c.args.row.now ≡ c.args.shape.width * 3 = c.requires.row ∙ ap (λ (n : ℕ). c.args.shape.width * n) c.requires.depth in
-    colors_more c.args.row.now c.loop-x-2.buffer c.loop-x-2.x c.index-row-x.result c.index-row-x-in-loop-x-2.result c.index-row-x-in-loop-x-2-2.result
-    c.loop-x-2.invariant (omega arith) (omega arith) c.index-row-x.is c.index-row-x-in-loop-x-2.is c.index-row-x-in-loop-x-2-2.is
+    let x = c.loop-x-2.x in
+    let next : 6 * (x + 1) ≡ 6 * x + 6 = omega arith in
+    record {
+      prefix = ap (λ (n : ℕ). take n c.put_twice.new.buffer) next
+          ∙ color_doubled c.args.row.now c.loop-x-2.buffer c.put_twice.new.buffer _ x (6 * x) (3 * x) c.loop-x-2.invariant.prefix c.put_twice.ensures.stored
+          c.color_at.ensures refl;
+      size = c.put_twice.ensures.long ∙ c.loop-x-2.invariant.size;
+    }

@@ -8,4 +8,7 @@ invariant-loop-x g l = (take (6 * (4 * l.x)) l.buffer ≡ columns_repeated 2 3 l
 
 -- the last ones too
 abbrev pub invariant-loop-x-2 : goal.invariant-loop-x-2
-invariant-loop-x-2 g l = take (6 * l.x) l.buffer ≡ columns_repeated 2 3 l.row l.x
+invariant-loop-x-2 g l = record {
+  prefix : take (6 * l.x) l.buffer ≡ columns_repeated 2 3 l.row l.x;
+  size : length l.buffer ≡ length l.row * 2;
+}

@@ -1,6 +1,7 @@
 use Rattle.std.proofs.Common.{◌≡◌, ◌+◌, length, arith}
 use Rattle.std.proofs.Math.ListN.{length-set}
 use Rattle.pnm_filters.proofs.EnlargeRowLaws.{place_there, none_stored, pixel_there, sample_more, pixel_stored, pixel_more, column_more, next_place}
+use Rattle.pnm_tools.proofs.PickLaws.{columns_end}
 use Rattle.pnm_filters.proofs.enlarge.repeat_each.Goals as goal
 
 pub loop-p-init : goal.loop-p-init
@@ -40,3 +41,20 @@ loop-x-preserved g c =
           (omega arith) (omega arith);
       place = next_place c.args.across s.depth c.loop-x.x c.loop.counter c.loop.at c.loop-x.at c.loop.invariant.place c.loop-x.invariant.place all;
     }
+
+pub overflow_mul-pixel : goal.overflow_mul-pixel
+overflow_mul-pixel g c =
+    omega (arith, columns_end c.args.shape.width c.args.shape.depth c.loop-x.x c.loop-x-test.true, c.requires.row)
+
+pub overflow_mul-pixel-in-loop-x : goal.overflow_mul-pixel-in-loop-x
+overflow_mul-pixel-in-loop-x g c =
+    omega (arith, columns_end c.args.shape.width c.args.shape.depth c.loop-x.x c.loop-x-test.true, c.requires.row)
+
+pub bounds-pixel-p : goal.bounds-pixel-p
+bounds-pixel-p g c =
+    let s = c.args.shape in
+    pixel_there c.args.row.now s.width s.depth c.loop-x.x _ _ c.loop-p.p c.requires.row c.loop-x-test.true (omega arith) (omega arith) c.loop-p-test.true
+
+pub slice_bounds-pixel-end : goal.slice_bounds-pixel-end
+slice_bounds-pixel-end g c =
+    omega (arith, columns_end c.args.shape.width c.args.shape.depth c.loop-x.x c.loop-x-test.true, c.requires.row)

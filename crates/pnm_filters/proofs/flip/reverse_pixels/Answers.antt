@@ -1,5 +1,6 @@
-use Rattle.std.proofs.Common.{arith}
+use Rattle.std.proofs.Common.{◌≡◌, ◌*◌, ◌∙◌, ℕ, ap, drop, reverse, arith}
 use Rattle.pnm_filters.proofs.FlipRowLaws.{pixel_more, one_plane}
+use Rattle.pnm_tools.proofs.PickLaws.{columns_end}
 use Rattle.pnm_filters.proofs.flip.reverse_pixels.Goals as goal
 
 pub loop-x-preserved : goal.loop-x-preserved
@@ -10,3 +11,20 @@ loop-x-preserved g c =
 pub returns-else-shape-gt1 : goal.returns-else-shape-gt1
 returns-else-shape-gt1 g c = one_plane c.args.shape c.args.samples.now c.reverse.new.self c.requires.limits.depth_low c.if-shape-gt1.false c.requires.row
     c.reverse.ensures.after
+
+pub overflow_mul-x : goal.overflow_mul-x
+overflow_mul-x g c =
+    omega (arith, columns_end c.args.shape.width c.args.shape.depth c.loop-x.x c.loop-x-test.true, c.requires.row)
+
+pub overflow_mul-x-in-loop-x : goal.overflow_mul-x-in-loop-x
+overflow_mul-x-in-loop-x g c =
+    omega (arith, columns_end c.args.shape.width c.args.shape.depth c.loop-x.x c.loop-x-test.true, c.requires.row)
+
+pub loop-x-init : goal.loop-x-init
+loop-x-init g c =
+    let none : 0 ≡ 0 * c.args.shape.depth = omega arith in
+    c.reverse.ensures.after ∙ ap (λ (n : ℕ). drop n (reverse c.args.samples.now)) none
+
+pub slice_bounds-reverse-end : goal.slice_bounds-reverse-end
+slice_bounds-reverse-end g c =
+    omega (arith, columns_end c.args.shape.width c.args.shape.depth c.loop-x.x c.loop-x-test.true, c.requires.row)

@@ -25,3 +25,9 @@ returns-in_ok-words-in_default c =
     let same : words.items ≡ c.args.row = search rules in
     c.within-in_default-2.ensures ∙ inverted_in_place _ _ c.args.maxval c.args.row words.items c.as_mut_slice-in_default.result.now
     c.invert-in_default.new.samples words.len (λ x. refl) c.invert-in_default.ensures (omega arith) c.as_mut_slice-in_default.ensures.value same words.ok.0
+
+pub returns-in-Bytes : goal.returns-in-Bytes
+returns-in-Bytes c =
+    let bytes = c.in-Bytes.bytes in
+    c.within-in-Bytes.ensures ∙ inverted_in_place _ _ c.args.maxval c.args.row bytes.items c.as_mut_slice.result.now c.invert-in-Bytes.new.samples bytes.len
+    (λ x. refl) c.invert-in-Bytes.ensures (omega arith) c.as_mut_slice.ensures.value c.in-Bytes.ensures bytes.ok.0

@@ -44,18 +44,24 @@ pub returns-clause-head : goal.returns-clause-head
 returns-clause-head c =
     let spans = c.in-Some-Some in
     let s = c.shape-shape.result in
-    let made = cut_head_made c.args.self.now.cut c.args.head.now s spans.columns spans.rows c.span_count.result c.span_count-2.result c.tuple_type.result.now
-    c.shape-shape.ensures.shape c.shape-shape.ensures.sound.limits c.if-shape-eq0.false spans.ensures spans.ensures' c.span_count.ensures c.span_count-2.ensures
+    let made = cut_head_made c.args.self.now.cut c.args.head.now s spans.columns spans.rows c.span_count.result c.span_count-2.result
+    c.tuple_type.result.now
+    c.shape-shape.ensures.shape c.shape-shape.ensures.sound.limits c.if-shape-eq0.false spans.ensures spans.ensures' c.span_count.ensures
+    c.span_count-2.ensures
     c.tuple_type.ensures in
-    head_so (Cut c.args.self.now.cut) c.args.head.now (head_value (record s { width = c.span_count.result; height = c.span_count-2.result }) c.tuple_type.result.now)
+    head_so (Cut c.args.self.now.cut) c.args.head.now (head_value (record s { width = c.span_count.result; height = c.span_count-2.result })
+    c.tuple_type.result.now)
     c.head_within_limits.result made c.head_within_limits.ensures.made
 
 pub returns-clause-refused : goal.returns-clause-refused
 returns-clause-refused c =
     let spans = c.in-Some-Some in
     let s = c.shape-shape.result in
-    let made = cut_head_made c.args.self.now.cut c.args.head.now s spans.columns spans.rows c.span_count.result c.span_count-2.result c.tuple_type.result.now
-    c.shape-shape.ensures.shape c.shape-shape.ensures.sound.limits c.if-shape-eq0.false spans.ensures spans.ensures' c.span_count.ensures c.span_count-2.ensures
+    let made = cut_head_made c.args.self.now.cut c.args.head.now s spans.columns spans.rows c.span_count.result c.span_count-2.result
+    c.tuple_type.result.now
+    c.shape-shape.ensures.shape c.shape-shape.ensures.sound.limits c.if-shape-eq0.false spans.ensures spans.ensures' c.span_count.ensures
+    c.span_count-2.ensures
     c.tuple_type.ensures in
-    fault_so (Cut c.args.self.now.cut) c.args.head.now (head_value (record s { width = c.span_count.result; height = c.span_count-2.result }) c.tuple_type.result.now)
+    fault_so (Cut c.args.self.now.cut) c.args.head.now (head_value (record s { width = c.span_count.result; height = c.span_count-2.result })
+    c.tuple_type.result.now)
     c.head_within_limits.result made c.head_within_limits.ensures.refused
