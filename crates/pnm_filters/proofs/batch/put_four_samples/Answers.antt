@@ -70,3 +70,10 @@ returns g c =
     let all : c.loop-k.k ≡ length c.args.columns.now = omega (arith, c.loop-k.invariant.many) in
     subst (λ (n : ℕ). HavePixels n c.args.at (λ k. column_of 1 c.args.rows.now (c.args.first + k)) c.args.columns.now c.loop-k.columns) all
     c.loop-k.invariant
+
+pub slice_bounds-copy_from_slice-end : goal.slice_bounds-copy_from_slice-end
+slice_bounds-copy_from_slice-end g c =
+    let k = c.loop-k.k in
+    let v = c.index-columns-k.result in
+    let buffer : c.args.at + 4 ≤ vec_len (get_or c.loop-k.columns k v) = omega (arith, c.requires.long k v (omega arith), c.loop-k.invariant.long k v) in
+    omega (arith, buffer, ap length c.deref_mut.ensures.value, (get_or c.loop-k.columns k v).ok.0)
