@@ -155,8 +155,9 @@ impl Bits {
     pub fn invert(&mut self)
         ensures { self.new ≡ map (λ s. 1 - s) self.old }
     {
-        complement(self.bytes.as_mut_slice());
-        clear_spare(self.bytes.as_mut_slice(), self.count);
+        let bytes = self.bytes.as_mut_slice();
+        complement(bytes);
+        clear_spare(bytes, self.count);
     }
 
     /// Appends a run of so many pixels of a row, from the start on.

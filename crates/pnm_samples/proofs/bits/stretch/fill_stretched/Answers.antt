@@ -4,6 +4,19 @@ use Rattle.std.proofs.lemmas.List.{length-take, length-drop}
 use Rattle.pnm_samples.proofs.StretchLaws.{stretched_more, overlaid_byte, half_at}
 use Rattle.pnm_samples.proofs.bits.stretch.fill_stretched.Goals as goal
 
+-- what a half's picture ends at
+half_ends : (half step long : ℕ) → half < 16 → 16 * step ≤ long → half * step + step ≤ long
+half_ends half step long lt enough = omega (arith, mul-le-mul_right {m = half + 1} {n = 16} step (omega arith))
+
+pub overflow_mul-high : goal.overflow_mul-high
+overflow_mul-high c =
+    let lt : get_or c.args.bytes.now c.loop-i.i 0 < 256 = omega (arith, c.type_inv.bytes c.loop-i.i) in
+    omega (arith, half_ends (get_or c.args.bytes.now c.loop-i.i 0 / 16) c.stride_of-stride.result (16 * c.stride_of-stride.result) (omega arith) (omega arith))
+
+pub overflow_mul-low : goal.overflow_mul-low
+overflow_mul-low c =
+    omega (arith, half_ends (get_or c.args.bytes.now c.loop-i.i 0 % 16) c.stride_of-stride.result (16 * c.stride_of-stride.result) (omega arith) (omega arith))
+
 pub loop-i-preserved : goal.loop-i-preserved
 loop-i-preserved c =
     let times = c.args.times in let i = c.loop-i.i in let at = i * times in let step = c.stride_of-stride.result in let size = at + step - at in
