@@ -1,3 +1,4 @@
+pub mod NameLaws
 pub mod WordLaws
 pub mod ItemSteps
 pub mod ItemLaws

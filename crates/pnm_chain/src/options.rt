@@ -1,6 +1,7 @@
 //! The tools of a chain and their options, by the names that their manual pages give them.
 
-ghost use Rattle.std.specs.Prelude.{◌≡◌};
+ghost use Rattle.std.specs.Prelude.{◌≡◌, Some, None, if◌then◌else◌};
+ghost use Rattle.std.specs.Str.{bytes_eq};
 ghost use Rattle.pnm_chain.specs.Options.{channel_option, cut_option, enlarge_option, flip_option};
 ghost use Rattle.pnm_chain.specs.Options.{option_named, tool_named, turn_option, wants_value};
 
@@ -35,20 +36,17 @@ pub(crate) enum ToolOption {
 
 impl ToolName {
     /// The tool of this name.
-    #[tactic(auto, unfolding(crate::specs::Options::tool_named))]
+    #[tactic(auto, using(crate::proofs::NameLaws::tried_after), unfolding(crate::specs::Options::tool_named))]
     pub(crate) fn named(name: &[u8]) -> Option<ToolName>
         ensures { result ≡ tool_named name.now }
     {
-        match name {
-            b"pnminvert" => Some(ToolName::Invert),
-            b"pamcut" => Some(ToolName::Cut),
-            b"pamdepth" => Some(ToolName::Depth),
-            b"pamchannel" => Some(ToolName::Channel),
-            b"pamenlarge" => Some(ToolName::Enlarge),
-            b"pamflip" => Some(ToolName::Flip),
-            b"pnmtile" => Some(ToolName::Tile),
-            _ => None,
-        }
+        spelled(name, b"pnminvert", ToolName::Invert)
+            .or(spelled(name, b"pamcut", ToolName::Cut))
+            .or(spelled(name, b"pamdepth", ToolName::Depth))
+            .or(spelled(name, b"pamchannel", ToolName::Channel))
+            .or(spelled(name, b"pamenlarge", ToolName::Enlarge))
+            .or(spelled(name, b"pamflip", ToolName::Flip))
+            .or(spelled(name, b"pnmtile", ToolName::Tile))
     }
 
     /// The tool's option of this name.
@@ -74,63 +72,57 @@ impl ToolOption {
     }
 }
 
-#[tactic(auto, unfolding(crate::specs::Options::cut_option))]
+#[tactic(auto, using(crate::proofs::NameLaws::tried_after), unfolding(crate::specs::Options::cut_option))]
 fn cut_option(name: &[u8]) -> Option<ToolOption>
     ensures { result ≡ cut_option name.now }
 {
-    match name {
-        b"left" => Some(ToolOption::Left),
-        b"right" => Some(ToolOption::Right),
-        b"top" => Some(ToolOption::Top),
-        b"bottom" => Some(ToolOption::Bottom),
-        b"width" => Some(ToolOption::Width),
-        b"height" => Some(ToolOption::Height),
-        _ => None,
-    }
+    spelled(name, b"left", ToolOption::Left)
+        .or(spelled(name, b"right", ToolOption::Right))
+        .or(spelled(name, b"top", ToolOption::Top))
+        .or(spelled(name, b"bottom", ToolOption::Bottom))
+        .or(spelled(name, b"width", ToolOption::Width))
+        .or(spelled(name, b"height", ToolOption::Height))
 }
 
-#[tactic(auto, unfolding(crate::specs::Options::channel_option))]
+#[tactic(auto, using(crate::proofs::NameLaws::tried_after), unfolding(crate::specs::Options::channel_option))]
 fn channel_option(name: &[u8]) -> Option<ToolOption>
     ensures { result ≡ channel_option name.now }
 {
-    match name {
-        b"tupletype" => Some(ToolOption::TupleType),
-        _ => None,
-    }
+    spelled(name, b"tupletype", ToolOption::TupleType)
 }
 
-#[tactic(auto, unfolding(crate::specs::Options::enlarge_option))]
+#[tactic(auto, using(crate::proofs::NameLaws::tried_after), unfolding(crate::specs::Options::enlarge_option))]
 fn enlarge_option(name: &[u8]) -> Option<ToolOption>
     ensures { result ≡ enlarge_option name.now }
 {
-    match name {
-        b"xscale" => Some(ToolOption::XScale),
-        b"yscale" => Some(ToolOption::YScale),
-        _ => None,
-    }
+    spelled(name, b"xscale", ToolOption::XScale).or(spelled(name, b"yscale", ToolOption::YScale))
 }
 
-#[tactic(auto, unfolding(crate::specs::Options::flip_option))]
+#[tactic(auto, using(crate::proofs::NameLaws::tried_after), unfolding(crate::specs::Options::flip_option))]
 fn flip_option(name: &[u8]) -> Option<ToolOption>
     ensures { result ≡ flip_option name.now }
 {
-    match name {
-        b"null" => Some(ToolOption::Way(FlipWay::Null)),
-        b"lr" | b"leftright" => Some(ToolOption::Way(FlipWay::LeftRight)),
-        b"tb" | b"topbottom" => Some(ToolOption::Way(FlipWay::TopBottom)),
-        b"xy" | b"transpose" => Some(ToolOption::Way(FlipWay::Transpose)),
-        _ => None,
-    }
+    spelled(name, b"null", ToolOption::Way(FlipWay::Null))
+        .or(spelled(name, b"lr", ToolOption::Way(FlipWay::LeftRight)))
+        .or(spelled(name, b"leftright", ToolOption::Way(FlipWay::LeftRight)))
+        .or(spelled(name, b"tb", ToolOption::Way(FlipWay::TopBottom)))
+        .or(spelled(name, b"topbottom", ToolOption::Way(FlipWay::TopBottom)))
+        .or(spelled(name, b"xy", ToolOption::Way(FlipWay::Transpose)))
+        .or(spelled(name, b"transpose", ToolOption::Way(FlipWay::Transpose)))
 }
 
-#[tactic(auto, unfolding(crate::specs::Options::turn_option))]
+#[tactic(auto, using(crate::proofs::NameLaws::tried_after), unfolding(crate::specs::Options::turn_option))]
 fn turn_option(name: &[u8]) -> Option<ToolOption>
     ensures { result ≡ turn_option name.now }
 {
-    match name {
-        b"r90" => Some(ToolOption::Way(FlipWay::Rotate90)),
-        b"r180" => Some(ToolOption::Way(FlipWay::Rotate180)),
-        b"r270" => Some(ToolOption::Way(FlipWay::Rotate270)),
-        _ => None,
-    }
+    spelled(name, b"r90", ToolOption::Way(FlipWay::Rotate90))
+        .or(spelled(name, b"r180", ToolOption::Way(FlipWay::Rotate180)))
+        .or(spelled(name, b"r270", ToolOption::Way(FlipWay::Rotate270)))
+}
+
+/// What has this name, if the word is the name.
+fn spelled<T: Copy>(word: &[u8], name: &[u8], named: T) -> Option<T>
+    ensures { result ≡ (if bytes_eq name.now word.now then Some named else None) }
+{
+    if word == name { Some(named) } else { None }
 }

@@ -1,3 +1,4 @@
+pub mod LineNames
 pub mod CommentLaws
 pub mod Consumed
 pub mod PixelSteps

@@ -1,6 +1,7 @@
 //! Lines of a PAM header, from pam(5), 'The layout'.
 
-ghost use Rattle.std.specs.Prelude.{◌≡◌, length};
+ghost use Rattle.std.specs.Prelude.{◌≡◌, length, Some, None, if◌then◌else◌};
+ghost use Rattle.std.specs.Str.{bytes_eq};
 ghost use Rattle.pnm_read.specs.PamLines.{trimmed_start, trimmed_end, first_token, after_first, kind_of_token};
 ghost use Rattle.pnm_read.specs.PamScanners.{number_of};
 
@@ -36,17 +37,24 @@ impl LineKind {
     pub fn of(token: &[u8]) -> LineKind
         ensures { result ≡ kind_of_token token.now }
     {
-        match token {
-            [] | [b'#', ..] => LineKind::Nothing,
-            b"WIDTH" => LineKind::Number(Field::Width),
-            b"HEIGHT" => LineKind::Number(Field::Height),
-            b"DEPTH" => LineKind::Number(Field::Depth),
-            b"MAXVAL" => LineKind::Number(Field::Maxval),
-            b"TUPLTYPE" => LineKind::TupleType,
-            b"ENDHDR" => LineKind::End,
-            _ => LineKind::Unknown,
+        if token.is_empty() || token[0] == b'#' {
+            return LineKind::Nothing;
         }
+        spelled(token, b"WIDTH", LineKind::Number(Field::Width))
+            .or(spelled(token, b"HEIGHT", LineKind::Number(Field::Height)))
+            .or(spelled(token, b"DEPTH", LineKind::Number(Field::Depth)))
+            .or(spelled(token, b"MAXVAL", LineKind::Number(Field::Maxval)))
+            .or(spelled(token, b"TUPLTYPE", LineKind::TupleType))
+            .or(spelled(token, b"ENDHDR", LineKind::End))
+            .unwrap_or(LineKind::Unknown)
     }
+}
+
+/// What has this name, if the token is the name.
+fn spelled<T: Copy>(token: &[u8], name: &[u8], named: T) -> Option<T>
+    ensures { result ≡ (if bytes_eq name.now token.now then Some named else None) }
+{
+    if token == name { Some(named) } else { None }
 }
 
 /// The first token of a line, which is empty where there is none, and what follows it.
