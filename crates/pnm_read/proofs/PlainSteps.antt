@@ -1,5 +1,5 @@
 -- How the samples of a plain raster are read from an input.
-use Rattle.std.proofs.Common.{◌≡◌, ℕ, zero, suc, ◌-◌, ◌<◌, ◌≤◌, Bool, true, if◌then◌else◌, List, [], ◌∷◌, ◌++◌, Option, Some, Result, Ok, Err, inl, inr, refl}
+use Rattle.std.proofs.Common.{◌≡◌, ℕ, zero, suc, ◌-◌, ◌<◌, ◌≤◌, Bool, true, false, if◌then◌else◌, List, [], ◌∷◌, ◌++◌, Option, Some, Result, Ok, Err, inl, inr, refl}
 use Rattle.std.proofs.Common.{sym, ap, ap₂, subst, ◌∙◌, arith}
 use Rattle.std.specs.Prelude.{slice_get}
 use Rattle.std.proofs.lemmas.Bool.{le-leb, lt-leb}
@@ -129,6 +129,17 @@ end_goes_on {mid = mid} byte bytes held first apart t =
     turn_ok_so {A = Unit {0}} {B = Unit {0}} tt (Ok tt) (no_fault tt ReadFailed) (λ b a o.
     let whole : b ≡ bytes ++ o.1.0 = o.0 ∙ o.1.2 ∙ ap (λ (l : List ℕ). l ++ o.1.0) (sym held) in
     ap (λ (t : Bool). end_if t b) (ap begins_apart whole ∙ begins_by byte bytes o.1.0 first ∙ apart) ∙ ap (λ (l : List ℕ). Ok l) o.0)
+    (turn_seen t)
+
+pub end_is_bad : {R : Type 0} {left : R → Option (List ℕ)} {failures : R → ℕ} {same : R → R → Type 0} {old mid : BufferedReader R} (byte : ℕ) (bytes : List ℕ)
+    → bytes ≡ held_of mid → Some byte ≡ slice_get bytes 0 → is_apart byte ≡ false
+    → ReadCall {A = Unit {0}} left failures same old mid (Ok tt) (Fills (Ok tt))
+    → ReadCall {A = Unit {0}} left failures same old mid (Err BadSample) (Passes after_last_item (Err BadSample))
+unfolding after_last_item
+end_is_bad {mid = mid} byte bytes held first apart t =
+    turn_ok_so {A = Unit {0}} {B = Unit {0}} tt (Err BadSample) (λ e. absurd cc) (λ b a o.
+    let whole : b ≡ bytes ++ o.1.0 = o.0 ∙ o.1.2 ∙ ap (λ (l : List ℕ). l ++ o.1.0) (sym held) in
+    inl (ap (λ (t : Bool). end_if t b) (ap begins_apart whole ∙ begins_by byte bytes o.1.0 first ∙ apart)))
     (turn_seen t)
 
 -- ---- the samples of a row

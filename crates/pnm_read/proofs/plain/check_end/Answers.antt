@@ -1,6 +1,18 @@
-use Rattle.std.proofs.Common.{sym, ◌∙◌}
-use Rattle.pnm_read.proofs.PlainSteps.{end_goes_on}
+use Rattle.std.proofs.Common.{inr, sym, ◌∙◌}
+use Rattle.std.proofs.lemmas.Result.{err_from_is_err_and}
+use Rattle.pnm_read.proofs.PlainSteps.{end_goes_on, end_is_bad}
+use Rattle.pnm_read.proofs.Turns.{turn_err_so}
 use Rattle.pnm_read.proofs.plain.check_end.Goals as goal
+
+pub returns-in_err-fill : goal.returns-in_err-fill
+returns-in_err-fill g c =
+    let p = err_from_is_err_and c.from_residual.result c.from_residual.ensures.1 in
+    rw (p.1, p.2) (turn_err_so c.in_err-fill.field-0.0 (λ b a o. inr o) c.in_err-fill.ensures.read_call)
+
+pub returns-in-Some : goal.returns-in-Some
+returns-in-Some g c =
+    end_is_bad c.in-Some.byte.now c.bytes.result.now c.bytes.ensures c.in-Some.ensures.value (sym c.is_apart.ensures ∙ c.if-not-is_apart.true)
+    c.in_ok-fill.ensures.read_call
 
 pub returns-in_default : goal.returns-in_default
 returns-in_default g c =

@@ -1,8 +1,15 @@
-use Rattle.std.proofs.Common.{rules, arith, ◌≡◌, ◌≤◌, ◌-◌, ◌+◌, length, vec_len}
+use Rattle.std.proofs.Common.{rules, arith, ◌≡◌, ◌≤◌, ◌-◌, ◌+◌, [], length, vec_len, refl}
 use Rattle.std.proofs.lemmas.Result.{err_from_is_err_and}
-use Rattle.pnm_read.proofs.PlainSteps.{samples_fault, samples_no_memory, samples_more, samples_read}
-use Rattle.pnm_read.proofs.LeadingSteps.{samples_taken}
+use Rattle.pnm_read.proofs.PlainSteps.{samples_fault, samples_no_memory, samples_more, samples_read, samples_begin}
+use Rattle.pnm_read.proofs.LeadingSteps.{samples_taken, reading_no_memory}
 use Rattle.pnm_read.proofs.plain.read_samples.Goals as goal
+
+pub returns-in_default : goal.returns-in_default
+returns-in_default g c = reading_no_memory
+    (samples_begin c.args.shape c.row_length-length.result c.row_length-length.result [] c.args.input.now g.met.R.BytesIn.same_at_once refl refl)
+
+pub returns-in_default-take_samples : goal.returns-in_default-take_samples
+returns-in_default-take_samples g c = reading_no_memory c.loop-taken.invariant.reading
 
 pub returns-in_err-sample : goal.returns-in_err-sample
 returns-in_err-sample g c =
