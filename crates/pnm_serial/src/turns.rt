@@ -1,6 +1,11 @@
 //! What the caller of a run over threads does while the tools work: it writes what it takes, and sends what it reads.
 
-ghost use Rattle.std.specs.Prelude.{◌≡◌, IsTrue, IfSome, false};
+ghost use Rattle.std.specs.Prelude.{◌≡◌, List, IsTrue, IfSome, false};
+ghost use Rattle.pnm_stages.specs.Rings.{SameReceiver};
+ghost use Rattle.pnm_image.specs.declared.format.Form.{Form};
+ghost use Rattle.pnm_image.specs.declared.message.Message.{Message};
+ghost use Rattle.pnm_serial.specs.Collectors.{IsCollecting};
+ghost use Rattle.pnm_serial.specs.Downstreams.{output_of};
 ghost use Rattle.pnm_serial.specs.Feeders.{feeder_is_over};
 ghost use Rattle.pnm_serial.specs.Turns.{HaveTurned};
 
@@ -140,15 +145,54 @@ fn turn<R: BytesIn + Drop, W: BytesOut + Drop>(
         collector.new }
 {
     if takes_first {
-        if !collector.is_over() && collector.turn(spares) {
+        if take(collector, spares) {
             return true;
         }
         *takes = false;
     }
-    if may_feed(feeder, collector) && feeder.turn(spares) {
+    send_or_take(feeder, collector, spares, takes)
+}
+
+/// Sends a message, or takes one where that can't be done and goes on with that.
+#[inline(always)]
+fn send_or_take<R: BytesIn + Drop, W: BytesOut + Drop>(
+    feeder: &mut Feeder<R>,
+    collector: &mut Collector<W>,
+    spares: &mut SpareRows,
+    takes: &mut bool,
+) -> bool
+    ensures turned { HaveTurned R.left R.failures R.same W.held W.failures W.same feeder.old collector.old feeder.new
+        collector.new }
+{
+    if send(feeder, collector, spares) {
         return true;
     }
     *takes = true;
+    take(collector, spares)
+}
+
+/// Sends a message, if there is more to be sent and room for it.
+#[inline(always)]
+fn send<R: BytesIn + Drop, W: BytesOut + Drop>(
+    feeder: &mut Feeder<R>,
+    collector: &Collector<W>,
+    spares: &mut SpareRows,
+) -> bool
+    ensures turned { HaveTurned R.left R.failures R.same W.held W.failures W.same feeder.old collector.now feeder.new
+        collector.now }
+{
+    may_feed(feeder, collector) && feeder.turn(spares)
+}
+
+/// Takes a message and writes it, if one is there.
+#[inline(always)]
+fn take<W: BytesOut + Drop>(collector: &mut Collector<W>, spares: &mut SpareRows) -> bool
+    ensures collecting { (form : Form) (start : W) (before : List Message)
+        → IsCollecting W.held W.failures form start before collector.old
+        → IsCollecting W.held W.failures form start before collector.new }
+    ensures ring { SameReceiver collector.old.input collector.new.input }
+    ensures same_device { W.same (output_of collector.old.downstream) (output_of collector.new.downstream) }
+{
     !collector.is_over() && collector.turn(spares)
 }
 
