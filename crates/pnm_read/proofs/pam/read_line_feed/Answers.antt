@@ -23,8 +23,11 @@ returns-in_err-next_byte g c =
 
 pub returns-in-Some-eq10 : goal.returns-in-Some-eq10
 returns-in-Some-eq10 g c =
-    turn_ok_so c.in_ok-next_byte.field-0 (Ok tt) (no_fault tt ReadFailed) (feed_taken c.in_ok-next_byte.field-0 c.in-Some-eq10.field-0 c.in-Some-eq10.is c.in-Some-eq10.field-0-test) c.in_ok-next_byte.ensures
+    turn_ok_so c.in_ok-next_byte.field-0 (Ok tt) (no_fault tt ReadFailed)
+    (feed_taken c.in_ok-next_byte.field-0 c.in-Some-eq10.field-0 c.in-Some-eq10.is c.in-Some-eq10.field-0-test)
+    c.in_ok-next_byte.ensures
 
 pub returns-in-None : goal.returns-in-None
 returns-in-None g c =
-    turn_ok_so c.in_ok-next_byte.field-0 (Err HeaderCut) (λ e. absurd cc) (λ b a o. inl (no_feed c.in_ok-next_byte.field-0 c.in-None.is b a o)) c.in_ok-next_byte.ensures
+    turn_ok_so c.in_ok-next_byte.field-0 (Err HeaderCut) (λ e. absurd cc)
+    (λ b a o. inl (no_feed c.in_ok-next_byte.field-0 c.in-None.is b a o)) c.in_ok-next_byte.ensures

@@ -17,5 +17,6 @@ returns-in_err-fill g c =
 pub returns-in-Some : goal.returns-in-Some
 returns-in-Some g c =
     turn_advance {A = Unit {0}} {B = Option ℕ} tt (Ok (Some c.in-Some.byte.now)) 1 (no_fault (Some c.in-Some.byte.now) ReadFailed) c.advance.ensures.reader
-    c.advance.ensures.ended c.advance.ensures.held (λ b rest can o. o ∙ first_byte c.in-Some.byte.now c.bytes.result.now _ rest c.bytes.ensures c.in-Some.ensures.value)
+    c.advance.ensures.ended c.advance.ensures.held
+    (λ b rest can o. o ∙ first_byte c.in-Some.byte.now c.bytes.result.now _ rest c.bytes.ensures c.in-Some.ensures.value)
     c.in_ok-fill.ensures.read_call
