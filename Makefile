@@ -48,13 +48,15 @@ check: toolchain
 	python3 scripts/cases.py
 	tail -n 1 bin/gate
 
-# lines, functions and files that are too long, the scripts, pages and documents: in seconds, and with what is installed
+# lines, functions and files that are too long, the stored commands, the scripts, pages and documents: in seconds, and with
+# what is installed
 BUILT ?= bin/pnmpipe
 scripts:
 	python3 scripts/style.py
 	python3 scripts/test_style.py
 	python3 scripts/check_page.py
 	sh scripts/check_scripts.sh
+	python3 scripts/test_commands.py --program $(BUILT)
 	python3 scripts/test_helpers.py --program $(BUILT)
 	python3 scripts/test_build.py
 	python3 scripts/pictures.py --check --program $(BUILT)
@@ -94,11 +96,12 @@ pictures: built
 recipes: built
 	python3 scripts/recipes.py
 
-# the tests alone, built and run as they stand: `make check` proves them too
+# the tests alone, built and run as they stand: `make check` proves them too; the stored commands by the program that make has left
 test: toolchain
 	for crate in $(TESTED); do (cd crates/$$crate && rt try --test --seconds 600) || exit 1; done
 	for crate in $(CASES); do (cd crates/$$crate && mkdir -p out && rt run < stdin > out/told && cmp out/told stdout) || exit 1; done
 	python3 scripts/cases.py
+	python3 scripts/test_commands.py --program $(BUILT)
 
 # the program that make has left beside Netpbm's own tools, where these are installed: a table, for a quiet machine
 bench:
@@ -143,7 +146,7 @@ help:
 	@echo "make near CRATES=..  tries changed crates in minutes: layout, proof, edits that must fail, tests as they stand, and the crates above"
 	@echo "make pass CRATES=..  proves changed crates, their tests and edits from nothing, as the gate does, with what they stand on"
 	@echo "make test            the tests alone, without their proofs"
-	@echo "make check           the whole gate: every proof, the edits that must fail, the tests, the stored runs, refused allocations, silent inputs, small stacks, scripts and pages"
+	@echo "make check           the whole gate: every proof, the edits that must fail, the tests, the stored runs and commands, refused allocations, silent inputs, small stacks, scripts and pages"
 	@echo "make bench           times the program that make has left beside Netpbm's own tools, on large images, narrow rows and small images"
 	@echo "make bench-sweep     all tools by kinds of images and by options, and which take more processor time than Netpbm's"
 	@echo "make bench-files     times many small files in each way, beside Netpbm's own tools"
@@ -152,7 +155,7 @@ help:
 	@echo "make controls        tries the edits that keep the code's meaning, which must prove"
 	@echo "make refused         refuses each allocation and each start of a thread in turn, of the program that make has left and of tests"
 	@echo "make soak SECONDS=n  runs random chains over random streams for n seconds, in one thread and over threads"
-	@echo "make scripts         checks the layout, the scripts, pages and documents, with the program that make has left"
+	@echo "make scripts         checks the layout, the stored commands, the scripts, pages and documents, with the program that make has left"
 	@echo "make install         installs the program that make has left, below PREFIX=/usr/local; make uninstall takes it away"
 	@echo "make dist, make deb  archives, and a Debian package, of the program that make has left, in dist/"
 	@echo "make pictures        makes the pictures of the documents anew"

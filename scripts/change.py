@@ -2,7 +2,8 @@
 """Tries crates that were changed: `near` in minutes, over what was kept, `pass` from nothing, as the gate does.
 
 near: of each crate the layout, its check, the edits that must fail, the tests as they stand, unproved, and what the
-program of its cases prints; then the check of each crate that stands on one of them. pass: `rt ci` over a temporary
+program of its cases prints, or the commands that are stored beside the program; then the check of each crate that
+stands on one of them. pass: `rt ci` over a temporary
 copy, below TMPDIR, of these crates and their tests, and of all that they stand on, the latter without edits. Neither
 takes the place of `make check`, which is the gate.
 """
@@ -17,16 +18,19 @@ import tempfile
 
 from crates import ROOT, SOURCES, Ended, above, below, copy_lines, end_by_signals, read_crates, tests_of
 
+# the program, beside which commands are stored
+PROGRAM = "pnmpipe"
+
 
 def say(text):
     print(f"change: {text}", flush=True)
 
 
-def call(folder, *words):
+def call(folder, *words, **how):
     """Runs rt; ends this script where it fails."""
     place = os.path.relpath(folder, ROOT)
     say(f"rt {' '.join(words)}" + (f", in {place}" if place != "." else ""))
-    status = subprocess.run(["rt", *words], cwd=folder).returncode
+    status = subprocess.run(["rt", *words], cwd=folder, **how).returncode
     if status:
         sys.exit(f"change: rt {' '.join(words)} in {place} FAILED, status {status}")
 
@@ -79,6 +83,15 @@ def tells_what_is_stored(folder):
             sys.exit(f"change: {place} FAILED: line {number} is\n{told}\nin place of\n{want}")
 
 
+def answers_stored_commands(folder):
+    """Builds the program and runs its stored commands; ends this script where one answers otherwise."""
+    with open(os.path.join(folder, "stdin"), "rb") as given:
+        call(folder, "run", "--", "pnminvert", stdin=given, stdout=subprocess.DEVNULL)
+    script = os.path.join(ROOT, "scripts/test_commands.py")
+    if subprocess.run([sys.executable, script, "--program", os.path.join(folder, "out", PROGRAM)]).returncode:
+        sys.exit("change: a stored command FAILED")
+
+
 def near(crates, names):
     folders = {name: os.path.join(ROOT, "crates", name) for name in crates}
     for name in names:
@@ -91,7 +104,10 @@ def near(crates, names):
     for tests in dict.fromkeys(it for name in names for it in tests_of(crates, name)):
         if tests.endswith("_cases"):
             tells_what_is_stored(folders[tests])
-        elif has_tests(folders[tests]):
+            continue
+        if tests == PROGRAM:
+            answers_stored_commands(folders[tests])
+        if has_tests(folders[tests]):
             call(folders[tests], "try", "--test", "--seconds", "600")
     for name in above(crates, names):
         call(folders[name], "check")

@@ -8,7 +8,7 @@ ROOT = os.path.dirname(os.path.dirname(os.path.abspath(__file__)))
 # what a check reads of a crate
 SOURCES = ("src", "specs", "proofs")
 
-# a library whose tests are of the whole command, and stand in the program
+# a library whose tests are of the whole command: those of the program, and the commands stored beside it
 TESTED_IN = {"pnm_command_line": ["pnmpipe"]}
 
 SIGNALS = (signal.SIGINT, signal.SIGTERM, signal.SIGHUP)

@@ -191,7 +191,7 @@ def stored_run():
 def commands(program):
     """All commands."""
     yield stored_run()
-    # tests of the program say what the text of help is
+    # a stored command says what the text of help is
     text = subprocess.run([program, "--help"], stdin=subprocess.DEVNULL, stdout=subprocess.PIPE, check=True).stdout
     yield Command(["--help"], b"", text, 0)
     for lanes in LANES:

@@ -227,6 +227,15 @@ class Changing(Repository):
             status, printed = self.run_script("change.py", "near", "right")
             self.assertEqual((status, "right_cases FAILED: line" in printed), (1, True), printed)
 
+    def test_near_runs_the_stored_commands(self):
+        self.write("root/scripts/test_commands.py", "import sys; sys.exit(len(sys.argv) != 3)")
+        status, printed = self.run_script("change.py", "near", "pnmpipe")
+        self.assertEqual(status, 0, printed)
+        self.assertIn("run -- pnminvert (pnmpipe)", self.notes())
+        self.write("root/scripts/test_commands.py", "import sys; sys.exit(1)")
+        status, printed = self.run_script("change.py", "near", "pnmpipe")
+        self.assertEqual((status, "a stored command FAILED" in printed), (1, True), printed)
+
     def test_near_ends_at_a_fault(self):
         for fault, calls in [("fmt", 1), ("check", 2), ("must-fail", 3), ("try", 4)]:
             self.assertEqual(self.run_script("change.py", "near", "top", FAULT=fault)[0], 1)

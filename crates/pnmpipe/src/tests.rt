@@ -1,8 +1,7 @@
-//! What no clause says: worked examples by the program, printed text, and that calls can succeed.
+//! What no stored command shows: that no words at all are refused, two calls over the same output, calls that are
+//! interrupted, lines for faults that few runs end in, and want of memory.
 
-mod bad_inputs;
 mod command;
-mod examples;
 mod fault_lines;
 mod help;
 mod interrupted;
@@ -12,6 +11,3 @@ mod words_memory;
 const IMAGE: &[u8] = b"P5\n2 1\n122\nAB";
 
 const INVERTED: &[u8] = b"P5\n2 1\n122\n98";
-
-/// The line for words that are no command line.
-const USAGE_LINE: &str = "pnmpipe: usage: pnmpipe [--ring N] [--lanes K] [--plain] CHAIN\n";

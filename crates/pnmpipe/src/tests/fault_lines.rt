@@ -6,11 +6,17 @@ use pnm_flow::RunFault;
 use pnm_read::InputFault;
 use pnm_tools::ToolFault;
 use pnm_write::SinkFault;
-use std::test::Fail;
+use std::process::Abort;
+
+/// What is printed is this line.
+fn is_line(rt: &impl Abort, printed: &[u8], want: &str) {
+    let is_so = printed == want.as_bytes();
+    assert!(rt; is_so, "{want}");
+}
 
 /// A fault of a chain's text has the number of its stage, where it has one.
 #[test]
-fn names_stages(rt: HostRuntime) -> Result<(), Fail> {
+fn names_stages(rt: HostRuntime) {
     for (stage, kind, want) in [
         (0, ChainKind::Memory, "pnmpipe: chain: Memory\n"),
         (
@@ -31,9 +37,8 @@ fn names_stages(rt: HostRuntime) -> Result<(), Fail> {
     ] {
         let mut errors = Vec::new(rt.alloc());
         print_chain_fault(&mut errors, ChainFault { stage, kind });
-        assert_eq!(rt; errors.as_slice(), want.as_bytes());
+        is_line(&rt, errors.as_slice(), want);
     }
-    Ok(())
 }
 
 /// Faults of a run, and the line that each is printed as.
@@ -76,23 +81,18 @@ const FAULTS: [(RunFault, &str); 10] = [
 
 /// A tool's fault has the tool's number.
 #[test]
-fn names_tools(rt: HostRuntime) -> Result<(), Fail> {
+fn names_tools(rt: HostRuntime) {
     for (fault, want) in FAULTS {
         let mut errors = Vec::new(rt.alloc());
         print_run_fault(&mut errors, fault);
-        assert_eq!(rt; errors.as_slice(), want.as_bytes());
+        is_line(&rt, errors.as_slice(), want);
     }
-    Ok(())
 }
 
 /// Want of memory before a chain is known is the command line's.
 #[test]
-fn names_want_of_memory(rt: HostRuntime) -> Result<(), Fail> {
+fn names_want_of_memory(rt: HostRuntime) {
     let mut errors = Vec::new(rt.alloc());
     print_want_of_memory(&mut errors);
-    assert_eq!(rt;
-        errors.as_slice(),
-        b"pnmpipe: command line: Memory\n".as_slice()
-    );
-    Ok(())
+    is_line(&rt, errors.as_slice(), "pnmpipe: command line: Memory\n");
 }

@@ -1,8 +1,7 @@
 //! The program over a reader and a writer that signals interrupt.
 
-use super::command::words_of;
+use super::command::ends_well;
 use super::{IMAGE, INVERTED};
-use crate::command::command;
 use crate::uninterrupted::Uninterrupted;
 use pnm_image::Device;
 use std::io;
@@ -52,23 +51,28 @@ impl<W: Write> Write for Interrupted<W> {
     }
 }
 
-/// Reads, writes and flushes that are interrupted are made again, through a buffer and without one.
+/// The words of a run.
+const WORDS: [&str; 2] = ["pnmpipe", "pnminvert"];
+
+/// Reads, writes and flushes that are interrupted are made again.
 #[test]
 fn makes_interrupted_calls_again(rt: HostRuntime) -> Result<(), Fail> {
-    let words = words_of(rt.alloc(), &["pnmpipe", "pnminvert"])?;
-    let mut errors = Vec::new(rt.alloc());
     let mut input = Device::new(Uninterrupted::new(Interrupted::new(IMAGE)));
     let mut output = Device::new(Uninterrupted::new(Interrupted::new(Vec::new(rt.alloc()))));
-    let status = command(&rt, words.as_slice(), &mut input, &mut output, &mut errors);
-    assert_eq!(&rt; status, 0);
-    assert_eq!(&rt; output.into_inner().into_inner().inner.as_slice(), INVERTED);
-    let mut input = Device::new(Uninterrupted::new(Interrupted::new(IMAGE)));
+    let is_well = ends_well(&rt, &WORDS, &mut input, &mut output)?;
+    let written = output.into_inner().into_inner().inner;
+    assert!(&rt; is_well && written.as_slice() == INVERTED);
+    Ok(())
+}
+
+/// So they are behind a buffer.
+#[test]
+fn makes_interrupted_calls_again_behind_a_buffer(rt: HostRuntime) -> Result<(), Fail> {
     let held = Uninterrupted::new(Interrupted::new(Vec::new(rt.alloc())));
     let mut output = Device::new(BufWriter::with_capacity(rt.alloc(), 4, held)?);
-    let status = command(&rt, words.as_slice(), &mut input, &mut output, &mut errors);
-    assert_eq!(&rt; status, 0);
-    let held = output.into_inner().into_parts().0;
-    assert_eq!(&rt; held.into_inner().inner.as_slice(), INVERTED);
-    assert!(&rt; errors.is_empty());
+    let mut input = Device::new(Uninterrupted::new(Interrupted::new(IMAGE)));
+    let is_well = ends_well(&rt, &WORDS, &mut input, &mut output)?;
+    let written = output.into_inner().into_parts().0.into_inner().inner;
+    assert!(&rt; is_well && written.as_slice() == INVERTED);
     Ok(())
 }

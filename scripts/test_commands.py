@@ -1,0 +1,229 @@
+#!/usr/bin/env python3
+"""Runs the stored commands of crates/pnmpipe/commands with the built program, and compares what it writes and prints to
+the byte, its status, and whether its input was read.
+
+A file there has groups of lines, parted by empty ones. `$` and words, as a shell reads them and the first of them the
+program's own name, is a command. What stands before a group's first command holds for each of them, and what is
+indented below one for that alone:
+
+  given BYTES      its input; none: an empty one
+  written BYTES    its whole output; none: nothing
+  helped           its output is the text of the file `help`
+  printed LINE     its line on standard error; none: nothing
+  status N         none: 0
+  unread           nothing of the input is read
+  room N           the output takes so many bytes, and then fails
+  printed-room N   so does standard error
+  lanes N N ..     it is run with `--lanes N` before its other words, for each N
+
+Bytes and words have the escapes of the stored cases (scripts/cases.py), as \\x0a and \\63(pnminvert|). A line that
+begins with `#` says what the next ones show.
+"""
+
+import argparse
+import glob
+import os
+import re
+import resource
+import shlex
+import signal
+import subprocess
+import sys
+import tempfile
+import typing
+
+sys.dont_write_bytecode = True
+
+from cases import text_of
+
+ROOT = os.path.dirname(os.path.dirname(os.path.abspath(__file__)))
+STORED = f"{ROOT}/crates/pnmpipe/commands"
+HELP = "help"
+
+# what the help text has to fit, in lines and columns
+SCREEN = (30, 80)
+
+# how it names each limit, a constant of the sources
+LIMITS = {
+    "MAX_TOOLS": "1 to {} tools",
+    "MAX_RING_CAPACITY": "two tools, 1 to {} [",
+    "MAX_LANES": "row-wise tool, 1 to {} [",
+}
+CONSTANT = re.compile(r"pub const (\w+): \w+ = ([0-9_]+);")
+
+# how long a run may take, in seconds
+LONGEST = 20
+
+KEYS = {"given", "written", "helped", "printed", "status", "unread", "room", "printed-room", "lanes"}
+
+
+class Command(typing.NamedTuple):
+    """A stored command: where it stands, its words with the program's name, its input, and what is wanted of it."""
+
+    place: str
+    words: list
+    given: bytes
+    written: bytes
+    printed: bytes
+    status: int
+    is_unread: bool
+    room: typing.Optional[int]
+    printed_room: typing.Optional[int]
+
+
+class Answer(typing.NamedTuple):
+    """What a run wrote and printed, how it ended, and how much of its input it left."""
+
+    written: bytes
+    printed: bytes
+    status: int
+    read: int
+
+
+def fact_of(place, line):
+    """What a line says, by its key."""
+    key, _, value = line.partition(" ")
+    if key not in KEYS:
+        sys.exit(f"test_commands: {place}: unknown: {line}")
+    return key, value
+
+
+def commands_of(place, words, facts, help_text):
+    """A command over each number of lanes."""
+    if "helped" in facts and "written" in facts:
+        sys.exit(f"test_commands: {place}: both helped and written")
+    name, *others = [text_of(word) for word in shlex.split(words)]
+    wanted = Command(
+        place,
+        [],
+        text_of(facts.get("given", "")),
+        help_text if "helped" in facts else text_of(facts.get("written", "")),
+        text_of(facts["printed"]) + b"\n" if "printed" in facts else b"",
+        int(facts.get("status", "0")),
+        "unread" in facts,
+        int(facts["room"]) if "room" in facts else None,
+        int(facts["printed-room"]) if "printed-room" in facts else None,
+    )
+    if "lanes" not in facts:
+        return [wanted._replace(words=[name, *others])]
+    return [wanted._replace(words=[name, b"--lanes", lanes.encode(), *others]) for lanes in facts["lanes"].split()]
+
+
+def read_commands(name, help_text):
+    """All commands of a file."""
+    common, pending = {}, None
+    with open(f"{STORED}/{name}", encoding="latin-1") as file:
+        lines = [*file.read().split("\n"), ""]
+    for number, line in enumerate(lines, 1):
+        place = f"{name}:{number}"
+        if line.startswith("#"):
+            continue
+        if pending and not line.startswith("  "):
+            yield from commands_of(*pending, help_text)
+            pending = None
+        if not line:
+            common = {}
+        elif line.startswith("$ "):
+            pending = (place, line[2:], dict(common))
+        elif pending:
+            pending[2].update([fact_of(place, line[2:])])
+        else:
+            common.update([fact_of(place, line)])
+
+
+def limited(room):
+    """What a process does before the program begins, where a file that it writes takes so many bytes alone."""
+
+    def limit():
+        signal.signal(signal.SIGXFSZ, signal.SIG_IGN)
+        resource.setrlimit(resource.RLIMIT_FSIZE, (room, room))
+
+    return limit
+
+
+def answered(program, command):
+    """Runs the command. Its devices are files, of which is known how far each came."""
+    rooms = (command.room, command.printed_room)
+    if None not in rooms:
+        sys.exit(f"test_commands: {command.place}: one limit holds for both")
+    room = next((it for it in rooms if it is not None), None)
+    with tempfile.TemporaryFile() as given, tempfile.TemporaryFile() as limited_file:
+        given.write(command.given)
+        given.flush()
+        given.seek(0)
+        # (the limit holds for files, and not for pipes)
+        outputs = [subprocess.PIPE if it is None else limited_file for it in rooms]
+        ran = subprocess.run(
+            command.words,
+            executable=program,
+            stdin=given,
+            stdout=outputs[0],
+            stderr=outputs[1],
+            timeout=LONGEST,
+            preexec_fn=None if room is None else limited(room),
+        )
+        limited_file.seek(0)
+        written, printed = (limited_file.read() if it is None else it for it in (ran.stdout, ran.stderr))
+        return Answer(written, printed, ran.returncode, os.lseek(given.fileno(), 0, os.SEEK_CUR))
+
+
+def differences(command, answer):
+    """Each difference between what is wanted and what came."""
+    wanted = [
+        ("written", command.written[: command.room], answer.written),
+        ("printed", command.printed[: command.printed_room], answer.printed),
+        ("status", command.status, answer.status),
+    ]
+    if command.is_unread:
+        wanted.append(("bytes read", 0, answer.read))
+    return [f"{what} {came!r}, wanted {want!r}" for what, want, came in wanted if came != want]
+
+
+def constants():
+    """The numbers that are constants of the crates' sources."""
+    found = {}
+    for path in glob.glob(f"{ROOT}/crates/*/src/**/*.rt", recursive=True):
+        with open(path, encoding="utf-8") as file:
+            found.update((name, int(number)) for name, number in CONSTANT.findall(file.read()))
+    return found
+
+
+def faults_of_help(text):
+    """What is wrong with the help text: it has to fit a screen, and to name the limits that the words are held to."""
+    lines, known = text.splitlines(), constants()
+    if len(lines) > SCREEN[0] or any(len(line) > SCREEN[1] for line in lines):
+        yield "it doesn't fit a screen"
+    for name, form in LIMITS.items():
+        if name not in known or form.format(known[name]) not in text:
+            yield f"it doesn't name {name}, {known.get(name, 'which is nowhere')}"
+
+
+def main():
+    parser = argparse.ArgumentParser(description=__doc__.split("\n")[0])
+    parser.add_argument("--program", default=f"{ROOT}/bin/pnmpipe")
+    program = os.path.abspath(parser.parse_args().program)
+    with open(f"{STORED}/{HELP}", "rb") as file:
+        help_text = file.read()
+    names = sorted(set(os.listdir(STORED)) - {HELP})
+    commands = [command for name in names for command in read_commands(name, help_text)]
+    faults = list(faults_of_help(help_text.decode("ascii")))
+    for fault in faults:
+        print(f"test_commands: the help text: {fault}")
+    if not os.access(program, os.X_OK):
+        print(f"test_commands: there is no {program}, so {len(commands)} commands are passed over")
+        return 1 if faults else 0
+    failed = 0
+    for command in commands:
+        try:
+            found = differences(command, answered(program, command))
+        except subprocess.TimeoutExpired:
+            found = [f"not ended after {LONGEST} seconds"]
+        for difference in found:
+            print(f"test_commands: {command.place}: {shlex.join(map(os.fsdecode, command.words))}: {difference}")
+        failed += bool(found)
+    print(f"test_commands: {len(commands)} commands, {failed} failed")
+    return 1 if faults or failed else 0
+
+
+if __name__ == "__main__":
+    sys.exit(main())
