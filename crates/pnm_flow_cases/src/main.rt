@@ -3,17 +3,21 @@
 //!
 //! - `raw (CHAIN) INPUT`, `plain (CHAIN) INPUT`: the images and rows of the output, or the fault; and the bytes
 //! - `cuts (CHAIN) INPUT`: the same of each prefix of the input, with the length from which on it is that
+//! - `reads FORM COUNT SIZE/READS SIZE/WRITES/FLUSHES (CHAIN) INPUT`, and so `writes` and `flushes`: the same over a
+//!   reader and a writer that move so many bytes a call, of which the read, the write and the flush after so many fail,
+//!   and later ones don't; for COUNT numbers of calls of that name, from the given one on
 //!
 //! Each input is run in one thread, and over threads with several rings and lanes (`ways`): where one of these runs
 //! answers or writes something else, that is told, too.
 #![tactic(auto)]
 
+mod failing;
 mod runs;
 mod ways;
 
-use pnm_image::Form;
+use failing::{form_of, tell_failing};
 use pnm_test_support::{Unmade, cut_at, cut_word, text_of};
-use runs::Job;
+use runs::{Job, tell_cuts, tell_input};
 use std::alloc::Global;
 use std::io::{BufRead, BufReader};
 use std::str;
@@ -61,27 +65,21 @@ fn tell<R: Threads + Wait + Sync>(
     text: &[u8],
     told: &mut String,
 ) -> Result<(), Unmade> {
-    let (chain, input) = cut_chain(text);
+    let (facts, written) = cut_at(text, b'(');
+    let (chain, rest) = cut_at(written, b')');
+    let (_, input) = cut_word(rest);
     let Ok(chain) = str::from_utf8(chain) else {
         return Err(Unmade);
     };
-    let form = if word == b"plain".as_slice() {
-        Form::Plain
-    } else {
-        Form::Raw
+    let job = Job {
+        chain,
+        form: form_of(word),
+        input,
+        calls: None,
     };
-    let job = Job { chain, form };
-    if word == b"cuts".as_slice() {
-        runs::tell_cuts(rt, alloc, job, input, told)
-    } else {
-        runs::tell_input(rt, alloc, job, input, told)
+    match word {
+        b"cuts" => tell_cuts(rt, alloc, job, told),
+        b"reads" | b"writes" | b"flushes" => tell_failing(rt, alloc, word, facts, job, told),
+        _ => tell_input(rt, alloc, job, told),
     }
-}
-
-/// The text in parentheses that a case begins with, and what follows the blank after it.
-fn cut_chain(text: &[u8]) -> (&[u8], &[u8]) {
-    let (_, written) = cut_at(text, b'(');
-    let (chain, rest) = cut_at(written, b')');
-    let (_, input) = cut_word(rest);
-    (chain, input)
 }

@@ -2,21 +2,25 @@
 
 ghost use Rattle.pnm_tools.specs.Chains.{IsChain};
 
+use super::failing::Calls;
 use super::ways::{WAYS, Way, run_by};
 use pnm_chain::parse_chain;
 use pnm_flow::{RunFault, Summary};
 use pnm_image::{Device, Form};
-use pnm_test_support::{Unmade, tell_change, tell_text};
+use pnm_test_support::{Drips, FailsOnce, Sips, Unmade, tell_change, tell_text};
 use pnm_tools::Tool;
 use std::alloc::{AllocError, Global};
 use std::sync::Wait;
 use std::thread::Threads;
 
-/// The text of a chain, and the form in which its runs write.
+/// The text of a chain, the form in which its runs write, their input, and the calls of their devices, where one of
+/// these fails.
 #[derive(Clone, Copy)]
 pub struct Job<'a> {
     pub chain: &'a str,
     pub form: Form,
+    pub input: &'a [u8],
+    pub calls: Option<Calls>,
 }
 
 /// Adds what runs over this input answer and write.
@@ -24,11 +28,10 @@ pub fn tell_input<R: Threads + Wait + Sync>(
     rt: &R,
     alloc: Global,
     job: Job<'_>,
-    input: &[u8],
     told: &mut String,
 ) -> Result<(), Unmade> {
     match parse_chain(alloc, job.chain) {
-        Ok(tools) => tell_ways(rt, alloc, tools.as_slice(), job.form, input, told),
+        Ok(tools) => tell_ways(rt, alloc, tools.as_slice(), job, told),
         Err(_) => Err(Unmade),
     }
 }
@@ -38,13 +41,13 @@ pub fn tell_cuts<R: Threads + Wait + Sync>(
     rt: &R,
     alloc: Global,
     job: Job<'_>,
-    input: &[u8],
     told: &mut String,
 ) -> Result<(), Unmade> {
     let mut before = String::new(alloc);
-    for length in 0..=input.len() {
+    for length in 0..=job.input.len() {
         let mut answers = String::new(alloc);
-        tell_input(rt, alloc, job, &input[..length], &mut answers)?;
+        let input = &job.input[..length];
+        tell_input(rt, alloc, Job { input, ..job }, &mut answers)?;
         tell_change(told, length, &mut before, answers)?;
     }
     Ok(())
@@ -55,18 +58,17 @@ fn tell_ways<R: Threads + Wait + Sync>(
     rt: &R,
     alloc: Global,
     tools: &[Tool],
-    form: Form,
-    input: &[u8],
+    job: Job<'_>,
     told: &mut String,
 ) -> Result<(), Unmade>
     requires { IsChain tools.now }
 {
     let mut first = String::new(alloc);
-    tell_run(rt, alloc, Way::OneThread, tools, form, input, &mut first)?;
+    tell_run(rt, alloc, Way::OneThread, tools, job, &mut first)?;
     told.push_str(first.as_str())?;
     for way in WAYS {
         let mut again = String::new(alloc);
-        tell_run(rt, alloc, way, tools, form, input, &mut again)?;
+        tell_run(rt, alloc, way, tools, job, &mut again)?;
         if again.as_str() != first.as_str() {
             write!(told, " but by {way:?}")?;
             told.push_str(again.as_str())?;
@@ -81,21 +83,54 @@ fn tell_run<R: Threads + Wait + Sync>(
     alloc: Global,
     way: Way,
     tools: &[Tool],
-    form: Form,
-    input: &[u8],
+    job: Job<'_>,
     told: &mut String,
 ) -> Result<(), Unmade>
     requires { IsChain tools.now }
 {
-    let mut reader = Device::new(input);
+    if let Some(calls) = job.calls {
+        return tell_failing_run(rt, alloc, way, tools, job, calls, told);
+    }
+    let mut reader = Device::new(job.input);
     let mut writer = Device::new(Vec::new(alloc));
-    let answer = run_by(rt, alloc, way, &mut reader, &mut writer, tools, form)?;
+    let answer = run_by(rt, alloc, way, &mut reader, &mut writer, tools, job.form)?;
+    tell_answer(told, answer, writer.into_inner().as_slice())
+}
+
+/// Adds what a run in this way answers and writes whose devices make these calls.
+fn tell_failing_run<R: Threads + Wait + Sync>(
+    rt: &R,
+    alloc: Global,
+    way: Way,
+    tools: &[Tool],
+    job: Job<'_>,
+    calls: Calls,
+    told: &mut String,
+) -> Result<(), Unmade>
+    requires { IsChain tools.now }
+{
+    let drips = Drips::new(job.input, calls.read_size, FailsOnce::after(calls.reads));
+    let (writes, flushes) = (
+        FailsOnce::after(calls.writes),
+        FailsOnce::after(calls.flushes),
+    );
+    let mut reader = Device::new(drips);
+    let mut writer = Device::new(Sips::new(alloc, calls.write_size, writes, flushes));
+    let answer = run_by(rt, alloc, way, &mut reader, &mut writer, tools, job.form)?;
+    tell_answer(told, answer, writer.into_inner().held())
+}
+
+/// Adds what a run answered, and what it wrote.
+fn tell_answer(
+    told: &mut String,
+    answer: Result<Summary, RunFault>,
+    written: &[u8],
+) -> Result<(), Unmade> {
     match answer {
         Ok(summary) => tell_summary(told, summary)?,
         Err(fault) => tell_fault(told, fault)?,
     }
-    let written = writer.into_inner();
-    Ok(tell_text(told, written.as_slice())?)
+    Ok(tell_text(told, written)?)
 }
 
 /// Adds what was written.

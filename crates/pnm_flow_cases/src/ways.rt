@@ -17,8 +17,9 @@ pub enum Way {
     Threads(usize, usize),
 }
 
-/// In one thread, and over rings of the least room, of two messages and of the most room, with one lane and with three.
-pub const WAYS: [Way; 7] = [
+/// In one thread, and over rings of the least room, of two messages and of the most room, with one lane and with three;
+/// and with two lanes and with the most.
+pub const WAYS: [Way; 9] = [
     Way::OneThread,
     Way::Threads(1, 1),
     Way::Threads(2, 1),
@@ -26,6 +27,8 @@ pub const WAYS: [Way; 7] = [
     Way::Threads(1, 3),
     Way::Threads(2, 3),
     Way::Threads(1_024, 3),
+    Way::Threads(1, 2),
+    Way::Threads(1, 8),
 ];
 
 /// The run of these tools that writes in this form, in this way.

@@ -1,10 +1,10 @@
 //! Which threads come to the gate of a run: each stage and lane once, by its number, and before it takes a message.
 
 use super::agrees;
-use super::chains::are_lawful;
+use super::chains::run_at;
 use super::threads::TURNS;
-use pnm_flow::{Gate, Summary, run};
-use pnm_image::{Device, Form};
+use pnm_flow::{Gate, Summary};
+use pnm_image::Device;
 use pnm_tools::Tool;
 use std::alloc::Global;
 use std::io::Read;
@@ -130,8 +130,6 @@ fn comes_before_it_takes<R: Threads + Wait + Abort + Sync>(
     most: u64,
     came: [u64; 5],
 ) {
-    assert!(rt; 1 <= tools.len() && tools.len() <= 16 && are_lawful(tools));
-    assert!(rt; 1 <= lanes && lanes <= 8);
     let seen = Seen::new();
     let gate = HoldsOne {
         stage,
@@ -141,22 +139,25 @@ fn comes_before_it_takes<R: Threads + Wait + Abort + Sync>(
     };
     let mut reader = Device::new(ByteByByte(NINE_ROWS, &seen));
     let mut writer = Device::new(Vec::new(alloc));
-    let answer = run(
+    let answer = run_at(
         rt,
         alloc,
+        (tools, 1, lanes),
+        &gate,
         &mut reader,
         &mut writer,
-        tools,
-        Form::Raw,
-        1,
-        lanes,
-        &gate,
     );
     let want = (Ok(Summary { images: 1, rows: 9 }), NINE_ROWS_INVERTED);
     let written = writer.into_inner();
     agrees(rt, (answer, written.as_slice()), want, &(stage, lane));
-    assert_eq!(rt; seen.came(), came);
-    assert_eq!(rt; (seen.missed.load(SeqCst), seen.early.load(SeqCst)), (0, 0));
+    has_come(rt, &seen, came);
+}
+
+/// These have come, none was waited for in vain, and nothing was read too early.
+fn has_come(rt: &impl Abort, seen: &Seen, came: [u64; 5]) {
+    let (missed, early) = (seen.missed.load(SeqCst), seen.early.load(SeqCst));
+    let is_so = seen.came() == came && missed == 0 && early == 0;
+    assert!(rt; is_so, "{missed} {early}");
 }
 
 /// Over rings of one message each ring before the stage that is held holds one, and each stage before it one: the

@@ -4,15 +4,15 @@ ghost use Rattle.std.specs.Prelude.{IsTrue};
 ghost use Rattle.pnm_tools.specs.Chains.{AreLawfulTools};
 
 use super::ways::{Way, run_by};
-use pnm_flow::{RunFault, Summary};
-use pnm_image::{Device, Form};
+use pnm_flow::{Gate, RunFault, Summary, run};
+use pnm_image::{BytesIn, BytesOut, Device, Form};
 use pnm_tools::{CutBox, Planes, Tool};
 use std::alloc::{AllocError, Global};
 use std::process::Abort;
 use std::sync::Wait;
 use std::thread::Threads;
 
-/// What a run of the tools answers in this way alone, and what it writes, in raw form.
+/// What a run of the tools answers in this way, and what it writes, in raw form.
 pub fn run_chain_by<R: Threads + Wait + Abort + Sync>(
     rt: &R,
     alloc: Global,
@@ -20,23 +20,39 @@ pub fn run_chain_by<R: Threads + Wait + Abort + Sync>(
     tools: &[Tool],
     input: &[u8],
 ) -> (Result<Summary, RunFault>, Vec<u8>) {
-    run_form_by(rt, alloc, way, tools, Form::Raw, input)
-}
-
-/// What a run answers in this way and form, and what it writes.
-fn run_form_by<R: Threads + Wait + Abort + Sync>(
-    rt: &R,
-    alloc: Global,
-    way: Way,
-    tools: &[Tool],
-    form: Form,
-    input: &[u8],
-) -> (Result<Summary, RunFault>, Vec<u8>) {
     assert!(rt; 1 <= tools.len() && tools.len() <= 64 && are_lawful(tools));
     let mut writer = Device::new(Vec::new(alloc));
     let mut reader = Device::new(input);
-    let answer = run_by(rt, alloc, way, &mut reader, &mut writer, tools, form);
+    let answer = run_by(rt, alloc, way, &mut reader, &mut writer, tools, Form::Raw);
     (answer, writer.into_inner())
+}
+
+/// Tools, how many messages a ring between them holds, and over how many lanes they are.
+pub type Chain<'a> = (&'a [Tool], usize, usize);
+
+/// The run of this chain at the gate, in raw form.
+pub fn run_at<H: Threads + Wait + Abort + Sync, R: BytesIn, W: BytesOut>(
+    rt: &H,
+    alloc: Global,
+    chain: Chain<'_>,
+    gate: &impl Gate,
+    reader: &mut R,
+    writer: &mut W,
+) -> Result<Summary, RunFault> {
+    let (tools, capacity, lanes) = chain;
+    assert!(rt; 1 <= tools.len() && tools.len() <= 64 && are_lawful(tools));
+    assert!(rt; 1 <= capacity && capacity <= 1_024 && 1 <= lanes && lanes <= 8);
+    run(
+        rt,
+        alloc,
+        reader,
+        writer,
+        tools,
+        Form::Raw,
+        capacity,
+        lanes,
+        gate,
+    )
 }
 
 /// Whether each tool's options are in their ranges.

@@ -1,11 +1,10 @@
 //! Runs whose threads are held at their gate, and the order in which they read and write.
 
 use super::agrees;
-use super::chains::are_lawful;
-use super::lanes::{TWO_ROWS, TWO_ROWS_INVERTED};
-use super::threads::{Both, BothLanes, TURNS};
-use pnm_flow::{Gate, OpenGate, Summary, run};
-use pnm_image::{Device, Form};
+use super::chains::{Chain, run_at};
+use super::threads::{Both, BothLanes, TURNS, has_met};
+use pnm_flow::{Gate, OpenGate, RunFault, Summary};
+use pnm_image::Device;
 use pnm_tools::Tool;
 use std::alloc::Global;
 use std::io::{Read, Write};
@@ -23,6 +22,11 @@ const TOOLS: [Tool; 2] = [Tool::Enlarge(2, 2), Tool::Invert];
 
 const MADE: &[u8] = b"P5\n2 2\n9\n\x02\x02\x02\x02";
 
+/// An image of two rows, and the image inverted.
+const TWO_ROWS: &[u8] = b"P5\n1 2\n9\n\x01\x02";
+
+const TWO_ROWS_INVERTED: &[u8] = b"P5\n1 2\n9\n\x08\x07";
+
 /// Tools over so many lanes, an input, and the image of two rows that they make of it.
 type HeldRun<'a> = (&'a [Tool], usize, &'a [u8], &'a [u8]);
 
@@ -34,21 +38,9 @@ fn meets<R: Threads + Wait + Abort + Sync>(
     gate: &impl Gate,
 ) {
     let (tools, lanes, input, made) = held;
-    assert!(rt; 1 <= tools.len() && tools.len() <= 64 && are_lawful(tools));
-    assert!(rt; 1 <= lanes && lanes <= 8);
     let mut writer = Device::new(Vec::new(alloc));
     let mut reader = Device::new(input);
-    let answer = run(
-        rt,
-        alloc,
-        &mut reader,
-        &mut writer,
-        tools,
-        Form::Raw,
-        1,
-        lanes,
-        gate,
-    );
+    let answer = run_at(rt, alloc, (tools, 1, lanes), gate, &mut reader, &mut writer);
     let want = (Ok(Summary { images: 1, rows: 2 }), made);
     let written = writer.into_inner();
     agrees(rt, (answer, written.as_slice()), want, &lanes);
@@ -59,7 +51,7 @@ fn meets<R: Threads + Wait + Abort + Sync>(
 fn gives_each_tool_of_a_run_a_thread(rt: HostRuntime) {
     let both = Both::new();
     meets(&rt, rt.alloc(), (&TOOLS, 1, SAMPLE, MADE), &both);
-    assert_eq!(&rt; both.missed.load(SeqCst), 0);
+    has_met(&rt, &both);
 }
 
 /// Each of two lanes of a tool waits at the gate for the other, and both pass it once.
@@ -68,9 +60,7 @@ fn gives_each_lane_of_a_run_a_thread(rt: HostRuntime) {
     let lanes = BothLanes(Both::new());
     let held: HeldRun<'_> = (&[Tool::Invert], 2, TWO_ROWS, TWO_ROWS_INVERTED);
     meets(&rt, rt.alloc(), held, &lanes);
-    let both = &lanes.0;
-    assert_eq!(&rt; both.missed.load(SeqCst), 0);
-    assert_eq!(&rt; (both.first.load(SeqCst), both.second.load(SeqCst)), (1, 1));
+    has_met(&rt, &lanes.0);
 }
 
 /// What a run has read and written so far, how often a gate held it, and whether it waited in vain.
@@ -156,28 +146,32 @@ impl Gate for HoldsFirst<'_> {
 /// without it.
 fn reads_and_writes<R: Threads + Wait + Abort + Sync>(rt: &R, alloc: Global, held: HeldRun<'_>) {
     let (tools, lanes, input, made) = held;
-    assert!(rt; 1 <= tools.len() && tools.len() <= 64 && are_lawful(tools));
-    assert!(rt; 1 <= lanes && lanes <= 8);
     let seen = Seen::new();
     let mut reader = Device::new(SeenReader(input, &seen));
     let mut writer = Device::new(SeenWriter(Vec::new(alloc), &seen));
     let gate = HoldsFirst(&seen);
-    let answer = run(
+    let answer = run_at(
         rt,
         alloc,
+        (tools, 1, lanes),
+        &gate,
         &mut reader,
         &mut writer,
-        tools,
-        Form::Raw,
-        1,
-        lanes,
-        &gate,
     );
     let want = (Ok(Summary { images: 1, rows: 2 }), made);
     let written = writer.into_inner().0;
     agrees(rt, (answer, written.as_slice()), want, &lanes);
-    assert_eq!(rt; seen.held.load(SeqCst), 1);
-    assert_eq!(rt; (seen.missed.load(SeqCst), seen.early.load(SeqCst)), (0, 0));
+    has_held(rt, &seen);
+}
+
+/// The gate has held once, not in vain, and nothing was written by then.
+fn has_held(rt: &impl Abort, seen: &Seen) {
+    let held = seen.held.load(SeqCst);
+    let (missed, early) = (seen.missed.load(SeqCst), seen.early.load(SeqCst));
+    assert!(rt;
+        held == 1 && missed == 0 && early == 0,
+        "{held} {missed} {early}"
+    );
 }
 
 #[test]
@@ -218,32 +212,35 @@ impl Read for ImageByImage<'_> {
 /// Each image's result is written before the reader is asked for what follows the image: it may have to wait for it.
 #[test]
 fn writes_each_image_before_the_next_is_read(rt: HostRuntime) {
-    assert!(&rt; are_lawful(&TOOLS));
     for (capacity, lanes) in [(1, 1), (2, 1), (64, 1), (1, 2)] {
-        let seen = Seen::new();
-        let mut reader = Device::new(ImageByImage {
-            more: 200,
-            given: 0,
-            seen: &seen,
-        });
-        let mut writer = Device::new(SeenWriter(Vec::new(rt.alloc()), &seen));
-        let answer = run(
-            &rt,
-            rt.alloc(),
-            &mut reader,
-            &mut writer,
-            &TOOLS,
-            Form::Raw,
-            capacity,
-            lanes,
-            &OpenGate,
-        );
-        let made = Summary {
-            images: 200,
-            rows: 400,
-        };
-        assert_eq!(&rt; answer, Ok(made));
-        assert_eq!(&rt; writer.into_inner().0.len(), 200 * MADE.len());
-        assert_eq!(&rt; seen.early.load(SeqCst), 0);
+        writes_before_reads(&rt, rt.alloc(), capacity, lanes);
     }
+}
+
+/// So it is over rings for so many messages, and over so many lanes.
+fn writes_before_reads<R: Threads + Wait + Abort + Sync>(
+    rt: &R,
+    alloc: Global,
+    capacity: usize,
+    lanes: usize,
+) {
+    let seen = Seen::new();
+    let images = ImageByImage {
+        more: 200,
+        given: 0,
+        seen: &seen,
+    };
+    let mut reader = Device::new(images);
+    let mut writer = Device::new(SeenWriter(Vec::new(alloc), &seen));
+    let chain: Chain<'_> = (&TOOLS, capacity, lanes);
+    let answer = run_at(rt, alloc, chain, &OpenGate, &mut reader, &mut writer);
+    let written = writer.into_inner().0.len();
+    let is_whole = is_summary(answer, 200, 400) && written == 200 * MADE.len();
+    let early = seen.early.load(SeqCst);
+    assert!(rt; is_whole && early == 0, "{written} bytes, {early} early");
+}
+
+/// Whether this many images and rows were passed.
+fn is_summary(answer: Result<Summary, RunFault>, images: u64, rows: u64) -> bool {
+    answer == Ok(Summary { images, rows })
 }

@@ -27,7 +27,30 @@ fn stage(
     run_stage(rt, alloc, tool, 1, &OpenGate, input, output)
 }
 
-/// Over rings of capacity 8 the stage ends so, and leaves nothing in its input.
+/// A stage that has ended, the first end of the ring before it, and the last one of that behind it.
+type Ended = (StageDone, Option<Sender>, Receiver);
+
+/// Over rings of capacity 8 the stage of the tool takes these messages. Where the input is gone no more can come.
+fn ended(
+    rt: &(impl Wait + Abort),
+    alloc: Global,
+    tool: &Tool,
+    takes: &[Part<'_>],
+    is_gone: bool,
+) -> Result<Ended, Fail> {
+    let (mut producer, input) = ring(alloc, 8)?;
+    send_all(alloc, &mut producer, takes)?;
+    let producer = if is_gone {
+        drop(producer);
+        None
+    } else {
+        Some(producer)
+    };
+    let (output, consumer) = ring(alloc, 8)?;
+    Ok((stage(rt, alloc, tool, input, output), producer, consumer))
+}
+
+/// The stage ends so, and leaves nothing in its input.
 fn ends_so(
     rt: &(impl Wait + Abort),
     alloc: Global,
@@ -35,10 +58,7 @@ fn ends_so(
     what: &str,
 ) -> Result<(), Fail> {
     let (tool, takes, sends, end) = case;
-    let (mut producer, input) = ring(alloc, 8)?;
-    let (output, mut consumer) = ring(alloc, 8)?;
-    send_all(alloc, &mut producer, takes)?;
-    let mut done = stage(rt, alloc, tool, input, output);
+    let (mut done, _producer, mut consumer) = ended(rt, alloc, tool, takes, false)?;
     is_end(rt, done.end, end, what);
     holds(rt, &mut done.input, &[], what);
     holds(rt, &mut consumer, sends, what);
@@ -128,34 +148,39 @@ fn ends_by_the_fault_of_its_tool(rt: HostRuntime) -> Result<(), Fail> {
 #[test]
 fn drains_its_input_where_its_output_is_gone(rt: HostRuntime) -> Result<(), Fail> {
     for capacity in [1, 2, 3] {
-        let (mut producer, input) = ring(rt.alloc(), 8)?;
-        let (output, consumer) = ring(rt.alloc(), capacity)?;
-        drop(consumer);
-        send_all(rt.alloc(), &mut producer, IMAGE)?;
-        let mut done = stage(&rt, rt.alloc(), &Tool::Invert, input, output);
-        is_end(&rt, done.end, StageEnd::PeerGone, "nobody takes");
-        holds(&rt, &mut done.input, &[], "drained");
+        drains(&rt, rt.alloc(), capacity)?;
     }
+    Ok(())
+}
+
+/// So it does where that has room for so many messages.
+fn drains(rt: &(impl Wait + Abort), alloc: Global, capacity: usize) -> Result<(), Fail> {
+    let (mut producer, input) = ring(alloc, 8)?;
+    send_all(alloc, &mut producer, IMAGE)?;
+    let (output, consumer) = ring(alloc, capacity)?;
+    drop(consumer);
+    let mut done = stage(rt, alloc, &Tool::Invert, input, output);
+    is_end(rt, done.end, StageEnd::PeerGone, "nobody takes");
+    holds(rt, &mut done.input, &[], "drained");
     Ok(())
 }
 
 /// Where nothing more can come, it sends Stop after the answers to what came.
 #[test]
 fn sends_stop_where_its_input_is_gone(rt: HostRuntime) -> Result<(), Fail> {
-    let inverted = [
-        Part::Begin(Kind::Gray, 2, 1, 122),
-        Part::Row(&[57, 56]),
-        Part::ImageEnd,
-    ];
     for count in 0..4 {
-        let (mut producer, input) = ring(rt.alloc(), 8)?;
-        let (output, mut consumer) = ring(rt.alloc(), 8)?;
-        send_all(rt.alloc(), &mut producer, &IMAGE[..count])?;
-        drop(producer);
-        let done = stage(&rt, rt.alloc(), &Tool::Invert, input, output);
-        is_end(&rt, done.end, StageEnd::PeerGone, "nothing can come");
-        begins_with(&rt, &mut consumer, &inverted[..count], "what came");
-        holds(&rt, &mut consumer, &[Part::Stop], "and Stop");
+        sends_stop_after(&rt, rt.alloc(), count)?;
     }
+    Ok(())
+}
+
+/// So it does where so many messages came.
+fn sends_stop_after(rt: &(impl Wait + Abort), alloc: Global, count: usize) -> Result<(), Fail> {
+    let count = count.min(3);
+    let takes = &IMAGE[..count];
+    let (done, _, mut consumer) = ended(rt, alloc, &Tool::Invert, takes, true)?;
+    is_end(rt, done.end, StageEnd::PeerGone, "nothing can come");
+    begins_with(rt, &mut consumer, &INVERTED_IMAGE[..count], "what came");
+    holds(rt, &mut consumer, &[Part::Stop], "and Stop");
     Ok(())
 }

@@ -77,6 +77,34 @@ struct Run<'a> {
     takes: &'a [Part<'a>],
 }
 
+/// A chain that has ended, the first end of the ring before it, and the last one of that behind it.
+type Ended = (ChainDone, Option<Sender>, Receiver);
+
+/// The chain of these tools over rings of this capacity takes these messages. Where the input is gone no more can come.
+fn ended<R: Threads + Wait + Abort + Sync>(
+    rt: &R,
+    alloc: Global,
+    tools: &[Tool],
+    capacity: usize,
+    gate: &impl Gate,
+    takes: &[Part<'_>],
+    is_gone: bool,
+) -> Result<Ended, Fail> {
+    let (mut producer, input) = ring(alloc, 8)?;
+    send_all(alloc, &mut producer, takes)?;
+    let producer = if is_gone {
+        drop(producer);
+        None
+    } else {
+        Some(producer)
+    };
+    let (output, consumer) = ring(alloc, 8)?;
+    match chain(rt, alloc, tools, capacity, 1, gate, input, output) {
+        Ok(done) => Ok((done, producer, consumer)),
+        Err(_) => Err(Fail::new("not started")),
+    }
+}
+
 /// The chain runs to its end: its stages have ended so, up to one and after it, and it has sent these.
 fn ends_so<R: Threads + Wait + Abort + Sync>(
     rt: &R,
@@ -86,14 +114,30 @@ fn ends_so<R: Threads + Wait + Abort + Sync>(
     sends: &[Part<'_>],
 ) -> Result<(), Fail> {
     let tools = tools_with_cut(alloc, run.count, run.cut_at)?;
-    let (mut producer, input) = ring(alloc, 8)?;
-    let (output, mut consumer) = ring(alloc, 8)?;
-    send_all(alloc, &mut producer, run.takes)?;
-    let done = chain(rt, alloc, &tools, run.capacity, 1, &OpenGate, input, output);
-    let Ok(mut done) = done else {
-        return Err(Fail::new("not started"));
-    };
+    let tools = tools.as_slice();
+    let (mut done, _producer, mut consumer) = ended(
+        rt,
+        alloc,
+        tools,
+        run.capacity,
+        &OpenGate,
+        run.takes,
+        false,
+    )?;
+    have_ended(rt, &done, run, ends);
     let what = "what the chain took and sent";
+    holds(rt, &mut done.input, &[], what);
+    holds(rt, &mut consumer, sends, what);
+    Ok(())
+}
+
+/// Each stage of the run has ended so.
+fn have_ended(
+    rt: &impl Abort,
+    done: &ChainDone,
+    run: &Run<'_>,
+    ends: (StageEnd, StageEnd, StageEnd),
+) {
     let counts = done.ends.len() == run.count && done.links.len() == run.count.saturating_sub(1);
     assert!(rt; counts);
     for (index, end) in done.ends.iter().enumerate() {
@@ -102,11 +146,8 @@ fn ends_so<R: Threads + Wait + Abort + Sync>(
             Ordering::Equal => ends.1,
             Ordering::Greater => ends.2,
         };
-        is_end(rt, *end, want, what);
+        is_end(rt, *end, want, "a stage");
     }
-    holds(rt, &mut done.input, &[], what);
-    holds(rt, &mut consumer, sends, what);
-    Ok(())
 }
 
 #[test]
@@ -172,27 +213,38 @@ fn is_last(rt: &impl Abort, done: &ChainDone, want: StageEnd) {
     }
 }
 
-/// Where an outer ring's other end is gone, all stages end.
+/// Where no more can come, all stages end, and what came is sent before Stop.
 #[test]
-fn ends_where_an_outer_end_is_gone(rt: HostRuntime) -> Result<(), Fail> {
+fn ends_where_its_input_is_gone(rt: HostRuntime) -> Result<(), Fail> {
     let tools = tools_with_cut(rt.alloc(), 64, 64)?;
     for taken in 0..4 {
-        let (mut producer, input) = ring(rt.alloc(), 8)?;
-        let (output, mut consumer) = ring(rt.alloc(), 8)?;
-        send_all(rt.alloc(), &mut producer, &IMAGE[..taken])?;
-        drop(producer);
-        let done = chain(&rt, rt.alloc(), &tools, 1, 1, &OpenGate, input, output);
-        let Ok(done) = done else {
-            return Err(Fail::new("not started"));
-        };
-        is_last(&rt, &done, StageEnd::Broken);
-        begins_with(&rt, &mut consumer, &IMAGE[..taken], "what came");
-        holds(&rt, &mut consumer, &[Part::Stop], "Stop at last");
+        sends_stop_after(&rt, rt.alloc(), tools.as_slice(), &IMAGE[..taken])?;
     }
+    Ok(())
+}
+
+/// So do these tools after these messages.
+fn sends_stop_after<R: Threads + Wait + Abort + Sync>(
+    rt: &R,
+    alloc: Global,
+    tools: &[Tool],
+    takes: &[Part<'_>],
+) -> Result<(), Fail> {
+    let (done, _, mut consumer) = ended(rt, alloc, tools, 1, &OpenGate, takes, true)?;
+    is_last(rt, &done, StageEnd::Broken);
+    begins_with(rt, &mut consumer, takes, "what came");
+    holds(rt, &mut consumer, &[Part::Stop], "Stop at last");
+    Ok(())
+}
+
+/// Where nobody takes what is sent, all stages end, and all that came is taken.
+#[test]
+fn ends_where_its_output_is_gone(rt: HostRuntime) -> Result<(), Fail> {
+    let tools = tools_with_cut(rt.alloc(), 64, 64)?;
     let (mut producer, input) = ring(rt.alloc(), 8)?;
+    send_all(rt.alloc(), &mut producer, IMAGE)?;
     let (output, consumer) = ring(rt.alloc(), 1)?;
     drop(consumer);
-    send_all(rt.alloc(), &mut producer, IMAGE)?;
     let done = chain(&rt, rt.alloc(), &tools, 1, 1, &OpenGate, input, output);
     let Ok(mut done) = done else {
         return Err(Fail::new("not started"));
@@ -255,18 +307,23 @@ impl Gate for BothLanes {
     }
 }
 
+/// Both have come, each once, and neither waited in vain.
+pub fn has_met(rt: &impl Abort, both: &Both) {
+    let (first, second) = (both.first.load(SeqCst), both.second.load(SeqCst));
+    let missed = both.missed.load(SeqCst);
+    assert!(rt;
+        first == 1 && second == 1 && missed == 0,
+        "{first} {second} {missed}"
+    );
+}
+
 /// Each of two tools waits at the gate for the other, and both pass it once.
 #[test]
 fn gives_each_tool_a_thread(rt: HostRuntime) -> Result<(), Fail> {
     let both = Both::new();
     let tools = tools_with_cut(rt.alloc(), 2, 2)?;
-    let (mut producer, input) = ring(rt.alloc(), 8)?;
-    let (output, mut consumer) = ring(rt.alloc(), 8)?;
-    send_all(rt.alloc(), &mut producer, IMAGE)?;
-    let done = chain(&rt, rt.alloc(), &tools, 1, 1, &both, input, output);
-    assert!(&rt; done.is_ok());
-    assert_eq!(&rt; both.missed.load(SeqCst), 0);
-    assert_eq!(&rt; (both.first.load(SeqCst), both.second.load(SeqCst)), (1, 1));
+    let (_, _, mut consumer) = ended(&rt, rt.alloc(), tools.as_slice(), 1, &both, IMAGE, false)?;
+    has_met(&rt, &both);
     holds(&rt, &mut consumer, IMAGE, "inverted twice");
     Ok(())
 }
@@ -347,20 +404,29 @@ fn one_by_one(
 /// two lanes too.
 #[test]
 fn passes_each_message_on_at_once(rt: HostRuntime) -> Result<(), Fail> {
-    let alloc = rt.alloc();
-    for (first, steps) in [(Tool::Invert, TWICE), (Tool::Enlarge(2, 2), DOUBLED)] {
-        let tools = [first, Tool::Invert];
-        for lanes in [1, 2] {
-            let (mut producer, input) = ring(alloc, 1)?;
-            let (output, mut consumer) = ring(alloc, 1)?;
-            let (here, tools) = (&rt, tools.as_slice());
-            let both = thread::join(
-                &rt,
-                move || chain(here, alloc, tools, 1, lanes, &OpenGate, input, output).is_ok(),
-                move || { one_by_one(alloc, &mut producer, &mut consumer, steps).unwrap_or(false) },
-            );
-            assert_eq!(&rt; both, (true, true), "{lanes} lanes");
-        }
+    for lanes in [1, 2] {
+        passes_on(&rt, rt.alloc(), &[Tool::Invert, Tool::Invert], lanes, TWICE)?;
+        let doubling = [Tool::Enlarge(2, 2), Tool::Invert];
+        passes_on(&rt, rt.alloc(), &doubling, lanes, DOUBLED)?;
     }
+    Ok(())
+}
+
+/// So do these messages through these tools.
+fn passes_on<R: Threads + Wait + Abort + Sync>(
+    rt: &R,
+    alloc: Global,
+    tools: &[Tool],
+    lanes: usize,
+    steps: &[Step<'_>],
+) -> Result<(), Fail> {
+    let (mut producer, input) = ring(alloc, 1)?;
+    let (output, mut consumer) = ring(alloc, 1)?;
+    let both = thread::join(
+        rt,
+        move || chain(rt, alloc, tools, 1, lanes, &OpenGate, input, output).is_ok(),
+        move || { one_by_one(alloc, &mut producer, &mut consumer, steps).unwrap_or(false) },
+    );
+    assert!(rt; both.0 && both.1, "{lanes} lanes");
     Ok(())
 }
