@@ -32,10 +32,39 @@ const THREE_ROWS: &[Part<'static>] = &[
     Part::StreamEnd,
 ];
 
+/// The heads of a lane's images of one column, that gets one row and none.
+const ONE: Part<'static> = Part::Begin(Kind::Gray, 1, 1, 9);
+
+const NONE: Part<'static> = Part::Begin(Kind::Gray, 1, 0, 9);
+
 const OUT_OF_ORDER: StageEnd = StageEnd::Fault(ToolFault::OutOfOrder);
 
-/// What is dealt, what each lane is sent of it, and how it ends.
-type Case<'a> = (&'a str, &'a [Part<'a>], &'a [&'a [Part<'a>]], StageEnd);
+/// Which other end is gone before the dealing begins: none, that of the input, or a lane's.
+#[derive(Clone, Copy)]
+enum Gone {
+    Nobody,
+    Input,
+    Lane(usize),
+}
+
+impl Gone {
+    /// Whether it is this lane.
+    fn is_lane(self, number: usize) -> bool {
+        match self {
+            Gone::Lane(gone) => gone == number,
+            _ => false,
+        }
+    }
+}
+
+/// What is dealt, which end is gone, what each lane is sent that isn't, and how it ends.
+type Case<'a> = (
+    &'a str,
+    Gone,
+    &'a [Part<'a>],
+    &'a [&'a [Part<'a>]],
+    StageEnd,
+);
 
 /// Deals to the outputs, of which there have to be 1 to 8.
 pub fn dealt(
@@ -54,22 +83,52 @@ pub fn rings(
     count: usize,
     capacity: usize,
 ) -> Result<(Vec<Sender>, Vec<Receiver>), Fail> {
+    rings_but(alloc, count, capacity, Gone::Nobody)
+}
+
+/// So many rings of this capacity. Where a lane is gone its ring has room for the head alone.
+fn rings_but(
+    alloc: Global,
+    count: usize,
+    capacity: usize,
+    gone: Gone,
+) -> Result<(Vec<Sender>, Vec<Receiver>), Fail> {
     let mut outputs = Vec::with_capacity(alloc, count)?;
     let mut inputs = Vec::with_capacity(alloc, count)?;
-    for _ in 0..count {
-        let (output, input) = ring(alloc, capacity)?;
+    for lane in 0..count {
+        let is_gone = gone.is_lane(lane);
+        let (output, input) = ring(alloc, if is_gone { 1 } else { capacity })?;
         outputs.push(output)?;
-        inputs.push(input)?;
+        if !is_gone {
+            inputs.push(input)?;
+        }
     }
     Ok((outputs, inputs))
 }
 
-/// Over rings of capacity 8 the dealing ends so, and leaves nothing in its input.
-fn ends_so(rt: &(impl Wait + Abort), alloc: Global, case: Case<'_>) -> Result<(), Fail> {
-    let (what, takes, lanes, end) = case;
+/// A ring of capacity 8 that holds these.
+fn holding(alloc: Global, parts: &[Part<'_>]) -> Result<(Sender, Receiver), Unmade> {
     let (mut producer, input) = ring(alloc, 8)?;
-    let (outputs, mut consumers) = rings(alloc, lanes.len(), 8)?;
-    send_all(alloc, &mut producer, takes)?;
+    send_all(alloc, &mut producer, parts)?;
+    Ok((producer, input))
+}
+
+/// Over rings of capacity 8 the dealing ends so, and leaves nothing in its input.
+fn ends_so(rt: &(impl Wait + Abort), alloc: Global, case: &Case<'_>) -> Result<(), Fail> {
+    let (what, gone, takes, lanes, end) = *case;
+    let count = match gone {
+        Gone::Lane(_) => lanes.len().saturating_add(1),
+        _ => lanes.len(),
+    };
+    let (outputs, mut consumers) = rings_but(alloc, count, 8, gone)?;
+    let (producer, input) = holding(alloc, takes)?;
+    let _producer = match gone {
+        Gone::Input => {
+            drop(producer);
+            None
+        }
+        _ => Some(producer),
+    };
     let mut done = dealt(rt, alloc, input, outputs);
     is_end(rt, done.end, end, what);
     holds(rt, &mut done.input, &[], what);
@@ -79,34 +138,30 @@ fn ends_so(rt: &(impl Wait + Abort), alloc: Global, case: Case<'_>) -> Result<()
     Ok(())
 }
 
+/// So do all of these.
+fn all_end_so(rt: &(impl Wait + Abort), alloc: Global, cases: &[Case<'_>]) -> Result<(), Fail> {
+    for case in cases {
+        ends_so(rt, alloc, case)?;
+    }
+    Ok(())
+}
+
 /// Streams, and what each lane is sent of them.
-const STREAMS: [Case<'static>; 4] = [
+const STREAMS: &[Case<'static>] = &[
     (
         "more lanes than rows",
+        Gone::Nobody,
         TWO_ROWS,
         &[
-            &[
-                Part::Begin(Kind::Gray, 1, 1, 9),
-                Part::Row(&[1]),
-                Part::ImageEnd,
-                Part::StreamEnd,
-            ],
-            &[
-                Part::Begin(Kind::Gray, 1, 1, 9),
-                Part::Row(&[2]),
-                Part::ImageEnd,
-                Part::StreamEnd,
-            ],
-            &[
-                Part::Begin(Kind::Gray, 1, 0, 9),
-                Part::ImageEnd,
-                Part::StreamEnd,
-            ],
+            &[ONE, Part::Row(&[1]), Part::ImageEnd, Part::StreamEnd],
+            &[ONE, Part::Row(&[2]), Part::ImageEnd, Part::StreamEnd],
+            &[NONE, Part::ImageEnd, Part::StreamEnd],
         ],
         StageEnd::Well,
     ),
     (
         "more rows than lanes",
+        Gone::Nobody,
         THREE_ROWS,
         &[
             &[
@@ -116,19 +171,15 @@ const STREAMS: [Case<'static>; 4] = [
                 Part::ImageEnd,
                 Part::StreamEnd,
             ],
-            &[
-                Part::Begin(Kind::Gray, 1, 1, 9),
-                Part::Row(&[2]),
-                Part::ImageEnd,
-                Part::StreamEnd,
-            ],
+            &[ONE, Part::Row(&[2]), Part::ImageEnd, Part::StreamEnd],
         ],
         StageEnd::Well,
     ),
     (
         "two images",
+        Gone::Nobody,
         &[
-            Part::Begin(Kind::Gray, 1, 1, 9),
+            ONE,
             Part::Row(&[1]),
             Part::ImageEnd,
             Part::Begin(Kind::Gray, 2, 1, 9),
@@ -138,7 +189,7 @@ const STREAMS: [Case<'static>; 4] = [
         ],
         &[
             &[
-                Part::Begin(Kind::Gray, 1, 1, 9),
+                ONE,
                 Part::Row(&[1]),
                 Part::ImageEnd,
                 Part::Begin(Kind::Gray, 2, 1, 9),
@@ -147,7 +198,7 @@ const STREAMS: [Case<'static>; 4] = [
                 Part::StreamEnd,
             ],
             &[
-                Part::Begin(Kind::Gray, 1, 0, 9),
+                NONE,
                 Part::ImageEnd,
                 Part::Begin(Kind::Gray, 2, 0, 9),
                 Part::ImageEnd,
@@ -158,6 +209,7 @@ const STREAMS: [Case<'static>; 4] = [
     ),
     (
         "no image",
+        Gone::Nobody,
         &[Part::StreamEnd],
         &[&[Part::StreamEnd], &[Part::StreamEnd]],
         StageEnd::Well,
@@ -166,16 +218,14 @@ const STREAMS: [Case<'static>; 4] = [
 
 #[test]
 fn deals_rows_in_turn(rt: HostRuntime) -> Result<(), Fail> {
-    for case in STREAMS {
-        ends_so(&rt, rt.alloc(), case)?;
-    }
-    Ok(())
+    all_end_so(&rt, rt.alloc(), STREAMS)
 }
 
 /// Messages that are no stream, and what each lane is sent of them.
-const BROKEN_OFF: [Case<'static>; 5] = [
+const BROKEN_OFF: &[Case<'static>] = &[
     (
         "Stop in an image",
+        Gone::Nobody,
         &[
             Part::Begin(Kind::Gray, 1, 3, 9),
             Part::Row(&[1]),
@@ -187,27 +237,27 @@ const BROKEN_OFF: [Case<'static>; 5] = [
                 Part::Row(&[1]),
                 Part::Stop,
             ],
-            &[Part::Begin(Kind::Gray, 1, 1, 9), Part::Stop],
+            &[ONE, Part::Stop],
         ],
         StageEnd::Broken,
     ),
     (
         "the end of an image first",
+        Gone::Nobody,
         &[Part::ImageEnd, Part::StreamEnd],
         &[&[Part::Stop], &[Part::Stop]],
         OUT_OF_ORDER,
     ),
     (
         "the end of the stream in an image",
-        &[Part::Begin(Kind::Gray, 1, 1, 9), Part::StreamEnd],
-        &[
-            &[Part::Begin(Kind::Gray, 1, 1, 9), Part::Stop],
-            &[Part::Begin(Kind::Gray, 1, 0, 9), Part::Stop],
-        ],
+        Gone::Nobody,
+        &[ONE, Part::StreamEnd],
+        &[&[ONE, Part::Stop], &[NONE, Part::Stop]],
         OUT_OF_ORDER,
     ),
     (
         "a row too wide, and more after it",
+        Gone::Nobody,
         &[
             Part::Begin(Kind::Gray, 1, 2, 9),
             Part::Row(&[1, 2]),
@@ -215,143 +265,107 @@ const BROKEN_OFF: [Case<'static>; 5] = [
             Part::ImageEnd,
             Part::Stop,
         ],
-        &[
-            &[Part::Begin(Kind::Gray, 1, 1, 9), Part::Stop],
-            &[Part::Begin(Kind::Gray, 1, 1, 9), Part::Stop],
-        ],
+        &[&[ONE, Part::Stop], &[ONE, Part::Stop]],
         OUT_OF_ORDER,
     ),
     (
         "a row too many",
+        Gone::Nobody,
         &[
-            Part::Begin(Kind::Gray, 1, 1, 9),
+            ONE,
             Part::Row(&[1]),
             Part::Row(&[2]),
             Part::ImageEnd,
             Part::StreamEnd,
         ],
-        &[
-            &[
-                Part::Begin(Kind::Gray, 1, 1, 9),
-                Part::Row(&[1]),
-                Part::Stop,
-            ],
-            &[Part::Begin(Kind::Gray, 1, 0, 9), Part::Stop],
-        ],
+        &[&[ONE, Part::Row(&[1]), Part::Stop], &[NONE, Part::Stop]],
         OUT_OF_ORDER,
     ),
 ];
 
 #[test]
 fn hands_stop_to_each_lane(rt: HostRuntime) -> Result<(), Fail> {
-    for case in BROKEN_OFF {
-        ends_so(&rt, rt.alloc(), case)?;
-    }
-    Ok(())
+    all_end_so(&rt, rt.alloc(), BROKEN_OFF)
 }
 
-/// Which of three lanes is gone, and what the others are sent of three rows.
-const LANE_GONE: [(usize, &[Part<'static>], &[Part<'static>]); 3] = [
+/// A lane of three is gone, the first one, one in the middle, or the last one.
+const LANE_GONE: &[Case<'static>] = &[
     (
-        0,
-        &[Part::Begin(Kind::Gray, 1, 1, 9), Part::Stop],
-        &[Part::Begin(Kind::Gray, 1, 1, 9), Part::Stop],
+        "the first lane is gone",
+        Gone::Lane(0),
+        THREE_ROWS,
+        &[&[ONE, Part::Stop], &[ONE, Part::Stop]],
+        StageEnd::PeerGone,
     ),
     (
-        1,
-        &[
-            Part::Begin(Kind::Gray, 1, 1, 9),
-            Part::Row(&[1]),
-            Part::Stop,
-        ],
-        &[Part::Begin(Kind::Gray, 1, 1, 9), Part::Stop],
+        "the second lane is gone",
+        Gone::Lane(1),
+        THREE_ROWS,
+        &[&[ONE, Part::Row(&[1]), Part::Stop], &[ONE, Part::Stop]],
+        StageEnd::PeerGone,
     ),
     (
-        2,
+        "the third lane is gone",
+        Gone::Lane(2),
+        THREE_ROWS,
         &[
-            Part::Begin(Kind::Gray, 1, 1, 9),
-            Part::Row(&[1]),
-            Part::Stop,
+            &[ONE, Part::Row(&[1]), Part::Stop],
+            &[ONE, Part::Row(&[2]), Part::Stop],
         ],
-        &[
-            Part::Begin(Kind::Gray, 1, 1, 9),
-            Part::Row(&[2]),
-            Part::Stop,
-        ],
+        StageEnd::PeerGone,
     ),
 ];
 
-/// Where nobody takes what the first lane is sent, the last one, or one in the middle, the others are sent Stop.
+/// Where nobody takes what a lane is sent, the others are sent Stop.
 #[test]
 fn stops_the_other_lanes_where_one_is_gone(rt: HostRuntime) -> Result<(), Fail> {
-    for (gone, before, after) in LANE_GONE {
-        let (mut producer, input) = ring(rt.alloc(), 8)?;
-        let (mut outputs, mut consumers) = rings(rt.alloc(), 2, 8)?;
-        // This ring has room for the head alone.
-        let (output, consumer) = ring(rt.alloc(), 1)?;
-        drop(consumer);
-        assert!(&rt; gone <= outputs.len());
-        outputs.insert(gone, output)?;
-        send_all(rt.alloc(), &mut producer, THREE_ROWS)?;
-        let mut done = dealt(&rt, rt.alloc(), input, outputs);
-        is_end(&rt, done.end, StageEnd::PeerGone, "nobody takes");
-        holds(&rt, &mut done.input, &[], "drained");
-        for (consumer, sent) in consumers.iter_mut().zip([before, after]) {
-            holds(&rt, consumer, sent, "another lane");
-        }
-    }
-    Ok(())
+    all_end_so(&rt, rt.alloc(), LANE_GONE)
 }
 
-/// How many messages come before the input is gone, and what two lanes are sent.
-const INPUT_GONE: [(usize, &[Part<'static>], &[Part<'static>]); 4] = [
-    (0, &[Part::Stop], &[Part::Stop]),
+/// The input is gone after no message of an image of two rows, after the head, the first row and the second one.
+const INPUT_GONE: &[Case<'static>] = &[
     (
-        1,
-        &[Part::Begin(Kind::Gray, 1, 1, 9), Part::Stop],
-        &[Part::Begin(Kind::Gray, 1, 1, 9), Part::Stop],
+        "nothing came",
+        Gone::Input,
+        &[],
+        &[&[Part::Stop], &[Part::Stop]],
+        StageEnd::PeerGone,
     ),
     (
-        2,
-        &[
-            Part::Begin(Kind::Gray, 1, 1, 9),
-            Part::Row(&[1]),
-            Part::Stop,
-        ],
-        &[Part::Begin(Kind::Gray, 1, 1, 9), Part::Stop],
+        "the head came",
+        Gone::Input,
+        &[Part::Begin(Kind::Gray, 1, 2, 9)],
+        &[&[ONE, Part::Stop], &[ONE, Part::Stop]],
+        StageEnd::PeerGone,
     ),
     (
-        4,
+        "the first row came",
+        Gone::Input,
+        &[Part::Begin(Kind::Gray, 1, 2, 9), Part::Row(&[1])],
+        &[&[ONE, Part::Row(&[1]), Part::Stop], &[ONE, Part::Stop]],
+        StageEnd::PeerGone,
+    ),
+    (
+        "the image's end came",
+        Gone::Input,
         &[
-            Part::Begin(Kind::Gray, 1, 1, 9),
+            Part::Begin(Kind::Gray, 1, 2, 9),
             Part::Row(&[1]),
-            Part::ImageEnd,
-            Part::Stop,
-        ],
-        &[
-            Part::Begin(Kind::Gray, 1, 1, 9),
             Part::Row(&[2]),
             Part::ImageEnd,
-            Part::Stop,
         ],
+        &[
+            &[ONE, Part::Row(&[1]), Part::ImageEnd, Part::Stop],
+            &[ONE, Part::Row(&[2]), Part::ImageEnd, Part::Stop],
+        ],
+        StageEnd::PeerGone,
     ),
 ];
 
 /// Where nothing more can come, each lane is sent Stop after what came.
 #[test]
 fn stops_the_lanes_where_the_input_is_gone(rt: HostRuntime) -> Result<(), Fail> {
-    for (count, first, second) in INPUT_GONE {
-        let (mut producer, input) = ring(rt.alloc(), 8)?;
-        let (outputs, mut consumers) = rings(rt.alloc(), 2, 8)?;
-        send_all(rt.alloc(), &mut producer, &TWO_ROWS[..count])?;
-        drop(producer);
-        let done = dealt(&rt, rt.alloc(), input, outputs);
-        is_end(&rt, done.end, StageEnd::PeerGone, "nothing can come");
-        for (consumer, sent) in consumers.iter_mut().zip([first, second]) {
-            holds(&rt, consumer, sent, "what came, and Stop");
-        }
-    }
-    Ok(())
+    all_end_so(&rt, rt.alloc(), INPUT_GONE)
 }
 
 /// How many of so many rows go to the lane.

@@ -16,8 +16,15 @@ use std::thread;
 
 const OUT_OF_ORDER: StageEnd = StageEnd::Fault(ToolFault::OutOfOrder);
 
-/// What each lane gives, what is sent of it, and how it ends.
-type Case<'a> = (&'a str, &'a [&'a [Part<'a>]], &'a [Part<'a>], StageEnd);
+/// What each lane gives, whether more may come of them, what is sent of it, to nobody where that is none, and how it
+/// ends.
+type Case<'a> = (
+    &'a str,
+    &'a [&'a [Part<'a>]],
+    bool,
+    Option<&'a [Part<'a>]>,
+    StageEnd,
+);
 
 /// Gathers from the inputs, of which there have to be 1 to 8.
 fn gathered(rt: &(impl Wait + Abort), inputs: Vec<Receiver>, output: Sender) -> GatherDone {
@@ -25,29 +32,49 @@ fn gathered(rt: &(impl Wait + Abort), inputs: Vec<Receiver>, output: Sender) -> 
     gather(rt, inputs, output)
 }
 
-/// Over rings of capacity 8 the gathering ends so, and leaves nothing in its inputs.
-fn ends_so(rt: &(impl Wait + Abort), alloc: Global, case: Case<'_>) -> Result<(), Fail> {
-    let (what, lanes, sent, end) = case;
-    let mut inputs = Vec::with_capacity(alloc, lanes.len())?;
-    let mut producers = Vec::with_capacity(alloc, lanes.len())?;
-    for parts in lanes {
-        let (mut producer, input) = ring(alloc, 8)?;
-        send_all(alloc, &mut producer, parts)?;
-        producers.push(producer)?;
-        inputs.push(input)?;
+/// Rings of capacity 8 that hold what each lane gives.
+fn given(alloc: Global, lanes: &[&[Part<'_>]]) -> Result<(Vec<Sender>, Vec<Receiver>), Fail> {
+    let (mut producers, inputs) = rings(alloc, lanes.len(), 8)?;
+    for (producer, parts) in producers.iter_mut().zip(lanes) {
+        send_all(alloc, producer, parts)?;
     }
-    let (output, mut consumer) = ring(alloc, 8)?;
+    Ok((producers, inputs))
+}
+
+/// Over rings of capacity 8, or one that has room for the head alone where nobody takes what is sent, the gathering
+/// ends so, and leaves nothing in its inputs.
+fn ends_so(rt: &(impl Wait + Abort), alloc: Global, case: &Case<'_>) -> Result<(), Fail> {
+    let (what, lanes, may_come, sends, end) = *case;
+    let (output, consumer) = ring(alloc, if sends.is_some() { 8 } else { 1 })?;
+    let taken = sends.map(|sends| (consumer, sends));
+    let (producers, inputs) = given(alloc, lanes)?;
+    let _producers = if may_come {
+        Some(producers)
+    } else {
+        drop(producers);
+        None
+    };
     let mut done = gathered(rt, inputs, output);
     is_end(rt, done.end, end, what);
     for input in done.inputs.iter_mut() {
         holds(rt, input, &[], what);
     }
-    holds(rt, &mut consumer, sent, what);
+    if let Some((mut consumer, sends)) = taken {
+        holds(rt, &mut consumer, sends, what);
+    }
+    Ok(())
+}
+
+/// So do all of these.
+fn all_end_so(rt: &(impl Wait + Abort), alloc: Global, cases: &[Case<'_>]) -> Result<(), Fail> {
+    for case in cases {
+        ends_so(rt, alloc, case)?;
+    }
     Ok(())
 }
 
 /// What lanes give, and what is gathered of it.
-const GATHERED: [Case<'static>; 2] = [
+const GATHERED: &[Case<'static>] = &[
     (
         "more lanes than rows",
         &[
@@ -69,33 +96,32 @@ const GATHERED: [Case<'static>; 2] = [
                 Part::StreamEnd,
             ],
         ],
-        &[
+        true,
+        Some(&[
             Part::Begin(Kind::Gray, 1, 2, 9),
             Part::Row(&[1]),
             Part::Row(&[2]),
             Part::ImageEnd,
             Part::StreamEnd,
-        ],
+        ]),
         StageEnd::Well,
     ),
     (
         "no image",
         &[&[Part::StreamEnd], &[Part::StreamEnd]],
-        &[Part::StreamEnd],
+        true,
+        Some(&[Part::StreamEnd]),
         StageEnd::Well,
     ),
 ];
 
 #[test]
 fn gathers_rows_in_turn(rt: HostRuntime) -> Result<(), Fail> {
-    for case in GATHERED {
-        ends_so(&rt, rt.alloc(), case)?;
-    }
-    Ok(())
+    all_end_so(&rt, rt.alloc(), GATHERED)
 }
 
 /// What lanes give that doesn't end well, and what is sent of it.
-const STOPPED: [Case<'static>; 4] = [
+const STOPPED: &[Case<'static>] = &[
     (
         "the first lane ends first",
         &[
@@ -106,7 +132,8 @@ const STOPPED: [Case<'static>; 4] = [
                 Part::Stop,
             ],
         ],
-        &[Part::Stop],
+        true,
+        Some(&[Part::Stop]),
         StageEnd::Broken,
     ),
     (
@@ -119,11 +146,12 @@ const STOPPED: [Case<'static>; 4] = [
             ],
             &[Part::Begin(Kind::Gray, 1, 1, 9), Part::Stop],
         ],
-        &[
+        true,
+        Some(&[
             Part::Begin(Kind::Gray, 1, 2, 9),
             Part::Row(&[1]),
             Part::Stop,
-        ],
+        ]),
         StageEnd::Broken,
     ),
     (
@@ -136,7 +164,8 @@ const STOPPED: [Case<'static>; 4] = [
                 Part::Stop,
             ],
         ],
-        &[Part::Stop],
+        true,
+        Some(&[Part::Stop]),
         OUT_OF_ORDER,
     ),
     (
@@ -149,103 +178,84 @@ const STOPPED: [Case<'static>; 4] = [
             ],
             &[Part::Begin(Kind::Gray, 1, 0, 9), Part::ImageEnd, Part::Stop],
         ],
-        &[Part::Begin(Kind::Gray, 1, 1, 9), Part::Stop],
+        true,
+        Some(&[Part::Begin(Kind::Gray, 1, 1, 9), Part::Stop]),
         OUT_OF_ORDER,
     ),
 ];
 
 #[test]
 fn stops_where_a_lane_does(rt: HostRuntime) -> Result<(), Fail> {
-    for case in STOPPED {
-        ends_so(&rt, rt.alloc(), case)?;
-    }
-    Ok(())
+    all_end_so(&rt, rt.alloc(), STOPPED)
 }
 
 /// Heights of lanes add up to one of 16,777,216 at most.
+const HEIGHTS: &[Case<'static>] = &[
+    (
+        "the greatest height",
+        &[
+            &[Part::Begin(Kind::Gray, 1, 8_388_608, 9), Part::Stop],
+            &[Part::Begin(Kind::Gray, 1, 8_388_608, 9), Part::Stop],
+        ],
+        true,
+        Some(&[Part::Begin(Kind::Gray, 1, 16_777_216, 9), Part::Stop]),
+        StageEnd::Broken,
+    ),
+    (
+        "a height beyond it",
+        &[
+            &[Part::Begin(Kind::Gray, 1, 8_388_609, 9), Part::Stop],
+            &[Part::Begin(Kind::Gray, 1, 8_388_608, 9), Part::Stop],
+        ],
+        true,
+        Some(&[Part::Stop]),
+        OUT_OF_ORDER,
+    ),
+    (
+        "the greatest height twice",
+        &[
+            &[Part::Begin(Kind::Gray, 1, 16_777_216, 9), Part::Stop],
+            &[Part::Begin(Kind::Gray, 1, 16_777_216, 9), Part::Stop],
+        ],
+        true,
+        Some(&[Part::Stop]),
+        OUT_OF_ORDER,
+    ),
+];
+
 #[test]
 fn adds_heights_up_to_the_greatest(rt: HostRuntime) -> Result<(), Fail> {
-    let cases: [Case<'_>; 3] = [
-        (
-            "the greatest height",
-            &[
-                &[Part::Begin(Kind::Gray, 1, 8_388_608, 9), Part::Stop],
-                &[Part::Begin(Kind::Gray, 1, 8_388_608, 9), Part::Stop],
-            ],
-            &[Part::Begin(Kind::Gray, 1, 16_777_216, 9), Part::Stop],
-            StageEnd::Broken,
-        ),
-        (
-            "a height beyond it",
-            &[
-                &[Part::Begin(Kind::Gray, 1, 8_388_609, 9), Part::Stop],
-                &[Part::Begin(Kind::Gray, 1, 8_388_608, 9), Part::Stop],
-            ],
-            &[Part::Stop],
-            OUT_OF_ORDER,
-        ),
-        (
-            "the greatest height twice",
-            &[
-                &[Part::Begin(Kind::Gray, 1, 16_777_216, 9), Part::Stop],
-                &[Part::Begin(Kind::Gray, 1, 16_777_216, 9), Part::Stop],
-            ],
-            &[Part::Stop],
-            OUT_OF_ORDER,
-        ),
-    ];
-    for case in cases {
-        ends_so(&rt, rt.alloc(), case)?;
-    }
-    Ok(())
+    all_end_so(&rt, rt.alloc(), HEIGHTS)
 }
 
-/// Where nothing more can come of a lane, what came is sent, and Stop.
-#[test]
-fn stops_where_a_lane_is_gone(rt: HostRuntime) -> Result<(), Fail> {
-    let (mut producer, input) = ring(rt.alloc(), 8)?;
-    send_all(
-        rt.alloc(),
-        &mut producer,
-        &[Part::Begin(Kind::Gray, 1, 1, 9)],
-    )?;
-    drop(producer);
-    let mut inputs = Vec::with_capacity(rt.alloc(), 1)?;
-    inputs.push(input)?;
-    let (output, mut consumer) = ring(rt.alloc(), 8)?;
-    let done = gathered(&rt, inputs, output);
-    is_end(&rt, done.end, StageEnd::PeerGone, "nothing can come");
-    holds(
-        &rt,
-        &mut consumer,
-        &[Part::Begin(Kind::Gray, 1, 1, 9), Part::Stop],
+/// Nothing more can come of a lane, or nobody takes what is sent.
+const GONE: &[Case<'static>] = &[
+    (
         "what came, and Stop",
-    );
-    Ok(())
-}
+        &[&[Part::Begin(Kind::Gray, 1, 1, 9)]],
+        false,
+        Some(&[Part::Begin(Kind::Gray, 1, 1, 9), Part::Stop]),
+        StageEnd::PeerGone,
+    ),
+    (
+        "nobody takes",
+        &[&[
+            Part::Begin(Kind::Gray, 1, 1, 9),
+            Part::Row(&[1]),
+            Part::ImageEnd,
+            Part::StreamEnd,
+        ]],
+        true,
+        None,
+        StageEnd::PeerGone,
+    ),
+];
 
-/// Where nobody takes what is sent, the lanes are drained.
+/// Where nothing more can come of a lane, what came is sent, and Stop; where nobody takes what is sent, the lanes are
+/// drained.
 #[test]
-fn drains_where_nobody_takes(rt: HostRuntime) -> Result<(), Fail> {
-    let (mut producer, input) = ring(rt.alloc(), 8)?;
-    let parts = [
-        Part::Begin(Kind::Gray, 1, 1, 9),
-        Part::Row(&[1]),
-        Part::ImageEnd,
-        Part::StreamEnd,
-    ];
-    send_all(rt.alloc(), &mut producer, &parts)?;
-    let mut inputs = Vec::with_capacity(rt.alloc(), 1)?;
-    inputs.push(input)?;
-    // This ring has room for the head alone.
-    let (output, consumer) = ring(rt.alloc(), 1)?;
-    drop(consumer);
-    let mut done = gathered(&rt, inputs, output);
-    is_end(&rt, done.end, StageEnd::PeerGone, "nobody takes");
-    for input in done.inputs.iter_mut() {
-        holds(&rt, input, &[], "drained");
-    }
-    Ok(())
+fn ends_where_another_end_is_gone(rt: HostRuntime) -> Result<(), Fail> {
+    all_end_so(&rt, rt.alloc(), GONE)
 }
 
 /// Sends an image of this height, each message only once the one before it has come at the other end.
