@@ -12,8 +12,7 @@ use pnm_filters::filter_of;
 use pnm_image::Message;
 use pnm_lanes::{LaneRings, run_lanes_beside};
 use pnm_stages::{
-    Backoff, Call, Gate, Receiver, Sender, StageDone, Task, new_ring, run_both,
-    run_filter,
+    Backoff, Call, Gate, Receiver, Sender, StageDone, Task, new_ring, run_both, run_filter,
 };
 use pnm_tools::Tool;
 use std::alloc::Global;

@@ -18,8 +18,7 @@ use crate::joining::{LanesDone, joined};
 use crate::lane_rings::{LaneRingEnds, LaneRings};
 use pnm_filters::row_filter_of;
 use pnm_stages::{
-    Call, Gate, Idle, NoStart, Receiver, Sender, StageDone, Task, run_both,
-    run_filter,
+    Call, Gate, Idle, NoStart, Receiver, Sender, StageDone, Task, run_both, run_filter,
 };
 use pnm_tools::Tool;
 use std::alloc::Global;
