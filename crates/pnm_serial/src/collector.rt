@@ -59,8 +59,8 @@ impl<W: BytesOut + Drop> Collector<W> {
         self.images
     }
 
-    /// Takes a message, if one is there, and writes it; a row is then a spare one. False where no message is, and the
-    /// ring's other end is still there.
+    /// Takes the messages that one look at the ring shows, and writes them; rows are spare ones then. False where no
+    /// message is there, and the ring's other end still is.
     pub fn turn(&mut self, spares: &mut SpareRows) -> bool
         requires going { collector_is_over self.old ≡ false }
         ensures collecting { (form : FormValue) (start : W) (before : List MessageValue)
@@ -73,12 +73,25 @@ impl<W: BytesOut + Drop> Collector<W> {
             self.is_gone = self.input.is_abandoned();
             return self.is_gone;
         }
-        // It is written out of the ring, and moved once it may go.
-        let message = self.input.peek_known();
-        count_image(&mut self.images, message.ends_image());
-        put(&mut self.downstream, &mut self.has_ended, message);
-        let_go(self.input.receive_known(), spares);
+        self.take_seen(spares);
         true
+    }
+
+    /// Takes the messages that were seen in the ring, up to one that ends the stream, and writes them.
+    fn take_seen(&mut self, spares: &mut SpareRows)
+        ensures collecting { (form : FormValue) (start : W) (before : List MessageValue)
+            → IsCollecting W.held W.failures form start before self.old
+            → IsCollecting W.held W.failures form start before self.new }
+        ensures ring { SameReceiver self.old.input self.new.input }
+        ensures same_device { W.same (output_of self.old.downstream) (output_of self.new.downstream) }
+    {
+        while !self.has_ended && self.input.has_seen_message() {
+            // It is written out of the ring, and moved once it may go.
+            let message = self.input.peek_known();
+            count_image(&mut self.images, message.ends_image());
+            put(&mut self.downstream, &mut self.has_ended, message);
+            let_go(self.input.receive_known(), spares);
+        }
     }
 
     /// One turn of waiting for a message.

@@ -11,6 +11,9 @@ use pnm_read::{InputFault, Source, SpareRows};
 use pnm_stages::{Backoff, Sender};
 use std::sync::Wait;
 
+/// So many messages are sent in a turn at most, beside the first.
+const MOST_MESSAGES: u32 = 64;
+
 /// The source of a run, and the ring that its messages go into.
 #[derive(Drop)]
 pub struct Feeder<R> {
@@ -89,8 +92,9 @@ impl<R: BytesIn + Drop> Feeder<R> {
         self.output.wait(rt, backoff);
     }
 
-    /// Asks the source for its next message and sends it, where there is room for one in the ring. A short row is made
-    /// of a spare one. False where there is no room.
+    /// Asks the source for its next message and sends it, where there is room for one in the ring; and so on, while
+    /// there is and the source holds the next one, for as many as a turn sends. Short rows are made of spare ones.
+    /// False where there is no room for the first.
     pub fn turn(&mut self, spares: &mut SpareRows) -> bool
         requires going { feeder_is_over self.old ≡ false }
         ensures feeding { (first : Source R) (before : List MessageValue)
@@ -104,7 +108,27 @@ impl<R: BytesIn + Drop> Feeder<R> {
             return self.is_gone;
         }
         self.send_next(spares);
+        self.send_held(spares);
         true
+    }
+
+    /// Sends what the source holds, as far as there is room for it.
+    fn send_held(&mut self, spares: &mut SpareRows)
+        ensures feeding { (first : Source R) (before : List MessageValue)
+            → IsFeeding R.left R.failures first before self.old
+            → IsFeeding R.left R.failures first before self.new }
+        ensures ring { SameSender self.old.output self.new.output }
+        ensures same_device { R.same (reader_of self.old.source) (reader_of self.new.source) }
+    {
+        for _ in 0..MOST_MESSAGES {
+            if self.input.is_some() || self.would_read() {
+                return;
+            }
+            if !self.output.has_room() {
+                return;
+            }
+            self.send_next(spares);
+        }
     }
 
     /// Asks the source for its next message and sends it, for which there is room. After the source's fault Stop is
