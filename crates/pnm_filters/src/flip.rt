@@ -16,7 +16,7 @@ use crate::head::head_within_limits;
 use crate::image_tool::ImageTool;
 use crate::row_tool::RowTool;
 use pnm_image::{Bits, Head, SampleVec, Samples, Shape};
-use pnm_tools::{FlipWay, ToolFault, Turn};
+use pnm_tools::{FlipWay, Tool, ToolFault, Turn};
 use std::alloc::{AllocError, Global};
 use std::marker::Model;
 
@@ -269,7 +269,7 @@ pub(crate) fn flipped_head(alloc: Global, way: FlipWay, head: &Head) -> Result<H
         ⊎ ((fault ≡ Memory) × TakesHead (Flip way) head.now)) }
 {
     let (turn, shape) = (way.turn(), head.shape());
-    if turn.moves_rows() && shape.height == 0 {
+    if !Tool::Flip(way).is_row_wise() && shape.height == 0 {
         return Err(ToolFault::OutOfOrder);
     }
     let turned = if turn.exchanged {

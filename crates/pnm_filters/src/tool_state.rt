@@ -37,17 +37,17 @@ fn any_tool(alloc: Global, tool: &Tool) -> Result<AnyTool, ToolFault>
     ensures kept { IfOk result (λ work. kept_of work ≡ []) }
     ensures refused { IfErr result (λ fault. fault ≡ Memory) }
 {
-    Ok(match tool {
+    Ok(match tool.copy(alloc)? {
         Tool::Invert => AnyTool::Inverting(ByRow::new(Inverter)),
-        Tool::Cut(cut) => AnyTool::Cutting(ByRow::new(Cutter::new(*cut))),
+        Tool::Cut(cut) => AnyTool::Cutting(ByRow::new(Cutter::new(cut))),
         Tool::Depth(maxval) => AnyTool::Rescaling(ByRow::new(Rescaler {
-            maxval: *maxval,
+            maxval,
             table: Table::Absent,
         })),
-        Tool::Channel(planes) => AnyTool::Picking(ByRow::new(planes.copy()?)),
-        Tool::Enlarge(across, down) => AnyTool::Enlarging(Enlarger::new(*across, *down)),
-        Tool::Flip(way) => flip(alloc, *way),
-        Tool::Tile(width, height) => AnyTool::Tiling(Tiler::new(alloc, *width, *height)),
+        Tool::Channel(planes) => AnyTool::Picking(ByRow::new(planes)),
+        Tool::Enlarge(across, down) => AnyTool::Enlarging(Enlarger::new(across, down)),
+        Tool::Flip(way) => flip(alloc, way),
+        Tool::Tile(width, height) => AnyTool::Tiling(Tiler::new(alloc, width, height)),
     })
 }
 

@@ -60,7 +60,7 @@ impl Planes {
     }
 
     /// Equal planes. The only fault is `Memory`.
-    pub fn copy(&self) -> Result<Planes, ToolFault>
+    pub(crate) fn copy(&self) -> Result<Planes, ToolFault>
         ensures equal { IfOk result (λ planes. planes ≡ self.now) }
         ensures refused { IfErr result (λ fault. fault ≡ Memory) }
     {

@@ -59,7 +59,7 @@ impl FlipWay {
 
 impl Turn {
     /// Whether rows don't stay in their places.
-    pub fn moves_rows(self) -> bool
+    pub(crate) fn moves_rows(self) -> bool
         ensures { result ≡ moves_rows self }
     {
         self.exchanged || self.rows_reversed

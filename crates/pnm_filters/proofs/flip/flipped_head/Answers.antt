@@ -7,8 +7,8 @@ use Rattle.pnm_tools.specs.Tools.{result_head}
 use Rattle.pnm_tools.proofs.HeadLaws.{head_so, fault_so}
 use Rattle.pnm_filters.proofs.SizeLaws.{flip_without_rows, turned_sizes, turned_head_made}
 use Rattle.pnm_filters.proofs.flip.flipped_head.Goals as goal
-use Rattle.pnm_filters.proofs.flip.flipped_head.Goals.{else-moves_rows-via-then-moves_rows+else-shape-eq0, else-moves_rows-via-else-moves_rows, then-turn}
-use Rattle.pnm_filters.proofs.flip.flipped_head.Goals.{else-turn}
+use Rattle.pnm_filters.proofs.flip.flipped_head.Goals.{else-not-is_row_wise-via-then-not-is_row_wise+else-shape-eq0}
+use Rattle.pnm_filters.proofs.flip.flipped_head.Goals.{else-not-is_row_wise-via-else-not-is_row_wise, then-turn, else-turn}
 
 pub returns-then-shape-eq0-clause-refused : goal.returns-then-shape-eq0-clause-refused
 returns-then-shape-eq0-clause-refused c =
@@ -17,9 +17,9 @@ returns-then-shape-eq0-clause-refused c =
 
 -- rows stay in their places, or there are rows
 order : (c : goal.After-head_within_limits) → (moves_rows (turn_of c.args.way) ≡ false) ⊎ (c.shape-shape.result.height ≡ 0 → ⊥)
-order c = elim c.else-moves_rows.branch [
-  | else-moves_rows-via-then-moves_rows+else-shape-eq0 w ↦ inr w.if-shape-eq0.false
-  | else-moves_rows-via-else-moves_rows w ↦ inl (search rules)
+order c = elim c.else-not-is_row_wise.branch [
+  | else-not-is_row_wise-via-then-not-is_row_wise+else-shape-eq0 w ↦ inr w.if-shape-eq0.false
+  | else-not-is_row_wise-via-else-not-is_row_wise w ↦ inl (search rules)
 ]
 
 -- the sizes are those of the rule
