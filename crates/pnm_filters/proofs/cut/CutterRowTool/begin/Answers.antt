@@ -1,7 +1,10 @@
-use Rattle.std.proofs.Common.{Some, None, inl, ap, sym, subst, ◌∙◌, arith}
+use Rattle.std.proofs.Common.{◌≡◌, Some, None, inl, ap, sym, subst, ◌∙◌, arith}
 use Rattle.pnm_image.specs.declared.shape.Shape.{Shape}
 use Rattle.pnm_image.specs.Heads.{IsWithinLimits, head_value}
+use Rattle.pnm_image.specs.declared.head.Head.{Head as HeadValue}
 use Rattle.pnm_tools.specs.declared.tool.Tool.TheVariants.{Cut}
+use Rattle.pnm_tools.specs.Limits.{within_limits}
+use Rattle.pnm_tools.specs.Tools.{result_head}
 use Rattle.pnm_tools.proofs.HeadLaws.{head_so, fault_so}
 use Rattle.pnm_tools.proofs.CutRowLaws.{columns_lie, rows_lie, counts_within, cut_without_rows, cut_head_by, cut_head_made}
 use Rattle.pnm_filters.proofs.cut.CutterRowTool.begin.Goals as goal
@@ -40,28 +43,20 @@ head_within_limits-requires-clause-some c =
     let lies = columns_lie c.args.self.now.cut c.shape-shape.result c.in-Some-Some.columns c.in-Some-Some.ensures in
     (omega (arith, c.span_count.ensures, lies.0), limits.depth_low)
 
+-- the head of the spans that are kept
+abbrev kept : goal.After-head_within_limits → HeadValue
+kept c = head_value (record c.shape-shape.result { width = c.span_count.result; height = c.span_count-2.result }) c.tuple_type.result.now
+
+made : (c : goal.After-head_within_limits) → result_head (Cut c.args.self.now.cut) c.args.head.now ≡ within_limits (kept c)
+made c =
+    cut_head_made c.args.self.now.cut c.args.head.now c.shape-shape.result c.in-Some-Some.columns c.in-Some-Some.rows c.span_count.result
+    c.span_count-2.result c.tuple_type.result.now c.shape-shape.ensures.shape c.shape-shape.ensures.sound.limits c.if-shape-eq0.false
+    c.in-Some-Some.ensures c.in-Some-Some.ensures' c.span_count.ensures c.span_count-2.ensures c.tuple_type.ensures
+
 pub returns-clause-head : goal.returns-clause-head
 returns-clause-head c =
-    let spans = c.in-Some-Some in
-    let s = c.shape-shape.result in
-    let made = cut_head_made c.args.self.now.cut c.args.head.now s spans.columns spans.rows c.span_count.result c.span_count-2.result
-    c.tuple_type.result.now
-    c.shape-shape.ensures.shape c.shape-shape.ensures.sound.limits c.if-shape-eq0.false spans.ensures spans.ensures' c.span_count.ensures
-    c.span_count-2.ensures
-    c.tuple_type.ensures in
-    head_so (Cut c.args.self.now.cut) c.args.head.now (head_value (record s { width = c.span_count.result; height = c.span_count-2.result })
-    c.tuple_type.result.now)
-    c.head_within_limits.result made c.head_within_limits.ensures.made
+    head_so (Cut c.args.self.now.cut) c.args.head.now (kept c) c.head_within_limits.result (made c) c.head_within_limits.ensures.made
 
 pub returns-clause-refused : goal.returns-clause-refused
 returns-clause-refused c =
-    let spans = c.in-Some-Some in
-    let s = c.shape-shape.result in
-    let made = cut_head_made c.args.self.now.cut c.args.head.now s spans.columns spans.rows c.span_count.result c.span_count-2.result
-    c.tuple_type.result.now
-    c.shape-shape.ensures.shape c.shape-shape.ensures.sound.limits c.if-shape-eq0.false spans.ensures spans.ensures' c.span_count.ensures
-    c.span_count-2.ensures
-    c.tuple_type.ensures in
-    fault_so (Cut c.args.self.now.cut) c.args.head.now (head_value (record s { width = c.span_count.result; height = c.span_count-2.result })
-    c.tuple_type.result.now)
-    c.head_within_limits.result made c.head_within_limits.ensures.refused
+    fault_so (Cut c.args.self.now.cut) c.args.head.now (kept c) c.head_within_limits.result (made c) c.head_within_limits.ensures.refused
