@@ -3,12 +3,14 @@
 #![tactic(auto)]
 
 mod chain;
+mod lanes;
 mod stage;
 mod threaded;
 mod tool_run;
 
 pub use chain::{ChainDone, Link, run_chain};
-pub use pnm_lanes::{DealDone, GatherDone, MAX_LANES, deal, gather, run_lanes};
+pub use lanes::run_lanes;
+pub use pnm_lanes::{DealDone, GatherDone, MAX_LANES, deal, gather};
 pub use pnm_serial::{RunFault, Summary, run_serial};
 pub use pnm_stages::{
     AnyMessage, Gate, MAX_RING_CAPACITY, NoStart, OpenGate, Receiver, Sender, StageDone, StageEnd,

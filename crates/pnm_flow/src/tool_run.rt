@@ -8,9 +8,10 @@ ghost use Rattle.pnm_lanes.specs.Limits.{IsLaneCount};
 ghost use Rattle.pnm_lanes.specs.LaneRings.{AreLaneRings};
 ghost use Rattle.pnm_flow.specs.Chains.{RunsInLanes, IsToolRun, IsOneStageRun, IsLanesRun, IsAcross};
 
+use crate::lanes::run_lanes_beside;
 use pnm_filters::filter_of;
 use pnm_image::Message;
-use pnm_lanes::{LaneRings, run_lanes_beside};
+use pnm_lanes::LaneRings;
 use pnm_stages::{
     Backoff, Call, Gate, Receiver, Sender, StageDone, Task, new_ring, run_both, run_filter,
 };

@@ -8,6 +8,7 @@ mod arrivals;
 mod chains;
 mod devices;
 mod gates;
+mod lanes;
 mod limits;
 mod memory;
 mod rings;

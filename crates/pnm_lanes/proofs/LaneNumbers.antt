@@ -15,7 +15,7 @@ use Rattle.pnm_stages.proofs.RingSteps.{still_pair}
 use Rattle.pnm_stages.specs.declared.stage.StageDone.{StageDone}
 use Rattle.pnm_lanes.specs.declared.joining.LanesDone.{LanesDone}
 use Rattle.pnm_lanes.specs.declared.lane_rings.LaneRingEnds.{LaneRingEnds}
-use Rattle.pnm_lanes.specs.declared.lanes.OuterRingEnds.{OuterRingEnds}
+use Rattle.pnm_lanes.specs.declared.around.OuterRingEnds.{OuterRingEnds}
 use Rattle.pnm_lanes.specs.Deals.{AtEachFrom, HasLane, HasSentSo, IsPrefixOfDealt}
 use Rattle.pnm_lanes.specs.Gathers.{at_lane, AreSameInputs, IsGathered}
 use Rattle.pnm_lanes.specs.LaneRings.{AreUnused, ArePairs}

@@ -6,7 +6,7 @@ use Rattle.pnm_tools.specs.declared.tool.Tool.{Tool}
 use Rattle.pnm_stages.specs.declared.stage.StageDone.{StageDone}
 use Rattle.pnm_lanes.specs.declared.joining.LanesDone.{LanesDone}
 use Rattle.pnm_lanes.specs.declared.lane_rings.LaneRingEnds.{LaneRingEnds}
-use Rattle.pnm_lanes.specs.declared.lanes.OuterRingEnds.{OuterRingEnds}
+use Rattle.pnm_lanes.specs.declared.around.OuterRingEnds.{OuterRingEnds}
 use Rattle.pnm_lanes.specs.LaneRuns.{IsLaneRun, AreLanesRun, HaveRun}
 
 lanes_run_more : (tool : Tool) (es : List LaneRingEnds) (ds : List StageDone) (e : LaneRingEnds) (d : StageDone) → AreLanesRun tool es ds

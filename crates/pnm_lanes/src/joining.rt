@@ -5,7 +5,7 @@ ghost use Rattle.pnm_stages.specs.Rings.{sent, received, known_items};
 ghost use Rattle.pnm_tools.specs.declared.tool.Tool.{Tool};
 ghost use Rattle.pnm_tools.specs.Tools.{IsLawfulTool, is_row_wise};
 ghost use Rattle.pnm_lanes.specs.declared.lane_rings.LaneRingEnds.{LaneRingEnds};
-ghost use Rattle.pnm_lanes.specs.declared.lanes.OuterRingEnds.{OuterRingEnds};
+ghost use Rattle.pnm_lanes.specs.declared.around.OuterRingEnds.{OuterRingEnds};
 ghost use Rattle.pnm_lanes.specs.LaneRings.{AreUnused, ArePairs};
 ghost use Rattle.pnm_lanes.specs.LaneRuns.{end_of_both, HaveRun, HasRunLanes};
 

@@ -2,18 +2,19 @@
 #![tactic(auto)]
 
 mod agreement;
+mod around;
 mod dealing;
 mod drain;
 mod gathering;
 mod joining;
 mod lane;
 mod lane_rings;
-mod lanes;
 pub mod laws;
 mod next;
 
+pub use around::{OuterRingEnds, deal_and_gather};
 pub use dealing::{DealDone, deal, dealt_height};
 pub use gathering::{GatherDone, gather};
+pub use joining::{LanesDone, joined};
 pub use lane::MAX_LANES;
-pub use lane_rings::LaneRings;
-pub use lanes::{run_lanes, run_lanes_beside};
+pub use lane_rings::{LaneRingEnds, LaneRings};

@@ -5,5 +5,4 @@ mod ends;
 mod gathers;
 mod heights;
 mod rings;
-mod runs;
 mod waits;

@@ -14,7 +14,7 @@ use std::test::Fail;
 use std::thread;
 
 /// An image of two rows, and the end of the stream.
-pub const TWO_ROWS: &[Part<'static>] = &[
+const TWO_ROWS: &[Part<'static>] = &[
     Part::Begin(Kind::Gray, 1, 2, 9),
     Part::Row(&[1]),
     Part::Row(&[2]),

@@ -1,14 +1,21 @@
 //! A tool over lanes, between two rings.
 
-use super::deals::TWO_ROWS;
 use super::rings::{holds, is_end};
+use pnm_flow::{OpenGate, StageEnd, run_lanes};
 use pnm_image::Kind;
-use pnm_lanes::run_lanes;
-use pnm_stages::{OpenGate, StageEnd};
 use pnm_test_rings::{ring, send_all};
 use pnm_test_support::Part;
 use pnm_tools::Tool;
 use std::test::Fail;
+
+/// An image of two rows, and the end of the stream.
+const TWO_ROWS: &[Part<'static>] = &[
+    Part::Begin(Kind::Gray, 1, 2, 9),
+    Part::Row(&[1]),
+    Part::Row(&[2]),
+    Part::ImageEnd,
+    Part::StreamEnd,
+];
 
 const INVERTED: &[Part<'static>] = &[
     Part::Begin(Kind::Gray, 1, 2, 9),

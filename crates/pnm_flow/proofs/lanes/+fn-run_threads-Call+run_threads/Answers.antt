@@ -1,6 +1,6 @@
 use Rattle.std.proofs.Common.{arith, vec_capacity}
 use Rattle.pnm_lanes.proofs.LaneRunSteps.{as_many_run, came_back, has_run_more}
-use Rattle.pnm_lanes.proofs.lanes.+fn-run_threads-Call+run_threads.Goals as goal
+use Rattle.pnm_flow.proofs.lanes.+fn-run_threads-Call+run_threads.Goals as goal
 
 pub push_reserved-requires : goal.push_reserved-requires
 push_reserved-requires g t c =

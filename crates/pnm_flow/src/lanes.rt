@@ -8,15 +8,11 @@ ghost use Rattle.pnm_stages.specs.Limits.{IsRingCapacity};
 ghost use Rattle.pnm_stages.specs.Rings.{sent, received, known_items, SameSender, SameReceiver};
 ghost use Rattle.pnm_stages.specs.Starts.{IsUntouched};
 ghost use Rattle.pnm_lanes.specs.Limits.{IsLaneCount};
-ghost use Rattle.pnm_lanes.specs.LaneRuns.{HasRunLanes, HaveRun, HaveDealtAndGathered, IsLaneRun, IsDealerRun};
-ghost use Rattle.pnm_lanes.specs.LaneRuns.{IsGathererRun, AreAround};
+ghost use Rattle.pnm_lanes.specs.LaneRuns.{HasRunLanes, HaveRun, IsLaneRun, AreAround};
 ghost use Rattle.pnm_lanes.specs.LaneRings.{AreLaneRings};
 
-use crate::dealing::{DealDone, deal};
-use crate::gathering::{GatherDone, gather};
-use crate::joining::{LanesDone, joined};
-use crate::lane_rings::{LaneRingEnds, LaneRings};
 use pnm_filters::row_filter_of;
+use pnm_lanes::{LaneRingEnds, LaneRings, LanesDone, OuterRingEnds, deal_and_gather, joined};
 use pnm_stages::{
     Call, Gate, Idle, NoStart, Receiver, Sender, StageDone, Task, run_both, run_filter,
 };
@@ -24,19 +20,6 @@ use pnm_tools::Tool;
 use std::alloc::Global;
 use std::sync::Wait;
 use std::thread::Threads;
-
-/// The ring ends of the thread that deals and of the one that gathers.
-#[derive(Drop)]
-pub struct OuterRingEnds {
-    /// The end that the dealer receives on.
-    pub input: Receiver,
-    /// Those that it sends on, one for each lane.
-    pub outputs: Vec<Sender>,
-    /// Those that the gatherer receives on, one for each lane.
-    pub inputs: Vec<Receiver>,
-    /// The end that it sends on.
-    pub output: Sender,
-}
 
 /// Passes what comes on `input` through a row-wise tool to `output`, over 1 to 8 lanes: a thread deals the rows, row y
 /// to lane y mod their number; in a thread of its own each lane does the tool's work on the images that it sees; and
@@ -209,111 +192,4 @@ fn run_threads<R: Threads + Wait + Sync, G: Gate, T: Task<Output = B> + Drop, B:
     let (mut all, beside) = rest?;
     all.lanes.push_reserved(done);
     Some((all, beside))
-}
-
-/// The work of the thread that deals.
-#[derive(Drop)]
-struct Dealer<'a, R> {
-    rt: &'a R,
-    alloc: Global,
-    input: Receiver,
-    outputs: Vec<Sender>,
-}
-
-impl<'a, R: Wait> Task for Dealer<'a, R> {
-    type Output = DealDone;
-
-    ghost can_run = { λ d. IsLaneCount (length d.outputs.items) };
-
-    ghost run_gives = { λ d done. IsDealerRun d.input d.outputs.items done };
-
-    fn run(self) -> DealDone {
-        deal(self.rt, self.alloc, self.input, self.outputs)
-    }
-}
-
-/// The work of the thread that gathers.
-#[derive(Drop)]
-struct Gatherer<'a, R> {
-    rt: &'a R,
-    inputs: Vec<Receiver>,
-    output: Sender,
-}
-
-impl<'a, R: Wait> Task for Gatherer<'a, R> {
-    type Output = GatherDone;
-
-    ghost can_run = { λ g. IsLaneCount (length g.inputs.items) };
-
-    ghost run_gives = { λ g done. IsGathererRun g.inputs.items g.output done };
-
-    fn run(self) -> GatherDone {
-        gather(self.rt, self.inputs, self.output)
-    }
-}
-
-/// The work of the thread that deals, and the work that is done beside it.
-#[derive(Drop)]
-struct DealerAndBeside<'a, R, T> {
-    rt: &'a R,
-    dealer: Dealer<'a, R>,
-    beside: T,
-}
-
-impl<'a, R: Threads + Wait + Sync, T: Task<Output = B> + Drop, B: Drop> Task
-    for DealerAndBeside<'a, R, T> {
-    type Output = Option<(DealDone, B)>;
-
-    ghost can_run = { λ d. IsSync R.row × IsLaneCount (length d.dealer.outputs.items) × T.can_run d.beside };
-
-    ghost run_gives = { λ d r.
-        IfSome r (λ r. IsDealerRun d.dealer.input d.dealer.outputs.items r.0 × T.run_gives d.beside r.1) };
-
-    fn run(self) -> Option<(DealDone, B)> {
-        let DealerAndBeside { rt, dealer, beside } = self;
-        run_both(rt, dealer, beside)
-    }
-}
-
-/// The thread that gathers, and the one that deals; then the work beside them. It stands in no frame of `run_threads`,
-/// of which there is one a lane.
-#[inline(never)]
-fn deal_and_gather<R: Threads + Wait + Sync, T: Task<Output = B> + Drop, B: Drop>(
-    rt: &R,
-    alloc: Global,
-    outer: OuterRingEnds,
-    reserved: Vec<StageDone>,
-    beside: T,
-) -> Option<(LanesDone, B)>
-    requires shared { IsSync R.row }
-    requires outer { AreAround outer }
-    requires beside { T.can_run beside }
-    ensures ran { IfSome result (λ r. HaveDealtAndGathered outer reserved r.0) }
-    ensures beside { IfSome result (λ r. T.run_gives beside r.1) }
-{
-    let OuterRingEnds {
-        input,
-        outputs,
-        inputs,
-        output,
-    } = outer;
-    let gatherer = Gatherer { rt, inputs, output };
-    let dealing = DealerAndBeside {
-        rt,
-        dealer: Dealer {
-            rt,
-            alloc,
-            input,
-            outputs,
-        },
-        beside,
-    };
-    let (gathered, rest) = run_both(rt, gatherer, dealing)?;
-    let (dealt, beside) = rest?;
-    let done = LanesDone {
-        dealt,
-        lanes: reserved,
-        gathered,
-    };
-    Some((done, beside))
 }

@@ -1,6 +1,6 @@
 use Rattle.std.proofs.Common.{arith, length, vec_capacity}
 use Rattle.pnm_lanes.proofs.LaneNumbers.{as_many_unused, pairs_after}
-use Rattle.pnm_lanes.proofs.lanes.run_lanes_beside.Goals as goal
+use Rattle.pnm_flow.proofs.lanes.run_lanes_beside.Goals as goal
 
 pub run_threads-requires-clause-outer : goal.run_threads-requires-clause-outer
 run_threads-requires-clause-outer g c κs within =

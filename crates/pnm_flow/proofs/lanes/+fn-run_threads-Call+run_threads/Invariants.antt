@@ -1,5 +1,5 @@
 use Rattle.std.proofs.Common.{◌+◌, ◌*◌, length}
-use Rattle.pnm_lanes.proofs.lanes.+fn-run_threads-Call+run_threads.Given as goal
+use Rattle.pnm_flow.proofs.lanes.+fn-run_threads-Call+run_threads.Given as goal
 
 abbrev pub decreases-Call : goal.decreases-Call
 decreases-Call g l = 2 * length l.others.items + 1
