@@ -1,3 +1,4 @@
+pub mod ToolSteps
 pub mod LaneRefusals
 pub mod ToolOverLaws
 pub mod ChainSteps

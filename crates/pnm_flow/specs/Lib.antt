@@ -1,3 +1,4 @@
 pub mod Links
 pub mod Chains
 pub mod ThreadedRuns
+pub mod SerialTools

@@ -4,6 +4,7 @@
 
 mod chain;
 mod lanes;
+mod serial;
 mod stage;
 mod threaded;
 mod tool_run;
@@ -11,10 +12,11 @@ mod tool_run;
 pub use chain::{ChainDone, Link, run_chain};
 pub use lanes::run_lanes;
 pub use pnm_lanes::{DealDone, GatherDone, MAX_LANES, deal, gather};
-pub use pnm_serial::{RunFault, Summary, run_serial};
+pub use pnm_serial::{RunFault, Summary};
 pub use pnm_stages::{
     AnyMessage, Gate, MAX_RING_CAPACITY, NoStart, OpenGate, Receiver, Sender, StageDone, StageEnd,
     new_ring,
 };
+pub use serial::run_serial;
 pub use stage::run_stage;
 pub use threaded::run;

@@ -4,7 +4,6 @@ pub mod DownstreamSteps
 pub mod PassingSteps
 pub mod FaultSteps
 pub mod FeedingSteps
-pub mod ToolSteps
 pub mod CountLaws
 pub mod ResultSteps
 pub mod VerdictLaws

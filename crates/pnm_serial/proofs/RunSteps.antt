@@ -22,8 +22,6 @@ use Rattle.pnm_read.proofs.TextLaws.{spelled_text_is_said, said_text_is_spelled,
 use Rattle.pnm_read.proofs.StreamLaws.{no_text_fault}
 use Rattle.pnm_tools.specs.declared.fault.ToolFault.{ToolFault}
 use Rattle.pnm_tools.specs.declared.tool.Tool.{Tool}
-use Rattle.pnm_filters.specs.declared.any_tool.AnyTool.{AnyTool}
-use Rattle.pnm_filters.specs.States.{Standing, IsToolAt, is_all_given}
 use Rattle.pnm_tools.specs.Chains.{AreLawfulTools, due_in_turn}
 use Rattle.pnm_tools.specs.ChainAnswers.{IsSound, AreSound, HaveAnswered, AreWell, IsFirstFault}
 use Rattle.pnm_tools.proofs.ChainLaws.{given_are_sound, stream_is_answered, refusal_is_first, none_before_first_fault, given_is_prefix}
@@ -47,8 +45,7 @@ use Rattle.pnm_serial.specs.Feeding.{IsSaidOf, HasFed}
 use Rattle.pnm_serial.specs.Jobs.{Job, bytes_due}
 use Rattle.pnm_serial.specs.Runs.{EndedWell, HasWrittenResults, IsStoppedBy, IsPrefixOfBytesDue, FitAnswer, IsAllWritten}
 use Rattle.pnm_serial.specs.Verdicts.{IsAcceptedBy, HasResults}
-use Rattle.pnm_serial.specs.SerialChains.{refusals_in, FiltersAt, AreFresh}
-use Rattle.pnm_serial.proofs.ToolSteps.{fresh_at}
+use Rattle.pnm_serial.specs.SerialChains.{refusals_in, FiltersAt}
 use Rattle.pnm_serial.proofs.CountLaws.{images_in-stream, rows_in-stream}
 use Rattle.pnm_serial.proofs.FeedingSteps.{said_are_sound}
 
@@ -408,24 +405,27 @@ run_well held failures start done job faults given out d summary text lawful hav
     }
 
 -- the stages have answered what the source gave
-pub stages_answered : {R W : Type 0} (left : R → Option (List ℕ)) (reader_failures : R → ℕ) (held : W → Option (List ℕ)) (failures : W → ℕ)
-    (source source_new : Source R) (result : Result (Unit {0}) InputFault) (old new : List (FusedFilter (Standing AnyTool))) (before after : Downstream W)
+pub stages_answered : {R F W : Type 0} (left : R → Option (List ℕ)) (reader_failures : R → ℕ)
+    (at : F → Tool → List Message → List Message → Type 0) (all_given : F → Bool) (stopped : F → Option ToolFault) (held : W → Option (List ℕ))
+    (failures : W → ℕ) (source source_new : Source R) (result : Result (Unit {0}) InputFault) (old new : List (FusedFilter F)) (before after : Downstream W)
     (tools : List Tool)
-    → AreFresh old tools
-    → (fed : HasFed left reader_failures IsToolAt (λ s. is_all_given s.pending) (λ s. s.fault) held failures source source_new result old new before after)
+    → FiltersAt at all_given stopped old tools [] []
+    → (fed : HasFed left reader_failures at all_given stopped held failures source source_new result old new before after)
     → HaveAnswered tools (refusals_in new) fed.given fed.output.out
-stages_answered left reader_failures held failures source source_new result old new before after tools fresh fed =
-    have_answered IsToolAt (λ s. is_all_given s.pending) (λ s. s.fault) new tools fed.given fed.output.out (fed.output.stages tools (fresh_at old tools fresh))
+stages_answered left reader_failures at all_given stopped held failures source source_new result old new before after tools fresh fed =
+    have_answered at all_given stopped new tools fed.given fed.output.out (fed.output.stages tools fresh)
 
 -- the end of the source's messages
-pub ran_of : {R W : Type 0} (left : R → Option (List ℕ)) (reader_failures : R → ℕ) (held : W → Option (List ℕ)) (failures : W → ℕ)
-    (source source_new : Source R) (result : Result (Unit {0}) InputFault) (old new : List (FusedFilter (Standing AnyTool))) (before after : Downstream W)
+pub ran_of : {R F W : Type 0} (left : R → Option (List ℕ)) (reader_failures : R → ℕ)
+    (at : F → Tool → List Message → List Message → Type 0) (all_given : F → Bool) (stopped : F → Option ToolFault) (held : W → Option (List ℕ))
+    (failures : W → ℕ) (source source_new : Source R) (result : Result (Unit {0}) InputFault) (old new : List (FusedFilter F)) (before after : Downstream W)
     (job : Job)
-    → AreLawfulTools job.tools → AreFresh old job.tools → HasTakenWith held failures job.form (output_of before) [] before before.output
-    → (fed : HasFed left reader_failures IsToolAt (λ s. is_all_given s.pending) (λ s. s.fault) held failures source source_new result old new before after)
+    → AreLawfulTools job.tools → FiltersAt at all_given stopped old job.tools [] []
+    → HasTakenWith held failures job.form (output_of before) [] before before.output
+    → (fed : HasFed left reader_failures at all_given stopped held failures source source_new result old new before after)
     → Ran held failures (output_of before) job fed.given fed.output.out after
-ran_of left reader_failures held failures source source_new result old new before after job lawful fresh start fed =
-    let have = stages_answered left reader_failures held failures source source_new result old new before after job.tools fresh fed in
+ran_of left reader_failures at all_given stopped held failures source source_new result old new before after job lawful fresh start fed =
+    let have = stages_answered left reader_failures at all_given stopped held failures source source_new result old new before after job.tools fresh fed in
     record {
       lawful = lawful;
       sound = fed.sound;

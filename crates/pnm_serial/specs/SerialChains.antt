@@ -4,10 +4,7 @@ use Rattle.pnm_image.specs.declared.format.Form.{Form}
 use Rattle.pnm_image.specs.declared.message.Message.{Message}
 use Rattle.pnm_tools.specs.declared.fault.ToolFault.{ToolFault}
 use Rattle.pnm_tools.specs.declared.tool.Tool.{Tool}
-use Rattle.pnm_filters.specs.declared.any_tool.AnyTool.{AnyTool}
-use Rattle.pnm_filters.specs.States.{Standing, IsToolAt, is_all_given}
 use Rattle.pnm_tools.specs.declared.fused_filter.FusedFilter.{FusedFilter}
-use Rattle.pnm_filters.specs.States.{ToolAt}
 use Rattle.pnm_tools.specs.FusedFilters.{FilterAt, refusal_in}
 use Rattle.pnm_serial.specs.declared.downstream.Downstream.{Downstream}
 use Rattle.pnm_serial.specs.Downstreams.{HasTaken}
@@ -35,16 +32,3 @@ pub record FeedsThrough {F W : Type 0} (at : F → Tool → List Message → Lis
 -- why each stage refused, if it did
 abbrev pub refusals_in : {F : Type 0} → List (FusedFilter F) → List (Option ToolFault)
 refusals_in stages = map refusal_in stages
-
--- ---- the states of tools
-
-abbrev pub ToolsAt : List (FusedFilter (Standing AnyTool)) → List Tool → List Message → List Message → Type 0
-ToolsAt stages tools received given =
-    FiltersAt IsToolAt (λ s. is_all_given s.pending) (λ s. s.fault) stages tools received given
-
--- each stage is its tool before the first message
-abbrev pub AreFresh : List (FusedFilter (Standing AnyTool)) → List Tool → Type 0
-AreFresh [] [] = Unit {0}
-AreFresh [] (tool ∷ tools) = ⊥
-AreFresh (stage ∷ stages) [] = ⊥
-AreFresh (stage ∷ stages) (tool ∷ tools) = ToolAt stage tool [] [] × AreFresh stages tools

@@ -1,13 +1,13 @@
-//! A run in one thread: read, pass through the tools, write.
+//! A run in one thread, over filters that are given: read, pass through them, write.
 
-ghost use Rattle.std.specs.Prelude.{◌≡◌, Err, IfOk, IfErr};
+ghost use Rattle.std.specs.Prelude.{◌≡◌, List, []};
 ghost use Rattle.pnm_read.specs.Sources.{reader_of, IsFreshSource as IsUnread};
-ghost use Rattle.pnm_tools.specs.declared.fault.ToolFault.TheVariants.{Memory as NoMemory};
-ghost use Rattle.pnm_tools.specs.Chains.{AreLawfulTools, IsChain};
+ghost use Rattle.pnm_tools.specs.declared.tool.Tool.{Tool as ToolValue};
+ghost use Rattle.pnm_tools.specs.Chains.{AreLawfulTools};
 ghost use Rattle.pnm_serial.specs.Downstreams.{output_of};
 ghost use Rattle.pnm_serial.specs.Jobs.{job_of};
 ghost use Rattle.pnm_serial.specs.Runs.{answer_by, change, HasRunInOneThread, IsFirstRefusal};
-ghost use Rattle.pnm_serial.specs.SerialChains.{refusals_in, AreFresh};
+ghost use Rattle.pnm_serial.specs.SerialChains.{refusals_in, FiltersAt};
 ghost use Rattle.pnm_serial.specs.Feeding.{HasFed};
 
 use crate::buffers::Buffers;
@@ -15,50 +15,41 @@ use crate::downstream::Downstream;
 use crate::fault::RunFault;
 use crate::passing::feed_through;
 use crate::summary::Summary;
-use pnm_filters::{ToolState, filter_of};
 use pnm_image::{BytesIn, BytesOut, Form};
 use pnm_read::{InputFault, Source, SpareRows};
-use pnm_tools::{Filter, FusedFilter, Tool, ToolFault};
+use pnm_tools::{Filter, FusedFilter, ToolFault};
 use pnm_write::SinkFault;
 use std::alloc::Global;
 
-/// Reads the images of the reader, passes them through the tools and writes what comes out in the
-/// form. The input's fault is answered before those of the tools, these in the order of the tools, and
-/// all of them before the output's: the writer's, or that the form can't hold the results. After a
-/// fault of a tool or of the output it goes on reading, and so it does after want of memory for one of
-/// the tools, so that a fault that comes before that one in this order is still met; where there is no
-/// memory for the list of the tools, nothing is read and the fault is that of tool 1. An input of which
-/// `u64::MAX` messages are said is answered by `ReadFailed` after them.
-pub fn run_serial<R: BytesIn, W: BytesOut>(
+/// Reads the images of the reader, passes them through the tools that these filters are, each before its first message,
+/// and writes what comes out in the form, as `run_serial` does once it has made them.
+pub fn run_filters<R: BytesIn, F: Filter + Drop, W: BytesOut>(
     alloc: Global,
     reader: &mut R,
     writer: &mut W,
-    tools: &[Tool],
+    stages: &mut [FusedFilter<F>],
     form: Form,
 ) -> Result<Summary, RunFault>
-    requires { IsChain tools.now }
-    ensures ran { HasRunInOneThread (job_of tools.now form) result (reader.new ≡ reader.old)
+    ensures ran { (tools : List ToolValue) → AreLawfulTools tools
+        → FiltersAt F.at F.all_given F.stopped stages.old tools [] []
+        → HasRunInOneThread (job_of tools form) result (reader.new ≡ reader.old)
         (change R.left R.failures reader.old reader.new) (change W.held W.failures writer.old writer.new) }
     ensures same_reader { R.same reader.old reader.new }
     ensures same_writer { W.same writer.old writer.new }
 {
-    let mut stages = match filters_of(alloc, tools) {
-        Ok(stages) => stages,
-        Err(fault) => return Err(RunFault::Tool(1, fault)),
-    };
     let Buffers { read, write } = match Buffers::new(alloc) {
         Ok(buffers) => buffers,
         Err(fault) => return Err(RunFault::Input(fault)),
     };
     let mut source = Source::with_buffer(read, &mut *reader);
     let mut downstream = Downstream::new(write, &mut *writer, form);
-    let input = feed_all(alloc, &mut source, stages.as_mut_slice(), &mut downstream);
+    let input = feed_all(alloc, &mut source, stages, &mut downstream);
     let read = source.into_reader();
     let (written, output) = downstream.finish();
     // No effect at run time. The proof reads from these uses what the two devices hold.
     let _ = &*read;
     let _ = &*written;
-    answer(input, first_fault(stages.as_slice()), output)
+    answer(input, first_fault(stages), output)
 }
 
 /// The answer of a run.
@@ -75,20 +66,6 @@ fn answer(
         (Ok(()), None, Err(fault)) => Err(RunFault::Output(fault)),
         (Ok(()), None, Ok(summary)) => Ok(summary),
     }
-}
-
-/// Each tool at work, fused; one for which there is no memory has refused. The only fault is
-/// `Memory`, for the list.
-fn filters_of(alloc: Global, tools: &[Tool]) -> Result<Vec<FusedFilter<ToolState>>, ToolFault>
-    requires { AreLawfulTools tools.now }
-    ensures fresh { IfOk result (λ stages. AreFresh stages.items tools.now) }
-    ensures refused { IfErr result (λ fault. fault ≡ NoMemory) }
-{
-    let mut stages = Vec::with_capacity(alloc, tools.len())?;
-    for tool in tools {
-        stages.push(filter_of(alloc, tool))?;
-    }
-    Ok(stages)
 }
 
 /// The number and the fault of the first filter that has refused.

@@ -1,9 +1,9 @@
 use Rattle.std.proofs.Common.{[], ◌∷◌, ◌++◌, ◌≡◌, ℕ, suc, ◌+◌, take, subst, sym, ap, ◌∙◌, arith}
 use Rattle.std.proofs.Math.Seq.{take-suc}
 use Rattle.pnm_tools.specs.Tools.{IsLawfulTool}
-use Rattle.pnm_serial.specs.SerialChains.{AreFresh}
-use Rattle.pnm_serial.proofs.ToolSteps.{fresh_more, lawful_at}
-use Rattle.pnm_serial.proofs.serial.filters_of.Goals as goal
+use Rattle.pnm_flow.specs.SerialTools.{AreFresh}
+use Rattle.pnm_flow.proofs.ToolSteps.{fresh_more, lawful_at}
+use Rattle.pnm_flow.proofs.serial.filters_of.Goals as goal
 
 pub filter_of-requires : goal.filter_of-requires
 filter_of-requires c =

@@ -1,6 +1,6 @@
 use Rattle.std.proofs.Common.{take}
-use Rattle.pnm_serial.specs.SerialChains.{AreFresh}
-use Rattle.pnm_serial.proofs.serial.filters_of.Given as goal
+use Rattle.pnm_flow.specs.SerialTools.{AreFresh}
+use Rattle.pnm_flow.proofs.serial.filters_of.Given as goal
 
 -- the tools that were passed are stages
 abbrev pub invariant-loop-tool : goal.invariant-loop-tool

@@ -1,0 +1,55 @@
+//! A run in one thread: read, pass through the tools, write.
+
+ghost use Rattle.std.specs.Prelude.{◌≡◌, IfOk, IfErr};
+ghost use Rattle.pnm_tools.specs.declared.fault.ToolFault.TheVariants.{Memory as NoMemory};
+ghost use Rattle.pnm_tools.specs.Chains.{AreLawfulTools, IsChain};
+ghost use Rattle.pnm_serial.specs.Jobs.{job_of};
+ghost use Rattle.pnm_serial.specs.Runs.{change, HasRunInOneThread};
+ghost use Rattle.pnm_flow.specs.SerialTools.{AreFresh};
+
+use pnm_filters::{ToolState, filter_of};
+use pnm_image::{BytesIn, BytesOut, Form};
+use pnm_serial::{RunFault, Summary, run_filters};
+use pnm_tools::{FusedFilter, Tool, ToolFault};
+use std::alloc::Global;
+
+/// Reads the images of the reader, passes them through the tools and writes what comes out in the
+/// form. The input's fault is answered before those of the tools, these in the order of the tools, and
+/// all of them before the output's: the writer's, or that the form can't hold the results. After a
+/// fault of a tool or of the output it goes on reading, and so it does after want of memory for one of
+/// the tools, so that a fault that comes before that one in this order is still met; where there is no
+/// memory for the list of the tools, nothing is read and the fault is that of tool 1. An input of which
+/// `u64::MAX` messages are said is answered by `ReadFailed` after them.
+pub fn run_serial<R: BytesIn, W: BytesOut>(
+    alloc: Global,
+    reader: &mut R,
+    writer: &mut W,
+    tools: &[Tool],
+    form: Form,
+) -> Result<Summary, RunFault>
+    requires { IsChain tools.now }
+    ensures ran { HasRunInOneThread (job_of tools.now form) result (reader.new ≡ reader.old)
+        (change R.left R.failures reader.old reader.new) (change W.held W.failures writer.old writer.new) }
+    ensures same_reader { R.same reader.old reader.new }
+    ensures same_writer { W.same writer.old writer.new }
+{
+    let mut stages = match filters_of(alloc, tools) {
+        Ok(stages) => stages,
+        Err(fault) => return Err(RunFault::Tool(1, fault)),
+    };
+    run_filters(alloc, reader, writer, stages.as_mut_slice(), form)
+}
+
+/// Each tool at work, fused; one for which there is no memory has refused. The only fault is
+/// `Memory`, for the list.
+fn filters_of(alloc: Global, tools: &[Tool]) -> Result<Vec<FusedFilter<ToolState>>, ToolFault>
+    requires { AreLawfulTools tools.now }
+    ensures fresh { IfOk result (λ stages. AreFresh stages.items tools.now) }
+    ensures refused { IfErr result (λ fault. fault ≡ NoMemory) }
+{
+    let mut stages = Vec::with_capacity(alloc, tools.len())?;
+    for tool in tools {
+        stages.push(filter_of(alloc, tool))?;
+    }
+    Ok(stages)
+}

@@ -1,0 +1,72 @@
+use Rattle.std.proofs.Common.{rules, ◌≡◌, refl}
+use Rattle.pnm_read.specs.Sources.{reader_of}
+use Rattle.pnm_serial.specs.Downstreams.{output_of}
+use Rattle.pnm_serial.specs.Jobs.{job_of}
+use Rattle.pnm_serial.specs.Runs.{change}
+use Rattle.pnm_serial.specs.SerialChains.{refusals_in}
+use Rattle.pnm_serial.proofs.RunSteps.{failed_so, ran_of, stages_answered}
+use Rattle.pnm_serial.proofs.EndSteps.{Ended, HaveEnded, ended_in_one_thread, ended_without_reading}
+use Rattle.pnm_serial.proofs.serial.run_filters.Goals as goal
+
+-- there is no memory to read
+pub returns-in-Err-clause-ran : goal.returns-in-Err-clause-ran
+returns-in-Err-clause-ran g c =
+    let reader = c.args.reader.now in
+    let writer = c.args.writer.now in
+    λ tools lawful fresh.
+    rw c.in-Err.ensures.refused
+    (ended_without_reading (job_of tools c.args.form) _ (change g.R.BytesIn.left g.R.BytesIn.failures reader reader)
+    (change g.W.BytesOut.held g.W.BytesOut.failures writer writer) refl refl refl)
+
+pub finish-written-requires : goal.finish-written-requires
+finish-written-requires g c =
+    let taken = c.feed_all-input.ensures.fed.output.taken in
+    let start = rw (← c.new-downstream.ensures.writer) at c.new-downstream.ensures.fresh in
+    failed_so (λ w. g.W.BytesOut.held w.now) (λ w. g.W.BytesOut.failures w.now) c.args.form (output_of c.new-downstream.result)
+    c.feed_all-input.ensures.fed.output.out c.feed_all-input.new.downstream c.feed_all-input.new.downstream.output
+    (taken c.args.form (output_of c.new-downstream.result) start)
+
+-- all has passed, through to the end of the input or its fault
+pub returns-clause-ran : goal.returns-clause-ran
+returns-clause-ran g c = λ tools lawful fresh.
+    let fed = c.feed_all-input.ensures.fed in
+    let start = rw (← c.new-downstream.ensures.writer) at c.new-downstream.ensures.fresh in
+    let ran = ran_of (λ r. g.R.BytesIn.left r.now) (λ r. g.R.BytesIn.failures r.now) g.F.Filter.at g.F.Filter.all_given g.F.Filter.stopped
+    (λ w. g.W.BytesOut.held w.now) (λ w. g.W.BytesOut.failures w.now)
+    c.with_buffer-source.result c.feed_all-input.new.source c.feed_all-input.result c.args.stages.now c.feed_all-input.new.stages
+    c.new-downstream.result c.feed_all-input.new.downstream (job_of tools c.args.form) lawful fresh start fed in
+    let answered = stages_answered (λ r. g.R.BytesIn.left r.now) (λ r. g.R.BytesIn.failures r.now) g.F.Filter.at g.F.Filter.all_given g.F.Filter.stopped
+    (λ w. g.W.BytesOut.held w.now) (λ w. g.W.BytesOut.failures w.now)
+    c.with_buffer-source.result c.feed_all-input.new.source c.feed_all-input.result c.args.stages.now c.feed_all-input.new.stages
+    c.new-downstream.result c.feed_all-input.new.downstream tools fresh fed in
+    let stages : HaveEnded tools (refusals_in c.feed_all-input.new.stages) fed.given fed.output.out c.first_fault.result = record {
+      last = fed.output.out;
+      answered = answered;
+      first = c.first_fault.ensures;
+      all = λ none. refl;
+    } in
+    let ended : Ended (change (λ r. g.R.BytesIn.left r.now) (λ r. g.R.BytesIn.failures r.now) (reader_of c.with_buffer-source.result)
+    (reader_of c.feed_all-input.new.source)) (λ w. g.W.BytesOut.held w.now) (λ w. g.W.BytesOut.failures w.now) (output_of c.new-downstream.result)
+    c.finish-written.result.0 (job_of tools c.args.form) c.feed_all-input.result c.first_fault.result c.finish-written.result.1 = record {
+      faults = refusals_in c.feed_all-input.new.stages;
+      given = fed.given;
+      out = fed.output.out;
+      sink = c.feed_all-input.new.downstream;
+      read = fed.read;
+      consumed = fed.consumed;
+      told = fed.told;
+      count = fed.count;
+      read_failed = fed.read_failed;
+      ran = ran;
+      stages = λ well. stages;
+      kept = c.finish-written.ensures.bytes;
+      broken = c.finish-written.ensures.broken;
+      well = c.finish-written.ensures.well;
+    } in
+    let has = ended_in_one_thread (change (λ r. g.R.BytesIn.left r.now) (λ r. g.R.BytesIn.failures r.now) (reader_of c.with_buffer-source.result)
+    (reader_of c.feed_all-input.new.source)) (λ w. g.W.BytesOut.held w.now) (λ w. g.W.BytesOut.failures w.now) (output_of c.new-downstream.result)
+    c.finish-written.result.0 (job_of tools c.args.form)
+    c.feed_all-input.result c.first_fault.result c.finish-written.result.1 ((reader_of c.feed_all-input.new.source).now ≡ c.args.reader.now) ended answered
+    stages.first in
+    let all = rw (c.new-downstream.ensures.writer, c.with_buffer-source.ensures.reader_is, ← c.answer.ensures) at has in
+    search rules
